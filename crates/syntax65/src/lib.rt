@@ -1,0 +1,12 @@
+//! What every crate of the tools stands on: files by name, and small types that contracts see as lists.
+#![tactic(auto)]
+
+mod mem_store;
+mod sequence;
+mod store;
+mod text;
+
+pub use mem_store::MemStore;
+pub use sequence::Sequence;
+pub use store::{Store, StoreFault, read_full};
+pub use text::Text;

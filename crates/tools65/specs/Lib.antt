@@ -1,0 +1,5 @@
+pub mod Messages
+pub mod ScriptGrammar
+pub mod ScriptNumber
+pub mod ScriptTokens
+pub mod ScriptWords

@@ -1,0 +1,4 @@
+//! The commands of bin65.
+#![tactic(auto)]
+
+mod script;

@@ -1,2 +1,4 @@
 pub mod Digits
 pub mod Manys
+pub mod Rows
+pub mod Taken

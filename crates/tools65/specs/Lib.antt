@@ -1,3 +1,6 @@
+pub mod CommandLine
+pub mod Line
+pub mod LineFaults
 pub mod Messages
 pub mod ScriptGrammar
 pub mod ScriptNumber

@@ -1,5 +1,7 @@
 -- The texts that are printed.
 use Rattle.std.specs.Prelude.{ℕ, List, codes}
+use Rattle.tools65.specs.declared.command_line.fault.LineFault.{LineFault}
+use Rattle.tools65.specs.declared.command_line.fault.LineFault.TheVariants as line
 use Rattle.tools65.specs.declared.script.fault.Fault.{Fault}
 use Rattle.tools65.specs.declared.script.fault.Fault.TheVariants.{OutOfMemory, SyntaxError, UnknownAttribute, AttributeTwice, AttributeMissing, NameTwice, NoSuchArea, OutOfRange, TooLong}
 
@@ -13,3 +15,7 @@ script_words NameTwice = codes "name twice"
 script_words NoSuchArea = codes "no such area"
 script_words OutOfRange = codes "value out of range"
 script_words TooLong = codes "script too long"
+
+abbrev pub line_words : LineFault → List ℕ
+line_words line.OutOfMemory = codes "out of memory"
+line_words line.BadArguments = codes "bad arguments"

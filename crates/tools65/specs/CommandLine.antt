@@ -1,0 +1,46 @@
+-- The command that clap reads, as clap sees it.
+use Rattle.std.specs.Prelude.{◌≡◌, ℕ, Bool, Some, true, false, codes}
+use Rattle.clap.specs.Words.{App, Rule, Text, app_of, new_rule, new_app, with_rule, with_subcommand}
+use Rattle.clap.specs.Simple.{new_shape}
+use Rattle.clap.specs.declared.builder.command.Command.{Command}
+use Rattle.clap.specs.declared.builder.command.Command.TheViews.{out-Command}
+
+-- an option with one value, which may stand once
+abbrev pub option_rule : Text → ℕ → Rule
+option_rule id short = record (new_rule id) { short = Some short }
+
+abbrev pub required_option_rule : Text → ℕ → Rule
+required_option_rule id short = record (new_rule id) { short = Some short; required = true }
+
+-- one word that has to be there
+abbrev pub word_rule : Text → Rule
+word_rule id = record (new_rule id) { required = true }
+
+-- `ld65 -C SCRIPT [-o FILE] INPUT`
+abbrev pub ld65 : App
+ld65 = with_rule (with_rule (with_rule (new_app (codes "ld65"))
+    (required_option_rule (codes "script") 67))
+    (option_rule (codes "output") 111))
+    (word_rule (codes "input"))
+
+-- the program's own words: one subcommand, and neither help nor version
+abbrev pub named : App
+named = record (new_app (codes "bin65")) { top = record (new_shape (codes "bin65")) {
+    disable_help_flag = true;
+    disable_help_subcommand = true;
+    subcommand_required = true;
+  } }
+
+-- the whole command
+abbrev pub bin65 : App
+bin65 = with_subcommand named ld65.top
+
+-- c is read as a, and none of its arguments is global
+pub record IsMade (a : App) (c : Command) : Type 0 where
+  pub app : app_of c ≡ a
+  pub local : (out-Command c).has_globals ≡ false
+
+-- new is old with one more argument, which isn't global
+pub record Adds (old : Command) (r : Rule) (new : Command) : Type 0 where
+  pub app : app_of new ≡ with_rule (app_of old) r
+  pub local : (out-Command new).has_globals ≡ (out-Command old).has_globals

@@ -1,0 +1,61 @@
+-- The line that words are, by what clap states of the command.
+use Rattle.std.specs.Prelude.{ℕ, List, [], ◌∷◌, Option, Some, None, Result, Ok, Err, codes, unwrap_or, option_map, if◌then◌else◌}
+use Rattle.std.specs.Str.{bytes_eq}
+use Rattle.clap.specs.Words.{Kinds, Row, Text, first_of, fault_of, subcommand_of}
+use Rattle.syntax65.specs.Outcome.{◌>>=◌}
+use Rattle.tools65.specs.CommandLine.{bin65}
+use Rattle.tools65.specs.declared.command_line.fault.LineFault.{LineFault}
+use Rattle.tools65.specs.declared.command_line.fault.LineFault.TheVariants.{BadArguments}
+use Rattle.tools65.specs.declared.command_line.line.LinkLine.{LinkLine}
+use Rattle.tools65.specs.declared.command_line.line.Line.{Line}
+use Rattle.tools65.specs.declared.command_line.line.Line.TheVariants as line
+
+-- where clap has no fault, what it gives
+abbrev pub unless_kinds : {A : Type 0} → Kinds → A → Result A LineFault
+unless_kinds [] x = Ok x
+unless_kinds (k ∷ ks) x = Err BadArguments
+
+-- the subcommand that clap finds in the words, with its matches, where it takes them
+unfoldable pub taken : List Text → Result (Option (Text × List Row)) LineFault
+taken words = unless_kinds (fault_of bin65 words) (subcommand_of bin65 words)
+
+-- what an ld65 line says
+pub record Linking : Type 0 where
+  pub script : Text
+  pub output : Option Text
+  pub input : Text
+
+-- what a line says
+pub data Says : Type 0 where
+  link : Linking → Says
+
+-- the one value of an argument
+abbrev pub given : List ℕ → List Row → Text
+given id rows = unwrap_or (first_of id rows) []
+
+-- `ld65 -C SCRIPT [-o FILE] INPUT`
+unfoldable pub linking_of : List Row → Linking
+linking_of rows = record {
+  script = given (codes "script") rows;
+  output = first_of (codes "output") rows;
+  input = given (codes "input") rows;
+}
+
+-- the line of a subcommand's name and matches
+unfoldable pub said_by : Text → List Row → Result Says LineFault
+said_by name rows = if bytes_eq name (codes "ld65") then Ok (link (linking_of rows)) else Err BadArguments
+
+abbrev pub said : Option (Text × List Row) → Result Says LineFault
+said None = Err BadArguments
+said (Some p) = said_by p.0 p.1
+
+-- the line that the words are, or why they are none
+unfoldable pub line_of : List Text → Result Says LineFault
+line_of words = taken words >>= said
+
+-- what a line says, without where its texts lie
+abbrev pub linking : LinkLine → Linking
+linking l = record { script = l.script.now; output = option_map (λ s. s.now) l.output; input = l.input.now }
+
+abbrev pub view : Line → Says
+view (line.Link l) = link (linking l)

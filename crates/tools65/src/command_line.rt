@@ -1,0 +1,7 @@
+//! Command lines.
+
+pub mod commands;
+pub mod fault;
+pub mod line;
+pub mod parsing;
+pub mod reading;

@@ -23,3 +23,13 @@ Refuses is_outside e read = Unless (is_outside e) (read ≡ Err e)
 abbrev pub Gives : {E X Y : Type 0} → (E → Bool) → (X → Y) → Result X E → Result Y E → Type 0
 Gives is_outside view (Ok x) read = read ≡ Ok (view x)
 Gives is_outside view (Err e) read = Refuses is_outside e read
+
+-- first this, and then what follows it
+abbrev pub First : {E A B : Type 0} → Result A E → (A → Result B E → Type 0) → Result B E → Type 0
+First (Ok x) Next r = Next x r
+First (Err e) Next r = r ≡ Err e
+
+-- what a call answered is so, unless it was refused from outside
+abbrev pub Finds : {E A : Type 0} → (E → Bool) → (Result A E → Type 0) → Result A E → Type 0
+Finds is_outside P (Ok x) = P (Ok x)
+Finds is_outside P (Err e) = Unless (is_outside e) (P (Err e))

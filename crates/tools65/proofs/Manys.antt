@@ -4,9 +4,9 @@ use Rattle.std.specs.Prelude.{◌==◌}
 use Rattle.tools65.specs.declared.script.token.Form.{Form}
 use Rattle.tools65.specs.declared.script.token.Form.TheVariants as form
 use Rattle.tools65.specs.ScriptTokens.{token_at}
-use Rattle.syntax65.specs.Outcome.{Unless}
+use Rattle.syntax65.specs.Outcome.{Unless, Finds}
 use Rattle.tools65.specs.declared.script.fault.Stop.{Stop}
-use Rattle.tools65.specs.ScriptGrammar.{stands, form_rank, is_memory, Finds}
+use Rattle.tools65.specs.ScriptGrammar.{stands, form_rank, is_memory, is_outside}
 
 end_of_rank : (f g : Form) → (form_rank f == form_rank g) ≡ true → f ≡ form.End → g ≡ form.End
 end_of_rank f g h e = by_rank g (let h' : (8 == form_rank g) ≡ true = rw (ap form_rank e) at h in h')
@@ -32,5 +32,5 @@ unless_map true g h = tt
 unless_map false g h = g h
 
 -- a fault of a part is one of the whole
-pub finds_map : {A B : Type 0} (P : Result A Stop → Type 0) (Q : Result B Stop → Type 0) (e : Stop) → (P (Err e) → Q (Err e)) → Finds P (Err e) → Finds Q (Err e)
+pub finds_map : {A B : Type 0} (P : Result A Stop → Type 0) (Q : Result B Stop → Type 0) (e : Stop) → (P (Err e) → Q (Err e)) → Finds is_outside P (Err e) → Finds is_outside Q (Err e)
 finds_map P Q e g h = unless_map (is_memory e.fault) g h

@@ -2,7 +2,7 @@
 use Rattle.std.specs.Prelude.{◌≡◌, ℕ, ◌+◌, Bool, true, false, ◌==◌, nat_lt, if◌then◌else◌, List, [], ◌∷◌, ◌++◌, length, Option, Some, None, is_some, unwrap_or, Result, Ok, Err, find, map, codes}
 use Rattle.std.specs.List.{list_any}
 use Rattle.std.specs.Str.{bytes_eq}
-use Rattle.syntax65.specs.Outcome.{◌>>=◌, Unless}
+use Rattle.syntax65.specs.Outcome.{◌>>=◌, First}
 use Rattle.tools65.specs.declared.script.fault.Fault.{Fault}
 use Rattle.tools65.specs.declared.script.fault.Fault.TheVariants.{OutOfMemory, SyntaxError, UnknownAttribute, AttributeTwice, AttributeMissing, NameTwice, NoSuchArea, OutOfRange, TooLong}
 use Rattle.tools65.specs.declared.script.fault.Stop.{Stop}
@@ -134,11 +134,6 @@ pub data Many {S : Type 0} (closes : ℕ → Bool) (Item : S → ℕ → Result 
   ends : (s : S) (at : ℕ) → closes at ≡ true → Many closes Item s at (Ok (s, at))
   more : (s t : S) (at next : ℕ) (r : Result (S × ℕ) Stop) → closes at ≡ false → Item s at (Ok (t, next)) → Many closes Item t next r → Many closes Item s at r
   stops : (s : S) (at : ℕ) (e : Stop) → closes at ≡ false → Item s at (Err e) → Many closes Item s at (Err e)
-
--- first this, and then what follows it
-abbrev pub First : {A B : Type 0} → Result A Stop → (A → Result B Stop → Type 0) → Result B Stop → Type 0
-First (Ok x) Next r = Next x r
-First (Err e) Next r = r ≡ Err e
 
 -- the attributes of an area, up to a `;`
 abbrev pub AreaAttributes : List ℕ → AreaParts → ℕ → Result (AreaParts × ℕ) Stop → Type 0
@@ -279,11 +274,9 @@ abbrev pub is_memory : Fault → Bool
 is_memory OutOfMemory = true
 is_memory _ = false
 
--- a call answered so, unless memory ran out
-abbrev pub Finds : {A : Type 0} → (Result A Stop → Type 0) → Result A Stop → Type 0
-Finds P (Ok x) = P (Ok x)
-Finds P (Err e) = Unless (is_memory e.fault) (P (Err e))
+-- memory ran out
+abbrev pub is_outside : Stop → Bool
+is_outside e = is_memory e.fault
 
-abbrev pub Answers : List ℕ → Result Script ScriptFault → Type 0
-Answers bytes (Ok s) = IsScript bytes (Ok s)
-Answers bytes (Err e) = Unless (is_memory e.fault) (IsScript bytes (Err e))
+abbrev pub is_outside_script : ScriptFault → Bool
+is_outside_script e = is_memory e.fault

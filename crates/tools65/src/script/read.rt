@@ -1,10 +1,10 @@
 //! Reads scripts.
 
 ghost use Rattle.std.specs.Prelude.{◌≡◌, ◌≤◌, ◌<◌, ◌++◌, ◌∷◌, ℕ, List, Result, IfOk, length, [], find, map, codes};
-ghost use Rattle.syntax65.specs.Outcome.{Gives};
+ghost use Rattle.syntax65.specs.Outcome.{Finds};
 ghost use Rattle.tools65.specs.declared.script.entry.Entries.{Entries};
 ghost use Rattle.tools65.specs.declared.script.fault.Stop.{Stop};
-ghost use Rattle.tools65.specs.ScriptGrammar.{the_word, word_at, area_head, row_head, area_of, area_end, row_of, row_end, is_taken, name_text, sized, block_head, memory_head, segments_head, script_end, is_lost, AreaAttributes, RowAttributes, no_area_parts, no_row_parts, IsArea, IsRow, Rows, IsRest, Reads, Finds, Answers, IsScript, row_in, script_of};
+ghost use Rattle.tools65.specs.ScriptGrammar.{the_word, word_at, area_head, row_head, area_of, area_end, row_of, row_end, is_taken, name_text, sized, block_head, memory_head, segments_head, script_end, is_lost, AreaAttributes, RowAttributes, no_area_parts, no_row_parts, IsArea, IsRow, Rows, IsRest, Reads, IsScript, is_outside, is_outside_script, row_in, script_of};
 
 use crate::script::attributes::{area_attribute, expect, row_attribute, stands};
 use crate::script::entry::{
@@ -178,7 +178,7 @@ fn row(
     at: usize,
 ) -> Result<(Sequence<RowEntry>, usize), Stop>
     requires { at ≤ length bytes.now }
-    ensures found { Finds (IsRow bytes.now rows at) result }
+    ensures found { Finds is_outside (IsRow bytes.now rows at) result }
     ensures within { IfOk result (λ r. r.1 ≤ length bytes.now) }
     ensures order { IfOk result (λ r. at < r.1) }
 {
@@ -192,7 +192,7 @@ fn row(
 /// The rows up to a `}`, and where that stands.
 fn rows(alloc: Global, bytes: &[u8], start: usize) -> Result<(Sequence<RowEntry>, usize), Stop>
     requires { start ≤ length bytes.now }
-    ensures found { Finds (Rows bytes.now [] start) result }
+    ensures found { Finds is_outside (Rows bytes.now [] start) result }
     ensures within { IfOk result (λ r. r.1 ≤ length bytes.now) }
 {
     let mut found = Sequence::new(alloc);
@@ -300,7 +300,7 @@ fn script_end(
 /// What stands in the second block, behind the area.
 fn rest(alloc: Global, bytes: &[u8], area: AreaEntry, at: usize) -> Result<Entries, Stop>
     requires { at ≤ length bytes.now }
-    ensures { Finds (IsRest bytes.now area at) result }
+    ensures { Finds is_outside (IsRest bytes.now area at) result }
 {
     let start = segments_head(bytes, at)?;
     let (found, end) = rows(alloc, bytes, start)?;
@@ -309,7 +309,7 @@ fn rest(alloc: Global, bytes: &[u8], area: AreaEntry, at: usize) -> Result<Entri
 
 /// What stands in a script's two blocks, or the first fault.
 fn read_entries(alloc: Global, bytes: &[u8]) -> Result<Entries, Stop>
-    ensures { Finds (Reads bytes.now) result }
+    ensures { Finds is_outside (Reads bytes.now) result }
 {
     let at = memory_head(bytes)?;
     let (area, end) = area(bytes, at)?;
@@ -359,7 +359,7 @@ fn script_of(alloc: Global, bytes: &[u8], entries: &Entries) -> Result<Script, A
 
 /// The script that bytes are, or its first fault and the line of that.
 pub fn read_script(alloc: Global, bytes: &[u8]) -> Result<Script, ScriptFault>
-    ensures { Answers bytes.now result }
+    ensures { Finds is_outside_script (IsScript bytes.now) result }
 {
     match read_entries(alloc, bytes) {
         Ok(entries) => Ok(script_of(alloc, bytes, &entries)?),

@@ -1,0 +1,141 @@
+-- The bodies of records, each read or the fault of one that hasn't its form.
+use Rattle.std.specs.Prelude.{ℕ, zero, suc, ◌-◌, List, [], ◌∷◌, length, take, drop, get_or, Option, Some, None, Result, Ok, Err, nat_lt, ◌==◌, ◌||◌, not, if◌then◌else◌}
+use Rattle.std.specs.Int.{w64, cast_signed}
+use Rattle.byteorder.specs.Endian.{little_number}
+use Rattle.object65.specs.declared.fault.ObjectFault.{ObjectFault}
+use Rattle.object65.specs.declared.fault.ObjectFault.TheVariants.{BadSize}
+use Rattle.object65.specs.declared.operator.Op1.{Op1}
+use Rattle.object65.specs.declared.operator.Op2.{Op2}
+use Rattle.object65.specs.declared.object.Action.{Action}
+use Rattle.object65.specs.declared.object.Action.TheVariants as action
+use Rattle.object65.specs.declared.object.Assert.{Assert}
+use Rattle.object65.specs.declared.object.Export.{Export}
+use Rattle.object65.specs.declared.object.Width.{Width}
+use Rattle.object65.specs.declared.object.Width.TheVariants.{Byte, Word, HighFirst, Dword, Branch}
+use Rattle.object65.specs.Fault.{◌>>=◌}
+use Rattle.object65.specs.Operators.{op1_of, op2_of}
+use Rattle.object65.specs.Form.{Form, lit, sec, imp, prefix, binary}
+use Rattle.object65.specs.Objects.{section_limit}
+
+-- a number of so many bytes at the front, and what follows
+abbrev pub number_at : ℕ → List ℕ → Result (ℕ × List ℕ) ObjectFault
+number_at len bytes = if nat_lt (length bytes) len then Err BadSize else Ok (little_number len bytes, drop len bytes)
+
+-- so many bytes at the front, and what follows
+abbrev pub text_at : ℕ → List ℕ → Result (List ℕ × List ℕ) ObjectFault
+text_at len bytes = if nat_lt (length bytes) len then Err BadSize else Ok (take len bytes, drop len bytes)
+
+-- a byte with the length, and so many bytes
+unfoldable pub counted_at : List ℕ → Result (List ℕ × List ℕ) ObjectFault
+counted_at bytes = do
+  len ← number_at 1 bytes
+  text_at len.0 len.1
+
+abbrev pub op1_at : ℕ → Option Op1
+op1_at code = if nat_lt code 0x10 || nat_lt 0x15 code then None else Some (op1_of (code - 0x0f))
+
+abbrev pub op2_at : ℕ → Option Op2
+op2_at code = if nat_lt code 0x20 || nat_lt 0x32 code then None else Some (op2_of (code - 0x20))
+
+unfoldable pub lit_at : List ℕ → Result (Form × List ℕ) ObjectFault
+lit_at bytes = do
+  value ← number_at 8 bytes
+  Ok (lit (cast_signed w64 value.0), value.1)
+
+unfoldable pub sec_at : List ℕ → Result (Form × List ℕ) ObjectFault
+sec_at bytes = do
+  section ← number_at 4 bytes
+  offset ← number_at 8 section.1
+  Ok (sec section.0 (cast_signed w64 offset.0), offset.1)
+
+unfoldable pub imp_at : List ℕ → Result (Form × List ℕ) ObjectFault
+imp_at bytes = do
+  place ← number_at 4 bytes
+  Ok (imp place.0, place.1)
+
+unfoldable pub prefix_at : (List ℕ → Result (Form × List ℕ) ObjectFault) → Op1 → List ℕ → Result (Form × List ℕ) ObjectFault
+prefix_at part op bytes = do
+  f ← part bytes
+  Ok (prefix op f.0, f.1)
+
+unfoldable pub binary_at : (List ℕ → Result (Form × List ℕ) ObjectFault) → Op2 → List ℕ → Result (Form × List ℕ) ObjectFault
+binary_at part op bytes = do
+  f ← part bytes
+  g ← part f.1
+  Ok (binary op f.0 g.0, g.1)
+
+-- the operation of a code on parts that are read so
+abbrev pub operation_at : (List ℕ → Result (Form × List ℕ) ObjectFault) → Option Op1 → Option Op2 → List ℕ → Result (Form × List ℕ) ObjectFault
+operation_at part (Some op) other bytes = prefix_at part op bytes
+operation_at part None (Some op) bytes = binary_at part op bytes
+operation_at part None None bytes = Err BadSize
+
+-- a form of at most so many nodes one within the other, and what follows
+abbrev pub form_at : ℕ → List ℕ → Result (Form × List ℕ) ObjectFault
+form_at zero bytes = Err BadSize
+form_at (suc depth) [] = Err BadSize
+form_at (suc depth) (code ∷ rest) =
+    if code == 0x00 then lit_at rest
+    else if code == 0x01 then sec_at rest
+    else if code == 0x02 then imp_at rest
+    else operation_at (λ bytes. form_at depth bytes) (op1_at code) (op2_at code) rest
+
+abbrev pub nothing_behind : {A : Type 0} → A × List ℕ → Result A ObjectFault
+nothing_behind x = if length x.1 == 0 then Ok x.0 else Err BadSize
+
+-- a form that takes all the bytes; each byte begins at most one node
+unfoldable pub form_of_all : List ℕ → Result Form ObjectFault
+form_of_all bytes = form_at (length bytes) bytes >>= nothing_behind
+
+abbrev pub width_of : ℕ → Result Width ObjectFault
+width_of code =
+    if code == 0 then Ok Byte else if code == 1 then Ok Word else if code == 2 then Ok HighFirst else if code == 3 then Ok Dword else if code == 4 then Ok Branch else Err BadSize
+
+abbrev pub action_of : ℕ → Result Action ObjectFault
+action_of code = if code == 0 then Ok action.Warning else if code == 1 then Ok action.Error else Err BadSize
+
+-- what the body of a SECTION says, without its fragments
+pub record Heading : Type 0 where
+  pub size : ℕ
+  pub align : ℕ
+  pub name : List ℕ
+
+abbrev pub section_of : List ℕ → Result Heading ObjectFault
+section_of body =
+    if nat_lt (length body) 5 then Err BadSize
+    else if nat_lt section_limit (little_number 4 body) then Err BadSize
+    else Ok (record { size = little_number 4 body; align = get_or body 4 0; name = drop 5 body })
+
+abbrev pub literal_of : List ℕ → Result (List ℕ) ObjectFault
+literal_of body = if length body == 0 then Err BadSize else Ok body
+
+abbrev pub fill_of : List ℕ → Result ℕ ObjectFault
+fill_of body = if not (length body == 4) || little_number 4 body == 0 then Err BadSize else Ok (little_number 4 body)
+
+-- a value's width, its line and its form
+unfoldable pub value_of : List ℕ → Result (Width × ℕ × Form) ObjectFault
+value_of body = do
+  code ← number_at 1 body
+  width ← width_of code.0
+  line ← number_at 4 code.1
+  form ← form_of_all line.1
+  Ok (width, line.0, form)
+
+unfoldable pub export_of : List ℕ → Result Export ObjectFault
+export_of body = do
+  name ← counted_at body
+  line ← number_at 4 name.1
+  form ← form_of_all line.1
+  Ok (record { name = name.0; line = line.0; form = form })
+
+unfoldable pub assert_of : List ℕ → Result Assert ObjectFault
+assert_of body = do
+  code ← number_at 1 body
+  action ← action_of code.0
+  line ← number_at 4 code.1
+  text ← counted_at line.1
+  form ← form_of_all text.1
+  Ok (record { action = action; line = line.0; text = text.0; form = form })
+
+abbrev pub end_of : List ℕ → Result (Unit {0}) ObjectFault
+end_of body = if length body == 0 then Ok tt else Err BadSize

@@ -1,0 +1,88 @@
+-- What the form of an operation on forms is, and when a form can't be folded any more.
+use Rattle.std.specs.Prelude.{◌==◌, ℕ, ◌+◌, ℤ, ◌+ℤ◌, ◌-ℤ◌, Bool, true, false, not, ◌&&◌, ◌||◌, Option, Some, None, Result, Ok, Err, nat_le, if◌then◌else◌}
+use Rattle.object65.specs.declared.operator.Op1.{Op1}
+use Rattle.object65.specs.declared.operator.Op1.TheVariants.{Plus}
+use Rattle.object65.specs.declared.operator.Op2.{Op2}
+use Rattle.object65.specs.declared.operator.Op2.TheVariants.{Sum, Difference}
+use Rattle.object65.specs.declared.folding.FormFault.{FormFault}
+use Rattle.object65.specs.declared.folding.FormFault.TheVariants.{NoValue, TooLarge}
+use Rattle.object65.specs.Form.{Form, lit, sec, imp, prefix, binary, nodes}
+use Rattle.object65.specs.Values.{value1, value2, wrapped}
+
+-- no form has more nodes
+abbrev pub node_limit : ℕ
+node_limit = 255
+
+abbrev pub limited : Form → Result Form FormFault
+limited f = if nat_le (nodes f) node_limit then Ok f else Err TooLarge
+
+abbrev pub literal : Option ℤ → Result Form FormFault
+literal None = Err NoValue
+literal (Some v) = Ok (lit v)
+
+abbrev pub fold_prefix : Op1 → Form → Result Form FormFault
+fold_prefix op (lit v) = Ok (lit (value1 op v))
+fold_prefix op f = limited (prefix op f)
+
+-- the form of a prefix operation on a form
+abbrev pub fold1 : Op1 → Form → Result Form FormFault
+fold1 Plus f = Ok f
+fold1 op f = fold_prefix op f
+
+abbrev pub fold_any : Op2 → Form → Form → Result Form FormFault
+fold_any op (lit a) (lit b) = literal (value2 op a b)
+fold_any op f g = limited (binary op f g)
+
+abbrev pub fold_sum : Form → Form → Result Form FormFault
+fold_sum (sec k a) (lit n) = Ok (sec k (wrapped (a +ℤ n)))
+fold_sum (lit n) (sec k a) = Ok (sec k (wrapped (a +ℤ n)))
+fold_sum f g = fold_any Sum f g
+
+abbrev pub fold_difference : Form → Form → Result Form FormFault
+fold_difference (sec k a) (sec m b) = if k == m then Ok (lit (wrapped (a -ℤ b))) else fold_any Difference (sec k a) (sec m b)
+fold_difference (sec k a) (lit n) = Ok (sec k (wrapped (a -ℤ n)))
+fold_difference f g = fold_any Difference f g
+
+-- the form of an operation on two forms
+abbrev pub fold2 : Op2 → Form → Form → Result Form FormFault
+fold2 Sum f g = fold_sum f g
+fold2 Difference f g = fold_difference f g
+fold2 op f g = fold_any op f g
+
+abbrev pub is_literal : Form → Bool
+is_literal (lit v) = true
+is_literal _ = false
+
+-- an operation that would be folded
+abbrev pub folds1 : Op1 → Form → Bool
+folds1 Plus f = true
+folds1 op f = is_literal f
+
+abbrev pub folds_sum : Form → Form → Bool
+folds_sum (sec k a) (lit n) = true
+folds_sum (lit n) (sec k a) = true
+folds_sum f g = false
+
+abbrev pub folds_difference : Form → Form → Bool
+folds_difference (sec k a) (sec m b) = k == m
+folds_difference (sec k a) (lit n) = true
+folds_difference f g = false
+
+abbrev pub folds2 : Op2 → Form → Form → Bool
+folds2 Sum f g = is_literal f && is_literal g || folds_sum f g
+folds2 Difference f g = is_literal f && is_literal g || folds_difference f g
+folds2 op f g = is_literal f && is_literal g
+
+-- no operation in it would be folded
+abbrev pub is_normal : Form → Bool
+is_normal (prefix op f) = is_normal f && not (folds1 op f)
+is_normal (binary op f g) = is_normal f && is_normal g && not (folds2 op f g)
+is_normal _ = true
+
+-- its sections and imports are there, of so many
+abbrev pub is_within : ℕ → ℕ → Form → Bool
+is_within sections imports (lit v) = true
+is_within sections imports (sec k a) = nat_le (k + 1) sections
+is_within sections imports (imp j) = nat_le (j + 1) imports
+is_within sections imports (prefix op f) = is_within sections imports f
+is_within sections imports (binary op f g) = is_within sections imports f && is_within sections imports g

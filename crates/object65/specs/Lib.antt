@@ -1,0 +1,13 @@
+pub mod Operators
+pub mod Form
+pub mod Norm
+pub mod Values
+pub mod Folding
+pub mod Fault
+pub mod Objects
+pub mod Record
+pub mod Spelling
+pub mod Reading
+pub mod Bodies
+pub mod Taking
+pub mod Whole

@@ -1,0 +1,132 @@
+-- Objects as values: what their parts take up, which of them are in the grammar.
+use Rattle.std.specs.Prelude.{ℕ, ◌<◌, ◌^◌, ℤ, pos, negsuc, List, [], ◌∷◌, length, map, sum_by, Bool, true, false, nat_eq, nat_lt, nat_le, int_le, ◌&&◌, not, FitsSigned, ⊤}
+use Rattle.std.specs.List.{list_all, list_any, AllByRecursion}
+use Rattle.std.specs.Int.{w64, cast_unsigned}
+use Rattle.std.specs.Cmp.Lexicographic.{pointwise}
+use Rattle.byteorder.specs.Endian.{little_bytes, big_bytes}
+use Rattle.object65.specs.declared.object.Object.{Object}
+use Rattle.object65.specs.declared.object.Section.{Section}
+use Rattle.object65.specs.declared.object.Assert.{Assert}
+use Rattle.object65.specs.declared.object.Fragment.{Fragment}
+use Rattle.object65.specs.declared.object.Fragment.TheVariants.{Literal, Fill, Value}
+use Rattle.object65.specs.declared.object.Width.{Width}
+use Rattle.object65.specs.declared.object.Width.TheVariants.{Byte, Word, HighFirst, Dword, Branch}
+use Rattle.object65.specs.Form.{Form, lit, sec, imp, prefix, binary, nodes}
+use Rattle.object65.specs.Folding.{is_normal, is_within, is_literal, node_limit}
+
+-- ---- Values.
+
+-- how many bytes a value takes
+abbrev pub width_len : Width → ℕ
+width_len Byte = 1
+width_len Word = 2
+width_len HighFirst = 2
+width_len Dword = 4
+width_len Branch = 1
+
+abbrev pub is_between : ℤ → ℤ → ℤ → Bool
+is_between low high v = int_le low v && int_le v high
+
+-- whether a value fits
+abbrev pub fits_width : Width → ℤ → Bool
+fits_width Byte v = is_between (pos 0) (pos 255) v
+fits_width Word v = is_between (pos 0) (pos 65535) v
+fits_width HighFirst v = is_between (pos 0) (pos 65535) v
+fits_width Dword v = is_between (pos 0) (pos 4294967295) v
+fits_width Branch v = is_between (negsuc 127) (pos 127) v
+
+-- the bytes of a value that fits
+abbrev pub value_bytes : Width → ℤ → List ℕ
+value_bytes HighFirst v = big_bytes 2 (cast_unsigned w64 v)
+value_bytes width v = little_bytes (width_len width) (cast_unsigned w64 v)
+
+-- ---- Sizes.
+
+abbrev pub fragment_len : Fragment → ℕ
+fragment_len (Literal bytes) = length bytes
+fragment_len (Fill n) = n
+fragment_len (Value width line form) = width_len width
+
+abbrev pub section_len : Section → ℕ
+section_len s = sum_by fragment_len s.fragments
+
+-- a section has at most so many bytes
+abbrev pub section_limit : ℕ
+section_limit = 16777216
+
+-- ---- Names.
+
+abbrev pub is_printed : ℕ → Bool
+is_printed b = nat_lt 0x20 b && nat_lt b 0x7f
+
+-- 1 to 255 bytes that are printed, without the blank
+abbrev pub is_name : List ℕ → Bool
+is_name name = nat_lt 0 (length name) && nat_lt (length name) 256 && list_all is_printed name
+
+abbrev pub is_among : List (List ℕ) → List ℕ → Bool
+is_among names name = list_any (λ n. pointwise nat_eq n name) names
+
+-- good names, none twice
+abbrev pub are_names : List (List ℕ) → Bool
+are_names [] = true
+are_names (name ∷ names) = is_name name && not (is_among names name) && are_names names
+
+-- ---- Forms.
+
+-- a form of an object with so many sections and imports
+abbrev pub is_good_form : ℕ → ℕ → Form → Bool
+is_good_form sections imports f = is_within sections imports f && is_normal f && nat_le (nodes f) node_limit
+
+-- the numbers in it are those of 32 and 64 bits
+abbrev pub FitsBits : Form → Type 0
+FitsBits (lit v) = FitsSigned w64 v
+FitsBits (sec k a) = (k < 2 ^ 32) × FitsSigned w64 a
+FitsBits (imp j) = j < 2 ^ 32
+FitsBits (prefix op f) = FitsBits f
+FitsBits (binary op f g) = FitsBits f × FitsBits g
+
+-- ---- Objects of the grammar.
+
+-- in a section of an object with so many sections and imports
+abbrev pub is_good_fragment : ℕ → ℕ → Fragment → Bool
+is_good_fragment sections imports (Literal bytes) = nat_lt 0 (length bytes)
+is_good_fragment sections imports (Fill n) = nat_lt 0 n
+is_good_fragment sections imports (Value width line form) = is_good_form sections imports form && not (is_literal form)
+
+-- neighbours that would be one fragment
+abbrev pub joins : Fragment → Fragment → Bool
+joins (Literal a) (Literal b) = true
+joins (Fill m) (Fill n) = true
+joins f g = false
+
+abbrev pub are_apart : List Fragment → Bool
+are_apart [] = true
+are_apart (f ∷ []) = true
+are_apart (f ∷ g ∷ fs) = not (joins f g) && are_apart (g ∷ fs)
+
+abbrev pub is_good_section : ℕ → ℕ → Section → Bool
+is_good_section sections imports s = nat_le s.align 15 && nat_le (section_len s) section_limit && list_all (is_good_fragment sections imports) s.fragments && are_apart s.fragments
+
+abbrev pub is_good_assert : ℕ → ℕ → Assert → Bool
+is_good_assert sections imports a = nat_lt (length a.text) 256 && is_good_form sections imports a.form && not (is_literal a.form)
+
+-- what has a spelling
+abbrev pub is_good_object : Object → Bool
+is_good_object o =
+    let sections = length o.sections in
+    let imports = length o.imports in
+    are_names o.imports && are_names (map (λ s. s.name) o.sections) && are_names (map (λ e. e.name) o.exports)
+    && list_all (is_good_section sections imports) o.sections
+    && list_all (λ e. is_good_form sections imports e.form) o.exports
+    && list_all (is_good_assert sections imports) o.asserts
+
+abbrev pub FragmentFits : Fragment → Type 0
+FragmentFits (Literal bytes) = ⊤
+FragmentFits (Fill n) = n < 2 ^ 32
+FragmentFits (Value width line form) = (line < 2 ^ 32) × FitsBits form
+
+-- the numbers of an object are those of their types
+pub record ObjectFits (o : Object) : Type 0 where
+  pub sections : AllByRecursion (λ s. AllByRecursion FragmentFits s.fragments) o.sections
+  pub exports : AllByRecursion (λ e. (e.line < 2 ^ 32) × FitsBits e.form) o.exports
+  pub asserts : AllByRecursion (λ a. (a.line < 2 ^ 32) × FitsBits a.form) o.asserts

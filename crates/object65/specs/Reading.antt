@@ -1,0 +1,63 @@
+-- Reading an object from left to right, with the first fault that is met.
+use Rattle.std.specs.Prelude.{◌≡◌, ℕ, ◌+◌, ◌-◌, List, length, take, drop, get_or, Option, Some, None, Result, Ok, Err, nat_lt, ◌==◌, ◌||◌, not, if◌then◌else◌, ⊤}
+use Rattle.std.specs.Str.{bytes_eq}
+use Rattle.byteorder.specs.Endian.{little_number}
+use Rattle.object65.specs.declared.fault.ObjectFault.{ObjectFault}
+use Rattle.object65.specs.declared.fault.ObjectFault.TheVariants.{NotAnObject, UnknownVersion, CutShort, UnknownRecord, BadSize, FileNotFound, BytesAfterEnd}
+use Rattle.object65.specs.Fault.{◌>>=◌}
+use Rattle.object65.specs.Record.{Entry, is_record_kind}
+use Rattle.object65.specs.Spelling.{magic, body_limit}
+use Rattle.syntax65.specs.declared.store.StoreFault.{StoreFault}
+use Rattle.syntax65.specs.declared.store.StoreFault.TheVariants as store
+
+-- what a file has from a place on, up to the end of a member's room
+abbrev pub room : List ℕ → ℕ → ℕ → List ℕ
+room bytes at limit = take (limit - at) (drop at bytes)
+
+-- what is read of a file's bytes, or that there is no such file
+abbrev pub in_file : {A : Type 0} → Option (List ℕ) → (List ℕ → Result A ObjectFault) → Result A ObjectFault
+in_file None read = Err FileNotFound
+in_file (Some bytes) read = read bytes
+
+-- where the records begin, by the first five bytes
+abbrev pub head_of : ℕ → List ℕ → Result ℕ ObjectFault
+head_of at head =
+    if nat_lt (length head) 5 || not (bytes_eq (take 4 head) magic) then Err NotAnObject else if get_or head 4 0 == 1 then Ok (at + 5) else Err UnknownVersion
+
+abbrev pub head_at : ℕ → ℕ → List ℕ → Result ℕ ObjectFault
+head_at at limit bytes = head_of at (take 5 (room bytes at limit))
+
+-- an object or library file has at most so many bytes
+abbrev pub file_limit : ℕ
+file_limit = 1073741824
+
+-- the kind and the length of the body, by the first three bytes
+abbrev pub front_of : List ℕ → Result (ℕ × ℕ) ObjectFault
+front_of front =
+    if nat_lt (length front) 3 then Err CutShort else if not (is_record_kind (get_or front 0 0)) then Err UnknownRecord else if nat_lt body_limit (little_number 2 (drop 1 front)) then Err BadSize else Ok (get_or front 0 0, little_number 2 (drop 1 front))
+
+-- the body, where all its bytes are there
+abbrev pub whole : ℕ → List ℕ → Result (List ℕ) ObjectFault
+whole len body = if nat_lt (length body) len then Err CutShort else Ok body
+
+-- the record, and where the next begins
+abbrev pub ending : ℕ → ℕ → ℕ → List ℕ → Result (Entry × ℕ) ObjectFault
+ending at kind len body = if nat_lt file_limit (at + 3 + len) then Err BadSize else Ok (record { kind = kind; body = body }, at + 3 + len)
+
+unfoldable pub record_at : ℕ → ℕ → List ℕ → Result (Entry × ℕ) ObjectFault
+record_at at limit bytes = do
+  front ← front_of (take 3 (room bytes at limit))
+  body ← whole front.1 (take front.1 (room bytes (at + 3) limit))
+  ending at front.0 front.1 body
+
+-- nothing stands there any more
+abbrev pub end_at : ℕ → ℕ → List ℕ → Result (Unit {0}) ObjectFault
+end_at at limit bytes = if nat_lt 0 (length (take 1 (room bytes at limit))) then Err BytesAfterEnd else Ok tt
+
+-- the bytes that a call read into the buffer are the first of the room, as many as the buffer takes
+abbrev pub IsRoomRead : Option (List ℕ) → ℕ → ℕ → List ℕ → Result ℕ StoreFault → Type 0
+IsRoomRead None at limit buf (Ok n) = ⊥
+IsRoomRead (Some bytes) at limit buf (Ok n) = (take n buf ≡ take (length buf) (room bytes at limit)) × (n ≡ length (take (length buf) (room bytes at limit)))
+IsRoomRead file at limit buf (Err store.FileNotFound) = file ≡ None
+IsRoomRead file at limit buf (Err store.FileError) = ⊤
+IsRoomRead file at limit buf (Err store.OutOfMemory) = ⊤

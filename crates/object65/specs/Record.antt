@@ -1,0 +1,15 @@
+-- Records, and the kinds that are read.
+use Rattle.std.specs.Prelude.{ℕ, List, Bool, ◌==◌, ◌||◌}
+use Rattle.object65.specs.declared.record.Record.{Record}
+
+-- a record without where its body lies
+pub record Entry : Type 0 where
+  pub kind : ℕ
+  pub body : List ℕ
+
+abbrev pub entry_of : Record → Entry
+entry_of r = record { kind = r.kind; body = r.body.items }
+
+-- the kinds of records that are read and taken
+abbrev pub is_record_kind : ℕ → Bool
+is_record_kind kind = kind == 2 || kind == 3 || kind == 8

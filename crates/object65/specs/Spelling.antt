@@ -1,0 +1,113 @@
+-- The bytes of an object, record by record.
+use Rattle.std.specs.Prelude.{◌≡◌, ℕ, zero, suc, ◌+◌, ◌/◌, List, [], ◌∷◌, ◌++◌, length, take, drop, map, true}
+use Rattle.std.specs.List.{flat_map}
+use Rattle.std.specs.Int.{w64, cast_unsigned}
+use Rattle.byteorder.specs.Endian.{little_bytes}
+use Rattle.object65.specs.declared.operator.Op1.{Op1}
+use Rattle.object65.specs.declared.operator.Op1.TheVariants.{Plus, Minus, Invert, LowByte, HighByte, BankByte, LogicalNot}
+use Rattle.object65.specs.declared.object.Object.{Object}
+use Rattle.object65.specs.declared.object.Section.{Section}
+use Rattle.object65.specs.declared.object.Export.{Export}
+use Rattle.object65.specs.declared.object.Assert.{Assert}
+use Rattle.object65.specs.declared.object.Action.{Action}
+use Rattle.object65.specs.declared.object.Action.TheVariants as action
+use Rattle.object65.specs.declared.object.Fragment.{Fragment}
+use Rattle.object65.specs.declared.object.Fragment.TheVariants.{Literal, Fill, Value}
+use Rattle.object65.specs.declared.object.Width.{Width}
+use Rattle.object65.specs.declared.object.Width.TheVariants.{Byte, Word, HighFirst, Dword, Branch}
+use Rattle.object65.specs.Operators.{number2}
+use Rattle.object65.specs.Form.{Form, lit, sec, imp, prefix, binary}
+use Rattle.object65.specs.Objects.{section_len, is_good_object, ObjectFits}
+use Rattle.object65.specs.Record.{Entry}
+
+-- a prefix + adds nothing
+abbrev pub code1 : Op1 → List ℕ
+code1 Plus = []
+code1 Minus = 0x10 ∷ []
+code1 Invert = 0x11 ∷ []
+code1 LowByte = 0x12 ∷ []
+code1 HighByte = 0x13 ∷ []
+code1 BankByte = 0x14 ∷ []
+code1 LogicalNot = 0x15 ∷ []
+
+abbrev pub form_bytes : Form → List ℕ
+form_bytes (lit v) = 0x00 ∷ little_bytes 8 (cast_unsigned w64 v)
+form_bytes (sec k a) = 0x01 ∷ (little_bytes 4 k ++ little_bytes 8 (cast_unsigned w64 a))
+form_bytes (imp j) = 0x02 ∷ little_bytes 4 j
+form_bytes (prefix op f) = code1 op ++ form_bytes f
+form_bytes (binary op f g) = (0x20 + number2 op) ∷ (form_bytes f ++ form_bytes g)
+
+abbrev pub width_code : Width → ℕ
+width_code Byte = 0
+width_code Word = 1
+width_code HighFirst = 2
+width_code Dword = 3
+width_code Branch = 4
+
+abbrev pub action_code : Action → ℕ
+action_code action.Warning = 0
+action_code action.Error = 1
+
+-- a body has at most so many bytes
+abbrev pub body_limit : ℕ
+body_limit = 4096
+
+-- bytes in pieces of the longest body, all full but the last
+abbrev pub pieces : ℕ → List ℕ → List (List ℕ)
+pieces zero bytes = []
+pieces (suc n) bytes = take body_limit bytes ∷ pieces n (drop body_limit bytes)
+
+abbrev pub literal_entry : List ℕ → Entry
+literal_entry body = record { kind = 3; body = body }
+
+abbrev pub literal_entries : List ℕ → List Entry
+literal_entries bytes = map literal_entry (pieces ((length bytes + 4095) / body_limit) bytes)
+
+abbrev pub fragment_entries : Fragment → List Entry
+fragment_entries (Literal bytes) = literal_entries bytes
+fragment_entries (Fill n) = record { kind = 4; body = little_bytes 4 n } ∷ []
+fragment_entries (Value width line form) = record { kind = 5; body = width_code width ∷ (little_bytes 4 line ++ form_bytes form) } ∷ []
+
+abbrev pub import_entry : List ℕ → Entry
+import_entry name = record { kind = 1; body = name }
+
+abbrev pub section_entry : Section → Entry
+section_entry s = record { kind = 2; body = little_bytes 4 (section_len s) ++ s.align ∷ s.name }
+
+abbrev pub export_entry : Export → Entry
+export_entry e = record { kind = 6; body = length e.name ∷ (e.name ++ little_bytes 4 e.line ++ form_bytes e.form) }
+
+abbrev pub assert_entry : Assert → Entry
+assert_entry a = record { kind = 7; body = action_code a.action ∷ (little_bytes 4 a.line ++ length a.text ∷ (a.text ++ form_bytes a.form)) }
+
+abbrev pub end_entry : Entry
+end_entry = record { kind = 8; body = [] }
+
+-- the records of an object
+abbrev pub entries_of : Object → List Entry
+entries_of o =
+    map import_entry o.imports
+    ++ map section_entry o.sections
+    ++ flat_map (λ s. flat_map fragment_entries s.fragments) o.sections
+    ++ map export_entry o.exports
+    ++ map assert_entry o.asserts
+    ++ end_entry ∷ []
+
+abbrev pub entry_bytes : Entry → List ℕ
+entry_bytes e = e.kind ∷ (little_bytes 2 (length e.body) ++ e.body)
+
+abbrev pub magic : List ℕ
+magic = 0x52 ∷ 0x36 ∷ 0x35 ∷ 0x6f ∷ []
+
+abbrev pub object_head : List ℕ
+object_head = magic ++ 0x01 ∷ []
+
+-- the one spelling of an object
+abbrev pub object_bytes : Object → List ℕ
+object_bytes o = object_head ++ flat_map entry_bytes (entries_of o)
+
+-- the bytes spell the object
+pub record IsObject (bytes : List ℕ) (o : Object) : Type 0 where
+  pub good : is_good_object o ≡ true
+  pub numbers : ObjectFits o
+  pub spelled : bytes ≡ object_bytes o

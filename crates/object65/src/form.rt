@@ -1,0 +1,75 @@
+//! Normal forms of expressions.
+
+ghost use Rattle.std.specs.Prelude.{◌≡◌, ◌≤◌, ◌+◌};
+ghost use Rattle.object65.specs.Form.{Form, nodes};
+ghost use Rattle.object65.specs.Norm.{form_of};
+
+use crate::{Op1, Op2};
+use std::marker::Model;
+
+/// A normal form, which contracts see without its boxes.
+#[derive(Debug, Drop)]
+#[cycle(norm)]
+pub struct Norm {
+    node: Node,
+}
+
+/// A node of a normal form.
+#[derive(Debug, Drop)]
+#[cycle(norm)]
+pub enum Node {
+    /// A number.
+    Lit(i64),
+    /// A place in a section: the section's number and an offset.
+    Sec(u32, i64),
+    /// The value of an import, by its number.
+    Imp(u32),
+    Prefix(Op1, Box<Norm>),
+    Binary(Op2, Box<Norm>, Box<Norm>),
+}
+
+impl Model for Norm {
+    ghost use Rattle.object65.specs.Form.{Form, form_code, nodes};
+
+    ghost Value = { Form };
+
+    ghost coded = { form_code };
+
+    ghost use Rattle.object65.specs.Norm.{form_of};
+
+    ghost view = { λ n. form_of n.node };
+
+    ghost size = { nodes };
+
+    ghost use Rattle.std.proofs.Common.{arith};
+
+    ghost size_decreases = { λ a h. Prim.grind arith };
+}
+
+impl Norm {
+    /// The form with this node at its top.
+    pub fn new(node: Node) -> Self
+        ensures { result ≡ form_of node }
+    {
+        Norm { node }
+    }
+
+    /// The node at the top.
+    pub fn node(&self) -> &Node
+        ensures { form_of result.now ≡ self.now }
+    {
+        &self.node
+    }
+}
+
+/// How many nodes a form has.
+pub fn count(form: &Norm) -> u32
+    requires { nodes form.now ≤ 255 }
+    ensures { result ≡ nodes form.now }
+{
+    match &form.node {
+        Node::Lit(_) | Node::Sec(_, _) | Node::Imp(_) => 1,
+        Node::Prefix(_, part) => count(part) + 1,
+        Node::Binary(_, left, right) => count(left) + count(right) + 1,
+    }
+}

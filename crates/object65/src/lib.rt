@@ -1,0 +1,17 @@
+//! Objects: modules in parts, as records in a file and as values.
+#![tactic(auto)]
+
+mod draft;
+mod fault;
+mod folding;
+mod form;
+mod object;
+mod operator;
+mod record;
+
+pub use fault::ObjectFault;
+pub use folding::FormFault;
+pub use form::{Node, Norm};
+pub use object::{Action, Assert, Export, Fragment, Object, Section, Width};
+pub use operator::{Op1, Op2};
+pub use record::Record;

@@ -1,0 +1,10 @@
+//! Records.
+
+use arrayvec::ArrayVec;
+
+/// One record of an object.
+#[derive(Debug, Drop)]
+pub struct Record {
+    pub kind: u8,
+    pub body: ArrayVec<u8, 4096>,
+}

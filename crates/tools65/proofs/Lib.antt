@@ -1,4 +1,7 @@
 pub mod Digits
+pub mod ImageLemmas
 pub mod Manys
+pub mod Placements
 pub mod Rows
 pub mod Taken
+pub mod Texts

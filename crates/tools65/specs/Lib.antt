@@ -1,8 +1,11 @@
 pub mod CommandLine
+pub mod Images
 pub mod Line
 pub mod LineFaults
 pub mod Messages
+pub mod Placing
 pub mod ScriptGrammar
 pub mod ScriptNumber
 pub mod ScriptTokens
 pub mod ScriptWords
+pub mod Leaving

@@ -2,8 +2,15 @@
 #![tactic(auto)]
 
 mod command_line;
+mod linking;
+mod outcome;
+mod printing;
 mod script;
+mod writing;
 
 pub use command_line::fault::LineFault;
 pub use command_line::line::{Line, LinkLine};
 pub use command_line::reading::read_line;
+pub use outcome::{Outcome, Output, Status};
+pub use printing::print;
+pub use writing::write_file;

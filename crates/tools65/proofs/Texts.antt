@@ -1,0 +1,84 @@
+-- A text that is taken a part at a time.
+use Rattle.std.proofs.Common.{◌≡◌, ◌∙◌, ℕ, ◌<◌, ◌≤◌, arith, length-append, List, [], ◌++◌, length, take, drop, Option, Some, None, Ok, Err, Bool, true, false, cond, inr, refl, sym, ap, append_assoc}
+use Rattle.std.specs.FinMap as map
+use Rattle.std.proofs.lemmas.List.{take_at, append-nil, take-append-drop}
+use Rattle.std.specs.Io.KnownBytes.{Appends, Keeps}
+use Rattle.std.specs.Ordering.{nat_cmp, eq_by_cmp}
+use Rattle.std.specs.Cmp.{eq_by_cmp_equiv}
+use Rattle.std.specs.Cmp.Lexicographic.{slice_cmp, nat_list_cmp_total}
+use Rattle.syntax65.specs.Store.{Files, Tells, Appends as Appended}
+use Rattle.syntax65.specs.declared.store.StoreFault.{StoreFault}
+use Rattle.syntax65.specs.declared.store.StoreFault.TheVariants.{OutOfMemory, FileNotFound, FileError}
+use Rattle.tools65.specs.Leaving.{Prints, IsPartly}
+
+-- the first part of the text has been taken, and the rest is left
+abbrev pub Printing : Option (List ℕ) → Option (List ℕ) → List ℕ → List ℕ → Type 0
+Printing None new text rest = Unit {0}
+Printing (Some old) None text rest = ⊥
+Printing (Some old) (Some new) text rest = (done : List ℕ) × (text ≡ done ++ rest) × (new ≡ old ++ done)
+
+-- the file has been begun and holds the first part of its bytes
+abbrev pub Writing : Files → List ℕ → List ℕ → List ℕ → Files → Type 0
+Writing old name bytes rest new = (done : List ℕ) × (bytes ≡ done ++ rest) × (new ≡ map.insert old name done)
+
+part : (done rest text : List ℕ) → text ≡ done ++ rest → take (length done) text ≡ done
+part done rest text e = ap (take (length done)) e ∙ take_at done rest (length done) refl
+
+shorter : (done rest text : List ℕ) → text ≡ done ++ rest → 0 < length rest → length done < length text
+shorter done rest text e h = omega (arith, ap length e, length-append done rest)
+
+-- a stream that fails keeps what it has
+pub printed_part : (old mid new : Option (List ℕ)) (text rest : List ℕ) → 0 < length rest → length rest ≤ length text → Printing old mid text rest → Appends mid new [] → Prints old new text false
+printed_part None mid new text rest some within p k = omega arith
+printed_part (Some o) None new text rest some within p k = absurd p
+printed_part (Some o) (Some m) None text rest some within p k = absurd k
+printed_part (Some o) (Some m) (Some n) text rest some within p k = (length p.0, shorter p.0 rest text p.1 some, k ∙ append-nil m ∙ p.2 ∙ ap (λ xs. o ++ xs) (sym (part p.0 rest text p.1)))
+
+pub kept : (mid new : Option (List ℕ)) → Keeps mid new → Appends mid new []
+kept None new k = tt
+kept (Some m) None k = k
+kept (Some m) (Some n) k = k ∙ sym (append-nil m)
+
+equal_to_itself : (name : List ℕ) → eq_by_cmp (slice_cmp nat_cmp) name name ≡ true
+equal_to_itself name = (eq_by_cmp_equiv nat_list_cmp_total).refl name
+
+got : (m : Files) (name bytes : List ℕ) → map.get (map.insert m name bytes) name ≡ Some bytes
+got m name bytes = map.get-insert nat_list_cmp_total m name bytes name ∙ rw (equal_to_itself name) refl
+
+-- the last bytes of a name stand
+replaced : (m : Files) (name a b : List ℕ) → map.insert (map.insert m name a) name b ≡ map.insert m name b
+replaced m name a b =
+    map.same_map nat_list_cmp_total (map.slice_cmp-IsAntisymmetric map.nat_cmp-IsAntisymmetric) _ _
+    (λ q. map.get-insert nat_list_cmp_total (map.insert m name a) name b q ∙ ap (cond (eq_by_cmp (slice_cmp nat_cmp) q name) (Some b)) (map.get-insert nat_list_cmp_total m name a q) ∙ twice (eq_by_cmp (slice_cmp nat_cmp) q name) _ _ _ ∙ sym (map.get-insert nat_list_cmp_total m name b q)) where
+      twice : {A : Type 0} (c : Bool) (x y z : A) → cond c x (cond c y z) ≡ cond c x z
+      twice true x y z = refl
+      twice false x y z = refl
+
+-- a file that goes on being written
+pub written_more : (known mid new : Option Files) (name bytes rest : List ℕ) (n : ℕ) → Tells (λ old m. Writing old name bytes rest m) known mid → Tells (λ m x. Appended m name rest x (Ok n)) mid new → Tells (λ old x. Writing old name bytes (drop n rest) x) known new
+written_more None mid new name bytes rest n p q = tt
+written_more (Some o) None new name bytes rest n p q = absurd p
+written_more (Some o) (Some m) None name bytes rest n p q = absurd q
+written_more (Some o) (Some m) (Some x) name bytes rest n p q =
+    let was : map.get m name ≡ Some p.0 = ap (λ (w : Files). map.get w name) p.2 ∙ got o name p.0 in
+    let same : q.0 ≡ p.0 = cc (q.1.was, was) in (
+      p.0 ++ take n rest,
+      p.1 ∙ ap (λ xs. p.0 ++ xs) (sym (take-append-drop n rest)) ∙ sym (append_assoc p.0 (take n rest) (drop n rest)),
+      q.1.grown ∙ ap (λ xs. map.insert m name (xs ++ take n rest)) same ∙ ap (λ (w : Files). map.insert w name (p.0 ++ take n rest)) p.2 ∙ replaced o name p.0 (p.0 ++ take n rest),
+    )
+
+unchanged : (e : StoreFault) (m x : Files) (name rest : List ℕ) → Appended m name rest x (Err e) → x ≡ m
+unchanged OutOfMemory m x name rest h = h
+unchanged FileNotFound m x name rest h = h.1
+unchanged FileError m x name rest h = h
+
+-- a file that is left in part
+pub written_part : (e : StoreFault) (known mid new : Option Files) (name bytes rest : List ℕ) → Tells (λ old m. Writing old name bytes rest m) known mid → Tells (λ m x. Appended m name rest x (Err e)) mid new → Tells (λ old x. IsPartly old name bytes x) known new
+written_part e None mid new name bytes rest p q = tt
+written_part e (Some o) None new name bytes rest p q = absurd p
+written_part e (Some o) (Some m) None name bytes rest p q = absurd q
+written_part e (Some o) (Some m) (Some x) name bytes rest p q =
+    inr (length p.0, unchanged e m x name rest q ∙ p.2 ∙ ap (map.insert o name) (sym (part p.0 rest bytes p.1)))
+
+pub nothing : (mid new : Option (List ℕ)) (n : ℕ) (rest : List ℕ) → n ≡ 0 → Appends mid new (take n rest) → Appends mid new []
+nothing mid new n rest e h = rw e at h

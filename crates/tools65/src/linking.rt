@@ -1,0 +1,4 @@
+//! Links an object by a script.
+
+pub mod imaging;
+pub mod placing;

@@ -5,3 +5,4 @@ pub mod Placements
 pub mod Rows
 pub mod Taken
 pub mod Texts
+pub mod Fronts

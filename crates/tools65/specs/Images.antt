@@ -1,35 +1,43 @@
 -- The bytes of an area's file.
 use Rattle.std.specs.Prelude.{◌≡◌, ℕ, ◌+◌, ◌-◌, ◌<◌, Bool, List, [], ◌∷◌, length, nat_le, nat_lt, get_or, ◌==◌, ◌&&◌, if◌then◌else◌}
-use Rattle.tools65.specs.declared.linking.imaging.Laid.{Laid}
+use Rattle.tools65.specs.declared.linking.laid.Laid.{Laid}
 
--- behind the last row that has bytes, or the start where there is none
-abbrev pub image_end : ℕ → List Laid → ℕ
-image_end start [] = start
-image_end start (l ∷ ls) = image_end (if length l.bytes.now == 0 then start else l.address + length l.bytes.now) ls
+-- bytes, and how far behind an area's start the first of them lies
+pub record Piece : Type 0 where
+  pub offset : ℕ
+  pub bytes : List ℕ
+
+abbrev pub piece : Laid → Piece
+piece l = record { offset = l.offset; bytes = l.bytes.now }
+
+-- behind the last piece that has bytes, or as before where there is none
+abbrev pub end_behind : ℕ → List Piece → ℕ
+end_behind before [] = before
+end_behind before (p ∷ ps) = end_behind (if length p.bytes == 0 then before else p.offset + length p.bytes) ps
 
 abbrev pub covers : ℕ → ℕ → List ℕ → Bool
-covers k at bytes = nat_le at k && nat_lt k (at + length bytes)
+covers i at bytes = nat_le at i && nat_lt i (at + length bytes)
 
 -- bytes that begin at a place, over what is there
 abbrev pub laid_over : ℕ → ℕ → List ℕ → ℕ → ℕ
-laid_over k at bytes before = if covers k at bytes then get_or bytes (k - at) 0 else before
+laid_over i at bytes before = if covers i at bytes then get_or bytes (i - at) 0 else before
 
--- the byte at an address: that of the last row which covers it, and what was there before where none does
-abbrev pub byte_over : List Laid → ℕ → ℕ → ℕ
-byte_over [] k before = before
-byte_over (l ∷ ls) k before = byte_over ls k (laid_over k l.address l.bytes.now before)
+-- the byte at a place: that of the last piece which covers it, and what was there before where none does
+abbrev pub byte_over : List Piece → ℕ → ℕ → ℕ
+byte_over [] i before = before
+byte_over (p ∷ ps) i before = byte_over ps i (laid_over i p.offset p.bytes before)
 
--- an area's file from its start on: up to the last row that has bytes, 0 in gaps
-pub record IsImage (start : ℕ) (rows : List Laid) (image : List ℕ) : Type 0 where
-  pub len : length image ≡ image_end start rows - start
-  pub bytes : (i : ℕ) → i < length image → get_or image i 0 ≡ byte_over rows (start + i) 0
+-- an area's file: up to the last piece that has bytes, and 0 in gaps
+pub record IsImage (pieces : List Piece) (image : List ℕ) : Type 0 where
+  pub len : length image ≡ end_behind 0 pieces
+  pub bytes : (i : ℕ) → i < length image → get_or image i 0 ≡ byte_over pieces i 0
 
 -- new is old with bytes over it from a place on
 pub record Overlays (old : List ℕ) (at : ℕ) (bytes new : List ℕ) : Type 0 where
   pub len : length new ≡ length old
   pub each : (i : ℕ) → i < length old → get_or new i 0 ≡ laid_over i at bytes (get_or old i 0)
 
--- new is old with all rows over it, each over those before it
-pub record LaysAll (start : ℕ) (rows : List Laid) (old new : List ℕ) : Type 0 where
+-- new is old with all pieces over it, each over those before it
+pub record LaysAll (pieces : List Piece) (old new : List ℕ) : Type 0 where
   pub len : length new ≡ length old
-  pub each : (i : ℕ) → i < length old → get_or new i 0 ≡ byte_over rows (start + i) (get_or old i 0)
+  pub each : (i : ℕ) → i < length old → get_or new i 0 ≡ byte_over pieces i (get_or old i 0)

@@ -9,3 +9,4 @@ pub mod ScriptNumber
 pub mod ScriptTokens
 pub mod ScriptWords
 pub mod Leaving
+pub mod Reading

@@ -5,6 +5,7 @@ mod command_line;
 mod linking;
 mod outcome;
 mod printing;
+mod reading;
 mod script;
 mod writing;
 

@@ -1,6 +1,6 @@
-use Rattle.std.proofs.Common.{◌≡◌, drop}
-use Rattle.tools65.specs.Images.{image_end}
+use Rattle.std.proofs.Common.{◌≡◌, drop, map}
+use Rattle.tools65.specs.Images.{piece, end_behind}
 use Rattle.tools65.proofs.linking.imaging.image_end.Given as goal
 
-abbrev pub invariant-loop-row : goal.invariant-loop-row
-invariant-loop-row l = image_end l.end (drop l.row-index l.rows) ≡ image_end l.start l.rows
+abbrev pub invariant-loop-piece : goal.invariant-loop-piece
+invariant-loop-piece l = end_behind l.end (map piece (drop l.piece-index l.pieces)) ≡ end_behind 0 (map piece l.pieces)

@@ -1,6 +1,6 @@
-use Rattle.std.proofs.Common.{◌≡◌, ◌<◌, ◌+◌, ℕ, length, take, get_or}
-use Rattle.tools65.specs.Images.{LaysAll}
+use Rattle.std.proofs.Common.{take, map}
+use Rattle.tools65.specs.Images.{piece, LaysAll}
 use Rattle.tools65.proofs.linking.imaging.lay.Given as goal
 
-abbrev pub invariant-loop-row : goal.invariant-loop-row
-invariant-loop-row l = LaysAll l.start (take l.row-index l.rows) l.initial.image l.image
+abbrev pub invariant-loop-piece : goal.invariant-loop-piece
+invariant-loop-piece l = LaysAll (map piece (take l.piece-index l.pieces)) l.initial.image l.image

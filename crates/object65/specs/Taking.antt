@@ -1,6 +1,6 @@
 -- What a builder becomes by one record after another.
 use Rattle.std.specs.Prelude.{◌≡◌, ℕ, ◌+◌, ◌-◌, ◌%◌, List, [], ◌∷◌, ◌++◌, length, map, Bool, true, false, Result, Ok, Err, nat_lt, nat_le, ◌==◌, ◌&&◌, not, if◌then◌else◌}
-use Rattle.std.specs.List.{list_any, list_all}
+use Rattle.std.specs.List.{list_all}
 use Rattle.object65.specs.declared.fault.ObjectFault.{ObjectFault}
 use Rattle.object65.specs.declared.fault.ObjectFault.TheVariants.{FailedBefore, CutShort, OutOfOrder, IndexOutOfRange, BadSize, NotCanonical}
 use Rattle.object65.specs.declared.draft.Draft.{Draft}
@@ -22,21 +22,20 @@ use Rattle.object65.specs.Spelling.{body_limit}
 pub record State : Type 0 where
   pub imports : List (List ℕ)
   pub drafts : List Draft
+  -- whether a fragment was taken
+  pub begun : Bool
   pub exports : List Export
   pub asserts : List Assert
   pub ended : Bool
   pub failed : Bool
 
 abbrev pub start : State
-start = record { imports = []; drafts = []; exports = []; asserts = []; ended = false; failed = false }
+start = record { imports = []; drafts = []; begun = false; exports = []; asserts = []; ended = false; failed = false }
 
 -- ---- What may stand where.
 
 abbrev pub is_full : Draft → Bool
 is_full d = d.filled == d.size
-
-abbrev pub is_begun : Draft → Bool
-is_begun d = nat_lt 0 d.filled
 
 abbrev pub is_none : {A : Type 0} → List A → Bool
 is_none xs = length xs == 0
@@ -50,7 +49,7 @@ import_stands s = is_none s.drafts && is_none s.exports && is_none s.asserts
 
 -- sections stand before all fragments
 abbrev pub section_stands : State → Bool
-section_stands s = not (list_any is_begun s.drafts) && is_none s.exports && is_none s.asserts
+section_stands s = not s.begun && is_none s.exports && is_none s.asserts
 
 -- exports stand behind the last fragment, before all assertions
 abbrev pub export_stands : State → Bool
@@ -148,7 +147,7 @@ with_section s body = do
 
 -- a record of a fragment
 abbrev pub with_part : State → (Draft → Result Draft ObjectFault) → Result State ObjectFault
-with_part s grow = in_first_open grow s.drafts >>= (λ ds. Ok (record s { drafts = ds }))
+with_part s grow = in_first_open grow s.drafts >>= (λ ds. Ok (record s { drafts = ds; begun = true }))
 
 unfoldable pub with_export : State → List ℕ → Result State ObjectFault
 with_export s body = do

@@ -7,6 +7,7 @@ mod folding;
 mod form;
 mod object;
 mod operator;
+mod reading;
 mod record;
 
 pub use fault::ObjectFault;
@@ -14,4 +15,5 @@ pub use folding::FormFault;
 pub use form::{Node, Norm};
 pub use object::{Action, Assert, Export, Fragment, Object, Section, Width};
 pub use operator::{Op1, Op2};
+pub use reading::{check_end, read_head, read_record};
 pub use record::Record;

@@ -82,6 +82,10 @@ canonical_open f = wants (is_normal f && nat_le (nodes f) node_limit && not (is_
 abbrev pub draft_of : Heading → Draft
 draft_of h = record { name = h.name; align = h.align; size = h.size; filled = 0; fragments = []; literal = [] }
 
+-- the section that a body spells, with no fragment yet
+abbrev pub drafted : List ℕ → Result Draft ObjectFault
+drafted body = section_of body >>= (λ h. Ok (draft_of h))
+
 abbrev pub closing : List ℕ → List Fragment
 closing bytes = if is_none bytes then [] else Literal bytes ∷ []
 
@@ -140,10 +144,10 @@ with_import s body = do
 unfoldable pub with_section : State → List ℕ → Result State ObjectFault
 with_section s body = do
   u ← wants (section_stands s) OutOfOrder
-  heading ← section_of body
-  v ← new_name (map (λ d. d.name) s.drafts) heading.name
-  w ← wants (nat_le heading.align 15) NotCanonical
-  Ok (record s { drafts = s.drafts ++ draft_of heading ∷ [] })
+  d ← drafted body
+  v ← new_name (map (λ x. x.name) s.drafts) d.name
+  w ← wants (nat_le d.align 15) NotCanonical
+  Ok (record s { drafts = s.drafts ++ d ∷ [] })
 
 -- a record of a fragment
 abbrev pub with_part : State → (Draft → Result Draft ObjectFault) → Result State ObjectFault

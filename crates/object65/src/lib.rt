@@ -7,8 +7,10 @@ mod folding;
 mod form;
 mod object;
 mod operator;
+mod parts;
 mod reading;
 mod record;
+mod taking;
 
 pub use fault::ObjectFault;
 pub use folding::FormFault;

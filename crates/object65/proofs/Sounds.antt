@@ -1,0 +1,13 @@
+-- How the parts of a builder stay sound.
+use Rattle.std.proofs.Common.{◌≡◌, ◌∙◌, ◌≤◌, Bool, true, false, List, [], ◌∷◌, ◌++◌, ℕ, length, take, map, refl, sym, ap}
+use Rattle.std.proofs.lemmas.List.{map-append, take-append-le}
+use Rattle.std.specs.List.{list_all}
+use Rattle.object65.specs.declared.draft.Draft.{Draft}
+use Rattle.object65.specs.Sound.{draft_names}
+use Rattle.object65.specs.Taking.{is_full}
+
+pub names-push : (ds : List Draft) (d : Draft) → draft_names (ds ++ d ∷ []) ≡ draft_names ds ++ d.name ∷ []
+names-push ds d = map-append (λ x. x.name) ds (d ∷ [])
+
+pub full-push : (n : ℕ) (ds : List Draft) (d : Draft) → n ≤ length ds → list_all is_full (take n ds) ≡ true → list_all is_full (take n (ds ++ d ∷ [])) ≡ true
+full-push n ds d within full = rw (take-append-le n ds (d ∷ []) within) full

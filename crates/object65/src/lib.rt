@@ -1,6 +1,7 @@
 //! Objects: modules in parts, as records in a file and as values.
 #![tactic(auto)]
 
+mod builder;
 mod draft;
 mod fault;
 mod folding;
@@ -12,6 +13,7 @@ mod reading;
 mod record;
 mod taking;
 
+pub use builder::Builder;
 pub use fault::ObjectFault;
 pub use folding::FormFault;
 pub use form::{Node, Norm};

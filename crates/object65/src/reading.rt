@@ -8,6 +8,7 @@ ghost use Rattle.object65.specs.Record.{entry_of, is_record_kind};
 ghost use Rattle.object65.specs.Reading.{in_file, head_at, record_at, end_at, room, IsRoomRead, front_of, whole, file_limit};
 ghost use Rattle.object65.specs.Spelling.{body_limit};
 
+use crate::record::{END, LITERAL, SECTION};
 use crate::{ObjectFault, Record};
 use arrayvec::ArrayVec;
 use byteorder::{ByteOrder, LittleEndian};
@@ -170,5 +171,5 @@ pub fn check_end<S: Store>(
 fn is_kind(kind: u8) -> bool
     ensures { result ≡ is_record_kind kind }
 {
-    matches!(kind, 2 | 3 | 8)
+    matches!(kind, SECTION | LITERAL | END)
 }

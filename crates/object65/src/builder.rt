@@ -5,9 +5,10 @@ ghost use Rattle.object65.specs.Fault.{Gives, is_outside};
 ghost use Rattle.object65.specs.Record.{entry_of};
 ghost use Rattle.object65.specs.Taking.{start, after, finished};
 
+use crate::finishing::finish_object;
 use crate::parts::Parts;
 use crate::taking::take_record;
-use crate::{ObjectFault, Record};
+use crate::{Object, ObjectFault, Record};
 use indexmap::IndexSet;
 use std::alloc::Global;
 use std::marker::Model;
@@ -83,5 +84,18 @@ impl Builder {
                 Err(e)
             }
         }
+    }
+
+    /// The object, where its END was taken.
+    pub fn finish(self) -> Result<Object, ObjectFault>
+        ensures { Gives is_outside (λ o. o) result (finished self) }
+    {
+        if self.failed {
+            return Err(ObjectFault::FailedBefore);
+        }
+        if !self.ended {
+            return Err(ObjectFault::CutShort);
+        }
+        finish_object(self.parts)
     }
 }

@@ -11,3 +11,4 @@ pub mod Reading
 pub mod Bodies
 pub mod Taking
 pub mod Whole
+pub mod Sound

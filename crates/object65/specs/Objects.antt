@@ -64,7 +64,7 @@ abbrev pub is_name : List ℕ → Bool
 is_name name = nat_lt 0 (length name) && nat_lt (length name) 256 && list_all is_printed name
 
 abbrev pub is_among : List (List ℕ) → List ℕ → Bool
-is_among names name = list_any (λ n. pointwise nat_eq n name) names
+is_among names name = list_any (λ n. pointwise nat_eq name n) names
 
 -- good names, none twice
 abbrev pub are_names : List (List ℕ) → Bool

@@ -1,6 +1,6 @@
 -- What a builder becomes by one record after another.
-use Rattle.std.specs.Prelude.{◌≡◌, ℕ, ◌+◌, ◌-◌, ◌%◌, List, [], ◌∷◌, ◌++◌, length, map, Bool, true, false, Result, Ok, Err, nat_lt, nat_le, ◌==◌, ◌&&◌, not, if◌then◌else◌}
-use Rattle.std.specs.List.{list_any, list_all}
+use Rattle.std.specs.Prelude.{◌≡◌, ℕ, ◌+◌, ◌-◌, ◌%◌, List, [], ◌∷◌, ◌++◌, length, map, get_or, slice_set, Bool, true, false, Result, Ok, Err, nat_lt, nat_le, ◌==◌, ◌&&◌, not, if◌then◌else◌}
+use Rattle.std.specs.List.{list_all}
 use Rattle.object65.specs.declared.fault.ObjectFault.{ObjectFault}
 use Rattle.object65.specs.declared.fault.ObjectFault.TheVariants.{FailedBefore, CutShort, OutOfOrder, IndexOutOfRange, BadSize, NotCanonical}
 use Rattle.object65.specs.declared.draft.Draft.{Draft}
@@ -22,21 +22,20 @@ use Rattle.object65.specs.Spelling.{body_limit}
 pub record State : Type 0 where
   pub imports : List (List ℕ)
   pub drafts : List Draft
+  -- whether a fragment was taken
+  pub begun : Bool
   pub exports : List Export
   pub asserts : List Assert
   pub ended : Bool
   pub failed : Bool
 
 abbrev pub start : State
-start = record { imports = []; drafts = []; exports = []; asserts = []; ended = false; failed = false }
+start = record { imports = []; drafts = []; begun = false; exports = []; asserts = []; ended = false; failed = false }
 
 -- ---- What may stand where.
 
 abbrev pub is_full : Draft → Bool
 is_full d = d.filled == d.size
-
-abbrev pub is_begun : Draft → Bool
-is_begun d = nat_lt 0 d.filled
 
 abbrev pub is_none : {A : Type 0} → List A → Bool
 is_none xs = length xs == 0
@@ -50,7 +49,7 @@ import_stands s = is_none s.drafts && is_none s.exports && is_none s.asserts
 
 -- sections stand before all fragments
 abbrev pub section_stands : State → Bool
-section_stands s = not (list_any is_begun s.drafts) && is_none s.exports && is_none s.asserts
+section_stands s = not s.begun && is_none s.exports && is_none s.asserts
 
 -- exports stand behind the last fragment, before all assertions
 abbrev pub export_stands : State → Bool
@@ -82,6 +81,10 @@ canonical_open f = wants (is_normal f && nat_le (nodes f) node_limit && not (is_
 
 abbrev pub draft_of : Heading → Draft
 draft_of h = record { name = h.name; align = h.align; size = h.size; filled = 0; fragments = []; literal = [] }
+
+-- the section that a body spells, with no fragment yet
+abbrev pub drafted : List ℕ → Result Draft ObjectFault
+drafted body = section_of body >>= (λ h. Ok (draft_of h))
 
 abbrev pub closing : List ℕ → List Fragment
 closing bytes = if is_none bytes then [] else Literal bytes ∷ []
@@ -130,6 +133,10 @@ abbrev pub in_first_open : (Draft → Result Draft ObjectFault) → List Draft �
 in_first_open grow [] = Err OutOfOrder
 in_first_open grow (d ∷ ds) = if is_full d then (in_first_open grow ds >>= (λ es. Ok (d ∷ es))) else (grow d >>= (λ e. Ok (e ∷ ds)))
 
+-- a fragment goes to the section at this place
+abbrev pub GrowsAt : List Draft → ℕ → Type 0
+GrowsAt ds i = (d : Draft) → d ≡ get_or ds i d → (grow : Draft → Result Draft ObjectFault) → in_first_open grow ds ≡ (grow d >>= (λ e. Ok (slice_set ds i e)))
+
 -- ---- One record.
 
 unfoldable pub with_import : State → List ℕ → Result State ObjectFault
@@ -141,14 +148,14 @@ with_import s body = do
 unfoldable pub with_section : State → List ℕ → Result State ObjectFault
 with_section s body = do
   u ← wants (section_stands s) OutOfOrder
-  heading ← section_of body
-  v ← new_name (map (λ d. d.name) s.drafts) heading.name
-  w ← wants (nat_le heading.align 15) NotCanonical
-  Ok (record s { drafts = s.drafts ++ draft_of heading ∷ [] })
+  d ← drafted body
+  v ← new_name (map (λ x. x.name) s.drafts) d.name
+  w ← wants (nat_le d.align 15) NotCanonical
+  Ok (record s { drafts = s.drafts ++ d ∷ [] })
 
 -- a record of a fragment
 abbrev pub with_part : State → (Draft → Result Draft ObjectFault) → Result State ObjectFault
-with_part s grow = in_first_open grow s.drafts >>= (λ ds. Ok (record s { drafts = ds }))
+with_part s grow = in_first_open grow s.drafts >>= (λ ds. Ok (record s { drafts = ds; begun = true }))
 
 unfoldable pub with_export : State → List ℕ → Result State ObjectFault
 with_export s body = do

@@ -1,17 +1,24 @@
 //! Objects: modules in parts, as records in a file and as values.
 #![tactic(auto)]
 
+mod builder;
 mod draft;
 mod fault;
+mod finishing;
 mod folding;
 mod form;
 mod object;
 mod operator;
+mod parts;
+mod reading;
 mod record;
+mod taking;
 
+pub use builder::Builder;
 pub use fault::ObjectFault;
 pub use folding::FormFault;
 pub use form::{Node, Norm};
 pub use object::{Action, Assert, Export, Fragment, Object, Section, Width};
 pub use operator::{Op1, Op2};
+pub use reading::{check_end, read_head, read_record};
 pub use record::Record;

@@ -1,0 +1,13 @@
+-- Names that are kept in order and found by a set.
+use Rattle.std.proofs.Common.{◌≡◌, ◌∙◌, Bool, true, false, List, [], ◌∷◌, ◌++◌, ℕ, nat_eq, map, refl, sym, ap, if◌then◌else◌}
+use Rattle.std.proofs.lemmas.List.{map-append}
+use Rattle.std.specs.List.{list_any}
+use Rattle.std.specs.Cmp.Lexicographic.{pointwise}
+use Rattle.object65.specs.Objects.{is_among}
+use Rattle.object65.proofs.Lists.{list_any-map}
+
+-- a name that isn't there goes last
+pub pushed_name : {A : Type 0} (f : A → List ℕ) (ks : List A) (k : A) (names : List (List ℕ)) → map f ks ≡ names → is_among names (f k) ≡ false → map f (if list_any (λ y. pointwise nat_eq (f k) (f y)) ks then ks else ks ++ k ∷ []) ≡ names ++ f k ∷ []
+pushed_name f ks k names same new =
+    let none : list_any (λ y. pointwise nat_eq (f k) (f y)) ks ≡ false = sym (list_any-map (pointwise nat_eq (f k)) f ks) ∙ (rw same new) in
+    rw (none, map-append f ks (k ∷ []), same) refl

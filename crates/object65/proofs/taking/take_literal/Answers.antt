@@ -1,0 +1,36 @@
+use Rattle.std.proofs.Common.{◌≡◌, ◌∙◌, ◌≤◌, ◌<◌, get_or, length, set, sym, ap, subst, arith}
+use Rattle.std.proofs.lemmas.List.{length-set}
+use Rattle.std.proofs.lemmas.Result.{err_from_is_err_and}
+use Rattle.object65.specs.declared.draft.Draft.{Draft}
+use Rattle.object65.specs.Fault.{Refuses, is_outside}
+use Rattle.object65.specs.Sound.{state_of, draft_names}
+use Rattle.object65.specs.Taking.{State, with_literal, with_part}
+use Rattle.object65.proofs.Opens.{part_refused, part_given}
+use Rattle.object65.proofs.Sounds.{names-set, full-set}
+use Rattle.object65.proofs.taking.take_literal.Goals as goal
+
+pub returns-in_err-grow_literal-clause-taken : goal.returns-in_err-grow_literal-clause-taken
+returns-in_err-grow_literal-clause-taken c =
+    let p = err_from_is_err_and c.from_residual-in_err-grow_literal.result c.from_residual-in_err-grow_literal.ensures.1 in
+    let grow = with_literal c.args.body.now in
+    let f = c.in_err-grow_literal.field-0.0 in
+    let refused = part_refused (state_of c.open_place.new.parts) c.in_ok-at.at c.index_mut-draft.result.now grow f c.in_ok-at.ensures.open c.index_mut-draft.ensures.value c.in_err-grow_literal.ensures.grown in
+    let P : State → Type 0 = λ s. Refuses is_outside f (with_part s grow) in
+    rw (p.1, p.2) (subst P c.open_place.ensures.state refused)
+
+pub returns-clause-taken : goal.returns-clause-taken
+returns-clause-taken c =
+    let grow = with_literal c.args.body.now in
+    ap (λ (s : State). with_part s grow) (sym c.open_place.ensures.state) ∙ part_given (state_of c.open_place.new.parts) c.in_ok-at.at c.index_mut-draft.result.now c.grow_literal.new.draft grow c.in_ok-at.ensures.open c.index_mut-draft.ensures.value c.in_ok-grow_literal.ensures.grown
+
+pub returns-clause-sound : goal.returns-clause-sound
+returns-clause-sound c =
+    let ds = c.open_place.new.parts.drafts.items in
+    let e = c.grow_literal.new.draft in
+    let sound = c.open_place.ensures.sound in
+    let at = c.in_ok-at.ensures.place.0 in
+    record {
+      section_names = sound.section_names ∙ sym (names-set ds c.in_ok-at.at c.index_mut-draft.result.now e c.index_mut-draft.ensures.value c.grow_literal.ensures.name);
+      within = omega (arith, sound.within, length-set ds c.in_ok-at.at e);
+      filling = rw at (full-set ds c.in_ok-at.at e (rw at at sound.filling));
+    }

@@ -1,0 +1,18 @@
+-- What the parts of a builder stand for, and how they hang together.
+use Rattle.std.specs.Prelude.{◌≡◌, ◌≤◌, ℕ, List, length, take, map, Bool, true, false}
+use Rattle.std.specs.List.{list_all}
+use Rattle.object65.specs.declared.parts.Parts.{Parts}
+use Rattle.object65.specs.declared.draft.Draft.{Draft}
+use Rattle.object65.specs.Taking.{State, is_full}
+
+abbrev pub state_of : Parts → State
+state_of p = record { imports = p.imports; drafts = p.drafts.items; begun = p.begun; exports = p.exports; asserts = p.asserts; ended = false; failed = false }
+
+abbrev pub draft_names : List Draft → List (List ℕ)
+draft_names ds = map (λ d. d.name) ds
+
+-- the names by which sections are found are the sections', and all sections before the one being filled are full
+pub record IsSound (p : Parts) : Type 0 where
+  pub section_names : map (λ n. n.items) p.section_names.keys ≡ draft_names p.drafts.items
+  pub within : p.filling ≤ length p.drafts.items
+  pub filling : list_all is_full (take p.filling p.drafts.items) ≡ true

@@ -1,0 +1,101 @@
+//! An object from its records.
+
+ghost use Rattle.std.specs.Prelude.{◌≡◌, OnErr, IfOk, true};
+ghost use Rattle.object65.specs.Fault.{Gives, is_outside};
+ghost use Rattle.object65.specs.Record.{entry_of};
+ghost use Rattle.object65.specs.Taking.{start, after, finished};
+
+use crate::finishing::finish_object;
+use crate::parts::Parts;
+use crate::taking::take_record;
+use crate::{Object, ObjectFault, Record};
+use indexmap::IndexSet;
+use std::alloc::Global;
+use std::marker::Model;
+use syntax65::Sequence;
+
+/// An object in the making, which stands for the records taken so far.
+#[derive(Drop)]
+pub struct Builder {
+    parts: Parts,
+    ended: bool,
+    failed: bool,
+}
+
+impl Model for Builder {
+    ghost use Rattle.std.specs.Prelude.{◌≡◌, false};
+    ghost use Rattle.object65.specs.Taking.{State};
+
+    ghost use Rattle.std.specs.Coded.{codes};
+    ghost use Rattle.object65.specs.Form.{form_code};
+
+    ghost Value = { State };
+
+    ghost coded = { Prim.hlevel (codes, form_code) };
+
+    ghost use Rattle.object65.specs.Sound.{state_of, IsSound};
+
+    ghost view = { λ b. record (state_of b.parts) { ended = b.ended; failed = b.failed } };
+
+    ghost invariant = { λ b. b.failed ≡ false → IsSound b.parts };
+}
+
+impl Builder {
+    /// A builder that has taken no record.
+    pub fn new(alloc: Global) -> Self
+        ensures { result ≡ start }
+    {
+        Builder {
+            parts: Parts {
+                alloc,
+                imports: Sequence::new(alloc),
+                drafts: Vec::new(alloc),
+                section_names: IndexSet::new(alloc),
+                begun: false,
+                filling: 0,
+                exports: Sequence::new(alloc),
+                asserts: Sequence::new(alloc),
+            },
+            ended: false,
+            failed: false,
+        }
+    }
+
+    /// Takes the next record. After a refusal each call answers that it failed before.
+    #[tactic(auto, unfolding(crate::specs::Taking::after))]
+    pub fn take(&mut self, next: &Record) -> Result<(), ObjectFault>
+        ensures taken { Gives is_outside (λ _. self.new) result (after self.old (entry_of next.now)) }
+        ensures failed { OnErr result (self.new.failed ≡ true) }
+    {
+        if self.failed {
+            return Err(ObjectFault::FailedBefore);
+        }
+        if self.ended {
+            self.failed = true;
+            return Err(ObjectFault::OutOfOrder);
+        }
+        match take_record(&mut self.parts, next) {
+            Ok(ended) => {
+                self.ended = ended;
+                Ok(())
+            }
+            Err(e) => {
+                self.failed = true;
+                Err(e)
+            }
+        }
+    }
+
+    /// The object, where its END was taken.
+    pub fn finish(self) -> Result<Object, ObjectFault>
+        ensures { Gives is_outside (λ o. o) result (finished self) }
+    {
+        if self.failed {
+            return Err(ObjectFault::FailedBefore);
+        }
+        if !self.ended {
+            return Err(ObjectFault::CutShort);
+        }
+        finish_object(self.parts)
+    }
+}

@@ -10,3 +10,4 @@ pub mod ScriptTokens
 pub mod ScriptWords
 pub mod Leaving
 pub mod Reading
+pub mod Pieces

@@ -2,4 +2,5 @@
 
 pub mod imaging;
 pub mod laid;
+pub mod pieces;
 pub mod placing;

@@ -1,9 +1,8 @@
 //! Places the rows of a script.
 
-ghost use Rattle.std.specs.Prelude.{◌≡◌, ◌≤◌, ◌+◌, ◌^◌, ℕ, IfOk, length};
-ghost use Rattle.std.specs.List.{list_any};
+ghost use Rattle.std.specs.Prelude.{◌≡◌, ◌≤◌, ◌+◌, ◌^◌, IfOk, All, length};
 ghost use Rattle.syntax65.specs.Outcome.{Gives};
-ghost use Rattle.tools65.specs.Placing.{size_for, has_row, every_row, row_after, rows_after, place_of, is_outside};
+ghost use Rattle.tools65.specs.Placing.{size_for, has_row, every_row, row_after, rows_after, place_of, is_outside, LiesIn};
 ghost use Rattle.tools65.specs.declared.linking.placing.PlaceFault.TheVariants.{OutOfMemory};
 
 use crate::script::entry::{Area, Row, Script};
@@ -100,7 +99,9 @@ fn place_row(
 ) -> Result<PlacedRow, PlaceFault>
     requires { cursor ≤ 2 ^ 33 }
     ensures placed { Gives is_outside (λ p. p) result (row_after area.now size cursor) }
-    ensures inside { IfOk result (λ p. (p.address ≡ cursor) × (p.address + p.size ≤ 2 ^ 33)) }
+    ensures here { IfOk result (λ p. p.address ≡ cursor) }
+    ensures end { IfOk result (λ p. p.address + p.size ≤ area.now.start + area.now.size) }
+    ensures bound { IfOk result (λ p. p.address + p.size ≤ 2 ^ 33) }
 {
     let start = area.start;
     let room = area.size;
@@ -123,7 +124,9 @@ fn place_rows(
     rows: &[Row],
     needs: &[SegmentNeed],
 ) -> Result<Placement, PlaceFault>
-    ensures { Gives is_outside (λ p. p) result (rows_after area.now needs.now rows.now area.now.start) }
+    ensures placed { Gives is_outside (λ p. p) result (rows_after area.now needs.now rows.now area.now.start) }
+    ensures lies { IfOk result (λ p. All (LiesIn area.now) p.rows) }
+    ensures count { IfOk result (λ p. length p.rows ≡ length rows.now) }
 {
     let mut placed = Sequence::new(alloc);
     let mut cursor = u64::from(area.start);
@@ -145,7 +148,10 @@ pub fn place(
     script: &Script,
     needs: &[SegmentNeed],
 ) -> Result<Placement, PlaceFault>
-    ensures { Gives is_outside (λ p. p) result (place_of script.now needs.now) }
+    ensures placed { Gives is_outside (λ p. p) result (place_of script.now needs.now) }
+    // Each row lies in the area with all its bytes.
+    ensures lies { IfOk result (λ p. All (LiesIn script.now.area) p.rows) }
+    ensures count { IfOk result (λ p. length p.rows ≡ length script.now.rows) }
 {
     check_rows(alloc, script.rows.as_slice(), needs)?;
     place_rows(alloc, &script.area, script.rows.as_slice(), needs)

@@ -3,6 +3,7 @@
 
 mod command_line;
 mod linking;
+mod messages;
 mod outcome;
 mod printing;
 mod reading;

@@ -1,13 +1,14 @@
 //! What an object puts into an area.
 
-ghost use Rattle.std.specs.Prelude.{◌≡◌, ◌≤◌, ◌<◌, ◌+◌, ◌^◌, ◌++◌, All, IfOk, OnOk, length, map, find, sum_by, option_copied};
+ghost use Rattle.std.specs.Prelude.{◌≡◌, ◌≤◌, ◌<◌, ◌+◌, ◌^◌, ◌++◌, All, IfOk, IfSome, OnOk, length, map, find, sum_by, option_copied};
 ghost use Rattle.object65.specs.Objects.{fragment_len, section_len, section_limit};
 ghost use Rattle.tools65.specs.Images.{piece};
 ghost use Rattle.tools65.specs.Pieces.{is_section, pieces_from, row_pieces, pieces_of, need_of};
+ghost use Rattle.tools65.specs.Placing.{LiesIn};
 
 use crate::linking::laid::Laid;
 use crate::linking::placing::{PlacedRow, SegmentNeed};
-use crate::script::entry::Row;
+use crate::script::entry::{Area, Row};
 use object65::{Fragment, Section, Width};
 use std::alloc::{AllocError, Global};
 use syntax65::Sequence;
@@ -75,4 +76,58 @@ fn push_fragments<'a>(
         offset += fragment_len(fragment);
     }
     Ok(())
+}
+
+/// The section of a name.
+fn section_of<'a>(sections: &'a [Section], name: &[u8]) -> Option<&'a Section>
+    requires { All (λ s. section_len s ≤ section_limit) sections.now }
+    ensures found { option_copied result ≡ find (is_section name.now) sections.entry.now }
+    ensures sized { IfSome result (λ s. section_len s.now ≤ section_limit) }
+{
+    for section in sections {
+        if section.name.as_slice() == name {
+            return Some(section);
+        }
+    }
+    None
+}
+
+/// Adds the literals of a row's section, if the object has one.
+fn push_row<'a>(
+    pieces: &mut Vec<Laid<'a>>,
+    sections: &'a [Section],
+    name: &[u8],
+    offset: u64,
+) -> Result<(), AllocError>
+    requires sized { All (λ s. section_len s ≤ section_limit) sections.now }
+    requires small { offset ≤ 2 ^ 33 }
+    ensures { OnOk result (map piece pieces.new.items ≡ map piece pieces.old.items ++ row_pieces offset (find (is_section name.now) sections.entry.now)) }
+{
+    match section_of(sections, name) {
+        Some(section) => push_fragments(pieces, section.fragments.as_slice(), offset),
+        None => Ok(()),
+    }
+}
+
+/// The literals of all rows, in the script's order.
+pub fn pieces_of<'a>(
+    alloc: Global,
+    area: &Area,
+    sections: &'a [Section],
+    rows: &[Row],
+    placed: &[PlacedRow],
+) -> Result<Vec<Laid<'a>>, AllocError>
+    requires sized { All (λ s. section_len s ≤ section_limit) sections.now }
+    requires lies { All (LiesIn area.now) placed.now }
+    requires count { length placed.now ≡ length rows.now }
+    ensures { IfOk result (λ pieces. map piece pieces.items ≡ pieces_of area.now.start sections.entry.now rows.now placed.now) }
+{
+    let start = area.start;
+    let mut pieces = Vec::new(alloc);
+    for (i, row) in rows.iter().enumerate() {
+        let address = placed[i].address;
+        let offset = address.saturating_sub(u64::from(start));
+        push_row(&mut pieces, sections, row.name.as_slice(), offset)?;
+    }
+    Ok(pieces)
 }

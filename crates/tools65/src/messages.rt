@@ -1,0 +1,85 @@
+//! The texts that are printed.
+
+ghost use Rattle.std.specs.Prelude.{◌≡◌, ◌<◌, IfOk, map, Some};
+ghost use Rattle.tools65.specs.Messages.{joined, file_message, line_message, place_message};
+
+use crate::linking::placing::PlaceFault;
+use itoa::Buffer;
+use std::alloc::{AllocError, Global};
+use syntax65::Sequence;
+
+/// Texts one behind the other.
+pub fn join(alloc: Global, parts: &[&[u8]]) -> Result<Sequence<u8>, AllocError>
+    ensures { IfOk result (λ text. text ≡ joined (map (λ p. p.now) parts.now)) }
+{
+    let mut text = Sequence::new(alloc);
+    for part in parts {
+        text.extend_from_slice(part)?;
+    }
+    Ok(text)
+}
+
+/// `name: Error: words`
+pub fn file_message(alloc: Global, name: &str, words: &str) -> Result<Sequence<u8>, AllocError>
+    ensures { IfOk result (λ text. text ≡ file_message name.now words.now) }
+{
+    join(
+        alloc,
+        &[name.as_bytes(), b": Error: ", words.as_bytes(), b"\n"],
+    )
+}
+
+/// `name:line: Error: words`
+pub fn line_message(
+    alloc: Global,
+    name: &str,
+    line: usize,
+    words: &str,
+) -> Result<Sequence<u8>, AllocError>
+    ensures { IfOk result (λ text. text ≡ line_message name.now line words.now) }
+{
+    let mut buffer = Buffer::new();
+    let number = buffer.format(line);
+    join(
+        alloc,
+        &[
+            name.as_bytes(),
+            b":",
+            number.as_bytes(),
+            b": Error: ",
+            words.as_bytes(),
+            b"\n",
+        ],
+    )
+}
+
+/// Why segments aren't placed, as ld65 says it.
+pub fn place_message(alloc: Global, fault: &PlaceFault) -> Result<Sequence<u8>, AllocError>
+    ensures { IfOk result (λ text. text ≡ place_message fault.now) }
+{
+    match fault {
+        PlaceFault::OutOfMemory => join(alloc, &[b"ld65: Error: out of memory\n"]),
+        PlaceFault::NoRow(name) => join(
+            alloc,
+            &[
+                b"ld65: Error: segment has no row: ",
+                name.as_slice(),
+                b"\n",
+            ],
+        ),
+        PlaceFault::Overflow(area, by) => {
+            let mut buffer = Buffer::new();
+            let number = buffer.format(*by);
+            join(
+                alloc,
+                &[
+                    b"ld65: Error: overflow of ",
+                    area.as_slice(),
+                    b" by ",
+                    number.as_bytes(),
+                    b" bytes\n",
+                ],
+            )
+        }
+    }
+}

@@ -2,6 +2,7 @@
 #![tactic(auto)]
 
 mod command_line;
+mod disk_store;
 mod linking;
 mod messages;
 mod outcome;
@@ -13,6 +14,7 @@ mod writing;
 pub use command_line::fault::LineFault;
 pub use command_line::line::{Line, LinkLine};
 pub use command_line::reading::read_line;
+pub use disk_store::DiskStore;
 pub use outcome::{Outcome, Output, Status};
 pub use printing::print;
 pub use writing::write_file;

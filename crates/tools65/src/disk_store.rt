@@ -1,0 +1,189 @@
+//! Files on the disk.
+
+mod read_ahead;
+
+ghost use Rattle.std.specs.Prelude.{◌≡◌, ◌<◌, ◌-◌, ◌+◌, ◌≤◌, ◌^◌, None, IfOk, IfErr, length};
+
+use crate::disk_store::read_ahead::ReadAhead;
+use std::alloc::Global;
+use std::fs::OpenOptions;
+use std::io::{ErrorKind, Write};
+use std::rt::Files;
+use std::{fs, io};
+use syntax65::{Store, StoreFault, Text};
+
+/// A file that is being written.
+#[derive(Drop)]
+struct Writing<F> {
+    name: Text,
+    file: F,
+}
+
+/// Files on the disk. It counts the calls that failed, and keeps the file that it read last and the one that
+/// it wrote last open, so that small reads and writes in a row cost no opening.
+#[derive(Drop)]
+pub struct DiskStore<R: Files> {
+    alloc: Global,
+    files: R,
+    failures: u64,
+    reading: Option<ReadAhead<R::File>>,
+    writing: Option<Writing<R::File>>,
+}
+
+/// The fault of an error, which is counted unless no file is there.
+fn fault_of(failures: &mut u64, error: &io::Error) -> StoreFault
+    requires { failures.old < 2 ^ 64 - 1 }
+    ensures missing { result ≡ StoreFault.FileNotFound → failures.new ≡ failures.old }
+    ensures failed { result ≡ StoreFault.FileError → failures.new ≡ failures.old + 1 }
+    ensures only { result ≡ StoreFault.OutOfMemory → failures.new ≡ failures.old }
+{
+    match error.kind() {
+        ErrorKind::NotFound => StoreFault::FileNotFound,
+        ErrorKind::OutOfMemory => StoreFault::OutOfMemory,
+        _ => {
+            *failures += 1;
+            StoreFault::FileError
+        }
+    }
+}
+
+/// Opens a file to be read.
+fn open_ahead<R: Files>(alloc: Global, files: &R, name: &str) -> io::Result<ReadAhead<R::File>> {
+    let file = fs::open(files, name)?;
+    Ok(ReadAhead::new(alloc, name, file)?)
+}
+
+/// Makes a file empty.
+fn create_file<R: Files>(alloc: Global, files: &R, name: &str) -> io::Result<Writing<R::File>> {
+    let copy = Text::copy_of(alloc, name)?;
+    let file = fs::create(files, name)?;
+    Ok(Writing { name: copy, file })
+}
+
+/// Opens a file to be written behind its end.
+fn open_behind<R: Files>(alloc: Global, files: &R, name: &str) -> io::Result<Writing<R::File>> {
+    let copy = Text::copy_of(alloc, name)?;
+    let file = OpenOptions::new().append(true).open(files, name)?;
+    Ok(Writing { name: copy, file })
+}
+
+/// Writes a piece, one byte at least of one that isn't empty.
+fn write_piece<F: Write>(file: &mut F, piece: &[u8]) -> io::Result<usize>
+    ensures bound { IfOk result (λ n. n ≤ length piece.now) }
+    ensures some { IfOk result (λ n. n ≡ 0 → length piece.now ≡ 0) }
+{
+    let n = file.write(piece)?;
+    if n == 0 && !piece.is_empty() {
+        return Err(io::Error::from(ErrorKind::WriteZero));
+    }
+    Ok(n)
+}
+
+impl<R: Files> DiskStore<R> {
+    /// A store that reaches files through the runtime.
+    pub fn new(alloc: Global, files: R) -> Self {
+        DiskStore {
+            alloc,
+            files,
+            failures: 0,
+            reading: None,
+            writing: None,
+        }
+    }
+
+    /// The file to read, as it was left or opened anew.
+    fn reader(&mut self, name: &str) -> io::Result<ReadAhead<R::File>>
+        ensures { self.new.failures ≡ self.old.failures }
+    {
+        match self.reading.take() {
+            Some(reading) if reading.is_of(name) => Ok(reading),
+            _ => open_ahead(self.alloc, &self.files, name),
+        }
+    }
+
+    /// The file to write, as it was left or opened anew.
+    fn writer(&mut self, name: &str) -> io::Result<Writing<R::File>>
+        ensures { self.new.failures ≡ self.old.failures }
+    {
+        self.reading = None;
+        match self.writing.take() {
+            Some(writing) if writing.name.as_str() == name => Ok(writing),
+            _ => open_behind(self.alloc, &self.files, name),
+        }
+    }
+
+    fn read_file(&mut self, name: &str, at: u64, buf: &mut [u8]) -> io::Result<usize>
+        ensures bound { IfOk result (λ n. n ≤ length buf.new) }
+        ensures count { self.new.failures ≡ self.old.failures }
+    {
+        let mut reading = self.reader(name)?;
+        let n = reading.read_at(at, buf)?;
+        self.reading = Some(reading);
+        Ok(n)
+    }
+
+    fn begin_file(&mut self, name: &str) -> io::Result<()>
+        ensures { self.new.failures ≡ self.old.failures }
+    {
+        self.reading = None;
+        self.writing = None;
+        self.writing = Some(create_file(self.alloc, &self.files, name)?);
+        Ok(())
+    }
+
+    fn append_file(&mut self, name: &str, piece: &[u8]) -> io::Result<usize>
+        ensures bound { IfOk result (λ n. n ≤ length piece.now) }
+        ensures some { IfOk result (λ n. n ≡ 0 → length piece.now ≡ 0) }
+        ensures count { self.new.failures ≡ self.old.failures }
+    {
+        let mut writing = self.writer(name)?;
+        let n = write_piece(&mut writing.file, piece)?;
+        self.writing = Some(writing);
+        Ok(n)
+    }
+}
+
+impl<R: Files> Store for DiskStore<R> {
+    ghost files = { λ _. None };
+
+    ghost failures = { λ s. s.failures };
+
+    fn read_at(&mut self, name: &str, at: u64, buf: &mut [u8]) -> Result<usize, StoreFault> {
+        if self.failures == u64::MAX {
+            return Err(StoreFault::FileError);
+        }
+        match self.read_file(name, at, buf) {
+            Ok(n) => Ok(n),
+            Err(e) => Err(fault_of(&mut self.failures, &e)),
+        }
+    }
+
+    fn create(&mut self, name: &str) -> Result<(), StoreFault> {
+        if self.failures == u64::MAX {
+            return Err(StoreFault::FileError);
+        }
+        match self.begin_file(name) {
+            Ok(()) => Ok(()),
+            Err(e) => {
+                // A folder that isn't there is the disk's failure too: only reading and adding miss a file.
+                match e.kind() {
+                    ErrorKind::OutOfMemory => Err(StoreFault::OutOfMemory),
+                    _ => {
+                        self.failures += 1;
+                        Err(StoreFault::FileError)
+                    }
+                }
+            }
+        }
+    }
+
+    fn append(&mut self, name: &str, piece: &[u8]) -> Result<usize, StoreFault> {
+        if self.failures == u64::MAX {
+            return Err(StoreFault::FileError);
+        }
+        match self.append_file(name, piece) {
+            Ok(n) => Ok(n),
+            Err(e) => Err(fault_of(&mut self.failures, &e)),
+        }
+    }
+}

@@ -1,0 +1,66 @@
+//! A file that is read ahead.
+
+ghost use Rattle.std.specs.Prelude.{◌≤◌, IfOk, length};
+
+use std::alloc::{AllocError, Global};
+use std::io;
+use std::io::{Read, Seek, SeekFrom};
+use syntax65::Text;
+
+const BUFFER: usize = 65_536;
+
+/// An open file, with a buffer that holds what it has from a place on.
+#[derive(Drop)]
+pub struct ReadAhead<F> {
+    name: Text,
+    file: F,
+    buffer: Vec<u8>,
+    start: u64,
+    filled: usize,
+    ghost within: { filled ≤ length buffer.items },
+}
+
+impl<F: Read + Seek + Drop> ReadAhead<F> {
+    /// Nothing is read yet.
+    pub fn new(alloc: Global, name: &str, file: F) -> Result<Self, AllocError> {
+        Ok(ReadAhead {
+            name: Text::copy_of(alloc, name)?,
+            buffer: vec![in alloc; 0; BUFFER]?,
+            file,
+            start: 0,
+            filled: 0,
+        })
+    }
+
+    /// Whether the file has this name.
+    pub fn is_of(&self, name: &str) -> bool {
+        self.name.as_str() == name
+    }
+
+    /// Reads what stands from a place on into the buffer.
+    fn fill(&mut self, at: u64) -> io::Result<()> {
+        self.filled = 0;
+        self.file.seek(SeekFrom::Start(at))?;
+        self.filled = self.file.read(&mut self.buffer)?;
+        self.start = at;
+        Ok(())
+    }
+
+    /// Reads what the file has from a place on, and answers how many bytes it read: none only at its end or
+    /// into an empty buffer.
+    pub fn read_at(&mut self, at: u64, buf: &mut [u8]) -> io::Result<usize>
+        ensures { IfOk result (λ n. n ≤ length buf.new) }
+    {
+        if at < self.start || at - self.start >= self.filled as u64 {
+            self.fill(at)?;
+        }
+        let from = at.saturating_sub(self.start) as usize;
+        let held = &self.buffer[..self.filled];
+        if from >= held.len() {
+            return Ok(0);
+        }
+        let n = (held.len() - from).min(buf.len());
+        buf[..n].copy_from_slice(&held[from..from + n]);
+        Ok(n)
+    }
+}

@@ -3,12 +3,6 @@ use Rattle.std.specs.Prelude.{◌≡◌, ℕ, ◌+◌, ◌≤◌, List, ◌++◌
 use Rattle.syntax65.specs.declared.store.StoreFault.{StoreFault}
 use Rattle.syntax65.specs.declared.store.StoreFault.TheVariants.{OutOfMemory, FileNotFound, FileError}
 
--- memory ran out or the store failed
-abbrev pub is_outside : StoreFault → Bool
-is_outside OutOfMemory = true
-is_outside FileError = true
-is_outside FileNotFound = false
-
 -- a file's bytes, so many at most
 abbrev pub front_in : Option (List ℕ) → ℕ → Result (List ℕ) StoreFault
 front_in None most = Err FileNotFound

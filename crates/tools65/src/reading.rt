@@ -4,7 +4,8 @@ ghost use Rattle.std.specs.Prelude.{◌≡◌, ◌≤◌, ◌<◌, ◌+◌, ◌^
 ghost use Rattle.std.specs.FinMap as map;
 ghost use Rattle.syntax65.specs.Outcome.{Gives};
 ghost use Rattle.syntax65.specs.Store.{Passes};
-ghost use Rattle.tools65.specs.Reading.{is_outside, front_in, ReadsChunk};
+ghost use Rattle.syntax65.specs.StoreFaults.{is_outside_store};
+ghost use Rattle.tools65.specs.Reading.{front_in, ReadsChunk};
 
 use std::alloc::Global;
 use syntax65::{Store, StoreFault, read_full};
@@ -40,7 +41,7 @@ pub fn read_front<S: Store>(
     most: usize,
 ) -> Result<Vec<u8>, StoreFault>
     requires { most < 2 ^ 62 }
-    ensures read { IfSome (S.files store.old) (λ m. Gives is_outside (λ v. v.items) result (front_in (map.get m name.now) most)) }
+    ensures read { IfSome (S.files store.old) (λ m. Gives is_outside_store (λ v. v.items) result (front_in (map.get m name.now) most)) }
     ensures files { S.files store.new ≡ S.files store.old }
     ensures count { Passes StoreFault.FileError (S.failures store.old) (S.failures store.new) result }
 {

@@ -1,5 +1,5 @@
 -- A fragment goes to the first section that isn't full.
-use Rattle.std.proofs.Common.{◌≡◌, ◌∙◌, ◌<◌, ◌≤◌, ℕ, zero, suc, List, [], ◌∷◌, length, take, get_or, set, Bool, true, false, ◌&&◌, nat_eq, Result, Ok, Err, refl, sym, ap, arith}
+use Rattle.std.proofs.Common.{◌≡◌, ◌∙◌, ◌<◌, ◌≤◌, ℕ, zero, suc, List, [], ◌∷◌, length, take, get_or, set, Bool, true, false, ◌&&◌, nat_eq, Result, Ok, Err, refl, sym, arith}
 use Rattle.std.proofs.lemmas.List.{take_all}
 use Rattle.std.proofs.lemmas.Bool.Decides.{nat_tests}
 use Rattle.std.specs.List.{list_all}
@@ -7,7 +7,7 @@ use Rattle.object65.specs.declared.fault.ObjectFault.{ObjectFault}
 use Rattle.object65.specs.declared.fault.ObjectFault.TheVariants.{OutOfOrder}
 use Rattle.object65.specs.declared.draft.Draft.{Draft}
 use Rattle.syntax65.proofs.Outcome.{refused-then}
-use Rattle.object65.specs.Fault.{◌>>=◌, Refuses, is_outside}
+use Rattle.object65.specs.Fault.{◌>>=◌, Refuses, is_memory}
 use Rattle.object65.specs.Taking.{State, in_first_open, is_full, GrowsAt, with_part}
 
 both : (a b : Bool) → (a && b) ≡ true → (a ≡ true) × (b ≡ true)
@@ -52,9 +52,9 @@ full_is (x ∷ ds) (suc n) within full not_full =
     same ∙ rest ∙ sym (rw parts.0 refl)
 
 -- what becomes of a fragment in the section at its place becomes of it in the object
-pub part_refused : (s : State) (i : ℕ) (d : Draft) (grow : Draft → Result Draft ObjectFault) (f : ObjectFault) → GrowsAt s.drafts i → d ≡ get_or s.drafts i d → Refuses is_outside f (grow d) → Refuses is_outside f (with_part s grow)
+pub part_refused : (s : State) (i : ℕ) (d : Draft) (grow : Draft → Result Draft ObjectFault) (f : ObjectFault) → GrowsAt s.drafts i → d ≡ get_or s.drafts i d → Refuses is_memory f (grow d) → Refuses is_memory f (with_part s grow)
 part_refused s i d grow f at is refused =
-    rw (at d is grow) (refused-then is_outside f (grow d >>= (λ e. Ok (set s.drafts i e))) (λ ds. Ok (record s { drafts = ds; begun = true })) (refused-then is_outside f (grow d) (λ e. Ok (set s.drafts i e)) refused))
+    rw (at d is grow) (refused-then is_memory f (grow d >>= (λ e. Ok (set s.drafts i e))) (λ ds. Ok (record s { drafts = ds; begun = true })) (refused-then is_memory f (grow d) (λ e. Ok (set s.drafts i e)) refused))
 
 pub part_given : (s : State) (i : ℕ) (d e : Draft) (grow : Draft → Result Draft ObjectFault) → GrowsAt s.drafts i → d ≡ get_or s.drafts i d → grow d ≡ Ok e → with_part s grow ≡ Ok (record s { drafts = set s.drafts i e; begun = true })
 part_given s i d e grow at is given = rw (at d is grow, given) refl

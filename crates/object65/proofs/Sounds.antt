@@ -1,6 +1,6 @@
 -- How the parts of a builder stay sound.
-use Rattle.std.proofs.Common.{◌≡◌, ◌∙◌, ◌≤◌, ◌<◌, get_or, set, Bool, true, false, List, [], ◌∷◌, ◌++◌, ℕ, length, take, map, refl, sym, ap}
-use Rattle.std.proofs.lemmas.List.{map-append, take-append-le, take-set, length-set}
+use Rattle.std.proofs.Common.{◌≡◌, ◌∙◌, ◌≤◌, get_or, set, true, List, [], ◌∷◌, ◌++◌, ℕ, length, take, ap}
+use Rattle.std.proofs.lemmas.List.{map-append, take-append-le, take-set}
 use Rattle.std.proofs.Math.Seq.{map-set_same}
 use Rattle.std.specs.List.{list_all}
 use Rattle.object65.specs.declared.draft.Draft.{Draft}

@@ -11,6 +11,11 @@ of_store store.OutOfMemory = OutOfMemory
 of_store store.FileNotFound = FileNotFound
 of_store store.FileError = FileError
 
+-- memory ran out
+abbrev pub is_memory : ObjectFault → Bool
+is_memory OutOfMemory = true
+is_memory _ = false
+
 -- memory ran out or the store failed
 abbrev pub is_outside : ObjectFault → Bool
 is_outside OutOfMemory = true

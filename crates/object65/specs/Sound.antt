@@ -1,5 +1,5 @@
 -- What the parts of a builder stand for, and how they hang together.
-use Rattle.std.specs.Prelude.{◌≡◌, ◌≤◌, ℕ, List, length, take, map, Bool, true, false}
+use Rattle.std.specs.Prelude.{◌≡◌, ◌≤◌, ℕ, List, length, take, map, true, false}
 use Rattle.std.specs.List.{list_all}
 use Rattle.object65.specs.declared.parts.Parts.{Parts}
 use Rattle.object65.specs.declared.draft.Draft.{Draft}

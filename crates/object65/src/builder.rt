@@ -1,7 +1,7 @@
 //! An object from its records.
 
 ghost use Rattle.std.specs.Prelude.{◌≡◌, OnErr, IfOk, true};
-ghost use Rattle.object65.specs.Fault.{Gives, is_outside};
+ghost use Rattle.object65.specs.Fault.{Gives, is_memory};
 ghost use Rattle.object65.specs.Record.{entry_of};
 ghost use Rattle.object65.specs.Taking.{start, after, finished};
 
@@ -25,7 +25,6 @@ pub struct Builder {
 impl Model for Builder {
     ghost use Rattle.std.specs.Prelude.{◌≡◌, false};
     ghost use Rattle.object65.specs.Taking.{State};
-
     ghost use Rattle.std.specs.Coded.{codes};
     ghost use Rattle.object65.specs.Form.{form_code};
 
@@ -64,7 +63,7 @@ impl Builder {
     /// Takes the next record. After a refusal each call answers that it failed before.
     #[tactic(auto, unfolding(crate::specs::Taking::after))]
     pub fn take(&mut self, next: &Record) -> Result<(), ObjectFault>
-        ensures taken { Gives is_outside (λ _. self.new) result (after self.old (entry_of next.now)) }
+        ensures taken { Gives is_memory (λ _. self.new) result (after self.old (entry_of next.now)) }
         ensures failed { OnErr result (self.new.failed ≡ true) }
     {
         if self.failed {
@@ -86,9 +85,16 @@ impl Builder {
         }
     }
 
+    /// Whether the END was taken.
+    pub fn is_ended(&self) -> bool
+        ensures { result ≡ self.now.ended }
+    {
+        self.ended
+    }
+
     /// The object, where its END was taken.
     pub fn finish(self) -> Result<Object, ObjectFault>
-        ensures { Gives is_outside (λ o. o) result (finished self) }
+        ensures { Gives is_memory (λ o. o) result (finished self) }
     {
         if self.failed {
             return Err(ObjectFault::FailedBefore);

@@ -1,7 +1,7 @@
 //! The object of the parts that were taken.
 
 ghost use Rattle.std.specs.Prelude.{◌≡◌, Ok, map};
-ghost use Rattle.object65.specs.Fault.{Gives, is_outside};
+ghost use Rattle.object65.specs.Fault.{Gives, is_memory};
 ghost use Rattle.object65.specs.Sound.{state_of};
 ghost use Rattle.object65.specs.Taking.{section_from, object_from};
 
@@ -13,7 +13,7 @@ use syntax65::Sequence;
 
 /// The section, with its last literal in place.
 fn finish_section(draft: Draft) -> Result<Section, ObjectFault>
-    ensures { Gives is_outside (λ s. s) result (Ok (section_from draft)) }
+    ensures { Gives is_memory (λ s. s) result (Ok (section_from draft)) }
 {
     let Draft {
         name,
@@ -35,7 +35,7 @@ fn finish_section(draft: Draft) -> Result<Section, ObjectFault>
 }
 
 fn finish_sections(alloc: Global, drafts: Vec<Draft>) -> Result<Vec<Section>, ObjectFault>
-    ensures { Gives is_outside (λ v. v.items) result (Ok (map section_from drafts.items)) }
+    ensures { Gives is_memory (λ v. v.items) result (Ok (map section_from drafts.items)) }
 {
     let mut sections = Vec::new(alloc);
     for draft in drafts {
@@ -46,7 +46,7 @@ fn finish_sections(alloc: Global, drafts: Vec<Draft>) -> Result<Vec<Section>, Ob
 
 /// The object of the parts.
 pub fn finish_object(parts: Parts) -> Result<Object, ObjectFault>
-    ensures { Gives is_outside (λ o. o) result (Ok (object_from (state_of parts))) }
+    ensures { Gives is_memory (λ o. o) result (Ok (object_from (state_of parts))) }
 {
     let sections = finish_sections(parts.alloc, parts.drafts)?;
     Ok(Object {

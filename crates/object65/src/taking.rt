@@ -3,7 +3,7 @@
 ghost use Rattle.std.specs.Prelude.{◌≡◌, ◌≤◌, ◌<◌, ◌+◌, ◌++◌, ◌∷◌, [], ◌&&◌, ◌-◌, ◌%◌, not, length, nat_le, nat_lt, take, get_or, IfOk, IfErr, IfSome, OnOk, Result, Err, true, false, IsTrue, map, Ok};
 ghost use Rattle.std.specs.List.{list_all};
 ghost use Rattle.object65.specs.Bodies.{Heading, section_of, literal_of, end_of};
-ghost use Rattle.object65.specs.Fault.{Gives, is_outside};
+ghost use Rattle.object65.specs.Fault.{Gives, is_memory};
 ghost use Rattle.object65.specs.Objects.{is_name, is_printed, is_among};
 ghost use Rattle.object65.specs.Record.{entry_of};
 ghost use Rattle.object65.specs.Sound.{state_of, draft_names, IsSound};
@@ -85,7 +85,7 @@ fn first_open(drafts: &[Draft], from: usize) -> usize
 
 /// What the body of a SECTION says, as a section in the making.
 fn read_section(alloc: Global, body: &[u8]) -> Result<Draft, ObjectFault>
-    ensures { Gives is_outside (λ d. d) result (drafted body.now) }
+    ensures { Gives is_memory (λ d. d) result (drafted body.now) }
 {
     if body.len() < 5 {
         return Err(ObjectFault::BadSize);
@@ -110,7 +110,7 @@ fn read_section(alloc: Global, body: &[u8]) -> Result<Draft, ObjectFault>
 #[tactic(auto, unfolding(crate::specs::Taking::with_section))]
 fn take_section(parts: &mut Parts, body: &[u8]) -> Result<(), ObjectFault>
     requires { IsSound parts.old }
-    ensures taken { Gives is_outside (λ _. state_of parts.new) result (with_section (state_of parts.old) body.now) }
+    ensures taken { Gives is_memory (λ _. state_of parts.new) result (with_section (state_of parts.old) body.now) }
     ensures sound { OnOk result (IsSound parts.new) }
 {
     check(
@@ -127,7 +127,7 @@ fn take_section(parts: &mut Parts, body: &[u8]) -> Result<(), ObjectFault>
 fn add_draft(parts: &mut Parts, draft: Draft) -> Result<(), ObjectFault>
     requires sound { IsSound parts.old }
     requires name { is_among (draft_names parts.old.drafts.items) draft.name ≡ false }
-    ensures added { Gives is_outside (λ _. state_of parts.new) result (Ok (record (state_of parts.old) { drafts = parts.old.drafts.items ++ draft ∷ [] })) }
+    ensures added { Gives is_memory (λ _. state_of parts.new) result (Ok (record (state_of parts.old) { drafts = parts.old.drafts.items ++ draft ∷ [] })) }
     ensures sound { OnOk result (IsSound parts.new) }
 {
     let name = Vec::from_slice(parts.alloc, draft.name.as_slice())?;
@@ -156,7 +156,7 @@ fn open_place(parts: &mut Parts) -> Result<usize, ObjectFault>
 /// Adds a literal to a section.
 #[tactic(auto, unfolding(crate::specs::Taking::with_literal))]
 fn grow_literal(draft: &mut Draft, body: &[u8]) -> Result<(), ObjectFault>
-    ensures grown { Gives is_outside (λ _. draft.new) result (with_literal body.now draft.old) }
+    ensures grown { Gives is_memory (λ _. draft.new) result (with_literal body.now draft.old) }
     ensures name { draft.new.name ≡ draft.old.name }
 {
     check(!body.is_empty(), ObjectFault::BadSize)?;
@@ -174,7 +174,7 @@ fn grow_literal(draft: &mut Draft, body: &[u8]) -> Result<(), ObjectFault>
 /// Takes a LITERAL.
 fn take_literal(parts: &mut Parts, body: &[u8]) -> Result<(), ObjectFault>
     requires { IsSound parts.old }
-    ensures taken { Gives is_outside (λ _. state_of parts.new) result (with_part (state_of parts.old) (with_literal body.now)) }
+    ensures taken { Gives is_memory (λ _. state_of parts.new) result (with_part (state_of parts.old) (with_literal body.now)) }
     ensures sound { OnOk result (IsSound parts.new) }
 {
     let at = open_place(parts)?;
@@ -200,7 +200,7 @@ fn all_full(parts: &mut Parts) -> bool
 #[tactic(auto, unfolding(crate::specs::Taking::with_end))]
 fn take_end(parts: &mut Parts, body: &[u8]) -> Result<(), ObjectFault>
     requires { IsSound parts.old }
-    ensures taken { Gives is_outside (λ _. record (state_of parts.new) { ended = true }) result (with_end (state_of parts.old) body.now) }
+    ensures taken { Gives is_memory (λ _. record (state_of parts.new) { ended = true }) result (with_end (state_of parts.old) body.now) }
     ensures sound { OnOk result (IsSound parts.new) }
 {
     check(all_full(parts), ObjectFault::OutOfOrder)?;
@@ -211,7 +211,7 @@ fn take_end(parts: &mut Parts, body: &[u8]) -> Result<(), ObjectFault>
 #[tactic(auto, unfolding(crate::specs::Taking::taken))]
 pub fn take_record(parts: &mut Parts, next: &Record) -> Result<bool, ObjectFault>
     requires { IsSound parts.old }
-    ensures taken { Gives is_outside (λ ended. record (state_of parts.new) { ended = ended }) result (taken (state_of parts.old) (entry_of next.now)) }
+    ensures taken { Gives is_memory (λ ended. record (state_of parts.new) { ended = ended }) result (taken (state_of parts.old) (entry_of next.now)) }
     ensures sound { OnOk result (IsSound parts.new) }
 {
     let body = next.body.as_slice();

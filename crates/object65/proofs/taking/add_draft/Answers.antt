@@ -1,6 +1,4 @@
-use Rattle.std.proofs.Common.{◌≡◌, ◌∙◌, ◌≤◌, ◌∷◌, [], length, length-append, map, sym, ap, arith}
-use Rattle.object65.specs.declared.draft.Draft.{Draft}
-use Rattle.object65.specs.Objects.{is_among}
+use Rattle.std.proofs.Common.{◌≡◌, ◌∙◌, ◌∷◌, [], length-append, map, sym, ap, arith}
 use Rattle.object65.specs.Sound.{draft_names}
 use Rattle.object65.proofs.Names.{pushed_name}
 use Rattle.object65.proofs.Sounds.{names-push, full-push}

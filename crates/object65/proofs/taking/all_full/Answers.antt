@@ -1,4 +1,4 @@
-use Rattle.std.proofs.Common.{◌≡◌, ◌≤◌, length, nat_eq, sym, ap, ◌∙◌}
+use Rattle.std.proofs.Common.{◌≡◌, length, sym, ap, ◌∙◌}
 use Rattle.object65.proofs.Opens.{full_is}
 use Rattle.object65.proofs.taking.all_full.Goals as goal
 

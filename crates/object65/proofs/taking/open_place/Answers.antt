@@ -1,4 +1,4 @@
-use Rattle.std.proofs.Common.{◌≡◌, ◌≤◌, ◌<◌, length, refl, sym, ap, arith}
+use Rattle.std.proofs.Common.{◌<◌, length, refl, arith}
 use Rattle.object65.proofs.Opens.{grows_at, nowhere}
 use Rattle.object65.proofs.taking.open_place.Goals as goal
 

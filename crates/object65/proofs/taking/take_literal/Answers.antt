@@ -1,9 +1,8 @@
-use Rattle.std.proofs.Common.{◌≡◌, ◌∙◌, ◌≤◌, ◌<◌, get_or, length, set, sym, ap, subst, arith}
+use Rattle.std.proofs.Common.{◌∙◌, sym, ap, subst, arith}
 use Rattle.std.proofs.lemmas.List.{length-set}
 use Rattle.std.proofs.lemmas.Result.{err_from_is_err_and}
-use Rattle.object65.specs.declared.draft.Draft.{Draft}
-use Rattle.object65.specs.Fault.{Refuses, is_outside}
-use Rattle.object65.specs.Sound.{state_of, draft_names}
+use Rattle.object65.specs.Fault.{Refuses, is_memory}
+use Rattle.object65.specs.Sound.{state_of}
 use Rattle.object65.specs.Taking.{State, with_literal, with_part}
 use Rattle.object65.proofs.Opens.{part_refused, part_given}
 use Rattle.object65.proofs.Sounds.{names-set, full-set}
@@ -15,7 +14,7 @@ returns-in_err-grow_literal-clause-taken c =
     let grow = with_literal c.args.body.now in
     let f = c.in_err-grow_literal.field-0.0 in
     let refused = part_refused (state_of c.open_place.new.parts) c.in_ok-at.at c.index_mut-draft.result.now grow f c.in_ok-at.ensures.open c.index_mut-draft.ensures.value c.in_err-grow_literal.ensures.grown in
-    let P : State → Type 0 = λ s. Refuses is_outside f (with_part s grow) in
+    let P : State → Type 0 = λ s. Refuses is_memory f (with_part s grow) in
     rw (p.1, p.2) (subst P c.open_place.ensures.state refused)
 
 pub returns-clause-taken : goal.returns-clause-taken

@@ -1,0 +1,207 @@
+-- Taking a record gives no fault of a store.
+use Rattle.std.proofs.Common.{◌≡◌, ℕ, zero, suc, ◌+◌, ◌-◌, ◌%◌, List, [], ◌∷◌, ◌++◌, length, map, Bool, true, false, cond, not, ◌&&◌, ◌||◌, ◌==◌, nat_le, Option, Some, None, Result, Ok, Err}
+use Rattle.byteorder.specs.Endian.{little_number}
+use Rattle.object65.specs.declared.object.Action.TheVariants as action
+use Rattle.object65.specs.declared.object.Fragment.TheVariants.{Fill}
+use Rattle.object65.specs.declared.object.Width.TheVariants.{Byte, Word, HighFirst, Dword, Branch}
+use Rattle.object65.specs.Folding.{is_within, is_normal, is_literal, node_limit}
+use Rattle.object65.specs.Objects.{is_name, is_among, width_len}
+use Rattle.object65.specs.Spelling.{body_limit}
+use Rattle.object65.specs.declared.fault.ObjectFault.{ObjectFault}
+use Rattle.object65.specs.declared.fault.ObjectFault.TheVariants.{FailedBefore, FileError, OutOfOrder, IndexOutOfRange, BadSize, NotCanonical}
+use Rattle.object65.specs.declared.draft.Draft.{Draft}
+use Rattle.object65.specs.declared.operator.Op1.{Op1}
+use Rattle.object65.specs.declared.operator.Op2.{Op2}
+use Rattle.object65.specs.Bodies
+use Rattle.object65.specs.Fault.{◌>>=◌}
+use Rattle.object65.specs.Form.{Form, nodes}
+use Rattle.object65.specs.Record.{Entry}
+use Rattle.object65.specs.Taking
+
+abbrev pub IsFree : {A : Type 0} → Result A ObjectFault → Type 0
+IsFree r = r ≡ Err FileError → ⊥
+
+bound : {A B : Type 0} (r : Result A ObjectFault) (f : A → Result B ObjectFault) → IsFree r → ((x : A) → IsFree (f x)) → IsFree (r >>= f)
+bound (Ok x) f h k e = k x e
+bound (Err fault) f h k e = h (let same : fault ≡ FileError = cc in λ i. Err (same i))
+
+chosen : {A : Type 0} (b : Bool) (x y : Result A ObjectFault) → IsFree x → IsFree y → IsFree (cond b x y)
+chosen true x y h k = h
+chosen false x y h k = k
+
+ok : {A : Type 0} (x : A) → IsFree (Ok x)
+ok x e = cc
+
+bad : {A : Type 0} → IsFree {A = A} (Err BadSize)
+bad e = cc
+
+astray : {A : Type 0} → IsFree {A = A} (Err OutOfOrder)
+astray e = cc
+
+failed : {A : Type 0} → IsFree {A = A} (Err FailedBefore)
+failed e = cc
+
+wants_astray : (b : Bool) → IsFree (Taking.wants b OutOfOrder)
+wants_astray b = chosen b (Ok tt) (Err OutOfOrder) (ok tt) astray
+
+wants_size : (b : Bool) → IsFree (Taking.wants b BadSize)
+wants_size b = chosen b (Ok tt) (Err BadSize) (ok tt) bad
+
+away : {A : Type 0} → IsFree {A = A} (Err IndexOutOfRange)
+away e = cc
+
+loose : {A : Type 0} → IsFree {A = A} (Err NotCanonical)
+loose e = cc
+
+wants_index : (b : Bool) → IsFree (Taking.wants b IndexOutOfRange)
+wants_index b = chosen b (Ok tt) (Err IndexOutOfRange) (ok tt) away
+
+wants_canonical : (b : Bool) → IsFree (Taking.wants b NotCanonical)
+wants_canonical b = chosen b (Ok tt) (Err NotCanonical) (ok tt) loose
+
+number_free : (len : ℕ) (bytes : List ℕ) → IsFree (Bodies.number_at len bytes)
+number_free len bytes = chosen _ _ _ bad (ok _)
+
+text_free : (len : ℕ) (bytes : List ℕ) → IsFree (Bodies.text_at len bytes)
+text_free len bytes = chosen _ _ _ bad (ok _)
+
+counted_free : (bytes : List ℕ) → IsFree (Bodies.counted_at bytes)
+unfolding Bodies.counted_at
+counted_free bytes = bound _ _ (number_free 1 bytes) (λ x. text_free x.0 x.1)
+
+lit_free : (bytes : List ℕ) → IsFree (Bodies.lit_at bytes)
+unfolding Bodies.lit_at
+lit_free bytes = bound _ _ (number_free 8 bytes) (λ x. ok _)
+
+sec_free : (bytes : List ℕ) → IsFree (Bodies.sec_at bytes)
+unfolding Bodies.sec_at
+sec_free bytes = bound _ _ (number_free 4 bytes) (λ x. bound _ _ (number_free 8 x.1) (λ y. ok _))
+
+imp_free : (bytes : List ℕ) → IsFree (Bodies.imp_at bytes)
+unfolding Bodies.imp_at
+imp_free bytes = bound _ _ (number_free 4 bytes) (λ x. ok _)
+
+prefix_free : (part : List ℕ → Result (Form × List ℕ) ObjectFault) (op : Op1) (bytes : List ℕ) → ((xs : List ℕ) → IsFree (part xs)) → IsFree (Bodies.prefix_at part op bytes)
+unfolding Bodies.prefix_at
+prefix_free part op bytes h = bound _ _ (h bytes) (λ x. ok _)
+
+binary_free : (part : List ℕ → Result (Form × List ℕ) ObjectFault) (op : Op2) (bytes : List ℕ) → ((xs : List ℕ) → IsFree (part xs)) → IsFree (Bodies.binary_at part op bytes)
+unfolding Bodies.binary_at
+binary_free part op bytes h = bound _ _ (h bytes) (λ x. bound _ _ (h x.1) (λ y. ok _))
+
+operation_free : (part : List ℕ → Result (Form × List ℕ) ObjectFault) (p : Option Op1) (q : Option Op2) (bytes : List ℕ) → ((xs : List ℕ) → IsFree (part xs)) → IsFree (Bodies.operation_at part p q bytes)
+operation_free part (Some op) q bytes h = prefix_free part op bytes h
+operation_free part None (Some op) bytes h = binary_free part op bytes h
+operation_free part None None bytes h = bad
+
+form_free : (depth : ℕ) (bytes : List ℕ) → IsFree (Bodies.form_at depth bytes)
+form_free zero bytes = bad
+form_free (suc depth) [] = bad
+form_free (suc depth) (code ∷ rest) = chosen _ _ _ (lit_free rest) (chosen _ _ _ (sec_free rest) (chosen _ _ _ (imp_free rest) (operation_free (λ xs. Bodies.form_at depth xs) _ _ rest (form_free depth))))
+
+all_free : (bytes : List ℕ) → IsFree (Bodies.form_of_all bytes)
+unfolding Bodies.form_of_all
+all_free bytes = bound _ _ (form_free (length bytes) bytes) (λ x. chosen _ _ _ (ok _) bad)
+
+width_free : (code : ℕ) → IsFree (Bodies.width_of code)
+width_free code = chosen (code == 0) _ _ (ok Byte) (chosen (code == 1) _ _ (ok Word) (chosen (code == 2) _ _ (ok HighFirst) (chosen (code == 3) _ _ (ok Dword) (chosen (code == 4) _ _ (ok Branch) bad))))
+
+action_free : (code : ℕ) → IsFree (Bodies.action_of code)
+action_free code = chosen (code == 0) _ _ (ok action.Warning) (chosen (code == 1) _ _ (ok action.Error) bad)
+
+literal_free : (body : List ℕ) → IsFree (Bodies.literal_of body)
+literal_free body = chosen (length body == 0) _ _ bad (ok body)
+
+fill_free : (body : List ℕ) → IsFree (Bodies.fill_of body)
+fill_free body = chosen (not (length body == 4) || little_number 4 body == 0) _ _ bad (ok (little_number 4 body))
+
+end_free : (body : List ℕ) → IsFree (Bodies.end_of body)
+end_free body = chosen (length body == 0) _ _ (ok tt) bad
+
+room_free : (d : Draft) (len : ℕ) → IsFree (Taking.has_room d len)
+room_free d len = wants_size (nat_le len (d.size - d.filled))
+
+known_free : (s : Taking.State) (f : Form) → IsFree (Taking.known s f)
+known_free s f = wants_index (is_within (length s.drafts) (length s.imports) f)
+
+name_free : (names : List (List ℕ)) (name : List ℕ) → IsFree (Taking.new_name names name)
+name_free names name = wants_canonical (is_name name && not (is_among names name))
+
+canonical_free : (f : Form) → IsFree (Taking.canonical f)
+canonical_free f = wants_canonical (is_normal f && nat_le (nodes f) node_limit)
+
+open_free : (f : Form) → IsFree (Taking.canonical_open f)
+open_free f = wants_canonical (is_normal f && nat_le (nodes f) node_limit && not (is_literal f))
+
+section_free : (body : List ℕ) → IsFree (Bodies.section_of body)
+section_free body = chosen _ _ _ bad (chosen _ _ _ bad (ok _))
+
+value_free : (body : List ℕ) → IsFree (Bodies.value_of body)
+unfolding Bodies.value_of
+value_free body = bound _ _ (number_free 1 body) (λ c. bound _ _ (width_free c.0) (λ w. bound _ _ (number_free 4 c.1) (λ l. bound _ _ (all_free l.1) (λ f. ok _))))
+
+export_free : (body : List ℕ) → IsFree (Bodies.export_of body)
+unfolding Bodies.export_of
+export_free body = bound _ _ (counted_free body) (λ n. bound _ _ (number_free 4 n.1) (λ l. bound _ _ (all_free l.1) (λ f. ok _)))
+
+assert_free : (body : List ℕ) → IsFree (Bodies.assert_of body)
+unfolding Bodies.assert_of
+assert_free body = bound _ _ (number_free 1 body) (λ c. bound _ _ (action_free c.0) (λ a. bound _ _ (number_free 4 c.1) (λ l. bound _ _ (counted_free l.1) (λ t. bound _ _ (all_free t.1) (λ f. ok _)))))
+
+drafted_free : (body : List ℕ) → IsFree (Taking.drafted body)
+drafted_free body = bound _ _ (section_free body) (λ h. ok _)
+
+with_literal_free : (body : List ℕ) (d : Draft) → IsFree (Taking.with_literal body d)
+unfolding Taking.with_literal
+with_literal_free body d = bound _ _ (literal_free body) (λ b. bound _ _ (room_free d (length b)) (λ u. bound _ _ (wants_canonical (length d.literal % body_limit == 0)) (λ v. ok (record d { filled = d.filled + length b; literal = d.literal ++ b }))))
+
+with_fill_free : (body : List ℕ) (d : Draft) → IsFree (Taking.with_fill body d)
+unfolding Taking.with_fill
+with_fill_free body d = bound _ _ (fill_free body) (λ n. bound _ _ (room_free d n) (λ u. bound _ _ (wants_canonical (not (Taking.ends_in_fill (Taking.closed d)))) (λ v. ok (Taking.with_fragment d n (Fill n)))))
+
+with_value_free : (s : Taking.State) (body : List ℕ) (d : Draft) → IsFree (Taking.with_value s body d)
+unfolding Taking.with_value
+with_value_free s body d = bound _ _ (value_free body) (λ x. bound _ _ (room_free d (width_len x.0)) (λ u. bound _ _ (known_free s x.2) (λ v. bound _ _ (open_free x.2) (λ y. ok _))))
+
+first_free : (grow : Draft → Result Draft ObjectFault) (ds : List Draft) → ((d : Draft) → IsFree (grow d)) → IsFree (Taking.in_first_open grow ds)
+first_free grow [] h = astray
+first_free grow (d ∷ ds) h = chosen _ _ _ (bound _ _ (first_free grow ds h) (λ es. ok _)) (bound _ _ (h d) (λ x. ok _))
+
+part_free : (s : Taking.State) (grow : Draft → Result Draft ObjectFault) → ((d : Draft) → IsFree (grow d)) → IsFree (Taking.with_part s grow)
+part_free s grow h = bound _ _ (first_free grow s.drafts h) (λ ds. ok _)
+
+with_import_free : (s : Taking.State) (body : List ℕ) → IsFree (Taking.with_import s body)
+unfolding Taking.with_import
+with_import_free s body = bound _ _ (wants_astray (Taking.import_stands s)) (λ u. bound _ _ (name_free s.imports body) (λ v. ok _))
+
+with_section_free : (s : Taking.State) (body : List ℕ) → IsFree (Taking.with_section s body)
+unfolding Taking.with_section
+with_section_free s body = bound _ _ (wants_astray (Taking.section_stands s)) (λ u. bound _ _ (drafted_free body) (λ d. bound _ _ (name_free (map (λ x. x.name) s.drafts) d.name) (λ v. bound _ _ (wants_canonical (nat_le d.align 15)) (λ w. ok _))))
+
+with_export_free : (s : Taking.State) (body : List ℕ) → IsFree (Taking.with_export s body)
+unfolding Taking.with_export
+with_export_free s body = bound _ _ (wants_astray (Taking.export_stands s)) (λ u. bound _ _ (export_free body) (λ x. bound _ _ (known_free s x.form) (λ v. bound _ _ (name_free (map (λ y. y.name) s.exports) x.name) (λ w. bound _ _ (canonical_free x.form) (λ y. ok _)))))
+
+with_assert_free : (s : Taking.State) (body : List ℕ) → IsFree (Taking.with_assert s body)
+unfolding Taking.with_assert
+with_assert_free s body = bound _ _ (wants_astray (Taking.assert_stands s)) (λ u. bound _ _ (assert_free body) (λ a. bound _ _ (known_free s a.form) (λ v. bound _ _ (open_free a.form) (λ y. ok _))))
+
+with_end_free : (s : Taking.State) (body : List ℕ) → IsFree (Taking.with_end s body)
+unfolding Taking.with_end
+with_end_free s body = bound _ _ (wants_astray (Taking.assert_stands s)) (λ u. bound _ _ (end_free body) (λ v. ok _))
+
+taken_free : (s : Taking.State) (x : Entry) → IsFree (Taking.taken s x)
+unfolding Taking.taken
+taken_free s x =
+    chosen _ _ _ astray
+    (chosen _ _ _ (with_import_free s x.body)
+    (chosen _ _ _ (with_section_free s x.body)
+    (chosen _ _ _ (part_free s (Taking.with_literal x.body) (with_literal_free x.body))
+    (chosen _ _ _ (part_free s (Taking.with_fill x.body) (with_fill_free x.body))
+    (chosen _ _ _ (part_free s (Taking.with_value s x.body) (with_value_free s x.body))
+    (chosen _ _ _ (with_export_free s x.body)
+    (chosen _ _ _ (with_assert_free s x.body) (with_end_free s x.body))))))))
+
+pub after_free : (s : Taking.State) (x : Entry) → IsFree (Taking.after s x)
+unfolding Taking.after
+after_free s x = chosen _ _ _ failed (chosen _ _ _ astray (taken_free s x))

@@ -1,0 +1,56 @@
+//! A whole object, read from a file.
+
+ghost use Rattle.std.specs.Prelude.{◌≡◌, ◌≤◌, ◌+◌, length, IfSome, IfOk};
+ghost use Rattle.std.specs.FinMap as map;
+ghost use Rattle.syntax65.specs.Store.{Passes};
+ghost use Rattle.object65.specs.Fault.{Gives, is_outside};
+ghost use Rattle.object65.specs.Reading.{in_file};
+ghost use Rattle.object65.specs.Taking.{start};
+ghost use Rattle.object65.specs.Whole.{records_at, object_at};
+
+use crate::{Builder, Object, ObjectFault, check_end, read_head, read_record};
+use std::alloc::Global;
+use syntax65::Store;
+
+/// Reads record by record up to the END, and answers where the END ends.
+fn read_records<S: Store>(
+    alloc: Global,
+    store: &mut S,
+    name: &str,
+    at: u64,
+    limit: u64,
+) -> Result<(Builder, u64), ObjectFault>
+    ensures read { IfSome (S.files store.old) (λ m. Gives is_outside (λ x. x) result (in_file (map.get m name.now) (λ bytes. records_at (length bytes) start at limit bytes))) }
+    ensures files { S.files store.new ≡ S.files store.old }
+    ensures count { Passes ObjectFault.FileError (S.failures store.old) (S.failures store.new) result }
+{
+    let mut builder = Builder::new(alloc);
+    let mut next = at;
+    'records: loop {
+        let (record, end) = read_record(store, name, next, limit)?;
+        builder.take(&record)?;
+        next = end;
+        if builder.is_ended() {
+            return Ok((builder, next));
+        }
+    }
+}
+
+/// Reads the object that stands in a file from a place on up to the end of its room.
+#[tactic(auto, unfolding(crate::specs::Whole::object_at))]
+pub fn read_object<S: Store>(
+    alloc: Global,
+    store: &mut S,
+    name: &str,
+    at: u64,
+    limit: u64,
+) -> Result<Object, ObjectFault>
+    ensures read { IfSome (S.files store.old) (λ m. Gives is_outside (λ o. o) result (in_file (map.get m name.now) (object_at at limit))) }
+    ensures files { S.files store.new ≡ S.files store.old }
+    ensures count { Passes ObjectFault.FileError (S.failures store.old) (S.failures store.new) result }
+{
+    let first = read_head(store, name, at, limit)?;
+    let (builder, end) = read_records(alloc, store, name, first, limit)?;
+    check_end(store, name, end, limit)?;
+    builder.finish()
+}

@@ -11,3 +11,4 @@ pub mod ScriptWords
 pub mod Leaving
 pub mod Reading
 pub mod Pieces
+pub mod Refusals

@@ -4,3 +4,4 @@ pub mod imaging;
 pub mod laid;
 pub mod pieces;
 pub mod placing;
+pub mod refusal;

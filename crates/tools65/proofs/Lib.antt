@@ -6,3 +6,5 @@ pub mod Rows
 pub mod Taken
 pub mod Texts
 pub mod Fronts
+pub mod LinkLemmas
+pub mod Runs

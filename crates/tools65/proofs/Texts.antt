@@ -1,7 +1,7 @@
 -- A text that is taken a part at a time.
-use Rattle.std.proofs.Common.{◌≡◌, ◌∙◌, ℕ, ◌<◌, ◌≤◌, arith, length-append, List, [], ◌++◌, length, take, drop, Option, Some, None, Ok, Err, Bool, true, false, cond, inr, refl, sym, ap, append_assoc}
+use Rattle.std.proofs.Common.{◌≡◌, ◌∙◌, ℕ, ◌<◌, ◌≤◌, arith, length-append, List, [], ◌∷◌, ◌++◌, ◌+◌, get_or, length, take, drop, Option, Some, None, Ok, Err, Bool, true, false, cond, ◌⊎◌, inr, refl, sym, ap, append_assoc}
 use Rattle.std.specs.FinMap as map
-use Rattle.std.proofs.lemmas.List.{take_at, append-nil, take-append-drop}
+use Rattle.std.proofs.lemmas.List.{take_at, append-nil, take-append-drop, take_more}
 use Rattle.std.specs.Io.KnownBytes.{Appends, Keeps}
 use Rattle.std.specs.Ordering.{nat_cmp, eq_by_cmp}
 use Rattle.std.specs.Cmp.{eq_by_cmp_equiv}
@@ -9,7 +9,12 @@ use Rattle.std.specs.Cmp.Lexicographic.{slice_cmp, nat_list_cmp_total}
 use Rattle.syntax65.specs.Store.{Files, Tells, Appends as Appended}
 use Rattle.syntax65.specs.declared.store.StoreFault.{StoreFault}
 use Rattle.syntax65.specs.declared.store.StoreFault.TheVariants.{OutOfMemory, FileNotFound, FileError}
-use Rattle.tools65.specs.Leaving.{Prints, IsPartly}
+use Rattle.tools65.specs.Leaving.{Prints, IsPartly, apply, StopsAt, StopsShort}
+use Rattle.tools65.specs.declared.outcome.Outcome.{Outcome}
+use Rattle.tools65.specs.declared.outcome.Status.{Status}
+use Rattle.tools65.specs.declared.outcome.Status.TheVariants.{Failure}
+use Rattle.tools65.specs.declared.outcome.Output.{Output}
+use Rattle.std.specs.Prelude.{IfSome, IsErrOf}
 
 -- the first part of the text has been taken, and the rest is left
 abbrev pub Printing : Option (List ℕ) → Option (List ℕ) → List ℕ → List ℕ → Type 0
@@ -82,3 +87,36 @@ written_part e (Some o) (Some m) (Some x) name bytes rest p q =
 
 pub nothing : (mid new : Option (List ℕ)) (n : ℕ) (rest : List ℕ) → n ≡ 0 → Appends mid new (take n rest) → Appends mid new []
 nothing mid new n rest e h = rw e at h
+
+-- a file that was begun is there
+begun_there : (e : StoreFault) (o m x : Files) (name bytes rest : List ℕ) → Writing o name bytes rest m → Appended m name rest x (Err e) → e ≡ FileNotFound → ⊥
+begun_there OutOfMemory o m x name bytes rest p q e = cc
+begun_there FileError o m x name bytes rest p q e = cc
+begun_there FileNotFound o m x name bytes rest p q e =
+    let was : map.get m name ≡ Some p.0 = ap (λ (w : Files). map.get w name) p.2 ∙ got o name p.0 in
+    let none : map.get m name ≡ None = q.0 in
+    cc
+
+pub still_there : (e : StoreFault) (known mid new : Option Files) (name bytes rest : List ℕ) → Tells (λ old m. Writing old name bytes rest m) known mid → Tells (λ m x. Appended m name rest x (Err e)) mid new → IfSome known (λ m. IsErrOf {T = Unit {0}} (Err e) FileNotFound → ⊥)
+still_there e None mid new name bytes rest p q = tt
+still_there e (Some o) None new name bytes rest p q = absurd p
+still_there e (Some o) (Some m) None name bytes rest p q = absurd q
+still_there e (Some o) (Some m) (Some x) name bytes rest p q = λ h. begun_there e o m x name bytes rest p q (let same : e ≡ FileNotFound = cc in same)
+
+apply-append : (os : List Output) (o : Output) (m : Files) → apply (os ++ o ∷ []) m ≡ map.insert (apply os m) o.name o.bytes
+apply-append [] o m = refl
+apply-append (p ∷ os) o m = apply-append os o (map.insert m p.name p.bytes)
+
+-- one more output
+pub next_output : (known mid new : Option Files) (outputs : List Output) (i : ℕ) (o : Output) → i < length outputs → o ≡ get_or outputs i o → Tells (λ old m. m ≡ apply (take i outputs) old) known mid → Tells (λ m n. n ≡ map.insert m o.name o.bytes) mid new → Tells (λ old n. n ≡ apply (take (i + 1) outputs) old) known new
+next_output None mid new outputs i o h is p q = tt
+next_output (Some a) None new outputs i o h is p q = absurd p
+next_output (Some a) (Some m) None outputs i o h is p q = absurd q
+next_output (Some a) (Some m) (Some n) outputs i o h is p q =
+    let more : take (i + 1) outputs ≡ take i outputs ++ o ∷ [] = take_more outputs i o h ∙ ap (λ (e : Output). take i outputs ++ e ∷ []) (sym is) in
+    q ∙ ap (λ (w : Files). map.insert w o.name o.bytes) p ∙ sym (apply-append (take i outputs) o a) ∙ ap (λ (os : List Output). apply os a) (sym more)
+
+-- outputs that aren't all written
+pub short : (known new : Option Files) (o : Outcome) (status : Status) (place : ℕ) (P Q : Files → Type 0) → status ≡ Failure → Tells (StopsAt o.outputs place) known new → IfSome known (λ m. Q m → P m ⊎ StopsShort o m new status)
+short None new o status place P Q e left = tt
+short (Some m) new o status place P Q e left = λ _. inr (record { place = place; left = left; failed = e })

@@ -1,8 +1,12 @@
 -- What a run leaves: texts on two streams, and files.
-use Rattle.std.specs.Prelude.{◌≡◌, ℕ, ◌<◌, ◌⊎◌, List, [], ◌∷◌, ◌++◌, length, take, Option, Some, None, Bool, true, false, ◌&&◌, ⊤}
+use Rattle.std.specs.Prelude.{◌≡◌, ℕ, ◌<◌, ◌⊎◌, List, [], ◌∷◌, ◌++◌, length, take, slice_get, Option, Some, None, Bool, true, false, ⊤}
 use Rattle.std.specs.FinMap.{insert}
 use Rattle.std.specs.Io.KnownBytes.{Keeps}
-use Rattle.syntax65.specs.Store.{Files}
+use Rattle.syntax65.specs.Store.{Files, Tells}
+use Rattle.syntax65.specs.declared.store.StoreFault.{StoreFault}
+use Rattle.syntax65.specs.declared.store.StoreFault.TheVariants.{OutOfMemory, FileNotFound, FileError}
+use Rattle.tools65.specs.declared.writing.Unwritten.{Unwritten}
+use Rattle.tools65.specs.declared.outcome.Outcome.{Outcome}
 use Rattle.tools65.specs.declared.outcome.Output.{Output}
 use Rattle.tools65.specs.declared.outcome.Status.{Status}
 use Rattle.tools65.specs.declared.outcome.Status.TheVariants.{Success, Failure}
@@ -25,6 +29,35 @@ abbrev pub IsPartly : Files → List ℕ → List ℕ → Files → Type 0
 IsPartly old name bytes new = (new ≡ old) ⊎ ((k : ℕ) × (new ≡ insert old name (take k bytes)))
 
 -- the outputs before one are applied, and that one is written in part
-pub record Stops (old : Files) (front : List Output) (o : Output) (rest outputs : List Output) (new : Files) : Type 0 where
-  pub parts : outputs ≡ front ++ o ∷ rest
-  pub partly : IsPartly (apply front old) o.name o.bytes new
+abbrev pub StopsAt : List Output → ℕ → Files → Files → Type 0
+StopsAt outputs i old new = (o : Output) × (slice_get outputs i ≡ Some o) × IsPartly (apply (take i outputs) old) o.name o.bytes new
+
+-- a text for each of two streams: both have taken theirs whole, or one stops short and nothing further is said
+abbrev pub SaysBoth : Option (List ℕ) → Option (List ℕ) → List ℕ → Option (List ℕ) → Option (List ℕ) → List ℕ → Bool → Type 0
+SaysBoth out_old out_new out err_old err_new err true = Prints out_old out_new out true × Prints err_old err_new err true
+SaysBoth out_old out_new out err_old err_new err false = (Prints out_old out_new out false × Keeps err_old err_new) ⊎ (Prints out_old out_new out true × Prints err_old err_new err false)
+
+-- the store's failures among those of writing
+abbrev pub is_failure : Unwritten → Bool
+is_failure u = is_file_error u.fault
+  where
+    is_file_error : StoreFault → Bool
+    is_file_error FileError = true
+    is_file_error _ = false
+
+-- where both texts were taken, the files behind an outcome and its status; else no file is written
+abbrev pub Settles : Outcome → Files → Option Files → Status → Bool → Type 0
+Settles o old new status true = (new ≡ Some (apply o.outputs old)) × (status ≡ o.status)
+Settles o old new status false = (new ≡ Some old) × (status ≡ Failure)
+
+-- A run of an outcome: it says its texts, standard output's first, and then writes its files.
+pub record Performs (o : Outcome) (old : Files) (new : Option Files) (out_old out_new err_old err_new : Option (List ℕ)) (status : Status) : Type 0 where
+  pub whole : Bool
+  pub said : SaysBoth out_old out_new o.out err_old err_new o.err whole
+  pub settled : Settles o old new status whole
+
+-- memory ran out while an outcome's files were written
+pub record StopsShort (o : Outcome) (old : Files) (new : Option Files) (status : Status) : Type 0 where
+  pub place : ℕ
+  pub left : Tells (StopsAt o.outputs place) (Some old) new
+  pub failed : status ≡ Failure

@@ -12,3 +12,5 @@ pub mod Leaving
 pub mod Reading
 pub mod Pieces
 pub mod Refusals
+pub mod Linkage
+pub mod Command

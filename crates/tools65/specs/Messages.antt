@@ -40,3 +40,11 @@ abbrev pub place_message : PlaceFault → List ℕ
 place_message place.OutOfMemory = codes "ld65: Error: out of memory\n"
 place_message (place.NoRow name) = joined (codes "ld65: Error: segment has no row: " ∷ name ∷ codes "\n" ∷ [])
 place_message (place.Overflow area by) = joined (codes "ld65: Error: overflow of " ∷ area ∷ codes " by " ∷ decimal by ∷ codes " bytes\n" ∷ [])
+
+-- why a line is refused
+abbrev pub line_memory_message : List ℕ
+line_memory_message = codes "bin65: Error: out of memory\n"
+
+abbrev pub line_message_of : LineFault → List ℕ
+line_message_of line.OutOfMemory = line_memory_message
+line_message_of line.BadArguments = codes "bin65: Error: bad arguments\n"

@@ -6,8 +6,10 @@ mod disk_store;
 mod linking;
 mod messages;
 mod outcome;
+mod performing;
 mod printing;
 mod reading;
+mod running;
 mod script;
 mod writing;
 
@@ -15,6 +17,10 @@ pub use command_line::fault::LineFault;
 pub use command_line::line::{Line, LinkLine};
 pub use command_line::reading::read_line;
 pub use disk_store::DiskStore;
+pub use running::{run, run_line};
 pub use outcome::{Outcome, Output, Status};
 pub use printing::print;
 pub use writing::write_file;
+
+#[cfg(test)]
+mod tests;

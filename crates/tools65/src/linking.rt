@@ -2,6 +2,7 @@
 
 pub mod imaging;
 pub mod laid;
+pub mod link;
 pub mod pieces;
 pub mod placing;
 pub mod refusal;

@@ -1,0 +1,79 @@
+-- From the parts of a run to the whole.
+use Rattle.std.proofs.Common.{◌≡◌, ◌∙◌, ◌⊎◌, inl, inr, ℕ, ◌<◌, ◌≤◌, List, [], ◌++◌, Bool, true, false, Option, Some, None, Result, Ok, Err, refl, sym, ap, subst, arith, append-nil}
+use Rattle.std.specs.Prelude.{IfSome, IfErr, ◌||◌}
+use Rattle.syntax65.specs.Outcome.{Finds, Refuses, Unless}
+use Rattle.syntax65.specs.Store.{Files, NoneFailed, HasFailed, PassesBy, last_count}
+use Rattle.tools65.specs.declared.linking.refusal.Refusal.{Refusal}
+use Rattle.tools65.specs.declared.outcome.Outcome.{Outcome}
+use Rattle.tools65.specs.declared.outcome.Status.{Status}
+use Rattle.tools65.specs.declared.outcome.Status.TheVariants.{Failure}
+use Rattle.tools65.specs.Command.{failing, outcome_of, Does, Commands, IsWant, Ran}
+use Rattle.tools65.specs.Leaving.{Prints, SaysBoth, Settles, Performs, StopsShort}
+use Rattle.tools65.specs.Line.{Linking, line_of}
+use Rattle.tools65.specs.LineFaults.{is_outside as is_line_outside}
+use Rattle.tools65.specs.declared.command_line.fault.LineFault.{LineFault}
+use Rattle.tools65.specs.declared.command_line.fault.LineFault.TheVariants.{OutOfMemory, BadArguments}
+use Rattle.tools65.specs.Messages.{line_message_of}
+use Rattle.tools65.specs.Linkage.{IsLinked}
+use Rattle.tools65.specs.Refusals.{is_outside, is_memory, is_failure, refusal_message, memory_message}
+
+no_text : (out : Option (List ℕ)) → Prints out out [] true
+no_text None = tt
+no_text (Some xs) = sym (append-nil xs)
+
+only_errors : (out err_old err_new : Option (List ℕ)) (text : List ℕ) (whole : Bool) → Prints err_old err_new text whole → SaysBoth out out [] err_old err_new text whole
+only_errors out err_old err_new text true p = (no_text out, p)
+only_errors out err_old err_new text false p = inr (no_text out, p)
+
+nothing_written : (text : List ℕ) (m : Files) (new : Option Files) (status : Status) (whole : Bool) → new ≡ Some m → status ≡ Failure → Settles (failing text) m new status whole
+nothing_written text m new status true e f = (e, f)
+nothing_written text m new status false e f = (e, f)
+
+-- a command that only says why
+pub said_only : (does : Files → Outcome → Type 0) (known new : Option Files) (out err_old err_new : Option (List ℕ)) (text : List ℕ) (whole : Bool) (status : Status) (Q : Type 0) → new ≡ known → status ≡ Failure → Prints err_old err_new text whole → ((m : Files) → does m (failing text) ⊎ IsWant (failing text)) → IfSome known (λ m. Q → Ran does m new out out err_old err_new status)
+said_only does None new out err_old err_new text whole status Q same e p why = tt
+said_only does (Some m) new out err_old err_new text whole status Q same e p why = λ _. (
+    failing text,
+    why m,
+    inl (record { whole = whole; said = only_errors out err_old err_new text whole p; settled = nothing_written text m new status whole same e }),
+  )
+
+-- no call failed before a moment between
+none_before : (fo fm fn : ℕ) → fo ≤ fm → fm ≤ fn → NoneFailed fo fn → (fm ≡ fo) × NoneFailed fm fn
+none_before fo fm fn a b h =
+    let same : fm ≡ fo = omega (arith, h.same) in
+    (same, record { same = omega (arith, h.same); before = omega (arith, h.before, same) })
+
+did_not_fail : (fo fm : ℕ) → fm ≡ fo → fo < last_count → HasFailed fo fm → ⊥
+did_not_fail fo fm same before (inl h) = absurd (omega arith)
+did_not_fail fo fm same before (inr h) = absurd (omega arith)
+
+by_memory : (l : Linking) (e : Refusal) → is_memory e ≡ true → outcome_of l (Err e) ≡ failing memory_message
+by_memory l e h = rw h refl
+
+-- what linking found, where no call of the store failed
+found : (m : Files) (l : Linking) (r : Result (List ℕ) Refusal) → Finds is_outside (IsLinked m l) r → IfErr r (λ e. is_failure e ≡ true → ⊥) → Does l m (outcome_of l r) ⊎ IsWant (outcome_of l r)
+found m l (Ok image) h none = inl (Ok image, h, refl)
+found m l (Err e) h none = by_cause (is_memory e) (is_failure e) refl refl h
+  where
+    by_cause : (a b : Bool) → is_memory e ≡ a → is_failure e ≡ b → Unless (a || b) (IsLinked m l (Err e)) → Does l m (outcome_of l (Err e)) ⊎ IsWant (outcome_of l (Err e))
+    by_cause true b p q u = inr (inr (by_memory l e p))
+    by_cause false true p q u = absurd (none q)
+    by_cause false false p q u = inl (Err e, u, refl)
+
+no_failure : (fo fm : ℕ) (r : Result (List ℕ) Refusal) → PassesBy is_failure fo fm r → (HasFailed fo fm → ⊥) → IfErr r (λ e. is_failure e ≡ true → ⊥)
+no_failure fo fm (Ok image) p none = tt
+no_failure fo fm (Err e) p none = λ h. none (p.cause h)
+
+-- what was linked is carried out
+pub linked_run : (known mid new : Option Files) (fo fm fn : ℕ) (l : Linking) (r : Result (List ℕ) Refusal) (o : Outcome) (out_old out_new err_old err_new : Option (List ℕ)) (status : Status) → mid ≡ known → fm ≤ fn → PassesBy is_failure fo fm r → o ≡ outcome_of l r → IfSome known (λ m. Finds is_outside (IsLinked m l) r) → IfSome mid (λ m. NoneFailed fm fn → Performs o m new out_old out_new err_old err_new status ⊎ StopsShort o m new status) → IfSome known (λ m. NoneFailed fo fn → Ran (Does l) m new out_old out_new err_old err_new status)
+linked_run None mid new fo fm fn l r o out_old out_new err_old err_new status same later count is finds performs = tt
+linked_run (Some m) mid new fo fm fn l r o out_old out_new err_old err_new status same later count is finds performs = λ none.
+    let between = none_before fo fm fn count.later later none in
+    let why : Does l m (outcome_of l r) ⊎ IsWant (outcome_of l r) = found m l r finds (no_failure fo fm r count (did_not_fail fo fm between.0 none.before)) in
+    (o, subst (λ (x : Outcome). Does l m x ⊎ IsWant x) (sym is) why, (rw same at performs) between.1)
+
+-- words that are no line
+pub refused_words : (words : List (List ℕ)) (e : LineFault) → Refuses is_line_outside e (line_of words) → (m : Files) → Commands words m (failing (line_message_of e)) ⊎ IsWant (failing (line_message_of e))
+refused_words words OutOfMemory h m = inr (inl refl)
+refused_words words BadArguments h m = inl (rw h refl)

@@ -1,0 +1,11 @@
+use Rattle.std.proofs.Common.{rules}
+use Rattle.tools65.proofs.Texts.{next_output}
+use Rattle.tools65.proofs.writing.write_outputs.Goals as goal
+
+pub loop-place-preserved : goal.loop-place-preserved
+loop-place-preserved g c = record {
+  files =
+      next_output _ _ _ c.args.outputs.now c.loop-place.place c.index-outputs-place.result c.loop-place-test.true c.index-outputs-place.is c.loop-place.invariant.files
+      (rw (c.as_str.ensures, c.as_slice.ensures) at c.in_default.ensures.ok);
+  count = search rules;
+}

@@ -1,0 +1,10 @@
+use Rattle.std.proofs.Common.{◌≡◌, take}
+use Rattle.syntax65.specs.Store.{Tells}
+use Rattle.tools65.specs.Leaving.{apply}
+use Rattle.tools65.proofs.writing.write_outputs.Given as goal
+
+abbrev pub invariant-loop-place : goal.invariant-loop-place
+invariant-loop-place g l = record {
+  files : Tells (λ old new. new ≡ apply (take l.place l.outputs) old) (g.S.Store.files l.fn.store) (g.S.Store.files l.store);
+  count : g.S.Store.failures l.store ≡ g.S.Store.failures l.fn.store;
+}

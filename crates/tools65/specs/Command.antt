@@ -1,0 +1,53 @@
+-- What a command does.
+use Rattle.std.specs.Prelude.{◌≡◌, ℕ, ◌⊎◌, List, [], ◌∷◌, length, Option, unwrap_or, Result, Ok, Err, codes, ◌==◌, if◌then◌else◌}
+use Rattle.syntax65.specs.Store.{Files}
+use Rattle.tools65.specs.declared.command_line.fault.LineFault.{LineFault}
+use Rattle.tools65.specs.declared.linking.refusal.Refusal.{Refusal}
+use Rattle.tools65.specs.declared.outcome.Outcome.{Outcome}
+use Rattle.tools65.specs.declared.outcome.Output.{Output}
+use Rattle.tools65.specs.declared.outcome.Status.{Status}
+use Rattle.tools65.specs.declared.outcome.Status.TheVariants.{Success, Failure}
+use Rattle.tools65.specs.Leaving.{Performs, StopsShort}
+use Rattle.tools65.specs.Line.{Linking, Says, link, line_of}
+use Rattle.tools65.specs.Linkage.{IsLinked}
+use Rattle.tools65.specs.Messages.{line_message_of, line_memory_message}
+use Rattle.tools65.specs.Refusals.{refusal_message, memory_message}
+
+-- the file of a name, or none where the name is empty
+abbrev pub outputs_of : List ℕ → List ℕ → List Output
+outputs_of name bytes = if length name == 0 then [] else record { name = name; bytes = bytes } ∷ []
+
+-- a command that only says why
+abbrev pub failing : List ℕ → Outcome
+failing message = record { out = []; err = message; outputs = []; status = Failure }
+
+-- what linking does: it writes the image, or says why there is none
+abbrev pub outcome_of : Linking → Result (List ℕ) Refusal → Outcome
+outcome_of l (Ok image) = record { out = []; err = []; outputs = outputs_of (unwrap_or l.output (codes "a.out")) image; status = Success }
+outcome_of l (Err e) = failing (refusal_message l.script l.input e)
+
+-- what a link line does with these files
+abbrev pub Does : Linking → Files → Outcome → Type 0
+Does l m o = (r : Result (List ℕ) Refusal) × IsLinked m l r × (o ≡ outcome_of l r)
+
+-- a command that only says that memory ran out
+abbrev pub IsWant : Outcome → Type 0
+IsWant o = (o ≡ failing line_memory_message) ⊎ (o ≡ failing memory_message)
+
+-- A run has the outcome that the files give, or says that memory ran out; it carries that out, or memory ran out
+-- while it wrote the files.
+abbrev pub Ran : (Files → Outcome → Type 0) → Files → Option Files → Option (List ℕ) → Option (List ℕ) → Option (List ℕ) → Option (List ℕ) → Status → Type 0
+Ran does m new out_old out_new err_old err_new status =
+    (o : Outcome) × (does m o ⊎ IsWant o) × (Performs o m new out_old out_new err_old err_new status ⊎ StopsShort o m new status)
+
+-- what a line does, given the files
+abbrev pub DoesLine : Says → Files → Outcome → Type 0
+DoesLine (link l) m o = Does l m o
+
+-- what words do as a command, given the files
+abbrev pub DoesWords : Result Says LineFault → Files → Outcome → Type 0
+DoesWords (Ok line) m o = DoesLine line m o
+DoesWords (Err e) m o = o ≡ failing (line_message_of e)
+
+abbrev pub Commands : List (List ℕ) → Files → Outcome → Type 0
+Commands words m o = DoesWords (line_of words) m o

@@ -1,0 +1,68 @@
+//! Carries an outcome out.
+
+ghost use Rattle.std.specs.Prelude.{◌≡◌, ◌<◌, ◌≤◌, ◌⊎◌, IfSome};
+ghost use Rattle.syntax65.specs.Store.{NoneFailed};
+ghost use Rattle.tools65.specs.Leaving.{SaysBoth, Performs, StopsShort};
+
+use crate::outcome::{Outcome, Output, Status};
+use crate::printing::print;
+use crate::writing::{Unwritten, write_outputs};
+use std::io::Write;
+use syntax65::{Store, StoreFault};
+
+/// Says a text on each of two streams, on the second only where the first took all of its own, and answers
+/// whether both did.
+fn say_both<W: Write, E: Write>(out: &mut W, text: &[u8], err: &mut E, error_text: &[u8]) -> bool
+    ensures { SaysBoth (W.contents out.old) (W.contents out.new) text.now (E.contents err.old) (E.contents err.new) error_text.now result }
+{
+    if !print(out, text) {
+        return false;
+    }
+    print(err, error_text)
+}
+
+/// Says why an output isn't written, with the words of want of memory where that is the cause.
+fn say_unwritten<E: Write>(err: &mut E, outputs: &[Output], unwritten: Unwritten, memory: &[u8]) {
+    let words: &[u8] = match unwritten.fault {
+        StoreFault::OutOfMemory => {
+            print(err, memory);
+            return;
+        }
+        StoreFault::FileNotFound => b": Error: file not found\n",
+        StoreFault::FileError => b": Error: file error\n",
+    };
+    if let Some(output) = outputs.get(unwritten.place) {
+        if print(err, output.name.as_str().as_bytes()) {
+            print(err, words);
+        }
+    }
+}
+
+/// Carries an outcome out: says its texts, standard output's first, and then writes its files in order. Where
+/// a stream doesn't take its text nothing further is said or written; where a file isn't written no later one
+/// is, and the cause is said. Both answer failure.
+pub fn perform<S: Store, W: Write, E: Write>(
+    outcome: &Outcome,
+    store: &mut S,
+    out: &mut W,
+    err: &mut E,
+    memory: &[u8],
+) -> Status
+    ensures done { IfSome (S.files store.old) (λ m. NoneFailed (S.failures store.old) (S.failures store.new) →
+        Performs outcome.now m (S.files store.new) (W.contents out.old) (W.contents out.new) (E.contents err.old) (E.contents err.new) result
+        ⊎ StopsShort outcome.now m (S.files store.new) result) }
+    ensures later { S.failures store.old ≤ S.failures store.new }
+    ensures rose { S.failures store.old < S.failures store.new → result ≡ Status.Failure }
+    ensures failing { outcome.now.status ≡ Status.Failure → result ≡ Status.Failure }
+{
+    if !say_both(out, outcome.out.as_slice(), err, outcome.err.as_slice()) {
+        return Status::Failure;
+    }
+    match write_outputs(store, outcome.outputs.as_slice()) {
+        Ok(()) => outcome.status,
+        Err(unwritten) => {
+            say_unwritten(err, outcome.outputs.as_slice(), unwritten, memory);
+            Status::Failure
+        }
+    }
+}

@@ -1,0 +1,137 @@
+//! One command.
+
+ghost use Rattle.std.specs.Prelude.{◌≡◌, ◌<◌, ◌≤◌, IfOk, IfSome, map};
+ghost use Rattle.syntax65.specs.Store.{NoneFailed};
+ghost use Rattle.tools65.specs.Line.{linking, view};
+ghost use Rattle.tools65.specs.Messages.{line_message_of};
+ghost use Rattle.tools65.specs.Command.{outputs_of, outcome_of, Ran, Does, DoesLine, Commands};
+
+use crate::command_line::fault::LineFault;
+use crate::command_line::line::{Line, LinkLine};
+use crate::command_line::reading::read_line;
+use crate::linking::link::link;
+use crate::linking::refusal::{Refusal, refusal_message};
+use crate::outcome::{Outcome, Output, Status};
+use crate::performing::perform;
+use crate::printing::print;
+use std::alloc::{AllocError, Global};
+use std::convert::AsStr;
+use std::io::Write;
+use syntax65::{Sequence, Store, Text};
+
+/// What ld65 says where memory runs out.
+const LINK_MEMORY: &[u8] = b"ld65: Error: out of memory\n";
+
+/// The file of a name, or none where the name is empty.
+fn outputs_of(
+    alloc: Global,
+    name: &str,
+    bytes: Sequence<u8>,
+) -> Result<Sequence<Output>, AllocError>
+    ensures { IfOk result (λ outputs. outputs ≡ outputs_of name.now bytes) }
+{
+    let mut outputs = Sequence::new(alloc);
+    if !name.is_empty() {
+        let name = Text::copy_of(alloc, name)?;
+        outputs.push(Output { name, bytes })?;
+    }
+    Ok(outputs)
+}
+
+/// What linking does: it writes the image, or says why there is none.
+fn link_outcome(
+    alloc: Global,
+    line: &LinkLine<'_>,
+    linked: Result<Sequence<u8>, Refusal>,
+) -> Result<Outcome, AllocError>
+    ensures { IfOk result (λ outcome. outcome ≡ outcome_of (linking line.now) linked) }
+{
+    match linked {
+        Ok(image) => Ok(Outcome {
+            out: Sequence::new(alloc),
+            err: Sequence::new(alloc),
+            outputs: outputs_of(alloc, line.output.unwrap_or("a.out"), image)?,
+            status: Status::Success,
+        }),
+        Err(refusal) => Ok(Outcome {
+            out: Sequence::new(alloc),
+            err: refusal_message(alloc, line, &refusal)?,
+            outputs: Sequence::new(alloc),
+            status: Status::Failure,
+        }),
+    }
+}
+
+/// Links, and answers the status.
+fn run_link<S: Store, W: Write, E: Write>(
+    alloc: Global,
+    line: &LinkLine<'_>,
+    store: &mut S,
+    out: &mut W,
+    err: &mut E,
+) -> Status
+    ensures done { IfSome (S.files store.old) (λ m. NoneFailed (S.failures store.old) (S.failures store.new) →
+        Ran (Does (linking line.now)) m (S.files store.new) (W.contents out.old) (W.contents out.new) (E.contents err.old) (E.contents err.new) result) }
+    ensures later { S.failures store.old ≤ S.failures store.new }
+    ensures rose { S.failures store.old < S.failures store.new → result ≡ Status.Failure }
+{
+    let linked = link(alloc, store, line);
+    match link_outcome(alloc, line, linked) {
+        Ok(outcome) => perform(&outcome, store, out, err, LINK_MEMORY),
+        Err(_) => {
+            print(err, LINK_MEMORY);
+            Status::Failure
+        }
+    }
+}
+
+/// Runs a line, and answers the status. Everything is computed first, then the texts are printed, then the
+/// files are written; a run that is refused writes none.
+pub fn run_line<S: Store, W: Write, E: Write>(
+    alloc: Global,
+    line: &Line<'_>,
+    store: &mut S,
+    out: &mut W,
+    err: &mut E,
+) -> Status
+    ensures done { IfSome (S.files store.old) (λ m. NoneFailed (S.failures store.old) (S.failures store.new) →
+        Ran (DoesLine (view line.now)) m (S.files store.new) (W.contents out.old) (W.contents out.new) (E.contents err.old) (E.contents err.new) result) }
+    ensures later { S.failures store.old ≤ S.failures store.new }
+    ensures rose { S.failures store.old < S.failures store.new → result ≡ Status.Failure }
+{
+    match line {
+        Line::Link(line) => run_link(alloc, line, store, out, err),
+    }
+}
+
+/// Why words are no line.
+fn line_text(fault: LineFault) -> &'static [u8]
+    ensures { result.now ≡ line_message_of fault }
+{
+    match fault {
+        LineFault::OutOfMemory => b"bin65: Error: out of memory\n",
+        LineFault::BadArguments => b"bin65: Error: bad arguments\n",
+    }
+}
+
+/// Runs words as a command, the first being the program's name, and answers the status.
+pub fn run<A: AsStr, S: Store, W: Write, E: Write>(
+    alloc: Global,
+    words: &[A],
+    store: &mut S,
+    out: &mut W,
+    err: &mut E,
+) -> Status
+    ensures done { IfSome (S.files store.old) (λ m. NoneFailed (S.failures store.old) (S.failures store.new) →
+        Ran (Commands (map A.text words.now)) m (S.files store.new) (W.contents out.old) (W.contents out.new) (E.contents err.old) (E.contents err.new) result) }
+    ensures later { S.failures store.old ≤ S.failures store.new }
+    ensures rose { S.failures store.old < S.failures store.new → result ≡ Status.Failure }
+{
+    match read_line(alloc, words) {
+        Ok(line) => run_line(alloc, &line, store, out, err),
+        Err(fault) => {
+            print(err, line_text(fault));
+            Status::Failure
+        }
+    }
+}

@@ -1,12 +1,17 @@
 //! What every crate of the tools stands on: files by name, and small types that contracts see as lists.
 #![tactic(auto)]
 
+mod instructions;
 mod mem_store;
 mod sequence;
 mod store;
 mod text;
 
+pub use instructions::{Mnemonic, Mode, mnemonic, opcode};
 pub use mem_store::MemStore;
 pub use sequence::Sequence;
 pub use store::{Store, StoreFault, read_full};
 pub use text::Text;
+
+#[cfg(test)]
+mod tests;

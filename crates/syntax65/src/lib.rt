@@ -2,12 +2,14 @@
 #![tactic(auto)]
 
 mod instructions;
+mod lexing;
 mod mem_store;
 mod sequence;
 mod store;
 mod text;
 
 pub use instructions::{Mnemonic, Mode, mnemonic, opcode};
+pub use lexing::{AddressSize, LexFault, MAX_LINE, MAX_NAME, Mark, Token, TokenKind, line_tokens};
 pub use mem_store::MemStore;
 pub use sequence::Sequence;
 pub use store::{Store, StoreFault, read_full};

@@ -1,0 +1,17 @@
+-- The words of faults.
+use Rattle.std.specs.Prelude.{ℕ, List, codes, Bool, true, false}
+use Rattle.syntax65.specs.declared.lexing.fault.LexFault.{LexFault}
+use Rattle.syntax65.specs.declared.lexing.fault.LexFault.TheVariants.{OutOfMemory, BadCharacter, BadNumber, StringNotClosed, LineTooLong, NameTooLong}
+
+abbrev pub lex_fault_words : LexFault → List ℕ
+lex_fault_words OutOfMemory = codes "out of memory"
+lex_fault_words BadCharacter = codes "bad character"
+lex_fault_words BadNumber = codes "bad number"
+lex_fault_words StringNotClosed = codes "string not closed"
+lex_fault_words LineTooLong = codes "line too long"
+lex_fault_words NameTooLong = codes "name too long"
+
+-- whether the fault comes from outside: from memory
+abbrev pub is_lex_outside : LexFault → Bool
+is_lex_outside OutOfMemory = true
+is_lex_outside _ = false

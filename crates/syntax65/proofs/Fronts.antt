@@ -14,7 +14,7 @@ use Rattle.syntax65.specs.declared.lexing.classes.Class.TheVariants.{Letter, Dig
 use Rattle.syntax65.specs.declared.lexing.tokens.AddressSize.{AddressSize}
 use Rattle.syntax65.specs.declared.lexing.tokens.AddressSize.TheVariants.{ZeroPage, Absolute}
 use Rattle.syntax65.specs.declared.lexing.tokens.Mark.{Mark}
-use Rattle.syntax65.specs.declared.lexing.tokens.Mark.TheVariants.{Scope}
+use Rattle.syntax65.specs.declared.lexing.tokens.Mark.TheVariants.{Scope, Define}
 use Rattle.syntax65.specs.declared.lexing.tokens.TokenKind.{TokenKind}
 use Rattle.syntax65.specs.declared.lexing.tokens.TokenKind.TheVariants.{Identifier, CheapName, Directive, Number, Character, Text, Unnamed, SizePrefix, Symbol}
 use Rattle.syntax65.specs.declared.lexing.fault.LexFault.TheVariants.{BadCharacter, BadNumber, StringNotClosed, NameTooLong}
@@ -66,7 +66,7 @@ Behind Radix (Number v) bs = AllWord bs
 Behind Apostrophe (Character c) bs = bs ≡ c ∷ 39 ∷ []
 Behind Quote Text bs = ClosesText bs
 Behind Colon Unnamed bs = IsRunOf 43 bs ⊎ IsRunOf 45 bs
-Behind Colon (Symbol m) bs = ⊤
+Behind Colon (Symbol m) bs = NoSign bs
 Behind Other (Symbol m) bs = ⊤
 Behind _ _ bs = ⊥
 
@@ -81,9 +81,10 @@ size_letter ZeroPage b (inr e) = ap class_of e
 size_letter Absolute b (inl e) = ap class_of e
 size_letter Absolute b (inr e) = ap class_of e
 
-mark_behind : (m : Mark) (bs : List ℕ) → Behind (class_of (get_or (spelling m) 0 0)) (Symbol m) bs
-mark_behind Scope bs = tt
-mark_behind _ bs = tt
+mark_behind : (m : Mark) → Behind (class_of (get_or (spelling m) 0 0)) (Symbol m) (drop 1 (spelling m))
+mark_behind Scope = (λ e. absurd (omega arith), λ e. absurd (omega arith))
+mark_behind Define = (λ e. absurd (omega arith), λ e. absurd (omega arith))
+mark_behind _ = tt
 
 pub mark_size : (m : Mark) → length (spelling m) ≤ 2
 mark_size Scope = omega arith
@@ -98,7 +99,7 @@ behind (Character x) b bs h = subst (λ (c : Class). Behind c (Character x) bs) 
 behind Text b bs h = subst (λ (c : Class). Behind c Text bs) (sym h.0) h.1
 behind Unnamed b bs h = subst (λ (c : Class). Behind c Unnamed bs) (sym h.0) h.1
 behind (SizePrefix s) b bs h = subst (λ (c : Class). Behind c (SizePrefix s) bs) (sym (size_letter s b h.0)) h.1
-behind (Symbol m) b bs h = subst (λ (c : Class). Behind c (Symbol m) bs) (sym (ap (λ l. class_of (get_or l 0 0)) h)) (mark_behind m bs)
+behind (Symbol m) b bs h = subst (λ (c : Class). Behind c (Symbol m) bs) (sym (ap (λ l. class_of (get_or l 0 0)) h)) (subst (λ (xs : List ℕ). Behind (class_of (get_or (spelling m) 0 0)) (Symbol m) xs) (sym (ap (drop 1) h)) (mark_behind m))
 
 -- the same of what stands at a place
 pub at_class : (c : Class) (first : Bool) (j : TokenKind) (m b : ℕ) (rest : List ℕ) → class_of b ≡ c → Stands first j (suc m) (b ∷ rest) → Behind c j (take m rest)
@@ -132,7 +133,7 @@ identifier_here first (b ∷ rest) n h never e =
       longest = identifier_longest first b rest h never;
     })
 
-colon_is_no_word : (x : ℕ) (bs : List ℕ) → x ≡ 58 → AllWord (x ∷ bs) → ⊥
+pub colon_is_no_word : (x : ℕ) (bs : List ℕ) → x ≡ 58 → AllWord (x ∷ bs) → ⊥
 colon_is_no_word x bs e w =
     let yes : is_word x ≡ true = (and_both (is_word x) (list_all is_word bs) w).0 in
     let never : is_word x ≡ false = ap is_word e in

@@ -2,6 +2,7 @@
 #![tactic(auto)]
 
 mod instructions;
+pub mod laws;
 mod lexing;
 mod mem_store;
 mod sequence;

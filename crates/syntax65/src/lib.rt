@@ -8,6 +8,7 @@ mod mem_store;
 mod sequence;
 mod store;
 mod text;
+mod values;
 
 pub use instructions::{Mnemonic, Mode, mnemonic, opcode};
 pub use lexing::{AddressSize, LexFault, MAX_LINE, MAX_NAME, Mark, Token, TokenKind, line_tokens};
@@ -15,6 +16,7 @@ pub use mem_store::MemStore;
 pub use sequence::Sequence;
 pub use store::{Store, StoreFault, read_full};
 pub use text::Text;
+pub use values::{Op1, Op2, apply1, apply2};
 
 #[cfg(test)]
 mod tests;

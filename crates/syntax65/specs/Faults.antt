@@ -2,6 +2,8 @@
 use Rattle.std.specs.Prelude.{ℕ, List, codes, Bool, true, false}
 use Rattle.syntax65.specs.declared.lexing.fault.LexFault.{LexFault}
 use Rattle.syntax65.specs.declared.lexing.fault.LexFault.TheVariants.{OutOfMemory, BadCharacter, BadNumber, StringNotClosed, LineTooLong, NameTooLong}
+use Rattle.syntax65.specs.declared.expressions.fault.ExprFault.{ExprFault}
+use Rattle.syntax65.specs.declared.expressions.fault.ExprFault.TheVariants.{OutOfMemory as NoMemory, OperandExpected, ParenthesisExpected, TooDeep}
 
 abbrev pub lex_fault_words : LexFault → List ℕ
 lex_fault_words OutOfMemory = codes "out of memory"
@@ -15,3 +17,9 @@ lex_fault_words NameTooLong = codes "name too long"
 abbrev pub is_lex_outside : LexFault → Bool
 is_lex_outside OutOfMemory = true
 is_lex_outside _ = false
+
+abbrev pub expr_fault_words : ExprFault → List ℕ
+expr_fault_words NoMemory = codes "out of memory"
+expr_fault_words OperandExpected = codes "operand expected"
+expr_fault_words ParenthesisExpected = codes "parenthesis expected"
+expr_fault_words TooDeep = codes "nested too deep"

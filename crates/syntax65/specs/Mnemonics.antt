@@ -1,8 +1,10 @@
 -- The names of the mnemonics.
-use Rattle.std.specs.Prelude.{◌≡◌, ℕ, List, codes, map}
+use Rattle.std.specs.Prelude.{◌≡◌, ℕ, List, codes, map, Option, find}
+use Rattle.std.specs.Str.{str_eq_ignore_ascii_case}
 use Rattle.std.specs.Char.{to_ascii_lowercase}
 use Rattle.syntax65.specs.declared.instructions.names.Mnemonic.{Mnemonic}
 use Rattle.syntax65.specs.declared.instructions.names.Mnemonic.TheVariants.{Adc, And, Asl, Bcc, Bcs, Beq, Bit, Bmi, Bne, Bpl, Brk, Bvc, Bvs, Clc, Cld, Cli, Clv, Cmp, Cpx, Cpy, Dec, Dex, Dey, Eor, Inc, Inx, Iny, Jmp, Jsr, Lda, Ldx, Ldy, Lsr, Nop, Ora, Pha, Php, Pla, Plp, Rol, Ror, Rti, Rts, Sbc, Sec, Sed, Sei, Sta, Stx, Sty, Tax, Tay, Tsx, Txa, Txs, Tya}
+use Rattle.syntax65.specs.declared.instructions.names.TheConstants.Mnemonic.{ALL}
 
 -- in lower case
 abbrev pub name_of : Mnemonic → List ℕ
@@ -66,3 +68,7 @@ name_of Tya = codes "tya"
 -- the bytes are the name, in either case
 abbrev pub Spells : List ℕ → Mnemonic → Type 0
 Spells bytes m = map to_ascii_lowercase bytes ≡ name_of m
+
+-- the mnemonic that the bytes spell
+unfoldable pub mnemonic_of : List ℕ → Option Mnemonic
+mnemonic_of bytes = find (λ m. str_eq_ignore_ascii_case bytes (name_of m)) ALL

@@ -1,5 +1,5 @@
 -- The tokens of a line, or its fault.
-use Rattle.std.specs.Prelude.{◌≡◌, ◌≢◌, ℕ, ◌≤◌, ◌<◌, Bool, true, false, List, [], ◌∷◌, length, take, drop, Option, Some, None, Result, Ok, Err, ⊤}
+use Rattle.std.specs.Prelude.{◌≡◌, ◌≢◌, ℕ, ◌≤◌, ◌<◌, Bool, true, false, List, [], ◌∷◌, length, take, drop, map, Option, Some, None, Result, Ok, Err, ⊤}
 use Rattle.std.specs.List.{prefix_len}
 use Rattle.syntax65.specs.Bytes.{class_of, is_blank}
 use Rattle.syntax65.specs.Forms.{IsToken, FaultAt}
@@ -43,3 +43,6 @@ abbrev pub IsRead : List ℕ → Result (List Lexeme) LexFault → Type 0
 IsRead line (Ok ts) = (length line ≤ 4096) × Reads true line ts None
 IsRead line (Err LineTooLong) = 4096 < length line
 IsRead line (Err fault) = (length line ≤ 4096) × ((ts : List Lexeme) × Reads true line ts (Some fault))
+
+abbrev pub lexemes : List Token → List Lexeme
+lexemes ts = map lexeme_of ts

@@ -1,23 +1,22 @@
 -- What stands at the front of some bytes, and that nothing longer does.
-use Rattle.std.proofs.Common.{◌≡◌, ◌≢◌, ◌⊎◌, inl, inr, ℕ, zero, suc, ◌+◌, ◌-◌, ◌<◌, ◌≤◌, Bool, true, false, cond, List, [], ◌∷◌, length, take, drop, get_or, Option, Some, None, refl, sym, ap, subst, ◌∙◌, arith, rules, IsTrue, eqb, eq-eqb}
+use Rattle.std.proofs.Common.{◌≡◌, ◌≢◌, ◌⊎◌, inl, inr, ℕ, zero, suc, ◌+◌, ◌<◌, ◌≤◌, Bool, true, false, cond, List, [], ◌∷◌, length, take, drop, get_or, refl, sym, ap, subst, ◌∙◌, arith, eqb}
 use Rattle.std.specs.Prelude.{◌&&◌, ⊤}
 use Rattle.std.specs.List.{prefix_len, list_all}
 use Rattle.std.proofs.lemmas.Bool.Decides.{nat_tests}
 use Rattle.std.proofs.lemmas.List.{length-take-le, length-drop}
 use Rattle.std.proofs.lemmas.List.Sums.{prefix_len-le-length}
 use Rattle.syntax65.specs.Bytes.{class_of, is_word, is_no_quote}
-use Rattle.syntax65.specs.Numbers.{number_of}
-use Rattle.syntax65.specs.Forms.{AllWord, IsName, IsRunOf, ClosesText, StartsNumber, IsSizeLetter, NotColonOrEqual, spelling, IsForm, MayStand, Stands, IsLongest, NoForm, IsToken, Begins, FaultAt, name_in, HasValue}
-use Rattle.syntax65.specs.Places.{BeginsNumber, BeginsSigned, BeginsMark, NoSign}
+use Rattle.syntax65.specs.Forms.{AllWord, IsName, IsRunOf, ClosesText, StartsNumber, IsSizeLetter, spelling, IsForm, Stands, IsLongest, NoForm, Begins, FaultAt, name_in, HasValue}
+use Rattle.syntax65.specs.Places.{BeginsNumber, BeginsSigned, NoSign}
 use Rattle.syntax65.specs.declared.lexing.classes.Class.{Class}
-use Rattle.syntax65.specs.declared.lexing.classes.Class.TheVariants.{Letter, Digit, Radix, At, Dot, Apostrophe, Quote, Colon, Semicolon, Blank, Other}
+use Rattle.syntax65.specs.declared.lexing.classes.Class.TheVariants.{Letter, Digit, Radix, At, Dot, Apostrophe, Quote, Colon, Other}
 use Rattle.syntax65.specs.declared.lexing.tokens.AddressSize.{AddressSize}
 use Rattle.syntax65.specs.declared.lexing.tokens.AddressSize.TheVariants.{ZeroPage, Absolute}
 use Rattle.syntax65.specs.declared.lexing.tokens.Mark.{Mark}
 use Rattle.syntax65.specs.declared.lexing.tokens.Mark.TheVariants.{Scope, Define}
 use Rattle.syntax65.specs.declared.lexing.tokens.TokenKind.{TokenKind}
 use Rattle.syntax65.specs.declared.lexing.tokens.TokenKind.TheVariants.{Identifier, CheapName, Directive, Number, Character, Text, Unnamed, SizePrefix, Symbol}
-use Rattle.syntax65.specs.declared.lexing.fault.LexFault.TheVariants.{BadCharacter, BadNumber, StringNotClosed, NameTooLong}
+use Rattle.syntax65.specs.declared.lexing.fault.LexFault.TheVariants.{BadCharacter, StringNotClosed}
 
 pub and_both : (a b : Bool) → (a && b) ≡ true → (a ≡ true) × (b ≡ true)
 and_both true b h = (refl, h)

@@ -1,8 +1,8 @@
 -- The tokens of a line, one after the other.
-use Rattle.std.proofs.Common.{◌≡◌, ℕ, zero, suc, ◌+◌, ◌<◌, ◌≤◌, Bool, true, false, cond, List, [], ◌∷◌, ◌++◌, length, take, drop, map, Option, Some, None, refl, ap, arith, append_assoc}
+use Rattle.std.proofs.Common.{◌≡◌, ℕ, zero, suc, ◌+◌, ◌<◌, ◌≤◌, Bool, true, false, cond, List, [], ◌∷◌, ◌++◌, length, take, drop, Option, Some, refl, ap, arith, append_assoc}
 use Rattle.std.specs.List.{prefix_len}
-use Rattle.std.specs.Prelude.{Ok, Err, ◌==◌}
-use Rattle.syntax65.specs.Bytes.{class_of, is_blank, is_blank_class}
+use Rattle.std.specs.Prelude.{Err}
+use Rattle.syntax65.specs.Bytes.{is_blank, is_blank_class}
 use Rattle.syntax65.specs.Forms.{Begins, IsToken, FaultAt}
 use Rattle.syntax65.specs.Faults.{is_lex_outside}
 use Rattle.syntax65.specs.Outcome.{Unless}

@@ -1,20 +1,18 @@
 -- What stands at a `:` or at a byte that only a mark can begin.
-use Rattle.std.proofs.Common.{◌≡◌, ◌≢◌, ◌⊎◌, inl, inr, ℕ, zero, suc, ◌+◌, ◌<◌, ◌≤◌, Bool, true, false, List, [], ◌∷◌, length, take, drop, get_or, refl, sym, ap, subst, ◌∙◌, arith, IsTrue, eqb, eq-eqb}
-use Rattle.std.specs.Prelude.{◌&&◌, ⊤}
+use Rattle.std.proofs.Common.{◌≡◌, ◌⊎◌, inl, inr, ℕ, zero, suc, ◌+◌, ◌<◌, ◌≤◌, Bool, true, List, [], ◌∷◌, length, take, drop, get_or, refl, sym, ap, subst, ◌∙◌, arith, IsTrue, eqb, eq-eqb}
+use Rattle.std.specs.Prelude.{⊤}
 use Rattle.std.specs.List.{prefix_len, list_all}
-use Rattle.std.proofs.lemmas.Bool.Decides.{nat_tests}
 use Rattle.std.proofs.lemmas.List.{length-take-le}
 use Rattle.std.proofs.lemmas.List.Sums.{prefix_len-le-length}
 use Rattle.syntax65.specs.Bytes.{class_of}
-use Rattle.syntax65.specs.Forms.{IsRunOf, spelling, IsForm, Stands, IsLongest, NoForm, Begins, FaultAt}
+use Rattle.syntax65.specs.Forms.{IsRunOf, spelling, Stands, IsLongest, Begins, FaultAt}
 use Rattle.syntax65.specs.Places.{BeginsMark, NoSign}
-use Rattle.syntax65.specs.declared.lexing.classes.Class.{Class}
 use Rattle.syntax65.specs.declared.lexing.classes.Class.TheVariants.{Quote, Colon, Other}
 use Rattle.syntax65.specs.declared.lexing.tokens.Mark.{Mark}
 use Rattle.syntax65.specs.declared.lexing.tokens.TokenKind.{TokenKind}
 use Rattle.syntax65.specs.declared.lexing.tokens.TokenKind.TheVariants.{Unnamed, Symbol}
 use Rattle.syntax65.specs.declared.lexing.fault.LexFault.TheVariants.{BadCharacter}
-use Rattle.syntax65.proofs.Fronts.{and_both, all_front, not_all, eqb_is, take_some, Behind, mark_size, at_class, empty}
+use Rattle.syntax65.proofs.Fronts.{and_both, all_front, not_all, eqb_is, Behind, mark_size, at_class, empty}
 
 -- a run of the byte c begins with c
 run_begins : (c x : ℕ) (bs : List ℕ) → IsRunOf c (x ∷ bs) → x ≡ c

@@ -1,12 +1,11 @@
 -- A text is of one kind at most.
-use Rattle.std.proofs.Common.{◌≡◌, ◌≢◌, ◌⊎◌, inl, inr, ℕ, zero, suc, ◌+◌, ◌<◌, ◌≤◌, Bool, true, false, cond, List, [], ◌∷◌, length, take, drop, get_or, Option, Some, None, refl, sym, ap, subst, ◌∙◌, arith, eqb, IsTrue}
-use Rattle.std.specs.Prelude.{◌==◌, if◌then◌else◌, ⊤}
+use Rattle.std.proofs.Common.{◌≡◌, ◌⊎◌, inl, inr, ℕ, Bool, true, false, List, [], ◌∷◌, refl, sym, ap, ◌∙◌, arith, eqb}
+use Rattle.std.specs.Prelude.{◌==◌, if◌then◌else◌}
 use Rattle.std.specs.List.{list_all}
 use Rattle.std.proofs.lemmas.Bool.{cases_order}
 use Rattle.std.proofs.lemmas.Bool.Decides.{nat_tests}
 use Rattle.syntax65.specs.Bytes.{class_of, is_word}
-use Rattle.syntax65.specs.Numbers.{number_of}
-use Rattle.syntax65.specs.Forms.{AllWord, IsRunOf, IsSizeLetter, spelling, IsForm, Stands, IsLongest, IsToken, name_in, HasValue}
+use Rattle.syntax65.specs.Forms.{IsRunOf, IsSizeLetter, spelling, IsForm, IsLongest, HasValue}
 use Rattle.syntax65.specs.Places.{NoSign}
 use Rattle.syntax65.specs.declared.lexing.classes.Class.{Class}
 use Rattle.syntax65.specs.declared.lexing.classes.Class.TheVariants.{Letter, Digit, Radix, At, Dot, Apostrophe, Quote, Colon, Semicolon, Blank, Other}
@@ -16,7 +15,7 @@ use Rattle.syntax65.specs.declared.lexing.tokens.Mark.{Mark}
 use Rattle.syntax65.specs.declared.lexing.tokens.Mark.TheVariants.{Scope, Define, NotEqual, LessOrEqual, GreaterOrEqual, ShiftLeft, ShiftRight, BothTrue, EitherTrue, Colon as ColonMark, Plus, Minus, Star, Slash, Ampersand, Bar, Caret, Tilde, Less, Greater, Equal, Exclamation, OpenParenthesis, CloseParenthesis, Hash, Comma, OpenBrace, CloseBrace}
 use Rattle.syntax65.specs.declared.lexing.tokens.TokenKind.{TokenKind}
 use Rattle.syntax65.specs.declared.lexing.tokens.TokenKind.TheVariants.{Identifier, CheapName, Directive, Number, Character, Text, Unnamed, SizePrefix, Symbol}
-use Rattle.syntax65.proofs.Fronts.{and_both, Behind, behind, colon_is_no_word}
+use Rattle.syntax65.proofs.Fronts.{and_both, Behind, behind}
 
 -- a kind whatever it carries
 abbrev pub bare : TokenKind → TokenKind

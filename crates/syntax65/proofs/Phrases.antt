@@ -1,12 +1,11 @@
 -- One step of a reader, as one rule of the grammar.
-use Rattle.std.proofs.Common.{◌≡◌, ◌≢◌, ◌⊎◌, inl, inr, ℕ, zero, suc, ◌+◌, ◌-◌, ◌<◌, ◌≤◌, Bool, true, false, List, [], ◌∷◌, ◌++◌, Option, Some, None, refl, sym, ap, subst, ◌∙◌, arith, append_assoc}
+use Rattle.std.proofs.Common.{◌≡◌, ◌≢◌, ℕ, ◌+◌, ◌-◌, ◌<◌, ◌≤◌, true, false, List, [], ◌∷◌, ◌++◌, Option, Some, None, refl, sym, ap, subst, ◌∙◌, arith, append_assoc}
 use Rattle.std.proofs.lemmas.Bool.{cases_lt}
-use Rattle.std.specs.Prelude.{slice_get, ⊤, Result, Ok, Err, MatchResult}
-use Rattle.std.specs.Option.{option_map}
+use Rattle.std.specs.Prelude.{slice_get, Result, Ok, Err, MatchResult}
 use Rattle.syntax65.specs.Tokens.{Lexeme}
 use Rattle.syntax65.specs.Trees.{Tree, name, unary, binary, tree_of}
 use Rattle.syntax65.specs.Words.{level_of}
-use Rattle.syntax65.specs.Expressions.{opening_at, binary_at, text_at, leaf_of, leaf_at, IsClose, Parts, last_part, next_part, LacksPart, no_part, behind_part, Phrase, a_leaf, a_name, a_global, prefixed, enclosed, of_level, joined, negated, NoOperator, BeginsOperand, OpensLevel, Stops, no_operand, no_name, no_global, too_deep, in_prefixed, in_enclosed, not_closed, in_first, in_next, negation_too_deep, in_negated, IsPhrase, IsStop, IsMissing}
+use Rattle.syntax65.specs.Expressions.{opening_at, binary_at, text_at, leaf_of, leaf_at, IsClose, Parts, last_part, next_part, Phrase, a_leaf, a_name, a_global, prefixed, enclosed, of_level, joined, negated, NoOperator, BeginsOperand, OpensLevel, Stops, no_operand, no_name, no_global, too_deep, in_prefixed, in_enclosed, not_closed, in_first, in_next, negation_too_deep, in_negated, IsPhrase, IsStop, IsMissing}
 use Rattle.syntax65.specs.declared.values.Op1.{Op1}
 use Rattle.syntax65.specs.declared.values.Op1.TheVariants.{Not}
 use Rattle.syntax65.specs.declared.values.Op2.{Op2}

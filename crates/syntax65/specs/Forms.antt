@@ -1,10 +1,10 @@
 -- The forms of tokens, and the longest one at a place.
-use Rattle.std.specs.Prelude.{◌≡◌, ◌≢◌, ◌==◌, ◌⊎◌, ℕ, ◌<◌, ◌≤◌, Bool, true, false, IsTrue, List, [], ◌∷◌, length, take, drop, codes, Option, Some, None, ⊤}
+use Rattle.std.specs.Prelude.{◌≡◌, ◌≢◌, ◌==◌, ◌⊎◌, ℕ, ◌<◌, ◌≤◌, Bool, false, IsTrue, List, [], ◌∷◌, length, take, drop, codes, Some, None, ⊤}
 use Rattle.std.specs.List.{list_all}
 use Rattle.syntax65.specs.Bytes.{class_of, is_word}
 use Rattle.syntax65.specs.Numbers.{number_of}
 use Rattle.syntax65.specs.declared.lexing.classes.Class.{Class}
-use Rattle.syntax65.specs.declared.lexing.classes.Class.TheVariants.{Letter, Digit, Radix, At, Dot, Apostrophe, Quote, Colon, Semicolon, Blank, Other}
+use Rattle.syntax65.specs.declared.lexing.classes.Class.TheVariants.{Letter, Digit, Radix, At, Dot, Apostrophe, Quote, Colon}
 use Rattle.syntax65.specs.declared.lexing.tokens.AddressSize.{AddressSize}
 use Rattle.syntax65.specs.declared.lexing.tokens.AddressSize.TheVariants.{ZeroPage, Absolute}
 use Rattle.syntax65.specs.declared.lexing.tokens.Mark.{Mark}

@@ -1,5 +1,5 @@
 -- What stands at a place, and what the readers of one class of tokens need.
-use Rattle.std.specs.Prelude.{◌≡◌, ◌≢◌, ◌⊎◌, ℕ, Bool, List, [], ◌∷◌, drop, Result, Ok, Err, ⊤}
+use Rattle.std.specs.Prelude.{◌≢◌, ◌⊎◌, ℕ, Bool, List, [], ◌∷◌, drop, Result, Ok, Err, ⊤}
 use Rattle.syntax65.specs.Bytes.{class_of}
 use Rattle.syntax65.specs.Forms.{StartsNumber, Begins, IsToken, FaultAt}
 use Rattle.syntax65.specs.declared.lexing.classes.Class.TheVariants.{At, Dot, Colon, Other}

@@ -1,5 +1,5 @@
 -- The tokens of a line, or its fault.
-use Rattle.std.specs.Prelude.{◌≡◌, ◌≢◌, ℕ, ◌≤◌, ◌<◌, Bool, true, false, List, [], ◌∷◌, length, take, drop, map, Option, Some, None, Result, Ok, Err, ⊤}
+use Rattle.std.specs.Prelude.{◌≡◌, ℕ, ◌≤◌, ◌<◌, Bool, true, false, List, [], ◌∷◌, length, take, drop, map, Option, Some, None, Result, Ok, Err, ⊤}
 use Rattle.std.specs.List.{prefix_len}
 use Rattle.syntax65.specs.Bytes.{class_of, is_blank}
 use Rattle.syntax65.specs.Forms.{IsToken, FaultAt}
@@ -7,7 +7,7 @@ use Rattle.syntax65.specs.declared.lexing.classes.Class.TheVariants.{Semicolon}
 use Rattle.syntax65.specs.declared.lexing.tokens.TokenKind.{TokenKind}
 use Rattle.syntax65.specs.declared.lexing.tokens.Token.{Token}
 use Rattle.syntax65.specs.declared.lexing.fault.LexFault.{LexFault}
-use Rattle.syntax65.specs.declared.lexing.fault.LexFault.TheVariants.{OutOfMemory, BadCharacter, BadNumber, StringNotClosed, LineTooLong, NameTooLong}
+use Rattle.syntax65.specs.declared.lexing.fault.LexFault.TheVariants.{LineTooLong}
 
 -- a token as its kind and its bytes
 abbrev pub Lexeme : Type 0

@@ -1,5 +1,5 @@
 -- The values of operators.
-use Rattle.std.specs.Prelude.{ℕ, ◌/◌, ◌%◌, ◌^◌, ℤ, pos, negsuc, ◌-ℤ◌, ◌+ℤ◌, ◌*ℤ◌, neg_ℤ, Bool, true, false, not, ◌&&◌, ◌||◌, Option, Some, None, int_div, int_rem, int_lt, int_le, nat_lt, if◌then◌else◌}
+use Rattle.std.specs.Prelude.{◌/◌, ◌%◌, ◌^◌, ℤ, pos, negsuc, ◌-ℤ◌, ◌+ℤ◌, ◌*ℤ◌, neg_ℤ, Bool, true, false, not, ◌&&◌, ◌||◌, Option, Some, None, int_div, int_rem, int_lt, int_le, nat_lt, if◌then◌else◌}
 use Rattle.std.specs.Int.{w64, int_wrap, int_div_euclid, int_bit_and, int_bit_or, int_bit_xor, cast_unsigned}
 use Rattle.std.specs.Ordering.{int_eq}
 use Rattle.syntax65.specs.declared.values.Op1.{Op1}

@@ -1,5 +1,5 @@
-use Rattle.std.proofs.Common.{rules, ◌∙◌, arith}
-use Rattle.std.proofs.lemmas.Int.{wraps, ints, to_z-of_z}
+use Rattle.std.proofs.Common.{rules}
+use Rattle.std.proofs.lemmas.Int.{wraps}
 use Rattle.syntax65.proofs.values.apply2.Goals as goal
 
 pub returns-in-Add : goal.returns-in-Add

@@ -1,5 +1,5 @@
-use Rattle.std.proofs.Common.{rules, ◌∙◌, arith}
-use Rattle.std.proofs.lemmas.Int.{wraps, ints, to_z-of_z}
+use Rattle.std.proofs.Common.{arith}
+use Rattle.std.proofs.lemmas.Int.{ints, to_z-of_z}
 use Rattle.syntax65.proofs.Wraps.{stored_quotient}
 use Rattle.syntax65.proofs.values.divide.Goals as goal
 

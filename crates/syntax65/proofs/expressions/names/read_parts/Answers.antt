@@ -1,7 +1,6 @@
-use Rattle.std.proofs.Common.{◌≡◌, ◌+◌, ◌∙◌, sym, refl, arith, IsTrue, false}
+use Rattle.std.proofs.Common.{◌∙◌, refl, arith, IsTrue, false}
 use Rattle.syntax65.specs.Tokens.{lexemes}
-use Rattle.syntax65.specs.Expressions.{opening_at, text_at, no_part, behind_part}
-use Rattle.syntax65.specs.declared.expressions.words.Opening.TheVariants.{Name, Scope}
+use Rattle.syntax65.specs.Expressions.{no_part, behind_part}
 use Rattle.syntax65.proofs.Phrases.{last_name, next_name}
 use Rattle.syntax65.proofs.expressions.names.read_parts.Goals as goal
 

@@ -1,4 +1,4 @@
-use Rattle.std.proofs.Common.{◌<◌, ◌≤◌, ◌++◌, List, ℕ, length, ◌-◌}
+use Rattle.std.proofs.Common.{◌≤◌, ◌++◌, List, ℕ, length, ◌-◌}
 use Rattle.syntax65.specs.Tokens.{lexemes}
 use Rattle.syntax65.specs.Expressions.{Parts, LacksPart}
 use Rattle.syntax65.proofs.expressions.names.read_parts.Given as goal

@@ -1,11 +1,11 @@
-use Rattle.std.proofs.Common.{rules, arith, ◌≡◌, ◌≢◌, ◌<◌, ◌+◌, sym, ap, ◌∙◌, refl, Some, None, IsTrue, false, List, ℕ, subst}
+use Rattle.std.proofs.Common.{arith, ◌≡◌, sym, ap, ◌∙◌, refl, None, IsTrue, false, List, ℕ, subst}
 use Rattle.std.proofs.lemmas.Result.{err_from_is_err_and}
 use Rattle.std.specs.Option.{option_map}
 use Rattle.syntax65.specs.Tokens.{lexemes}
 use Rattle.syntax65.specs.Expressions.{leaf_of, text_at}
 use Rattle.syntax65.specs.Trees.{unary, tree_of}
 use Rattle.syntax65.specs.declared.values.Op1.TheVariants.{Not}
-use Rattle.syntax65.proofs.Phrases.{leaf_phrase, bad_operand, prefixed_phrase, prefixed_stop, deep_prefix, deep_open, deep_negation, negated_phrase, negated_stop, enclosed_phrase, enclosed_stop, open_stop, first_stop, whole_result, leaf_made, next_stop, first_phrase, joined_phrase, no_operators}
+use Rattle.syntax65.proofs.Phrases.{leaf_phrase, bad_operand, prefixed_phrase, prefixed_stop, deep_prefix, deep_open, deep_negation, negated_phrase, negated_stop, enclosed_phrase, enclosed_stop, open_stop, first_stop, whole_result, leaf_made, next_stop, first_phrase, joined_phrase}
 use Rattle.syntax65.proofs.expressions.reading.+expr.Goals as goal
 
 pub read_operand-returns-in-Some-clause-phrase : goal.read_operand-returns-in-Some-clause-phrase

@@ -1,11 +1,11 @@
-use Rattle.std.proofs.Common.{◌≡◌, ◌<◌, ℕ, Bool, refl, sym, ap, ◌∙◌, subst, List, [], ◌∷◌, ◌++◌, map, None, Some, length, take, drop, arith, vec_len, IsTrue, false, true}
+use Rattle.std.proofs.Common.{refl, sym, subst, List, [], map, None, Some, vec_len, IsTrue, false, true}
 use Rattle.std.specs.Prelude.{◌==◌}
-use Rattle.std.proofs.lemmas.List.{append-nil, map-append}
+use Rattle.std.proofs.lemmas.List.{append-nil}
 use Rattle.std.proofs.lemmas.Result.{err_from_is_err_and}
-use Rattle.syntax65.specs.Forms.{Begins, FaultAt, IsToken}
+use Rattle.syntax65.specs.Forms.{Begins, FaultAt}
 use Rattle.syntax65.specs.Tokens.{Lexeme, lexeme_of, Reads, IsEnd, after_blanks}
 use Rattle.syntax65.specs.declared.lexing.classes.Class.TheVariants.{Blank}
-use Rattle.syntax65.proofs.Lines.{no_blank_behind, more, refuse, token_size}
+use Rattle.syntax65.proofs.Lines.{no_blank_behind, refuse}
 use Rattle.syntax65.proofs.lexing.lines.line_tokens.Goals as goal
 
 pub returns-then-is_end : goal.returns-then-is_end

@@ -1,4 +1,4 @@
-use Rattle.std.proofs.Common.{◌≡◌, get_or, arith, refl, sym, ◌∙◌, inl, inr}
+use Rattle.std.proofs.Common.{get_or, arith, refl, sym, ◌∙◌, inl, inr}
 use Rattle.std.proofs.lemmas.List.{take_rest}
 use Rattle.syntax65.proofs.Fronts.{eqb_is}
 use Rattle.syntax65.proofs.Marks.{unnamed_here, IsSign}

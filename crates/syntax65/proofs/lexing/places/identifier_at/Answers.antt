@@ -1,4 +1,4 @@
-use Rattle.std.proofs.Common.{◌≡◌, ◌+◌, ap, arith, drop}
+use Rattle.std.proofs.Common.{◌+◌, ap, arith}
 use Rattle.std.proofs.lemmas.List.{take_rest}
 use Rattle.syntax65.specs.Forms.{IsLongest}
 use Rattle.syntax65.specs.declared.lexing.tokens.TokenKind.TheVariants.{Identifier}

@@ -1,4 +1,4 @@
-use Rattle.std.proofs.Common.{◌≡◌, ◌+◌, ap, arith, drop, subst, sym, true}
+use Rattle.std.proofs.Common.{◌≡◌, ◌+◌, arith, subst, sym, true}
 use Rattle.std.proofs.lemmas.List.{take_rest}
 use Rattle.syntax65.specs.Forms.{IsLongest, Begins}
 use Rattle.syntax65.specs.declared.lexing.classes.Class.TheVariants.{Letter}

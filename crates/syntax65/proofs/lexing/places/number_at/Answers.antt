@@ -1,4 +1,4 @@
-use Rattle.std.proofs.Common.{◌≡◌, ◌+◌, ◌∙◌, ap, sym, arith, drop, take, None, Some}
+use Rattle.std.proofs.Common.{◌≡◌, ◌+◌, ◌∙◌, ap, sym, arith, take, Some}
 use Rattle.std.proofs.lemmas.List.{take_rest}
 use Rattle.syntax65.specs.Numbers.{number_of}
 use Rattle.syntax65.specs.Forms.{IsLongest}

@@ -5,7 +5,9 @@ use Rattle.std.specs.Prelude.{slice_get, Result, Ok, Err, MatchResult}
 use Rattle.syntax65.specs.Tokens.{Lexeme}
 use Rattle.syntax65.specs.Trees.{Tree, name, unary, binary, tree_of}
 use Rattle.syntax65.specs.Words.{level_of}
-use Rattle.syntax65.specs.Expressions.{opening_at, binary_at, text_at, leaf_of, leaf_at, IsClose, Parts, last_part, next_part, Phrase, a_leaf, a_name, a_global, prefixed, enclosed, of_level, joined, negated, NoOperator, BeginsOperand, OpensLevel, Stops, no_operand, no_name, no_global, too_deep, in_prefixed, in_enclosed, not_closed, in_first, in_next, negation_too_deep, in_negated, IsPhrase, IsStop, IsMissing}
+use Rattle.syntax65.specs.Expressions.{opening_at, binary_at, text_at, leaf_of, leaf_at, closes_at, Parts, last_part, next_part, Phrase, a_leaf, a_name, a_global, prefixed, enclosed, of_level, joined, negated, NoOperator, BeginsOperand, OpensLevel, Stops, no_operand, no_name, no_global, too_deep, in_prefixed, in_enclosed, not_closed, in_first, in_next, negation_too_deep, in_negated, IsPhrase, IsStop, IsMissing, IsParsed}
+use Rattle.syntax65.specs.Faults.{is_expr_outside}
+use Rattle.syntax65.specs.Outcome.{Unless}
 use Rattle.syntax65.specs.declared.values.Op1.{Op1}
 use Rattle.syntax65.specs.declared.values.Op1.TheVariants.{Not}
 use Rattle.syntax65.specs.declared.values.Op2.{Op2}
@@ -63,7 +65,7 @@ negated_phrase ts room i j t u pos h made inner =
       ends = inner.ends;
     }
 
-pub enclosed_phrase : (ts : List Lexeme) (room i j : ℕ) (t : Tree) → 0 < room → opening_at ts i ≡ Parenthesis → IsPhrase ts (room - 1) 6 (i + 1) j t → IsClose (slice_get ts j) → IsPhrase ts room 0 i (j + 1) t
+pub enclosed_phrase : (ts : List Lexeme) (room i j : ℕ) (t : Tree) → 0 < room → opening_at ts i ≡ Parenthesis → IsPhrase ts (room - 1) 6 (i + 1) j t → closes_at ts j ≡ true → IsPhrase ts room 0 i (j + 1) t
 enclosed_phrase ts room i j t pos h inner close =
     let r : (room - 1) + 1 ≡ room = omega arith in
     record {
@@ -115,7 +117,7 @@ enclosed_stop ts room i f pos h s =
     let r : (room - 1) + 1 ≡ room = omega arith in
     lift_stop ts (room - 1) 6 (i + 1) room 0 i f (λ k g w. subst (λ (m : ℕ). Stops ts m 0 i k g) r (in_enclosed (room - 1) i k g h w)) s
 
-pub open_stop : (ts : List Lexeme) (room i j : ℕ) (t : Tree) → 0 < room → opening_at ts i ≡ Parenthesis → IsPhrase ts (room - 1) 6 (i + 1) j t → (IsClose (slice_get ts j) → ⊥) → IsStop ts room 0 i ParenthesisExpected
+pub open_stop : (ts : List Lexeme) (room i j : ℕ) (t : Tree) → 0 < room → opening_at ts i ≡ Parenthesis → IsPhrase ts (room - 1) 6 (i + 1) j t → closes_at ts j ≡ false → IsStop ts room 0 i ParenthesisExpected
 open_stop ts room i j t pos h inner close =
     let r : (room - 1) + 1 ≡ room = omega arith in
     (j, subst (λ (m : ℕ). Stops ts m 0 i j ParenthesisExpected) r (not_closed (room - 1) i j t h inner.phrase inner.ends close))
@@ -182,3 +184,11 @@ whole_result ts room i (Err f) h s = whole_stop ts room i f h s
 
 pub leaf_made : (ts : List Lexeme) (i : ℕ) (o : Opening) (text : List ℕ) (made : Option Tree) → o ≡ opening_at ts i → text ≡ text_at ts i → made ≡ leaf_of o text → leaf_at ts i ≡ made
 leaf_made ts i o text made a b e = sym (e ∙ ap (λ p. leaf_of p text) a ∙ ap (leaf_of (opening_at ts i)) b)
+
+-- a reader's answer, as what the tokens are read as
+pub parsed : (ts : List Lexeme) (r : Result (Expr × ℕ) ExprFault) → MatchResult r (λ x. IsPhrase ts 64 6 0 x.1 (tree_of x.0)) (λ f. IsStop ts 64 6 0 f) → MatchResult r (λ x. IsParsed ts (Ok (tree_of x.0, x.1))) (λ f. Unless (is_expr_outside f) (IsParsed ts (Err f)))
+parsed ts (Ok x) h = h
+parsed ts (Err OutOfMemory) h = tt
+parsed ts (Err OperandExpected) h = h
+parsed ts (Err ParenthesisExpected) h = h
+parsed ts (Err TooDeep) h = h

@@ -1,8 +1,9 @@
 -- The phrases of the expression grammar, by places in a list of tokens.
-use Rattle.std.specs.Prelude.{◌≡◌, ◌≢◌, ℕ, ◌+◌, ◌<◌, true, false, List, [], ◌∷◌, Option, Some, None, slice_get, ⊤}
+use Rattle.std.specs.Prelude.{Bool, ◌≡◌, ◌≢◌, ℕ, ◌+◌, ◌<◌, true, false, List, [], ◌∷◌, Option, Some, None, slice_get, Result, Ok, Err, ⊤}
 use Rattle.syntax65.specs.Tokens.{Lexeme}
 use Rattle.syntax65.specs.Trees.{Tree, number, here, name, cheap, forward, backward, unary, binary}
 use Rattle.syntax65.specs.Words.{opening_of, binary_of, level_of}
+use Rattle.syntax65.specs.declared.lexing.tokens.TokenKind.{TokenKind}
 use Rattle.syntax65.specs.declared.lexing.tokens.TokenKind.TheVariants as token
 use Rattle.syntax65.specs.declared.lexing.tokens.Mark.TheVariants as mark
 use Rattle.syntax65.specs.declared.values.Op1.{Op1}
@@ -36,9 +37,17 @@ binary_at ts i = binary_in (slice_get ts i)
 abbrev pub text_at : List Lexeme → ℕ → List ℕ
 text_at ts i = text_in (slice_get ts i)
 
-abbrev pub IsClose : Option Lexeme → Type 0
-IsClose (Some t) = t.0 ≡ token.Symbol mark.CloseParenthesis
-IsClose None = ⊥
+abbrev pub is_close : TokenKind → Bool
+is_close (token.Symbol mark.CloseParenthesis) = true
+is_close _ = false
+
+abbrev pub close_in : Option Lexeme → Bool
+close_in None = false
+close_in (Some t) = is_close t.0
+
+-- whether a `)` stands at a place
+abbrev pub closes_at : List Lexeme → ℕ → Bool
+closes_at ts i = close_in (slice_get ts i)
 
 -- the operand of one token
 abbrev pub leaf_of : Opening → List ℕ → Option Tree
@@ -69,7 +78,7 @@ pub data Phrase (ts : List Lexeme) : (room n i j : ℕ) → Tree → Type 0 wher
   a_name : (room i j : ℕ) (parts : List (List ℕ)) → Parts ts i j parts → Phrase ts room 0 i j (name false parts)
   a_global : (room i j : ℕ) (parts : List (List ℕ)) → opening_at ts i ≡ Scope → Parts ts (i + 1) j parts → Phrase ts room 0 i j (name true parts)
   prefixed : (room i j : ℕ) (op : Op1) (t : Tree) → opening_at ts i ≡ Prefix op → Phrase ts room 0 (i + 1) j t → Phrase ts (room + 1) 0 i j (unary op t)
-  enclosed : (room i j : ℕ) (t : Tree) → opening_at ts i ≡ Parenthesis → Phrase ts room 6 (i + 1) j t → IsClose (slice_get ts j) → Phrase ts (room + 1) 0 i (j + 1) t
+  enclosed : (room i j : ℕ) (t : Tree) → opening_at ts i ≡ Parenthesis → Phrase ts room 6 (i + 1) j t → closes_at ts j ≡ true → Phrase ts (room + 1) 0 i (j + 1) t
   of_level : (room n i j : ℕ) (t : Tree) → Phrase ts room n i j t → Phrase ts room (n + 1) i j t
   joined : (room n i j k : ℕ) (op : Op2) (t u : Tree) → Phrase ts room (n + 1) i j t → binary_at ts j ≡ Some op → level_of op ≡ n + 1 → Phrase ts room n (j + 1) k u → Phrase ts room (n + 1) i k (binary op t u)
   negated : (room i j : ℕ) (t : Tree) → opening_at ts i ≡ Negation → Phrase ts room 6 (i + 1) j t → Phrase ts (room + 1) 6 i j (unary Not t)
@@ -96,7 +105,7 @@ pub data Stops (ts : List Lexeme) : (room n i k : ℕ) → ExprFault → Type 0 
   too_deep : (i : ℕ) → OpensLevel (opening_at ts i) → Stops ts 0 0 i i TooDeep
   in_prefixed : (room i k : ℕ) (op : Op1) (f : ExprFault) → opening_at ts i ≡ Prefix op → Stops ts room 0 (i + 1) k f → Stops ts (room + 1) 0 i k f
   in_enclosed : (room i k : ℕ) (f : ExprFault) → opening_at ts i ≡ Parenthesis → Stops ts room 6 (i + 1) k f → Stops ts (room + 1) 0 i k f
-  not_closed : (room i j : ℕ) (t : Tree) → opening_at ts i ≡ Parenthesis → Phrase ts room 6 (i + 1) j t → NoOperator ts 6 j → (IsClose (slice_get ts j) → ⊥) → Stops ts (room + 1) 0 i j ParenthesisExpected
+  not_closed : (room i j : ℕ) (t : Tree) → opening_at ts i ≡ Parenthesis → Phrase ts room 6 (i + 1) j t → NoOperator ts 6 j → closes_at ts j ≡ false → Stops ts (room + 1) 0 i j ParenthesisExpected
   in_first : (room n i k : ℕ) (f : ExprFault) → (n ≡ 5 → opening_at ts i ≢ Negation) → Stops ts room n i k f → Stops ts room (n + 1) i k f
   in_next : (room n i j k : ℕ) (op : Op2) (t : Tree) (f : ExprFault) → Phrase ts room (n + 1) i j t → binary_at ts j ≡ Some op → level_of op ≡ n + 1 → Stops ts room n (j + 1) k f → Stops ts room (n + 1) i k f
   negation_too_deep : (i : ℕ) → opening_at ts i ≡ Negation → Stops ts 0 6 i i TooDeep
@@ -112,13 +121,10 @@ abbrev pub IsStop : List Lexeme → ℕ → ℕ → ℕ → ExprFault → Type 0
 IsStop ts room n i OutOfMemory = ⊤
 IsStop ts room n i f = (k : ℕ) × Stops ts room n i k f
 
--- the first n tokens are the expression t, and it ends there
-abbrev pub IsTree : List Lexeme → Tree → ℕ → Type 0
-IsTree ts t n = IsPhrase ts 64 6 0 n t
-
--- there is no expression at the front
-abbrev pub IsNoTree : List Lexeme → ExprFault → Type 0
-IsNoTree ts f = IsStop ts 64 6 0 f
+-- what the tokens at the front are read as: an expression and how many tokens it has, or their first fault
+abbrev pub IsParsed : List Lexeme → Result (Tree × ℕ) ExprFault → Type 0
+IsParsed ts (Ok x) = IsPhrase ts 64 6 0 x.1 x.0
+IsParsed ts (Err f) = (k : ℕ) × Stops ts 64 6 0 k f
 
 -- why names with `::` between them can't be read at i
 abbrev pub IsMissing : List Lexeme → ℕ → ExprFault → Type 0

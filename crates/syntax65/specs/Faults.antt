@@ -23,3 +23,7 @@ expr_fault_words NoMemory = codes "out of memory"
 expr_fault_words OperandExpected = codes "operand expected"
 expr_fault_words ParenthesisExpected = codes "parenthesis expected"
 expr_fault_words TooDeep = codes "nested too deep"
+
+abbrev pub is_expr_outside : ExprFault → Bool
+is_expr_outside NoMemory = true
+is_expr_outside _ = false

@@ -2,7 +2,7 @@
 
 ghost use Rattle.std.specs.Prelude.{◌≡◌, ◌≢◌, ◌<◌, ◌↔◌, length, slice_get, Some, IsSome, IsTrue, MatchOption};
 ghost use Rattle.std.specs.Option.{option_map};
-ghost use Rattle.syntax65.specs.Expressions.{opening_at, binary_at, text_at, IsClose};
+ghost use Rattle.syntax65.specs.Expressions.{opening_at, binary_at, text_at, closes_at};
 ghost use Rattle.syntax65.specs.Tokens.{lexeme_of, lexemes};
 ghost use Rattle.syntax65.specs.Words.{level_of};
 ghost use Rattle.syntax65.specs.declared.values.Op2.{Op2};
@@ -83,11 +83,11 @@ fn binary_at(tokens: &[Token<'_>], at: usize) -> Option<Op2>
 
 /// Whether a `)` stands at a place.
 pub fn closes_at(tokens: &[Token<'_>], at: usize) -> bool
-    ensures value { IsTrue result ↔ IsClose (slice_get (lexemes tokens.now) at) }
+    ensures value { result ≡ closes_at (lexemes tokens.now) at }
     ensures inside { IsTrue result → at < length tokens.now }
 {
     match token_at(tokens, at) {
-        Some(token) => token.kind == TokenKind::Symbol(Mark::CloseParenthesis),
+        Some(token) => matches!(token.kind, TokenKind::Symbol(Mark::CloseParenthesis)),
         None => false,
     }
 }

@@ -1,8 +1,10 @@
 //! Reading expressions.
 
-ghost use Rattle.std.specs.Prelude.{◌≡◌, ◌<◌, ◌≤◌, length, slice_get, IfOk, MatchResult};
+ghost use Rattle.std.specs.Prelude.{◌≡◌, ◌<◌, ◌≤◌, length, IfOk, MatchResult, Ok, Err};
+ghost use Rattle.syntax65.specs.Faults.{is_expr_outside};
+ghost use Rattle.syntax65.specs.Outcome.{Unless};
 ghost use Rattle.std.specs.Option.{option_map};
-ghost use Rattle.syntax65.specs.Expressions.{IsTree, IsNoTree, IsPhrase, IsStop, opening_at, leaf_of};
+ghost use Rattle.syntax65.specs.Expressions.{IsParsed, IsPhrase, IsStop, opening_at, leaf_of};
 ghost use Rattle.syntax65.specs.Tokens.{lexemes};
 ghost use Rattle.syntax65.specs.Trees.{tree_of};
 ghost use Rattle.syntax65.specs.declared.expressions.words.Opening.TheVariants as opening;
@@ -24,7 +26,7 @@ pub const MAX_DEPTH: u8 = 64;
 ///
 /// The fault of the first place where no expression can go on.
 pub fn read_expr(alloc: Global, tokens: &[Token<'_>]) -> Result<(Expr, usize), ExprFault>
-    ensures { MatchResult result (λ r. IsTree (lexemes tokens.now) (tree_of r.0) r.1) (λ fault. IsNoTree (lexemes tokens.now) fault) }
+    ensures { MatchResult result (λ r. IsParsed (lexemes tokens.now) (Ok (tree_of r.0, r.1))) (λ fault. Unless (is_expr_outside fault) (IsParsed (lexemes tokens.now) (Err fault))) }
 {
     read_whole(alloc, tokens, 0, MAX_DEPTH)
 }

@@ -60,11 +60,11 @@ read_enclosed-returns-in_err-inner-clause-phrase t c =
 
 pub read_enclosed-returns-then-closes_at-clause-phrase : goal.read_enclosed-returns-then-closes_at-clause-phrase
 read_enclosed-returns-then-closes_at-clause-phrase t c =
-    enclosed_phrase (lexemes c.args.tokens.now) c.args.room c.args.at c.in_ok-inner.end (tree_of c.in_ok-inner.inner) (omega arith) c.requires.open c.in_ok-inner.ensures.phrase (c.if-closes_at.ensures.value.0 refl)
+    enclosed_phrase (lexemes c.args.tokens.now) c.args.room c.args.at c.in_ok-inner.end (tree_of c.in_ok-inner.inner) (omega arith) c.requires.open c.in_ok-inner.ensures.phrase (sym c.if-closes_at.ensures.value)
 
 pub read_enclosed-returns-else-closes_at-clause-phrase : goal.read_enclosed-returns-else-closes_at-clause-phrase
 read_enclosed-returns-else-closes_at-clause-phrase t c =
-    open_stop (lexemes c.args.tokens.now) c.args.room c.args.at c.in_ok-inner.end (tree_of c.in_ok-inner.inner) (omega arith) c.requires.open c.in_ok-inner.ensures.phrase (λ e. let f : IsTrue false = c.if-closes_at.ensures.value.1 e in cc)
+    open_stop (lexemes c.args.tokens.now) c.args.room c.args.at c.in_ok-inner.end (tree_of c.in_ok-inner.inner) (omega arith) c.requires.open c.in_ok-inner.ensures.phrase (sym c.if-closes_at.ensures.value)
 
 pub read_whole-returns-else-is_negation-clause-phrase : goal.read_whole-returns-else-is_negation-clause-phrase
 read_whole-returns-else-is_negation-clause-phrase t c =

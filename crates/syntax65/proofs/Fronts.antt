@@ -1,0 +1,375 @@
+-- What stands at the front of some bytes, and that nothing longer does.
+use Rattle.std.proofs.Common.{◌≡◌, ◌≢◌, ◌⊎◌, inl, inr, ℕ, zero, suc, ◌+◌, ◌<◌, ◌≤◌, Bool, true, false, cond, List, [], ◌∷◌, length, take, drop, get_or, refl, sym, ap, subst, ◌∙◌, arith, eqb}
+use Rattle.std.specs.Prelude.{◌&&◌, ⊤}
+use Rattle.std.specs.List.{prefix_len, list_all}
+use Rattle.std.proofs.lemmas.Bool.Decides.{nat_tests}
+use Rattle.std.proofs.lemmas.List.{length-take-le, length-drop}
+use Rattle.std.proofs.lemmas.List.Sums.{prefix_len-le-length}
+use Rattle.syntax65.specs.Bytes.{class_of, is_word, is_no_quote}
+use Rattle.syntax65.specs.Forms.{AllWord, IsName, IsRunOf, ClosesText, StartsNumber, IsSizeLetter, spelling, IsForm, Stands, IsLongest, NoForm, Begins, FaultAt, name_in, HasValue}
+use Rattle.syntax65.specs.Places.{BeginsNumber, BeginsSigned, NoSign}
+use Rattle.syntax65.specs.declared.lexing.classes.Class.{Class}
+use Rattle.syntax65.specs.declared.lexing.classes.Class.TheVariants.{Letter, Digit, Radix, At, Dot, Apostrophe, Quote, Colon, Other}
+use Rattle.syntax65.specs.declared.lexing.tokens.AddressSize.{AddressSize}
+use Rattle.syntax65.specs.declared.lexing.tokens.AddressSize.TheVariants.{ZeroPage, Absolute}
+use Rattle.syntax65.specs.declared.lexing.tokens.Mark.{Mark}
+use Rattle.syntax65.specs.declared.lexing.tokens.Mark.TheVariants.{Scope, Define}
+use Rattle.syntax65.specs.declared.lexing.tokens.TokenKind.{TokenKind}
+use Rattle.syntax65.specs.declared.lexing.tokens.TokenKind.TheVariants.{Identifier, CheapName, Directive, Number, Character, Text, Unnamed, SizePrefix, Symbol}
+use Rattle.syntax65.specs.declared.lexing.fault.LexFault.TheVariants.{BadCharacter, StringNotClosed}
+
+pub and_both : (a b : Bool) → (a && b) ≡ true → (a ≡ true) × (b ≡ true)
+and_both true b h = (refl, h)
+and_both false b h = absurd (cc)
+
+front_step : (p : ℕ → Bool) (x : ℕ) (xs : List ℕ) (b : Bool) → p x ≡ b → list_all p (take (prefix_len p xs) xs) ≡ true → list_all p (take (cond b (1 + prefix_len p xs) 0) (x ∷ xs)) ≡ true
+front_step p x xs true e h =
+    let one : 1 + prefix_len p xs ≡ suc (prefix_len p xs) = omega arith in
+    rw one (rw e h)
+front_step p x xs false e h = refl
+
+-- the longest front that passes p passes
+pub all_front : (p : ℕ → Bool) (xs : List ℕ) → list_all p (take (prefix_len p xs) xs) ≡ true
+all_front p [] = refl
+all_front p (x ∷ xs) = front_step p x xs (p x) refl (all_front p xs)
+
+-- no longer front passes p
+pub not_all : (p : ℕ → Bool) (xs : List ℕ) (n : ℕ) → prefix_len p xs < n → n ≤ length xs → list_all p (take n xs) ≡ true → ⊥
+not_all p [] n lt le h = absurd (omega arith)
+not_all p (x ∷ xs) zero lt le h = absurd (omega arith)
+not_all p (x ∷ xs) (suc n) lt le h =
+    let both : (p x ≡ true) × (list_all p (take n xs) ≡ true) = and_both (p x) (list_all p (take n xs)) h in
+    let e : p x ≡ true = both.0 in
+    let lt2 : 1 + prefix_len p xs < suc n = rw e at lt in
+    not_all p xs n (omega arith) (omega arith) both.1
+
+pub eqb_is : (x y : ℕ) → eqb x y ≡ true → x ≡ y
+eqb_is x y h = grind (arith, nat_tests)
+
+pub take_some : (n : ℕ) (xs : List ℕ) → 0 < n → n ≤ length xs → take n xs ≢ []
+take_some zero xs p q = absurd (omega arith)
+take_some (suc n) [] p q = absurd (omega arith)
+take_some (suc n) (x ∷ xs) p q = λ e. cc
+
+take_size : (n k : ℕ) (xs ys : List ℕ) → n ≤ length xs → take n xs ≡ ys → length ys ≡ k → n ≡ k
+take_size n k xs ys le e s = sym (length-take-le n xs le) ∙ ap length e ∙ s
+
+-- what stands behind a first byte of this class in a text of this form
+abbrev pub Behind : Class → TokenKind → List ℕ → Type 0
+Behind Letter Identifier bs = AllWord bs
+Behind Letter (SizePrefix s) bs = bs ≡ 58 ∷ []
+Behind At CheapName bs = IsName bs
+Behind Dot Directive bs = IsName bs
+Behind Digit (Number v) bs = AllWord bs
+Behind Radix (Number v) bs = AllWord bs
+Behind Apostrophe (Character c) bs = bs ≡ c ∷ 39 ∷ []
+Behind Quote Text bs = ClosesText bs
+Behind Colon Unnamed bs = IsRunOf 43 bs ⊎ IsRunOf 45 bs
+Behind Colon (Symbol m) bs = NoSign bs
+Behind Other (Symbol m) bs = ⊤
+Behind _ _ bs = ⊥
+
+number_behind : (c : Class) (v : ℕ) (bs : List ℕ) → StartsNumber c → AllWord bs → Behind c (Number v) bs
+number_behind Digit v bs s w = w
+number_behind Radix v bs s w = w
+number_behind _ v bs s w = absurd s
+
+pub size_letter : (s : AddressSize) (b : ℕ) → IsSizeLetter s b → class_of b ≡ Letter
+size_letter ZeroPage b (inl e) = ap class_of e
+size_letter ZeroPage b (inr e) = ap class_of e
+size_letter Absolute b (inl e) = ap class_of e
+size_letter Absolute b (inr e) = ap class_of e
+
+mark_behind : (m : Mark) → Behind (class_of (get_or (spelling m) 0 0)) (Symbol m) (drop 1 (spelling m))
+mark_behind Scope = (λ e. absurd (omega arith), λ e. absurd (omega arith))
+mark_behind Define = (λ e. absurd (omega arith), λ e. absurd (omega arith))
+mark_behind _ = tt
+
+pub mark_size : (m : Mark) → length (spelling m) ≤ 2
+mark_size Scope = omega arith
+mark_size _ = omega arith
+
+pub behind : (j : TokenKind) (b : ℕ) (bs : List ℕ) → IsForm j (b ∷ bs) → Behind (class_of b) j bs
+behind Identifier b bs h = subst (λ (c : Class). Behind c Identifier bs) (sym h.0) h.1
+behind CheapName b bs h = subst (λ (c : Class). Behind c CheapName bs) (sym h.0) h.1
+behind Directive b bs h = subst (λ (c : Class). Behind c Directive bs) (sym h.0) h.1
+behind (Number v) b bs h = number_behind (class_of b) v bs h.0 h.1
+behind (Character x) b bs h = subst (λ (c : Class). Behind c (Character x) bs) (sym h.0) h.1
+behind Text b bs h = subst (λ (c : Class). Behind c Text bs) (sym h.0) h.1
+behind Unnamed b bs h = subst (λ (c : Class). Behind c Unnamed bs) (sym h.0) h.1
+behind (SizePrefix s) b bs h = subst (λ (c : Class). Behind c (SizePrefix s) bs) (sym (size_letter s b h.0)) h.1
+behind (Symbol m) b bs h = subst (λ (c : Class). Behind c (Symbol m) bs) (sym (ap (λ l. class_of (get_or l 0 0)) h)) (subst (λ (xs : List ℕ). Behind (class_of (get_or (spelling m) 0 0)) (Symbol m) xs) (sym (ap (drop 1) h)) (mark_behind m))
+
+-- the same of what stands at a place
+pub at_class : (c : Class) (first : Bool) (j : TokenKind) (m b : ℕ) (rest : List ℕ) → class_of b ≡ c → Stands first j (suc m) (b ∷ rest) → Behind c j (take m rest)
+at_class c first j m b rest e h = subst (λ (d : Class). Behind d j (take m rest)) e (behind j b (take m rest) h.form)
+
+pub empty : (first : Bool) (j : TokenKind) (here : List ℕ) → Stands first j 0 here → ⊥
+empty first j here h = h.form
+
+-- Identifiers and size prefixes
+
+after_letter : (first : Bool) (j : TokenKind) (m b : ℕ) (rest : List ℕ) → prefix_len is_word rest < m → ((s : AddressSize) → Stands first (SizePrefix s) 2 (b ∷ rest) → ⊥) → Stands first j (suc m) (b ∷ rest) → Behind Letter j (take m rest) → ⊥
+after_letter first Identifier m b rest lt never h w =
+    let le : suc m ≤ length (b ∷ rest) = h.room in
+    not_all is_word rest m lt (omega arith) w
+after_letter first (SizePrefix s) m b rest lt never h e =
+    let le : suc m ≤ length (b ∷ rest) = h.room in
+    let one : m ≡ 1 = take_size m 1 rest (58 ∷ []) (omega arith) e refl in
+    never s (subst (λ (n : ℕ). Stands first (SizePrefix s) n (b ∷ rest)) (ap suc one) h)
+after_letter first _ m b rest lt never h e = e
+
+identifier_longest : (first : Bool) (b : ℕ) (rest : List ℕ) → class_of b ≡ Letter → ((s : AddressSize) → Stands first (SizePrefix s) 2 (b ∷ rest) → ⊥) → (j : TokenKind) (m : ℕ) → suc (prefix_len is_word rest) < m → Stands first j m (b ∷ rest) → ⊥
+identifier_longest first b rest e never j zero lt h = absurd (omega arith)
+identifier_longest first b rest e never j (suc m) lt h = after_letter first j m b rest (omega arith) never h (at_class Letter first j m b rest e h)
+
+pub identifier_here : (first : Bool) (here : List ℕ) (n : ℕ) → Begins Letter here → ((s : AddressSize) → Stands first (SizePrefix s) 2 here → ⊥) → n ≡ 1 + prefix_len is_word (drop 1 here) → IsLongest first Identifier n here
+identifier_here first [] n h never e = absurd h
+identifier_here first (b ∷ rest) n h never e =
+    let size : n ≡ suc (prefix_len is_word rest) = omega arith in
+    subst (λ (m : ℕ). IsLongest first Identifier m (b ∷ rest)) (sym size) (record {
+      stands = record { room = omega (arith, prefix_len-le-length is_word rest); form = (h, all_front is_word rest); allowed = tt };
+      longest = identifier_longest first b rest h never;
+    })
+
+pub colon_is_no_word : (x : ℕ) (bs : List ℕ) → x ≡ 58 → AllWord (x ∷ bs) → ⊥
+colon_is_no_word x bs e w =
+    let yes : is_word x ≡ true = (and_both (is_word x) (list_all is_word bs) w).0 in
+    let never : is_word x ≡ false = ap is_word e in
+    cc
+
+after_prefix : (j : TokenKind) (m x : ℕ) (rest : List ℕ) → x ≡ 58 → 0 < m → m ≤ length rest → Behind Letter j (x ∷ take m rest) → ⊥
+after_prefix Identifier m x rest e lt le w = colon_is_no_word x (take m rest) e w
+after_prefix (SizePrefix s) m x rest e lt le w = take_some m rest lt le (cc)
+after_prefix _ m x rest e lt le w = w
+
+prefix_longest : (first : Bool) (b x : ℕ) (rest : List ℕ) → class_of b ≡ Letter → x ≡ 58 → (j : TokenKind) (m : ℕ) → 2 < m → Stands first j m (b ∷ x ∷ rest) → ⊥
+prefix_longest first b x rest s e j zero lt h = absurd (omega arith)
+prefix_longest first b x rest s e j (suc zero) lt h = absurd (omega arith)
+prefix_longest first b x rest s e j (suc (suc m)) lt h =
+    let le : suc (suc m) ≤ length (b ∷ x ∷ rest) = h.room in
+    after_prefix j m x rest e (omega arith) (omega arith) (at_class Letter first j (suc m) b (x ∷ rest) s h)
+
+pub prefix_here : (first : Bool) (s : AddressSize) (here : List ℕ) → Stands first (SizePrefix s) 2 here → IsLongest first (SizePrefix s) 2 here
+prefix_here first s [] h = let le : 2 ≤ length {A = ℕ} [] = h.room in absurd (omega arith)
+prefix_here first s (b ∷ []) h = let le : 2 ≤ length (b ∷ []) = h.room in absurd (omega arith)
+prefix_here first s (b ∷ x ∷ rest) h =
+    let f : IsSizeLetter s b × (x ∷ [] ≡ 58 ∷ []) = h.form in
+    let e : x ∷ [] ≡ 58 ∷ [] = f.1 in
+    record { stands = h; longest = prefix_longest first b x rest (size_letter s b f.0) (cc) }
+
+-- Cheap names and directives
+
+letter_is_word : (x : ℕ) → class_of x ≡ Letter → is_word x ≡ true
+letter_is_word x e = rw e refl
+
+name_words : (bs : List ℕ) → IsName bs → AllWord bs
+name_words [] h = refl
+name_words (b ∷ bs) h = rw (letter_is_word b h.0) h.1
+
+name_front : (xs : List ℕ) → Begins Letter xs → IsName (take (prefix_len is_word xs) xs)
+name_front [] h = h
+name_front (x ∷ xs) h =
+    let yes : is_word x ≡ true = letter_is_word x h in
+    let size : prefix_len is_word (x ∷ xs) ≡ suc (prefix_len is_word xs) = rw yes (omega arith) in
+    subst (λ (n : ℕ). IsName (take n (x ∷ xs))) (sym size) (h, all_front is_word xs)
+
+begins_name : (m : ℕ) (xs : List ℕ) → IsName (take m xs) → Begins Letter xs
+begins_name zero xs h = absurd h
+begins_name (suc m) [] h = absurd h
+begins_name (suc m) (x ∷ xs) h = h.0
+
+signed_longest : (c : Class) (first : Bool) (b : ℕ) (rest : List ℕ) → class_of b ≡ c → ((j : TokenKind) (bs : List ℕ) → Behind c j bs → IsName bs) → (j : TokenKind) (m : ℕ) → 1 + prefix_len is_word rest < m → Stands first j m (b ∷ rest) → ⊥
+signed_longest c first b rest e only j zero lt h = absurd (omega arith)
+signed_longest c first b rest e only j (suc m) lt h =
+    let le : suc m ≤ length (b ∷ rest) = h.room in
+    not_all is_word rest m (omega arith) (omega arith) (name_words (take m rest) (only j (take m rest) (at_class c first j m b rest e h)))
+
+only_cheap : (j : TokenKind) (bs : List ℕ) → Behind At j bs → IsName bs
+only_cheap CheapName bs h = h
+only_cheap _ bs h = absurd h
+
+only_directive : (j : TokenKind) (bs : List ℕ) → Behind Dot j bs → IsName bs
+only_directive Directive bs h = h
+only_directive _ bs h = absurd h
+
+pub name_here : (first : Bool) (k : TokenKind) (here : List ℕ) (n : ℕ) → BeginsSigned k here → Begins Letter (drop 1 here) → n ≡ prefix_len is_word (drop 1 here) → IsLongest first k (1 + n) here
+name_here first CheapName [] n s h e = absurd s
+name_here first CheapName (b ∷ rest) n s h e =
+    let size : 1 + n ≡ suc (prefix_len is_word rest) = omega arith in
+    subst (λ (m : ℕ). IsLongest first CheapName m (b ∷ rest)) (sym size) (record {
+      stands = record { room = omega (arith, prefix_len-le-length is_word rest); form = (s, name_front rest h); allowed = tt };
+      longest = λ j m lt h. signed_longest At first b rest s only_cheap j m (omega arith) h;
+    })
+name_here first Directive [] n s h e = absurd s
+name_here first Directive (b ∷ rest) n s h e =
+    let size : 1 + n ≡ suc (prefix_len is_word rest) = omega arith in
+    subst (λ (m : ℕ). IsLongest first Directive m (b ∷ rest)) (sym size) (record {
+      stands = record { room = omega (arith, prefix_len-le-length is_word rest); form = (s, name_front rest h); allowed = tt };
+      longest = λ j m lt h. signed_longest Dot first b rest s only_directive j m (omega arith) h;
+    })
+name_here first _ here n s h e = absurd s
+
+no_signed : (c : Class) (first : Bool) (b : ℕ) (rest : List ℕ) → class_of b ≡ c → ((j : TokenKind) (bs : List ℕ) → Behind c j bs → IsName bs) → (Begins Letter rest → ⊥) → NoForm first (b ∷ rest)
+no_signed c first b rest e only never j zero h = empty first j (b ∷ rest) h
+no_signed c first b rest e only never j (suc m) h = never (begins_name m rest (only j (take m rest) (at_class c first j m b rest e h)))
+
+pub no_name_here : (first : Bool) (k : TokenKind) (here : List ℕ) → BeginsSigned k here → (Begins Letter (drop 1 here) → ⊥) → FaultAt first here BadCharacter
+no_name_here first CheapName [] s never = absurd s
+no_name_here first CheapName (b ∷ rest) s never = (no_signed At first b rest s only_cheap never, λ e. cc)
+no_name_here first Directive [] s never = absurd s
+no_name_here first Directive (b ∷ rest) s never = (no_signed Dot first b rest s only_directive never, λ e. cc)
+no_name_here first _ here s never = absurd s
+
+-- Numbers
+
+number_words : (c : Class) (j : TokenKind) (bs : List ℕ) → StartsNumber c → Behind c j bs → AllWord bs
+number_words Digit (Number v) bs s h = h
+number_words Digit _ bs s h = absurd h
+number_words Radix (Number v) bs s h = h
+number_words Radix _ bs s h = absurd h
+number_words _ j bs s h = absurd s
+
+number_longest : (first : Bool) (b : ℕ) (rest : List ℕ) → StartsNumber (class_of b) → (j : TokenKind) (m : ℕ) → suc (prefix_len is_word rest) < m → Stands first j m (b ∷ rest) → ⊥
+number_longest first b rest s j zero lt h = absurd (omega arith)
+number_longest first b rest s j (suc m) lt h =
+    let le : suc m ≤ length (b ∷ rest) = h.room in
+    not_all is_word rest m (omega arith) (omega arith) (number_words (class_of b) j (take m rest) s (at_class (class_of b) first j m b rest refl h))
+
+pub number_here : (first : Bool) (here : List ℕ) (v n : ℕ) → BeginsNumber here → n ≡ 1 + prefix_len is_word (drop 1 here) → IsLongest first (Number v) n here
+number_here first [] v n h e = absurd h
+number_here first (b ∷ rest) v n h e =
+    let size : n ≡ suc (prefix_len is_word rest) = omega arith in
+    subst (λ (m : ℕ). IsLongest first (Number v) m (b ∷ rest)) (sym size) (record {
+      stands = record { room = omega (arith, prefix_len-le-length is_word rest); form = (h, all_front is_word rest); allowed = tt };
+      longest = number_longest first b rest h;
+    })
+
+-- Characters
+
+only_character : (j : TokenKind) (bs : List ℕ) → Behind Apostrophe j bs → (c : ℕ) × (bs ≡ c ∷ 39 ∷ [])
+only_character (Character c) bs h = (c, h)
+only_character _ bs h = absurd h
+
+character_longest : (first : Bool) (b : ℕ) (rest : List ℕ) → class_of b ≡ Apostrophe → (j : TokenKind) (m : ℕ) → 3 < m → Stands first j m (b ∷ rest) → ⊥
+character_longest first b rest e j zero lt h = absurd (omega arith)
+character_longest first b rest e j (suc m) lt h =
+    let le : suc m ≤ length (b ∷ rest) = h.room in
+    let at = only_character j (take m rest) (at_class Apostrophe first j m b rest e h) in
+    let two : m ≡ 2 = take_size m 2 rest (at.0 ∷ 39 ∷ []) (omega arith) at.1 refl in
+    omega arith
+
+pub character_here : (first : Bool) (here : List ℕ) → Begins Apostrophe here → 2 < length here → get_or here 2 0 ≡ 39 → IsLongest first (Character (get_or here 1 0)) 3 here
+character_here first [] h lt e = absurd h
+character_here first (b ∷ []) h lt e = absurd (omega arith)
+character_here first (b ∷ x ∷ []) h lt e = absurd (omega arith)
+character_here first (b ∷ x ∷ y ∷ rest) h lt e = record {
+  stands = record { room = omega arith; form = (h, ap (λ z. x ∷ z ∷ []) e); allowed = tt };
+  longest = character_longest first b (x ∷ y ∷ rest) h;
+}
+
+third_byte : (m b c : ℕ) (rest : List ℕ) → take m rest ≡ c ∷ 39 ∷ [] → (2 < length (b ∷ rest)) × (get_or (b ∷ rest) 2 0 ≡ 39)
+third_byte zero b c rest e = absurd (cc)
+third_byte (suc m) b c [] e = absurd (cc)
+third_byte (suc zero) b c (x ∷ rest) e = absurd (cc)
+third_byte (suc (suc m)) b c (x ∷ []) e = absurd (cc)
+third_byte (suc (suc m)) b c (x ∷ y ∷ rest) e = (omega arith, cc)
+
+no_character : (first : Bool) (b : ℕ) (rest : List ℕ) → class_of b ≡ Apostrophe → (2 < length (b ∷ rest) → get_or (b ∷ rest) 2 0 ≡ 39 → ⊥) → NoForm first (b ∷ rest)
+no_character first b rest e never j zero h = empty first j (b ∷ rest) h
+no_character first b rest e never j (suc m) h =
+    let at = only_character j (take m rest) (at_class Apostrophe first j m b rest e h) in
+    let third = third_byte m b at.0 rest at.1 in
+    never third.0 third.1
+
+pub no_character_here : (first : Bool) (here : List ℕ) → Begins Apostrophe here → (2 < length here → get_or here 2 0 ≡ 39 → ⊥) → FaultAt first here BadCharacter
+no_character_here first [] h never = absurd h
+no_character_here first (b ∷ rest) h never = (no_character first b rest h never, λ e. cc)
+
+-- Strings
+
+no_quote : (x : ℕ) → x ≢ 34 → is_no_quote x ≡ true
+no_quote x h = grind (arith, nat_tests)
+
+quote : (x : ℕ) → x ≡ 34 → is_no_quote x ≡ false
+quote x h = grind (arith, nat_tests)
+
+quote_is : (x : ℕ) → is_no_quote x ≡ false → x ≡ 34
+quote_is x h = grind (arith, nat_tests)
+
+no_quote_is : (x : ℕ) → is_no_quote x ≡ true → x ≢ 34
+no_quote_is x h = grind (arith, nat_tests)
+
+-- a string closes at the first `"`
+closes_at : (rest : List ℕ) (m : ℕ) → m ≤ length rest → ClosesText (take m rest) → m ≡ suc (prefix_len is_no_quote rest)
+closes_at rest zero le h = absurd h
+closes_at [] (suc m) le h = absurd (omega arith)
+closes_at (x ∷ []) (suc zero) le h = let e : is_no_quote x ≡ false = quote x h in rw e refl
+closes_at (x ∷ []) (suc (suc m)) le h = absurd (omega arith)
+closes_at (x ∷ y ∷ ys) (suc zero) le h = let e : is_no_quote x ≡ false = quote x h in rw e refl
+closes_at (x ∷ y ∷ ys) (suc (suc m)) le h =
+    let e : is_no_quote x ≡ true = no_quote x h.0 in
+    let ih : suc m ≡ suc (prefix_len is_no_quote (y ∷ ys)) = closes_at (y ∷ ys) (suc m) (omega arith) h.1 in
+    rw e (omega (arith, ih))
+
+closes_step : (x : ℕ) (xs : List ℕ) (b : Bool) → is_no_quote x ≡ b → (prefix_len is_no_quote xs < length xs → ClosesText (take (suc (prefix_len is_no_quote xs)) xs)) → cond b (1 + prefix_len is_no_quote xs) 0 < suc (length xs) → ClosesText (take (suc (cond b (1 + prefix_len is_no_quote xs) 0)) (x ∷ xs))
+closes_step x xs false e ih lt = quote_is x e
+closes_step x [] true e ih lt = absurd (omega arith)
+closes_step x (y ∷ ys) true e ih lt =
+    let one : 1 + prefix_len is_no_quote (y ∷ ys) ≡ suc (prefix_len is_no_quote (y ∷ ys)) = omega arith in
+    subst (λ (n : ℕ). ClosesText (take (suc n) (x ∷ y ∷ ys))) (sym one) (no_quote_is x e, ih (omega arith))
+
+closes : (rest : List ℕ) → prefix_len is_no_quote rest < length rest → ClosesText (take (suc (prefix_len is_no_quote rest)) rest)
+closes [] lt = absurd (omega arith)
+closes (x ∷ xs) lt = closes_step x xs (is_no_quote x) refl (closes xs) lt
+
+only_text : (j : TokenKind) (bs : List ℕ) → Behind Quote j bs → ClosesText bs
+only_text Text bs h = h
+only_text _ bs h = absurd h
+
+text_size : (first : Bool) (j : TokenKind) (m b : ℕ) (rest : List ℕ) → class_of b ≡ Quote → Stands first j (suc m) (b ∷ rest) → m ≡ suc (prefix_len is_no_quote rest)
+text_size first j m b rest e h =
+    let le : suc m ≤ length (b ∷ rest) = h.room in
+    closes_at rest m (omega arith) (only_text j (take m rest) (at_class Quote first j m b rest e h))
+
+text_longest : (first : Bool) (b : ℕ) (rest : List ℕ) → class_of b ≡ Quote → (j : TokenKind) (m : ℕ) → suc (suc (prefix_len is_no_quote rest)) < m → Stands first j m (b ∷ rest) → ⊥
+text_longest first b rest e j zero lt h = absurd (omega arith)
+text_longest first b rest e j (suc m) lt h = let size = text_size first j m b rest e h in omega arith
+
+pub text_here : (first : Bool) (here : List ℕ) (n : ℕ) → Begins Quote here → n ≡ prefix_len is_no_quote (drop 1 here) → n < length (drop 1 here) → IsLongest first Text (n + 2) here
+text_here first [] n h e lt = absurd h
+text_here first (b ∷ rest) n h e lt =
+    let size : n + 2 ≡ suc (suc (prefix_len is_no_quote rest)) = omega arith in
+    subst (λ (m : ℕ). IsLongest first Text m (b ∷ rest)) (sym size) (record {
+      stands = record { room = omega arith; form = (h, closes rest (omega arith)); allowed = tt };
+      longest = text_longest first b rest h;
+    })
+
+no_text : (first : Bool) (b : ℕ) (rest : List ℕ) → class_of b ≡ Quote → length rest ≤ prefix_len is_no_quote rest → NoForm first (b ∷ rest)
+no_text first b rest e le j zero h = empty first j (b ∷ rest) h
+no_text first b rest e le j (suc m) h =
+    let size = text_size first j m b rest e h in
+    let room : suc m ≤ length (b ∷ rest) = h.room in
+    omega arith
+
+pub open_text_here : (first : Bool) (here : List ℕ) → Begins Quote here → length (drop 1 here) ≤ prefix_len is_no_quote (drop 1 here) → FaultAt first here StringNotClosed
+open_text_here first [] h le = absurd h
+open_text_here first (b ∷ rest) h le = (no_text first b rest h le, h)
+
+-- Tokens
+
+pub identifier_size : (first : Bool) (n : ℕ) (here : List ℕ) → IsLongest first Identifier n here → length (take n here) ≡ n
+identifier_size first n here h = length-take-le n here h.stands.room
+
+behind_first : (n : ℕ) (here : List ℕ) → 1 + n ≤ length here → length (drop 1 (take (1 + n) here)) ≡ n
+behind_first n here le = omega (arith, length-drop 1 (take (1 + n) here), length-take-le (1 + n) here le)
+
+pub name_size : (first : Bool) (k : TokenKind) (n : ℕ) (here : List ℕ) → BeginsSigned k here → IsLongest first k (1 + n) here → length (name_in k (take (1 + n) here)) ≡ n
+name_size first CheapName n here s h = behind_first n here h.stands.room
+name_size first Directive n here s h = behind_first n here h.stands.room
+name_size first _ n here s h = absurd s
+
+pub name_value : (k : TokenKind) (here text : List ℕ) → BeginsSigned k here → HasValue k text
+name_value CheapName here text s = tt
+name_value Directive here text s = tt
+name_value _ here text s = absurd s

@@ -1,0 +1,52 @@
+-- The tokens of a line, one after the other.
+use Rattle.std.proofs.Common.{◌≡◌, ℕ, zero, suc, ◌+◌, ◌<◌, ◌≤◌, Bool, true, false, cond, List, [], ◌∷◌, ◌++◌, length, take, drop, Option, Some, refl, ap, arith, append_assoc}
+use Rattle.std.specs.List.{prefix_len}
+use Rattle.std.specs.Prelude.{Err}
+use Rattle.syntax65.specs.Bytes.{is_blank, is_blank_class}
+use Rattle.syntax65.specs.Forms.{Begins, IsToken, FaultAt}
+use Rattle.syntax65.specs.Faults.{is_lex_outside}
+use Rattle.syntax65.specs.Outcome.{Unless}
+use Rattle.syntax65.specs.Tokens.{Lexeme, after_blanks, Reads, IsRead}
+use Rattle.syntax65.specs.declared.lexing.classes.Class.TheVariants.{Blank}
+use Rattle.syntax65.specs.declared.lexing.tokens.TokenKind.{TokenKind}
+use Rattle.syntax65.specs.declared.lexing.fault.LexFault.{LexFault}
+use Rattle.syntax65.specs.declared.lexing.fault.LexFault.TheVariants.{OutOfMemory, BadCharacter, BadNumber, StringNotClosed, LineTooLong, NameTooLong}
+
+abbrev FirstFails : (ℕ → Bool) → List ℕ → Type 0
+FirstFails p [] = Unit {0}
+FirstFails p (x ∷ xs) = p x ≡ false
+
+behind_step : (p : ℕ → Bool) (x : ℕ) (xs : List ℕ) (b : Bool) → p x ≡ b → FirstFails p (drop (prefix_len p xs) xs) → FirstFails p (drop (cond b (1 + prefix_len p xs) 0) (x ∷ xs))
+behind_step p x xs true e h =
+    let one : 1 + prefix_len p xs ≡ suc (prefix_len p xs) = omega arith in
+    rw one h
+behind_step p x xs false e h = e
+
+behind : (p : ℕ → Bool) (xs : List ℕ) → FirstFails p (drop (prefix_len p xs) xs)
+behind p [] = tt
+behind p (x ∷ xs) = behind_step p x xs (p x) refl (behind p xs)
+
+no_blank : (here : List ℕ) → FirstFails is_blank here → Begins Blank here → ⊥
+no_blank [] h b = b
+no_blank (x ∷ xs) h b = let blank : is_blank x ≡ true = ap is_blank_class b in cc
+
+-- no blank stands behind the blanks
+pub no_blank_behind : (line : List ℕ) → Begins Blank (after_blanks line) → ⊥
+no_blank_behind line = no_blank (after_blanks line) (behind is_blank line)
+
+-- one more token
+pub more : (line rest : List ℕ) (first : Bool) (ts : List Lexeme) (t : Lexeme) → ((us : List Lexeme) (end : Option LexFault) → Reads first rest us end → Reads true line (ts ++ us) end) → t.1 ≡ take (length t.1) (after_blanks rest) → IsToken first t.0 (length t.1) (after_blanks rest) → (us : List Lexeme) (end : Option LexFault) → Reads false (drop (length t.1) (after_blanks rest)) us end → Reads true line ((ts ++ t ∷ []) ++ us) end
+more line rest first ts t inv front token us end h = rw append_assoc (inv (t ∷ us) end (front, token, h))
+
+pub refuse : (first : Bool) (line here : List ℕ) (ts : List Lexeme) (fault : LexFault) → length line ≤ 4096 → FaultAt first here fault → Reads true line ts (Some fault) → Unless (is_lex_outside fault) (IsRead line (Err fault))
+refuse first line here ts OutOfMemory short h reads = tt
+refuse first line here ts BadCharacter short h reads = (short, (ts, reads))
+refuse first line here ts BadNumber short h reads = (short, (ts, reads))
+refuse first line here ts StringNotClosed short h reads = (short, (ts, reads))
+refuse first line here ts LineTooLong short h reads = absurd h
+refuse first line here ts NameTooLong short h reads = (short, (ts, reads))
+
+-- a token has a byte
+pub token_size : (first : Bool) (k : TokenKind) (n : ℕ) (here : List ℕ) → IsToken first k n here → 0 < n
+token_size first k zero here h = absurd (h.longest.stands.form)
+token_size first k (suc n) here h = omega arith

@@ -1,0 +1,194 @@
+-- One step of a reader, as one rule of the grammar.
+use Rattle.std.proofs.Common.{◌≡◌, ◌≢◌, ℕ, ◌+◌, ◌-◌, ◌<◌, ◌≤◌, true, false, List, [], ◌∷◌, ◌++◌, Option, Some, None, refl, sym, ap, subst, ◌∙◌, arith, append_assoc}
+use Rattle.std.proofs.lemmas.Bool.{cases_lt}
+use Rattle.std.specs.Prelude.{slice_get, Result, Ok, Err, MatchResult}
+use Rattle.syntax65.specs.Tokens.{Lexeme}
+use Rattle.syntax65.specs.Trees.{Tree, name, unary, binary, tree_of}
+use Rattle.syntax65.specs.Words.{level_of}
+use Rattle.syntax65.specs.Expressions.{opening_at, binary_at, text_at, leaf_of, leaf_at, closes_at, Parts, last_part, next_part, Phrase, a_leaf, a_name, a_global, prefixed, enclosed, of_level, joined, negated, NoOperator, BeginsOperand, OpensLevel, Stops, no_operand, no_name, no_global, too_deep, in_prefixed, in_enclosed, not_closed, in_first, in_next, negation_too_deep, in_negated, IsPhrase, IsStop, IsMissing, IsParsed}
+use Rattle.syntax65.specs.Faults.{is_expr_outside}
+use Rattle.syntax65.specs.Outcome.{Unless}
+use Rattle.syntax65.specs.declared.values.Op1.{Op1}
+use Rattle.syntax65.specs.declared.values.Op1.TheVariants.{Not}
+use Rattle.syntax65.specs.declared.values.Op2.{Op2}
+use Rattle.syntax65.specs.declared.values.Op2.TheVariants.{Multiply}
+use Rattle.syntax65.specs.declared.expressions.trees.Expr.{Expr}
+use Rattle.syntax65.specs.declared.expressions.words.Opening.{Opening}
+use Rattle.syntax65.specs.declared.expressions.words.Opening.TheVariants.{Number, Here, Cheap, Forward, Backward, Name, Scope, Prefix, Parenthesis, Negation, Nothing}
+use Rattle.syntax65.specs.declared.expressions.fault.ExprFault.{ExprFault}
+use Rattle.syntax65.specs.declared.expressions.fault.ExprFault.TheVariants.{OutOfMemory, OperandExpected, ParenthesisExpected, TooDeep}
+
+level_pos : (op : Op2) → 0 < level_of op
+level_pos Multiply = omega arith
+level_pos _ = omega arith
+
+pub level_zero : (ts : List Lexeme) (j : ℕ) → NoOperator ts 0 j
+level_zero ts j op h = level_pos op
+
+-- names
+
+pub last_name : (ts : List Lexeme) (at i : ℕ) (parts new : List (List ℕ)) (text : List ℕ) → ((j : ℕ) (rest : List (List ℕ)) → Parts ts i j rest → Parts ts at j (parts ++ rest)) → opening_at ts i ≡ Name → (opening_at ts (i + 1) ≡ Scope → ⊥) → text ≡ text_at ts i → new ≡ parts ++ text ∷ [] → Parts ts at (i + 1) new
+last_name ts at i parts new text so_far h stop same made =
+    let reads : Parts ts at (i + 1) (parts ++ text_at ts i ∷ []) = so_far (i + 1) (text_at ts i ∷ []) (last_part i h stop) in
+    rw (made, same) reads
+
+pub next_name : (ts : List Lexeme) (at i : ℕ) (parts new : List (List ℕ)) (text : List ℕ) → ((j : ℕ) (rest : List (List ℕ)) → Parts ts i j rest → Parts ts at j (parts ++ rest)) → opening_at ts i ≡ Name → opening_at ts (i + 1) ≡ Scope → text ≡ text_at ts i → new ≡ parts ++ text ∷ [] → (j : ℕ) (rest : List (List ℕ)) → Parts ts (i + 2) j rest → Parts ts at j (new ++ rest)
+next_name ts at i parts new text so_far h scope same made j rest more =
+    let reads : Parts ts at j (parts ++ (text_at ts i ∷ rest)) = so_far j (text_at ts i ∷ rest) (next_part i j rest h scope more) in
+    let e : new ++ rest ≡ parts ++ (text_at ts i ∷ rest) = rw (made, same) (append_assoc parts (text_at ts i ∷ []) rest) in
+    rw e reads
+
+-- phrases
+
+pub leaf_phrase : (ts : List Lexeme) (room i : ℕ) (t : Tree) → leaf_at ts i ≡ Some t → IsPhrase ts room 0 i (i + 1) t
+leaf_phrase ts room i t h = record { phrase = a_leaf room i t h; ends = level_zero ts (i + 1) }
+
+pub name_phrase : (ts : List Lexeme) (room i j : ℕ) (parts : List (List ℕ)) → Parts ts i j parts → IsPhrase ts room 0 i j (name false parts)
+name_phrase ts room i j parts h = record { phrase = a_name room i j parts h; ends = level_zero ts j }
+
+pub global_phrase : (ts : List Lexeme) (room i j : ℕ) (parts : List (List ℕ)) → opening_at ts i ≡ Scope → Parts ts (i + 1) j parts → IsPhrase ts room 0 i j (name true parts)
+global_phrase ts room i j parts h p = record { phrase = a_global room i j parts h p; ends = level_zero ts j }
+
+pub prefixed_phrase : (ts : List Lexeme) (room i j : ℕ) (op : Op1) (t u : Tree) → 0 < room → opening_at ts i ≡ Prefix op → u ≡ unary op t → IsPhrase ts (room - 1) 0 (i + 1) j t → IsPhrase ts room 0 i j u
+prefixed_phrase ts room i j op t u pos h made inner =
+    let r : (room - 1) + 1 ≡ room = omega arith in
+    record {
+      phrase = rw made (subst (λ (m : ℕ). Phrase ts m 0 i j (unary op t)) r (prefixed (room - 1) i j op t h inner.phrase));
+      ends = inner.ends;
+    }
+
+pub negated_phrase : (ts : List Lexeme) (room i j : ℕ) (t u : Tree) → 0 < room → opening_at ts i ≡ Negation → u ≡ unary Not t → IsPhrase ts (room - 1) 6 (i + 1) j t → IsPhrase ts room 6 i j u
+negated_phrase ts room i j t u pos h made inner =
+    let r : (room - 1) + 1 ≡ room = omega arith in
+    record {
+      phrase = rw made (subst (λ (m : ℕ). Phrase ts m 6 i j (unary Not t)) r (negated (room - 1) i j t h inner.phrase));
+      ends = inner.ends;
+    }
+
+pub enclosed_phrase : (ts : List Lexeme) (room i j : ℕ) (t : Tree) → 0 < room → opening_at ts i ≡ Parenthesis → IsPhrase ts (room - 1) 6 (i + 1) j t → closes_at ts j ≡ true → IsPhrase ts room 0 i (j + 1) t
+enclosed_phrase ts room i j t pos h inner close =
+    let r : (room - 1) + 1 ≡ room = omega arith in
+    record {
+      phrase = subst (λ (m : ℕ). Phrase ts m 0 i (j + 1) t) r (enclosed (room - 1) i j t h inner.phrase close);
+      ends = level_zero ts (j + 1);
+    }
+
+low_level : (op : Op2) → level_of op ≤ 5
+low_level Multiply = omega arith
+low_level _ = omega arith
+
+-- a phrase that is no negation
+pub whole_phrase : (ts : List Lexeme) (room i j : ℕ) (t : Tree) → IsPhrase ts room 5 i j t → IsPhrase ts room 6 i j t
+whole_phrase ts room i j t p = record { phrase = of_level room 5 i j t p.phrase; ends = λ op h. absurd (omega (arith, p.ends op h, low_level op)) }
+
+-- stops
+
+-- a stop inside is a stop of the whole
+lift_stop : (ts : List Lexeme) (room n i room' n' i' : ℕ) (f : ExprFault) → ((k : ℕ) (g : ExprFault) → Stops ts room n i k g → Stops ts room' n' i' k g) → IsStop ts room n i f → IsStop ts room' n' i' f
+lift_stop ts room n i room' n' i' OutOfMemory up h = tt
+lift_stop ts room n i room' n' i' OperandExpected up h = (h.0, up h.0 OperandExpected h.1)
+lift_stop ts room n i room' n' i' ParenthesisExpected up h = (h.0, up h.0 ParenthesisExpected h.1)
+lift_stop ts room n i room' n' i' TooDeep up h = (h.0, up h.0 TooDeep h.1)
+
+pub name_stop : (ts : List Lexeme) (room i : ℕ) (f : ExprFault) → opening_at ts i ≡ Name → IsMissing ts i f → IsStop ts room 0 i f
+name_stop ts room i OutOfMemory h s = tt
+name_stop ts room i OperandExpected h s = (s.0, no_name room i s.0 h s.1)
+name_stop ts room i ParenthesisExpected h s = absurd s
+name_stop ts room i TooDeep h s = absurd s
+
+pub global_stop : (ts : List Lexeme) (room i : ℕ) (f : ExprFault) → opening_at ts i ≡ Scope → IsMissing ts (i + 1) f → IsStop ts room 0 i f
+global_stop ts room i OutOfMemory h s = tt
+global_stop ts room i OperandExpected h s = (s.0, no_global room i s.0 h s.1)
+global_stop ts room i ParenthesisExpected h s = absurd s
+global_stop ts room i TooDeep h s = absurd s
+
+pub prefixed_stop : (ts : List Lexeme) (room i : ℕ) (op : Op1) (f : ExprFault) → 0 < room → opening_at ts i ≡ Prefix op → IsStop ts (room - 1) 0 (i + 1) f → IsStop ts room 0 i f
+prefixed_stop ts room i op f pos h s =
+    let r : (room - 1) + 1 ≡ room = omega arith in
+    lift_stop ts (room - 1) 0 (i + 1) room 0 i f (λ k g w. subst (λ (m : ℕ). Stops ts m 0 i k g) r (in_prefixed (room - 1) i k op g h w)) s
+
+pub negated_stop : (ts : List Lexeme) (room i : ℕ) (f : ExprFault) → 0 < room → opening_at ts i ≡ Negation → IsStop ts (room - 1) 6 (i + 1) f → IsStop ts room 6 i f
+negated_stop ts room i f pos h s =
+    let r : (room - 1) + 1 ≡ room = omega arith in
+    lift_stop ts (room - 1) 6 (i + 1) room 6 i f (λ k g w. subst (λ (m : ℕ). Stops ts m 6 i k g) r (in_negated (room - 1) i k g h w)) s
+
+pub enclosed_stop : (ts : List Lexeme) (room i : ℕ) (f : ExprFault) → 0 < room → opening_at ts i ≡ Parenthesis → IsStop ts (room - 1) 6 (i + 1) f → IsStop ts room 0 i f
+enclosed_stop ts room i f pos h s =
+    let r : (room - 1) + 1 ≡ room = omega arith in
+    lift_stop ts (room - 1) 6 (i + 1) room 0 i f (λ k g w. subst (λ (m : ℕ). Stops ts m 0 i k g) r (in_enclosed (room - 1) i k g h w)) s
+
+pub open_stop : (ts : List Lexeme) (room i j : ℕ) (t : Tree) → 0 < room → opening_at ts i ≡ Parenthesis → IsPhrase ts (room - 1) 6 (i + 1) j t → closes_at ts j ≡ false → IsStop ts room 0 i ParenthesisExpected
+open_stop ts room i j t pos h inner close =
+    let r : (room - 1) + 1 ≡ room = omega arith in
+    (j, subst (λ (m : ℕ). Stops ts m 0 i j ParenthesisExpected) r (not_closed (room - 1) i j t h inner.phrase inner.ends close))
+
+pub deep_prefix : (ts : List Lexeme) (room i : ℕ) (op : Op1) → room ≡ 0 → opening_at ts i ≡ Prefix op → IsStop ts room 0 i TooDeep
+deep_prefix ts room i op r h = rw r (i, too_deep i (subst OpensLevel (sym h) tt))
+
+pub deep_open : (ts : List Lexeme) (room i : ℕ) → room ≡ 0 → opening_at ts i ≡ Parenthesis → IsStop ts room 0 i TooDeep
+deep_open ts room i r h = rw r (i, too_deep i (subst OpensLevel (sym h) tt))
+
+pub deep_negation : (ts : List Lexeme) (room i : ℕ) → room ≡ 0 → opening_at ts i ≡ Negation → IsStop ts room 6 i TooDeep
+deep_negation ts room i r h = rw r (i, negation_too_deep i h)
+
+none_begins : (o : Opening) (text : List ℕ) → leaf_of o text ≡ None → o ≢ Name → o ≢ Scope → ((op : Op1) → o ≢ Prefix op) → o ≢ Parenthesis → BeginsOperand o → ⊥
+none_begins (Number v) text e a b c d h = cc
+none_begins Here text e a b c d h = cc
+none_begins Cheap text e a b c d h = cc
+none_begins (Forward n) text e a b c d h = cc
+none_begins (Backward n) text e a b c d h = cc
+none_begins Name text e a b c d h = a refl
+none_begins Scope text e a b c d h = b refl
+none_begins (Prefix op) text e a b c d h = c op refl
+none_begins Parenthesis text e a b c d h = d refl
+none_begins Negation text e a b c d h = h
+none_begins Nothing text e a b c d h = h
+
+pub bad_operand : (ts : List Lexeme) (room i : ℕ) (o : Opening) → o ≡ opening_at ts i → leaf_of o (text_at ts i) ≡ None → o ≢ Name → o ≢ Scope → ((op : Op1) → o ≢ Prefix op) → o ≢ Parenthesis → IsStop ts room 0 i OperandExpected
+bad_operand ts room i o e n a b c d = (i, no_operand room i (λ h. none_begins o (text_at ts i) n a b c d (subst BeginsOperand (sym e) h)))
+
+-- the levels
+
+pub first_stop : (ts : List Lexeme) (room n i : ℕ) (f : ExprFault) → 0 < n → n ≤ 5 → IsStop ts room (n - 1) i f → IsStop ts room n i f
+first_stop ts room n i f pos low s =
+    let r : (n - 1) + 1 ≡ n = omega arith in
+    lift_stop ts room (n - 1) i room n i f (λ k g w. subst (λ (m : ℕ). Stops ts room m i k g) r (in_first room (n - 1) i k g (λ e. absurd (omega arith)) w)) s
+
+pub whole_stop : (ts : List Lexeme) (room i : ℕ) (f : ExprFault) → opening_at ts i ≢ Negation → IsStop ts room 5 i f → IsStop ts room 6 i f
+whole_stop ts room i f h s = lift_stop ts room 5 i room 6 i f (λ k g w. in_first room 5 i k g (λ e. h) w) s
+
+pub next_stop : (ts : List Lexeme) (room n i j : ℕ) (op : Op2) (t : Tree) (f : ExprFault) → 0 < n → Phrase ts room n i j t → binary_at ts j ≡ Some op → level_of op ≡ n → IsStop ts room (n - 1) (j + 1) f → IsStop ts room n i f
+next_stop ts room n i j op t f pos left at level s =
+    let r : (n - 1) + 1 ≡ n = omega arith in
+    lift_stop ts room (n - 1) (j + 1) room n i f (λ k g w. subst (λ (m : ℕ). Stops ts room m i k g) r
+    (in_next room (n - 1) i j k op t g (rw r left) at (level ∙ sym r) w)) s
+
+pub first_phrase : (ts : List Lexeme) (room n i j : ℕ) (t : Tree) → 0 < n → IsPhrase ts room (n - 1) i j t → Phrase ts room n i j t
+first_phrase ts room n i j t pos p =
+    let r : (n - 1) + 1 ≡ n = omega arith in
+    subst (λ (m : ℕ). Phrase ts room m i j t) r (of_level room (n - 1) i j t p.phrase)
+
+pub joined_phrase : (ts : List Lexeme) (room n i j k : ℕ) (op : Op2) (t u t' u' : Tree) → 0 < n → Phrase ts room n i j t → binary_at ts j ≡ Some op → level_of op ≡ n → IsPhrase ts room (n - 1) (j + 1) k u → t' ≡ t → u' ≡ u → Phrase ts room n i k (binary op t' u')
+joined_phrase ts room n i j k op t u t' u' pos left at level right same_left same_right =
+    let r : (n - 1) + 1 ≡ n = omega arith in
+    rw (same_left, same_right) (subst (λ (m : ℕ). Phrase ts room m i k (binary op t u)) r
+    (joined room (n - 1) i j k op t u (rw r left) at (level ∙ sym r) right.phrase))
+
+-- no operator of a tighter level, and none of this one
+pub no_operators : (ts : List Lexeme) (n j : ℕ) → NoOperator ts (n - 1) j → ((op : Op2) → binary_at ts j ≡ Some op → level_of op ≢ n) → NoOperator ts n j
+no_operators ts n j tighter none op h = let lt = tighter op h in let ne = none op h in grind (arith, cases_lt n (level_of op))
+
+pub whole_result : (ts : List Lexeme) (room i : ℕ) (r : Result (Expr × ℕ) ExprFault) → opening_at ts i ≢ Negation → MatchResult r (λ x. IsPhrase ts room 5 i x.1 (tree_of x.0)) (λ f. IsStop ts room 5 i f) → MatchResult r (λ x. IsPhrase ts room 6 i x.1 (tree_of x.0)) (λ f. IsStop ts room 6 i f)
+whole_result ts room i (Ok x) h p = whole_phrase ts room i x.1 (tree_of x.0) p
+whole_result ts room i (Err f) h s = whole_stop ts room i f h s
+
+pub leaf_made : (ts : List Lexeme) (i : ℕ) (o : Opening) (text : List ℕ) (made : Option Tree) → o ≡ opening_at ts i → text ≡ text_at ts i → made ≡ leaf_of o text → leaf_at ts i ≡ made
+leaf_made ts i o text made a b e = sym (e ∙ ap (λ p. leaf_of p text) a ∙ ap (leaf_of (opening_at ts i)) b)
+
+-- a reader's answer, as what the tokens are read as
+pub parsed : (ts : List Lexeme) (r : Result (Expr × ℕ) ExprFault) → MatchResult r (λ x. IsPhrase ts 64 6 0 x.1 (tree_of x.0)) (λ f. IsStop ts 64 6 0 f) → MatchResult r (λ x. IsParsed ts (Ok (tree_of x.0, x.1))) (λ f. Unless (is_expr_outside f) (IsParsed ts (Err f)))
+parsed ts (Ok x) h = h
+parsed ts (Err OutOfMemory) h = tt
+parsed ts (Err OperandExpected) h = h
+parsed ts (Err ParenthesisExpected) h = h
+parsed ts (Err TooDeep) h = h

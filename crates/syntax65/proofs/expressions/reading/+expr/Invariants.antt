@@ -1,0 +1,34 @@
+use Rattle.std.proofs.Common.{◌<◌, length, ◌+◌, ◌-◌, ◌*◌}
+use Rattle.syntax65.specs.Trees.{tree_of}
+use Rattle.syntax65.specs.Tokens.{lexemes}
+use Rattle.syntax65.specs.Expressions.{Phrase, NoOperator}
+use Rattle.syntax65.proofs.expressions.reading.+expr.Given as goal
+
+abbrev pub decreases-read_negated : goal.decreases-read_negated
+decreases-read_negated l = 16 * l.room + 1
+
+abbrev pub decreases-read_enclosed : goal.decreases-read_enclosed
+decreases-read_enclosed l = 16 * l.room + 1
+
+abbrev pub decreases-read_prefixed : goal.decreases-read_prefixed
+decreases-read_prefixed l = 16 * l.room + 1
+
+abbrev pub decreases-read_operand : goal.decreases-read_operand
+decreases-read_operand l = 16 * l.room + 2
+
+abbrev pub decreases-read_level : goal.decreases-read_level
+decreases-read_level l = 16 * l.room + 3 + l.level
+
+abbrev pub decreases-read_whole : goal.decreases-read_whole
+decreases-read_whole l = 16 * l.room + 9
+
+abbrev pub invariant-read_level-operators : goal.invariant-read_level-operators
+invariant-read_level-operators l = record {
+  some_level : 0 < l.level;
+  phrase : Phrase (lexemes l.tokens) l.room l.level l.at l.end (tree_of l.left);
+  tighter : NoOperator (lexemes l.tokens) (l.level - 1) l.end;
+  further : l.at < l.end;
+}
+
+abbrev pub decreases-read_level-operators : goal.decreases-read_level-operators
+decreases-read_level-operators l = length l.tokens - l.end

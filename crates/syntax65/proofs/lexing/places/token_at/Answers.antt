@@ -1,0 +1,22 @@
+use Rattle.syntax65.proofs.lexing.places.token_at.Goals as goal
+
+pub returns-in-At : goal.returns-in-At
+returns-in-At c = c.name_at.ensures c.args.first
+
+pub returns-in-Dot : goal.returns-in-Dot
+returns-in-Dot c = c.name_at-in-Dot.ensures c.args.first
+
+pub returns-in-Digit : goal.returns-in-Digit
+returns-in-Digit c = c.number_at.ensures c.args.first
+
+pub returns-in-Apostrophe : goal.returns-in-Apostrophe
+returns-in-Apostrophe c = c.character_at.ensures c.args.first
+
+pub returns-in-Quote : goal.returns-in-Quote
+returns-in-Quote c = c.text_at.ensures c.args.first
+
+pub returns-in-Colon : goal.returns-in-Colon
+returns-in-Colon c = c.colon_at.ensures c.args.first
+
+pub returns-in-Semicolon : goal.returns-in-Semicolon
+returns-in-Semicolon c = c.mark_at.ensures c.args.first

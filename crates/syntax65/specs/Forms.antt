@@ -1,0 +1,143 @@
+-- The forms of tokens, and the longest one at a place.
+use Rattle.std.specs.Prelude.{◌≡◌, ◌≢◌, ◌==◌, ◌⊎◌, ℕ, ◌<◌, ◌≤◌, Bool, false, IsTrue, List, [], ◌∷◌, length, take, drop, codes, Some, None, ⊤}
+use Rattle.std.specs.List.{list_all}
+use Rattle.syntax65.specs.Bytes.{class_of, is_word}
+use Rattle.syntax65.specs.Numbers.{number_of}
+use Rattle.syntax65.specs.declared.lexing.classes.Class.{Class}
+use Rattle.syntax65.specs.declared.lexing.classes.Class.TheVariants.{Letter, Digit, Radix, At, Dot, Apostrophe, Quote, Colon}
+use Rattle.syntax65.specs.declared.lexing.tokens.AddressSize.{AddressSize}
+use Rattle.syntax65.specs.declared.lexing.tokens.AddressSize.TheVariants.{ZeroPage, Absolute}
+use Rattle.syntax65.specs.declared.lexing.tokens.Mark.{Mark}
+use Rattle.syntax65.specs.declared.lexing.tokens.Mark.TheVariants.{Scope, Define, NotEqual, LessOrEqual, GreaterOrEqual, ShiftLeft, ShiftRight, BothTrue, EitherTrue, Colon as ColonMark, Plus, Minus, Star, Slash, Ampersand, Bar, Caret, Tilde, Less, Greater, Equal, Exclamation, OpenParenthesis, CloseParenthesis, Hash, Comma, OpenBrace, CloseBrace}
+use Rattle.syntax65.specs.declared.lexing.tokens.TokenKind.{TokenKind}
+use Rattle.syntax65.specs.declared.lexing.tokens.TokenKind.TheVariants.{Identifier, CheapName, Directive, Number, Character, Text, Unnamed, SizePrefix, Symbol}
+use Rattle.syntax65.specs.declared.lexing.fault.LexFault.{LexFault}
+use Rattle.syntax65.specs.declared.lexing.fault.LexFault.TheVariants.{OutOfMemory, BadCharacter, BadNumber, StringNotClosed, LineTooLong, NameTooLong}
+
+-- only letters, digits and `_`
+abbrev pub AllWord : List ℕ → Type 0
+AllWord bs = IsTrue (list_all is_word bs)
+
+-- a letter or `_`, then letters, digits and `_`
+abbrev pub IsName : List ℕ → Type 0
+IsName [] = ⊥
+IsName (b ∷ bs) = (class_of b ≡ Letter) × AllWord bs
+
+-- one or more of one byte
+abbrev pub IsRunOf : ℕ → List ℕ → Type 0
+IsRunOf c bs = (bs ≢ []) × IsTrue (list_all (λ b. b == c) bs)
+
+-- bytes other than `"`, and a `"`
+abbrev pub ClosesText : List ℕ → Type 0
+ClosesText [] = ⊥
+ClosesText (b ∷ []) = b ≡ 34
+ClosesText (b ∷ c ∷ bs) = (b ≢ 34) × ClosesText (c ∷ bs)
+
+-- `$`, `%` or a decimal digit
+abbrev pub StartsNumber : Class → Type 0
+StartsNumber Digit = ⊤
+StartsNumber Radix = ⊤
+StartsNumber _ = ⊥
+
+-- `z` or `a`, in either case
+abbrev pub IsSizeLetter : AddressSize → ℕ → Type 0
+IsSizeLetter ZeroPage b = (b ≡ 122) ⊎ (b ≡ 90)
+IsSizeLetter Absolute b = (b ≡ 97) ⊎ (b ≡ 65)
+
+abbrev pub spelling : Mark → List ℕ
+spelling Scope = codes "::"
+spelling Define = codes ":="
+spelling NotEqual = codes "<>"
+spelling LessOrEqual = codes "<="
+spelling GreaterOrEqual = codes ">="
+spelling ShiftLeft = codes "<<"
+spelling ShiftRight = codes ">>"
+spelling BothTrue = codes "&&"
+spelling EitherTrue = codes "||"
+spelling ColonMark = codes ":"
+spelling Plus = codes "+"
+spelling Minus = codes "-"
+spelling Star = codes "*"
+spelling Slash = codes "/"
+spelling Ampersand = codes "&"
+spelling Bar = codes "|"
+spelling Caret = codes "^"
+spelling Tilde = codes "~"
+spelling Less = codes "<"
+spelling Greater = codes ">"
+spelling Equal = codes "="
+spelling Exclamation = codes "!"
+spelling OpenParenthesis = codes "("
+spelling CloseParenthesis = codes ")"
+spelling Hash = codes "#"
+spelling Comma = codes ","
+spelling OpenBrace = codes "{"
+spelling CloseBrace = codes "}"
+
+-- a text of this form; what the number is that it spells, and how long a name is, isn't looked at
+abbrev pub IsForm : TokenKind → List ℕ → Type 0
+IsForm k [] = ⊥
+IsForm Identifier (b ∷ bs) = (class_of b ≡ Letter) × AllWord bs
+IsForm CheapName (b ∷ bs) = (class_of b ≡ At) × IsName bs
+IsForm Directive (b ∷ bs) = (class_of b ≡ Dot) × IsName bs
+IsForm (Number v) (b ∷ bs) = StartsNumber (class_of b) × AllWord bs
+IsForm (Character c) (b ∷ bs) = (class_of b ≡ Apostrophe) × (bs ≡ c ∷ 39 ∷ [])
+IsForm Text (b ∷ bs) = (class_of b ≡ Quote) × ClosesText bs
+IsForm Unnamed (b ∷ bs) = (class_of b ≡ Colon) × (IsRunOf 43 bs ⊎ IsRunOf 45 bs)
+IsForm (SizePrefix s) (b ∷ bs) = IsSizeLetter s b × (bs ≡ 58 ∷ [])
+IsForm (Symbol m) (b ∷ bs) = b ∷ bs ≡ spelling m
+
+-- no `:` and no `=`
+abbrev pub NotColonOrEqual : List ℕ → Type 0
+NotColonOrEqual [] = ⊤
+NotColonOrEqual (b ∷ bs) = (b ≢ 58) × (b ≢ 61)
+
+-- a size prefix isn't the line's first token, and neither `:` nor `=` stands right behind it
+abbrev pub MayStand : Bool → TokenKind → List ℕ → Type 0
+MayStand first (SizePrefix s) behind = (first ≡ false) × NotColonOrEqual behind
+MayStand first _ behind = ⊤
+
+-- the first n bytes are a text of this form that may stand here
+pub record Stands (first : Bool) (k : TokenKind) (n : ℕ) (here : List ℕ) : Type 0 where
+  pub room : n ≤ length here
+  pub form : IsForm k (take n here)
+  pub allowed : MayStand first k (drop n here)
+
+-- and no longer one stands here
+pub record IsLongest (first : Bool) (k : TokenKind) (n : ℕ) (here : List ℕ) : Type 0 where
+  pub stands : Stands first k n here
+  pub longest : (j : TokenKind) (m : ℕ) → n < m → Stands first j m here → ⊥
+
+-- nothing of any form stands here
+abbrev pub NoForm : Bool → List ℕ → Type 0
+NoForm first here = (k : TokenKind) (n : ℕ) → Stands first k n here → ⊥
+
+-- the name in a text, without its `@` or `.`
+abbrev pub name_in : TokenKind → List ℕ → List ℕ
+name_in Identifier text = text
+name_in CheapName text = drop 1 text
+name_in Directive text = drop 1 text
+name_in _ text = []
+
+abbrev pub HasValue : TokenKind → List ℕ → Type 0
+HasValue (Number v) text = number_of text ≡ Some v
+HasValue _ text = ⊤
+
+-- a token stands here
+pub record IsToken (first : Bool) (k : TokenKind) (n : ℕ) (here : List ℕ) : Type 0 where
+  pub longest : IsLongest first k n here
+  pub short : length (name_in k (take n here)) ≤ 200
+  pub value : HasValue k (take n here)
+
+abbrev pub Begins : Class → List ℕ → Type 0
+Begins c [] = ⊥
+Begins c (b ∷ bs) = class_of b ≡ c
+
+-- no token stands here, and why
+abbrev pub FaultAt : Bool → List ℕ → LexFault → Type 0
+FaultAt first here OutOfMemory = ⊥
+FaultAt first here BadCharacter = NoForm first here × (Begins Quote here → ⊥)
+FaultAt first here BadNumber = (v n : ℕ) × IsLongest first (Number v) n here × (number_of (take n here) ≡ None)
+FaultAt first here StringNotClosed = NoForm first here × Begins Quote here
+FaultAt first here LineTooLong = ⊥
+FaultAt first here NameTooLong = (k : TokenKind) × (n : ℕ) × IsLongest first k n here × (200 < length (name_in k (take n here)))

@@ -1,0 +1,13 @@
+//! Expressions as trees.
+
+mod fault;
+mod names;
+mod places;
+mod reading;
+mod trees;
+mod words;
+
+pub use fault::ExprFault;
+pub use reading::{MAX_DEPTH, read_expr};
+pub use trees::{Expr, Name};
+pub use words::is_reserved;

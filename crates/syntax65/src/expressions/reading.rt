@@ -1,0 +1,212 @@
+//! Reading expressions.
+
+ghost use Rattle.std.specs.Prelude.{◌≡◌, ◌<◌, ◌≤◌, length, IfOk, MatchResult, Ok, Err};
+ghost use Rattle.syntax65.specs.Faults.{is_expr_outside};
+ghost use Rattle.syntax65.specs.Outcome.{Unless};
+ghost use Rattle.std.specs.Option.{option_map};
+ghost use Rattle.syntax65.specs.Expressions.{IsParsed, IsPhrase, IsStop, opening_at, leaf_of};
+ghost use Rattle.syntax65.specs.Tokens.{lexemes};
+ghost use Rattle.syntax65.specs.Trees.{tree_of};
+ghost use Rattle.syntax65.specs.declared.expressions.words.Opening.TheVariants as opening;
+
+use super::fault::ExprFault;
+use super::names::read_parts;
+use super::places::{closes_at, is_negation, opening_at, operator_at, text_at};
+use super::trees::{Expr, Name};
+use super::words::Opening;
+use crate::{Op1, Sequence, Token};
+use std::alloc::{AllocError, Global};
+
+/// How deep parentheses, prefix operators and negations nest together.
+pub const MAX_DEPTH: u8 = 64;
+
+/// The expression at the front, and how many tokens it has.
+///
+/// # Errors
+///
+/// The fault of the first place where no expression can go on.
+pub fn read_expr(alloc: Global, tokens: &[Token<'_>]) -> Result<(Expr, usize), ExprFault>
+    ensures { MatchResult result (λ r. IsParsed (lexemes tokens.now) (Ok (tree_of r.0, r.1))) (λ fault. Unless (is_expr_outside fault) (IsParsed (lexemes tokens.now) (Err fault))) }
+{
+    read_whole(alloc, tokens, 0, MAX_DEPTH)
+}
+
+/// The phrase of the last level from a place on, and where it ends.
+#[cycle(expr)]
+fn read_whole(
+    alloc: Global,
+    tokens: &[Token<'_>],
+    at: usize,
+    room: u8,
+) -> Result<(Expr, usize), ExprFault>
+    ensures phrase { MatchResult result (λ r. IsPhrase (lexemes tokens.now) room 6 at r.1 (tree_of r.0)) (λ fault. IsStop (lexemes tokens.now) room 6 at fault) }
+    ensures further { IfOk result (λ r. at < r.1) }
+{
+    if is_negation(tokens, at) {
+        read_negated(alloc, tokens, at, room)
+    } else {
+        read_level(alloc, tokens, at, 5, room)
+    }
+}
+
+#[cycle(expr)]
+fn read_negated(
+    alloc: Global,
+    tokens: &[Token<'_>],
+    at: usize,
+    room: u8,
+) -> Result<(Expr, usize), ExprFault>
+    requires inside { at < length tokens.now }
+    requires negation { opening_at (lexemes tokens.now) at ≡ opening.Negation }
+    ensures phrase { MatchResult result (λ r. IsPhrase (lexemes tokens.now) room 6 at r.1 (tree_of r.0)) (λ fault. IsStop (lexemes tokens.now) room 6 at fault) }
+    ensures further { IfOk result (λ r. at < r.1) }
+{
+    if room == 0 {
+        return Err(ExprFault::TooDeep);
+    }
+    let (operand, end) = read_whole(alloc, tokens, at + 1, room - 1)?;
+    Ok((Expr::Prefix(Op1::Not, Box::new(alloc, operand)?), end))
+}
+
+/// The phrase of a level from a place on, and where it ends.
+#[cycle(expr)]
+fn read_level(
+    alloc: Global,
+    tokens: &[Token<'_>],
+    at: usize,
+    level: u8,
+    room: u8,
+) -> Result<(Expr, usize), ExprFault>
+    requires { level ≤ 5 }
+    ensures phrase { MatchResult result (λ r. IsPhrase (lexemes tokens.now) room level at r.1 (tree_of r.0)) (λ fault. IsStop (lexemes tokens.now) room level at fault) }
+    ensures further { IfOk result (λ r. at < r.1) }
+{
+    if level == 0 {
+        return read_operand(alloc, tokens, at, room);
+    }
+    let (mut left, mut end) = read_level(alloc, tokens, at, level - 1, room)?;
+    'operators: while let Some(op) = operator_at(tokens, level, end) {
+        let (right, next) = read_level(alloc, tokens, end + 1, level - 1, room)?;
+        left = Expr::Binary(op, Box::new(alloc, left)?, Box::new(alloc, right)?);
+        end = next;
+    }
+    Ok((left, end))
+}
+
+#[cycle(expr)]
+fn read_operand(
+    alloc: Global,
+    tokens: &[Token<'_>],
+    at: usize,
+    room: u8,
+) -> Result<(Expr, usize), ExprFault>
+    ensures phrase { MatchResult result (λ r. IsPhrase (lexemes tokens.now) room 0 at r.1 (tree_of r.0)) (λ fault. IsStop (lexemes tokens.now) room 0 at fault) }
+    ensures further { IfOk result (λ r. at < r.1) }
+{
+    let opening = opening_at(tokens, at);
+    if let Some(leaf) = leaf_of(alloc, opening, text_at(tokens, at))? {
+        return Ok((leaf, at + 1));
+    }
+    match opening {
+        Opening::Name => read_name(alloc, tokens, at, room),
+        Opening::Scope => read_global(alloc, tokens, at, room),
+        Opening::Prefix(op) => read_prefixed(alloc, tokens, at, room, op),
+        Opening::Parenthesis => read_enclosed(alloc, tokens, at, room),
+        _ => Err(ExprFault::OperandExpected),
+    }
+}
+
+/// The operand of one token.
+fn leaf_of(alloc: Global, opening: Opening, text: &[u8]) -> Result<Option<Expr>, AllocError>
+    ensures { IfOk result (λ leaf. option_map tree_of leaf ≡ leaf_of opening text.now) }
+{
+    Ok(match opening {
+        Opening::Number(value) => Some(Expr::Number(value)),
+        Opening::Here => Some(Expr::Here),
+        Opening::Cheap => Some(Expr::Cheap(Sequence::from_vec(Vec::from_slice(alloc, text)?))),
+        Opening::Forward(count) => Some(Expr::Forward(count)),
+        Opening::Backward(count) => Some(Expr::Backward(count)),
+        _ => None,
+    })
+}
+
+fn read_name(
+    alloc: Global,
+    tokens: &[Token<'_>],
+    at: usize,
+    room: u8,
+) -> Result<(Expr, usize), ExprFault>
+    requires inside { at < length tokens.now }
+    requires name { opening_at (lexemes tokens.now) at ≡ opening.Name }
+    ensures phrase { MatchResult result (λ r. IsPhrase (lexemes tokens.now) room 0 at r.1 (tree_of r.0)) (λ fault. IsStop (lexemes tokens.now) room 0 at fault) }
+    ensures further { IfOk result (λ r. at < r.1) }
+{
+    let (parts, end) = read_parts(alloc, tokens, at)?;
+    let name = Name {
+        is_global: false,
+        parts,
+    };
+    Ok((Expr::Name(name), end))
+}
+
+fn read_global(
+    alloc: Global,
+    tokens: &[Token<'_>],
+    at: usize,
+    room: u8,
+) -> Result<(Expr, usize), ExprFault>
+    requires inside { at < length tokens.now }
+    requires scope { opening_at (lexemes tokens.now) at ≡ opening.Scope }
+    ensures phrase { MatchResult result (λ r. IsPhrase (lexemes tokens.now) room 0 at r.1 (tree_of r.0)) (λ fault. IsStop (lexemes tokens.now) room 0 at fault) }
+    ensures further { IfOk result (λ r. at < r.1) }
+{
+    let (parts, end) = read_parts(alloc, tokens, at + 1)?;
+    let name = Name {
+        is_global: true,
+        parts,
+    };
+    Ok((Expr::Name(name), end))
+}
+
+#[cycle(expr)]
+fn read_prefixed(
+    alloc: Global,
+    tokens: &[Token<'_>],
+    at: usize,
+    room: u8,
+    op: Op1,
+) -> Result<(Expr, usize), ExprFault>
+    requires inside { at < length tokens.now }
+    requires prefix { opening_at (lexemes tokens.now) at ≡ opening.Prefix op }
+    ensures phrase { MatchResult result (λ r. IsPhrase (lexemes tokens.now) room 0 at r.1 (tree_of r.0)) (λ fault. IsStop (lexemes tokens.now) room 0 at fault) }
+    ensures further { IfOk result (λ r. at < r.1) }
+{
+    if room == 0 {
+        return Err(ExprFault::TooDeep);
+    }
+    let (operand, end) = read_operand(alloc, tokens, at + 1, room - 1)?;
+    Ok((Expr::Prefix(op, Box::new(alloc, operand)?), end))
+}
+
+#[cycle(expr)]
+fn read_enclosed(
+    alloc: Global,
+    tokens: &[Token<'_>],
+    at: usize,
+    room: u8,
+) -> Result<(Expr, usize), ExprFault>
+    requires inside { at < length tokens.now }
+    requires open { opening_at (lexemes tokens.now) at ≡ opening.Parenthesis }
+    ensures phrase { MatchResult result (λ r. IsPhrase (lexemes tokens.now) room 0 at r.1 (tree_of r.0)) (λ fault. IsStop (lexemes tokens.now) room 0 at fault) }
+    ensures further { IfOk result (λ r. at < r.1) }
+{
+    if room == 0 {
+        return Err(ExprFault::TooDeep);
+    }
+    let (inner, end) = read_whole(alloc, tokens, at + 1, room - 1)?;
+    if closes_at(tokens, end) {
+        Ok((inner, end + 1))
+    } else {
+        Err(ExprFault::ParenthesisExpected)
+    }
+}

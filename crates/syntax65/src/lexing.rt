@@ -1,0 +1,15 @@
+//! The tokens of a source line.
+
+mod classes;
+mod fault;
+mod lines;
+mod marks;
+mod numbers;
+mod places;
+mod scanning;
+mod tokens;
+
+pub use fault::LexFault;
+pub use lines::{MAX_LINE, line_tokens};
+pub use places::MAX_NAME;
+pub use tokens::{AddressSize, Mark, Token, TokenKind};

@@ -1,0 +1,53 @@
+//! The classes of bytes.
+
+ghost use Rattle.std.specs.Prelude.{◌≡◌};
+ghost use Rattle.syntax65.specs.Bytes.{class_of, is_word, is_blank};
+
+/// What a byte may begin.
+#[derive(Clone, Copy, Debug, PartialEq, Eq)]
+pub enum Class {
+    Letter,
+    Digit,
+    Radix,
+    At,
+    Dot,
+    Apostrophe,
+    Quote,
+    Colon,
+    Semicolon,
+    Blank,
+    Other,
+}
+
+/// The class of a byte.
+pub fn class_of(b: u8) -> Class
+    ensures { result ≡ class_of b }
+{
+    match b {
+        b'a'..=b'z' | b'A'..=b'Z' | b'_' => Class::Letter,
+        b'0'..=b'9' => Class::Digit,
+        b'$' | b'%' => Class::Radix,
+        b'@' => Class::At,
+        b'.' => Class::Dot,
+        b'\'' => Class::Apostrophe,
+        b'"' => Class::Quote,
+        b':' => Class::Colon,
+        b';' => Class::Semicolon,
+        b' ' | b'\t' => Class::Blank,
+        _ => Class::Other,
+    }
+}
+
+/// Whether the byte may stand behind the first of a name or number.
+pub fn is_word(b: u8) -> bool
+    ensures { result ≡ is_word b }
+{
+    matches!(class_of(b), Class::Letter | Class::Digit)
+}
+
+/// Whether the byte parts tokens.
+pub fn is_blank(b: u8) -> bool
+    ensures { result ≡ is_blank b }
+{
+    matches!(class_of(b), Class::Blank)
+}

@@ -1,0 +1,59 @@
+//! The tokens of a line.
+
+ghost use Rattle.std.specs.Prelude.{◌≡◌, ◌↔◌, Ok, Err, IsTrue, MatchResult, map};
+ghost use Rattle.syntax65.specs.Faults.{is_lex_outside};
+ghost use Rattle.syntax65.specs.Outcome.{Unless};
+ghost use Rattle.syntax65.specs.Tokens.{after_blanks, lexeme_of, IsEnd, IsRead};
+
+use super::classes::{Class, class_of};
+use super::fault::LexFault;
+use super::places::token_at;
+use super::scanning::blank_len;
+use super::tokens::Token;
+use std::alloc::Global;
+
+/// How many bytes a line has at most.
+pub const MAX_LINE: usize = 4096;
+
+/// The tokens of a line, each of which borrows its slice.
+///
+/// # Errors
+///
+/// `LineTooLong`, or else the fault of the first place where no token stands.
+pub fn line_tokens(alloc: Global, line: &[u8]) -> Result<Vec<Token<'_>>, LexFault>
+    ensures { MatchResult result (λ v. IsRead line.now (Ok (map lexeme_of v.items))) (λ e. Unless (is_lex_outside e) (IsRead line.now (Err e))) }
+{
+    if line.len() > MAX_LINE {
+        return Err(LexFault::LineTooLong);
+    }
+    let mut tokens = Vec::new(alloc);
+    let mut rest = line;
+    'line: loop {
+        let here = skip_blanks(rest);
+        if is_end(here) {
+            return Ok(tokens);
+        }
+        let (kind, len) = token_at(tokens.is_empty(), here)?;
+        let (text, behind) = here.split_at(len);
+        tokens.push(Token { kind, text })?;
+        rest = behind;
+    }
+}
+
+/// What stands behind the blanks.
+fn skip_blanks(line: &[u8]) -> &[u8]
+    ensures { result.now ≡ after_blanks line.now }
+{
+    let (_, here) = line.split_at(blank_len(line));
+    here
+}
+
+/// Whether the line ends here, or a comment begins.
+fn is_end(here: &[u8]) -> bool
+    ensures { IsTrue result ↔ IsEnd here.now }
+{
+    match here.first() {
+        None => true,
+        Some(first) => class_of(*first) == Class::Semicolon,
+    }
+}

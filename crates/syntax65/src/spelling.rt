@@ -1,0 +1,11 @@
+//! Words in either case.
+
+ghost use Rattle.std.specs.Prelude.{◌≡◌};
+ghost use Rattle.std.specs.Str.{str_eq_ignore_ascii_case};
+
+/// Whether bytes are a word, in either case.
+pub fn is_word(text: &[u8], word: &[u8]) -> bool
+    ensures { result ≡ str_eq_ignore_ascii_case text.now word.now }
+{
+    text.eq_ignore_ascii_case(word)
+}

@@ -1,6 +1,9 @@
+pub mod Forms
 pub mod Frees
 pub mod Lists
 pub mod Names
 pub mod Opens
+pub mod Pieces
 pub mod Records
 pub mod Sounds
+pub mod Written

@@ -12,3 +12,4 @@ pub mod Bodies
 pub mod Taking
 pub mod Whole
 pub mod Sound
+pub mod Small

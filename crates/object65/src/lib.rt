@@ -14,6 +14,9 @@ mod parts;
 mod reading;
 mod record;
 mod taking;
+#[cfg(test)]
+mod tests;
+mod writing;
 
 pub use builder::Builder;
 pub use fault::ObjectFault;

@@ -7,3 +7,4 @@ pub mod Pieces
 pub mod Records
 pub mod Sounds
 pub mod Written
+pub mod Goods

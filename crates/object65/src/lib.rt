@@ -27,3 +27,4 @@ pub use object::{Action, Assert, Export, Fragment, Object, Section, Width};
 pub use operator::{Op1, Op2};
 pub use reading::{check_end, read_head, read_record};
 pub use record::Record;
+pub use writing::write_object;

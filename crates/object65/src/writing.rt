@@ -1,11 +1,11 @@
 //! Writing an object, record by record.
 
-ghost use Rattle.std.specs.Prelude.{◌≡◌, ◌≤◌, ◌<◌, ◌+◌, ◌*◌, ◌++◌, ◌∷◌, [], ◌&&◌, length, map, OnOk, true, sum_by, option_to_list};
+ghost use Rattle.std.specs.Prelude.{◌≡◌, ◌≤◌, ◌<◌, ◌+◌, ◌*◌, ◌++◌, ◌∷◌, [], ◌&&◌, length, map, OnOk, OnErr, IfErr, true, sum_by, option_to_list};
 ghost use Rattle.std.specs.List.{flat_map, list_all};
 ghost use Rattle.std.specs.Int.{w64, cast_unsigned};
 ghost use Rattle.byteorder.specs.Endian.{little_bytes};
 ghost use Rattle.object65.specs.Form.{nodes, sec};
-ghost use Rattle.object65.specs.Objects.{fragment_len, section_len, section_limit};
+ghost use Rattle.object65.specs.Objects.{is_good_object, fragment_len, section_len, section_limit};
 ghost use Rattle.object65.specs.Operators.{number2};
 ghost use Rattle.object65.specs.Small.{is_small_text, is_small_form, is_small_fragment, is_small_section, is_small_export, is_small_assert};
 ghost use Rattle.object65.specs.Spelling.{code1, form_bytes, width_code, action_code, body_limit, entry_bytes, literal_entries, fragment_entries, fill_entry, value_entry, import_entry, section_entry, export_entry, assert_entry, entries_of, object_bytes};
@@ -327,4 +327,17 @@ fn put_object(alloc: Global, out: &mut Vec<u8>, object: &Object) -> Result<(), A
     put_exports(alloc, out, object.exports.as_slice())?;
     put_asserts(alloc, out, object.asserts.as_slice())?;
     put_record(out, END, &[])
+}
+
+/// Adds the one spelling of an object. A refusal, which is want of memory alone, changes nothing.
+pub fn write_object(alloc: Global, object: &Object, out: &mut Vec<u8>) -> Result<(), ObjectFault>
+    requires { is_good_object object.now ≡ true }
+    ensures written { OnOk result (out.new.items ≡ out.old.items ++ object_bytes object.now) }
+    ensures unchanged { OnErr result (out.new.items ≡ out.old.items) }
+    ensures memory { IfErr result (λ e. e ≡ ObjectFault.OutOfMemory) }
+{
+    let mut bytes = Vec::new(alloc);
+    put_object(alloc, &mut bytes, object)?;
+    out.extend_from_slice(&bytes)?;
+    Ok(())
 }

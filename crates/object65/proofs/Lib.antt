@@ -8,3 +8,6 @@ pub mod Records
 pub mod Sounds
 pub mod Written
 pub mod Goods
+pub mod Numbers
+pub mod Rooms
+pub mod Trails

@@ -13,3 +13,4 @@ pub mod Taking
 pub mod Whole
 pub mod Sound
 pub mod Small
+pub mod Bytes

@@ -11,3 +11,4 @@ pub mod Goods
 pub mod Numbers
 pub mod Rooms
 pub mod Trails
+pub mod Reached

@@ -1,6 +1,6 @@
 -- The records of a literal, one after another.
-use Rattle.std.proofs.Common.{◌≡◌, ◌∙◌, ◌<◌, ◌≤◌, ℕ, suc, ◌+◌, ◌-◌, ◌/◌, List, [], ◌∷◌, ◌++◌, length, take, drop, map, refl, sym, ap, arith, append_assoc}
-use Rattle.std.proofs.lemmas.List.{length-drop, take_all, drop_all}
+use Rattle.std.proofs.Common.{◌≡◌, ◌∙◌, ◌<◌, ◌≤◌, ℕ, zero, suc, ◌*◌, ◌%◌, length-append, ◌+◌, ◌-◌, ◌/◌, List, [], ◌∷◌, ◌++◌, length, take, drop, map, refl, sym, ap, arith, append_assoc}
+use Rattle.std.proofs.lemmas.List.{length-drop, length-take, take_all, drop_all, take-append-le, drop-append-le}
 use Rattle.std.specs.List.{flat_map}
 use Rattle.object65.specs.Record.{Entry}
 use Rattle.object65.specs.Spelling.{pieces, literal_entry, literal_entries, body_limit, entry_bytes}
@@ -33,3 +33,16 @@ written_last out new old bytes whole some within is kept =
     nil : (xs : List ℕ) → xs ++ [] ≡ xs
     nil [] = refl
     nil (x ∷ xs) = ap (λ ys. x ∷ ys) (nil xs)
+
+-- where all its records are full, a literal and one record more are the records of both
+grown : (k : ℕ) (bytes body : List ℕ) → length bytes ≡ body_limit * k → 0 < length body → length body ≤ body_limit → literal_entries (bytes ++ body) ≡ literal_entries bytes ++ literal_entry body ∷ []
+grown zero [] body full some within = one_piece body some within
+grown zero (b ∷ bytes) body full some within = absurd (omega arith)
+grown (suc k) bytes body full some within =
+    let long : body_limit ≤ length bytes = omega arith in
+    let rest : length (drop body_limit bytes) ≡ body_limit * k = omega (arith, length-drop body_limit bytes) in
+    more_pieces (bytes ++ body) (omega (arith, length-append bytes body))
+    ∙ rw (take-append-le body_limit bytes body long, drop-append-le body_limit bytes body long, grown k (drop body_limit bytes) body rest some within) (ap (λ es. es ++ literal_entry body ∷ []) (sym (more_pieces bytes (omega arith))))
+
+pub joined_piece : (bytes body : List ℕ) → length bytes % body_limit ≡ 0 → 0 < length body → length body ≤ body_limit → literal_entries (bytes ++ body) ≡ literal_entries bytes ++ literal_entry body ∷ []
+joined_piece bytes body full some within = grown (length bytes / body_limit) bytes body (omega arith) some within

@@ -12,3 +12,4 @@ pub mod Numbers
 pub mod Rooms
 pub mod Trails
 pub mod Reached
+pub mod Steps

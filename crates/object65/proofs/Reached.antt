@@ -56,6 +56,7 @@ pub record Reached (s : State) (es : List Entry) : Type 0 where
   pub imports : s.imports ≡ []
   pub exports : s.exports ≡ []
   pub asserts : s.asserts ≡ []
+  pub failed : s.failed ≡ false
 
 -- ---- Small things.
 
@@ -63,27 +64,27 @@ pub wanted : (b : Bool) (f : ObjectFault) (u : Unit {0}) → wants b f ≡ Ok u 
 wanted true f u e = refl
 wanted false f u e = cc
 
-turned : (b : Bool) → not b ≡ true → b ≡ false
+pub turned : (b : Bool) → not b ≡ true → b ≡ false
 turned true e = cc
 turned false e = refl
 
-either : (b : Bool) → (b ≡ true) ⊎ (b ≡ false)
+pub either : (b : Bool) → (b ≡ true) ⊎ (b ≡ false)
 either true = inl refl
 either false = inr refl
 
-nil : {A : Type 0} (xs : List A) → xs ++ [] ≡ xs
+pub nil : {A : Type 0} (xs : List A) → xs ++ [] ≡ xs
 nil [] = refl
 nil (x ∷ xs) = ap (λ ys. x ∷ ys) (nil xs)
 
-all_push : {X : Type 0} (P : X → Type 0) (xs : List X) (x : X) → AllByRecursion P xs → P x → AllByRecursion P (xs ++ x ∷ [])
+pub all_push : {X : Type 0} (P : X → Type 0) (xs : List X) (x : X) → AllByRecursion P xs → P x → AllByRecursion P (xs ++ x ∷ [])
 all_push P [] x all p = (p, tt)
 all_push P (y ∷ ys) x all p = (all.0, all_push P ys x all.1 p)
 
-empties_none : (ds : List Draft) → AllByRecursion IsEmptyDraft ds → flat_map content_entries ds ≡ []
+pub empties_none : (ds : List Draft) → AllByRecursion IsEmptyDraft ds → flat_map content_entries ds ≡ []
 empties_none [] all = refl
 empties_none (d ∷ ds) all = rw (all.0, empties_none ds all.1) refl
 
-empties_fill : (ds : List Draft) → AllByRecursion IsEmptyDraft ds → Filling ds
+pub empties_fill : (ds : List Draft) → AllByRecursion IsEmptyDraft ds → Filling ds
 empties_fill [] all = tt
 empties_fill (d ∷ ds) all = (λ h. all.1, empties_fill ds all.1)
 

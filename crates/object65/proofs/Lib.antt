@@ -13,3 +13,4 @@ pub mod Rooms
 pub mod Trails
 pub mod Reached
 pub mod Steps
+pub mod Readings

@@ -14,3 +14,5 @@ pub mod Trails
 pub mod Reached
 pub mod Steps
 pub mod Readings
+pub mod Shapes
+pub mod Again

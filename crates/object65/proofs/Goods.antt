@@ -1,5 +1,5 @@
 -- An object of the grammar has small parts.
-use Rattle.std.proofs.Common.{◌≡◌, ◌∙◌, ℕ, List, [], ◌∷◌, length, map, Bool, true, false, ◌&&◌, not, nat_lt, nat_le, refl, sym, ap}
+use Rattle.std.proofs.Common.{◌≡◌, ℕ, List, [], ◌∷◌, length, map, Bool, true, false, ◌&&◌, not, nat_lt, nat_le, refl}
 use Rattle.std.specs.List.{list_all}
 use Rattle.object65.specs.declared.object.Object.{Object}
 use Rattle.object65.specs.declared.object.Section.{Section}

@@ -16,3 +16,4 @@ pub mod Steps
 pub mod Readings
 pub mod Shapes
 pub mod Again
+pub mod Spellings

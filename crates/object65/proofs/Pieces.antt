@@ -1,8 +1,7 @@
 -- The records of a literal, one after another.
 use Rattle.std.proofs.Common.{◌≡◌, ◌∙◌, ◌<◌, ◌≤◌, ℕ, zero, suc, ◌*◌, ◌%◌, length-append, ◌+◌, ◌-◌, ◌/◌, List, [], ◌∷◌, ◌++◌, length, take, drop, map, refl, sym, ap, arith, append_assoc}
-use Rattle.std.proofs.lemmas.List.{length-drop, length-take, take_all, drop_all, take-append-le, drop-append-le}
+use Rattle.std.proofs.lemmas.List.{length-drop, take_all, drop_all, take-append-le, drop-append-le}
 use Rattle.std.specs.List.{flat_map}
-use Rattle.object65.specs.Record.{Entry}
 use Rattle.object65.specs.Spelling.{pieces, literal_entry, literal_entries, body_limit, entry_bytes}
 
 counted : (n : ℕ) → 0 < n → (n + 4095) / 4096 ≡ suc ((n - 4096 + 4095) / 4096)

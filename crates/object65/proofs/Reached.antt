@@ -1,23 +1,21 @@
 -- What the state behind a list of records says of them.
-use Rattle.std.proofs.Common.{◌≡◌, ◌∙◌, ℕ, zero, suc, ◌+◌, ◌-◌, ◌%◌, ◌<◌, ◌≤◌, List, [], ◌∷◌, ◌++◌, length, take, drop, map, get_or, Bool, true, false, ◌&&◌, ◌||◌, not, nat_lt, nat_le, nat_eq, ◌==◌, if◌then◌else◌, Result, Ok, Err, refl, sym, ap, arith, append_assoc, length-append, ◌⊎◌, inl, inr, subst}
+use Rattle.std.proofs.Common.{◌≡◌, ◌∙◌, ℕ, ◌+◌, ◌-◌, ◌%◌, ◌<◌, ◌≤◌, List, [], ◌∷◌, ◌++◌, length, drop, map, get_or, Bool, true, false, ◌&&◌, ◌||◌, not, nat_lt, nat_le, nat_eq, ◌==◌, if◌then◌else◌, Result, Ok, Err, refl, sym, ap, arith, append_assoc, length-append, ◌⊎◌, inl, inr, subst}
 use Rattle.std.proofs.lemmas.Bool.Decides.{nat_tests}
-use Rattle.std.proofs.lemmas.Grind.{flat_map-append}
-use Rattle.std.proofs.lemmas.List.{map-append}
 use Rattle.std.proofs.lemmas.List.Folds.{list_any-append}
 use Rattle.std.specs.Cmp.{nat_eq_equiv}
 use Rattle.std.specs.Cmp.Lexicographic.{pointwise, lists_equiv}
-use Rattle.std.specs.List.{flat_map, list_all, list_any, AllByRecursion}
+use Rattle.std.specs.List.{flat_map, list_all, AllByRecursion}
 use Rattle.byteorder.specs.Endian.{little_number, little_bytes}
 use Rattle.object65.specs.declared.draft.Draft.{Draft}
 use Rattle.object65.specs.declared.fault.ObjectFault.{ObjectFault}
 use Rattle.object65.specs.declared.fault.ObjectFault.TheVariants.{OutOfOrder, BadSize, NotCanonical}
-use Rattle.object65.specs.Bodies.{Heading, section_of, literal_of, end_of}
+use Rattle.object65.specs.Bodies.{Heading, section_of, literal_of}
 use Rattle.object65.specs.Bytes.{IsBytes}
 use Rattle.object65.specs.Fault.{◌>>=◌}
 use Rattle.object65.specs.Objects.{is_name, is_among, are_names, section_limit}
 use Rattle.object65.specs.Record.{Entry}
 use Rattle.object65.specs.Spelling.{literal_entry, literal_entries, end_entry, body_limit}
-use Rattle.object65.specs.Taking.{State, is_full, is_none, wants, drafted, draft_of, has_room, with_literal, in_first_open, new_name}
+use Rattle.object65.specs.Taking.{State, is_full, wants, drafted, draft_of, has_room, with_literal, in_first_open}
 use Rattle.object65.proofs.Goods.{left, right, and}
 use Rattle.object65.proofs.Numbers.{front_4}
 use Rattle.object65.proofs.Pieces.{joined_piece}
@@ -135,6 +133,7 @@ heading_read body d is e =
     let heading : ◌≡◌ {A = Heading} (record { size = little_number 4 body; align = get_or body 4 0; name = drop 5 body }) h.0 = cc (b.1) in
     let d_is : ◌≡◌ {A = Draft} (draft_of (record { size = little_number 4 body; align = get_or body 4 0; name = drop 5 body })) d = ap draft_of heading ∙ cc (h.2) in
     rw (← d_is) (record { spelled = five body is long; size = small; fresh = refl })
+
 -- ---- A LITERAL.
 
 pub record Grows (body : List ℕ) (d e : Draft) : Type 0 where
@@ -187,13 +186,16 @@ here body d e ds good goods empties short grows =
       headings = ap (λ (x : Draft). heading_entry x ∷ map heading_entry ds) grows.is;
       names = ap (λ (x : Draft). x.name ∷ map (λ y. y.name) ds) grows.is;
       contents = rw (joined, none, nil (content_entries d), nil (content_entries d ++ literal_entry body ∷ [])) refl;
-      good = (rw grows.is (record {
-        align = good.align;
-        size = good.size;
-        bare = good.bare;
-        filled = omega (arith, good.filled, length-append d.literal body);
-        within = grows.room;
-      }), goods);
+      good = (
+        rw grows.is (record {
+          align = good.align;
+          size = good.size;
+          bare = good.bare;
+          filled = omega (arith, good.filled, length-append d.literal body);
+          within = grows.room;
+        }),
+        goods,
+      );
       filling = (λ h. empties, empties_fill ds empties);
     }
 

@@ -1,5 +1,5 @@
 -- What is read as an object is spelled so.
-use Rattle.std.proofs.Common.{◌≡◌, ◌∙◌, ℕ, zero, suc, ◌+◌, ◌<◌, ◌≤◌, List, [], ◌∷◌, ◌++◌, length, take, drop, map, get_or, Bool, true, false, ◌&&◌, not, nat_lt, nat_le, nat_eq, ◌==◌, ◌||◌, if◌then◌else◌, Result, Ok, Err, refl, sym, ap, subst, arith, append_assoc}
+use Rattle.std.proofs.Common.{◌≡◌, ◌∙◌, ℕ, ◌+◌, ◌≤◌, List, [], ◌∷◌, ◌++◌, length, take, drop, map, Bool, true, false, ◌&&◌, not, nat_lt, nat_le, ◌==◌, if◌then◌else◌, Result, Ok, Err, refl, sym, ap, subst, arith}
 use Rattle.std.proofs.lemmas.Bool.Decides.{nat_tests}
 use Rattle.std.specs.Cmp.Lexicographic.{bytes_decides}
 use Rattle.std.specs.List.{flat_map, list_all, sum_by, AllByRecursion}
@@ -10,21 +10,19 @@ use Rattle.object65.specs.declared.fault.ObjectFault.{ObjectFault}
 use Rattle.object65.specs.declared.fault.ObjectFault.TheVariants.{FailedBefore, CutShort, NotAnObject, UnknownVersion, BytesAfterEnd}
 use Rattle.object65.specs.declared.object.Object.{Object}
 use Rattle.object65.specs.declared.object.Section.{Section}
-use Rattle.object65.specs.declared.object.Fragment.{Fragment}
 use Rattle.object65.specs.declared.object.Fragment.TheVariants.{Literal}
 use Rattle.object65.specs.Bytes.{IsBytes}
-use Rattle.object65.specs.Fault.{◌>>=◌}
-use Rattle.object65.specs.Objects.{is_name, is_among, are_names, section_len, section_limit, fragment_len, is_good_fragment, is_good_section, is_good_assert, is_good_form, is_good_object, are_apart, ObjectFits, FragmentFits}
+use Rattle.object65.specs.Objects.{are_names, section_len, section_limit, fragment_len, is_good_fragment, is_good_section, is_good_object, are_apart, ObjectFits, FragmentFits}
 use Rattle.object65.specs.Reading.{room, head_of, head_at, end_at}
 use Rattle.object65.specs.Record.{Entry}
-use Rattle.object65.specs.Spelling.{magic, object_head, object_bytes, entry_bytes, entries_of, section_entry, fragment_entries, literal_entries, end_entry, IsObject}
+use Rattle.object65.specs.Spelling.{magic, object_head, entry_bytes, entries_of, section_entry, fragment_entries, literal_entries, end_entry, IsObject}
 use Rattle.object65.specs.Taking.{State, start, closing, closed, is_full, is_none, section_from, object_from, finished}
 use Rattle.object65.specs.Whole.{records_at, object_at}
 use Rattle.object65.proofs.Goods.{left, right, and}
 use Rattle.object65.proofs.Reached.{Reached, GoodDraft, heading_entry, content_entries, nil}
 use Rattle.object65.proofs.Rooms.{bound, passes, room_on}
 use Rattle.object65.proofs.Steps.{after_steps, at_start}
-use Rattle.object65.proofs.Trails.{trail, Trail}
+use Rattle.object65.proofs.Trails.{trail}
 use Rattle.object65.proofs.Numbers.{bytes_drop}
 
 -- ---- A section whose fragments are one literal, or none.
@@ -166,5 +164,5 @@ read_is_object bytes at limit o is e =
       good = finished_good r.0.0 t.0 reached t.1.ended;
       numbers = finished_fits r.0.0 t.0 reached;
       spelled =
-        head.1 ∙ ap (λ xs. object_head ++ xs) (sym on ∙ t.1.spelled ∙ ap (λ xs. flat_map entry_bytes t.0 ++ xs) none ∙ nil (flat_map entry_bytes t.0) ∙ ap (flat_map entry_bytes) (sym (finished_entries r.0.0 t.0 reached t.1.ended)));
+          head.1 ∙ ap (λ xs. object_head ++ xs) (sym on ∙ t.1.spelled ∙ ap (λ xs. flat_map entry_bytes t.0 ++ xs) none ∙ nil (flat_map entry_bytes t.0) ∙ ap (flat_map entry_bytes) (sym (finished_entries r.0.0 t.0 reached t.1.ended)));
     })

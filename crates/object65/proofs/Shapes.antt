@@ -1,9 +1,9 @@
 -- An object of the kinds that are read: sections, each with one literal or none.
-use Rattle.std.proofs.Common.{◌≡◌, ◌∙◌, ℕ, zero, suc, ◌+◌, ◌/◌, ◌<◌, ◌≤◌, List, [], ◌∷◌, ◌++◌, length, take, drop, map, Bool, true, false, ◌&&◌, ◌||◌, not, nat_lt, nat_le, nat_eq, ◌==◌, refl, sym, ap, arith, length-append}
+use Rattle.std.proofs.Common.{◌≡◌, ◌∙◌, ℕ, zero, suc, ◌+◌, ◌/◌, ◌≤◌, List, [], ◌∷◌, ◌++◌, length, drop, map, Bool, true, false, ◌&&◌, not, nat_lt, nat_le, refl, sym, arith, length-append}
 use Rattle.std.proofs.lemmas.Bool.Decides.{nat_tests}
 use Rattle.std.proofs.lemmas.List.{length-take}
 use Rattle.std.proofs.lemmas.List.Folds.{list_all-append}
-use Rattle.std.specs.List.{flat_map, list_all, sum_by, AllByRecursion}
+use Rattle.std.specs.List.{flat_map, list_all, AllByRecursion}
 use Rattle.byteorder.specs.Endian.{little_bytes}
 use Rattle.byteorder.specs.Numbers.{length-bytes_low_first}
 use Rattle.object65.specs.declared.object.Object.{Object}
@@ -12,10 +12,9 @@ use Rattle.object65.specs.declared.object.Fragment.{Fragment}
 use Rattle.object65.specs.declared.object.Fragment.TheVariants.{Literal, Fill, Value}
 use Rattle.object65.specs.Objects.{is_name, is_among, are_names, section_len, is_good_fragment, is_good_section, are_apart}
 use Rattle.object65.specs.Record.{Entry, is_record_kind}
-use Rattle.object65.specs.Small.{is_small_text}
 use Rattle.object65.specs.Spelling.{entries_of, import_entry, section_entry, fragment_entries, literal_entry, literal_entries, export_entry, assert_entry, end_entry, pieces, body_limit}
 use Rattle.object65.specs.Taking.{closing, is_none}
-use Rattle.object65.proofs.Goods.{left, right, and, name_short}
+use Rattle.object65.proofs.Goods.{left, right, name_short}
 use Rattle.object65.proofs.Forms.{small_text}
 
 abbrev pub is_known : Entry → Bool

@@ -1,20 +1,17 @@
 -- One record more, and what the state behind it says.
-use Rattle.std.proofs.Common.{◌≡◌, ◌∙◌, ℕ, zero, suc, ◌+◌, ◌<◌, ◌≤◌, List, [], ◌∷◌, ◌++◌, length, map, Bool, true, false, ◌&&◌, ◌||◌, not, nat_le, nat_eq, ◌==◌, if◌then◌else◌, Result, Ok, Err, refl, sym, ap, subst, arith, append_assoc, ◌⊎◌, inl, inr}
+use Rattle.std.proofs.Common.{◌≡◌, ◌∙◌, ℕ, List, [], ◌∷◌, ◌++◌, length, map, true, false, ◌&&◌, not, nat_le, ◌==◌, if◌then◌else◌, Ok, refl, sym, ap, subst, arith, append_assoc, inl, inr}
 use Rattle.std.proofs.lemmas.Bool.Decides.{nat_tests}
-use Rattle.std.proofs.lemmas.Grind.{flat_map-append}
 use Rattle.std.proofs.lemmas.List.{map-append}
-use Rattle.std.specs.List.{flat_map, list_all, AllByRecursion}
+use Rattle.std.specs.List.{flat_map, AllByRecursion}
 use Rattle.object65.specs.declared.draft.Draft.{Draft}
-use Rattle.object65.specs.declared.fault.ObjectFault.{ObjectFault}
-use Rattle.object65.specs.declared.fault.ObjectFault.TheVariants.{FailedBefore, OutOfOrder, NotCanonical, BadSize}
+use Rattle.object65.specs.declared.fault.ObjectFault.TheVariants.{FailedBefore, OutOfOrder, NotCanonical}
 use Rattle.object65.specs.Bodies.{end_of}
-use Rattle.object65.specs.Fault.{◌>>=◌}
 use Rattle.object65.specs.Objects.{is_name, is_among, are_names}
 use Rattle.object65.specs.Record.{Entry, is_record_kind}
-use Rattle.object65.specs.Spelling.{literal_entry, end_entry, body_limit}
+use Rattle.object65.specs.Spelling.{literal_entry, end_entry}
 use Rattle.object65.specs.Taking
-use Rattle.object65.proofs.Goods.{left, right, and}
-use Rattle.object65.proofs.Reached.{Reached, GoodDraft, IsEmptyDraft, Filling, heading_entry, content_entries, wanted, turned, either, nil, all_push, empties_none, empties_fill, names_push, heading_read, ReadsHeading, literal_goes, LiteralGoes, none_full}
+use Rattle.object65.proofs.Goods.{left, right}
+use Rattle.object65.proofs.Reached.{Reached, GoodDraft, IsEmptyDraft, heading_entry, content_entries, wanted, turned, either, nil, all_push, empties_none, empties_fill, names_push, heading_read, literal_goes}
 use Rattle.object65.proofs.Rooms.{bound, passes}
 use Rattle.object65.proofs.Trails.{IsReadEntry}
 
@@ -41,13 +38,13 @@ section_step s t es e r running kind read h =
     let t_is : ◌≡◌ {A = Taking.State} (record s { drafts = s.drafts ++ d.0 ∷ [] }) t = cc (w.2) in
     subst (λ (x : Taking.State). Reached x (es ++ e ∷ [])) t_is (record {
       entries =
-        ap (λ xs. xs ++ e ∷ []) (running_entries s es r running ∙ ap (λ xs. map heading_entry s.drafts ++ xs) (empties_none s.drafts empties) ∙ nil (map heading_entry s.drafts))
-        ∙ ap (λ x. map heading_entry s.drafts ++ x ∷ []) e_is
-        ∙ sym (map-append heading_entry s.drafts (d.0 ∷ []))
-        ∙ sym (nil (map heading_entry (s.drafts ++ d.0 ∷ [])))
-        ∙ ap (λ xs. map heading_entry (s.drafts ++ d.0 ∷ []) ++ xs) (sym (empties_none (s.drafts ++ d.0 ∷ []) now_empties))
-        ∙ sym (nil (map heading_entry (s.drafts ++ d.0 ∷ []) ++ flat_map content_entries (s.drafts ++ d.0 ∷ [])))
-        ∙ ap (λ b. (map heading_entry (s.drafts ++ d.0 ∷ []) ++ flat_map content_entries (s.drafts ++ d.0 ∷ [])) ++ (if b then end_entry ∷ [] else [])) (sym running);
+          ap (λ xs. xs ++ e ∷ []) (running_entries s es r running ∙ ap (λ xs. map heading_entry s.drafts ++ xs) (empties_none s.drafts empties) ∙ nil (map heading_entry s.drafts))
+          ∙ ap (λ x. map heading_entry s.drafts ++ x ∷ []) e_is
+          ∙ sym (map-append heading_entry s.drafts (d.0 ∷ []))
+          ∙ sym (nil (map heading_entry (s.drafts ++ d.0 ∷ [])))
+          ∙ ap (λ xs. map heading_entry (s.drafts ++ d.0 ∷ []) ++ xs) (sym (empties_none (s.drafts ++ d.0 ∷ []) now_empties))
+          ∙ sym (nil (map heading_entry (s.drafts ++ d.0 ∷ []) ++ flat_map content_entries (s.drafts ++ d.0 ∷ [])))
+          ∙ ap (λ b. (map heading_entry (s.drafts ++ d.0 ∷ []) ++ flat_map content_entries (s.drafts ++ d.0 ∷ [])) ++ (if b then end_entry ∷ [] else [])) (sym running);
       names = ap are_names (map-append (λ x. x.name) s.drafts (d.0 ∷ [])) ∙ names_push (map (λ x. x.name) s.drafts) d.0.name r.names (left (is_name d.0.name) (not (is_among (map (λ x. x.name) s.drafts) d.0.name)) named) (turned (is_among (map (λ x. x.name) s.drafts) d.0.name) (right (is_name d.0.name) (not (is_among (map (λ x. x.name) s.drafts) d.0.name)) named));
       drafts = all_push GoodDraft s.drafts d.0 r.drafts (record {
         align = align;
@@ -73,13 +70,13 @@ literal_step s t es e r running kind read h =
     let t_is : ◌≡◌ {A = Taking.State} (record s { drafts = ds.0; begun = true }) t = cc (ds.2) in
     subst (λ (x : Taking.State). Reached x (es ++ e ∷ [])) t_is (record {
       entries =
-        ap (λ xs. xs ++ e ∷ []) (running_entries s es r running)
-        ∙ append_assoc (map heading_entry s.drafts) (flat_map content_entries s.drafts) (e ∷ [])
-        ∙ ap (λ x. map heading_entry s.drafts ++ (flat_map content_entries s.drafts ++ x ∷ [])) e_is
-        ∙ ap (λ xs. map heading_entry s.drafts ++ xs) (sym goes.contents)
-        ∙ ap (λ xs. xs ++ flat_map content_entries ds.0) (sym goes.headings)
-        ∙ sym (nil (map heading_entry ds.0 ++ flat_map content_entries ds.0))
-        ∙ ap (λ b. (map heading_entry ds.0 ++ flat_map content_entries ds.0) ++ (if b then end_entry ∷ [] else [])) (sym running);
+          ap (λ xs. xs ++ e ∷ []) (running_entries s es r running)
+          ∙ append_assoc (map heading_entry s.drafts) (flat_map content_entries s.drafts) (e ∷ [])
+          ∙ ap (λ x. map heading_entry s.drafts ++ (flat_map content_entries s.drafts ++ x ∷ [])) e_is
+          ∙ ap (λ xs. map heading_entry s.drafts ++ xs) (sym goes.contents)
+          ∙ ap (λ xs. xs ++ flat_map content_entries ds.0) (sym goes.headings)
+          ∙ sym (nil (map heading_entry ds.0 ++ flat_map content_entries ds.0))
+          ∙ ap (λ b. (map heading_entry ds.0 ++ flat_map content_entries ds.0) ++ (if b then end_entry ∷ [] else [])) (sym running);
       names = ap are_names goes.names ∙ r.names;
       drafts = goes.good;
       filling = goes.filling;
@@ -123,11 +120,11 @@ step s t es e r running read h =
     elim (either (e.kind == 2)) [
       | inl two ↦ let kind : e.kind ≡ 2 = grind (arith, nat_tests) in section_step s t es e r running kind read (rw kind at h)
       | inr not_two ↦ elim (either (e.kind == 3)) [
-          | inl three ↦ let kind : e.kind ≡ 3 = grind (arith, nat_tests) in literal_step s t es e r running kind read (rw kind at h)
-          | inr not_three ↦
-              let kind : e.kind ≡ 8 = (let k = read.kind in eight e.kind k not_two not_three) in
-              end_step s t es e r running kind (rw kind at h)
-        ]
+        | inl three ↦ let kind : e.kind ≡ 3 = grind (arith, nat_tests) in literal_step s t es e r running kind read (rw kind at h)
+        | inr not_three ↦
+            let kind : e.kind ≡ 8 = (let k = read.kind in eight e.kind k not_two not_three) in
+            end_step s t es e r running kind (rw kind at h)
+      ]
     ]
   where
     eight : (k : ℕ) → is_record_kind k ≡ true → (k == 2) ≡ false → (k == 3) ≡ false → k ≡ 8

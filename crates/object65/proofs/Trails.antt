@@ -1,8 +1,7 @@
 -- The list of records that stand one after another up to the END.
-use Rattle.std.proofs.Common.{◌≡◌, ◌∙◌, ℕ, zero, suc, ◌+◌, ◌*◌, ◌<◌, ◌≤◌, List, [], ◌∷◌, ◌++◌, length, get_or, Bool, true, false, if◌then◌else◌, Result, Ok, Err, refl, sym, ap, arith, append_assoc, length-append, ◌⊎◌, inl, inr, subst}
+use Rattle.std.proofs.Common.{◌≡◌, ◌∙◌, ℕ, zero, suc, ◌+◌, ◌<◌, ◌≤◌, List, [], ◌∷◌, ◌++◌, length, get_or, Bool, true, false, if◌then◌else◌, Result, Ok, Err, refl, sym, ap, arith, append_assoc, length-append, ◌⊎◌, inl, inr, subst}
 use Rattle.std.specs.List.{flat_map, AllByRecursion}
 use Rattle.byteorder.specs.Endian.{little_bytes}
-use Rattle.byteorder.specs.Numbers.{length-bytes_low_first}
 use Rattle.object65.specs.declared.fault.ObjectFault.{ObjectFault}
 use Rattle.object65.specs.declared.fault.ObjectFault.TheVariants.{OutOfOrder, FailedBefore}
 use Rattle.object65.specs.Bytes.{IsBytes}
@@ -12,8 +11,7 @@ use Rattle.object65.specs.Reading.{room, record_at, file_limit}
 use Rattle.object65.specs.Spelling.{entry_bytes, body_limit}
 use Rattle.object65.specs.Taking.{State, after, after_all, taken}
 use Rattle.object65.specs.Whole.{records_at}
-use Rattle.object65.proofs.Numbers.{bytes_drop}
-use Rattle.object65.proofs.Rooms.{bound, record_takes, record_again, TakesRecord, room_on}
+use Rattle.object65.proofs.Rooms.{bound, record_takes, record_again, TakesRecord}
 
 -- a record that was read
 pub record IsReadEntry (e : Entry) : Type 0 where
@@ -126,18 +124,18 @@ trail_again (e ∷ es) (suc left) bytes limit at s t rest long taken running end
           let last = no_more es u.0 t over u.2 in (
             at + 3 + length e.body,
             ap (λ r. r >>= (λ x. after s x.0 >>= (λ v. if v.ended then Ok (v, x.1) else records_at left v x.1 limit bytes))) one.0
-            ∙ ap (λ r. r >>= (λ v. if v.ended then Ok (v, at + 3 + length e.body) else records_at left v (at + 3 + length e.body) limit bytes)) u.1
-            ∙ chosen u.0.ended _ _ over
-            ∙ ap (λ v. Ok (v, at + 3 + length e.body)) last.1,
+                ∙ ap (λ r. r >>= (λ v. if v.ended then Ok (v, at + 3 + length e.body) else records_at left v (at + 3 + length e.body) limit bytes)) u.1
+                ∙ chosen u.0.ended _ _ over
+                ∙ ap (λ v. Ok (v, at + 3 + length e.body)) last.1,
             one.1 ∙ ap (λ xs. flat_map entry_bytes xs ++ rest) last.0,
           )
       | inr not_yet ↦
           let more = trail_again es left bytes limit (at + 3 + length e.body) u.0 t rest (omega arith) u.2 not_yet ended one.1 each.1 (omega arith) in (
             more.0,
             ap (λ r. r >>= (λ x. after s x.0 >>= (λ v. if v.ended then Ok (v, x.1) else records_at left v x.1 limit bytes))) one.0
-            ∙ ap (λ r. r >>= (λ v. if v.ended then Ok (v, at + 3 + length e.body) else records_at left v (at + 3 + length e.body) limit bytes)) u.1
-            ∙ other u.0.ended _ _ not_yet
-            ∙ more.1,
+                ∙ ap (λ r. r >>= (λ v. if v.ended then Ok (v, at + 3 + length e.body) else records_at left v (at + 3 + length e.body) limit bytes)) u.1
+                ∙ other u.0.ended _ _ not_yet
+                ∙ more.1,
             more.2,
           )
     ]

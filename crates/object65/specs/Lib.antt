@@ -14,3 +14,4 @@ pub mod Whole
 pub mod Sound
 pub mod Small
 pub mod Bytes
+pub mod Laws

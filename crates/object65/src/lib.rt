@@ -7,6 +7,7 @@ mod fault;
 mod finishing;
 mod folding;
 mod form;
+pub mod laws;
 mod loading;
 mod object;
 mod operator;

@@ -36,7 +36,10 @@ fn refusal(alloc: Global, bytes: &[u8]) -> Option<ObjectFault> {
 #[test]
 fn reads_a_section(rt: HostRuntime) -> Result<(), Fail> {
     let object = read(rt.alloc(), &CODE)?;
-    assert_eq!(rt; object.imports.len() + object.exports.len() + object.asserts.len(), 0);
+    assert_eq!(rt;
+        object.imports.len() + object.exports.len() + object.asserts.len(),
+        0
+    );
     let sections = object.sections.as_slice();
     assert_eq!(rt; sections.len(), 1);
     let code = &sections[0];
@@ -58,6 +61,9 @@ fn refuses_other_spellings(rt: HostRuntime) -> Result<(), Fail> {
     let mut longer = Vec::from_slice(alloc, &CODE)?;
     longer.push(0)?;
     assert_eq!(rt; refusal(alloc, &longer), Some(ObjectFault::BytesAfterEnd));
-    assert_eq!(rt; refusal(alloc, &TWO_LITERALS), Some(ObjectFault::NotCanonical));
+    assert_eq!(rt;
+        refusal(alloc, &TWO_LITERALS),
+        Some(ObjectFault::NotCanonical)
+    );
     Ok(())
 }

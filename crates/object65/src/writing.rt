@@ -11,7 +11,9 @@ ghost use Rattle.object65.specs.Small.{is_small_text, is_small_form, is_small_fr
 ghost use Rattle.object65.specs.Spelling.{code1, form_bytes, width_code, action_code, body_limit, entry_bytes, literal_entries, fragment_entries, fill_entry, value_entry, import_entry, section_entry, export_entry, assert_entry, entries_of, object_bytes};
 
 use crate::record::{ASSERT, END, EXPORT, FILL, IMPORT, LITERAL, SECTION, VALUE};
-use crate::{Action, Assert, Export, Fragment, Node, Norm, Object, ObjectFault, Op1, Op2, Section, Width};
+use crate::{
+    Action, Assert, Export, Fragment, Node, Norm, Object, ObjectFault, Op1, Op2, Section, Width,
+};
 use byteorder::{ByteOrder, LittleEndian};
 use std::alloc::{AllocError, Global};
 use syntax65::Sequence;
@@ -138,7 +140,13 @@ fn put_form(out: &mut Vec<u8>, form: &Norm) -> Result<(), AllocError>
 }
 
 /// Adds a VALUE.
-fn put_value(alloc: Global, out: &mut Vec<u8>, width: Width, line: u32, form: &Norm) -> Result<(), AllocError>
+fn put_value(
+    alloc: Global,
+    out: &mut Vec<u8>,
+    width: Width,
+    line: u32,
+    form: &Norm,
+) -> Result<(), AllocError>
     requires { is_small_form form.now ≡ true }
     ensures { OnOk result (out.new.items ≡ out.old.items ++ entry_bytes (value_entry width line form.now)) }
 {

@@ -1,6 +1,6 @@
-use Rattle.std.proofs.Common.{◌≡◌, ◌≤◌, ◌∷◌, [], length, ap, arith}
+use Rattle.std.proofs.Common.{length, ap, arith}
 use Rattle.byteorder.specs.Endian.{little_bytes}
-use Rattle.object65.specs.Spelling.{form_bytes, width_code, action_code}
+use Rattle.object65.specs.Spelling.{form_bytes}
 use Rattle.object65.proofs.Forms.{small_assert, added_len}
 use Rattle.object65.proofs.writing.put_assert.Goals as goal
 

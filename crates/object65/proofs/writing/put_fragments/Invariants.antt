@@ -1,4 +1,4 @@
-use Rattle.std.proofs.Common.{◌≡◌, ◌++◌, take, map}
+use Rattle.std.proofs.Common.{◌≡◌, ◌++◌, take}
 use Rattle.std.specs.List.{flat_map}
 use Rattle.object65.specs.Spelling.{fragment_entries, entry_bytes}
 use Rattle.object65.proofs.writing.put_fragments.Given as goal

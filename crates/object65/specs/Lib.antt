@@ -12,3 +12,6 @@ pub mod Bodies
 pub mod Taking
 pub mod Whole
 pub mod Sound
+pub mod Small
+pub mod Bytes
+pub mod Laws

@@ -63,10 +63,16 @@ literal_entry body = record { kind = 3; body = body }
 abbrev pub literal_entries : List ℕ → List Entry
 literal_entries bytes = map literal_entry (pieces ((length bytes + 4095) / body_limit) bytes)
 
+abbrev pub fill_entry : ℕ → Entry
+fill_entry n = record { kind = 4; body = little_bytes 4 n }
+
+abbrev pub value_entry : Width → ℕ → Form → Entry
+value_entry width line form = record { kind = 5; body = width_code width ∷ (little_bytes 4 line ++ form_bytes form) }
+
 abbrev pub fragment_entries : Fragment → List Entry
 fragment_entries (Literal bytes) = literal_entries bytes
-fragment_entries (Fill n) = record { kind = 4; body = little_bytes 4 n } ∷ []
-fragment_entries (Value width line form) = record { kind = 5; body = width_code width ∷ (little_bytes 4 line ++ form_bytes form) } ∷ []
+fragment_entries (Fill n) = fill_entry n ∷ []
+fragment_entries (Value width line form) = value_entry width line form ∷ []
 
 abbrev pub import_entry : List ℕ → Entry
 import_entry name = record { kind = 1; body = name }

@@ -7,6 +7,7 @@ mod fault;
 mod finishing;
 mod folding;
 mod form;
+pub mod laws;
 mod loading;
 mod object;
 mod operator;
@@ -14,6 +15,9 @@ mod parts;
 mod reading;
 mod record;
 mod taking;
+#[cfg(test)]
+mod tests;
+mod writing;
 
 pub use builder::Builder;
 pub use fault::ObjectFault;
@@ -24,3 +28,4 @@ pub use object::{Action, Assert, Export, Fragment, Object, Section, Width};
 pub use operator::{Op1, Op2};
 pub use reading::{check_end, read_head, read_record};
 pub use record::Record;
+pub use writing::write_object;

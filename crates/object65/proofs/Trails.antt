@@ -1,0 +1,145 @@
+-- The list of records that stand one after another up to the END.
+use Rattle.std.proofs.Common.{◌≡◌, ◌∙◌, ℕ, zero, suc, ◌+◌, ◌<◌, ◌≤◌, List, [], ◌∷◌, ◌++◌, length, get_or, Bool, true, false, if◌then◌else◌, Result, Ok, Err, refl, sym, ap, arith, append_assoc, length-append, ◌⊎◌, inl, inr, subst}
+use Rattle.std.specs.List.{flat_map, AllByRecursion}
+use Rattle.byteorder.specs.Endian.{little_bytes}
+use Rattle.object65.specs.declared.fault.ObjectFault.{ObjectFault}
+use Rattle.object65.specs.declared.fault.ObjectFault.TheVariants.{OutOfOrder, FailedBefore}
+use Rattle.object65.specs.Bytes.{IsBytes}
+use Rattle.object65.specs.Fault.{◌>>=◌}
+use Rattle.object65.specs.Record.{Entry, is_record_kind}
+use Rattle.object65.specs.Reading.{room, record_at, file_limit}
+use Rattle.object65.specs.Spelling.{entry_bytes, body_limit}
+use Rattle.object65.specs.Taking.{State, after, after_all, taken}
+use Rattle.object65.specs.Whole.{records_at}
+use Rattle.object65.proofs.Rooms.{bound, record_takes, record_again, TakesRecord}
+
+-- a record that was read
+pub record IsReadEntry (e : Entry) : Type 0 where
+  pub kind : is_record_kind e.kind ≡ true
+  pub short : length e.body ≤ body_limit
+  pub bytes : IsBytes e.body
+
+pub record Trail (bytes : List ℕ) (limit at end : ℕ) (s t : State) (es : List Entry) : Type 0 where
+  pub taken : after_all s es ≡ Ok t
+  pub ended : t.ended ≡ true
+  pub spelled : room bytes at limit ≡ flat_map entry_bytes es ++ room bytes end limit
+  pub each : AllByRecursion IsReadEntry es
+
+bytes_front : (xs ys : List ℕ) → IsBytes (xs ++ ys) → IsBytes xs
+bytes_front [] ys is i = omega arith
+bytes_front (x ∷ xs) ys is zero = is zero
+bytes_front (x ∷ xs) ys is (suc i) = bytes_front xs ys (λ j. is (suc j)) i
+
+bytes_back : (xs ys : List ℕ) → IsBytes (xs ++ ys) → IsBytes ys
+bytes_back [] ys is = is
+bytes_back (x ∷ xs) ys is = bytes_back xs ys (λ j. is (suc j))
+
+either : (b : Bool) → (b ≡ true) ⊎ (b ≡ false)
+either true = inl refl
+either false = inr refl
+
+chosen : {A : Type 0} (b : Bool) (x y : A) → b ≡ true → (if b then x else y) ≡ x
+chosen true x y e = refl
+chosen false x y e = cc
+
+other : {A : Type 0} (b : Bool) (x y : A) → b ≡ false → (if b then x else y) ≡ y
+other true x y e = cc
+other false x y e = refl
+
+nil : (xs : List ℕ) → xs ++ [] ≡ xs
+nil [] = refl
+nil (x ∷ xs) = ap (λ ys. x ∷ ys) (nil xs)
+
+first_taken : (s u : State) (e : Entry) (es : List Entry) (t : State) → after s e ≡ Ok u → after_all u es ≡ Ok t → after_all s (e ∷ es) ≡ Ok t
+first_taken s u e es t h k = ap (λ r. r >>= (λ v. after_all v es)) h ∙ k
+
+read_entry : (bytes : List ℕ) (limit at : ℕ) (x : Entry × ℕ) → IsBytes (room bytes at limit) → TakesRecord bytes at limit x → IsReadEntry x.0
+read_entry bytes limit at x is read =
+    let inside : IsBytes (entry_bytes x.0 ++ room bytes x.1 limit) = λ i. subst (λ (ys : List ℕ). get_or ys i 0 < 256) read.spelled (is i) in
+    record {
+      kind = read.kind;
+      short = read.short;
+      bytes = bytes_back (x.0.kind ∷ little_bytes 2 (length x.0.body)) x.0.body (bytes_front (entry_bytes x.0) (room bytes x.1 limit) inside);
+    }
+
+bytes_on : (bytes : List ℕ) (limit at : ℕ) (x : Entry × ℕ) → IsBytes (room bytes at limit) → TakesRecord bytes at limit x → IsBytes (room bytes x.1 limit)
+bytes_on bytes limit at x is read = bytes_back (entry_bytes x.0) (room bytes x.1 limit) (λ i. subst (λ (ys : List ℕ). get_or ys i 0 < 256) read.spelled (is i))
+
+last_one : (bytes : List ℕ) (limit at end : ℕ) (s t u : State) (x : Entry × ℕ) → IsReadEntry x.0 → TakesRecord bytes at limit x → after s x.0 ≡ Ok u → u.ended ≡ true → u ≡ t → x.1 ≡ end → Trail bytes limit at end s t (x.0 ∷ [])
+last_one bytes limit at end s t u x one read h over t_is end_is = record {
+  taken = first_taken s u x.0 [] t h (ap (λ v. Ok v) t_is);
+  ended = sym (ap (λ (v : State). v.ended) t_is) ∙ over;
+  spelled = read.spelled ∙ ap (λ n. entry_bytes x.0 ++ room bytes n limit) end_is ∙ ap (λ ys. ys ++ room bytes end limit) (sym (nil (entry_bytes x.0)));
+  each = (one, tt);
+}
+
+one_more : (bytes : List ℕ) (limit at end : ℕ) (s t u : State) (x : Entry × ℕ) (es : List Entry) → IsReadEntry x.0 → TakesRecord bytes at limit x → after s x.0 ≡ Ok u → Trail bytes limit x.1 end u t es → Trail bytes limit at end s t (x.0 ∷ es)
+one_more bytes limit at end s t u x es one read h rest = record {
+  taken = first_taken s u x.0 es t h rest.taken;
+  ended = rest.ended;
+  spelled = read.spelled ∙ ap (λ ys. entry_bytes x.0 ++ ys) rest.spelled ∙ sym (append_assoc (entry_bytes x.0) (flat_map entry_bytes es) (room bytes end limit));
+  each = (one, rest.each);
+}
+
+-- what was read up to the END stands there
+pub trail : (left : ℕ) (bytes : List ℕ) (limit at : ℕ) (s t : State) (end : ℕ) → IsBytes (room bytes at limit) → records_at left s at limit bytes ≡ Ok (t, end) → (es : List Entry) × Trail bytes limit at end s t es
+trail zero bytes limit at s t end is e = cc
+trail (suc left) bytes limit at s t end is e =
+    let r = bound (record_at at limit bytes) _ _ e in
+    let u = bound (after s r.0.0) _ _ r.2 in
+    let read = record_takes bytes at limit r.0 is r.1 in
+    let one = read_entry bytes limit at r.0 is read in
+    elim (either u.0.ended) [
+      | inl over ↦
+          let same : ◌≡◌ {A = Result (State × ℕ) ObjectFault} (Ok (u.0, r.0.1)) (Ok (t, end)) = sym (chosen u.0.ended _ _ over) ∙ u.2 in
+          let last : ◌≡◌ {A = State × ℕ} (u.0, r.0.1) (t, end) = cc in
+          (r.0.0 ∷ [], last_one bytes limit at end s t u.0 r.0 one read u.1 over (ap (λ p. p.0) last) (ap (λ p. p.1) last))
+      | inr not_yet ↦
+          let rest = trail left bytes limit r.0.1 u.0 t end (bytes_on bytes limit at r.0 is read) (sym (other u.0.ended _ _ not_yet) ∙ u.2) in
+          (r.0.0 ∷ rest.0, one_more bytes limit at end s t u.0 r.0 rest.0 one read u.1 rest.1)
+    ]
+
+-- behind an END nothing is taken
+ended_stops : (s : State) (e : Entry) (u : State) → s.ended ≡ true → after s e ≡ Ok u → ⊥
+unfolding after
+ended_stops s e u over h = refused s.failed (ap (λ b. if s.failed then Err FailedBefore else (if b then Err OutOfOrder else taken s e)) (sym over) ∙ h) where
+  refused : (b : Bool) → (if b then Err FailedBefore else Err OutOfOrder) ≡ Ok u → ⊥
+  refused true e = cc
+  refused false e = cc
+
+-- records that may follow each other and stand there are read
+pub trail_again : (es : List Entry) (left : ℕ) (bytes : List ℕ) (limit at : ℕ) (s t : State) (rest : List ℕ) → length es ≤ left → after_all s es ≡ Ok t → s.ended ≡ false → t.ended ≡ true → room bytes at limit ≡ flat_map entry_bytes es ++ rest → AllByRecursion (λ e. (is_record_kind e.kind ≡ true) × (length e.body ≤ body_limit)) es → at + length (flat_map entry_bytes es) ≤ file_limit → (end : ℕ) × (records_at left s at limit bytes ≡ Ok (t, end)) × (room bytes end limit ≡ rest)
+trail_again [] left bytes limit at s t rest long taken running ended spelled each within =
+    let same : s ≡ t = cc in
+    cc (ap (λ (v : State). v.ended) same)
+trail_again (e ∷ es) zero bytes limit at s t rest long taken running ended spelled each within = absurd (omega arith)
+trail_again (e ∷ es) (suc left) bytes limit at s t rest long taken running ended spelled each within =
+    let u = bound (after s e) _ _ taken in
+    let n = length (flat_map entry_bytes es) in
+    let whole_len : length (flat_map entry_bytes (e ∷ es)) ≡ 3 + length e.body + n = omega (arith, length-append (entry_bytes e) (flat_map entry_bytes es)) in
+    let inside : room bytes at limit ≡ entry_bytes e ++ (flat_map entry_bytes es ++ rest) = spelled ∙ append_assoc (entry_bytes e) (flat_map entry_bytes es) rest in
+    let one = record_again bytes at limit e (flat_map entry_bytes es ++ rest) inside each.0.0 each.0.1 (omega arith) in
+    elim (either u.0.ended) [
+      | inl over ↦
+          let last = no_more es u.0 t over u.2 in (
+            at + 3 + length e.body,
+            ap (λ r. r >>= (λ x. after s x.0 >>= (λ v. if v.ended then Ok (v, x.1) else records_at left v x.1 limit bytes))) one.0
+                ∙ ap (λ r. r >>= (λ v. if v.ended then Ok (v, at + 3 + length e.body) else records_at left v (at + 3 + length e.body) limit bytes)) u.1
+                ∙ chosen u.0.ended _ _ over
+                ∙ ap (λ v. Ok (v, at + 3 + length e.body)) last.1,
+            one.1 ∙ ap (λ xs. flat_map entry_bytes xs ++ rest) last.0,
+          )
+      | inr not_yet ↦
+          let more = trail_again es left bytes limit (at + 3 + length e.body) u.0 t rest (omega arith) u.2 not_yet ended one.1 each.1 (omega arith) in (
+            more.0,
+            ap (λ r. r >>= (λ x. after s x.0 >>= (λ v. if v.ended then Ok (v, x.1) else records_at left v x.1 limit bytes))) one.0
+                ∙ ap (λ r. r >>= (λ v. if v.ended then Ok (v, at + 3 + length e.body) else records_at left v (at + 3 + length e.body) limit bytes)) u.1
+                ∙ other u.0.ended _ _ not_yet
+                ∙ more.1,
+            more.2,
+          )
+    ]
+  where
+    no_more : (es : List Entry) (u t : State) → u.ended ≡ true → after_all u es ≡ Ok t → (es ≡ []) × (u ≡ t)
+    no_more [] u t over h = (refl, cc)
+    no_more (e ∷ es) u t over h = let v = bound (after u e) _ _ h in absurd (ended_stops u e v.0 over v.1)

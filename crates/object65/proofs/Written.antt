@@ -1,0 +1,62 @@
+-- What is written so far, record by record.
+use Rattle.std.proofs.Common.{◌≡◌, ◌∙◌, ◌<◌, ℕ, ◌+◌, List, [], ◌∷◌, ◌++◌, length, take, map, get_or, Bool, true, false, refl, sym, ap, append_assoc}
+use Rattle.std.proofs.lemmas.List.{take_more, map-append}
+use Rattle.std.proofs.lemmas.List.Folds.{list_all_at}
+use Rattle.std.proofs.lemmas.Grind.{flat_map-append}
+use Rattle.std.specs.List.{flat_map, list_all}
+use Rattle.object65.specs.Record.{Entry}
+use Rattle.object65.specs.Spelling.{entry_bytes}
+
+nil : (xs : List ℕ) → xs ++ [] ≡ xs
+nil [] = refl
+nil (x ∷ xs) = ap (λ ys. x ∷ ys) (nil xs)
+
+pub none_written : (old : List ℕ) → old ≡ old ++ []
+none_written old = sym (nil old)
+
+-- one more thing, of several records each
+pub more_written : {X : Type 0} (f : X → List Entry) (xs : List X) (i : ℕ) (x : X) (old out new : List ℕ) → i < length xs → x ≡ get_or xs i x → out ≡ old ++ flat_map entry_bytes (flat_map f (take i xs)) → new ≡ out ++ flat_map entry_bytes (f x) → new ≡ old ++ flat_map entry_bytes (flat_map f (take (i + 1) xs))
+more_written {X} f xs i x old out new within is kept added =
+    let more : take (i + 1) xs ≡ take i xs ++ x ∷ [] = take_more xs i x within ∙ ap (λ y. take i xs ++ y ∷ []) (sym is) in
+    let all : flat_map entry_bytes (flat_map f (take (i + 1) xs)) ≡ flat_map entry_bytes (flat_map f (take i xs)) ++ flat_map entry_bytes (f x) =
+    ap (λ ys. flat_map entry_bytes (flat_map f ys)) more
+    ∙ ap (flat_map entry_bytes) (flat_map-append f (take i xs) (x ∷ []) ∙ ap (λ es. flat_map f (take i xs) ++ es) (end (f x)))
+    ∙ flat_map-append entry_bytes (flat_map f (take i xs)) (f x) in
+    added ∙ ap (λ ys. ys ++ flat_map entry_bytes (f x)) kept ∙ append_assoc old (flat_map entry_bytes (flat_map f (take i xs))) (flat_map entry_bytes (f x)) ∙ ap (λ ys. old ++ ys) (sym all)
+  where
+    end : (es : List Entry) → es ++ [] ≡ es
+    end [] = refl
+    end (e ∷ es) = ap (λ ys. e ∷ ys) (end es)
+
+-- one more record
+pub one_more_written : {X : Type 0} (f : X → Entry) (xs : List X) (i : ℕ) (x : X) (old out new : List ℕ) → i < length xs → x ≡ get_or xs i x → out ≡ old ++ flat_map entry_bytes (map f (take i xs)) → new ≡ out ++ entry_bytes (f x) → new ≡ old ++ flat_map entry_bytes (map f (take (i + 1) xs))
+one_more_written f xs i x old out new within is kept added =
+    let more : take (i + 1) xs ≡ take i xs ++ x ∷ [] = take_more xs i x within ∙ ap (λ y. take i xs ++ y ∷ []) (sym is) in
+    let all : flat_map entry_bytes (map f (take (i + 1) xs)) ≡ flat_map entry_bytes (map f (take i xs)) ++ entry_bytes (f x) =
+    ap (λ ys. flat_map entry_bytes (map f ys)) more
+    ∙ ap (flat_map entry_bytes) (map-append f (take i xs) (x ∷ []))
+    ∙ flat_map-append entry_bytes (map f (take i xs)) (f x ∷ [])
+    ∙ ap (λ ys. flat_map entry_bytes (map f (take i xs)) ++ ys) (nil (entry_bytes (f x))) in
+    added ∙ ap (λ ys. ys ++ entry_bytes (f x)) kept ∙ append_assoc old (flat_map entry_bytes (map f (take i xs))) (entry_bytes (f x)) ∙ ap (λ ys. old ++ ys) (sym all)
+
+regroup : (old h a b c d e z : List ℕ) → (((((((old ++ h) ++ a) ++ b) ++ c) ++ d) ++ e) ++ z) ≡ old ++ (h ++ (((((a ++ b) ++ c) ++ d) ++ e) ++ z))
+regroup old h a b c d e z = simp append_assoc
+
+spread : (a b c d e z : List Entry) → flat_map entry_bytes (((((a ++ b) ++ c) ++ d) ++ e) ++ z) ≡ ((((flat_map entry_bytes a ++ flat_map entry_bytes b) ++ flat_map entry_bytes c) ++ flat_map entry_bytes d) ++ flat_map entry_bytes e) ++ flat_map entry_bytes z
+spread a b c d e z = simp flat_map-append
+
+-- all records of an object, kind by kind
+pub written_object : (old h o0 o1 o2 o3 o4 o5 new : List ℕ) (a b c d e : List Entry) (z : Entry) → o0 ≡ old ++ h → o1 ≡ o0 ++ flat_map entry_bytes a → o2 ≡ o1 ++ flat_map entry_bytes b → o3 ≡ o2 ++ flat_map entry_bytes c → o4 ≡ o3 ++ flat_map entry_bytes d → o5 ≡ o4 ++ flat_map entry_bytes e → new ≡ o5 ++ entry_bytes z → new ≡ old ++ (h ++ flat_map entry_bytes (((((a ++ b) ++ c) ++ d) ++ e) ++ z ∷ []))
+written_object old h o0 o1 o2 o3 o4 o5 new a b c d e z p0 p1 p2 p3 p4 p5 last =
+    last
+    ∙ ap (λ xs. xs ++ entry_bytes z) (p5 ∙ ap (λ xs. xs ++ flat_map entry_bytes e) (p4 ∙ ap (λ xs. xs ++ flat_map entry_bytes d) (p3 ∙ ap (λ xs. xs ++ flat_map entry_bytes c) (p2 ∙ ap (λ xs. xs ++ flat_map entry_bytes b) (p1 ∙ ap (λ xs. xs ++ flat_map entry_bytes a) p0)))))
+    ∙ regroup old h (flat_map entry_bytes a) (flat_map entry_bytes b) (flat_map entry_bytes c) (flat_map entry_bytes d) (flat_map entry_bytes e) (entry_bytes z)
+    ∙ ap (λ xs. old ++ (h ++ (((((flat_map entry_bytes a ++ flat_map entry_bytes b) ++ flat_map entry_bytes c) ++ flat_map entry_bytes d) ++ flat_map entry_bytes e) ++ xs))) (sym (nil (entry_bytes z)))
+    ∙ ap (λ xs. old ++ (h ++ xs)) (sym (spread a b c d e (z ∷ [])))
+
+-- what all pass, each passes
+pub passes : {X : Type 0} (p : X → Bool) (xs : List X) (i : ℕ) (x : X) → i < length xs → x ≡ get_or xs i x → list_all p xs ≡ true → p x ≡ true
+passes p xs i x within is all = ap p is ∙ test (p (get_or xs i x)) refl where
+  test : (b : Bool) → p (get_or xs i x) ≡ b → p (get_or xs i x) ≡ true
+  test true e = e
+  test false e = cc (list_all_at p xs i x within e)

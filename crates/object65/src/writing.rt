@@ -1,0 +1,351 @@
+//! Writing an object, record by record.
+
+ghost use Rattle.std.specs.Prelude.{◌≡◌, ◌≤◌, ◌<◌, ◌+◌, ◌*◌, ◌++◌, ◌∷◌, [], ◌&&◌, length, map, OnOk, OnErr, IfErr, true, sum_by, option_to_list};
+ghost use Rattle.std.specs.List.{flat_map, list_all};
+ghost use Rattle.std.specs.Int.{w64, cast_unsigned};
+ghost use Rattle.byteorder.specs.Endian.{little_bytes};
+ghost use Rattle.object65.specs.Form.{nodes, sec};
+ghost use Rattle.object65.specs.Objects.{is_good_object, fragment_len, section_len, section_limit};
+ghost use Rattle.object65.specs.Operators.{number2};
+ghost use Rattle.object65.specs.Small.{is_small_text, is_small_form, is_small_fragment, is_small_section, is_small_export, is_small_assert};
+ghost use Rattle.object65.specs.Spelling.{code1, form_bytes, width_code, action_code, body_limit, entry_bytes, literal_entries, fragment_entries, fill_entry, value_entry, import_entry, section_entry, export_entry, assert_entry, entries_of, object_bytes};
+
+use crate::record::{ASSERT, END, EXPORT, FILL, IMPORT, LITERAL, SECTION, VALUE};
+use crate::{
+    Action, Assert, Export, Fragment, Node, Norm, Object, ObjectFault, Op1, Op2, Section, Width,
+};
+use byteorder::{ByteOrder, LittleEndian};
+use std::alloc::{AllocError, Global};
+use syntax65::Sequence;
+
+/// With these bytes an object begins.
+const HEAD: [u8; 5] = [0x52, 0x36, 0x35, 0x6f, 0x01];
+
+const LARGEST_BODY: usize = 4096;
+
+/// Adds two bytes, the low one first.
+fn put_u16(out: &mut Vec<u8>, n: u16) -> Result<(), AllocError>
+    ensures { OnOk result (out.new.items ≡ out.old.items ++ little_bytes 2 n) }
+{
+    let mut bytes = [0u8; 2];
+    LittleEndian::write_u16(&mut bytes, n);
+    out.extend_from_slice(&bytes)
+}
+
+/// Adds four bytes, the low one first.
+fn put_u32(out: &mut Vec<u8>, n: u32) -> Result<(), AllocError>
+    ensures { OnOk result (out.new.items ≡ out.old.items ++ little_bytes 4 n) }
+{
+    let mut bytes = [0u8; 4];
+    LittleEndian::write_u32(&mut bytes, n);
+    out.extend_from_slice(&bytes)
+}
+
+/// Adds eight bytes in two's complement, the low one first.
+fn put_i64(out: &mut Vec<u8>, n: i64) -> Result<(), AllocError>
+    ensures { OnOk result (out.new.items ≡ out.old.items ++ little_bytes 8 (cast_unsigned w64 n)) }
+{
+    let mut bytes = [0u8; 8];
+    LittleEndian::write_u64(&mut bytes, n.cast_unsigned());
+    out.extend_from_slice(&bytes)
+}
+
+/// Adds a record.
+fn put_record(out: &mut Vec<u8>, kind: u8, body: &[u8]) -> Result<(), AllocError>
+    requires { length body.now ≤ body_limit }
+    ensures { OnOk result (out.new.items ≡ out.old.items ++ entry_bytes (record { kind = kind; body = body.now })) }
+{
+    out.push(kind)?;
+    put_u16(out, body.len() as u16)?;
+    out.extend_from_slice(body)
+}
+
+/// The code of a prefix operator, if it has one.
+fn prefix_code(op: Op1) -> Option<u8>
+    ensures { option_to_list result ≡ code1 op }
+{
+    match op {
+        Op1::Plus => None,
+        Op1::Minus => Some(0x10),
+        Op1::Invert => Some(0x11),
+        Op1::LowByte => Some(0x12),
+        Op1::HighByte => Some(0x13),
+        Op1::BankByte => Some(0x14),
+        Op1::LogicalNot => Some(0x15),
+    }
+}
+
+/// The code of an operator for two operands.
+fn binary_code(op: Op2) -> u8
+    ensures { result ≡ 0x20 + number2 op }
+{
+    match op {
+        Op2::Times => 0x20,
+        Op2::Over => 0x21,
+        Op2::Modulo => 0x22,
+        Op2::BitAnd => 0x23,
+        Op2::BitXor => 0x24,
+        Op2::ShiftLeft => 0x25,
+        Op2::ShiftRight => 0x26,
+        Op2::Sum => 0x27,
+        Op2::Difference => 0x28,
+        Op2::BitOr => 0x29,
+        Op2::Equal => 0x2a,
+        Op2::NotEqual => 0x2b,
+        Op2::Less => 0x2c,
+        Op2::Greater => 0x2d,
+        Op2::AtMost => 0x2e,
+        Op2::AtLeast => 0x2f,
+        Op2::Both => 0x30,
+        Op2::OneOf => 0x31,
+        Op2::Either => 0x32,
+    }
+}
+
+/// Adds a place in a section.
+fn put_place(out: &mut Vec<u8>, section: u32, offset: i64) -> Result<(), AllocError>
+    ensures { OnOk result (out.new.items ≡ out.old.items ++ form_bytes (sec section offset)) }
+{
+    out.push(0x01)?;
+    put_u32(out, section)?;
+    put_i64(out, offset)
+}
+
+/// Adds a form, each operation before its parts.
+fn put_form(out: &mut Vec<u8>, form: &Norm) -> Result<(), AllocError>
+    ensures { OnOk result (out.new.items ≡ out.old.items ++ form_bytes form.now) }
+{
+    match form.node() {
+        Node::Lit(value) => {
+            out.push(0x00)?;
+            put_i64(out, *value)
+        }
+        Node::Sec(section, offset) => put_place(out, *section, *offset),
+        Node::Imp(place) => {
+            out.push(0x02)?;
+            put_u32(out, *place)
+        }
+        Node::Prefix(op, part) => {
+            if let Some(code) = prefix_code(*op) {
+                out.push(code)?;
+            }
+            put_form(out, part)
+        }
+        Node::Binary(op, left, right) => {
+            out.push(binary_code(*op))?;
+            put_form(out, left)?;
+            put_form(out, right)
+        }
+    }
+}
+
+/// Adds a VALUE.
+fn put_value(
+    alloc: Global,
+    out: &mut Vec<u8>,
+    width: Width,
+    line: u32,
+    form: &Norm,
+) -> Result<(), AllocError>
+    requires { is_small_form form.now ≡ true }
+    ensures { OnOk result (out.new.items ≡ out.old.items ++ entry_bytes (value_entry width line form.now)) }
+{
+    let mut body = Vec::new(alloc);
+    body.push(width as u8)?;
+    put_u32(&mut body, line)?;
+    put_form(&mut body, form)?;
+    put_record(out, VALUE, &body)
+}
+
+/// Adds a FILL.
+fn put_fill(out: &mut Vec<u8>, count: u32) -> Result<(), AllocError>
+    ensures { OnOk result (out.new.items ≡ out.old.items ++ entry_bytes (fill_entry count)) }
+{
+    let mut body = [0u8; 4];
+    LittleEndian::write_u32(&mut body, count);
+    put_record(out, FILL, &body)
+}
+
+/// Adds a literal in records that are full but for the last.
+fn put_literal(out: &mut Vec<u8>, bytes: &[u8]) -> Result<(), AllocError>
+    ensures { OnOk result (out.new.items ≡ out.old.items ++ flat_map entry_bytes (literal_entries bytes.now)) }
+{
+    let mut rest = bytes;
+    while rest.len() > LARGEST_BODY {
+        let (piece, more) = rest.split_at(LARGEST_BODY);
+        put_record(out, LITERAL, piece)?;
+        rest = more;
+    }
+    if rest.is_empty() {
+        return Ok(());
+    }
+    put_record(out, LITERAL, rest)
+}
+
+/// Adds a fragment.
+fn put_fragment(alloc: Global, out: &mut Vec<u8>, fragment: &Fragment) -> Result<(), AllocError>
+    requires { is_small_fragment fragment.now ≡ true }
+    ensures { OnOk result (out.new.items ≡ out.old.items ++ flat_map entry_bytes (fragment_entries fragment.now)) }
+{
+    match fragment {
+        Fragment::Literal(bytes) => put_literal(out, bytes.as_slice()),
+        Fragment::Fill(count) => put_fill(out, *count),
+        Fragment::Value { width, line, form } => put_value(alloc, out, *width, *line, form),
+    }
+}
+
+fn put_fragments(alloc: Global, out: &mut Vec<u8>, fragments: &[Fragment]) -> Result<(), AllocError>
+    requires { list_all is_small_fragment fragments.now ≡ true }
+    ensures { OnOk result (out.new.items ≡ out.old.items ++ flat_map entry_bytes (flat_map fragment_entries fragments.now)) }
+{
+    for fragment in fragments {
+        put_fragment(alloc, out, fragment)?;
+    }
+    Ok(())
+}
+
+fn put_contents(alloc: Global, out: &mut Vec<u8>, sections: &[Section]) -> Result<(), AllocError>
+    requires { list_all is_small_section sections.now ≡ true }
+    ensures { OnOk result (out.new.items ≡ out.old.items ++ flat_map entry_bytes (flat_map (λ s. flat_map fragment_entries s.fragments) sections.now)) }
+{
+    for section in sections {
+        put_fragments(alloc, out, section.fragments.as_slice())?;
+    }
+    Ok(())
+}
+
+fn put_imports(out: &mut Vec<u8>, imports: &[Sequence<u8>]) -> Result<(), AllocError>
+    requires { list_all is_small_text imports.now ≡ true }
+    ensures { OnOk result (out.new.items ≡ out.old.items ++ flat_map entry_bytes (map import_entry imports.now)) }
+{
+    for name in imports {
+        put_record(out, IMPORT, name.as_slice())?;
+    }
+    Ok(())
+}
+
+/// How many bytes a fragment takes.
+fn fragment_size(fragment: &Fragment) -> usize
+    ensures { result ≡ fragment_len fragment.now }
+{
+    match fragment {
+        Fragment::Literal(bytes) => bytes.len(),
+        Fragment::Fill(count) => *count as usize,
+        Fragment::Value { width, .. } => match width {
+            Width::Byte | Width::Branch => 1,
+            Width::Word | Width::HighFirst => 2,
+            Width::Dword => 4,
+        },
+    }
+}
+
+/// How many bytes fragments take together.
+fn size_of(fragments: &[Fragment]) -> u32
+    requires { sum_by fragment_len fragments.now ≤ section_limit }
+    ensures { result ≡ sum_by fragment_len fragments.now }
+{
+    let mut size = 0;
+    for fragment in fragments {
+        size += fragment_size(fragment) as u32;
+    }
+    size
+}
+
+/// Adds a SECTION.
+fn put_section(alloc: Global, out: &mut Vec<u8>, section: &Section) -> Result<(), AllocError>
+    requires { is_small_section section.now ≡ true }
+    ensures { OnOk result (out.new.items ≡ out.old.items ++ entry_bytes (section_entry section.now)) }
+{
+    let mut body = Vec::new(alloc);
+    put_u32(&mut body, size_of(section.fragments.as_slice()))?;
+    body.push(section.align)?;
+    body.extend_from_slice(section.name.as_slice())?;
+    put_record(out, SECTION, &body)
+}
+
+fn put_sections(alloc: Global, out: &mut Vec<u8>, sections: &[Section]) -> Result<(), AllocError>
+    requires { list_all is_small_section sections.now ≡ true }
+    ensures { OnOk result (out.new.items ≡ out.old.items ++ flat_map entry_bytes (map section_entry sections.now)) }
+{
+    for section in sections {
+        put_section(alloc, out, section)?;
+    }
+    Ok(())
+}
+
+/// Adds an EXPORT.
+fn put_export(alloc: Global, out: &mut Vec<u8>, export: &Export) -> Result<(), AllocError>
+    requires { is_small_export export.now ≡ true }
+    ensures { OnOk result (out.new.items ≡ out.old.items ++ entry_bytes (export_entry export.now)) }
+{
+    let mut body = Vec::new(alloc);
+    body.push(export.name.len() as u8)?;
+    body.extend_from_slice(export.name.as_slice())?;
+    put_u32(&mut body, export.line)?;
+    put_form(&mut body, &export.form)?;
+    put_record(out, EXPORT, &body)
+}
+
+fn put_exports(alloc: Global, out: &mut Vec<u8>, exports: &[Export]) -> Result<(), AllocError>
+    requires { list_all is_small_export exports.now ≡ true }
+    ensures { OnOk result (out.new.items ≡ out.old.items ++ flat_map entry_bytes (map export_entry exports.now)) }
+{
+    for export in exports {
+        put_export(alloc, out, export)?;
+    }
+    Ok(())
+}
+
+/// Adds an ASSERT.
+fn put_assert(alloc: Global, out: &mut Vec<u8>, assert: &Assert) -> Result<(), AllocError>
+    requires { is_small_assert assert.now ≡ true }
+    ensures { OnOk result (out.new.items ≡ out.old.items ++ entry_bytes (assert_entry assert.now)) }
+{
+    let mut body = Vec::new(alloc);
+    body.push(assert.action as u8)?;
+    put_u32(&mut body, assert.line)?;
+    body.push(assert.text.len() as u8)?;
+    body.extend_from_slice(assert.text.as_slice())?;
+    put_form(&mut body, &assert.form)?;
+    put_record(out, ASSERT, &body)
+}
+
+fn put_asserts(alloc: Global, out: &mut Vec<u8>, asserts: &[Assert]) -> Result<(), AllocError>
+    requires { list_all is_small_assert asserts.now ≡ true }
+    ensures { OnOk result (out.new.items ≡ out.old.items ++ flat_map entry_bytes (map assert_entry asserts.now)) }
+{
+    for assert in asserts {
+        put_assert(alloc, out, assert)?;
+    }
+    Ok(())
+}
+
+/// Adds the records of an object.
+fn put_object(alloc: Global, out: &mut Vec<u8>, object: &Object) -> Result<(), AllocError>
+    requires imports { list_all is_small_text object.now.imports ≡ true }
+    requires sections { list_all is_small_section object.now.sections ≡ true }
+    requires exports { list_all is_small_export object.now.exports ≡ true }
+    requires asserts { list_all is_small_assert object.now.asserts ≡ true }
+    ensures { OnOk result (out.new.items ≡ out.old.items ++ object_bytes object.now) }
+{
+    out.extend_from_slice(&HEAD)?;
+    put_imports(out, object.imports.as_slice())?;
+    put_sections(alloc, out, object.sections.as_slice())?;
+    put_contents(alloc, out, object.sections.as_slice())?;
+    put_exports(alloc, out, object.exports.as_slice())?;
+    put_asserts(alloc, out, object.asserts.as_slice())?;
+    put_record(out, END, &[])
+}
+
+/// Adds the one spelling of an object. A refusal, which is want of memory alone, changes nothing.
+pub fn write_object(alloc: Global, object: &Object, out: &mut Vec<u8>) -> Result<(), ObjectFault>
+    requires { is_good_object object.now ≡ true }
+    ensures written { OnOk result (out.new.items ≡ out.old.items ++ object_bytes object.now) }
+    ensures unchanged { OnErr result (out.new.items ≡ out.old.items) }
+    ensures memory { IfErr result (λ e. e ≡ ObjectFault.OutOfMemory) }
+{
+    let mut bytes = Vec::new(alloc);
+    put_object(alloc, &mut bytes, object)?;
+    out.extend_from_slice(&bytes)?;
+    Ok(())
+}

@@ -1,0 +1,3 @@
+pub mod Digits
+pub mod TableLemmas
+pub mod Utf8

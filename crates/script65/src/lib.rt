@@ -1,0 +1,12 @@
+//! Linker scripts: the areas of memory, the rows of segments and the symbols that one defines, and where the
+//! segments of a program are placed by it.
+#![tactic(auto)]
+
+mod fault;
+mod reading;
+mod script;
+mod sequence;
+
+pub use fault::{Fault, ScriptFault};
+pub use script::{Access, Area, AreaFile, Begin, Row, Script, Symbol, SymbolKind};
+pub use sequence::Sequence;

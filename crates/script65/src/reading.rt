@@ -1,0 +1,7 @@
+//! Reads scripts.
+
+mod number;
+mod scan;
+mod table;
+mod token;
+mod words;

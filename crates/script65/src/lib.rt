@@ -3,10 +3,13 @@
 #![tactic(auto)]
 
 mod fault;
+mod placement;
+mod placing;
 mod reading;
 mod script;
 mod sequence;
 
 pub use fault::{Fault, ScriptFault};
+pub use placement::{AreaPlace, PlaceFault, Placement, RowPlace, SegmentNeed};
 pub use script::{Access, Area, AreaFile, Begin, Row, Script, Symbol, SymbolKind};
 pub use sequence::Sequence;

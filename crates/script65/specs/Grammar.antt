@@ -115,12 +115,19 @@ number_at bytes low high at = do
   n ← some_or (number_of (text_of bytes t)) OutOfRange t
   if nat_le low n && nat_le n high then Ok (value.Number n, t.to) else stop OutOfRange t
 
+unfoldable pub text_at : List ℕ → ℕ → Result (Value × ℕ) Stop
+text_at bytes at = do
+  t ← expect bytes form.Text at
+  Ok (value.File (t.from + 1) (t.to - 1), t.to)
+
+unfoldable pub output_at : List ℕ → ℕ → Result (Value × ℕ) Stop
+output_at bytes at = do
+  t ← expect bytes form.Output at
+  Ok (value.Output, t.to)
+
 -- the text of a string, or `%O`
-unfoldable pub file_at : List ℕ → ℕ → Result (Value × ℕ) Stop
-file_at bytes at =
-    if stands bytes form.Text at
-    then Ok (value.File ((token_at bytes at).from + 1) ((token_at bytes at).to - 1), (token_at bytes at).to)
-    else (expect bytes form.Output at >>= λ t. Ok (value.Output, t.to))
+abbrev pub file_at : List ℕ → ℕ → Result (Value × ℕ) Stop
+file_at bytes at = if stands bytes form.Text at then text_at bytes at else output_at bytes at
 
 -- what a word is to an attribute, by what the attribute takes
 abbrev pub word_value : Shape → List ℕ → Token → Option Value

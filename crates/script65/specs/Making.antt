@@ -7,7 +7,7 @@ use Rattle.script65.specs.declared.fault.Fault.TheVariants.{NoSuchArea, Excluded
 use Rattle.script65.specs.declared.fault.Stop.{Stop}
 use Rattle.script65.specs.declared.fault.ScriptFault.{ScriptFault}
 use Rattle.script65.specs.declared.script.Access.{Access}
-use Rattle.script65.specs.declared.script.Access.TheVariants.{ReadOnly, ReadWrite, Bss, ZeroPage}
+use Rattle.script65.specs.declared.script.Access.TheVariants.{ReadWrite}
 use Rattle.script65.specs.declared.script.Area.{Area}
 use Rattle.script65.specs.declared.script.AreaFile.{AreaFile}
 use Rattle.script65.specs.declared.script.AreaFile.TheVariants.{Output, Named}
@@ -26,6 +26,7 @@ use Rattle.script65.specs.declared.reading.words.Value.{Value}
 use Rattle.script65.specs.declared.reading.words.Value.TheVariants as value
 use Rattle.script65.specs.declared.reading.words.Given.{Given}
 use Rattle.script65.specs.declared.reading.table.Entry.{Entry}
+use Rattle.script65.specs.Access.{is_read_only, is_written}
 use Rattle.script65.specs.Outcome.{◌>>=◌, each}
 use Rattle.script65.specs.Tokens.{text, line_of}
 use Rattle.script65.specs.Grammar.{Draft, Drafts, value_given, number_given, role_given, First}
@@ -58,10 +59,6 @@ name_given bytes a given = option_and_then (name_in bytes) (value_given a given)
 
 abbrev pub number_or : ℕ → Attribute → List Given → ℕ
 number_or default a given = unwrap_or (number_given a given) default
-
-abbrev pub is_read_only : Access → Bool
-is_read_only ReadOnly = true
-is_read_only _ = false
 
 abbrev pub area_of : List ℕ → List ℕ × Entry → Area
 area_of bytes e = record {
@@ -108,16 +105,11 @@ run_by d (Some name) e load = found (area_place d name) e
 abbrev pub run_place : List ℕ → Draft → Entry → ℕ → Result ℕ Stop
 run_place bytes d e load = run_by d (name_given bytes attribute.Run e.given) e load
 
-abbrev pub is_unwritten : Access → Bool
-is_unwritten Bss = true
-is_unwritten ZeroPage = true
-is_unwritten _ = false
-
 -- `start` and `offset`, or two areas for what is not written
 abbrev pub is_excluded : List Given → ℕ → ℕ → Bool
 is_excluded given load run =
     (is_some (number_given attribute.Start given) && is_some (number_given attribute.Offset given))
-    || (is_unwritten (access_given given) && not (load == run))
+    || (not (is_written (access_given given)) && not (load == run))
 
 abbrev pub begin_of : Option ℕ → Option ℕ → Begin
 begin_of (Some start) offset = begin.Start start

@@ -4,8 +4,6 @@ use Rattle.std.specs.Int.{div_ceil}
 use Rattle.std.specs.List.{list_any}
 use Rattle.std.specs.Option.{option_map}
 use Rattle.std.specs.Str.{bytes_eq}
-use Rattle.script65.specs.declared.script.Access.{Access}
-use Rattle.script65.specs.declared.script.Access.TheVariants.{ReadOnly}
 use Rattle.script65.specs.declared.script.Area.{Area}
 use Rattle.script65.specs.declared.script.Begin.{Begin}
 use Rattle.script65.specs.declared.script.Begin.TheVariants as begin
@@ -18,6 +16,7 @@ use Rattle.script65.specs.declared.placement.PlaceFault.{PlaceFault}
 use Rattle.script65.specs.declared.placement.PlaceFault.TheVariants.{OutOfMemory, NoRow, ReadOnlyArea, StartBelow, Overflow}
 use Rattle.script65.specs.declared.placement.SegmentNeed.{SegmentNeed}
 use Rattle.script65.specs.declared.placing.Spot.{Spot}
+use Rattle.script65.specs.Access.{is_read_only}
 use Rattle.script65.specs.Outcome.{◌>>=◌}
 
 -- the needs of segments
@@ -44,10 +43,6 @@ abbrev pub bounds_of : Area → Bounds
 bounds_of a = record { start = a.start; end = a.start + a.size }
 
 -- rows
-
-abbrev pub is_read_only : Access → Bool
-is_read_only ReadOnly = true
-is_read_only _ = false
 
 -- whether a row runs or loads in the area at a place of the script
 unfoldable pub is_in : ℕ → Row → Bool

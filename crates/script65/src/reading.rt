@@ -1,5 +1,6 @@
 //! Reads scripts.
 
+mod attributes;
 mod number;
 mod scan;
 mod table;

@@ -1,5 +1,7 @@
 //! What a linker script says.
 
+ghost use Rattle.std.specs.Prelude.{◌≡◌};
+
 use crate::sequence::Sequence;
 
 /// A linker script: its areas, rows and symbols, each in the script's order.
@@ -42,6 +44,23 @@ pub enum Access {
     ReadWrite,
     Bss,
     ZeroPage,
+}
+
+impl Access {
+    ghost use Rattle.script65.specs.Access.{is_read_only, is_written};
+
+    pub fn is_read_only(self) -> bool
+        ensures { result ≡ is_read_only self }
+    {
+        matches!(self, Access::ReadOnly)
+    }
+
+    /// Whether the segment's bytes are in a file.
+    pub fn is_written(self) -> bool
+        ensures { result ≡ is_written self }
+    {
+        matches!(self, Access::ReadOnly | Access::ReadWrite)
+    }
 }
 
 /// Where a row begins in the area in which it runs.

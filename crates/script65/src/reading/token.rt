@@ -1,5 +1,7 @@
 //! The tokens of a script.
 
+use crate::fault::{Fault, Stop};
+
 /// What a byte may begin.
 #[derive(Clone, Copy, Debug, PartialEq, Eq)]
 pub enum Class {
@@ -40,4 +42,18 @@ pub struct Token {
     pub form: Form,
     pub from: usize,
     pub to: usize,
+}
+
+impl Token {
+    ghost use Rattle.std.specs.Prelude.{◌≡◌};
+
+    /// A fault at the token.
+    pub fn stop(self, fault: Fault) -> Stop
+        ensures { result ≡ record { fault = fault; at = self.from } }
+    {
+        Stop {
+            fault,
+            at: self.from,
+        }
+    }
 }

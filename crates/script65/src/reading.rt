@@ -1,6 +1,8 @@
 //! Reads scripts.
 
 mod attributes;
+mod entries;
+mod given;
 mod number;
 mod scan;
 mod table;

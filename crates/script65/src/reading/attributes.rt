@@ -1,10 +1,11 @@
 //! Reads attributes.
 
 ghost use Rattle.std.specs.Prelude.{◌≡◌, ◌≢◌, ◌≤◌, ◌<◌, ℕ, IfOk, length};
-ghost use Rattle.script65.specs.Grammar.{stands, expect, behind, has, number_at, text_at, output_at, file_at, word_value, word_at, value_at, attribute_word, attribute_at};
+ghost use Rattle.script65.specs.Grammar.{stands, expect, behind, number_at, text_at, output_at, file_at, word_value, word_at, value_at, attribute_word, attribute_at};
 ghost use Rattle.script65.specs.declared.reading.token.Form.TheVariants.{End};
 
 use crate::fault::{Fault, Stop};
+use crate::reading::given::has;
 use crate::reading::number::number_of;
 use crate::reading::scan::{text, token_at};
 use crate::reading::token::{Form, Token};
@@ -144,14 +145,6 @@ fn value_at(bytes: &[u8], shape: Shape, at: usize) -> Result<(Value, usize), Sto
         Shape::File => file_at(bytes, at),
         _ => word_at(bytes, shape, at),
     }
-}
-
-/// Whether an attribute is given.
-#[tactic(auto, unfolding(crate::specs::Grammar::has))]
-pub fn has(attribute: Attribute, given: &[Given]) -> bool
-    ensures { result ≡ has attribute given.now }
-{
-    given.iter().any(|g| g.attribute as u8 == attribute as u8)
 }
 
 #[tactic(auto, unfolding(crate::specs::Grammar::attribute_word))]

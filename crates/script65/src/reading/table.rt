@@ -3,10 +3,10 @@
 ghost use Rattle.std.specs.Prelude.{◌≡◌, ◌++◌, ◌∷◌, [], None, length, is_some, position, slice_get, OnOk, OnErr, IfOk, false};
 ghost use Rattle.std.specs.Option.{option_map};
 ghost use Rattle.std.specs.Str.{bytes_eq};
-ghost use Rattle.script65.specs.Grammar.{is_taken};
-ghost use Rattle.script65.specs.Tables.{named};
+ghost use Rattle.script65.specs.Grammar.{added, entries_of, is_taken, nothing};
+ghost use Rattle.script65.specs.Tables.{draft_in, named};
 
-use crate::reading::words::Given;
+use crate::reading::words::{Block, Given};
 use crate::sequence::Sequence;
 use indexmap::IndexMap;
 use std::alloc::{AllocError, Global};
@@ -68,5 +68,48 @@ impl<'a> Table<'a> {
     {
         self.entries.insert(name, entry)?;
         Ok(())
+    }
+}
+
+/// The entries of each kind of block.
+#[derive(Drop)]
+pub struct Tables<'a> {
+    pub areas: Table<'a>,
+    pub rows: Table<'a>,
+    pub symbols: Table<'a>,
+}
+
+impl<'a> Tables<'a> {
+    pub fn new(alloc: Global) -> Self
+        ensures { draft_in result ≡ nothing }
+    {
+        Tables {
+            areas: Table::new(alloc),
+            rows: Table::new(alloc),
+            symbols: Table::new(alloc),
+        }
+    }
+
+    /// Whether an entry of a block's kind has this name.
+    pub fn has(&self, block: Block, name: &[u8]) -> bool
+        ensures { result ≡ is_taken name.now (entries_of block (draft_in self.now)) }
+    {
+        match block {
+            Block::Memory => self.areas.has(name),
+            Block::Segments => self.rows.has(name),
+            Block::Symbols => self.symbols.has(name),
+        }
+    }
+
+    /// Adds an entry of a new name to those of a block's kind.
+    pub fn push(&mut self, block: Block, name: &'a [u8], entry: Entry) -> Result<(), AllocError>
+        requires { is_taken name.now (entries_of block (draft_in self.old)) ≡ false }
+        ensures ok { OnOk result (draft_in self.new ≡ added block name.now entry (draft_in self.old)) }
+    {
+        match block {
+            Block::Memory => self.areas.push(name, entry),
+            Block::Segments => self.rows.push(name, entry),
+            Block::Symbols => self.symbols.push(name, entry),
+        }
     }
 }

@@ -1,4 +1,5 @@
 pub mod Digits
+pub mod Eaches
 pub mod Forms
 pub mod Manys
 pub mod TableLemmas

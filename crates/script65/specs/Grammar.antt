@@ -115,6 +115,12 @@ number_at bytes low high at = do
   n ← some_or (number_of (text_of bytes t)) OutOfRange t
   if nat_le low n && nat_le n high then Ok (value.Number n, t.to) else stop OutOfRange t
 
+unfoldable pub byte_at : List ℕ → ℕ → Result (Value × ℕ) Stop
+byte_at bytes at = do
+  t ← expect bytes form.Number at
+  n ← some_or (number_of (text_of bytes t)) OutOfRange t
+  if nat_le n 255 then Ok (value.Byte n, t.to) else stop OutOfRange t
+
 unfoldable pub text_at : List ℕ → ℕ → Result (Value × ℕ) Stop
 text_at bytes at = do
   t ← expect bytes form.Text at
@@ -147,6 +153,7 @@ word_at bytes s at = do
 
 abbrev pub value_at : List ℕ → Shape → ℕ → Result (Value × ℕ) Stop
 value_at bytes (shape.Number low high) at = number_at bytes low high at
+value_at bytes shape.Byte at = byte_at bytes at
 value_at bytes shape.File at = file_at bytes at
 value_at bytes s at = word_at bytes s at
 

@@ -39,6 +39,10 @@ abbrev pub access_in : Value → Option Access
 access_in (value.Access a) = Some a
 access_in _ = None
 
+abbrev pub byte_in : Value → Option ℕ
+byte_in (value.Byte n) = Some n
+byte_in _ = None
+
 -- the bytes of a name that stands in the text
 abbrev pub name_in : List ℕ → Value → Option (List ℕ)
 name_in bytes (value.Name from to) = Some (text bytes from to)
@@ -57,8 +61,16 @@ access_given given = unwrap_or (option_and_then access_in (value_given attribute
 abbrev pub name_given : List ℕ → Attribute → List Given → Option (List ℕ)
 name_given bytes a given = option_and_then (name_in bytes) (value_given a given)
 
+-- the number given, or another where there is none
 abbrev pub number_or : ℕ → Attribute → List Given → ℕ
-number_or default a given = unwrap_or (number_given a given) default
+number_or other a given = unwrap_or (number_given a given) other
+
+-- the byte given, or another where there is none
+abbrev pub byte_or : ℕ → List Given → ℕ
+byte_or other given = unwrap_or (option_and_then byte_in (value_given attribute.FillValue given)) other
+
+abbrev pub area_file : List ℕ → List Given → AreaFile
+area_file bytes given = option_map_or (file_in bytes) (value_given attribute.File given) Output
 
 abbrev pub area_of : List ℕ → List ℕ × Entry → Area
 area_of bytes e = record {
@@ -66,9 +78,9 @@ area_of bytes e = record {
   start = number_or 0 attribute.Start e.1.given;
   size = number_or 0 attribute.Size e.1.given;
   read_only = is_read_only (access_given e.1.given);
-  file = option_map_or (file_in bytes) (value_given attribute.File e.1.given) Output;
+  file = area_file bytes e.1.given;
   fill = flag_given attribute.Fill e.1.given;
-  fill_value = number_or 0 attribute.FillValue e.1.given;
+  fill_value = byte_or 0 e.1.given;
   define = flag_given attribute.Define e.1.given
 }
 
@@ -117,7 +129,7 @@ begin_of None (Some offset) = begin.Offset offset
 begin_of None None = begin.Aligned
 
 abbrev pub area_fill : Draft → ℕ → ℕ
-area_fill d place = option_map_or (λ (e : List ℕ × Entry). number_or 0 attribute.FillValue e.1.given) (slice_get d.areas place) 0
+area_fill d place = option_map_or (λ (e : List ℕ × Entry). byte_or 0 e.1.given) (slice_get d.areas place) 0
 
 abbrev pub row_with : List ℕ × Entry → ℕ → ℕ → ℕ → Row
 row_with e load run fill = record {
@@ -128,17 +140,20 @@ row_with e load run fill = record {
   align = number_or 1 attribute.Align e.1.given;
   align_load = number_or 1 attribute.AlignLoad e.1.given;
   begin = begin_of (number_given attribute.Start e.1.given) (number_given attribute.Offset e.1.given);
-  fill_value = number_or fill attribute.FillValue e.1.given;
+  fill_value = byte_or fill e.1.given;
   define = flag_given attribute.Define e.1.given;
   optional = flag_given attribute.Optional e.1.given
 }
 
--- a row, whose areas there are and whose attributes don't exclude each other
-unfoldable pub row_of : List ℕ → Draft → List ℕ × Entry → Result Row Stop
-row_of bytes d e = do
-  load ← load_place bytes d e.1
-  run ← run_place bytes d e.1 load
-  if is_excluded e.1.given load run then stop_at Excluded e.1 else Ok (row_with e load run (area_fill d load))
+-- the areas of a row, which there are and which its attributes don't exclude
+abbrev pub row_areas : List ℕ → Draft → Entry → Result (ℕ × ℕ) Stop
+row_areas bytes d e = do
+  load ← load_place bytes d e
+  run ← run_place bytes d e load
+  if is_excluded e.given load run then stop_at Excluded e else Ok (load, run)
+
+abbrev pub row_of : List ℕ → Draft → List ℕ × Entry → Result Row Stop
+row_of bytes d e = row_areas bytes d e.1 >>= λ a. Ok (row_with e a.0 a.1 (area_fill d a.0))
 
 -- the script of what was read, or the first fault of its rows
 abbrev pub script_of : List ℕ → Draft → Result Script Stop

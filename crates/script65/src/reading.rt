@@ -3,6 +3,7 @@
 mod attributes;
 mod entries;
 mod given;
+mod making;
 mod number;
 mod scan;
 mod table;

@@ -1,7 +1,7 @@
 //! Reads attributes.
 
 ghost use Rattle.std.specs.Prelude.{◌≡◌, ◌≢◌, ◌≤◌, ◌<◌, ℕ, IfOk, length};
-ghost use Rattle.script65.specs.Grammar.{stands, expect, behind, number_at, text_at, output_at, file_at, word_value, word_at, value_at, attribute_word, attribute_at};
+ghost use Rattle.script65.specs.Grammar.{stands, expect, behind, number_at, byte_at, text_at, output_at, file_at, word_value, word_at, value_at, attribute_word, attribute_at};
 ghost use Rattle.script65.specs.declared.reading.token.Form.TheVariants.{End};
 
 use crate::fault::{Fault, Stop};
@@ -70,6 +70,20 @@ fn number_at(bytes: &[u8], low: u32, high: u32, at: usize) -> Result<(Value, usi
     }
 }
 
+#[tactic(auto, unfolding(crate::specs::Grammar::byte_at))]
+fn byte_at(bytes: &[u8], at: usize) -> Result<(Value, usize), Stop>
+    requires { at ≤ length bytes.now }
+    ensures value { result ≡ byte_at bytes.now at }
+    ensures within { IfOk result (λ r. r.1 ≤ length bytes.now) }
+    ensures start { IfOk result (λ r. at < r.1) }
+{
+    let token = expect(bytes, Form::Number, at)?;
+    match number_of(text(bytes, token.from, token.to)) {
+        Some(n) if n <= 255 => Ok((Value::Byte(n as u8), token.to)),
+        _ => Err(token.stop(Fault::OutOfRange)),
+    }
+}
+
 #[tactic(auto, unfolding(crate::specs::Grammar::text_at))]
 fn text_at(bytes: &[u8], at: usize) -> Result<(Value, usize), Stop>
     requires { at ≤ length bytes.now }
@@ -116,7 +130,7 @@ fn word_value(shape: Shape, word: &[u8], token: Token) -> Option<Value>
         Shape::RowAccess => row_access_of(word).map(Value::Access),
         Shape::Role => role_of(word).map(Value::Role),
         Shape::Width => is_width(word).then_some(Value::Width),
-        Shape::Number(..) | Shape::File => None,
+        Shape::Number(..) | Shape::Byte | Shape::File => None,
     }
 }
 
@@ -142,6 +156,7 @@ fn value_at(bytes: &[u8], shape: Shape, at: usize) -> Result<(Value, usize), Sto
 {
     match shape {
         Shape::Number(low, high) => number_at(bytes, low, high, at),
+        Shape::Byte => byte_at(bytes, at),
         Shape::File => file_at(bytes, at),
         _ => word_at(bytes, shape, at),
     }

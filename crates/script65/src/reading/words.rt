@@ -45,6 +45,8 @@ pub enum Role {
 pub enum Shape {
     /// A number between two others, these among them.
     Number(u32, u32),
+    /// A number from 0 to 255.
+    Byte,
     Flag,
     Area,
     File,
@@ -58,6 +60,7 @@ pub enum Shape {
 #[derive(Clone, Copy, Debug, PartialEq, Eq)]
 pub enum Value {
     Number(u32),
+    Byte(u8),
     Flag(bool),
     Name(usize, usize),
     File(usize, usize),
@@ -188,7 +191,7 @@ pub fn shape_of(block: Block, attribute: Attribute) -> Shape
         Attribute::Start | Attribute::Size | Attribute::Offset | Attribute::Value => {
             Shape::Number(0, 0xffff_ffff)
         }
-        Attribute::FillValue => Shape::Number(0, 0xff),
+        Attribute::FillValue => Shape::Byte,
         Attribute::Align | Attribute::AlignLoad => Shape::Number(1, 65536),
         Attribute::Fill | Attribute::Define | Attribute::Optional => Shape::Flag,
         Attribute::Load | Attribute::Run => Shape::Area,

@@ -2,5 +2,6 @@ pub mod Digits
 pub mod Eaches
 pub mod Forms
 pub mod Manys
+pub mod OneReading
 pub mod TableLemmas
 pub mod Utf8

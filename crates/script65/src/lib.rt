@@ -3,6 +3,7 @@
 #![tactic(auto)]
 
 mod fault;
+pub mod laws;
 mod placement;
 mod placing;
 mod reading;
@@ -11,5 +12,6 @@ mod sequence;
 
 pub use fault::{Fault, ScriptFault};
 pub use placement::{AreaPlace, PlaceFault, Placement, RowPlace, SegmentNeed};
+pub use reading::read_script;
 pub use script::{Access, Area, AreaFile, Begin, Row, Script, Symbol, SymbolKind};
 pub use sequence::Sequence;

@@ -1,0 +1,9 @@
+//! What holds of every script and every placement.
+
+ghost use Rattle.script65.specs.Laws.{OneReading};
+
+/// A text is one script, or has one first fault.
+pub fn one_reading()
+    ensures { OneReading }
+{
+}

@@ -19,11 +19,11 @@ pub longer : {A : Type 0} (xs : List A) (x : A) → length (xs ++ x ∷ []) ≡ 
 longer [] x = refl
 longer (y ∷ ys) x = ap suc (longer ys x)
 
-append_none : {A : Type 0} (xs : List A) → xs ++ [] ≡ xs
+pub append_none : {A : Type 0} (xs : List A) → xs ++ [] ≡ xs
 append_none [] = refl
 append_none (x ∷ xs) = ap (λ l. x ∷ l) (append_none xs)
 
-regroup : {A : Type 0} (xs : List A) (x : A) (ys : List A) → (xs ++ x ∷ []) ++ ys ≡ xs ++ x ∷ ys
+pub regroup : {A : Type 0} (xs : List A) (x : A) (ys : List A) → (xs ++ x ∷ []) ++ ys ≡ xs ++ x ∷ ys
 regroup [] x ys = refl
 regroup (y ∷ xs) x ys = ap (λ l. y ∷ l) (regroup xs x ys)
 

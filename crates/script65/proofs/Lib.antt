@@ -2,6 +2,9 @@ pub mod Digits
 pub mod Eaches
 pub mod Forms
 pub mod Manys
+pub mod Members
+pub mod NeedLemmas
 pub mod OneReading
 pub mod TableLemmas
 pub mod Utf8
+pub mod Walks

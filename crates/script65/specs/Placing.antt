@@ -1,5 +1,5 @@
 -- Where the rows of a script are placed.
-use Rattle.std.specs.Prelude.{◌≡◌, ◌≤◌, ◌<◌, ℕ, ◌+◌, ◌-◌, ◌*◌, Bool, true, false, ◌==◌, ◌&&◌, ◌||◌, not, nat_lt, if◌then◌else◌, List, [], ◌∷◌, ◌++◌, map, find, Option, Some, None, unwrap_or, Result, Ok, Err}
+use Rattle.std.specs.Prelude.{◌≡◌, ◌≤◌, ◌<◌, ℕ, ◌+◌, ◌-◌, ◌*◌, Bool, true, false, ◌==◌, ◌&&◌, ◌||◌, not, nat_lt, if◌then◌else◌, List, [], ◌∷◌, ◌++◌, map, find, slice_set, Option, Some, None, unwrap_or, Result, Ok, Err}
 use Rattle.std.specs.Int.{div_ceil}
 use Rattle.std.specs.List.{list_any}
 use Rattle.std.specs.Option.{option_map}
@@ -15,7 +15,8 @@ use Rattle.script65.specs.declared.placement.Placement.{Placement}
 use Rattle.script65.specs.declared.placement.PlaceFault.{PlaceFault}
 use Rattle.script65.specs.declared.placement.PlaceFault.TheVariants.{OutOfMemory, NoRow, ReadOnlyArea, StartBelow, Overflow}
 use Rattle.script65.specs.declared.placement.SegmentNeed.{SegmentNeed}
-use Rattle.script65.specs.declared.placing.Spot.{Spot}
+use Rattle.script65.specs.declared.placing.site.Bounds.{Bounds}
+use Rattle.script65.specs.declared.placing.site.Spot.{Spot}
 use Rattle.script65.specs.Access.{is_read_only}
 use Rattle.script65.specs.Outcome.{◌>>=◌}
 
@@ -23,22 +24,19 @@ use Rattle.script65.specs.Outcome.{◌>>=◌}
 
 -- the size of a segment, if a module has it
 unfoldable pub size_of : List SegmentNeed → List ℕ → Option ℕ
-size_of needs name = option_map (λ n. n.size) (find (λ n. bytes_eq name n.name) needs)
+size_of needs name = option_map (λ n. n.size) (find (λ n. bytes_eq n.name name) needs)
 
 unfoldable pub has_row : List Row → List ℕ → Bool
-has_row rows name = list_any (λ r. bytes_eq name r.name) rows
+has_row rows name = list_any (λ r. bytes_eq r.name name) rows
 
-abbrev pub rows_exist : List Row → List SegmentNeed → Result (List Row) PlaceFault
-rows_exist rows [] = Ok rows
+-- each need has a row, or else the first that has none
+abbrev pub rows_exist : List Row → List SegmentNeed → Result (Unit {0}) PlaceFault
+rows_exist rows [] = Ok tt
 rows_exist rows (n ∷ ns) = if has_row rows n.name then rows_exist rows ns else Err (NoRow n.name)
 
 -- areas
 
 -- the first address of an area, and the one behind its last
-pub record Bounds : Type 0 where
-  pub start : ℕ
-  pub end : ℕ
-
 abbrev pub bounds_of : Area → Bounds
 bounds_of a = record { start = a.start; end = a.start + a.size }
 
@@ -83,6 +81,15 @@ row_after k a b r s cursor =
     if a.read_only && r.run == k && not (is_read_only r.access) then Err (ReadOnlyArea r.name)
     else sized_row k a b r s s.size cursor
 
+-- the same in a list of spots, of which it changes the row's
+abbrev pub spots_after : ℕ → Area → Bounds → Row → Spot → ℕ → ℕ → List Spot → Result (List Spot × ℕ) PlaceFault
+spots_after k a b r s cursor i ss = row_after k a b r s cursor >>= λ x. Ok (slice_set ss i x.0, x.1)
+
+-- the places of the rows of an area, from a place on
+abbrev pub places_in : ℕ → ℕ → List Row → List ℕ
+places_in k i [] = []
+places_in k i (r ∷ rs) = if is_in k r then i ∷ places_in k (i + 1) rs else places_in k (i + 1) rs
+
 -- the rows of an area, each behind the cursor that the one before leaves
 abbrev pub rows_from : ℕ → Area → Bounds → List Row → List Spot → ℕ → Result (List Spot × ℕ) PlaceFault
 rows_from k a b [] ss cursor = Ok (ss, cursor)
@@ -111,7 +118,7 @@ unplaced needs r = record { size = size_of needs r.name; run = 0; load = 0 }
 
 -- where the rows of a script are placed, or the first fault
 abbrev pub place_of : Script → List SegmentNeed → Result Placement PlaceFault
-place_of script needs = rows_exist script.rows needs >>= λ rows. areas_from 0 rows script.areas [] (map (unplaced needs) rows)
+place_of script needs = rows_exist script.rows needs >>= λ _. areas_from 0 script.rows script.areas [] (map (unplaced needs) script.rows)
 
 abbrev pub is_place_outside : PlaceFault → Bool
 is_place_outside OutOfMemory = true

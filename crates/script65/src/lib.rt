@@ -12,6 +12,7 @@ mod sequence;
 
 pub use fault::{Fault, ScriptFault};
 pub use placement::{AreaPlace, PlaceFault, Placement, RowPlace, SegmentNeed};
+pub use placing::place;
 pub use reading::read_script;
 pub use script::{Access, Area, AreaFile, Begin, Row, Script, Symbol, SymbolKind};
 pub use sequence::Sequence;

@@ -21,7 +21,7 @@ module _ {A : Type 0} where
   drop_suc (y ∷ ys) zero x rest h = cc
   drop_suc (y ∷ ys) (suc p) x rest h = drop_suc ys p x rest h
 
-  take_more : (xs : List A) (p : ℕ) (x : A) (rest : List A) → drop p xs ≡ x ∷ rest → take (suc p) xs ≡ take p xs ++ x ∷ []
+  pub take_more : (xs : List A) (p : ℕ) (x : A) (rest : List A) → drop p xs ≡ x ∷ rest → take (suc p) xs ≡ take p xs ++ x ∷ []
   take_more [] zero x rest h = absurd cc
   take_more [] (suc p) x rest h = absurd cc
   take_more (y ∷ ys) zero x rest h = let e : y ≡ x = cc in ap (λ z. z ∷ []) e

@@ -13,7 +13,7 @@ use Rattle.script65.specs.declared.placement.AreaPlace.{AreaPlace}
 use Rattle.script65.specs.declared.placement.RowPlace.{RowPlace}
 use Rattle.script65.specs.declared.placement.Placement.{Placement}
 use Rattle.script65.specs.declared.placement.PlaceFault.{PlaceFault}
-use Rattle.script65.specs.declared.placement.PlaceFault.TheVariants.{OutOfMemory, NoRow, ReadOnlyArea, StartBelow, Overflow}
+use Rattle.script65.specs.declared.placement.PlaceFault.TheVariants.{NoRow, ReadOnlyArea, StartBelow, Overflow}
 use Rattle.script65.specs.declared.placement.SegmentNeed.{SegmentNeed}
 use Rattle.script65.specs.declared.placing.site.Bounds.{Bounds}
 use Rattle.script65.specs.declared.placing.site.Spot.{Spot}
@@ -119,7 +119,3 @@ unplaced needs r = record { size = size_of needs r.name; run = 0; load = 0 }
 -- where the rows of a script are placed, or the first fault
 abbrev pub place_of : Script → List SegmentNeed → Result Placement PlaceFault
 place_of script needs = rows_exist script.rows needs >>= λ _. areas_from 0 script.rows script.areas [] (map (unplaced needs) script.rows)
-
-abbrev pub is_place_outside : PlaceFault → Bool
-is_place_outside OutOfMemory = true
-is_place_outside _ = false

@@ -5,6 +5,8 @@ ghost use Rattle.script65.specs.declared.placement.PlaceFault.TheVariants.{OutOf
 
 use crate::sequence::Sequence;
 use std::alloc::{AllocError, AllocFailed};
+use std::error::Error;
+use std::fmt;
 
 /// What the modules of a program need of a segment: the sum of their sections, in bytes, and the largest
 /// alignment among these, which says nothing of where the segment begins.
@@ -50,6 +52,53 @@ pub enum PlaceFault {
     StartBelow(Sequence<u8>),
     /// An area, and how many bytes behind its end a row would end.
     Overflow(Sequence<u8>, u128),
+}
+
+impl fmt::Display for PlaceFault {
+    ghost use Rattle.script65.specs.Faults.{place_fault_text};
+
+    ghost output = { λ x. Some (place_fault_text x) };
+
+    fn fmt<W: fmt::Write>(&self, f: &mut fmt::Formatter<W>) -> fmt::Result {
+        match self {
+            PlaceFault::OutOfMemory => f.write_str("out of memory"),
+            PlaceFault::NoRow(name) => {
+                let name = Shown(name.as_slice());
+                write!(f, "segment has no row: {name}")
+            }
+            PlaceFault::ReadOnlyArea(name) => {
+                let name = Shown(name.as_slice());
+                write!(f, "read-only area: {name}")
+            }
+            PlaceFault::StartBelow(name) => {
+                let name = Shown(name.as_slice());
+                write!(f, "start below what is placed: {name}")
+            }
+            PlaceFault::Overflow(name, bytes) => {
+                let name = Shown(name.as_slice());
+                write!(f, "overflow of {name} by {bytes} bytes")
+            }
+        }
+    }
+}
+
+impl Error for PlaceFault {}
+
+/// A name as it is printed: each byte is the character of its code.
+#[derive(Clone, Copy)]
+struct Shown<'a>(&'a [u8]);
+
+impl fmt::Display for Shown<'_> {
+    ghost use Rattle.std.specs.Prelude.{encode_utf8_all};
+
+    ghost output = { λ x. Some (encode_utf8_all x.0.now) };
+
+    fn fmt<W: fmt::Write>(&self, f: &mut fmt::Formatter<W>) -> fmt::Result {
+        for byte in self.0 {
+            f.write_char(char::from(*byte))?;
+        }
+        Ok(())
+    }
 }
 
 impl From<AllocError> for PlaceFault {

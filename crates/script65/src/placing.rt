@@ -1,7 +1,8 @@
 //! Places the rows of a script.
 
 ghost use Rattle.script65.specs.Outcome.{Gives};
-ghost use Rattle.script65.specs.Placing.{is_place_outside, place_of};
+ghost use Rattle.script65.specs.Faults.{is_place_outside};
+ghost use Rattle.script65.specs.Placing.{place_of};
 
 use crate::placement::{PlaceFault, Placement, SegmentNeed};
 use crate::placing::areas::{place_areas, row_places};

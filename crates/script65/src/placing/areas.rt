@@ -2,7 +2,8 @@
 
 ghost use Rattle.std.specs.Prelude.{◌≡◌, ◌≤◌, ◌<◌, ℕ, Some, IfOk, [], length, map, slice_get};
 ghost use Rattle.script65.specs.Outcome.{Gives};
-ghost use Rattle.script65.specs.Placing.{area_place, areas_from, is_place_outside, places_in, row_place, rows_from, spots_after};
+ghost use Rattle.script65.specs.Faults.{is_place_outside};
+ghost use Rattle.script65.specs.Placing.{area_place, areas_from, places_in, row_place, rows_from, spots_after};
 ghost use Rattle.script65.specs.declared.placing.site.Spot.{Spot};
 ghost use Rattle.script65.specs.declared.script.Row.{Row};
 

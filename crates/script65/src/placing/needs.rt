@@ -5,7 +5,8 @@ ghost use Rattle.std.specs.Str.{bytes_eq};
 ghost use Rattle.indexmap.specs.IndexMap.{get_by};
 ghost use Rattle.indexmap.specs.IndexSet.{contains_by};
 ghost use Rattle.script65.specs.Outcome.{Gives};
-ghost use Rattle.script65.specs.Placing.{has_row, is_place_outside, rows_exist, size_of, unplaced};
+ghost use Rattle.script65.specs.Faults.{is_place_outside};
+ghost use Rattle.script65.specs.Placing.{has_row, rows_exist, size_of, unplaced};
 
 use crate::placement::{PlaceFault, SegmentNeed};
 use crate::placing::site::Spot;

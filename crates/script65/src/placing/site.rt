@@ -2,7 +2,8 @@
 
 ghost use Rattle.std.specs.Prelude.{◌≡◌, ◌≤◌, ◌+◌, IfOk};
 ghost use Rattle.script65.specs.Outcome.{Gives};
-ghost use Rattle.script65.specs.Placing.{begin_by, begin_in, bounds_of, fitted, is_in, is_place_outside, moved, rounded_up, row_after, sized_row};
+ghost use Rattle.script65.specs.Faults.{is_place_outside};
+ghost use Rattle.script65.specs.Placing.{begin_by, begin_in, bounds_of, fitted, is_in, moved, rounded_up, row_after, sized_row};
 
 use crate::placement::PlaceFault;
 use crate::script::{Area, Begin, Row};

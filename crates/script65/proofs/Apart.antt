@@ -53,9 +53,9 @@ fitted_placed k a b r s n at cursor x sized h = by (nat_lt at cursor) (nat_lt b.
     by true u e h = absurd cc
     by false true e h = absurd cc
     by false false e h =
-      let same : ◌≡◌ {A = Spot × ℕ} (moved k r at s, at + n) x = cc in
-      let size : size_in s ≡ n = ap (λ o. unwrap_or o 0) sized in
-      record { at = at; spot = sym (ap (λ y. y.0) same); end = sym (ap (λ y. y.1) same) ∙ ap (λ m. at + m) (sym size); low = not_below at cursor e }
+        let same : ◌≡◌ {A = Spot × ℕ} (moved k r at s, at + n) x = cc in
+        let size : size_in s ≡ n = ap (λ o. unwrap_or o 0) sized in
+        record { at = at; spot = sym (ap (λ y. y.0) same); end = sym (ap (λ y. y.1) same) ∙ ap (λ m. at + m) (sym size); low = not_below at cursor e }
 
 sized_placed : (k : ℕ) (a : Area) (b : Bounds) (r : Row) (s : Spot) (o : Option ℕ) (cursor : ℕ) (x : Spot × ℕ) → s.size ≡ o → sized_row k a b r s o cursor ≡ Ok x → Placed k r s cursor x
 sized_placed k a b r s None cursor x e h =
@@ -130,27 +130,28 @@ rows_good k a b (r ∷ rs) (s ∷ ss) ts cursor last h = by (is_in k r) refl h (
   where
     by : (t : Bool) → is_in k r ≡ t → (if t then (row_after k a b r s cursor >>= λ x. front x.0 (rows_from k a b rs ss x.1)) else front s (rows_from k a b rs ss cursor)) ≡ Ok (ts, last) → ((c : ℕ) (us : List Spot) (l : ℕ) → rows_from k a b rs ss c ≡ Ok (us, l) → IsGood k c rs us) → IsGood k cursor (r ∷ rs) ts
     by true i h again =
-      let f = bind_ok (row_after k a b r s cursor) (λ x. front x.0 (rows_from k a b rs ss x.1)) (ts, last) h in
-      let x : Spot × ℕ = f.0 in
-      let g = bind_ok (rows_from k a b rs ss x.1) (λ y. Ok (x.0 ∷ y.0, y.1)) (ts, last) f.2 in
-      let y : Reached = g.0 in
-      let p : Placed k r s cursor x = row_placed k a b r s cursor x f.1 in
-      let good : IsGood k x.1 rs y.0 = again x.1 y.0 y.1 g.1 in
-      let there : at_in k r x.0 ≡ p.at = ap (at_in k r) p.spot ∙ moved_there k p.at r s i in
-      let size : size_in x.0 ≡ size_in s = ap size_in p.spot ∙ ap (λ o. unwrap_or o 0) (moved_size k p.at r s) in
-      let end : x.1 ≡ p.at + size_in s = p.end in
-      let low : cursor ≤ p.at = p.low in
-      let e = first_of_pair (x.0 ∷ y.0, y.1) (ts, last) g.2 in
-      subst (IsGood k cursor (r ∷ rs)) (ap (λ z. z.0) e)
-        (((λ j. omega arith), from_lower k cursor x.1 rs y.0 (omega arith) good.0),
-         (behind_from k r x.0 x.1 rs y.0 (λ j. omega arith) good.0, good.1))
+        let f = bind_ok (row_after k a b r s cursor) (λ x. front x.0 (rows_from k a b rs ss x.1)) (ts, last) h in
+        let x : Spot × ℕ = f.0 in
+        let g = bind_ok (rows_from k a b rs ss x.1) (λ y. Ok (x.0 ∷ y.0, y.1)) (ts, last) f.2 in
+        let y : Reached = g.0 in
+        let p : Placed k r s cursor x = row_placed k a b r s cursor x f.1 in
+        let good : IsGood k x.1 rs y.0 = again x.1 y.0 y.1 g.1 in
+        let there : at_in k r x.0 ≡ p.at = ap (at_in k r) p.spot ∙ moved_there k p.at r s i in
+        let size : size_in x.0 ≡ size_in s = ap size_in p.spot ∙ ap (λ o. unwrap_or o 0) (moved_size k p.at r s) in
+        let end : x.1 ≡ p.at + size_in s = p.end in
+        let low : cursor ≤ p.at = p.low in
+        let e = first_of_pair (x.0 ∷ y.0, y.1) (ts, last) g.2 in
+        subst (IsGood k cursor (r ∷ rs)) (ap (λ z. z.0) e) (
+          ((λ j. omega arith), from_lower k cursor x.1 rs y.0 (omega arith) good.0),
+          (behind_from k r x.0 x.1 rs y.0 (λ j. omega arith) good.0, good.1),
+        )
     by false i h again =
-      let g = bind_ok (rows_from k a b rs ss cursor) (λ y. Ok (s ∷ y.0, y.1)) (ts, last) h in
-      let y : Reached = g.0 in
-      let good : IsGood k cursor rs y.0 = again cursor y.0 y.1 g.1 in
-      let e = first_of_pair (s ∷ y.0, y.1) (ts, last) g.2 in
-      let never : is_in k r ≡ true → ⊥ = (λ j. let n : true ≡ false = sym j ∙ i in cc) in
-      subst (IsGood k cursor (r ∷ rs)) (ap (λ z. z.0) e)
+        let g = bind_ok (rows_from k a b rs ss cursor) (λ y. Ok (s ∷ y.0, y.1)) (ts, last) h in
+        let y : Reached = g.0 in
+        let good : IsGood k cursor rs y.0 = again cursor y.0 y.1 g.1 in
+        let e = first_of_pair (s ∷ y.0, y.1) (ts, last) g.2 in
+        let never : is_in k r ≡ true → ⊥ = (λ j. let n : true ≡ false = sym j ∙ i in cc) in
+        subst (IsGood k cursor (r ∷ rs)) (ap (λ z. z.0) e)
         (((λ j. absurd (never j)), good.0), (behind_from k r s cursor rs y.0 (λ j. absurd (never j)) good.0, good.1))
 
 -- the rows of other areas stay
@@ -171,19 +172,19 @@ rows_same j k a b (r ∷ rs) (s ∷ ss) ts cursor last apart h = by (is_in k r) 
   where
     by : (t : Bool) → (if t then (row_after k a b r s cursor >>= λ x. front x.0 (rows_from k a b rs ss x.1)) else front s (rows_from k a b rs ss cursor)) ≡ Ok (ts, last) → ((c : ℕ) (us : List Spot) (l : ℕ) → rows_from k a b rs ss c ≡ Ok (us, l) → Same j rs ss us) → Same j (r ∷ rs) (s ∷ ss) ts
     by true h again =
-      let f = bind_ok (row_after k a b r s cursor) (λ x. front x.0 (rows_from k a b rs ss x.1)) (ts, last) h in
-      let x : Spot × ℕ = f.0 in
-      let g = bind_ok (rows_from k a b rs ss x.1) (λ y. Ok (x.0 ∷ y.0, y.1)) (ts, last) f.2 in
-      let y : Reached = g.0 in
-      let p : Placed k r s cursor x = row_placed k a b r s cursor x f.1 in
-      let e = first_of_pair (x.0 ∷ y.0, y.1) (ts, last) g.2 in
-      subst (Same j (r ∷ rs) (s ∷ ss)) (ap (λ z. z.0) e)
+        let f = bind_ok (row_after k a b r s cursor) (λ x. front x.0 (rows_from k a b rs ss x.1)) (ts, last) h in
+        let x : Spot × ℕ = f.0 in
+        let g = bind_ok (rows_from k a b rs ss x.1) (λ y. Ok (x.0 ∷ y.0, y.1)) (ts, last) f.2 in
+        let y : Reached = g.0 in
+        let p : Placed k r s cursor x = row_placed k a b r s cursor x f.1 in
+        let e = first_of_pair (x.0 ∷ y.0, y.1) (ts, last) g.2 in
+        subst (Same j (r ∷ rs) (s ∷ ss)) (ap (λ z. z.0) e)
         (ap size_in p.spot ∙ ap (λ o. unwrap_or o 0) (moved_size k p.at r s), (λ i. ap (at_in j r) p.spot ∙ moved_elsewhere j k p.at r s apart i), again x.1 y.0 y.1 g.1)
     by false h again =
-      let g = bind_ok (rows_from k a b rs ss cursor) (λ y. Ok (s ∷ y.0, y.1)) (ts, last) h in
-      let y : Reached = g.0 in
-      let e = first_of_pair (s ∷ y.0, y.1) (ts, last) g.2 in
-      subst (Same j (r ∷ rs) (s ∷ ss)) (ap (λ z. z.0) e) (refl, (λ i. refl), again cursor y.0 y.1 g.1)
+        let g = bind_ok (rows_from k a b rs ss cursor) (λ y. Ok (s ∷ y.0, y.1)) (ts, last) h in
+        let y : Reached = g.0 in
+        let e = first_of_pair (s ∷ y.0, y.1) (ts, last) g.2 in
+        subst (Same j (r ∷ rs) (s ∷ ss)) (ap (λ z. z.0) e) (refl, (λ i. refl), again cursor y.0 y.1 g.1)
 
 behind_same : (k : ℕ) (r : Row) (s t : Spot) (rs : List Row) (ss ts : List Spot) → size_in t ≡ size_in s → (is_in k r ≡ true → at_in k r t ≡ at_in k r s) → Same k rs ss ts → AreBehind k r (row_place s) rs (map row_place ss) → AreBehind k r (row_place t) rs (map row_place ts)
 behind_same k r s t [] ss ts size at same h = tt
@@ -217,8 +218,8 @@ areas_apart k rows (a ∷ rest) placed ss p h before j lt =
     let f = bind_ok (rows_from k a (bounds_of a) rows ss (bounds_of a).start) (λ x. areas_from (k + 1) rows rest (placed ++ area_place (bounds_of a) x.1 ∷ []) x.0) p h in
     let x : Reached = f.0 in
     areas_apart (k + 1) rows rest (placed ++ area_place (bounds_of a) x.1 ∷ []) x.0 p f.2
-      (λ i small. by i x f.1 (last_or_before i k small) before)
-      j (omega arith)
+    (λ i small. by i x f.1 (last_or_before i k small) before)
+    j (omega arith)
   where
     by : (i : ℕ) (x : Reached) → rows_from k a (bounds_of a) rows ss (bounds_of a).start ≡ Ok x → (i ≡ k) ⊎ (i < k) → ((j : ℕ) → j < k → AreApart j rows (map row_place ss)) → AreApart i rows (map row_place x.0)
     by i x e (inl same) before = subst (λ j. AreApart j rows (map row_place x.0)) (sym same) (rows_good k a (bounds_of a) rows ss x.0 (bounds_of a).start x.1 e).1

@@ -102,29 +102,32 @@ module _ (k : ℕ) (a : Area) (b : Bounds) (rows : List Row) (whole : Result (Li
     where
       by : (t : Bool) → is_in k r ≡ t → (m ∷ members ≡ places_in k (p + 1) rs → behind (take (p + 1) spots) (rows_from k a b rs ss cursor) ≡ whole → Next spots cursor m members) → Next spots cursor m members
       by true i again =
-        let f : m ∷ members ≡ p ∷ places_in k (p + 1) rs = e ∙ ap (λ t. if t then p ∷ places_in k (p + 1) rs else places_in k (p + 1) rs) i in
-        let here : p ≡ m = cc in
-        let P : ℕ → Type 0 = λ q. drop q rows ≡ r ∷ rs in
-        let Q : ℕ → Type 0 = λ q. drop q spots ≡ s ∷ ss in
-        let members_rest : members ≡ places_in k (p + 1) rs = cc in
-        record {
-          r = r; s = s; rs = rs; ss = ss;
-          rows_there = subst P here rt;
-          spots_there = subst Q here st;
-          count = omega arith;
-          inside = i;
-          rest = members_rest ∙ ap (λ q. places_in k (q + 1) rs) here;
-          same = sym (ap (λ q. behind (take q spots) (row_after k a b r s cursor >>= λ x. rows_from k a b rs ss x.1 >>= λ y. Ok (x.0 ∷ y.0, y.1))) here)
-            ∙ sym (ap (λ t. behind (take p spots) (if t then (row_after k a b r s cursor >>= λ x. rows_from k a b rs ss x.1 >>= λ y. Ok (x.0 ∷ y.0, y.1)) else (rows_from k a b rs ss cursor >>= λ y. Ok (s ∷ y.0, y.1)))) i)
-            ∙ g
-        }
+          let f : m ∷ members ≡ p ∷ places_in k (p + 1) rs = e ∙ ap (λ t. if t then p ∷ places_in k (p + 1) rs else places_in k (p + 1) rs) i in
+          let here : p ≡ m = cc in
+          let P : ℕ → Type 0 = λ q. drop q rows ≡ r ∷ rs in
+          let Q : ℕ → Type 0 = λ q. drop q spots ≡ s ∷ ss in
+          let members_rest : members ≡ places_in k (p + 1) rs = cc in
+          record {
+            r = r;
+            s = s;
+            rs = rs;
+            ss = ss;
+            rows_there = subst P here rt;
+            spots_there = subst Q here st;
+            count = omega arith;
+            inside = i;
+            rest = members_rest ∙ ap (λ q. places_in k (q + 1) rs) here;
+            same = sym (ap (λ q. behind (take q spots) (row_after k a b r s cursor >>= λ x. rows_from k a b rs ss x.1 >>= λ y. Ok (x.0 ∷ y.0, y.1))) here)
+                ∙ sym (ap (λ t. behind (take p spots) (if t then (row_after k a b r s cursor >>= λ x. rows_from k a b rs ss x.1 >>= λ y. Ok (x.0 ∷ y.0, y.1)) else (rows_from k a b rs ss cursor >>= λ y. Ok (s ∷ y.0, y.1)))) i)
+                ∙ g;
+          }
       by false i again =
-        let f : m ∷ members ≡ places_in k (p + 1) rs = e ∙ ap (λ t. if t then p ∷ places_in k (p + 1) rs else places_in k (p + 1) rs) i in
-        again f
+          let f : m ∷ members ≡ places_in k (p + 1) rs = e ∙ ap (λ t. if t then p ∷ places_in k (p + 1) rs else places_in k (p + 1) rs) i in
+          again f
           (ap (λ l. behind l (rows_from k a b rs ss cursor)) (rw add-one (take_more spots p s ss st))
-            ∙ sym (behind_one (take p spots) s (rows_from k a b rs ss cursor))
-            ∙ sym (ap (λ t. behind (take p spots) (if t then (row_after k a b r s cursor >>= λ x. rows_from k a b rs ss x.1 >>= λ y. Ok (x.0 ∷ y.0, y.1)) else (rows_from k a b rs ss cursor >>= λ y. Ok (s ∷ y.0, y.1)))) i)
-            ∙ g)
+          ∙ sym (behind_one (take p spots) s (rows_from k a b rs ss cursor))
+          ∙ sym (ap (λ t. behind (take p spots) (if t then (row_after k a b r s cursor >>= λ x. rows_from k a b rs ss x.1 >>= λ y. Ok (x.0 ∷ y.0, y.1)) else (rows_from k a b rs ss cursor >>= λ y. Ok (s ∷ y.0, y.1)))) i)
+          ∙ g)
 
   pub next_member : (spots : List Spot) (cursor m : ℕ) (members : List ℕ) → Walk spots cursor (m ∷ members) → Next spots cursor m members
   next_member spots cursor m members w = next_of spots cursor m members w.rs w.ss w.place w.rows_there w.spots_there w.count w.rest w.same
@@ -132,15 +135,17 @@ module _ (k : ℕ) (a : Area) (b : Bounds) (rows : List Row) (whole : Result (Li
   -- the row is placed
   pub walk_on : (spots : List Spot) (cursor m : ℕ) (members : List ℕ) (n : Next spots cursor m members) (x : Spot × ℕ) → row_after k a b n.r n.s cursor ≡ Ok x → Walk (slice_set spots m x.0) x.1 members
   walk_on spots cursor m members n x e = record {
-    place = m + 1; rs = n.rs; ss = n.ss;
+    place = m + 1;
+    rs = n.rs;
+    ss = n.ss;
     rows_there = rw add-one (drop_suc rows m n.r n.rs n.rows_there);
     spots_there = rw add-one (drop_set spots m n.s x.0 n.ss n.spots_there);
     count = n.count;
     rest = n.rest;
     same = ap (λ l. behind l (rows_from k a b n.rs n.ss x.1)) (rw add-one (take_set spots m n.s x.0 n.ss n.spots_there))
-      ∙ sym (behind_one (take m spots) x.0 (rows_from k a b n.rs n.ss x.1))
-      ∙ sym (ap (λ t. behind (take m spots) (t >>= λ x. rows_from k a b n.rs n.ss x.1 >>= λ y. Ok (x.0 ∷ y.0, y.1))) e)
-      ∙ n.same
+        ∙ sym (behind_one (take m spots) x.0 (rows_from k a b n.rs n.ss x.1))
+        ∙ sym (ap (λ t. behind (take m spots) (t >>= λ x. rows_from k a b n.rs n.ss x.1 >>= λ y. Ok (x.0 ∷ y.0, y.1))) e)
+        ∙ n.same;
   }
 
   pub walk_stops : (spots : List Spot) (cursor m : ℕ) (members : List ℕ) (n : Next spots cursor m members) (e : PlaceFault) → row_after k a b n.r n.s cursor ≡ Err e → whole ≡ Err e
@@ -161,15 +166,15 @@ module _ (k : ℕ) (a : Area) (b : Bounds) (rows : List Row) (whole : Result (Li
       by : (t : Bool) → is_in k r ≡ t → ([] ≡ places_in k (p + 1) rs → rows_from k a b rs ss cursor ≡ Ok (ss, cursor)) → taken_or r s rs ss cursor (is_in k r) ≡ Ok (s ∷ ss, cursor)
       by true i again = absurd (let f : [] ≡ p ∷ places_in k (p + 1) rs = e ∙ ap (λ t. if t then p ∷ places_in k (p + 1) rs else places_in k (p + 1) rs) i in cc)
       by false i again =
-        let f : [] ≡ places_in k (p + 1) rs = e ∙ ap (λ t. if t then p ∷ places_in k (p + 1) rs else places_in k (p + 1) rs) i in
-        ap (taken_or r s rs ss cursor) i
-        ∙ ap (in_front s) (again f)
+          let f : [] ≡ places_in k (p + 1) rs = e ∙ ap (λ t. if t then p ∷ places_in k (p + 1) rs else places_in k (p + 1) rs) i in
+          ap (taken_or r s rs ss cursor) i
+          ∙ ap (in_front s) (again f)
 
   pub walk_ends : (spots : List Spot) (cursor : ℕ) → Walk spots cursor [] → whole ≡ Ok (spots, cursor)
   walk_ends spots cursor w =
-    sym w.same
-    ∙ ap (behind (take w.place spots)) (none_left cursor w.place w.rs w.ss w.count w.rest)
-    ∙ ap (λ (l : List Spot). let x : List Spot × ℕ = (l, cursor) in let r : Result (List Spot × ℕ) PlaceFault = Ok x in r) (ap (λ l. take w.place spots ++ l) (sym w.spots_there) ∙ take_drop spots w.place)
+      sym w.same
+      ∙ ap (behind (take w.place spots)) (none_left cursor w.place w.rs w.ss w.count w.rest)
+      ∙ ap (λ (l : List Spot). let x : List Spot × ℕ = (l, cursor) in let r : Result (List Spot × ℕ) PlaceFault = Ok x in r) (ap (λ l. take w.place spots ++ l) (sym w.spots_there) ∙ take_drop spots w.place)
 
   -- what placing one row gives
   abbrev pub Steps : List Spot → ℕ → ℕ → Result (List Spot × ℕ) PlaceFault → Type 0
@@ -180,17 +185,17 @@ module _ (k : ℕ) (a : Area) (b : Bounds) (rows : List Row) (whole : Result (Li
 
   got : (n : Result (Spot × ℕ) PlaceFault) (ss : List Spot) (m : ℕ) (spots : List Spot) (cursor : ℕ) → set_in ss m n ≡ Ok (spots, cursor) → (x : Spot × ℕ) × (n ≡ Ok x) × (slice_set ss m x.0 ≡ spots) × (x.1 ≡ cursor)
   got (Ok x) ss m spots cursor h =
-    let e : ◌≡◌ {A = List Spot × ℕ} (slice_set ss m x.0, x.1) (spots, cursor) = cc in
-    (x, refl, ap (λ y. y.0) e, ap (λ y. y.1) e)
+      let e : ◌≡◌ {A = List Spot × ℕ} (slice_set ss m x.0, x.1) (spots, cursor) = cc in
+      (x, refl, ap (λ y. y.0) e, ap (λ y. y.1) e)
   got (Err e) ss m spots cursor h = absurd cc
 
   pub walk_step : (spots after : List Spot) (cursor end m : ℕ) (members : List ℕ) → Walk spots cursor (m ∷ members) → Steps spots cursor m (Ok (after, end)) → Walk after end members
   walk_step spots after cursor end m members w h =
-    let n = next_member spots cursor m members w in
-    let g = got (row_after k a b n.r n.s cursor) spots m after end (h n.r n.s (there rows m n.r n.rs n.rows_there) (there spots m n.s n.ss n.spots_there)) in
-    let P : List Spot → Type 0 = λ l. Walk l end members in
-    let Q : ℕ → Type 0 = λ c. Walk (slice_set spots m g.0.0) c members in
-    subst P g.2 (subst Q g.3 (walk_on spots cursor m members n g.0 g.1))
+      let n = next_member spots cursor m members w in
+      let g = got (row_after k a b n.r n.s cursor) spots m after end (h n.r n.s (there rows m n.r n.rs n.rows_there) (there spots m n.s n.ss n.spots_there)) in
+      let P : List Spot → Type 0 = λ l. Walk l end members in
+      let Q : ℕ → Type 0 = λ c. Walk (slice_set spots m g.0.0) c members in
+      subst P g.2 (subst Q g.3 (walk_on spots cursor m members n g.0 g.1))
 
   lost : (n : Result (Spot × ℕ) PlaceFault) (ss : List Spot) (m : ℕ) (e : PlaceFault) → set_in ss m n ≡ Err e → n ≡ Err e
   lost (Ok x) ss m e h = absurd cc
@@ -199,8 +204,8 @@ module _ (k : ℕ) (a : Area) (b : Bounds) (rows : List Row) (whole : Result (Li
   -- a refusal of the row is one of the area, unless it came from outside
   pub walk_refuses : (spots : List Spot) (cursor m : ℕ) (members : List ℕ) (e : PlaceFault) (outside : Bool) → Walk spots cursor (m ∷ members) → ((r : Row) → (s : Spot) → slice_get rows m ≡ Some r → slice_get spots m ≡ Some s → Unless outside (spots_after k a b r s cursor m spots ≡ Err e)) → Unless outside (whole ≡ Err e)
   walk_refuses spots cursor m members e outside w h =
-    let n = next_member spots cursor m members w in
-    unless_map (spots_after k a b n.r n.s cursor m spots ≡ Err e) (whole ≡ Err e) outside
+      let n = next_member spots cursor m members w in
+      unless_map (spots_after k a b n.r n.s cursor m spots ≡ Err e) (whole ≡ Err e) outside
       (λ f. walk_stops spots cursor m members n e (lost (row_after k a b n.r n.s cursor) spots m e f))
       (h n.r n.s (there rows m n.r n.rs n.rows_there) (there spots m n.s n.ss n.spots_there))
 

@@ -232,7 +232,7 @@ unless_fault (Some fault) t x = stop fault t
 unfoldable pub entry_end : List ℕ → Block → Token → Draft → List Given × ℕ → Result (Draft × ℕ) Stop
 entry_end bytes block name d x =
     unless_fault (entry_fault block x.0) (token_at bytes x.1)
-        (added block (text_of bytes name) (record { at = name.from; given = x.0 }) d, (token_at bytes x.1).to)
+    (added block (text_of bytes name) (record { at = name.from; given = x.0 }) d, (token_at bytes x.1).to)
 
 -- a block's word and `{`
 unfoldable pub block_head : List ℕ → ℕ → Result (Block × ℕ) Stop

@@ -81,7 +81,7 @@ area_of bytes e = record {
   file = area_file bytes e.1.given;
   fill = flag_given attribute.Fill e.1.given;
   fill_value = byte_or 0 e.1.given;
-  define = flag_given attribute.Define e.1.given
+  define = flag_given attribute.Define e.1.given;
 }
 
 abbrev pub kind_of : Role → ℕ → SymbolKind
@@ -142,7 +142,7 @@ row_with e load run fill = record {
   begin = begin_of (number_given attribute.Start e.1.given) (number_given attribute.Offset e.1.given);
   fill_value = byte_or fill e.1.given;
   define = flag_given attribute.Define e.1.given;
-  optional = flag_given attribute.Optional e.1.given
+  optional = flag_given attribute.Optional e.1.given;
 }
 
 -- the areas of a row, which there are and which its attributes don't exclude

@@ -41,7 +41,11 @@ fn add_row(members: &mut Vec<Sequence<usize>>, row: &Row, place: usize) -> Resul
 }
 
 /// The places of the rows of each area, in order.
-pub fn members_of(alloc: Global, areas: usize, rows: &[Row]) -> Result<Vec<Sequence<usize>>, AllocError>
+pub fn members_of(
+    alloc: Global,
+    areas: usize,
+    rows: &[Row],
+) -> Result<Vec<Sequence<usize>>, AllocError>
     ensures { IfOk result (λ v. (k : ℕ) → k < areas → slice_get v.items k ≡ Some (places_in k 0 rows.now)) }
 {
     let mut members = no_members(alloc, areas)?;

@@ -40,7 +40,10 @@ pub fn check_rows(alloc: Global, rows: &[Row], needs: &[SegmentNeed]) -> Result<
 }
 
 // The sizes of segments by name. Of two needs of one name the first counts, so it comes last.
-fn sizes_of<'a>(alloc: Global, needs: &'a [SegmentNeed]) -> Result<IndexMap<&'a [u8], u64>, AllocError>
+fn sizes_of<'a>(
+    alloc: Global,
+    needs: &'a [SegmentNeed],
+) -> Result<IndexMap<&'a [u8], u64>, AllocError>
     ensures { IfOk result (λ m. (name : List ℕ) → get_by (λ k. bytes_eq name k.now) m ≡ size_of needs.now name) }
 {
     let mut sizes = IndexMap::new(alloc);
@@ -52,7 +55,11 @@ fn sizes_of<'a>(alloc: Global, needs: &'a [SegmentNeed]) -> Result<IndexMap<&'a 
 }
 
 /// The rows before any is placed.
-pub fn unplaced_rows(alloc: Global, rows: &[Row], needs: &[SegmentNeed]) -> Result<Vec<Spot>, AllocError>
+pub fn unplaced_rows(
+    alloc: Global,
+    rows: &[Row],
+    needs: &[SegmentNeed],
+) -> Result<Vec<Spot>, AllocError>
     ensures { IfOk result (λ spots. spots.items ≡ map (unplaced needs.now) rows.now) }
 {
     let sizes = sizes_of(alloc, needs)?;

@@ -10,8 +10,8 @@ use crate::reading::number::number_of;
 use crate::reading::scan::{text, token_at};
 use crate::reading::token::{Form, Token};
 use crate::reading::words::{
-    Attribute, Block, Given, Shape, Value, area_access_of, attribute_of, flag_of, is_width, role_of,
-    row_access_of, shape_of,
+    Attribute, Block, Given, Shape, Value, area_access_of, attribute_of, flag_of, is_width,
+    role_of, row_access_of, shape_of,
 };
 
 /// Whether a token of this form stands here.
@@ -201,8 +201,5 @@ pub fn attribute_at(
     let (attribute, end) = attribute_word(bytes, block, given, at)?;
     let shape = shape_of(block, attribute);
     let (value, end) = value_at(bytes, shape, behind(bytes, Form::Equals, end))?;
-    Ok((
-        Given { attribute, value },
-        behind(bytes, Form::Comma, end),
-    ))
+    Ok((Given { attribute, value }, behind(bytes, Form::Comma, end)))
 }

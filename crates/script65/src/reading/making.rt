@@ -22,7 +22,10 @@ fn file_in(alloc: Global, bytes: &[u8], value: Value) -> Result<AreaFile, AllocE
     ensures { IfOk result (λ f. f ≡ file_in bytes.now value) }
 {
     match value {
-        Value::File(from, to) => Ok(AreaFile::Named(Sequence::copy_of(alloc, text(bytes, from, to))?)),
+        Value::File(from, to) => Ok(AreaFile::Named(Sequence::copy_of(
+            alloc,
+            text(bytes, from, to),
+        )?)),
         _ => Ok(AreaFile::Output),
     }
 }
@@ -175,7 +178,13 @@ fn row_with(
     })
 }
 
-fn row_of(alloc: Global, bytes: &[u8], tables: &Tables, name: &[u8], entry: &Entry) -> Result<Row, Stop>
+fn row_of(
+    alloc: Global,
+    bytes: &[u8],
+    tables: &Tables,
+    name: &[u8],
+    entry: &Entry,
+) -> Result<Row, Stop>
     ensures { Gives is_outside (λ x. x) result (row_of bytes.now (draft_in tables.now) (name.now, entry.now)) }
 {
     let (load, run) = row_areas(bytes, tables, entry)?;

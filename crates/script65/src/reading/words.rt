@@ -258,5 +258,8 @@ pub fn role_of(text: &[u8]) -> Option<Role>
 pub fn is_width(text: &[u8]) -> bool
     ensures { result ≡ is_width text.now }
 {
-    same_word(text, "zp") || same_word(text, "zeropage") || same_word(text, "abs") || same_word(text, "absolute")
+    same_word(text, "zp")
+        || same_word(text, "zeropage")
+        || same_word(text, "abs")
+        || same_word(text, "absolute")
 }

@@ -10,10 +10,15 @@ pub loop-member-init : goal.loop-member-init
 loop-member-init c = record {
   room = omega arith;
   walk = record {
-    place = 0; rs = c.args.rows.now; ss = c.args.spots.now;
-    rows_there = refl; spots_there = refl; count = c.requires.count; rest = c.requires.members;
-    same = whole_of (rows_from c.args.site.now.place c.args.site.now.area.now c.args.site.now.bounds c.args.rows.now c.args.spots.now c.args.site.now.bounds.start)
-  }
+    place = 0;
+    rs = c.args.rows.now;
+    ss = c.args.spots.now;
+    rows_there = refl;
+    spots_there = refl;
+    count = c.requires.count;
+    rest = c.requires.members;
+    same = whole_of (rows_from c.args.site.now.place c.args.site.now.area.now c.args.site.now.bounds c.args.rows.now c.args.spots.now c.args.site.now.bounds.start);
+  };
 }
 
 pub place_member-requires-clause-row : goal.place_member-requires-clause-row
@@ -42,7 +47,7 @@ loop-member-preserved c =
     let walk = subst P (drop_number c.args.members.now c.loop-member.member-index c.loop-member-test.true) c.loop-member.invariant.walk in
     record {
       room = c.in_ok-cursor.ensures.bound;
-      walk = walk_step c.args.site.now.place c.args.site.now.area.now c.args.site.now.bounds c.args.rows.now (rows_from c.args.site.now.place c.args.site.now.area.now c.args.site.now.bounds c.args.rows.now c.args.spots.now c.args.site.now.bounds.start) c.loop-member.spots c.place_member.new.spots c.loop-member.cursor c.in_ok-cursor.cursor (slice_index_or c.args.members.now c.loop-member.member-index 0) (drop (c.loop-member.member-index + 1) c.args.members.now) walk c.in_ok-cursor.ensures.value
+      walk = walk_step c.args.site.now.place c.args.site.now.area.now c.args.site.now.bounds c.args.rows.now (rows_from c.args.site.now.place c.args.site.now.area.now c.args.site.now.bounds c.args.rows.now c.args.spots.now c.args.site.now.bounds.start) c.loop-member.spots c.place_member.new.spots c.loop-member.cursor c.in_ok-cursor.cursor (slice_index_or c.args.members.now c.loop-member.member-index 0) (drop (c.loop-member.member-index + 1) c.args.members.now) walk c.in_ok-cursor.ensures.value;
     }
 
 pub returns : goal.returns

@@ -12,5 +12,5 @@ pub loop-i-preserved : goal.loop-i-preserved
 loop-i-preserved c = λ name.
     let old = get_by (λ k. bytes_eq name k.now) c.loop-i.sizes in
     size_step c.args.needs.now c.loop-i.i c.index-needs-i.result name old _ (omega arith) (omega arith) c.index-needs-i.is
-      (c.in_ok-insert.ensures.updates.0 (record { ref_ptr = (0, 0); now = name }) ∙ ap (λ key. cond (bytes_eq key name) (Some c.index-needs-i.result.size) old) c.as_slice.ensures)
-      (c.loop-i.invariant name)
+    (c.in_ok-insert.ensures.updates.0 (record { ref_ptr = (0, 0); now = name }) ∙ ap (λ key. cond (bytes_eq key name) (Some c.index-needs-i.result.size) old) c.as_slice.ensures)
+    (c.loop-i.invariant name)

@@ -13,17 +13,17 @@ returns-in_err-next-clause-found c =
     let p = err_from_is_err_and c.from_residual.result c.from_residual.ensures.1 in
     let e = c.in_err-next.field-0.0 in
     rw (p.1, p.2) (finds_of is_outside (λ x. x) (Attributes c.args.bytes.now c.args.block [] c.args.start) e
-      (subst (λ (s : List Given). Attributes c.args.bytes.now c.args.block s c.args.start (Err e)) c.new-given.ensures
-      (c.attributes.invariant.so_far (Err e) (attribute_stops _ _ _ _ e (sym c.attributes-test.ensures)
-        (c.in_err-next.ensures.value ∙ ap (λ (s : List Given). attribute_at c.args.bytes.now c.args.block s c.attributes.at) c.as_slice.ensures)))))
+    (subst (λ (s : List Given). Attributes c.args.bytes.now c.args.block s c.args.start (Err e)) c.new-given.ensures
+    (c.attributes.invariant.so_far (Err e) (attribute_stops _ _ _ _ e (sym c.attributes-test.ensures)
+    (c.in_err-next.ensures.value ∙ ap (λ (s : List Given). attribute_at c.args.bytes.now c.args.block s c.attributes.at) c.as_slice.ensures)))))
 
 pub attributes-preserved : goal.attributes-preserved
 attributes-preserved c = record {
   inside = omega (arith, c.in_ok-next.ensures.within);
   order = omega (arith, c.in_ok-next.ensures.start, c.attributes.invariant.order);
   so_far = λ r h. c.attributes.invariant.so_far r (attribute_more _ _ _ _ _ c.in_ok-next.next r (sym c.attributes-test.ensures)
-    (c.in_ok-next.ensures.value ∙ ap (λ (s : List Given). attribute_at c.args.bytes.now c.args.block s c.attributes.at) c.as_slice.ensures)
-    (subst (λ (s : List Given). Attributes c.args.bytes.now c.args.block s c.in_ok-next.end r) c.in_ok-push.ensures.ok h));
+      (c.in_ok-next.ensures.value ∙ ap (λ (s : List Given). attribute_at c.args.bytes.now c.args.block s c.attributes.at) c.as_slice.ensures)
+      (subst (λ (s : List Given). Attributes c.args.bytes.now c.args.block s c.in_ok-next.end r) c.in_ok-push.ensures.ok h));
 }
 
 pub returns-clause-found : goal.returns-clause-found

@@ -11,7 +11,7 @@ returns-in_err-at c =
     let p = err_from_is_err_and c.from_residual.result c.from_residual.ensures.1 in
     let e = c.in_err-at.field-0.0 in
     rw (p.1, p.2) (unless_map (IsBlock c.args.bytes.now (draft_in c.script.tables) c.script.at (Err e)) (Blocks c.args.bytes.now (draft_in c.args.tables.now) c.args.start (Err e)) (is_outside e)
-      (λ h. c.script.invariant.so_far (Err e) (stops _ _ e (sym c.script-test.ensures) h)) c.in_err-at.ensures.found)
+    (λ h. c.script.invariant.so_far (Err e) (stops _ _ e (sym c.script-test.ensures) h)) c.in_err-at.ensures.found)
 
 pub script-preserved : goal.script-preserved
 script-preserved c = record {

@@ -11,7 +11,7 @@ returns-in_err-at-clause-found c =
     let p = err_from_is_err_and c.from_residual.result c.from_residual.ensures.1 in
     let e = c.in_err-at.field-0.0 in
     rw (p.1, p.2) (unless_map (IsEntry c.args.bytes.now c.args.block (draft_in c.entries.tables) c.entries.at (Err e)) (Entries c.args.bytes.now c.args.block (draft_in c.args.tables.now) c.args.start (Err e)) (is_outside e)
-      (λ h. c.entries.invariant.so_far (Err e) (stops _ _ e (sym c.entries-test.ensures) h)) c.in_err-at.ensures.found)
+    (λ h. c.entries.invariant.so_far (Err e) (stops _ _ e (sym c.entries-test.ensures) h)) c.in_err-at.ensures.found)
 
 pub entries-preserved : goal.entries-preserved
 entries-preserved c = record {

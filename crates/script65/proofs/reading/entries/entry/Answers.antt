@@ -12,13 +12,13 @@ returns-in_err-check_entry-clause-found c =
     let p = err_from_is_err_and c.from_residual-in_err-check_entry.result c.from_residual-in_err-check_entry.ensures.1 in
     let e = c.in_err-check_entry.field-0.0 in
     rw (p.1, p.2) (unless_of (is_outside e)
-      (entry_stops _ _ _ _ _ c.in_ok-given.end c.in_ok-name.name c.in_ok-given.given c.token_at-close.result e
-        c.in_ok-name.ensures.value c.in_ok-given.ensures.found c.token_at-close.ensures.value
-        (c.in_err-check_entry.ensures ∙ ap (λ (s : List Given). checked (entry_fault c.args.block s) c.token_at-close.result) c.as_slice.ensures)))
+    (entry_stops _ _ _ _ _ c.in_ok-given.end c.in_ok-name.name c.in_ok-given.given c.token_at-close.result e
+    c.in_ok-name.ensures.value c.in_ok-given.ensures.found c.token_at-close.ensures.value
+    (c.in_err-check_entry.ensures ∙ ap (λ (s : List Given). checked (entry_fault c.args.block s) c.token_at-close.result) c.as_slice.ensures)))
 
 pub returns-clause-found : goal.returns-clause-found
 returns-clause-found c =
     entry_of _ _ _ _ _ _ c.in_ok-given.end c.in_ok-name.name c.in_ok-given.given c.token_at-close.result
-      c.in_ok-name.ensures.value c.in_ok-given.ensures.found c.token_at-close.ensures.value
-      (c.in_ok-check_entry.ensures ∙ ap (λ (s : List Given). checked (entry_fault c.args.block s) c.token_at-close.result) c.as_slice.ensures)
-      (search rules)
+    c.in_ok-name.ensures.value c.in_ok-given.ensures.found c.token_at-close.ensures.value
+    (c.in_ok-check_entry.ensures ∙ ap (λ (s : List Given). checked (entry_fault c.args.block s) c.token_at-close.result) c.as_slice.ensures)
+    (search rules)

@@ -12,8 +12,8 @@ use Rattle.script65.proofs.reading.making.rows_of.Goals as goal
 pub rows-preserved : goal.rows-preserved
 rows-preserved c =
     subst (λ s. behind s (each (row_of c.args.bytes.now (draft_in c.args.tables.now)) (drop (length s) (named c.args.tables.now.rows))) ≡ each (row_of c.args.bytes.now (draft_in c.args.tables.now)) (named c.args.tables.now.rows)) (sym c.in_ok-push.ensures.ok)
-      (each_step (row_of c.args.bytes.now (draft_in c.args.tables.now)) c.rows.rows (named c.args.tables.now.rows) (c.in-Some.name.now, c.in-Some.entry.now) c.in_ok-row_of.field-0 c.rows.invariant
-        (ap (slice_get (named c.args.tables.now.rows)) (sym c.len.ensures) ∙ sym c.in-Some.ensures) c.in_ok-row_of.ensures)
+    (each_step (row_of c.args.bytes.now (draft_in c.args.tables.now)) c.rows.rows (named c.args.tables.now.rows) (c.in-Some.name.now, c.in-Some.entry.now) c.in_ok-row_of.field-0 c.rows.invariant
+    (ap (slice_get (named c.args.tables.now.rows)) (sym c.len.ensures) ∙ sym c.in-Some.ensures) c.in_ok-row_of.ensures)
 
 pub rows-smaller : goal.rows-smaller
 rows-smaller c =
@@ -26,8 +26,8 @@ returns-in_err-row_of c =
     let p = err_from_is_err_and c.from_residual.result c.from_residual.ensures.1 in
     let e = c.in_err-row_of.field-0.0 in
     rw (p.1, p.2) (unless_map (row_of c.args.bytes.now (draft_in c.args.tables.now) (c.in-Some.name.now, c.in-Some.entry.now) ≡ Err e) (each (row_of c.args.bytes.now (draft_in c.args.tables.now)) (named c.args.tables.now.rows) ≡ Err e) (is_outside e)
-      (each_stops (row_of c.args.bytes.now (draft_in c.args.tables.now)) c.rows.rows (named c.args.tables.now.rows) (c.in-Some.name.now, c.in-Some.entry.now) e c.rows.invariant
-        (ap (slice_get (named c.args.tables.now.rows)) (sym c.len.ensures) ∙ sym c.in-Some.ensures)) c.in_err-row_of.ensures)
+    (each_stops (row_of c.args.bytes.now (draft_in c.args.tables.now)) c.rows.rows (named c.args.tables.now.rows) (c.in-Some.name.now, c.in-Some.entry.now) e c.rows.invariant
+    (ap (slice_get (named c.args.tables.now.rows)) (sym c.len.ensures) ∙ sym c.in-Some.ensures)) c.in_err-row_of.ensures)
 
 pub returns : goal.returns
 returns c = each_end (row_of c.args.bytes.now (draft_in c.args.tables.now)) c.rows.rows (named c.args.tables.now.rows) c.rows.invariant

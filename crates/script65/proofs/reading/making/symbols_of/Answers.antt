@@ -7,8 +7,8 @@ use Rattle.script65.proofs.reading.making.symbols_of.Goals as goal
 pub symbols-preserved : goal.symbols-preserved
 symbols-preserved c =
     subst (λ s. s ++ map symbol_of (drop (length s) (named c.args.table.now)) ≡ map symbol_of (named c.args.table.now)) (sym c.in_ok-push.ensures.ok)
-      (map_step symbol_of c.symbols.symbols (named c.args.table.now) (c.in-Some.name.now, c.in-Some.entry.now) _ c.symbols.invariant
-        (ap (slice_get (named c.args.table.now)) (sym c.len.ensures) ∙ sym c.in-Some.ensures) c.in_ok-symbol_of.ensures)
+    (map_step symbol_of c.symbols.symbols (named c.args.table.now) (c.in-Some.name.now, c.in-Some.entry.now) _ c.symbols.invariant
+    (ap (slice_get (named c.args.table.now)) (sym c.len.ensures) ∙ sym c.in-Some.ensures) c.in_ok-symbol_of.ensures)
 
 pub returns : goal.returns
 returns c = map_end symbol_of c.symbols.symbols (named c.args.table.now) c.symbols.invariant

@@ -1,0 +1,70 @@
+-- A text is one script, or has one first fault.
+use Rattle.std.proofs.Common.{◌≡◌, ℕ, Bool, true, false, List, [], refl, sym, ap, ◌∙◌, subst, Ok, Err}
+use Rattle.std.specs.Prelude.{Result}
+use Rattle.script65.specs.declared.fault.ScriptFault.{ScriptFault}
+use Rattle.script65.specs.declared.fault.Stop.{Stop}
+use Rattle.script65.specs.declared.reading.token.Form.TheVariants as form
+use Rattle.script65.specs.declared.reading.words.Block.{Block}
+use Rattle.script65.specs.declared.reading.words.Given.{Given}
+use Rattle.script65.specs.declared.script.Script.{Script}
+use Rattle.script65.specs.Grammar.{Many, ends, more, stops, First, IsAttribute, Attributes, IsEntry, Entries, IsBlock, Blocks, Draft, Drafts, entry_head, entry_end, block_head, nothing, stands, sized}
+use Rattle.script65.specs.Laws.{OneReading}
+use Rattle.script65.specs.Making.{IsScript, Reads, script_of, with_line}
+use Rattle.script65.specs.Outcome.{◌>>=◌}
+use Rattle.script65.specs.Tokens.{token_at}
+
+abbrev IsOne : {S : Type 0} → (S → ℕ → Result (S × ℕ) Stop → Type 0) → Type 0
+IsOne {S} P = (s : S) (at : ℕ) (r q : Result (S × ℕ) Stop) → P s at r → P s at q → r ≡ q
+
+-- how a reading began
+abbrev Began : {S : Type 0} → (ℕ → Bool) → (S → ℕ → Result (S × ℕ) Stop → Type 0) → S → ℕ → Result (S × ℕ) Stop → Bool → Result (S × ℕ) Stop → Type 0
+Began closes Item s at q true i = q ≡ Ok (s, at)
+Began closes Item s at q false (Ok x) = Many closes Item x.0 x.1 q
+Began closes Item s at q false (Err e) = q ≡ Err e
+
+-- where the item is known
+began : {S : Type 0} (closes : ℕ → Bool) (Item : S → ℕ → Result (S × ℕ) Stop → Type 0) → IsOne Item → (s : S) (at : ℕ) (q i : Result (S × ℕ) Stop) → closes at ≡ false → Item s at i → Many closes Item s at q → Began closes Item s at q false i
+began closes Item one s at _ i shut h (ends _ _ e) = absurd cc
+began closes Item one s at _ i shut h (more _ t _ next r e g d) = subst (Began closes Item s at r false) (one s at (Ok (t, next)) i g h) d
+began closes Item one s at _ i shut h (stops _ _ f e g) = subst (Began closes Item s at (Err f) false) (one s at (Err f) i g h) refl
+
+closed : {S : Type 0} (closes : ℕ → Bool) (Item : S → ℕ → Result (S × ℕ) Stop → Type 0) (s : S) (at : ℕ) (q : Result (S × ℕ) Stop) → closes at ≡ true → Many closes Item s at q → q ≡ Ok (s, at)
+closed closes Item s at _ h (ends _ _ e) = refl
+closed closes Item s at _ h (more _ t _ next r e g d) = absurd cc
+closed closes Item s at _ h (stops _ _ f e g) = absurd cc
+
+many_one : {S : Type 0} (closes : ℕ → Bool) (Item : S → ℕ → Result (S × ℕ) Stop → Type 0) → IsOne Item → IsOne (Many closes Item)
+many_one closes Item one _ _ _ q (ends s at e) k = sym (closed closes Item s at q e k)
+many_one closes Item one _ _ _ q (more s t at next r e g d) k = many_one closes Item one t next r q d (began closes Item one s at q (Ok (t, next)) e g k)
+many_one closes Item one _ _ _ q (stops s at f e g) k = sym (began closes Item one s at q (Err f) e g k)
+
+first_one : {A B : Type 0} (head : Result A Stop) (Next : A → Result B Stop → Type 0) → ((x : A) (r q : Result B Stop) → Next x r → Next x q → r ≡ q) → (r q : Result B Stop) → First head Next r → First head Next q → r ≡ q
+first_one (Ok x) Next one r q h k = one x r q h k
+first_one (Err e) Next one r q h k = h ∙ sym k
+
+attributes_one : (bytes : List ℕ) (block : Block) → IsOne (Attributes bytes block)
+attributes_one bytes block = many_one (stands bytes form.Semicolon) (IsAttribute bytes block) (λ s at r q h k. h ∙ sym k)
+
+entry_one : (bytes : List ℕ) (block : Block) → IsOne (IsEntry bytes block)
+entry_one bytes block d at r q h k = first_one (entry_head bytes block d at) (λ h u. (q : Result (List Given × ℕ) Stop) × Attributes bytes block [] h.1 q × (u ≡ (q >>= entry_end bytes block h.0 d)))
+    (λ x r q h k. h.2 ∙ ap (λ v. v >>= entry_end bytes block x.0 d) (attributes_one bytes block [] x.1 h.0 k.0 h.1 k.1) ∙ sym k.2) r q h k
+
+entries_one : (bytes : List ℕ) (block : Block) → IsOne (Entries bytes block)
+entries_one bytes block = many_one (stands bytes form.Close) (IsEntry bytes block) (entry_one bytes block)
+
+block_one : (bytes : List ℕ) → IsOne (IsBlock bytes)
+block_one bytes d at r q h k = first_one (block_head bytes at) (λ h u. (q : Result (Draft × ℕ) Stop) × Entries bytes h.0 d h.1 q × (u ≡ (q >>= λ x. Ok (x.0, (token_at bytes x.1).to))))
+    (λ x r q h k. h.2 ∙ ap (λ v. v >>= λ x. Ok (x.0, (token_at bytes x.1).to)) (entries_one bytes x.0 d x.1 h.0 k.0 h.1 k.1) ∙ sym k.2) r q h k
+
+blocks_one : (bytes : List ℕ) → IsOne (Blocks bytes)
+blocks_one bytes = many_one (stands bytes form.End) (IsBlock bytes) (block_one bytes)
+
+drafts_one : (bytes : List ℕ) (r q : Result Draft Stop) → Drafts bytes r → Drafts bytes q → r ≡ q
+drafts_one bytes r q h k = first_one (sized bytes) (λ at u. (q : Result (Draft × ℕ) Stop) × Blocks bytes nothing at q × (u ≡ (q >>= λ x. Ok x.0)))
+    (λ x r q h k. h.2 ∙ ap (λ v. v >>= λ x. Ok x.0) (blocks_one bytes nothing x h.0 k.0 h.1 k.1) ∙ sym k.2) r q h k
+
+reads_one : (bytes : List ℕ) (r q : Result Script Stop) → Reads bytes r → Reads bytes q → r ≡ q
+reads_one bytes r q h k = h.2 ∙ ap (λ d. d >>= script_of bytes) (drafts_one bytes h.0 k.0 h.1 k.1) ∙ sym k.2
+
+pub one_reading : OneReading
+one_reading bytes r q h k = h.2 ∙ ap (with_line bytes) (reads_one bytes h.0 k.0 h.1 k.1) ∙ sym k.2

@@ -1,0 +1,34 @@
+use Rattle.std.proofs.Common.{◌≡◌, length, drop, slice_get, subst, sym, ap, ◌∙◌, arith, Ok, Err, length-append, ◌++◌}
+use Rattle.std.proofs.lemmas.Option.{slice_get_within}
+use Rattle.std.proofs.lemmas.Result.{err_from_is_err_and}
+use Rattle.script65.specs.Faults.{is_outside}
+use Rattle.script65.specs.Making.{row_of}
+use Rattle.script65.specs.Outcome.{each}
+use Rattle.script65.specs.Tables.{draft_in, named}
+use Rattle.script65.proofs.Eaches.{behind, each_step, each_stops, each_end, none_mapped, longer}
+use Rattle.script65.proofs.Manys.{unless_map}
+use Rattle.script65.proofs.reading.making.rows_of.Goals as goal
+
+pub rows-preserved : goal.rows-preserved
+rows-preserved c =
+    subst (λ s. behind s (each (row_of c.args.bytes.now (draft_in c.args.tables.now)) (drop (length s) (named c.args.tables.now.rows))) ≡ each (row_of c.args.bytes.now (draft_in c.args.tables.now)) (named c.args.tables.now.rows)) (sym c.in_ok-push.ensures.ok)
+    (each_step (row_of c.args.bytes.now (draft_in c.args.tables.now)) c.rows.rows (named c.args.tables.now.rows) (c.in-Some.name.now, c.in-Some.entry.now) c.in_ok-row_of.field-0 c.rows.invariant
+    (ap (slice_get (named c.args.tables.now.rows)) (sym c.len.ensures) ∙ sym c.in-Some.ensures) c.in_ok-row_of.ensures)
+
+pub rows-smaller : goal.rows-smaller
+rows-smaller c =
+    let within = slice_get_within (named c.args.tables.now.rows) c.len.result (c.in-Some.name.now, c.in-Some.entry.now) (sym c.in-Some.ensures) in
+    let more = ap length c.in_ok-push.ensures.ok ∙ longer c.rows.rows c.in_ok-row_of.field-0 in
+    omega (arith, within, more, c.len.ensures)
+
+pub returns-in_err-row_of : goal.returns-in_err-row_of
+returns-in_err-row_of c =
+    let p = err_from_is_err_and c.from_residual.result c.from_residual.ensures.1 in
+    let e = c.in_err-row_of.field-0.0 in
+    rw (p.1, p.2) (unless_map (row_of c.args.bytes.now (draft_in c.args.tables.now) (c.in-Some.name.now, c.in-Some.entry.now) ≡ Err e) (each (row_of c.args.bytes.now (draft_in c.args.tables.now)) (named c.args.tables.now.rows) ≡ Err e) (is_outside e)
+    (each_stops (row_of c.args.bytes.now (draft_in c.args.tables.now)) c.rows.rows (named c.args.tables.now.rows) (c.in-Some.name.now, c.in-Some.entry.now) e c.rows.invariant
+    (ap (slice_get (named c.args.tables.now.rows)) (sym c.len.ensures) ∙ sym c.in-Some.ensures)) c.in_err-row_of.ensures)
+
+pub returns : goal.returns
+returns c = each_end (row_of c.args.bytes.now (draft_in c.args.tables.now)) c.rows.rows (named c.args.tables.now.rows) c.rows.invariant
+    (ap (slice_get (named c.args.tables.now.rows)) (sym c.len.ensures) ∙ none_mapped _ c.get.result _ c.in_default.not-Some c.get.ensures)

@@ -1,0 +1,15 @@
+use Rattle.std.proofs.Common.{◌≡◌, length, map, drop, slice_get, subst, sym, ap, ◌∙◌, ◌++◌}
+use Rattle.script65.specs.Making.{symbol_of}
+use Rattle.script65.specs.Tables.{named}
+use Rattle.script65.proofs.Eaches.{map_step, map_end, none_mapped}
+use Rattle.script65.proofs.reading.making.symbols_of.Goals as goal
+
+pub symbols-preserved : goal.symbols-preserved
+symbols-preserved c =
+    subst (λ s. s ++ map symbol_of (drop (length s) (named c.args.table.now)) ≡ map symbol_of (named c.args.table.now)) (sym c.in_ok-push.ensures.ok)
+    (map_step symbol_of c.symbols.symbols (named c.args.table.now) (c.in-Some.name.now, c.in-Some.entry.now) _ c.symbols.invariant
+    (ap (slice_get (named c.args.table.now)) (sym c.len.ensures) ∙ sym c.in-Some.ensures) c.in_ok-symbol_of.ensures)
+
+pub returns : goal.returns
+returns c = map_end symbol_of c.symbols.symbols (named c.args.table.now) c.symbols.invariant
+    (ap (slice_get (named c.args.table.now)) (sym c.len.ensures) ∙ none_mapped _ c.get.result _ c.in_default.not-Some c.get.ensures)

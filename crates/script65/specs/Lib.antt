@@ -1,0 +1,11 @@
+pub mod Access
+pub mod Faults
+pub mod Grammar
+pub mod Laws
+pub mod Making
+pub mod Numbers
+pub mod Outcome
+pub mod Placing
+pub mod Tables
+pub mod Tokens
+pub mod Words

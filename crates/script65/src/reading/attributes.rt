@@ -1,0 +1,205 @@
+//! Reads attributes.
+
+ghost use Rattle.std.specs.Prelude.{◌≡◌, ◌≢◌, ◌≤◌, ◌<◌, ℕ, IfOk, length};
+ghost use Rattle.script65.specs.Grammar.{stands, expect, behind, number_at, byte_at, text_at, output_at, file_at, word_value, word_at, value_at, attribute_word, attribute_at};
+ghost use Rattle.script65.specs.declared.reading.token.Form.TheVariants.{End};
+
+use crate::fault::{Fault, Stop};
+use crate::reading::given::has;
+use crate::reading::number::number_of;
+use crate::reading::scan::{text, token_at};
+use crate::reading::token::{Form, Token};
+use crate::reading::words::{
+    Attribute, Block, Given, Shape, Value, area_access_of, attribute_of, flag_of, is_width,
+    role_of, row_access_of, shape_of,
+};
+
+/// Whether a token of this form stands here.
+#[tactic(auto, unfolding(crate::specs::Grammar::stands))]
+pub fn stands(bytes: &[u8], form: Form, at: usize) -> bool
+    requires { at ≤ length bytes.now }
+    ensures { result ≡ stands bytes.now form at }
+{
+    token_at(bytes, at).form as u8 == form as u8
+}
+
+/// The token here, which is of this form.
+#[tactic(auto, unfolding(crate::specs::Grammar::expect))]
+pub fn expect(bytes: &[u8], form: Form, at: usize) -> Result<Token, Stop>
+    requires { at ≤ length bytes.now }
+    ensures value { result ≡ expect bytes.now form at }
+    ensures within { IfOk result (λ t. t.to ≤ length bytes.now) }
+    ensures start { IfOk result (λ t. at ≤ t.from) }
+    ensures order { IfOk result (λ t. t.from ≤ t.to) }
+    ensures some { IfOk result (λ t. form ≢ End → t.from < t.to) }
+{
+    let token = token_at(bytes, at);
+    if stands(bytes, form, at) {
+        Ok(token)
+    } else {
+        Err(token.stop(Fault::SyntaxError))
+    }
+}
+
+/// Behind a token of this form, if one stands here.
+#[tactic(auto, unfolding(crate::specs::Grammar::behind))]
+pub fn behind(bytes: &[u8], form: Form, at: usize) -> usize
+    requires { at ≤ length bytes.now }
+    ensures value { result ≡ behind bytes.now form at }
+    ensures within { result ≤ length bytes.now }
+    ensures start { at ≤ result }
+{
+    if stands(bytes, form, at) {
+        token_at(bytes, at).to
+    } else {
+        at
+    }
+}
+
+#[tactic(auto, unfolding(crate::specs::Grammar::number_at))]
+fn number_at(bytes: &[u8], low: u32, high: u32, at: usize) -> Result<(Value, usize), Stop>
+    requires { at ≤ length bytes.now }
+    ensures value { result ≡ number_at bytes.now low high at }
+    ensures within { IfOk result (λ r. r.1 ≤ length bytes.now) }
+    ensures start { IfOk result (λ r. at < r.1) }
+{
+    let token = expect(bytes, Form::Number, at)?;
+    match number_of(text(bytes, token.from, token.to)) {
+        Some(n) if low <= n && n <= high => Ok((Value::Number(n), token.to)),
+        _ => Err(token.stop(Fault::OutOfRange)),
+    }
+}
+
+#[tactic(auto, unfolding(crate::specs::Grammar::byte_at))]
+fn byte_at(bytes: &[u8], at: usize) -> Result<(Value, usize), Stop>
+    requires { at ≤ length bytes.now }
+    ensures value { result ≡ byte_at bytes.now at }
+    ensures within { IfOk result (λ r. r.1 ≤ length bytes.now) }
+    ensures start { IfOk result (λ r. at < r.1) }
+{
+    let token = expect(bytes, Form::Number, at)?;
+    match number_of(text(bytes, token.from, token.to)) {
+        Some(n) if n <= 255 => Ok((Value::Byte(n as u8), token.to)),
+        _ => Err(token.stop(Fault::OutOfRange)),
+    }
+}
+
+#[tactic(auto, unfolding(crate::specs::Grammar::text_at))]
+fn text_at(bytes: &[u8], at: usize) -> Result<(Value, usize), Stop>
+    requires { at ≤ length bytes.now }
+    ensures value { result ≡ text_at bytes.now at }
+    ensures within { IfOk result (λ r. r.1 ≤ length bytes.now) }
+    ensures start { IfOk result (λ r. at < r.1) }
+{
+    let token = expect(bytes, Form::Text, at)?;
+    Ok((Value::File(token.from + 1, token.to - 1), token.to))
+}
+
+#[tactic(auto, unfolding(crate::specs::Grammar::output_at))]
+fn output_at(bytes: &[u8], at: usize) -> Result<(Value, usize), Stop>
+    requires { at ≤ length bytes.now }
+    ensures value { result ≡ output_at bytes.now at }
+    ensures within { IfOk result (λ r. r.1 ≤ length bytes.now) }
+    ensures start { IfOk result (λ r. at < r.1) }
+{
+    let token = expect(bytes, Form::Output, at)?;
+    Ok((Value::Output, token.to))
+}
+
+fn file_at(bytes: &[u8], at: usize) -> Result<(Value, usize), Stop>
+    requires { at ≤ length bytes.now }
+    ensures value { result ≡ file_at bytes.now at }
+    ensures within { IfOk result (λ r. r.1 ≤ length bytes.now) }
+    ensures start { IfOk result (λ r. at < r.1) }
+{
+    if stands(bytes, Form::Text, at) {
+        text_at(bytes, at)
+    } else {
+        output_at(bytes, at)
+    }
+}
+
+// What a word is to an attribute that takes this.
+fn word_value(shape: Shape, word: &[u8], token: Token) -> Option<Value>
+    ensures { result ≡ word_value shape word.now token }
+{
+    match shape {
+        Shape::Flag => flag_of(word).map(Value::Flag),
+        Shape::Area => Some(Value::Name(token.from, token.to)),
+        Shape::AreaAccess => area_access_of(word).map(Value::Access),
+        Shape::RowAccess => row_access_of(word).map(Value::Access),
+        Shape::Role => role_of(word).map(Value::Role),
+        Shape::Width => is_width(word).then_some(Value::Width),
+        Shape::Number(..) | Shape::Byte | Shape::File => None,
+    }
+}
+
+#[tactic(auto, unfolding(crate::specs::Grammar::word_at))]
+fn word_at(bytes: &[u8], shape: Shape, at: usize) -> Result<(Value, usize), Stop>
+    requires { at ≤ length bytes.now }
+    ensures value { result ≡ word_at bytes.now shape at }
+    ensures within { IfOk result (λ r. r.1 ≤ length bytes.now) }
+    ensures start { IfOk result (λ r. at < r.1) }
+{
+    let token = expect(bytes, Form::Word, at)?;
+    match word_value(shape, text(bytes, token.from, token.to), token) {
+        Some(value) => Ok((value, token.to)),
+        None => Err(token.stop(Fault::SyntaxError)),
+    }
+}
+
+fn value_at(bytes: &[u8], shape: Shape, at: usize) -> Result<(Value, usize), Stop>
+    requires { at ≤ length bytes.now }
+    ensures value { result ≡ value_at bytes.now shape at }
+    ensures within { IfOk result (λ r. r.1 ≤ length bytes.now) }
+    ensures start { IfOk result (λ r. at < r.1) }
+{
+    match shape {
+        Shape::Number(low, high) => number_at(bytes, low, high, at),
+        Shape::Byte => byte_at(bytes, at),
+        Shape::File => file_at(bytes, at),
+        _ => word_at(bytes, shape, at),
+    }
+}
+
+#[tactic(auto, unfolding(crate::specs::Grammar::attribute_word))]
+fn attribute_word(
+    bytes: &[u8],
+    block: Block,
+    given: &[Given],
+    at: usize,
+) -> Result<(Attribute, usize), Stop>
+    requires { at ≤ length bytes.now }
+    ensures value { result ≡ attribute_word bytes.now block given.now at }
+    ensures within { IfOk result (λ r. r.1 ≤ length bytes.now) }
+    ensures start { IfOk result (λ r. at < r.1) }
+{
+    let token = expect(bytes, Form::Word, at)?;
+    let Some(attribute) = attribute_of(block, text(bytes, token.from, token.to)) else {
+        return Err(token.stop(Fault::UnknownAttribute));
+    };
+    if has(attribute, given) {
+        Err(token.stop(Fault::AttributeTwice))
+    } else {
+        Ok((attribute, token.to))
+    }
+}
+
+/// An attribute with its value, an `=` before it and a `,` behind it, where they stand.
+#[tactic(auto, unfolding(crate::specs::Grammar::attribute_at))]
+pub fn attribute_at(
+    bytes: &[u8],
+    block: Block,
+    given: &[Given],
+    at: usize,
+) -> Result<(Given, usize), Stop>
+    requires { at ≤ length bytes.now }
+    ensures value { result ≡ attribute_at bytes.now block given.now at }
+    ensures within { IfOk result (λ r. r.1 ≤ length bytes.now) }
+    ensures start { IfOk result (λ r. at < r.1) }
+{
+    let (attribute, end) = attribute_word(bytes, block, given, at)?;
+    let shape = shape_of(block, attribute);
+    let (value, end) = value_at(bytes, shape, behind(bytes, Form::Equals, end))?;
+    Ok((Given { attribute, value }, behind(bytes, Form::Comma, end)))
+}

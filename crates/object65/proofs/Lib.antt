@@ -17,3 +17,4 @@ pub mod Readings
 pub mod Shapes
 pub mod Again
 pub mod Spellings
+pub mod Builders

@@ -44,8 +44,8 @@ abbrev pub Filling : List Draft → Type 0
 Filling [] = Unit {0}
 Filling (d ∷ ds) = (is_full d ≡ false → AllByRecursion IsEmptyDraft ds) × Filling ds
 
-pub record Reached (s : State) (es : List Entry) : Type 0 where
-  pub entries : es ≡ (map heading_entry s.drafts ++ flat_map content_entries s.drafts) ++ (if s.ended then end_entry ∷ [] else [])
+-- the parts of a state that was reached by records, whichever
+pub record GoodState (s : State) : Type 0 where
   pub names : are_names (map (λ d. d.name) s.drafts) ≡ true
   pub drafts : AllByRecursion GoodDraft s.drafts
   pub filling : Filling s.drafts
@@ -55,6 +55,11 @@ pub record Reached (s : State) (es : List Entry) : Type 0 where
   pub exports : s.exports ≡ []
   pub asserts : s.asserts ≡ []
   pub failed : s.failed ≡ false
+
+-- moreover these records led there
+pub record Reached (s : State) (es : List Entry) : Type 0 where
+  pub good : GoodState s
+  pub entries : es ≡ (map heading_entry s.drafts ++ flat_map content_entries s.drafts) ++ (if s.ended then end_entry ∷ [] else [])
 
 -- ---- Small things.
 
@@ -109,11 +114,11 @@ names_push (x ∷ xs) name good fine new =
     second_false true b e = cc
     second_false false b e = e
 
--- a section that was read is spelled so
+-- a section as it is read
 pub record ReadsHeading (body : List ℕ) (d : Draft) : Type 0 where
-  pub spelled : little_bytes 4 d.size ++ d.align ∷ d.name ≡ body
-  pub size : d.size ≤ section_limit
-  pub fresh : d ≡ draft_of (record { size = d.size; align = d.align; name = d.name })
+  pub long : 5 ≤ length body
+  pub fresh : d ≡ draft_of (record { size = little_number 4 body; align = get_or body 4 0; name = drop 5 body })
+  pub small : little_number 4 body ≤ section_limit
 
 five : (body : List ℕ) → IsBytes body → 5 ≤ length body → little_bytes 4 (little_number 4 body) ++ get_or body 4 0 ∷ drop 5 body ≡ body
 five [] is long = absurd (omega arith)
@@ -123,16 +128,22 @@ five (a ∷ b ∷ c ∷ []) is long = absurd (omega arith)
 five (a ∷ b ∷ c ∷ d ∷ []) is long = absurd (omega arith)
 five (a ∷ b ∷ c ∷ d ∷ e ∷ body) is long = ap (λ xs. xs ++ e ∷ body) (front_4 (a ∷ b ∷ c ∷ d ∷ e ∷ body) is (omega arith))
 
-pub heading_read : (body : List ℕ) (d : Draft) → IsBytes body → drafted body ≡ Ok d → ReadsHeading body d
-heading_read body d is e =
+pub heading_read : (body : List ℕ) (d : Draft) → drafted body ≡ Ok d → ReadsHeading body d
+heading_read body d e =
     let h = bound (section_of body) (λ x. Ok (draft_of x)) d e in
     let a = passes (nat_lt (length body) 5) BadSize _ _ h.1 in
     let b = passes (nat_lt section_limit (little_number 4 body)) BadSize _ _ a.1 in
-    let long : 5 ≤ length body = (let t = a.0 in grind (arith, nat_tests)) in
-    let small : little_number 4 body ≤ section_limit = (let t = b.0 in grind (arith, nat_tests)) in
     let heading : ◌≡◌ {A = Heading} (record { size = little_number 4 body; align = get_or body 4 0; name = drop 5 body }) h.0 = cc (b.1) in
     let d_is : ◌≡◌ {A = Draft} (draft_of (record { size = little_number 4 body; align = get_or body 4 0; name = drop 5 body })) d = ap draft_of heading ∙ cc (h.2) in
-    rw (← d_is) (record { spelled = five body is long; size = small; fresh = refl })
+    record {
+      long = (let t = a.0 in grind (arith, nat_tests));
+      fresh = sym d_is;
+      small = (let t = b.0 in grind (arith, nat_tests));
+    }
+
+-- it is spelled so
+pub heading_spelled : (body : List ℕ) (d : Draft) → IsBytes body → ReadsHeading body d → little_bytes 4 d.size ++ d.align ∷ d.name ≡ body
+heading_spelled body d is reads = ap (λ (x : Draft). little_bytes 4 x.size ++ x.align ∷ x.name) reads.fresh ∙ five body is reads.long
 
 -- ---- A LITERAL.
 
@@ -165,7 +176,7 @@ literal_grows body d e fits h =
 pub record LiteralGoes (body : List ℕ) (ds es : List Draft) : Type 0 where
   pub headings : map heading_entry es ≡ map heading_entry ds
   pub names : map (λ d. d.name) es ≡ map (λ d. d.name) ds
-  pub contents : flat_map content_entries es ≡ flat_map content_entries ds ++ literal_entry body ∷ []
+  pub contents : length body ≤ body_limit → flat_map content_entries es ≡ flat_map content_entries ds ++ literal_entry body ∷ []
   pub good : AllByRecursion GoodDraft es
   pub filling : Filling es
 
@@ -173,19 +184,20 @@ past : (body : List ℕ) (d : Draft) (ds es : List Draft) → GoodDraft d → is
 past body d ds es good full rest = record {
   headings = ap (λ xs. heading_entry d ∷ xs) rest.headings;
   names = ap (λ xs. d.name ∷ xs) rest.names;
-  contents = ap (λ xs. content_entries d ++ xs) rest.contents ∙ sym (append_assoc (content_entries d) (flat_map content_entries ds) (literal_entry body ∷ []));
+  contents = λ short. ap (λ xs. content_entries d ++ xs) (rest.contents short) ∙ sym (append_assoc (content_entries d) (flat_map content_entries ds) (literal_entry body ∷ []));
   good = (good, rest.good);
   filling = (λ h. cc, rest.filling);
 }
 
-here : (body : List ℕ) (d e : Draft) (ds : List Draft) → GoodDraft d → AllByRecursion GoodDraft ds → AllByRecursion IsEmptyDraft ds → length body ≤ body_limit → Grows body d e → LiteralGoes body (d ∷ ds) (e ∷ ds)
-here body d e ds good goods empties short grows =
+here : (body : List ℕ) (d e : Draft) (ds : List Draft) → GoodDraft d → AllByRecursion GoodDraft ds → AllByRecursion IsEmptyDraft ds → Grows body d e → LiteralGoes body (d ∷ ds) (e ∷ ds)
+here body d e ds good goods empties grows =
     let none = empties_none ds empties in
-    let joined : content_entries e ≡ content_entries d ++ literal_entry body ∷ [] = ap (λ (x : Draft). content_entries x) grows.is ∙ joined_piece d.literal body grows.full grows.some short in
     record {
       headings = ap (λ (x : Draft). heading_entry x ∷ map heading_entry ds) grows.is;
       names = ap (λ (x : Draft). x.name ∷ map (λ y. y.name) ds) grows.is;
-      contents = rw (joined, none, nil (content_entries d), nil (content_entries d ++ literal_entry body ∷ [])) refl;
+      contents = λ short.
+        let joined : content_entries e ≡ content_entries d ++ literal_entry body ∷ [] = ap (λ (x : Draft). content_entries x) grows.is ∙ joined_piece d.literal body grows.full grows.some short in
+        rw (joined, none, nil (content_entries d), nil (content_entries d ++ literal_entry body ∷ [])) refl;
       good = (
         rw grows.is (record {
           align = good.align;
@@ -199,18 +211,18 @@ here body d e ds good goods empties short grows =
       filling = (λ h. empties, empties_fill ds empties);
     }
 
-pub literal_goes : (body : List ℕ) (ds es : List Draft) → length body ≤ body_limit → AllByRecursion GoodDraft ds → Filling ds → in_first_open (with_literal body) ds ≡ Ok es → LiteralGoes body ds es
-literal_goes body [] es short goods filling h = cc
-literal_goes body (d ∷ ds) es short goods filling h =
+pub literal_goes : (body : List ℕ) (ds es : List Draft) → AllByRecursion GoodDraft ds → Filling ds → in_first_open (with_literal body) ds ≡ Ok es → LiteralGoes body ds es
+literal_goes body [] es goods filling h = cc
+literal_goes body (d ∷ ds) es goods filling h =
     elim (either (is_full d)) [
       | inl full ↦
           let r = bound (in_first_open (with_literal body) ds) _ _ (full_first d full (in_first_open (with_literal body) ds >>= (λ xs. Ok (d ∷ xs))) _ es h) in
           let es_is : d ∷ r.0 ≡ es = cc (r.2) in
-          subst (LiteralGoes body (d ∷ ds)) es_is (past body d ds r.0 goods.0 full (literal_goes body ds r.0 short goods.1 filling.1 r.1))
+          subst (LiteralGoes body (d ∷ ds)) es_is (past body d ds r.0 goods.0 full (literal_goes body ds r.0 goods.1 filling.1 r.1))
       | inr not_full ↦
           let r = bound (with_literal body d) _ _ (open_first d not_full _ (with_literal body d >>= (λ x. Ok (x ∷ ds))) es h) in
           let es_is : r.0 ∷ ds ≡ es = cc (r.2) in
-          subst (LiteralGoes body (d ∷ ds)) es_is (here body d r.0 ds goods.0 goods.1 (filling.0 not_full) short (literal_grows body d r.0 goods.0.within r.1))
+          subst (LiteralGoes body (d ∷ ds)) es_is (here body d r.0 ds goods.0 goods.1 (filling.0 not_full) (literal_grows body d r.0 goods.0.within r.1))
     ]
   where
     full_first : (d : Draft) → is_full d ≡ true → (x y : Result (List Draft) ObjectFault) (es : List Draft) → (if is_full d then x else y) ≡ Ok es → x ≡ Ok es

@@ -19,7 +19,7 @@ use Rattle.object65.specs.Spelling.{magic, object_head, entry_bytes, entries_of,
 use Rattle.object65.specs.Taking.{State, start, closing, closed, is_full, is_none, section_from, object_from, finished}
 use Rattle.object65.specs.Whole.{records_at, object_at}
 use Rattle.object65.proofs.Goods.{left, right, and}
-use Rattle.object65.proofs.Reached.{Reached, GoodDraft, heading_entry, content_entries, nil}
+use Rattle.object65.proofs.Reached.{Reached, GoodState, GoodDraft, heading_entry, content_entries, nil}
 use Rattle.object65.proofs.Rooms.{bound, passes, room_on}
 use Rattle.object65.proofs.Steps.{after_steps, at_start}
 use Rattle.object65.proofs.Trails.{trail}
@@ -97,22 +97,22 @@ sections_fit (d ∷ ds) good = (subst (AllByRecursion FragmentFits) (sym (closed
 
 pub finished_entries : (t : State) (es : List Entry) → Reached t es → t.ended ≡ true → entries_of (object_from t) ≡ es
 finished_entries t es r ended =
-    let full = r.full ended in
-    rw (r.imports, r.exports, r.asserts)
-    (ap (λ hs. hs ++ flat_map (λ (s : Section). flat_map fragment_entries s.fragments) (map section_from t.drafts) ++ [] ++ [] ++ end_entry ∷ []) (headings t.drafts r.drafts full)
-    ∙ ap (λ cs. map heading_entry t.drafts ++ cs ++ [] ++ [] ++ end_entry ∷ []) (contents t.drafts r.drafts)
+    let full = r.good.full ended in
+    rw (r.good.imports, r.good.exports, r.good.asserts)
+    (ap (λ hs. hs ++ flat_map (λ (s : Section). flat_map fragment_entries s.fragments) (map section_from t.drafts) ++ [] ++ [] ++ end_entry ∷ []) (headings t.drafts r.good.drafts full)
+    ∙ ap (λ cs. map heading_entry t.drafts ++ cs ++ [] ++ [] ++ end_entry ∷ []) (contents t.drafts r.good.drafts)
     ∙ ap (λ xs. xs ++ [] ++ end_entry ∷ []) (nil (map heading_entry t.drafts ++ flat_map content_entries t.drafts))
     ∙ ap (λ xs. xs ++ end_entry ∷ []) (nil (map heading_entry t.drafts ++ flat_map content_entries t.drafts))
     ∙ sym (r.entries ∙ ap (λ b. (map heading_entry t.drafts ++ flat_map content_entries t.drafts) ++ (if b then end_entry ∷ [] else [])) ended))
 
-pub finished_good : (t : State) (es : List Entry) → Reached t es → t.ended ≡ true → is_good_object (object_from t) ≡ true
-finished_good t es r ended =
+pub finished_good : (t : State) → GoodState t → t.ended ≡ true → is_good_object (object_from t) ≡ true
+finished_good t r ended =
     let names = ap are_names (names_same t.drafts) ∙ r.names in
     let good = sections_good (length (map section_from t.drafts)) 0 t.drafts r.drafts (r.full ended) in
     rw (r.imports, r.exports, r.asserts, names, good) refl
 
-pub finished_fits : (t : State) (es : List Entry) → Reached t es → ObjectFits (object_from t)
-finished_fits t es r = record {
+pub finished_fits : (t : State) → GoodState t → ObjectFits (object_from t)
+finished_fits t r = record {
   sections = sections_fit t.drafts r.drafts;
   exports = rw r.exports tt;
   asserts = rw r.asserts tt;
@@ -159,10 +159,10 @@ read_is_object bytes at limit o is e =
     let t = trail (length bytes) bytes limit h.0 start r.0.0 r.0.1 (subst IsBytes (sym on) (bytes_drop 5 (room bytes at limit) is)) r.1 in
     let reached = after_steps t.0 start r.0.0 [] at_start t.1.each t.1.taken in
     let none = end_read (room bytes r.0.1 limit) v.0 v.1 in
-    let o_is = finish_read r.0.0 o reached.failed t.1.ended v.2 in
+    let o_is = finish_read r.0.0 o reached.good.failed t.1.ended v.2 in
     subst (IsObject (room bytes at limit)) o_is (record {
-      good = finished_good r.0.0 t.0 reached t.1.ended;
-      numbers = finished_fits r.0.0 t.0 reached;
+      good = finished_good r.0.0 reached.good t.1.ended;
+      numbers = finished_fits r.0.0 reached.good;
       spelled =
           head.1 ∙ ap (λ xs. object_head ++ xs) (sym on ∙ t.1.spelled ∙ ap (λ xs. flat_map entry_bytes t.0 ++ xs) none ∙ nil (flat_map entry_bytes t.0) ∙ ap (flat_map entry_bytes) (sym (finished_entries r.0.0 t.0 reached t.1.ended)));
     })

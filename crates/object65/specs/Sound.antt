@@ -1,9 +1,9 @@
 -- What the parts of a builder stand for, and how they hang together.
-use Rattle.std.specs.Prelude.{◌≡◌, ◌≤◌, ℕ, List, length, take, map, true, false}
+use Rattle.std.specs.Prelude.{Bool, ◌≡◌, ◌≤◌, ℕ, List, length, take, map, true, false}
 use Rattle.std.specs.List.{list_all}
 use Rattle.object65.specs.declared.parts.Parts.{Parts}
 use Rattle.object65.specs.declared.draft.Draft.{Draft}
-use Rattle.object65.specs.Taking.{State, is_full}
+use Rattle.object65.specs.Taking.{State, is_full, IsReached}
 
 abbrev pub state_of : Parts → State
 state_of p = record { imports = p.imports; drafts = p.drafts.items; begun = p.begun; exports = p.exports; asserts = p.asserts; ended = false; failed = false }
@@ -16,3 +16,8 @@ pub record IsSound (p : Parts) : Type 0 where
   pub section_names : map (λ n. n.items) p.section_names.keys ≡ draft_names p.drafts.items
   pub within : p.filling ≤ length p.drafts.items
   pub filling : list_all is_full (take p.filling p.drafts.items) ≡ true
+
+-- what holds of a builder that hasn't failed
+pub record IsIntact (p : Parts) (ended : Bool) : Type 0 where
+  pub sound : IsSound p
+  pub reached : IsReached (record (state_of p) { ended = ended })

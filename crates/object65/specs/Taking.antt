@@ -206,6 +206,11 @@ after_all s (e ∷ es) = after s e >>= (λ t. after_all t es)
 abbrev pub StandsFor : State → List Entry → Type 0
 StandsFor s es = after_all start es ≡ Ok s
 
+-- some records lead to it
+pub record IsReached (s : State) : Type 0 where
+  pub records : List Entry
+  pub stands : StandsFor s records
+
 abbrev pub section_from : Draft → Section
 section_from d = record { name = d.name; align = d.align; fragments = closed d }
 

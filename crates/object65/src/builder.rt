@@ -1,8 +1,10 @@
 //! An object from its records.
 
-ghost use Rattle.std.specs.Prelude.{◌≡◌, OnErr, IfOk, true};
+ghost use Rattle.std.specs.Prelude.{◌≡◌, ◌≤◌, OnErr, IfOk, true};
 ghost use Rattle.object65.specs.Fault.{Gives, is_memory};
+ghost use Rattle.object65.specs.Objects.{is_good_object, section_len, section_limit};
 ghost use Rattle.object65.specs.Record.{entry_of};
+ghost use Rattle.std.specs.List.{AllByRecursion};
 ghost use Rattle.object65.specs.Taking.{start, after, finished};
 
 use crate::finishing::finish_object;
@@ -32,11 +34,11 @@ impl Model for Builder {
 
     ghost coded = { Prim.hlevel (codes, form_code) };
 
-    ghost use Rattle.object65.specs.Sound.{state_of, IsSound};
+    ghost use Rattle.object65.specs.Sound.{state_of, IsIntact};
 
     ghost view = { λ b. record (state_of b.parts) { ended = b.ended; failed = b.failed } };
 
-    ghost invariant = { λ b. b.failed ≡ false → IsSound b.parts };
+    ghost invariant = { λ b. b.failed ≡ false → IsIntact b.parts b.ended };
 }
 
 impl Builder {
@@ -94,7 +96,10 @@ impl Builder {
 
     /// The object, where its END was taken.
     pub fn finish(self) -> Result<Object, ObjectFault>
-        ensures { Gives is_memory (λ o. o) result (finished self) }
+        ensures finished { Gives is_memory (λ o. o) result (finished self) }
+        // What it gives can be written, and so its sections are within their limit.
+        ensures good { IfOk result (λ o. is_good_object o ≡ true) }
+        ensures sized { IfOk result (λ o. AllByRecursion (λ s. section_len s ≤ section_limit) o.sections) }
     {
         if self.failed {
             return Err(ObjectFault::FailedBefore);

@@ -1,9 +1,11 @@
 //! A whole object, read from a file.
 
-ghost use Rattle.std.specs.Prelude.{◌≡◌, ◌≤◌, ◌+◌, length, IfSome, IfOk};
+ghost use Rattle.std.specs.Prelude.{◌≡◌, ◌≤◌, ◌+◌, length, IfSome, IfOk, true};
 ghost use Rattle.std.specs.FinMap as map;
+ghost use Rattle.std.specs.List.{AllByRecursion};
 ghost use Rattle.syntax65.specs.Store.{Passes};
 ghost use Rattle.object65.specs.Fault.{Gives, is_outside};
+ghost use Rattle.object65.specs.Objects.{is_good_object, section_len, section_limit};
 ghost use Rattle.object65.specs.Reading.{in_file};
 ghost use Rattle.object65.specs.Taking.{start};
 ghost use Rattle.object65.specs.Whole.{records_at, object_at};
@@ -48,6 +50,9 @@ pub fn read_object<S: Store>(
     ensures read { IfSome (S.files store.old) (λ m. Gives is_outside (λ o. o) result (in_file (map.get m name.now) (object_at at limit))) }
     ensures files { S.files store.new ≡ S.files store.old }
     ensures count { Passes ObjectFault.FileError (S.failures store.old) (S.failures store.new) result }
+    // What is read can be written, and so its sections are within their limit, also where the store doesn't tell.
+    ensures good { IfOk result (λ o. is_good_object o ≡ true) }
+    ensures sized { IfOk result (λ o. AllByRecursion (λ s. section_len s ≤ section_limit) o.sections) }
 {
     let first = read_head(store, name, at, limit)?;
     let (builder, end) = read_records(alloc, store, name, first, limit)?;

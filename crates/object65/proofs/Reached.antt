@@ -196,8 +196,8 @@ here body d e ds good goods empties grows =
       headings = ap (λ (x : Draft). heading_entry x ∷ map heading_entry ds) grows.is;
       names = ap (λ (x : Draft). x.name ∷ map (λ y. y.name) ds) grows.is;
       contents = λ short.
-        let joined : content_entries e ≡ content_entries d ++ literal_entry body ∷ [] = ap (λ (x : Draft). content_entries x) grows.is ∙ joined_piece d.literal body grows.full grows.some short in
-        rw (joined, none, nil (content_entries d), nil (content_entries d ++ literal_entry body ∷ [])) refl;
+          let joined : content_entries e ≡ content_entries d ++ literal_entry body ∷ [] = ap (λ (x : Draft). content_entries x) grows.is ∙ joined_piece d.literal body grows.full grows.some short in
+          rw (joined, none, nil (content_entries d), nil (content_entries d ++ literal_entry body ∷ [])) refl;
       good = (
         rw grows.is (record {
           align = good.align;

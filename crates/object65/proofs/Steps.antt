@@ -147,9 +147,9 @@ taken_step s t e r running h =
     elim (either (e.kind == 2)) [
       | inl two ↦ let kind : e.kind ≡ 2 = grind (arith, nat_tests) in section kind (section_step s t e.body r running (rw kind at h))
       | inr not_two ↦ elim (either (e.kind == 3)) [
-          | inl three ↦ let kind : e.kind ≡ 3 = grind (arith, nat_tests) in literal kind (literal_step s t e.body r running (rw kind at h))
-          | inr not_three ↦ let kind : e.kind ≡ 8 = eight e.kind (is (is_record_kind e.kind) known.0) not_two not_three in ending kind (end_step s t e.body r (rw kind at h))
-        ]
+        | inl three ↦ let kind : e.kind ≡ 3 = grind (arith, nat_tests) in literal kind (literal_step s t e.body r running (rw kind at h))
+        | inr not_three ↦ let kind : e.kind ≡ 8 = eight e.kind (is (is_record_kind e.kind) known.0) not_two not_three in ending kind (end_step s t e.body r (rw kind at h))
+      ]
     ]
   where
     is : (b : Bool) → not b ≡ false → b ≡ true

@@ -10,18 +10,18 @@ use Rattle.tools65.specs.ScriptGrammar.{stands, form_rank, is_memory, is_outside
 
 end_of_rank : (f g : Form) → (form_rank f == form_rank g) ≡ true → f ≡ form.End → g ≡ form.End
 end_of_rank f g h e = by_rank g (let h' : (8 == form_rank g) ≡ true = rw (ap form_rank e) at h in h')
-    where
-        by_rank : (g : Form) → (8 == form_rank g) ≡ true → g ≡ form.End
-        by_rank form.End h = refl
-        by_rank form.Word h = cc
-        by_rank form.Number h = cc
-        by_rank form.Colon h = cc
-        by_rank form.Semicolon h = cc
-        by_rank form.Comma h = cc
-        by_rank form.Equals h = cc
-        by_rank form.Open h = cc
-        by_rank form.Close h = cc
-        by_rank form.Bad h = cc
+  where
+    by_rank : (g : Form) → (8 == form_rank g) ≡ true → g ≡ form.End
+    by_rank form.End h = refl
+    by_rank form.Word h = cc
+    by_rank form.Number h = cc
+    by_rank form.Colon h = cc
+    by_rank form.Semicolon h = cc
+    by_rank form.Comma h = cc
+    by_rank form.Equals h = cc
+    by_rank form.Open h = cc
+    by_rank form.Close h = cc
+    by_rank form.Bad h = cc
 
 pub end_stands : (bytes : List ℕ) (f : Form) (at : ℕ) → stands bytes f at ≡ true → (token_at bytes at).form ≡ form.End → f ≡ form.End
 unfolding stands

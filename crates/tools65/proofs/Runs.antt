@@ -33,10 +33,10 @@ nothing_written text m new status false e f = (e, f)
 pub said_only : (does : Files → Outcome → Type 0) (known new : Option Files) (out err_old err_new : Option (List ℕ)) (text : List ℕ) (whole : Bool) (status : Status) (Q : Type 0) → new ≡ known → status ≡ Failure → Prints err_old err_new text whole → ((m : Files) → does m (failing text) ⊎ IsWant (failing text)) → IfSome known (λ m. Q → Ran does m new out out err_old err_new status)
 said_only does None new out err_old err_new text whole status Q same e p why = tt
 said_only does (Some m) new out err_old err_new text whole status Q same e p why = λ _. (
-    failing text,
-    why m,
-    inl (record { whole = whole; said = only_errors out err_old err_new text whole p; settled = nothing_written text m new status whole same e }),
-  )
+  failing text,
+  why m,
+  inl (record { whole = whole; said = only_errors out err_old err_new text whole p; settled = nothing_written text m new status whole same e }),
+)
 
 -- no call failed before a moment between
 none_before : (fo fm fn : ℕ) → fo ≤ fm → fm ≤ fn → NoneFailed fo fn → (fm ≡ fo) × NoneFailed fm fn

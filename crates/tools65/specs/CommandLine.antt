@@ -25,11 +25,13 @@ ld65 = with_rule (with_rule (with_rule (new_app (codes "ld65"))
 
 -- the program's own words: one subcommand, and neither help nor version
 abbrev pub named : App
-named = record (new_app (codes "bin65")) { top = record (new_shape (codes "bin65")) {
+named = record (new_app (codes "bin65")) {
+  top = record (new_shape (codes "bin65")) {
     disable_help_flag = true;
     disable_help_subcommand = true;
     subcommand_required = true;
-  } }
+  };
+}
 
 -- the whole command
 abbrev pub bin65 : App

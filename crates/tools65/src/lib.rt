@@ -17,9 +17,9 @@ pub use command_line::fault::LineFault;
 pub use command_line::line::{Line, LinkLine};
 pub use command_line::reading::read_line;
 pub use disk_store::DiskStore;
-pub use running::{run, run_line};
 pub use outcome::{Outcome, Output, Status};
 pub use printing::print;
+pub use running::{run, run_line};
 pub use writing::write_file;
 
 #[cfg(test)]

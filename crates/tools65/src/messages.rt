@@ -61,11 +61,7 @@ pub fn place_message(alloc: Global, fault: &PlaceFault) -> Result<Sequence<u8>, 
         PlaceFault::OutOfMemory => join(alloc, &[b"ld65: Error: out of memory\n"]),
         PlaceFault::NoRow(name) => join(
             alloc,
-            &[
-                b"ld65: Error: segment has no row: ",
-                name.as_slice(),
-                b"\n",
-            ],
+            &[b"ld65: Error: segment has no row: ", name.as_slice(), b"\n"],
         ),
         PlaceFault::Overflow(area, by) => {
             let mut buffer = Buffer::new();

@@ -14,7 +14,8 @@ pub const O1: [u8; 26] = [
     0x45, 0x03, 0x03, 0x00, 0xa9, 0x00, 0x60, 0x08, 0x00, 0x00,
 ];
 
-pub const S1: &str = "MEMORY { ROM: start = $8000, size = $10; } SEGMENTS { CODE: load = ROM, type = ro; DATA: load = ROM, type = ro, optional = yes; }";
+pub const S1: &str =
+    "MEMORY { ROM: start = $8000, size = $10; } SEGMENTS { CODE: load = ROM, type = ro; DATA: load = ROM, type = ro, optional = yes; }";
 
 pub const LINK: [&str; 7] = ["bin65", "ld65", "-C", "s.cfg", "-o", "a.out", "a.o"];
 

@@ -6,8 +6,8 @@ ghost use Rattle.tools65.specs.LineFaults.{is_outside};
 ghost use Rattle.syntax65.specs.Outcome.{Gives};
 ghost use Rattle.tools65.specs.Line.{taken};
 
-use crate::command_line::fault::LineFault;
 use crate::command_line::commands::command;
+use crate::command_line::fault::LineFault;
 use clap::ArgMatches;
 use std::alloc::Global;
 use std::convert::AsStr;

@@ -29,7 +29,13 @@ fn place_object(alloc: Global, script: &Script, object: &Object) -> Result<Seque
     let rows = script.rows.as_slice();
     let needs = needs_of(alloc, sections)?;
     let placement = place(alloc, script, needs.as_slice())?;
-    let pieces = pieces_of(alloc, &script.area, sections, rows, placement.rows.as_slice())?;
+    let pieces = pieces_of(
+        alloc,
+        &script.area,
+        sections,
+        rows,
+        placement.rows.as_slice(),
+    )?;
     Ok(Sequence::from_vec(image(alloc, pieces.as_slice())?))
 }
 
@@ -54,12 +60,7 @@ fn read_text<S: Store>(alloc: Global, store: &mut S, name: &str) -> Result<Seque
     ensures files { S.files store.new ≡ S.files store.old }
     ensures count { PassesBy is_failure (S.failures store.old) (S.failures store.new) result }
 {
-    Ok(Sequence::from_vec(read_front(
-        alloc,
-        store,
-        name,
-        SCRIPT_LIMIT + 1,
-    )?))
+    Ok(Sequence::from_vec(read_front(alloc, store, name, SCRIPT_LIMIT + 1)?))
 }
 
 /// The image of an object by a script, both in files.

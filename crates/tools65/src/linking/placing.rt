@@ -91,12 +91,7 @@ fn check_rows(alloc: Global, rows: &[Row], needs: &[SegmentNeed]) -> Result<(), 
 
 /// A row at the cursor.
 #[tactic(auto, unfolding(crate::specs::Placing::row_after))]
-fn place_row(
-    alloc: Global,
-    area: &Area,
-    size: u32,
-    cursor: u64,
-) -> Result<PlacedRow, PlaceFault>
+fn place_row(alloc: Global, area: &Area, size: u32, cursor: u64) -> Result<PlacedRow, PlaceFault>
     requires { cursor ≤ 2 ^ 33 }
     ensures placed { Gives is_outside (λ p. p) result (row_after area.now size cursor) }
     ensures here { IfOk result (λ p. p.address ≡ cursor) }
@@ -143,11 +138,7 @@ fn place_rows(
 
 /// Places each row behind the one before it, from the area's start on.
 #[tactic(auto, unfolding(crate::specs::Placing::place_of))]
-pub fn place(
-    alloc: Global,
-    script: &Script,
-    needs: &[SegmentNeed],
-) -> Result<Placement, PlaceFault>
+pub fn place(alloc: Global, script: &Script, needs: &[SegmentNeed]) -> Result<Placement, PlaceFault>
     ensures placed { Gives is_outside (λ p. p) result (place_of script.now needs.now) }
     // Each row lies in the area with all its bytes.
     ensures lies { IfOk result (λ p. All (LiesIn script.now.area) p.rows) }

@@ -319,17 +319,10 @@ fn read_entries(alloc: Global, bytes: &[u8]) -> Result<Entries, Stop>
 fn name_of(alloc: Global, bytes: &[u8], name: Span) -> Result<Sequence<u8>, AllocError>
     ensures { IfOk result (λ s. s ≡ name_text bytes.now name) }
 {
-    Ok(Sequence::from_vec(Vec::from_slice(
-        alloc,
-        name_text(bytes, name),
-    )?))
+    Ok(Sequence::from_vec(Vec::from_slice(alloc, name_text(bytes, name))?))
 }
 
-fn rows_of(
-    alloc: Global,
-    bytes: &[u8],
-    entries: &[RowEntry],
-) -> Result<Sequence<Row>, AllocError>
+fn rows_of(alloc: Global, bytes: &[u8], entries: &[RowEntry]) -> Result<Sequence<Row>, AllocError>
     ensures { IfOk result (λ rows. rows ≡ map (row_in bytes.now) entries.now) }
 {
     let mut rows = Sequence::new(alloc);

@@ -16,13 +16,25 @@ fn links_the_first_object(rt: HostRuntime) -> Result<(), Fail> {
 #[test]
 fn names_the_output(rt: HostRuntime) -> Result<(), Fail> {
     let mut store = files(rt.alloc(), &O1, S1)?;
-    let ran = run_on(rt.alloc(), &mut store, &["bin65", "ld65", "a.o", "-Cs.cfg", "-oimage"]);
+    let ran = run_on(
+        rt.alloc(),
+        &mut store,
+        &["bin65", "ld65", "a.o", "-Cs.cfg", "-oimage"],
+    );
     assert!(rt; is_quiet(&ran));
     assert!(rt; matches!(store.get("image"), Some([0xa9, 0x00, 0x60])));
-    let ran = run_on(rt.alloc(), &mut store, &["bin65", "ld65", "-C", "s.cfg", "a.o"]);
+    let ran = run_on(
+        rt.alloc(),
+        &mut store,
+        &["bin65", "ld65", "-C", "s.cfg", "a.o"],
+    );
     assert!(rt; is_quiet(&ran));
     assert!(rt; matches!(store.get("a.out"), Some([0xa9, 0x00, 0x60])));
-    let ran = run_on(rt.alloc(), &mut store, &["bin65", "ld65", "-C", "s.cfg", "-o", "", "a.o"]);
+    let ran = run_on(
+        rt.alloc(),
+        &mut store,
+        &["bin65", "ld65", "-C", "s.cfg", "-o", "", "a.o"],
+    );
     assert!(rt; is_quiet(&ran));
     assert!(rt; store.get("").is_none());
     Ok(())
@@ -103,8 +115,14 @@ fn refuses_missing_files(rt: HostRuntime) -> Result<(), Fail> {
 #[test]
 fn refuses_what_is_not_placed(rt: HostRuntime) -> Result<(), Fail> {
     let rows = [
-        ("MEMORY { ROM: start = 0, size = 9; } SEGMENTS { DATA: load = ROM; }", "ld65: Error: segment has no row: CODE\n"),
-        ("MEMORY { ROM: start = 0, size = 2; } SEGMENTS { CODE: load = ROM; }", "ld65: Error: overflow of ROM by 1 bytes\n"),
+        (
+            "MEMORY { ROM: start = 0, size = 9; } SEGMENTS { DATA: load = ROM; }",
+            "ld65: Error: segment has no row: CODE\n",
+        ),
+        (
+            "MEMORY { ROM: start = 0, size = 2; } SEGMENTS { CODE: load = ROM; }",
+            "ld65: Error: overflow of ROM by 1 bytes\n",
+        ),
     ];
     for (script, message) in rows.iter() {
         let mut store = files(rt.alloc(), &O1, script)?;

@@ -29,20 +29,62 @@ fn refuses_scripts(rt: HostRuntime) -> Result<(), Fail> {
         ("MEMORY {\n\n", "s.cfg:3: Error: syntax error\n"),
         ("MEMORY { }", "s.cfg:1: Error: syntax error\n"),
         ("FEATURES { }", "s.cfg:1: Error: syntax error\n"),
-        ("MEMORY { A: start = 0, size = 1;\nB: start = 1, size = 1; } SEGMENTS { }", "s.cfg:2: Error: syntax error\n"),
-        ("MEMORY { A: start = 0, size = 1; }\nMEMORY { }", "s.cfg:2: Error: syntax error\n"),
-        ("MEMORY { A: start = 0, size = 1; }\nSEGMENTS { }\nSYMBOLS { }", "s.cfg:3: Error: syntax error\n"),
-        ("MEMORY { A: start = 0, size = 1; } SEGMENTS {\nCODE: load = A, type = bss; }", "s.cfg:2: Error: syntax error\n"),
-        ("MEMORY { A: start = %1, size = 1; }", "s.cfg:1: Error: syntax error\n"),
-        ("MEMORY { A:\nfill = yes; }", "s.cfg:2: Error: unknown attribute\n"),
-        ("MEMORY { A: start = 0, size = 1; } SEGMENTS {\nCODE: load = A, align = 4; }", "s.cfg:2: Error: unknown attribute\n"),
-        ("MEMORY { A: start = 0,\nSTART = yes; }", "s.cfg:2: Error: attribute twice\n"),
-        ("MEMORY { A: size = 0\n; }", "s.cfg:2: Error: attribute missing\n"),
-        ("MEMORY { A: start = 0, size = 1; } SEGMENTS { CODE:\n; }", "s.cfg:2: Error: attribute missing\n"),
-        ("MEMORY { A: start = 0, size = 1; } SEGMENTS { CODE: load = A;\nCODE; }", "s.cfg:2: Error: name twice\n"),
-        ("MEMORY { A: start = 0, size = 1; } SEGMENTS { CODE: load = A;\nDATA: load = a; }\n", "s.cfg:2: Error: no such area\n"),
-        ("MEMORY { A: start =\n99999999999999999999 , size = 1; }", "s.cfg:2: Error: value out of range\n"),
-        ("MEMORY { A: start = $FFFFFFFF, size = 2\n; }", "s.cfg:2: Error: value out of range\n"),
+        (
+            "MEMORY { A: start = 0, size = 1;\nB: start = 1, size = 1; } SEGMENTS { }",
+            "s.cfg:2: Error: syntax error\n",
+        ),
+        (
+            "MEMORY { A: start = 0, size = 1; }\nMEMORY { }",
+            "s.cfg:2: Error: syntax error\n",
+        ),
+        (
+            "MEMORY { A: start = 0, size = 1; }\nSEGMENTS { }\nSYMBOLS { }",
+            "s.cfg:3: Error: syntax error\n",
+        ),
+        (
+            "MEMORY { A: start = 0, size = 1; } SEGMENTS {\nCODE: load = A, type = bss; }",
+            "s.cfg:2: Error: syntax error\n",
+        ),
+        (
+            "MEMORY { A: start = %1, size = 1; }",
+            "s.cfg:1: Error: syntax error\n",
+        ),
+        (
+            "MEMORY { A:\nfill = yes; }",
+            "s.cfg:2: Error: unknown attribute\n",
+        ),
+        (
+            "MEMORY { A: start = 0, size = 1; } SEGMENTS {\nCODE: load = A, align = 4; }",
+            "s.cfg:2: Error: unknown attribute\n",
+        ),
+        (
+            "MEMORY { A: start = 0,\nSTART = yes; }",
+            "s.cfg:2: Error: attribute twice\n",
+        ),
+        (
+            "MEMORY { A: size = 0\n; }",
+            "s.cfg:2: Error: attribute missing\n",
+        ),
+        (
+            "MEMORY { A: start = 0, size = 1; } SEGMENTS { CODE:\n; }",
+            "s.cfg:2: Error: attribute missing\n",
+        ),
+        (
+            "MEMORY { A: start = 0, size = 1; } SEGMENTS { CODE: load = A;\nCODE; }",
+            "s.cfg:2: Error: name twice\n",
+        ),
+        (
+            "MEMORY { A: start = 0, size = 1; } SEGMENTS { CODE: load = A;\nDATA: load = a; }\n",
+            "s.cfg:2: Error: no such area\n",
+        ),
+        (
+            "MEMORY { A: start =\n99999999999999999999 , size = 1; }",
+            "s.cfg:2: Error: value out of range\n",
+        ),
+        (
+            "MEMORY { A: start = $FFFFFFFF, size = 2\n; }",
+            "s.cfg:2: Error: value out of range\n",
+        ),
     ];
     for (script, message) in rows.iter() {
         let mut store = files(rt.alloc(), &O1, script)?;

@@ -10,7 +10,7 @@ returns-in_err-next-clause-found c =
     let p = err_from_is_err_and c.from_residual.result c.from_residual.ensures.1 in
     let e = c.in_err-next.field-0.0 in
     rw (p.1, p.2) (finds_map (IsRow c.args.bytes.now c.rows.found c.rows.at) (Rows c.args.bytes.now [] c.args.start) e
-      (λ h. subst (λ (s : List RowEntry). Rows c.args.bytes.now s c.args.start (Err e)) c.new-found.ensures (c.rows.invariant.so_far (Err e) (stops _ _ e (sym c.rows-test.ensures) h))) c.in_err-next.ensures.found)
+    (λ h. subst (λ (s : List RowEntry). Rows c.args.bytes.now s c.args.start (Err e)) c.new-found.ensures (c.rows.invariant.so_far (Err e) (stops _ _ e (sym c.rows-test.ensures) h))) c.in_err-next.ensures.found)
 
 pub rows-preserved : goal.rows-preserved
 rows-preserved c = record {

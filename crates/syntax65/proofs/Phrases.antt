@@ -1,7 +1,7 @@
 -- One step of a reader, as one rule of the grammar.
 use Rattle.std.proofs.Common.{◌≡◌, ◌≢◌, ℕ, ◌+◌, ◌-◌, ◌<◌, ◌≤◌, true, false, List, [], ◌∷◌, ◌++◌, Option, Some, None, refl, sym, ap, subst, ◌∙◌, arith, append_assoc}
 use Rattle.std.proofs.lemmas.Bool.{cases_lt}
-use Rattle.std.specs.Prelude.{slice_get, Result, Ok, Err, MatchResult}
+use Rattle.std.specs.Prelude.{Result, Ok, Err, MatchResult}
 use Rattle.syntax65.specs.Tokens.{Lexeme}
 use Rattle.syntax65.specs.Trees.{Tree, name, unary, binary, tree_of}
 use Rattle.syntax65.specs.Words.{level_of}
@@ -73,7 +73,7 @@ enclosed_phrase ts room i j t pos h inner close =
       ends = level_zero ts (j + 1);
     }
 
-low_level : (op : Op2) → level_of op ≤ 5
+pub low_level : (op : Op2) → level_of op ≤ 5
 low_level Multiply = omega arith
 low_level _ = omega arith
 

@@ -26,7 +26,9 @@ pub const MAX_DEPTH: u8 = 64;
 ///
 /// The fault of the first place where no expression can go on.
 pub fn read_expr(alloc: Global, tokens: &[Token<'_>]) -> Result<(Expr, usize), ExprFault>
-    ensures { Answers is_expr_outside (λ r. (tree_of r.0, r.1)) result (IsParsed (lexemes tokens.now)) }
+    ensures read { Answers is_expr_outside (λ r. (tree_of r.0, r.1)) result (IsParsed (lexemes tokens.now)) }
+    ensures further { IfOk result (λ r. 0 < r.1) }
+    ensures bound { IfOk result (λ r. r.1 ≤ length tokens.now) }
 {
     read_whole(alloc, tokens, 0, MAX_DEPTH)
 }
@@ -41,6 +43,7 @@ fn read_whole(
 ) -> Result<(Expr, usize), ExprFault>
     ensures phrase { ReadsLevel (lexemes tokens.now) room 6 at result }
     ensures further { IfOk result (λ r. at < r.1) }
+    ensures inside { IfOk result (λ r. r.1 ≤ length tokens.now) }
 {
     if is_negation(tokens, at) {
         read_negated(alloc, tokens, at, room)
@@ -60,6 +63,7 @@ fn read_negated(
     requires negation { opening_at (lexemes tokens.now) at ≡ opening.Negation }
     ensures phrase { ReadsLevel (lexemes tokens.now) room 6 at result }
     ensures further { IfOk result (λ r. at < r.1) }
+    ensures inside { IfOk result (λ r. r.1 ≤ length tokens.now) }
 {
     if room == 0 {
         return Err(ExprFault::TooDeep);
@@ -80,6 +84,7 @@ fn read_level(
     requires { level ≤ 5 }
     ensures phrase { ReadsLevel (lexemes tokens.now) room level at result }
     ensures further { IfOk result (λ r. at < r.1) }
+    ensures inside { IfOk result (λ r. r.1 ≤ length tokens.now) }
 {
     if level == 0 {
         return read_operand(alloc, tokens, at, room);
@@ -102,6 +107,7 @@ fn read_operand(
 ) -> Result<(Expr, usize), ExprFault>
     ensures phrase { ReadsLevel (lexemes tokens.now) room 0 at result }
     ensures further { IfOk result (λ r. at < r.1) }
+    ensures inside { IfOk result (λ r. r.1 ≤ length tokens.now) }
 {
     let opening = opening_at(tokens, at);
     if let Some(leaf) = leaf_of(alloc, opening, text_at(tokens, at))? {
@@ -140,6 +146,7 @@ fn read_name(
     requires name { opening_at (lexemes tokens.now) at ≡ opening.Name }
     ensures phrase { ReadsLevel (lexemes tokens.now) room 0 at result }
     ensures further { IfOk result (λ r. at < r.1) }
+    ensures inside { IfOk result (λ r. r.1 ≤ length tokens.now) }
 {
     let (parts, end) = read_parts(alloc, tokens, at)?;
     let name = Name {
@@ -159,6 +166,7 @@ fn read_global(
     requires scope { opening_at (lexemes tokens.now) at ≡ opening.Scope }
     ensures phrase { ReadsLevel (lexemes tokens.now) room 0 at result }
     ensures further { IfOk result (λ r. at < r.1) }
+    ensures inside { IfOk result (λ r. r.1 ≤ length tokens.now) }
 {
     let (parts, end) = read_parts(alloc, tokens, at + 1)?;
     let name = Name {
@@ -180,6 +188,7 @@ fn read_prefixed(
     requires prefix { opening_at (lexemes tokens.now) at ≡ opening.Prefix op }
     ensures phrase { ReadsLevel (lexemes tokens.now) room 0 at result }
     ensures further { IfOk result (λ r. at < r.1) }
+    ensures inside { IfOk result (λ r. r.1 ≤ length tokens.now) }
 {
     if room == 0 {
         return Err(ExprFault::TooDeep);
@@ -199,6 +208,7 @@ fn read_enclosed(
     requires open { opening_at (lexemes tokens.now) at ≡ opening.Parenthesis }
     ensures phrase { ReadsLevel (lexemes tokens.now) room 0 at result }
     ensures further { IfOk result (λ r. at < r.1) }
+    ensures inside { IfOk result (λ r. r.1 ≤ length tokens.now) }
 {
     if room == 0 {
         return Err(ExprFault::TooDeep);

@@ -1,6 +1,6 @@
 #!/usr/bin/env python3
 """Writes the mnemonics and the table of opcodes from opcodes.txt: code, definitions and the list of all mnemonics.
-Run it here; the files it writes are then kept by hand."""
+Run it anywhere, then `rt fmt` in the crate."""
 import os
 
 HERE = os.path.dirname(os.path.abspath(__file__))
@@ -82,10 +82,12 @@ def names_antt(names):
     variants = ", ".join(n.capitalize() for n in names)
     rows = "".join(f'name_of {n.capitalize()} = codes "{n}"\n' for n in names)
     return f'''-- The names of the mnemonics.
-use Rattle.std.specs.Prelude.{{◌≡◌, ℕ, List, codes, map}}
+use Rattle.std.specs.Prelude.{{◌≡◌, ℕ, List, codes, map, Option, find}}
+use Rattle.std.specs.Str.{{str_eq_ignore_ascii_case}}
 use Rattle.std.specs.Char.{{to_ascii_lowercase}}
 use Rattle.syntax65.specs.declared.instructions.names.Mnemonic.{{Mnemonic}}
 use Rattle.syntax65.specs.declared.instructions.names.Mnemonic.TheVariants.{{{variants}}}
+use Rattle.syntax65.specs.declared.instructions.names.TheConstants.Mnemonic.{{ALL}}
 
 -- in lower case
 abbrev pub name_of : Mnemonic → List ℕ
@@ -93,6 +95,10 @@ abbrev pub name_of : Mnemonic → List ℕ
 -- the bytes are the name, in either case
 abbrev pub Spells : List ℕ → Mnemonic → Type 0
 Spells bytes m = map to_ascii_lowercase bytes ≡ name_of m
+
+-- the mnemonic that the bytes spell
+unfoldable pub mnemonic_of : List ℕ → Option Mnemonic
+mnemonic_of bytes = find (λ m. str_eq_ignore_ascii_case bytes (name_of m)) ALL
 '''
 
 
@@ -101,20 +107,14 @@ def all_names_antt(names):
     rows = "".join(f"place_of {n.capitalize()} = ({i}, lit< tt, λ d. refl)\n" for i, n in enumerate(names))
     count = len(names)
     return f'''-- The list of all mnemonics leaves none out.
-use Rattle.std.proofs.Common.{{◌≡◌, ℕ, ◌<◌, List, Option, Some, None, MatchOption, get_or, refl, sym, subst, lit<}}
-use Rattle.syntax65.specs.Mnemonics.{{Spells}}
+use Rattle.std.proofs.Common.{{◌≡◌, ℕ, ◌<◌, get_or, refl, lit<}}
 use Rattle.syntax65.specs.declared.instructions.names.Mnemonic.{{Mnemonic}}
 use Rattle.syntax65.specs.declared.instructions.names.Mnemonic.TheVariants.{{{variants}}}
 use Rattle.syntax65.specs.declared.instructions.names.TheConstants.Mnemonic.{{ALL}}
 
 -- each mnemonic stands in the list of all
 pub place_of : (m : Mnemonic) → (i : ℕ) × (i < {count}) × ((d : Mnemonic) → get_or ALL i d ≡ m)
-{rows}
--- where none of the list is spelled, no mnemonic is
-pub none_spelled : (r : Option Mnemonic) (bytes : List ℕ) → MatchOption r ((k : ℕ) (d : Mnemonic) → k < {count} → Spells bytes (get_or ALL k d) → ⊥) (λ m. Spells bytes m) → MatchOption r ((m : Mnemonic) → Spells bytes m → ⊥) (λ m. Spells bytes m)
-none_spelled None bytes h = λ m spells. h (place_of m).0 m (place_of m).1 (subst (λ (n : Mnemonic). Spells bytes n) (sym ((place_of m).2 m)) spells)
-none_spelled (Some m) bytes h = h
-'''
+{rows}'''
 
 
 def codes_antt(table, names):

@@ -1,10 +1,5 @@
 -- The list of all mnemonics leaves none out.
-use Rattle.std.proofs.Common.{◌≡◌, ◌∙◌, ℕ, zero, suc, ◌<◌, Bool, true, false, cond, List, [], ◌∷◌, length, map, find, Option, Some, None, MatchOption, get_or, refl, sym, ap, subst, lit<, arith}
-use Rattle.std.specs.Prelude.{nat_eq}
-use Rattle.std.specs.Char.{to_ascii_lowercase}
-use Rattle.std.specs.Str.{str_eq_ignore_ascii_case}
-use Rattle.std.specs.Cmp.Lexicographic.{pointwise, same_text, other_text}
-use Rattle.syntax65.specs.Mnemonics.{Spells, name_of, mnemonic_of}
+use Rattle.std.proofs.Common.{◌≡◌, ℕ, ◌<◌, get_or, refl, lit<}
 use Rattle.syntax65.specs.declared.instructions.names.Mnemonic.{Mnemonic}
 use Rattle.syntax65.specs.declared.instructions.names.Mnemonic.TheVariants.{Adc, And, Asl, Bcc, Bcs, Beq, Bit, Bmi, Bne, Bpl, Brk, Bvc, Bvs, Clc, Cld, Cli, Clv, Cmp, Cpx, Cpy, Dec, Dex, Dey, Eor, Inc, Inx, Iny, Jmp, Jsr, Lda, Ldx, Ldy, Lsr, Nop, Ora, Pha, Php, Pla, Plp, Rol, Ror, Rti, Rts, Sbc, Sec, Sed, Sei, Sta, Stx, Sty, Tax, Tay, Tsx, Txa, Txs, Tya}
 use Rattle.syntax65.specs.declared.instructions.names.TheConstants.Mnemonic.{ALL}
@@ -67,57 +62,3 @@ place_of Tsx = (52, lit< tt, λ d. refl)
 place_of Txa = (53, lit< tt, λ d. refl)
 place_of Txs = (54, lit< tt, λ d. refl)
 place_of Tya = (55, lit< tt, λ d. refl)
-
--- names are in lower case
-lower_name : (m : Mnemonic) → map to_ascii_lowercase (name_of m) ≡ name_of m
-lower_name Adc = refl
-lower_name _ = refl
-
-test_of_same : (b : Bool) (xs ys : List ℕ) → b ≡ pointwise nat_eq xs ys → xs ≡ ys → b ≡ true
-test_of_same true xs ys e h = refl
-test_of_same false xs ys e h = absurd (other_text xs ys e h)
-
-abbrev is_spelled : List ℕ → Mnemonic → Bool
-is_spelled bytes m = str_eq_ignore_ascii_case bytes (name_of m)
-
-spells_from_test : (bytes : List ℕ) (m : Mnemonic) → is_spelled bytes m ≡ true → Spells bytes m
-spells_from_test bytes m e = same_text _ _ (sym e) ∙ lower_name m
-
-test_from_spells : (bytes : List ℕ) (m : Mnemonic) → Spells bytes m → is_spelled bytes m ≡ true
-test_from_spells bytes m h = test_of_same _ _ _ refl (h ∙ sym (lower_name m))
-
-first_step : (p : Mnemonic → Bool) (m : Mnemonic) (rest : Option Mnemonic) (b : Bool) → p m ≡ b → MatchOption rest (Unit {0}) (λ n. p n ≡ true) → MatchOption (cond b (Some m) rest) (Unit {0}) (λ n. p n ≡ true)
-first_step p m rest true e h = e
-first_step p m rest false e h = h
-
--- what is found passes
-found_passes : (p : Mnemonic → Bool) (xs : List Mnemonic) → MatchOption (find p xs) (Unit {0}) (λ n. p n ≡ true)
-found_passes p [] = tt
-found_passes p (x ∷ xs) = first_step p x (find p xs) (p x) refl (found_passes p xs)
-
-none_step : (p : Mnemonic → Bool) (x : Mnemonic) (xs : List Mnemonic) (b : Bool) → p x ≡ b → cond b (Some x) (find p xs) ≡ None → (p x ≡ false) × (find p xs ≡ None)
-none_step p x xs true e h = absurd (cc)
-none_step p x xs false e h = (e, h)
-
--- where nothing is found, none passes
-none_passes : (p : Mnemonic → Bool) (xs : List Mnemonic) (i : ℕ) (d : Mnemonic) → find p xs ≡ None → i < length xs → p (get_or xs i d) ≡ false
-none_passes p [] i d e lt = absurd (omega arith)
-none_passes p (x ∷ xs) zero d e lt = (none_step p x xs (p x) refl e).0
-none_passes p (x ∷ xs) (suc i) d e lt = none_passes p xs i d (none_step p x xs (p x) refl e).1 (omega arith)
-
-both : (r : Option Mnemonic) (bytes : List ℕ) → r ≡ find (is_spelled bytes) ALL → MatchOption r ((m : Mnemonic) → Spells bytes m → ⊥) (λ m. Spells bytes m)
-both None bytes e = λ m h.
-    let place = place_of m in
-    let no_pass : is_spelled bytes (get_or ALL place.0 m) ≡ false = none_passes (is_spelled bytes) ALL place.0 m (sym e) place.1 in
-    let pass : is_spelled bytes (get_or ALL place.0 m) ≡ true = ap (is_spelled bytes) (place.2 m) ∙ test_from_spells bytes m h in
-    absurd (cc)
-both (Some m) bytes e = spells_from_test bytes m (subst (λ (r : Option Mnemonic). MatchOption r (Unit {0}) (λ n. is_spelled bytes n ≡ true)) (sym e) (found_passes (is_spelled bytes) ALL))
-
--- a mnemonic is found exactly where the bytes spell it
-pub spelled_both_ways : (bytes : List ℕ) → MatchOption (mnemonic_of bytes) ((m : Mnemonic) → Spells bytes m → ⊥) (λ m. Spells bytes m)
-unfolding mnemonic_of
-spelled_both_ways bytes = both (mnemonic_of bytes) bytes refl
-
-pub same_answer : (r : Option Mnemonic) (bytes : List ℕ) → r ≡ find (λ m. str_eq_ignore_ascii_case bytes (name_of m)) ALL → r ≡ mnemonic_of bytes
-unfolding mnemonic_of
-same_answer r bytes e = e

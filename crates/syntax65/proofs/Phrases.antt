@@ -1,13 +1,13 @@
 -- One step of a reader, as one rule of the grammar.
 use Rattle.std.proofs.Common.{◌≡◌, ◌≢◌, ℕ, ◌+◌, ◌-◌, ◌<◌, ◌≤◌, true, false, List, [], ◌∷◌, ◌++◌, Option, Some, None, refl, sym, ap, subst, ◌∙◌, arith, append_assoc}
 use Rattle.std.proofs.lemmas.Bool.{cases_lt}
-use Rattle.std.specs.Prelude.{slice_get, Result, Ok, Err, MatchResult}
+use Rattle.std.specs.Prelude.{Result, Ok, Err, MatchResult}
 use Rattle.syntax65.specs.Tokens.{Lexeme}
 use Rattle.syntax65.specs.Trees.{Tree, name, unary, binary, tree_of}
 use Rattle.syntax65.specs.Words.{level_of}
-use Rattle.syntax65.specs.Expressions.{opening_at, binary_at, text_at, leaf_of, leaf_at, closes_at, Parts, last_part, next_part, Phrase, a_leaf, a_name, a_global, prefixed, enclosed, of_level, joined, negated, NoOperator, BeginsOperand, OpensLevel, Stops, no_operand, no_name, no_global, too_deep, in_prefixed, in_enclosed, not_closed, in_first, in_next, negation_too_deep, in_negated, IsPhrase, IsStop, IsMissing, IsParsed}
+use Rattle.syntax65.specs.Expressions.{opening_at, binary_at, text_at, leaf_of, leaf_at, closes_at, Parts, last_part, next_part, Phrase, a_leaf, a_name, a_global, prefixed, enclosed, of_level, joined, negated, NoOperator, BeginsOperand, OpensLevel, Stops, no_operand, no_name, no_global, too_deep, in_prefixed, in_enclosed, not_closed, in_first, in_next, negation_too_deep, in_negated, IsPhrase, IsStop, IsMissing, IsParsed, ReadsLevel}
 use Rattle.syntax65.specs.Faults.{is_expr_outside}
-use Rattle.syntax65.specs.Outcome.{Unless}
+use Rattle.syntax65.specs.Relations.{Answers}
 use Rattle.syntax65.specs.declared.values.Op1.{Op1}
 use Rattle.syntax65.specs.declared.values.Op1.TheVariants.{Not}
 use Rattle.syntax65.specs.declared.values.Op2.{Op2}
@@ -73,7 +73,7 @@ enclosed_phrase ts room i j t pos h inner close =
       ends = level_zero ts (j + 1);
     }
 
-low_level : (op : Op2) → level_of op ≤ 5
+pub low_level : (op : Op2) → level_of op ≤ 5
 low_level Multiply = omega arith
 low_level _ = omega arith
 
@@ -178,7 +178,7 @@ joined_phrase ts room n i j k op t u t' u' pos left at level right same_left sam
 pub no_operators : (ts : List Lexeme) (n j : ℕ) → NoOperator ts (n - 1) j → ((op : Op2) → binary_at ts j ≡ Some op → level_of op ≢ n) → NoOperator ts n j
 no_operators ts n j tighter none op h = let lt = tighter op h in let ne = none op h in grind (arith, cases_lt n (level_of op))
 
-pub whole_result : (ts : List Lexeme) (room i : ℕ) (r : Result (Expr × ℕ) ExprFault) → opening_at ts i ≢ Negation → MatchResult r (λ x. IsPhrase ts room 5 i x.1 (tree_of x.0)) (λ f. IsStop ts room 5 i f) → MatchResult r (λ x. IsPhrase ts room 6 i x.1 (tree_of x.0)) (λ f. IsStop ts room 6 i f)
+pub whole_result : (ts : List Lexeme) (room i : ℕ) (r : Result (Expr × ℕ) ExprFault) → opening_at ts i ≢ Negation → ReadsLevel ts room 5 i r → ReadsLevel ts room 6 i r
 whole_result ts room i (Ok x) h p = whole_phrase ts room i x.1 (tree_of x.0) p
 whole_result ts room i (Err f) h s = whole_stop ts room i f h s
 
@@ -186,7 +186,7 @@ pub leaf_made : (ts : List Lexeme) (i : ℕ) (o : Opening) (text : List ℕ) (ma
 leaf_made ts i o text made a b e = sym (e ∙ ap (λ p. leaf_of p text) a ∙ ap (leaf_of (opening_at ts i)) b)
 
 -- a reader's answer, as what the tokens are read as
-pub parsed : (ts : List Lexeme) (r : Result (Expr × ℕ) ExprFault) → MatchResult r (λ x. IsPhrase ts 64 6 0 x.1 (tree_of x.0)) (λ f. IsStop ts 64 6 0 f) → MatchResult r (λ x. IsParsed ts (Ok (tree_of x.0, x.1))) (λ f. Unless (is_expr_outside f) (IsParsed ts (Err f)))
+pub parsed : (ts : List Lexeme) (r : Result (Expr × ℕ) ExprFault) → ReadsLevel ts 64 6 0 r → Answers is_expr_outside (λ x. (tree_of x.0, x.1)) r (IsParsed ts)
 parsed ts (Ok x) h = h
 parsed ts (Err OutOfMemory) h = tt
 parsed ts (Err OperandExpected) h = h

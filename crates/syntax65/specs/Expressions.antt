@@ -1,7 +1,7 @@
 -- The phrases of the expression grammar, by places in a list of tokens.
 use Rattle.std.specs.Prelude.{Bool, ◌≡◌, ◌≢◌, ℕ, ◌+◌, ◌<◌, true, false, List, [], ◌∷◌, Option, Some, None, slice_get, Result, Ok, Err, ⊤}
 use Rattle.syntax65.specs.Tokens.{Lexeme}
-use Rattle.syntax65.specs.Trees.{Tree, number, here, name, cheap, forward, backward, unary, binary}
+use Rattle.syntax65.specs.Trees.{Tree, tree_of, number, here, name, cheap, forward, backward, unary, binary}
 use Rattle.syntax65.specs.Words.{opening_of, binary_of, level_of}
 use Rattle.syntax65.specs.declared.lexing.tokens.TokenKind.{TokenKind}
 use Rattle.syntax65.specs.declared.lexing.tokens.TokenKind.TheVariants as token
@@ -9,6 +9,7 @@ use Rattle.syntax65.specs.declared.lexing.tokens.Mark.TheVariants as mark
 use Rattle.syntax65.specs.declared.values.Op1.{Op1}
 use Rattle.syntax65.specs.declared.values.Op1.TheVariants.{Not}
 use Rattle.syntax65.specs.declared.values.Op2.{Op2}
+use Rattle.syntax65.specs.declared.expressions.trees.Expr.{Expr}
 use Rattle.syntax65.specs.declared.expressions.words.Opening.{Opening}
 use Rattle.syntax65.specs.declared.expressions.words.Opening.TheVariants.{Number, Here, Cheap, Forward, Backward, Name, Scope, Prefix, Parenthesis, Negation, Nothing}
 use Rattle.syntax65.specs.declared.expressions.fault.ExprFault.{ExprFault}
@@ -121,6 +122,11 @@ abbrev pub IsStop : List Lexeme → ℕ → ℕ → ℕ → ExprFault → Type 0
 IsStop ts room n i OutOfMemory = ⊤
 IsStop ts room n i f = (k : ℕ) × Stops ts room n i k f
 
+-- a reader's answer for level n from i on: a phrase that no operator follows, or a stop
+abbrev pub ReadsLevel : List Lexeme → ℕ → ℕ → ℕ → Result (Expr × ℕ) ExprFault → Type 0
+ReadsLevel ts room n i (Ok x) = IsPhrase ts room n i x.1 (tree_of x.0)
+ReadsLevel ts room n i (Err f) = IsStop ts room n i f
+
 -- what the tokens at the front are read as: an expression and how many tokens it has, or their first fault
 abbrev pub IsParsed : List Lexeme → Result (Tree × ℕ) ExprFault → Type 0
 IsParsed ts (Ok x) = IsPhrase ts 64 6 0 x.1 x.0
@@ -131,3 +137,8 @@ abbrev pub IsMissing : List Lexeme → ℕ → ExprFault → Type 0
 IsMissing ts i OutOfMemory = ⊤
 IsMissing ts i OperandExpected = (k : ℕ) × LacksPart ts i k
 IsMissing ts i _ = ⊥
+
+-- a reader's answer for the names from i on
+abbrev pub ReadsNames : List Lexeme → ℕ → Result (List (List ℕ) × ℕ) ExprFault → Type 0
+ReadsNames ts i (Ok x) = Parts ts i x.1 x.0
+ReadsNames ts i (Err f) = IsMissing ts i f

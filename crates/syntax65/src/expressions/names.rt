@@ -1,7 +1,7 @@
 //! Reading names with `::` between them.
 
-ghost use Rattle.std.specs.Prelude.{◌<◌, ◌≤◌, length, IfOk, MatchResult};
-ghost use Rattle.syntax65.specs.Expressions.{Parts, IsMissing};
+ghost use Rattle.std.specs.Prelude.{◌<◌, ◌≤◌, length, IfOk};
+ghost use Rattle.syntax65.specs.Expressions.{ReadsNames};
 ghost use Rattle.syntax65.specs.Tokens.{lexemes};
 
 use super::fault::ExprFault;
@@ -16,7 +16,7 @@ pub fn read_parts(
     at: usize,
 ) -> Result<(Sequence<Sequence<u8>>, usize), ExprFault>
     requires { at ≤ length tokens.now }
-    ensures parts { MatchResult result (λ r. Parts (lexemes tokens.now) at r.1 r.0) (λ fault. IsMissing (lexemes tokens.now) at fault) }
+    ensures parts { ReadsNames (lexemes tokens.now) at result }
     ensures further { IfOk result (λ r. at < r.1) }
     ensures inside { IfOk result (λ r. r.1 ≤ length tokens.now) }
 {

@@ -1,10 +1,10 @@
 //! Reading expressions.
 
-ghost use Rattle.std.specs.Prelude.{◌≡◌, ◌<◌, ◌≤◌, length, IfOk, MatchResult, Ok, Err};
+ghost use Rattle.std.specs.Prelude.{◌≡◌, ◌<◌, ◌≤◌, length, IfOk};
 ghost use Rattle.syntax65.specs.Faults.{is_expr_outside};
-ghost use Rattle.syntax65.specs.Outcome.{Unless};
+ghost use Rattle.syntax65.specs.Relations.{Answers};
 ghost use Rattle.std.specs.Option.{option_map};
-ghost use Rattle.syntax65.specs.Expressions.{IsParsed, IsPhrase, IsStop, opening_at, leaf_of};
+ghost use Rattle.syntax65.specs.Expressions.{IsParsed, ReadsLevel, opening_at, leaf_of};
 ghost use Rattle.syntax65.specs.Tokens.{lexemes};
 ghost use Rattle.syntax65.specs.Trees.{tree_of};
 ghost use Rattle.syntax65.specs.declared.expressions.words.Opening.TheVariants as opening;
@@ -26,7 +26,9 @@ pub const MAX_DEPTH: u8 = 64;
 ///
 /// The fault of the first place where no expression can go on.
 pub fn read_expr(alloc: Global, tokens: &[Token<'_>]) -> Result<(Expr, usize), ExprFault>
-    ensures { MatchResult result (λ r. IsParsed (lexemes tokens.now) (Ok (tree_of r.0, r.1))) (λ fault. Unless (is_expr_outside fault) (IsParsed (lexemes tokens.now) (Err fault))) }
+    ensures read { Answers is_expr_outside (λ r. (tree_of r.0, r.1)) result (IsParsed (lexemes tokens.now)) }
+    ensures further { IfOk result (λ r. 0 < r.1) }
+    ensures bound { IfOk result (λ r. r.1 ≤ length tokens.now) }
 {
     read_whole(alloc, tokens, 0, MAX_DEPTH)
 }
@@ -39,8 +41,9 @@ fn read_whole(
     at: usize,
     room: u8,
 ) -> Result<(Expr, usize), ExprFault>
-    ensures phrase { MatchResult result (λ r. IsPhrase (lexemes tokens.now) room 6 at r.1 (tree_of r.0)) (λ fault. IsStop (lexemes tokens.now) room 6 at fault) }
+    ensures phrase { ReadsLevel (lexemes tokens.now) room 6 at result }
     ensures further { IfOk result (λ r. at < r.1) }
+    ensures inside { IfOk result (λ r. r.1 ≤ length tokens.now) }
 {
     if is_negation(tokens, at) {
         read_negated(alloc, tokens, at, room)
@@ -58,8 +61,9 @@ fn read_negated(
 ) -> Result<(Expr, usize), ExprFault>
     requires inside { at < length tokens.now }
     requires negation { opening_at (lexemes tokens.now) at ≡ opening.Negation }
-    ensures phrase { MatchResult result (λ r. IsPhrase (lexemes tokens.now) room 6 at r.1 (tree_of r.0)) (λ fault. IsStop (lexemes tokens.now) room 6 at fault) }
+    ensures phrase { ReadsLevel (lexemes tokens.now) room 6 at result }
     ensures further { IfOk result (λ r. at < r.1) }
+    ensures inside { IfOk result (λ r. r.1 ≤ length tokens.now) }
 {
     if room == 0 {
         return Err(ExprFault::TooDeep);
@@ -78,8 +82,9 @@ fn read_level(
     room: u8,
 ) -> Result<(Expr, usize), ExprFault>
     requires { level ≤ 5 }
-    ensures phrase { MatchResult result (λ r. IsPhrase (lexemes tokens.now) room level at r.1 (tree_of r.0)) (λ fault. IsStop (lexemes tokens.now) room level at fault) }
+    ensures phrase { ReadsLevel (lexemes tokens.now) room level at result }
     ensures further { IfOk result (λ r. at < r.1) }
+    ensures inside { IfOk result (λ r. r.1 ≤ length tokens.now) }
 {
     if level == 0 {
         return read_operand(alloc, tokens, at, room);
@@ -100,8 +105,9 @@ fn read_operand(
     at: usize,
     room: u8,
 ) -> Result<(Expr, usize), ExprFault>
-    ensures phrase { MatchResult result (λ r. IsPhrase (lexemes tokens.now) room 0 at r.1 (tree_of r.0)) (λ fault. IsStop (lexemes tokens.now) room 0 at fault) }
+    ensures phrase { ReadsLevel (lexemes tokens.now) room 0 at result }
     ensures further { IfOk result (λ r. at < r.1) }
+    ensures inside { IfOk result (λ r. r.1 ≤ length tokens.now) }
 {
     let opening = opening_at(tokens, at);
     if let Some(leaf) = leaf_of(alloc, opening, text_at(tokens, at))? {
@@ -138,8 +144,9 @@ fn read_name(
 ) -> Result<(Expr, usize), ExprFault>
     requires inside { at < length tokens.now }
     requires name { opening_at (lexemes tokens.now) at ≡ opening.Name }
-    ensures phrase { MatchResult result (λ r. IsPhrase (lexemes tokens.now) room 0 at r.1 (tree_of r.0)) (λ fault. IsStop (lexemes tokens.now) room 0 at fault) }
+    ensures phrase { ReadsLevel (lexemes tokens.now) room 0 at result }
     ensures further { IfOk result (λ r. at < r.1) }
+    ensures inside { IfOk result (λ r. r.1 ≤ length tokens.now) }
 {
     let (parts, end) = read_parts(alloc, tokens, at)?;
     let name = Name {
@@ -157,8 +164,9 @@ fn read_global(
 ) -> Result<(Expr, usize), ExprFault>
     requires inside { at < length tokens.now }
     requires scope { opening_at (lexemes tokens.now) at ≡ opening.Scope }
-    ensures phrase { MatchResult result (λ r. IsPhrase (lexemes tokens.now) room 0 at r.1 (tree_of r.0)) (λ fault. IsStop (lexemes tokens.now) room 0 at fault) }
+    ensures phrase { ReadsLevel (lexemes tokens.now) room 0 at result }
     ensures further { IfOk result (λ r. at < r.1) }
+    ensures inside { IfOk result (λ r. r.1 ≤ length tokens.now) }
 {
     let (parts, end) = read_parts(alloc, tokens, at + 1)?;
     let name = Name {
@@ -178,8 +186,9 @@ fn read_prefixed(
 ) -> Result<(Expr, usize), ExprFault>
     requires inside { at < length tokens.now }
     requires prefix { opening_at (lexemes tokens.now) at ≡ opening.Prefix op }
-    ensures phrase { MatchResult result (λ r. IsPhrase (lexemes tokens.now) room 0 at r.1 (tree_of r.0)) (λ fault. IsStop (lexemes tokens.now) room 0 at fault) }
+    ensures phrase { ReadsLevel (lexemes tokens.now) room 0 at result }
     ensures further { IfOk result (λ r. at < r.1) }
+    ensures inside { IfOk result (λ r. r.1 ≤ length tokens.now) }
 {
     if room == 0 {
         return Err(ExprFault::TooDeep);
@@ -197,8 +206,9 @@ fn read_enclosed(
 ) -> Result<(Expr, usize), ExprFault>
     requires inside { at < length tokens.now }
     requires open { opening_at (lexemes tokens.now) at ≡ opening.Parenthesis }
-    ensures phrase { MatchResult result (λ r. IsPhrase (lexemes tokens.now) room 0 at r.1 (tree_of r.0)) (λ fault. IsStop (lexemes tokens.now) room 0 at fault) }
+    ensures phrase { ReadsLevel (lexemes tokens.now) room 0 at result }
     ensures further { IfOk result (λ r. at < r.1) }
+    ensures inside { IfOk result (λ r. r.1 ≤ length tokens.now) }
 {
     if room == 0 {
         return Err(ExprFault::TooDeep);

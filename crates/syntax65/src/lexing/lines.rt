@@ -1,9 +1,9 @@
 //! The tokens of a line.
 
-ghost use Rattle.std.specs.Prelude.{◌≡◌, ◌↔◌, Ok, Err, IsTrue, MatchResult, map};
+ghost use Rattle.std.specs.Prelude.{◌≡◌, ◌↔◌, IsTrue};
 ghost use Rattle.syntax65.specs.Faults.{is_lex_outside};
-ghost use Rattle.syntax65.specs.Outcome.{Unless};
-ghost use Rattle.syntax65.specs.Tokens.{after_blanks, lexeme_of, IsEnd, IsRead};
+ghost use Rattle.syntax65.specs.Relations.{Answers};
+ghost use Rattle.syntax65.specs.Tokens.{after_blanks, lexemes, IsEnd, IsRead};
 
 use super::classes::{Class, class_of};
 use super::fault::LexFault;
@@ -21,7 +21,7 @@ pub const MAX_LINE: usize = 4096;
 ///
 /// `LineTooLong`, or else the fault of the first place where no token stands.
 pub fn line_tokens(alloc: Global, line: &[u8]) -> Result<Vec<Token<'_>>, LexFault>
-    ensures { MatchResult result (λ v. IsRead line.now (Ok (map lexeme_of v.items))) (λ e. Unless (is_lex_outside e) (IsRead line.now (Err e))) }
+    ensures { Answers is_lex_outside (λ tokens. lexemes tokens.items) result (IsRead line.now) }
 {
     if line.len() > MAX_LINE {
         return Err(LexFault::LineTooLong);

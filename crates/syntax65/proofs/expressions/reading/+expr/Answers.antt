@@ -1,4 +1,4 @@
-use Rattle.std.proofs.Common.{arith, ◌≡◌, sym, ap, ◌∙◌, refl, None, IsTrue, false, List, ℕ, subst}
+use Rattle.std.proofs.Common.{arith, ◌≡◌, sym, ap, ◌∙◌, None, IsTrue, false, List, ℕ, subst}
 use Rattle.std.proofs.lemmas.Result.{err_from_is_err_and}
 use Rattle.std.specs.Option.{option_map}
 use Rattle.syntax65.specs.Tokens.{lexemes}
@@ -21,6 +21,7 @@ read_operand-returns-in_default-opening t c =
     record {
       phrase = bad_operand (lexemes c.args.tokens.now) c.args.room c.args.at c.opening_at-opening.result c.opening_at-opening.ensures.value none c.in_default-opening.not-Name c.in_default-opening.not-Scope c.in_default-opening.not-Prefix c.in_default-opening.not-Parenthesis;
       further = tt;
+      inside = tt;
     }
 
 pub read_prefixed-returns-then-room-eq0-clause-phrase : goal.read_prefixed-returns-then-room-eq0-clause-phrase
@@ -81,6 +82,7 @@ read_level-operators-init t c = record {
   phrase = first_phrase (lexemes c.args.tokens.now) c.args.room c.args.level c.args.at _ _ (omega arith) c.in_ok-left.ensures.phrase;
   tighter = c.in_ok-left.ensures.phrase.ends;
   further = c.in_ok-left.ensures.further;
+  within = c.in_ok-left.ensures.inside;
 }
 
 pub read_level-returns-in_err-right-clause-phrase : goal.read_level-returns-in_err-right-clause-phrase
@@ -96,4 +98,5 @@ read_level-operators-preserved t c = record {
       (ap tree_of c.in_ok-new.ensures.ok) (ap tree_of c.in_ok-new-2.ensures.ok);
   tighter = c.in_ok-right.ensures.phrase.ends;
   further = omega (arith, c.operators.invariant.further, c.in_ok-right.ensures.further);
+  within = c.in_ok-right.ensures.inside;
 }

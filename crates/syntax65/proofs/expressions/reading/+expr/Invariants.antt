@@ -1,4 +1,4 @@
-use Rattle.std.proofs.Common.{◌<◌, length, ◌+◌, ◌-◌, ◌*◌}
+use Rattle.std.proofs.Common.{◌≤◌, ◌<◌, length, ◌+◌, ◌-◌, ◌*◌}
 use Rattle.syntax65.specs.Trees.{tree_of}
 use Rattle.syntax65.specs.Tokens.{lexemes}
 use Rattle.syntax65.specs.Expressions.{Phrase, NoOperator}
@@ -28,6 +28,7 @@ invariant-read_level-operators l = record {
   phrase : Phrase (lexemes l.tokens) l.room l.level l.at l.end (tree_of l.left);
   tighter : NoOperator (lexemes l.tokens) (l.level - 1) l.end;
   further : l.at < l.end;
+  within : l.end ≤ length l.tokens;
 }
 
 abbrev pub decreases-read_level-operators : goal.decreases-read_level-operators

@@ -1,7 +1,7 @@
 use Rattle.std.proofs.Common.{Option, MatchOption, sym, subst}
 use Rattle.syntax65.specs.Mnemonics.{Spells}
 use Rattle.syntax65.specs.declared.instructions.names.Mnemonic.{Mnemonic}
-use Rattle.syntax65.proofs.AllMnemonics.{spelled_both_ways, same_answer}
+use Rattle.syntax65.proofs.Spelled.{spelled_both_ways, same_answer}
 use Rattle.syntax65.proofs.instructions.lookup.mnemonic.Goals as goal
 
 pub returns-clause-value : goal.returns-clause-value

@@ -1,0 +1,160 @@
+-- Tokens are parsed in one way: each phrase and each stop is a reading from left to right.
+use Rattle.std.proofs.Common.{◌≡◌, ◌≢◌, ℕ, zero, suc, ◌+◌, ◌<◌, ◌≤◌, true, false, List, Option, Some, None, refl, sym, ap, subst, ◌∙◌, arith}
+use Rattle.std.specs.Prelude.{slice_get, Ok, Err}
+use Rattle.syntax65.specs.Tokens.{Lexeme}
+use Rattle.syntax65.specs.Laws.{OneParse}
+use Rattle.syntax65.specs.Trees.{Tree, name, unary, binary}
+use Rattle.syntax65.specs.Words.{binary_of, level_of}
+use Rattle.syntax65.specs.Expressions.{opening_at, binary_at, binary_in, text_at, leaf_of, is_close, close_in, closes_at, Parts, last_part, next_part, Phrase, a_leaf, a_name, a_global, prefixed, enclosed, of_level, joined, negated, NoOperator, Stops, no_operand, no_name, no_global, too_deep, in_prefixed, in_enclosed, not_closed, in_first, in_next, negation_too_deep, in_negated, IsParsed}
+use Rattle.syntax65.specs.declared.lexing.tokens.Mark.TheVariants.{CloseParenthesis}
+use Rattle.syntax65.specs.declared.lexing.tokens.TokenKind.{TokenKind}
+use Rattle.syntax65.specs.declared.lexing.tokens.TokenKind.TheVariants as token
+use Rattle.syntax65.specs.declared.values.Op1.TheVariants.{Not}
+use Rattle.syntax65.specs.declared.expressions.words.Opening.{Opening}
+use Rattle.syntax65.specs.declared.expressions.words.Opening.TheVariants.{Name, Negation}
+use Rattle.syntax65.specs.declared.expressions.fault.ExprFault.{ExprFault}
+use Rattle.syntax65.specs.declared.expressions.fault.ExprFault.TheVariants.{OperandExpected, ParenthesisExpected}
+use Rattle.syntax65.proofs.Phrases.{low_level}
+use Rattle.syntax65.proofs.Runs.{Answer, whole_at, level_at, rest_at, Run, r_leaf, r_name, r_global, r_none, r_deep, r_prefix, r_enclosed, r_first, r_lost, r_end, r_next, r_next_lost, r_plain, r_negated, r_negation_deep, closed, one_answer}
+
+-- a `)` is no operator
+close_kind : (k : TokenKind) (text : List ℕ) → is_close k ≡ true → binary_of k text ≡ None
+close_kind (token.Symbol CloseParenthesis) text h = refl
+close_kind (token.Symbol _) text h = absurd (cc)
+close_kind _ text h = absurd (cc)
+
+close_token : (o : Option Lexeme) → close_in o ≡ true → binary_in o ≡ None
+close_token None h = refl
+close_token (Some t) h = close_kind t.0 t.1 h
+
+close_quiet : (ts : List Lexeme) (n j : ℕ) → closes_at ts j ≡ true → NoOperator ts n j
+close_quiet ts n j h = λ op at. (let none : binary_at ts j ≡ None = close_token (slice_get ts j) h in absurd (cc))
+
+parts_begin : (ts : List Lexeme) (i j : ℕ) (p : List (List ℕ)) → Parts ts i j p → opening_at ts i ≡ Name
+parts_begin ts _ _ _ (last_part i h stop) = h
+parts_begin ts _ _ _ (next_part i j p h scope n) = h
+
+leaf_is_plain : (o : Opening) (text : List ℕ) (t : Tree) → leaf_of o text ≡ Some t → o ≢ Negation
+leaf_is_plain o text t h e = let none : leaf_of o text ≡ None = ap (λ x. leaf_of x text) e in cc
+
+-- only a negation begins with one
+phrase_is_plain : (ts : List Lexeme) (room n i j : ℕ) (t : Tree) → Phrase ts room n i j t → n ≤ 5 → opening_at ts i ≢ Negation
+phrase_is_plain ts _ _ _ _ _ (a_leaf room i t h) le = leaf_is_plain (opening_at ts i) (text_at ts i) t h
+phrase_is_plain ts _ _ _ _ _ (a_name room i j p h) le = λ e. (let n : opening_at ts i ≡ Name = parts_begin ts i j p h in cc)
+phrase_is_plain ts _ _ _ _ _ (a_global room i j p h n) le = λ e. cc
+phrase_is_plain ts _ _ _ _ _ (prefixed room i j op t h p) le = λ e. cc
+phrase_is_plain ts _ _ _ _ _ (enclosed room i j t h p c) le = λ e. cc
+phrase_is_plain ts _ _ _ _ _ (of_level room n i j t p) le = phrase_is_plain ts room n i j t p (omega arith)
+phrase_is_plain ts _ _ _ _ _ (joined room n i j k op t u p at level q) le = phrase_is_plain ts room (n + 1) i j t p le
+phrase_is_plain ts _ _ _ _ _ (negated room i j t h p) le = absurd (omega arith)
+
+-- what a phrase gives: whatever the rest makes of it, its level makes
+abbrev Whole : List Lexeme → ℕ → ℕ → ℕ → ℕ → Tree → Type 0
+Whole ts room zero i j t = Run ts (level_at room 0 i) (Ok (t, j))
+Whole ts room (suc n) i j t =
+    (n < 5 → (r : Answer) → Run ts (rest_at room (suc n) t j) r → Run ts (level_at room (suc n) i) r)
+    × (n ≡ 5 → NoOperator ts 6 j → Run ts (whole_at room i) (Ok (t, j)))
+
+-- where a phrase of a level is followed by what isn't its own operator, it is read
+read_level : (ts : List Lexeme) (room n i j : ℕ) (t : Tree) → n ≤ 5 → Whole ts room n i j t → NoOperator ts n j → Run ts (level_at room n i) (Ok (t, j))
+read_level ts room zero i j t le w h = w
+read_level ts room (suc n) i j t le w h = w.0 (omega arith) (Ok (t, j)) (r_end room n j t h)
+
+quiet : (ts : List Lexeme) (room n j : ℕ) (t : Tree) (r : Answer) → Run ts (rest_at room (suc n) t j) r → NoOperator ts n j
+quiet ts _ _ _ _ _ (r_end room n j t h) = λ op at. omega (arith, h op at)
+quiet ts _ _ _ _ _ (r_next room n j op t x r at level p g) = λ op' at'. (let same : op ≡ op' = cc in omega (arith, level, ap level_of same))
+quiet ts _ _ _ _ _ (r_next_lost room n j op t f at level p) = λ op' at'. (let same : op ≡ op' = cc in omega (arith, level, ap level_of same))
+
+tighter : (ts : List Lexeme) (m n j : ℕ) → n ≤ m → NoOperator ts m j → NoOperator ts n j
+tighter ts m n j le h = λ op at. omega (arith, h op at)
+
+closed_yes : (ts : List Lexeme) (t : Tree) (j : ℕ) → closes_at ts j ≡ true → Ok (t, j + 1) ≡ closed ts (t, j)
+closed_yes ts t j h = rw h refl
+
+closed_no : (ts : List Lexeme) (t : Tree) (j : ℕ) → closes_at ts j ≡ false → Err ParenthesisExpected ≡ closed ts (t, j)
+closed_no ts t j h = rw h refl
+
+whole : (ts : List Lexeme) (room n i j : ℕ) (t : Tree) → Phrase ts room n i j t → Whole ts room n i j t
+whole ts _ _ _ _ _ (a_leaf room i t h) = r_leaf room i t h
+whole ts _ _ _ _ _ (a_name room i j p h) = r_name room i (Ok (p, j)) (Ok (name false p, j)) (parts_begin ts i j p h) h refl
+whole ts _ _ _ _ _ (a_global room i j p h n) = r_global room i (Ok (p, j)) (Ok (name true p, j)) h n refl
+whole ts _ _ _ _ _ (prefixed room i j op t h p) =
+    let one : suc room ≡ room + 1 = omega arith in
+    subst (λ (m : ℕ). Run ts (level_at m 0 i) (Ok (unary op t, j))) one (r_prefix room i op (Ok (t, j)) (Ok (unary op t, j)) h (whole ts room 0 (i + 1) j t p) refl)
+whole ts _ _ _ _ _ (enclosed room i j t h p c) =
+    let one : suc room ≡ room + 1 = omega arith in
+    let inner : Whole ts room 6 (i + 1) j t = whole ts room 6 (i + 1) j t p in
+    subst (λ (m : ℕ). Run ts (level_at m 0 i) (Ok (t, j + 1))) one (r_enclosed room i (Ok (t, j)) (Ok (t, j + 1)) h (inner.1 refl (close_quiet ts 6 j c)) (closed_yes ts t j c))
+whole ts _ _ _ _ _ (of_level room n i j t p) =
+    let one : suc n ≡ n + 1 = omega arith in
+    let inner : Whole ts room n i j t = whole ts room n i j t p in
+    subst (λ (m : ℕ). Whole ts room m i j t) one (
+      λ lt r rest. r_first room n i (t, j) r (read_level ts room n i j t (omega arith) inner (quiet ts room n j t r rest)) rest,
+      λ e h. r_plain room i (Ok (t, j)) (phrase_is_plain ts room n i j t p (omega arith)) (subst (λ (m : ℕ). Run ts (level_at room m i) (Ok (t, j))) e (read_level ts room n i j t (omega arith) inner (tighter ts 6 n j (omega arith) h))),
+    )
+whole ts _ _ _ _ _ (joined room n i j k op t u p at level q) =
+    let one : suc n ≡ n + 1 = omega arith in
+    let left : Whole ts room (suc n) i j t = subst (λ (m : ℕ). Whole ts room m i j t) (sym one) (whole ts room (n + 1) i j t p) in
+    let right : Whole ts room n (j + 1) k u = whole ts room n (j + 1) k u q in
+    subst (λ (m : ℕ). Whole ts room m i k (binary op t u)) one (
+      λ lt r rest. left.0 lt r (r_next room n j op t (u, k) r at (level ∙ sym one) (read_level ts room n (j + 1) k u (omega arith) right (quiet ts room n k (binary op t u) r rest)) rest),
+      λ e h. absurd (omega (arith, level, low_level op)),
+    )
+whole ts _ _ _ _ _ (negated room i j t h p) =
+    let one : suc room ≡ room + 1 = omega arith in
+    let inner : Whole ts room 6 (i + 1) j t = whole ts room 6 (i + 1) j t p in (
+      λ lt. absurd (omega arith),
+      λ e q. subst (λ (m : ℕ). Run ts (whole_at m i) (Ok (unary Not t, j))) one (r_negated room i (Ok (t, j)) (Ok (unary Not t, j)) h (inner.1 refl q) refl),
+    )
+
+-- a stop is read as its fault
+abbrev Lost : List Lexeme → ℕ → ℕ → ℕ → ExprFault → Type 0
+Lost ts room n i f = (n ≤ 5 → Run ts (level_at room n i) (Err f)) × (n ≡ 6 → Run ts (whole_at room i) (Err f))
+
+lost : (ts : List Lexeme) (room n i k : ℕ) (f : ExprFault) → Stops ts room n i k f → Lost ts room n i f
+lost ts _ _ _ _ _ (no_operand room i h) = (λ le. r_none room i h, λ e. absurd (omega arith))
+lost ts _ _ _ _ _ (no_name room i k h l) = (λ le. r_name room i (Err OperandExpected) (Err OperandExpected) h (refl, (k, l)) refl, λ e. absurd (omega arith))
+lost ts _ _ _ _ _ (no_global room i k h l) = (λ le. r_global room i (Err OperandExpected) (Err OperandExpected) h (refl, (k, l)) refl, λ e. absurd (omega arith))
+lost ts _ _ _ _ _ (too_deep i h) = (λ le. r_deep i h, λ e. absurd (omega arith))
+lost ts _ _ _ _ _ (in_prefixed room i k op f h s) =
+    let one : suc room ≡ room + 1 = omega arith in (
+      λ le. subst (λ (m : ℕ). Run ts (level_at m 0 i) (Err f)) one (r_prefix room i op (Err f) (Err f) h ((lost ts room 0 (i + 1) k f s).0 (omega arith)) refl),
+      λ e. absurd (omega arith),
+    )
+lost ts _ _ _ _ _ (in_enclosed room i k f h s) =
+    let one : suc room ≡ room + 1 = omega arith in (
+      λ le. subst (λ (m : ℕ). Run ts (level_at m 0 i) (Err f)) one (r_enclosed room i (Err f) (Err f) h ((lost ts room 6 (i + 1) k f s).1 refl) refl),
+      λ e. absurd (omega arith),
+    )
+lost ts _ _ _ _ _ (not_closed room i j t h p q c) =
+    let one : suc room ≡ room + 1 = omega arith in
+    let inner : Whole ts room 6 (i + 1) j t = whole ts room 6 (i + 1) j t p in (
+      λ le. subst (λ (m : ℕ). Run ts (level_at m 0 i) (Err ParenthesisExpected)) one (r_enclosed room i (Ok (t, j)) (Err ParenthesisExpected) h (inner.1 refl q) (closed_no ts t j c)),
+      λ e. absurd (omega arith),
+    )
+lost ts _ _ _ _ _ (in_first room n i k f h s) =
+    let one : suc n ≡ n + 1 = omega arith in
+    let inner : Lost ts room n i f = lost ts room n i k f s in (
+      λ le. subst (λ (m : ℕ). Run ts (level_at room m i) (Err f)) one (r_lost room n i f (inner.0 (omega arith))),
+      λ e. (let five : n ≡ 5 = omega arith in r_plain room i (Err f) (h five) (subst (λ (m : ℕ). Run ts (level_at room m i) (Err f)) five (inner.0 (omega arith)))),
+    )
+lost ts _ _ _ _ _ (in_next room n i j k op t f p at level s) =
+    let one : suc n ≡ n + 1 = omega arith in
+    let left : Whole ts room (suc n) i j t = subst (λ (m : ℕ). Whole ts room m i j t) (sym one) (whole ts room (n + 1) i j t p) in
+    let inner : Lost ts room n (j + 1) f = lost ts room n (j + 1) k f s in (
+      λ le. subst (λ (m : ℕ). Run ts (level_at room m i) (Err f)) one (left.0 (omega arith) (Err f) (r_next_lost room n j op t f at (level ∙ sym one) (inner.0 (omega arith)))),
+      λ e. absurd (omega (arith, level, low_level op)),
+    )
+lost ts _ _ _ _ _ (negation_too_deep i h) = (λ le. absurd (omega arith), λ e. r_negation_deep i h)
+lost ts _ _ _ _ _ (in_negated room i k f h s) =
+    let one : suc room ≡ room + 1 = omega arith in (
+      λ le. absurd (omega arith),
+      λ e. subst (λ (m : ℕ). Run ts (whole_at m i) (Err f)) one (r_negated room i (Err f) (Err f) h ((lost ts room 6 (i + 1) k f s).1 refl) refl),
+    )
+
+run_of : (ts : List Lexeme) (r : Answer) → IsParsed ts r → Run ts (whole_at 64 0) r
+run_of ts (Ok x) h = let w : Whole ts 64 6 0 x.1 x.0 = whole ts 64 6 0 x.1 x.0 h.phrase in w.1 refl h.ends
+run_of ts (Err f) h = (lost ts 64 6 0 h.0 f h.1).1 refl
+
+pub one_parse : OneParse
+one_parse ts r s h g = one_answer ts (whole_at 64 0) r s (run_of ts r h) (run_of ts s g)

@@ -69,13 +69,16 @@ counted_free : (bytes : List ℕ) → IsFree (Bodies.counted_at bytes)
 unfolding Bodies.counted_at
 counted_free bytes = bound _ _ (number_free 1 bytes) (λ x. text_free x.0 x.1)
 
+signed_free : (bytes : List ℕ) → IsFree (Bodies.signed_at bytes)
+signed_free bytes = bound _ _ (number_free 8 bytes) (λ x. ok _)
+
 lit_free : (bytes : List ℕ) → IsFree (Bodies.lit_at bytes)
 unfolding Bodies.lit_at
-lit_free bytes = bound _ _ (number_free 8 bytes) (λ x. ok _)
+lit_free bytes = bound _ _ (signed_free bytes) (λ x. ok _)
 
 sec_free : (bytes : List ℕ) → IsFree (Bodies.sec_at bytes)
 unfolding Bodies.sec_at
-sec_free bytes = bound _ _ (number_free 4 bytes) (λ x. bound _ _ (number_free 8 x.1) (λ y. ok _))
+sec_free bytes = bound _ _ (number_free 4 bytes) (λ x. bound _ _ (signed_free x.1) (λ y. ok _))
 
 imp_free : (bytes : List ℕ) → IsFree (Bodies.imp_at bytes)
 unfolding Bodies.imp_at
@@ -97,7 +100,7 @@ operation_free part None None bytes h = bad
 form_free : (depth : ℕ) (bytes : List ℕ) → IsFree (Bodies.form_at depth bytes)
 form_free zero bytes = bad
 form_free (suc depth) [] = bad
-form_free (suc depth) (code ∷ rest) = chosen _ _ _ (lit_free rest) (chosen _ _ _ (sec_free rest) (chosen _ _ _ (imp_free rest) (operation_free (λ xs. Bodies.form_at depth xs) _ _ rest (form_free depth))))
+form_free (suc depth) (code ∷ rest) = chosen _ _ _ (lit_free rest) (chosen _ _ _ (sec_free rest) (chosen _ _ _ (imp_free rest) (operation_free (λ xs. Bodies.form_at depth xs) (Bodies.op1_at code) (Bodies.op2_at code) rest (form_free depth))))
 
 all_free : (bytes : List ℕ) → IsFree (Bodies.form_of_all bytes)
 unfolding Bodies.form_of_all

@@ -10,6 +10,7 @@ mod form;
 mod forming;
 pub mod laws;
 mod loading;
+mod normal;
 mod object;
 mod operator;
 mod parts;

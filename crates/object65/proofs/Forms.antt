@@ -1,5 +1,5 @@
 -- How long a form is.
-use Rattle.std.proofs.Common.{◌≡◌, ◌≤◌, ◌<◌, ℕ, ◌+◌, ◌*◌, ◌++◌, List, length, Bool, true, false, ◌&&◌, arith, ap, refl, length-append}
+use Rattle.std.proofs.Common.{◌≡◌, ◌≤◌, ◌<◌, ℕ, zero, suc, [], ◌∷◌, ◌-◌, take, drop, get_or, ◌+◌, ◌*◌, ◌++◌, List, length, Bool, true, false, ◌&&◌, arith, ap, refl, length-append}
 use Rattle.std.proofs.lemmas.Bool.Decides.{nat_tests}
 use Rattle.object65.specs.declared.object.Assert.{Assert}
 use Rattle.object65.specs.declared.object.Export.{Export}
@@ -10,6 +10,7 @@ use Rattle.byteorder.specs.Numbers.{length-bytes_low_first}
 use Rattle.object65.specs.declared.operator.Op1.{Op1}
 use Rattle.object65.specs.declared.operator.Op1.TheVariants.{Plus, Minus, Invert, LowByte, HighByte, BankByte, LogicalNot}
 use Rattle.object65.specs.Form.{Form, lit, sec, imp, prefix, binary, nodes}
+use Rattle.object65.specs.Bodies.{form_at, form_of_code}
 use Rattle.object65.specs.Spelling.{form_bytes, code1}
 
 code1_len : (op : Op1) → length (code1 op) ≤ 1
@@ -47,3 +48,9 @@ small_assert a small = let p = both (is_small_text a.text) (is_small_form a.form
 -- how long a list is that something was added to
 pub added_len : (old piece new : List ℕ) → new ≡ old ++ piece → length new ≡ length old + length piece
 added_len old piece new is = omega (arith, ap length is, length-append old piece)
+
+-- a form begins with its code
+pub form_steps : (depth : ℕ) (bytes front rest : List ℕ) → (depth ≡ 0 → ⊥) → 0 < length bytes → front ≡ take 1 bytes → rest ≡ drop 1 bytes → form_at depth bytes ≡ form_of_code (λ xs. form_at (depth - 1) xs) (get_or front 0 0) rest
+form_steps zero bytes front rest deep some f r = absurd (deep refl)
+form_steps (suc depth) [] front rest deep some f r = absurd (omega arith)
+form_steps (suc depth) (code ∷ bytes) front rest deep some f r = let less : suc depth - 1 ≡ depth = omega arith in rw (less, f, r) refl

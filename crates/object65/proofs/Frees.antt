@@ -69,13 +69,16 @@ counted_free : (bytes : List ℕ) → IsFree (Bodies.counted_at bytes)
 unfolding Bodies.counted_at
 counted_free bytes = bound _ _ (number_free 1 bytes) (λ x. text_free x.0 x.1)
 
+signed_free : (bytes : List ℕ) → IsFree (Bodies.signed_at bytes)
+signed_free bytes = bound _ _ (number_free 8 bytes) (λ x. ok _)
+
 lit_free : (bytes : List ℕ) → IsFree (Bodies.lit_at bytes)
 unfolding Bodies.lit_at
-lit_free bytes = bound _ _ (number_free 8 bytes) (λ x. ok _)
+lit_free bytes = bound _ _ (signed_free bytes) (λ x. ok _)
 
 sec_free : (bytes : List ℕ) → IsFree (Bodies.sec_at bytes)
 unfolding Bodies.sec_at
-sec_free bytes = bound _ _ (number_free 4 bytes) (λ x. bound _ _ (number_free 8 x.1) (λ y. ok _))
+sec_free bytes = bound _ _ (number_free 4 bytes) (λ x. bound _ _ (signed_free x.1) (λ y. ok _))
 
 imp_free : (bytes : List ℕ) → IsFree (Bodies.imp_at bytes)
 unfolding Bodies.imp_at
@@ -97,7 +100,7 @@ operation_free part None None bytes h = bad
 form_free : (depth : ℕ) (bytes : List ℕ) → IsFree (Bodies.form_at depth bytes)
 form_free zero bytes = bad
 form_free (suc depth) [] = bad
-form_free (suc depth) (code ∷ rest) = chosen _ _ _ (lit_free rest) (chosen _ _ _ (sec_free rest) (chosen _ _ _ (imp_free rest) (operation_free (λ xs. Bodies.form_at depth xs) _ _ rest (form_free depth))))
+form_free (suc depth) (code ∷ rest) = chosen _ _ _ (lit_free rest) (chosen _ _ _ (sec_free rest) (chosen _ _ _ (imp_free rest) (operation_free (λ xs. Bodies.form_at depth xs) (Bodies.op1_at code) (Bodies.op2_at code) rest (form_free depth))))
 
 all_free : (bytes : List ℕ) → IsFree (Bodies.form_of_all bytes)
 unfolding Bodies.form_of_all
@@ -121,8 +124,8 @@ end_free body = chosen (length body == 0) _ _ (ok tt) bad
 room_free : (d : Draft) (len : ℕ) → IsFree (Taking.has_room d len)
 room_free d len = wants_size (nat_le len (d.size - d.filled))
 
-known_free : (s : Taking.State) (f : Form) → IsFree (Taking.known s f)
-known_free s f = wants_index (is_within (length s.drafts) (length s.imports) f)
+known_free : (n i : ℕ) (f : Form) → IsFree (Taking.known n i f)
+known_free n i f = wants_index (is_within n i f)
 
 name_free : (names : List (List ℕ)) (name : List ℕ) → IsFree (Taking.new_name names name)
 name_free names name = wants_canonical (is_name name && not (is_among names name))
@@ -159,9 +162,9 @@ with_fill_free : (body : List ℕ) (d : Draft) → IsFree (Taking.with_fill body
 unfolding Taking.with_fill
 with_fill_free body d = bound _ _ (fill_free body) (λ n. bound _ _ (room_free d n) (λ u. bound _ _ (wants_canonical (not (Taking.ends_in_fill (Taking.closed d)))) (λ v. ok (Taking.with_fragment d n (Fill n)))))
 
-with_value_free : (s : Taking.State) (body : List ℕ) (d : Draft) → IsFree (Taking.with_value s body d)
+with_value_free : (n i : ℕ) (body : List ℕ) (d : Draft) → IsFree (Taking.with_value n i body d)
 unfolding Taking.with_value
-with_value_free s body d = bound _ _ (value_free body) (λ x. bound _ _ (room_free d (width_len x.0)) (λ u. bound _ _ (known_free s x.2) (λ v. bound _ _ (open_free x.2) (λ y. ok _))))
+with_value_free n i body d = bound _ _ (value_free body) (λ x. bound _ _ (room_free d (width_len x.0)) (λ u. bound _ _ (known_free n i x.2) (λ v. bound _ _ (open_free x.2) (λ y. ok _))))
 
 first_free : (grow : Draft → Result Draft ObjectFault) (ds : List Draft) → ((d : Draft) → IsFree (grow d)) → IsFree (Taking.in_first_open grow ds)
 first_free grow [] h = astray
@@ -180,11 +183,11 @@ with_section_free s body = bound _ _ (wants_astray (Taking.section_stands s)) (�
 
 with_export_free : (s : Taking.State) (body : List ℕ) → IsFree (Taking.with_export s body)
 unfolding Taking.with_export
-with_export_free s body = bound _ _ (wants_astray (Taking.export_stands s)) (λ u. bound _ _ (export_free body) (λ x. bound _ _ (known_free s x.form) (λ v. bound _ _ (name_free (map (λ y. y.name) s.exports) x.name) (λ w. bound _ _ (canonical_free x.form) (λ y. ok _)))))
+with_export_free s body = bound _ _ (wants_astray (Taking.export_stands s)) (λ u. bound _ _ (export_free body) (λ x. bound _ _ (known_free (length s.drafts) (length s.imports) x.form) (λ v. bound _ _ (name_free (map (λ y. y.name) s.exports) x.name) (λ w. bound _ _ (canonical_free x.form) (λ y. ok _)))))
 
 with_assert_free : (s : Taking.State) (body : List ℕ) → IsFree (Taking.with_assert s body)
 unfolding Taking.with_assert
-with_assert_free s body = bound _ _ (wants_astray (Taking.assert_stands s)) (λ u. bound _ _ (assert_free body) (λ a. bound _ _ (known_free s a.form) (λ v. bound _ _ (open_free a.form) (λ y. ok _))))
+with_assert_free s body = bound _ _ (wants_astray (Taking.assert_stands s)) (λ u. bound _ _ (assert_free body) (λ a. bound _ _ (known_free (length s.drafts) (length s.imports) a.form) (λ v. bound _ _ (open_free a.form) (λ y. ok _))))
 
 with_end_free : (s : Taking.State) (body : List ℕ) → IsFree (Taking.with_end s body)
 unfolding Taking.with_end
@@ -198,7 +201,7 @@ taken_free s x =
     (chosen _ _ _ (with_section_free s x.body)
     (chosen _ _ _ (part_free s (Taking.with_literal x.body) (with_literal_free x.body))
     (chosen _ _ _ (part_free s (Taking.with_fill x.body) (with_fill_free x.body))
-    (chosen _ _ _ (part_free s (Taking.with_value s x.body) (with_value_free s x.body))
+    (chosen _ _ _ (part_free s (Taking.with_value (length s.drafts) (length s.imports) x.body) (with_value_free (length s.drafts) (length s.imports) x.body))
     (chosen _ _ _ (with_export_free s x.body)
     (chosen _ _ _ (with_assert_free s x.body) (with_end_free s x.body))))))))
 

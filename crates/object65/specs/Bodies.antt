@@ -1,5 +1,5 @@
 -- The bodies of records, each read or the fault of one that hasn't its form.
-use Rattle.std.specs.Prelude.{ℕ, zero, suc, ◌-◌, List, [], ◌∷◌, length, take, drop, get_or, Option, Some, None, Result, Ok, Err, nat_lt, ◌==◌, ◌||◌, not, if◌then◌else◌}
+use Rattle.std.specs.Prelude.{ℕ, ℤ, zero, suc, ◌-◌, List, [], ◌∷◌, length, take, drop, get_or, Option, Some, None, Result, Ok, Err, nat_lt, ◌==◌, ◌||◌, not, if◌then◌else◌}
 use Rattle.std.specs.Int.{w64, cast_signed}
 use Rattle.byteorder.specs.Endian.{little_number}
 use Rattle.object65.specs.declared.fault.ObjectFault.{ObjectFault}
@@ -21,6 +21,10 @@ use Rattle.object65.specs.Objects.{section_limit}
 abbrev pub number_at : ℕ → List ℕ → Result (ℕ × List ℕ) ObjectFault
 number_at len bytes = if nat_lt (length bytes) len then Err BadSize else Ok (little_number len bytes, drop len bytes)
 
+-- a number of eight bytes in two's complement
+abbrev pub signed_at : List ℕ → Result (ℤ × List ℕ) ObjectFault
+signed_at bytes = number_at 8 bytes >>= (λ x. Ok (cast_signed w64 x.0, x.1))
+
 -- so many bytes at the front, and what follows
 abbrev pub text_at : ℕ → List ℕ → Result (List ℕ × List ℕ) ObjectFault
 text_at len bytes = if nat_lt (length bytes) len then Err BadSize else Ok (take len bytes, drop len bytes)
@@ -39,14 +43,14 @@ op2_at code = if nat_lt code 0x20 || nat_lt 0x32 code then None else Some (op2_o
 
 unfoldable pub lit_at : List ℕ → Result (Form × List ℕ) ObjectFault
 lit_at bytes = do
-  value ← number_at 8 bytes
-  Ok (lit (cast_signed w64 value.0), value.1)
+  value ← signed_at bytes
+  Ok (lit value.0, value.1)
 
 unfoldable pub sec_at : List ℕ → Result (Form × List ℕ) ObjectFault
 sec_at bytes = do
   section ← number_at 4 bytes
-  offset ← number_at 8 section.1
-  Ok (sec section.0 (cast_signed w64 offset.0), offset.1)
+  offset ← signed_at section.1
+  Ok (sec section.0 offset.0, offset.1)
 
 unfoldable pub imp_at : List ℕ → Result (Form × List ℕ) ObjectFault
 imp_at bytes = do
@@ -70,15 +74,19 @@ operation_at part (Some op) other bytes = prefix_at part op bytes
 operation_at part None (Some op) bytes = binary_at part op bytes
 operation_at part None None bytes = Err BadSize
 
+-- the form that begins with this code, of parts that are read so
+abbrev pub form_of_code : (List ℕ → Result (Form × List ℕ) ObjectFault) → ℕ → List ℕ → Result (Form × List ℕ) ObjectFault
+form_of_code part code rest =
+    if code == 0x00 then lit_at rest
+    else if code == 0x01 then sec_at rest
+    else if code == 0x02 then imp_at rest
+    else operation_at part (op1_at code) (op2_at code) rest
+
 -- a form of at most so many nodes one within the other, and what follows
 abbrev pub form_at : ℕ → List ℕ → Result (Form × List ℕ) ObjectFault
 form_at zero bytes = Err BadSize
 form_at (suc depth) [] = Err BadSize
-form_at (suc depth) (code ∷ rest) =
-    if code == 0x00 then lit_at rest
-    else if code == 0x01 then sec_at rest
-    else if code == 0x02 then imp_at rest
-    else operation_at (λ bytes. form_at depth bytes) (op1_at code) (op2_at code) rest
+form_at (suc depth) (code ∷ rest) = form_of_code (λ xs. form_at depth xs) code rest
 
 abbrev pub nothing_behind : {A : Type 0} → A × List ℕ → Result A ObjectFault
 nothing_behind x = if length x.1 == 0 then Ok x.0 else Err BadSize

@@ -65,9 +65,9 @@ assert_stands s = list_all is_full s.drafts
 abbrev pub new_name : List (List ℕ) → List ℕ → Result (Unit {0}) ObjectFault
 new_name names name = wants (is_name name && not (is_among names name)) NotCanonical
 
--- its sections and imports are there
-abbrev pub known : State → Form → Result (Unit {0}) ObjectFault
-known s f = wants (is_within (length s.drafts) (length s.imports) f) IndexOutOfRange
+-- its sections and imports are there, of so many
+abbrev pub known : ℕ → ℕ → Form → Result (Unit {0}) ObjectFault
+known sections imports f = wants (is_within sections imports f) IndexOutOfRange
 
 -- it can't be folded and isn't too large
 abbrev pub canonical : Form → Result (Unit {0}) ObjectFault
@@ -120,11 +120,11 @@ with_fill body d = do
   v ← wants (not (ends_in_fill (closed d))) NotCanonical
   Ok (with_fragment d count (Fill count))
 
-unfoldable pub with_value : State → List ℕ → Draft → Result Draft ObjectFault
-with_value s body d = do
+unfoldable pub with_value : ℕ → ℕ → List ℕ → Draft → Result Draft ObjectFault
+with_value sections imports body d = do
   value ← value_of body
   u ← has_room d (width_len value.0)
-  v ← known s value.2
+  v ← known sections imports value.2
   w ← canonical_open value.2
   Ok (with_fragment d (width_len value.0) (Value value.0 value.1 value.2))
 
@@ -161,7 +161,7 @@ unfoldable pub with_export : State → List ℕ → Result State ObjectFault
 with_export s body = do
   u ← wants (export_stands s) OutOfOrder
   e ← export_of body
-  v ← known s e.form
+  v ← known (length s.drafts) (length s.imports) e.form
   w ← new_name (map (λ x. x.name) s.exports) e.name
   x ← canonical e.form
   Ok (record s { exports = s.exports ++ e ∷ [] })
@@ -170,7 +170,7 @@ unfoldable pub with_assert : State → List ℕ → Result State ObjectFault
 with_assert s body = do
   u ← wants (assert_stands s) OutOfOrder
   a ← assert_of body
-  v ← known s a.form
+  v ← known (length s.drafts) (length s.imports) a.form
   w ← canonical_open a.form
   Ok (record s { asserts = s.asserts ++ a ∷ [] })
 
@@ -187,7 +187,7 @@ taken s e =
     else if e.kind == 2 then with_section s e.body
     else if e.kind == 3 then with_part s (with_literal e.body)
     else if e.kind == 4 then with_part s (with_fill e.body)
-    else if e.kind == 5 then with_part s (with_value s e.body)
+    else if e.kind == 5 then with_part s (with_value (length s.drafts) (length s.imports) e.body)
     else if e.kind == 6 then with_export s e.body
     else if e.kind == 7 then with_assert s e.body
     else with_end s e.body

@@ -1,6 +1,6 @@
 //! Normal forms of expressions.
 
-ghost use Rattle.std.specs.Prelude.{◌≡◌, ◌≤◌, ◌+◌};
+ghost use Rattle.std.specs.Prelude.{◌≡◌, ◌-◌, ◌^◌, min};
 ghost use Rattle.object65.specs.Form.{Form, nodes};
 ghost use Rattle.object65.specs.Norm.{form_of};
 
@@ -62,14 +62,15 @@ impl Norm {
     }
 }
 
-/// How many nodes a form has.
+/// How many nodes a form has, or the largest `u32` where it has more.
 pub fn count(form: &Norm) -> u32
-    requires { nodes form.now ≤ 255 }
-    ensures { result ≡ nodes form.now }
+    ensures { result ≡ min (nodes form.now) (2 ^ 32 - 1) }
 {
     match &form.node {
         Node::Lit(_) | Node::Sec(_, _) | Node::Imp(_) => 1,
-        Node::Prefix(_, part) => count(part) + 1,
-        Node::Binary(_, left, right) => count(left) + count(right) + 1,
+        Node::Prefix(_, part) => count(part).saturating_add(1),
+        Node::Binary(_, left, right) => count(left)
+            .saturating_add(count(right))
+            .saturating_add(1),
     }
 }

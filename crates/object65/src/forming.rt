@@ -1,0 +1,218 @@
+//! Reading the forms in the bodies of records.
+
+ghost use Rattle.std.specs.Prelude.{◌≡◌, ◌≤◌, ◌+◌, length, Ok, IfOk, IfSome, take, drop};
+ghost use Rattle.std.specs.Int.{w64, cast_signed};
+ghost use Rattle.object65.specs.Bodies.{number_at, text_at, counted_at, op1_at, op2_at, lit_at, sec_at, imp_at, prefix_at, binary_at, operation_at, form_of_code, form_at, form_of_all, signed_at};
+ghost use Rattle.object65.specs.Fault.{Gives, is_memory};
+
+use crate::{Node, Norm, ObjectFault, Op1, Op2};
+use byteorder::{ByteOrder, LittleEndian};
+use std::alloc::Global;
+
+/// The byte at the front, and what follows.
+pub fn byte_at(bytes: &[u8]) -> Result<(u8, &[u8]), ObjectFault>
+    ensures { Gives is_memory (λ x. (x.0, x.1.now)) result (number_at 1 bytes.now) }
+{
+    if bytes.is_empty() {
+        return Err(ObjectFault::BadSize);
+    }
+    let (front, rest) = bytes.split_at(1);
+    Ok((front[0], rest))
+}
+
+/// The number of four bytes at the front, and what follows.
+pub fn u32_at(bytes: &[u8]) -> Result<(u32, &[u8]), ObjectFault>
+    ensures { Gives is_memory (λ x. (x.0, x.1.now)) result (number_at 4 bytes.now) }
+{
+    if bytes.len() < 4 {
+        return Err(ObjectFault::BadSize);
+    }
+    let (front, rest) = bytes.split_at(4);
+    Ok((LittleEndian::read_u32(front), rest))
+}
+
+/// The number of eight bytes in two's complement at the front, and what follows.
+fn i64_at(bytes: &[u8]) -> Result<(i64, &[u8]), ObjectFault>
+    ensures { Gives is_memory (λ x. (x.0, x.1.now)) result (signed_at bytes.now) }
+{
+    if bytes.len() < 8 {
+        return Err(ObjectFault::BadSize);
+    }
+    let (front, rest) = bytes.split_at(8);
+    Ok((LittleEndian::read_u64(front).cast_signed(), rest))
+}
+
+/// So many bytes as a byte at the front says, and what follows.
+#[tactic(auto, unfolding(crate::specs::Bodies::counted_at))]
+pub fn text_of(bytes: &[u8]) -> Result<(&[u8], &[u8]), ObjectFault>
+    ensures { Gives is_memory (λ x. (x.0.now, x.1.now)) result (counted_at bytes.now) }
+{
+    let (len, rest) = byte_at(bytes)?;
+    if rest.len() < len as usize {
+        return Err(ObjectFault::BadSize);
+    }
+    Ok(rest.split_at(len as usize))
+}
+
+#[tactic(auto, unfolding(crate::specs::Bodies::lit_at))]
+fn read_lit(bytes: &[u8]) -> Result<(Norm, &[u8]), ObjectFault>
+    ensures { Gives is_memory (λ x. (x.0, x.1.now)) result (lit_at bytes.now) }
+{
+    let (value, rest) = i64_at(bytes)?;
+    Ok((Norm::new(Node::Lit(value)), rest))
+}
+
+#[tactic(auto, unfolding(crate::specs::Bodies::sec_at))]
+fn read_sec(bytes: &[u8]) -> Result<(Norm, &[u8]), ObjectFault>
+    ensures { Gives is_memory (λ x. (x.0, x.1.now)) result (sec_at bytes.now) }
+{
+    let (section, rest) = u32_at(bytes)?;
+    let (offset, rest) = i64_at(rest)?;
+    Ok((Norm::new(Node::Sec(section, offset)), rest))
+}
+
+#[tactic(auto, unfolding(crate::specs::Bodies::imp_at))]
+fn read_imp(bytes: &[u8]) -> Result<(Norm, &[u8]), ObjectFault>
+    ensures { Gives is_memory (λ x. (x.0, x.1.now)) result (imp_at bytes.now) }
+{
+    let (place, rest) = u32_at(bytes)?;
+    Ok((Norm::new(Node::Imp(place)), rest))
+}
+
+/// The prefix operator of a code.
+fn prefix_of(code: u8) -> Option<Op1>
+    ensures { result ≡ op1_at code }
+{
+    match code {
+        0x10 => Some(Op1::Minus),
+        0x11 => Some(Op1::Invert),
+        0x12 => Some(Op1::LowByte),
+        0x13 => Some(Op1::HighByte),
+        0x14 => Some(Op1::BankByte),
+        0x15 => Some(Op1::LogicalNot),
+        _ => None,
+    }
+}
+
+/// The operator for two operands of a code.
+fn binary_of(code: u8) -> Option<Op2>
+    ensures { result ≡ op2_at code }
+{
+    match code {
+        0x20 => Some(Op2::Times),
+        0x21 => Some(Op2::Over),
+        0x22 => Some(Op2::Modulo),
+        0x23 => Some(Op2::BitAnd),
+        0x24 => Some(Op2::BitXor),
+        0x25 => Some(Op2::ShiftLeft),
+        0x26 => Some(Op2::ShiftRight),
+        0x27 => Some(Op2::Sum),
+        0x28 => Some(Op2::Difference),
+        0x29 => Some(Op2::BitOr),
+        0x2a => Some(Op2::Equal),
+        0x2b => Some(Op2::NotEqual),
+        0x2c => Some(Op2::Less),
+        0x2d => Some(Op2::Greater),
+        0x2e => Some(Op2::AtMost),
+        0x2f => Some(Op2::AtLeast),
+        0x30 => Some(Op2::Both),
+        0x31 => Some(Op2::OneOf),
+        0x32 => Some(Op2::Either),
+        _ => None,
+    }
+}
+
+/// A prefix operation whose part begins here.
+#[cycle(form)]
+#[tactic(auto, unfolding(crate::specs::Bodies::prefix_at))]
+fn read_prefix(
+    alloc: Global,
+    op: Op1,
+    bytes: &[u8],
+    depth: usize,
+) -> Result<(Norm, &[u8]), ObjectFault>
+    ensures { Gives is_memory (λ x. (x.0, x.1.now)) result (prefix_at (λ xs. form_at depth xs) op bytes.now) }
+{
+    let (part, rest) = read_form(alloc, bytes, depth)?;
+    let part = Box::new(alloc, part)?;
+    Ok((Norm::new(Node::Prefix(op, part)), rest))
+}
+
+/// An operation whose parts begin here.
+#[cycle(form)]
+#[tactic(auto, unfolding(crate::specs::Bodies::binary_at))]
+fn read_binary(
+    alloc: Global,
+    op: Op2,
+    bytes: &[u8],
+    depth: usize,
+) -> Result<(Norm, &[u8]), ObjectFault>
+    ensures { Gives is_memory (λ x. (x.0, x.1.now)) result (binary_at (λ xs. form_at depth xs) op bytes.now) }
+{
+    let (left, rest) = read_form(alloc, bytes, depth)?;
+    let (right, rest) = read_form(alloc, rest, depth)?;
+    let left = Box::new(alloc, left)?;
+    let right = Box::new(alloc, right)?;
+    Ok((Norm::new(Node::Binary(op, left, right)), rest))
+}
+
+/// The operation of a code, whose parts begin here.
+#[cycle(form)]
+fn read_operation(
+    alloc: Global,
+    code: u8,
+    bytes: &[u8],
+    depth: usize,
+) -> Result<(Norm, &[u8]), ObjectFault>
+    ensures { Gives is_memory (λ x. (x.0, x.1.now)) result (operation_at (λ xs. form_at depth xs) (op1_at code) (op2_at code) bytes.now) }
+{
+    if let Some(op) = prefix_of(code) {
+        return read_prefix(alloc, op, bytes, depth);
+    }
+    match binary_of(code) {
+        Some(op) => read_binary(alloc, op, bytes, depth),
+        None => Err(ObjectFault::BadSize),
+    }
+}
+
+/// The form of a code, behind which these bytes stand.
+#[cycle(form)]
+fn read_behind(
+    alloc: Global,
+    code: u8,
+    bytes: &[u8],
+    depth: usize,
+) -> Result<(Norm, &[u8]), ObjectFault>
+    ensures { Gives is_memory (λ x. (x.0, x.1.now)) result (form_of_code (λ xs. form_at depth xs) code bytes.now) }
+{
+    match code {
+        0x00 => read_lit(bytes),
+        0x01 => read_sec(bytes),
+        0x02 => read_imp(bytes),
+        _ => read_operation(alloc, code, bytes, depth),
+    }
+}
+
+/// The form at the front, of at most so many nodes one within the other, and what follows.
+#[cycle(form)]
+fn read_form(alloc: Global, bytes: &[u8], depth: usize) -> Result<(Norm, &[u8]), ObjectFault>
+    ensures { Gives is_memory (λ x. (x.0, x.1.now)) result (form_at depth bytes.now) }
+{
+    if depth == 0 || bytes.is_empty() {
+        return Err(ObjectFault::BadSize);
+    }
+    let (front, rest) = bytes.split_at(1);
+    read_behind(alloc, front[0], rest, depth - 1)
+}
+
+/// The form that takes all the bytes.
+#[tactic(auto, unfolding(crate::specs::Bodies::form_of_all))]
+pub fn form_of(alloc: Global, bytes: &[u8]) -> Result<Norm, ObjectFault>
+    ensures { Gives is_memory (λ f. f) result (form_of_all bytes.now) }
+{
+    let (form, rest) = read_form(alloc, bytes, bytes.len())?;
+    if !rest.is_empty() {
+        return Err(ObjectFault::BadSize);
+    }
+    Ok(form)
+}

@@ -7,17 +7,14 @@ use Rattle.script65.specs.declared.placement.PlaceFault.{PlaceFault}
 use Rattle.script65.specs.declared.placement.PlaceFault.TheVariants.{ReadOnlyArea, StartBelow, Overflow}
 use Rattle.script65.specs.declared.placement.Placement.{Placement}
 use Rattle.script65.specs.declared.placement.AreaPlace.{AreaPlace}
-use Rattle.script65.specs.declared.placement.RowPlace.{RowPlace}
-use Rattle.script65.specs.declared.placement.SegmentNeed.{SegmentNeed}
 use Rattle.script65.specs.declared.placing.site.Bounds.{Bounds}
 use Rattle.script65.specs.declared.placing.site.Spot.{Spot}
 use Rattle.script65.specs.declared.script.Area.{Area}
 use Rattle.script65.specs.declared.script.Row.{Row}
-use Rattle.script65.specs.declared.script.Script.{Script}
 use Rattle.script65.specs.Access.{is_read_only}
-use Rattle.script65.specs.Laws.{AreApart, AreBehind, IsBehind, NoOverlap, address_in}
+use Rattle.script65.specs.Laws.{AreApart, AreBehind, NoOverlap, address_in}
 use Rattle.script65.specs.Outcome.{◌>>=◌}
-use Rattle.script65.specs.Placing.{area_place, areas_from, begin_in, bounds_of, fitted, is_in, moved, place_of, row_after, row_place, rows_exist, rows_from, sized_row, unplaced}
+use Rattle.script65.specs.Placing.{area_place, areas_from, begin_in, bounds_of, fitted, is_in, moved, row_after, row_place, rows_exist, rows_from, sized_row, unplaced}
 
 -- where a row stands in an area, by its spot
 abbrev at_in : ℕ → Row → Spot → ℕ

@@ -1,4 +1,4 @@
-use Rattle.std.proofs.Common.{◌≡◌, length, drop, slice_get, subst, sym, ap, ◌∙◌, arith, Ok, Err, length-append, ◌++◌}
+use Rattle.std.proofs.Common.{◌≡◌, length, drop, slice_get, subst, sym, ap, ◌∙◌, arith, Err}
 use Rattle.std.proofs.lemmas.Option.{slice_get_within}
 use Rattle.std.proofs.lemmas.Result.{err_from_is_err_and}
 use Rattle.script65.specs.Faults.{is_outside}

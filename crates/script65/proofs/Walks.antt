@@ -33,7 +33,7 @@ module _ {A : Type 0} where
   within (y ∷ ys) zero x rest h = omega arith
   within (y ∷ ys) (suc p) x rest h = let k = within ys p x rest h in omega arith
 
-  there : (xs : List A) (p : ℕ) (x : A) (rest : List A) → drop p xs ≡ x ∷ rest → slice_get xs p ≡ Some x
+  pub there : (xs : List A) (p : ℕ) (x : A) (rest : List A) → drop p xs ≡ x ∷ rest → slice_get xs p ≡ Some x
   there [] zero x rest h = absurd cc
   there [] (suc p) x rest h = absurd cc
   there (y ∷ ys) zero x rest h = cc

@@ -8,7 +8,7 @@ use Rattle.script65.specs.declared.reading.words.Given.{Given}
 use Rattle.script65.specs.declared.script.Script.{Script}
 use Rattle.script65.specs.Grammar.{Many, ends, more, stops, First, IsAttribute, Attributes, IsEntry, Entries, IsBlock, Blocks, Draft, Drafts, entry_head, entry_end, block_head, nothing, stands, sized}
 use Rattle.script65.specs.Laws.{OneReading}
-use Rattle.script65.specs.Making.{Reads, script_of, with_line}
+use Rattle.script65.specs.Scripts.{Reads, script_of, with_line}
 use Rattle.script65.specs.Outcome.{◌>>=◌}
 use Rattle.script65.specs.Tokens.{token_at}
 

@@ -7,7 +7,7 @@ use Rattle.script65.specs.declared.script.Script.{Script}
 use Rattle.script65.specs.declared.placement.Placement.{Placement}
 use Rattle.script65.specs.declared.placement.RowPlace.{RowPlace}
 use Rattle.script65.specs.declared.placement.SegmentNeed.{SegmentNeed}
-use Rattle.script65.specs.Making.{IsScript}
+use Rattle.script65.specs.Scripts.{IsScript}
 use Rattle.script65.specs.Placing.{is_in, place_of}
 
 -- a text is one script, or has one first fault

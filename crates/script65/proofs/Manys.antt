@@ -5,11 +5,10 @@ use Rattle.script65.specs.declared.fault.Stop.{Stop}
 use Rattle.script65.specs.declared.reading.token.Form.TheVariants as form
 use Rattle.script65.specs.declared.reading.words.Block.{Block}
 use Rattle.script65.specs.declared.reading.words.Given.{Given}
-use Rattle.script65.specs.Faults.{is_outside}
 use Rattle.script65.specs.Tokens.{token_at}
 use Rattle.script65.specs.declared.fault.Fault.{Fault}
 use Rattle.script65.specs.declared.reading.token.Token.{Token}
-use Rattle.script65.specs.Grammar.{Draft, First, Attributes, IsAttribute, IsEntry, added, attribute_at, entry_end, entry_fault, entry_head, Many, ends, more, stops, stands, text_of, unless_fault}
+use Rattle.script65.specs.Grammar.{Draft, First, Attributes, IsEntry, added, attribute_at, entry_end, entry_fault, entry_head, more, stops, stands, text_of, unless_fault}
 use Rattle.script65.specs.Outcome.{Finds, Unless, ◌>>=◌}
 
 -- a fault of a part is one of the whole

@@ -1,7 +1,6 @@
 -- A text is one script, or has one first fault.
 use Rattle.std.proofs.Common.{◌≡◌, ℕ, Bool, true, false, List, [], refl, sym, ap, ◌∙◌, subst, Ok, Err}
 use Rattle.std.specs.Prelude.{Result}
-use Rattle.script65.specs.declared.fault.ScriptFault.{ScriptFault}
 use Rattle.script65.specs.declared.fault.Stop.{Stop}
 use Rattle.script65.specs.declared.reading.token.Form.TheVariants as form
 use Rattle.script65.specs.declared.reading.words.Block.{Block}
@@ -9,7 +8,7 @@ use Rattle.script65.specs.declared.reading.words.Given.{Given}
 use Rattle.script65.specs.declared.script.Script.{Script}
 use Rattle.script65.specs.Grammar.{Many, ends, more, stops, First, IsAttribute, Attributes, IsEntry, Entries, IsBlock, Blocks, Draft, Drafts, entry_head, entry_end, block_head, nothing, stands, sized}
 use Rattle.script65.specs.Laws.{OneReading}
-use Rattle.script65.specs.Making.{IsScript, Reads, script_of, with_line}
+use Rattle.script65.specs.Scripts.{Reads, script_of, with_line}
 use Rattle.script65.specs.Outcome.{◌>>=◌}
 use Rattle.script65.specs.Tokens.{token_at}
 

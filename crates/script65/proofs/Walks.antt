@@ -1,5 +1,5 @@
 -- The rows of an area, one behind the other.
-use Rattle.std.proofs.Common.{◌≡◌, ◌<◌, ◌≤◌, ℕ, zero, suc, ◌+◌, Bool, true, false, List, [], ◌∷◌, ◌++◌, length, take, drop, get_or, slice_get, slice_set, Option, Some, refl, sym, ap, ◌∙◌, subst, Ok, Err, arith, add-one}
+use Rattle.std.proofs.Common.{◌≡◌, ◌<◌, ℕ, zero, suc, ◌+◌, Bool, true, false, List, [], ◌∷◌, ◌++◌, length, take, drop, get_or, slice_get, slice_set, Some, refl, sym, ap, ◌∙◌, subst, Ok, Err, arith, add-one}
 use Rattle.std.proofs.lemmas.Option.{slice_get-get_or}
 use Rattle.std.specs.Prelude.{Result, if◌then◌else◌}
 use Rattle.script65.specs.declared.placement.PlaceFault.{PlaceFault}
@@ -33,7 +33,7 @@ module _ {A : Type 0} where
   within (y ∷ ys) zero x rest h = omega arith
   within (y ∷ ys) (suc p) x rest h = let k = within ys p x rest h in omega arith
 
-  there : (xs : List A) (p : ℕ) (x : A) (rest : List A) → drop p xs ≡ x ∷ rest → slice_get xs p ≡ Some x
+  pub there : (xs : List A) (p : ℕ) (x : A) (rest : List A) → drop p xs ≡ x ∷ rest → slice_get xs p ≡ Some x
   there [] zero x rest h = absurd cc
   there [] (suc p) x rest h = absurd cc
   there (y ∷ ys) zero x rest h = cc

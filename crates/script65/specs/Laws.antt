@@ -1,12 +1,13 @@
 -- What holds of every script and every placement.
-use Rattle.std.specs.Prelude.{◌≡◌, ◌≤◌, ◌<◌, ℕ, ◌+◌, true, ◌==◌, if◌then◌else◌, List, [], ◌∷◌, Result, Ok, length, ⊤}
+use Rattle.std.specs.Prelude.{◌≡◌, ◌≤◌, ◌<◌, ℕ, ◌+◌, true, ◌==◌, if◌then◌else◌, List, ◌∷◌, Result, Ok, length, slice_get, Option, Some, ⊤}
 use Rattle.script65.specs.declared.fault.ScriptFault.{ScriptFault}
+use Rattle.script65.specs.declared.script.Area.{Area}
 use Rattle.script65.specs.declared.script.Row.{Row}
 use Rattle.script65.specs.declared.script.Script.{Script}
 use Rattle.script65.specs.declared.placement.Placement.{Placement}
 use Rattle.script65.specs.declared.placement.RowPlace.{RowPlace}
 use Rattle.script65.specs.declared.placement.SegmentNeed.{SegmentNeed}
-use Rattle.script65.specs.Making.{IsScript}
+use Rattle.script65.specs.Scripts.{IsScript}
 use Rattle.script65.specs.Placing.{is_in, place_of}
 
 -- a text is one script, or has one first fault
@@ -32,3 +33,15 @@ AreApart k _ _ = ⊤
 -- no two rows of an area overlap
 abbrev pub NoOverlap : Type 0
 NoOverlap = (script : Script) (needs : List SegmentNeed) (p : Placement) → place_of script needs ≡ Ok p → (k : ℕ) → k < length script.areas → AreApart k script.rows p.rows
+
+-- a row of an area lies between its first address and the one behind its last
+abbrev pub IsWithin : ℕ → Area → Row → RowPlace → Type 0
+IsWithin k a r p = is_in k r ≡ true → (a.start ≤ address_in k r p) × (address_in k r p + p.size ≤ a.start + a.size)
+
+abbrev pub AreWithin : ℕ → Area → List Row → List RowPlace → Type 0
+AreWithin k a (r ∷ rs) (p ∷ ps) = IsWithin k a r p × AreWithin k a rs ps
+AreWithin k a _ _ = ⊤
+
+-- each row lies within its areas
+abbrev pub AllWithin : Type 0
+AllWithin = (script : Script) (needs : List SegmentNeed) (p : Placement) → place_of script needs ≡ Ok p → (k : ℕ) (a : Area) → slice_get script.areas k ≡ Some a → AreWithin k a script.rows p.rows

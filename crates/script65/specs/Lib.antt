@@ -2,10 +2,10 @@ pub mod Access
 pub mod Faults
 pub mod Grammar
 pub mod Laws
-pub mod Making
 pub mod Numbers
 pub mod Outcome
 pub mod Placing
+pub mod Scripts
 pub mod Tables
 pub mod Tokens
 pub mod Words

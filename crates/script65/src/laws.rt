@@ -1,6 +1,6 @@
 //! What holds of every script and every placement.
 
-ghost use Rattle.script65.specs.Laws.{NoOverlap, OneReading};
+ghost use Rattle.script65.specs.Laws.{AllWithin, NoOverlap, OneReading};
 
 /// A text is one script, or has one first fault.
 pub fn one_reading()
@@ -10,4 +10,9 @@ pub fn one_reading()
 /// No two rows of an area overlap.
 pub fn none_overlap()
     ensures { NoOverlap }
+{}
+
+/// Each row lies within the areas in which it runs and loads.
+pub fn all_within()
+    ensures { AllWithin }
 {}

@@ -1,7 +1,7 @@
 //! Reads scripts.
 
 ghost use Rattle.script65.specs.Faults.{is_outside, is_script_outside};
-ghost use Rattle.script65.specs.Making.{IsScript, Reads};
+ghost use Rattle.script65.specs.Scripts.{IsScript, Reads};
 ghost use Rattle.script65.specs.Outcome.{Finds};
 
 use crate::fault::{ScriptFault, Stop};

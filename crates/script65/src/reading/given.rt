@@ -3,7 +3,7 @@
 ghost use Rattle.std.specs.Prelude.{◌≡◌};
 ghost use Rattle.std.specs.Option.{option_copied};
 ghost use Rattle.script65.specs.Grammar.{has, value_given, number_in, role_in, number_given, role_given, entry_fault, area_fault, row_fault, symbol_fault};
-ghost use Rattle.script65.specs.Making.{access_given, access_in, byte_in, byte_or, flag_given, flag_in, name_given, name_in, number_or};
+ghost use Rattle.script65.specs.Scripts.{access_given, access_in, byte_in, byte_or, flag_given, flag_in, name_given, name_in, number_or};
 
 use crate::fault::Fault;
 use crate::reading::scan::text;

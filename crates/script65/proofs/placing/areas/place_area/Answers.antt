@@ -1,4 +1,4 @@
-use Rattle.std.proofs.Common.{◌≡◌, ◌+◌, ℕ, List, drop, subst, sym, ap, ◌∙◌, arith, slice_index_or, refl, length}
+use Rattle.std.proofs.Common.{◌+◌, ℕ, List, drop, subst, arith, slice_index_or, refl}
 use Rattle.std.proofs.lemmas.List.{drop_all}
 use Rattle.std.proofs.lemmas.Result.{err_from_is_err_and}
 use Rattle.script65.specs.Faults.{is_place_outside}

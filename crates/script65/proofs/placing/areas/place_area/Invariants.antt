@@ -1,4 +1,4 @@
-use Rattle.std.proofs.Common.{◌≡◌, ◌≤◌, drop, length}
+use Rattle.std.proofs.Common.{◌≤◌, drop}
 use Rattle.script65.specs.Placing.{rows_from}
 use Rattle.script65.proofs.Walks.{Walk}
 use Rattle.script65.proofs.placing.areas.place_area.Given as goal

@@ -1,4 +1,4 @@
-use Rattle.std.proofs.Common.{◌≡◌, List, ℕ, sym, ap, ◌∙◌}
+use Rattle.std.proofs.Common.{sym, ap, ◌∙◌}
 use Rattle.script65.specs.Placing.{has_row}
 use Rattle.script65.proofs.NeedLemmas.{need_step, need_stops}
 use Rattle.script65.proofs.placing.needs.check_rows.Goals as goal

@@ -1,4 +1,4 @@
-use Rattle.std.proofs.Common.{Bor, List, ℕ, Bool, true, cond, ap, ◌∙◌, arith, ◌≡◌}
+use Rattle.std.proofs.Common.{true, cond, ap, ◌∙◌}
 use Rattle.std.specs.Str.{bytes_eq}
 use Rattle.indexmap.specs.IndexSet.{contains_by}
 use Rattle.script65.proofs.NeedLemmas.{name_step, name_end}

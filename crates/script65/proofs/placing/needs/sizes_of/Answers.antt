@@ -1,4 +1,4 @@
-use Rattle.std.proofs.Common.{Bor, List, ℕ, Some, cond, ap, ◌∙◌, sym, arith, ◌≡◌}
+use Rattle.std.proofs.Common.{Bor, List, ℕ, Some, cond, ap, ◌∙◌, sym, arith}
 use Rattle.std.specs.Str.{bytes_eq}
 use Rattle.std.specs.Map.{lookup}
 use Rattle.indexmap.specs.IndexMap.{get_by}

@@ -1,4 +1,4 @@
-use Rattle.std.proofs.Common.{◌≡◌, ◌≤◌, ℕ, List, drop, length}
+use Rattle.std.proofs.Common.{◌≡◌, ℕ, List, drop}
 use Rattle.std.specs.Str.{bytes_eq}
 use Rattle.indexmap.specs.IndexMap.{get_by}
 use Rattle.script65.specs.Placing.{size_of}

@@ -1,4 +1,4 @@
-use Rattle.std.proofs.Common.{◌≡◌, List, ℕ, Option, ◌++◌, map, drop, ◌+◌, sym, ap, ◌∙◌, subst}
+use Rattle.std.proofs.Common.{◌≡◌, ℕ, Option, ◌++◌, map, drop, ◌+◌, sym, ap, ◌∙◌, subst}
 use Rattle.script65.specs.Placing.{size_of, unplaced}
 use Rattle.script65.specs.declared.placing.site.Spot.{Spot}
 use Rattle.script65.proofs.NeedLemmas.{map_more}

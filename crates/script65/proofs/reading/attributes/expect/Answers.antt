@@ -1,4 +1,4 @@
-use Rattle.std.proofs.Common.{sym, ap, ◌∙◌, ◌≡◌}
+use Rattle.std.proofs.Common.{sym, ap, ◌∙◌}
 use Rattle.script65.specs.declared.reading.token.Token.{Token}
 use Rattle.script65.proofs.Forms.{end_stands}
 use Rattle.script65.proofs.reading.attributes.expect.Goals as goal

@@ -1,10 +1,8 @@
-use Rattle.std.proofs.Common.{arith, ◌≡◌, ◌≤◌, ◌<◌, ◌++◌, ◌∷◌, ℕ, [], List, sym, Err, Ok, ap, ◌∙◌, subst}
-use Rattle.std.specs.Prelude.{Result}
+use Rattle.std.proofs.Common.{arith, [], List, sym, Err, Ok, ap, ◌∙◌, subst}
 use Rattle.std.proofs.lemmas.Result.{err_from_is_err_and}
 use Rattle.script65.specs.Faults.{is_outside}
 use Rattle.script65.specs.Grammar.{Attributes, ends, attribute_at}
 use Rattle.script65.specs.declared.reading.words.Given.{Given}
-use Rattle.script65.specs.declared.fault.Stop.{Stop}
 use Rattle.script65.proofs.Manys.{finds_of, attribute_stops, attribute_more}
 use Rattle.script65.proofs.reading.entries.attributes.Goals as goal
 

@@ -1,4 +1,4 @@
-use Rattle.std.proofs.Common.{◌≤◌, ◌-◌, ◌+◌, ℕ, length}
+use Rattle.std.proofs.Common.{◌≤◌, ◌-◌, ℕ, length}
 use Rattle.std.specs.Prelude.{Result}
 use Rattle.script65.specs.declared.fault.Stop.{Stop}
 use Rattle.script65.specs.Grammar.{Draft, Blocks}

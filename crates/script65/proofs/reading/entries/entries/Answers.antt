@@ -1,4 +1,4 @@
-use Rattle.std.proofs.Common.{arith, ◌≡◌, ◌≤◌, ◌<◌, ℕ, sym, Err, Ok}
+use Rattle.std.proofs.Common.{arith, sym, Err}
 use Rattle.std.proofs.lemmas.Result.{err_from_is_err_and}
 use Rattle.script65.specs.Faults.{is_outside}
 use Rattle.script65.specs.Grammar.{Entries, IsEntry, ends, more, stops}

@@ -1,9 +1,8 @@
-use Rattle.std.proofs.Common.{◌≡◌, List, ap, ◌∙◌, rules}
+use Rattle.std.proofs.Common.{List, ap, ◌∙◌, rules}
 use Rattle.std.proofs.lemmas.Result.{err_from_is_err_and}
 use Rattle.script65.specs.declared.reading.words.Given.{Given}
 use Rattle.script65.specs.Faults.{is_outside}
-use Rattle.script65.specs.Grammar.{IsEntry, entry_fault}
-use Rattle.script65.specs.Tables.{draft_in}
+use Rattle.script65.specs.Grammar.{entry_fault}
 use Rattle.script65.proofs.Manys.{checked, entry_of, entry_stops, unless_of}
 use Rattle.script65.proofs.reading.entries.entry.Goals as goal
 

@@ -1,5 +1,5 @@
 use Rattle.std.proofs.Common.{◌≡◌, ◌-◌, ◌++◌, length, map, drop}
-use Rattle.script65.specs.Making.{area_of}
+use Rattle.script65.specs.Scripts.{area_of}
 use Rattle.script65.specs.Tables.{named}
 use Rattle.script65.proofs.reading.making.areas_of.Given as goal
 

@@ -1,5 +1,5 @@
 use Rattle.std.proofs.Common.{◌≡◌, ◌-◌, length, drop}
-use Rattle.script65.specs.Making.{row_of}
+use Rattle.script65.specs.Scripts.{row_of}
 use Rattle.script65.specs.Outcome.{each}
 use Rattle.script65.specs.Tables.{draft_in, named}
 use Rattle.script65.proofs.Eaches.{behind}

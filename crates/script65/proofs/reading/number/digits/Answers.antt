@@ -1,4 +1,4 @@
-use Rattle.std.proofs.Common.{arith, rules, sym, ap}
+use Rattle.std.proofs.Common.{arith, sym, ap}
 use Rattle.std.specs.Char.{digit_value}
 use Rattle.script65.proofs.Digits.{stops, ends}
 use Rattle.script65.proofs.reading.number.digits.Goals as goal

@@ -1,5 +1,4 @@
 use Rattle.std.proofs.Common.{refl, ◌∙◌}
-use Rattle.std.specs.Str.{bytes_eq}
 use Rattle.script65.proofs.TableLemmas.{position-same}
 use Rattle.script65.proofs.reading.table.Table.place_of.Goals as goal
 

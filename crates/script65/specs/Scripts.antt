@@ -1,5 +1,5 @@
 -- The script that the entries of a text make, or the first fault behind its last byte.
-use Rattle.std.specs.Prelude.{◌≡◌, ℕ, Bool, true, false, ◌==◌, ◌&&◌, ◌||◌, not, is_some, unwrap_or, if◌then◌else◌, List, [], ◌∷◌, map, slice_get, position, Option, Some, None, Result, Ok, Err}
+use Rattle.std.specs.Prelude.{◌≡◌, ℕ, Bool, false, ◌==◌, ◌&&◌, ◌||◌, not, is_some, unwrap_or, if◌then◌else◌, List, map, slice_get, position, Option, Some, None, Result, Ok, Err}
 use Rattle.std.specs.Option.{option_map_or, option_and_then}
 use Rattle.std.specs.Str.{bytes_eq}
 use Rattle.script65.specs.declared.fault.Fault.{Fault}
@@ -29,7 +29,7 @@ use Rattle.script65.specs.declared.reading.table.Entry.{Entry}
 use Rattle.script65.specs.Access.{is_read_only, is_written}
 use Rattle.script65.specs.Outcome.{◌>>=◌, each}
 use Rattle.script65.specs.Tokens.{text, line_of}
-use Rattle.script65.specs.Grammar.{Draft, Drafts, value_given, number_given, role_given, First}
+use Rattle.script65.specs.Grammar.{Draft, Drafts, value_given, number_given, role_given}
 
 abbrev pub flag_in : Value → Option Bool
 flag_in (value.Flag b) = Some b

@@ -69,8 +69,6 @@ pub fn count(form: &Norm) -> u32
     match &form.node {
         Node::Lit(_) | Node::Sec(_, _) | Node::Imp(_) => 1,
         Node::Prefix(_, part) => count(part).saturating_add(1),
-        Node::Binary(_, left, right) => count(left)
-            .saturating_add(count(right))
-            .saturating_add(1),
+        Node::Binary(_, left, right) => count(left).saturating_add(count(right)).saturating_add(1),
     }
 }

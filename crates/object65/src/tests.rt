@@ -3,7 +3,9 @@
 ghost use Rattle.std.specs.Prelude.{◌≡◌, IfOk, None, true};
 ghost use Rattle.object65.specs.Objects.{is_good_object};
 
-use crate::{Builder, Fragment, Object, ObjectFault, Record, read_object, read_record, write_object};
+use crate::{
+    Builder, Fragment, Object, ObjectFault, Record, read_object, read_record, write_object,
+};
 use arrayvec::ArrayVec;
 use std::alloc::Global;
 use std::test::Fail;
@@ -73,7 +75,10 @@ fn refuses_other_spellings(rt: HostRuntime) -> Result<(), Fail> {
     let mut longer = Vec::from_slice(alloc, &CODE)?;
     longer.push(0)?;
     assert_eq!(rt; refusal(alloc, &longer), Some(ObjectFault::BytesAfterEnd));
-    assert_eq!(rt; refusal(alloc, &TWO_LITERALS), Some(ObjectFault::NotCanonical));
+    assert_eq!(rt;
+        refusal(alloc, &TWO_LITERALS),
+        Some(ObjectFault::NotCanonical)
+    );
     Ok(())
 }
 

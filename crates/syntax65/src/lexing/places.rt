@@ -18,8 +18,8 @@ pub const MAX_NAME: usize = 200;
 
 /// The kind and length of the token at the front; `first` says whether it is the line's first.
 pub fn token_at(first: bool, here: &[u8]) -> Result<(TokenKind, usize), LexFault>
-    requires token { IsEnd here.now → ⊥ }
-    requires begins { Begins Blank here.now → ⊥ }
+    requires no_end { IsEnd here.now → ⊥ }
+    requires no_blank { Begins Blank here.now → ⊥ }
     ensures { IsAt first here.now result }
 {
     match class_of(here[0]) {

@@ -82,7 +82,7 @@ def names_antt(names):
     variants = ", ".join(n.capitalize() for n in names)
     rows = "".join(f'name_of {n.capitalize()} = codes "{n}"\n' for n in names)
     return f'''-- The names of the mnemonics.
-use Rattle.std.specs.Prelude.{{◌≡◌, ℕ, List, codes, map, Option, find}}
+use Rattle.std.specs.Prelude.{{◌≡◌, ℕ, List, codes, map, Option, Some, None, find}}
 use Rattle.std.specs.Str.{{str_eq_ignore_ascii_case}}
 use Rattle.std.specs.Char.{{to_ascii_lowercase}}
 use Rattle.syntax65.specs.declared.instructions.names.Mnemonic.{{Mnemonic}}
@@ -95,6 +95,11 @@ abbrev pub name_of : Mnemonic → List ℕ
 -- the bytes are the name, in either case
 abbrev pub Spells : List ℕ → Mnemonic → Type 0
 Spells bytes m = map to_ascii_lowercase bytes ≡ name_of m
+
+-- this mnemonic is spelled, or none is
+abbrev pub IsSpelled : List ℕ → Option Mnemonic → Type 0
+IsSpelled bytes None = (m : Mnemonic) → Spells bytes m → ⊥
+IsSpelled bytes (Some m) = Spells bytes m
 
 -- the mnemonic that the bytes spell
 unfoldable pub mnemonic_of : List ℕ → Option Mnemonic

@@ -4,7 +4,7 @@ use Rattle.std.specs.Prelude.{nat_eq}
 use Rattle.std.specs.Char.{to_ascii_lowercase}
 use Rattle.std.specs.Str.{str_eq_ignore_ascii_case}
 use Rattle.std.specs.Cmp.Lexicographic.{pointwise, same_text, other_text}
-use Rattle.syntax65.specs.Mnemonics.{Spells, name_of, mnemonic_of}
+use Rattle.syntax65.specs.Mnemonics.{Spells, IsSpelled, name_of, mnemonic_of}
 use Rattle.syntax65.specs.declared.instructions.names.Mnemonic.{Mnemonic}
 use Rattle.syntax65.specs.declared.instructions.names.Mnemonic.TheVariants.{Adc}
 use Rattle.syntax65.specs.declared.instructions.names.TheConstants.Mnemonic.{ALL}
@@ -47,7 +47,7 @@ none_passes p [] i d e lt = absurd (omega arith)
 none_passes p (x ∷ xs) zero d e lt = (none_step p x xs (p x) refl e).0
 none_passes p (x ∷ xs) (suc i) d e lt = none_passes p xs i d (none_step p x xs (p x) refl e).1 (omega arith)
 
-both : (r : Option Mnemonic) (bytes : List ℕ) → r ≡ find (is_spelled bytes) ALL → MatchOption r ((m : Mnemonic) → Spells bytes m → ⊥) (λ m. Spells bytes m)
+both : (r : Option Mnemonic) (bytes : List ℕ) → r ≡ find (is_spelled bytes) ALL → IsSpelled bytes r
 both None bytes e = λ m h.
     let place = place_of m in
     let no_pass : is_spelled bytes (get_or ALL place.0 m) ≡ false = none_passes (is_spelled bytes) ALL place.0 m (sym e) place.1 in
@@ -56,7 +56,7 @@ both None bytes e = λ m h.
 both (Some m) bytes e = spells_from_test bytes m (subst (λ (r : Option Mnemonic). MatchOption r (Unit {0}) (λ n. is_spelled bytes n ≡ true)) (sym e) (found_passes (is_spelled bytes) ALL))
 
 -- a mnemonic is found exactly where the bytes spell it
-pub spelled_both_ways : (bytes : List ℕ) → MatchOption (mnemonic_of bytes) ((m : Mnemonic) → Spells bytes m → ⊥) (λ m. Spells bytes m)
+pub spelled_both_ways : (bytes : List ℕ) → IsSpelled bytes (mnemonic_of bytes)
 unfolding mnemonic_of
 spelled_both_ways bytes = both (mnemonic_of bytes) bytes refl
 

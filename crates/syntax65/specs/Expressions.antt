@@ -88,6 +88,11 @@ pub data Phrase (ts : List Lexeme) : (room n i j : ℕ) → Tree → Type 0 wher
 abbrev pub NoOperator : List Lexeme → ℕ → ℕ → Type 0
 NoOperator ts n j = (op : Op2) → binary_at ts j ≡ Some op → n < level_of op
 
+-- this operator of level n stands at j, or none does
+abbrev pub IsOperatorAt : List Lexeme → ℕ → ℕ → Option Op2 → Type 0
+IsOperatorAt ts n j None = (op : Op2) → binary_at ts j ≡ Some op → level_of op ≢ n
+IsOperatorAt ts n j (Some op) = (binary_at ts j ≡ Some op) × (level_of op ≡ n)
+
 abbrev pub BeginsOperand : Opening → Type 0
 BeginsOperand Negation = ⊥
 BeginsOperand Nothing = ⊥

@@ -1,5 +1,5 @@
 -- The forms of tokens, and the longest one at a place.
-use Rattle.std.specs.Prelude.{◌≡◌, ◌≢◌, ◌==◌, ◌⊎◌, ℕ, ◌<◌, ◌≤◌, Bool, false, IsTrue, List, [], ◌∷◌, length, take, drop, codes, Some, None, ⊤}
+use Rattle.std.specs.Prelude.{Option, ◌≡◌, ◌≢◌, ◌==◌, ◌⊎◌, ℕ, ◌<◌, ◌≤◌, Bool, false, IsTrue, List, [], ◌∷◌, length, take, drop, codes, Some, None, ⊤}
 use Rattle.std.specs.List.{list_all}
 use Rattle.syntax65.specs.Bytes.{class_of, is_word}
 use Rattle.syntax65.specs.Numbers.{number_of}
@@ -73,6 +73,16 @@ spelling Hash = codes "#"
 spelling Comma = codes ","
 spelling OpenBrace = codes "{"
 spelling CloseBrace = codes "}"
+
+-- the bytes are this mark's, or no mark's
+abbrev pub IsMark : List ℕ → Option Mark → Type 0
+IsMark bytes None = (m : Mark) → spelling m ≢ bytes
+IsMark bytes (Some m) = spelling m ≡ bytes
+
+-- the byte is this size's letter, or no size's
+abbrev pub IsSize : ℕ → Option AddressSize → Type 0
+IsSize b None = (s : AddressSize) → IsSizeLetter s b → ⊥
+IsSize b (Some s) = IsSizeLetter s b
 
 -- a text of this form; what the number is that it spells, and how long a name is, isn't looked at
 abbrev pub IsForm : TokenKind → List ℕ → Type 0

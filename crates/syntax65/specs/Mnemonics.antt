@@ -1,5 +1,5 @@
 -- The names of the mnemonics.
-use Rattle.std.specs.Prelude.{◌≡◌, ℕ, List, codes, map, Option, find}
+use Rattle.std.specs.Prelude.{◌≡◌, ℕ, List, codes, map, Option, Some, None, find}
 use Rattle.std.specs.Str.{str_eq_ignore_ascii_case}
 use Rattle.std.specs.Char.{to_ascii_lowercase}
 use Rattle.syntax65.specs.declared.instructions.names.Mnemonic.{Mnemonic}
@@ -68,6 +68,11 @@ name_of Tya = codes "tya"
 -- the bytes are the name, in either case
 abbrev pub Spells : List ℕ → Mnemonic → Type 0
 Spells bytes m = map to_ascii_lowercase bytes ≡ name_of m
+
+-- this mnemonic is spelled, or none is
+abbrev pub IsSpelled : List ℕ → Option Mnemonic → Type 0
+IsSpelled bytes None = (m : Mnemonic) → Spells bytes m → ⊥
+IsSpelled bytes (Some m) = Spells bytes m
 
 -- the mnemonic that the bytes spell
 unfoldable pub mnemonic_of : List ℕ → Option Mnemonic

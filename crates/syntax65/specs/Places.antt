@@ -1,10 +1,12 @@
 -- What stands at a place, and what the readers of one class of tokens need.
-use Rattle.std.specs.Prelude.{◌≢◌, ◌⊎◌, ℕ, Bool, List, [], ◌∷◌, drop, Result, Ok, Err, ⊤}
+use Rattle.std.specs.Prelude.{◌≢◌, ◌⊎◌, ℕ, Bool, List, [], ◌∷◌, drop, Option, Some, None, Result, Ok, Err, ⊤}
 use Rattle.syntax65.specs.Bytes.{class_of}
-use Rattle.syntax65.specs.Forms.{StartsNumber, Begins, IsToken, FaultAt}
+use Rattle.syntax65.specs.Forms.{StartsNumber, Begins, Stands, IsToken, FaultAt}
 use Rattle.syntax65.specs.declared.lexing.classes.Class.TheVariants.{At, Dot, Colon, Other}
+use Rattle.syntax65.specs.declared.lexing.tokens.AddressSize.{AddressSize}
+use Rattle.syntax65.specs.declared.lexing.tokens.Mark.{Mark}
 use Rattle.syntax65.specs.declared.lexing.tokens.TokenKind.{TokenKind}
-use Rattle.syntax65.specs.declared.lexing.tokens.TokenKind.TheVariants.{CheapName, Directive}
+use Rattle.syntax65.specs.declared.lexing.tokens.TokenKind.TheVariants.{CheapName, Directive, SizePrefix, Symbol}
 use Rattle.syntax65.specs.declared.lexing.fault.LexFault.{LexFault}
 
 -- a token of this kind and length stands here, or none does for this reason
@@ -30,3 +32,13 @@ NoSign (b ∷ bs) = (b ≢ 43) × (b ≢ 45)
 -- only a mark can stand here
 abbrev pub BeginsMark : List ℕ → Type 0
 BeginsMark here = Begins Other here ⊎ (Begins Colon here × NoSign (drop 1 here))
+
+-- this size prefix stands here, or none does
+abbrev pub IsPrefixAt : Bool → List ℕ → Option AddressSize → Type 0
+IsPrefixAt first here None = (s : AddressSize) → Stands first (SizePrefix s) 2 here → ⊥
+IsPrefixAt first here (Some s) = Stands first (SizePrefix s) 2 here
+
+-- this mark of two bytes stands here, or none does
+abbrev pub IsLongMarkAt : List ℕ → Option Mark → Type 0
+IsLongMarkAt here None = (m : Mark) (first : Bool) → Stands first (Symbol m) 2 here → ⊥
+IsLongMarkAt here (Some m) = (first : Bool) → Stands first (Symbol m) 2 here

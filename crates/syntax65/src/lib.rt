@@ -1,4 +1,5 @@
-//! What every crate of the tools stands on: files by name, and small types that contracts see as lists.
+//! What every crate of the tools stands on: files by name, the tokens and expressions of source lines, the
+//! instructions and their opcodes, and small types that contracts see as lists.
 #![tactic(auto)]
 
 mod expressions;

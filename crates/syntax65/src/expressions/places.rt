@@ -1,11 +1,9 @@
 //! What stands at a place of a list of tokens.
 
-ghost use Rattle.std.specs.Prelude.{◌≡◌, ◌≢◌, ◌<◌, ◌↔◌, length, slice_get, Some, IsSome, IsTrue, MatchOption};
+ghost use Rattle.std.specs.Prelude.{◌≡◌, ◌≢◌, ◌<◌, ◌↔◌, length, slice_get, IsSome, IsTrue};
 ghost use Rattle.std.specs.Option.{option_map};
-ghost use Rattle.syntax65.specs.Expressions.{opening_at, binary_at, text_at, closes_at};
+ghost use Rattle.syntax65.specs.Expressions.{opening_at, binary_at, text_at, closes_at, IsOperatorAt};
 ghost use Rattle.syntax65.specs.Tokens.{lexeme_of, lexemes};
-ghost use Rattle.syntax65.specs.Words.{level_of};
-ghost use Rattle.syntax65.specs.declared.values.Op2.{Op2};
 
 use super::words::{Opening, binary_of, level_of, opening_of};
 use crate::{Mark, Op2, Token, TokenKind};
@@ -64,7 +62,7 @@ pub fn text_at<'a>(tokens: &[Token<'a>], at: usize) -> &'a [u8]
 
 /// The operator of a level at a place.
 pub fn operator_at(tokens: &[Token<'_>], level: u8, at: usize) -> Option<Op2>
-    ensures value { MatchOption result ((op : Op2) → binary_at (lexemes tokens.now) at ≡ Some op → level_of op ≢ level) (λ op. (binary_at (lexemes tokens.now) at ≡ Some op) × (level_of op ≡ level)) }
+    ensures value { IsOperatorAt (lexemes tokens.now) level at result }
     ensures inside { IsSome result → at < length tokens.now }
 {
     match binary_at(tokens, at) {

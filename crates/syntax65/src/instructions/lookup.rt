@@ -1,9 +1,8 @@
 //! The mnemonic that bytes spell.
 
-ghost use Rattle.std.specs.Prelude.{◌≡◌, find, MatchOption};
+ghost use Rattle.std.specs.Prelude.{◌≡◌, find};
 ghost use Rattle.std.specs.Str.{str_eq_ignore_ascii_case};
-ghost use Rattle.syntax65.specs.Mnemonics.{Spells, name_of, mnemonic_of};
-ghost use Rattle.syntax65.specs.declared.instructions.names.Mnemonic.{Mnemonic};
+ghost use Rattle.syntax65.specs.Mnemonics.{IsSpelled, name_of, mnemonic_of};
 
 use super::names::Mnemonic;
 use crate::spelling::is_word;
@@ -11,7 +10,7 @@ use crate::spelling::is_word;
 /// The mnemonic that these bytes spell, in either case.
 pub fn mnemonic(bytes: &[u8]) -> Option<Mnemonic>
     ensures value { result ≡ mnemonic_of bytes.now }
-    ensures both_ways { MatchOption result ((m : Mnemonic) → Spells bytes.now m → ⊥) (λ m. Spells bytes.now m) }
+    ensures spelled { IsSpelled bytes.now result }
 {
     first_spelled(&Mnemonic::ALL, bytes)
 }

@@ -1,14 +1,13 @@
 //! Operators and marks of punctuation.
 
-ghost use Rattle.std.specs.Prelude.{◌≡◌, ◌∷◌, [], MatchOption, MatchResult};
-ghost use Rattle.syntax65.specs.Forms.{spelling};
-ghost use Rattle.syntax65.specs.declared.lexing.tokens.Mark.{Mark};
+ghost use Rattle.std.specs.Prelude.{◌∷◌, []};
+ghost use Rattle.syntax65.specs.Forms.{IsMark};
 
 use super::tokens::Mark;
 
 /// The mark of these two bytes.
 pub fn mark_of_two(first: u8, second: u8) -> Option<Mark>
-    ensures { MatchOption result ((m : Mark) → spelling m ≡ first ∷ second ∷ [] → ⊥) (λ m. spelling m ≡ first ∷ second ∷ []) }
+    ensures { IsMark (first ∷ second ∷ []) result }
 {
     match (first, second) {
         (b':', b':') => Some(Mark::Scope),
@@ -26,7 +25,7 @@ pub fn mark_of_two(first: u8, second: u8) -> Option<Mark>
 
 /// The mark of this byte.
 pub fn mark_of_one(byte: u8) -> Option<Mark>
-    ensures { MatchOption result ((m : Mark) → spelling m ≡ byte ∷ [] → ⊥) (λ m. spelling m ≡ byte ∷ []) }
+    ensures { IsMark (byte ∷ []) result }
 {
     Some(match byte {
         b':' => Mark::Colon,

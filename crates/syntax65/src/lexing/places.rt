@@ -1,13 +1,10 @@
 //! The token at a place.
 
-ghost use Rattle.std.specs.Prelude.{◌≡◌, ◌↔◌, ℕ, Bool, IsTrue, false, MatchOption};
-ghost use Rattle.syntax65.specs.Forms.{Begins, IsName, IsSizeLetter, NotColonOrEqual, Stands};
-ghost use Rattle.syntax65.specs.Places.{IsAt, BeginsNumber, BeginsSigned, BeginsMark};
+ghost use Rattle.std.specs.Prelude.{◌↔◌, Bool, None, IsTrue};
+ghost use Rattle.syntax65.specs.Forms.{Begins, IsSize, NotColonOrEqual};
+ghost use Rattle.syntax65.specs.Places.{IsAt, IsPrefixAt, IsLongMarkAt, BeginsNumber, BeginsSigned, BeginsMark};
 ghost use Rattle.syntax65.specs.Tokens.{IsEnd};
 ghost use Rattle.syntax65.specs.declared.lexing.classes.Class.TheVariants.{Letter, Apostrophe, Quote, Colon, Blank};
-ghost use Rattle.syntax65.specs.declared.lexing.tokens.AddressSize.{AddressSize};
-ghost use Rattle.syntax65.specs.declared.lexing.tokens.Mark.{Mark};
-ghost use Rattle.syntax65.specs.declared.lexing.tokens.TokenKind.TheVariants.{SizePrefix, Symbol};
 
 use super::classes::{Class, class_of};
 use super::fault::LexFault;
@@ -21,8 +18,8 @@ pub const MAX_NAME: usize = 200;
 
 /// The kind and length of the token at the front; `first` says whether it is the line's first.
 pub fn token_at(first: bool, here: &[u8]) -> Result<(TokenKind, usize), LexFault>
-    requires token { IsEnd here.now → ⊥ }
-    requires begins { Begins Blank here.now → ⊥ }
+    requires no_end { IsEnd here.now → ⊥ }
+    requires no_blank { Begins Blank here.now → ⊥ }
     ensures { IsAt first here.now result }
 {
     match class_of(here[0]) {
@@ -49,7 +46,7 @@ fn word_at(first: bool, here: &[u8]) -> Result<(TokenKind, usize), LexFault>
 }
 
 fn prefix_at(first: bool, here: &[u8]) -> Option<AddressSize>
-    ensures { MatchOption result ((s : AddressSize) → Stands first (SizePrefix s) 2 here.now → ⊥) (λ s. Stands first (SizePrefix s) 2 here.now) }
+    ensures { IsPrefixAt first here.now result }
 {
     if first || here.len() < 2 {
         return None;
@@ -71,7 +68,7 @@ fn is_not_colon_or_equal(behind: &[u8]) -> bool
 }
 
 fn size_of(letter: u8) -> Option<AddressSize>
-    ensures { MatchOption result ((s : AddressSize) → IsSizeLetter s letter → ⊥) (λ s. IsSizeLetter s letter) }
+    ensures { IsSize letter result }
 {
     match letter {
         b'z' | b'Z' => Some(AddressSize::ZeroPage),
@@ -82,7 +79,7 @@ fn size_of(letter: u8) -> Option<AddressSize>
 
 fn identifier_at(first: bool, here: &[u8]) -> Result<(TokenKind, usize), LexFault>
     requires letter { Begins Letter here.now }
-    requires no_prefix { (s : AddressSize) → Stands first (SizePrefix s) 2 here.now → ⊥ }
+    requires no_prefix { IsPrefixAt first here.now None }
     ensures { IsAt first here.now result }
 {
     let len = 1 + word_len(&here[1..]);
@@ -181,7 +178,7 @@ fn mark_at(here: &[u8]) -> Result<(TokenKind, usize), LexFault>
 
 /// The mark of two bytes at the front.
 fn long_mark_at(here: &[u8]) -> Option<Mark>
-    ensures { MatchOption result ((m : Mark) (first : Bool) → Stands first (Symbol m) 2 here.now → ⊥) (λ m. (first : Bool) → Stands first (Symbol m) 2 here.now) }
+    ensures { IsLongMarkAt here.now result }
 {
     if here.len() > 1 {
         mark_of_two(here[0], here[1])

@@ -15,8 +15,8 @@ returns-then-is_end c = (
       (c.line.invariant.so_far [] None (subst IsEnd c.skip_blanks-here.ensures (c.if-is_end.ensures.0 refl))),
 )
 
-pub token_at-requires-clause-begins : goal.token_at-requires-clause-begins
-token_at-requires-clause-begins c = λ b. no_blank_behind c.line.rest.now (subst (Begins Blank) c.skip_blanks-here.ensures b)
+pub token_at-requires-clause-no_blank : goal.token_at-requires-clause-no_blank
+token_at-requires-clause-no_blank c = λ b. no_blank_behind c.line.rest.now (subst (Begins Blank) c.skip_blanks-here.ensures b)
 
 pub returns-in_err-kind : goal.returns-in_err-kind
 returns-in_err-kind c =

@@ -1,15 +1,17 @@
 -- A text that is taken a part at a time.
-use Rattle.std.proofs.Common.{◌≡◌, ◌∙◌, ℕ, ◌<◌, ◌≤◌, arith, length-append, List, [], ◌∷◌, ◌++◌, ◌+◌, get_or, length, take, drop, Option, Some, None, Ok, Err, Bool, true, false, cond, ◌⊎◌, inr, refl, sym, ap, append_assoc}
+use Rattle.std.proofs.Common.{◌≡◌, ◌∙◌, ℕ, ◌<◌, ◌≤◌, arith, length-append, List, [], ◌∷◌, ◌++◌, ◌+◌, get_or, length, take, drop, Option, Some, None, Ok, Err, Bool, true, false, cond, ◌⊎◌, inl, inr, refl, sym, ap, append_assoc}
 use Rattle.std.specs.FinMap as map
-use Rattle.std.proofs.lemmas.List.{take_at, append-nil, take-append-drop, take_more}
+use Rattle.std.proofs.lemmas.List.{take_at, drop_at, append-nil, take-append-drop, take_more}
 use Rattle.std.specs.Io.KnownBytes.{Appends, Keeps}
 use Rattle.std.specs.Ordering.{nat_cmp, eq_by_cmp}
 use Rattle.std.specs.Cmp.{eq_by_cmp_equiv}
 use Rattle.std.specs.Cmp.Lexicographic.{slice_cmp, nat_list_cmp_total}
-use Rattle.syntax65.specs.Store.{Files, Tells, Appends as Appended}
+use Rattle.syntax65.specs.Store.{Files, Tells, NoneFailed, HasFailed, last_count, Appends as Appended}
 use Rattle.syntax65.specs.declared.store.StoreFault.{StoreFault}
 use Rattle.syntax65.specs.declared.store.StoreFault.TheVariants.{OutOfMemory, FileNotFound, FileError}
-use Rattle.tools65.specs.Leaving.{Prints, IsPartly, apply, StopsAt, StopsShort}
+use Rattle.tools65.specs.Leaving.{Prints, SaysBoth, IsPartly, apply, StopsAt, StopsShort, is_failure, is_file_error}
+use Rattle.tools65.specs.declared.writing.Unwritten.{Unwritten}
+use Rattle.syntax65.proofs.Filling.{take-add}
 use Rattle.tools65.specs.declared.outcome.Outcome.{Outcome}
 use Rattle.tools65.specs.declared.outcome.Status.{Status}
 use Rattle.tools65.specs.declared.outcome.Status.TheVariants.{Failure}
@@ -116,7 +118,48 @@ next_output (Some a) (Some m) (Some n) outputs i o h is p q =
     let more : take (i + 1) outputs ≡ take i outputs ++ o ∷ [] = take_more outputs i o h ∙ ap (λ (e : Output). take i outputs ++ e ∷ []) (sym is) in
     q ∙ ap (λ (w : Files). map.insert w o.name o.bytes) p ∙ sym (apply-append (take i outputs) o a) ∙ ap (λ (os : List Output). apply os a) (sym more)
 
+said_more : (old mid new : Option (List ℕ)) (text more : List ℕ) (whole : Bool) → Prints old mid text true → Prints mid new more whole → Prints old new (text ++ more) whole
+said_more None mid new text more true p q = tt
+said_more None None new text more false p q = omega (arith, q, length-append text more)
+said_more None (Some m) None text more false p q = absurd q
+said_more None (Some m) (Some n) text more false p q = omega (arith, q.1, length-append text more)
+said_more (Some o) None new text more whole p q = absurd p
+said_more (Some o) (Some m) None text more whole p q = absurd q
+said_more (Some o) (Some m) (Some n) text more true p q = q ∙ ap (λ xs. xs ++ more) p ∙ append_assoc o text more
+said_more (Some o) (Some m) (Some n) text more false p q = (
+  length text + q.0,
+  omega (arith, q.1, length-append text more),
+  q.2 ∙ ap (λ xs. xs ++ take q.0 more) p ∙ append_assoc o text (take q.0 more) ∙ ap (λ xs. o ++ xs) (sym (front text more q.0)),
+)
+  where
+    front : (xs ys : List ℕ) (k : ℕ) → take (length xs + k) (xs ++ ys) ≡ xs ++ take k ys
+    front xs ys k = take-add (length xs) k (xs ++ ys) ∙ rw (take_at xs ys (length xs) refl, drop_at xs ys (length xs) refl) refl
+
+by_cause : (u : Unwritten) → is_failure u ≡ false → (u.fault ≡ FileNotFound → ⊥) → u.fault ≡ OutOfMemory
+by_cause u = go u.fault refl
+  where
+    go : (f : StoreFault) → u.fault ≡ f → is_failure u ≡ false → (u.fault ≡ FileNotFound → ⊥) → u.fault ≡ OutOfMemory
+    go OutOfMemory e a b = e
+    go FileNotFound e a b = absurd (b e)
+    go FileError e a b = let yes : is_file_error u.fault ≡ true = ap is_file_error e in cc
+
 -- outputs that aren't all written
-pub short : (known new : Option Files) (o : Outcome) (status : Status) (place : ℕ) (P Q : Files → Type 0) → status ≡ Failure → Tells (StopsAt o.outputs place) known new → IfSome known (λ m. Q m → P m ⊎ StopsShort o m new status)
-short None new o status place P Q e left = tt
-short (Some m) new o status place P Q e left = λ _. inr (record { place = place; left = left; failed = e })
+pub short : (known new : Option Files) (fo fm fn : ℕ) (o : Outcome) (memory : List ℕ) (u : Unwritten) (out_old out_new err_old err_mid err_new : Option (List ℕ)) (whole : Bool) (status : Status) (P : Files → Type 0) → status ≡ Failure → fo ≤ fm → fm ≡ fn → (is_failure u ≡ true → HasFailed fo fm) → IfSome known (λ m. u.fault ≡ FileNotFound → ⊥) → Tells (StopsAt o.outputs u.place) known new → SaysBoth out_old out_new o.out err_old err_mid o.err true → (u.fault ≡ OutOfMemory → Prints err_mid err_new memory whole) → IfSome known (λ m. NoneFailed fo fn → P m ⊎ StopsShort o memory m new out_old out_new err_old err_new status)
+short None new fo fm fn o memory u out_old out_new err_old err_mid err_new whole status P e later same cause there left said more = tt
+short (Some m) new fo fm fn o memory u out_old out_new err_old err_mid err_new whole status P e later same cause there left said more = λ none.
+    let want : u.fault ≡ OutOfMemory = by_cause u (not_failed (is_failure u) refl none) there in
+    inr (record {
+      whole = whole;
+      said = (said.0, said_more err_old err_mid err_new o.err memory whole said.1 (more want));
+      place = u.place;
+      left = left;
+      failed = e;
+    })
+  where
+    not_failed : (b : Bool) → is_failure u ≡ b → NoneFailed fo fn → is_failure u ≡ false
+    not_failed false h none = h
+    not_failed true h none = absurd (no_cause (cause h) none)
+      where
+        no_cause : HasFailed fo fm → NoneFailed fo fn → ⊥
+        no_cause (inl rose) none = absurd (omega (arith, rose, none.same, same))
+        no_cause (inr at) none = absurd (omega (arith, at, none.before))

@@ -30,15 +30,11 @@ outcome_of l (Err e) = failing (refusal_message l.script l.input e)
 abbrev pub Does : Linking → Files → Outcome → Type 0
 Does l m o = (r : Result (List ℕ) Refusal) × IsLinked m l r × (o ≡ outcome_of l r)
 
--- a command that only says that memory ran out
-abbrev pub IsWant : Outcome → Type 0
-IsWant o = (o ≡ failing line_memory_message) ⊎ (o ≡ failing memory_message)
-
--- A run has the outcome that the files give, or says that memory ran out; it carries that out, or memory ran out
--- while it wrote the files.
-abbrev pub Ran : (Files → Outcome → Type 0) → Files → Option Files → Option (List ℕ) → Option (List ℕ) → Option (List ℕ) → Option (List ℕ) → Status → Type 0
-Ran does m new out_old out_new err_old err_new status =
-    (o : Outcome) × (does m o ⊎ IsWant o) × (Performs o m new out_old out_new err_old err_new status ⊎ StopsShort o m new status)
+-- A run has the outcome that the files give, or only says that memory ran out; it carries that out, or memory ran
+-- out while it wrote the files.
+abbrev pub Ran : (Files → Outcome → Type 0) → List ℕ → Files → Option Files → Option (List ℕ) → Option (List ℕ) → Option (List ℕ) → Option (List ℕ) → Status → Type 0
+Ran does memory m new out_old out_new err_old err_new status =
+    (o : Outcome) × (does m o ⊎ (o ≡ failing memory)) × (Performs o m new out_old out_new err_old err_new status ⊎ StopsShort o memory m new out_old out_new err_old err_new status)
 
 -- what a line does, given the files
 abbrev pub DoesLine : Says → Files → Outcome → Type 0
@@ -49,5 +45,16 @@ abbrev pub DoesWords : Result Says LineFault → Files → Outcome → Type 0
 DoesWords (Ok line) m o = DoesLine line m o
 DoesWords (Err e) m o = o ≡ failing (line_message_of e)
 
-abbrev pub Commands : List (List ℕ) → Files → Outcome → Type 0
-Commands words m o = DoesWords (line_of words) m o
+-- what is said of want of memory while a line runs
+abbrev pub line_memory : Says → List ℕ
+line_memory (link l) = memory_message
+
+-- A run of words: their line's, or what is said of words that are none; or memory ran out before they were a line.
+abbrev pub RanWords : Result Says LineFault → Files → Option Files → Option (List ℕ) → Option (List ℕ) → Option (List ℕ) → Option (List ℕ) → Status → Type 0
+RanWords (Ok line) m new out_old out_new err_old err_new status =
+    Ran (DoesLine line) (line_memory line) m new out_old out_new err_old err_new status ⊎ Performs (failing line_memory_message) m new out_old out_new err_old err_new status
+RanWords (Err e) m new out_old out_new err_old err_new status =
+    Ran (DoesWords (Err e)) line_memory_message m new out_old out_new err_old err_new status
+
+abbrev pub Commands : List (List ℕ) → Files → Option Files → Option (List ℕ) → Option (List ℕ) → Option (List ℕ) → Option (List ℕ) → Status → Type 0
+Commands words = RanWords (line_of words)

@@ -37,13 +37,13 @@ abbrev pub SaysBoth : Option (List ℕ) → Option (List ℕ) → List ℕ → O
 SaysBoth out_old out_new out err_old err_new err true = Prints out_old out_new out true × Prints err_old err_new err true
 SaysBoth out_old out_new out err_old err_new err false = (Prints out_old out_new out false × Keeps err_old err_new) ⊎ (Prints out_old out_new out true × Prints err_old err_new err false)
 
+abbrev pub is_file_error : StoreFault → Bool
+is_file_error FileError = true
+is_file_error _ = false
+
 -- the store's failures among those of writing
 abbrev pub is_failure : Unwritten → Bool
 is_failure u = is_file_error u.fault
-  where
-    is_file_error : StoreFault → Bool
-    is_file_error FileError = true
-    is_file_error _ = false
 
 -- where both texts were taken, the files behind an outcome and its status; else no file is written
 abbrev pub Settles : Outcome → Files → Option Files → Status → Bool → Type 0
@@ -56,8 +56,11 @@ pub record Performs (o : Outcome) (old : Files) (new : Option Files) (out_old ou
   pub said : SaysBoth out_old out_new o.out err_old err_new o.err whole
   pub settled : Settles o old new status whole
 
--- memory ran out while an outcome's files were written
-pub record StopsShort (o : Outcome) (old : Files) (new : Option Files) (status : Status) : Type 0 where
+-- Memory ran out while an outcome's files were written: its texts were taken, and behind them stands what is said of
+-- want of memory, or a first part of that.
+pub record StopsShort (o : Outcome) (memory : List ℕ) (old : Files) (new : Option Files) (out_old out_new err_old err_new : Option (List ℕ)) (status : Status) : Type 0 where
+  pub whole : Bool
+  pub said : Prints out_old out_new o.out true × Prints err_old err_new (o.err ++ memory) whole
   pub place : ℕ
   pub left : Tells (StopsAt o.outputs place) (Some old) new
   pub failed : status ≡ Failure

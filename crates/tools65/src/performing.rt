@@ -2,7 +2,7 @@
 
 ghost use Rattle.std.specs.Prelude.{◌≡◌, ◌<◌, ◌≤◌, ◌⊎◌, IfSome};
 ghost use Rattle.syntax65.specs.Store.{NoneFailed};
-ghost use Rattle.tools65.specs.Leaving.{SaysBoth, Performs, StopsShort};
+ghost use Rattle.tools65.specs.Leaving.{Prints, SaysBoth, Performs, StopsShort};
 
 use crate::outcome::{Outcome, Output, Status};
 use crate::printing::print;
@@ -21,20 +21,24 @@ fn say_both<W: Write, E: Write>(out: &mut W, text: &[u8], err: &mut E, error_tex
     print(err, error_text)
 }
 
-/// Says why an output isn't written, with the words of want of memory where that is the cause.
-fn say_unwritten<E: Write>(err: &mut E, outputs: &[Output], unwritten: Unwritten, memory: &[u8]) {
+/// Says why an output isn't written: that memory ran out, or what befell its file. Answers whether the stream
+/// took all of it.
+fn say_unwritten<E: Write>(
+    err: &mut E,
+    outputs: &[Output],
+    unwritten: Unwritten,
+    memory: &[u8],
+) -> bool
+    ensures { unwritten.fault ≡ StoreFault.OutOfMemory → Prints (E.contents err.old) (E.contents err.new) memory.now result }
+{
     let words: &[u8] = match unwritten.fault {
-        StoreFault::OutOfMemory => {
-            print(err, memory);
-            return;
-        }
+        StoreFault::OutOfMemory => return print(err, memory),
         StoreFault::FileNotFound => b": Error: file not found\n",
         StoreFault::FileError => b": Error: file error\n",
     };
-    if let Some(output) = outputs.get(unwritten.place) {
-        if print(err, output.name.as_str().as_bytes()) {
-            print(err, words);
-        }
+    match outputs.get(unwritten.place) {
+        Some(output) => print(err, output.name.as_str().as_bytes()) && print(err, words),
+        None => false,
     }
 }
 
@@ -50,7 +54,7 @@ pub fn perform<S: Store, W: Write, E: Write>(
 ) -> Status
     ensures done { IfSome (S.files store.old) (λ m. NoneFailed (S.failures store.old) (S.failures store.new) →
         Performs outcome.now m (S.files store.new) (W.contents out.old) (W.contents out.new) (E.contents err.old) (E.contents err.new) result
-        ⊎ StopsShort outcome.now m (S.files store.new) result) }
+        ⊎ StopsShort outcome.now memory.now m (S.files store.new) (W.contents out.old) (W.contents out.new) (E.contents err.old) (E.contents err.new) result) }
     ensures later { S.failures store.old ≤ S.failures store.new }
     ensures rose { S.failures store.old < S.failures store.new → result ≡ Status.Failure }
     ensures failing { outcome.now.status ≡ Status.Failure → result ≡ Status.Failure }

@@ -30,7 +30,7 @@ is_outside e = is_memory_fault e.fault
 abbrev pub is_script_outside : ScriptFault → Bool
 is_script_outside e = is_memory_fault e.fault
 
--- names are printed byte by byte, a number in decimal digits
+-- a name is printed byte by byte, each as the character of its code (so ASCII as it is), a number in decimal digits
 abbrev pub place_fault_text : PlaceFault → List ℕ
 place_fault_text place.OutOfMemory = codes "out of memory"
 place_fault_text (place.NoRow name) = codes "segment has no row: " ++ encode_utf8_all name

@@ -108,7 +108,7 @@ role_given given = option_and_then role_in (value_given attribute.Type given)
 
 -- values
 
--- a number between two others
+-- a number between two others, these among them
 unfoldable pub number_at : List ℕ → ℕ → ℕ → ℕ → Result (Value × ℕ) Stop
 number_at bytes low high at = do
   t ← expect bytes form.Number at
@@ -278,7 +278,7 @@ IsBlock bytes d at r =
 abbrev pub Blocks : List ℕ → Draft → ℕ → Result (Draft × ℕ) Stop → Type 0
 Blocks bytes = Many (stands bytes form.End) (IsBlock bytes)
 
--- a script has at most so many bytes; of more the fault stands at the first
+-- a script has at most so many bytes; in a longer one the fault stands at its first byte
 unfoldable pub sized : List ℕ → Result ℕ Stop
 sized bytes = if nat_lt 1048576 (length bytes) then Err (record { fault = TooLong; at = 0 }) else Ok 0
 

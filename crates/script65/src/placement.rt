@@ -8,8 +8,8 @@ use std::alloc::{AllocError, AllocFailed};
 use std::error::Error;
 use std::fmt;
 
-/// What the modules of a program need of a segment: the sum of their sections, in bytes, and the largest
-/// alignment among these, which says nothing of where the segment begins.
+/// What the modules of a program need of a segment: its size in bytes, gaps between their sections counted, and
+/// the largest alignment of a section, which says nothing of where the segment begins.
 #[derive(Debug, Drop)]
 pub struct SegmentNeed {
     pub name: Sequence<u8>,

@@ -24,7 +24,7 @@ pub struct Area {
     pub fill: bool,
     /// The byte of gaps.
     pub fill_value: u8,
-    /// Whether names for the area's start, size and end are defined.
+    /// Whether names for the area's start, its size and the first address behind what is placed are defined.
     pub define: bool,
 }
 

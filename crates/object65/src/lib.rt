@@ -4,6 +4,7 @@
 mod builder;
 mod draft;
 mod fault;
+mod filling;
 mod finishing;
 mod folding;
 mod form;

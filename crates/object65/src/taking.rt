@@ -28,7 +28,7 @@ const LARGEST_LITERAL: usize = 4096;
 const LARGEST_ALIGNMENT: u8 = 15;
 
 /// Nothing, or this fault.
-fn check(holds: bool, fault: ObjectFault) -> Result<(), ObjectFault>
+pub fn check(holds: bool, fault: ObjectFault) -> Result<(), ObjectFault>
     ensures { result ≡ wants holds fault }
 {
     if holds { Ok(()) } else { Err(fault) }

@@ -11,6 +11,7 @@ mod form;
 mod forming;
 pub mod laws;
 mod loading;
+mod naming;
 mod normal;
 mod object;
 mod operator;

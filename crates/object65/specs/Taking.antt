@@ -1,5 +1,5 @@
 -- What a builder becomes by one record after another.
-use Rattle.std.specs.Prelude.{◌≡◌, ℕ, ◌+◌, ◌-◌, ◌%◌, List, [], ◌∷◌, ◌++◌, length, map, get_or, slice_set, Bool, true, false, Result, Ok, Err, nat_le, ◌==◌, ◌&&◌, not, if◌then◌else◌}
+use Rattle.std.specs.Prelude.{◌≡◌, ℕ, ◌+◌, ◌-◌, ◌%◌, List, [], ◌∷◌, ◌++◌, length, map, get_or, slice_get, slice_set, Option, Some, None, Bool, true, false, Result, Ok, Err, nat_le, ◌==◌, ◌&&◌, not, if◌then◌else◌}
 use Rattle.std.specs.List.{list_all}
 use Rattle.object65.specs.declared.fault.ObjectFault.{ObjectFault}
 use Rattle.object65.specs.declared.fault.ObjectFault.TheVariants.{FailedBefore, CutShort, OutOfOrder, IndexOutOfRange, BadSize, NotCanonical}
@@ -108,10 +108,12 @@ with_literal body d = do
 abbrev pub with_fragment : Draft → ℕ → Fragment → Draft
 with_fragment d len f = record d { filled = d.filled + len; fragments = closed d ++ f ∷ []; literal = [] }
 
+abbrev pub is_some_fill : Option Fragment → Bool
+is_some_fill (Some (Fill n)) = true
+is_some_fill _ = false
+
 abbrev pub ends_in_fill : List Fragment → Bool
-ends_in_fill [] = false
-ends_in_fill (Fill n ∷ []) = true
-ends_in_fill (f ∷ fs) = ends_in_fill fs
+ends_in_fill fs = is_some_fill (slice_get fs (length fs - 1))
 
 unfoldable pub with_fill : List ℕ → Draft → Result Draft ObjectFault
 with_fill body d = do

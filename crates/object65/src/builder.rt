@@ -17,7 +17,6 @@ use std::marker::Model;
 use syntax65::Sequence;
 
 /// An object in the making, which stands for the records taken so far.
-#[derive(Drop)]
 pub struct Builder {
     parts: Parts,
     ended: bool,
@@ -41,6 +40,16 @@ impl Model for Builder {
     ghost invariant = { λ b. b.failed ≡ false → IsIntact b.parts b.ended };
 }
 
+impl Drop for Builder {
+    fn drop(self) {
+        let Builder {
+            parts: _,
+            ended: _,
+            failed: _,
+        } = self;
+    }
+}
+
 impl Builder {
     /// A builder that has taken no record.
     pub fn new(alloc: Global) -> Self
@@ -50,11 +59,13 @@ impl Builder {
             parts: Parts {
                 alloc,
                 imports: Sequence::new(alloc),
+                import_names: IndexSet::new(alloc),
                 drafts: Vec::new(alloc),
                 section_names: IndexSet::new(alloc),
                 begun: false,
                 filling: 0,
                 exports: Sequence::new(alloc),
+                export_names: IndexSet::new(alloc),
                 asserts: Sequence::new(alloc),
             },
             ended: false,
@@ -107,6 +118,11 @@ impl Builder {
         if !self.ended {
             return Err(ObjectFault::CutShort);
         }
-        finish_object(self.parts)
+        let Builder {
+            parts,
+            ended: _,
+            failed: _,
+        } = self;
+        finish_object(parts)
     }
 }

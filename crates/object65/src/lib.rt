@@ -4,12 +4,14 @@
 mod builder;
 mod draft;
 mod fault;
+mod filling;
 mod finishing;
 mod folding;
 mod form;
 mod forming;
 pub mod laws;
 mod loading;
+mod naming;
 mod normal;
 mod object;
 mod operator;

@@ -11,6 +11,8 @@ use syntax65::Sequence;
 pub struct Parts {
     pub alloc: Global,
     pub imports: Sequence<Sequence<u8>>,
+    /// The names of the imports, by which a second one is found.
+    pub import_names: IndexSet<Vec<u8>>,
     pub drafts: Vec<Draft>,
     /// The names of the drafts, by which a second one is found.
     pub section_names: IndexSet<Vec<u8>>,
@@ -19,5 +21,6 @@ pub struct Parts {
     /// The sections before this place are full.
     pub filling: usize,
     pub exports: Sequence<Export>,
+    pub export_names: IndexSet<Vec<u8>>,
     pub asserts: Sequence<Assert>,
 }

@@ -168,7 +168,7 @@ pub fn check_end<S: Store>(
 }
 
 /// Whether records of this kind are read.
-fn is_kind(kind: u8) -> bool
+pub fn is_kind(kind: u8) -> bool
     ensures { result ≡ is_record_kind kind }
 {
     matches!(kind, SECTION | LITERAL | END)

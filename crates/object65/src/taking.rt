@@ -10,11 +10,14 @@ ghost use Rattle.object65.specs.Sound.{state_of, draft_names, IsSound};
 ghost use Rattle.object65.specs.Spelling.{body_limit};
 ghost use Rattle.object65.specs.declared.draft.Draft.{Draft};
 ghost use Rattle.object65.specs.declared.fault.ObjectFault.{ObjectFault};
-ghost use Rattle.object65.specs.Taking.{State, GrowsAt, in_first_open, is_full, is_none, wants, section_stands, assert_stands, new_name, drafted, has_room, with_literal, with_part, with_section, with_end, taken};
+ghost use Rattle.object65.specs.Taking.{State, GrowsAt, in_first_open, is_full, is_none, wants, section_stands, assert_stands, new_name, drafted, has_room, with_literal, with_fill, with_value, with_part, with_section, with_end, taken};
 
 use crate::draft::Draft;
+use crate::filling::{grow_fill, grow_value};
 use crate::parts::Parts;
-use crate::record::{END, LITERAL, SECTION};
+use crate::naming::{take_assert, take_export, take_import};
+use crate::reading::is_kind;
+use crate::record::{ASSERT, EXPORT, FILL, IMPORT, LITERAL, SECTION, VALUE};
 use crate::{ObjectFault, Record};
 use byteorder::{ByteOrder, LittleEndian};
 use indexmap::IndexSet;
@@ -28,7 +31,7 @@ const LARGEST_LITERAL: usize = 4096;
 const LARGEST_ALIGNMENT: u8 = 15;
 
 /// Nothing, or this fault.
-fn check(holds: bool, fault: ObjectFault) -> Result<(), ObjectFault>
+pub fn check(holds: bool, fault: ObjectFault) -> Result<(), ObjectFault>
     ensures { result ≡ wants holds fault }
 {
     if holds { Ok(()) } else { Err(fault) }
@@ -53,7 +56,7 @@ fn has_name(names: &IndexSet<Vec<u8>>, name: &[u8]) -> bool
 }
 
 /// Refuses a bad name and one that is there.
-fn check_name(names: &IndexSet<Vec<u8>>, name: &[u8]) -> Result<(), ObjectFault>
+pub fn check_name(names: &IndexSet<Vec<u8>>, name: &[u8]) -> Result<(), ObjectFault>
     ensures { result ≡ new_name (map (λ n. n.items) names.now.keys) name.now }
 {
     check(
@@ -184,8 +187,38 @@ fn take_literal(parts: &mut Parts, body: &[u8]) -> Result<(), ObjectFault>
     Ok(())
 }
 
+/// Takes a FILL.
+fn take_fill(parts: &mut Parts, body: &[u8]) -> Result<(), ObjectFault>
+    requires { IsSound parts.old }
+    ensures taken { Gives is_memory (λ _. state_of parts.new) result (with_part (state_of parts.old) (with_fill body.now)) }
+    ensures sound { OnOk result (IsSound parts.new) }
+{
+    let at = open_place(parts)?;
+    parts.begun = true;
+    let alloc = parts.alloc;
+    let draft = &mut parts.drafts[at];
+    grow_fill(alloc, draft, body)?;
+    Ok(())
+}
+
+/// Takes a VALUE.
+fn take_value(parts: &mut Parts, body: &[u8]) -> Result<(), ObjectFault>
+    requires { IsSound parts.old }
+    ensures taken { Gives is_memory (λ _. state_of parts.new) result (with_part (state_of parts.old) (with_value (length parts.old.drafts.items) (length parts.old.imports) body.now)) }
+    ensures sound { OnOk result (IsSound parts.new) }
+{
+    let sections = parts.drafts.as_slice().len();
+    let imports = parts.imports.len();
+    let at = open_place(parts)?;
+    parts.begun = true;
+    let alloc = parts.alloc;
+    let draft = &mut parts.drafts[at];
+    grow_value(alloc, draft, body, sections, imports)?;
+    Ok(())
+}
+
 /// Whether all sections are full.
-fn all_full(parts: &mut Parts) -> bool
+pub fn all_full(parts: &mut Parts) -> bool
     requires { IsSound parts.old }
     ensures full { result ≡ list_all is_full parts.old.drafts.items }
     ensures state { state_of parts.new ≡ state_of parts.old }
@@ -214,20 +247,22 @@ pub fn take_record(parts: &mut Parts, next: &Record) -> Result<bool, ObjectFault
     ensures taken { Gives is_memory (λ ended. record (state_of parts.new) { ended = ended }) result (taken (state_of parts.old) (entry_of next.now)) }
     ensures sound { OnOk result (IsSound parts.new) }
 {
+    if !is_kind(next.kind) {
+        return Err(ObjectFault::OutOfOrder);
+    }
     let body = next.body.as_slice();
     match next.kind {
-        SECTION => {
-            take_section(parts, body)?;
-            Ok(false)
-        }
-        LITERAL => {
-            take_literal(parts, body)?;
-            Ok(false)
-        }
-        END => {
+        IMPORT => take_import(parts, body)?,
+        SECTION => take_section(parts, body)?,
+        LITERAL => take_literal(parts, body)?,
+        FILL => take_fill(parts, body)?,
+        VALUE => take_value(parts, body)?,
+        EXPORT => take_export(parts, body)?,
+        ASSERT => take_assert(parts, body)?,
+        _ => {
             take_end(parts, body)?;
-            Ok(true)
+            return Ok(true);
         }
-        _ => Err(ObjectFault::OutOfOrder),
     }
+    Ok(false)
 }

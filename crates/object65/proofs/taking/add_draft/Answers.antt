@@ -10,6 +10,8 @@ returns-clause-sound c =
     let name : c.in_ok-name.name.items ≡ c.args.draft.name = c.in_ok-name.ensures.items ∙ c.as_slice.ensures in
     let new = pushed_name (λ n. n.items) c.args.parts.now.section_names.keys c.in_ok-name.name (draft_names ds) c.requires.sound.section_names (rw name c.requires.name) in
     record {
+      import_names = c.requires.sound.import_names;
+      export_names = c.requires.sound.export_names;
       section_names = ap (map (λ n. n.items)) c.in_ok-insert.ensures.keys ∙ new ∙ rw name (sym (names-push ds c.args.draft)) ∙ ap draft_names (sym c.in_ok-push.ensures.items);
       within = rw c.in_ok-push.ensures.items (omega (arith, c.requires.sound.within, length-append ds (c.args.draft ∷ [])));
       filling = rw c.in_ok-push.ensures.items (full-push c.args.parts.now.filling ds c.args.draft c.requires.sound.within c.requires.sound.filling);

@@ -29,6 +29,8 @@ returns-clause-sound c =
     let sound = c.open_place.ensures.sound in
     let at = c.in_ok-at.ensures.place.0 in
     record {
+      import_names = sound.import_names;
+      export_names = sound.export_names;
       section_names = sound.section_names ∙ sym (names-set ds c.in_ok-at.at c.index_mut-draft.result.now e c.index_mut-draft.ensures.value c.grow_literal.ensures.name);
       within = omega (arith, sound.within, length-set ds c.in_ok-at.at e);
       filling = rw at (full-set ds c.in_ok-at.at e (rw at at sound.filling));

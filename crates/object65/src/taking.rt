@@ -14,8 +14,8 @@ ghost use Rattle.object65.specs.Taking.{State, GrowsAt, in_first_open, is_full, 
 
 use crate::draft::Draft;
 use crate::filling::{grow_fill, grow_value};
-use crate::parts::Parts;
 use crate::naming::{take_assert, take_export, take_import};
+use crate::parts::Parts;
 use crate::reading::is_kind;
 use crate::record::{ASSERT, EXPORT, FILL, IMPORT, LITERAL, SECTION, VALUE};
 use crate::{ObjectFault, Record};

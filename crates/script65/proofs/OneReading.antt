@@ -4,9 +4,8 @@ use Rattle.std.specs.Prelude.{Result}
 use Rattle.script65.specs.declared.fault.Stop.{Stop}
 use Rattle.script65.specs.declared.reading.token.Form.TheVariants as form
 use Rattle.script65.specs.declared.reading.words.Block.{Block}
-use Rattle.script65.specs.declared.reading.words.Given.{Given}
 use Rattle.script65.specs.declared.script.Script.{Script}
-use Rattle.script65.specs.Grammar.{Many, ends, more, stops, First, IsAttribute, Attributes, IsEntry, Entries, IsBlock, Blocks, Draft, Drafts, entry_head, entry_end, block_head, nothing, stands, sized}
+use Rattle.script65.specs.Grammar.{Many, ends, more, stops, First, Then, IsAttribute, Attributes, IsEntry, Entries, IsBlock, Blocks, Draft, Drafts, entry_head, entry_end, block_head, nothing, stands, sized}
 use Rattle.script65.specs.Laws.{OneReading}
 use Rattle.script65.specs.Scripts.{Reads, script_of, with_line}
 use Rattle.script65.specs.Outcome.{◌>>=◌}
@@ -41,29 +40,41 @@ first_one : {A B : Type 0} (head : Result A Stop) (Next : A → Result B Stop �
 first_one (Ok x) Next one r q h k = one x r q h k
 first_one (Err e) Next one r q h k = h ∙ sym k
 
+then_one : {A B : Type 0} (P : Result A Stop → Type 0) (f : A → Result B Stop) → ((r q : Result A Stop) → P r → P q → r ≡ q) → (r q : Result B Stop) → Then P f r → Then P f q → r ≡ q
+then_one P f one r q h k = h.2 ∙ ap (λ v. v >>= f) (one h.0 k.0 h.1 k.1) ∙ sym k.2
+
 attributes_one : (bytes : List ℕ) (block : Block) → IsOne (Attributes bytes block)
 attributes_one bytes block = many_one (stands bytes form.Semicolon) (IsAttribute bytes block) (λ s at r q h k. h ∙ sym k)
 
 entry_one : (bytes : List ℕ) (block : Block) → IsOne (IsEntry bytes block)
-entry_one bytes block d at r q h k = first_one (entry_head bytes block d at) (λ h u. (q : Result (List Given × ℕ) Stop) × Attributes bytes block [] h.1 q × (u ≡ (q >>= entry_end bytes block h.0 d)))
-    (λ x r q h k. h.2 ∙ ap (λ v. v >>= entry_end bytes block x.0 d) (attributes_one bytes block [] x.1 h.0 k.0 h.1 k.1) ∙ sym k.2) r q h k
+entry_one bytes block d at =
+    first_one (entry_head bytes block d at) (λ h. Then (Attributes bytes block [] h.1) (entry_end bytes block h.0 d))
+    (λ x. then_one (Attributes bytes block [] x.1) (entry_end bytes block x.0 d) (attributes_one bytes block [] x.1))
 
 entries_one : (bytes : List ℕ) (block : Block) → IsOne (Entries bytes block)
 entries_one bytes block = many_one (stands bytes form.Close) (IsEntry bytes block) (entry_one bytes block)
 
+abbrev behind_block : List ℕ → Draft × ℕ → Result (Draft × ℕ) Stop
+behind_block bytes x = Ok (x.0, (token_at bytes x.1).to)
+
 block_one : (bytes : List ℕ) → IsOne (IsBlock bytes)
-block_one bytes d at r q h k = first_one (block_head bytes at) (λ h u. (q : Result (Draft × ℕ) Stop) × Entries bytes h.0 d h.1 q × (u ≡ (q >>= λ x. Ok (x.0, (token_at bytes x.1).to))))
-    (λ x r q h k. h.2 ∙ ap (λ v. v >>= λ x. Ok (x.0, (token_at bytes x.1).to)) (entries_one bytes x.0 d x.1 h.0 k.0 h.1 k.1) ∙ sym k.2) r q h k
+block_one bytes d at =
+    first_one (block_head bytes at) (λ h. Then (Entries bytes h.0 d h.1) (behind_block bytes))
+    (λ x. then_one (Entries bytes x.0 d x.1) (behind_block bytes) (entries_one bytes x.0 d x.1))
 
 blocks_one : (bytes : List ℕ) → IsOne (Blocks bytes)
 blocks_one bytes = many_one (stands bytes form.End) (IsBlock bytes) (block_one bytes)
 
+abbrev drafted : Draft × ℕ → Result Draft Stop
+drafted x = Ok x.0
+
 drafts_one : (bytes : List ℕ) (r q : Result Draft Stop) → Drafts bytes r → Drafts bytes q → r ≡ q
-drafts_one bytes r q h k = first_one (sized bytes) (λ at u. (q : Result (Draft × ℕ) Stop) × Blocks bytes nothing at q × (u ≡ (q >>= λ x. Ok x.0)))
-    (λ x r q h k. h.2 ∙ ap (λ v. v >>= λ x. Ok x.0) (blocks_one bytes nothing x h.0 k.0 h.1 k.1) ∙ sym k.2) r q h k
+drafts_one bytes =
+    first_one (sized bytes) (λ at. Then (Blocks bytes nothing at) drafted)
+    (λ at. then_one (Blocks bytes nothing at) drafted (blocks_one bytes nothing at))
 
 reads_one : (bytes : List ℕ) (r q : Result Script Stop) → Reads bytes r → Reads bytes q → r ≡ q
-reads_one bytes r q h k = h.2 ∙ ap (λ d. d >>= script_of bytes) (drafts_one bytes h.0 k.0 h.1 k.1) ∙ sym k.2
+reads_one bytes = then_one (Drafts bytes) (script_of bytes) (drafts_one bytes)
 
 pub one_reading : OneReading
 one_reading bytes r q h k = h.2 ∙ ap (with_line bytes) (reads_one bytes h.0 k.0 h.1 k.1) ∙ sym k.2

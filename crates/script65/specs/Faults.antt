@@ -36,7 +36,8 @@ place_fault_text place.OutOfMemory = codes "out of memory"
 place_fault_text (place.NoRow name) = codes "segment has no row: " ++ encode_utf8_all name
 place_fault_text (place.ReadOnlyArea name) = codes "read-only area: " ++ encode_utf8_all name
 place_fault_text (place.StartBelow name) = codes "start below what is placed: " ++ encode_utf8_all name
-place_fault_text (place.Overflow name n) = codes "overflow of " ++ encode_utf8_all name ++ codes " by " ++ decimal n ++ codes " bytes"
+place_fault_text (place.Overflow name n) =
+    codes "overflow of " ++ encode_utf8_all name ++ codes " by " ++ decimal n ++ codes " bytes"
 
 abbrev pub is_place_outside : PlaceFault → Bool
 is_place_outside place.OutOfMemory = true

@@ -202,11 +202,15 @@ entry_head bytes block d at = do
   colon ← expect bytes form.Colon fresh.to
   Ok (fresh, colon.to)
 
+-- the address behind an area
+abbrev pub area_end : List Given → ℕ
+area_end given = unwrap_or (number_given attribute.Start given) 0 + unwrap_or (number_given attribute.Size given) 0
+
 -- an area ends at the last address or before it
 abbrev pub area_fault : List Given → Option Fault
 area_fault given =
     if not (has attribute.Start given && has attribute.Size given) then Some AttributeMissing
-    else if nat_lt (2 ^ 32) (unwrap_or (number_given attribute.Start given) 0 + unwrap_or (number_given attribute.Size given) 0) then Some OutOfRange
+    else if nat_lt (2 ^ 32) (area_end given) then Some OutOfRange
     else None
 
 abbrev pub row_fault : List Given → Option Fault
@@ -253,6 +257,10 @@ abbrev pub First : {A B : Type 0} → Result A Stop → (A → Result B Stop →
 First (Ok x) Next r = Next x r
 First (Err e) Next r = r ≡ Err e
 
+-- what is found so, and then what is made of it
+abbrev pub Then : {A B : Type 0} → (Result A Stop → Type 0) → (A → Result B Stop) → Result B Stop → Type 0
+Then {A} P f r = (q : Result A Stop) × P q × (r ≡ (q >>= f))
+
 abbrev pub IsAttribute : List ℕ → Block → List Given → ℕ → Result (List Given × ℕ) Stop → Type 0
 IsAttribute bytes block given at r = r ≡ (attribute_at bytes block given at >>= λ g. Ok (given ++ g.0 ∷ [], g.1))
 
@@ -263,7 +271,7 @@ Attributes bytes block = Many (stands bytes form.Semicolon) (IsAttribute bytes b
 -- a name, `:`, attributes and `;`
 abbrev pub IsEntry : List ℕ → Block → Draft → ℕ → Result (Draft × ℕ) Stop → Type 0
 IsEntry bytes block d at r =
-    First (entry_head bytes block d at) (λ h u. (q : Result (List Given × ℕ) Stop) × Attributes bytes block [] h.1 q × (u ≡ (q >>= entry_end bytes block h.0 d))) r
+    First (entry_head bytes block d at) (λ h. Then (Attributes bytes block [] h.1) (entry_end bytes block h.0 d)) r
 
 -- up to a `}`
 abbrev pub Entries : List ℕ → Block → Draft → ℕ → Result (Draft × ℕ) Stop → Type 0
@@ -272,7 +280,7 @@ Entries bytes block = Many (stands bytes form.Close) (IsEntry bytes block)
 -- a word, `{`, entries and `}`
 abbrev pub IsBlock : List ℕ → Draft → ℕ → Result (Draft × ℕ) Stop → Type 0
 IsBlock bytes d at r =
-    First (block_head bytes at) (λ h u. (q : Result (Draft × ℕ) Stop) × Entries bytes h.0 d h.1 q × (u ≡ (q >>= λ x. Ok (x.0, (token_at bytes x.1).to)))) r
+    First (block_head bytes at) (λ h. Then (Entries bytes h.0 d h.1) (λ x. Ok (x.0, (token_at bytes x.1).to))) r
 
 -- up to the last byte
 abbrev pub Blocks : List ℕ → Draft → ℕ → Result (Draft × ℕ) Stop → Type 0
@@ -288,4 +296,4 @@ nothing = record { areas = []; rows = []; symbols = [] }
 -- the entries of a text, or its first fault before its last byte
 abbrev pub Drafts : List ℕ → Result Draft Stop → Type 0
 Drafts bytes r =
-    First (sized bytes) (λ at u. (q : Result (Draft × ℕ) Stop) × Blocks bytes nothing at q × (u ≡ (q >>= λ x. Ok x.0))) r
+    First (sized bytes) (λ at. Then (Blocks bytes nothing at) (λ x. Ok x.0)) r

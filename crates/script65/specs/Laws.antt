@@ -1,5 +1,5 @@
 -- What holds of every script and every placement.
-use Rattle.std.specs.Prelude.{◌≡◌, ◌≤◌, ◌<◌, ℕ, ◌+◌, true, ◌==◌, if◌then◌else◌, List, ◌∷◌, Result, Ok, length, slice_get, Option, Some, ⊤}
+use Rattle.std.specs.Prelude.{◌≡◌, ◌≤◌, ◌<◌, ℕ, ◌+◌, true, ◌==◌, if◌then◌else◌, List, ◌∷◌, Result, Ok, length, slice_get, Some, ⊤}
 use Rattle.script65.specs.declared.fault.ScriptFault.{ScriptFault}
 use Rattle.script65.specs.declared.script.Area.{Area}
 use Rattle.script65.specs.declared.script.Row.{Row}
@@ -32,7 +32,9 @@ AreApart k _ _ = ⊤
 
 -- no two rows of an area overlap
 abbrev pub NoOverlap : Type 0
-NoOverlap = (script : Script) (needs : List SegmentNeed) (p : Placement) → place_of script needs ≡ Ok p → (k : ℕ) → k < length script.areas → AreApart k script.rows p.rows
+NoOverlap =
+    (script : Script) (needs : List SegmentNeed) (p : Placement) → place_of script needs ≡ Ok p →
+    (k : ℕ) → k < length script.areas → AreApart k script.rows p.rows
 
 -- a row of an area lies between its first address and the one behind its last
 abbrev pub IsWithin : ℕ → Area → Row → RowPlace → Type 0
@@ -44,4 +46,6 @@ AreWithin k a _ _ = ⊤
 
 -- each row lies within its areas
 abbrev pub AllWithin : Type 0
-AllWithin = (script : Script) (needs : List SegmentNeed) (p : Placement) → place_of script needs ≡ Ok p → (k : ℕ) (a : Area) → slice_get script.areas k ≡ Some a → AreWithin k a script.rows p.rows
+AllWithin =
+    (script : Script) (needs : List SegmentNeed) (p : Placement) → place_of script needs ≡ Ok p →
+    (k : ℕ) (a : Area) → slice_get script.areas k ≡ Some a → AreWithin k a script.rows p.rows

@@ -110,7 +110,9 @@ row_place s = record { load = s.load; run = s.run; size = unwrap_or s.size 0 }
 -- area by area
 abbrev pub areas_from : ℕ → List Row → List Area → List AreaPlace → List Spot → Result Placement PlaceFault
 areas_from k rows [] placed ss = Ok (record { areas = placed; rows = map row_place ss })
-areas_from k rows (a ∷ rest) placed ss = rows_from k a (bounds_of a) rows ss (bounds_of a).start >>= λ x. areas_from (k + 1) rows rest (placed ++ area_place (bounds_of a) x.1 ∷ []) x.0
+areas_from k rows (a ∷ rest) placed ss =
+    rows_from k a (bounds_of a) rows ss (bounds_of a).start
+    >>= λ x. areas_from (k + 1) rows rest (placed ++ area_place (bounds_of a) x.1 ∷ []) x.0
 
 -- a row before anything is placed
 abbrev pub unplaced : List SegmentNeed → Row → Spot
@@ -118,4 +120,6 @@ unplaced needs r = record { size = size_of needs r.name; run = 0; load = 0 }
 
 -- where the rows of a script are placed, or the first fault
 abbrev pub place_of : Script → List SegmentNeed → Result Placement PlaceFault
-place_of script needs = rows_exist script.rows needs >>= λ _. areas_from 0 script.rows script.areas [] (map (unplaced needs) script.rows)
+place_of script needs =
+    rows_exist script.rows needs
+    >>= λ _. areas_from 0 script.rows script.areas [] (map (unplaced needs) script.rows)

@@ -29,7 +29,7 @@ use Rattle.script65.specs.declared.reading.table.Entry.{Entry}
 use Rattle.script65.specs.Access.{is_read_only, is_written}
 use Rattle.script65.specs.Outcome.{◌>>=◌, each}
 use Rattle.script65.specs.Tokens.{text, line_of}
-use Rattle.script65.specs.Grammar.{Draft, Drafts, value_given, number_given, role_given}
+use Rattle.script65.specs.Grammar.{Draft, Drafts, value_given, number_given, role_given, Then}
 
 abbrev pub flag_in : Value → Option Bool
 flag_in (value.Flag b) = Some b
@@ -90,7 +90,10 @@ kind_of role.Weak n = kind.Weak n
 kind_of role.Import n = kind.Import
 
 abbrev pub symbol_of : List ℕ × Entry → Symbol
-symbol_of e = record { name = e.0; kind = kind_of (unwrap_or (role_given e.1.given) role.Import) (number_or 0 attribute.Value e.1.given) }
+symbol_of e = record {
+  name = e.0;
+  kind = kind_of (unwrap_or (role_given e.1.given) role.Import) (number_or 0 attribute.Value e.1.given);
+}
 
 -- rows
 
@@ -157,11 +160,13 @@ row_of bytes d e = row_areas bytes d e.1 >>= λ a. Ok (row_with e a.0 a.1 (area_
 
 -- the script of what was read, or the first fault of its rows
 abbrev pub script_of : List ℕ → Draft → Result Script Stop
-script_of bytes d = each (row_of bytes d) d.rows >>= λ rows. Ok (record { areas = map (area_of bytes) d.areas; rows = rows; symbols = map symbol_of d.symbols })
+script_of bytes d =
+    each (row_of bytes d) d.rows
+    >>= λ rows. Ok (record { areas = map (area_of bytes) d.areas; rows = rows; symbols = map symbol_of d.symbols })
 
 -- the script of a text, or its first fault
 abbrev pub Reads : List ℕ → Result Script Stop → Type 0
-Reads bytes r = (q : Result Draft Stop) × Drafts bytes q × (r ≡ (q >>= script_of bytes))
+Reads bytes = Then (Drafts bytes) (script_of bytes)
 
 -- a fault with its line in place of its place
 abbrev pub with_line : List ℕ → Result Script Stop → Result Script ScriptFault

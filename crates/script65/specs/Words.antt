@@ -112,4 +112,6 @@ role_of text =
     else None
 
 abbrev pub is_width : List ℕ → Bool
-is_width text = same_word text (codes "zp") || same_word text (codes "zeropage") || same_word text (codes "abs") || same_word text (codes "absolute")
+is_width text =
+    same_word text (codes "zp") || same_word text (codes "zeropage")
+    || same_word text (codes "abs") || same_word text (codes "absolute")

@@ -27,7 +27,10 @@ fn place_member(
     requires room { cursor ≤ site.now.bounds.end }
     requires order { site.now.bounds.start ≤ site.now.bounds.end }
     requires small { site.now.bounds.end ≤ 8589934592 }
-    ensures value { (r : Row) → (s : Spot) → slice_get rows.now member ≡ Some r → slice_get spots.old member ≡ Some s → Gives is_place_outside (λ end. (spots.new, end)) result (spots_after site.now.place site.now.area.now site.now.bounds r s cursor member spots.old) }
+    ensures value { (r : Row) → (s : Spot) →
+        slice_get rows.now member ≡ Some r → slice_get spots.old member ≡ Some s →
+        Gives is_place_outside (λ end. (spots.new, end)) result
+        (spots_after site.now.place site.now.area.now site.now.bounds r s cursor member spots.old) }
     ensures bound { IfOk result (λ end. end ≤ site.now.bounds.end) }
 {
     let (spot, end) = site.place_row(alloc, &rows[member], spots[member], cursor)?;
@@ -47,7 +50,8 @@ fn place_area(
     requires count { length spots.old ≡ length rows.now }
     requires order { site.now.bounds.start ≤ site.now.bounds.end }
     requires small { site.now.bounds.end ≤ 8589934592 }
-    ensures { Gives is_place_outside (λ last. (spots.new, last)) result (rows_from site.now.place site.now.area.now site.now.bounds rows.now spots.old site.now.bounds.start) }
+    ensures { Gives is_place_outside (λ last. (spots.new, last)) result
+        (rows_from site.now.place site.now.area.now site.now.bounds rows.now spots.old site.now.bounds.start) }
 {
     let mut cursor = site.bounds.start;
     for member in members {
@@ -77,7 +81,8 @@ pub fn place_areas(
 ) -> Result<Sequence<AreaPlace>, PlaceFault>
     requires members { (k : ℕ) → k < length areas.now → slice_get members.now k ≡ Some (places_in k 0 rows.now) }
     requires count { length spots.old ≡ length rows.now }
-    ensures { Gives is_place_outside (λ places. record { areas = places; rows = map row_place spots.new }) result (areas_from 0 rows.now areas.now [] spots.old) }
+    ensures { Gives is_place_outside (λ places. record { areas = places; rows = map row_place spots.new }) result
+        (areas_from 0 rows.now areas.now [] spots.old) }
 {
     let mut places = Sequence::new(alloc);
     for (place, area) in areas.iter().enumerate() {

@@ -21,7 +21,8 @@ fn no_members(alloc: Global, areas: usize) -> Result<Vec<Sequence<usize>>, Alloc
 
 // Adds a row to the members of an area, if there is such an area.
 fn add_member(members: &mut Vec<Sequence<usize>>, area: usize, row: usize) -> Result<(), AllocError>
-    ensures { OnOk result ((k : ℕ) → slice_get members.new.items k ≡ option_map (λ m. if area == k then m ++ row ∷ [] else m) (slice_get members.old.items k)) }
+    ensures { OnOk result ((k : ℕ) → slice_get members.new.items k
+        ≡ option_map (λ m. if area == k then m ++ row ∷ [] else m) (slice_get members.old.items k)) }
 {
     if area < members.len() {
         members[area].push(row)?;
@@ -31,7 +32,8 @@ fn add_member(members: &mut Vec<Sequence<usize>>, area: usize, row: usize) -> Re
 
 // Adds a row to the members of the areas in which it runs and loads.
 fn add_row(members: &mut Vec<Sequence<usize>>, row: &Row, place: usize) -> Result<(), AllocError>
-    ensures { OnOk result ((k : ℕ) → slice_get members.new.items k ≡ option_map (λ m. if is_in k row.now then m ++ place ∷ [] else m) (slice_get members.old.items k)) }
+    ensures { OnOk result ((k : ℕ) → slice_get members.new.items k
+        ≡ option_map (λ m. if is_in k row.now then m ++ place ∷ [] else m) (slice_get members.old.items k)) }
 {
     add_member(members, row.run, place)?;
     if row.load != row.run {

@@ -17,7 +17,8 @@ use std::alloc::{AllocError, Global};
 
 // The names of rows.
 fn names_of<'a>(alloc: Global, rows: &'a [Row]) -> Result<IndexSet<&'a [u8]>, AllocError>
-    ensures { IfOk result (λ s. (name : List ℕ) → contains_by (λ k. bytes_eq name k.now) s ≡ has_row rows.now name) }
+    ensures { IfOk result (λ s. (name : List ℕ) →
+        contains_by (λ k. bytes_eq name k.now) s ≡ has_row rows.now name) }
 {
     let mut names = IndexSet::new(alloc);
     for row in rows {
@@ -44,7 +45,8 @@ fn sizes_of<'a>(
     alloc: Global,
     needs: &'a [SegmentNeed],
 ) -> Result<IndexMap<&'a [u8], u64>, AllocError>
-    ensures { IfOk result (λ m. (name : List ℕ) → get_by (λ k. bytes_eq name k.now) m ≡ size_of needs.now name) }
+    ensures { IfOk result (λ m. (name : List ℕ) →
+        get_by (λ k. bytes_eq name k.now) m ≡ size_of needs.now name) }
 {
     let mut sizes = IndexMap::new(alloc);
     for i in (0..needs.len()).rev() {

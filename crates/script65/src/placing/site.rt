@@ -119,7 +119,8 @@ impl Site<'_> {
         cursor: u64,
     ) -> Result<(Spot, u64), PlaceFault>
         requires { at ≤ 12884901888 }
-        ensures value { Gives is_place_outside (λ x. x) result (fitted self.now.place self.now.area.now self.now.bounds row.now spot size at cursor) }
+        ensures value { Gives is_place_outside (λ x. x) result
+            (fitted self.now.place self.now.area.now self.now.bounds row.now spot size at cursor) }
         ensures bound { IfOk result (λ x. x.1 ≤ self.now.bounds.end) }
     {
         if at < cursor {
@@ -144,7 +145,8 @@ impl Site<'_> {
         requires room { cursor ≤ self.now.bounds.end }
         requires order { self.now.bounds.start ≤ self.now.bounds.end }
         requires small { self.now.bounds.end ≤ 8589934592 }
-        ensures value { Gives is_place_outside (λ x. x) result (sized_row self.now.place self.now.area.now self.now.bounds row.now spot spot.size cursor) }
+        ensures value { Gives is_place_outside (λ x. x) result
+            (sized_row self.now.place self.now.area.now self.now.bounds row.now spot spot.size cursor) }
         ensures bound { IfOk result (λ x. x.1 ≤ self.now.bounds.end) }
     {
         match spot.size {
@@ -168,7 +170,8 @@ impl Site<'_> {
         requires room { cursor ≤ self.now.bounds.end }
         requires order { self.now.bounds.start ≤ self.now.bounds.end }
         requires small { self.now.bounds.end ≤ 8589934592 }
-        ensures value { Gives is_place_outside (λ x. x) result (row_after self.now.place self.now.area.now self.now.bounds row.now spot cursor) }
+        ensures value { Gives is_place_outside (λ x. x) result
+            (row_after self.now.place self.now.area.now self.now.bounds row.now spot cursor) }
         ensures bound { IfOk result (λ x. x.1 ≤ self.now.bounds.end) }
     {
         if self.area.read_only && row.run == self.place && !row.access.is_read_only() {

@@ -49,7 +49,8 @@ fn entry_head(
     ensures value { result ≡ entry_head bytes.now block (draft_in tables.now) at }
     ensures within { IfOk result (λ r. r.1 ≤ length bytes.now) }
     ensures order { IfOk result (λ r. at < r.1) }
-    ensures fresh { IfOk result (λ r. is_taken (text_of bytes.now r.0) (entries_of block (draft_in tables.now)) ≡ false) }
+    ensures fresh { IfOk result (λ r.
+        is_taken (text_of bytes.now r.0) (entries_of block (draft_in tables.now)) ≡ false) }
 {
     let name = expect(bytes, Form::Word, at)?;
     if tables.has(block, text(bytes, name.from, name.to)) {
@@ -78,7 +79,8 @@ fn entry<'a>(
     at: usize,
 ) -> Result<usize, Stop>
     requires { at ≤ length bytes.now }
-    ensures found { Finds is_outside (λ end. (draft_in tables.new, end)) (IsEntry bytes.now block (draft_in tables.old) at) result }
+    ensures found { Finds is_outside (λ end. (draft_in tables.new, end))
+        (IsEntry bytes.now block (draft_in tables.old) at) result }
     ensures within { IfOk result (λ end. end ≤ length bytes.now) }
     ensures order { IfOk result (λ end. at < end) }
 {
@@ -103,7 +105,8 @@ fn entries<'a>(
     start: usize,
 ) -> Result<usize, Stop>
     requires { start ≤ length bytes.now }
-    ensures found { Finds is_outside (λ end. (draft_in tables.new, end)) (Entries bytes.now block (draft_in tables.old) start) result }
+    ensures found { Finds is_outside (λ end. (draft_in tables.new, end))
+        (Entries bytes.now block (draft_in tables.old) start) result }
     ensures within { IfOk result (λ end. end ≤ length bytes.now) }
     ensures order { IfOk result (λ end. start ≤ end) }
 {
@@ -137,7 +140,8 @@ fn block<'a>(
     at: usize,
 ) -> Result<usize, Stop>
     requires { at ≤ length bytes.now }
-    ensures found { Finds is_outside (λ end. (draft_in tables.new, end)) (IsBlock bytes.now (draft_in tables.old) at) result }
+    ensures found { Finds is_outside (λ end. (draft_in tables.new, end))
+        (IsBlock bytes.now (draft_in tables.old) at) result }
     ensures within { IfOk result (λ end. end ≤ length bytes.now) }
     ensures order { IfOk result (λ end. at < end) }
 {
@@ -154,7 +158,8 @@ fn blocks<'a>(
     start: usize,
 ) -> Result<usize, Stop>
     requires { start ≤ length bytes.now }
-    ensures { Finds is_outside (λ end. (draft_in tables.new, end)) (Blocks bytes.now (draft_in tables.old) start) result }
+    ensures { Finds is_outside (λ end. (draft_in tables.new, end))
+        (Blocks bytes.now (draft_in tables.old) start) result }
 {
     let mut at = start;
     'script: while !stands(bytes, Form::End, at) {

@@ -216,7 +216,8 @@ fn symbols_of(alloc: Global, table: &Table) -> Result<Sequence<Symbol>, AllocErr
 
 // The rows of all entries, or the first fault of one.
 fn rows_of(alloc: Global, bytes: &[u8], tables: &Tables) -> Result<Sequence<Row>, Stop>
-    ensures { Gives is_outside (λ x. x) result (each (row_of bytes.now (draft_in tables.now)) (named tables.now.rows)) }
+    ensures { Gives is_outside (λ x. x) result
+        (each (row_of bytes.now (draft_in tables.now)) (named tables.now.rows)) }
 {
     let mut rows = Sequence::new(alloc);
     'rows: while let Some((name, entry)) = tables.rows.get(rows.len()) {

@@ -1,6 +1,6 @@
 //! An object from its records.
 
-ghost use Rattle.std.specs.Prelude.{◌≡◌, ◌≤◌, OnErr, IfOk, true};
+ghost use Rattle.std.specs.Prelude.{◌≡◌, ◌≤◌, OnErr, IfOk, Err, true};
 ghost use Rattle.object65.specs.Fault.{Gives, is_memory};
 ghost use Rattle.object65.specs.Objects.{is_good_object, section_len, section_limit};
 ghost use Rattle.object65.specs.Record.{entry_of};
@@ -78,6 +78,7 @@ impl Builder {
     pub fn take(&mut self, next: &Record) -> Result<(), ObjectFault>
         ensures taken { Gives is_memory (λ _. self.new) result (after self.old (entry_of next.now)) }
         ensures failed { OnErr result (self.new.failed ≡ true) }
+        ensures again { self.old.failed ≡ true → result ≡ Err ObjectFault.FailedBefore }
     {
         if self.failed {
             return Err(ObjectFault::FailedBefore);
@@ -108,6 +109,7 @@ impl Builder {
     /// The object, where its END was taken.
     pub fn finish(self) -> Result<Object, ObjectFault>
         ensures finished { Gives is_memory (λ o. o) result (finished self) }
+        ensures again { self.failed ≡ true → result ≡ Err ObjectFault.FailedBefore }
         // What it gives can be written, and so its sections are within their limit.
         ensures good { IfOk result (λ o. is_good_object o ≡ true) }
         ensures sized { IfOk result (λ o. AllByRecursion (λ s. section_len s ≤ section_limit) o.sections) }

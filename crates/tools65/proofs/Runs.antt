@@ -3,6 +3,7 @@ use Rattle.std.proofs.Common.{◌≡◌, ◌∙◌, ◌⊎◌, inl, inr, ℕ, �
 use Rattle.std.specs.Prelude.{IfSome, IfErr, ◌||◌}
 use Rattle.syntax65.specs.Outcome.{Finds, Refuses, Unless}
 use Rattle.syntax65.specs.Store.{Files, NoneFailed, HasFailed, PassesBy, last_count}
+use Rattle.tools65.specs.declared.linking.linked.Linked.{Linked}
 use Rattle.tools65.specs.declared.linking.refusal.Refusal.{Refusal}
 use Rattle.tools65.specs.declared.outcome.Outcome.{Outcome}
 use Rattle.tools65.specs.declared.outcome.Status.{Status}
@@ -53,8 +54,8 @@ by_memory : (l : Linking) (e : Refusal) → is_memory e ≡ true → outcome_of 
 by_memory l e h = rw h refl
 
 -- what linking found, where no call of the store failed
-found : (m : Files) (l : Linking) (r : Result (List ℕ) Refusal) → Finds is_outside (IsLinked m l) r → IfErr r (λ e. is_failure e ≡ true → ⊥) → Does l m (outcome_of l r) ⊎ (outcome_of l r ≡ failing memory_message)
-found m l (Ok image) h none = inl (Ok image, h, refl)
+found : (m : Files) (l : Linking) (r : Result Linked Refusal) → Finds is_outside (IsLinked m l) r → IfErr r (λ e. is_failure e ≡ true → ⊥) → Does l m (outcome_of l r) ⊎ (outcome_of l r ≡ failing memory_message)
+found m l (Ok linked) h none = inl (Ok linked, h, refl)
 found m l (Err e) h none = by_cause (is_memory e) (is_failure e) refl refl h
   where
     by_cause : (a b : Bool) → is_memory e ≡ a → is_failure e ≡ b → Unless (a || b) (IsLinked m l (Err e)) → Does l m (outcome_of l (Err e)) ⊎ (outcome_of l (Err e) ≡ failing memory_message)
@@ -62,12 +63,12 @@ found m l (Err e) h none = by_cause (is_memory e) (is_failure e) refl refl h
     by_cause false true p q u = absurd (none q)
     by_cause false false p q u = inl (Err e, u, refl)
 
-no_failure : (fo fm : ℕ) (r : Result (List ℕ) Refusal) → PassesBy is_failure fo fm r → (HasFailed fo fm → ⊥) → IfErr r (λ e. is_failure e ≡ true → ⊥)
-no_failure fo fm (Ok image) p none = tt
+no_failure : (fo fm : ℕ) (r : Result Linked Refusal) → PassesBy is_failure fo fm r → (HasFailed fo fm → ⊥) → IfErr r (λ e. is_failure e ≡ true → ⊥)
+no_failure fo fm (Ok linked) p none = tt
 no_failure fo fm (Err e) p none = λ h. none (p.cause h)
 
 -- what was linked is carried out
-pub linked_run : (known mid new : Option Files) (fo fm fn : ℕ) (l : Linking) (r : Result (List ℕ) Refusal) (o : Outcome) (out_old out_new err_old err_new : Option (List ℕ)) (status : Status) → mid ≡ known → fm ≤ fn → PassesBy is_failure fo fm r → o ≡ outcome_of l r → IfSome known (λ m. Finds is_outside (IsLinked m l) r) → IfSome mid (λ m. NoneFailed fm fn → Performs o m new out_old out_new err_old err_new status ⊎ StopsShort o memory_message m new out_old out_new err_old err_new status) → IfSome known (λ m. NoneFailed fo fn → Ran (Does l) memory_message m new out_old out_new err_old err_new status)
+pub linked_run : (known mid new : Option Files) (fo fm fn : ℕ) (l : Linking) (r : Result Linked Refusal) (o : Outcome) (out_old out_new err_old err_new : Option (List ℕ)) (status : Status) → mid ≡ known → fm ≤ fn → PassesBy is_failure fo fm r → o ≡ outcome_of l r → IfSome known (λ m. Finds is_outside (IsLinked m l) r) → IfSome mid (λ m. NoneFailed fm fn → Performs o m new out_old out_new err_old err_new status ⊎ StopsShort o memory_message m new out_old out_new err_old err_new status) → IfSome known (λ m. NoneFailed fo fn → Ran (Does l) memory_message m new out_old out_new err_old err_new status)
 linked_run None mid new fo fm fn l r o out_old out_new err_old err_new status same later count is finds performs = tt
 linked_run (Some m) mid new fo fm fn l r o out_old out_new err_old err_new status same later count is finds performs = λ none.
     let between = none_before fo fm fn count.later later none in

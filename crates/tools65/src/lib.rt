@@ -10,7 +10,6 @@ mod performing;
 mod printing;
 mod reading;
 mod running;
-mod script;
 mod writing;
 
 pub use command_line::fault::LineFault;

@@ -4,54 +4,39 @@ ghost use Rattle.std.specs.Prelude.{◌≡◌, ◌<◌, ◌≤◌, IfOk, IfSome,
 ghost use Rattle.syntax65.specs.Store.{NoneFailed};
 ghost use Rattle.tools65.specs.Line.{linking, view};
 ghost use Rattle.tools65.specs.Messages.{line_message_of};
-ghost use Rattle.tools65.specs.Command.{outputs_of, outcome_of, Ran, Does, DoesLine, Commands, line_memory};
+ghost use Rattle.tools65.specs.Command.{outcome_of, Ran, Does, DoesLine, Commands, line_memory};
 ghost use Rattle.tools65.specs.Refusals.{memory_message};
 
 use crate::command_line::fault::LineFault;
 use crate::command_line::line::{Line, LinkLine};
 use crate::command_line::reading::read_line;
 use crate::linking::link::link;
+use crate::linking::linked::Linked;
 use crate::linking::refusal::{Refusal, refusal_message};
-use crate::outcome::{Outcome, Output, Status};
+use crate::outcome::{Outcome, Status};
 use crate::performing::perform;
 use crate::printing::print;
 use std::alloc::{AllocError, Global};
 use std::convert::AsStr;
 use std::io::Write;
-use syntax65::{Sequence, Store, Text};
+use syntax65::{Sequence, Store};
 
 /// What ld65 says where memory runs out.
 const LINK_MEMORY: &[u8] = b"ld65: Error: out of memory\n";
 
-/// The file of a name, or none where the name is empty.
-fn outputs_of(
-    alloc: Global,
-    name: &str,
-    bytes: Sequence<u8>,
-) -> Result<Sequence<Output>, AllocError>
-    ensures { IfOk result (λ outputs. outputs ≡ outputs_of name.now bytes) }
-{
-    let mut outputs = Sequence::new(alloc);
-    if !name.is_empty() {
-        let name = Text::copy_of(alloc, name)?;
-        outputs.push(Output { name, bytes })?;
-    }
-    Ok(outputs)
-}
-
-/// What linking does: it writes the image, or says why there is none.
+/// What linking does: it warns and writes its files, or says why there are none.
 fn link_outcome(
     alloc: Global,
     line: &LinkLine<'_>,
-    linked: Result<Sequence<u8>, Refusal>,
+    linked: Result<Linked, Refusal>,
 ) -> Result<Outcome, AllocError>
     ensures { IfOk result (λ outcome. outcome ≡ outcome_of (linking line.now) linked) }
 {
     match linked {
-        Ok(image) => Ok(Outcome {
+        Ok(linked) => Ok(Outcome {
             out: Sequence::new(alloc),
-            err: Sequence::new(alloc),
-            outputs: outputs_of(alloc, line.output.unwrap_or("a.out"), image)?,
+            err: linked.warnings,
+            outputs: linked.outputs,
             status: Status::Success,
         }),
         Err(refusal) => Ok(Outcome {

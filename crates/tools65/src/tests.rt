@@ -1,5 +1,6 @@
 //! Runs of whole commands over files in memory.
 
+mod areas;
 mod devices;
 mod linking;
 mod scripts;

@@ -9,3 +9,4 @@ pub mod LoadLemmas
 pub mod SectionLemmas
 pub mod FillLemmas
 pub mod FileLemmas
+pub mod ModuleLemmas

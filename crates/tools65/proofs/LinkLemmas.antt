@@ -9,7 +9,7 @@ use Rattle.syntax65.specs.Store.{Files}
 use Rattle.object65.specs.declared.object.Object.{Object}
 use Rattle.object65.specs.declared.fault.ObjectFault.{ObjectFault}
 use Rattle.object65.specs.Reading.{in_file}
-use Rattle.object65.specs.Whole.{object_at}
+use Rattle.tools65.specs.Modules.{module_at}
 use Rattle.script65.specs.declared.script.Script.{Script}
 use Rattle.script65.specs.declared.fault.Stop.{Stop}
 use Rattle.script65.specs.declared.fault.Fault.TheVariants.{TooLong}
@@ -26,10 +26,10 @@ use Rattle.tools65.specs.Refusals.{is_outside, is_memory, is_failure}
 use Rattle.tools65.specs.Linkage.{IsPlaced, IsLinkedBy, IsLinked, as_object, as_script, front_of, output_of, script_limit, script_text, text_of}
 
 -- an object that was read and placed is linked
-pub linked_by : (known : Option Files) (l : Linking) (output : List ℕ) (at limit : ℕ) (s : Script) (o : Object) (r : Result Linked Refusal) → output ≡ output_of l → at ≡ 0 → limit ≡ 18446744073709551615 → IfSome known (λ m. in_file (get m l.input) (object_at at limit) ≡ Ok o) → Finds is_outside (IsPlaced output s o) r → IfSome known (λ m. Finds is_outside (IsLinkedBy m l s) r)
+pub linked_by : (known : Option Files) (l : Linking) (output : List ℕ) (at limit : ℕ) (s : Script) (o : Object) (r : Result Linked Refusal) → output ≡ output_of l → at ≡ 0 → limit ≡ 18446744073709551615 → IfSome known (λ m. in_file (get m l.input) (module_at at limit) ≡ Ok o) → Finds is_outside (IsPlaced output s o) r → IfSome known (λ m. Finds is_outside (IsLinkedBy m l s) r)
 linked_by None l output at limit s o r n a b read placed = tt
 linked_by (Some m) l output at limit s o r n a b read placed =
-    let is : Ok o ≡ in_file (get m l.input) (object_at 0 18446744073709551615) = sym (ap (λ (k : ℕ). in_file (get m l.input) (object_at k 18446744073709551615)) (sym a) ∙ ap (λ (k : ℕ). in_file (get m l.input) (object_at at k)) (sym b) ∙ read) in
+    let is : Ok o ≡ in_file (get m l.input) (module_at 0 18446744073709551615) = sym (ap (λ (k : ℕ). in_file (get m l.input) (module_at k 18446744073709551615)) (sym a) ∙ ap (λ (k : ℕ). in_file (get m l.input) (module_at at k)) (sym b) ∙ read) in
     let so = subst (λ (name : List ℕ). Finds is_outside (IsPlaced name s o) r) n placed in
     subst (λ (x : Result Object ObjectFault). Finds is_outside (λ u. First (as_object x) (IsPlaced (output_of l) s) u) r) is so
 

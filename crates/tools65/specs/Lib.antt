@@ -11,6 +11,7 @@ pub mod Pieces
 pub mod Loads
 pub mod Outputs
 pub mod Warnings
+pub mod Modules
 pub mod Refusals
 pub mod Linkage
 pub mod Command

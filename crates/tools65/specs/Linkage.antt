@@ -8,7 +8,7 @@ use Rattle.syntax65.specs.declared.store.StoreFault.TheVariants.{FileNotFound}
 use Rattle.object65.specs.declared.object.Object.{Object}
 use Rattle.object65.specs.declared.fault.ObjectFault.{ObjectFault}
 use Rattle.object65.specs.Reading.{in_file}
-use Rattle.object65.specs.Whole.{object_at}
+use Rattle.tools65.specs.Modules.{module_at}
 use Rattle.script65.specs.Placing.{place_of}
 use Rattle.script65.specs.Scripts.{IsScript}
 use Rattle.script65.specs.declared.fault.ScriptFault.{ScriptFault}
@@ -57,7 +57,7 @@ IsPlaced output s o r = First (as_placement (place_of s (map need_of o.sections)
 
 -- the object of a file, which takes the whole file
 abbrev pub object_in : Files → List ℕ → Result Object Refusal
-object_in m input = as_object (in_file (get m input) (object_at 0 (2 ^ 64 - 1)))
+object_in m input = as_object (in_file (get m input) (module_at 0 (2 ^ 64 - 1)))
 
 abbrev pub IsLinkedBy : Files → Linking → Script → Result Linked Refusal → Type 0
 IsLinkedBy m l s r = First (object_in m l.input) (IsPlaced (output_of l) s) r

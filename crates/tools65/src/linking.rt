@@ -5,6 +5,7 @@ mod files;
 mod imaging;
 pub mod link;
 pub mod linked;
+mod modules;
 mod needs;
 pub mod refusal;
 mod sections;

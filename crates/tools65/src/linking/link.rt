@@ -13,12 +13,13 @@ ghost use Rattle.tools65.specs.Warnings.{warnings_of};
 use crate::command_line::line::LinkLine;
 use crate::linking::files::files_of;
 use crate::linking::linked::Linked;
+use crate::linking::modules::read_module;
 use crate::linking::needs::needs_of;
 use crate::linking::refusal::Refusal;
 use crate::linking::sections::Sections;
 use crate::linking::warning::warnings_of;
 use crate::reading::read_front;
-use object65::{Object, Section, read_object};
+use object65::{Object, Section};
 use script65::{RowPlace, Script, place, read_script};
 use std::alloc::{AllocError, Global};
 use syntax65::{Sequence, Store};
@@ -82,7 +83,7 @@ fn link_input<S: Store>(
     ensures files { S.files store.new ≡ S.files store.old }
     ensures count { PassesBy is_failure (S.failures store.old) (S.failures store.new) result }
 {
-    let object = read_object(alloc, store, line.input, 0, u64::MAX)?;
+    let object = read_module(alloc, store, line.input, 0, u64::MAX)?;
     place_object(alloc, output_of(line), script, &object)
 }
 

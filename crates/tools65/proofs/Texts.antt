@@ -6,7 +6,7 @@ use Rattle.std.specs.Io.KnownBytes.{Appends, Keeps}
 use Rattle.std.specs.Ordering.{nat_cmp, eq_by_cmp}
 use Rattle.std.specs.Cmp.{eq_by_cmp_equiv}
 use Rattle.std.specs.Cmp.Lexicographic.{slice_cmp, nat_list_cmp_total}
-use Rattle.syntax65.specs.Store.{Files, Tells, NoneFailed, HasFailed, last_count, Appends as Appended}
+use Rattle.syntax65.specs.Store.{Files, Tells, NoneFailed, HasFailed, Appends as Appended}
 use Rattle.syntax65.specs.declared.store.StoreFault.{StoreFault}
 use Rattle.syntax65.specs.declared.store.StoreFault.TheVariants.{OutOfMemory, FileNotFound, FileError}
 use Rattle.tools65.specs.Leaving.{Prints, SaysBoth, IsPartly, apply, StopsAt, StopsShort, is_failure, is_file_error}

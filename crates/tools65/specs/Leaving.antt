@@ -4,12 +4,12 @@ use Rattle.std.specs.FinMap.{insert}
 use Rattle.std.specs.Io.KnownBytes.{Keeps}
 use Rattle.syntax65.specs.Store.{Files, Tells}
 use Rattle.syntax65.specs.declared.store.StoreFault.{StoreFault}
-use Rattle.syntax65.specs.declared.store.StoreFault.TheVariants.{OutOfMemory, FileNotFound, FileError}
+use Rattle.syntax65.specs.declared.store.StoreFault.TheVariants.{FileError}
 use Rattle.tools65.specs.declared.writing.Unwritten.{Unwritten}
 use Rattle.tools65.specs.declared.outcome.Outcome.{Outcome}
 use Rattle.tools65.specs.declared.outcome.Output.{Output}
 use Rattle.tools65.specs.declared.outcome.Status.{Status}
-use Rattle.tools65.specs.declared.outcome.Status.TheVariants.{Success, Failure}
+use Rattle.tools65.specs.declared.outcome.Status.TheVariants.{Failure}
 
 -- a stream has taken all of a text, or a first part of it that isn't all
 abbrev pub Prints : Option (List ℕ) → Option (List ℕ) → List ℕ → Bool → Type 0

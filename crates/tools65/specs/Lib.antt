@@ -3,6 +3,7 @@ pub mod Images
 pub mod Line
 pub mod LineFaults
 pub mod Messages
+pub mod Naming
 pub mod Placing
 pub mod ScriptGrammar
 pub mod ScriptNumber
@@ -13,4 +14,5 @@ pub mod Reading
 pub mod Pieces
 pub mod Refusals
 pub mod Linkage
+pub mod Assembling
 pub mod Command

@@ -11,16 +11,15 @@ use Rattle.object65.specs.declared.fault.ObjectFault.{ObjectFault}
 use Rattle.object65.specs.Reading.{in_file}
 use Rattle.object65.specs.Whole.{object_at}
 use Rattle.tools65.specs.declared.script.entry.Script.{Script}
-use Rattle.tools65.specs.declared.script.entry.Entries.{Entries}
 use Rattle.tools65.specs.declared.script.fault.Stop.{Stop}
 use Rattle.tools65.specs.declared.script.fault.Fault.TheVariants.{TooLong}
 use Rattle.tools65.specs.declared.script.fault.ScriptFault.{ScriptFault}
 use Rattle.tools65.specs.declared.linking.refusal.Refusal.{Refusal}
 use Rattle.tools65.specs.declared.linking.refusal.Refusal.TheVariants as refusal
 use Rattle.tools65.specs.Line.{Linking}
-use Rattle.tools65.specs.Refusals.{is_outside, is_memory, is_failure}
-use Rattle.tools65.specs.Linkage.{IsPlaced, IsLinkedBy, IsLinked, as_object, as_script, object_in, text_of, front_of, script_text}
-use Rattle.tools65.specs.ScriptGrammar.{IsScript, Reads, seen, sized, memory_head, script_limit, is_outside_script}
+use Rattle.tools65.specs.Refusals.{is_outside}
+use Rattle.tools65.specs.Linkage.{IsPlaced, IsLinkedBy, IsLinked, as_object, as_script, text_of, front_of, script_text}
+use Rattle.tools65.specs.ScriptGrammar.{IsScript, seen, sized, memory_head, script_limit, is_outside_script}
 
 -- an object that was read and placed is linked
 pub linked_by : (known : Option Files) (input : List ℕ) (at limit : ℕ) (s : Script) (o : Object) (r : Result (List ℕ) Refusal) → at ≡ 0 → limit ≡ 18446744073709551615 → IfSome known (λ m. in_file (get m input) (object_at at limit) ≡ Ok o) → Finds is_outside (IsPlaced s o) r → IfSome known (λ m. Finds is_outside (IsLinkedBy m input s) r)

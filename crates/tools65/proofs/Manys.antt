@@ -1,5 +1,5 @@
 -- Items one behind the other, and how faults pass.
-use Rattle.std.proofs.Common.{◌≡◌, ◌∙◌, ℕ, Bool, true, false, List, Result, Err, refl, sym, ap}
+use Rattle.std.proofs.Common.{◌≡◌, ℕ, Bool, true, false, List, Result, Err, refl, ap}
 use Rattle.std.specs.Prelude.{◌==◌}
 use Rattle.tools65.specs.declared.script.token.Form.{Form}
 use Rattle.tools65.specs.declared.script.token.Form.TheVariants as form

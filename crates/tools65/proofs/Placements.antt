@@ -1,5 +1,5 @@
 -- Rows that are placed one behind the other.
-use Rattle.std.proofs.Common.{◌≡◌, ◌∙◌, ℕ, ◌+◌, Bool, true, false, List, [], ◌∷◌, ◌++◌, Result, Ok, Err, refl, sym, ap, append_assoc}
+use Rattle.std.proofs.Common.{◌≡◌, ℕ, ◌+◌, Bool, true, false, List, [], ◌∷◌, ◌++◌, Result, Ok, Err, refl, sym, ap, append_assoc}
 use Rattle.syntax65.specs.Outcome.{◌>>=◌, Refuses, Unless}
 use Rattle.tools65.specs.declared.script.entry.Area.{Area}
 use Rattle.tools65.specs.declared.script.entry.Row.{Row}

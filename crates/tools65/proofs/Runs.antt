@@ -1,5 +1,5 @@
 -- From the parts of a run to the whole.
-use Rattle.std.proofs.Common.{◌≡◌, ◌∙◌, ◌⊎◌, inl, inr, ℕ, ◌<◌, ◌≤◌, List, [], ◌++◌, Bool, true, false, Option, Some, None, Result, Ok, Err, refl, sym, ap, subst, arith, append-nil}
+use Rattle.std.proofs.Common.{◌≡◌, ◌∙◌, ◌⊎◌, inl, inr, ℕ, ◌<◌, ◌≤◌, List, [], Bool, true, false, Option, Some, None, Result, Ok, Err, refl, sym, arith, append-nil}
 use Rattle.std.specs.Prelude.{IfSome, IfErr, ◌||◌}
 use Rattle.syntax65.specs.Outcome.{Finds, Refuses, Unless}
 use Rattle.syntax65.specs.Store.{Files, NoneFailed, HasFailed, PassesBy, last_count}
@@ -20,7 +20,7 @@ use Rattle.tools65.specs.declared.command_line.fault.LineFault.{LineFault}
 use Rattle.tools65.specs.declared.command_line.fault.LineFault.TheVariants.{OutOfMemory, BadArguments}
 use Rattle.tools65.specs.Messages.{line_message_of, line_memory_message, memory_line}
 use Rattle.tools65.specs.Linkage.{IsLinked}
-use Rattle.tools65.specs.Refusals.{is_outside, is_memory, is_failure, refusal_message, memory_message}
+use Rattle.tools65.specs.Refusals.{is_outside, is_memory, is_failure, memory_message}
 
 no_text : (out : Option (List ℕ)) → Prints out out [] true
 no_text None = tt

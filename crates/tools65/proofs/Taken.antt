@@ -1,6 +1,6 @@
 -- What clap's clauses say of the one command.
-use Rattle.std.proofs.Common.{◌≡◌, ◌∙◌, ◌⊎◌, List, [], ◌∷◌, Option, Result, Ok, Err, true, refl, sym, ap, subst, inl, inr}
-use Rattle.clap.specs.Words.{App, HasMatchesOf, HasKind, IsAmong, Kinds, Row, Text, fault_of, is_simple, is_simple_and_free, kind_of, subcommand_of, subcommand_rows_of}
+use Rattle.std.proofs.Common.{◌≡◌, ◌∙◌, ◌⊎◌, List, [], ◌∷◌, Ok, true, refl, sym, ap, subst, inl, inr}
+use Rattle.clap.specs.Words.{App, HasMatchesOf, HasKind, IsAmong, Kinds, Text, fault_of, is_simple, is_simple_and_free, kind_of, subcommand_of, subcommand_rows_of}
 use Rattle.clap.specs.declared.error.Error.{Error}
 use Rattle.clap.specs.declared.error.kind.ErrorKind.{ErrorKind}
 use Rattle.clap.specs.declared.error.kind.ErrorKind.TheVariants as kind
@@ -10,7 +10,6 @@ use Rattle.tools65.specs.CommandLine.{bin65}
 use Rattle.tools65.specs.LineFaults.{of_kind, is_outside}
 use Rattle.syntax65.specs.Outcome.{Refuses}
 use Rattle.tools65.specs.Line.{taken, unless_kinds}
-use Rattle.tools65.specs.declared.command_line.fault.LineFault.{LineFault}
 
 bin65_simple : is_simple bin65 ≡ true
 unfolding clap_on_literals

@@ -160,7 +160,7 @@ module _ {X : Type 0} (text : X → List ℕ) where
       let more : take (i + 1) xs ≡ take i xs ++ x ∷ [] = take_more xs i d h in
       let last : all_of (take (i + 1) xs) ≡ all_of (take i xs) ++ text x = ap all_of more ∙ all_of-append (take i xs) (x ∷ []) ∙ ap (λ t. all_of (take i xs) ++ t) (append-nil (text x)) in
       let cut : all_of xs ≡ (all_of (take i xs) ++ text x) ++ all_of (drop (i + 1) xs) =
-          ap all_of (sym (take-append-drop (i + 1) xs)) ∙ all_of-append (take (i + 1) xs) (drop (i + 1) xs) ∙ ap (λ t. t ++ all_of (drop (i + 1) xs)) last in
+      ap all_of (sym (take-append-drop (i + 1) xs)) ∙ all_of-append (take (i + 1) xs) (drop (i + 1) xs) ∙ ap (λ t. t ++ all_of (drop (i + 1) xs)) last in
       subst (λ t. Prints old new t false) (sym cut) (said_within old new (all_of (take i xs) ++ text x) (all_of (drop (i + 1) xs)) (said_more old mid new (all_of (take i xs)) (text x) false p q))
 
 by_cause : (u : Unwritten) → is_failure u ≡ false → (u.fault ≡ FileNotFound → ⊥) → u.fault ≡ OutOfMemory

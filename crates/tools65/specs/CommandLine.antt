@@ -1,5 +1,5 @@
 -- The command that clap reads, as clap sees it.
-use Rattle.std.specs.Prelude.{◌≡◌, ℕ, Bool, Some, true, false, codes}
+use Rattle.std.specs.Prelude.{◌≡◌, ℕ, Some, true, false, codes}
 use Rattle.clap.specs.Words.{App, Rule, Text, app_of, new_rule, new_app, with_rule, with_subcommand}
 use Rattle.clap.specs.Simple.{new_shape}
 use Rattle.clap.specs.declared.builder.command.Command.{Command}

@@ -3,7 +3,6 @@ use Rattle.std.specs.Prelude.{◌≡◌, ℕ, ◌+◌, ◌-◌, ◌^◌, ◌≤�
 use Rattle.std.specs.FinMap.{get}
 use Rattle.syntax65.specs.Outcome.{First}
 use Rattle.syntax65.specs.Store.{Files}
-use Rattle.syntax65.specs.declared.store.StoreFault.{StoreFault}
 use Rattle.syntax65.specs.declared.store.StoreFault.TheVariants.{FileNotFound}
 use Rattle.object65.specs.declared.object.Object.{Object}
 use Rattle.object65.specs.declared.object.Section.{Section}

@@ -1,5 +1,5 @@
 -- The object's name where the line gives none.
-use Rattle.std.specs.Prelude.{◌≡◌, ℕ, ◌+◌, ◌-◌, ◌<◌, ◌≢◌, ◌⊎◌, List, ◌++◌, length, take, get_or, codes}
+use Rattle.std.specs.Prelude.{◌≡◌, ℕ, ◌-◌, ◌<◌, ◌≢◌, ◌⊎◌, List, ◌++◌, length, take, get_or, codes}
 
 abbrev dot : ℕ
 dot = 46

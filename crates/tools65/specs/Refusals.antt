@@ -1,5 +1,5 @@
 -- Why nothing is linked: in words, and whether the cause lies outside the files.
-use Rattle.std.specs.Prelude.{ℕ, List, [], ◌∷◌, Bool, true, false, codes, ◌||◌, if◌then◌else◌}
+use Rattle.std.specs.Prelude.{ℕ, List, Bool, true, false, codes, ◌||◌, if◌then◌else◌}
 use Rattle.syntax65.specs.declared.store.StoreFault.{StoreFault}
 use Rattle.syntax65.specs.declared.store.StoreFault.TheVariants as store
 use Rattle.syntax65.specs.StoreFaults.{store_words}
@@ -10,7 +10,7 @@ use Rattle.tools65.specs.declared.linking.placing.PlaceFault.{PlaceFault}
 use Rattle.tools65.specs.declared.linking.placing.PlaceFault.TheVariants as place
 use Rattle.tools65.specs.declared.linking.refusal.Refusal.{Refusal}
 use Rattle.tools65.specs.declared.linking.refusal.Refusal.TheVariants.{OutOfMemory, ScriptFile, Script, Object, Place}
-use Rattle.tools65.specs.Messages.{joined, file_message, line_message, place_message, script_words}
+use Rattle.tools65.specs.Messages.{file_message, line_message, place_message, script_words}
 use Rattle.tools65.specs.ScriptGrammar as script
 
 abbrev store_memory : StoreFault → Bool

@@ -14,7 +14,6 @@ use Rattle.tools65.specs.declared.script.words.AreaWord.{AreaWord}
 use Rattle.tools65.specs.declared.script.words.AreaWord.TheVariants as area
 use Rattle.tools65.specs.declared.script.words.RowWord.{RowWord}
 use Rattle.tools65.specs.declared.script.words.RowWord.TheVariants as row
-use Rattle.tools65.specs.declared.script.entry.Access.{Access}
 use Rattle.tools65.specs.declared.script.entry.Access.TheVariants.{ReadWrite}
 use Rattle.tools65.specs.declared.script.entry.Span.{Span}
 use Rattle.tools65.specs.declared.script.entry.AreaParts.{AreaParts}
@@ -22,7 +21,6 @@ use Rattle.tools65.specs.declared.script.entry.RowParts.{RowParts}
 use Rattle.tools65.specs.declared.script.entry.AreaEntry.{AreaEntry}
 use Rattle.tools65.specs.declared.script.entry.RowEntry.{RowEntry}
 use Rattle.tools65.specs.declared.script.entry.Entries.{Entries}
-use Rattle.tools65.specs.declared.script.entry.Area.{Area}
 use Rattle.tools65.specs.declared.script.entry.Row.{Row}
 use Rattle.tools65.specs.declared.script.entry.Script.{Script}
 use Rattle.tools65.specs.ScriptNumber.{number_of}

@@ -17,10 +17,10 @@ use crate::outcome::{Outcome, Status};
 use crate::outputs::outputs_of;
 use crate::performing::{perform, say_memory};
 use crate::printing::print;
+use asm65::{AsmJob, assemble};
 use std::alloc::{AllocError, Global};
 use std::convert::AsStr;
 use std::io::Write;
-use asm65::{AsmJob, assemble};
 use syntax65::{Sequence, Store};
 
 /// What linking does: it writes the image, or says why there is none.

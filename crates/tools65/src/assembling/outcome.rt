@@ -1,6 +1,6 @@
 //! What assembling comes to.
 
-ghost use Rattle.std.specs.Prelude.{◌≡◌, IfOk, option_map, true};
+ghost use Rattle.std.specs.Prelude.{◌≡◌, IfOk, true};
 ghost use Rattle.object65.specs.Objects.{is_good_object};
 ghost use Rattle.object65.specs.Spelling.{object_bytes};
 ghost use Rattle.tools65.specs.Assembling.{IsOutputName};
@@ -18,16 +18,12 @@ use std::alloc::{AllocError, Global};
 use syntax65::{Sequence, Text};
 
 /// The name of the object's file.
-fn output_name(
-    alloc: Global,
-    output: Option<&str>,
-    source: &str,
-) -> Result<Text, AllocError>
-    ensures { IfOk result (λ name. IsOutputName (option_map (λ s. s.now) output) source.now name) }
+fn output_name(alloc: Global, line: &AssembleLine<'_>) -> Result<Text, AllocError>
+    ensures { IfOk result (λ name. IsOutputName (assembling line.now).output line.now.source.now name) }
 {
-    match output {
+    match line.output {
         Some(name) => Text::copy_of(alloc, name),
-        None => Text::copy_of(alloc, object_name(alloc, source)?.as_str()),
+        None => Text::copy_of(alloc, object_name(alloc, line.source)?.as_str()),
     }
 }
 
@@ -54,7 +50,7 @@ pub fn asm_outcome(
 {
     match assembled {
         Ok(object) => {
-            let name = output_name(alloc, line.output, line.source)?;
+            let name = output_name(alloc, line)?;
             let bytes = object_bytes(alloc, &object)?;
             Ok(Outcome {
                 out: Sequence::new(alloc),

@@ -29,14 +29,20 @@ fn assembles_and_links(rt: HostRuntime) -> Result<(), Fail> {
         &["bin65", "ld65", "-C", "s.cfg", "a.o"],
     );
     assert!(rt; is_quiet(&ran));
-    assert!(rt; matches!(store.get("a.out"), Some([1, 0xff, 0x34, 0x12, 0xff, 0, 5, 0])));
+    assert!(rt;
+        matches!(
+            store.get("a.out"),
+            Some([1, 0xff, 0x34, 0x12, 0xff, 0, 5, 0])
+        )
+    );
     Ok(())
 }
 
 /// An empty source has no section, so its image is empty.
 #[test]
 fn links_an_empty_source(rt: HostRuntime) -> Result<(), Fail> {
-    let script = "MEMORY { ROM: start = 0, size = 1; } SEGMENTS { CODE: load = ROM, optional = yes; }";
+    let script =
+        "MEMORY { ROM: start = 0, size = 1; } SEGMENTS { CODE: load = ROM, optional = yes; }";
     let mut store = files(rt.alloc(), &O1, script)?;
     store.put("a.s", b"")?;
     let ran = run_on(rt.alloc(), &mut store, &["bin65", "ca65", "a.s"]);
@@ -79,7 +85,10 @@ fn names_a_fault_with_its_line(rt: HostRuntime) -> Result<(), Fail> {
     let rows: [(&[u8], &str); 4] = [
         (b".byte 256", "b.s:1: Error: out of range\n"),
         (b"nop\n nop $\n", "b.s:2: Error: bad number\n"),
-        (b"nop\r\n\r\n.bogus", "b.s:3: Error: statement not understood\n"),
+        (
+            b"nop\r\n\r\n.bogus",
+            "b.s:3: Error: statement not understood\n",
+        ),
         (b"lda #1", "b.s:1: Error: no such addressing form\n"),
     ];
     for (source, message) in rows.iter() {

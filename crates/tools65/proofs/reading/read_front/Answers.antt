@@ -1,4 +1,4 @@
-use Rattle.std.proofs.Common.{◌≡◌, ◌-◌, length, min, arith, rules, sym}
+use Rattle.std.proofs.Common.{◌≡◌, ◌-◌, length, min, rules}
 use Rattle.tools65.proofs.Fronts.{told_whole}
 use Rattle.tools65.proofs.reading.read_front.Goals as goal
 

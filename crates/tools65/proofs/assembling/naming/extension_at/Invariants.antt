@@ -1,4 +1,4 @@
-use Rattle.std.proofs.Common.{◌≡◌, ℕ, ◌≤◌, ◌<◌, length, get_or}
+use Rattle.std.proofs.Common.{ℕ, ◌≤◌, ◌<◌, length, get_or}
 use Rattle.tools65.specs.Naming.{IsPlain}
 use Rattle.tools65.proofs.assembling.naming.extension_at.Given as goal
 

@@ -1,4 +1,4 @@
-use Rattle.std.proofs.Common.{rules, map, refl}
+use Rattle.std.proofs.Common.{map}
 use Rattle.std.proofs.lemmas.Result.{err_from_is_err_and}
 use Rattle.tools65.proofs.Taken.{takes_words, refuses_words}
 use Rattle.tools65.proofs.command_line.parsing.parse.Goals as goal

@@ -1,4 +1,4 @@
-use Rattle.std.proofs.Common.{sym, ap, ◌∙◌, ◌≡◌}
+use Rattle.std.proofs.Common.{sym, ap, ◌∙◌}
 use Rattle.tools65.specs.declared.script.token.Token.{Token}
 use Rattle.tools65.proofs.Manys.{end_stands}
 use Rattle.tools65.proofs.script.attributes.expect.Goals as goal

@@ -1,4 +1,4 @@
-use Rattle.std.proofs.Common.{arith, rules, sym, ap}
+use Rattle.std.proofs.Common.{arith, sym, ap}
 use Rattle.std.specs.Char.{digit_value}
 use Rattle.tools65.proofs.Digits.{stops, ends}
 use Rattle.tools65.proofs.script.number.digits.Goals as goal

@@ -1,6 +1,6 @@
-use Rattle.std.proofs.Common.{arith, ◌≡◌, ◌≤◌, sym, Err, Ok}
+use Rattle.std.proofs.Common.{arith, sym, Err}
 use Rattle.std.proofs.lemmas.Result.{err_from_is_err_and}
-use Rattle.tools65.specs.ScriptGrammar.{AreaAttributes, ends, more, stops}
+use Rattle.tools65.specs.ScriptGrammar.{ends, more, stops}
 use Rattle.tools65.proofs.script.read.area_attributes.Goals as goal
 
 pub returns-in_err-next-clause-found : goal.returns-in_err-next-clause-found

@@ -1,4 +1,4 @@
-use Rattle.std.proofs.Common.{arith, ◌≡◌, ◌≤◌, ℕ, List, [], sym, Err, Ok, subst}
+use Rattle.std.proofs.Common.{arith, List, [], sym, Err, Ok, subst}
 use Rattle.std.proofs.lemmas.Result.{err_from_is_err_and}
 use Rattle.tools65.specs.declared.script.entry.RowEntry.{RowEntry}
 use Rattle.tools65.specs.ScriptGrammar.{Rows, IsRow, ends, more, stops}

@@ -77,6 +77,26 @@ head -c 3000000 /dev/zero | tr '\0' ' ' > long.cfg
 bin65 ld65 -C long.cfg -o image a.o
 check 'a script that is too long' 1 'long.cfg:1: Error: script too long' image -
 
+printf 'nop\n' > n.s
+bin65 ca65 n.s
+check 'a source is assembled, and the object named after it' 0 '' n.o 5236356f010209000100000000434f4445030100ea080000
+printf '.byte 1,$FF\n.word $1234, 0FFh, %%101\n' > b.s
+bin65 ca65 -o b.object b.s
+check 'lists of numbers' 0 '' b.o -
+bin65 ld65 -C s.cfg -o image b.object
+check 'what was assembled is linked' 0 '' image 01ff3412ff000500
+printf '' > e.s
+bin65 ca65 e.s
+check 'an empty source' 0 '' e.o 5236356f01080000
+printf 'nop\n.byte 256\n' > b.s
+bin65 ca65 b.s
+check 'a number that does not fit, with its line' 1 'b.s:2: Error: out of range' b.o -
+bin65 ca65 none.s
+check 'a missing source' 1 'none.s: Error: file not found' none.o -
+head -c 16777217 /dev/zero > long.s
+bin65 ca65 long.s
+check 'a source that is too long' 1 'long.s: Error: file too long' long.o -
+rm -f image
 # Real configurations with small objects.
 
 # section NAME SIZE ALIGNMENT, literal BYTE..: a record of at most 255 bytes

@@ -1,5 +1,5 @@
 -- From the parts of a run to the whole.
-use Rattle.std.proofs.Common.{◌≡◌, ◌⊎◌, inl, inr, ℕ, ◌<◌, ◌≤◌, List, [], Bool, true, false, Option, Some, None, Result, Ok, Err, refl, sym, subst, arith, append-nil}
+use Rattle.std.proofs.Common.{◌≡◌, ◌∙◌, ◌⊎◌, inl, inr, ℕ, ◌<◌, ◌≤◌, List, [], Bool, true, false, Option, Some, None, Result, Ok, Err, refl, sym, arith, append-nil}
 use Rattle.std.specs.Prelude.{IfSome, IfErr, ◌||◌}
 use Rattle.syntax65.specs.Outcome.{Finds, Refuses, Unless}
 use Rattle.syntax65.specs.Store.{Files, NoneFailed, HasFailed, PassesBy, last_count}
@@ -8,13 +8,18 @@ use Rattle.tools65.specs.declared.linking.refusal.Refusal.{Refusal}
 use Rattle.tools65.specs.declared.outcome.Outcome.{Outcome}
 use Rattle.tools65.specs.declared.outcome.Status.{Status}
 use Rattle.tools65.specs.declared.outcome.Status.TheVariants.{Failure}
-use Rattle.tools65.specs.Command.{failing, outcome_of, Does, DoesLine, Commands, Ran, RanWords, line_memory}
+use Rattle.object65.specs.declared.object.Object.{Object}
+use Rattle.asm65.specs.declared.refusal.AsmRefusal.{AsmRefusal}
+use Rattle.asm65.specs.Assembly.{IsAssembled}
+use Rattle.asm65.specs.Faults.{has_failed, is_outside_refusal, is_memory as is_asm_memory}
+use Rattle.tools65.specs.Assembling.{asm_message}
+use Rattle.tools65.specs.Command.{failing, outcome_of, Assembles, AssemblesTo, Does, DoesLine, Commands, Ran, RanWords, line_memory}
 use Rattle.tools65.specs.Leaving.{Prints, SaysBoth, Settles, Performs, StopsShort}
-use Rattle.tools65.specs.Line.{Linking, Says, line_of}
+use Rattle.tools65.specs.Line.{Assembling, Linking, Says, line_of}
 use Rattle.tools65.specs.LineFaults.{is_outside as is_line_outside}
 use Rattle.tools65.specs.declared.command_line.fault.LineFault.{LineFault}
 use Rattle.tools65.specs.declared.command_line.fault.LineFault.TheVariants.{OutOfMemory, BadArguments}
-use Rattle.tools65.specs.Messages.{line_message_of, line_memory_message}
+use Rattle.tools65.specs.Messages.{line_message_of, line_memory_message, memory_line}
 use Rattle.tools65.specs.Linkage.{IsLinked}
 use Rattle.tools65.specs.Refusals.{is_outside, is_memory, is_failure, memory_message}
 
@@ -50,30 +55,53 @@ did_not_fail : (fo fm : ℕ) → fm ≡ fo → fo < last_count → HasFailed fo 
 did_not_fail fo fm same before (inl h) = absurd (omega arith)
 did_not_fail fo fm same before (inr h) = absurd (omega arith)
 
-by_memory : (l : Linking) (e : Refusal) → is_memory e ≡ true → outcome_of l (Err e) ≡ failing memory_message
-by_memory l e h = rw h refl
+-- What a command computed is carried out. What it found comes to an outcome, and to no more than the words of want of
+-- memory where memory ran out.
+module _ {A E : Type 0} (is_memory is_failure : E → Bool) (memory : List ℕ) (Is : Files → Result A E → Type 0) (Comes : Result A E → Outcome → Type 0)
+    (by_memory : (e : E) (o : Outcome) → is_memory e ≡ true → Comes (Err e) o → o ≡ failing memory) where
+  -- what a command does with these files
+  abbrev Computes : Files → Outcome → Type 0
+  Computes m o = (r : Result A E) × Is m r × Comes r o
 
--- what linking found, where no call of the store failed
-found : (m : Files) (l : Linking) (r : Result Linked Refusal) → Finds is_outside (IsLinked m l) r → IfErr r (λ e. is_failure e ≡ true → ⊥) → Does l m (outcome_of l r) ⊎ (outcome_of l r ≡ failing memory_message)
-found m l (Ok linked) h none = inl (Ok linked, h, refl)
-found m l (Err e) h none = by_cause (is_memory e) (is_failure e) refl refl h
+  -- what was found, where no call of the store failed
+  found : (m : Files) (r : Result A E) (o : Outcome) → Finds (λ e. is_memory e || is_failure e) (Is m) r → IfErr r (λ e. is_failure e ≡ true → ⊥) → Comes r o → Computes m o ⊎ (o ≡ failing memory)
+  found m (Ok x) o h none comes = inl (Ok x, h, comes)
+  found m (Err e) o h none comes = by_cause (is_memory e) (is_failure e) refl refl h
+    where
+      by_cause : (a b : Bool) → is_memory e ≡ a → is_failure e ≡ b → Unless (a || b) (Is m (Err e)) → Computes m o ⊎ (o ≡ failing memory)
+      by_cause true b p q u = inr (by_memory e o p comes)
+      by_cause false true p q u = absurd (none q)
+      by_cause false false p q u = inl (Err e, u, comes)
+
+  no_failure : (fo fm : ℕ) (r : Result A E) → PassesBy is_failure fo fm r → (HasFailed fo fm → ⊥) → IfErr r (λ e. is_failure e ≡ true → ⊥)
+  no_failure fo fm (Ok x) p none = tt
+  no_failure fo fm (Err e) p none = λ h. none (p.cause h)
+
+  pub computed_run : (known mid new : Option Files) (fo fm fn : ℕ) (r : Result A E) (o : Outcome) (out_old out_new err_old err_new : Option (List ℕ)) (status : Status) → mid ≡ known → fm ≤ fn → PassesBy is_failure fo fm r → Comes r o → IfSome known (λ m. Finds (λ e. is_memory e || is_failure e) (Is m) r) → IfSome mid (λ m. NoneFailed fm fn → Performs o m new out_old out_new err_old err_new status ⊎ StopsShort o memory m new out_old out_new err_old err_new status) → IfSome known (λ m. NoneFailed fo fn → Ran Computes memory m new out_old out_new err_old err_new status)
+  computed_run None mid new fo fm fn r o out_old out_new err_old err_new status same later count comes finds performs = tt
+  computed_run (Some m) mid new fo fm fn r o out_old out_new err_old err_new status same later count comes finds performs = λ none.
+      let between = none_before fo fm fn count.later later none in
+      (o, found m r o finds (no_failure fo fm r count (did_not_fail fo fm between.0 none.before)) comes, (rw same at performs) between.1)
+
+asm_memory : (a : Assembling) (e : AsmRefusal) (o : Outcome) → is_asm_memory e.fault ≡ true → o ≡ failing (asm_message a.source e) → o ≡ failing (memory_line a.source)
+asm_memory a e o h is = is ∙ by_memory
   where
-    by_cause : (a b : Bool) → is_memory e ≡ a → is_failure e ≡ b → Unless (a || b) (IsLinked m l (Err e)) → Does l m (outcome_of l (Err e)) ⊎ (outcome_of l (Err e) ≡ failing memory_message)
-    by_cause true b p q u = inr (by_memory l e p)
-    by_cause false true p q u = absurd (none q)
-    by_cause false false p q u = inl (Err e, u, refl)
+    by_memory : failing (asm_message a.source e) ≡ failing (memory_line a.source)
+    by_memory = rw h refl
 
-no_failure : (fo fm : ℕ) (r : Result Linked Refusal) → PassesBy is_failure fo fm r → (HasFailed fo fm → ⊥) → IfErr r (λ e. is_failure e ≡ true → ⊥)
-no_failure fo fm (Ok linked) p none = tt
-no_failure fo fm (Err e) p none = λ h. none (p.cause h)
+-- what was assembled is carried out
+pub assembled_run : (known mid new : Option Files) (fo fm fn : ℕ) (a : Assembling) (r : Result Object AsmRefusal) (o : Outcome) (out_old out_new err_old err_new : Option (List ℕ)) (status : Status) → mid ≡ known → fm ≤ fn → PassesBy has_failed fo fm r → AssemblesTo a r o → IfSome known (λ m. Finds is_outside_refusal (IsAssembled m (record { source = a.source })) r) → IfSome mid (λ m. NoneFailed fm fn → Performs o m new out_old out_new err_old err_new status ⊎ StopsShort o (memory_line a.source) m new out_old out_new err_old err_new status) → IfSome known (λ m. NoneFailed fo fn → Ran (Assembles a) (memory_line a.source) m new out_old out_new err_old err_new status)
+assembled_run known mid new fo fm fn a r o = computed_run (λ e. is_asm_memory e.fault) has_failed (memory_line a.source) (λ m. IsAssembled m (record { source = a.source })) (AssemblesTo a) (asm_memory a) known mid new fo fm fn r o
+
+link_memory : (l : Linking) (e : Refusal) (o : Outcome) → is_memory e ≡ true → o ≡ outcome_of l (Err e) → o ≡ failing memory_message
+link_memory l e o h is = is ∙ by_memory
+  where
+    by_memory : outcome_of l (Err e) ≡ failing memory_message
+    by_memory = rw h refl
 
 -- what was linked is carried out
 pub linked_run : (known mid new : Option Files) (fo fm fn : ℕ) (l : Linking) (r : Result Linked Refusal) (o : Outcome) (out_old out_new err_old err_new : Option (List ℕ)) (status : Status) → mid ≡ known → fm ≤ fn → PassesBy is_failure fo fm r → o ≡ outcome_of l r → IfSome known (λ m. Finds is_outside (IsLinked m l) r) → IfSome mid (λ m. NoneFailed fm fn → Performs o m new out_old out_new err_old err_new status ⊎ StopsShort o memory_message m new out_old out_new err_old err_new status) → IfSome known (λ m. NoneFailed fo fn → Ran (Does l) memory_message m new out_old out_new err_old err_new status)
-linked_run None mid new fo fm fn l r o out_old out_new err_old err_new status same later count is finds performs = tt
-linked_run (Some m) mid new fo fm fn l r o out_old out_new err_old err_new status same later count is finds performs = λ none.
-    let between = none_before fo fm fn count.later later none in
-    let why : Does l m (outcome_of l r) ⊎ (outcome_of l r ≡ failing memory_message) = found m l r finds (no_failure fo fm r count (did_not_fail fo fm between.0 none.before)) in
-    (o, subst (λ (x : Outcome). Does l m x ⊎ (x ≡ failing memory_message)) (sym is) why, (rw same at performs) between.1)
+linked_run known mid new fo fm fn l r o = computed_run is_memory is_failure memory_message (λ m. IsLinked m l) (λ r o. o ≡ outcome_of l r) (link_memory l) known mid new fo fm fn r o
 
 -- a line that was run
 pub line_run : (known new : Option Files) (fo fn : ℕ) (words : List (List ℕ)) (line : Says) (out_old out_new err_old err_new : Option (List ℕ)) (status : Status) → line_of words ≡ Ok line → IfSome known (λ m. NoneFailed fo fn → Ran (DoesLine line) (line_memory line) m new out_old out_new err_old err_new status) → IfSome known (λ m. NoneFailed fo fn → Commands words m new out_old out_new err_old err_new status)

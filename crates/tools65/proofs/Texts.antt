@@ -1,7 +1,9 @@
 -- A text that is taken a part at a time.
-use Rattle.std.proofs.Common.{◌≡◌, ◌∙◌, ℕ, ◌<◌, ◌≤◌, arith, length-append, List, [], ◌∷◌, ◌++◌, ◌+◌, get_or, length, take, drop, Option, Some, None, Ok, Err, Bool, true, false, cond, ◌⊎◌, inl, inr, refl, sym, ap, append_assoc}
+use Rattle.std.proofs.Common.{◌≡◌, ◌∙◌, ℕ, ◌<◌, ◌≤◌, arith, length-append, List, [], ◌∷◌, ◌++◌, ◌+◌, get_or, length, map, take, drop, Option, Some, None, Ok, Err, Bool, true, false, cond, ◌⊎◌, inl, inr, refl, sym, ap, subst, append_assoc}
 use Rattle.std.specs.FinMap as map
-use Rattle.std.proofs.lemmas.List.{take_at, drop_at, append-nil, take-append-drop, take_more}
+use Rattle.std.proofs.lemmas.List.{take_at, drop_at, append-nil, map-append, take-append-drop, take-append-le, take_more}
+use Rattle.std.proofs.lemmas.Grind.{flat_map-append}
+use Rattle.tools65.specs.Messages.{joined}
 use Rattle.std.specs.Io.KnownBytes.{Appends, Keeps}
 use Rattle.std.specs.Ordering.{nat_cmp, eq_by_cmp}
 use Rattle.std.specs.Cmp.{eq_by_cmp_equiv}
@@ -134,6 +136,32 @@ said_more (Some o) (Some m) (Some n) text more false p q = (
   where
     front : (xs ys : List ℕ) (k : ℕ) → take (length xs + k) (xs ++ ys) ≡ xs ++ take k ys
     front xs ys k = take-add (length xs) k (xs ++ ys) ∙ rw (take_at xs ys (length xs) refl, drop_at xs ys (length xs) refl) refl
+
+said_within : (old new : Option (List ℕ)) (text more : List ℕ) → Prints old new text false → Prints old new (text ++ more) false
+said_within None new text more p = omega (arith, p, length-append text more)
+said_within (Some o) None text more p = p
+said_within (Some o) (Some n) text more p = (
+  p.0,
+  omega (arith, p.1, length-append text more),
+  p.2 ∙ ap (λ xs. o ++ xs) (sym (take-append-le p.0 text more (omega (arith, p.1)))),
+)
+
+-- Texts that are said one behind the other: one of them stops short, behind all before it.
+module _ {X : Type 0} (text : X → List ℕ) where
+  abbrev all_of : List X → List ℕ
+  all_of xs = joined (map text xs)
+
+  all_of-append : (xs ys : List X) → all_of (xs ++ ys) ≡ all_of xs ++ all_of ys
+  all_of-append xs ys = ap joined (map-append text xs ys) ∙ flat_map-append (λ p. p) (map text xs) (map text ys)
+
+  pub stops_within : (old mid new : Option (List ℕ)) (xs : List X) (i : ℕ) (d : X) → i < length xs → Prints old mid (all_of (take i xs)) true → Prints mid new (text (get_or xs i d)) false → Prints old new (all_of xs) false
+  stops_within old mid new xs i d h p q =
+      let x : X = get_or xs i d in
+      let more : take (i + 1) xs ≡ take i xs ++ x ∷ [] = take_more xs i d h in
+      let last : all_of (take (i + 1) xs) ≡ all_of (take i xs) ++ text x = ap all_of more ∙ all_of-append (take i xs) (x ∷ []) ∙ ap (λ t. all_of (take i xs) ++ t) (append-nil (text x)) in
+      let cut : all_of xs ≡ (all_of (take i xs) ++ text x) ++ all_of (drop (i + 1) xs) =
+      ap all_of (sym (take-append-drop (i + 1) xs)) ∙ all_of-append (take (i + 1) xs) (drop (i + 1) xs) ∙ ap (λ t. t ++ all_of (drop (i + 1) xs)) last in
+      subst (λ t. Prints old new t false) (sym cut) (said_within old new (all_of (take i xs) ++ text x) (all_of (drop (i + 1) xs)) (said_more old mid new (all_of (take i xs)) (text x) false p q))
 
 by_cause : (u : Unwritten) → is_failure u ≡ false → (u.fault ≡ FileNotFound → ⊥) → u.fault ≡ OutOfMemory
 by_cause u = go u.fault refl

@@ -1,17 +1,27 @@
 -- What a command does.
-use Rattle.std.specs.Prelude.{◌≡◌, ℕ, ◌⊎◌, List, [], Option, Result, Ok, Err}
+use Rattle.std.specs.Prelude.{◌≡◌, ℕ, ◌⊎◌, List, [], ◌∷◌, length, ◌==◌, if◌then◌else◌, Option, Result, Ok, Err}
 use Rattle.syntax65.specs.Store.{Files}
+use Rattle.object65.specs.declared.object.Object.{Object}
+use Rattle.object65.specs.Spelling.{object_bytes}
+use Rattle.asm65.specs.declared.refusal.AsmRefusal.{AsmRefusal}
+use Rattle.asm65.specs.Assembly.{IsAssembled}
+use Rattle.tools65.specs.Assembling.{IsOutputName, asm_message}
 use Rattle.tools65.specs.declared.command_line.fault.LineFault.{LineFault}
 use Rattle.tools65.specs.declared.linking.linked.Linked.{Linked}
 use Rattle.tools65.specs.declared.linking.refusal.Refusal.{Refusal}
 use Rattle.tools65.specs.declared.outcome.Outcome.{Outcome}
+use Rattle.tools65.specs.declared.outcome.Output.{Output}
 use Rattle.tools65.specs.declared.outcome.Status.{Status}
 use Rattle.tools65.specs.declared.outcome.Status.TheVariants.{Success, Failure}
 use Rattle.tools65.specs.Leaving.{Performs, StopsShort}
-use Rattle.tools65.specs.Line.{Linking, Says, link, line_of}
+use Rattle.tools65.specs.Line.{Assembling, Linking, Says, assemble, link, line_of}
 use Rattle.tools65.specs.Linkage.{IsLinked}
-use Rattle.tools65.specs.Messages.{line_message_of, line_memory_message}
+use Rattle.tools65.specs.Messages.{line_message_of, line_memory_message, memory_line}
 use Rattle.tools65.specs.Refusals.{refusal_message, memory_message}
+
+-- the file of a name, or none where the name is empty
+abbrev pub outputs_of : List ℕ → List ℕ → List Output
+outputs_of name bytes = if length name == 0 then [] else record { name = name; bytes = bytes } ∷ []
 
 -- a command that only says why
 abbrev pub failing : List ℕ → Outcome
@@ -26,6 +36,16 @@ outcome_of l (Err e) = failing (refusal_message l.script l.input e)
 abbrev pub Does : Linking → Files → Outcome → Type 0
 Does l m o = (r : Result Linked Refusal) × IsLinked m l r × (o ≡ outcome_of l r)
 
+-- what the assembler's answer comes to: the object's file, or why there is none
+abbrev pub AssemblesTo : Assembling → Result Object AsmRefusal → Outcome → Type 0
+AssemblesTo a (Ok object) o =
+    (name : List ℕ) × IsOutputName a.output a.source name × (o ≡ record { out = []; err = []; outputs = outputs_of name (object_bytes object); status = Success })
+AssemblesTo a (Err e) o = o ≡ failing (asm_message a.source e)
+
+-- what an assemble line does with these files
+abbrev pub Assembles : Assembling → Files → Outcome → Type 0
+Assembles a m o = (r : Result Object AsmRefusal) × IsAssembled m (record { source = a.source }) r × AssemblesTo a r o
+
 -- A run has the outcome that the files give, or only says that memory ran out; it carries that out, or memory ran
 -- out while it wrote the files.
 abbrev pub Ran : (Files → Outcome → Type 0) → List ℕ → Files → Option Files → Option (List ℕ) → Option (List ℕ) → Option (List ℕ) → Option (List ℕ) → Status → Type 0
@@ -34,6 +54,7 @@ Ran does memory m new out_old out_new err_old err_new status =
 
 -- what a line does, given the files
 abbrev pub DoesLine : Says → Files → Outcome → Type 0
+DoesLine (assemble a) m o = Assembles a m o
 DoesLine (link l) m o = Does l m o
 
 -- what words do as a command, given the files
@@ -43,6 +64,7 @@ DoesWords (Err e) m o = o ≡ failing (line_message_of e)
 
 -- what is said of want of memory while a line runs
 abbrev pub line_memory : Says → List ℕ
+line_memory (assemble a) = memory_line a.source
 line_memory (link l) = memory_message
 
 -- A run of words: their line's, or what is said of words that are none; or memory ran out before they were a line.

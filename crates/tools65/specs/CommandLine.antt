@@ -16,6 +16,12 @@ required_option_rule id short = record (new_rule id) { short = Some short; requi
 abbrev pub word_rule : Text → Rule
 word_rule id = record (new_rule id) { required = true }
 
+-- `ca65 [-o FILE] SOURCE`
+abbrev pub ca65 : App
+ca65 = with_rule (with_rule (new_app (codes "ca65"))
+    (option_rule (codes "output") 111))
+    (word_rule (codes "source"))
+
 -- `ld65 -C SCRIPT [-o FILE] INPUT`
 abbrev pub ld65 : App
 ld65 = with_rule (with_rule (with_rule (new_app (codes "ld65"))
@@ -23,7 +29,7 @@ ld65 = with_rule (with_rule (with_rule (new_app (codes "ld65"))
     (option_rule (codes "output") 111))
     (word_rule (codes "input"))
 
--- the program's own words: one subcommand, and neither help nor version
+-- the program's own words: one of the subcommands, and neither help nor version
 abbrev pub named : App
 named = record (new_app (codes "bin65")) {
   top = record (new_shape (codes "bin65")) {
@@ -35,7 +41,7 @@ named = record (new_app (codes "bin65")) {
 
 -- the whole command
 abbrev pub bin65 : App
-bin65 = with_subcommand named ld65.top
+bin65 = with_subcommand (with_subcommand named ca65.top) ld65.top
 
 -- c is read as a, and none of its arguments is global
 pub record IsMade (a : App) (c : Command) : Type 0 where

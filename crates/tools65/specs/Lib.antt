@@ -3,6 +3,7 @@ pub mod Images
 pub mod Line
 pub mod LineFaults
 pub mod Messages
+pub mod Naming
 pub mod Leaving
 pub mod Reading
 pub mod Sections
@@ -15,4 +16,5 @@ pub mod Warnings
 pub mod Modules
 pub mod Refusals
 pub mod Linkage
+pub mod Assembling
 pub mod Command

@@ -6,6 +6,7 @@ use Rattle.syntax65.specs.Outcome.{◌>>=◌}
 use Rattle.tools65.specs.CommandLine.{bin65}
 use Rattle.tools65.specs.declared.command_line.fault.LineFault.{LineFault}
 use Rattle.tools65.specs.declared.command_line.fault.LineFault.TheVariants.{BadArguments}
+use Rattle.tools65.specs.declared.command_line.line.AssembleLine.{AssembleLine}
 use Rattle.tools65.specs.declared.command_line.line.LinkLine.{LinkLine}
 use Rattle.tools65.specs.declared.command_line.line.Line.{Line}
 use Rattle.tools65.specs.declared.command_line.line.Line.TheVariants as line
@@ -25,8 +26,14 @@ pub record Linking : Type 0 where
   pub output : Option Text
   pub input : Text
 
+-- what a ca65 line says
+pub record Assembling : Type 0 where
+  pub output : Option Text
+  pub source : Text
+
 -- what a line says
 pub data Says : Type 0 where
+  assemble : Assembling → Says
   link : Linking → Says
 
 -- the one value of an argument
@@ -41,9 +48,19 @@ linking_of rows = record {
   input = given (codes "input") rows;
 }
 
+-- `ca65 [-o FILE] SOURCE`
+unfoldable pub assembling_of : List Row → Assembling
+assembling_of rows = record {
+  output = first_of (codes "output") rows;
+  source = given (codes "source") rows;
+}
+
 -- the line of a subcommand's name and matches
 unfoldable pub said_by : Text → List Row → Result Says LineFault
-said_by name rows = if bytes_eq name (codes "ld65") then Ok (link (linking_of rows)) else Err BadArguments
+said_by name rows =
+    if bytes_eq name (codes "ca65") then Ok (assemble (assembling_of rows))
+    else if bytes_eq name (codes "ld65") then Ok (link (linking_of rows))
+    else Err BadArguments
 
 abbrev pub said : Option (Text × List Row) → Result Says LineFault
 said None = Err BadArguments
@@ -57,5 +74,9 @@ line_of words = taken words >>= said
 abbrev pub linking : LinkLine → Linking
 linking l = record { script = l.script.now; output = option_map (λ s. s.now) l.output; input = l.input.now }
 
+abbrev pub assembling : AssembleLine → Assembling
+assembling l = record { output = option_map (λ s. s.now) l.output; source = l.source.now }
+
 abbrev pub view : Line → Says
+view (line.Assemble l) = assemble (assembling l)
 view (line.Link l) = link (linking l)

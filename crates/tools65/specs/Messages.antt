@@ -16,6 +16,10 @@ joined parts = flat_map (λ p. p) parts
 abbrev pub file_message : List ℕ → List ℕ → List ℕ
 file_message name words = joined (name ∷ codes ": Error: " ∷ words ∷ codes "\n" ∷ [])
 
+-- what is said of want of memory: `name: Error: out of memory`
+abbrev pub memory_line : List ℕ → List ℕ
+memory_line name = joined (name ∷ codes ": Error: out of memory\n" ∷ [])
+
 -- `name:line: Error: words`
 abbrev pub line_message : List ℕ → ℕ → List ℕ → List ℕ
 line_message name line words = joined (name ∷ codes ":" ∷ decimal line ∷ codes ": Error: " ∷ words ∷ codes "\n" ∷ [])

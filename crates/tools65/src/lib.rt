@@ -1,11 +1,13 @@
 //! The commands of bin65.
 #![tactic(auto)]
 
+mod assembling;
 mod command_line;
 mod disk_store;
 mod linking;
 mod messages;
 mod outcome;
+mod outputs;
 mod performing;
 mod printing;
 mod reading;

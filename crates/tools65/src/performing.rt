@@ -3,9 +3,10 @@
 ghost use Rattle.std.specs.Prelude.{◌≡◌, ◌<◌, ◌≤◌, ◌⊎◌, IfSome};
 ghost use Rattle.syntax65.specs.Store.{NoneFailed};
 ghost use Rattle.tools65.specs.Leaving.{Prints, SaysBoth, Performs, StopsShort};
+ghost use Rattle.tools65.specs.Messages.{memory_line};
 
 use crate::outcome::{Outcome, Output, Status};
-use crate::printing::print;
+use crate::printing::{print, print_all};
 use crate::writing::{Unwritten, write_outputs};
 use std::io::Write;
 use syntax65::{Store, StoreFault};
@@ -21,40 +22,47 @@ fn say_both<W: Write, E: Write>(out: &mut W, text: &[u8], err: &mut E, error_tex
     print(err, error_text)
 }
 
+/// Says that memory ran out, behind a name, and answers whether the stream took all of it.
+pub fn say_memory<E: Write>(err: &mut E, name: &str) -> bool
+    ensures { Prints (E.contents err.old) (E.contents err.new) (memory_line name.now) result }
+{
+    print_all(err, &[name.as_bytes(), b": Error: out of memory\n"])
+}
+
 /// Says why an output isn't written: that memory ran out, or what befell its file. Answers whether the stream
 /// took all of it.
 fn say_unwritten<E: Write>(
     err: &mut E,
     outputs: &[Output],
     unwritten: Unwritten,
-    memory: &[u8],
+    memory_name: &str,
 ) -> bool
-    ensures { unwritten.fault ≡ StoreFault.OutOfMemory → Prints (E.contents err.old) (E.contents err.new) memory.now result }
+    ensures { unwritten.fault ≡ StoreFault.OutOfMemory → Prints (E.contents err.old) (E.contents err.new) (memory_line memory_name.now) result }
 {
     let words: &[u8] = match unwritten.fault {
-        StoreFault::OutOfMemory => return print(err, memory),
+        StoreFault::OutOfMemory => return say_memory(err, memory_name),
         StoreFault::FileNotFound => b": Error: file not found\n",
         StoreFault::FileError => b": Error: file error\n",
     };
     match outputs.get(unwritten.place) {
-        Some(output) => print(err, output.name.as_str().as_bytes()) && print(err, words),
+        Some(output) => print_all(err, &[output.name.as_str().as_bytes(), words]),
         None => false,
     }
 }
 
 /// Carries an outcome out: says its texts, standard output's first, and then writes its files in order. Where
 /// a stream doesn't take its text nothing further is said or written; where a file isn't written no later one
-/// is, and the cause is said. Both answer failure.
+/// is, and the cause is said: want of memory behind the name handed in. Both answer failure.
 pub fn perform<S: Store, W: Write, E: Write>(
     outcome: &Outcome,
     store: &mut S,
     out: &mut W,
     err: &mut E,
-    memory: &[u8],
+    memory_name: &str,
 ) -> Status
     ensures done { IfSome (S.files store.old) (λ m. NoneFailed (S.failures store.old) (S.failures store.new) →
         Performs outcome.now m (S.files store.new) (W.contents out.old) (W.contents out.new) (E.contents err.old) (E.contents err.new) result
-        ⊎ StopsShort outcome.now memory.now m (S.files store.new) (W.contents out.old) (W.contents out.new) (E.contents err.old) (E.contents err.new) result) }
+        ⊎ StopsShort outcome.now (memory_line memory_name.now) m (S.files store.new) (W.contents out.old) (W.contents out.new) (E.contents err.old) (E.contents err.new) result) }
     ensures later { S.failures store.old ≤ S.failures store.new }
     ensures rose { S.failures store.old < S.failures store.new → result ≡ Status.Failure }
     ensures failing { outcome.now.status ≡ Status.Failure → result ≡ Status.Failure }
@@ -65,7 +73,7 @@ pub fn perform<S: Store, W: Write, E: Write>(
     match write_outputs(store, outcome.outputs.as_slice()) {
         Ok(()) => outcome.status,
         Err(unwritten) => {
-            say_unwritten(err, outcome.outputs.as_slice(), unwritten, memory);
+            say_unwritten(err, outcome.outputs.as_slice(), unwritten, memory_name);
             Status::Failure
         }
     }

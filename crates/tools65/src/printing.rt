@@ -1,6 +1,8 @@
 //! Text to a stream.
 
+ghost use Rattle.std.specs.Prelude.{map};
 ghost use Rattle.tools65.specs.Leaving.{Prints};
+ghost use Rattle.tools65.specs.Messages.{joined};
 
 use std::io::Write;
 
@@ -14,6 +16,18 @@ pub fn print<W: Write>(stream: &mut W, text: &[u8]) -> bool
             Ok(0) => return false,
             Ok(n) => rest = &rest[n..],
             Err(_) => return false,
+        }
+    }
+    true
+}
+
+/// Prints texts one behind the other as one text.
+pub fn print_all<W: Write>(stream: &mut W, parts: &[&[u8]]) -> bool
+    ensures { Prints (W.contents stream.old) (W.contents stream.new) (joined (map (λ p. p.now) parts.now)) result }
+{
+    for part in parts {
+        if !print(stream, part) {
+            return false;
         }
     }
     true

@@ -2,27 +2,26 @@
 
 ghost use Rattle.std.specs.Prelude.{◌≡◌, ◌<◌, ◌≤◌, IfOk, IfSome, map};
 ghost use Rattle.syntax65.specs.Store.{NoneFailed};
-ghost use Rattle.tools65.specs.Line.{linking, view};
-ghost use Rattle.tools65.specs.Messages.{line_message_of};
-ghost use Rattle.tools65.specs.Command.{outcome_of, Ran, Does, DoesLine, Commands, line_memory};
+ghost use Rattle.tools65.specs.Line.{assembling, linking, view};
+ghost use Rattle.tools65.specs.Messages.{line_message_of, memory_line};
+ghost use Rattle.tools65.specs.Command.{outcome_of, Ran, Assembles, Does, DoesLine, Commands, line_memory};
 ghost use Rattle.tools65.specs.Refusals.{memory_message};
 
+use crate::assembling::outcome::asm_outcome;
 use crate::command_line::fault::LineFault;
-use crate::command_line::line::{Line, LinkLine};
+use crate::command_line::line::{AssembleLine, Line, LinkLine};
 use crate::command_line::reading::read_line;
 use crate::linking::link::link;
 use crate::linking::linked::Linked;
 use crate::linking::refusal::{Refusal, refusal_message};
 use crate::outcome::{Outcome, Status};
-use crate::performing::perform;
+use crate::performing::{perform, say_memory};
 use crate::printing::print;
+use asm65::{AsmJob, assemble};
 use std::alloc::{AllocError, Global};
 use std::convert::AsStr;
 use std::io::Write;
 use syntax65::{Sequence, Store};
-
-/// What ld65 says where memory runs out.
-const LINK_MEMORY: &[u8] = b"ld65: Error: out of memory\n";
 
 /// What linking does: it warns and writes its files, or says why there are none.
 fn link_outcome(
@@ -63,9 +62,38 @@ fn run_link<S: Store, W: Write, E: Write>(
 {
     let linked = link(alloc, store, line);
     match link_outcome(alloc, line, linked) {
-        Ok(outcome) => perform(&outcome, store, out, err, LINK_MEMORY),
+        Ok(outcome) => perform(&outcome, store, out, err, "ld65"),
         Err(_) => {
-            print(err, LINK_MEMORY);
+            say_memory(err, "ld65");
+            Status::Failure
+        }
+    }
+}
+
+/// Assembles, and answers the status.
+fn run_assemble<S: Store, W: Write, E: Write>(
+    alloc: Global,
+    line: &AssembleLine<'_>,
+    store: &mut S,
+    out: &mut W,
+    err: &mut E,
+) -> Status
+    ensures done { IfSome (S.files store.old) (λ m. NoneFailed (S.failures store.old) (S.failures store.new) →
+        Ran (Assembles (assembling line.now)) (memory_line line.now.source.now) m (S.files store.new) (W.contents out.old) (W.contents out.new) (E.contents err.old) (E.contents err.new) result) }
+    ensures later { S.failures store.old ≤ S.failures store.new }
+    ensures rose { S.failures store.old < S.failures store.new → result ≡ Status.Failure }
+{
+    let assembly = assemble(
+        alloc,
+        store,
+        &AsmJob {
+            source: line.source,
+        },
+    );
+    match asm_outcome(alloc, line, assembly.result) {
+        Ok(outcome) => perform(&outcome, store, out, err, line.source),
+        Err(_) => {
+            say_memory(err, line.source);
             Status::Failure
         }
     }
@@ -86,6 +114,7 @@ pub fn run_line<S: Store, W: Write, E: Write>(
     ensures rose { S.failures store.old < S.failures store.new → result ≡ Status.Failure }
 {
     match line {
+        Line::Assemble(line) => run_assemble(alloc, line, store, out, err),
         Line::Link(line) => run_link(alloc, line, store, out, err),
     }
 }

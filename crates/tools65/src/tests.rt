@@ -1,6 +1,7 @@
 //! Runs of whole commands over files in memory.
 
 mod areas;
+mod assembling;
 mod devices;
 mod linking;
 mod scripts;

@@ -2,7 +2,7 @@
 
 ghost use Rattle.std.specs.Prelude.{◌≡◌, IfOk, false};
 ghost use Rattle.clap.specs.Words.{app_of, rule_of};
-ghost use Rattle.tools65.specs.CommandLine.{Adds, IsMade, named, bin65, ld65};
+ghost use Rattle.tools65.specs.CommandLine.{Adds, IsMade, named, bin65, ca65, ld65};
 ghost use Rattle.tools65.specs.CommandLine.{option_rule, required_option_rule, word_rule};
 
 use clap::{Arg, Command};
@@ -51,6 +51,14 @@ fn with_word<'a>(
     with(command, Arg::new(alloc, id).required(true))
 }
 
+/// `ca65 [-o FILE] SOURCE`
+fn ca65<'a>(alloc: Global) -> Result<Command<'a>, AllocError>
+    ensures { IfOk result (λ c. IsMade ca65 c) }
+{
+    let command = with_option(alloc, Command::new(alloc, "ca65"), "output", 'o')?;
+    with_word(alloc, command, "source")
+}
+
 /// `ld65 -C SCRIPT [-o FILE] INPUT`
 fn ld65<'a>(alloc: Global) -> Result<Command<'a>, AllocError>
     ensures { IfOk result (λ c. IsMade ld65 c) }
@@ -74,6 +82,7 @@ fn named<'a>(alloc: Global) -> Command<'a>
 pub fn command<'a>(alloc: Global) -> Result<Command<'a>, AllocError>
     ensures app { IfOk result (λ c. app_of c ≡ bin65) }
 {
+    let assemble = ca65(alloc)?;
     let link = ld65(alloc)?;
-    named(alloc).subcommand(link)
+    named(alloc).subcommand(assemble)?.subcommand(link)
 }

@@ -11,8 +11,18 @@ pub struct LinkLine<'a> {
     pub input: &'a str,
 }
 
+/// `ca65 [-o FILE] SOURCE`
+#[derive(Debug, Drop)]
+pub struct AssembleLine<'a> {
+    /// The output, where one is named.
+    pub output: Option<&'a str>,
+    /// The source's file.
+    pub source: &'a str,
+}
+
 /// A command line.
 #[derive(Debug, Drop)]
 pub enum Line<'a> {
+    Assemble(AssembleLine<'a>),
     Link(LinkLine<'a>),
 }

@@ -4,10 +4,10 @@ ghost use Rattle.std.specs.Prelude.{◌≡◌, map, option_map};
 ghost use Rattle.clap.specs.Words.{found_of, rows_of, first_of};
 ghost use Rattle.syntax65.specs.Outcome.{Gives};
 ghost use Rattle.tools65.specs.LineFaults.{is_outside};
-ghost use Rattle.tools65.specs.Line.{view, linking, line_of, said_by, linking_of};
+ghost use Rattle.tools65.specs.Line.{view, assembling, linking, line_of, said_by, assembling_of, linking_of};
 
 use crate::command_line::fault::LineFault;
-use crate::command_line::line::{Line, LinkLine};
+use crate::command_line::line::{AssembleLine, Line, LinkLine};
 use crate::command_line::parsing::parse;
 use clap::ArgMatches;
 use std::alloc::Global;
@@ -31,8 +31,19 @@ fn line_by<'a>(name: &str, own: &ArgMatches<'a>) -> Result<Line<'a>, LineFault>
     ensures { Gives is_outside view result (said_by name.now (rows_of (found_of own.now))) }
 {
     match name {
+        "ca65" => Ok(Line::Assemble(assemble_line(own))),
         "ld65" => Ok(Line::Link(link_line(own))),
         _ => Err(LineFault::BadArguments),
+    }
+}
+
+#[tactic(auto, unfolding(crate::specs::Line::assembling_of))]
+fn assemble_line<'a>(own: &ArgMatches<'a>) -> AssembleLine<'a>
+    ensures { assembling result ≡ assembling_of (rows_of (found_of own.now)) }
+{
+    AssembleLine {
+        output: one(own, "output"),
+        source: one(own, "source").unwrap_or(""),
     }
 }
 

@@ -58,10 +58,9 @@ fn lays_rows_in_the_scripts_order(rt: HostRuntime) -> Result<(), Fail> {
 
 #[test]
 fn refuses_bad_arguments(rt: HostRuntime) -> Result<(), Fail> {
-    let lines: [&[&str]; 9] = [
+    let lines: [&[&str]; 8] = [
         &["bin65", "ld65", "a.o"],
         &["bin65"],
-        &["bin65", "ca65", "a.s"],
         &["bin65", "ld65", "-C", "s.cfg"],
         &["bin65", "ld65", "-C", "s.cfg", "a.o", "a.o"],
         &["bin65", "ld65", "-C", "s.cfg", "-m", "a.map", "a.o"],

@@ -10,4 +10,4 @@ returns-in-Ok-clause-done g c =
     linked_run _ _ _ _ _ _ (linking c.args.line.now) c.link-linked.result c.in-Ok.outcome _ _ _ _ _ c.link-linked.ensures.files c.perform.ensures.later c.link-linked.ensures.count c.in-Ok.ensures c.link-linked.ensures.linked c.perform.ensures.done
 
 pub returns-in-Err-clause-done : goal.returns-in-Err-clause-done
-returns-in-Err-clause-done g c = only_memory _ _ (Does (linking c.args.line.now)) _ _ _ memory_message c.print.result _ _ c.link-linked.ensures.files refl c.print.ensures
+returns-in-Err-clause-done g c = only_memory _ _ (Does (linking c.args.line.now)) _ _ _ memory_message c.say_memory.result _ _ c.link-linked.ensures.files refl c.say_memory.ensures

@@ -1,0 +1,74 @@
+#!/usr/bin/env python3
+"""usage: assemble.py BIN65 FOLDER    (see run.sh)"""
+import os
+import random
+import shutil
+import subprocess
+import sys
+import time
+
+program, folder = os.path.abspath(sys.argv[1]), sys.argv[2]
+SCRIPT = "MEMORY { ROM: start = 0, size = $1000000; } SEGMENTS { CODE: load = ROM, type = ro; }\n"
+numbers = random.Random(9)
+CASES = {
+    "1": ("100,000 lines of nop", 100_000, ["    nop"] * 100_000),
+    "2": ("200,000 lines of nop", 200_000, ["    nop"] * 200_000),
+    "4": ("400,000 lines of nop", 400_000, ["    nop"] * 400_000),
+    "data": (
+        "1 MB of .byte lists",
+        1 << 20,
+        ["    .byte " + ",".join("$%02X" % numbers.randrange(256) for _ in range(16)) for _ in range(1 << 16)],
+    ),
+}
+
+
+def steps(own, name):
+    """The words of assembling and linking a case, by bin65 or by cc65's own tools."""
+    tools = [[program, "ca65"], [program, "ld65"]] if own else [["ca65"], ["ld65"]]
+    mark = "own" if own else "cc65"
+    return [
+        tools[0] + ["-o", f"{name}.{mark}.o", f"{name}.s"],
+        tools[1] + ["-C", "s.cfg", "-o", f"{name}.{mark}.out", f"{name}.{mark}.o"],
+    ]
+
+
+def least(words, times=3):
+    spent = []
+    for _ in range(times):
+        start = time.monotonic()
+        subprocess.run(words, cwd=folder, check=True)
+        spent.append(time.monotonic() - start)
+    return min(spent)
+
+
+def instructions(words):
+    """How many instructions a run takes, or nothing where valgrind isn't there."""
+    if not shutil.which("valgrind"):
+        return None
+    run = subprocess.run(
+        ["valgrind", "--tool=callgrind", "--callgrind-out-file=/dev/null"] + words,
+        cwd=folder, stdout=subprocess.DEVNULL, stderr=subprocess.PIPE, text=True, check=True,
+    )
+    return int(next(line for line in run.stderr.splitlines() if "Collected" in line).split()[-1])
+
+
+with open(os.path.join(folder, "s.cfg"), "w") as file:
+    file.write(SCRIPT)
+real = shutil.which("ld65") and shutil.which("ca65")
+for name, (what, units, lines) in CASES.items():
+    with open(os.path.join(folder, name + ".s"), "w") as file:
+        file.write("\n".join(lines) + "\n")
+    total = 0
+    for words, theirs in zip(steps(True, name), steps(False, name)):
+        ours = least(words)
+        ratio = ""
+        if real:
+            other = least(theirs)
+            ratio = f"   cc65 {other:8.4f} s   bin65 / cc65 {ours / other:5.2f}"
+        print(f"{what:24} {words[1]:6} bin65 {ours:8.4f} s{ratio}", flush=True)
+        total += (instructions(words) or 0) if name in ("1", "data") else 0
+    if total:
+        print(f"{'':24} {total / units:.0f} instructions for each line of nop or byte of data, ca65 and ld65 together")
+    if real:
+        with open(os.path.join(folder, name + ".own.out"), "rb") as a, open(os.path.join(folder, name + ".cc65.out"), "rb") as b:
+            print(f"{'':24} images {'the same' if a.read() == b.read() else 'DIFFER'}")

@@ -1,0 +1,6 @@
+pub mod Splitting
+pub mod Shown
+pub mod Numbered
+pub mod Sources
+pub mod Sizes
+pub mod Gathered

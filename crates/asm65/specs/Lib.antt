@@ -1,0 +1,6 @@
+pub mod Faults
+pub mod Lines
+pub mod Statements
+pub mod Gathering
+pub mod Objects
+pub mod Assembly

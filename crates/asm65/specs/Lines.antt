@@ -1,0 +1,40 @@
+-- The lines of a file.
+use Rattle.std.specs.Prelude.{ℕ, ◌-◌, Bool, true, false, nat_eq, ◌&&◌, List, [], ◌∷◌, length, take, slice_get, option_map, unwrap_or, if◌then◌else◌}
+
+-- LF
+abbrev pub is_line_end : ℕ → Bool
+is_line_end b = nat_eq b 10
+
+-- CR
+abbrev pub is_return : ℕ → Bool
+is_return b = nat_eq b 13
+
+abbrev pub begins_with_end : List ℕ → Bool
+begins_with_end [] = false
+begins_with_end (b ∷ bs) = is_line_end b
+
+-- a byte more at the front of the first line, which it begins where there is none
+abbrev pub put_before : ℕ → List (List ℕ) → List (List ℕ)
+put_before b [] = (b ∷ []) ∷ []
+put_before b (line ∷ lines) = (b ∷ line) ∷ lines
+
+-- The lines of a file's bytes. An LF ends a line, and behind the last one no line begins. A CR before an LF is
+-- dropped.
+abbrev pub lines_of : List ℕ → List (List ℕ)
+lines_of [] = []
+lines_of (b ∷ bs) =
+    if is_line_end b then [] ∷ lines_of bs
+    else if is_return b && begins_with_end bs then lines_of bs
+    else put_before b (lines_of bs)
+
+-- whether a line's last byte is a CR
+abbrev pub ends_in_return : List ℕ → Bool
+ends_in_return line = unwrap_or (option_map is_return (slice_get line (length line - 1))) false
+
+-- a line without a CR at its end
+abbrev pub without_return : List ℕ → List ℕ
+without_return line = if ends_in_return line then take (length line - 1) line else line
+
+-- how many lines are read
+abbrev pub line_limit : ℕ
+line_limit = 1048576

@@ -1,0 +1,20 @@
+//! The assembler: a source file becomes a relocatable object.
+#![tactic(auto)]
+
+mod assembling;
+mod assembly;
+mod building;
+mod fault;
+mod gathering;
+mod lines;
+mod parsing;
+mod refusal;
+mod statement;
+
+pub use assembling::assemble;
+pub use assembly::{AsmJob, Assembly};
+pub use fault::{AsmFault, SourceFault};
+pub use refusal::{AsmRefusal, Place};
+
+#[cfg(test)]
+mod tests;

@@ -1,0 +1,5 @@
+//! Assembles a source into a file.
+
+pub mod naming;
+pub mod outcome;
+pub mod refusal;

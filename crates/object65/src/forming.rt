@@ -45,7 +45,8 @@ fn i64_at(bytes: &[u8]) -> Result<(i64, &[u8]), ObjectFault>
 /// So many bytes as a byte at the front says, and what follows.
 #[tactic(auto, unfolding(crate::specs::Bodies::counted_at))]
 pub fn text_of(bytes: &[u8]) -> Result<(&[u8], &[u8]), ObjectFault>
-    ensures { Gives is_memory (λ x. (x.0.now, x.1.now)) result (counted_at bytes.now) }
+    ensures text { Gives is_memory (λ x. (x.0.now, x.1.now)) result (counted_at bytes.now) }
+    ensures short { IfOk result (λ x. length x.0.now ≤ 255) }
 {
     let (len, rest) = byte_at(bytes)?;
     if rest.len() < len as usize {

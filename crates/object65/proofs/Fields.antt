@@ -10,10 +10,10 @@ use Rattle.byteorder.specs.Endian.{little_number, little_bytes}
 use Rattle.byteorder.specs.Numbers.{length-bytes_low_first, little_from-lt}
 use Rattle.object65.specs.declared.fault.ObjectFault.{ObjectFault}
 use Rattle.object65.specs.declared.fault.ObjectFault.TheVariants.{BadSize}
-use Rattle.object65.specs.declared.operator.Op1.{Op1}
-use Rattle.object65.specs.declared.operator.Op1.TheVariants.{Plus, Minus, Invert, LowByte, HighByte, BankByte, LogicalNot}
-use Rattle.object65.specs.declared.operator.Op2.{Op2}
-use Rattle.object65.specs.declared.operator.Op2.TheVariants.{Times, Over, Modulo, BitAnd, BitXor, ShiftLeft, ShiftRight, Sum, Difference, BitOr, Equal, NotEqual, Less, Greater, AtMost, AtLeast, Both, OneOf, Either}
+use Rattle.syntax65.specs.declared.values.Op1.{Op1}
+use Rattle.syntax65.specs.declared.values.Op1.TheVariants.{Plus, Negate, BitNot, LowByte, HighByte, BankByte, Not}
+use Rattle.syntax65.specs.declared.values.Op2.{Op2}
+use Rattle.syntax65.specs.declared.values.Op2.TheVariants.{Multiply, Divide, Modulo, BitAnd, BitXor, ShiftLeft, ShiftRight, Add, Subtract, BitOr, Equal, NotEqual, Less, Greater, LessOrEqual, GreaterOrEqual, And, Xor, Or}
 use Rattle.object65.specs.declared.object.Action.{Action}
 use Rattle.object65.specs.declared.object.Action.TheVariants as action
 use Rattle.object65.specs.declared.object.Assert.{Assert}
@@ -435,34 +435,34 @@ text_again text rest =
     rw (byte_again (length text) (text ++ rest), long, take_at text rest (length text) refl, drop_at text rest (length text) refl) refl
 
 binary_code : (part : Part) (op : Op2) (bytes : List ℕ) → Bodies.form_of_code part (0x20 + number2 op) bytes ≡ Bodies.binary_at part op bytes
-binary_code part Times bytes = refl
-binary_code part Over bytes = refl
+binary_code part Multiply bytes = refl
+binary_code part Divide bytes = refl
 binary_code part Modulo bytes = refl
 binary_code part BitAnd bytes = refl
 binary_code part BitXor bytes = refl
 binary_code part ShiftLeft bytes = refl
 binary_code part ShiftRight bytes = refl
-binary_code part Sum bytes = refl
-binary_code part Difference bytes = refl
+binary_code part Add bytes = refl
+binary_code part Subtract bytes = refl
 binary_code part BitOr bytes = refl
 binary_code part Equal bytes = refl
 binary_code part NotEqual bytes = refl
 binary_code part Less bytes = refl
 binary_code part Greater bytes = refl
-binary_code part AtMost bytes = refl
-binary_code part AtLeast bytes = refl
-binary_code part Both bytes = refl
-binary_code part OneOf bytes = refl
-binary_code part Either bytes = refl
+binary_code part LessOrEqual bytes = refl
+binary_code part GreaterOrEqual bytes = refl
+binary_code part And bytes = refl
+binary_code part Xor bytes = refl
+binary_code part Or bytes = refl
 
 prefix_code : (part : Part) (op : Op1) (f : Form) → folds1 op f ≡ false → (bytes : List ℕ) → (code : ℕ) × (code1 op ≡ code ∷ []) × (Bodies.form_of_code part code bytes ≡ Bodies.prefix_at part op bytes)
 prefix_code part Plus f h bytes = cc
-prefix_code part Minus f h bytes = (0x10, refl, refl)
-prefix_code part Invert f h bytes = (0x11, refl, refl)
+prefix_code part Negate f h bytes = (0x10, refl, refl)
+prefix_code part BitNot f h bytes = (0x11, refl, refl)
 prefix_code part LowByte f h bytes = (0x12, refl, refl)
 prefix_code part HighByte f h bytes = (0x13, refl, refl)
 prefix_code part BankByte f h bytes = (0x14, refl, refl)
-prefix_code part LogicalNot f h bytes = (0x15, refl, refl)
+prefix_code part Not f h bytes = (0x15, refl, refl)
 
 turned : (b : Bool) → not b ≡ true → b ≡ false
 turned true e = cc

@@ -1,10 +1,11 @@
-pub mod Digits
 pub mod ImageLemmas
-pub mod Manys
-pub mod Placements
 pub mod Rows
 pub mod Taken
 pub mod Texts
-pub mod Fronts
 pub mod LinkLemmas
 pub mod Runs
+pub mod LoadLemmas
+pub mod SectionLemmas
+pub mod FillLemmas
+pub mod FileLemmas
+pub mod ModuleLemmas

@@ -9,45 +9,52 @@ use Rattle.syntax65.specs.Store.{Files}
 use Rattle.object65.specs.declared.object.Object.{Object}
 use Rattle.object65.specs.declared.fault.ObjectFault.{ObjectFault}
 use Rattle.object65.specs.Reading.{in_file}
-use Rattle.object65.specs.Whole.{object_at}
-use Rattle.tools65.specs.declared.script.entry.Script.{Script}
-use Rattle.tools65.specs.declared.script.fault.Stop.{Stop}
-use Rattle.tools65.specs.declared.script.fault.Fault.TheVariants.{TooLong}
-use Rattle.tools65.specs.declared.script.fault.ScriptFault.{ScriptFault}
+use Rattle.tools65.specs.Modules.{module_at}
+use Rattle.script65.specs.declared.script.Script.{Script}
+use Rattle.script65.specs.declared.fault.Stop.{Stop}
+use Rattle.script65.specs.declared.fault.Fault.TheVariants.{TooLong}
+use Rattle.script65.specs.declared.fault.ScriptFault.{ScriptFault}
+use Rattle.script65.specs.Faults.{is_script_outside}
+use Rattle.script65.specs.Grammar.{First as FirstOf, sized}
+use Rattle.script65.specs.Outcome.{◌>>=◌}
+use Rattle.script65.specs.Scripts.{IsScript, script_of, with_line}
+use Rattle.tools65.specs.declared.linking.linked.Linked.{Linked}
 use Rattle.tools65.specs.declared.linking.refusal.Refusal.{Refusal}
 use Rattle.tools65.specs.declared.linking.refusal.Refusal.TheVariants as refusal
 use Rattle.tools65.specs.Line.{Linking}
-use Rattle.tools65.specs.Refusals.{is_outside}
-use Rattle.tools65.specs.Linkage.{IsPlaced, IsLinkedBy, IsLinked, as_object, as_script, text_of, front_of, script_text}
-use Rattle.tools65.specs.ScriptGrammar.{IsScript, seen, sized, memory_head, script_limit, is_outside_script}
+use Rattle.tools65.specs.Refusals.{is_outside, is_memory, is_failure}
+use Rattle.tools65.specs.Linkage.{IsPlaced, IsLinkedBy, IsLinked, as_object, as_script, front_of, output_of, script_limit, script_text, text_of}
 
 -- an object that was read and placed is linked
-pub linked_by : (known : Option Files) (input : List ℕ) (at limit : ℕ) (s : Script) (o : Object) (r : Result (List ℕ) Refusal) → at ≡ 0 → limit ≡ 18446744073709551615 → IfSome known (λ m. in_file (get m input) (object_at at limit) ≡ Ok o) → Finds is_outside (IsPlaced s o) r → IfSome known (λ m. Finds is_outside (IsLinkedBy m input s) r)
-linked_by None input at limit s o r a b read placed = tt
-linked_by (Some m) input at limit s o r a b read placed =
-    let is : Ok o ≡ in_file (get m input) (object_at 0 18446744073709551615) = sym (ap (λ (k : ℕ). in_file (get m input) (object_at k 18446744073709551615)) (sym a) ∙ ap (λ (k : ℕ). in_file (get m input) (object_at at k)) (sym b) ∙ read) in
-    subst (λ (x : Result Object ObjectFault). Finds is_outside (λ u. First (as_object x) (IsPlaced s) u) r) is placed
+pub linked_by : (known : Option Files) (l : Linking) (output : List ℕ) (at limit : ℕ) (s : Script) (o : Object) (r : Result Linked Refusal) → output ≡ output_of l → at ≡ 0 → limit ≡ 18446744073709551615 → IfSome known (λ m. in_file (get m l.input) (module_at at limit) ≡ Ok o) → Finds is_outside (IsPlaced output s o) r → IfSome known (λ m. Finds is_outside (IsLinkedBy m l s) r)
+linked_by None l output at limit s o r n a b read placed = tt
+linked_by (Some m) l output at limit s o r n a b read placed =
+    let is : Ok o ≡ in_file (get m l.input) (module_at 0 18446744073709551615) = sym (ap (λ (k : ℕ). in_file (get m l.input) (module_at k 18446744073709551615)) (sym a) ∙ ap (λ (k : ℕ). in_file (get m l.input) (module_at at k)) (sym b) ∙ read) in
+    let so = subst (λ (name : List ℕ). Finds is_outside (IsPlaced name s o) r) n placed in
+    subst (λ (x : Result Object ObjectFault). Finds is_outside (λ u. First (as_object x) (IsPlaced (output_of l) s) u) r) is so
 
-first_err : {A B : Type 0} (head : Result A Stop) (e : Stop) (Next : A → Result B Stop → Type 0) (r : Result B Stop) → head ≡ Err e → First head Next r → r ≡ Err e
+first_err : {A B : Type 0} (head : Result A Stop) (e : Stop) (Next : A → Result B Stop → Type 0) (r : Result B Stop) → head ≡ Err e → FirstOf head Next r → r ≡ Err e
 first_err (Ok x) e Next r h k = absurd cc
 first_err (Err f) e Next r h k = let same : f ≡ e = cc in k ∙ ap Err same
 
-err_first : {A B : Type 0} (head : Result A Stop) (e : Stop) (Next : A → Result B Stop → Type 0) → head ≡ Err e → First {B = B} head Next (Err e)
+err_first : {A B : Type 0} (head : Result A Stop) (e : Stop) (Next : A → Result B Stop → Type 0) → head ≡ Err e → FirstOf {B = B} head Next (Err e)
 err_first (Ok x) e Next h = absurd cc
 err_first (Err f) e Next h = let same : e ≡ f = cc in ap Err same
 
 abbrev too_long : Stop
 too_long = record { fault = TooLong; at = 0 }
 
-long_head : (bytes : List ℕ) → nat_lt script_limit (length bytes) ≡ true → memory_head bytes ≡ Err too_long
-unfolding memory_head sized
+long_head : (bytes : List ℕ) → nat_lt script_limit (length bytes) ≡ true → sized bytes ≡ Err too_long
+unfolding sized
 long_head bytes h = rw h refl
 
 long_script : (text bytes : List ℕ) (q : Result Script ScriptFault) → nat_lt script_limit (length text) ≡ true → nat_lt script_limit (length bytes) ≡ true → IsScript text q → IsScript bytes q
 long_script text bytes q h k s =
-    let p : s.0 ≡ Err too_long = first_err (memory_head text) too_long _ s.0 (long_head text h) s.1 in
-    let e : q ≡ seen text (Err too_long) = s.2 ∙ ap (seen text) p in
-    (Err too_long, err_first (memory_head bytes) too_long _ (long_head bytes k), e)
+    let d = s.1 in
+    let p : d.0 ≡ Err too_long = first_err (sized text) too_long _ d.0 (long_head text h) d.1 in
+    let e : s.0 ≡ Err too_long = d.2 ∙ ap (λ x. x >>= script_of text) p in
+    let f : q ≡ with_line text (Err too_long) = s.2 ∙ ap (with_line text) e in
+    (Err too_long, (Err too_long, err_first (sized bytes) too_long _ (long_head bytes k), refl), f)
 
 is_long : (n : ℕ) (bytes : List ℕ) → nat_lt n (length bytes) ≡ true → nat_lt n (length (take (n + 1) bytes)) ≡ true
 is_long n bytes h =
@@ -67,32 +74,32 @@ whole_script true bytes q h s = long_script (take (script_limit + 1) bytes) byte
 whole_script false bytes q h s = subst (λ (x : List ℕ). IsScript x q) (is_short script_limit bytes h) s
 
 -- what the linker does with a script that was read
-abbrev pub Rest : Files → Linking → Result Script ScriptFault → Result (List ℕ) Refusal → Type 0
-Rest m l q r = First (as_script q) (IsLinkedBy m l.input) r
+abbrev pub Rest : Files → Linking → Result Script ScriptFault → Result Linked Refusal → Type 0
+Rest m l q r = First (as_script q) (IsLinkedBy m l) r
 
-read_script : (m : Files) (l : Linking) (file : Option (List ℕ)) (text : List ℕ) (q : Result Script ScriptFault) (r : Result (List ℕ) Refusal) → Ok text ≡ front_of (text_of file) → IsScript text q → Rest m l q r → First (text_of file) (λ text u. (q : Result Script ScriptFault) × IsScript text q × First (as_script q) (IsLinkedBy m l.input) u) r
+read_script : (m : Files) (l : Linking) (file : Option (List ℕ)) (text : List ℕ) (q : Result Script ScriptFault) (r : Result Linked Refusal) → Ok text ≡ front_of (text_of file) → IsScript text q → Rest m l q r → First (text_of file) (λ text u. (q : Result Script ScriptFault) × IsScript text q × First (as_script q) (IsLinkedBy m l) u) r
 read_script m l None text q r e s rest = absurd cc
 read_script m l (Some bytes) text q r e s rest =
     let is : text ≡ take (script_limit + 1) bytes = cc in
     (q, whole_script (nat_lt script_limit (length bytes)) bytes q refl (subst (λ (x : List ℕ). IsScript x q) is s), rest)
 
 -- a script that was accepted, and what follows
-pub script_ok : (known next : Option Files) (l : Linking) (text : List ℕ) (s : Script) (r : Result (List ℕ) Refusal) → next ≡ known → IfSome known (λ m. Ok text ≡ script_text m l.script) → IsScript text (Ok s) → IfSome next (λ m. Finds is_outside (IsLinkedBy m l.input s) r) → IfSome known (λ m. Finds is_outside (IsLinked m l) r)
+pub script_ok : (known next : Option Files) (l : Linking) (text : List ℕ) (s : Script) (r : Result Linked Refusal) → next ≡ known → IfSome known (λ m. Ok text ≡ script_text m l.script) → IsScript text (Ok s) → IfSome next (λ m. Finds is_outside (IsLinkedBy m l s) r) → IfSome known (λ m. Finds is_outside (IsLinked m l) r)
 script_ok None next l text s r same read is rest = tt
 script_ok (Some m) next l text s r same read is rest = go r (rw same at rest)
   where
-    outside : (b : Bool) (e : Refusal) → Unless b (IsLinkedBy m l.input s (Err e)) → Unless b (IsLinked m l (Err e))
+    outside : (b : Bool) (e : Refusal) → Unless b (IsLinkedBy m l s (Err e)) → Unless b (IsLinked m l (Err e))
     outside true e h = tt
     outside false e h = read_script m l (get m l.script) text (Ok s) (Err e) read is h
 
-    go : (r : Result (List ℕ) Refusal) → Finds is_outside (IsLinkedBy m l.input s) r → Finds is_outside (IsLinked m l) r
-    go (Ok image) h = read_script m l (get m l.script) text (Ok s) (Ok image) read is h
+    go : (r : Result Linked Refusal) → Finds is_outside (IsLinkedBy m l s) r → Finds is_outside (IsLinked m l) r
+    go (Ok linked) h = read_script m l (get m l.script) text (Ok s) (Ok linked) read is h
     go (Err e) h = outside (is_outside e) e h
 
 -- a script that was refused
-pub script_err : (known : Option Files) (l : Linking) (text : List ℕ) (e : ScriptFault) → IfSome known (λ m. Ok text ≡ script_text m l.script) → Unless (is_outside_script e) (IsScript text (Err e)) → IfSome known (λ m. Finds is_outside (IsLinked m l) (Err (refusal.Script e)))
+pub script_err : (known : Option Files) (l : Linking) (text : List ℕ) (e : ScriptFault) → IfSome known (λ m. Ok text ≡ script_text m l.script) → Unless (is_script_outside e) (IsScript text (Err e)) → IfSome known (λ m. Finds is_outside (IsLinked m l) (Err (refusal.Script e)))
 script_err None l text e read is = tt
-script_err (Some m) l text e read is = outside (is_outside_script e) is
+script_err (Some m) l text e read is = outside (is_script_outside e) is
   where
     outside : (b : Bool) → Unless b (IsScript text (Err e)) → Unless (b || false) (IsLinked m l (Err (refusal.Script e)))
     outside true h = tt

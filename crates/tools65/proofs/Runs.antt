@@ -3,6 +3,7 @@ use Rattle.std.proofs.Common.{◌≡◌, ◌∙◌, ◌⊎◌, inl, inr, ℕ, �
 use Rattle.std.specs.Prelude.{IfSome, IfErr, ◌||◌}
 use Rattle.syntax65.specs.Outcome.{Finds, Refuses, Unless}
 use Rattle.syntax65.specs.Store.{Files, NoneFailed, HasFailed, PassesBy, last_count}
+use Rattle.tools65.specs.declared.linking.linked.Linked.{Linked}
 use Rattle.tools65.specs.declared.linking.refusal.Refusal.{Refusal}
 use Rattle.tools65.specs.declared.outcome.Outcome.{Outcome}
 use Rattle.tools65.specs.declared.outcome.Status.{Status}
@@ -99,7 +100,7 @@ link_memory l e o h is = is ∙ by_memory
     by_memory = rw h refl
 
 -- what was linked is carried out
-pub linked_run : (known mid new : Option Files) (fo fm fn : ℕ) (l : Linking) (r : Result (List ℕ) Refusal) (o : Outcome) (out_old out_new err_old err_new : Option (List ℕ)) (status : Status) → mid ≡ known → fm ≤ fn → PassesBy is_failure fo fm r → o ≡ outcome_of l r → IfSome known (λ m. Finds is_outside (IsLinked m l) r) → IfSome mid (λ m. NoneFailed fm fn → Performs o m new out_old out_new err_old err_new status ⊎ StopsShort o memory_message m new out_old out_new err_old err_new status) → IfSome known (λ m. NoneFailed fo fn → Ran (Does l) memory_message m new out_old out_new err_old err_new status)
+pub linked_run : (known mid new : Option Files) (fo fm fn : ℕ) (l : Linking) (r : Result Linked Refusal) (o : Outcome) (out_old out_new err_old err_new : Option (List ℕ)) (status : Status) → mid ≡ known → fm ≤ fn → PassesBy is_failure fo fm r → o ≡ outcome_of l r → IfSome known (λ m. Finds is_outside (IsLinked m l) r) → IfSome mid (λ m. NoneFailed fm fn → Performs o m new out_old out_new err_old err_new status ⊎ StopsShort o memory_message m new out_old out_new err_old err_new status) → IfSome known (λ m. NoneFailed fo fn → Ran (Does l) memory_message m new out_old out_new err_old err_new status)
 linked_run known mid new fo fm fn l r o = computed_run is_memory is_failure memory_message (λ m. IsLinked m l) (λ r o. o ≡ outcome_of l r) (link_memory l) known mid new fo fm fn r o
 
 -- a line that was run

@@ -1,5 +1,5 @@
 -- What a command does.
-use Rattle.std.specs.Prelude.{◌≡◌, ℕ, ◌⊎◌, List, [], ◌∷◌, length, Option, unwrap_or, Result, Ok, Err, codes, ◌==◌, if◌then◌else◌}
+use Rattle.std.specs.Prelude.{◌≡◌, ℕ, ◌⊎◌, List, [], Option, Result, Ok, Err}
 use Rattle.syntax65.specs.Store.{Files}
 use Rattle.object65.specs.declared.object.Object.{Object}
 use Rattle.object65.specs.Spelling.{object_bytes}
@@ -7,33 +7,30 @@ use Rattle.asm65.specs.declared.refusal.AsmRefusal.{AsmRefusal}
 use Rattle.asm65.specs.Assembly.{IsAssembled}
 use Rattle.tools65.specs.Assembling.{IsOutputName, asm_message}
 use Rattle.tools65.specs.declared.command_line.fault.LineFault.{LineFault}
+use Rattle.tools65.specs.declared.linking.linked.Linked.{Linked}
 use Rattle.tools65.specs.declared.linking.refusal.Refusal.{Refusal}
 use Rattle.tools65.specs.declared.outcome.Outcome.{Outcome}
-use Rattle.tools65.specs.declared.outcome.Output.{Output}
 use Rattle.tools65.specs.declared.outcome.Status.{Status}
 use Rattle.tools65.specs.declared.outcome.Status.TheVariants.{Success, Failure}
 use Rattle.tools65.specs.Leaving.{Performs, StopsShort}
 use Rattle.tools65.specs.Line.{Assembling, Linking, Says, assemble, link, line_of}
 use Rattle.tools65.specs.Linkage.{IsLinked}
+use Rattle.tools65.specs.Outputs.{outputs_of}
 use Rattle.tools65.specs.Messages.{line_message_of, line_memory_message, memory_line}
 use Rattle.tools65.specs.Refusals.{refusal_message, memory_message}
-
--- the file of a name, or none where the name is empty
-abbrev pub outputs_of : List ℕ → List ℕ → List Output
-outputs_of name bytes = if length name == 0 then [] else record { name = name; bytes = bytes } ∷ []
 
 -- a command that only says why
 abbrev pub failing : List ℕ → Outcome
 failing message = record { out = []; err = message; outputs = []; status = Failure }
 
--- what linking does: it writes the image, or says why there is none
-abbrev pub outcome_of : Linking → Result (List ℕ) Refusal → Outcome
-outcome_of l (Ok image) = record { out = []; err = []; outputs = outputs_of (unwrap_or l.output (codes "a.out")) image; status = Success }
+-- what linking does: it warns and writes its files, or says why there are none
+abbrev pub outcome_of : Linking → Result Linked Refusal → Outcome
+outcome_of l (Ok linked) = record { out = []; err = linked.warnings; outputs = linked.outputs; status = Success }
 outcome_of l (Err e) = failing (refusal_message l.script l.input e)
 
 -- what a link line does with these files
 abbrev pub Does : Linking → Files → Outcome → Type 0
-Does l m o = (r : Result (List ℕ) Refusal) × IsLinked m l r × (o ≡ outcome_of l r)
+Does l m o = (r : Result Linked Refusal) × IsLinked m l r × (o ≡ outcome_of l r)
 
 -- what the assembler's answer comes to: the object's file, or why there is none
 abbrev pub AssemblesTo : Assembling → Result Object AsmRefusal → Outcome → Type 0

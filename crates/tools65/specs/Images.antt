@@ -1,19 +1,10 @@
--- The bytes of an area's file.
-use Rattle.std.specs.Prelude.{◌≡◌, ℕ, ◌+◌, ◌-◌, ◌<◌, Bool, List, [], ◌∷◌, length, nat_le, nat_lt, get_or, ◌==◌, ◌&&◌, if◌then◌else◌}
-use Rattle.tools65.specs.declared.linking.laid.Laid.{Laid}
+-- The bytes of a file, by the pieces that lie in it.
+use Rattle.std.specs.Prelude.{◌≡◌, ℕ, ◌+◌, ◌-◌, ◌<◌, Bool, List, [], ◌∷◌, length, nat_le, nat_lt, get_or, ◌&&◌, if◌then◌else◌}
 
--- bytes, and how far behind an area's start the first of them lies
+-- bytes, and how far behind the file's first byte they begin
 pub record Piece : Type 0 where
   pub offset : ℕ
   pub bytes : List ℕ
-
-abbrev pub piece : Laid → Piece
-piece l = record { offset = l.offset; bytes = l.bytes.now }
-
--- behind the last piece that has bytes, or as before where there is none
-abbrev pub end_behind : ℕ → List Piece → ℕ
-end_behind before [] = before
-end_behind before (p ∷ ps) = end_behind (if length p.bytes == 0 then before else p.offset + length p.bytes) ps
 
 abbrev pub covers : ℕ → ℕ → List ℕ → Bool
 covers i at bytes = nat_le at i && nat_lt i (at + length bytes)
@@ -27,10 +18,10 @@ abbrev pub byte_over : List Piece → ℕ → ℕ → ℕ
 byte_over [] i before = before
 byte_over (p ∷ ps) i before = byte_over ps i (laid_over i p.offset p.bytes before)
 
--- an area's file: up to the last piece that has bytes, and 0 in gaps
-pub record IsImage (pieces : List Piece) (image : List ℕ) : Type 0 where
-  pub len : length image ≡ end_behind 0 pieces
-  pub bytes : (i : ℕ) → i < length image → get_or image i 0 ≡ byte_over pieces i 0
+-- so many bytes: those of the pieces, and the fill in gaps
+pub record IsImage (len fill : ℕ) (pieces : List Piece) (image : List ℕ) : Type 0 where
+  pub size : length image ≡ len
+  pub bytes : (i : ℕ) → i < len → get_or image i 0 ≡ byte_over pieces i fill
 
 -- new is old with bytes over it from a place on
 pub record Overlays (old : List ℕ) (at : ℕ) (bytes new : List ℕ) : Type 0 where

@@ -3,21 +3,6 @@ use Rattle.std.specs.Prelude.{ℕ, List, [], ◌∷◌, codes, decimal}
 use Rattle.std.specs.List.{flat_map}
 use Rattle.tools65.specs.declared.command_line.fault.LineFault.{LineFault}
 use Rattle.tools65.specs.declared.command_line.fault.LineFault.TheVariants as line
-use Rattle.tools65.specs.declared.linking.placing.PlaceFault.{PlaceFault}
-use Rattle.tools65.specs.declared.linking.placing.PlaceFault.TheVariants as place
-use Rattle.tools65.specs.declared.script.fault.Fault.{Fault}
-use Rattle.tools65.specs.declared.script.fault.Fault.TheVariants.{OutOfMemory, SyntaxError, UnknownAttribute, AttributeTwice, AttributeMissing, NameTwice, NoSuchArea, OutOfRange, TooLong}
-
-abbrev pub script_words : Fault → List ℕ
-script_words OutOfMemory = codes "out of memory"
-script_words SyntaxError = codes "syntax error"
-script_words UnknownAttribute = codes "unknown attribute"
-script_words AttributeTwice = codes "attribute twice"
-script_words AttributeMissing = codes "attribute missing"
-script_words NameTwice = codes "name twice"
-script_words NoSuchArea = codes "no such area"
-script_words OutOfRange = codes "value out of range"
-script_words TooLong = codes "script too long"
 
 abbrev pub line_words : LineFault → List ℕ
 line_words line.OutOfMemory = codes "out of memory"
@@ -38,12 +23,6 @@ memory_line name = joined (name ∷ codes ": Error: out of memory\n" ∷ [])
 -- `name:line: Error: words`
 abbrev pub line_message : List ℕ → ℕ → List ℕ → List ℕ
 line_message name line words = joined (name ∷ codes ":" ∷ decimal line ∷ codes ": Error: " ∷ words ∷ codes "\n" ∷ [])
-
--- why segments aren't placed, as ld65 says it
-abbrev pub place_message : PlaceFault → List ℕ
-place_message place.OutOfMemory = codes "ld65: Error: out of memory\n"
-place_message (place.NoRow name) = joined (codes "ld65: Error: segment has no row: " ∷ name ∷ codes "\n" ∷ [])
-place_message (place.Overflow area by) = joined (codes "ld65: Error: overflow of " ∷ area ∷ codes " by " ∷ decimal by ∷ codes " bytes\n" ∷ [])
 
 -- why a line is refused
 abbrev pub line_memory_message : List ℕ

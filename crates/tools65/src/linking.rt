@@ -1,8 +1,12 @@
 //! Links an object by a script.
 
-pub mod imaging;
-pub mod laid;
+mod areas;
+mod files;
+mod imaging;
 pub mod link;
-pub mod pieces;
-pub mod placing;
+pub mod linked;
+mod modules;
+mod needs;
 pub mod refusal;
+mod sections;
+mod warning;

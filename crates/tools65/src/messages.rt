@@ -1,9 +1,8 @@
 //! The texts that are printed.
 
 ghost use Rattle.std.specs.Prelude.{◌≡◌, ◌<◌, IfOk, map, Some};
-ghost use Rattle.tools65.specs.Messages.{joined, file_message, line_message, place_message};
+ghost use Rattle.tools65.specs.Messages.{joined, file_message, line_message};
 
-use crate::linking::placing::PlaceFault;
 use itoa::Buffer;
 use std::alloc::{AllocError, Global};
 use syntax65::Sequence;
@@ -51,31 +50,4 @@ pub fn line_message(
             b"\n",
         ],
     )
-}
-
-/// Why segments aren't placed, as ld65 says it.
-pub fn place_message(alloc: Global, fault: &PlaceFault) -> Result<Sequence<u8>, AllocError>
-    ensures { IfOk result (λ text. text ≡ place_message fault.now) }
-{
-    match fault {
-        PlaceFault::OutOfMemory => join(alloc, &[b"ld65: Error: out of memory\n"]),
-        PlaceFault::NoRow(name) => join(
-            alloc,
-            &[b"ld65: Error: segment has no row: ", name.as_slice(), b"\n"],
-        ),
-        PlaceFault::Overflow(area, by) => {
-            let mut buffer = Buffer::new();
-            let number = buffer.format(*by);
-            join(
-                alloc,
-                &[
-                    b"ld65: Error: overflow of ",
-                    area.as_slice(),
-                    b" by ",
-                    number.as_bytes(),
-                    b" bytes\n",
-                ],
-            )
-        }
-    }
 }

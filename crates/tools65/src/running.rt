@@ -12,9 +12,9 @@ use crate::command_line::fault::LineFault;
 use crate::command_line::line::{AssembleLine, Line, LinkLine};
 use crate::command_line::reading::read_line;
 use crate::linking::link::link;
+use crate::linking::linked::Linked;
 use crate::linking::refusal::{Refusal, refusal_message};
 use crate::outcome::{Outcome, Status};
-use crate::outputs::outputs_of;
 use crate::performing::{perform, say_memory};
 use crate::printing::print;
 use asm65::{AsmJob, assemble};
@@ -23,19 +23,19 @@ use std::convert::AsStr;
 use std::io::Write;
 use syntax65::{Sequence, Store};
 
-/// What linking does: it writes the image, or says why there is none.
+/// What linking does: it warns and writes its files, or says why there are none.
 fn link_outcome(
     alloc: Global,
     line: &LinkLine<'_>,
-    linked: Result<Sequence<u8>, Refusal>,
+    linked: Result<Linked, Refusal>,
 ) -> Result<Outcome, AllocError>
     ensures { IfOk result (λ outcome. outcome ≡ outcome_of (linking line.now) linked) }
 {
     match linked {
-        Ok(image) => Ok(Outcome {
+        Ok(linked) => Ok(Outcome {
             out: Sequence::new(alloc),
-            err: Sequence::new(alloc),
-            outputs: outputs_of(alloc, line.output.unwrap_or("a.out"), image)?,
+            err: linked.warnings,
+            outputs: linked.outputs,
             status: Status::Success,
         }),
         Err(refusal) => Ok(Outcome {

@@ -1,5 +1,6 @@
 //! Runs of whole commands over files in memory.
 
+mod areas;
 mod assembling;
 mod devices;
 mod linking;

@@ -5,10 +5,9 @@ ghost use Rattle.tools65.specs.declared.linking.refusal.Refusal.TheVariants.{Out
 ghost use Rattle.tools65.specs.Refusals.{is_memory, refusal_message};
 
 use crate::command_line::line::LinkLine;
-use crate::linking::placing::PlaceFault;
-use crate::messages::{file_message, join, line_message, place_message};
-use crate::script::fault::{Fault, ScriptFault};
+use crate::messages::{file_message, join, line_message};
 use object65::ObjectFault;
+use script65::{Fault, PlaceFault, ScriptFault};
 use std::alloc::{AllocError, Global};
 use syntax65::{Sequence, StoreFault};
 
@@ -101,9 +100,9 @@ pub fn refusal_message(
             alloc,
             line.script,
             fault.line,
-            fault.fault.to_string(alloc)?.as_str(),
+            fault.to_string(alloc)?.as_str(),
         ),
         Refusal::Object(fault) => file_message(alloc, line.input, fault.to_string(alloc)?.as_str()),
-        Refusal::Place(fault) => place_message(alloc, fault),
+        Refusal::Place(fault) => file_message(alloc, "ld65", fault.to_string(alloc)?.as_str()),
     }
 }

@@ -110,24 +110,3 @@ fn refuses_missing_files(rt: HostRuntime) -> Result<(), Fail> {
     assert!(rt; says(&ran, "a.o: Error: file not found\n"));
     Ok(())
 }
-
-#[test]
-fn refuses_what_is_not_placed(rt: HostRuntime) -> Result<(), Fail> {
-    let rows = [
-        (
-            "MEMORY { ROM: start = 0, size = 9; } SEGMENTS { DATA: load = ROM; }",
-            "ld65: Error: segment has no row: CODE\n",
-        ),
-        (
-            "MEMORY { ROM: start = 0, size = 2; } SEGMENTS { CODE: load = ROM; }",
-            "ld65: Error: overflow of ROM by 1 bytes\n",
-        ),
-    ];
-    for (script, message) in rows.iter() {
-        let mut store = files(rt.alloc(), &O1, script)?;
-        let ran = run_on(rt.alloc(), &mut store, &LINK);
-        assert!(rt; says(&ran, message));
-        assert!(rt; store.get("a.out").is_none());
-    }
-    Ok(())
-}

@@ -8,18 +8,15 @@ use std::test::Fail;
 fn reads_scripts(rt: HostRuntime) -> Result<(), Fail> {
     let scripts = [
         "MEMORY{ROM:start=0size=9;}SEGMENTS{CODE:load=ROM;}",
-        "# a comment\r\nmemory {\r\n\tROM: SIZE $10 start 0;\r\n}\r\nsegments { CODE: TYPE = RW, load = ROM, optional = no, ; } # the end",
-        "MEMORY { ROM: start = $FFFFFFFF, size = 1; } SEGMENTS { DATA: load = ROM; CODE: load = ROM; }",
+        "# a comment\r\nsegments { CODE: TYPE = RW, load = ROM, optional = no, ; }\nmemory {\r\n\tROM: SIZE $10 start 0;\r\n} # the end",
+        "SYMBOLS { f: type = export, value = 1; } MEMORY { } MEMORY { ROM: start = 0, size = 9, define = yes; } SEGMENTS { } SEGMENTS { CODE: load = ROM; }",
     ];
-    for script in scripts.iter().take(2) {
+    for script in scripts.iter() {
         let mut store = files(rt.alloc(), &O1, script)?;
         let ran = run_on(rt.alloc(), &mut store, &LINK);
         assert!(rt; is_quiet(&ran));
         assert!(rt; matches!(store.get("a.out"), Some([0xa9, 0x00, 0x60])));
     }
-    let mut store = files(rt.alloc(), &O1, scripts[2])?;
-    let ran = run_on(rt.alloc(), &mut store, &LINK);
-    assert!(rt; says(&ran, "ld65: Error: overflow of ROM by 2 bytes\n"));
     Ok(())
 }
 
@@ -27,34 +24,9 @@ fn reads_scripts(rt: HostRuntime) -> Result<(), Fail> {
 fn refuses_scripts(rt: HostRuntime) -> Result<(), Fail> {
     let rows = [
         ("MEMORY {\n\n", "s.cfg:3: Error: syntax error\n"),
-        ("MEMORY { }", "s.cfg:1: Error: syntax error\n"),
         ("FEATURES { }", "s.cfg:1: Error: syntax error\n"),
         (
-            "MEMORY { A: start = 0, size = 1;\nB: start = 1, size = 1; } SEGMENTS { }",
-            "s.cfg:2: Error: syntax error\n",
-        ),
-        (
-            "MEMORY { A: start = 0, size = 1; }\nMEMORY { }",
-            "s.cfg:2: Error: syntax error\n",
-        ),
-        (
-            "MEMORY { A: start = 0, size = 1; }\nSEGMENTS { }\nSYMBOLS { }",
-            "s.cfg:3: Error: syntax error\n",
-        ),
-        (
-            "MEMORY { A: start = 0, size = 1; } SEGMENTS {\nCODE: load = A, type = bss; }",
-            "s.cfg:2: Error: syntax error\n",
-        ),
-        (
-            "MEMORY { A: start = %1, size = 1; }",
-            "s.cfg:1: Error: syntax error\n",
-        ),
-        (
-            "MEMORY { A:\nfill = yes; }",
-            "s.cfg:2: Error: unknown attribute\n",
-        ),
-        (
-            "MEMORY { A: start = 0, size = 1; } SEGMENTS {\nCODE: load = A, align = 4; }",
+            "MEMORY { A:\nbank = 1; }",
             "s.cfg:2: Error: unknown attribute\n",
         ),
         (
@@ -66,10 +38,6 @@ fn refuses_scripts(rt: HostRuntime) -> Result<(), Fail> {
             "s.cfg:2: Error: attribute missing\n",
         ),
         (
-            "MEMORY { A: start = 0, size = 1; } SEGMENTS { CODE:\n; }",
-            "s.cfg:2: Error: attribute missing\n",
-        ),
-        (
             "MEMORY { A: start = 0, size = 1; } SEGMENTS { CODE: load = A;\nCODE; }",
             "s.cfg:2: Error: name twice\n",
         ),
@@ -78,12 +46,12 @@ fn refuses_scripts(rt: HostRuntime) -> Result<(), Fail> {
             "s.cfg:2: Error: no such area\n",
         ),
         (
-            "MEMORY { A: start =\n99999999999999999999 , size = 1; }",
+            "MEMORY { A: start = $FFFFFFFF, size = 2\n; }",
             "s.cfg:2: Error: value out of range\n",
         ),
         (
-            "MEMORY { A: start = $FFFFFFFF, size = 2\n; }",
-            "s.cfg:2: Error: value out of range\n",
+            "MEMORY { A: start = 0, size = 1; } SEGMENTS {\nCODE: load = A, start = 0, offset = 0; }",
+            "s.cfg:2: Error: attributes exclude each other\n",
         ),
     ];
     for (script, message) in rows.iter() {

@@ -1,0 +1,121 @@
+-- Records that are read one after another, of which the linker takes some.
+use Rattle.std.proofs.Common.{◌≡◌, ◌∙◌, ◌<◌, ◌≤◌, ℕ, zero, suc, ◌+◌, ◌-◌, List, [], length, take, Bool, true, false, if◌then◌else◌, Option, Some, None, Result, Ok, Err, refl, sym, ap, arith}
+use Rattle.std.specs.Prelude.{IfSome}
+use Rattle.std.proofs.lemmas.List.{drop_all}
+use Rattle.std.specs.FinMap as map
+use Rattle.syntax65.specs.Store.{Files, Passes}
+use Rattle.object65.specs.declared.fault.ObjectFault.{ObjectFault}
+use Rattle.object65.specs.declared.fault.ObjectFault.TheVariants.{OutOfMemory, CutShort, FileError, FileNotFound}
+use Rattle.object65.specs.Fault.{◌>>=◌, Refuses, is_memory, is_outside}
+use Rattle.object65.specs.Record.{Entry}
+use Rattle.object65.specs.Reading.{end_at, head_at, in_file, record_at}
+use Rattle.object65.specs.Taking.{State, start, after, finished}
+use Rattle.tools65.specs.Modules.{linked, linked_at, module_at, module_records}
+use Rattle.object65.proofs.Records.{cut as cut_record}
+use Rattle.syntax65.specs.Outcome.{Unless}
+use Rattle.syntax65.proofs.Outcome.{refused-then}
+
+cut : (at limit : ℕ) (bytes : List ℕ) → length bytes ≤ at → linked_at at limit bytes ≡ Err CutShort
+unfolding linked_at
+cut at limit bytes past = ap (λ r. r >>= linked) (cut_record at limit bytes past)
+
+-- from here on the same is read as from the beginning
+pub record Goes (bytes : List ℕ) (limit at next : ℕ) (s : State) : Type 0 where
+  pub left : ℕ
+  pub enough : length bytes ≤ next + left
+  pub same : module_records left s next limit bytes ≡ module_records (length bytes) start at limit bytes
+
+pub begins : (bytes : List ℕ) (limit at : ℕ) → Goes bytes limit at at start
+begins bytes limit at = record { left = length bytes; enough = omega arith; same = refl }
+
+unread : (left : ℕ) (s : State) (next limit : ℕ) (bytes : List ℕ) (f : ObjectFault) → length bytes ≤ next + left → linked_at next limit bytes ≡ Err f → module_records left s next limit bytes ≡ Err f
+unread zero s next limit bytes f enough e = let is : CutShort ≡ f = cc (cut next limit bytes (omega arith)) in ap Err is
+unread (suc left) s next limit bytes f enough e = rw e refl
+
+pub one : (left : ℕ) (s : State) (next limit : ℕ) (bytes : List ℕ) (r : Entry × ℕ) → length bytes ≤ next + left → linked_at next limit bytes ≡ Ok r → (k : ℕ) × (left ≡ suc k) × (module_records left s next limit bytes ≡ (after s r.0 >>= (λ t. if t.ended then Ok (t, r.1) else module_records k t r.1 limit bytes)))
+one zero s next limit bytes r enough e = cc (cut next limit bytes (omega arith))
+one (suc left) s next limit bytes r enough e = (left, refl, rw e refl)
+
+-- the four ways on
+pub stops_reading : (bytes : List ℕ) (limit at next : ℕ) (s : State) (f : ObjectFault) → Goes bytes limit at next s → linked_at next limit bytes ≡ Err f → module_records (length bytes) start at limit bytes ≡ Err f
+stops_reading bytes limit at next s f goes e = sym goes.same ∙ unread goes.left s next limit bytes f goes.enough e
+
+pub stops_taking : (bytes : List ℕ) (limit at next : ℕ) (s : State) (r : Entry × ℕ) (f : ObjectFault) → Goes bytes limit at next s → linked_at next limit bytes ≡ Ok r → after s r.0 ≡ Err f → module_records (length bytes) start at limit bytes ≡ Err f
+stops_taking bytes limit at next s r f goes e h =
+    let k = one goes.left s next limit bytes r goes.enough e in
+    sym goes.same ∙ k.2 ∙ rw h refl
+
+pub ends : (bytes : List ℕ) (limit at next : ℕ) (s t : State) (r : Entry × ℕ) → Goes bytes limit at next s → linked_at next limit bytes ≡ Ok r → after s r.0 ≡ Ok t → t.ended ≡ true → module_records (length bytes) start at limit bytes ≡ Ok (t, r.1)
+ends bytes limit at next s t r goes e h ended =
+    let k = one goes.left s next limit bytes r goes.enough e in
+    sym goes.same ∙ k.2 ∙ rw (h, ended) refl
+
+pub goes_on : (bytes : List ℕ) (limit at next : ℕ) (s t : State) (r : Entry × ℕ) → Goes bytes limit at next s → linked_at next limit bytes ≡ Ok r → next < r.1 → after s r.0 ≡ Ok t → t.ended ≡ false → Goes bytes limit at r.1 t
+goes_on bytes limit at next s t r goes e later h ended =
+    let k = one goes.left s next limit bytes r goes.enough e in
+    record {
+      left = k.0;
+      enough = omega (arith, goes.enough, k.1);
+      same = sym (k.2 ∙ rw (h, ended) refl) ∙ goes.same;
+    }
+
+-- the same where the files may not be known, and of a file that may not be there
+abbrev pub GoesIn : Option Files → List ℕ → ℕ → ℕ → ℕ → State → Type 0
+GoesIn known name limit at next s = IfSome known (λ m. IfSome (map.get m name) (λ bytes. Goes bytes limit at next s))
+
+-- what is read in all of a file
+abbrev pub all_in : Option (List ℕ) → ℕ → ℕ → Result (State × ℕ) ObjectFault
+all_in file at limit = in_file file (λ bytes. module_records (length bytes) start at limit bytes)
+
+unless : (b : Bool) {P Q : Type 0} → (P → Q) → Unless b P → Unless b Q
+unless true h p = tt
+unless false h p = h p
+
+module _ (limit at next : ℕ) where
+  pub begins_in : (known : Option Files) (name : List ℕ) → GoesIn known name limit at at start
+  begins_in None name = tt
+  begins_in (Some m) name = file (map.get m name) where
+    file : (f : Option (List ℕ)) → IfSome f (λ bytes. Goes bytes limit at at start)
+    file None = tt
+    file (Some bytes) = begins bytes limit at
+
+  pub reading_stops : (known now : Option Files) (name : List ℕ) (s : State) (e : ObjectFault) → now ≡ known → GoesIn known name limit at next s → IfSome now (λ m. Refuses is_outside e (in_file (map.get m name) (linked_at next limit))) → IfSome known (λ m. Refuses is_outside e (all_in (map.get m name) at limit))
+  reading_stops None now name s e same goes refused = tt
+  reading_stops (Some m) now name s e same goes refused = file (map.get m name) goes (rw same at refused) where
+    file : (f : Option (List ℕ)) → IfSome f (λ bytes. Goes bytes limit at next s) → Refuses is_outside e (in_file f (linked_at next limit)) → Refuses is_outside e (all_in f at limit)
+    file None goes refused = unless (is_outside e) (λ h. let is : FileNotFound ≡ e = cc in ap Err is) refused
+    file (Some bytes) goes refused = unless (is_outside e) (stops_reading bytes limit at next s e goes) refused
+
+  pub taking_stops : (known now : Option Files) (name : List ℕ) (s : State) (r : Entry × ℕ) (e : ObjectFault) → now ≡ known → GoesIn known name limit at next s → IfSome now (λ m. in_file (map.get m name) (linked_at next limit) ≡ Ok r) → Refuses is_outside e (after s r.0) → IfSome known (λ m. Refuses is_outside e (all_in (map.get m name) at limit))
+  taking_stops None now name s r e same goes read refused = tt
+  taking_stops (Some m) now name s r e same goes read refused = file (map.get m name) goes (rw same at read) where
+    file : (f : Option (List ℕ)) → IfSome f (λ bytes. Goes bytes limit at next s) → in_file f (linked_at next limit) ≡ Ok r → Refuses is_outside e (all_in f at limit)
+    file None goes read = cc
+    file (Some bytes) goes read = unless (is_outside e) (stops_taking bytes limit at next s r e goes read) refused
+
+  pub ends_in : (known now : Option Files) (name : List ℕ) (s t : State) (r : Entry × ℕ) → now ≡ known → GoesIn known name limit at next s → IfSome now (λ m. in_file (map.get m name) (linked_at next limit) ≡ Ok r) → after s r.0 ≡ Ok t → t.ended ≡ true → IfSome known (λ m. all_in (map.get m name) at limit ≡ Ok (t, r.1))
+  ends_in None now name s t r same goes read taken ended = tt
+  ends_in (Some m) now name s t r same goes read taken ended = file (map.get m name) goes (rw same at read) where
+    file : (f : Option (List ℕ)) → IfSome f (λ bytes. Goes bytes limit at next s) → in_file f (linked_at next limit) ≡ Ok r → all_in f at limit ≡ Ok (t, r.1)
+    file None goes read = cc
+    file (Some bytes) goes read = ends bytes limit at next s t r goes read taken ended
+
+  pub goes_on_in : (known now : Option Files) (name : List ℕ) (s t : State) (r : Entry × ℕ) → now ≡ known → GoesIn known name limit at next s → IfSome now (λ m. in_file (map.get m name) (linked_at next limit) ≡ Ok r) → next < r.1 → after s r.0 ≡ Ok t → t.ended ≡ false → GoesIn known name limit at r.1 t
+  goes_on_in None now name s t r same goes read later taken ended = tt
+  goes_on_in (Some m) now name s t r same goes read later taken ended = file (map.get m name) goes (rw same at read) where
+    file : (f : Option (List ℕ)) → IfSome f (λ bytes. Goes bytes limit at next s) → in_file f (linked_at next limit) ≡ Ok r → IfSome f (λ bytes. Goes bytes limit at r.1 t)
+    file None goes read = cc
+    file (Some bytes) goes read = goes_on bytes limit at next s t r goes read later taken ended
+
+-- a refusal behind the END is one of the whole
+behind_refused : (bytes : List ℕ) (at limit first : ℕ) (s : State) (end : ℕ) (e : ObjectFault) → head_at at limit bytes ≡ Ok first → module_records (length bytes) start first limit bytes ≡ Ok (s, end) → Refuses is_outside e (end_at end limit bytes) → Refuses is_outside e (module_at at limit bytes)
+unfolding module_at
+behind_refused bytes at limit first s end e head records refused =
+    rw (head, records) (refused-then is_outside e (end_at end limit bytes) (λ u. finished s) refused)
+
+pub end_refused : (known a b : Option Files) (name : List ℕ) (at limit first : ℕ) (s : State) (end : ℕ) (e : ObjectFault) → a ≡ known → b ≡ known → IfSome known (λ m. in_file (map.get m name) (head_at at limit) ≡ Ok first) → IfSome a (λ m. all_in (map.get m name) first limit ≡ Ok (s, end)) → IfSome b (λ m. Refuses is_outside e (in_file (map.get m name) (end_at end limit))) → IfSome known (λ m. Refuses is_outside e (in_file (map.get m name) (module_at at limit)))
+end_refused None a b name at limit first s end e same_a same_b head records refused = tt
+end_refused (Some m) a b name at limit first s end e same_a same_b head records refused = file (map.get m name) head (rw same_a at records) (rw same_b at refused) where
+  file : (f : Option (List ℕ)) → in_file f (head_at at limit) ≡ Ok first → all_in f first limit ≡ Ok (s, end) → Refuses is_outside e (in_file f (end_at end limit)) → Refuses is_outside e (in_file f (module_at at limit))
+  file None head records refused = cc
+  file (Some bytes) head records refused = behind_refused bytes at limit first s end e head records refused

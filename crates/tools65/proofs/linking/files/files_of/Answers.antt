@@ -1,0 +1,16 @@
+use Rattle.std.proofs.Common.{◌∙◌, ap, map}
+use Rattle.tools65.specs.Loads.{view}
+use Rattle.tools65.proofs.FileLemmas.{next_area, no_area}
+use Rattle.tools65.proofs.linking.files.files_of.Goals as goal
+
+pub loop-k-preserved : goal.loop-k-preserved
+loop-k-preserved c =
+    let rows = c.in_ok-loads.ensures c.loop-k.k c.loop-k-test.true in
+    record {
+      named = c.in_ok-add_area.ensures.named;
+      rest = λ after h.
+          c.loop-k.invariant.rest after
+          (next_area c.args.output.now c.args.sections.now.all.now c.args.rows.now c.args.places.now c.args.areas.now c.loop-k.k c.index-areas-k.result c.file_name-name.result.now (map view c.loads_at.result.now) _ _ after c.loop-k-test.true c.index-areas-k.is c.file_name-name.ensures
+          (ap (map view) (c.loads_at.ensures rows.0 rows.1) ∙ rows.2)
+          c.in_ok-add_area.ensures.files h);
+    }

@@ -1,14 +1,15 @@
 -- The files of areas.
-use Rattle.std.proofs.Common.{◌≡◌, ◌∙◌, ◌<◌, ◌≤◌, ℕ, zero, suc, ◌+◌, Bool, true, false, cond, List, [], ◌∷◌, ◌++◌, length, map, drop, get_or, slice_get, Option, Some, None, refl, sym, ap, subst, arith}
+use Rattle.std.proofs.Common.{◌≡◌, ◌∙◌, ◌<◌, ◌≤◌, ℕ, zero, suc, ◌+◌, Bool, true, false, List, [], ◌∷◌, ◌++◌, length, map, drop, get_or, slice_get, Option, Some, None, refl, sym, ap, subst, arith, add-one}
 use Rattle.std.specs.Prelude.{◌==◌, IsUtf8, ◌||◌, if◌then◌else◌, not, slice_set}
 use Rattle.std.specs.Borrow.{Bor}
 use Rattle.std.specs.List.{list_any, position_or_len}
-use Rattle.std.specs.Str.{bytes_eq, is_utf8}
+use Rattle.std.specs.Str.{bytes_eq}
 use Rattle.std.proofs.lemmas.List.{drop_all}
 use Rattle.std.proofs.lemmas.Str.{is_utf8-from_IsUtf8}
 use Rattle.object65.specs.declared.object.Section.{Section}
 use Rattle.script65.proofs.NeedLemmas.{drop_item}
 use Rattle.script65.proofs.Utf8.{not_utf8}
+use Rattle.script65.proofs.Walks.{drop_suc, there}
 use Rattle.script65.specs.declared.placement.RowPlace.{RowPlace}
 use Rattle.script65.specs.declared.script.Area.{Area}
 use Rattle.script65.specs.declared.script.AreaFile.{AreaFile}
@@ -16,7 +17,8 @@ use Rattle.script65.specs.declared.script.AreaFile.TheVariants.{Named}
 use Rattle.script65.specs.declared.script.Row.{Row}
 use Rattle.tools65.specs.declared.outcome.Output.{Output}
 use Rattle.tools65.specs.Outputs.{AddsArea, AddsAreas, file_name, with_bytes}
-use Rattle.tools65.specs.Pieces.{IsAreaFile, Placed, loaded_in}
+use Rattle.tools65.specs.Laying.{IsLaidFile, LaysArea}
+use Rattle.tools65.specs.Pieces.{Placed, loaded_in}
 
 pub named_ok : (output name bytes got : List ℕ) (f : AreaFile) → f ≡ Named name → bytes ≡ name → got ≡ bytes → IsUtf8 bytes → got ≡ file_name output f
 named_ok output name bytes got f is same e utf8 = rw (is, sym same, is_utf8-from_IsUtf8 bytes utf8) e
@@ -117,13 +119,23 @@ names_stay bytes os new place lt h = by (slice_get os place) refl
 -- one area more
 module _ (output : List ℕ) (sections : List Section) (rows : List Row) (places : List RowPlace) where
   abbrev Adds : ℕ → List Area → List Output → List Output → Type 0
-  Adds = AddsAreas output sections rows places
+  Adds = AddsAreas output (LaysArea sections rows places)
 
-  pub next_area : (areas : List Area) (k : ℕ) (a : Area) (name : List ℕ) (loads : List Placed) (before mid after : List Output) → k < length areas → a ≡ get_or areas k a → name ≡ file_name output a.file → loads ≡ loaded_in k rows places → AddsArea (length name == 0) name (IsAreaFile a sections loads) before mid → Adds (k + 1) (drop (k + 1) areas) mid after → Adds k (drop k areas) before after
+  pub next_area : (areas : List Area) (k : ℕ) (a : Area) (name : List ℕ) (loads : List Placed) (before mid after : List Output) → k < length areas → a ≡ get_or areas k a → name ≡ file_name output a.file → loads ≡ loaded_in k rows places → AddsArea (length name == 0) name (IsLaidFile a sections loads) before mid → Adds (k + 1) (drop (k + 1) areas) mid after → Adds k (drop k areas) before after
   next_area areas k a name loads before mid after lt is named are adds rest =
-      let so = subst (λ (n : List ℕ). AddsArea (length n == 0) n (IsAreaFile a sections loads) before mid) named adds in
-      let here = subst (λ (ps : List Placed). AddsArea (length (file_name output a.file) == 0) (file_name output a.file) (IsAreaFile a sections ps) before mid) are so in
+      let so = subst (λ (n : List ℕ). AddsArea (length n == 0) n (IsLaidFile a sections loads) before mid) named adds in
+      let here = subst (λ (ps : List Placed). AddsArea (length (file_name output a.file) == 0) (file_name output a.file) (IsLaidFile a sections ps) before mid) are so in
       subst (λ (l : List Area). Adds k l before after) (sym (drop_item areas k a lt is)) (mid, here, rest)
 
   pub no_area : (areas : List Area) (k : ℕ) (files : List Output) → length areas ≤ k → Adds k (drop k areas) files files
   no_area areas k files le = subst (λ (l : List Area). Adds k l files files) (sym (drop_all k areas le)) refl
+
+-- what is so of each area's file is so of all
+pub each_area : (output : List ℕ) (P Q : ℕ → Area → List ℕ → Type 0) (all : List Area) → ((k : ℕ) (a : Area) (image : List ℕ) → slice_get all k ≡ Some a → P k a image → Q k a image) → (k : ℕ) (areas : List Area) (before after : List Output) → drop k all ≡ areas → AddsAreas output P k areas before after → AddsAreas output Q k areas before after
+each_area output P Q all h k [] before after left adds = adds
+each_area output P Q all h k (a ∷ rest) before after left adds =
+    (adds.0, area (length (file_name output a.file) == 0) adds.1, each_area output P Q all h (k + 1) rest adds.0 after (rw add-one (drop_suc all k a rest left)) adds.2)
+  where
+    area : (b : Bool) → AddsArea b (file_name output a.file) (P k a) before adds.0 → AddsArea b (file_name output a.file) (Q k a) before adds.0
+    area true e = e
+    area false e = (e.0, h k a e.0 (there all k a rest left) e.1, e.2)

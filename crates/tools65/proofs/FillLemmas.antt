@@ -1,10 +1,10 @@
 -- A byte that stands in an image so many times.
 use Rattle.std.proofs.Common.{◌≡◌, ◌∙◌, ℕ, ◌+◌, ◌-◌, ◌<◌, ◌≤◌, Bool, true, false, List, ◌++◌, length, get_or, take, drop, min, refl, sym, ap, subst, arith, nat_le, nat_lt, length-append, length-drop}
-use Rattle.std.specs.Prelude.{◌&&◌, if◌then◌else◌, replicate}
+use Rattle.std.specs.Prelude.{replicate}
 use Rattle.std.proofs.lemmas.Bool.Decides.{nat_tests}
 use Rattle.std.proofs.lemmas.List.{get_or-append_right, get_or-drop, get_or-replicate, get_or-take, get_or_append_left, length-replicate, length-take}
-use borrow.Rule.Slice.PartMut.{put_mid, post_of}
-use Rattle.tools65.specs.Images.{Overlays, covers, laid_over}
+use borrow.Rule.Slice.PartMut.{put_mid}
+use Rattle.tools65.specs.Laying.{Overlays, laid_over}
 
 below : (old : List ℕ) (at k fill i : ℕ) → at ≤ length old → i < at → get_or (put_mid at k old (replicate k fill)) i 0 ≡ get_or old i 0
 below old at k fill i le lt =

@@ -1,6 +1,6 @@
 -- Pieces over pieces.
-use Rattle.std.proofs.Common.{◌≡◌, ◌∙◌, ℕ, ◌+◌, ◌<◌, ◌≤◌, Bool, true, false, List, [], ◌∷◌, ◌++◌, length, get_or, drop, map, Option, Some, None, refl, sym, ap, subst, arith, nat_le, nat_lt, add-one}
-use Rattle.std.specs.Prelude.{◌&&◌, if◌then◌else◌, replicate, sum_by}
+use Rattle.std.proofs.Common.{◌≡◌, ◌∙◌, ℕ, ◌+◌, ◌<◌, ◌≤◌, false, List, [], ◌∷◌, ◌++◌, length, get_or, drop, map, Option, refl, sym, ap, subst, arith, nat_le}
+use Rattle.std.specs.Prelude.{replicate, sum_by}
 use Rattle.std.proofs.lemmas.Bool.Decides.{nat_tests}
 use Rattle.std.proofs.lemmas.List.{drop_all, get_or-replicate}
 use Rattle.std.proofs.lemmas.List.Sums.{sum_by-cons}
@@ -10,7 +10,8 @@ use Rattle.object65.specs.declared.object.Fragment.TheVariants.{Literal, Fill, V
 use Rattle.object65.specs.declared.object.Section.{Section}
 use Rattle.script65.proofs.NeedLemmas.{drop_item}
 use Rattle.tools65.specs.declared.linking.areas.Load.{Load}
-use Rattle.tools65.specs.Images.{IsImage, LaysAll, Piece, byte_over, covers, laid_over}
+use Rattle.tools65.specs.Images.{Piece, is_inside}
+use Rattle.tools65.specs.Laying.{IsLaid, LaysAll, byte_over, laid_over}
 use Rattle.tools65.specs.Loads.{view}
 use Rattle.tools65.specs.Pieces.{Placed, area_pieces, fragment_pieces, offset_of, pieces_from, row_pieces, section_pieces}
 use Rattle.tools65.specs.Sections.{section_of}
@@ -31,7 +32,7 @@ both ps qs old mid new first second = record {
 pub laid_none : (image : List ℕ) → LaysAll [] image image
 laid_none image = record { len = refl; each = λ i inside. refl }
 
-uncovered : (i at : ℕ) (bytes : List ℕ) → i < at → covers i at bytes ≡ false
+uncovered : (i at : ℕ) (bytes : List ℕ) → i < at → is_inside i at bytes ≡ false
 uncovered i at bytes below = let e : nat_le at i ≡ false = grind (arith, nat_tests) in rw e refl
 
 fragment_past : (fill at : ℕ) (f : Fragment) (i before : ℕ) → i < at → byte_over (fragment_pieces fill at f) i before ≡ before
@@ -76,7 +77,7 @@ pub no_row : (start : ℕ) (sections : List Section) (ls : List Load) (i : ℕ) 
 no_row start sections ls i image le = subst (λ (xs : List Load). LaysAll (area_pieces start sections (map view xs)) image image) (sym (drop_all i ls le)) (laid_none image)
 
 -- what is laid over nothing but the fill
-pub filled : (len fill : ℕ) (pieces : List Piece) (blank image : List ℕ) → blank ≡ replicate len fill → length blank ≡ len → LaysAll pieces blank image → IsImage len fill pieces image
+pub filled : (len fill : ℕ) (pieces : List Piece) (blank image : List ℕ) → blank ≡ replicate len fill → length blank ≡ len → LaysAll pieces blank image → IsLaid len fill pieces image
 filled len fill pieces blank image is count laid = record {
   size = laid.len ∙ count;
   bytes = λ i inside.

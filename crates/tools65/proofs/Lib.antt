@@ -9,3 +9,6 @@ pub mod SectionLemmas
 pub mod FillLemmas
 pub mod FileLemmas
 pub mod ModuleLemmas
+pub mod Covered
+pub mod Placements
+pub mod PlacedLemmas

@@ -5,14 +5,13 @@ use Rattle.std.specs.Option.{option_map}
 use Rattle.std.proofs.Common.{inl, inr}
 use Rattle.std.proofs.lemmas.List.{drop_all, map-append}
 use Rattle.std.proofs.lemmas.Option.{slice_get_cases}
-use Rattle.script65.proofs.Eaches.{append_none, drop_at, drop_end}
+use Rattle.script65.proofs.Eaches.{append_none, drop_at}
 use Rattle.script65.proofs.NeedLemmas.{drop_item}
-use Rattle.script65.specs.Access.{is_written}
 use Rattle.script65.specs.declared.placement.RowPlace.{RowPlace}
 use Rattle.script65.specs.declared.script.Row.{Row}
 use Rattle.tools65.specs.declared.linking.areas.Load.{Load}
 use Rattle.tools65.specs.Loads.{HoldsLoads, view}
-use Rattle.tools65.specs.Pieces.{Placed, is_loaded, loaded_in}
+use Rattle.tools65.specs.Pieces.{is_loaded, loaded_in}
 
 -- an item more, where a test holds
 abbrev pub with_if : {A : Type 0} → Bool → A → List A → List A

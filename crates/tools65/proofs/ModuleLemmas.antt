@@ -1,14 +1,13 @@
 -- Records that are read one after another, of which the linker takes some.
-use Rattle.std.proofs.Common.{◌≡◌, ◌∙◌, ◌<◌, ◌≤◌, ℕ, zero, suc, ◌+◌, ◌-◌, List, [], length, take, Bool, true, false, if◌then◌else◌, Option, Some, None, Result, Ok, Err, refl, sym, ap, arith}
+use Rattle.std.proofs.Common.{◌≡◌, ◌∙◌, ◌<◌, ◌≤◌, ℕ, zero, suc, ◌+◌, List, length, Bool, true, false, if◌then◌else◌, Option, Some, None, Result, Ok, Err, refl, sym, ap, arith}
 use Rattle.std.specs.Prelude.{IfSome}
-use Rattle.std.proofs.lemmas.List.{drop_all}
 use Rattle.std.specs.FinMap as map
-use Rattle.syntax65.specs.Store.{Files, Passes}
+use Rattle.syntax65.specs.Store.{Files}
 use Rattle.object65.specs.declared.fault.ObjectFault.{ObjectFault}
-use Rattle.object65.specs.declared.fault.ObjectFault.TheVariants.{OutOfMemory, CutShort, FileError, FileNotFound}
-use Rattle.object65.specs.Fault.{◌>>=◌, Refuses, is_memory, is_outside}
+use Rattle.object65.specs.declared.fault.ObjectFault.TheVariants.{CutShort, FileNotFound}
+use Rattle.object65.specs.Fault.{◌>>=◌, Refuses, is_outside}
 use Rattle.object65.specs.Record.{Entry}
-use Rattle.object65.specs.Reading.{end_at, head_at, in_file, record_at}
+use Rattle.object65.specs.Reading.{end_at, head_at, in_file}
 use Rattle.object65.specs.Taking.{State, start, after, finished}
 use Rattle.tools65.specs.Modules.{linked, linked_at, module_at, module_records}
 use Rattle.object65.proofs.Records.{cut as cut_record}

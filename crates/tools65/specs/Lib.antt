@@ -8,6 +8,7 @@ pub mod Leaving
 pub mod Sections
 pub mod Tables
 pub mod Pieces
+pub mod Laying
 pub mod Loads
 pub mod Outputs
 pub mod Warnings

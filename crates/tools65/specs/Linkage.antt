@@ -1,5 +1,5 @@
 -- What the linker makes of a script and an object.
-use Rattle.std.specs.Prelude.{◌≡◌, ℕ, ◌+◌, ◌-◌, ◌^◌, List, [], take, map, All, Option, Some, None, unwrap_or, Result, Ok, Err, codes}
+use Rattle.std.specs.Prelude.{◌≡◌, ℕ, ◌+◌, ◌-◌, ◌^◌, List, [], take, map, Option, Some, None, unwrap_or, Result, Ok, Err, codes}
 use Rattle.std.specs.FinMap.{get}
 use Rattle.syntax65.specs.Outcome.{First}
 use Rattle.syntax65.specs.Store.{Files}
@@ -20,6 +20,7 @@ use Rattle.tools65.specs.declared.linking.refusal.Refusal.TheVariants as refusal
 use Rattle.tools65.specs.declared.outcome.Output.{Output}
 use Rattle.tools65.specs.Line.{Linking}
 use Rattle.tools65.specs.Outputs.{AddsAreas}
+use Rattle.tools65.specs.Pieces.{IsFileOf}
 use Rattle.tools65.specs.Sections.{need_of}
 use Rattle.tools65.specs.Warnings.{warnings_of}
 
@@ -48,7 +49,7 @@ output_of l = unwrap_or l.output (codes "a.out")
 -- the files of an object's areas, where its segments are placed so, and what is warned of
 abbrev pub Links : List ℕ → Script → Object → Placement → Result Linked Refusal → Type 0
 Links output s o p r =
-    (outputs : List Output) × AddsAreas output o.sections s.rows p.rows 0 s.areas [] outputs × (r ≡ Ok (record { outputs = outputs; warnings = warnings_of s.rows o.sections }))
+    (outputs : List Output) × AddsAreas output (IsFileOf o.sections s.rows p.rows) 0 s.areas [] outputs × (r ≡ Ok (record { outputs = outputs; warnings = warnings_of s.rows o.sections }))
 
 -- an object by a script: its segments are placed, and then the areas' files are made
 abbrev pub IsPlaced : List ℕ → Script → Object → Result Linked Refusal → Type 0

@@ -1,14 +1,10 @@
 -- The files that commands write.
 use Rattle.std.specs.Prelude.{◌≡◌, ℕ, ◌+◌, ◌==◌, Bool, true, false, if◌then◌else◌, List, [], ◌∷◌, ◌++◌, length}
 use Rattle.std.specs.Str.{bytes_eq, is_utf8}
-use Rattle.object65.specs.declared.object.Section.{Section}
-use Rattle.script65.specs.declared.placement.RowPlace.{RowPlace}
 use Rattle.script65.specs.declared.script.Area.{Area}
 use Rattle.script65.specs.declared.script.AreaFile.{AreaFile}
 use Rattle.script65.specs.declared.script.AreaFile.TheVariants as file
-use Rattle.script65.specs.declared.script.Row.{Row}
 use Rattle.tools65.specs.declared.outcome.Output.{Output}
-use Rattle.tools65.specs.Pieces.{IsAreaFile, loaded_in}
 
 -- the name of an area's file, where the linker's output has a name; a script's names are all UTF-8
 abbrev pub file_name : List ℕ → AreaFile → List ℕ
@@ -30,8 +26,8 @@ abbrev pub AddsArea : Bool → List ℕ → (List ℕ → Type 0) → List Outpu
 AddsArea true name IsImage before after = after ≡ before
 AddsArea false name IsImage before after = (image : List ℕ) × IsImage image × (after ≡ with_bytes name image before)
 
--- the files behind areas, of which the first stands at a place of the script
-abbrev pub AddsAreas : List ℕ → List Section → List Row → List RowPlace → ℕ → List Area → List Output → List Output → Type 0
-AddsAreas output sections rows places k [] before after = after ≡ before
-AddsAreas output sections rows places k (a ∷ rest) before after =
-    (mid : List Output) × AddsArea (length (file_name output a.file) == 0) (file_name output a.file) (IsAreaFile a sections (loaded_in k rows places)) before mid × AddsAreas output sections rows places (k + 1) rest mid after
+-- the files behind areas, of which the first stands at a place of the script; each has a file of its own
+abbrev pub AddsAreas : List ℕ → (ℕ → Area → List ℕ → Type 0) → ℕ → List Area → List Output → List Output → Type 0
+AddsAreas output IsFile k [] before after = after ≡ before
+AddsAreas output IsFile k (a ∷ rest) before after =
+    (mid : List Output) × AddsArea (length (file_name output a.file) == 0) (file_name output a.file) (IsFile k a) before mid × AddsAreas output IsFile (k + 1) rest mid after

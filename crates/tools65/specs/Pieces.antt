@@ -1,5 +1,5 @@
 -- What lies in an area's file.
-use Rattle.std.specs.Prelude.{ℕ, ◌+◌, ◌-◌, ◌==◌, ◌&&◌, Bool, if◌then◌else◌, List, [], ◌∷◌, ◌++◌, length, replicate, Option, Some, None}
+use Rattle.std.specs.Prelude.{ℕ, ◌+◌, ◌-◌, ◌==◌, ◌&&◌, Bool, if◌then◌else◌, List, [], ◌∷◌, ◌++◌, replicate, Option, Some, None}
 use Rattle.object65.specs.declared.object.Section.{Section}
 use Rattle.object65.specs.declared.object.Fragment.{Fragment}
 use Rattle.object65.specs.declared.object.Fragment.TheVariants.{Literal, Fill, Value}
@@ -64,3 +64,7 @@ file_len a ps = if a.fill then a.size else end_behind a.start 0 ps
 -- An area's file, by the rows that are loaded there: byte i is that at the address i behind the area's start.
 abbrev pub IsAreaFile : Area → List Section → List Placed → List ℕ → Type 0
 IsAreaFile a sections ps image = IsImage (file_len a ps) a.fill_value (area_pieces a.start sections ps) image
+
+-- that of the area at a place of the script
+abbrev pub IsFileOf : List Section → List Row → List RowPlace → ℕ → Area → List ℕ → Type 0
+IsFileOf sections rows places k a = IsAreaFile a sections (loaded_in k rows places)

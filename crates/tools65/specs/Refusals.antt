@@ -1,5 +1,5 @@
 -- Why nothing is linked: in words, and whether the cause lies outside the files.
-use Rattle.std.specs.Prelude.{ℕ, List, [], ◌∷◌, Bool, true, false, codes, ◌||◌, if◌then◌else◌}
+use Rattle.std.specs.Prelude.{ℕ, List, Bool, true, false, codes, ◌||◌, if◌then◌else◌}
 use Rattle.syntax65.specs.declared.store.StoreFault.{StoreFault}
 use Rattle.syntax65.specs.declared.store.StoreFault.TheVariants as store
 use Rattle.syntax65.specs.StoreFaults.{store_words}

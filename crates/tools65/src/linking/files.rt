@@ -3,7 +3,7 @@
 ghost use Rattle.std.specs.Prelude.{◌≡◌, ◌<◌, ◌++◌, ◌==◌, List, [], All, IfOk, OnOk, Some, length, map, slice_get, slice_set};
 ghost use Rattle.tools65.specs.Loads.{view};
 ghost use Rattle.tools65.specs.Outputs.{AddsArea, AddsAreas, file_name, with_bytes};
-ghost use Rattle.tools65.specs.Pieces.{IsAreaFile};
+ghost use Rattle.tools65.specs.Laying.{IsLaidFile, LaysArea};
 ghost use Rattle.tools65.specs.Sections.{IsSound};
 ghost use Rattle.tools65.specs.Tables.{AreNamed, IsTable};
 ghost use Rattle.tools65.specs.declared.linking.areas.Load.{Load};
@@ -77,7 +77,7 @@ impl<'a> Files<'a> {
         requires named { AreNamed self.old }
         requires table { IsTable sections.now }
         requires sound { All IsSound sections.now.all.now }
-        ensures files { OnOk result (AddsArea (length name.entry.now == 0) name.entry.now (IsAreaFile area.now sections.now.all.now (map view loads.now)) self.old.outputs.items self.new.outputs.items) }
+        ensures files { OnOk result (AddsArea (length name.entry.now == 0) name.entry.now (IsLaidFile area.now sections.now.all.now (map view loads.now)) self.old.outputs.items self.new.outputs.items) }
         ensures named { OnOk result (AreNamed self.new) }
     {
         if name.is_empty() {
@@ -106,7 +106,7 @@ pub fn files_of(
 ) -> Result<Sequence<Output>, AllocError>
     requires table { IsTable sections.now }
     requires sound { All IsSound sections.now.all.now }
-    ensures { IfOk result (λ files. AddsAreas output.now sections.now.all.now rows.now places.now 0 areas.now [] files) }
+    ensures { IfOk result (λ files. AddsAreas output.now (LaysArea sections.now.all.now rows.now places.now) 0 areas.now [] files) }
 {
     let loads = loads_of(alloc, areas.len(), rows, places)?;
     let mut files = Files {

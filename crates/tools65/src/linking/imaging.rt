@@ -2,9 +2,9 @@
 
 ghost use Rattle.std.specs.Prelude.{◌≡◌, ◌<◌, ◌+◌, ◌^◌, All, IfOk, IfSome, length, map, option_copied, replicate, sum_by};
 ghost use Rattle.object65.specs.Objects.{fragment_len};
-ghost use Rattle.tools65.specs.Images.{Overlays, LaysAll};
+ghost use Rattle.tools65.specs.Laying.{IsLaidFile, LaysAll, Overlays};
 ghost use Rattle.tools65.specs.Loads.{view};
-ghost use Rattle.tools65.specs.Pieces.{IsAreaFile, area_pieces, end_behind, file_len, fragment_pieces, offset_of, pieces_from, row_pieces, section_pieces};
+ghost use Rattle.tools65.specs.Pieces.{area_pieces, end_behind, file_len, fragment_pieces, offset_of, pieces_from, row_pieces, section_pieces};
 ghost use Rattle.tools65.specs.Sections.{IsSound, section_of};
 ghost use Rattle.tools65.specs.Tables.{IsTable};
 
@@ -127,7 +127,7 @@ pub fn area_file(
 ) -> Result<Vec<u8>, AllocError>
     requires table { IsTable sections.now }
     requires sound { All IsSound sections.now.all.now }
-    ensures { IfOk result (λ image. IsAreaFile area.now sections.now.all.now (map view loads.now) image.items) }
+    ensures { IfOk result (λ image. IsLaidFile area.now sections.now.all.now (map view loads.now) image.items) }
 {
     let Ok(len) = usize::try_from(file_len(area, loads)) else {
         return Err(AllocError);

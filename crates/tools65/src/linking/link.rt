@@ -5,6 +5,7 @@ ghost use Rattle.syntax65.specs.Outcome.{First, Finds};
 ghost use Rattle.syntax65.specs.Store.{PassesBy};
 ghost use Rattle.tools65.specs.Line.{linking};
 ghost use Rattle.tools65.specs.Refusals.{is_outside, is_failure};
+ghost use Rattle.tools65.specs.Laying.{LaysArea};
 ghost use Rattle.tools65.specs.Outputs.{AddsAreas};
 ghost use Rattle.tools65.specs.Sections.{IsSound};
 ghost use Rattle.tools65.specs.Linkage.{script_text, output_of, IsPlaced, IsLinkedBy, IsLinked};
@@ -35,7 +36,7 @@ fn linked(
     places: &[RowPlace],
 ) -> Result<Linked, AllocError>
     requires { All IsSound sections.now }
-    ensures files { IfOk result (λ l. AddsAreas output.now sections.now script.now.rows places.now 0 script.now.areas [] l.outputs) }
+    ensures files { IfOk result (λ l. AddsAreas output.now (LaysArea sections.now script.now.rows places.now) 0 script.now.areas [] l.outputs) }
     ensures warnings { IfOk result (λ l. l.warnings ≡ warnings_of script.now.rows sections.now) }
 {
     let sections = Sections::of(alloc, sections)?;

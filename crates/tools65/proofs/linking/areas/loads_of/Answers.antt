@@ -1,5 +1,5 @@
-use Rattle.std.proofs.Common.{sym, subst, ℕ, ◌<◌, slice_get}
-use Rattle.tools65.proofs.LoadLemmas.{Collects, collects_none, collects_more, collects_past, collects_all}
+use Rattle.std.proofs.Common.{sym}
+use Rattle.tools65.proofs.LoadLemmas.{collects_none, collects_more, collects_past, collects_all}
 use Rattle.tools65.proofs.linking.areas.loads_of.Goals as goal
 use Rattle.tools65.proofs.linking.areas.loads_of.Goals.{in-Some+in_ok-add_row-in-Some, in-None}
 

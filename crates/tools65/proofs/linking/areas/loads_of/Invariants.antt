@@ -1,4 +1,4 @@
-use Rattle.std.proofs.Common.{◌<◌, ℕ, drop, slice_get}
+use Rattle.std.proofs.Common.{◌<◌, ℕ, slice_get}
 use Rattle.tools65.proofs.LoadLemmas.{Collects}
 use Rattle.tools65.proofs.linking.areas.loads_of.Given as goal
 

@@ -1,6 +1,6 @@
 use Rattle.std.proofs.Common.{◌∙◌, ap, map}
 use Rattle.tools65.specs.Loads.{view}
-use Rattle.tools65.proofs.FileLemmas.{next_area, no_area}
+use Rattle.tools65.proofs.FileLemmas.{next_area}
 use Rattle.tools65.proofs.linking.files.files_of.Goals as goal
 
 pub loop-k-preserved : goal.loop-k-preserved

@@ -1,7 +1,7 @@
-use Rattle.std.proofs.Common.{◌≡◌, ◌<◌, ◌+◌, ◌^◌, List, ℕ, drop}
+use Rattle.std.proofs.Common.{◌<◌, ◌+◌, ◌^◌, List, ℕ, drop}
 use Rattle.std.specs.Prelude.{sum_by}
 use Rattle.object65.specs.Objects.{fragment_len}
-use Rattle.tools65.specs.Images.{LaysAll}
+use Rattle.tools65.specs.Laying.{LaysAll}
 use Rattle.tools65.specs.Pieces.{pieces_from}
 use Rattle.tools65.proofs.linking.imaging.lay_fragments.Given as goal
 

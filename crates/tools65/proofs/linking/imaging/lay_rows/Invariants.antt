@@ -1,5 +1,5 @@
 use Rattle.std.proofs.Common.{List, ℕ, drop, map}
-use Rattle.tools65.specs.Images.{LaysAll}
+use Rattle.tools65.specs.Laying.{LaysAll}
 use Rattle.tools65.specs.Loads.{view}
 use Rattle.tools65.specs.Pieces.{area_pieces}
 use Rattle.tools65.proofs.linking.imaging.lay_rows.Given as goal

@@ -1,7 +1,6 @@
-use Rattle.std.proofs.Common.{◌≡◌, ◌∙◌, ◌∷◌, ◌++◌, ◌<◌, [], List, ℕ, ap, arith, length, map, sym}
+use Rattle.std.proofs.Common.{◌∙◌, ◌∷◌, ◌++◌, ◌<◌, [], List, ℕ, ap, arith, length, map, sym}
 use Rattle.std.proofs.lemmas.Grind.{common_steps}
 use Rattle.tools65.specs.Outputs.{with_bytes}
-use Rattle.tools65.specs.declared.outcome.Output.{Output}
 use Rattle.tools65.proofs.FileLemmas.{added_new, file_at, keys_stay, more_there, names_stay, no_file}
 use Rattle.tools65.proofs.linking.files.Files.add.Goals as goal
 

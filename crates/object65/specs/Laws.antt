@@ -32,7 +32,7 @@ OneSpellingLaw = (a b : List ℕ) (o : Object) → IsObject a o → IsObject b o
 abbrev pub NumberLaw : Type 0
 NumberLaw = (n : ℕ) (a b : List ℕ) → IsBytes a → IsBytes b → length a ≡ n → length b ≡ n → little_number n a ≡ little_number n b → a ≡ b
 
--- Folding a prefix operation keeps its value, and that it has none, wherever sections lie and whatever imports mean.
+-- folding a prefix operation keeps its value, and that it has none, wherever sections lie and whatever imports mean
 abbrev pub PrefixFoldLaw : Type 0 → Type 0
 PrefixFoldLaw E = (none : E) (bases : ℕ → ℤ) (imports : ℕ → Result ℤ E) (op : Op1) (f h : Form) → fold1 op f ≡ Ok h → value_in none bases imports h ≡ value_of_one none bases imports op f
 

@@ -1,4 +1,4 @@
-# bin65: make example builds the proved program and links a first object; make test is the merge gate.
+# bin65: make example builds the proved program, and assembles and links a first source; make test is the merge gate.
 PREFIX ?= /usr/local
 PROGRAM := crates/bin65/out/bin65
 

@@ -1,8 +1,8 @@
 -- Statements that are gathered line by line.
-use Rattle.std.proofs.Common.{◌≡◌, ◌∙◌, ℕ, ◌+◌, ◌≤◌, ◌<◌, Bool, true, false, nat_le, List, [], ◌∷◌, Option, refl, sym, subst, arith}
+use Rattle.std.proofs.Common.{◌≡◌, ℕ, ◌+◌, ◌≤◌, ◌<◌, Bool, true, false, nat_le, List, [], ◌∷◌, Option, refl, sym, subst, arith}
 use Rattle.std.specs.Prelude.{Result, Ok, Err}
 use Rattle.std.proofs.lemmas.Bool.Decides.{nat_tests}
-use Rattle.syntax65.specs.Outcome.{◌>>=◌, First, Unless, Gives, Finds}
+use Rattle.syntax65.specs.Outcome.{Unless, Gives, Finds}
 use Rattle.syntax65.specs.Relations.{Answers}
 use Rattle.syntax65.specs.Faults.{is_lex_outside}
 use Rattle.syntax65.specs.Tokens.{Lexeme, IsRead}
@@ -16,7 +16,7 @@ use Rattle.asm65.specs.declared.statement.Statement.{Statement}
 use Rattle.asm65.specs.declared.statement.Placed.{Placed}
 use Rattle.asm65.specs.Faults.{is_outside, is_outside_line}
 use Rattle.asm65.specs.Lines.{line_limit, lines_of}
-use Rattle.asm65.specs.Gathering.{IsStated, IsPlaced, IsAdded, IsGathered, at_line, counted, placed}
+use Rattle.asm65.specs.Gathering.{IsStated, IsPlaced, IsAdded, IsGathered, at_line, placed}
 use Rattle.asm65.specs.Statements.{statement_of}
 
 unless_then : {P Q : Type 0} (b : Bool) → (P → Q) → Unless b P → Unless b Q

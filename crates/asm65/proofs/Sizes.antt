@@ -1,20 +1,19 @@
 -- How many bytes statements have, and that their object is one of the grammar.
-use Rattle.std.proofs.Common.{◌≡◌, ℕ, pos, ◌+◌, ◌*◌, ◌≤◌, Bool, true, false, nat_le, nat_lt, List, [], ◌∷◌, ◌++◌, length, sum_by, Ok, Err, refl, sym, ap, ◌∙◌, arith, length-append}
+use Rattle.std.proofs.Common.{◌≡◌, ℕ, pos, ◌+◌, ◌*◌, ◌≤◌, Bool, true, false, nat_le, nat_lt, List, [], ◌∷◌, ◌++◌, length, Ok, Err, refl, sym, ap, ◌∙◌, arith, length-append}
 use Rattle.std.specs.Prelude.{Result}
 use Rattle.std.proofs.lemmas.Bool.Decides.{nat_tests}
 use Rattle.std.proofs.lemmas.List.Sums.{sum_by-cons}
-use Rattle.syntax65.specs.Outcome.{◌>>=◌}
 use Rattle.object65.specs.declared.object.Width.{Width}
 use Rattle.object65.specs.declared.object.Width.TheVariants.{Byte, Word, HighFirst, Dword, Branch}
-use Rattle.object65.specs.Objects.{fits_width, value_bytes, width_len, section_limit, is_good_object, ObjectFits}
+use Rattle.object65.specs.Objects.{fits_width, value_bytes, width_len, section_limit, is_good_object}
 use Rattle.asm65.specs.declared.fault.AsmFault.{AsmFault}
 use Rattle.asm65.specs.declared.refusal.LineFault.{LineFault}
 use Rattle.asm65.specs.declared.statement.Statement.{Statement}
 use Rattle.asm65.specs.declared.statement.Statement.TheVariants.{Data, Instruction}
 use Rattle.asm65.specs.declared.statement.Placed.{Placed}
 use Rattle.asm65.specs.Statements.{size_of}
-use Rattle.asm65.specs.Gathering.{total, at_line}
-use Rattle.asm65.specs.Objects.{behind, bytes_of_each, bytes_of_value, bytes_of_statement, bytes_of_placed, fragments_of, sections_of, object_with}
+use Rattle.asm65.specs.Gathering.{total}
+use Rattle.asm65.specs.Objects.{behind, bytes_of_each, bytes_of_value, bytes_of_statement, bytes_of_placed, sections_of, object_with}
 
 len_of_value : (width : Width) (v : ℕ) → length (value_bytes width (pos v)) ≡ width_len width
 len_of_value Byte v = refl

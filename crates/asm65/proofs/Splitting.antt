@@ -1,5 +1,5 @@
 -- The first line of bytes.
-use Rattle.std.proofs.Common.{◌≡◌, ℕ, zero, suc, ◌+◌, ◌<◌, Bool, true, false, nat_eq, not, ◌&&◌, List, [], ◌∷◌, length, take, drop, slice_get, Some, refl, ap, sym, ◌∙◌, arith, add-one, one-add, length-drop, subst, ◌≤◌}
+use Rattle.std.proofs.Common.{◌≡◌, ℕ, suc, ◌+◌, ◌<◌, Bool, true, false, not, List, [], ◌∷◌, length, take, drop, slice_get, refl, ap, sym, ◌∙◌, arith, add-one, one-add, length-drop, subst, ◌≤◌}
 use Rattle.std.specs.List.{prefix_len}
 use Rattle.std.proofs.lemmas.List.{take_all, drop_all}
 use Rattle.std.specs.Prelude.{unwrap_or, option_map, if◌then◌else◌, ◌-◌}

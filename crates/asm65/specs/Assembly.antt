@@ -9,7 +9,6 @@ use Rattle.asm65.specs.declared.fault.AsmFault.TheVariants.{Source}
 use Rattle.asm65.specs.declared.fault.SourceFault.TheVariants.{FileNotFound, TooLong}
 use Rattle.asm65.specs.declared.refusal.AsmRefusal.{AsmRefusal}
 use Rattle.asm65.specs.declared.refusal.LineFault.{LineFault}
-use Rattle.asm65.specs.declared.refusal.Place.{Place}
 use Rattle.asm65.specs.declared.statement.Placed.{Placed}
 use Rattle.asm65.specs.declared.assembly.AsmJob.{AsmJob}
 use Rattle.asm65.specs.Gathering.{IsGathered}

@@ -1,6 +1,5 @@
 -- The faults of assembling: in words, and whether the cause lies outside the source.
 use Rattle.std.specs.Prelude.{ℕ, List, [], ◌++◌, Bool, true, false, codes, ◌||◌, encode_utf8_all}
-use Rattle.syntax65.specs.declared.lexing.fault.LexFault.{LexFault}
 use Rattle.syntax65.specs.Faults.{lex_fault_words, is_lex_outside}
 use Rattle.syntax65.specs.declared.store.StoreFault.{StoreFault}
 use Rattle.syntax65.specs.declared.store.StoreFault.TheVariants as store

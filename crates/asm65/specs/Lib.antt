@@ -4,3 +4,4 @@ pub mod Statements
 pub mod Gathering
 pub mod Objects
 pub mod Assembly
+pub mod Laws

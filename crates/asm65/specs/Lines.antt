@@ -1,5 +1,5 @@
 -- The lines of a file.
-use Rattle.std.specs.Prelude.{ℕ, ◌-◌, Bool, true, false, nat_eq, ◌&&◌, List, [], ◌∷◌, length, take, slice_get, option_map, unwrap_or, if◌then◌else◌}
+use Rattle.std.specs.Prelude.{ℕ, ◌-◌, Bool, false, nat_eq, ◌&&◌, List, [], ◌∷◌, length, take, slice_get, option_map, unwrap_or, if◌then◌else◌}
 
 -- LF
 abbrev pub is_line_end : ℕ → Bool

@@ -1,5 +1,5 @@
 -- What a line's tokens say.
-use Rattle.std.specs.Prelude.{ℕ, ◌+◌, ◌*◌, Bool, true, false, slice_get, option_map, unwrap_or, List, [], ◌∷◌, length, map, codes, Option, Some, None, Result, Ok, Err, if◌then◌else◌}
+use Rattle.std.specs.Prelude.{ℕ, ◌*◌, Bool, true, false, slice_get, option_map, unwrap_or, List, [], ◌∷◌, length, map, codes, Option, Some, None, Result, Ok, Err, if◌then◌else◌}
 use Rattle.std.specs.Str.{str_eq_ignore_ascii_case}
 use Rattle.syntax65.specs.Mnemonics.{mnemonic_of}
 use Rattle.syntax65.specs.Opcodes.{opcode_of}

@@ -6,6 +6,7 @@ mod assembly;
 mod building;
 mod fault;
 mod gathering;
+pub mod laws;
 mod lines;
 mod parsing;
 mod refusal;

@@ -1,8 +1,8 @@
 pub mod Operators
 pub mod Form
 pub mod Norm
-pub mod Values
 pub mod Folding
+pub mod FormValue
 pub mod Fault
 pub mod Objects
 pub mod Record

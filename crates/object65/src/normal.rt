@@ -4,11 +4,9 @@ ghost use Rattle.std.specs.Prelude.{◌≡◌, ◌&&◌, not, nat_le};
 ghost use Rattle.object65.specs.Folding.{is_within, is_normal, is_literal, folds1, folds2, folds_sum, folds_difference, node_limit};
 ghost use Rattle.object65.specs.Form.{nodes};
 
-use crate::form::count;
-use crate::{Node, Norm, Op1, Op2};
-
-/// No form has more nodes.
-const NODE_LIMIT: u32 = 255;
+use crate::form::{NODE_LIMIT, count};
+use crate::{Node, Norm};
+use syntax65::{Op1, Op2};
 
 /// Whether the sections and imports of a form are there, of so many.
 pub fn are_there(form: &Norm, sections: usize, imports: usize) -> bool
@@ -69,8 +67,8 @@ fn folds_binary(op: Op2, left: &Norm, right: &Norm) -> bool
         return true;
     }
     match op {
-        Op2::Sum => folds_in_sum(left, right),
-        Op2::Difference => folds_in_difference(left, right),
+        Op2::Add => folds_in_sum(left, right),
+        Op2::Subtract => folds_in_difference(left, right),
         _ => false,
     }
 }

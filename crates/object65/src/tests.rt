@@ -1,5 +1,8 @@
 //! Objects that were worked out by hand, byte by byte.
 
+mod forms;
+mod records;
+
 ghost use Rattle.std.specs.Prelude.{◌≡◌, IfOk, None, true};
 ghost use Rattle.object65.specs.Objects.{is_good_object};
 

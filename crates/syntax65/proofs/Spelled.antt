@@ -1,5 +1,5 @@
 -- A mnemonic is found exactly where the bytes spell it.
-use Rattle.std.proofs.Common.{◌≡◌, ◌∙◌, ℕ, zero, suc, ◌<◌, Bool, true, false, cond, List, [], ◌∷◌, length, map, find, Option, Some, None, MatchOption, get_or, refl, sym, ap, subst, arith}
+use Rattle.std.proofs.Common.{◌≡◌, ◌∙◌, ℕ, zero, suc, ◌<◌, Bool, true, false, cond, List, [], ◌∷◌, length, map, find, slice_get, Option, Some, None, MatchOption, get_or, refl, sym, ap, subst, arith}
 use Rattle.std.specs.Prelude.{nat_eq}
 use Rattle.std.specs.Char.{to_ascii_lowercase}
 use Rattle.std.specs.Str.{str_eq_ignore_ascii_case}
@@ -60,6 +60,18 @@ pub spelled_both_ways : (bytes : List ℕ) → IsSpelled bytes (mnemonic_of byte
 unfolding mnemonic_of
 spelled_both_ways bytes = both (mnemonic_of bytes) bytes refl
 
-pub same_answer : (r : Option Mnemonic) (bytes : List ℕ) → r ≡ find (λ m. str_eq_ignore_ascii_case bytes (name_of m)) ALL → r ≡ mnemonic_of bytes
+pub spelled_answer : (r : Option Mnemonic) (bytes : List ℕ) → r ≡ mnemonic_of bytes → IsSpelled bytes r
+spelled_answer r bytes e = subst (λ (o : Option Mnemonic). IsSpelled bytes o) (sym e) (spelled_both_ways bytes)
+
+-- what is found among those that begin with the first letter is found among all
+pub found_among : (r : Option Mnemonic) (bytes : List ℕ) (letter : ℕ) (group : List Mnemonic) → Some letter ≡ slice_get bytes 0 → ((rest : List ℕ) → find (is_spelled (letter ∷ rest)) group ≡ find (is_spelled (letter ∷ rest)) ALL) → r ≡ find (is_spelled bytes) group → r ≡ mnemonic_of bytes
 unfolding mnemonic_of
-same_answer r bytes e = e
+found_among r [] letter group h same e = absurd cc
+found_among r (b ∷ bs) letter group h same e =
+    let k : letter ≡ b = cc in
+    e ∙ subst (λ l. find (is_spelled (l ∷ bs)) group ≡ find (is_spelled (l ∷ bs)) ALL) k (same bs)
+
+pub none_spelled : (bytes : List ℕ) → slice_get bytes 0 ≡ None → None ≡ mnemonic_of bytes
+unfolding mnemonic_of
+none_spelled [] h = refl
+none_spelled (b ∷ bs) h = absurd cc

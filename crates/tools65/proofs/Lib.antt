@@ -2,7 +2,6 @@ pub mod ImageLemmas
 pub mod Rows
 pub mod Taken
 pub mod Texts
-pub mod Fronts
 pub mod LinkLemmas
 pub mod Runs
 pub mod LoadLemmas

@@ -1,5 +1,5 @@
 -- What a command does.
-use Rattle.std.specs.Prelude.{◌≡◌, ℕ, ◌⊎◌, List, [], ◌∷◌, length, ◌==◌, if◌then◌else◌, Option, Result, Ok, Err}
+use Rattle.std.specs.Prelude.{◌≡◌, ℕ, ◌⊎◌, List, [], Option, Result, Ok, Err}
 use Rattle.syntax65.specs.Store.{Files}
 use Rattle.object65.specs.declared.object.Object.{Object}
 use Rattle.object65.specs.Spelling.{object_bytes}
@@ -10,18 +10,14 @@ use Rattle.tools65.specs.declared.command_line.fault.LineFault.{LineFault}
 use Rattle.tools65.specs.declared.linking.linked.Linked.{Linked}
 use Rattle.tools65.specs.declared.linking.refusal.Refusal.{Refusal}
 use Rattle.tools65.specs.declared.outcome.Outcome.{Outcome}
-use Rattle.tools65.specs.declared.outcome.Output.{Output}
 use Rattle.tools65.specs.declared.outcome.Status.{Status}
 use Rattle.tools65.specs.declared.outcome.Status.TheVariants.{Success, Failure}
 use Rattle.tools65.specs.Leaving.{Performs, StopsShort}
 use Rattle.tools65.specs.Line.{Assembling, Linking, Says, assemble, link, line_of}
 use Rattle.tools65.specs.Linkage.{IsLinked}
+use Rattle.tools65.specs.Outputs.{outputs_of}
 use Rattle.tools65.specs.Messages.{line_message_of, line_memory_message, memory_line}
 use Rattle.tools65.specs.Refusals.{refusal_message, memory_message}
-
--- the file of a name, or none where the name is empty
-abbrev pub outputs_of : List ℕ → List ℕ → List Output
-outputs_of name bytes = if length name == 0 then [] else record { name = name; bytes = bytes } ∷ []
 
 -- a command that only says why
 abbrev pub failing : List ℕ → Outcome

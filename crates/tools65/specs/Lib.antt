@@ -5,7 +5,6 @@ pub mod LineFaults
 pub mod Messages
 pub mod Naming
 pub mod Leaving
-pub mod Reading
 pub mod Sections
 pub mod Tables
 pub mod Pieces

@@ -1,4 +1,4 @@
--- The files that a link writes.
+-- The files that commands write.
 use Rattle.std.specs.Prelude.{◌≡◌, ℕ, ◌+◌, ◌==◌, Bool, true, false, if◌then◌else◌, List, [], ◌∷◌, ◌++◌, length}
 use Rattle.std.specs.Str.{bytes_eq, is_utf8}
 use Rattle.script65.specs.declared.script.Area.{Area}
@@ -10,6 +10,10 @@ use Rattle.tools65.specs.declared.outcome.Output.{Output}
 abbrev pub file_name : List ℕ → AreaFile → List ℕ
 file_name output file.Output = output
 file_name output (file.Named name) = if is_utf8 name then name else []
+
+-- the file of a name, or none where the name is empty
+abbrev pub outputs_of : List ℕ → List ℕ → List Output
+outputs_of name bytes = if length name == 0 then [] else record { name = name; bytes = bytes } ∷ []
 
 -- bytes behind those of the file of a name, or as a new file behind the others
 abbrev pub with_bytes : List ℕ → List ℕ → List Output → List Output

@@ -10,12 +10,11 @@ mod outcome;
 mod outputs;
 mod performing;
 mod printing;
-mod reading;
 mod running;
 mod writing;
 
 pub use command_line::fault::LineFault;
-pub use command_line::line::{Line, LinkLine};
+pub use command_line::line::{AssembleLine, Line, LinkLine};
 pub use command_line::reading::read_line;
 pub use disk_store::DiskStore;
 pub use outcome::{Outcome, Output, Status};

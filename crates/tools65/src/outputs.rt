@@ -1,7 +1,7 @@
 //! The files that a command leaves.
 
 ghost use Rattle.std.specs.Prelude.{◌≡◌, IfOk};
-ghost use Rattle.tools65.specs.Command.{outputs_of};
+ghost use Rattle.tools65.specs.Outputs.{outputs_of};
 
 use crate::outcome::Output;
 use std::alloc::{AllocError, Global};

@@ -19,11 +19,10 @@ use crate::linking::needs::needs_of;
 use crate::linking::refusal::Refusal;
 use crate::linking::sections::Sections;
 use crate::linking::warning::warnings_of;
-use crate::reading::read_front;
 use object65::{Object, Section};
 use script65::{RowPlace, Script, place, read_script};
 use std::alloc::{AllocError, Global};
-use syntax65::{Sequence, Store};
+use syntax65::{Sequence, Store, read_front};
 
 /// A script has at most so many bytes.
 const SCRIPT_LIMIT: usize = 1_048_576;

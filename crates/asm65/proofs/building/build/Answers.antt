@@ -1,6 +1,4 @@
-use Rattle.std.proofs.Common.{◌≡◌, ◌∙◌, ◌≤◌, [], Ok, sym, ap, arith, length, true}
-use Rattle.asm65.specs.Objects.{behind, bytes_of_each, bytes_of_placed, object_with, sections_of}
-use Rattle.object65.specs.Objects.{is_good_object, section_limit}
+use Rattle.std.proofs.Common.{arith}
 use Rattle.asm65.proofs.Sizes.{good_object, all_len}
 use Rattle.asm65.proofs.building.build.Goals as goal
 

@@ -1,6 +1,6 @@
 use Rattle.std.proofs.Common.{◌≡◌, ◌∙◌, suc, ◌+◌, ◌<◌, [], ◌∷◌, length, drop, sym, ap, arith, refl, Ok, true, false, add-one}
 use Rattle.syntax65.specs.Tokens.{lexemes}
-use Rattle.asm65.specs.Statements.{numbers_of, kinds, number_at, is_comma_at}
+use Rattle.asm65.specs.Statements.{numbers_of, kinds, is_comma_at}
 use Rattle.asm65.proofs.Numbered.{before, nothing_there, last_there, no_comma_there, comma_there, further, kinds_len, is_none}
 use Rattle.asm65.proofs.parsing.numbers_of.Goals as goal
 

@@ -5,4 +5,4 @@ use Rattle.syntax65.proofs.instructions.lookup.first_spelled.Given as goal
 
 abbrev pub invariant-loop-m : goal.invariant-loop-m
 invariant-loop-m l =
-    find (λ m. str_eq_ignore_ascii_case l.bytes (name_of m)) (drop l.m-index l.all) ≡ find (λ m. str_eq_ignore_ascii_case l.bytes (name_of m)) l.all
+    find (λ m. str_eq_ignore_ascii_case l.bytes (name_of m)) (drop l.m-index l.some) ≡ find (λ m. str_eq_ignore_ascii_case l.bytes (name_of m)) l.some

@@ -1,12 +1,15 @@
-use Rattle.std.proofs.Common.{Option, sym, subst}
-use Rattle.syntax65.specs.Mnemonics.{IsSpelled}
-use Rattle.syntax65.specs.declared.instructions.names.Mnemonic.{Mnemonic}
-use Rattle.syntax65.proofs.Spelled.{spelled_both_ways, same_answer}
+use Rattle.std.proofs.Common.{sym}
+use Rattle.syntax65.proofs.Spelled.{found_among, none_spelled, spelled_answer}
 use Rattle.syntax65.proofs.instructions.lookup.mnemonic.Goals as goal
 
-pub returns-clause-value : goal.returns-clause-value
-returns-clause-value c = same_answer c.first_spelled.result c.args.bytes.now c.first_spelled.ensures
+pub returns-in-Some-clause-value : goal.returns-in-Some-clause-value
+returns-in-Some-clause-value c =
+    found_among c.first_spelled.result c.args.bytes.now c.in-Some.letter.now c.beginning_with.result.now c.in-Some.ensures.value c.beginning_with.ensures c.first_spelled.ensures
 
-pub returns-clause-spelled : goal.returns-clause-spelled
-returns-clause-spelled c =
-    subst (λ (r : Option Mnemonic). IsSpelled c.args.bytes.now r) (sym (same_answer c.first_spelled.result c.args.bytes.now c.first_spelled.ensures)) (spelled_both_ways c.args.bytes.now)
+pub returns-in-Some-clause-spelled : goal.returns-in-Some-clause-spelled
+returns-in-Some-clause-spelled c =
+    spelled_answer c.first_spelled.result c.args.bytes.now
+    (found_among c.first_spelled.result c.args.bytes.now c.in-Some.letter.now c.beginning_with.result.now c.in-Some.ensures.value c.beginning_with.ensures c.first_spelled.ensures)
+
+pub returns-in-None-clause-value : goal.returns-in-None-clause-value
+returns-in-None-clause-value c = none_spelled c.args.bytes.now (sym c.in-None.ensures.value)

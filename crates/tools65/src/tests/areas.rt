@@ -9,8 +9,16 @@ use std::test::Fail;
 const THREE: &[u8] =
     b"R65o\x01\x02\x09\0\x01\0\0\0\0CODE\x02\x08\0\x02\0\0\0\0BSS\x02\x09\0\x01\0\0\0\0DATA\x03\x01\0\xEA\x03\x02\0\x07\x08\x03\x01\0\x01\x08\0\0";
 
-/// CODE with `EA 00 00 00 05`, a multiple of 4.
-const ALIGNED: &[u8] = b"R65o\x01\x02\x09\0\x05\0\0\0\x02CODE\x03\x05\0\xEA\0\0\0\x05\x08\0\0";
+/// CODE with `EA`, BSS with room for two bytes and DATA with `01`.
+const ROOM: &[u8] =
+    b"R65o\x01\x02\x09\0\x01\0\0\0\0CODE\x02\x08\0\x02\0\0\0\0BSS\x02\x09\0\x01\0\0\0\0DATA\x03\x01\0\xEA\x04\x04\0\x02\0\0\0\x03\x01\0\x01\x08\0\0";
+
+/// CODE with `EA`, room for three bytes and `05`, at a multiple of 4.
+const ALIGNED: &[u8] =
+    b"R65o\x01\x02\x09\0\x05\0\0\0\x02CODE\x03\x01\0\xEA\x04\x04\0\x03\0\0\0\x03\x01\0\x05\x08\0\0";
+
+/// An object that imports `v`.
+const IMPORT: &[u8] = b"R65o\x01\x01\x01\0v\x08\0\0";
 
 /// P and Q of one byte each.
 const PAIR: &[u8] =
@@ -22,7 +30,17 @@ const EMPTY: &[u8] = b"R65o\x01\x08\0\0";
 /// Images that an object and a script come to without a word.
 #[test]
 fn fills_gaps(rt: HostRuntime) -> Result<(), Fail> {
-    let rows: [(&[u8], &str, &[u8]); 7] = [
+    let rows: [(&[u8], &str, &[u8]); 9] = [
+        (
+            ROOM,
+            "MEMORY { ROM: start = $8000, size = $10, fillval = $FF; } SEGMENTS { CODE: load = ROM; BSS: load = ROM, type = bss; DATA: load = ROM; }",
+            b"\xEA\xFF\xFF\x01",
+        ),
+        (
+            ALIGNED,
+            "MEMORY { ROM: start = $8000, size = $10, fillval = $FF; } SEGMENTS { CODE: load = ROM, align = 4, fillval = 7; }",
+            b"\xEA\x07\x07\x07\x05",
+        ),
         (
             &O1,
             "MEMORY { ROM: start = $8000, size = 8, fill = yes, fillval = $FF; } SEGMENTS { CODE: load = ROM, type = ro; }",
@@ -159,7 +177,8 @@ fn ends_with_its_area(rt: HostRuntime) -> Result<(), Fail> {
 
 #[test]
 fn refuses_what_is_not_placed(rt: HostRuntime) -> Result<(), Fail> {
-    let rows: [(&[u8], &str, &str); 5] = [
+    let rows: [(&[u8], &str, &str); 6] = [
+        (IMPORT, S1, "a.o: Error: unknown record\n"),
         (
             &O1,
             "MEMORY { ROM: start = 0, size = 9; } SEGMENTS { DATA: load = ROM; }",

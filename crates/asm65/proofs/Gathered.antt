@@ -19,7 +19,7 @@ use Rattle.asm65.specs.Lines.{line_limit, lines_of}
 use Rattle.asm65.specs.Gathering.{IsStated, IsPlaced, IsAdded, IsGathered, at_line, placed}
 use Rattle.asm65.specs.Statements.{statement_of}
 
-unless_then : {P Q : Type 0} (b : Bool) → (P → Q) → Unless b P → Unless b Q
+pub unless_then : {P Q : Type 0} (b : Bool) → (P → Q) → Unless b P → Unless b Q
 unless_then true f h = tt
 unless_then false f h = f h
 

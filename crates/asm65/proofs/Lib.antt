@@ -5,3 +5,4 @@ pub mod Sources
 pub mod Sizes
 pub mod Gathered
 pub mod OneAnswers
+pub mod Joins

@@ -13,7 +13,8 @@ use Rattle.asm65.specs.declared.statement.Statement.TheVariants.{Data, Instructi
 use Rattle.asm65.specs.declared.statement.Placed.{Placed}
 use Rattle.asm65.specs.Statements.{size_of}
 use Rattle.asm65.specs.Gathering.{total}
-use Rattle.asm65.specs.Objects.{behind, bytes_of_each, bytes_of_value, bytes_of_statement, bytes_of_placed, sections_of, object_with}
+use Rattle.asm65.specs.Contents.{behind, bytes_of_value, bytes_of_statement, bytes_of_placed, literal_of}
+use Rattle.asm65.specs.Objects.{all_of_each, sections_of, object_with}
 
 len_of_value : (width : Width) (v : ℕ) → length (value_bytes width (pos v)) ≡ width_len width
 len_of_value Byte v = refl
@@ -29,11 +30,11 @@ value_len width v bs h = go (fits_width width (pos v)) refl
     go true e = let f : Ok (value_bytes width (pos v)) ≡ Ok bs = rw e at h in let g : value_bytes width (pos v) ≡ bs = cc in ap length (sym g) ∙ len_of_value width v
     go false e = let f = rw e at h in absurd cc
 
-values_len : (width : Width) (vs bs : List ℕ) → bytes_of_each (bytes_of_value width) vs ≡ Ok bs → length bs ≡ length vs * width_len width
+values_len : (width : Width) (vs bs : List ℕ) → all_of_each (bytes_of_value width) vs ≡ Ok bs → length bs ≡ length vs * width_len width
 values_len width [] bs h = let e : [] ≡ bs = cc in omega (arith, ap length e)
-values_len width (v ∷ vs) bs h = go (bytes_of_value width v) (bytes_of_each (bytes_of_value width) vs) refl refl (values_len width vs)
+values_len width (v ∷ vs) bs h = go (bytes_of_value width v) (all_of_each (bytes_of_value width) vs) refl refl (values_len width vs)
   where
-    go : (r s : Result (List ℕ) AsmFault) → bytes_of_value width v ≡ r → bytes_of_each (bytes_of_value width) vs ≡ s → ((cs : List ℕ) → bytes_of_each (bytes_of_value width) vs ≡ Ok cs → length cs ≡ length vs * width_len width) → length bs ≡ length (v ∷ vs) * width_len width
+    go : (r s : Result (List ℕ) AsmFault) → bytes_of_value width v ≡ r → all_of_each (bytes_of_value width) vs ≡ s → ((cs : List ℕ) → all_of_each (bytes_of_value width) vs ≡ Ok cs → length cs ≡ length vs * width_len width) → length bs ≡ length (v ∷ vs) * width_len width
     go (Ok b) (Ok cs) e f next =
         let g : Ok (b ++ cs) ≡ Ok bs = rw (e, f) at h in
         let k : b ++ cs ≡ bs = cc in
@@ -52,11 +53,11 @@ placed_len p bs h = go (bytes_of_statement p.statement) refl
     go (Ok cs) e = let g : Ok cs ≡ Ok bs = rw e at h in statement_len p.statement bs (e ∙ (let k : cs ≡ bs = cc in ap Ok k))
     go (Err x) e = let g = rw e at h in absurd cc
 
-pub total_len : (ss : List Placed) (bs : List ℕ) → bytes_of_each bytes_of_placed ss ≡ Ok bs → length bs ≡ total ss
+pub total_len : (ss : List Placed) (bs : List ℕ) → all_of_each bytes_of_placed ss ≡ Ok bs → length bs ≡ total ss
 total_len [] bs h = let e : [] ≡ bs = cc in ap length (sym e)
-total_len (s ∷ ss) bs h = go (bytes_of_placed s) (bytes_of_each bytes_of_placed ss) refl refl (total_len ss)
+total_len (s ∷ ss) bs h = go (bytes_of_placed s) (all_of_each bytes_of_placed ss) refl refl (total_len ss)
   where
-    go : (q r : Result (List ℕ) LineFault) → bytes_of_placed s ≡ q → bytes_of_each bytes_of_placed ss ≡ r → ((cs : List ℕ) → bytes_of_each bytes_of_placed ss ≡ Ok cs → length cs ≡ total ss) → length bs ≡ total (s ∷ ss)
+    go : (q r : Result (List ℕ) LineFault) → bytes_of_placed s ≡ q → all_of_each bytes_of_placed ss ≡ r → ((cs : List ℕ) → all_of_each bytes_of_placed ss ≡ Ok cs → length cs ≡ total ss) → length bs ≡ total (s ∷ ss)
     go (Ok b) (Ok cs) e f next =
         let g : Ok (b ++ cs) ≡ Ok bs = rw (e, f) at h in
         let k : b ++ cs ≡ bs = cc in
@@ -64,7 +65,7 @@ total_len (s ∷ ss) bs h = go (bytes_of_placed s) (bytes_of_each bytes_of_place
     go (Ok b) (Err x) e f next = let g = rw (e, f) at h in absurd cc
     go (Err x) r e f next = let g = rw e at h in absurd cc
 
-pub good_object : (ss : List Placed) (bs : List ℕ) → length bs ≤ section_limit → is_good_object (object_with (sections_of ss bs)) ≡ true
+pub good_object : (ss : List Placed) (bs : List ℕ) → length bs ≤ section_limit → is_good_object (object_with (sections_of ss (literal_of bs))) ≡ true
 good_object [] bs le = refl
 good_object (s ∷ ss) [] le = refl
 good_object (s ∷ ss) (b ∷ bs) le =
@@ -73,9 +74,9 @@ good_object (s ∷ ss) (b ∷ bs) le =
     rw (e, f) refl
 
 -- what is added to nothing
-pub all_len : (ss : List Placed) (bs : List ℕ) → behind [] (bytes_of_each bytes_of_placed ss) ≡ Ok bs → length bs ≡ total ss
-all_len ss bs h = go (bytes_of_each bytes_of_placed ss) refl
+pub all_len : (ss : List Placed) (bs : List ℕ) → behind [] (all_of_each bytes_of_placed ss) ≡ Ok bs → length bs ≡ total ss
+all_len ss bs h = go (all_of_each bytes_of_placed ss) refl
   where
-    go : (r : Result (List ℕ) LineFault) → bytes_of_each bytes_of_placed ss ≡ r → length bs ≡ total ss
+    go : (r : Result (List ℕ) LineFault) → all_of_each bytes_of_placed ss ≡ r → length bs ≡ total ss
     go (Ok cs) e = let g : Ok cs ≡ Ok bs = rw e at h in total_len ss bs (e ∙ g)
     go (Err x) e = let g = rw e at h in absurd cc

@@ -5,7 +5,8 @@ ghost use Rattle.syntax65.specs.Outcome.{Gives};
 ghost use Rattle.object65.specs.Objects.{is_good_object, section_limit, ObjectFits};
 ghost use Rattle.asm65.specs.Faults.{is_failure, is_outside, is_outside_line};
 ghost use Rattle.asm65.specs.Gathering.{total};
-ghost use Rattle.asm65.specs.Objects.{behind, bytes_of_each, bytes_of_placed, bytes_of_statement, bytes_of_value, fragments_of, object_of, object_with, sections_of};
+ghost use Rattle.asm65.specs.Contents.{behind, bytes_of_placed, bytes_of_statement, bytes_of_value, literal_of};
+ghost use Rattle.asm65.specs.Objects.{all_of_each, object_of, sections_of};
 
 use crate::AsmFault;
 use crate::gathering::at_line;
@@ -30,7 +31,7 @@ fn add_value(out: &mut Vec<u8>, width: Width, value: u32) -> Result<(), AsmFault
 
 /// Adds the bytes of values.
 fn add_values(out: &mut Vec<u8>, width: Width, values: &[u32]) -> Result<(), AsmFault>
-    ensures added { Gives is_outside (λ _. out.new.items) result (behind out.old.items (bytes_of_each (bytes_of_value width) values.now)) }
+    ensures added { Gives is_outside (λ _. out.new.items) result (behind out.old.items (all_of_each (bytes_of_value width) values.now)) }
     ensures inside { IfErr result (λ e. is_failure e ≡ false) }
 {
     for value in values {
@@ -55,7 +56,7 @@ fn add_statement(out: &mut Vec<u8>, statement: &Statement) -> Result<(), AsmFaul
 
 /// Adds the bytes of statements.
 fn add_statements(out: &mut Vec<u8>, statements: &[Placed]) -> Result<(), LineFault>
-    ensures added { Gives is_outside_line (λ _. out.new.items) result (behind out.old.items (bytes_of_each bytes_of_placed statements.now)) }
+    ensures added { Gives is_outside_line (λ _. out.new.items) result (behind out.old.items (all_of_each bytes_of_placed statements.now)) }
     ensures inside { IfErr result (λ e. is_failure e.fault ≡ false) }
 {
     for placed in statements {
@@ -64,9 +65,9 @@ fn add_statements(out: &mut Vec<u8>, statements: &[Placed]) -> Result<(), LineFa
     Ok(())
 }
 
-/// The fragments of a section's bytes.
-fn fragments_of(alloc: Global, bytes: Vec<u8>) -> Result<Sequence<Fragment>, AllocError>
-    ensures { IfOk result (λ fragments. fragments ≡ fragments_of bytes.items) }
+/// The fragments of bytes.
+fn literal_of(alloc: Global, bytes: Vec<u8>) -> Result<Sequence<Fragment>, AllocError>
+    ensures { IfOk result (λ fragments. fragments ≡ literal_of bytes.items) }
 {
     let mut fragments = Sequence::new(alloc);
     if !bytes.is_empty() {
@@ -81,14 +82,14 @@ fn sections_of(
     statements: &[Placed],
     bytes: Vec<u8>,
 ) -> Result<Sequence<Section>, AllocError>
-    ensures { IfOk result (λ sections. sections ≡ sections_of statements.now bytes.items) }
+    ensures { IfOk result (λ sections. sections ≡ sections_of statements.now (literal_of bytes.items)) }
 {
     let mut sections = Sequence::new(alloc);
     if !statements.is_empty() {
         sections.push(Section {
             name: Sequence::from_vec(Vec::from_slice(alloc, b"CODE")?),
             align: 0,
-            fragments: fragments_of(alloc, bytes)?,
+            fragments: literal_of(alloc, bytes)?,
         })?;
     }
     Ok(sections)

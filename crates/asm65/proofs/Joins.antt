@@ -12,7 +12,7 @@ use Rattle.asm65.specs.declared.refusal.LineFault.{LineFault}
 use Rattle.asm65.specs.declared.statement.Statement.{Statement}
 use Rattle.asm65.specs.declared.statement.Statement.TheVariants.{Data, Instruction}
 use Rattle.asm65.specs.declared.statement.Placed.{Placed}
-use Rattle.asm65.specs.Contents.{behind, bytes_of_value, bytes_of_statement, bytes_of_placed, literal_of}
+use Rattle.asm65.specs.Bytes.{behind, bytes_of_value, bytes_of_statement, bytes_of_placed, literal_of}
 use Rattle.asm65.specs.Faults.{is_outside_line}
 use Rattle.asm65.specs.Gathering.{at_line}
 use Rattle.asm65.specs.Objects.{all_of_each, fragments_of_value, fragments_of_statement, fragments_of_placed, join, joined, sections_of, object_with, object_of}

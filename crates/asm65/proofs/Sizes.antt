@@ -13,7 +13,7 @@ use Rattle.asm65.specs.declared.statement.Statement.TheVariants.{Data, Instructi
 use Rattle.asm65.specs.declared.statement.Placed.{Placed}
 use Rattle.asm65.specs.Statements.{size_of}
 use Rattle.asm65.specs.Gathering.{total}
-use Rattle.asm65.specs.Contents.{behind, bytes_of_value, bytes_of_statement, bytes_of_placed, literal_of}
+use Rattle.asm65.specs.Bytes.{behind, bytes_of_value, bytes_of_statement, bytes_of_placed, literal_of}
 use Rattle.asm65.specs.Objects.{all_of_each, sections_of, object_with}
 
 len_of_value : (width : Width) (v : ℕ) → length (value_bytes width (pos v)) ≡ width_len width

@@ -3,6 +3,6 @@ pub mod Lines
 pub mod Statements
 pub mod Gathering
 pub mod Objects
-pub mod Contents
+pub mod Bytes
 pub mod Assembly
 pub mod Laws

@@ -5,7 +5,7 @@ ghost use Rattle.syntax65.specs.Outcome.{Gives};
 ghost use Rattle.object65.specs.Objects.{is_good_object, section_limit, ObjectFits};
 ghost use Rattle.asm65.specs.Faults.{is_failure, is_outside, is_outside_line};
 ghost use Rattle.asm65.specs.Gathering.{total};
-ghost use Rattle.asm65.specs.Contents.{behind, bytes_of_placed, bytes_of_statement, bytes_of_value, literal_of};
+ghost use Rattle.asm65.specs.Bytes.{behind, bytes_of_placed, bytes_of_statement, bytes_of_value, literal_of};
 ghost use Rattle.asm65.specs.Objects.{all_of_each, object_of, sections_of};
 
 use crate::AsmFault;

@@ -1,5 +1,5 @@
 use Rattle.std.proofs.Common.{◌≡◌, drop}
-use Rattle.asm65.specs.Contents.{behind, bytes_of_value}
+use Rattle.asm65.specs.Bytes.{behind, bytes_of_value}
 use Rattle.asm65.specs.Objects.{all_of_each}
 use Rattle.asm65.proofs.building.add_values.Given as goal
 

@@ -20,6 +20,7 @@ pub enum Class {
 }
 
 /// The class of a byte.
+#[inline]
 pub fn class_of(b: u8) -> Class
     ensures { result ≡ class_of b }
 {
@@ -39,6 +40,7 @@ pub fn class_of(b: u8) -> Class
 }
 
 /// Whether the byte may stand behind the first of a name or number.
+#[inline]
 pub fn is_word(b: u8) -> bool
     ensures { result ≡ is_word b }
 {
@@ -46,6 +48,7 @@ pub fn is_word(b: u8) -> bool
 }
 
 /// Whether the byte parts tokens.
+#[inline]
 pub fn is_blank(b: u8) -> bool
     ensures { result ≡ is_blank b }
 {

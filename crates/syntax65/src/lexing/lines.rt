@@ -26,7 +26,8 @@ pub fn line_tokens(alloc: Global, line: &[u8]) -> Result<Vec<Token<'_>>, LexFaul
     if line.len() > MAX_LINE {
         return Err(LexFault::LineTooLong);
     }
-    let mut tokens = Vec::new(alloc);
+    // A token and what parts it from the next take some four bytes.
+    let mut tokens = Vec::with_capacity(alloc, line.len() / 4)?;
     let mut rest = line;
     'line: loop {
         let here = skip_blanks(rest);

@@ -20,7 +20,7 @@ token_at-requires-clause-no_blank c = λ b. no_blank_behind c.line.rest.now (sub
 
 pub returns-in_err-kind : goal.returns-in_err-kind
 returns-in_err-kind c =
-    let p = err_from_is_err_and c.from_residual.result c.from_residual.ensures.1 in
+    let p = err_from_is_err_and c.from_residual-in_err-kind.result c.from_residual-in_err-kind.ensures.1 in
     let same = c.skip_blanks-here.ensures in
     let fault = c.in_err-kind.ensures in
     let place : IsEnd (after_blanks c.line.rest.now) → ⊥ = λ e. (let f : IsTrue false = c.if-is_end.ensures.1 (subst IsEnd (sym same) e) in cc) in

@@ -1,43 +1,55 @@
 -- The records of an object lead to a state that stands for it.
-use Rattle.std.proofs.Common.{◌≡◌, ◌∙◌, ℕ, zero, suc, ◌+◌, ◌-◌, ◌%◌, ◌<◌, ◌≤◌, List, [], ◌∷◌, ◌++◌, length, take, drop, map, Bool, true, false, ◌&&◌, ◌||◌, not, nat_lt, nat_le, nat_eq, ◌==◌, Result, Ok, refl, sym, ap, arith, append_assoc, length-append, inl, inr}
+use Rattle.std.proofs.Common.{◌≡◌, ◌∙◌, ℕ, zero, suc, ◌+◌, ◌-◌, ◌%◌, ◌^◌, ◌<◌, ◌≤◌, List, [], ◌∷◌, ◌++◌, length, take, drop, map, Bool, true, false, ◌&&◌, ◌||◌, not, nat_lt, nat_le, nat_eq, ◌==◌, Result, Ok, refl, sym, ap, subst, arith, append_assoc, length-append, inl, inr}
 use Rattle.std.proofs.lemmas.Bool.Decides.{nat_tests}
 use Rattle.std.proofs.lemmas.List.{map-append, length-take, length-drop, take-append-drop}
 use Rattle.std.specs.Cmp.{nat_eq_equiv}
 use Rattle.std.specs.Cmp.Lexicographic.{pointwise, lists_equiv}
 use Rattle.std.specs.List.{flat_map, list_all, sum_by, AllByRecursion}
 use Rattle.std.proofs.lemmas.List.Folds.{list_any-append, list_all-append}
+use Rattle.std.proofs.lemmas.List.Sums.{sum_by-append, sum_by-cons}
 use Rattle.byteorder.specs.Endian.{little_bytes, little_number}
 use Rattle.object65.specs.declared.draft.Draft.{Draft}
 use Rattle.object65.specs.declared.fault.ObjectFault.{ObjectFault}
+use Rattle.object65.specs.declared.object.Assert.{Assert}
+use Rattle.object65.specs.declared.object.Export.{Export}
+use Rattle.object65.specs.declared.object.Fragment.{Fragment}
+use Rattle.object65.specs.declared.object.Fragment.TheVariants.{Literal, Fill, Value}
+use Rattle.object65.specs.declared.object.Object.{Object}
 use Rattle.object65.specs.declared.object.Section.{Section}
+use Rattle.object65.specs.declared.object.Width.{Width}
+use Rattle.object65.specs.declared.object.Width.TheVariants.{Byte, Word, HighFirst, Dword, Branch}
 use Rattle.object65.specs.Bodies.{section_of}
 use Rattle.object65.specs.Fault.{◌>>=◌}
-use Rattle.object65.specs.Objects.{is_name, is_among, are_names, section_len, fragment_len}
+use Rattle.object65.specs.Folding.{is_within, is_normal, is_literal, node_limit}
+use Rattle.object65.specs.Form.{Form, nodes}
+use Rattle.object65.specs.Objects.{is_name, is_among, are_names, section_len, section_limit, fragment_len, width_len, is_good_form, is_good_fragment, is_good_section, is_good_assert, is_good_object, are_apart, FragmentFits, FitsBits, ObjectFits}
 use Rattle.object65.specs.Record.{Entry}
-use Rattle.object65.specs.Spelling.{section_entry, fragment_entries, literal_entry, literal_entries, end_entry, body_limit}
+use Rattle.object65.specs.Small.{is_small_text}
+use Rattle.object65.specs.Spelling.{import_entry, section_entry, fragment_entries, literal_entry, literal_entries, fill_entry, value_entry, export_entry, assert_entry, end_entry, entries_of, body_limit}
 use Rattle.object65.specs.Taking
-use Rattle.object65.proofs.Goods.{left, right, and}
-use Rattle.object65.proofs.Numbers.{back_4}
+use Rattle.object65.proofs.Closings.{turned, nil, longer, closing_is, last_joins, last_push, apart_last, fill_last, shut_len}
+use Rattle.object65.proofs.Fields.{fill_again, value_again, export_again, assert_again}
+use Rattle.object65.proofs.Goods.{left, right, and, parts}
+use Rattle.object65.proofs.Numbers.{back}
 use Rattle.object65.proofs.Pieces.{more_pieces, one_piece}
-use Rattle.object65.proofs.Reached.{turned, nil, either}
-use Rattle.object65.proofs.Readings.{closing_len, closing_entries}
-use Rattle.object65.proofs.Shapes.{IsThin, literal_in}
+use Rattle.object65.proofs.Reached.{either}
 
--- a state with these sections and nothing else
-abbrev pub sectioned : Bool → List Draft → Taking.State
-sectioned begun ds = record { imports = []; drafts = ds; begun = begun; exports = []; asserts = []; ended = false; failed = false }
+-- a state with these parts
+abbrev pub holding : List (List ℕ) → Bool → List Draft → List Export → List Assert → Taking.State
+holding imports begun ds exports asserts = record { imports = imports; drafts = ds; begun = begun; exports = exports; asserts = asserts; ended = false; failed = false }
 
--- a section of a heading, with so much of its literal
-abbrev pub filled_to : Section → List ℕ → Draft
-filled_to s bytes = record { name = s.name; align = s.align; size = section_len s; filled = length bytes; fragments = []; literal = bytes }
+-- a state of imports and sections
+abbrev pub sectioned : List (List ℕ) → Bool → List Draft → Taking.State
+sectioned imports begun ds = holding imports begun ds [] []
+
+-- a section of a heading, with these of its fragments and a literal behind them
+abbrev pub drafting : Section → List Fragment → List ℕ → Draft
+drafting s fs bytes = record { name = s.name; align = s.align; size = section_len s; filled = sum_by fragment_len fs + length bytes; fragments = fs; literal = bytes }
 
 abbrev pub empty_draft : Section → Draft
-empty_draft s = filled_to s []
+empty_draft s = drafting s [] []
 
-abbrev pub full_draft : Section → Draft
-full_draft s = filled_to s (literal_in s.fragments)
-
--- ---- Headings.
+-- ---- Imports.
 
 -- a name among good names is good, and none before it is the same
 pub name_in : (xs ys : List (List ℕ)) (n : List ℕ) → are_names (xs ++ n ∷ ys) ≡ true → (is_name n ≡ true) × (is_among xs n ≡ false)
@@ -58,33 +70,73 @@ name_in (x ∷ xs) ys n e =
     second_false true b e = cc
     second_false false b e = e
 
+new_again : (xs ys : List (List ℕ)) (n : List ℕ) → are_names (xs ++ n ∷ ys) ≡ true → (is_name n && not (is_among xs n)) ≡ true
+new_again xs ys n e = let name = name_in xs ys n e in and (is_name n) (not (is_among xs n)) name.0 (ap not name.1)
+
+take_import : (done : List (List ℕ)) (name : List ℕ) (others : List (List ℕ)) → are_names (done ++ name ∷ others) ≡ true → Taking.after (sectioned done false []) (import_entry name) ≡ Ok (sectioned (done ++ name ∷ []) false [])
+unfolding Taking.after Taking.taken Taking.with_import
+take_import done name others names = rw (new_again done others name names) refl
+
+-- all imports in turn
+take_imports : (names done : List (List ℕ)) (rest : List Entry) → are_names (done ++ names) ≡ true → Taking.after_all (sectioned done false []) (map import_entry names ++ rest) ≡ Taking.after_all (sectioned (done ++ names) false []) rest
+take_imports [] done rest good = ap (λ xs. Taking.after_all (sectioned xs false []) rest) (sym (nil done))
+take_imports (n ∷ names) done rest good =
+    let more = append_assoc done (n ∷ []) names in
+    ap (λ r. r >>= (λ t. Taking.after_all t (map import_entry names ++ rest))) (take_import done n names good)
+    ∙ take_imports names (done ++ n ∷ []) rest (ap are_names more ∙ good)
+    ∙ ap (λ xs. Taking.after_all (sectioned xs false []) rest) more
+
+-- ---- Headings.
+
+-- what a section has to be
+pub record IsGood (n i : ℕ) (s : Section) : Type 0 where
+  pub align : nat_le s.align 15 ≡ true
+  pub size : section_len s ≤ section_limit
+  pub good : list_all (is_good_fragment n i) s.fragments ≡ true
+  pub apart : are_apart s.fragments ≡ true
+  pub fits : AllByRecursion FragmentFits s.fragments
+
+good_sections : (n i : ℕ) (ss : List Section) → list_all (is_good_section n i) ss ≡ true → AllByRecursion (λ s. AllByRecursion FragmentFits s.fragments) ss → AllByRecursion (IsGood n i) ss
+good_sections n i [] good fits = tt
+good_sections n i (s ∷ ss) good fits =
+    let one = left (is_good_section n i s) (list_all (is_good_section n i) ss) good in
+    let three = left (nat_le s.align 15 && nat_le (section_len s) section_limit && list_all (is_good_fragment n i) s.fragments) (are_apart s.fragments) one in
+    let two = left (nat_le s.align 15 && nat_le (section_len s) section_limit) (list_all (is_good_fragment n i) s.fragments) three in
+    let size = right (nat_le s.align 15) (nat_le (section_len s) section_limit) two in (
+      record {
+        align = left (nat_le s.align 15) (nat_le (section_len s) section_limit) two;
+        size = grind (arith, nat_tests);
+        good = right (nat_le s.align 15 && nat_le (section_len s) section_limit) (list_all (is_good_fragment n i) s.fragments) three;
+        apart = right (nat_le s.align 15 && nat_le (section_len s) section_limit && list_all (is_good_fragment n i) s.fragments) (are_apart s.fragments) one;
+        fits = fits.0;
+      },
+      good_sections n i ss (right (is_good_section n i s) (list_all (is_good_section n i) ss) good) fits.1,
+    )
+
 heading_again : (n align : ℕ) (name : List ℕ) → n ≤ 16777216 → section_of (little_bytes 4 n ++ align ∷ name) ≡ Ok (record { size = n; align = align; name = name })
 heading_again n align name small =
-    let number : little_number 4 (little_bytes 4 n ++ align ∷ name) ≡ n = back_4 n (align ∷ name) (omega arith) in
+    let number : little_number 4 (little_bytes 4 n ++ align ∷ name) ≡ n = back 4 n (align ∷ name) (omega arith) in
     let long : nat_lt (length (little_bytes 4 n ++ align ∷ name)) 5 ≡ false = grind (arith, nat_tests) in
     let within : nat_lt 16777216 n ≡ false = grind (arith, nat_tests) in
     rw (long, number, within) refl
 
-take_section : (ds : List Draft) (s : Section) (others : List (List ℕ)) → IsThin s → are_names (map (λ (d : Draft). d.name) ds ++ s.name ∷ others) ≡ true → Taking.after (sectioned false ds) (section_entry s) ≡ Ok (sectioned false (ds ++ empty_draft s ∷ []))
+take_section : (n i : ℕ) (imports : List (List ℕ)) (ds : List Draft) (s : Section) (others : List (List ℕ)) → IsGood n i s → are_names (map (λ (d : Draft). d.name) ds ++ s.name ∷ others) ≡ true → Taking.after (sectioned imports false ds) (section_entry s) ≡ Ok (sectioned imports false (ds ++ empty_draft s ∷ []))
 unfolding Taking.after Taking.taken Taking.with_section
-take_section ds s others thin names =
-    let small : section_len s ≤ 16777216 = (let t = thin.size in grind (arith, nat_tests)) in
-    let heading : Taking.drafted (section_entry s).body ≡ Ok (empty_draft s) = ap (λ r. r >>= (λ h. Ok (Taking.draft_of h))) (heading_again (section_len s) s.align s.name small) in
-    let name = name_in (map (λ (d : Draft). d.name) ds) others s.name names in
-    let fine : (is_name s.name && not (is_among (map (λ (d : Draft). d.name) ds) s.name)) ≡ true = and (is_name s.name) (not (is_among (map (λ (d : Draft). d.name) ds) s.name)) name.0 (ap not name.1) in
-    rw (heading, fine, thin.align) refl
+take_section n i imports ds s others good names =
+    let heading : Taking.drafted (section_entry s).body ≡ Ok (empty_draft s) = ap (λ r. r >>= (λ h. Ok (Taking.draft_of h))) (heading_again (section_len s) s.align s.name good.size) in
+    rw (heading, new_again (map (λ (d : Draft). d.name) ds) others s.name names, good.align) refl
 
 -- all headings in turn
-pub take_headings : (ss : List Section) (ds : List Draft) (rest : List Entry) → AllByRecursion IsThin ss → are_names (map (λ (d : Draft). d.name) ds ++ map (λ (s : Section). s.name) ss) ≡ true → Taking.after_all (sectioned false ds) (map section_entry ss ++ rest) ≡ Taking.after_all (sectioned false (ds ++ map empty_draft ss)) rest
-take_headings [] ds rest thin names = ap (λ xs. Taking.after_all (sectioned false xs) rest) (sym (nil ds))
-take_headings (s ∷ ss) ds rest thin names =
-    let one = take_section ds s (map (λ (x : Section). x.name) ss) thin.0 names in
+take_headings : (n i : ℕ) (imports : List (List ℕ)) (ss : List Section) (ds : List Draft) (rest : List Entry) → AllByRecursion (IsGood n i) ss → are_names (map (λ (d : Draft). d.name) ds ++ map (λ (s : Section). s.name) ss) ≡ true → Taking.after_all (sectioned imports false ds) (map section_entry ss ++ rest) ≡ Taking.after_all (sectioned imports false (ds ++ map empty_draft ss)) rest
+take_headings n i imports [] ds rest good names = ap (λ xs. Taking.after_all (sectioned imports false xs) rest) (sym (nil ds))
+take_headings n i imports (s ∷ ss) ds rest good names =
+    let one = take_section n i imports ds s (map (λ (x : Section). x.name) ss) good.0 names in
     let more : map (λ (d : Draft). d.name) (ds ++ empty_draft s ∷ []) ++ map (λ (x : Section). x.name) ss ≡ map (λ (d : Draft). d.name) ds ++ s.name ∷ map (λ (x : Section). x.name) ss = ap (λ xs. xs ++ map (λ (x : Section). x.name) ss) (map-append (λ (d : Draft). d.name) ds (empty_draft s ∷ [])) ∙ append_assoc (map (λ (d : Draft). d.name) ds) (s.name ∷ []) (map (λ (x : Section). x.name) ss) in
     ap (λ r. r >>= (λ t. Taking.after_all t (map section_entry ss ++ rest))) one
-    ∙ take_headings ss (ds ++ empty_draft s ∷ []) rest thin.1 (ap are_names more ∙ names)
-    ∙ ap (λ xs. Taking.after_all (sectioned false xs) rest) (append_assoc ds (empty_draft s ∷ []) (map empty_draft ss))
+    ∙ take_headings n i imports ss (ds ++ empty_draft s ∷ []) rest good.1 (ap are_names more ∙ names)
+    ∙ ap (λ xs. Taking.after_all (sectioned imports false xs) rest) (append_assoc ds (empty_draft s ∷ []) (map empty_draft ss))
 
--- ---- Contents.
+-- ---- A literal.
 
 grow_at : (grow : Draft → Result Draft ObjectFault) (full : List Draft) (d e : Draft) (more : List Draft) → list_all Taking.is_full full ≡ true → Taking.is_full d ≡ false → grow d ≡ Ok e → Taking.in_first_open grow (full ++ d ∷ more) ≡ Ok (full ++ e ∷ more)
 grow_at grow [] d e more all begun h = rw (begun, h) refl
@@ -93,125 +145,319 @@ grow_at grow (x ∷ xs) d e more all begun h =
     let rest = grow_at grow xs d e more (right (Taking.is_full x) (list_all Taking.is_full xs) all) begun h in
     rw (one, rest) refl
 
-fill_again : (s : Section) (bytes body : List ℕ) → 0 < length body → length bytes + length body ≤ section_len s → length bytes % body_limit ≡ 0 → Taking.with_literal body (filled_to s bytes) ≡ Ok (filled_to s (bytes ++ body))
+literal_again : (s : Section) (fs : List Fragment) (bytes body : List ℕ) → 0 < length body → (sum_by fragment_len fs + length bytes) + length body ≤ section_len s → length bytes % body_limit ≡ 0 → Taking.with_literal body (drafting s fs bytes) ≡ Ok (drafting s fs (bytes ++ body))
 unfolding Taking.with_literal
-fill_again s bytes body some within full =
-    let longer : (length body == 0) ≡ false = grind (arith, nat_tests) in
-    let room : nat_le (length body) (section_len s - length bytes) ≡ true = (let less : length body ≤ section_len s - length bytes = omega arith in grind (arith, nat_tests)) in
+literal_again s fs bytes body some within full =
+    let none : (length body == 0) ≡ false = grind (arith, nat_tests) in
+    let room : nat_le (length body) (section_len s - (sum_by fragment_len fs + length bytes)) ≡ true = (let less : length body ≤ section_len s - (sum_by fragment_len fs + length bytes) = omega arith in grind (arith, nat_tests)) in
     let even : (length bytes % body_limit == 0) ≡ true = grind (arith, nat_tests) in
-    let sum : length (bytes ++ body) ≡ length bytes + length body = length-append bytes body in
-    rw (longer, room, even) (ap (λ n. Ok (record { name = s.name; align = s.align; size = section_len s; filled = n; fragments = []; literal = bytes ++ body })) (sym sum))
+    let sum : (sum_by fragment_len fs + length bytes) + length body ≡ sum_by fragment_len fs + length (bytes ++ body) = omega (arith, length-append bytes body) in
+    rw (none, room, even) (ap (λ k. Ok (record { name = s.name; align = s.align; size = section_len s; filled = k; fragments = fs; literal = bytes ++ body })) sum)
 
-take_piece : (begun : Bool) (full more : List Draft) (s : Section) (bytes body : List ℕ) → list_all Taking.is_full full ≡ true → 0 < length body → length bytes + length body ≤ section_len s → length bytes % body_limit ≡ 0 → Taking.after (sectioned begun (full ++ filled_to s bytes ∷ more)) (literal_entry body) ≡ Ok (sectioned true (full ++ filled_to s (bytes ++ body) ∷ more))
+-- a section that has room isn't full
+not_full : (s : Section) (fs : List Fragment) (bytes : List ℕ) (len : ℕ) → 0 < len → (sum_by fragment_len fs + length bytes) + len ≤ section_len s → Taking.is_full (drafting s fs bytes) ≡ false
+not_full s fs bytes len some within = let less : sum_by fragment_len fs + length bytes < section_len s = omega arith in grind (arith, nat_tests)
+
+take_piece : (imports : List (List ℕ)) (begun : Bool) (full more : List Draft) (s : Section) (fs : List Fragment) (bytes body : List ℕ) → list_all Taking.is_full full ≡ true → 0 < length body → (sum_by fragment_len fs + length bytes) + length body ≤ section_len s → length bytes % body_limit ≡ 0 → Taking.after (sectioned imports begun (full ++ drafting s fs bytes ∷ more)) (literal_entry body) ≡ Ok (sectioned imports true (full ++ drafting s fs (bytes ++ body) ∷ more))
 unfolding Taking.after Taking.taken
-take_piece begun full more s bytes body all some within even =
-    let not_yet : Taking.is_full (filled_to s bytes) ≡ false = (let less : length bytes < section_len s = omega arith in grind (arith, nat_tests)) in
-    let goes = grow_at (Taking.with_literal body) full (filled_to s bytes) (filled_to s (bytes ++ body)) more all not_yet (fill_again s bytes body some within even) in
-    ap (λ r. r >>= (λ ds. Ok (record (sectioned begun (full ++ filled_to s bytes ∷ more)) { drafts = ds; begun = true }))) goes
+take_piece imports begun full more s fs bytes body all some within even =
+    let goes = grow_at (Taking.with_literal body) full (drafting s fs bytes) (drafting s fs (bytes ++ body)) more all (not_full s fs bytes (length body) some within) (literal_again s fs bytes body some within even) in
+    ap (λ r. r >>= (λ ds. Ok (record (sectioned imports begun (full ++ drafting s fs bytes ∷ more)) { drafts = ds; begun = true }))) goes
 
--- a literal, record by record
-pub record Goes (before : Taking.State) (es rest : List Entry) (ds : List Draft) : Type 0 where
+-- some records lead to these sections
+pub record Goes (before : Taking.State) (imports : List (List ℕ)) (es rest : List Entry) (ds : List Draft) : Type 0 where
   pub begun : Bool
-  pub same : Taking.after_all before (es ++ rest) ≡ Taking.after_all (sectioned begun ds) rest
-
-more_goes : (begun : Bool) (full more : List Draft) (s : Section) (done front back bytes : List ℕ) (rest : List Entry) → literal_entries bytes ≡ literal_entry front ∷ literal_entries back → front ++ back ≡ bytes → Taking.after (sectioned begun (full ++ filled_to s done ∷ more)) (literal_entry front) ≡ Ok (sectioned true (full ++ filled_to s (done ++ front) ∷ more)) → Goes (sectioned true (full ++ filled_to s (done ++ front) ∷ more)) (literal_entries back) rest (full ++ filled_to s ((done ++ front) ++ back) ∷ more) → Goes (sectioned begun (full ++ filled_to s done ∷ more)) (literal_entries bytes) rest (full ++ filled_to s (done ++ bytes) ∷ more)
-more_goes begun full more s done front back bytes rest split whole one others = record {
-  begun = others.begun;
-  same =
-      ap (λ es. Taking.after_all (sectioned begun (full ++ filled_to s done ∷ more)) (es ++ rest)) split
-      ∙ ap (λ r. r >>= (λ t. Taking.after_all t (literal_entries back ++ rest))) one
-      ∙ others.same
-      ∙ ap (λ xs. Taking.after_all (sectioned others.begun (full ++ filled_to s xs ∷ more)) rest) (append_assoc done front back ∙ ap (λ xs. done ++ xs) whole);
-}
-
-last_goes : (begun : Bool) (full more : List Draft) (s : Section) (done bytes : List ℕ) (rest : List Entry) → literal_entries bytes ≡ literal_entry bytes ∷ [] → Taking.after (sectioned begun (full ++ filled_to s done ∷ more)) (literal_entry bytes) ≡ Ok (sectioned true (full ++ filled_to s (done ++ bytes) ∷ more)) → Goes (sectioned begun (full ++ filled_to s done ∷ more)) (literal_entries bytes) rest (full ++ filled_to s (done ++ bytes) ∷ more)
-last_goes begun full more s done bytes rest split one = record {
-  begun = true;
-  same = ap (λ es. Taking.after_all (sectioned begun (full ++ filled_to s done ∷ more)) (es ++ rest)) split ∙ ap (λ r. r >>= (λ t. Taking.after_all t rest)) one;
-}
+  pub same : Taking.after_all before (es ++ rest) ≡ Taking.after_all (sectioned imports begun ds) rest
 
 front_len : (bytes : List ℕ) → body_limit < length bytes → length (take body_limit bytes) ≡ body_limit
 front_len bytes over = omega (arith, length-take body_limit bytes)
 
-abbrev Literal : ℕ → Type 0
-Literal n = (begun : Bool) (full more : List Draft) (s : Section) (done bytes : List ℕ) (rest : List Entry) → length bytes ≤ n → list_all Taking.is_full full ≡ true → length done + length bytes ≡ section_len s → length done % body_limit ≡ 0 → Goes (sectioned begun (full ++ filled_to s done ∷ more)) (literal_entries bytes) rest (full ++ filled_to s (done ++ bytes) ∷ more)
+abbrev Piecewise : ℕ → Type 0
+Piecewise n = (imports : List (List ℕ)) (begun : Bool) (full more : List Draft) (s : Section) (fs : List Fragment) (done bytes : List ℕ) (rest : List Entry) → length bytes ≤ n → list_all Taking.is_full full ≡ true → (sum_by fragment_len fs + length done) + length bytes ≤ section_len s → length done % body_limit ≡ 0 → Goes (sectioned imports begun (full ++ drafting s fs done ∷ more)) imports (literal_entries bytes) rest (full ++ drafting s fs (done ++ bytes) ∷ more)
 
-split : (n : ℕ) (begun : Bool) (full more : List Draft) (s : Section) (done bytes : List ℕ) (rest : List Entry) → 0 < length bytes → length bytes ≤ suc n → list_all Taking.is_full full ≡ true → length done + length bytes ≡ section_len s → length done % body_limit ≡ 0 → Literal n → Goes (sectioned begun (full ++ filled_to s done ∷ more)) (literal_entries bytes) rest (full ++ filled_to s (done ++ bytes) ∷ more)
-split n begun full more s done bytes rest some long all sum even others =
+split : (n : ℕ) (imports : List (List ℕ)) (begun : Bool) (full more : List Draft) (s : Section) (fs : List Fragment) (done bytes : List ℕ) (rest : List Entry) → 0 < length bytes → length bytes ≤ suc n → list_all Taking.is_full full ≡ true → (sum_by fragment_len fs + length done) + length bytes ≤ section_len s → length done % body_limit ≡ 0 → Piecewise n → Goes (sectioned imports begun (full ++ drafting s fs done ∷ more)) imports (literal_entries bytes) rest (full ++ drafting s fs (done ++ bytes) ∷ more)
+split n imports begun full more s fs done bytes rest some long all sum even others =
     elim (either (nat_le (length bytes) body_limit)) [
       | inl short ↦
           let within : length bytes ≤ body_limit = grind (arith, nat_tests) in
-          last_goes begun full more s done bytes rest (one_piece bytes some within) (take_piece begun full more s done bytes all some (omega arith) even)
-      | inr longer ↦
+          record {
+            begun = true;
+            same =
+                ap (λ es. Taking.after_all (sectioned imports begun (full ++ drafting s fs done ∷ more)) (es ++ rest)) (one_piece bytes some within)
+                ∙ ap (λ r. r >>= (λ t. Taking.after_all t rest)) (take_piece imports begun full more s fs done bytes all some sum even);
+          }
+      | inr long_one ↦
           let over : body_limit < length bytes = grind (arith, nat_tests) in
-          let front = front_len bytes over in
-          let back = length-drop body_limit bytes in
-          let sum_len = length-append done (take body_limit bytes) in
-          more_goes begun full more s done (take body_limit bytes) (drop body_limit bytes) bytes rest (more_pieces bytes some) (take-append-drop body_limit bytes)
-          (take_piece begun full more s done (take body_limit bytes) all (omega arith) (omega arith) even)
-          (others true full more s (done ++ take body_limit bytes) (drop body_limit bytes) rest (omega arith) all (omega arith) (omega arith))
+          let front = take body_limit bytes in
+          let back_part = drop body_limit bytes in
+          let len = front_len bytes over in
+          let left_len = length-drop body_limit bytes in
+          let sum_len = length-append done front in
+          let next = others imports true full more s fs (done ++ front) back_part rest (omega arith) all (omega arith) (omega arith) in
+          record {
+            begun = next.begun;
+            same =
+                ap (λ es. Taking.after_all (sectioned imports begun (full ++ drafting s fs done ∷ more)) (es ++ rest)) (more_pieces bytes some)
+                ∙ ap (λ r. r >>= (λ t. Taking.after_all t (literal_entries back_part ++ rest))) (take_piece imports begun full more s fs done front all (omega arith) (omega arith) even)
+                ∙ next.same
+                ∙ ap (λ xs. Taking.after_all (sectioned imports next.begun (full ++ drafting s fs xs ∷ more)) rest) (append_assoc done front back_part ∙ ap (λ xs. done ++ xs) (take-append-drop body_limit bytes));
+          }
     ]
 
-take_literal : (n : ℕ) (begun : Bool) (full more : List Draft) (s : Section) (done bytes : List ℕ) (rest : List Entry) → length bytes ≤ n → list_all Taking.is_full full ≡ true → length done + length bytes ≡ section_len s → length done % body_limit ≡ 0 → Goes (sectioned begun (full ++ filled_to s done ∷ more)) (literal_entries bytes) rest (full ++ filled_to s (done ++ bytes) ∷ more)
-take_literal n begun full more s done [] rest long all sum even = record {
+take_literal : (n : ℕ) → Piecewise n
+take_literal n imports begun full more s fs done [] rest long all sum even = record {
   begun = begun;
-  same = ap (λ xs. Taking.after_all (sectioned begun (full ++ filled_to s xs ∷ more)) rest) (sym (nil done));
+  same = ap (λ xs. Taking.after_all (sectioned imports begun (full ++ drafting s fs xs ∷ more)) rest) (sym (nil done));
 }
-take_literal zero begun full more s done (b ∷ bytes) rest long all sum even = absurd (omega arith)
-take_literal (suc n) begun full more s done (b ∷ bytes) rest long all sum even = split n begun full more s done (b ∷ bytes) rest (omega arith) (omega arith) all sum even (take_literal n)
+take_literal zero imports begun full more s fs done (b ∷ bytes) rest long all sum even = absurd (omega arith)
+take_literal (suc n) imports begun full more s fs done (b ∷ bytes) rest long all sum even = split n imports begun full more s fs done (b ∷ bytes) rest (omega arith) (omega arith) all sum even (take_literal n)
 
--- a section whose literal is whole is full
-full_is_full : (s : Section) → IsThin s → Taking.is_full (full_draft s) ≡ true
-full_is_full s thin =
-    let size : section_len s ≡ length (literal_in s.fragments) = ap (sum_by fragment_len) thin.fragments ∙ closing_len (literal_in s.fragments) in
-    grind (arith, nat_tests)
+-- ---- A fill and a value.
 
-pub all_full : (ss : List Section) → AllByRecursion IsThin ss → list_all Taking.is_full (map full_draft ss) ≡ true
-all_full [] thin = refl
-all_full (s ∷ ss) thin = and (Taking.is_full (full_draft s)) (list_all Taking.is_full (map full_draft ss)) (full_is_full s thin.0) (all_full ss thin.1)
+-- the section with one more fragment, which is no literal
+added : (s : Section) (fs : List Fragment) (bytes : List ℕ) (f : Fragment) → Taking.with_fragment (drafting s fs bytes) (fragment_len f) f ≡ drafting s ((fs ++ Taking.closing bytes) ++ f ∷ []) []
+added s fs bytes f =
+    let sum : (sum_by fragment_len fs + length bytes) + fragment_len f ≡ sum_by fragment_len ((fs ++ Taking.closing bytes) ++ f ∷ []) + 0 = omega (arith, shut_len fs bytes, sum_by-append fragment_len (fs ++ Taking.closing bytes) (f ∷ [])) in
+    ap (λ k. record { name = s.name; align = s.align; size = section_len s; filled = k; fragments = (fs ++ Taking.closing bytes) ++ f ∷ []; literal = [] }) sum
+
+room_again : (s : Section) (fs : List Fragment) (bytes : List ℕ) (len : ℕ) → (sum_by fragment_len fs + length bytes) + len ≤ section_len s → nat_le len (section_len s - (sum_by fragment_len fs + length bytes)) ≡ true
+room_again s fs bytes len within = let less : len ≤ section_len s - (sum_by fragment_len fs + length bytes) = omega arith in grind (arith, nat_tests)
+
+take_fill : (imports : List (List ℕ)) (begun : Bool) (full more : List Draft) (s : Section) (fs : List Fragment) (bytes : List ℕ) (n : ℕ) → list_all Taking.is_full full ≡ true → 0 < n → n < 2 ^ 32 → (sum_by fragment_len fs + length bytes) + n ≤ section_len s → Taking.ends_in_fill (fs ++ Taking.closing bytes) ≡ false → Taking.after (sectioned imports begun (full ++ drafting s fs bytes ∷ more)) (fill_entry n) ≡ Ok (sectioned imports true (full ++ drafting s ((fs ++ Taking.closing bytes) ++ Fill n ∷ []) [] ∷ more))
+unfolding Taking.after Taking.taken Taking.with_fill
+take_fill imports begun full more s fs bytes n all some fits within alone =
+    let grown : Taking.with_fill (fill_entry n).body (drafting s fs bytes) ≡ Ok (drafting s ((fs ++ Taking.closing bytes) ++ Fill n ∷ []) []) = rw (fill_again n some fits, room_again s fs bytes n within, alone) (ap (λ d. Ok d) (added s fs bytes (Fill n))) in
+    let goes = grow_at (Taking.with_fill (fill_entry n).body) full (drafting s fs bytes) (drafting s ((fs ++ Taking.closing bytes) ++ Fill n ∷ []) []) more all (not_full s fs bytes n some within) grown in
+    ap (λ r. r >>= (λ ds. Ok (record (sectioned imports begun (full ++ drafting s fs bytes ∷ more)) { drafts = ds; begun = true }))) goes
+
+-- what makes a form good in a value or an assertion
+form_parts : (n i : ℕ) (f : Form) → (is_good_form n i f && not (is_literal f)) ≡ true → (is_within n i f ≡ true) × ((is_normal f && nat_le (nodes f) node_limit && not (is_literal f)) ≡ true) × (is_normal f ≡ true)
+form_parts n i f good =
+    let form = left (is_good_form n i f) (not (is_literal f)) good in
+    let two = left (is_within n i f && is_normal f) (nat_le (nodes f) node_limit) form in
+    let normal = right (is_within n i f) (is_normal f) two in (
+      left (is_within n i f) (is_normal f) two,
+      and (is_normal f && nat_le (nodes f) node_limit) (not (is_literal f)) (and (is_normal f) (nat_le (nodes f) node_limit) normal (right (is_within n i f && is_normal f) (nat_le (nodes f) node_limit) form)) (right (is_good_form n i f) (not (is_literal f)) good),
+      normal,
+    )
+
+take_value : (n i : ℕ) (imports : List (List ℕ)) (begun : Bool) (full more : List Draft) (s : Section) (fs : List Fragment) (bytes : List ℕ) (w : Width) (line : ℕ) (form : Form) → list_all Taking.is_full full ≡ true → length (full ++ drafting s fs bytes ∷ more) ≡ n → length imports ≡ i → (line < 2 ^ 32) × FitsBits form → (is_good_form n i form && not (is_literal form)) ≡ true → (sum_by fragment_len fs + length bytes) + width_len w ≤ section_len s → Taking.after (sectioned imports begun (full ++ drafting s fs bytes ∷ more)) (value_entry w line form) ≡ Ok (sectioned imports true (full ++ drafting s ((fs ++ Taking.closing bytes) ++ Value w line form ∷ []) [] ∷ more))
+unfolding Taking.after Taking.taken Taking.with_value
+take_value n i imports begun full more s fs bytes w line form all count there fits good within =
+    let fine = form_parts n i form good in
+    let some : 0 < width_len w = width_some w in
+    let next = drafting s ((fs ++ Taking.closing bytes) ++ Value w line form ∷ []) [] in
+    let grown : Taking.with_value n i (value_entry w line form).body (drafting s fs bytes) ≡ Ok next = rw (value_again w line form fits.0 fits.1 fine.2, room_again s fs bytes (width_len w) within, fine.0, fine.1) (ap (λ d. Ok d) (added s fs bytes (Value w line form))) in
+    let counted = grown_at n i (length (full ++ drafting s fs bytes ∷ more)) (length imports) (value_entry w line form).body (drafting s fs bytes) next count there grown in
+    let goes = grow_at (Taking.with_value (length (full ++ drafting s fs bytes ∷ more)) (length imports) (value_entry w line form).body) full (drafting s fs bytes) next more all (not_full s fs bytes (width_len w) some within) counted in
+    ap (λ r. r >>= (λ ds. Ok (record (sectioned imports begun (full ++ drafting s fs bytes ∷ more)) { drafts = ds; begun = true }))) goes
+  where
+    width_some : (w : Width) → 0 < width_len w
+    width_some Byte = omega arith
+    width_some Word = omega arith
+    width_some HighFirst = omega arith
+    width_some Dword = omega arith
+    width_some Branch = omega arith
+
+    grown_at : (n i m j : ℕ) (body : List ℕ) (d x : Draft) → m ≡ n → j ≡ i → Taking.with_value n i body d ≡ Ok x → Taking.with_value m j body d ≡ Ok x
+    grown_at n i m j body d x p q h = (λ k. Taking.with_value (p k) (q k) body d) ∙ h
+
+-- ---- The fragments of a section.
+
+-- some records lead to this section, with all its fragments
+pub record Fills (before : Taking.State) (imports : List (List ℕ)) (es rest : List Entry) (full more : List Draft) (s : Section) (all : List Fragment) : Type 0 where
+  pub fragments : List Fragment
+  pub literal : List ℕ
+  pub whole : fragments ++ Taking.closing literal ≡ all
+  pub is_full : Taking.is_full (drafting s fragments literal) ≡ true
+  pub begun : Bool
+  pub same : Taking.after_all before (es ++ rest) ≡ Taking.after_all (sectioned imports begun (full ++ drafting s fragments literal ∷ more)) rest
+
+-- one fragment, and then the others
+fills_next : (before : Taking.State) (imports : List (List ℕ)) (first others rest : List Entry) (full more : List Draft) (s : Section) (begun : Bool) (d : Draft) (all now : List Fragment) → now ≡ all → Taking.after_all before (first ++ (others ++ rest)) ≡ Taking.after_all (sectioned imports begun (full ++ d ∷ more)) (others ++ rest) → Fills (sectioned imports begun (full ++ d ∷ more)) imports others rest full more s now → Fills before imports (first ++ others) rest full more s all
+fills_next before imports first others rest full more s begun d all now same one next = record {
+  fragments = next.fragments;
+  literal = next.literal;
+  whole = next.whole ∙ same;
+  is_full = next.is_full;
+  begun = next.begun;
+  same = ap (λ es. Taking.after_all before es) (append_assoc first others rest) ∙ one ∙ next.same;
+}
+
+take_fragments : (n i : ℕ) (imports : List (List ℕ)) (gs : List Fragment) (begun : Bool) (full more : List Draft) (s : Section) (fs : List Fragment) (bytes : List ℕ) (rest : List Entry) → list_all Taking.is_full full ≡ true → length full + suc (length more) ≡ n → length imports ≡ i → list_all (is_good_fragment n i) gs ≡ true → AllByRecursion FragmentFits gs → are_apart ((fs ++ Taking.closing bytes) ++ gs) ≡ true → (sum_by fragment_len fs + length bytes) + sum_by fragment_len gs ≡ section_len s → Fills (sectioned imports begun (full ++ drafting s fs bytes ∷ more)) imports (flat_map fragment_entries gs) rest full more s ((fs ++ Taking.closing bytes) ++ gs)
+take_fragments n i imports [] begun full more s fs bytes rest all count there good fits apart sum = record {
+  fragments = fs;
+  literal = bytes;
+  whole = sym (nil (fs ++ Taking.closing bytes));
+  is_full = (let same : sum_by fragment_len fs + length bytes ≡ section_len s = omega arith in grind (arith, nat_tests));
+  begun = begun;
+  same = refl;
+}
+take_fragments n i imports (Literal body ∷ gs) begun full more s fs (b ∷ bytes) rest all count there good fits apart sum =
+    let alone = apart_last (fs ++ Taking.closing (b ∷ bytes)) (Literal body) gs apart in
+    let joined : last_joins (fs ++ Taking.closing (b ∷ bytes)) (Literal body) ≡ true = ap (λ xs. last_joins (fs ++ xs) (Literal body)) (closing_is (b ∷ bytes) (longer b bytes)) ∙ last_push fs (Literal (b ∷ bytes)) (Literal body) in
+    absurd (both (last_joins (fs ++ Taking.closing (b ∷ bytes)) (Literal body)) joined alone)
+  where
+    both : (x : Bool) → x ≡ true → x ≡ false → ⊥
+    both x p q = cc
+take_fragments n i imports (Literal [] ∷ gs) begun full more s fs [] rest all count there good fits apart sum = let none : nat_lt 0 0 ≡ false = refl in cc
+take_fragments n i imports (Literal (c ∷ body) ∷ gs) begun full more s fs [] rest all count there good fits apart sum =
+    let whole : (fs ++ Taking.closing (c ∷ body)) ++ gs ≡ (fs ++ Taking.closing []) ++ Literal (c ∷ body) ∷ gs = ap (λ xs. (fs ++ xs) ++ gs) (closing_is (c ∷ body) (longer c body)) ∙ append_assoc fs (Literal (c ∷ body) ∷ []) gs ∙ ap (λ xs. xs ++ Literal (c ∷ body) ∷ gs) (sym (nil fs)) in
+    let first = sum_by-cons fragment_len (Literal (c ∷ body)) gs in
+    let one = take_literal (length (c ∷ body)) imports begun full more s fs [] (c ∷ body) (flat_map fragment_entries gs ++ rest) (omega arith) all (omega (arith, sum, first)) refl in
+    fills_next (sectioned imports begun (full ++ drafting s fs [] ∷ more)) imports (literal_entries (c ∷ body)) (flat_map fragment_entries gs) rest full more s one.begun (drafting s fs (c ∷ body)) ((fs ++ Taking.closing []) ++ Literal (c ∷ body) ∷ gs) ((fs ++ Taking.closing (c ∷ body)) ++ gs) whole one.same
+    (take_fragments n i imports gs one.begun full more s fs (c ∷ body) rest all count there (right (is_good_fragment n i (Literal (c ∷ body))) (list_all (is_good_fragment n i) gs) good) fits.1 (ap are_apart whole ∙ apart) (omega (arith, sum, first)))
+take_fragments n i imports (Fill k ∷ gs) begun full more s fs bytes rest all count there good fits apart sum =
+    let now = fs ++ Taking.closing bytes in
+    let first = sum_by-cons fragment_len (Fill k) gs in
+    let some : 0 < k = (let t = left (is_good_fragment n i (Fill k)) (list_all (is_good_fragment n i) gs) good in grind (arith, nat_tests)) in
+    let alone : Taking.ends_in_fill now ≡ false = fill_last now k ∙ apart_last now (Fill k) gs apart in
+    let whole : ((now ++ Fill k ∷ []) ++ Taking.closing []) ++ gs ≡ now ++ Fill k ∷ gs = ap (λ xs. xs ++ gs) (nil (now ++ Fill k ∷ [])) ∙ append_assoc now (Fill k ∷ []) gs in
+    let one = take_fill imports begun full more s fs bytes k all some fits.0 (omega (arith, sum, first)) alone in
+    fills_next (sectioned imports begun (full ++ drafting s fs bytes ∷ more)) imports (fill_entry k ∷ []) (flat_map fragment_entries gs) rest full more s true (drafting s (now ++ Fill k ∷ []) []) (now ++ Fill k ∷ gs) (((now ++ Fill k ∷ []) ++ Taking.closing []) ++ gs) whole (ap (λ r. r >>= (λ t. Taking.after_all t (flat_map fragment_entries gs ++ rest))) one)
+    (take_fragments n i imports gs true full more s (now ++ Fill k ∷ []) [] rest all count there (right (is_good_fragment n i (Fill k)) (list_all (is_good_fragment n i) gs) good) fits.1 (ap are_apart whole ∙ apart) (omega (arith, sum, first, shut_len fs bytes, sum_by-append fragment_len now (Fill k ∷ []))))
+take_fragments n i imports (Value w line form ∷ gs) begun full more s fs bytes rest all count there good fits apart sum =
+    let now = fs ++ Taking.closing bytes in
+    let f = Value w line form in
+    let fine = left (is_good_fragment n i f) (list_all (is_good_fragment n i) gs) good in
+    let whole : ((now ++ f ∷ []) ++ Taking.closing []) ++ gs ≡ now ++ f ∷ gs = ap (λ xs. xs ++ gs) (nil (now ++ f ∷ [])) ∙ append_assoc now (f ∷ []) gs in
+    let first = sum_by-cons fragment_len f gs in
+    let size : length (full ++ drafting s fs bytes ∷ more) ≡ n = length-append full (drafting s fs bytes ∷ more) ∙ count in
+    let one = take_value n i imports begun full more s fs bytes w line form all size there fits.0 fine (omega (arith, sum, first)) in
+    fills_next (sectioned imports begun (full ++ drafting s fs bytes ∷ more)) imports (value_entry w line form ∷ []) (flat_map fragment_entries gs) rest full more s true (drafting s (now ++ f ∷ []) []) (now ++ f ∷ gs) (((now ++ f ∷ []) ++ Taking.closing []) ++ gs) whole (ap (λ r. r >>= (λ t. Taking.after_all t (flat_map fragment_entries gs ++ rest))) one)
+    (take_fragments n i imports gs true full more s (now ++ f ∷ []) [] rest all count there (right (is_good_fragment n i f) (list_all (is_good_fragment n i) gs) good) fits.1 (ap are_apart whole ∙ apart) (omega (arith, sum, first, shut_len fs bytes, sum_by-append fragment_len now (f ∷ []))))
+
+-- ---- All contents in turn.
+
+pub record Contents (before : Taking.State) (imports : List (List ℕ)) (es rest : List Entry) (full : List Draft) (ss : List Section) : Type 0 where
+  pub drafts : List Draft
+  pub begun : Bool
+  pub all_full : list_all Taking.is_full (full ++ drafts) ≡ true
+  pub sections : map Taking.section_from drafts ≡ ss
+  pub same : Taking.after_all before (es ++ rest) ≡ Taking.after_all (sectioned imports begun (full ++ drafts)) rest
 
 full_push : (full : List Draft) (d : Draft) → list_all Taking.is_full full ≡ true → Taking.is_full d ≡ true → list_all Taking.is_full (full ++ d ∷ []) ≡ true
 full_push full d all one = list_all-append Taking.is_full full (d ∷ []) ∙ rw (all, one) refl
 
--- all contents in turn
-pub take_contents : (ss : List Section) (begun : Bool) (full : List Draft) (rest : List Entry) → AllByRecursion IsThin ss → list_all Taking.is_full full ≡ true → Goes (sectioned begun (full ++ map empty_draft ss)) (flat_map (λ (s : Section). flat_map fragment_entries s.fragments) ss) rest (full ++ map full_draft ss)
-take_contents [] begun full rest thin all = record { begun = begun; same = refl }
-take_contents (s ∷ ss) begun full rest thin all =
-    let bytes = literal_in s.fragments in
+length_map : {A B : Type 0} (f : A → B) (xs : List A) → length (map f xs) ≡ length xs
+length_map f [] = refl
+length_map f (x ∷ xs) = omega (arith, length_map f xs)
+
+take_contents : (n i : ℕ) (imports : List (List ℕ)) (ss : List Section) (begun : Bool) (full : List Draft) (rest : List Entry) → AllByRecursion (IsGood n i) ss → list_all Taking.is_full full ≡ true → length full + length ss ≡ n → length imports ≡ i → Contents (sectioned imports begun (full ++ map empty_draft ss)) imports (flat_map (λ (s : Section). flat_map fragment_entries s.fragments) ss) rest full ss
+take_contents n i imports [] begun full rest good all count there = record {
+  drafts = [];
+  begun = begun;
+  all_full = ap (list_all Taking.is_full) (nil full) ∙ all;
+  sections = refl;
+  same = refl;
+}
+take_contents n i imports (s ∷ ss) begun full rest good all count there =
+    let mine = flat_map fragment_entries s.fragments in
     let theirs = flat_map (λ (x : Section). flat_map fragment_entries x.fragments) ss in
-    let size : length bytes ≡ section_len s = sym (ap (sum_by fragment_len) thin.0.fragments ∙ closing_len bytes) in
-    let mine : flat_map fragment_entries s.fragments ≡ literal_entries bytes = ap (flat_map fragment_entries) thin.0.fragments ∙ closing_entries bytes in
-    let one = take_literal (length bytes) begun full (map empty_draft ss) s [] bytes (theirs ++ rest) (omega arith) all (omega (arith, size)) refl in
-    let others = take_contents ss one.begun (full ++ full_draft s ∷ []) rest thin.1 (full_push full (full_draft s) all (full_is_full s thin.0)) in
+    let size : length full + suc (length (map empty_draft ss)) ≡ n = omega (arith, count, length_map empty_draft ss) in
+    let one = take_fragments n i imports s.fragments begun full (map empty_draft ss) s [] [] (theirs ++ rest) all size there good.0.good good.0.fits good.0.apart (omega arith) in
+    let d = drafting s one.fragments one.literal in
+    let sum : length (full ++ d ∷ []) + length ss ≡ n = omega (arith, count, length-append full (d ∷ [])) in
+    let others = take_contents n i imports ss one.begun (full ++ d ∷ []) rest good.1 (full_push full d all one.is_full) sum there in
+    let regroup = append_assoc full (d ∷ []) others.drafts in
     record {
+      drafts = d ∷ others.drafts;
       begun = others.begun;
+      all_full = ap (list_all Taking.is_full) (sym regroup) ∙ others.all_full;
+      sections = (λ k. record { name = s.name; align = s.align; fragments = one.whole k } ∷ others.sections k);
       same =
-          ap (λ es. Taking.after_all (sectioned begun (full ++ empty_draft s ∷ map empty_draft ss)) ((es ++ theirs) ++ rest)) mine
-          ∙ ap (λ es. Taking.after_all (sectioned begun (full ++ empty_draft s ∷ map empty_draft ss)) es) (append_assoc (literal_entries bytes) theirs rest)
+          ap (λ es. Taking.after_all (sectioned imports begun (full ++ empty_draft s ∷ map empty_draft ss)) es) (append_assoc mine theirs rest)
           ∙ one.same
-          ∙ ap (λ xs. Taking.after_all (sectioned one.begun xs) (theirs ++ rest)) (sym (append_assoc full (full_draft s ∷ []) (map empty_draft ss)))
+          ∙ ap (λ xs. Taking.after_all (sectioned imports one.begun xs) (theirs ++ rest)) (sym (append_assoc full (d ∷ []) (map empty_draft ss)))
           ∙ others.same
-          ∙ ap (λ xs. Taking.after_all (sectioned others.begun xs) rest) (append_assoc full (full_draft s ∷ []) (map full_draft ss));
+          ∙ ap (λ xs. Taking.after_all (sectioned imports others.begun xs) rest) regroup;
     }
+
+-- ---- Exports.
+
+take_export : (imports : List (List ℕ)) (begun : Bool) (ds : List Draft) (done : List Export) (x : Export) (others : List (List ℕ)) → list_all Taking.is_full ds ≡ true → are_names (map (λ (e : Export). e.name) done ++ x.name ∷ others) ≡ true → is_good_form (length ds) (length imports) x.form ≡ true → (x.line < 2 ^ 32) × FitsBits x.form → Taking.after (holding imports begun ds done []) (export_entry x) ≡ Ok (holding imports begun ds (done ++ x ∷ []) [])
+unfolding Taking.after Taking.taken Taking.with_export
+take_export imports begun ds done x others all names good fits =
+    let n = length ds in
+    let i = length imports in
+    let two = left (is_within n i x.form && is_normal x.form) (nat_le (nodes x.form) node_limit) good in
+    let normal = right (is_within n i x.form) (is_normal x.form) two in
+    let fine : (is_normal x.form && nat_le (nodes x.form) node_limit) ≡ true = and (is_normal x.form) (nat_le (nodes x.form) node_limit) normal (right (is_within n i x.form && is_normal x.form) (nat_le (nodes x.form) node_limit) good) in
+    rw (all, export_again x fits.0 fits.1 normal, left (is_within n i x.form) (is_normal x.form) two, new_again (map (λ (e : Export). e.name) done) others x.name names, fine) refl
+
+take_exports : (imports : List (List ℕ)) (begun : Bool) (ds : List Draft) (xs done : List Export) (rest : List Entry) → list_all Taking.is_full ds ≡ true → are_names (map (λ (e : Export). e.name) done ++ map (λ (e : Export). e.name) xs) ≡ true → list_all (λ (e : Export). is_good_form (length ds) (length imports) e.form) xs ≡ true → AllByRecursion (λ (e : Export). (e.line < 2 ^ 32) × FitsBits e.form) xs → Taking.after_all (holding imports begun ds done []) (map export_entry xs ++ rest) ≡ Taking.after_all (holding imports begun ds (done ++ xs) []) rest
+take_exports imports begun ds [] done rest all names good fits = ap (λ ys. Taking.after_all (holding imports begun ds ys []) rest) (sym (nil done))
+take_exports imports begun ds (x ∷ xs) done rest all names good fits =
+    let name_of = λ (e : Export). e.name in
+    let fine = λ (e : Export). is_good_form (length ds) (length imports) e.form in
+    let one = take_export imports begun ds done x (map name_of xs) all names (left (fine x) (list_all fine xs) good) fits.0 in
+    let more : map name_of (done ++ x ∷ []) ++ map name_of xs ≡ map name_of done ++ x.name ∷ map name_of xs = ap (λ ys. ys ++ map name_of xs) (map-append name_of done (x ∷ [])) ∙ append_assoc (map name_of done) (x.name ∷ []) (map name_of xs) in
+    ap (λ r. r >>= (λ t. Taking.after_all t (map export_entry xs ++ rest))) one
+    ∙ take_exports imports begun ds xs (done ++ x ∷ []) rest all (ap are_names more ∙ names) (right (fine x) (list_all fine xs) good) fits.1
+    ∙ ap (λ ys. Taking.after_all (holding imports begun ds ys []) rest) (append_assoc done (x ∷ []) xs)
+
+-- ---- Assertions.
+
+take_assert : (imports : List (List ℕ)) (begun : Bool) (ds : List Draft) (exports : List Export) (done : List Assert) (x : Assert) → list_all Taking.is_full ds ≡ true → is_good_assert (length ds) (length imports) x ≡ true → (x.line < 2 ^ 32) × FitsBits x.form → Taking.after (holding imports begun ds exports done) (assert_entry x) ≡ Ok (holding imports begun ds exports (done ++ x ∷ []))
+unfolding Taking.after Taking.taken Taking.with_assert
+take_assert imports begun ds exports done x all good fits =
+    let n = length ds in
+    let i = length imports in
+    let small = left (is_small_text x.text && is_good_form n i x.form) (not (is_literal x.form)) good in
+    let fine = form_parts n i x.form (and (is_good_form n i x.form) (not (is_literal x.form)) (right (is_small_text x.text) (is_good_form n i x.form) small) (right (is_small_text x.text && is_good_form n i x.form) (not (is_literal x.form)) good)) in
+    rw (all, assert_again x fits.0 fits.1 fine.2, fine.0, fine.1) refl
+
+take_asserts : (imports : List (List ℕ)) (begun : Bool) (ds : List Draft) (exports : List Export) (xs done : List Assert) (rest : List Entry) → list_all Taking.is_full ds ≡ true → list_all (is_good_assert (length ds) (length imports)) xs ≡ true → AllByRecursion (λ (a : Assert). (a.line < 2 ^ 32) × FitsBits a.form) xs → Taking.after_all (holding imports begun ds exports done) (map assert_entry xs ++ rest) ≡ Taking.after_all (holding imports begun ds exports (done ++ xs)) rest
+take_asserts imports begun ds exports [] done rest all good fits = ap (λ ys. Taking.after_all (holding imports begun ds exports ys) rest) (sym (nil done))
+take_asserts imports begun ds exports (x ∷ xs) done rest all good fits =
+    let fine = is_good_assert (length ds) (length imports) in
+    let one = take_assert imports begun ds exports done x all (left (fine x) (list_all fine xs) good) fits.0 in
+    ap (λ r. r >>= (λ t. Taking.after_all t (map assert_entry xs ++ rest))) one
+    ∙ take_asserts imports begun ds exports xs (done ++ x ∷ []) rest all (right (fine x) (list_all fine xs) good) fits.1
+    ∙ ap (λ ys. Taking.after_all (holding imports begun ds exports ys) rest) (append_assoc done (x ∷ []) xs)
 
 -- ---- The END.
 
-take_end : (begun : Bool) (ds : List Draft) → list_all Taking.is_full ds ≡ true → Taking.after (sectioned begun ds) end_entry ≡ Ok (record (sectioned begun ds) { ended = true })
+take_end : (imports : List (List ℕ)) (begun : Bool) (ds : List Draft) (exports : List Export) (asserts : List Assert) → list_all Taking.is_full ds ≡ true → Taking.after (holding imports begun ds exports asserts) end_entry ≡ Ok (record (holding imports begun ds exports asserts) { ended = true })
 unfolding Taking.after Taking.taken Taking.with_end
-take_end begun ds all = rw all refl
+take_end imports begun ds exports asserts all = rw all refl
 
-pub all_again : (ss : List Section) → AllByRecursion IsThin ss → are_names (map (λ (s : Section). s.name) ss) ≡ true → (begun : Bool) × (Taking.after_all Taking.start ((map section_entry ss ++ flat_map (λ (s : Section). flat_map fragment_entries s.fragments) ss) ++ end_entry ∷ []) ≡ Ok (record (sectioned begun (map full_draft ss)) { ended = true }))
-all_again ss thin names =
-    let theirs = flat_map (λ (s : Section). flat_map fragment_entries s.fragments) ss in
-    let one = take_headings ss [] (theirs ++ end_entry ∷ []) thin names in
-    let others = take_contents ss false [] (end_entry ∷ []) thin refl in (
-      others.begun,
-      ap (λ es. Taking.after_all Taking.start es) (append_assoc (map section_entry ss) theirs (end_entry ∷ []))
-          ∙ one
-          ∙ others.same
-          ∙ ap (λ r. r >>= (λ t. Taking.after_all t [])) (take_end others.begun (map full_draft ss) (all_full ss thin)),
-    )
+-- ---- All records in turn.
 
-pub sections_again : (ss : List Section) → AllByRecursion IsThin ss → map Taking.section_from (map full_draft ss) ≡ ss
-sections_again [] thin = refl
-sections_again (s ∷ ss) thin = λ i. record { name = s.name; align = s.align; fragments = sym thin.0.fragments i } ∷ sections_again ss thin.1 i
+pub record Again (o : Object) : Type 0 where
+  pub state : Taking.State
+  pub taken : Taking.after_all Taking.start (entries_of o) ≡ Ok state
+  pub ended : state.ended ≡ true
+  pub object : Taking.finished state ≡ Ok o
+
+pub all_again : (o : Object) → is_good_object o ≡ true → ObjectFits o → Again o
+all_again o good fits =
+    let n = length o.sections in
+    let i = length o.imports in
+    let p = parts o good in
+    let a = map import_entry o.imports in
+    let b = map section_entry o.sections in
+    let c = flat_map (λ (s : Section). flat_map fragment_entries s.fragments) o.sections in
+    let d = map export_entry o.exports in
+    let f = map assert_entry o.asserts in
+    let last = end_entry ∷ [] in
+    let sections = good_sections n i o.sections p.sections fits.sections in
+    let contents = take_contents n i o.imports o.sections false [] (d ++ (f ++ last)) sections refl (omega arith) refl in
+    let ds = contents.drafts in
+    let count : n ≡ length ds = ap length (sym contents.sections) ∙ length_map Taking.section_from ds in
+    let exports = subst (λ k. list_all (λ (e : Export). is_good_form k i e.form) o.exports ≡ true) count p.exports in
+    let asserts = subst (λ k. list_all (is_good_assert k i) o.asserts ≡ true) count p.asserts in
+    let regroup : entries_of o ≡ a ++ (b ++ (c ++ (d ++ (f ++ last)))) = append_assoc (((a ++ b) ++ c) ++ d) f last ∙ append_assoc ((a ++ b) ++ c) d (f ++ last) ∙ append_assoc (a ++ b) c (d ++ (f ++ last)) ∙ append_assoc a b (c ++ (d ++ (f ++ last))) in
+    record {
+      state = record (holding o.imports contents.begun ds o.exports o.asserts) { ended = true };
+      taken =
+          ap (Taking.after_all Taking.start) regroup
+          ∙ take_imports o.imports [] (b ++ (c ++ (d ++ (f ++ last)))) p.imports
+          ∙ take_headings n i o.imports o.sections [] (c ++ (d ++ (f ++ last))) sections p.section_names
+          ∙ contents.same
+          ∙ take_exports o.imports contents.begun ds o.exports [] (f ++ last) contents.all_full p.export_names exports fits.exports
+          ∙ take_asserts o.imports contents.begun ds o.exports o.asserts [] last contents.all_full asserts fits.asserts
+          ∙ ap (λ r. r >>= (λ t. Taking.after_all t [])) (take_end o.imports contents.begun ds o.exports o.asserts contents.all_full);
+      ended = refl;
+      object = (λ k. Ok (record { imports = o.imports; sections = contents.sections k; exports = o.exports; asserts = o.asserts }));
+    }

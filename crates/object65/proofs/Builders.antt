@@ -1,5 +1,5 @@
 -- What holds of a builder while it hasn't failed.
-use Rattle.std.proofs.Common.{◌≡◌, ◌∙◌, ◌≤◌, ℕ, List, [], ◌∷◌, ◌++◌, length, Bool, true, false, ◌&&◌, not, nat_le, if◌then◌else◌, Result, Ok, Err, refl, sym, ap, subst, arith}
+use Rattle.std.proofs.Common.{◌≡◌, ◌∙◌, ◌≤◌, ℕ, List, [], ◌∷◌, ◌++◌, length, Bool, true, false, ◌&&◌, not, nat_le, if◌then◌else◌, Result, Ok, Err, refl, ap, subst, arith}
 use Rattle.std.proofs.lemmas.Bool.Decides.{nat_tests}
 use Rattle.std.specs.List.{list_all, AllByRecursion}
 use Rattle.object65.specs.declared.fault.ObjectFault.{ObjectFault}
@@ -10,6 +10,7 @@ use Rattle.std.specs.Prelude.{IfOk}
 use Rattle.object65.specs.Fault.{◌>>=◌, Gives, is_memory}
 use Rattle.object65.specs.Objects.{is_good_object, is_good_section, is_good_fragment, are_apart, section_len, section_limit}
 use Rattle.object65.specs.Record.{Entry}
+use Rattle.object65.specs.Small.{is_small_text}
 use Rattle.object65.specs.Taking
 use Rattle.object65.proofs.Goods.{left, right, parts}
 use Rattle.object65.proofs.Readings.{finished_good}
@@ -40,8 +41,8 @@ good_all : (s t : Taking.State) (es : List Entry) → GoodState s → Taking.aft
 good_all s t [] g h = let same : s ≡ t = cc in subst GoodState same g
 good_all s t (e ∷ es) g h = let u = bound (Taking.after s e) _ _ h in good_all u.0 t es (good_after s u.0 e g u.1) u.2
 
-pub reached_good : (s : Taking.State) → Taking.IsReached s → s.ended ≡ true → is_good_object (Taking.object_from s) ≡ true
-reached_good s r ended = finished_good s (good_all Taking.start s r.records good_start r.stands) ended
+pub reached_good : (s : Taking.State) → Taking.IsReached s → list_all (λ a. is_small_text a.text) s.asserts ≡ true → s.ended ≡ true → is_good_object (Taking.object_from s) ≡ true
+reached_good s r texts ended = finished_good s (good_all Taking.start s r.records good_start r.stands) texts ended
 
 sized_sections : (n i : ℕ) (xs : List Section) → list_all (is_good_section n i) xs ≡ true → AllByRecursion (λ s. section_len s ≤ section_limit) xs
 sized_sections n i [] e = tt

@@ -7,20 +7,20 @@ use Rattle.object65.specs.Small.{is_small_form, is_small_text, is_small_export, 
 use Rattle.std.specs.Int.{w64, cast_unsigned}
 use Rattle.byteorder.specs.Endian.{little_bytes}
 use Rattle.byteorder.specs.Numbers.{length-bytes_low_first}
-use Rattle.object65.specs.declared.operator.Op1.{Op1}
-use Rattle.object65.specs.declared.operator.Op1.TheVariants.{Plus, Minus, Invert, LowByte, HighByte, BankByte, LogicalNot}
+use Rattle.syntax65.specs.declared.values.Op1.{Op1}
+use Rattle.syntax65.specs.declared.values.Op1.TheVariants.{Plus, Negate, BitNot, LowByte, HighByte, BankByte, Not}
 use Rattle.object65.specs.Form.{Form, lit, sec, imp, prefix, binary, nodes}
 use Rattle.object65.specs.Bodies.{form_at, form_of_code}
 use Rattle.object65.specs.Spelling.{form_bytes, code1}
 
 code1_len : (op : Op1) → length (code1 op) ≤ 1
 code1_len Plus = omega arith
-code1_len Minus = omega arith
-code1_len Invert = omega arith
+code1_len Negate = omega arith
+code1_len BitNot = omega arith
 code1_len LowByte = omega arith
 code1_len HighByte = omega arith
 code1_len BankByte = omega arith
-code1_len LogicalNot = omega arith
+code1_len Not = omega arith
 
 pub form_len : (f : Form) → length (form_bytes f) ≤ 13 * nodes f
 form_len (lit v) = omega (arith, length-bytes_low_first 0 8 (cast_unsigned w64 v))

@@ -9,12 +9,14 @@ pub mod Sounds
 pub mod Written
 pub mod Goods
 pub mod Numbers
+pub mod Fields
+pub mod Closings
 pub mod Rooms
 pub mod Trails
 pub mod Reached
 pub mod Steps
 pub mod Readings
-pub mod Shapes
+pub mod Shorts
 pub mod Again
 pub mod Spellings
 pub mod Builders

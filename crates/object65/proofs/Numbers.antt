@@ -1,41 +1,62 @@
 -- Numbers of several bytes, the low one first: no other bytes of the same length give the number.
-use Rattle.std.proofs.Common.{◌≡◌, ◌∙◌, ℕ, zero, suc, ◌+◌, ◌<◌, ◌≤◌, ◌^◌, List, [], ◌∷◌, ◌++◌, length, take, drop, get_or, refl, arith}
-use Rattle.std.proofs.lemmas.List.{get_or-drop}
-use Rattle.std.proofs.lemmas.Nat.{le_bytes_2, le_bytes_4}
-use Rattle.byteorder.specs.Endian.{little_number, little_bytes}
-use Rattle.byteorder.specs.Numbers.{little_from-bytes}
+use Rattle.std.proofs.Common.{◌≡◌, ◌∙◌, ℕ, zero, suc, ◌+◌, ◌*◌, ◌<◌, ◌≤◌, ◌^◌, List, [], ◌∷◌, ◌++◌, length, take, drop, refl, sym, ap, arith}
+use Rattle.std.proofs.Math.Nat.{mod-lt}
+use Rattle.std.proofs.lemmas.List.{get_or-drop, length-take}
+use Rattle.std.specs.Int.{bytes_low_first}
+use Rattle.byteorder.specs.Endian.{little_from, little_number, little_bytes}
+use Rattle.byteorder.specs.Numbers.{little_from-cons, little_from-take, little_from-lt, little_number-reads_back, length-bytes_low_first}
 use Rattle.object65.specs.Bytes.{IsBytes}
 
 pub bytes_drop : (n : ℕ) (xs : List ℕ) → IsBytes xs → IsBytes (drop n xs)
 bytes_drop n xs is i = rw (get_or-drop n xs i 0) (is (n + i))
 
+-- the first so many bytes
+pub bytes_take : (n : ℕ) (xs : List ℕ) → IsBytes xs → IsBytes (take n xs)
+bytes_take zero xs is i = omega arith
+bytes_take (suc n) [] is i = omega arith
+bytes_take (suc n) (x ∷ xs) is zero = is zero
+bytes_take (suc n) (x ∷ xs) is (suc i) = bytes_take n xs (λ j. is (suc j)) i
+
+-- the bytes of a number are bytes
+pub bytes_of : (i n x : ℕ) → IsBytes (bytes_low_first i n x)
+bytes_of i zero x k = omega arith
+bytes_of zero (suc n) x zero = mod-lt x (omega arith)
+bytes_of (suc i) (suc n) x zero = mod-lt _ (omega arith)
+bytes_of i (suc n) x (suc k) = bytes_of (suc i) n x k
+
+-- no other bytes of that length give the number
+pub one_number : (n : ℕ) (a b : List ℕ) → IsBytes a → IsBytes b → length a ≡ n → length b ≡ n → little_number n a ≡ little_number n b → a ≡ b
+one_number zero [] [] is_a is_b la lb e = refl
+one_number zero [] (y ∷ b) is_a is_b la lb e = absurd (omega arith)
+one_number zero (x ∷ a) b is_a is_b la lb e = absurd (omega arith)
+one_number (suc n) [] b is_a is_b la lb e = absurd (omega arith)
+one_number (suc n) (x ∷ a) [] is_a is_b la lb e = absurd (omega arith)
+one_number (suc n) (x ∷ a) (y ∷ b) is_a is_b la lb e =
+    let below_x : x < 256 = is_a zero in
+    let below_y : y < 256 = is_b zero in
+    let sum : x + 256 * little_from 0 n a ≡ y + 256 * little_from 0 n b = ap (λ r. x + 256 * r) (sym (little_from-cons 0 n x a)) ∙ e ∙ ap (λ r. y + 256 * r) (little_from-cons 0 n y b) in
+    let first : x ≡ y = omega arith in
+    let rest : little_from 0 n a ≡ little_from 0 n b = omega arith in
+    let others = one_number n a b (λ i. is_a (suc i)) (λ i. is_b (suc i)) (omega arith) (omega arith) rest in
+    λ i. first i ∷ others i
+
+-- the bytes at the front are those of their number
+pub front : (n : ℕ) (xs : List ℕ) → IsBytes xs → n ≤ length xs → little_bytes n (little_number n xs) ≡ take n xs
+front n xs is long =
+    let number : little_number n (little_bytes n (little_number n xs)) ≡ little_number n xs = ap (little_number n) (sym (nil (little_bytes n (little_number n xs)))) ∙ little_number-reads_back n (little_number n xs) [] (little_from-lt 0 n xs is) in
+    one_number n (little_bytes n (little_number n xs)) (take n xs) (bytes_of 0 n (little_number n xs)) (bytes_take n xs is) (length-bytes_low_first 0 n (little_number n xs)) (omega (arith, length-take n xs)) (number ∙ sym (little_from-take 0 n n xs (omega arith)))
+  where
+    nil : (xs : List ℕ) → xs ++ [] ≡ xs
+    nil [] = refl
+    nil (x ∷ xs) = ap (λ ys. x ∷ ys) (nil xs)
+
+-- a number is read back from its bytes
+pub back : (n x : ℕ) (rest : List ℕ) → x < 256 ^ n → little_number n (little_bytes n x ++ rest) ≡ x
+back n x rest fits = little_number-reads_back n x rest fits
+
 pub two_bytes : (b c : ℕ) → b < 256 → c < 256 → little_bytes 2 (little_number 2 (b ∷ c ∷ [])) ≡ b ∷ c ∷ []
-two_bytes b c hb hc = le_bytes_2 (b ∷ c ∷ []) _ refl below (omega arith) where
-  below : (i : ℕ) → get_or (b ∷ c ∷ []) i 0 < 256
+two_bytes b c hb hc = front 2 (b ∷ c ∷ []) below (omega arith) where
+  below : IsBytes (b ∷ c ∷ [])
   below zero = hb
   below (suc zero) = hc
   below (suc (suc i)) = omega arith
-
-pub four_bytes : (a b c d : ℕ) → a < 256 → b < 256 → c < 256 → d < 256 → little_bytes 4 (little_number 4 (a ∷ b ∷ c ∷ d ∷ [])) ≡ a ∷ b ∷ c ∷ d ∷ []
-four_bytes a b c d ha hb hc hd = le_bytes_4 (a ∷ b ∷ c ∷ d ∷ []) _ refl below (omega arith) where
-  below : (i : ℕ) → get_or (a ∷ b ∷ c ∷ d ∷ []) i 0 < 256
-  below zero = ha
-  below (suc zero) = hb
-  below (suc (suc zero)) = hc
-  below (suc (suc (suc zero))) = hd
-  below (suc (suc (suc (suc i)))) = omega arith
-
--- the four bytes at the front are those of their number
-pub front_4 : (xs : List ℕ) → IsBytes xs → 4 ≤ length xs → little_bytes 4 (little_number 4 xs) ≡ take 4 xs
-front_4 [] is long = absurd (omega arith)
-front_4 (a ∷ []) is long = absurd (omega arith)
-front_4 (a ∷ b ∷ []) is long = absurd (omega arith)
-front_4 (a ∷ b ∷ c ∷ []) is long = absurd (omega arith)
-front_4 (a ∷ b ∷ c ∷ d ∷ xs) is long = four_bytes a b c d (is 0) (is 1) (is 2) (is 3)
-
--- a number is read back from its bytes
-pub back_2 : (n : ℕ) (rest : List ℕ) → n < 2 ^ 16 → little_number 2 (little_bytes 2 n ++ rest) ≡ n
-back_2 n rest fits = little_from-bytes 2 0 n rest ∙ omega arith
-
-pub back_4 : (n : ℕ) (rest : List ℕ) → n < 2 ^ 32 → little_number 4 (little_bytes 4 n ++ rest) ≡ n
-back_4 n rest fits = little_from-bytes 4 0 n rest ∙ omega arith

@@ -11,7 +11,7 @@ use Rattle.object65.specs.Fault.{◌>>=◌}
 use Rattle.object65.specs.Record.{Entry, is_record_kind}
 use Rattle.object65.specs.Reading.{front_of, whole, ending, room, record_at, file_limit}
 use Rattle.object65.specs.Spelling.{entry_bytes, body_limit}
-use Rattle.object65.proofs.Numbers.{two_bytes, back_2}
+use Rattle.object65.proofs.Numbers.{two_bytes, back}
 
 pub passes : {A : Type 0} (b : Bool) (f : ObjectFault) (r : Result A ObjectFault) (y : A) → cond b (Err f) r ≡ Ok y → (b ≡ false) × (r ≡ Ok y)
 passes true f r y e = cc
@@ -88,7 +88,7 @@ record_takes bytes at limit x is e =
 
 front_again : (kind n : ℕ) (ys : List ℕ) → is_record_kind kind ≡ true → n ≤ body_limit → front_of (take 3 (kind ∷ (little_bytes 2 n ++ ys))) ≡ Ok (kind, n)
 front_again kind n ys known short =
-    let number : little_number 2 (little_bytes 2 n) ≡ n = back_2 n [] (omega arith) in
+    let number : little_number 2 (little_bytes 2 n) ≡ n = back 2 n [] (omega arith) in
     let within : nat_lt body_limit n ≡ false = grind (arith, nat_tests) in
     rw (known, number, within) refl
 

@@ -1,47 +1,24 @@
 -- What is spelled as an object is read as that object, and as no other.
-use Rattle.std.proofs.Common.{◌≡◌, ◌∙◌, ℕ, ◌+◌, ◌-◌, ◌≤◌, List, [], ◌∷◌, ◌++◌, length, take, drop, map, true, Result, Ok, refl, sym, ap, subst, arith, length-append}
-use Rattle.std.proofs.lemmas.List.{length-take, length-drop, take_all}
+use Rattle.std.proofs.Common.{◌≡◌, ◌∙◌, ℕ, ◌+◌, ◌-◌, ◌≤◌, List, [], ◌∷◌, ◌++◌, length, take, drop, true, Result, Ok, refl, sym, ap, arith, append_assoc, length-append}
+use Rattle.std.proofs.lemmas.List.{length-take, length-drop, take_at, drop_at}
 use Rattle.std.specs.List.{flat_map, AllByRecursion}
-use Rattle.byteorder.specs.Endian.{little_bytes}
+use Rattle.byteorder.specs.Endian.{little_bytes, little_number}
+use Rattle.byteorder.specs.Numbers.{length-bytes_low_first}
 use Rattle.object65.specs.declared.fault.ObjectFault.{ObjectFault}
 use Rattle.object65.specs.declared.object.Object.{Object}
-use Rattle.object65.specs.declared.object.Section.{Section}
-use Rattle.object65.specs.Laws.{HasReadKinds, PrefixLaw, SpellingLaw, NumberLaw}
-use Rattle.object65.specs.Objects.{is_good_object}
+use Rattle.object65.specs.Laws.{PrefixLaw, SpellingLaw}
+use Rattle.object65.specs.Objects.{is_good_object, ObjectFits}
 use Rattle.object65.specs.Reading.{room, head_at, head_of, file_limit}
 use Rattle.object65.specs.Record.{Entry}
-use Rattle.object65.specs.Spelling.{object_head, object_bytes, entry_bytes, entries_of, section_entry, fragment_entries, export_entry, assert_entry, end_entry}
-use Rattle.object65.specs.Taking.{State, start, after_all, finished}
+use Rattle.object65.specs.Spelling.{object_head, object_bytes, entry_bytes, entries_of, body_limit}
+use Rattle.object65.specs.Taking.{State, start, after, after_all, finished}
 use Rattle.object65.specs.Whole.{records_at, object_at}
-use Rattle.object65.proofs.Again.{all_again, sections_again, sectioned, full_draft}
-use Rattle.object65.proofs.Goods.{parts}
-use Rattle.object65.proofs.Numbers.{front_4}
-use Rattle.object65.proofs.Reached.{nil}
-use Rattle.object65.proofs.Rooms.{room_on}
-use Rattle.object65.proofs.Shapes.{known, no_imports, none_of, thin_sections, short_entries, IsShortEntry, IsThin}
-use Rattle.object65.proofs.Trails.{trail_again}
-
--- what such an object is made of
-pub record Thin (o : Object) : Type 0 where
-  pub imports : o.imports ≡ []
-  pub exports : o.exports ≡ []
-  pub asserts : o.asserts ≡ []
-  pub sections : AllByRecursion IsThin o.sections
-
-thin : (o : Object) → HasReadKinds o → is_good_object o ≡ true → Thin o
-thin o kinds good =
-    let k = known o kinds in record {
-      imports = no_imports o.imports k.imports;
-      exports = none_of export_entry o.exports (λ e. refl) k.exports;
-      asserts = none_of assert_entry o.asserts (λ a. refl) k.asserts;
-      sections = thin_sections (length o.sections) (length o.imports) o.sections k.contents (parts o good).sections;
-    }
-
-entries_are : (o : Object) → Thin o → entries_of o ≡ (map section_entry o.sections ++ flat_map (λ (s : Section). flat_map fragment_entries s.fragments) o.sections) ++ end_entry ∷ []
-entries_are o t =
-    rw (t.imports, t.exports, t.asserts)
-    (ap (λ xs. xs ++ [] ++ end_entry ∷ []) (nil (map section_entry o.sections ++ flat_map (λ (s : Section). flat_map fragment_entries s.fragments) o.sections))
-    ∙ ap (λ xs. xs ++ end_entry ∷ []) (nil (map section_entry o.sections ++ flat_map (λ (s : Section). flat_map fragment_entries s.fragments) o.sections)))
+use Rattle.object65.proofs.Again.{all_again}
+use Rattle.object65.proofs.Closings.{nil}
+use Rattle.object65.proofs.Numbers.{back}
+use Rattle.object65.proofs.Rooms.{bound, room_on}
+use Rattle.object65.proofs.Shorts.{short_entries, IsShortEntry}
+use Rattle.object65.proofs.Trails.{trail_again, ended_stops}
 
 head_again : (at : ℕ) (xs : List ℕ) → head_of at (take 5 (object_head ++ xs)) ≡ Ok (at + 5)
 head_again at xs = refl
@@ -60,28 +37,24 @@ pub record ReadsTo (bytes : List ℕ) (at limit : ℕ) (o : Object) (rest : List
   pub left : room bytes end limit ≡ rest
   pub object : finished state ≡ Ok o
 
-pub reads_to : (bytes : List ℕ) (at limit : ℕ) (o : Object) (rest : List ℕ) → HasReadKinds o → is_good_object o ≡ true → room bytes at limit ≡ object_bytes o ++ rest → at + length (object_bytes o) ≤ file_limit → ReadsTo bytes at limit o rest
-reads_to bytes at limit o rest kinds good is within =
-    let t = thin o kinds good in
+pub reads_to : (bytes : List ℕ) (at limit : ℕ) (o : Object) (rest : List ℕ) → is_good_object o ≡ true → ObjectFits o → room bytes at limit ≡ object_bytes o ++ rest → at + length (object_bytes o) ≤ file_limit → ReadsTo bytes at limit o rest
+reads_to bytes at limit o rest good fits is within =
+    let again = all_again o good fits in
     let es = entries_of o in
-    let again = all_again o.sections t.sections (parts o good).section_names in
-    let state : State = record (sectioned again.0 (map full_draft o.sections)) { ended = true } in
-    let taken : after_all start es ≡ Ok state = ap (after_all start) (entries_are o t) ∙ again.1 in
     let inside : room bytes at limit ≡ object_head ++ (flat_map entry_bytes es ++ rest) = is in
     let on : room bytes (at + 5) limit ≡ flat_map entry_bytes es ++ rest = room_on bytes at 5 limit ∙ ap (drop 5) inside in
-    let short : AllByRecursion IsShortEntry es = subst (AllByRecursion IsShortEntry) (sym (entries_are o t)) (short_entries o.sections (parts o good).section_names t.sections) in
     let size : length (object_bytes o) ≡ 5 + length (flat_map entry_bytes es) = omega arith in
     let held : length (room bytes at limit) ≤ length bytes = omega (arith, length-take (limit - at) (drop at bytes), length-drop at bytes) in
     let all : length (room bytes at limit) ≡ length (object_bytes o) + length rest = ap length is ∙ length-append (object_bytes o) rest in
     let enough : length es ≤ length bytes = omega (arith, entries_fit es) in
-    let run = trail_again es (length bytes) bytes limit (at + 5) start state rest enough taken refl refl on short (omega arith) in
+    let run = trail_again es (length bytes) bytes limit (at + 5) start again.state rest enough again.taken refl again.ended on (short_entries o good) (omega arith) in
     record {
       head = ap (λ xs. head_of at (take 5 xs)) inside ∙ head_again at (flat_map entry_bytes es ++ rest);
-      state = state;
+      state = again.state;
       end = run.0;
       records = run.1;
       left = run.2;
-      object = (λ i. Ok (record { imports = sym t.imports i; sections = sections_again o.sections t.sections i; exports = sym t.exports i; asserts = sym t.asserts i }));
+      object = again.object;
     }
 
 all_read : (bytes : List ℕ) (at limit : ℕ) (o : Object) → ReadsTo bytes at limit o [] → object_at at limit bytes ≡ Ok o
@@ -89,25 +62,50 @@ unfolding object_at
 all_read bytes at limit o r = rw (r.head, r.records, r.left, r.object) refl
 
 pub object_is_read : SpellingLaw
-object_is_read bytes at limit o kinds within is =
+object_is_read bytes at limit o within is =
     let spelled : room bytes at limit ≡ object_bytes o ++ [] = is.spelled ∙ sym (nil (object_bytes o)) in
-    all_read bytes at limit o (reads_to bytes at limit o [] kinds is.good spelled (omega (arith, ap length is.spelled)))
+    all_read bytes at limit o (reads_to bytes at limit o [] is.good is.numbers spelled (omega (arith, ap length is.spelled)))
 
-whole_room : (bytes : List ℕ) → room bytes 0 (length bytes) ≡ bytes
-whole_room bytes = let all : length bytes - 0 ≡ length bytes = omega arith in rw all (take_all (length bytes) bytes (omega arith))
+-- ---- No spelling begins another.
+
+-- a record is told from what follows it
+entry_same : (e f : Entry) (r s : List ℕ) → length e.body ≤ body_limit → length f.body ≤ body_limit → entry_bytes e ++ r ≡ entry_bytes f ++ s → (e ≡ f) × (r ≡ s)
+entry_same e f r s short_e short_f same =
+    let kind : e.kind ≡ f.kind = cc in
+    let le = little_bytes 2 (length e.body) in
+    let lf = little_bytes 2 (length f.body) in
+    let tails : (le ++ e.body) ++ r ≡ (lf ++ f.body) ++ s = cc in
+    let behind : le ++ (e.body ++ r) ≡ lf ++ (f.body ++ s) = sym (append_assoc le e.body r) ∙ tails ∙ append_assoc lf f.body s in
+    let len : length e.body ≡ length f.body = sym (back 2 (length e.body) (e.body ++ r) (omega arith)) ∙ ap (little_number 2) behind ∙ back 2 (length f.body) (f.body ++ s) (omega arith) in
+    let bodies : e.body ++ r ≡ f.body ++ s = sym (drop_at le (e.body ++ r) 2 (length-bytes_low_first 0 2 (length e.body))) ∙ ap (drop 2) behind ∙ drop_at lf (f.body ++ s) 2 (length-bytes_low_first 0 2 (length f.body)) in
+    let body : e.body ≡ f.body = sym (take_at e.body r (length e.body) refl) ∙ ap (take (length e.body)) bodies ∙ take_at f.body s (length e.body) (sym len) in
+    let rest : r ≡ s = sym (drop_at e.body r (length e.body) refl) ∙ ap (drop (length e.body)) bodies ∙ drop_at f.body s (length e.body) (sym len) in
+    ((λ i. record { kind = kind i; body = body i }), rest)
+
+-- records up to an END are told from what follows them
+same_trail : (es fs : List Entry) (s t u : State) (more : List ℕ) → AllByRecursion IsShortEntry es → AllByRecursion IsShortEntry fs → after_all s es ≡ Ok t → after_all s fs ≡ Ok u → t.ended ≡ true → u.ended ≡ true → flat_map entry_bytes es ++ more ≡ flat_map entry_bytes fs → (more ≡ []) × (t ≡ u)
+same_trail [] [] s t u more short_e short_f h k over_t over_u same = (same, cc)
+same_trail [] (f ∷ fs) s t u more short_e short_f h k over_t over_u same =
+    let here : s ≡ t = cc in
+    let v = bound (after s f) _ _ k in
+    absurd (ended_stops s f v.0 (ap (λ (x : State). x.ended) here ∙ over_t) v.1)
+same_trail (e ∷ es) [] s t u more short_e short_f h k over_t over_u same =
+    let here : s ≡ u = cc in
+    let v = bound (after s e) _ _ h in
+    absurd (ended_stops s e v.0 (ap (λ (x : State). x.ended) here ∙ over_u) v.1)
+same_trail (e ∷ es) (f ∷ fs) s t u more short_e short_f h k over_t over_u same =
+    let first = entry_same e f (flat_map entry_bytes es ++ more) (flat_map entry_bytes fs) short_e.0.1 short_f.0.1 (sym (append_assoc (entry_bytes e) (flat_map entry_bytes es) more) ∙ same) in
+    let v = bound (after s e) _ _ h in
+    let w = bound (after s f) _ _ k in
+    let step : ◌≡◌ {A = Result State ObjectFault} (Ok w.0) (Ok v.0) = sym w.1 ∙ ap (after s) (sym first.0) ∙ v.1 in
+    let there : w.0 ≡ v.0 = cc in
+    same_trail es fs v.0 t u more short_e.1 short_f.1 v.2 (ap (λ x. after_all x fs) (sym there) ∙ w.2) over_t over_u first.1
 
 pub no_prefix : PrefixLaw
-no_prefix bytes more o p kinds_o kinds_p within a b =
-    let whole = bytes ++ more in
-    let room_is = whole_room whole in
-    let first = reads_to whole 0 (length whole) o more kinds_o a.good (room_is ∙ ap (λ xs. xs ++ more) a.spelled) (omega (arith, ap length a.spelled, length-append bytes more)) in
-    let second = reads_to whole 0 (length whole) p [] kinds_p b.good (room_is ∙ b.spelled ∙ sym (nil (object_bytes p))) (omega (arith, ap length b.spelled)) in
-    let same : ◌≡◌ {A = State × ℕ} (first.state, first.end) (second.state, second.end) = (let ok : ◌≡◌ {A = Result (State × ℕ) ObjectFault} (Ok (first.state, first.end)) (Ok (second.state, second.end)) = sym first.records ∙ second.records in cc) in
-    let objects : ◌≡◌ {A = Result Object ObjectFault} (Ok o) (Ok p) = sym first.object ∙ ap (λ (x : State × ℕ). finished x.0) same ∙ second.object in
-    (sym first.left ∙ ap (λ (x : State × ℕ). room whole x.1 (length whole)) same ∙ second.left, cc)
-
-pub number_law : NumberLaw
-number_law a b is_a is_b la lb e =
-    let x : take 4 a ≡ a = take_all 4 a (omega arith) in
-    let y : take 4 b ≡ b = take_all 4 b (omega arith) in
-    sym x ∙ sym (front_4 a is_a (omega arith)) ∙ ap (little_bytes 4) e ∙ front_4 b is_b (omega arith) ∙ y
+no_prefix bytes more o p a b =
+    let first = all_again o a.good a.numbers in
+    let second = all_again p b.good b.numbers in
+    let whole : (object_head ++ flat_map entry_bytes (entries_of o)) ++ more ≡ object_head ++ flat_map entry_bytes (entries_of p) = ap (λ xs. xs ++ more) (sym a.spelled) ∙ b.spelled in
+    let same = same_trail (entries_of o) (entries_of p) start first.state second.state more (short_entries o a.good) (short_entries p b.good) first.taken second.taken first.ended second.ended (ap (drop 5) whole) in
+    let objects : ◌≡◌ {A = Result Object ObjectFault} (Ok o) (Ok p) = sym first.object ∙ ap finished same.1 ∙ second.object in
+    (same.0, cc)

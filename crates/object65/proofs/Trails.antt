@@ -100,7 +100,7 @@ trail (suc left) bytes limit at s t end is e =
     ]
 
 -- behind an END nothing is taken
-ended_stops : (s : State) (e : Entry) (u : State) → s.ended ≡ true → after s e ≡ Ok u → ⊥
+pub ended_stops : (s : State) (e : Entry) (u : State) → s.ended ≡ true → after s e ≡ Ok u → ⊥
 unfolding after
 ended_stops s e u over h = refused s.failed (ap (λ b. if s.failed then Err FailedBefore else (if b then Err OutOfOrder else taken s e)) (sym over) ∙ h) where
   refused : (b : Bool) → (if b then Err FailedBefore else Err OutOfOrder) ≡ Ok u → ⊥

@@ -1,13 +1,13 @@
 -- What the form of an operation on forms is, and when a form can't be folded any more.
 use Rattle.std.specs.Prelude.{◌==◌, ℕ, ◌+◌, ℤ, ◌+ℤ◌, ◌-ℤ◌, Bool, true, false, not, ◌&&◌, ◌||◌, Option, Some, None, Result, Ok, Err, nat_le, if◌then◌else◌}
-use Rattle.object65.specs.declared.operator.Op1.{Op1}
-use Rattle.object65.specs.declared.operator.Op1.TheVariants.{Plus}
-use Rattle.object65.specs.declared.operator.Op2.{Op2}
-use Rattle.object65.specs.declared.operator.Op2.TheVariants.{Sum, Difference}
+use Rattle.syntax65.specs.declared.values.Op1.{Op1}
+use Rattle.syntax65.specs.declared.values.Op1.TheVariants.{Plus}
+use Rattle.syntax65.specs.declared.values.Op2.{Op2}
+use Rattle.syntax65.specs.declared.values.Op2.TheVariants.{Add, Subtract}
 use Rattle.object65.specs.declared.folding.FormFault.{FormFault}
 use Rattle.object65.specs.declared.folding.FormFault.TheVariants.{NoValue, TooLarge}
 use Rattle.object65.specs.Form.{Form, lit, sec, imp, prefix, binary, nodes}
-use Rattle.object65.specs.Values.{value1, value2, wrapped}
+use Rattle.syntax65.specs.Values.{value1, value2, wrapped}
 
 -- no form has more nodes
 abbrev pub node_limit : ℕ
@@ -36,17 +36,17 @@ fold_any op f g = limited (binary op f g)
 abbrev pub fold_sum : Form → Form → Result Form FormFault
 fold_sum (sec k a) (lit n) = Ok (sec k (wrapped (a +ℤ n)))
 fold_sum (lit n) (sec k a) = Ok (sec k (wrapped (a +ℤ n)))
-fold_sum f g = fold_any Sum f g
+fold_sum f g = fold_any Add f g
 
 abbrev pub fold_difference : Form → Form → Result Form FormFault
-fold_difference (sec k a) (sec m b) = if k == m then Ok (lit (wrapped (a -ℤ b))) else fold_any Difference (sec k a) (sec m b)
+fold_difference (sec k a) (sec m b) = if k == m then Ok (lit (wrapped (a -ℤ b))) else fold_any Subtract (sec k a) (sec m b)
 fold_difference (sec k a) (lit n) = Ok (sec k (wrapped (a -ℤ n)))
-fold_difference f g = fold_any Difference f g
+fold_difference f g = fold_any Subtract f g
 
 -- the form of an operation on two forms
 abbrev pub fold2 : Op2 → Form → Form → Result Form FormFault
-fold2 Sum f g = fold_sum f g
-fold2 Difference f g = fold_difference f g
+fold2 Add f g = fold_sum f g
+fold2 Subtract f g = fold_difference f g
 fold2 op f g = fold_any op f g
 
 abbrev pub is_literal : Form → Bool
@@ -69,8 +69,8 @@ folds_difference (sec k a) (lit n) = true
 folds_difference f g = false
 
 abbrev pub folds2 : Op2 → Form → Form → Bool
-folds2 Sum f g = is_literal f && is_literal g || folds_sum f g
-folds2 Difference f g = is_literal f && is_literal g || folds_difference f g
+folds2 Add f g = is_literal f && is_literal g || folds_sum f g
+folds2 Subtract f g = is_literal f && is_literal g || folds_difference f g
 folds2 op f g = is_literal f && is_literal g
 
 -- no operation in it would be folded

@@ -1,7 +1,6 @@
 pub mod Operators
 pub mod Form
 pub mod Norm
-pub mod Values
 pub mod Folding
 pub mod Fault
 pub mod Objects

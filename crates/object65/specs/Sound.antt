@@ -4,6 +4,7 @@ use Rattle.std.specs.List.{list_all}
 use Rattle.object65.specs.declared.parts.Parts.{Parts}
 use Rattle.object65.specs.declared.draft.Draft.{Draft}
 use Rattle.object65.specs.declared.object.Export.{Export}
+use Rattle.object65.specs.Small.{is_small_text}
 use Rattle.object65.specs.Taking.{State, is_full, IsReached}
 
 abbrev pub state_of : Parts → State
@@ -22,6 +23,8 @@ pub record IsSound (p : Parts) : Type 0 where
   pub section_names : map (λ n. n.items) p.section_names.keys ≡ draft_names p.drafts.items
   pub within : p.filling ≤ length p.drafts.items
   pub filling : list_all is_full (take p.filling p.drafts.items) ≡ true
+  -- the length of a text was one byte
+  pub texts : list_all (λ a. is_small_text a.text) p.asserts ≡ true
 
 -- what holds of a builder that hasn't failed
 pub record IsIntact (p : Parts) (ended : Bool) : Type 0 where

@@ -3,8 +3,8 @@ use Rattle.std.specs.Prelude.{◌≡◌, ℕ, zero, suc, ◌+◌, ◌/◌, List,
 use Rattle.std.specs.List.{flat_map}
 use Rattle.std.specs.Int.{w64, cast_unsigned}
 use Rattle.byteorder.specs.Endian.{little_bytes}
-use Rattle.object65.specs.declared.operator.Op1.{Op1}
-use Rattle.object65.specs.declared.operator.Op1.TheVariants.{Plus, Minus, Invert, LowByte, HighByte, BankByte, LogicalNot}
+use Rattle.syntax65.specs.declared.values.Op1.{Op1}
+use Rattle.syntax65.specs.declared.values.Op1.TheVariants.{Plus, Negate, BitNot, LowByte, HighByte, BankByte, Not}
 use Rattle.object65.specs.declared.object.Object.{Object}
 use Rattle.object65.specs.declared.object.Section.{Section}
 use Rattle.object65.specs.declared.object.Export.{Export}
@@ -23,12 +23,12 @@ use Rattle.object65.specs.Record.{Entry}
 -- a prefix + adds nothing
 abbrev pub code1 : Op1 → List ℕ
 code1 Plus = []
-code1 Minus = 0x10 ∷ []
-code1 Invert = 0x11 ∷ []
+code1 Negate = 0x10 ∷ []
+code1 BitNot = 0x11 ∷ []
 code1 LowByte = 0x12 ∷ []
 code1 HighByte = 0x13 ∷ []
 code1 BankByte = 0x14 ∷ []
-code1 LogicalNot = 0x15 ∷ []
+code1 Not = 0x15 ∷ []
 
 abbrev pub form_bytes : Form → List ℕ
 form_bytes (lit v) = 0x00 ∷ little_bytes 8 (cast_unsigned w64 v)

@@ -4,8 +4,8 @@ ghost use Rattle.std.specs.Prelude.{◌≡◌, ◌-◌, ◌^◌, min};
 ghost use Rattle.object65.specs.Form.{Form, nodes};
 ghost use Rattle.object65.specs.Norm.{form_of};
 
-use crate::{Op1, Op2};
 use std::marker::Model;
+use syntax65::{Op1, Op2};
 
 /// A normal form, which contracts see without its boxes.
 #[derive(Debug, Drop)]

@@ -5,9 +5,10 @@ ghost use Rattle.std.specs.Int.{w64, cast_signed};
 ghost use Rattle.object65.specs.Bodies.{number_at, text_at, counted_at, op1_at, op2_at, lit_at, sec_at, imp_at, prefix_at, binary_at, operation_at, form_of_code, form_at, form_of_all, signed_at};
 ghost use Rattle.object65.specs.Fault.{Gives, is_memory};
 
-use crate::{Node, Norm, ObjectFault, Op1, Op2};
+use crate::{Node, Norm, ObjectFault};
 use byteorder::{ByteOrder, LittleEndian};
 use std::alloc::Global;
+use syntax65::{Op1, Op2};
 
 /// The byte at the front, and what follows.
 pub fn byte_at(bytes: &[u8]) -> Result<(u8, &[u8]), ObjectFault>
@@ -45,7 +46,8 @@ fn i64_at(bytes: &[u8]) -> Result<(i64, &[u8]), ObjectFault>
 /// So many bytes as a byte at the front says, and what follows.
 #[tactic(auto, unfolding(crate::specs::Bodies::counted_at))]
 pub fn text_of(bytes: &[u8]) -> Result<(&[u8], &[u8]), ObjectFault>
-    ensures { Gives is_memory (λ x. (x.0.now, x.1.now)) result (counted_at bytes.now) }
+    ensures text { Gives is_memory (λ x. (x.0.now, x.1.now)) result (counted_at bytes.now) }
+    ensures short { IfOk result (λ x. length x.0.now ≤ 255) }
 {
     let (len, rest) = byte_at(bytes)?;
     if rest.len() < len as usize {
@@ -84,12 +86,12 @@ fn prefix_of(code: u8) -> Option<Op1>
     ensures { result ≡ op1_at code }
 {
     match code {
-        0x10 => Some(Op1::Minus),
-        0x11 => Some(Op1::Invert),
+        0x10 => Some(Op1::Negate),
+        0x11 => Some(Op1::BitNot),
         0x12 => Some(Op1::LowByte),
         0x13 => Some(Op1::HighByte),
         0x14 => Some(Op1::BankByte),
-        0x15 => Some(Op1::LogicalNot),
+        0x15 => Some(Op1::Not),
         _ => None,
     }
 }
@@ -99,25 +101,25 @@ fn binary_of(code: u8) -> Option<Op2>
     ensures { result ≡ op2_at code }
 {
     match code {
-        0x20 => Some(Op2::Times),
-        0x21 => Some(Op2::Over),
+        0x20 => Some(Op2::Multiply),
+        0x21 => Some(Op2::Divide),
         0x22 => Some(Op2::Modulo),
         0x23 => Some(Op2::BitAnd),
         0x24 => Some(Op2::BitXor),
         0x25 => Some(Op2::ShiftLeft),
         0x26 => Some(Op2::ShiftRight),
-        0x27 => Some(Op2::Sum),
-        0x28 => Some(Op2::Difference),
+        0x27 => Some(Op2::Add),
+        0x28 => Some(Op2::Subtract),
         0x29 => Some(Op2::BitOr),
         0x2a => Some(Op2::Equal),
         0x2b => Some(Op2::NotEqual),
         0x2c => Some(Op2::Less),
         0x2d => Some(Op2::Greater),
-        0x2e => Some(Op2::AtMost),
-        0x2f => Some(Op2::AtLeast),
-        0x30 => Some(Op2::Both),
-        0x31 => Some(Op2::OneOf),
-        0x32 => Some(Op2::Either),
+        0x2e => Some(Op2::LessOrEqual),
+        0x2f => Some(Op2::GreaterOrEqual),
+        0x30 => Some(Op2::And),
+        0x31 => Some(Op2::Xor),
+        0x32 => Some(Op2::Or),
         _ => None,
     }
 }

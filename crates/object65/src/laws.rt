@@ -22,7 +22,7 @@ pub fn one_spelling()
     ensures { OneSpellingLaw }
 {}
 
-/// No other four bytes give a number.
+/// No other bytes of the same length give a number.
 pub fn one_number()
     ensures { NumberLaw }
 {}

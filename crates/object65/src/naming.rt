@@ -1,10 +1,11 @@
 //! Takes imports, exports and assertions into the parts of an object.
 
-ghost use Rattle.std.specs.Prelude.{◌≡◌, ◌++◌, ◌∷◌, [], ◌&&◌, length, map, Ok, OnOk, false};
+ghost use Rattle.std.specs.Prelude.{◌≡◌, ◌++◌, ◌∷◌, [], ◌&&◌, length, map, Ok, IfOk, OnOk, true, false};
 ghost use Rattle.std.specs.List.{list_all};
 ghost use Rattle.object65.specs.Bodies.{export_of, assert_of, action_of};
 ghost use Rattle.object65.specs.Fault.{Gives, is_memory};
 ghost use Rattle.object65.specs.Objects.{is_among};
+ghost use Rattle.object65.specs.Small.{is_small_text};
 ghost use Rattle.object65.specs.Sound.{state_of, export_names, IsSound};
 ghost use Rattle.object65.specs.Taking.{with_import, with_export, with_assert};
 
@@ -107,7 +108,8 @@ fn action_at(code: u8) -> Result<Action, ObjectFault>
 /// What the body of an ASSERT says.
 #[tactic(auto, unfolding(crate::specs::Bodies::assert_of))]
 fn read_assert(alloc: Global, body: &[u8]) -> Result<Assert, ObjectFault>
-    ensures { Gives is_memory (λ a. a) result (assert_of body.now) }
+    ensures said { Gives is_memory (λ a. a) result (assert_of body.now) }
+    ensures short { IfOk result (λ a. is_small_text a.text ≡ true) }
 {
     let (code, rest) = byte_at(body)?;
     let action = action_at(code)?;
@@ -123,6 +125,17 @@ fn read_assert(alloc: Global, body: &[u8]) -> Result<Assert, ObjectFault>
     })
 }
 
+/// Adds an assertion whose text had its length in a byte.
+fn add_assert(parts: &mut Parts, assert: Assert) -> Result<(), ObjectFault>
+    requires sound { IsSound parts.old }
+    requires short { is_small_text assert.text ≡ true }
+    ensures added { Gives is_memory (λ _. state_of parts.new) result (Ok (record (state_of parts.old) { asserts = parts.old.asserts ++ assert ∷ [] })) }
+    ensures sound { OnOk result (IsSound parts.new) }
+{
+    parts.asserts.push(assert)?;
+    Ok(())
+}
+
 /// Takes an ASSERT.
 #[tactic(auto, unfolding(crate::specs::Taking::with_assert))]
 pub fn take_assert(parts: &mut Parts, body: &[u8]) -> Result<(), ObjectFault>
@@ -134,6 +147,5 @@ pub fn take_assert(parts: &mut Parts, body: &[u8]) -> Result<(), ObjectFault>
     let assert = read_assert(parts.alloc, body)?;
     check_places(&assert.form, parts.drafts.len(), parts.imports.len())?;
     check_open_form(&assert.form)?;
-    parts.asserts.push(assert)?;
-    Ok(())
+    add_assert(parts, assert)
 }

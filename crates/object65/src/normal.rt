@@ -5,7 +5,8 @@ ghost use Rattle.object65.specs.Folding.{is_within, is_normal, is_literal, folds
 ghost use Rattle.object65.specs.Form.{nodes};
 
 use crate::form::count;
-use crate::{Node, Norm, Op1, Op2};
+use crate::{Node, Norm};
+use syntax65::{Op1, Op2};
 
 /// No form has more nodes.
 const NODE_LIMIT: u32 = 255;
@@ -69,8 +70,8 @@ fn folds_binary(op: Op2, left: &Norm, right: &Norm) -> bool
         return true;
     }
     match op {
-        Op2::Sum => folds_in_sum(left, right),
-        Op2::Difference => folds_in_difference(left, right),
+        Op2::Add => folds_in_sum(left, right),
+        Op2::Subtract => folds_in_difference(left, right),
         _ => false,
     }
 }

@@ -8,7 +8,7 @@ ghost use Rattle.object65.specs.Record.{entry_of, is_record_kind};
 ghost use Rattle.object65.specs.Reading.{in_file, head_at, record_at, end_at, room, IsRoomRead, front_of, whole, file_limit};
 ghost use Rattle.object65.specs.Spelling.{body_limit};
 
-use crate::record::{END, LITERAL, SECTION};
+use crate::record::{END, IMPORT};
 use crate::{ObjectFault, Record};
 use arrayvec::ArrayVec;
 use byteorder::{ByteOrder, LittleEndian};
@@ -167,9 +167,9 @@ pub fn check_end<S: Store>(
     Ok(())
 }
 
-/// Whether records of this kind are read.
+/// Whether there are records of this kind.
 pub fn is_kind(kind: u8) -> bool
     ensures { result ≡ is_record_kind kind }
 {
-    matches!(kind, SECTION | LITERAL | END)
+    IMPORT <= kind && kind <= END
 }

@@ -1,5 +1,7 @@
 //! Objects that were worked out by hand, byte by byte.
 
+mod records;
+
 ghost use Rattle.std.specs.Prelude.{◌≡◌, IfOk, None, true};
 ghost use Rattle.object65.specs.Objects.{is_good_object};
 

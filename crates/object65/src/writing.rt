@@ -11,12 +11,10 @@ ghost use Rattle.object65.specs.Small.{is_small_text, is_small_form, is_small_fr
 ghost use Rattle.object65.specs.Spelling.{code1, form_bytes, width_code, action_code, body_limit, entry_bytes, literal_entries, fragment_entries, fill_entry, value_entry, import_entry, section_entry, export_entry, assert_entry, entries_of, object_bytes};
 
 use crate::record::{ASSERT, END, EXPORT, FILL, IMPORT, LITERAL, SECTION, VALUE};
-use crate::{
-    Action, Assert, Export, Fragment, Node, Norm, Object, ObjectFault, Op1, Op2, Section, Width,
-};
+use crate::{Action, Assert, Export, Fragment, Node, Norm, Object, ObjectFault, Section, Width};
 use byteorder::{ByteOrder, LittleEndian};
 use std::alloc::{AllocError, Global};
-use syntax65::Sequence;
+use syntax65::{Op1, Op2, Sequence};
 
 /// With these bytes an object begins.
 const HEAD: [u8; 5] = [0x52, 0x36, 0x35, 0x6f, 0x01];
@@ -66,12 +64,12 @@ fn prefix_code(op: Op1) -> Option<u8>
 {
     match op {
         Op1::Plus => None,
-        Op1::Minus => Some(0x10),
-        Op1::Invert => Some(0x11),
+        Op1::Negate => Some(0x10),
+        Op1::BitNot => Some(0x11),
         Op1::LowByte => Some(0x12),
         Op1::HighByte => Some(0x13),
         Op1::BankByte => Some(0x14),
-        Op1::LogicalNot => Some(0x15),
+        Op1::Not => Some(0x15),
     }
 }
 
@@ -80,25 +78,25 @@ fn binary_code(op: Op2) -> u8
     ensures { result ≡ 0x20 + number2 op }
 {
     match op {
-        Op2::Times => 0x20,
-        Op2::Over => 0x21,
+        Op2::Multiply => 0x20,
+        Op2::Divide => 0x21,
         Op2::Modulo => 0x22,
         Op2::BitAnd => 0x23,
         Op2::BitXor => 0x24,
         Op2::ShiftLeft => 0x25,
         Op2::ShiftRight => 0x26,
-        Op2::Sum => 0x27,
-        Op2::Difference => 0x28,
+        Op2::Add => 0x27,
+        Op2::Subtract => 0x28,
         Op2::BitOr => 0x29,
         Op2::Equal => 0x2a,
         Op2::NotEqual => 0x2b,
         Op2::Less => 0x2c,
         Op2::Greater => 0x2d,
-        Op2::AtMost => 0x2e,
-        Op2::AtLeast => 0x2f,
-        Op2::Both => 0x30,
-        Op2::OneOf => 0x31,
-        Op2::Either => 0x32,
+        Op2::LessOrEqual => 0x2e,
+        Op2::GreaterOrEqual => 0x2f,
+        Op2::And => 0x30,
+        Op2::Xor => 0x31,
+        Op2::Or => 0x32,
     }
 }
 

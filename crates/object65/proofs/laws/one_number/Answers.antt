@@ -1,5 +1,5 @@
-use Rattle.object65.proofs.Spellings.{number_law}
+use Rattle.object65.proofs.Numbers.{one_number}
 use Rattle.object65.proofs.laws.one_number.Goals as goal
 
 pub returns : goal.returns
-returns c = number_law
+returns c = one_number

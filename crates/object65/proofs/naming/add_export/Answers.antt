@@ -15,4 +15,5 @@ returns-clause-sound c =
       section_names = c.requires.sound.section_names;
       within = c.requires.sound.within;
       filling = c.requires.sound.filling;
+      texts = c.requires.sound.texts;
     }

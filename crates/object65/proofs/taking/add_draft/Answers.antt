@@ -15,4 +15,5 @@ returns-clause-sound c =
       section_names = ap (map (λ n. n.items)) c.in_ok-insert.ensures.keys ∙ new ∙ rw name (sym (names-push ds c.args.draft)) ∙ ap draft_names (sym c.in_ok-push.ensures.items);
       within = rw c.in_ok-push.ensures.items (omega (arith, c.requires.sound.within, length-append ds (c.args.draft ∷ [])));
       filling = rw c.in_ok-push.ensures.items (full-push c.args.parts.now.filling ds c.args.draft c.requires.sound.within c.requires.sound.filling);
+      texts = c.requires.sound.texts;
     }

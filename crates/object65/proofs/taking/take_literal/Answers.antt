@@ -34,4 +34,5 @@ returns-clause-sound c =
       section_names = sound.section_names ∙ sym (names-set ds c.in_ok-at.at c.index_mut-draft.result.now e c.index_mut-draft.ensures.value c.grow_literal.ensures.name);
       within = omega (arith, sound.within, length-set ds c.in_ok-at.at e);
       filling = rw at (full-set ds c.in_ok-at.at e (rw at at sound.filling));
+      texts = sound.texts;
     }

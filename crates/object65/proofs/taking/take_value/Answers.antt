@@ -1,4 +1,4 @@
-use Rattle.std.proofs.Common.{ℕ, length, ◌∙◌, sym, ap, subst, arith}
+use Rattle.std.proofs.Common.{length, ◌∙◌, sym, ap, subst, arith}
 use Rattle.std.proofs.lemmas.List.{length-set}
 use Rattle.std.proofs.lemmas.Result.{err_from_is_err_and}
 use Rattle.object65.specs.Fault.{Refuses, is_memory}
@@ -34,4 +34,5 @@ returns-clause-sound c =
       section_names = sound.section_names ∙ sym (names-set ds c.in_ok-at.at c.index_mut-draft.result.now e c.index_mut-draft.ensures.value c.grow_value.ensures.name);
       within = omega (arith, sound.within, length-set ds c.in_ok-at.at e);
       filling = rw at (full-set ds c.in_ok-at.at e (rw at at sound.filling));
+      texts = sound.texts;
     }

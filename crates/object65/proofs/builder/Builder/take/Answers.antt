@@ -1,4 +1,4 @@
-use Rattle.std.proofs.Common.{◌≡◌, Bool, refl, subst}
+use Rattle.std.proofs.Common.{Bool, refl, subst}
 use Rattle.object65.specs.Record.{entry_of}
 use Rattle.object65.specs.Sound.{state_of}
 use Rattle.object65.specs.Taking.{IsReached}

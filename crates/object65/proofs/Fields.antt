@@ -1,0 +1,549 @@
+-- The fields of the bodies of records: what is read is spelled so, and what is spelled so is read.
+use Rattle.std.proofs.Common.{◌≡◌, ◌∙◌, ℕ, ℤ, zero, suc, ◌+◌, ◌-◌, ◌<◌, ◌≤◌, ◌^◌, List, [], ◌∷◌, ◌++◌, length, take, drop, Bool, true, false, ◌&&◌, ◌||◌, not, nat_lt, ◌==◌, Option, Some, None, Result, Ok, Err, refl, sym, ap, subst, arith, append_assoc, length-append, ◌⊎◌, inl, inr, if◌then◌else◌}
+use Rattle.std.proofs.lemmas.Bool.Decides.{nat_tests}
+use Rattle.std.proofs.lemmas.List.{take-append-drop, take_at, drop_at}
+use Rattle.std.proofs.Math.Facts.{Fits-of_z, Fits-lt-pow, Fits-of_lt, sfits_to_z}
+use Rattle.std.proofs.lemmas.Int.{to_z-of_z, of_z-to_z}
+use Rattle.std.specs.Int.{w64, cast_signed, cast_unsigned}
+use Rattle.std.specs.Prelude.{FitsSigned}
+use Rattle.byteorder.specs.Endian.{little_number, little_bytes}
+use Rattle.byteorder.specs.Numbers.{length-bytes_low_first, little_from-lt}
+use Rattle.object65.specs.declared.fault.ObjectFault.{ObjectFault}
+use Rattle.object65.specs.declared.fault.ObjectFault.TheVariants.{BadSize}
+use Rattle.syntax65.specs.declared.values.Op1.{Op1}
+use Rattle.syntax65.specs.declared.values.Op1.TheVariants.{Plus, Negate, BitNot, LowByte, HighByte, BankByte, Not}
+use Rattle.syntax65.specs.declared.values.Op2.{Op2}
+use Rattle.syntax65.specs.declared.values.Op2.TheVariants.{Multiply, Divide, Modulo, BitAnd, BitXor, ShiftLeft, ShiftRight, Add, Subtract, BitOr, Equal, NotEqual, Less, Greater, LessOrEqual, GreaterOrEqual, And, Xor, Or}
+use Rattle.object65.specs.declared.object.Action.{Action}
+use Rattle.object65.specs.declared.object.Action.TheVariants as action
+use Rattle.object65.specs.declared.object.Assert.{Assert}
+use Rattle.object65.specs.declared.object.Export.{Export}
+use Rattle.object65.specs.declared.object.Width.{Width}
+use Rattle.object65.specs.declared.object.Width.TheVariants.{Byte, Word, HighFirst, Dword, Branch}
+use Rattle.object65.specs.Bodies
+use Rattle.object65.specs.Bytes.{IsBytes}
+use Rattle.object65.specs.Fault.{◌>>=◌}
+use Rattle.object65.specs.Folding.{is_normal, folds1, folds2}
+use Rattle.object65.specs.Form.{Form, lit, sec, imp, prefix, binary, nodes}
+use Rattle.object65.specs.Objects.{FitsBits}
+use Rattle.object65.specs.Operators.{op1_of, op2_of, number2}
+use Rattle.object65.specs.Spelling.{code1, form_bytes, width_code, action_code, value_entry, export_entry, assert_entry, fill_entry}
+use Rattle.object65.proofs.Goods.{left, right}
+use Rattle.object65.proofs.Numbers.{bytes_drop, front, back}
+use Rattle.object65.proofs.Rooms.{bound, passes}
+use borrow.Author.Tests.{ltb-false}
+
+abbrev Part : Type 0
+Part = List ℕ → Result (Form × List ℕ) ObjectFault
+
+nil : (xs : List ℕ) → xs ++ [] ≡ xs
+nil [] = refl
+nil (x ∷ xs) = ap (λ ys. x ∷ ys) (nil xs)
+
+either : (b : Bool) → (b ≡ true) ⊎ (b ≡ false)
+either true = inl refl
+either false = inr refl
+
+chosen : {A : Type 0} (b : Bool) (x y : A) → b ≡ true → (if b then x else y) ≡ x
+chosen true x y e = refl
+chosen false x y e = cc
+
+other : {A : Type 0} (b : Bool) (x y : A) → b ≡ false → (if b then x else y) ≡ y
+other true x y e = cc
+other false x y e = refl
+
+-- ---- Numbers and texts that are read.
+
+pub record ReadsNumber (n : ℕ) (bytes : List ℕ) (x : ℕ × List ℕ) : Type 0 where
+  pub spelled : bytes ≡ little_bytes n x.0 ++ x.1
+  pub fits : x.0 < 256 ^ n
+  pub rest : IsBytes x.1
+
+pub number_reads : (n : ℕ) (bytes : List ℕ) (x : ℕ × List ℕ) → IsBytes bytes → Bodies.number_at n bytes ≡ Ok x → ReadsNumber n bytes x
+number_reads n bytes x is e =
+    let p = passes (nat_lt (length bytes) n) BadSize _ _ e in
+    let long : n ≤ length bytes = ltb-false _ _ p.0 in
+    let x_is : ◌≡◌ {A = ℕ × List ℕ} (little_number n bytes, drop n bytes) x = cc (p.1) in
+    rw (← x_is) (record {
+      spelled = sym (take-append-drop n bytes) ∙ ap (λ xs. xs ++ drop n bytes) (sym (front n bytes is long));
+      fits = little_from-lt 0 n bytes is;
+      rest = bytes_drop n bytes is;
+    })
+
+pub record ReadsSigned (bytes : List ℕ) (x : ℤ × List ℕ) : Type 0 where
+  pub spelled : bytes ≡ little_bytes 8 (cast_unsigned w64 x.0) ++ x.1
+  pub fits : FitsSigned w64 x.0
+  pub rest : IsBytes x.1
+
+signed_reads : (bytes : List ℕ) (x : ℤ × List ℕ) → IsBytes bytes → Bodies.signed_at bytes ≡ Ok x → ReadsSigned bytes x
+signed_reads bytes x is e =
+    let n = bound (Bodies.number_at 8 bytes) _ _ e in
+    let reads = number_reads 8 bytes n.0 is n.1 in
+    let x_is : ◌≡◌ {A = ℤ × List ℕ} (cast_signed w64 n.0.0, n.0.1) x = cc (n.2) in
+    let below : n.0.0 < 2 ^ 64 = omega (arith, reads.fits) in
+    rw (← x_is) (record {
+      spelled = reads.spelled ∙ ap (λ k. little_bytes 8 k ++ n.0.1) (sym (of_z-to_z w64 n.0.0 below));
+      fits = sfits_to_z (Fits-of_lt below);
+      rest = reads.rest;
+    })
+
+pub record ReadsText (bytes : List ℕ) (x : List ℕ × List ℕ) : Type 0 where
+  pub spelled : bytes ≡ length x.0 ∷ (x.0 ++ x.1)
+  pub short : length x.0 < 256
+  pub rest : IsBytes x.1
+
+-- a byte is a number of one byte
+pub byte_reads : (bytes : List ℕ) (x : ℕ × List ℕ) → IsBytes bytes → Bodies.number_at 1 bytes ≡ Ok x → (bytes ≡ x.0 ∷ x.1) × (x.0 < 256) × IsBytes x.1
+byte_reads [] x is e = cc
+byte_reads (b ∷ bytes) x is e =
+    let p = passes (nat_lt (length (b ∷ bytes)) 1) BadSize _ _ e in
+    let same : little_number 1 (b ∷ bytes) ≡ b = omega arith in
+    let x_is : ◌≡◌ {A = ℕ × List ℕ} (b, bytes) x = ap (λ k. (k, bytes)) (sym same) ∙ cc (p.1) in
+    rw (← x_is) (refl, is zero, λ i. is (suc i))
+
+counted_reads : (bytes : List ℕ) (x : List ℕ × List ℕ) → IsBytes bytes → Bodies.counted_at bytes ≡ Ok x → ReadsText bytes x
+unfolding Bodies.counted_at
+counted_reads bytes x is e =
+    let n = bound (Bodies.number_at 1 bytes) _ _ e in
+    let byte = byte_reads bytes n.0 is n.1 in
+    let p = passes (nat_lt (length n.0.1) n.0.0) BadSize _ _ n.2 in
+    let x_is : ◌≡◌ {A = List ℕ × List ℕ} (take n.0.0 n.0.1, drop n.0.0 n.0.1) x = cc (p.1) in
+    let long : n.0.0 ≤ length n.0.1 = ltb-false _ _ p.0 in
+    let len : length (take n.0.0 n.0.1) ≡ n.0.0 = length_front n.0.0 n.0.1 long in
+    rw (← x_is) (record {
+      spelled = byte.0 ∙ (λ i. sym len i ∷ sym (take-append-drop n.0.0 n.0.1) i);
+      short = omega (arith, len, byte.1);
+      rest = bytes_drop n.0.0 n.0.1 byte.2;
+    })
+  where
+    length_front : (n : ℕ) (xs : List ℕ) → n ≤ length xs → length (take n xs) ≡ n
+    length_front zero xs h = refl
+    length_front (suc n) [] h = absurd (omega arith)
+    length_front (suc n) (x ∷ xs) h = omega (arith, length_front n xs (omega arith))
+
+-- ---- Forms that are read.
+
+-- the form stands at the front, and then the rest
+pub record ReadsForm (bytes : List ℕ) (x : Form × List ℕ) : Type 0 where
+  pub spelled : bytes ≡ form_bytes x.0 ++ x.1
+  pub fits : FitsBits x.0
+  pub rest : IsBytes x.1
+
+abbrev ReadsParts : Part → Type 0
+ReadsParts part = (bytes : List ℕ) (x : Form × List ℕ) → IsBytes bytes → part bytes ≡ Ok x → ReadsForm bytes x
+
+lit_reads : (rest : List ℕ) (x : Form × List ℕ) → IsBytes rest → Bodies.lit_at rest ≡ Ok x → ReadsForm (0 ∷ rest) x
+unfolding Bodies.lit_at
+lit_reads rest x is e =
+    let v = bound (Bodies.signed_at rest) _ _ e in
+    let reads = signed_reads rest v.0 is v.1 in
+    let x_is : ◌≡◌ {A = Form × List ℕ} (lit v.0.0, v.0.1) x = cc (v.2) in
+    rw (← x_is) (record { spelled = ap (λ xs. 0 ∷ xs) reads.spelled; fits = reads.fits; rest = reads.rest })
+
+sec_reads : (rest : List ℕ) (x : Form × List ℕ) → IsBytes rest → Bodies.sec_at rest ≡ Ok x → ReadsForm (1 ∷ rest) x
+unfolding Bodies.sec_at
+sec_reads rest x is e =
+    let k = bound (Bodies.number_at 4 rest) _ _ e in
+    let number = number_reads 4 rest k.0 is k.1 in
+    let v = bound (Bodies.signed_at k.0.1) _ _ k.2 in
+    let offset = signed_reads k.0.1 v.0 number.rest v.1 in
+    let x_is : ◌≡◌ {A = Form × List ℕ} (sec k.0.0 v.0.0, v.0.1) x = cc (v.2) in
+    rw (← x_is) (record {
+      spelled = ap (λ xs. 1 ∷ xs) (number.spelled ∙ ap (λ xs. little_bytes 4 k.0.0 ++ xs) offset.spelled ∙ sym (append_assoc (little_bytes 4 k.0.0) (little_bytes 8 (cast_unsigned w64 v.0.0)) v.0.1));
+      fits = (omega (arith, number.fits), offset.fits);
+      rest = offset.rest;
+    })
+
+imp_reads : (rest : List ℕ) (x : Form × List ℕ) → IsBytes rest → Bodies.imp_at rest ≡ Ok x → ReadsForm (2 ∷ rest) x
+unfolding Bodies.imp_at
+imp_reads rest x is e =
+    let j = bound (Bodies.number_at 4 rest) _ _ e in
+    let number = number_reads 4 rest j.0 is j.1 in
+    let x_is : ◌≡◌ {A = Form × List ℕ} (imp j.0.0, j.0.1) x = cc (j.2) in
+    rw (← x_is) (record { spelled = ap (λ xs. 2 ∷ xs) number.spelled; fits = omega (arith, number.fits); rest = number.rest })
+
+code1_of : (k : ℕ) → 1 ≤ k → k ≤ 6 → code1 (op1_of k) ≡ (15 + k) ∷ []
+code1_of zero some within = absurd (omega arith)
+code1_of (suc zero) some within = refl
+code1_of (suc (suc zero)) some within = refl
+code1_of (suc (suc (suc zero))) some within = refl
+code1_of (suc (suc (suc (suc zero)))) some within = refl
+code1_of (suc (suc (suc (suc (suc zero))))) some within = refl
+code1_of (suc (suc (suc (suc (suc (suc zero)))))) some within = refl
+code1_of (suc (suc (suc (suc (suc (suc (suc k))))))) some within = absurd (omega arith)
+
+number2_of : (k : ℕ) → k ≤ 18 → number2 (op2_of k) ≡ k
+number2_of zero within = refl
+number2_of (suc zero) within = refl
+number2_of (suc (suc zero)) within = refl
+number2_of (suc (suc (suc zero))) within = refl
+number2_of (suc (suc (suc (suc zero)))) within = refl
+number2_of (suc (suc (suc (suc (suc zero))))) within = refl
+number2_of (suc (suc (suc (suc (suc (suc zero)))))) within = refl
+number2_of (suc (suc (suc (suc (suc (suc (suc zero))))))) within = refl
+number2_of (suc (suc (suc (suc (suc (suc (suc (suc zero)))))))) within = refl
+number2_of (suc (suc (suc (suc (suc (suc (suc (suc (suc zero))))))))) within = refl
+number2_of (suc (suc (suc (suc (suc (suc (suc (suc (suc (suc zero)))))))))) within = refl
+number2_of (suc (suc (suc (suc (suc (suc (suc (suc (suc (suc (suc zero))))))))))) within = refl
+number2_of (suc (suc (suc (suc (suc (suc (suc (suc (suc (suc (suc (suc zero)))))))))))) within = refl
+number2_of (suc (suc (suc (suc (suc (suc (suc (suc (suc (suc (suc (suc (suc zero))))))))))))) within = refl
+number2_of (suc (suc (suc (suc (suc (suc (suc (suc (suc (suc (suc (suc (suc (suc zero)))))))))))))) within = refl
+number2_of (suc (suc (suc (suc (suc (suc (suc (suc (suc (suc (suc (suc (suc (suc (suc zero))))))))))))))) within = refl
+number2_of (suc (suc (suc (suc (suc (suc (suc (suc (suc (suc (suc (suc (suc (suc (suc (suc zero)))))))))))))))) within = refl
+number2_of (suc (suc (suc (suc (suc (suc (suc (suc (suc (suc (suc (suc (suc (suc (suc (suc (suc zero))))))))))))))))) within = refl
+number2_of (suc (suc (suc (suc (suc (suc (suc (suc (suc (suc (suc (suc (suc (suc (suc (suc (suc (suc zero)))))))))))))))))) within = refl
+number2_of (suc (suc (suc (suc (suc (suc (suc (suc (suc (suc (suc (suc (suc (suc (suc (suc (suc (suc (suc k))))))))))))))))))) within = absurd (omega arith)
+
+either_not : (a b : Bool) → (a || b) ≡ false → (a ≡ false) × (b ≡ false)
+either_not true b e = cc
+either_not false b e = (refl, e)
+
+found : {A : Type 0} (b : Bool) (x y : A) → (if b then None else Some x) ≡ Some y → (b ≡ false) × (x ≡ y)
+found true x y e = cc
+found false x y e = (refl, cc)
+
+op1_spelled : (code : ℕ) (op : Op1) → Bodies.op1_at code ≡ Some op → code1 op ≡ code ∷ []
+op1_spelled code op e =
+    let f = found (nat_lt code 0x10 || nat_lt 0x15 code) (op1_of (code - 0x0f)) op e in
+    let ends = either_not (nat_lt code 0x10) (nat_lt 0x15 code) f.0 in
+    let low : 0x10 ≤ code = ltb-false _ _ ends.0 in
+    let high : code ≤ 0x15 = ltb-false _ _ ends.1 in
+    let sum : 15 + (code - 0x0f) ≡ code = omega arith in
+    ap code1 (sym f.1) ∙ code1_of (code - 0x0f) (omega arith) (omega arith) ∙ ap (λ c. c ∷ []) sum
+
+op2_spelled : (code : ℕ) (op : Op2) → Bodies.op2_at code ≡ Some op → 0x20 + number2 op ≡ code
+op2_spelled code op e =
+    let f = found (nat_lt code 0x20 || nat_lt 0x32 code) (op2_of (code - 0x20)) op e in
+    let ends = either_not (nat_lt code 0x20) (nat_lt 0x32 code) f.0 in
+    let low : 0x20 ≤ code = ltb-false _ _ ends.0 in
+    let high : code ≤ 0x32 = ltb-false _ _ ends.1 in
+    let number : number2 op ≡ code - 0x20 = ap number2 (sym f.1) ∙ number2_of (code - 0x20) (omega arith) in
+    omega arith
+
+prefix_reads : (part : Part) (code : ℕ) (op : Op1) (rest : List ℕ) (x : Form × List ℕ) → ReadsParts part → code1 op ≡ code ∷ [] → IsBytes rest → Bodies.prefix_at part op rest ≡ Ok x → ReadsForm (code ∷ rest) x
+unfolding Bodies.prefix_at
+prefix_reads part code op rest x parts spelled is e =
+    let f = bound (part rest) _ _ e in
+    let reads = parts rest f.0 is f.1 in
+    let x_is : ◌≡◌ {A = Form × List ℕ} (prefix op f.0.0, f.0.1) x = cc (f.2) in
+    rw (← x_is) (record {
+      spelled = ap (λ xs. code ∷ xs) reads.spelled ∙ ap (λ xs. (xs ++ form_bytes f.0.0) ++ f.0.1) (sym spelled);
+      fits = reads.fits;
+      rest = reads.rest;
+    })
+
+binary_reads : (part : Part) (code : ℕ) (op : Op2) (rest : List ℕ) (x : Form × List ℕ) → ReadsParts part → 0x20 + number2 op ≡ code → IsBytes rest → Bodies.binary_at part op rest ≡ Ok x → ReadsForm (code ∷ rest) x
+unfolding Bodies.binary_at
+binary_reads part code op rest x parts spelled is e =
+    let f = bound (part rest) _ _ e in
+    let one = parts rest f.0 is f.1 in
+    let g = bound (part f.0.1) _ _ f.2 in
+    let two = parts f.0.1 g.0 one.rest g.1 in
+    let x_is : ◌≡◌ {A = Form × List ℕ} (binary op f.0.0 g.0.0, g.0.1) x = cc (g.2) in
+    rw (← x_is) (record {
+      spelled = (λ i. sym spelled i ∷ (one.spelled ∙ ap (λ xs. form_bytes f.0.0 ++ xs) two.spelled ∙ sym (append_assoc (form_bytes f.0.0) (form_bytes g.0.0) g.0.1)) i);
+      fits = (one.fits, two.fits);
+      rest = two.rest;
+    })
+
+operation_reads : (part : Part) (code : ℕ) (rest : List ℕ) (x : Form × List ℕ) (a : Option Op1) (b : Option Op2) → Bodies.op1_at code ≡ a → Bodies.op2_at code ≡ b → ReadsParts part → IsBytes rest → Bodies.operation_at part a b rest ≡ Ok x → ReadsForm (code ∷ rest) x
+operation_reads part code rest x (Some op) b is_a is_b parts is e = prefix_reads part code op rest x parts (op1_spelled code op is_a) is e
+operation_reads part code rest x None (Some op) is_a is_b parts is e = binary_reads part code op rest x parts (op2_spelled code op is_b) is e
+operation_reads part code rest x None None is_a is_b parts is e = cc
+
+code_reads : (part : Part) (code : ℕ) (rest : List ℕ) (x : Form × List ℕ) → ReadsParts part → IsBytes rest → Bodies.form_of_code part code rest ≡ Ok x → ReadsForm (code ∷ rest) x
+code_reads part code rest x parts is e =
+    elim (either (code == 0)) [
+      | inl zeroth ↦
+          let same : 0 ≡ code = grind (arith, nat_tests) in
+          subst (λ c. ReadsForm (c ∷ rest) x) same (lit_reads rest x is (sym (chosen (code == 0) _ _ zeroth) ∙ e))
+      | inr not_0 ↦ elim (either (code == 1)) [
+        | inl first ↦
+            let same : 1 ≡ code = grind (arith, nat_tests) in
+            subst (λ c. ReadsForm (c ∷ rest) x) same (sec_reads rest x is (sym (chosen (code == 1) _ _ first) ∙ sym (other (code == 0) _ _ not_0) ∙ e))
+        | inr not_1 ↦ elim (either (code == 2)) [
+          | inl second ↦
+              let same : 2 ≡ code = grind (arith, nat_tests) in
+              subst (λ c. ReadsForm (c ∷ rest) x) same (imp_reads rest x is (sym (chosen (code == 2) _ _ second) ∙ sym (other (code == 1) _ _ not_1) ∙ sym (other (code == 0) _ _ not_0) ∙ e))
+          | inr not_2 ↦ operation_reads part code rest x (Bodies.op1_at code) (Bodies.op2_at code) refl refl parts is (sym (other (code == 2) _ _ not_2) ∙ sym (other (code == 1) _ _ not_1) ∙ sym (other (code == 0) _ _ not_0) ∙ e)
+        ]
+      ]
+    ]
+
+form_reads : (depth : ℕ) → ReadsParts (λ xs. Bodies.form_at depth xs)
+form_reads zero bytes x is e = cc
+form_reads (suc depth) [] x is e = cc
+form_reads (suc depth) (code ∷ rest) x is e = code_reads (λ xs. Bodies.form_at depth xs) code rest x (form_reads depth) (λ i. is (suc i)) e
+
+nothing_left : (bytes : List ℕ) → (length bytes == 0) ≡ true → bytes ≡ []
+nothing_left [] e = refl
+nothing_left (b ∷ bytes) e = let longer : (length (b ∷ bytes) == 0) ≡ false = grind (arith, nat_tests) in cc
+
+kept : {A : Type 0} (b : Bool) (x y : A) → (if b then Ok x else Err BadSize) ≡ Ok y → (b ≡ true) × (x ≡ y)
+kept true x y e = (refl, cc)
+kept false x y e = cc
+
+pub all_reads : (bytes : List ℕ) (f : Form) → IsBytes bytes → Bodies.form_of_all bytes ≡ Ok f → (bytes ≡ form_bytes f) × FitsBits f
+unfolding Bodies.form_of_all
+all_reads bytes f is e =
+    let x = bound (Bodies.form_at (length bytes) bytes) _ _ e in
+    let reads = form_reads (length bytes) bytes x.0 is x.1 in
+    let last = kept (length x.0.1 == 0) x.0.0 f x.2 in
+    (reads.spelled ∙ (λ i. form_bytes (last.1 i) ++ nothing_left x.0.1 last.0 i) ∙ nil (form_bytes f), subst FitsBits last.1 reads.fits)
+
+-- ---- Bodies that are read.
+
+pub fill_reads : (body : List ℕ) (n : ℕ) → IsBytes body → Bodies.fill_of body ≡ Ok n → (body ≡ little_bytes 4 n) × (n < 2 ^ 32) × (0 < n)
+fill_reads body n is e =
+    let p = passes (not (length body == 4) || little_number 4 body == 0) BadSize _ _ e in
+    let ends = either_not (not (length body == 4)) (little_number 4 body == 0) p.0 in
+    let len : length body ≡ 4 = four (length body) ends.0 in
+    let n_is : little_number 4 body ≡ n = cc (p.1) in
+    let spelled = front 4 body is (omega arith) in
+    let some : little_number 4 body ≡ 0 → ⊥ = positive (little_number 4 body) ends.1 in
+    let below = little_from-lt 0 4 body is in
+    (sym (ap (little_bytes 4) (sym n_is) ∙ spelled ∙ take_whole 4 body len), omega (arith, below, n_is), above (little_number 4 body) n some n_is)
+  where
+    four : (n : ℕ) → not (n == 4) ≡ false → n ≡ 4
+    four n e = grind (arith, nat_tests)
+
+    positive : (n : ℕ) → (n == 0) ≡ false → n ≡ 0 → ⊥
+    positive n e h = grind (arith, nat_tests)
+
+    above : (m n : ℕ) → (m ≡ 0 → ⊥) → m ≡ n → 0 < n
+    above zero n some e = absurd (some refl)
+    above (suc m) n some e = omega arith
+
+    take_whole : (n : ℕ) (xs : List ℕ) → length xs ≡ n → take n xs ≡ xs
+    take_whole zero [] e = refl
+    take_whole zero (x ∷ xs) e = absurd (omega arith)
+    take_whole (suc n) [] e = absurd (omega arith)
+    take_whole (suc n) (x ∷ xs) e = ap (λ ys. x ∷ ys) (take_whole n xs (omega arith))
+
+width_spelled : (code : ℕ) (w : Width) → Bodies.width_of code ≡ Ok w → code ≡ width_code w
+width_spelled code w e =
+    elim (either (code == 0)) [
+      | inl is ↦ let same : code ≡ 0 = grind (arith, nat_tests) in let w_is : Byte ≡ w = cc (sym (chosen (code == 0) _ _ is) ∙ e) in same ∙ ap width_code w_is
+      | inr not_0 ↦ elim (either (code == 1)) [
+        | inl is ↦ let same : code ≡ 1 = grind (arith, nat_tests) in let w_is : Word ≡ w = cc (sym (chosen (code == 1) _ _ is) ∙ sym (other (code == 0) _ _ not_0) ∙ e) in same ∙ ap width_code w_is
+        | inr not_1 ↦ elim (either (code == 2)) [
+          | inl is ↦ let same : code ≡ 2 = grind (arith, nat_tests) in let w_is : HighFirst ≡ w = cc (sym (chosen (code == 2) _ _ is) ∙ sym (other (code == 1) _ _ not_1) ∙ sym (other (code == 0) _ _ not_0) ∙ e) in same ∙ ap width_code w_is
+          | inr not_2 ↦ elim (either (code == 3)) [
+            | inl is ↦ let same : code ≡ 3 = grind (arith, nat_tests) in let w_is : Dword ≡ w = cc (sym (chosen (code == 3) _ _ is) ∙ sym (other (code == 2) _ _ not_2) ∙ sym (other (code == 1) _ _ not_1) ∙ sym (other (code == 0) _ _ not_0) ∙ e) in same ∙ ap width_code w_is
+            | inr not_3 ↦ let last = kept (code == 4) Branch w (sym (other (code == 3) _ _ not_3) ∙ sym (other (code == 2) _ _ not_2) ∙ sym (other (code == 1) _ _ not_1) ∙ sym (other (code == 0) _ _ not_0) ∙ e) in let same : code ≡ 4 = four code last.0 in same ∙ ap width_code last.1
+          ]
+        ]
+      ]
+    ]
+  where
+    four : (n : ℕ) → (n == 4) ≡ true → n ≡ 4
+    four n e = grind (arith, nat_tests)
+
+action_spelled : (code : ℕ) (a : Action) → Bodies.action_of code ≡ Ok a → code ≡ action_code a
+action_spelled code a e =
+    elim (either (code == 0)) [
+      | inl is ↦ let same : code ≡ 0 = grind (arith, nat_tests) in let a_is : action.Warning ≡ a = cc (sym (chosen (code == 0) _ _ is) ∙ e) in same ∙ ap action_code a_is
+      | inr not_0 ↦ let last = kept (code == 1) action.Error a (sym (other (code == 0) _ _ not_0) ∙ e) in let same : code ≡ 1 = one code last.0 in same ∙ ap action_code last.1
+    ]
+  where
+    one : (n : ℕ) → (n == 1) ≡ true → n ≡ 1
+    one n e = grind (arith, nat_tests)
+
+pub value_reads : (body : List ℕ) (x : Width × ℕ × Form) → IsBytes body → Bodies.value_of body ≡ Ok x → (body ≡ (value_entry x.0 x.1 x.2).body) × (x.1 < 2 ^ 32) × FitsBits x.2
+unfolding Bodies.value_of
+value_reads body x is e =
+    let c = bound (Bodies.number_at 1 body) _ _ e in
+    let code = byte_reads body c.0 is c.1 in
+    let w = bound (Bodies.width_of c.0.0) _ _ c.2 in
+    let l = bound (Bodies.number_at 4 c.0.1) _ _ w.2 in
+    let line = number_reads 4 c.0.1 l.0 code.2 l.1 in
+    let f = bound (Bodies.form_of_all l.0.1) _ _ l.2 in
+    let form = all_reads l.0.1 f.0 line.rest f.1 in
+    let x_is : ◌≡◌ {A = Width × ℕ × Form} (w.0, l.0.0, f.0) x = cc (f.2) in
+    rw (← x_is) (
+      code.0 ∙ (λ i. width_spelled c.0.0 w.0 w.1 i ∷ (line.spelled ∙ ap (λ xs. little_bytes 4 l.0.0 ++ xs) form.0) i),
+      omega (arith, line.fits),
+      form.1,
+    )
+
+pub export_reads : (body : List ℕ) (x : Export) → IsBytes body → Bodies.export_of body ≡ Ok x → (body ≡ (export_entry x).body) × (x.line < 2 ^ 32) × FitsBits x.form
+unfolding Bodies.export_of
+export_reads body x is e =
+    let t = bound (Bodies.counted_at body) _ _ e in
+    let name = counted_reads body t.0 is t.1 in
+    let l = bound (Bodies.number_at 4 t.0.1) _ _ t.2 in
+    let line = number_reads 4 t.0.1 l.0 name.rest l.1 in
+    let f = bound (Bodies.form_of_all l.0.1) _ _ l.2 in
+    let form = all_reads l.0.1 f.0 line.rest f.1 in
+    let x_is : ◌≡◌ {A = Export} (record { name = t.0.0; line = l.0.0; form = f.0 }) x = cc (f.2) in
+    rw (← x_is) (
+      name.spelled ∙ ap (λ xs. length t.0.0 ∷ (t.0.0 ++ xs)) (line.spelled ∙ ap (λ xs. little_bytes 4 l.0.0 ++ xs) form.0) ∙ ap (λ xs. length t.0.0 ∷ xs) (sym (append_assoc t.0.0 (little_bytes 4 l.0.0) (form_bytes f.0))),
+      omega (arith, line.fits),
+      form.1,
+    )
+
+pub record ReadsAssert (body : List ℕ) (x : Assert) : Type 0 where
+  pub spelled : body ≡ (assert_entry x).body
+  pub line : x.line < 2 ^ 32
+  pub form : FitsBits x.form
+  pub text : length x.text < 256
+
+pub assert_reads : (body : List ℕ) (x : Assert) → IsBytes body → Bodies.assert_of body ≡ Ok x → ReadsAssert body x
+unfolding Bodies.assert_of
+assert_reads body x is e =
+    let c = bound (Bodies.number_at 1 body) _ _ e in
+    let code = byte_reads body c.0 is c.1 in
+    let a = bound (Bodies.action_of c.0.0) _ _ c.2 in
+    let l = bound (Bodies.number_at 4 c.0.1) _ _ a.2 in
+    let line = number_reads 4 c.0.1 l.0 code.2 l.1 in
+    let t = bound (Bodies.counted_at l.0.1) _ _ l.2 in
+    let text = counted_reads l.0.1 t.0 line.rest t.1 in
+    let f = bound (Bodies.form_of_all t.0.1) _ _ t.2 in
+    let form = all_reads t.0.1 f.0 text.rest f.1 in
+    let x_is : ◌≡◌ {A = Assert} (record { action = a.0; line = l.0.0; text = t.0.0; form = f.0 }) x = cc (f.2) in
+    rw (← x_is) (record {
+      spelled = code.0 ∙ (λ i. action_spelled c.0.0 a.0 a.1 i ∷ (line.spelled ∙ ap (λ xs. little_bytes 4 l.0.0 ++ xs) (text.spelled ∙ ap (λ xs. length t.0.0 ∷ (t.0.0 ++ xs)) form.0)) i);
+      line = omega (arith, line.fits);
+      form = form.1;
+      text = text.short;
+    })
+
+-- ---- What is spelled is read.
+
+number_again : (n x : ℕ) (rest : List ℕ) → x < 256 ^ n → Bodies.number_at n (little_bytes n x ++ rest) ≡ Ok (x, rest)
+number_again n x rest fits =
+    let len : length (little_bytes n x) ≡ n = length-bytes_low_first 0 n x in
+    let all : length (little_bytes n x ++ rest) ≡ n + length rest = omega (arith, length-append (little_bytes n x) rest, len) in
+    let long : nat_lt (length (little_bytes n x ++ rest)) n ≡ false = grind (arith, nat_tests) in
+    rw (long, back n x rest fits, drop_at (little_bytes n x) rest n len) refl
+
+byte_again : (b : ℕ) (rest : List ℕ) → Bodies.number_at 1 (b ∷ rest) ≡ Ok (b, rest)
+byte_again b rest =
+    let long : nat_lt (length (b ∷ rest)) 1 ≡ false = grind (arith, nat_tests) in
+    let same : little_number 1 (b ∷ rest) ≡ b = omega arith in
+    rw (long, same) refl
+
+signed_again : (v : ℤ) (rest : List ℕ) → FitsSigned w64 v → Bodies.signed_at (little_bytes 8 (cast_unsigned w64 v) ++ rest) ≡ Ok (v, rest)
+signed_again v rest fits =
+    let below : cast_unsigned w64 v < 2 ^ 64 = Fits-lt-pow (Fits-of_z fits) in
+    rw (number_again 8 (cast_unsigned w64 v) rest (omega (arith, below)), to_z-of_z w64 v fits) refl
+
+text_again : (text rest : List ℕ) → Bodies.counted_at (length text ∷ (text ++ rest)) ≡ Ok (text, rest)
+unfolding Bodies.counted_at
+text_again text rest =
+    let long : nat_lt (length (text ++ rest)) (length text) ≡ false = (let n = length-append text rest in grind (arith, nat_tests)) in
+    rw (byte_again (length text) (text ++ rest), long, take_at text rest (length text) refl, drop_at text rest (length text) refl) refl
+
+binary_code : (part : Part) (op : Op2) (bytes : List ℕ) → Bodies.form_of_code part (0x20 + number2 op) bytes ≡ Bodies.binary_at part op bytes
+binary_code part Multiply bytes = refl
+binary_code part Divide bytes = refl
+binary_code part Modulo bytes = refl
+binary_code part BitAnd bytes = refl
+binary_code part BitXor bytes = refl
+binary_code part ShiftLeft bytes = refl
+binary_code part ShiftRight bytes = refl
+binary_code part Add bytes = refl
+binary_code part Subtract bytes = refl
+binary_code part BitOr bytes = refl
+binary_code part Equal bytes = refl
+binary_code part NotEqual bytes = refl
+binary_code part Less bytes = refl
+binary_code part Greater bytes = refl
+binary_code part LessOrEqual bytes = refl
+binary_code part GreaterOrEqual bytes = refl
+binary_code part And bytes = refl
+binary_code part Xor bytes = refl
+binary_code part Or bytes = refl
+
+prefix_code : (part : Part) (op : Op1) (f : Form) → folds1 op f ≡ false → (bytes : List ℕ) → (code : ℕ) × (code1 op ≡ code ∷ []) × (Bodies.form_of_code part code bytes ≡ Bodies.prefix_at part op bytes)
+prefix_code part Plus f h bytes = cc
+prefix_code part Negate f h bytes = (0x10, refl, refl)
+prefix_code part BitNot f h bytes = (0x11, refl, refl)
+prefix_code part LowByte f h bytes = (0x12, refl, refl)
+prefix_code part HighByte f h bytes = (0x13, refl, refl)
+prefix_code part BankByte f h bytes = (0x14, refl, refl)
+prefix_code part Not f h bytes = (0x15, refl, refl)
+
+turned : (b : Bool) → not b ≡ true → b ≡ false
+turned true e = cc
+turned false e = refl
+
+form_again : (f : Form) (depth : ℕ) (rest : List ℕ) → FitsBits f → is_normal f ≡ true → nodes f ≤ depth → Bodies.form_at depth (form_bytes f ++ rest) ≡ Ok (f, rest)
+unfolding Bodies.lit_at Bodies.sec_at Bodies.imp_at Bodies.prefix_at Bodies.binary_at
+form_again (lit v) zero rest fits normal deep = absurd (omega arith)
+form_again (sec k a) zero rest fits normal deep = absurd (omega arith)
+form_again (imp j) zero rest fits normal deep = absurd (omega arith)
+form_again (prefix op f) zero rest fits normal deep = absurd (omega arith)
+form_again (binary op f g) zero rest fits normal deep = absurd (omega arith)
+form_again (lit v) (suc depth) rest fits normal deep = rw (signed_again v rest fits) refl
+form_again (sec k a) (suc depth) rest fits normal deep =
+    ap Bodies.sec_at (append_assoc (little_bytes 4 k) (little_bytes 8 (cast_unsigned w64 a)) rest)
+    ∙ ap (λ r. r >>= (λ x. Bodies.signed_at x.1 >>= (λ y. Ok (sec x.0 y.0, y.1)))) (number_again 4 k (little_bytes 8 (cast_unsigned w64 a) ++ rest) (omega (arith, fits.0)))
+    ∙ ap (λ r. r >>= (λ y. Ok (sec k y.0, y.1))) (signed_again a rest fits.1)
+form_again (imp j) (suc depth) rest fits normal deep = rw (number_again 4 j rest (omega (arith, fits))) refl
+form_again (prefix op f) (suc depth) rest fits normal deep =
+    let code = prefix_code (λ xs. Bodies.form_at depth xs) op f (turned (folds1 op f) (right (is_normal f) (not (folds1 op f)) normal)) (form_bytes f ++ rest) in
+    let part = form_again f depth rest fits (left (is_normal f) (not (folds1 op f)) normal) (omega arith) in
+    ap (λ xs. Bodies.form_at (suc depth) ((xs ++ form_bytes f) ++ rest)) code.1 ∙ code.2 ∙ ap (λ r. r >>= (λ x. Ok (prefix op x.0, x.1))) part
+form_again (binary op f g) (suc depth) rest fits normal deep =
+    let parts = left (is_normal f && is_normal g) (not (folds2 op f g)) normal in
+    let one = form_again f depth (form_bytes g ++ rest) fits.0 (left (is_normal f) (is_normal g) parts) (omega arith) in
+    let two = form_again g depth rest fits.1 (right (is_normal f) (is_normal g) parts) (omega arith) in
+    binary_code (λ xs. Bodies.form_at depth xs) op ((form_bytes f ++ form_bytes g) ++ rest)
+    ∙ ap (λ xs. Bodies.form_at depth xs >>= (λ x. Bodies.form_at depth x.1 >>= (λ y. Ok (binary op x.0 y.0, y.1)))) (append_assoc (form_bytes f) (form_bytes g) rest)
+    ∙ ap (λ r. r >>= (λ x. Bodies.form_at depth x.1 >>= (λ y. Ok (binary op x.0 y.0, y.1)))) one
+    ∙ ap (λ r. r >>= (λ y. Ok (binary op f y.0, y.1))) two
+
+-- each node has a byte of its own
+nodes_fit : (f : Form) → is_normal f ≡ true → nodes f ≤ length (form_bytes f)
+nodes_fit (lit v) normal = omega arith
+nodes_fit (sec k a) normal = omega arith
+nodes_fit (imp j) normal = omega arith
+nodes_fit (prefix op f) normal =
+    let code = prefix_code (λ xs. Bodies.form_at zero xs) op f (turned (folds1 op f) (right (is_normal f) (not (folds1 op f)) normal)) [] in
+    let len : length (code1 op) ≡ 1 = ap length code.1 ∙ omega arith in
+    omega (arith, len, length-append (code1 op) (form_bytes f), nodes_fit f (left (is_normal f) (not (folds1 op f)) normal))
+nodes_fit (binary op f g) normal =
+    let parts = left (is_normal f && is_normal g) (not (folds2 op f g)) normal in
+    omega (arith, length-append (form_bytes f) (form_bytes g), nodes_fit f (left (is_normal f) (is_normal g) parts), nodes_fit g (right (is_normal f) (is_normal g) parts))
+
+pub all_again : (f : Form) → FitsBits f → is_normal f ≡ true → Bodies.form_of_all (form_bytes f) ≡ Ok f
+unfolding Bodies.form_of_all
+all_again f fits normal =
+    let read : Bodies.form_at (length (form_bytes f)) (form_bytes f) ≡ Ok (f, []) = ap (λ xs. Bodies.form_at (length (form_bytes f)) xs) (sym (nil (form_bytes f))) ∙ form_again f (length (form_bytes f)) [] fits normal (nodes_fit f normal) in
+    rw read refl
+
+fill_kept : (body : List ℕ) (n : ℕ) → length body ≡ 4 → little_number 4 body ≡ n → 0 < n → Bodies.fill_of body ≡ Ok n
+fill_kept body n len number some =
+    let four : (length body == 4) ≡ true = grind (arith, nat_tests) in
+    let above : (n == 0) ≡ false = grind (arith, nat_tests) in
+    rw (four, number, above) refl
+
+pub fill_again : (n : ℕ) → 0 < n → n < 2 ^ 32 → Bodies.fill_of (fill_entry n).body ≡ Ok n
+fill_again n some fits = fill_kept (little_bytes 4 n) n (length-bytes_low_first 0 4 n) (ap (little_number 4) (sym (nil (little_bytes 4 n))) ∙ back 4 n [] (omega arith)) some
+
+width_again : (w : Width) → Bodies.width_of (width_code w) ≡ Ok w
+width_again Byte = refl
+width_again Word = refl
+width_again HighFirst = refl
+width_again Dword = refl
+width_again Branch = refl
+
+action_again : (a : Action) → Bodies.action_of (action_code a) ≡ Ok a
+action_again action.Warning = refl
+action_again action.Error = refl
+
+pub value_again : (w : Width) (line : ℕ) (f : Form) → line < 2 ^ 32 → FitsBits f → is_normal f ≡ true → Bodies.value_of (value_entry w line f).body ≡ Ok (w, line, f)
+unfolding Bodies.value_of
+value_again w line f within fits normal =
+    rw (byte_again (width_code w) (little_bytes 4 line ++ form_bytes f), width_again w, number_again 4 line (form_bytes f) (omega (arith, within)), all_again f fits normal) refl
+
+pub export_again : (x : Export) → x.line < 2 ^ 32 → FitsBits x.form → is_normal x.form ≡ true → Bodies.export_of (export_entry x).body ≡ Ok x
+unfolding Bodies.export_of
+export_again x within fits normal =
+    rw (append_assoc x.name (little_bytes 4 x.line) (form_bytes x.form), text_again x.name (little_bytes 4 x.line ++ form_bytes x.form), number_again 4 x.line (form_bytes x.form) (omega (arith, within)), all_again x.form fits normal) refl
+
+pub assert_again : (x : Assert) → x.line < 2 ^ 32 → FitsBits x.form → is_normal x.form ≡ true → Bodies.assert_of (assert_entry x).body ≡ Ok x
+unfolding Bodies.assert_of
+assert_again x within fits normal =
+    rw (byte_again (action_code x.action) (little_bytes 4 x.line ++ length x.text ∷ (x.text ++ form_bytes x.form)), action_again x.action, number_again 4 x.line (length x.text ∷ (x.text ++ form_bytes x.form)) (omega (arith, within)), text_again x.text (form_bytes x.form), all_again x.form fits normal) refl

@@ -4,3 +4,14 @@ pub mod Statements
 pub mod Gathering
 pub mod Objects
 pub mod Assembly
+pub mod Language
+pub mod Laid
+pub mod Names
+pub mod Norms
+pub mod Sizes
+pub mod Layout
+pub mod LineFaults
+pub mod Contents
+pub mod Numbering
+pub mod Parsing
+pub mod Views

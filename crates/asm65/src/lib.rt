@@ -6,6 +6,8 @@ mod assembly;
 mod building;
 mod fault;
 mod gathering;
+mod laid;
+mod language;
 mod lines;
 mod parsing;
 mod refusal;

@@ -15,3 +15,5 @@ pub mod Contents
 pub mod Numbering
 pub mod Parsing
 pub mod Views
+pub mod Laying
+pub mod Module

@@ -6,3 +6,16 @@ pub mod Objects
 pub mod Bytes
 pub mod Assembly
 pub mod Laws
+pub mod Language
+pub mod Laid
+pub mod Names
+pub mod Norms
+pub mod Sizes
+pub mod Layout
+pub mod LineFaults
+pub mod Contents
+pub mod Numbering
+pub mod Parsing
+pub mod Views
+pub mod Laying
+pub mod Module

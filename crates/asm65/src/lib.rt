@@ -7,6 +7,8 @@ mod building;
 mod fault;
 mod gathering;
 pub mod laws;
+mod laid;
+mod language;
 mod lines;
 mod parsing;
 mod refusal;

@@ -10,6 +10,7 @@ mod laid;
 mod language;
 mod lines;
 mod parsing;
+mod reading;
 mod refusal;
 mod statement;
 

@@ -6,7 +6,10 @@ use Rattle.syntax65.specs.Relations.{Answers}
 use Rattle.syntax65.specs.Tokens.{Lexeme, lexemes}
 use Rattle.syntax65.specs.declared.lexing.tokens.Token.{Token}
 use Rattle.asm65.specs.Faults.{is_outside}
-use Rattle.asm65.specs.Parsing.{parts_behind, parts_of, EachIs}
+use Rattle.asm65.specs.Parsing.{parts_behind, parts_of, unknown, words_of, EachIs, IsAmount}
+use Rattle.asm65.specs.Language.{Stated}
+use Rattle.syntax65.specs.Trees.{Tree}
+use Rattle.asm65.proofs.Parts.{too_many, too_many_words}
 use Rattle.asm65.specs.declared.fault.AsmFault.{AsmFault}
 
 -- what was found, before more
@@ -59,3 +62,18 @@ stops Is all found part left view (Err f) e h i goes = rw h (go (is_outside e) i
 pub ended : {B : Type 0} (Is : List Lexeme → Result B AsmFault → Type 0) (all : List (List Lexeme)) (found : List B) (rest : Option (Bor (List Token))) → ((left : Bor (List Token)) → rest ≡ Some left → ⊥) → GoesOn Is all found (parts_left rest) → EachIs Is all (Ok found)
 ended Is all found None none goes = at_end Is all found goes
 ended Is all found (Some left) none goes = absurd (none left refl)
+
+-- ---- Too many parts.
+
+pub three_parts : (make : Tree → Option Tree → Stated) (ts n v : List Lexeme) (rest more : Option (Bor (List Token))) (b c : Bor (List Token)) → parts_of ts ≡ n ∷ parts_left rest → rest ≡ Some b → parts_of (lexemes b.now) ≡ v ∷ parts_left more → more ≡ Some c → IsAmount make (parts_of ts) unknown
+three_parts make ts n v rest more b c e f g h =
+    let P : List (List Lexeme) → Type 0 = λ ps. IsAmount make ps unknown in
+    let Q : List (List Lexeme) → Type 0 = λ ps. IsAmount make (n ∷ ps) unknown in
+    let all = e ∙ ap (λ o. n ∷ parts_left o) f in
+    let next = g ∙ ap (λ o. v ∷ parts_left o) h in
+    subst P (sym all) (subst Q (sym next) (too_many make n v (lexemes c.now)))
+
+pub two_texts : (ts part : List Lexeme) (rest : Option (Bor (List Token))) (b : Bor (List Token)) → parts_of ts ≡ part ∷ parts_left rest → rest ≡ Some b → unknown ≡ words_of (parts_of ts)
+two_texts ts part rest b e f =
+    let all = e ∙ ap (λ o. part ∷ parts_left o) f in
+    sym (ap words_of all ∙ too_many_words part (lexemes b.now))

@@ -1,12 +1,12 @@
 -- Parts between commas.
-use Rattle.std.proofs.Common.{◌≡◌, ◌≢◌, ℕ, zero, suc, ◌+◌, ◌-◌, ◌<◌, ◌≤◌, Bool, true, false, nat_eq, not, List, [], ◌∷◌, length, take, drop, Result, Ok, Err, refl, ap, sym, ◌∙◌, arith, add-one, one-add, length-drop, subst}
+use Rattle.std.proofs.Common.{◌≡◌, ◌≢◌, ℕ, zero, suc, ◌+◌, ◌-◌, ◌<◌, ◌≤◌, Bool, true, false, nat_eq, not, List, [], ◌∷◌, Option, if◌then◌else◌, length, take, drop, Result, Ok, Err, refl, ap, sym, ◌∙◌, arith, add-one, one-add, length-drop, subst}
 use Rattle.std.proofs.lemmas.Bool.Decides.{nat_tests}
 use Rattle.std.specs.List.{prefix_len}
 use Rattle.std.proofs.lemmas.List.{take_all}
 use Rattle.syntax65.specs.Expressions.{IsParsed}
 use Rattle.syntax65.specs.Faults.{is_expr_outside}
 use Rattle.std.specs.Result.{IsErrAnd}
-use Rattle.syntax65.specs.Outcome.{◌>>=◌, Unless}
+use Rattle.syntax65.specs.Outcome.{◌>>=◌, First, Unless}
 use Rattle.syntax65.specs.Relations.{Answers}
 use Rattle.asm65.specs.declared.fault.AsmFault.{AsmFault}
 use Rattle.syntax65.specs.declared.expressions.fault.ExprFault.TheVariants.{OutOfMemory, OperandExpected, ParenthesisExpected, TooDeep}
@@ -15,7 +15,8 @@ use Rattle.syntax65.specs.Tokens.{Lexeme, lexeme_of, lexemes}
 use Rattle.syntax65.specs.Trees.{Tree}
 use Rattle.syntax65.specs.declared.expressions.fault.ExprFault.{ExprFault}
 use Rattle.syntax65.specs.declared.lexing.tokens.Token.{Token}
-use Rattle.asm65.specs.Parsing.{before_parts, is_comma, parts_of, unknown, whole, IsExpression, IsFront, Then}
+use Rattle.asm65.specs.Parsing.{before_parts, is_comma, parts_of, unknown, whole, words_of, IsAmount, IsExpression, IsFront, Then}
+use Rattle.asm65.specs.Language.{Stated}
 
 pub lexemes_len : (ts : List Token) → length (lexemes ts) ≡ length ts
 lexemes_len [] = refl
@@ -145,3 +146,53 @@ bind_err q k e h = rw (← h) refl
 
 pub bind_ok : {A B : Type 0} (q : Result A AsmFault) (k : A → Result B AsmFault) (x : A) → Ok x ≡ q → (q >>= k) ≡ k x
 bind_ok q k x h = rw (← h) refl
+
+-- what follows is the whole's answer
+pub then_goes : {A B X : Type 0} (Is : Result A AsmFault → Type 0) (next : A → Result B AsmFault) (view : X → B) (result : Result X AsmFault) (x : A) → Is (Ok x) → Answers is_outside view result (λ r. r ≡ next x) → Answers is_outside view result (Then Is next)
+then_goes Is next view (Ok y) x i h = (Ok x, i, h)
+then_goes Is next view (Err f) x i h = go (is_outside f) h
+  where
+    go : (t : Bool) → Unless t (Err f ≡ next x) → Unless t (Then Is next (Err f))
+    go true j = tt
+    go false j = (Ok x, i, j)
+
+pub first_fault : {A B X : Type 0} (Is : Result A AsmFault → Type 0) (Next : A → Result B AsmFault → Type 0) (view : X → B) (result : Result X AsmFault) (e : AsmFault) → IsErrAnd result (λ f. f ≡ e) → Unless (is_outside e) (Is (Err e)) → Answers is_outside view result (λ r. (q : Result A AsmFault) × Is q × First q Next r)
+first_fault Is Next view (Ok x) e h i = absurd h
+first_fault Is Next view (Err f) e h i = rw h (go (is_outside e) i)
+  where
+    go : (t : Bool) → Unless t (Is (Err e)) → Unless t ((q : Result _ AsmFault) × Is q × First q Next (Err e))
+    go true j = tt
+    go false j = (Err e, j, refl)
+
+pub first_goes : {A B X : Type 0} (Is : Result A AsmFault → Type 0) (Next : A → Result B AsmFault → Type 0) (view : X → B) (result : Result X AsmFault) (x : A) → Is (Ok x) → Answers is_outside view result (Next x) → Answers is_outside view result (λ r. (q : Result A AsmFault) × Is q × First q Next r)
+first_goes Is Next view (Ok y) x i h = (Ok x, i, h)
+first_goes Is Next view (Err f) x i h = go (is_outside f) h
+  where
+    go : (t : Bool) → Unless t (Next x (Err f)) → Unless t ((q : Result _ AsmFault) × Is q × First q Next (Err f))
+    go true j = tt
+    go false j = (Ok x, i, j)
+
+-- ---- Too many parts.
+
+some_part : (ts : List Lexeme) → parts_of ts ≢ []
+some_part [] h = absurd cc
+some_part (t ∷ ts) h = go (is_comma t) (parts_of ts) refl refl
+  where
+    go : (c : Bool) (ps : List (List Lexeme)) → is_comma t ≡ c → parts_of ts ≡ ps → ⊥
+    go true ps e f = let P : Bool → Type 0 = λ b. (if b then [] ∷ parts_of ts else before_parts t (parts_of ts)) ≡ [] in let x = subst P e h in absurd cc
+    go false [] e f = let P : Bool → Type 0 = λ b. (if b then [] ∷ parts_of ts else before_parts t (parts_of ts)) ≡ [] in let x = subst P e h in let Q : List (List Lexeme) → Type 0 = λ ps. before_parts t ps ≡ [] in let y = subst Q f x in absurd cc
+    go false (p ∷ ps) e f = let P : Bool → Type 0 = λ b. (if b then [] ∷ parts_of ts else before_parts t (parts_of ts)) ≡ [] in let x = subst P e h in let Q : List (List Lexeme) → Type 0 = λ ps. before_parts t ps ≡ [] in let y = subst Q f x in absurd cc
+
+pub too_many : (make : Tree → Option Tree → Stated) (n v ts : List Lexeme) → IsAmount make (n ∷ v ∷ parts_of ts) unknown
+too_many make n v ts = go (parts_of ts) (some_part ts)
+  where
+    go : (ps : List (List Lexeme)) → ps ≢ [] → IsAmount make (n ∷ v ∷ ps) unknown
+    go [] h = absurd (h refl)
+    go (p ∷ ps) h = refl
+
+pub too_many_words : (part ts : List Lexeme) → words_of (part ∷ parts_of ts) ≡ unknown
+too_many_words part ts = go (parts_of ts) (some_part ts)
+  where
+    go : (ps : List (List Lexeme)) → ps ≢ [] → words_of (part ∷ ps) ≡ unknown
+    go [] h = absurd (h refl)
+    go (p ∷ ps) h = refl

@@ -240,10 +240,13 @@ lone_statement lone.Data = segment (codes "DATA") None
 lone_statement lone.Bss = segment (codes "BSS") None
 lone_statement lone.ZeroPage = segment (codes "ZEROPAGE") None
 
+abbrev pub IsAmountWith : (Tree → Option Tree → Stated) → Tree → List Lexeme → Result Stated AsmFault → Type 0
+IsAmountWith make x v r = Then (IsExpression v) (λ y. Ok (make x (Some y))) r
+
 -- `n[,v]`
 abbrev pub IsAmount : (Tree → Option Tree → Stated) → List (List Lexeme) → Result Stated AsmFault → Type 0
 IsAmount make (n ∷ []) r = Then (IsExpression n) (λ x. Ok (make x None)) r
-IsAmount make (n ∷ v ∷ []) r = (q : Result Tree AsmFault) × IsExpression n q × First q (λ x. Then (IsExpression v) (λ y. Ok (make x (Some y)))) r
+IsAmount make (n ∷ v ∷ []) r = (q : Result Tree AsmFault) × IsExpression n q × First q (λ x. IsAmountWith make x v) r
 IsAmount make _ r = r ≡ unknown
 
 abbrev pub amount_statement : Amount → Tree → Option Tree → Stated
@@ -316,9 +319,13 @@ action_of ts = understood (word_of ts) >>= action_word
 abbrev pub short : List ℕ → Result (List ℕ) AsmFault
 short s = if nat_le (length s) 255 then Ok s else unknown
 
+-- an assertion's own text
+abbrev pub own_words : List Lexeme → Result (List ℕ) AsmFault
+own_words ts = understood (string_of ts) >>= short
+
 abbrev pub words_of : List (List Lexeme) → Result (List ℕ) AsmFault
 words_of [] = Ok (codes "assertion failed")
-words_of (part ∷ []) = understood (string_of part) >>= short
+words_of (part ∷ []) = own_words part
 words_of _ = unknown
 
 abbrev pub asserted : Tree → List Lexeme → List (List Lexeme) → Result Stated AsmFault
@@ -429,18 +436,43 @@ IsDirectiveStatement (Some d) ts r = IsDirective d ts r
 
 -- ---- Lines.
 
+-- the label that a token before a `:` is, if it is one
+abbrev pub named_label : TokenKind → List ℕ → Option Stated
+named_label token.Identifier n = if is_reserved n then None else Some (label n)
+named_label token.CheapName n = Some (cheap_label n)
+named_label _ n = None
+
+abbrev pub with_rest : List Lexeme → Option Stated → Option (Stated × List Lexeme)
+with_rest ts None = None
+with_rest ts (Some s) = Some (s, ts)
+
+abbrev pub label_before : Lexeme → List Lexeme → Option (Stated × List Lexeme)
+label_before t [] = None
+label_before t (c ∷ ts) = if is_colon c then with_rest ts (named_label t.0 t.1) else None
+
+-- `name:`, `@name:` or `:` at the front, and what stands behind it
+abbrev pub front_label : List Lexeme → Option (Stated × List Lexeme)
+front_label [] = None
+front_label (t ∷ ts) = if is_colon t then Some (unnamed_label, ts) else label_before t ts
+
+abbrev pub or_all : List Lexeme → Option (Stated × List Lexeme) → Option Stated × List Lexeme
+or_all ts None = (None, ts)
+or_all ts (Some x) = (Some x.0, x.1)
+
 -- the label at the front, if there is one, and the tokens behind it
 abbrev pub label_of : List Lexeme → Option Stated × List Lexeme
-label_of ((token.Identifier, n) ∷ (token.Symbol mark.Colon, c) ∷ ts) = if is_reserved n then (None, (token.Identifier, n) ∷ (token.Symbol mark.Colon, c) ∷ ts) else (Some (label n), ts)
-label_of ((token.CheapName, n) ∷ (token.Symbol mark.Colon, c) ∷ ts) = (Some (cheap_label n), ts)
-label_of ((token.Symbol mark.Colon, c) ∷ ts) = (Some unnamed_label, ts)
-label_of ts = (None, ts)
+label_of ts = or_all ts (front_label ts)
 
-abbrev pub defined : List ℕ → Tree → Result Stated AsmFault
-defined n x = if is_reserved n then unknown else Ok (constant n x)
+abbrev pub IsPlainConstant : List ℕ → List Lexeme → Result Stated AsmFault → Type 0
+IsPlainConstant n ts r = Then (IsExpression ts) (λ x. Ok (constant n x)) r
 
+-- what stands behind a name and `=` or `:=`
 abbrev pub IsConstant : List ℕ → List Lexeme → Result Stated AsmFault → Type 0
-IsConstant n ts r = Then (IsExpression ts) (λ x. defined n x) r
+IsConstant n ts r = by_word (is_reserved n)
+  where
+    by_word : Bool → Type 0
+    by_word true = r ≡ unknown
+    by_word false = IsPlainConstant n ts r
 
 abbrev pub IsInstruction : Option Mnemonic → List Lexeme → Result Stated AsmFault → Type 0
 IsInstruction None ts r = r ≡ unknown

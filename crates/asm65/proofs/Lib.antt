@@ -6,3 +6,5 @@ pub mod Sizes
 pub mod Gathered
 pub mod OneAnswers
 pub mod Joins
+pub mod Parts
+pub mod Each

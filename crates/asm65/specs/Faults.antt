@@ -1,6 +1,8 @@
 -- The faults of assembling: in words, and whether the cause lies outside the source.
 use Rattle.std.specs.Prelude.{ℕ, List, [], ◌++◌, Bool, true, false, codes, ◌||◌, encode_utf8_all}
 use Rattle.syntax65.specs.Faults.{lex_fault_words, is_lex_outside}
+use Rattle.syntax65.specs.declared.expressions.fault.ExprFault.{ExprFault}
+use Rattle.syntax65.specs.declared.expressions.fault.ExprFault.TheVariants as expr
 use Rattle.syntax65.specs.declared.store.StoreFault.{StoreFault}
 use Rattle.syntax65.specs.declared.store.StoreFault.TheVariants as store
 use Rattle.asm65.specs.declared.fault.SourceFault.{SourceFault}
@@ -95,3 +97,8 @@ abbrev pub of_store : StoreFault → AsmFault
 of_store store.OutOfMemory = OutOfMemory
 of_store store.FileNotFound = Source source.FileNotFound
 of_store store.FileError = Source source.FileError
+
+-- a statement without its expression isn't understood
+abbrev pub of_expr : ExprFault → AsmFault
+of_expr expr.OutOfMemory = OutOfMemory
+of_expr _ = NotUnderstood

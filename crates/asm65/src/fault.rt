@@ -7,7 +7,7 @@ ghost use Rattle.asm65.specs.declared.fault.SourceFault.TheVariants.{Lex};
 use std::alloc::{AllocError, AllocFailed};
 use std::error::Error;
 use std::fmt;
-use syntax65::{LexFault, Sequence, StoreFault};
+use syntax65::{ExprFault, LexFault, Sequence, StoreFault};
 
 /// Why a source's lines can't be read.
 #[derive(Clone, Copy, Debug, PartialEq, Eq)]
@@ -220,6 +220,21 @@ impl From<LexFault> for AsmFault {
 
     fn from(fault: LexFault) -> AsmFault {
         AsmFault::Source(SourceFault::Lex(fault))
+    }
+}
+
+impl From<ExprFault> for AsmFault {
+    ghost use Rattle.asm65.specs.Faults.{of_expr};
+
+    ghost from_gives = { λ f e. e ≡ of_expr f };
+
+    fn from(fault: ExprFault) -> AsmFault {
+        match fault {
+            ExprFault::OutOfMemory => AsmFault::OutOfMemory,
+            ExprFault::OperandExpected | ExprFault::ParenthesisExpected | ExprFault::TooDeep => {
+                AsmFault::NotUnderstood
+            }
+        }
     }
 }
 

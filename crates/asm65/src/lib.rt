@@ -11,6 +11,7 @@ mod laid;
 mod language;
 mod lines;
 mod parsing;
+mod reading;
 mod refusal;
 mod statement;
 

@@ -1,0 +1,18 @@
+//! From the tokens of a line to its label and its statement.
+
+mod amounts;
+mod assertions;
+mod directives;
+mod items;
+mod labels;
+mod lists;
+mod messages;
+mod operands;
+mod parts;
+mod places;
+mod statements;
+mod tokens;
+mod words;
+
+pub use labels::label;
+pub use statements::statement;

@@ -7,6 +7,9 @@ ghost use Rattle.object65.specs.Norm.{form_of};
 use std::marker::Model;
 use syntax65::{Op1, Op2};
 
+/// No form has more nodes.
+pub const NODE_LIMIT: u32 = 255;
+
 /// A normal form, which contracts see without its boxes.
 #[derive(Debug, Drop)]
 #[cycle(norm)]

@@ -4,3 +4,4 @@ pub mod Numbered
 pub mod Sources
 pub mod Sizes
 pub mod Gathered
+pub mod NameTables

@@ -99,7 +99,7 @@ import_fault all n = go (defined_in all [] n)
     go (Some j) = Err (ImportedAndDefined n)
 
 abbrev pub export_form : List Laid → ℕ → Result Form AsmFault
-export_form all j = form_of_meaning (norm (length all) all (length all)) all (defined_at j)
+export_form all j = form_of_meaning (norm_of all) all (defined_at j)
 
 abbrev pub export_said : List Laid → ℕ → List ℕ → Result (List Said) AsmFault → Option ℕ → Result (List Said) AsmFault
 export_said all line n absent None = absent

@@ -43,20 +43,20 @@ abbrev pub form_of_meaning : (ℕ → Spot → Tree → Result Form AsmFault) �
 form_of_meaning constant_form all (imported_as k) = Ok (imp k)
 form_of_meaning constant_form all (defined_at j) = form_of_laid (constant_form j) (slice_get all j)
 
--- The normal form of an expression at place i, names meaning what they do among the first p statements, through at most
--- so many constants one inside the other.
+-- The normal form of an expression at place i, names meaning what they do among the first p statements, where at most so
+-- many expressions stand one inside the other, each but the first as a constant of the one before.
 abbrev pub norm : ℕ → List Laid → (p i : ℕ) → Spot → Tree → Result Form AsmFault
-norm zero all p i s e = form_by (λ operand. meaning_of all p i s operand >>= form_of_meaning (λ j t x. Err Circular) all) s e
+norm zero all p i s e = Err Circular
 norm (suc n) all p i s e = form_by (λ operand. meaning_of all p i s operand >>= form_of_meaning (norm n all p) all) s e
 
--- The normal form of an expression of a module. There are fewer constants than statements, so a constant that needs more
--- of them one inside the other leads back to itself.
+-- The normal form of an expression of a module. With it there are at most as many expressions as statements and one, so
+-- a constant that needs more of them one inside the other leads back to itself.
 abbrev pub norm_of : List Laid → ℕ → Spot → Tree → Result Form AsmFault
-norm_of all i s e = norm (length all) all (length all) i s e
+norm_of all i s e = norm (suc (length all)) all (length all) i s e
 
 -- The same behind the statements before, and with no more known than they say.
 abbrev pub norm_behind : List Laid → Spot → Tree → Result Form AsmFault
-norm_behind before s e = norm (length before) before (length before) (length before) s e
+norm_behind before s e = norm (suc (length before)) before (length before) (length before) s e
 
 abbrev pub literal_in : Result Form AsmFault → Option ℤ
 literal_in (Ok (lit v)) = Some v

@@ -11,6 +11,7 @@ mod language;
 mod lines;
 mod parsing;
 mod refusal;
+mod resolving;
 mod statement;
 
 pub use assembling::assemble;

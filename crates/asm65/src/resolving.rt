@@ -1,0 +1,3 @@
+//! What names mean and what forms expressions have among all statements of a module.
+
+mod names;

@@ -14,7 +14,7 @@ use Rattle.object65.specs.declared.folding.FormFault.TheVariants.{TooLarge}
 use Rattle.object65.specs.Folding
 use Rattle.object65.specs.Form.{Form, lit, sec, prefix, binary, nodes}
 use Rattle.object65.specs.FormValue.{or_none, value_in, value_of_one, value_of_two}
-use Rattle.object65.specs.Laws.{PrefixFoldLaw, BinaryFoldLaw, IsFolded, NormalLaw}
+use Rattle.object65.specs.Laws.{PrefixFoldLaw, BinaryFoldLaw, IsFolded, NormalLaw, StaysLaw}
 use Rattle.object65.proofs.Goods.{and}
 
 -- ---- Sums that wrap.
@@ -164,3 +164,82 @@ two_normal op f g h folded_f folded_g e = any_normal op f g h folded_f folded_g 
 
 pub normal_law : NormalLaw
 normal_law = (one_normal, two_normal)
+
+-- ---- What folding leaves as it stands.
+
+first_false : (a b : Bool) → (a || b) ≡ false → a ≡ false
+first_false true b e = cc
+first_false false b e = refl
+
+limited_ok : (f : Form) → nodes f ≤ Folding.node_limit → Folding.limited f ≡ Ok f
+limited_ok f h = let within : nat_le (nodes f) Folding.node_limit ≡ true = grind (arith, nat_tests) in rw within refl
+
+prefix_alone : (op : Op1) (f : Form) → nodes (prefix op f) ≤ Folding.node_limit → Folding.is_literal f ≡ false → Folding.fold_prefix op f ≡ Ok (prefix op f)
+prefix_alone op (lit v) h alone = cc
+prefix_alone op f h alone = limited_ok (prefix op f) h
+
+prefix_only : (op : Op1) (f : Form) → Folding.fold_prefix op f ≡ Ok (prefix op f) → Folding.is_literal f ≡ false
+prefix_only op (lit v) e = cc
+prefix_only op f e = refl
+
+one_alone : (op : Op1) (f : Form) → nodes (prefix op f) ≤ Folding.node_limit → Folding.folds1 op f ≡ false → Folding.fold1 op f ≡ Ok (prefix op f)
+one_alone Plus f h alone = cc
+one_alone op f h alone = prefix_alone op f h alone
+
+one_only : (op : Op1) (f : Form) → Folding.fold1 op f ≡ Ok (prefix op f) → Folding.folds1 op f ≡ false
+one_only Plus f e =
+    let same : f ≡ prefix Plus f = cc in
+    absurd (omega (arith, ap nodes same))
+one_only op f e = prefix_only op f e
+
+any_alone : (op : Op2) (f g : Form) → nodes (binary op f g) ≤ Folding.node_limit → (Folding.is_literal f && Folding.is_literal g) ≡ false → Folding.fold_any op f g ≡ Ok (binary op f g)
+any_alone op (lit a) (lit b) h alone = cc
+any_alone op f g h alone = limited_ok (binary op f g) h
+
+no_literal : (r : Option ℤ) (op : Op2) (f g : Form) → Folding.literal r ≡ Ok (binary op f g) → ⊥
+no_literal (Some v) op f g e = cc
+no_literal None op f g e = cc
+
+any_only : (op : Op2) (f g : Form) → Folding.fold_any op f g ≡ Ok (binary op f g) → (Folding.is_literal f && Folding.is_literal g) ≡ false
+any_only op (lit a) (lit b) e = absurd (no_literal (value2 op a b) op (lit a) (lit b) e)
+any_only op f g e = refl
+
+sum_alone : (f g : Form) → nodes (binary Add f g) ≤ Folding.node_limit → Folding.folds2 Add f g ≡ false → Folding.fold_sum f g ≡ Ok (binary Add f g)
+sum_alone (sec k a) (lit n) h alone = cc
+sum_alone (lit n) (sec k a) h alone = cc
+sum_alone f g h alone = any_alone Add f g h (first_false (Folding.is_literal f && Folding.is_literal g) (Folding.folds_sum f g) alone)
+
+sum_only : (f g : Form) → Folding.fold_sum f g ≡ Ok (binary Add f g) → Folding.folds2 Add f g ≡ false
+sum_only (sec k a) (lit n) e = cc
+sum_only (lit n) (sec k a) e = cc
+sum_only f g e = ap (λ b. b || false) (any_only Add f g e)
+
+sections_alone : (k m : ℕ) (a b : ℤ) → nodes (binary Subtract (sec k a) (sec m b)) ≤ Folding.node_limit → nat_eq k m ≡ false → Folding.fold_difference (sec k a) (sec m b) ≡ Ok (binary Subtract (sec k a) (sec m b))
+sections_alone k m a b h apart = rw apart (limited_ok (binary Subtract (sec k a) (sec m b)) h)
+
+sections_only : (k m : ℕ) (a b : ℤ) (t : Bool) → nat_eq k m ≡ t → cond t (Ok (lit (wrapped (a -ℤ b)))) (Folding.fold_any Subtract (sec k a) (sec m b)) ≡ Ok (binary Subtract (sec k a) (sec m b)) → nat_eq k m ≡ false
+sections_only k m a b true t e = cc
+sections_only k m a b false t e = t
+
+difference_alone : (f g : Form) → nodes (binary Subtract f g) ≤ Folding.node_limit → Folding.folds2 Subtract f g ≡ false → Folding.fold_difference f g ≡ Ok (binary Subtract f g)
+difference_alone (sec k a) (sec m b) h alone = sections_alone k m a b h alone
+difference_alone (sec k a) (lit n) h alone = cc
+difference_alone f g h alone = any_alone Subtract f g h (first_false (Folding.is_literal f && Folding.is_literal g) (Folding.folds_difference f g) alone)
+
+difference_only : (f g : Form) → Folding.fold_difference f g ≡ Ok (binary Subtract f g) → Folding.folds2 Subtract f g ≡ false
+difference_only (sec k a) (sec m b) e = sections_only k m a b (nat_eq k m) refl e
+difference_only (sec k a) (lit n) e = cc
+difference_only f g e = ap (λ b. b || false) (any_only Subtract f g e)
+
+two_alone : (op : Op2) (f g : Form) → nodes (binary op f g) ≤ Folding.node_limit → Folding.folds2 op f g ≡ false → Folding.fold2 op f g ≡ Ok (binary op f g)
+two_alone Add f g h alone = sum_alone f g h alone
+two_alone Subtract f g h alone = difference_alone f g h alone
+two_alone op f g h alone = any_alone op f g h alone
+
+two_only : (op : Op2) (f g : Form) → Folding.fold2 op f g ≡ Ok (binary op f g) → Folding.folds2 op f g ≡ false
+two_only Add f g e = sum_only f g e
+two_only Subtract f g e = difference_only f g e
+two_only op f g e = any_only op f g e
+
+pub stays_law : StaysLaw
+stays_law = (λ op f h. (one_alone op f h, one_only op f), λ op f g h. (two_alone op f g h, two_only op f g))

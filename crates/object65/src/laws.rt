@@ -1,6 +1,6 @@
 //! What holds of objects and their bytes, whatever wrote them, and of forms. Each function's contract is a law.
 
-ghost use Rattle.object65.specs.Laws.{ReadLaw, SpellingLaw, PrefixLaw, OneSpellingLaw, NumberLaw, PrefixFoldLaw, BinaryFoldLaw, NormalLaw};
+ghost use Rattle.object65.specs.Laws.{ReadLaw, SpellingLaw, PrefixLaw, OneSpellingLaw, NumberLaw, PrefixFoldLaw, BinaryFoldLaw, NormalLaw, StaysLaw};
 
 /// What is read as an object is spelled so.
 pub fn read_is_spelled()
@@ -41,4 +41,9 @@ pub fn binary_keeps_its_value<E>()
 /// What folding gives can't be folded any more and has at most 255 nodes.
 pub fn folded_is_normal()
     ensures { NormalLaw }
+{}
+
+/// A form that is refused because it could be folded is one that folding changes, and no other is refused so.
+pub fn only_what_folds_is_refused()
+    ensures { StaysLaw }
 {}

@@ -137,6 +137,20 @@ fn largest_forms(rt: HostRuntime) -> Result<(), Fail> {
 }
 
 #[test]
+fn copies_are_the_same(rt: HostRuntime) -> Result<(), Fail> {
+    let alloc = rt.alloc();
+    match Norm::binary(alloc, Op2::Subtract, imp(3), sec(1, -2)) {
+        Ok(form) => {
+            let copy = Norm::copy_of(alloc, &form)?;
+            let text = shown(alloc, Ok(copy))?;
+            assert_eq!(rt; text.as_str(), "(Subtract i3 s1:-2)");
+            Ok(())
+        }
+        Err(_) => Err(Fail::from("no form")),
+    }
+}
+
+#[test]
 fn laws_speak_of_any_fault(_rt: HostRuntime) -> Result<(), Fail> {
     prefix_keeps_its_value::<ObjectFault>();
     binary_keeps_its_value::<ObjectFault>();

@@ -5,3 +5,8 @@ pub mod Sources
 pub mod Sizes
 pub mod Gathered
 pub mod NameTables
+pub mod Turns
+pub mod Tries
+pub mod Lasts
+pub mod Pursuits
+pub mod Beginnings

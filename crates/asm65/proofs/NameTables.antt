@@ -1,5 +1,5 @@
 -- What tables of names hold.
-use Rattle.std.proofs.Common.{◌≡◌, ℕ, zero, suc, ◌+◌, ◌-◌, ◌<◌, ◌≤◌, Bool, true, false, cond, List, [], ◌∷◌, ◌++◌, length, map, drop, get_or, position, Option, Some, None, refl, sym, ap, ◌∙◌, Bor, arith, add-one}
+use Rattle.std.proofs.Common.{◌≡◌, ℕ, zero, suc, ◌+◌, ◌-◌, ◌<◌, ◌≤◌, Bool, true, false, cond, List, [], ◌∷◌, ◌++◌, length, map, drop, get_or, position, Option, Some, None, refl, sym, ap, ◌∙◌, Bor, arith}
 use Rattle.std.specs.Prelude.{◌&&◌, ◌||◌, if◌then◌else◌}
 use Rattle.std.specs.List.{list_any, position_from}
 use Rattle.std.specs.Str.{bytes_eq}
@@ -9,7 +9,7 @@ use Rattle.indexmap.specs.IndexSet.{insert_key}
 use Rattle.asm65.specs.declared.laid.Laid.{Laid}
 use Rattle.asm65.specs.Laid as laid
 use Rattle.asm65.specs.Laid.{defined_name}
-use Rattle.asm65.specs.Names.{same_path, is_named, with_new, imports_of, imported_names}
+use Rattle.asm65.specs.Names.{same_path, is_named}
 use Rattle.asm65.specs.Views.{all_of, laid_of, stated_of}
 
 -- ---- Lists.

@@ -1,6 +1,6 @@
 //! The names of a module.
 
-ghost use Rattle.std.specs.Prelude.{◌≡◌, IfOk, List, OnOk, [], map, ℕ};
+ghost use Rattle.std.specs.Prelude.{◌≡◌, IfOk, List, OnOk, [], map, position, ℕ};
 ghost use Rattle.std.specs.Option.{option_map};
 ghost use Rattle.std.specs.Str.{bytes_eq};
 ghost use Rattle.indexmap.specs.IndexMap.{get_by};
@@ -22,6 +22,22 @@ pub struct Names<'a> {
     defined: IndexMap<&'a [u8], usize>,
     /// The imports in the order in which they were first named.
     imports: IndexSet<&'a [u8]>,
+}
+
+impl Names<'_> {
+    /// The place of the statement that defines a name.
+    pub fn place_of(&self, name: &[u8]) -> Option<usize>
+        ensures { result ≡ get_by (λ k. bytes_eq name.now k.now) self.now.defined }
+    {
+        self.defined.get(name).copied()
+    }
+
+    /// The place of a name among the imports.
+    pub fn import_of(&self, name: &[u8]) -> Option<usize>
+        ensures { result ≡ position (λ k. bytes_eq name.now k.now) self.now.imports.keys }
+    {
+        self.imports.get_index_of(name)
+    }
 }
 
 /// The names of statements.

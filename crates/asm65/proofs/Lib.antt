@@ -8,3 +8,9 @@ pub mod OneAnswers
 pub mod Joins
 pub mod Parts
 pub mod Each
+pub mod NameTables
+pub mod Turns
+pub mod Tries
+pub mod Lasts
+pub mod Pursuits
+pub mod Beginnings

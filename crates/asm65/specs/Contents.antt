@@ -1,5 +1,5 @@
 -- What a module's statements put into its object: the parts of sections, exports, assertions; and their first fault.
-use Rattle.std.specs.Prelude.{ℕ, zero, ◌+◌, pos, Bool, List, [], ◌∷◌, length, map, replicate, take, Option, Some, None, Result, Ok, Err, if◌then◌else◌}
+use Rattle.std.specs.Prelude.{ℕ, zero, ◌+◌, pos, Bool, List, [], ◌∷◌, map, replicate, take, Option, Some, None, Result, Ok, Err, if◌then◌else◌}
 use Rattle.std.specs.List.{flat_map}
 use Rattle.syntax65.specs.Outcome.{◌>>=◌, each}
 use Rattle.syntax65.specs.Opcodes.{opcode_of}
@@ -19,7 +19,7 @@ use Rattle.asm65.specs.declared.fault.AsmFault.TheVariants.{OutOfRange, Imported
 use Rattle.asm65.specs.Language.{Item, value, text, Operand, immediate, address, indirect, indirect_x, indirect_y, Stated, constant, instruction, values, reserve, align, file_part, imports, exports, globals, forced, assertion}
 use Rattle.asm65.specs.Laid.{Laid, Spot, asks_section}
 use Rattle.asm65.specs.Names.{defined_at, defined_in}
-use Rattle.asm65.specs.Norms.{address_of, constant_behind, folded, form_of_meaning, norm, norm_of}
+use Rattle.asm65.specs.Norms.{constant_behind, folded, form_of_meaning, norm_of}
 use Rattle.asm65.specs.Sizes.{counted, mode_of, part_of, width_of}
 
 -- ---- Parts of sections.
@@ -99,7 +99,7 @@ import_fault all n = go (defined_in all [] n)
     go (Some j) = Err (ImportedAndDefined n)
 
 abbrev pub export_form : List Laid → ℕ → Result Form AsmFault
-export_form all j = form_of_meaning (norm (length all) all (length all)) all (defined_at j)
+export_form all j = form_of_meaning (norm_of all) all (defined_at j)
 
 abbrev pub export_said : List Laid → ℕ → List ℕ → Result (List Said) AsmFault → Option ℕ → Result (List Said) AsmFault
 export_said all line n absent None = absent

@@ -19,3 +19,4 @@ pub mod Parsing
 pub mod Views
 pub mod Laying
 pub mod Module
+pub mod Resolving

@@ -63,14 +63,14 @@ imports_of _ = []
 -- names, each once, in the order in which they were first named
 abbrev pub with_new : List (List ℕ) → List (List ℕ) → List (List ℕ)
 with_new known [] = known
-with_new known (n ∷ names) = with_new (if list_any (λ k. bytes_eq k n) known then known else known ++ n ∷ []) names
+with_new known (n ∷ names) = with_new (if list_any (λ k. bytes_eq n k) known then known else known ++ n ∷ []) names
 
 abbrev pub imported_names : List (List ℕ) → List Laid → List (List ℕ)
 imported_names known [] = known
 imported_names known (l ∷ ls) = imported_names (with_new known (imports_of l.stated)) ls
 
 abbrev pub import_key : List Laid → List ℕ → Option ℕ
-import_key ls n = position (λ k. bytes_eq k n) (imported_names [] ls)
+import_key ls n = position (λ k. bytes_eq n k) (imported_names [] ls)
 
 -- ---- Names.
 
@@ -128,7 +128,7 @@ scoped_meaning ls before path global parts =
 -- ---- Labels.
 
 abbrev pub is_cheap : List ℕ → Stated → Bool
-is_cheap n (cheap_label m) = bytes_eq m n
+is_cheap n (cheap_label m) = bytes_eq n m
 is_cheap n _ = false
 
 -- a cheap label of the same region
@@ -150,3 +150,8 @@ meaning_of all p i s (cheap n) = cheap_meaning (take p all) s.region n
 meaning_of all p i s (forward n) = unnamed_meaning (take p all) (s.unnamed + n - 1)
 meaning_of all p i s (backward n) = backward_meaning (take p all) s.unnamed n
 meaning_of all p i s _ = Err NoSuchLabel
+
+-- ---- Operands that mean something so far: plain names.
+abbrev pub plain_name : Tree → Option (List ℕ)
+plain_name (name false (n ∷ [])) = Some n
+plain_name _ = None

@@ -6,13 +6,14 @@ mod assembly;
 mod building;
 mod fault;
 mod gathering;
-pub mod laws;
 mod laid;
 mod language;
+pub mod laws;
 mod lines;
 mod parsing;
 mod reading;
 mod refusal;
+mod resolving;
 mod statement;
 
 pub use assembling::assemble;

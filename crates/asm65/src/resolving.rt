@@ -1,0 +1,6 @@
+//! What names mean and what forms expressions have among all statements of a module.
+
+mod attempt;
+mod finding;
+mod meaning;
+mod names;

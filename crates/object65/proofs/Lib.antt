@@ -20,3 +20,4 @@ pub mod Shorts
 pub mod Again
 pub mod Spellings
 pub mod Builders
+pub mod Foldings

@@ -5,9 +5,14 @@ use Rattle.syntax65.specs.declared.values.Op1.TheVariants.{Plus}
 use Rattle.syntax65.specs.declared.values.Op2.{Op2}
 use Rattle.syntax65.specs.declared.values.Op2.TheVariants.{Add, Subtract}
 use Rattle.object65.specs.declared.folding.FormFault.{FormFault}
-use Rattle.object65.specs.declared.folding.FormFault.TheVariants.{NoValue, TooLarge}
+use Rattle.object65.specs.declared.folding.FormFault.TheVariants.{OutOfMemory, NoValue, TooLarge}
 use Rattle.object65.specs.Form.{Form, lit, sec, imp, prefix, binary, nodes}
 use Rattle.syntax65.specs.Values.{value1, value2, wrapped}
+
+-- memory ran out
+abbrev pub lacks_memory : FormFault → Bool
+lacks_memory OutOfMemory = true
+lacks_memory _ = false
 
 -- no form has more nodes
 abbrev pub node_limit : ℕ

@@ -1,8 +1,13 @@
--- What holds of objects and their bytes.
-use Rattle.std.specs.Prelude.{◌≡◌, ℕ, ◌+◌, ◌≤◌, List, [], ◌++◌, length, Ok}
+-- What holds of objects and their bytes, and of forms.
+use Rattle.std.specs.Prelude.{◌≡◌, ℕ, ◌+◌, ◌≤◌, ℤ, List, [], ◌++◌, length, true, false, Result, Ok}
 use Rattle.byteorder.specs.Endian.{little_number}
+use Rattle.syntax65.specs.declared.values.Op1.{Op1}
+use Rattle.syntax65.specs.declared.values.Op2.{Op2}
 use Rattle.object65.specs.declared.object.Object.{Object}
 use Rattle.object65.specs.Bytes.{IsBytes}
+use Rattle.object65.specs.Folding.{fold1, fold2, folds1, folds2, is_normal, node_limit}
+use Rattle.object65.specs.Form.{Form, prefix, binary, nodes}
+use Rattle.object65.specs.FormValue.{value_in, value_of_one, value_of_two}
 use Rattle.object65.specs.Reading.{room, file_limit}
 use Rattle.object65.specs.Spelling.{IsObject}
 use Rattle.object65.specs.Whole.{object_at}
@@ -26,3 +31,25 @@ OneSpellingLaw = (a b : List ℕ) (o : Object) → IsObject a o → IsObject b o
 -- no other bytes of the same length give a number
 abbrev pub NumberLaw : Type 0
 NumberLaw = (n : ℕ) (a b : List ℕ) → IsBytes a → IsBytes b → length a ≡ n → length b ≡ n → little_number n a ≡ little_number n b → a ≡ b
+
+-- Folding a prefix operation keeps its value, and that it has none, wherever sections lie and whatever imports mean.
+abbrev pub PrefixFoldLaw : Type 0 → Type 0
+PrefixFoldLaw E = (none : E) (bases : ℕ → ℤ) (imports : ℕ → Result ℤ E) (op : Op1) (f h : Form) → fold1 op f ≡ Ok h → value_in none bases imports h ≡ value_of_one none bases imports op f
+
+-- likewise an operation on two forms
+abbrev pub BinaryFoldLaw : Type 0 → Type 0
+BinaryFoldLaw E = (none : E) (bases : ℕ → ℤ) (imports : ℕ → Result ℤ E) (op : Op2) (f g h : Form) → fold2 op f g ≡ Ok h → value_in none bases imports h ≡ value_of_two none bases imports op f g
+
+-- a form that an object may hold, but for its indices
+abbrev pub IsFolded : Form → Type 0
+IsFolded f = (is_normal f ≡ true) × (nodes f ≤ node_limit)
+
+-- what folding gives can't be folded any more, and is within the limit
+abbrev pub NormalLaw : Type 0
+NormalLaw = ((op : Op1) (f h : Form) → IsFolded f → fold1 op f ≡ Ok h → IsFolded h) × ((op : Op2) (f g h : Form) → IsFolded f → IsFolded g → fold2 op f g ≡ Ok h → IsFolded h)
+
+-- within the limit, folding leaves an operation as it stands exactly where it is said not to fold
+abbrev pub StaysLaw : Type 0
+StaysLaw =
+    ((op : Op1) (f : Form) → nodes (prefix op f) ≤ node_limit → (folds1 op f ≡ false → fold1 op f ≡ Ok (prefix op f)) × (fold1 op f ≡ Ok (prefix op f) → folds1 op f ≡ false))
+    × ((op : Op2) (f g : Form) → nodes (binary op f g) ≤ node_limit → (folds2 op f g ≡ false → fold2 op f g ≡ Ok (binary op f g)) × (fold2 op f g ≡ Ok (binary op f g) → folds2 op f g ≡ false))

@@ -2,6 +2,7 @@ pub mod Operators
 pub mod Form
 pub mod Norm
 pub mod Folding
+pub mod FormValue
 pub mod Fault
 pub mod Objects
 pub mod Record

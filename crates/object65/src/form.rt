@@ -1,11 +1,15 @@
 //! Normal forms of expressions.
 
-ghost use Rattle.std.specs.Prelude.{◌≡◌, ◌-◌, ◌^◌, min};
+ghost use Rattle.std.specs.Prelude.{◌≡◌, ◌-◌, ◌^◌, min, IfOk};
 ghost use Rattle.object65.specs.Form.{Form, nodes};
 ghost use Rattle.object65.specs.Norm.{form_of};
 
+use std::alloc::{AllocError, Global};
 use std::marker::Model;
 use syntax65::{Op1, Op2};
+
+/// No form has more nodes.
+pub const NODE_LIMIT: u32 = 255;
 
 /// A normal form, which contracts see without its boxes.
 #[derive(Debug, Drop)]
@@ -52,6 +56,27 @@ impl Norm {
         ensures { result ≡ form_of node }
     {
         Norm { node }
+    }
+
+    /// A copy of the form.
+    pub fn copy_of(alloc: Global, form: &Norm) -> Result<Self, AllocError>
+        ensures { IfOk result (λ f. f ≡ form.now) }
+    {
+        let node = match form.node() {
+            Node::Lit(value) => Node::Lit(*value),
+            Node::Sec(section, offset) => Node::Sec(*section, *offset),
+            Node::Imp(place) => Node::Imp(*place),
+            Node::Prefix(op, part) => {
+                let part = Norm::copy_of(alloc, part)?;
+                Node::Prefix(*op, Box::new(alloc, part)?)
+            }
+            Node::Binary(op, left, right) => {
+                let left = Norm::copy_of(alloc, left)?;
+                let right = Norm::copy_of(alloc, right)?;
+                Node::Binary(*op, Box::new(alloc, left)?, Box::new(alloc, right)?)
+            }
+        };
+        Ok(Norm::new(node))
     }
 
     /// The node at the top.

@@ -1,6 +1,6 @@
-//! What holds of objects and their bytes, whatever wrote them. Each function's contract is a law.
+//! What holds of objects and their bytes, whatever wrote them, and of forms. Each function's contract is a law.
 
-ghost use Rattle.object65.specs.Laws.{ReadLaw, SpellingLaw, PrefixLaw, OneSpellingLaw, NumberLaw};
+ghost use Rattle.object65.specs.Laws.{ReadLaw, SpellingLaw, PrefixLaw, OneSpellingLaw, NumberLaw, PrefixFoldLaw, BinaryFoldLaw, NormalLaw, StaysLaw};
 
 /// What is read as an object is spelled so.
 pub fn read_is_spelled()
@@ -25,4 +25,25 @@ pub fn one_spelling()
 /// No other bytes of the same length give a number.
 pub fn one_number()
     ensures { NumberLaw }
+{}
+
+/// Folding a prefix operation keeps its value wherever sections lie and whatever imports mean, and that it has
+/// none. `E` is what may go wrong with an import.
+pub fn prefix_keeps_its_value<E>()
+    ensures { PrefixFoldLaw E }
+{}
+
+/// Folding an operation on two forms keeps its value likewise, and so no import is dropped.
+pub fn binary_keeps_its_value<E>()
+    ensures { BinaryFoldLaw E }
+{}
+
+/// What folding gives can't be folded any more and has at most 255 nodes.
+pub fn folded_is_normal()
+    ensures { NormalLaw }
+{}
+
+/// A form that is refused because it could be folded is one that folding changes, and no other is refused so.
+pub fn only_what_folds_is_refused()
+    ensures { StaysLaw }
 {}

@@ -4,12 +4,9 @@ ghost use Rattle.std.specs.Prelude.{◌≡◌, ◌&&◌, not, nat_le};
 ghost use Rattle.object65.specs.Folding.{is_within, is_normal, is_literal, folds1, folds2, folds_sum, folds_difference, node_limit};
 ghost use Rattle.object65.specs.Form.{nodes};
 
-use crate::form::count;
+use crate::form::{NODE_LIMIT, count};
 use crate::{Node, Norm};
 use syntax65::{Op1, Op2};
-
-/// No form has more nodes.
-const NODE_LIMIT: u32 = 255;
 
 /// Whether the sections and imports of a form are there, of so many.
 pub fn are_there(form: &Norm, sections: usize, imports: usize) -> bool

@@ -1,5 +1,6 @@
 //! Objects that were worked out by hand, byte by byte.
 
+mod forms;
 mod records;
 
 ghost use Rattle.std.specs.Prelude.{◌≡◌, IfOk, None, true};

@@ -1,0 +1,27 @@
+-- The value of a form, where its sections lie at some bases and its imports mean something. Of what may go
+-- wrong, `none` says that an operation has no value; what else an import may answer is left open.
+use Rattle.std.specs.Prelude.{ℕ, ℤ, ◌+ℤ◌, Option, Some, None, Result, Ok, Err}
+use Rattle.syntax65.specs.declared.values.Op1.{Op1}
+use Rattle.syntax65.specs.declared.values.Op2.{Op2}
+use Rattle.syntax65.specs.Outcome.{◌>>=◌}
+use Rattle.syntax65.specs.Values.{value1, value2, wrapped}
+use Rattle.object65.specs.Form.{Form, lit, sec, imp, prefix, binary}
+
+abbrev pub or_none : {E : Type 0} → E → Option ℤ → Result ℤ E
+or_none none (Some v) = Ok v
+or_none none None = Err none
+
+abbrev pub value_in : {E : Type 0} → E → (ℕ → ℤ) → (ℕ → Result ℤ E) → Form → Result ℤ E
+value_in none bases imports (lit v) = Ok v
+value_in none bases imports (sec k a) = Ok (wrapped (bases k +ℤ a))
+value_in none bases imports (imp j) = imports j
+value_in none bases imports (prefix op f) = value_in none bases imports f >>= (λ a. Ok (value1 op a))
+value_in none bases imports (binary op f g) = value_in none bases imports f >>= (λ a. value_in none bases imports g >>= (λ b. or_none none (value2 op a b)))
+
+-- the value of an operation on a form, whether or not it is folded
+abbrev pub value_of_one : {E : Type 0} → E → (ℕ → ℤ) → (ℕ → Result ℤ E) → Op1 → Form → Result ℤ E
+value_of_one none bases imports op f = value_in none bases imports f >>= (λ a. Ok (value1 op a))
+
+-- likewise on two, the left one first
+abbrev pub value_of_two : {E : Type 0} → E → (ℕ → ℤ) → (ℕ → Result ℤ E) → Op2 → Form → Form → Result ℤ E
+value_of_two none bases imports op f g = value_in none bases imports f >>= (λ a. value_in none bases imports g >>= (λ b. or_none none (value2 op a b)))

@@ -4,3 +4,5 @@ pub mod Numbered
 pub mod Sources
 pub mod Sizes
 pub mod Gathered
+pub mod Keys
+pub mod Drafting

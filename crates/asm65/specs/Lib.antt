@@ -15,3 +15,4 @@ pub mod Contents
 pub mod Numbering
 pub mod Parsing
 pub mod Views
+pub mod Drafts

@@ -4,11 +4,13 @@
 mod assembling;
 mod assembly;
 mod building;
+mod contents;
 mod fault;
 mod gathering;
 mod laid;
 mod language;
 mod lines;
+mod numbering;
 mod parsing;
 mod refusal;
 mod statement;

@@ -14,3 +14,5 @@ pub mod Tries
 pub mod Lasts
 pub mod Pursuits
 pub mod Beginnings
+pub mod Keys
+pub mod Drafting

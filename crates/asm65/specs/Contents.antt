@@ -1,5 +1,5 @@
 -- What a module's statements put into its object: the parts of sections, exports, assertions; and their first fault.
-use Rattle.std.specs.Prelude.{ℕ, zero, ◌+◌, pos, Bool, List, [], ◌∷◌, map, replicate, take, Option, Some, None, Result, Ok, Err, if◌then◌else◌}
+use Rattle.std.specs.Prelude.{ℕ, zero, ◌+◌, pos, List, [], ◌∷◌, map, replicate, take, Option, Some, None, Result, Ok, Err, if◌then◌else◌}
 use Rattle.std.specs.List.{flat_map}
 use Rattle.syntax65.specs.Outcome.{◌>>=◌, each}
 use Rattle.syntax65.specs.Opcodes.{opcode_of}
@@ -14,6 +14,11 @@ use Rattle.object65.specs.declared.object.Action.TheVariants as action
 use Rattle.object65.specs.declared.object.Width.{Width}
 use Rattle.object65.specs.declared.object.Width.TheVariants.{Branch}
 use Rattle.syntax65.specs.declared.values.Op2.TheVariants.{Subtract}
+use Rattle.asm65.specs.declared.contents.Content.{Content}
+use Rattle.asm65.specs.declared.contents.Part.{Part}
+use Rattle.asm65.specs.declared.contents.Part.TheVariants.{Known, Filled, Waiting}
+use Rattle.asm65.specs.declared.contents.Said.{Said}
+use Rattle.asm65.specs.declared.contents.Said.TheVariants.{Exported, Demanded, Checked}
 use Rattle.asm65.specs.declared.fault.AsmFault.{AsmFault}
 use Rattle.asm65.specs.declared.fault.AsmFault.TheVariants.{OutOfRange, ImportedAndDefined, NotDefined, Assertion}
 use Rattle.asm65.specs.Language.{Item, value, text, Operand, immediate, address, indirect, indirect_x, indirect_y, Stated, constant, instruction, values, reserve, align, file_part, imports, exports, globals, forced, assertion}
@@ -24,16 +29,10 @@ use Rattle.asm65.specs.Sizes.{counted, mode_of, part_of, width_of}
 
 -- ---- Parts of sections.
 
-pub data Part : Type 0 where
-  known : List ℕ → Part
-  filled : ℕ → Part
-  -- a value that the linker computes, with its line
-  waiting : Width → ℕ → Form → Part
-
 -- a value whose form is a literal is stored, after its range check
 abbrev pub stored : Width → ℕ → Form → Result Part AsmFault
-stored width line (lit v) = if fits_width width v then Ok (known (value_bytes width v)) else Err OutOfRange
-stored width line f = Ok (waiting width line f)
+stored width line (lit v) = if fits_width width v then Ok (Known (value_bytes width v)) else Err OutOfRange
+stored width line f = Ok (Waiting width line f)
 
 -- a branch stores how far its target lies from behind it
 abbrev pub operand_form : Width → Spot → Form → Result Form AsmFault
@@ -42,7 +41,7 @@ operand_form width s f = Ok f
 
 abbrev pub item_part : List Laid → ℕ → Laid → Width → Item → Result Part AsmFault
 item_part all i l width (value e) = norm_of all i l.spot e >>= stored width l.line
-item_part all i l width (text bytes) = Ok (known bytes)
+item_part all i l width (text bytes) = Ok (Known bytes)
 
 abbrev pub operand_tree : Operand → Option Tree
 operand_tree (immediate e) = Some e
@@ -58,8 +57,8 @@ operand_parts all i l (Some width) (Some e) =
 operand_parts all i l width e = Ok []
 
 abbrev pub opcode_part : Option ℕ → Part
-opcode_part None = known []
-opcode_part (Some code) = known (code ∷ [])
+opcode_part None = Known []
+opcode_part (Some code) = Known (code ∷ [])
 
 abbrev pub instruction_parts : List Laid → ℕ → Laid → Mnemonic → Operand → Option Mode → Result (List Part) AsmFault
 instruction_parts all i l m _ None = Ok []
@@ -68,8 +67,8 @@ instruction_parts all i l m operand (Some mode) =
 
 -- so many bytes, of the linker's fill value where no value is given
 abbrev pub room_part : List Laid → Spot → ℕ → Option Tree → Part
-room_part before s count None = filled count
-room_part before s count (Some v) = known (replicate count (counted (constant_behind before s v)))
+room_part before s count None = Filled count
+room_part before s count (Some v) = Known (replicate count (counted (constant_behind before s v)))
 
 -- The parts that a statement at place i puts into its section.
 abbrev pub parts_of : List Laid → ℕ → Laid → Result (List Part) AsmFault
@@ -80,15 +79,10 @@ parts_of all i l = go l.stated
     go (values width items) = each (item_part all i l width) items
     go (reserve n v) = Ok (room_part (take i all) l.spot l.length v ∷ [])
     go (align n v) = Ok (room_part (take i all) l.spot l.length v ∷ [])
-    go (file_part bytes start len) = Ok (known (part_of (take i all) l.spot bytes start len) ∷ [])
+    go (file_part bytes start len) = Ok (Known (part_of (take i all) l.spot bytes start len) ∷ [])
     go _ = Ok []
 
 -- ---- What a statement says to other modules and to the linker.
-
-pub data Said : Type 0 where
-  exported : List ℕ → ℕ → Form → Said
-  demanded : List ℕ → Said
-  checked : Action → ℕ → List ℕ → Form → Said
 
 -- an import that the module defines
 abbrev pub import_fault : List Laid → List ℕ → Result (List Said) AsmFault
@@ -103,7 +97,7 @@ export_form all j = form_of_meaning (norm_of all) all (defined_at j)
 
 abbrev pub export_said : List Laid → ℕ → List ℕ → Result (List Said) AsmFault → Option ℕ → Result (List Said) AsmFault
 export_said all line n absent None = absent
-export_said all line n absent (Some j) = export_form all j >>= (λ f. Ok (exported n line f ∷ []))
+export_said all line n absent (Some j) = export_form all j >>= (λ f. Ok (Exported n line f ∷ []))
 
 abbrev pub each_of : {A : Type 0} → (A → Result (List Said) AsmFault) → List A → Result (List Said) AsmFault
 each_of f xs = each f xs >>= (λ yss. Ok (flat_map (λ ys. ys) yss))
@@ -112,7 +106,7 @@ each_of f xs = each f xs >>= (λ yss. Ok (flat_map (λ ys. ys) yss))
 abbrev pub decided : Action → ℕ → List ℕ → Form → Result (List Said) AsmFault
 decided action.Error line words (lit (pos zero)) = Err (Assertion words)
 decided act line words (lit v) = Ok []
-decided act line words f = Ok (checked act line words f ∷ [])
+decided act line words f = Ok (Checked act line words f ∷ [])
 
 -- what a statement at place i says, and the fault of a constant's expression
 abbrev pub said_of : List Laid → ℕ → Laid → Result (List Said) AsmFault
@@ -123,17 +117,11 @@ said_of all i l = go l.stated
     go (imports size names) = each_of (import_fault all) names
     go (exports names) = each_of (λ n. export_said all l.line n (Err (NotDefined n)) (defined_in all [] n)) names
     go (globals size names) = each_of (λ n. export_said all l.line n (Ok []) (defined_in all [] n)) names
-    go (forced names) = each_of (import_fault all) names >>= (λ none. Ok (map demanded names))
+    go (forced names) = each_of (import_fault all) names >>= (λ none. Ok (map Demanded names))
     go (assertion e act words) = norm_of all i l.spot e >>= decided act l.line words
     go _ = Ok []
 
 -- ---- A statement as the object has it.
-
-pub record Content : Type 0 where
-  pub segment : ℕ
-  pub asks : Bool
-  pub parts : List Part
-  pub said : List Said
 
 abbrev pub content_of : List Laid → ℕ → Laid → Result Content AsmFault
 content_of all i l =

@@ -4,19 +4,11 @@ use Rattle.std.specs.List.{position}
 use Rattle.std.specs.Str.{bytes_eq}
 use Rattle.syntax65.specs.declared.lexing.tokens.AddressSize.{AddressSize}
 use Rattle.syntax65.specs.declared.lexing.tokens.AddressSize.TheVariants as size
+use Rattle.asm65.specs.declared.contents.Segment.{Segment}
 use Rattle.asm65.specs.Language.{Stated, constant, align, segment, push_segment, pop_segment}
 use Rattle.asm65.specs.Laid.{Laid, Spot, opens_scope, closes_scope, opens_region, is_unnamed}
 use Rattle.asm65.specs.Norms.{constant_behind}
 use Rattle.asm65.specs.Sizes.{counted, length_of, size_of}
-
--- a segment as far as it has been laid
-pub record Segment : Type 0 where
-  pub name : List ℕ
-  pub size : AddressSize
-  -- the end of its section
-  pub end : ℕ
-  -- the largest multiple to which the section was aligned
-  pub align : ℕ
 
 -- the multiples to which a section can be aligned
 abbrev pub powers : List ℕ

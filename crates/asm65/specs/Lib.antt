@@ -20,3 +20,4 @@ pub mod Views
 pub mod Laying
 pub mod Module
 pub mod Resolving
+pub mod Drafts

@@ -5,6 +5,7 @@ use Rattle.syntax65.specs.Trees.{Tree, name, unary, binary}
 use Rattle.syntax65.specs.declared.lexing.tokens.AddressSize.{AddressSize}
 use Rattle.syntax65.specs.declared.lexing.tokens.AddressSize.TheVariants as size
 use Rattle.object65.specs.Objects.{section_limit}
+use Rattle.asm65.specs.declared.contents.Segment.{Segment}
 use Rattle.asm65.specs.declared.fault.AsmFault.{AsmFault}
 use Rattle.asm65.specs.declared.fault.AsmFault.TheVariants.{NotUnderstood, NoSuchForm, DefinedTwice, SectionTooLarge, NoSuchScope, ScopeTwice, BadAlignment, PopWithoutPush, BadOperand, BadPart, SizeChanged, BadScope, FileNotFound}
 use Rattle.asm65.specs.Language.{Item, value, text, Operand, no_operand, accumulator, immediate, address, indirect, indirect_x, indirect_y, Stated, cheap_label, constant, instruction, values, reserve, align, file_part, segment, pop_segment, open_scope, open_proc, close_scope, close_proc, imports, exports, globals, forced, assertion}
@@ -12,7 +13,7 @@ use Rattle.asm65.specs.Laid.{Laid, Spot, defined_name, scope_name}
 use Rattle.asm65.specs.Names.{defined_in, scope_in, scope_from, scopes_of, shown, is_cheap}
 use Rattle.asm65.specs.Norms.{constant_behind}
 use Rattle.asm65.specs.Sizes.{is_byte, mode_of, optional_value, length_of}
-use Rattle.asm65.specs.Layout.{Segment, Standing, powers, segment_at, place_of, spot_of, own_size}
+use Rattle.asm65.specs.Layout.{Standing, powers, segment_at, place_of, spot_of, own_size}
 
 -- the first of some faults, if there is one
 abbrev pub first_fault : List (Option AsmFault) → Option AsmFault

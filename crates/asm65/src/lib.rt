@@ -4,12 +4,14 @@
 mod assembling;
 mod assembly;
 mod building;
+mod contents;
 mod fault;
 mod gathering;
 mod laid;
 mod language;
 pub mod laws;
 mod lines;
+mod numbering;
 mod parsing;
 mod reading;
 mod refusal;

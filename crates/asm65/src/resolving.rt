@@ -4,3 +4,8 @@ mod attempt;
 mod finding;
 mod meaning;
 mod names;
+
+pub use attempt::State;
+pub use finding::{find_defined, find_norm, no_forms};
+pub use meaning::Module;
+pub use names::names_of;

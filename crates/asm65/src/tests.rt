@@ -4,6 +4,7 @@ ghost use Rattle.std.specs.Prelude.{◌≡◌, true, IfOk};
 ghost use Rattle.object65.specs.Objects.{is_good_object};
 
 mod faults;
+mod forms;
 mod limits;
 mod objects;
 mod stores;

@@ -6,3 +6,4 @@ pub mod Sizes
 pub mod Gathered
 pub mod Keys
 pub mod Drafting
+pub mod Exporting

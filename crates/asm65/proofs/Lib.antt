@@ -16,3 +16,4 @@ pub mod Pursuits
 pub mod Beginnings
 pub mod Keys
 pub mod Drafting
+pub mod Exporting

@@ -151,7 +151,11 @@ fn new_drafts(alloc: Global, keys: &[u32]) -> Result<Vec<Draft>, AllocError>
 }
 
 /// The sections in the making behind all statements.
-fn filled(alloc: Global, numbers: &Numbers, contents: &[Content]) -> Result<Vec<Draft>, AllocError>
+pub fn filled(
+    alloc: Global,
+    numbers: &Numbers,
+    contents: &[Content],
+) -> Result<Vec<Draft>, AllocError>
     requires { IsDistinct nat_eq numbers.now.sections.keys }
     ensures { IfOk result (λ drafts. drafts.items ≡ with_contents numbers.now.sections.keys numbers.now.imports.keys contents.now (map new_draft numbers.now.sections.keys)) }
 {

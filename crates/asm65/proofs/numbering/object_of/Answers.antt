@@ -1,0 +1,24 @@
+use Rattle.std.proofs.Common.{◌≡◌, ◌∙◌, [], ap, map, List, ℕ}
+use Rattle.std.specs.Prelude.{filter_map}
+use Rattle.object65.specs.declared.object.Assert.{Assert}
+use Rattle.object65.specs.declared.object.Export.{Export}
+use Rattle.object65.specs.declared.object.Object.{Object}
+use Rattle.object65.specs.declared.object.Section.{Section}
+use Rattle.asm65.specs.Drafts.{section_from}
+use Rattle.asm65.specs.Numbering.{all_said, assert_of, exports_among, name_of, section_of}
+use Rattle.asm65.proofs.Drafting.{sections_are}
+use Rattle.asm65.proofs.numbering.object_of.Goals as goal
+
+pub returns : goal.returns
+returns c =
+    let segments = c.args.segments.now in
+    let names = c.args.names.now in
+    let cs = c.args.contents.now in
+    let s = c.in_ok-section_keys.field-0.keys in
+    let i = c.in_ok-import_keys.field-0.keys in
+    let made : List (List ℕ) → List Section → List Export → List Assert → Object = λ a b e t. record { imports = a; sections = b; exports = e; asserts = t } in
+    let by : List ℕ → List ℕ → Object = λ k l. made (map (name_of names) l) (map (section_of segments k l cs) k) (exports_among k l [] (all_said cs)) (filter_map (assert_of k l) (all_said cs)) in
+    let imports = c.in_ok-import_names.ensures ∙ ap (map (name_of names)) c.as_slice.ensures.keys in
+    let sections = c.in_ok-finish_sections.ensures ∙ ap (map (section_from segments)) c.in_ok-drafts.ensures ∙ sections_are s i segments cs s in
+    let first : made c.in_ok-import_names.field-0 c.in_ok-finish_sections.field-0 c.in_ok-exports_of.field-0 c.in_ok-asserts_of.field-0 ≡ by s i = λ n. made (imports n) (sections n) (c.in_ok-exports_of.ensures n) (c.in_ok-asserts_of.ensures n) in
+    first ∙ (λ n. by (c.in_ok-section_keys.ensures.keys n) (c.in_ok-import_keys.ensures n))

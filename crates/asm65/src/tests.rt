@@ -6,6 +6,7 @@ ghost use Rattle.object65.specs.Objects.{is_good_object};
 mod faults;
 mod limits;
 mod objects;
+mod statements;
 mod stores;
 
 use crate::{AsmJob, AsmRefusal, assemble};

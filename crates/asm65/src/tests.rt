@@ -7,6 +7,7 @@ mod faults;
 mod forms;
 mod limits;
 mod objects;
+mod statements;
 mod stores;
 
 use crate::{AsmJob, AsmRefusal, assemble};

@@ -1,16 +1,14 @@
 -- Exports, each once.
-use Rattle.std.proofs.Common.{◌≡◌, ◌∙◌, ℕ, ◌+◌, ◌<◌, Bool, true, false, not, cond, List, [], ◌∷◌, ◌++◌, map, length, get_or, drop, refl, sym, ap}
-use Rattle.std.specs.Prelude.{◌||◌, if◌then◌else◌}
+use Rattle.std.proofs.Common.{◌≡◌, ◌∙◌, ℕ, Bool, true, false, not, List, [], ◌∷◌, ◌++◌, map, refl, sym, ap}
+use Rattle.std.specs.Prelude.{◌||◌}
 use Rattle.std.specs.Borrow.{Bor}
 use Rattle.std.specs.List.{list_any}
 use Rattle.std.specs.Str.{bytes_eq}
 use Rattle.object65.specs.Form.{Form}
 use Rattle.object65.specs.declared.object.Export.{Export}
-use Rattle.asm65.specs.declared.contents.Content.{Content}
 use Rattle.asm65.specs.declared.contents.Said.{Said}
 use Rattle.asm65.specs.declared.contents.Said.TheVariants.{Exported, Demanded, Checked}
-use Rattle.asm65.specs.Numbering.{all_said, exports_among, numbered}
-use Rattle.asm65.proofs.Keys.{drop_item}
+use Rattle.asm65.specs.Numbering.{exports_among, numbered}
 
 any_map : {A B : Type 0} (p : B → Bool) (f : A → B) (xs : List A) → list_any p (map f xs) ≡ list_any (λ x. p (f x)) xs
 any_map p f [] = refl

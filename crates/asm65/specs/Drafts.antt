@@ -1,11 +1,9 @@
 -- Tables and sections in the making, from which the object of a module's contents is built.
 use Rattle.std.specs.Prelude.{◌≡◌, ℕ, ◌+◌, nat_eq, List, [], ◌∷◌, ◌++◌, map, Option, Some, None, slice_get, if◌then◌else◌}
 use Rattle.std.specs.Str.{bytes_eq}
-use Rattle.std.specs.List.{list_any}
 use Rattle.indexmap.specs.IndexMap.{get_by}
 use Rattle.object65.specs.declared.object.Fragment.{Fragment}
 use Rattle.object65.specs.declared.object.Fragment.TheVariants.{Literal, Fill}
-use Rattle.object65.specs.declared.object.Export.{Export}
 use Rattle.object65.specs.declared.object.Section.{Section}
 use Rattle.asm65.specs.declared.contents.Content.{Content}
 use Rattle.asm65.specs.declared.contents.Part.{Part}

@@ -1,11 +1,10 @@
 -- From lines to laid statements, or the first fault that is found at a line.
-use Rattle.std.specs.Prelude.{◌≡◌, ℕ, ◌+◌, nat_le, Bool, true, false, List, [], ◌∷◌, Option, Some, None, Result, Ok, Err, if◌then◌else◌}
+use Rattle.std.specs.Prelude.{◌≡◌, ℕ, ◌+◌, List, [], ◌∷◌, Option, Some, None, Result, Ok, Err, if◌then◌else◌}
 use Rattle.syntax65.specs.Outcome.{◌>>=◌, First}
 use Rattle.syntax65.specs.Tokens.{Lexeme, IsRead}
 use Rattle.syntax65.specs.declared.lexing.fault.LexFault.{LexFault}
 use Rattle.asm65.specs.declared.fault.AsmFault.{AsmFault}
-use Rattle.asm65.specs.declared.fault.AsmFault.TheVariants.{Source, BadScope}
-use Rattle.asm65.specs.declared.fault.SourceFault.TheVariants.{Lex, TooManyLines}
+use Rattle.asm65.specs.declared.fault.AsmFault.TheVariants.{BadScope}
 use Rattle.asm65.specs.declared.refusal.LineFault.{LineFault}
 use Rattle.asm65.specs.Gathering.{at_line, counted, tokens_in}
 use Rattle.asm65.specs.Language.{Stated}

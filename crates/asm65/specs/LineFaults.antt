@@ -1,5 +1,5 @@
 -- The faults that are found at a statement's line, in their order.
-use Rattle.std.specs.Prelude.{ℕ, ◌+◌, ◌-◌, ◌==◌, ℤ, pos, Bool, true, false, nat_le, nat_lt, not, ◌&&◌, List, [], ◌∷◌, ◌++◌, length, Option, Some, None, slice_get, if◌then◌else◌}
+use Rattle.std.specs.Prelude.{ℕ, ◌+◌, ◌-◌, ◌==◌, ℤ, pos, Bool, true, false, nat_le, nat_lt, not, ◌&&◌, List, [], ◌∷◌, ◌++◌, length, Option, Some, None, slice_get}
 use Rattle.std.specs.List.{list_any}
 use Rattle.syntax65.specs.Trees.{Tree, name, unary, binary}
 use Rattle.syntax65.specs.declared.lexing.tokens.AddressSize.{AddressSize}
@@ -8,7 +8,7 @@ use Rattle.object65.specs.Objects.{section_limit}
 use Rattle.asm65.specs.declared.contents.Segment.{Segment}
 use Rattle.asm65.specs.declared.fault.AsmFault.{AsmFault}
 use Rattle.asm65.specs.declared.fault.AsmFault.TheVariants.{NotUnderstood, NoSuchForm, DefinedTwice, SectionTooLarge, NoSuchScope, ScopeTwice, BadAlignment, PopWithoutPush, BadOperand, BadPart, SizeChanged, BadScope, FileNotFound}
-use Rattle.asm65.specs.Language.{Item, value, text, Operand, no_operand, accumulator, immediate, address, indirect, indirect_x, indirect_y, Stated, cheap_label, constant, instruction, values, reserve, align, file_part, segment, pop_segment, open_scope, open_proc, close_scope, close_proc, imports, exports, globals, forced, assertion}
+use Rattle.asm65.specs.Language.{Item, value, text, Operand, no_operand, accumulator, immediate, address, indirect, indirect_x, indirect_y, Stated, cheap_label, constant, instruction, values, reserve, align, file_part, segment, pop_segment, open_scope, close_scope, close_proc, imports, exports, globals, forced, assertion}
 use Rattle.asm65.specs.Laid.{Laid, Spot, defined_name, scope_name}
 use Rattle.asm65.specs.Names.{defined_in, scope_in, scope_from, scopes_of, shown, is_cheap}
 use Rattle.asm65.specs.Norms.{constant_behind}

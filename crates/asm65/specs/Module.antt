@@ -1,5 +1,5 @@
 -- A module: the object of its statements or the first fault, and what is said up to there.
-use Rattle.std.specs.Prelude.{◌≡◌, ℕ, zero, ◌+◌, pos, List, [], ◌∷◌, ◌++◌, codes, decimal, length, take, Option, Some, None, Result, Ok, Err}
+use Rattle.std.specs.Prelude.{ℕ, zero, ◌+◌, pos, List, [], ◌∷◌, ◌++◌, codes, decimal, take, Result, Ok, Err}
 use Rattle.std.specs.List.{flat_map}
 use Rattle.syntax65.specs.Outcome.{◌>>=◌}
 use Rattle.object65.specs.Form.{Form, lit}

@@ -1,5 +1,5 @@
 -- What a line's tokens say: a label, and a statement behind it.
-use Rattle.std.specs.Prelude.{◌≡◌, ℕ, ◌+◌, ◌-◌, nat_le, Bool, true, false, ◌==◌, ◌&&◌, ◌||◌, List, [], ◌∷◌, ◌++◌, length, take, drop, codes, Option, Some, None, Result, Ok, Err, if◌then◌else◌}
+use Rattle.std.specs.Prelude.{◌≡◌, ℕ, ◌-◌, nat_le, Bool, true, false, ◌==◌, ◌&&◌, ◌||◌, List, [], ◌∷◌, ◌++◌, length, take, drop, codes, Option, Some, None, Result, Ok, Err, if◌then◌else◌}
 use Rattle.std.specs.Char.{is_ascii_alphabetic, is_ascii_digit}
 use Rattle.std.specs.List.{list_all}
 use Rattle.std.specs.Str.{bytes_eq, str_eq_ignore_ascii_case}
@@ -36,7 +36,7 @@ use Rattle.asm65.specs.declared.reading.words.Message.{Message}
 use Rattle.asm65.specs.declared.reading.words.Message.TheVariants as message
 use Rattle.asm65.specs.declared.reading.words.Names.{Names}
 use Rattle.asm65.specs.declared.reading.words.Names.TheVariants as names
-use Rattle.asm65.specs.Language.{Item, value, text, Operand, no_operand, accumulator, immediate, address, indirect, indirect_x, indirect_y, Stated, label, cheap_label, unnamed_label, constant, instruction, values, reserve, align, file_part, segment, push_segment, pop_segment, open_scope, close_scope, open_proc, close_proc, imports, exports, globals, forced, assertion, says, warns, nothing}
+use Rattle.asm65.specs.Language.{Item, value, text, Operand, no_operand, accumulator, immediate, address, indirect, indirect_x, indirect_y, Stated, label, cheap_label, unnamed_label, constant, instruction, values, reserve, align, segment, push_segment, pop_segment, open_scope, close_scope, open_proc, close_proc, imports, exports, globals, forced, assertion, says, warns, nothing}
 
 -- what isn't understood
 abbrev pub unknown : {A : Type 0} → Result A AsmFault

@@ -1,5 +1,5 @@
 -- Statements without where they lie in memory.
-use Rattle.std.specs.Prelude.{[], List, map, Option}
+use Rattle.std.specs.Prelude.{[], List, map}
 use Rattle.syntax65.specs.Trees.{tree_of}
 use Rattle.std.specs.Prelude.{option_map}
 use Rattle.asm65.specs.declared.language.Item.{Item}

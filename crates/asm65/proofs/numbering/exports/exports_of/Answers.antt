@@ -1,4 +1,4 @@
-use Rattle.std.proofs.Common.{◌∙◌, ◌+◌, ◌++◌, [], sym, ap, drop}
+use Rattle.std.proofs.Common.{◌∙◌, ◌+◌, ◌++◌, sym, ap, drop}
 use Rattle.asm65.specs.Numbering.{all_said, exports_among}
 use Rattle.asm65.proofs.Exporting.{among_append}
 use Rattle.asm65.proofs.Keys.{drop_item}

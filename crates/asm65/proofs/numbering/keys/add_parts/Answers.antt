@@ -1,4 +1,4 @@
-use Rattle.std.proofs.Common.{◌≡◌, ◌∙◌, ap, drop, ◌+◌}
+use Rattle.std.proofs.Common.{◌∙◌, ap, drop, ◌+◌}
 use Rattle.std.specs.List.{flat_map}
 use Rattle.asm65.specs.Numbering.{once, part_imports}
 use Rattle.asm65.proofs.Keys.{once_step}

@@ -1,7 +1,6 @@
-use Rattle.std.proofs.Common.{Bor, List, ℕ, Some, cond, ap, ◌∙◌, sym, arith}
+use Rattle.std.proofs.Common.{Bor, List, ℕ, ap, ◌∙◌, arith}
 use Rattle.std.specs.Str.{bytes_eq}
 use Rattle.std.specs.Map.{lookup}
-use Rattle.indexmap.specs.IndexMap.{get_by}
 use Rattle.asm65.proofs.Keys.{no_key, key_step, key_end}
 use Rattle.asm65.proofs.numbering.names.ImportTable.of.Goals as goal
 

@@ -9,8 +9,9 @@ use Rattle.asm65.specs.declared.refusal.LineFault.{LineFault}
 use Rattle.asm65.specs.Gathering.{at_line, counted, tokens_in}
 use Rattle.asm65.specs.Language.{Stated}
 use Rattle.asm65.specs.Layout.{Layout, layout_behind, nothing_laid}
-use Rattle.asm65.specs.LineFaults.{is_open, line_fault}
+use Rattle.asm65.specs.LineFaults.{is_open, line_fault, or_then}
 use Rattle.asm65.specs.Parsing.{IsStatement, label_of}
+use Rattle.asm65.specs.Taken.{not_taken}
 
 abbrev pub unless_fault : {A : Type 0} → Option AsmFault → A → Result A AsmFault
 unless_fault None x = Ok x
@@ -18,7 +19,7 @@ unless_fault (Some e) x = Err e
 
 -- a statement behind those before it, or its first fault there
 abbrev pub with_statement : Layout → ℕ → Stated → Result Layout AsmFault
-with_statement y line x = unless_fault (line_fault y.laid y.standing x) (layout_behind y line x)
+with_statement y line x = unless_fault (or_then (not_taken x) (line_fault y.laid y.standing x)) (layout_behind y line x)
 
 abbrev pub with_label : Layout → ℕ → Option Stated → Result Layout AsmFault
 with_label y line None = Ok y

@@ -5,10 +5,10 @@ use Rattle.std.specs.Str.{bytes_eq}
 use Rattle.syntax65.specs.declared.lexing.tokens.AddressSize.{AddressSize}
 use Rattle.syntax65.specs.declared.lexing.tokens.AddressSize.TheVariants as size
 use Rattle.asm65.specs.declared.contents.Segment.{Segment}
-use Rattle.asm65.specs.Language.{Stated, constant, align, segment, push_segment, pop_segment}
+use Rattle.asm65.specs.Language.{Stated, align, segment, push_segment, pop_segment}
 use Rattle.asm65.specs.Laid.{Laid, Spot, opens_scope, closes_scope, opens_region, is_unnamed}
 use Rattle.asm65.specs.Norms.{constant_behind}
-use Rattle.asm65.specs.Sizes.{counted, length_of, size_of}
+use Rattle.asm65.specs.Sizes.{counted, length_of}
 
 -- the multiples to which a section can be aligned
 abbrev pub powers : List ℕ
@@ -93,10 +93,10 @@ spot_of w = record { path = w.path; region = w.region; unnamed = w.unnamed; segm
 abbrev pub own_size : Standing → AddressSize
 own_size w = (segment_at w.segments w.current).size
 
--- the address size of what a statement defines
+-- The address size of what a statement defines. That of a constant is the segment's, as no operand of an instruction asks
+-- for it so far.
 abbrev pub size_defined : List Laid → Spot → AddressSize → Stated → AddressSize
-size_defined before s own (constant n e) = size_of before s own e
-size_defined before s own _ = own
+size_defined before s own x = own
 
 abbrev pub laid : List Laid → Standing → ℕ → Stated → Laid
 laid before w line x =

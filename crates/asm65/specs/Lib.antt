@@ -17,7 +17,9 @@ pub mod Contents
 pub mod Numbering
 pub mod Parsing
 pub mod Views
+pub mod Taken
 pub mod Laying
+pub mod Sound
 pub mod Module
 pub mod Resolving
 pub mod Drafts

@@ -17,6 +17,7 @@ mod reading;
 mod refusal;
 mod resolving;
 mod statement;
+mod texts;
 
 pub use assembling::assemble;
 pub use assembly::{AsmJob, Assembly};

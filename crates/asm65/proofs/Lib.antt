@@ -1,4 +1,6 @@
 pub mod Splitting
+pub mod Naming
+pub mod Sounding
 pub mod Shown
 pub mod Numbered
 pub mod Sources

@@ -1,4 +1,5 @@
 pub mod Splitting
+pub mod OneStatements
 pub mod Naming
 pub mod Sounding
 pub mod Shown

@@ -1,5 +1,5 @@
-use Rattle.asm65.proofs.Sounding.{line_sound}
+use Rattle.asm65.proofs.OneStatements.{statement_one}
 use Rattle.asm65.proofs.laws.probe.Goals as goal
 
 pub returns : goal.returns
-returns c = line_sound
+returns c = statement_one

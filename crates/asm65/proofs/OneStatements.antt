@@ -48,10 +48,10 @@ followed_one Is by Next one next r s h k =
     let same = one k.0 h.0 k.1 h.1 in
     first_one (by h.0) Next next r s h.2 (subst (λ q. First (by q) Next s) same k.2)
 
-made_one : {A B : Type 0} (Is : A → Type 0) (make : A → B) → One Is → One (λ r. (q : A) × Is q × (r ≡ make q))
+pub made_one : {A B : Type 0} (Is : A → Type 0) (make : A → B) → One Is → One (λ r. (q : A) × Is q × (r ≡ make q))
 made_one Is make one r s h k = h.2 ∙ ap make (one h.0 k.0 h.1 k.1) ∙ sym k.2
 
-same_one : {A : Type 0} (x : A) → One (λ r. r ≡ x)
+pub same_one : {A : Type 0} (x : A) → One (λ r. r ≡ x)
 same_one x r s h k = h ∙ sym k
 
 -- by a test

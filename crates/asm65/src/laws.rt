@@ -6,8 +6,3 @@ ghost use Rattle.asm65.specs.Laws.{OneAnswer};
 pub fn one_answer()
     ensures { OneAnswer }
 {}
-
-ghost use Rattle.asm65.specs.Laws.{Probe};
-pub fn probe()
-    ensures { Probe }
-{}

@@ -59,9 +59,13 @@ name_in (NotDefined name) = name
 name_in (Assertion text) = text
 name_in _ = []
 
--- what is printed: a name byte by byte, each as the character of its code (so ASCII as it is)
+-- what is printed
 abbrev pub fault_text : AsmFault → List ℕ
-fault_text e = words_of e ++ encode_utf8_all (name_in e)
+fault_text e = words_of e ++ name_in e
+
+-- the same as characters: each byte of a name is the character of its code, so ASCII is as it is
+abbrev pub displayed : AsmFault → List ℕ
+displayed e = words_of e ++ encode_utf8_all (name_in e)
 
 abbrev pub is_source_memory : SourceFault → Bool
 is_source_memory source.OutOfMemory = true

@@ -5,7 +5,7 @@ ghost use Rattle.std.specs.FinMap as map;
 ghost use Rattle.syntax65.specs.Outcome.{Finds, Gives, Unless};
 ghost use Rattle.syntax65.specs.Store.{PassesBy};
 ghost use Rattle.object65.specs.Objects.{is_good_object, ObjectFits};
-ghost use Rattle.asm65.specs.Assembly.{IsAssembled, IsObjectOf, in_line_of, job_of, source_in};
+ghost use Rattle.asm65.specs.Assembly.{IsAssembled, in_line_of, is_from_outside, job_of, source_in};
 ghost use Rattle.asm65.specs.Faults.{has_failed, is_failure, is_outside_line, is_outside_refusal};
 
 use crate::building::build;
@@ -92,17 +92,16 @@ fn object_of_source<S: Store>(
     }
 }
 
-/// Assembles a source: its object, or the first fault and its place.
+/// Assembles a source: its object, or the first fault and its place; and what is said up to there.
 pub fn assemble<S: Store>(alloc: Global, store: &mut S, job: &AsmJob<'_>) -> Assembly
-    ensures assembled { IfSome (S.files store.old) (λ m. Finds is_outside_refusal (IsAssembled m (job_of job.now)) result.result) }
+    ensures assembled { IfSome (S.files store.old) (λ m. Finds is_outside_refusal (λ r. IsAssembled m (job_of job.now) (record { result = r; out = result.out; err = result.err })) result.result) }
     ensures files { S.files store.new ≡ S.files store.old }
     ensures count { PassesBy has_failed (S.failures store.old) (S.failures store.new) result.result }
     // An object can be written.
     ensures good { IfOk result.result (λ o. is_good_object o ≡ true) }
     ensures numbers { IfOk result.result ObjectFits }
-    // Nothing that is understood today prints.
-    ensures out { result.out ≡ [] }
-    ensures err { result.err ≡ [] }
+    // Where memory runs out or the store fails nothing is said.
+    ensures silent { is_from_outside result.result ≡ true → (result.out ≡ []) × (result.err ≡ []) }
 {
     Assembly {
         result: object_of_source(alloc, store, job),

@@ -108,7 +108,7 @@ impl AsmFault {
     ghost use Rattle.asm65.specs.Faults.{words_of, name_in, is_memory};
 
     /// The words of a message, before the name that it ends in.
-    fn words(&self) -> &'static str
+    pub fn words(&self) -> &'static str
         ensures { result.now ≡ words_of self.now }
     {
         match self {
@@ -141,7 +141,7 @@ impl AsmFault {
     }
 
     /// The name that the message ends in, or an assertion's text; empty where there is none.
-    fn name(&self) -> &[u8]
+    pub fn name(&self) -> &[u8]
         ensures { result.now ≡ name_in self.now }
     {
         match self {
@@ -169,9 +169,9 @@ impl AsmFault {
 }
 
 impl fmt::Display for AsmFault {
-    ghost use Rattle.asm65.specs.Faults.{fault_text};
+    ghost use Rattle.asm65.specs.Faults.{displayed};
 
-    ghost output = { λ e. Some (fault_text e) };
+    ghost output = { λ e. Some (displayed e) };
 
     fn fmt<W: fmt::Write>(&self, f: &mut fmt::Formatter<W>) -> fmt::Result {
         let words = self.words();

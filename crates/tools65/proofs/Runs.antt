@@ -12,8 +12,7 @@ use Rattle.object65.specs.declared.object.Object.{Object}
 use Rattle.asm65.specs.declared.refusal.AsmRefusal.{AsmRefusal}
 use Rattle.asm65.specs.Assembly.{IsAssembled}
 use Rattle.asm65.specs.Faults.{has_failed, is_outside_refusal, is_memory as is_asm_memory}
-use Rattle.tools65.specs.Assembling.{asm_message}
-use Rattle.tools65.specs.Command.{failing, outcome_of, Assembles, AssemblesTo, Does, DoesLine, Commands, Ran, RanWords, line_memory}
+use Rattle.tools65.specs.Command.{failing, outcome_of, Assembles, AssemblesWith, Does, DoesLine, Commands, Ran, RanWords, line_memory, refused_with}
 use Rattle.tools65.specs.Leaving.{Prints, SaysBoth, Settles, Performs, StopsShort}
 use Rattle.tools65.specs.Line.{Assembling, Linking, Says, line_of}
 use Rattle.tools65.specs.LineFaults.{is_outside as is_line_outside}
@@ -83,15 +82,30 @@ module _ {A E : Type 0} (is_memory is_failure : E → Bool) (memory : List ℕ) 
       let between = none_before fo fm fn count.later later none in
       (o, found m r o finds (no_failure fo fm r count (did_not_fail fo fm between.0 none.before)) comes, (rw same at performs) between.1)
 
-asm_memory : (a : Assembling) (e : AsmRefusal) (o : Outcome) → is_asm_memory e.fault ≡ true → o ≡ failing (asm_message a.source e) → o ≡ failing (memory_line a.source)
-asm_memory a e o h is = is ∙ by_memory
+asm_memory : (a : Assembling) (out err : List ℕ) (e : AsmRefusal) (o : Outcome) → is_asm_memory e.fault ≡ true → o ≡ refused_with a.source out err e → o ≡ failing (memory_line a.source)
+asm_memory a out err e o h is = is ∙ by_memory
   where
-    by_memory : failing (asm_message a.source e) ≡ failing (memory_line a.source)
+    by_memory : refused_with a.source out err e ≡ failing (memory_line a.source)
     by_memory = rw h refl
 
+-- a run that does one thing does another that it is
+ran_as : (does other : Files → Outcome → Type 0) → ((m : Files) (o : Outcome) → does m o → other m o) → (memory : List ℕ) (m : Files) (new : Option Files) (out_old out_new err_old err_new : Option (List ℕ)) (status : Status) → Ran does memory m new out_old out_new err_old err_new status → Ran other memory m new out_old out_new err_old err_new status
+ran_as does other is memory m new out_old out_new err_old err_new status (o, inl h, p) = (o, inl (is m o h), p)
+ran_as does other is memory m new out_old out_new err_old err_new status (o, inr h, p) = (o, inr h, p)
+
+with_texts : (a : Assembling) (out err : List ℕ) (m : Files) (o : Outcome) → ((r : Result Object AsmRefusal) × IsAssembled m (record { source = a.source }) (record { result = r; out = out; err = err }) × AssemblesWith a out err r o) → Assembles a m o
+with_texts a out err m o h = (record { result = h.0; out = out; err = err }, h.1, h.2)
+
+assembled_as : (known new : Option Files) (fo fn : ℕ) (a : Assembling) (out err : List ℕ) (out_old out_new err_old err_new : Option (List ℕ)) (status : Status) → IfSome known (λ m. NoneFailed fo fn → Ran (λ n o. (r : Result Object AsmRefusal) × IsAssembled n (record { source = a.source }) (record { result = r; out = out; err = err }) × AssemblesWith a out err r o) (memory_line a.source) m new out_old out_new err_old err_new status) → IfSome known (λ m. NoneFailed fo fn → Ran (Assembles a) (memory_line a.source) m new out_old out_new err_old err_new status)
+assembled_as None new fo fn a out err out_old out_new err_old err_new status h = tt
+assembled_as (Some m) new fo fn a out err out_old out_new err_old err_new status h = λ none.
+    ran_as (λ n o. (r : Result Object AsmRefusal) × IsAssembled n (record { source = a.source }) (record { result = r; out = out; err = err }) × AssemblesWith a out err r o) (Assembles a) (with_texts a out err) (memory_line a.source) m new out_old out_new err_old err_new status (h none)
+
 -- what was assembled is carried out
-pub assembled_run : (known mid new : Option Files) (fo fm fn : ℕ) (a : Assembling) (r : Result Object AsmRefusal) (o : Outcome) (out_old out_new err_old err_new : Option (List ℕ)) (status : Status) → mid ≡ known → fm ≤ fn → PassesBy has_failed fo fm r → AssemblesTo a r o → IfSome known (λ m. Finds is_outside_refusal (IsAssembled m (record { source = a.source })) r) → IfSome mid (λ m. NoneFailed fm fn → Performs o m new out_old out_new err_old err_new status ⊎ StopsShort o (memory_line a.source) m new out_old out_new err_old err_new status) → IfSome known (λ m. NoneFailed fo fn → Ran (Assembles a) (memory_line a.source) m new out_old out_new err_old err_new status)
-assembled_run known mid new fo fm fn a r o = computed_run (λ e. is_asm_memory e.fault) has_failed (memory_line a.source) (λ m. IsAssembled m (record { source = a.source })) (AssemblesTo a) (asm_memory a) known mid new fo fm fn r o
+pub assembled_run : (known mid new : Option Files) (fo fm fn : ℕ) (a : Assembling) (out err : List ℕ) (r : Result Object AsmRefusal) (o : Outcome) (out_old out_new err_old err_new : Option (List ℕ)) (status : Status) → mid ≡ known → fm ≤ fn → PassesBy has_failed fo fm r → AssemblesWith a out err r o → IfSome known (λ m. Finds is_outside_refusal (λ x. IsAssembled m (record { source = a.source }) (record { result = x; out = out; err = err })) r) → IfSome mid (λ m. NoneFailed fm fn → Performs o m new out_old out_new err_old err_new status ⊎ StopsShort o (memory_line a.source) m new out_old out_new err_old err_new status) → IfSome known (λ m. NoneFailed fo fn → Ran (Assembles a) (memory_line a.source) m new out_old out_new err_old err_new status)
+assembled_run known mid new fo fm fn a out err r o out_old out_new err_old err_new status same later count comes finds performs =
+    assembled_as known new fo fn a out err out_old out_new err_old err_new status
+        (computed_run (λ e. is_asm_memory e.fault) has_failed (memory_line a.source) (λ m x. IsAssembled m (record { source = a.source }) (record { result = x; out = out; err = err })) (AssemblesWith a out err) (asm_memory a out err) known mid new fo fm fn r o out_old out_new err_old err_new status same later count comes finds performs)
 
 link_memory : (l : Linking) (e : Refusal) (o : Outcome) → is_memory e ≡ true → o ≡ outcome_of l (Err e) → o ≡ failing memory_message
 link_memory l e o h is = is ∙ by_memory

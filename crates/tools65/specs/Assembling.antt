@@ -1,9 +1,9 @@
 -- What ca65 names and says.
-use Rattle.std.specs.Prelude.{◌≡◌, ℕ, List, Option, Some, None, if◌then◌else◌}
+use Rattle.std.specs.Prelude.{◌≡◌, ℕ, List, Option, Some, None}
 use Rattle.asm65.specs.declared.refusal.AsmRefusal.{AsmRefusal}
 use Rattle.asm65.specs.declared.refusal.Place.{Place}
-use Rattle.asm65.specs.Faults.{fault_text, is_memory}
-use Rattle.tools65.specs.Messages.{file_message, line_message, memory_line}
+use Rattle.asm65.specs.Faults.{fault_text}
+use Rattle.tools65.specs.Messages.{file_message, line_message}
 use Rattle.tools65.specs.Naming.{IsObjectName}
 
 -- the name of the object's file: the one that the line gives, or else the source's with `.o`
@@ -18,4 +18,4 @@ said_at source (Some p) words = line_message p.file p.line words
 
 -- why a source has no object
 abbrev pub asm_message : List ℕ → AsmRefusal → List ℕ
-asm_message source e = if is_memory e.fault then memory_line source else said_at source e.place (fault_text e.fault)
+asm_message source e = said_at source e.place (fault_text e.fault)

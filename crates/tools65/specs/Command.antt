@@ -1,10 +1,11 @@
 -- What a command does.
-use Rattle.std.specs.Prelude.{◌≡◌, ℕ, ◌⊎◌, List, [], Option, Result, Ok, Err}
+use Rattle.std.specs.Prelude.{◌≡◌, ℕ, ◌⊎◌, List, [], ◌++◌, Option, Result, Ok, Err, if◌then◌else◌}
 use Rattle.syntax65.specs.Store.{Files}
 use Rattle.object65.specs.declared.object.Object.{Object}
 use Rattle.object65.specs.Spelling.{object_bytes}
 use Rattle.asm65.specs.declared.refusal.AsmRefusal.{AsmRefusal}
-use Rattle.asm65.specs.Assembly.{IsAssembled}
+use Rattle.asm65.specs.Assembly.{Assembled, IsAssembled}
+use Rattle.asm65.specs.Faults.{is_memory}
 use Rattle.tools65.specs.Assembling.{IsOutputName, asm_message}
 use Rattle.tools65.specs.declared.command_line.fault.LineFault.{LineFault}
 use Rattle.tools65.specs.declared.linking.linked.Linked.{Linked}
@@ -32,15 +33,24 @@ outcome_of l (Err e) = failing (refusal_message l.script l.input e)
 abbrev pub Does : Linking → Files → Outcome → Type 0
 Does l m o = (r : Result Linked Refusal) × IsLinked m l r × (o ≡ outcome_of l r)
 
--- what the assembler's answer comes to: the object's file, or why there is none
-abbrev pub AssemblesTo : Assembling → Result Object AsmRefusal → Outcome → Type 0
-AssemblesTo a (Ok object) o =
-    (name : List ℕ) × IsOutputName a.output a.source name × (o ≡ record { out = []; err = []; outputs = outputs_of name (object_bytes object); status = Success })
-AssemblesTo a (Err e) o = o ≡ failing (asm_message a.source e)
+-- what assembling comes to without an object: what was said, and why; or only that memory ran out
+abbrev pub refused_with : List ℕ → List ℕ → List ℕ → AsmRefusal → Outcome
+refused_with source out err e =
+    if is_memory e.fault then failing (memory_line source)
+    else record { out = out; err = err ++ asm_message source e; outputs = []; status = Failure }
+
+-- what assembling comes to: the object's file, or why there is none, behind what was said
+abbrev pub AssemblesWith : Assembling → List ℕ → List ℕ → Result Object AsmRefusal → Outcome → Type 0
+AssemblesWith a out err (Ok object) o =
+    (name : List ℕ) × IsOutputName a.output a.source name × (o ≡ record { out = out; err = err; outputs = outputs_of name (object_bytes object); status = Success })
+AssemblesWith a out err (Err e) o = o ≡ refused_with a.source out err e
+
+abbrev pub AssemblesTo : Assembling → Assembled → Outcome → Type 0
+AssemblesTo a x o = AssemblesWith a x.out x.err x.result o
 
 -- what an assemble line does with these files
 abbrev pub Assembles : Assembling → Files → Outcome → Type 0
-Assembles a m o = (r : Result Object AsmRefusal) × IsAssembled m (record { source = a.source }) r × AssemblesTo a r o
+Assembles a m o = (x : Assembled) × IsAssembled m (record { source = a.source }) x × AssemblesTo a x o
 
 -- A run has the outcome that the files give, or only says that memory ran out; it carries that out, or memory ran
 -- out while it wrote the files.

@@ -19,12 +19,12 @@ pub fn join(alloc: Global, parts: &[&[u8]]) -> Result<Sequence<u8>, AllocError>
 }
 
 /// `name: Error: words`
-pub fn file_message(alloc: Global, name: &str, words: &str) -> Result<Sequence<u8>, AllocError>
+pub fn file_message(alloc: Global, name: &str, words: &[u8]) -> Result<Sequence<u8>, AllocError>
     ensures { IfOk result (λ text. text ≡ file_message name.now words.now) }
 {
     join(
         alloc,
-        &[name.as_bytes(), b": Error: ", words.as_bytes(), b"\n"],
+        &[name.as_bytes(), b": Error: ", words, b"\n"],
     )
 }
 
@@ -33,7 +33,7 @@ pub fn line_message(
     alloc: Global,
     name: &str,
     line: usize,
-    words: &str,
+    words: &[u8],
 ) -> Result<Sequence<u8>, AllocError>
     ensures { IfOk result (λ text. text ≡ line_message name.now line words.now) }
 {
@@ -46,7 +46,7 @@ pub fn line_message(
             b":",
             number.as_bytes(),
             b": Error: ",
-            words.as_bytes(),
+            words,
             b"\n",
         ],
     )

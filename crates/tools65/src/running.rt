@@ -90,7 +90,7 @@ fn run_assemble<S: Store, W: Write, E: Write>(
             source: line.source,
         },
     );
-    match asm_outcome(alloc, line, assembly.result) {
+    match asm_outcome(alloc, line, assembly) {
         Ok(outcome) => perform(&outcome, store, out, err, line.source),
         Err(_) => {
             say_memory(err, line.source);

@@ -4,15 +4,17 @@ ghost use Rattle.std.specs.Prelude.{◌≡◌, IfOk, true};
 ghost use Rattle.object65.specs.Objects.{is_good_object};
 ghost use Rattle.object65.specs.Spelling.{object_bytes};
 ghost use Rattle.tools65.specs.Assembling.{IsOutputName};
-ghost use Rattle.tools65.specs.Command.{AssemblesTo};
+ghost use Rattle.asm65.specs.Assembly.{assembled_of};
+ghost use Rattle.tools65.specs.Command.{AssemblesTo, refused_with};
 ghost use Rattle.tools65.specs.Line.{assembling};
 
 use crate::assembling::naming::object_name;
 use crate::assembling::refusal::asm_message;
 use crate::command_line::line::AssembleLine;
+use crate::messages::join;
 use crate::outcome::{Outcome, Status};
 use crate::outputs::outputs_of;
-use asm65::AsmRefusal;
+use asm65::{AsmRefusal, Assembly};
 use object65::{Object, write_object};
 use std::alloc::{AllocError, Global};
 use syntax65::{Sequence, Text};
@@ -39,31 +41,54 @@ fn object_bytes(alloc: Global, object: &Object) -> Result<Sequence<u8>, AllocErr
     }
 }
 
+/// What assembling does without an object: it says what was said, and why there is none.
+fn refused(
+    alloc: Global,
+    source: &str,
+    texts: (Sequence<u8>, Sequence<u8>),
+    refusal: &AsmRefusal,
+) -> Result<Outcome, AllocError>
+    ensures { IfOk result (λ outcome. outcome ≡ refused_with source.now texts.0 texts.1 refusal.now) }
+{
+    if refusal.fault.is_memory() {
+        return Ok(Outcome {
+            out: Sequence::new(alloc),
+            err: join(alloc, &[source.as_bytes(), b": Error: out of memory\n"])?,
+            outputs: Sequence::new(alloc),
+            status: Status::Failure,
+        });
+    }
+    let (out, mut err) = texts;
+    err.extend_from_slice(asm_message(alloc, source, refusal)?.as_slice())?;
+    Ok(Outcome {
+        out,
+        err,
+        outputs: Sequence::new(alloc),
+        status: Status::Failure,
+    })
+}
+
 /// What assembling does: it writes the object, or says why there is none.
 pub fn asm_outcome(
     alloc: Global,
     line: &AssembleLine<'_>,
-    assembled: Result<Object, AsmRefusal>,
+    assembly: Assembly,
 ) -> Result<Outcome, AllocError>
-    requires { IfOk assembled (λ object. is_good_object object ≡ true) }
-    ensures { IfOk result (λ outcome. AssemblesTo (assembling line.now) assembled outcome) }
+    requires { IfOk assembly.result (λ object. is_good_object object ≡ true) }
+    ensures { IfOk result (λ outcome. AssemblesTo (assembling line.now) (assembled_of assembly) outcome) }
 {
-    match assembled {
+    let Assembly { result, out, err } = assembly;
+    match result {
         Ok(object) => {
             let name = output_name(alloc, line)?;
             let bytes = object_bytes(alloc, &object)?;
             Ok(Outcome {
-                out: Sequence::new(alloc),
-                err: Sequence::new(alloc),
+                out,
+                err,
                 outputs: outputs_of(alloc, name.as_str(), bytes)?,
                 status: Status::Success,
             })
         }
-        Err(refusal) => Ok(Outcome {
-            out: Sequence::new(alloc),
-            err: asm_message(alloc, line.source, &refusal)?,
-            outputs: Sequence::new(alloc),
-            status: Status::Failure,
-        }),
+        Err(refusal) => refused(alloc, line.source, (out, err), &refusal),
     }
 }

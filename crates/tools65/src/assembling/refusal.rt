@@ -3,7 +3,7 @@
 ghost use Rattle.std.specs.Prelude.{◌≡◌, IfOk};
 ghost use Rattle.tools65.specs.Assembling.{asm_message};
 
-use crate::messages::{file_message, join, line_message};
+use crate::messages::{file_message, line_message};
 use asm65::AsmRefusal;
 use std::alloc::{AllocError, Global};
 use syntax65::Sequence;
@@ -16,17 +16,16 @@ pub fn asm_message(
 ) -> Result<Sequence<u8>, AllocError>
     ensures { IfOk result (λ text. text ≡ asm_message source.now refusal.now) }
 {
-    if refusal.fault.is_memory() {
-        return join(alloc, &[source.as_bytes(), b": Error: out of memory\n"]);
-    }
-    let words = refusal.fault.to_string(alloc)?;
+    let mut words = Sequence::new(alloc);
+    words.extend_from_slice(refusal.fault.words().as_bytes())?;
+    words.extend_from_slice(refusal.fault.name())?;
     match &refusal.place {
         Some(place) => line_message(
             alloc,
             place.file.as_str(),
             place.line as usize,
-            words.as_str(),
+            words.as_slice(),
         ),
-        None => file_message(alloc, source, words.as_str()),
+        None => file_message(alloc, source, words.as_slice()),
     }
 }

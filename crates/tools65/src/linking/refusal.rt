@@ -94,15 +94,15 @@ pub fn refusal_message(
     match refusal {
         Refusal::OutOfMemory => join(alloc, &[b"ld65: Error: out of memory\n"]),
         Refusal::ScriptFile(fault) => {
-            file_message(alloc, line.script, fault.to_string(alloc)?.as_str())
+            file_message(alloc, line.script, fault.to_string(alloc)?.as_bytes())
         }
         Refusal::Script(fault) => line_message(
             alloc,
             line.script,
             fault.line,
-            fault.to_string(alloc)?.as_str(),
+            fault.to_string(alloc)?.as_bytes(),
         ),
-        Refusal::Object(fault) => file_message(alloc, line.input, fault.to_string(alloc)?.as_str()),
-        Refusal::Place(fault) => file_message(alloc, "ld65", fault.to_string(alloc)?.as_str()),
+        Refusal::Object(fault) => file_message(alloc, line.input, fault.to_string(alloc)?.as_bytes()),
+        Refusal::Place(fault) => file_message(alloc, "ld65", fault.to_string(alloc)?.as_bytes()),
     }
 }

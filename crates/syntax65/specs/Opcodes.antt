@@ -1,5 +1,5 @@
 -- The table of opcodes.
-use Rattle.std.specs.Prelude.{ℕ, Option, Some, None, Bool, true, false, if◌then◌else◌}
+use Rattle.std.specs.Prelude.{ℕ, Option, Some, None}
 use Rattle.syntax65.specs.declared.instructions.names.Mnemonic.{Mnemonic}
 use Rattle.syntax65.specs.declared.instructions.names.Mnemonic.TheVariants.{Adc, And, Asl, Bcc, Bcs, Beq, Bit, Bmi, Bne, Bpl, Brk, Bvc, Bvs, Clc, Cld, Cli, Clv, Cmp, Cpx, Cpy, Dec, Dex, Dey, Eor, Inc, Inx, Iny, Jmp, Jsr, Lda, Ldx, Ldy, Lsr, Nop, Ora, Pha, Php, Pla, Plp, Rol, Ror, Rti, Rts, Sbc, Sec, Sed, Sei, Sta, Stx, Sty, Tax, Tay, Tsx, Txa, Txs, Tya}
 use Rattle.syntax65.specs.declared.instructions.codes.Mode.{Mode}
@@ -159,12 +159,3 @@ opcode_of Txa Implied = Some 0x8A
 opcode_of Txs Implied = Some 0x9A
 opcode_of Tya Implied = Some 0x98
 opcode_of _ _ = None
-
--- the forms that are answered so far
-abbrev pub is_answered : Mode → Bool
-is_answered Implied = true
-is_answered Accumulator = true
-is_answered _ = false
-
-abbrev pub answered_opcode : Mnemonic → Mode → Option ℕ
-answered_opcode m mode = if is_answered mode then opcode_of m mode else None

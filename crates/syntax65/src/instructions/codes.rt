@@ -1,7 +1,7 @@
 //! The opcodes.
 
 ghost use Rattle.std.specs.Prelude.{◌≡◌};
-ghost use Rattle.syntax65.specs.Opcodes.{opcode_of, is_answered, answered_opcode};
+ghost use Rattle.syntax65.specs.Opcodes.{opcode_of};
 
 use super::names::Mnemonic;
 
@@ -36,25 +36,8 @@ pub enum Mode {
     Relative,
 }
 
-/// The opcode of a mnemonic with a form of operand.
+/// The opcode of a mnemonic with a form of operand, if the instruction has that form.
 pub fn opcode(mnemonic: Mnemonic, mode: Mode) -> Option<u8>
-    ensures { result ≡ answered_opcode mnemonic mode }
-{
-    if is_answered(mode) {
-        in_table(mnemonic, mode)
-    } else {
-        None
-    }
-}
-
-/// Whether the form is answered so far.
-fn is_answered(mode: Mode) -> bool
-    ensures { result ≡ is_answered mode }
-{
-    matches!(mode, Mode::Implied | Mode::Accumulator)
-}
-
-fn in_table(mnemonic: Mnemonic, mode: Mode) -> Option<u8>
     ensures { result ≡ opcode_of mnemonic mode }
 {
     match mode {

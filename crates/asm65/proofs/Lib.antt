@@ -17,3 +17,7 @@ pub mod Beginnings
 pub mod Keys
 pub mod Drafting
 pub mod Exporting
+pub mod Renumbering
+pub mod GoodNames
+pub mod GoodSections
+pub mod GoodObjects

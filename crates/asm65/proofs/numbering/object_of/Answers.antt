@@ -4,13 +4,15 @@ use Rattle.object65.specs.declared.object.Assert.{Assert}
 use Rattle.object65.specs.declared.object.Export.{Export}
 use Rattle.object65.specs.declared.object.Object.{Object}
 use Rattle.object65.specs.declared.object.Section.{Section}
+use Rattle.object65.specs.Objects.{is_good_object}
 use Rattle.asm65.specs.Drafts.{section_from}
 use Rattle.asm65.specs.Numbering.{all_said, assert_of, exports_among, name_of, section_of}
 use Rattle.asm65.proofs.Drafting.{sections_are}
+use Rattle.asm65.proofs.GoodObjects.{good_object}
 use Rattle.asm65.proofs.numbering.object_of.Goals as goal
 
-pub returns : goal.returns
-returns c =
+pub returns-clause-object : goal.returns-clause-object
+returns-clause-object c =
     let segments = c.args.segments.now in
     let names = c.args.names.now in
     let cs = c.args.contents.now in
@@ -22,3 +24,6 @@ returns c =
     let sections = c.in_ok-finish_sections.ensures ∙ ap (map (section_from segments)) c.in_ok-drafts.ensures ∙ sections_are s i segments cs s in
     let first : made c.in_ok-import_names.field-0 c.in_ok-finish_sections.field-0 c.in_ok-exports_of.field-0 c.in_ok-asserts_of.field-0 ≡ by s i = λ n. made (imports n) (sections n) (c.in_ok-exports_of.ensures n) (c.in_ok-asserts_of.ensures n) in
     first ∙ (λ n. by (c.in_ok-section_keys.ensures.keys n) (c.in_ok-import_keys.ensures n))
+
+pub returns-clause-good : goal.returns-clause-good
+returns-clause-good c = λ sound. ap is_good_object (returns-clause-object c) ∙ good_object c.args.segments.now c.args.names.now c.args.contents.now sound

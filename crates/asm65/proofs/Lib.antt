@@ -21,3 +21,4 @@ pub mod Renumbering
 pub mod GoodNames
 pub mod GoodSections
 pub mod GoodObjects
+pub mod Fitting

@@ -22,3 +22,4 @@ pub mod GoodNames
 pub mod GoodSections
 pub mod GoodObjects
 pub mod Fitting
+pub mod SoundLayouts

@@ -157,9 +157,9 @@ good_object segments names cs sound =
     let below = once_all (λ k. k < count) [] (flat_map (content_imports names) cs) tt (below_each count (flat_map (content_imports names) cs) (contents_below s names cs sound.contents)) in
     let imports : are_names (map (name_of names) i) ≡ true = names_at names i sound.imported (once_distinct [] (flat_map (content_imports names) cs) none_twice) below in
     let standing : AllByRecursion (λ k. k < length (map (λ g. g.name) segments)) s =
-        subst (λ n. AllByRecursion (λ k. k < n) s) (sym (map_length (λ (g : Segment). g.name) segments)) (once_all (λ k. k < length segments) [] (segments_asked cs) tt (asked_below (length segments) cs sound.standing)) in
+    subst (λ n. AllByRecursion (λ k. k < n) s) (sym (map_length (λ (g : Segment). g.name) segments)) (once_all (λ k. k < length segments) [] (segments_asked cs) tt (asked_below (length segments) cs sound.standing)) in
     let section_names : are_names (map (λ (x : Section). x.name) (map (section_of segments s i cs) s)) ≡ true =
-        ap are_names (sections_named segments s i cs s) ∙ names_at (map (λ g. g.name) segments) s sound.named (once_distinct [] (segments_asked cs) none_twice) standing in
+    ap are_names (sections_named segments s i cs s) ∙ names_at (map (λ g. g.name) segments) s sound.named (once_distinct [] (segments_asked cs) none_twice) standing in
     let said = said_sound s i names count cs sound.contents in
     let said_imports_had = said_has s i names cs has_imports in
     let es : List Export = exports_among s i [] (all_said cs) in

@@ -81,7 +81,7 @@ has_room : (before : List Laid) (w : Standing) (x : Stated) → line_fault befor
 has_room before w x h =
     let all = none_all (faults before w x) h in
     let fits : nat_lt section_limit ((segment_at w.segments w.current).end + length_of before (spot_of w) (own_size w) x) ≡ false =
-        not_when (nat_lt section_limit ((spot_of w).offset + length_of before (spot_of w) (own_size w) x)) SectionTooLarge all.1.1.1.1.1.1.1.1.1.1.1.1.0 in
+    not_when (nat_lt section_limit ((spot_of w).offset + length_of before (spot_of w) (own_size w) x)) SectionTooLarge all.1.1.1.1.1.1.1.1.1.1.1.1.0 in
     grind (arith, nat_tests)
 
 -- ---- Statements that are taken.
@@ -220,7 +220,7 @@ good_step y line x good sound taken none =
     let kind : kind_is x = taken_kind x taken in
     let measured : IsMeasured l = λ b s own. same_length x before b (spot_of w) s (own_size w) own kind (right (is_understood x) (is_operand_taken x) taken) in
     let next : Good (before ++ l ∷ []) (grown_at w.segments w.current l.length multiple) w.current =
-        good_push before w.segments w.current multiple l good refl taken sound measured (has_room before w x none) in
+    good_push before w.segments w.current multiple l good refl taken sound measured (has_room before w x none) in
     subst (λ gs. Good (before ++ l ∷ []) gs (current_behind w x)) (sym (same_segments w.segments w.current l.length multiple x kind))
     (subst (λ c. Good (before ++ l ∷ []) (grown_at w.segments w.current l.length multiple) c) (sym (same_current w x kind)) next)
 

@@ -20,3 +20,9 @@ pub mod Beginnings
 pub mod Keys
 pub mod Drafting
 pub mod Exporting
+pub mod Renumbering
+pub mod GoodNames
+pub mod GoodSections
+pub mod GoodObjects
+pub mod Fitting
+pub mod SoundLayouts

@@ -1,10 +1,14 @@
 -- Tables and sections in the making, from which the object of a module's contents is built.
-use Rattle.std.specs.Prelude.{◌≡◌, ℕ, ◌+◌, nat_eq, List, [], ◌∷◌, ◌++◌, map, Option, Some, None, slice_get, if◌then◌else◌}
+use Rattle.std.specs.Prelude.{◌≡◌, ℕ, ◌+◌, ◌<◌, ◌^◌, nat_eq, List, [], ◌∷◌, ◌++◌, map, Option, Some, None, slice_get, if◌then◌else◌}
+use Rattle.std.specs.List.{AllByRecursion}
 use Rattle.std.specs.Str.{bytes_eq}
 use Rattle.indexmap.specs.IndexMap.{get_by}
+use Rattle.object65.specs.declared.object.Assert.{Assert}
+use Rattle.object65.specs.declared.object.Export.{Export}
 use Rattle.object65.specs.declared.object.Fragment.{Fragment}
 use Rattle.object65.specs.declared.object.Fragment.TheVariants.{Literal, Fill}
 use Rattle.object65.specs.declared.object.Section.{Section}
+use Rattle.object65.specs.Objects.{FitsBits, FragmentFits}
 use Rattle.asm65.specs.declared.contents.Content.{Content}
 use Rattle.asm65.specs.declared.contents.Part.{Part}
 use Rattle.asm65.specs.declared.contents.Segment.{Segment}
@@ -64,3 +68,15 @@ section_from segments d = record {
   align = segment_power (slice_get segments d.segment);
   fragments = all_of_draft d;
 }
+
+-- ---- The numbers are those of their types.
+
+pub record DraftFits (d : Draft) : Type 0 where
+  pub done : AllByRecursion FragmentFits d.done
+  pub last : AllByRecursion FragmentFits (optional_fragment d.last)
+
+abbrev pub ExportFits : Export → Type 0
+ExportFits e = (e.line < 2 ^ 32) × FitsBits e.form
+
+abbrev pub AssertFits : Assert → Type 0
+AssertFits a = (a.line < 2 ^ 32) × FitsBits a.form

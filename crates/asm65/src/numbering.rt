@@ -1,10 +1,12 @@
 //! From the contents of statements to the object.
 
-ghost use Rattle.std.specs.Prelude.{◌≡◌, map, nat_eq, slice_get, option_copied, IfOk};
+ghost use Rattle.std.specs.Prelude.{◌≡◌, map, nat_eq, slice_get, option_copied, true, IfOk};
 ghost use Rattle.std.specs.List.{IsDistinct};
+ghost use Rattle.object65.specs.Objects.{is_good_object, ObjectFits};
 ghost use Rattle.asm65.specs.Drafts.{all_of_draft, section_from};
 ghost use Rattle.asm65.specs.Layout.{powers};
 ghost use Rattle.asm65.specs.Numbering.{name_of, number_of, object_with, section_of, segment_name, segment_power};
+ghost use Rattle.asm65.specs.Sound.{AreSound};
 
 mod drafts;
 mod exports;
@@ -141,7 +143,9 @@ pub fn object_of(
     names: &[Sequence<u8>],
     contents: &[Content],
 ) -> Result<Object, AllocError>
-    ensures { IfOk result (λ o. o ≡ object_with segments.now names.now contents.now) }
+    ensures object { IfOk result (λ o. o ≡ object_with segments.now names.now contents.now) }
+    ensures fits { IfOk result ObjectFits }
+    ensures good { IfOk result (λ o. AreSound segments.now names.now contents.now → is_good_object o ≡ true) }
 {
     let numbers = Numbers {
         sections: section_keys(alloc, contents)?,

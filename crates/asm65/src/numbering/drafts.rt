@@ -1,9 +1,9 @@
 //! The sections of an object, filled statement by statement.
 
 ghost use Rattle.std.specs.Prelude.{◌≡◌, ◌+◌, ◌++◌, ◌∷◌, [], Some, map, nat_eq, IfOk, OnOk};
-ghost use Rattle.std.specs.List.{IsDistinct};
+ghost use Rattle.std.specs.List.{AllByRecursion, IsDistinct};
 ghost use Rattle.object65.specs.declared.object.Fragment.TheVariants.{Fill, Literal};
-ghost use Rattle.asm65.specs.Drafts.{begun, new_draft, section_from, with_content, with_contents, with_fragment, with_parts};
+ghost use Rattle.asm65.specs.Drafts.{begun, new_draft, section_from, DraftFits, with_content, with_contents, with_fragment, with_parts};
 ghost use Rattle.asm65.specs.Numbering.{fragment_of, segment_name, segment_power};
 
 use super::numbers::{Numbers, numbered};
@@ -64,7 +64,8 @@ fn sum_of(left: u32, right: u32) -> Result<u32, AllocError>
 
 /// Adds so many bytes of the linker's fill value.
 fn add_fill(draft: &mut Draft, count: u32) -> Result<(), AllocError>
-    ensures { OnOk result (draft.new ≡ with_fragment draft.old (Fill count)) }
+    ensures added { OnOk result (draft.new ≡ with_fragment draft.old (Fill count)) }
+    ensures fits { OnOk result (DraftFits draft.old → DraftFits draft.new) }
 {
     if count == 0 {
         return Ok(());
@@ -83,7 +84,8 @@ fn add_part(
     draft: &mut Draft,
     part: &Part,
 ) -> Result<(), AllocError>
-    ensures { OnOk result (draft.new ≡ with_fragment draft.old (fragment_of numbers.now.sections.keys numbers.now.imports.keys part.now)) }
+    ensures added { OnOk result (draft.new ≡ with_fragment draft.old (fragment_of numbers.now.sections.keys numbers.now.imports.keys part.now)) }
+    ensures fits { OnOk result (DraftFits draft.old → DraftFits draft.new) }
 {
     match part {
         Part::Known(bytes) => add_bytes(alloc, draft, bytes.as_slice()),
@@ -109,7 +111,8 @@ fn add_parts(
     draft: &mut Draft,
     parts: &[Part],
 ) -> Result<(), AllocError>
-    ensures { OnOk result (draft.new ≡ with_parts numbers.now.sections.keys numbers.now.imports.keys draft.old parts.now) }
+    ensures added { OnOk result (draft.new ≡ with_parts numbers.now.sections.keys numbers.now.imports.keys draft.old parts.now) }
+    ensures fits { OnOk result (DraftFits draft.old → DraftFits draft.new) }
 {
     for part in parts {
         add_part(alloc, numbers, draft, part)?;
@@ -126,7 +129,8 @@ fn add_content(
 ) -> Result<(), AllocError>
     requires keys { map (λ d. d.segment) drafts.old.items ≡ numbers.now.sections.keys }
     requires distinct { IsDistinct nat_eq numbers.now.sections.keys }
-    ensures { OnOk result (drafts.new.items ≡ map (with_content numbers.now.sections.keys numbers.now.imports.keys content.now) drafts.old.items) }
+    ensures added { OnOk result (drafts.new.items ≡ map (with_content numbers.now.sections.keys numbers.now.imports.keys content.now) drafts.old.items) }
+    ensures fits { OnOk result (AllByRecursion DraftFits drafts.old.items → AllByRecursion DraftFits drafts.new.items) }
 {
     if let Some(place) = numbers.sections.get_index_of(&content.segment) {
         let draft = &mut drafts[place];
@@ -157,7 +161,8 @@ pub fn filled(
     contents: &[Content],
 ) -> Result<Vec<Draft>, AllocError>
     requires { IsDistinct nat_eq numbers.now.sections.keys }
-    ensures { IfOk result (λ drafts. drafts.items ≡ with_contents numbers.now.sections.keys numbers.now.imports.keys contents.now (map new_draft numbers.now.sections.keys)) }
+    ensures filled { IfOk result (λ drafts. drafts.items ≡ with_contents numbers.now.sections.keys numbers.now.imports.keys contents.now (map new_draft numbers.now.sections.keys)) }
+    ensures fits { IfOk result (λ drafts. AllByRecursion DraftFits drafts.items) }
 {
     let mut drafts = new_drafts(alloc, numbers.sections.as_slice())?;
     for content in contents {

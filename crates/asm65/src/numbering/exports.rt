@@ -1,7 +1,8 @@
 //! The exports of an object, each once, and its assertions.
 
 ghost use Rattle.std.specs.Prelude.{◌≡◌, ◌++◌, ◌∷◌, [], filter_map, IfOk, OnOk};
-ghost use Rattle.asm65.specs.Drafts.{AreNamed};
+ghost use Rattle.std.specs.List.{AllByRecursion};
+ghost use Rattle.asm65.specs.Drafts.{AreNamed, AssertFits, ExportFits};
 ghost use Rattle.asm65.specs.Numbering.{all_said, assert_of, exports_among};
 
 use super::drafts::copy_of;
@@ -26,7 +27,8 @@ fn add_assert(
     asserts: &mut Sequence<Assert>,
     said: &Said,
 ) -> Result<(), AllocError>
-    ensures { OnOk result (asserts.new ≡ asserts.old ++ filter_map (assert_of numbers.now.sections.keys numbers.now.imports.keys) (said.now ∷ [])) }
+    ensures added { OnOk result (asserts.new ≡ asserts.old ++ filter_map (assert_of numbers.now.sections.keys numbers.now.imports.keys) (said.now ∷ [])) }
+    ensures fits { OnOk result (AllByRecursion AssertFits asserts.old → AllByRecursion AssertFits asserts.new) }
 {
     if let Said::Checked {
         action,
@@ -52,7 +54,8 @@ fn add_asserts(
     asserts: &mut Sequence<Assert>,
     said: &[Said],
 ) -> Result<(), AllocError>
-    ensures { OnOk result (asserts.new ≡ asserts.old ++ filter_map (assert_of numbers.now.sections.keys numbers.now.imports.keys) said.now) }
+    ensures added { OnOk result (asserts.new ≡ asserts.old ++ filter_map (assert_of numbers.now.sections.keys numbers.now.imports.keys) said.now) }
+    ensures fits { OnOk result (AllByRecursion AssertFits asserts.old → AllByRecursion AssertFits asserts.new) }
 {
     for saying in said {
         add_assert(alloc, numbers, asserts, saying)?;
@@ -66,7 +69,8 @@ pub fn asserts_of(
     numbers: &Numbers,
     contents: &[Content],
 ) -> Result<Sequence<Assert>, AllocError>
-    ensures { IfOk result (λ asserts. asserts ≡ filter_map (assert_of numbers.now.sections.keys numbers.now.imports.keys) (all_said contents.now)) }
+    ensures asserts { IfOk result (λ asserts. asserts ≡ filter_map (assert_of numbers.now.sections.keys numbers.now.imports.keys) (all_said contents.now)) }
+    ensures fits { IfOk result (λ asserts. AllByRecursion AssertFits asserts) }
 {
     let mut asserts = Sequence::new(alloc);
     for content in contents {
@@ -84,6 +88,7 @@ fn add_export<'a>(
 ) -> Result<(), AllocError>
     requires { AreNamed exports.old }
     ensures added { OnOk result (exports.new.all ≡ exports_among numbers.now.sections.keys numbers.now.imports.keys exports.old.all (said.entry.now ∷ [])) }
+    ensures fits { OnOk result (AllByRecursion ExportFits exports.old.all → AllByRecursion ExportFits exports.new.all) }
     ensures named { OnOk result (AreNamed exports.new) }
 {
     if let Said::Exported { name, line, form } = said {
@@ -107,6 +112,7 @@ fn add_exports<'a>(
 ) -> Result<(), AllocError>
     requires { AreNamed exports.old }
     ensures added { OnOk result (exports.new.all ≡ exports_among numbers.now.sections.keys numbers.now.imports.keys exports.old.all said.entry.now) }
+    ensures fits { OnOk result (AllByRecursion ExportFits exports.old.all → AllByRecursion ExportFits exports.new.all) }
     ensures named { OnOk result (AreNamed exports.new) }
 {
     for saying in said {
@@ -121,7 +127,8 @@ pub fn exports_of(
     numbers: &Numbers,
     contents: &[Content],
 ) -> Result<Sequence<Export>, AllocError>
-    ensures { IfOk result (λ exports. exports ≡ exports_among numbers.now.sections.keys numbers.now.imports.keys [] (all_said contents.now)) }
+    ensures exports { IfOk result (λ exports. exports ≡ exports_among numbers.now.sections.keys numbers.now.imports.keys [] (all_said contents.now)) }
+    ensures fits { IfOk result (λ exports. AllByRecursion ExportFits exports) }
 {
     let mut exports = Exports {
         all: Sequence::new(alloc),

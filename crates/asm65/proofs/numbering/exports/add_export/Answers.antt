@@ -16,7 +16,7 @@ returns-in_ok-push-clause-added c =
     let named = c.in_ok-copy_of.ensures ∙ c.as_slice-then-branch.ensures ∙ sym c.as_slice.ensures in
     let made : List ℕ → Form → List Export = λ m g. found ++ record { name = m; line = line; form = g } ∷ [] in
     c.in_ok-push.ensures.ok
-    ∙ (λ k. made (named k) (c.in_ok-numbered.ensures k))
+    ∙ (λ k. made (named k) (c.in_ok-numbered.ensures.form k))
     ∙ export_new s i c.args.exports.now.names.keys found c.as_slice.result.now line form c.requires (sym c.if-branch.true ∙ c.in_ok-insert.ensures.added)
     ∙ ap (λ m. exports_among s i found (Exported m line form ∷ [])) c.as_slice.ensures
     ∙ ap (λ x. exports_among s i found (x ∷ [])) (sym c.in-Exported.is)

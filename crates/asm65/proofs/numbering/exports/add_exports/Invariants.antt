@@ -1,5 +1,6 @@
 use Rattle.std.proofs.Common.{◌≡◌, drop}
-use Rattle.asm65.specs.Drafts.{AreNamed}
+use Rattle.std.specs.List.{AllByRecursion}
+use Rattle.asm65.specs.Drafts.{AreNamed, ExportFits}
 use Rattle.asm65.specs.Numbering.{exports_among}
 use Rattle.asm65.proofs.numbering.exports.add_exports.Given as goal
 
@@ -7,4 +8,5 @@ abbrev pub invariant-loop-saying : goal.invariant-loop-saying
 invariant-loop-saying l = record {
   named : AreNamed l.exports;
   added : exports_among l.numbers.sections.keys l.numbers.imports.keys l.exports.all (drop l.saying-index l.said) ≡ exports_among l.numbers.sections.keys l.numbers.imports.keys l.fn.exports.all l.said;
+  fits : AllByRecursion ExportFits l.fn.exports.all → AllByRecursion ExportFits l.exports.all;
 }

@@ -12,6 +12,7 @@ loop-content-preserved c =
     let rest = all_said (drop (at + 1) c.args.contents.now) in
     record {
       named = c.in_ok-add_exports.ensures.named;
+      fits = c.in_ok-add_exports.ensures.fits c.loop-content.invariant.fits;
       added =
           ap (λ es. exports_among s i es rest) c.in_ok-add_exports.ensures.added
           ∙ among_append s i c.as_slice.result.now c.loop-content.exports.all rest

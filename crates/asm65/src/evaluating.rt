@@ -1,0 +1,5 @@
+//! What laid statements put into an object: the contents of each, or the first fault.
+
+mod exports;
+mod forms;
+mod parts;

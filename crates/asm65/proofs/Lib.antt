@@ -17,3 +17,4 @@ pub mod Beginnings
 pub mod Keys
 pub mod Drafting
 pub mod Exporting
+pub mod Insides

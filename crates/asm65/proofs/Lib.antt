@@ -18,3 +18,5 @@ pub mod Keys
 pub mod Drafting
 pub mod Exporting
 pub mod Insides
+pub mod Aheads
+pub mod Registers

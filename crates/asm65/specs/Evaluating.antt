@@ -1,5 +1,5 @@
 -- How the contents of statements are found, one item behind the other.
-use Rattle.std.specs.Prelude.{◌≡◌, ℕ, ℤ, ⊤, List, [], ◌∷◌, ◌++◌, Bool, true, false, Option, Some, None, Result, Ok, Err}
+use Rattle.std.specs.Prelude.{◌≡◌, ℕ, ℤ, List, [], ◌∷◌, ◌++◌, Bool, true, false, Option, Some, None, Result, Ok, Err}
 use Rattle.syntax65.specs.Opcodes.{opcode_of}
 use Rattle.syntax65.specs.Outcome.{◌>>=◌, Unless}
 use Rattle.syntax65.specs.declared.instructions.codes.Mode.TheVariants.{Implied, Accumulator}
@@ -10,13 +10,13 @@ use Rattle.asm65.specs.declared.contents.Part.TheVariants.{Known}
 use Rattle.asm65.specs.declared.contents.Said.{Said}
 use Rattle.asm65.specs.declared.fault.AsmFault.{AsmFault}
 use Rattle.asm65.specs.declared.fault.AsmFault.TheVariants.{NotDefined}
+use Rattle.asm65.specs.Faults.{is_outside}
 use Rattle.asm65.specs.Language.{Operand, no_operand, accumulator}
 use Rattle.asm65.specs.Names.{or_else}
 
--- so it is, unless there was a fault from outside
-abbrev pub Within : {E A : Type 0} → (E → Bool) → Result A E → Type 0 → Type 0
-Within is_outside (Ok x) P = P
-Within is_outside (Err e) P = Unless (is_outside e) P
+-- what was said stays as it was, unless this is a fault from outside
+abbrev pub unchanged : AsmFault → List ℕ → List ℕ → Type 0
+unchanged e old new = Unless (is_outside e) (new ≡ old)
 
 -- what was found, before what is found behind it
 abbrev pub ahead : {E A : Type 0} → List A → Result (List A) E → Result (List A) E

@@ -1,12 +1,22 @@
 -- What is found one item behind the other.
 use Rattle.std.proofs.Common.{◌≡◌, ℕ, suc, ◌+◌, ◌<◌, Bool, true, false, List, [], ◌∷◌, ◌++◌, length, get_or, drop, map, refl, sym, ap, ◌∙◌, add-one, append_assoc, append-nil, Result, Ok, Err}
+use Rattle.std.specs.List.{flat_map}
 use Rattle.std.specs.Result.{IsErrAnd}
 use Rattle.syntax65.specs.Outcome.{◌>>=◌, Gives, Unless, each}
 use Rattle.asm65.specs.declared.contents.Said.{Said}
 use Rattle.asm65.specs.declared.fault.AsmFault.{AsmFault}
-use Rattle.asm65.specs.Evaluating.{ahead, said_by}
+use Rattle.asm65.specs.Contents.{each_of}
 use Rattle.asm65.specs.Faults.{is_outside}
 use Rattle.asm65.proofs.NameTables.{drop_item, drop_mapped}
+
+-- what was found, before what is found behind it
+abbrev pub ahead : {E A : Type 0} → List A → Result (List A) E → Result (List A) E
+ahead found r = r >>= (λ more. Ok (found ++ more))
+
+-- what f says of each in turn, one behind the other
+abbrev pub said_by : {A : Type 0} → (A → Result (List Said) AsmFault) → List A → Result (List Said) AsmFault
+said_by f [] = Ok []
+said_by f (x ∷ xs) = f x >>= (λ ys. said_by f xs >>= (λ zs. Ok (ys ++ zs)))
 
 pub unless_then : {P Q : Type 0} (b : Bool) → (P → Q) → Unless b P → Unless b Q
 unless_then true f h = tt
@@ -63,3 +73,13 @@ said_none f found left x more e l h =
 pub stops : {X Y Z : Type 0} (view : X → Y) (result : Result X AsmFault) (e : AsmFault) (part : Result Z AsmFault) (whole : Result Y AsmFault) → IsErrAnd result (λ f. f ≡ e) → Unless (is_outside e) (part ≡ Err e) → (part ≡ Err e → whole ≡ Err e) → Gives is_outside view result whole
 stops view (Ok x) e part whole h u k = absurd h
 stops view (Err f) e part whole h u k = rw h (unless_then (is_outside e) k u)
+
+pub said_each : {A : Type 0} (f : A → Result (List Said) AsmFault) (xs : List A) → said_by f xs ≡ each_of f xs
+said_each f [] = refl
+said_each f (x ∷ xs) =
+    first (f x) (said_by f xs) (each f xs) (said_each f xs)
+  where
+    first : (r s : Result (List Said) AsmFault) (t : Result (List (List Said)) AsmFault) → s ≡ (t >>= (λ yss. Ok (flat_map (λ ys. ys) yss))) → (r >>= (λ ys. s >>= (λ zs. Ok (ys ++ zs)))) ≡ ((r >>= (λ ys. t >>= (λ yss. Ok (ys ∷ yss)))) >>= (λ yss. Ok (flat_map (λ ys. ys) yss)))
+    first (Err e) s t h = refl
+    first (Ok ys) s (Err e) h = ap (λ z. z >>= (λ zs. Ok (ys ++ zs))) h
+    first (Ok ys) s (Ok yss) h = ap (λ z. z >>= (λ zs. Ok (ys ++ zs))) h

@@ -1,7 +1,7 @@
 -- How the contents of statements are found, one item behind the other.
-use Rattle.std.specs.Prelude.{◌≡◌, ℕ, ℤ, List, [], ◌∷◌, ◌++◌, Bool, true, false, Option, Some, None, Result, Ok, Err}
+use Rattle.std.specs.Prelude.{◌≡◌, ℕ, ℤ, List, [], ◌∷◌, Bool, true, false, Option, Some, None, Result, Err, Ok}
 use Rattle.syntax65.specs.Opcodes.{opcode_of}
-use Rattle.syntax65.specs.Outcome.{◌>>=◌, Unless}
+use Rattle.syntax65.specs.Outcome.{Unless}
 use Rattle.syntax65.specs.declared.instructions.codes.Mode.TheVariants.{Implied, Accumulator}
 use Rattle.syntax65.specs.declared.instructions.names.Mnemonic.{Mnemonic}
 use Rattle.object65.specs.Form.{Form, lit}
@@ -17,15 +17,6 @@ use Rattle.asm65.specs.Names.{or_else}
 -- what was said stays as it was, unless this is a fault from outside
 abbrev pub unchanged : AsmFault → List ℕ → List ℕ → Type 0
 unchanged e old new = Unless (is_outside e) (new ≡ old)
-
--- what was found, before what is found behind it
-abbrev pub ahead : {E A : Type 0} → List A → Result (List A) E → Result (List A) E
-ahead found r = r >>= (λ more. Ok (found ++ more))
-
--- what f says of each in turn, one behind the other
-abbrev pub said_by : {A : Type 0} → (A → Result (List Said) AsmFault) → List A → Result (List Said) AsmFault
-said_by f [] = Ok []
-said_by f (x ∷ xs) = f x >>= (λ ys. said_by f xs >>= (λ zs. Ok (ys ++ zs)))
 
 abbrev pub listed : {A : Type 0} → Option A → List A
 listed None = []

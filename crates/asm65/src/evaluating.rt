@@ -4,3 +4,4 @@ mod assertions;
 mod exports;
 mod forms;
 mod parts;
+mod sayings;

@@ -18,6 +18,7 @@ use std::alloc::{AllocError, Global};
 use syntax65::Sequence;
 
 /// An assertion, apart from its expression.
+#[derive(Clone, Copy)]
 pub struct Claim<'a> {
     pub line: u32,
     pub action: Action,

@@ -3,8 +3,8 @@
 ghost use Rattle.std.specs.Prelude.{◌≡◌, false, map, [], IfErr, IfOk, OnOk};
 ghost use Rattle.syntax65.specs.Outcome.{Gives};
 ghost use Rattle.asm65.specs.declared.contents.Said.TheVariants.{Demanded};
-ghost use Rattle.asm65.specs.Contents.{export_said, import_fault};
-ghost use Rattle.asm65.specs.Evaluating.{absent_of, listed, said_by};
+ghost use Rattle.asm65.specs.Contents.{each_of, export_said, import_fault};
+ghost use Rattle.asm65.specs.Evaluating.{absent_of, listed};
 ghost use Rattle.asm65.specs.Faults.{is_failure, is_outside};
 ghost use Rattle.asm65.specs.Names.{defined_in};
 ghost use Rattle.asm65.specs.Resolving.{IsModule, IsTable};
@@ -66,7 +66,7 @@ pub fn exports_of(
 ) -> Result<Sequence<Said>, AsmFault>
     requires names { IsModule whole.now }
     requires table { IsTable (all_of whole.now.statements.now) states.old }
-    ensures said { Gives is_outside (λ ss. ss) result (said_by (λ n. export_said (all_of whole.now.statements.now) line n (absent_of is_needed n) (defined_in (all_of whole.now.statements.now) [] n)) names.now) }
+    ensures said { Gives is_outside (λ ss. ss) result (each_of (λ n. export_said (all_of whole.now.statements.now) line n (absent_of is_needed n) (defined_in (all_of whole.now.statements.now) [] n)) names.now) }
     ensures inside { IfErr result (λ e. is_failure e ≡ false) }
     ensures table { OnOk result (IsTable (all_of whole.now.statements.now) states.new) }
 {
@@ -86,7 +86,7 @@ pub fn check_imports(
     names: &[Sequence<u8>],
 ) -> Result<(), AsmFault>
     requires { IsModule whole.now }
-    ensures said { Gives is_outside (λ _. []) result (said_by (import_fault (all_of whole.now.statements.now)) names.now) }
+    ensures said { Gives is_outside (λ _. []) result (each_of (import_fault (all_of whole.now.statements.now)) names.now) }
     ensures inside { IfErr result (λ e. is_failure e ≡ false) }
 {
     for name in names {

@@ -1,9 +1,8 @@
 use Rattle.std.proofs.Common.{◌≡◌, ◌+◌, ◌∙◌, ◌∷◌, ap, sym, drop, map, arith, Err}
 use Rattle.syntax65.specs.Outcome.{each}
 use Rattle.asm65.specs.Contents.{item_part}
-use Rattle.asm65.specs.Evaluating.{ahead}
 use Rattle.asm65.specs.Views.{all_of, item_of, laid_of}
-use Rattle.asm65.proofs.Aheads.{each_none, each_one, next_mapped, stops}
+use Rattle.asm65.proofs.Aheads.{ahead, each_none, each_one, next_mapped, stops}
 use Rattle.asm65.proofs.evaluating.parts.list_parts.Goals as goal
 
 pub returns-in_err-item_part-clause-parts : goal.returns-in_err-item_part-clause-parts

@@ -1,9 +1,9 @@
 use Rattle.std.proofs.Common.{◌≡◌, drop, map}
 use Rattle.syntax65.specs.Outcome.{each}
 use Rattle.asm65.specs.Contents.{item_part}
-use Rattle.asm65.specs.Evaluating.{ahead}
 use Rattle.asm65.specs.Resolving.{IsTable}
 use Rattle.asm65.specs.Views.{all_of, item_of, laid_of}
+use Rattle.asm65.proofs.Aheads.{ahead}
 use Rattle.asm65.proofs.evaluating.parts.list_parts.Given as goal
 
 abbrev pub invariant-loop-item : goal.invariant-loop-item

@@ -20,3 +20,4 @@ pub mod Exporting
 pub mod Insides
 pub mod Aheads
 pub mod Registers
+pub mod Sayings

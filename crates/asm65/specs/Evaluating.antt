@@ -14,6 +14,11 @@ use Rattle.asm65.specs.Faults.{is_outside}
 use Rattle.asm65.specs.Language.{Operand, no_operand, accumulator}
 use Rattle.asm65.specs.Names.{or_else}
 
+-- so it is, unless this is a fault from outside
+abbrev pub Within : {E A : Type 0} → (E → Bool) → Result A E → Type 0 → Type 0
+Within outside (Ok x) P = P
+Within outside (Err e) P = Unless (outside e) P
+
 -- what was said stays as it was, unless this is a fault from outside
 abbrev pub unchanged : AsmFault → List ℕ → List ℕ → Type 0
 unchanged e old new = Unless (is_outside e) (new ≡ old)

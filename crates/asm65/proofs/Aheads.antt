@@ -35,7 +35,7 @@ next_mapped f xs i x lt e = rw add-one (drop_mapped f xs i x lt e)
 
 -- ---- Each gives one.
 
-each_further : {E B : Type 0} (found : List B) (y : B) (r : Result (List B) E) → ahead (found ++ y ∷ []) r ≡ ahead found (r >>= (λ ys. Ok (y ∷ ys)))
+pub each_further : {E B : Type 0} (found : List B) (y : B) (r : Result (List B) E) → ahead (found ++ y ∷ []) r ≡ ahead found (r >>= (λ ys. Ok (y ∷ ys)))
 each_further found y (Ok ys) = ap Ok (append_assoc found (y ∷ []) ys)
 each_further found y (Err e) = refl
 

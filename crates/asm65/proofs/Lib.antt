@@ -21,3 +21,4 @@ pub mod Insides
 pub mod Aheads
 pub mod Registers
 pub mod Sayings
+pub mod Evaluations

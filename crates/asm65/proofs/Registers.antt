@@ -43,6 +43,7 @@ alone all i l m o a b t = go (opcode_of m a) (opcode_of m b) refl refl
         nothing : (w : Option Width) → (operand_parts all i l w None >>= (λ ps. Ok (opcode_part (opcode_of m mode) ∷ ps))) ≡ Ok (opcode_part (opcode_of m mode) ∷ [])
         nothing None = refl
         nothing (Some w) = refl
+
     go : (x y : Option ℕ) → opcode_of m a ≡ x → opcode_of m b ≡ y → instruction_parts all i l m o (first_of m a b) ≡ Ok (code_parts (or_else (opcode_of m a) (opcode_of m b)))
     go (Some c) y h k = ap (instruction_parts all i l m o) (first_some m a b c h) ∙ with_mode a c h ∙ sym (ap (λ x. Ok (code_parts (or_else x (opcode_of m b)))) h)
     go None (Some d) h k = ap (instruction_parts all i l m o) (first_second m a b d h k) ∙ with_mode b d k ∙ sym (ap (λ x. Ok (code_parts (or_else x (opcode_of m b)))) h ∙ ap (λ x. Ok (code_parts x)) k)

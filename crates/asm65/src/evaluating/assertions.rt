@@ -44,11 +44,7 @@ fn fail(
 }
 
 /// What an assertion says that the linker has to check.
-fn checked(
-    alloc: Global,
-    claim: &Claim<'_>,
-    form: Norm,
-) -> Result<Sequence<Said>, AllocError>
+fn checked(alloc: Global, claim: &Claim<'_>, form: Norm) -> Result<Sequence<Said>, AllocError>
     ensures { IfOk result (λ ss. ss ≡ Checked claim.now.action claim.now.line claim.now.text.now form ∷ []) }
 {
     let mut said = Sequence::new(alloc);

@@ -99,10 +99,7 @@ pub fn check_imports(
 }
 
 /// Imports that are asked for though no form may hold them.
-pub fn demanded(
-    alloc: Global,
-    names: &[Sequence<u8>],
-) -> Result<Sequence<Said>, AllocError>
+pub fn demanded(alloc: Global, names: &[Sequence<u8>]) -> Result<Sequence<Said>, AllocError>
     ensures { IfOk result (λ ss. ss ≡ map Demanded names.now) }
 {
     let mut said = Sequence::new(alloc);

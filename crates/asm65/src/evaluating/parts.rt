@@ -116,9 +116,11 @@ pub fn parts_of(
             list_parts(alloc, whole, states, place, laid, *width, items.as_slice())
         }
         // They aren't taken so far.
-        Statement::Reserve { count: _, value: _ } | Statement::Align { multiple: _, value: _ } => {
-            Err(AsmFault::NotUnderstood)
-        }
+        Statement::Reserve { count: _, value: _ }
+        | Statement::Align {
+            multiple: _,
+            value: _,
+        } => Err(AsmFault::NotUnderstood),
         _ => Ok(Sequence::new(alloc)),
     }
 }

@@ -26,3 +26,8 @@ pub mod GoodSections
 pub mod GoodObjects
 pub mod Fitting
 pub mod SoundLayouts
+pub mod Insides
+pub mod Aheads
+pub mod Registers
+pub mod Sayings
+pub mod Evaluations

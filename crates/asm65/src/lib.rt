@@ -5,6 +5,7 @@ mod assembling;
 mod assembly;
 mod building;
 mod contents;
+mod evaluating;
 mod fault;
 mod gathering;
 mod laid;

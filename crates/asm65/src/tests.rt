@@ -7,21 +7,30 @@ mod faults;
 mod forms;
 mod limits;
 mod objects;
+mod operators;
 mod statements;
 mod stores;
+mod texts;
 
-use crate::{AsmJob, AsmRefusal, assemble};
+use crate::{AsmJob, AsmRefusal, Assembly, assemble};
 use object65::Object;
 use std::alloc::{AllocError, Global};
 use syntax65::MemStore;
 
 /// Assembles these bytes as `b.s`.
-fn assembled(alloc: Global, source: &[u8]) -> Result<Result<Object, AsmRefusal>, AllocError>
-    ensures { IfOk result (λ r. IfOk r (λ o. is_good_object o ≡ true)) }
+fn assembly(alloc: Global, source: &[u8]) -> Result<Assembly, AllocError>
+    ensures { IfOk result (λ a. IfOk a.result (λ o. is_good_object o ≡ true)) }
 {
     let mut store = MemStore::new(alloc);
     store.put("b.s", source)?;
-    Ok(assemble(alloc, &mut store, &AsmJob { source: "b.s" }).result)
+    Ok(assemble(alloc, &mut store, &AsmJob { source: "b.s" }))
+}
+
+/// The object of these bytes, or why there is none.
+fn assembled(alloc: Global, source: &[u8]) -> Result<Result<Object, AsmRefusal>, AllocError>
+    ensures { IfOk result (λ r. IfOk r (λ o. is_good_object o ≡ true)) }
+{
+    Ok(assembly(alloc, source)?.result)
 }
 
 /// Where a source is refused and why, in words; empty where it has an object.

@@ -16,12 +16,82 @@ fn faults_of_lines(rt: HostRuntime) -> Result<(), Fail> {
         (".byte 1,", "b.s:1: statement not understood"),
         (".byte 1 2", "b.s:1: statement not understood"),
         (".byte ,1", "b.s:1: statement not understood"),
-        (".word 'a'", "b.s:1: statement not understood"),
-        ("\n\nl: nop", "b.s:3: statement not understood"),
+        (".word \"a\"", "b.s:1: statement not understood"),
+        ("\n\nl: foo", "b.s:3: statement not understood"),
+        ("lda (5)+1", "b.s:1: statement not understood"),
         ("lda", "b.s:1: no such addressing form"),
         ("nop\r\nlda #1\r\n", "b.s:2: no such addressing form"),
         ("brk 1", "b.s:1: no such addressing form"),
-        ("asl a", "b.s:1: no such addressing form"),
+        ("nop a", "b.s:1: no such addressing form"),
+        ("asl 5", "b.s:1: no such addressing form"),
+        ("nop: clc", "b.s:1: statement not understood"),
+        ("l:\nl: nop", "b.s:2: defined twice: l"),
+        ("l = 1\n\nl:", "b.s:3: defined twice: l"),
+        ("x = 1", "b.s:1: statement not understood"),
+    ];
+    for (source, words) in cases {
+        let found = refusal(rt.alloc(), source.as_bytes())?;
+        assert!(rt; found.as_str() == words, "{source}");
+    }
+    Ok(())
+}
+
+/// What isn't taken so far is refused at its line.
+#[test]
+fn not_taken_so_far(rt: HostRuntime) -> Result<(), Fail> {
+    let lines = [
+        "@l: nop",
+        ": nop",
+        ".byte @l",
+        ".byte :+",
+        ".byte ::a",
+        ".byte s::a",
+        "lda :-",
+        ".scope s",
+        ".proc p",
+        ".code",
+        ".segment \"X\"",
+        ".res 1",
+        ".align 2",
+        ".incbin \"x\"",
+        ".pushseg",
+        ".p02",
+        ".setcpu \"6502\"",
+        ".include \"x\"",
+        ".if 1",
+    ];
+    for line in lines {
+        let source = format!(in rt.alloc(); ".byte 256\n{line}")?;
+        let found = refusal(rt.alloc(), source.as_bytes())?;
+        assert!(rt; found.as_str() == "b.s:2: statement not understood", "{line}");
+    }
+    Ok(())
+}
+
+/// Faults of definitions, data, imports, exports and assertions, in the order of statements.
+#[test]
+fn faults_of_expressions(rt: HostRuntime) -> Result<(), Fail> {
+    let cases = [
+        ("u = v\nv = u", "b.s:1: circular definition"),
+        ("v = v + 1", "b.s:1: circular definition"),
+        (".byte -1", "b.s:1: out of range"),
+        (".byte nope", "b.s:1: undefined name: nope"),
+        (".byte 1/0", "b.s:1: zero divisor or bad shift count"),
+        (".byte 1<<64", "b.s:1: zero divisor or bad shift count"),
+        (".byte 256, nope", "b.s:1: out of range"),
+        (".byte nope, 256", "b.s:1: undefined name: nope"),
+        (".byte nope + 1/0", "b.s:1: undefined name: nope"),
+        (".byte u\nu = 1/0", "b.s:1: zero divisor or bad shift count"),
+        (".export u\nu = nope", "b.s:1: undefined name: nope"),
+        (".export u", "b.s:1: export not defined: u"),
+        (".export u, w\nu = 1", "b.s:1: export not defined: w"),
+        (".import v\nv = 1", "b.s:1: imported and defined: v"),
+        (".forceimport v\nv:", "b.s:1: imported and defined: v"),
+        (".assert 0, error", "b.s:1: assertion failed"),
+        (".assert 1 = 2, error, \"not so\"", "b.s:1: not so"),
+        (".assert nope, warning", "b.s:1: undefined name: nope"),
+        ("a0 = 1\n.byte a0, A0", "b.s:2: undefined name: A0"),
+        (".word 65536\n.bogus", "b.s:2: statement not understood"),
     ];
     for (source, words) in cases {
         let found = refusal(rt.alloc(), source.as_bytes())?;

@@ -1,8 +1,6 @@
 //! Sources at their limits.
 
 use super::{add_times, refusal};
-use crate::AsmFault;
-use crate::gathering::gather;
 use std::alloc::{AllocError, Global};
 use std::test::Fail;
 
@@ -53,30 +51,71 @@ fn longest_source(rt: HostRuntime) -> Result<(), Fail> {
     Ok(())
 }
 
-/// A line of so many words.
-fn add_words(text: &mut Vec<u8>, count: usize) -> Result<(), AllocError> {
-    text.extend_from_slice(b".word ")?;
+/// A line of so many values of four bytes.
+fn add_values(text: &mut Vec<u8>, count: usize) -> Result<(), AllocError> {
+    text.extend_from_slice(b".dword ")?;
     for _ in 1..count {
         text.extend_from_slice(b"0,")?;
     }
     text.extend_from_slice(b"0\n")
 }
 
-/// 4,102 lines of 4,090 bytes and one of 36 fill a section; one byte more is too much.
+/// 2,052 lines of 8,176 bytes and one of 64 fill a section; one byte more is too much.
 #[test]
 fn largest_section(rt: HostRuntime) -> Result<(), Fail> {
     let mut text = Vec::new(rt.alloc());
-    for _ in 0..4102 {
-        add_words(&mut text, 2045)?;
+    for _ in 0..2052 {
+        add_values(&mut text, 2044)?;
     }
-    add_words(&mut text, 18)?;
+    add_values(&mut text, 16)?;
+    assert!(rt; refusal(rt.alloc(), &text)?.is_empty());
     text.extend_from_slice(b"\nnop")?;
-    match gather(rt.alloc(), &text) {
-        Ok(_) => Err(Fail::from("no fault")),
-        Err(fault) => {
-            assert!(rt; matches!(fault.fault, AsmFault::SectionTooLarge));
-            assert_eq!(rt; fault.line, 4105);
-            Ok(())
-        }
+    assert!(rt; refusal(rt.alloc(), &text)?.as_str() == "b.s:2055: section too large");
+    Ok(())
+}
+
+/// A word of the sum of so many imports, behind a prefix.
+fn sum_of_imports(alloc: Global, prefix: &[u8], count: usize) -> Result<Vec<u8>, AllocError> {
+    let mut text = Vec::from_slice(alloc, b".import v\n.word ")?;
+    text.extend_from_slice(prefix)?;
+    text.extend_from_slice(b"(v")?;
+    add_times(&mut text, b"+v", count - 1)?;
+    text.push(b')')?;
+    Ok(text)
+}
+
+/// A sum of 128 imports has 255 nodes.
+#[test]
+fn largest_forms(rt: HostRuntime) -> Result<(), Fail> {
+    let text = sum_of_imports(rt.alloc(), b"", 128)?;
+    assert!(rt; refusal(rt.alloc(), &text)?.is_empty());
+    let text = sum_of_imports(rt.alloc(), b"-", 128)?;
+    assert!(rt; refusal(rt.alloc(), &text)?.as_str() == "b.s:2: expression too large");
+    let text = sum_of_imports(rt.alloc(), b"", 129)?;
+    assert!(rt; refusal(rt.alloc(), &text)?.as_str() == "b.s:2: expression too large");
+    Ok(())
+}
+
+/// So many constants, each defined by the next one; the last is the first again, or a number.
+fn chain(alloc: Global, count: usize, last: &[u8]) -> Result<Vec<u8>, AllocError> {
+    let mut text = Vec::from_slice(alloc, b".byte <c0\n")?;
+    for i in 1..count {
+        let before = i - 1;
+        let line = format!(in alloc; "c{before} = c{i} + 1\n")?;
+        text.extend_from_slice(line.as_bytes())?;
     }
+    let end = count - 1;
+    let line = format!(in alloc; "c{end} = ")?;
+    text.extend_from_slice(line.as_bytes())?;
+    text.extend_from_slice(last)?;
+    Ok(text)
+}
+
+#[test]
+fn longest_chains(rt: HostRuntime) -> Result<(), Fail> {
+    let text = chain(rt.alloc(), 20_000, b"5")?;
+    assert!(rt; refusal(rt.alloc(), &text)?.is_empty());
+    let text = chain(rt.alloc(), 20_000, b"c0")?;
+    assert!(rt; refusal(rt.alloc(), &text)?.as_str() == "b.s:1: circular definition");
+    Ok(())
 }

@@ -10,10 +10,36 @@ import time
 program, folder = os.path.abspath(sys.argv[1]), sys.argv[2]
 SCRIPT = "MEMORY { ROM: start = 0, size = $1000000; } SEGMENTS { CODE: load = ROM, type = ro; }\n"
 numbers = random.Random(9)
+
+
+def expressions(count):
+    """Lines of data with expressions over labels before and behind them, and over constants."""
+    blocks = count // 10
+    lines = []
+    for k in range(blocks):
+        before, behind = max(0, k - numbers.randrange(1, 50)), min(blocks - 1, k + numbers.randrange(1, 50))
+        lines += [
+            f"l{k}:",
+            f"c{k} = c{before} & 15 + {numbers.randrange(9)}" if k else "c0 = 1",
+            f"    .byte <(l{behind} - l{before}), >(l{behind} - l{before})",
+            f"    .word l{behind} - l{before} + $1000",
+            f"    .byte c{behind} & 7, c{before} | 1, {numbers.randrange(128, 256)} - {numbers.randrange(128)}",
+            f"    .word (* - l{before}) & $FFFF, c{k} * 3 + 1",
+            f"    .dbyt ${numbers.randrange(65536):04X}",
+            f"    .byte {numbers.randrange(20)} + {numbers.randrange(10)} * {numbers.randrange(10)}, 'x', \"text\"",
+            f"    .dword (l{behind} - l{k}) << 8",
+            f"    .byte (l{behind} - l{before}) & $3F",
+        ]
+    return lines
+
+
 CASES = {
     "1": ("100,000 lines of nop", 100_000, ["    nop"] * 100_000),
     "2": ("200,000 lines of nop", 200_000, ["    nop"] * 200_000),
     "4": ("400,000 lines of nop", 400_000, ["    nop"] * 400_000),
+    "e1": ("100,000 of expressions", 100_000, expressions(100_000)),
+    "e2": ("200,000 of expressions", 200_000, expressions(200_000)),
+    "e4": ("400,000 of expressions", 400_000, expressions(400_000)),
     "data": (
         "1 MB of .byte lists",
         1 << 20,
@@ -66,9 +92,9 @@ for name, (what, units, lines) in CASES.items():
             other = least(theirs)
             ratio = f"   cc65 {other:8.4f} s   bin65 / cc65 {ours / other:5.2f}"
         print(f"{what:24} {words[1]:6} bin65 {ours:8.4f} s{ratio}", flush=True)
-        total += (instructions(words) or 0) if name in ("1", "data") else 0
+        total += (instructions(words) or 0) if name in ("1", "e1", "data") else 0
     if total:
-        print(f"{'':24} {total / units:.0f} instructions for each line of nop or byte of data, ca65 and ld65 together")
+        print(f"{'':24} {total / units:.0f} instructions for each line or byte of data, ca65 and ld65 together")
     if real:
         with open(os.path.join(folder, name + ".own.out"), "rb") as a, open(os.path.join(folder, name + ".cc65.out"), "rb") as b:
             print(f"{'':24} images {'the same' if a.read() == b.read() else 'DIFFER'}")

@@ -82,8 +82,13 @@ fn names_the_object(rt: HostRuntime) -> Result<(), Fail> {
 
 #[test]
 fn names_a_fault_with_its_line(rt: HostRuntime) -> Result<(), Fail> {
-    let rows: [(&[u8], &str); 4] = [
+    let rows: [(&[u8], &str); 6] = [
         (b".byte 256", "b.s:1: Error: out of range\n"),
+        (b"u = v\nv = u", "b.s:1: Error: circular definition\n"),
+        (
+            b".byte n1, 2\n",
+            "b.s:1: Error: undefined name: n1\n",
+        ),
         (b"nop\n nop $\n", "b.s:2: Error: bad number\n"),
         (
             b"nop\r\n\r\n.bogus",
@@ -101,6 +106,40 @@ fn names_a_fault_with_its_line(rt: HostRuntime) -> Result<(), Fail> {
     let mut store = MemStore::new(rt.alloc());
     let ran = run_on(rt.alloc(), &mut store, &["bin65", "ca65", "b.s"]);
     assert!(rt; says(&ran, "b.s: Error: file not found\n"));
+    Ok(())
+}
+
+/// Texts and warnings are said, also where a fault follows them; an assertion's text is printed as its bytes are.
+#[test]
+fn says_what_sources_say(rt: HostRuntime) -> Result<(), Fail> {
+    let rows: [(&[u8], &[u8], &[u8], Status); 3] = [
+        (
+            b".out \"one\"\n.warning \"w\"\n.out \"two\"",
+            b"one\ntwo\n",
+            b"b.s:2: Warning: w\n",
+            Status::Success,
+        ),
+        (
+            b".out \"o\"\n.warning \"w\"\n.bogus",
+            b"o\n",
+            b"b.s:2: Warning: w\nb.s:3: Error: statement not understood\n",
+            Status::Failure,
+        ),
+        (
+            b".assert 0, warning, \"\xff\"\n.assert 0, error, \"\xe4\"",
+            b"",
+            b"b.s:1: Warning: \xff\nb.s:2: Error: \xe4\n",
+            Status::Failure,
+        ),
+    ];
+    for (source, out, err, status) in rows.iter() {
+        let mut store = MemStore::new(rt.alloc());
+        store.put("b.s", source)?;
+        let ran = run_on(rt.alloc(), &mut store, &["bin65", "ca65", "b.s"]);
+        assert!(rt; ran.out.as_slice() == *out);
+        assert!(rt; ran.err.as_slice() == *err);
+        assert!(rt; ran.status == *status);
+    }
     Ok(())
 }
 

@@ -22,3 +22,5 @@ pub mod Aheads
 pub mod Registers
 pub mod Sayings
 pub mod Evaluations
+pub mod Holding
+pub mod SoundForms

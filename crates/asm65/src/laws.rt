@@ -1,8 +1,13 @@
 //! What holds of the definitions, each as the contract of a function that does nothing.
 
-ghost use Rattle.asm65.specs.Laws.{OneAnswer};
+ghost use Rattle.asm65.specs.Laws.{OneAnswer, SoundContents};
 
 /// Assembling has one answer at most.
 pub fn one_answer()
     ensures { OneAnswer }
+{}
+
+/// The contents of a sound layout are sound.
+pub fn sound_contents()
+    ensures { SoundContents }
 {}

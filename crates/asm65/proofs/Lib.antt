@@ -24,3 +24,4 @@ pub mod Sayings
 pub mod Evaluations
 pub mod Holding
 pub mod SoundForms
+pub mod SoundParts

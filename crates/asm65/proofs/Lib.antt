@@ -25,3 +25,4 @@ pub mod Evaluations
 pub mod Holding
 pub mod SoundForms
 pub mod SoundParts
+pub mod SoundSayings

@@ -26,3 +26,4 @@ pub mod Holding
 pub mod SoundForms
 pub mod SoundParts
 pub mod SoundSayings
+pub mod SoundContents

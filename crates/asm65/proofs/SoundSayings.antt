@@ -32,7 +32,7 @@ all_append : {X : Type 0} (P : X → Type 0) (xs ys : List X) → AllByRecursion
 all_append P [] ys h k = k
 all_append P (x ∷ xs) ys (p, h) k = (p, all_append P xs ys h k)
 
-names_all : (names : List (List ℕ)) → list_all is_name names ≡ true → AllByRecursion (λ n. is_name n ≡ true) names
+pub names_all : (names : List (List ℕ)) → list_all is_name names ≡ true → AllByRecursion (λ n. is_name n ≡ true) names
 names_all [] h = tt
 names_all (n ∷ ns) h = (first (is_name n) (list_all is_name ns) h, names_all ns (rest (is_name n) (list_all is_name ns) h))
   where

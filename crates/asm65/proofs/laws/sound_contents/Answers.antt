@@ -1,5 +1,5 @@
-use Rattle.asm65.proofs.SoundSayings.{said_sound}
+use Rattle.asm65.proofs.SoundContents.{sound_contents}
 use Rattle.asm65.proofs.laws.sound_contents.Goals as goal
 
 pub returns : goal.returns
-returns c = let a = said_sound in ?
+returns c = sound_contents

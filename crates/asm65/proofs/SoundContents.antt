@@ -1,30 +1,26 @@
 -- The contents of sound statements.
-use Rattle.std.proofs.Common.{◌≡◌, ◌∙◌, ℕ, zero, suc, ◌+◌, ◌<◌, ◌≤◌, Bool, true, false, cond, nat_eq, nat_lt, refl, sym, ap, subst, arith, List, [], ◌∷◌, ◌++◌, length, map, take, position, Option, Some, None, Result, Ok, Err}
+use Rattle.std.proofs.Common.{◌≡◌, ◌∙◌, ℕ, ◌+◌, ◌<◌, Bool, true, false, cond, nat_eq, refl, sym, ap, subst, arith, List, [], ◌∷◌, ◌++◌, length, map, take, Result, Ok, Err}
 use Rattle.std.specs.Prelude.{⊤, IfOk, ◌||◌, sum_by, if◌then◌else◌}
-use Rattle.std.specs.List.{AllByRecursion, list_all, list_any, filter, flat_map}
+use Rattle.std.specs.List.{AllByRecursion, list_any, filter, flat_map}
 use Rattle.std.specs.Str.{bytes_eq}
 use Rattle.std.proofs.lemmas.Bool.Decides.{nat_tests}
 use Rattle.std.proofs.lemmas.List.Folds.{list_any-append}
 use Rattle.std.proofs.lemmas.List.Quantifiers.{position-Some}
 use Rattle.std.proofs.lemmas.List.Sums.{sum_by-append, sum_by-cons}
 use Rattle.syntax65.specs.Outcome.{◌>>=◌}
-use Rattle.object65.specs.Objects.{are_names, is_among, is_name}
+use Rattle.object65.specs.Objects.{are_names, is_name}
 use Rattle.object65.proofs.Reached.{names_push}
 use Rattle.asm65.specs.declared.contents.Content.{Content}
-use Rattle.asm65.specs.declared.contents.Part.{Part}
-use Rattle.asm65.specs.declared.contents.Said.{Said}
 use Rattle.asm65.specs.declared.fault.AsmFault.{AsmFault}
-use Rattle.asm65.specs.declared.refusal.LineFault.{LineFault}
 use Rattle.asm65.specs.Contents.{content_of, parts_of, said_of}
 use Rattle.asm65.specs.Gathering.{at_line}
 use Rattle.asm65.specs.Laid.{Laid, asks_section}
 use Rattle.asm65.specs.Language as l
 use Rattle.asm65.specs.Laws.{SoundContents}
-use Rattle.asm65.specs.Layout.{Layout}
 use Rattle.asm65.specs.Module.{contents_from}
-use Rattle.asm65.specs.Names.{import_key, imported_names, imports_of, with_new}
+use Rattle.asm65.specs.Names.{imported_names, imports_of, with_new}
 use Rattle.asm65.specs.Numbering.{once, parts_in, section_keys, segments_asked}
-use Rattle.asm65.specs.Sound.{AreSound, IsMeasured, IsSound, IsSoundContent, IsSoundLayout, part_len, statements_in}
+use Rattle.asm65.specs.Sound.{IsMeasured, IsSound, IsSoundContent, part_len, statements_in}
 use Rattle.asm65.specs.Taken.{AreTaken, is_taken}
 use Rattle.asm65.proofs.SoundForms.{Asks, Imports, well_then}
 use Rattle.asm65.proofs.SoundParts.{IsKnown, PartsOf, asked_in, below, parts_sound}
@@ -44,9 +40,11 @@ new_key found g k e = go (list_any (nat_eq k) found) refl
   where
     same : g ≡ k
     same = grind (arith, nat_tests)
+
     or_true : (b : Bool) → (b || true) ≡ true
     or_true true = refl
     or_true false = refl
+
     go : (b : Bool) → list_any (nat_eq k) found ≡ b → asked_in (if b then found else found ++ k ∷ []) g ≡ true
     go true h = ap (λ x. list_any (nat_eq x) found) same ∙ h
     go false h = list_any-append (nat_eq g) found (k ∷ []) ∙ ap (λ b. list_any (nat_eq g) found || (b || false)) e ∙ or_true (list_any (nat_eq g) found)
@@ -135,6 +133,7 @@ asked_more c cs g h = go c.asks
     or_right : (b : Bool) → (b || asked_in (segments_asked cs) g) ≡ true
     or_right true = refl
     or_right false = h
+
     go : (b : Bool) → asked_in (map (λ x. x.segment) (cond b (c ∷ filter (λ x. x.asks) cs) (filter (λ x. x.asks) cs))) g ≡ true
     go true = or_right (nat_eq g c.segment)
     go false = h
@@ -149,9 +148,10 @@ asked_all : (ls : List Laid) (cs : List Content) → EachWith Stands ls cs → A
 asked_all [] [] h = tt
 asked_all [] (c ∷ cs) h = absurd h
 asked_all (l ∷ ls) [] h = absurd h
-asked_all (l ∷ ls) (c ∷ cs) (s, h) =
-    ((λ e. ap (asked_in (segments_asked (c ∷ cs))) (sym s.0) ∙ asked_first c cs (s.1 ∙ e)),
-    asks_more (asked_in (segments_asked cs)) (asked_in (segments_asked (c ∷ cs))) (asked_more c cs) ls (asked_all ls cs h))
+asked_all (l ∷ ls) (c ∷ cs) (s, h) = (
+  (λ e. ap (asked_in (segments_asked (c ∷ cs))) (sym s.0) ∙ asked_first c cs (s.1 ∙ e)),
+  asks_more (asked_in (segments_asked cs)) (asked_in (segments_asked (c ∷ cs))) (asked_more c cs) ls (asked_all ls cs h),
+)
 
 asked_keys : (ls : List Laid) (cs : List Content) → EachWith Stands ls cs → AllByRecursion (Asks (asked_in (section_keys cs))) ls
 asked_keys ls cs h = asks_more (asked_in (segments_asked cs)) (asked_in (section_keys cs)) (λ g e. once_holds (segments_asked cs) [] g e) ls (asked_all ls cs h)

@@ -1,11 +1,10 @@
 -- The forms of expressions among sound statements.
-use Rattle.std.proofs.Common.{◌≡◌, ◌∙◌, ℕ, zero, suc, ◌<◌, Bool, true, false, refl, sym, ap, subst, arith, List, [], ◌∷◌, length, take, get_or, position, Option, Some, None, slice_get, Result, Ok, Err}
+use Rattle.std.proofs.Common.{◌≡◌, ◌∙◌, ℕ, zero, suc, Bool, true, false, refl, sym, ap, subst, arith, List, [], ◌∷◌, length, get_or, Option, Some, None, slice_get, Result, Ok, Err}
 use Rattle.std.specs.Prelude.{IfOk, ◌||◌, ◌&&◌}
 use Rattle.std.specs.List.{AllByRecursion}
 use Rattle.std.proofs.Math.Seq.{take-length}
 use Rattle.std.proofs.lemmas.List.Quantifiers.{position-Some}
 use Rattle.std.proofs.lemmas.Option.{get_or_from_slice_get}
-use Rattle.std.specs.Str.{bytes_eq}
 use Rattle.syntax65.specs.Outcome.{◌>>=◌}
 use Rattle.syntax65.specs.Trees.{Tree, number, here, name, cheap, forward, backward, unary, binary}
 use Rattle.object65.specs.Form.{Form}
@@ -15,7 +14,7 @@ use Rattle.asm65.specs.declared.fault.AsmFault.TheVariants.{Undefined}
 use Rattle.asm65.specs.Contents.{export_form}
 use Rattle.asm65.specs.Language.{Stated, label, constant, open_proc}
 use Rattle.asm65.specs.Laid.{Laid, Spot, asks_section, defined_name, has_here}
-use Rattle.asm65.specs.Names.{Meaning, defined_at, imported_as, defined_in, import_key, imported_names, is_named, or_else, or_fault, outward, same_path}
+use Rattle.asm65.specs.Names.{Meaning, defined_at, imported_as, defined_in, import_key, is_named, or_else, or_fault, outward, same_path}
 use Rattle.asm65.specs.Norms.{folded, form_by, form_of_stated, form_of_laid, form_of_meaning, operand_meaning, norm, norm_of}
 use Rattle.asm65.proofs.Holding.{IsWell, one_well, two_well}
 

@@ -1,6 +1,6 @@
 -- The parts of sound statements.
-use Rattle.std.proofs.Common.{◌≡◌, ◌∙◌, ℕ, zero, suc, ◌+◌, Bool, true, false, nat_eq, nat_lt, refl, sym, ap, subst, arith, List, [], ◌∷◌, ◌++◌, length, take, Option, Some, None, Result, Ok, Err}
-use Rattle.std.specs.Prelude.{⊤, ℤ, IfOk, ◌&&◌, sum_by, if◌then◌else◌}
+use Rattle.std.proofs.Common.{◌≡◌, ◌∙◌, ℕ, ◌+◌, Bool, true, false, nat_eq, nat_lt, refl, sym, ap, subst, List, [], ◌∷◌, length, take, Option, Some, None, Result, Ok, Err}
+use Rattle.std.specs.Prelude.{ℤ, IfOk, ◌&&◌, sum_by, if◌then◌else◌}
 use Rattle.std.specs.List.{AllByRecursion, list_all, list_any}
 use Rattle.std.proofs.lemmas.List.Sums.{sum_by-cons}
 use Rattle.std.proofs.lemmas.List.Folds.{list_all-append}
@@ -11,13 +11,12 @@ use Rattle.syntax65.specs.declared.instructions.codes.Mode.{Mode}
 use Rattle.syntax65.specs.declared.instructions.codes.Mode.TheVariants.{Implied, Accumulator}
 use Rattle.syntax65.specs.declared.instructions.names.Mnemonic.{Mnemonic}
 use Rattle.syntax65.specs.declared.lexing.tokens.AddressSize.{AddressSize}
-use Rattle.object65.specs.Folding.{is_literal}
 use Rattle.object65.specs.Form.{Form, lit, sec, imp, prefix, binary}
 use Rattle.object65.specs.Objects.{fits_width, value_bytes, width_len}
 use Rattle.object65.specs.declared.object.Width.{Width}
 use Rattle.object65.specs.declared.object.Width.TheVariants.{Byte, Word, HighFirst, Dword, Branch}
 use Rattle.asm65.specs.declared.contents.Part.{Part}
-use Rattle.asm65.specs.declared.contents.Part.TheVariants.{Known, Filled, Waiting}
+use Rattle.asm65.specs.declared.contents.Part.TheVariants.{Known}
 use Rattle.asm65.specs.declared.fault.AsmFault.{AsmFault}
 use Rattle.asm65.specs.declared.fault.AsmFault.TheVariants.{OutOfRange}
 use Rattle.asm65.specs.Contents.{item_part, parts_of, stored}
@@ -112,6 +111,7 @@ alone_len m a b v w = go (opcode_of m a) (opcode_of m b) refl refl
   where
     one : (mode : Mode) → width_of mode ≡ None → 1 ≡ mode_len (Some mode)
     one mode z = rw z refl
+
     go : (x y : Option ℕ) → opcode_of m a ≡ x → opcode_of m b ≡ y → sum_by part_len (code_parts (or_else (opcode_of m a) (opcode_of m b))) ≡ mode_len (first_of m a b)
     go (Some c) y h k = ap (λ x. sum_by part_len (code_parts (or_else x (opcode_of m b)))) h ∙ one a v ∙ sym (ap mode_len (first_some m a b c h))
     go None (Some d) h k = ap (λ x. sum_by part_len (code_parts (or_else x (opcode_of m b)))) h ∙ ap (λ x. sum_by part_len (code_parts x)) k ∙ one b w ∙ sym (ap mode_len (first_second m a b d h k))

@@ -1,18 +1,16 @@
 -- What sound statements say.
-use Rattle.std.proofs.Common.{◌≡◌, ◌∙◌, ℕ, zero, suc, ◌+◌, ◌<◌, Bool, true, false, refl, sym, ap, subst, List, [], ◌∷◌, ◌++◌, length, map, pos, negsuc, Option, Some, None, Result, Ok, Err}
+use Rattle.std.proofs.Common.{◌≡◌, ℕ, zero, suc, ◌<◌, Bool, true, false, refl, subst, List, [], ◌∷◌, ◌++◌, length, map, pos, negsuc, Option, Some, None, Result, Ok}
 use Rattle.std.specs.Prelude.{⊤, IfOk, ◌&&◌}
 use Rattle.std.specs.List.{AllByRecursion, list_all}
 use Rattle.syntax65.specs.Outcome.{◌>>=◌}
-use Rattle.syntax65.specs.Trees.{Tree}
 use Rattle.syntax65.specs.declared.lexing.tokens.AddressSize.{AddressSize}
-use Rattle.object65.specs.Form.{Form, lit, sec, imp, prefix, binary}
+use Rattle.object65.specs.Form.{Form, lit}
 use Rattle.object65.specs.Objects.{is_name}
 use Rattle.object65.specs.declared.object.Action.{Action}
 use Rattle.object65.specs.declared.object.Action.TheVariants as action
 use Rattle.asm65.specs.declared.contents.Said.{Said}
-use Rattle.asm65.specs.declared.contents.Said.TheVariants.{Exported, Demanded, Checked}
+use Rattle.asm65.specs.declared.contents.Said.TheVariants.{Exported, Demanded}
 use Rattle.asm65.specs.declared.fault.AsmFault.{AsmFault}
-use Rattle.asm65.specs.declared.fault.AsmFault.TheVariants.{ImportedAndDefined}
 use Rattle.asm65.specs.Contents.{decided, each_of, export_form, export_said, import_fault, said_of}
 use Rattle.asm65.specs.Evaluating.{absent_of}
 use Rattle.asm65.specs.Laid.{Laid, Spot, asks_section}
@@ -39,6 +37,7 @@ names_all (n ∷ ns) h = (first (is_name n) (list_all is_name ns) h, names_all n
     first : (a b : Bool) → (a && b) ≡ true → a ≡ true
     first true b k = refl
     first false b k = k
+
     rest : (a b : Bool) → (a && b) ≡ true → b ≡ true
     rest true b k = k
     rest false b k = absurd cc

@@ -14,7 +14,7 @@ use Rattle.asm65.specs.Contents.{export_form}
 use Rattle.asm65.specs.Faults.{is_failure, is_memory}
 use Rattle.asm65.specs.Language.{Stated, constant}
 use Rattle.asm65.specs.Laid.{Laid, Spot}
-use Rattle.asm65.specs.Names.{Meaning, defined_at, imported_as, defined_in, import_key, or_fault, outward, plain_name}
+use Rattle.asm65.specs.Names.{Meaning, defined_at, imported_as, defined_in, import_key, or_fault, outward}
 use Rattle.asm65.specs.Norms.{folded, form_by, form_of_stated, form_of_laid, form_of_meaning, operand_meaning, norm, norm_of}
 
 abbrev pub IsInside : {A : Type 0} → Result A AsmFault → Type 0

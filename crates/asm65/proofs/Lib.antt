@@ -31,3 +31,8 @@ pub mod Aheads
 pub mod Registers
 pub mod Sayings
 pub mod Evaluations
+pub mod Holding
+pub mod SoundForms
+pub mod SoundParts
+pub mod SoundSayings
+pub mod SoundContents

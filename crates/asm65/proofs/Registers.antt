@@ -24,13 +24,13 @@ use Rattle.asm65.specs.Sizes.{mode_of, first_of, width_of}
 use Rattle.asm65.specs.Taken.{is_plain, is_register, is_taken}
 use Rattle.syntax65.specs.declared.lexing.tokens.AddressSize.{AddressSize}
 
-first_some : (m : Mnemonic) (a b : Mode) (c : ℕ) → opcode_of m a ≡ Some c → first_of m a b ≡ Some a
+pub first_some : (m : Mnemonic) (a b : Mode) (c : ℕ) → opcode_of m a ≡ Some c → first_of m a b ≡ Some a
 first_some m a b c h = rw h refl
 
-first_second : (m : Mnemonic) (a b : Mode) (c : ℕ) → opcode_of m a ≡ None → opcode_of m b ≡ Some c → first_of m a b ≡ Some b
+pub first_second : (m : Mnemonic) (a b : Mode) (c : ℕ) → opcode_of m a ≡ None → opcode_of m b ≡ Some c → first_of m a b ≡ Some b
 first_second m a b c h k = rw (h, k) refl
 
-first_none : (m : Mnemonic) (a b : Mode) → opcode_of m a ≡ None → opcode_of m b ≡ None → first_of m a b ≡ None
+pub first_none : (m : Mnemonic) (a b : Mode) → opcode_of m a ≡ None → opcode_of m b ≡ None → first_of m a b ≡ None
 first_none m a b h k = rw (h, k) refl
 
 -- without an operand in memory there is the code alone
@@ -49,7 +49,7 @@ alone all i l m o a b t = go (opcode_of m a) (opcode_of m b) refl refl
     go None (Some d) h k = ap (instruction_parts all i l m o) (first_second m a b d h k) ∙ with_mode b d k ∙ sym (ap (λ x. Ok (code_parts (or_else x (opcode_of m b)))) h ∙ ap (λ x. Ok (code_parts x)) k)
     go None None h k = ap (instruction_parts all i l m o) (first_none m a b h k) ∙ sym (ap (λ x. Ok (code_parts (or_else x (opcode_of m b)))) h ∙ ap (λ x. Ok (code_parts x)) k)
 
-or_same : (x : Option ℕ) → or_else x x ≡ x
+pub or_same : (x : Option ℕ) → or_else x x ≡ x
 or_same None = refl
 or_same (Some c) = refl
 
@@ -63,7 +63,7 @@ register_parts all before i l s own m (indirect e) h = absurd cc
 register_parts all before i l s own m (indirect_x e) h = absurd cc
 register_parts all before i l s own m (indirect_y e) h = absurd cc
 
-second : (a b : Bool) → (a && b) ≡ true → b ≡ true
+pub second : (a b : Bool) → (a && b) ≡ true → b ≡ true
 second true b h = h
 second false b h = absurd cc
 

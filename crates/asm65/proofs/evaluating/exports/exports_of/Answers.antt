@@ -1,5 +1,4 @@
-use Rattle.std.proofs.Common.{◌≡◌, ◌∙◌, [], ap, List}
-use Rattle.asm65.specs.declared.contents.Said.{Said}
+use Rattle.std.proofs.Common.{◌∙◌, [], ap, List}
 use Rattle.asm65.specs.Contents.{export_said}
 use Rattle.asm65.specs.Evaluating.{absent_of}
 use Rattle.asm65.specs.Names.{defined_in}

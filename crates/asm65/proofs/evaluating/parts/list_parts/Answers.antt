@@ -1,4 +1,4 @@
-use Rattle.std.proofs.Common.{◌≡◌, ◌+◌, ◌∙◌, ◌∷◌, ap, sym, drop, map, arith, Err}
+use Rattle.std.proofs.Common.{◌+◌, ◌∙◌, ap, sym, drop, map}
 use Rattle.syntax65.specs.Outcome.{each}
 use Rattle.asm65.specs.Contents.{item_part}
 use Rattle.asm65.specs.Views.{all_of, item_of, laid_of}

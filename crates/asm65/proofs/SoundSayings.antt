@@ -1,0 +1,109 @@
+-- What sound statements say.
+use Rattle.std.proofs.Common.{◌≡◌, ℕ, zero, suc, ◌<◌, Bool, true, false, refl, subst, List, [], ◌∷◌, ◌++◌, length, map, pos, negsuc, Option, Some, None, Result, Ok}
+use Rattle.std.specs.Prelude.{⊤, IfOk, ◌&&◌}
+use Rattle.std.specs.List.{AllByRecursion, list_all}
+use Rattle.syntax65.specs.Outcome.{◌>>=◌}
+use Rattle.syntax65.specs.declared.lexing.tokens.AddressSize.{AddressSize}
+use Rattle.object65.specs.Form.{Form, lit}
+use Rattle.object65.specs.Objects.{is_name}
+use Rattle.object65.specs.declared.object.Action.{Action}
+use Rattle.object65.specs.declared.object.Action.TheVariants as action
+use Rattle.asm65.specs.declared.contents.Said.{Said}
+use Rattle.asm65.specs.declared.contents.Said.TheVariants.{Exported, Demanded}
+use Rattle.asm65.specs.declared.fault.AsmFault.{AsmFault}
+use Rattle.asm65.specs.Contents.{decided, each_of, export_form, export_said, import_fault, said_of}
+use Rattle.asm65.specs.Evaluating.{absent_of}
+use Rattle.asm65.specs.Laid.{Laid, Spot, asks_section}
+use Rattle.asm65.specs.Language.{Stated, constant, imports, exports, globals, forced, assertion}
+use Rattle.asm65.specs.Names.{defined_in}
+use Rattle.asm65.specs.Norms.{norm_of}
+use Rattle.asm65.specs.Sound.{IsSound, IsSoundSaid}
+use Rattle.asm65.proofs.Aheads.{said_by, said_each}
+use Rattle.asm65.proofs.Holding.{IsWell}
+use Rattle.asm65.proofs.SoundForms.{Asks, export_well, well_then}
+use Rattle.asm65.proofs.SoundParts.{IsKnown, asked_in, below, form_sound, laid_with, sound_form}
+
+abbrev pub AreSoundSaid : List ℕ → ℕ → List Said → Type 0
+AreSoundSaid asked count ss = AllByRecursion (IsSoundSaid asked count) ss
+
+all_append : {X : Type 0} (P : X → Type 0) (xs ys : List X) → AllByRecursion P xs → AllByRecursion P ys → AllByRecursion P (xs ++ ys)
+all_append P [] ys h k = k
+all_append P (x ∷ xs) ys (p, h) k = (p, all_append P xs ys h k)
+
+pub names_all : (names : List (List ℕ)) → list_all is_name names ≡ true → AllByRecursion (λ n. is_name n ≡ true) names
+names_all [] h = tt
+names_all (n ∷ ns) h = (first (is_name n) (list_all is_name ns) h, names_all ns (rest (is_name n) (list_all is_name ns) h))
+  where
+    first : (a b : Bool) → (a && b) ≡ true → a ≡ true
+    first true b k = refl
+    first false b k = k
+
+    rest : (a b : Bool) → (a && b) ≡ true → b ≡ true
+    rest true b k = k
+    rest false b k = absurd cc
+
+-- ---- Each name.
+
+by_names : (asked : List ℕ) (count : ℕ) (f : List ℕ → Result (List Said) AsmFault) (P : List ℕ → Type 0) → ((n : List ℕ) → P n → IfOk (f n) (AreSoundSaid asked count)) → (names : List (List ℕ)) → AllByRecursion P names → IfOk (said_by f names) (AreSoundSaid asked count)
+by_names asked count f P h [] ps = tt
+by_names asked count f P h (n ∷ ns) (p, ps) =
+    well_then (AreSoundSaid asked count) (AreSoundSaid asked count) (f n) (λ ys. said_by f ns >>= (λ zs. Ok (ys ++ zs))) (h n p)
+    (λ ys a. well_then (AreSoundSaid asked count) (AreSoundSaid asked count) (said_by f ns) (λ zs. Ok (ys ++ zs)) (by_names asked count f P h ns ps) (λ zs b. all_append (IsSoundSaid asked count) ys zs a b))
+
+each_sound : (asked : List ℕ) (count : ℕ) (f : List ℕ → Result (List Said) AsmFault) (P : List ℕ → Type 0) → ((n : List ℕ) → P n → IfOk (f n) (AreSoundSaid asked count)) → (names : List (List ℕ)) → AllByRecursion P names → IfOk (each_of f names) (AreSoundSaid asked count)
+each_sound asked count f P h names ps =
+    let Q : Result (List Said) AsmFault → Type 0 = λ z. IfOk z (AreSoundSaid asked count) in
+    subst Q (said_each f names) (by_names asked count f P h names ps)
+
+import_sound : (asked : List ℕ) (count : ℕ) (all : List Laid) (n : List ℕ) → IfOk (import_fault all n) (AreSoundSaid asked count)
+import_sound asked count all n = go (defined_in all [] n) refl
+  where
+    go : (o : Option ℕ) → defined_in all [] n ≡ o → IfOk (import_fault all n) (AreSoundSaid asked count)
+    go None e = rw e tt
+    go (Some j) e = rw e tt
+
+absent_sound : (asked : List ℕ) (count : ℕ) (b : Bool) (n : List ℕ) → IfOk (absent_of b n) (AreSoundSaid asked count)
+absent_sound asked count true n = tt
+absent_sound asked count false n = tt
+
+export_sound : (asked : List ℕ) (count : ℕ) (all : List Laid) → IsKnown asked count all → (line : ℕ) (b : Bool) (n : List ℕ) → is_name n ≡ true → IfOk (export_said all line n (absent_of b n) (defined_in all [] n)) (AreSoundSaid asked count)
+export_sound asked count all k line b n h = go (defined_in all [] n) refl
+  where
+    go : (o : Option ℕ) → defined_in all [] n ≡ o → IfOk (export_said all line n (absent_of b n) o) (AreSoundSaid asked count)
+    go None e = absent_sound asked count b n
+    go (Some j) e =
+        well_then (IsWell (asked_in asked) (below count)) (AreSoundSaid asked count) (export_form all j) (λ f. Ok (Exported n line f ∷ [])) (export_well (asked_in asked) (below count) all k.asks k.imports n j e)
+        (λ f w. ((h, sound_form asked count f w), tt))
+
+all_any : (names : List (List ℕ)) → AllByRecursion (λ n. ⊤) names
+all_any [] = tt
+all_any (n ∷ ns) = (tt, all_any ns)
+
+demanded_sound : (asked : List ℕ) (count : ℕ) (names : List (List ℕ)) → AreSoundSaid asked count (map Demanded names)
+demanded_sound asked count [] = tt
+demanded_sound asked count (n ∷ ns) = (tt, demanded_sound asked count ns)
+
+-- ---- Assertions.
+
+decided_sound : (asked : List ℕ) (count : ℕ) (act : Action) (line : ℕ) (words : List ℕ) (f : Form) → length words < 256 → IsWell (asked_in asked) (below count) f → IfOk (decided act line words f) (AreSoundSaid asked count)
+decided_sound asked count action.Error line words (lit (pos zero)) lt w = tt
+decided_sound asked count action.Error line words (lit (pos (suc n))) lt w = tt
+decided_sound asked count action.Error line words (lit (negsuc n)) lt w = tt
+decided_sound asked count action.Warning line words (lit v) lt w = tt
+decided_sound asked count act line words f lt w = ((lt, sound_form asked count f w, refl), tt)
+
+-- ---- Statements.
+
+said_with : (asked : List ℕ) (count : ℕ) (all : List Laid) → IsKnown asked count all → (i line : ℕ) (s : Spot) (len : ℕ) (own : AddressSize) (x : Stated) → IsSound x → (asks_section x ≡ true → asked_in asked s.segment ≡ true) → IfOk (said_of all i (laid_with x line s len own)) (AreSoundSaid asked count)
+said_with asked count all k i line s len own (constant n e) h a = well_then (IsWell (asked_in asked) (below count)) (AreSoundSaid asked count) (norm_of all i s e) (λ f. Ok []) (form_sound asked count all k i s e a) (λ f w. tt)
+said_with asked count all k i line s len own (imports size names) h a = each_sound asked count (import_fault all) (λ n. ⊤) (λ n p. import_sound asked count all n) names (all_any names)
+said_with asked count all k i line s len own (exports names) h a = each_sound asked count (λ n. export_said all line n (absent_of true n) (defined_in all [] n)) (λ n. is_name n ≡ true) (λ n p. export_sound asked count all k line true n p) names (names_all names h)
+said_with asked count all k i line s len own (globals size names) h a = each_sound asked count (λ n. export_said all line n (absent_of false n) (defined_in all [] n)) (λ n. is_name n ≡ true) (λ n p. export_sound asked count all k line false n p) names (names_all names h)
+said_with asked count all k i line s len own (forced names) h a =
+    well_then (AreSoundSaid asked count) (AreSoundSaid asked count) (each_of (import_fault all) names) (λ none. Ok (map Demanded names)) (each_sound asked count (import_fault all) (λ n. ⊤) (λ n p. import_sound asked count all n) names (all_any names)) (λ none q. demanded_sound asked count names)
+said_with asked count all k i line s len own (assertion e act words) h a =
+    well_then (IsWell (asked_in asked) (below count)) (AreSoundSaid asked count) (norm_of all i s e) (decided act line words) (form_sound asked count all k i s e a) (λ f w. decided_sound asked count act line words f h w)
+said_with asked count all k i line s len own _ h a = tt
+
+pub said_sound : (asked : List ℕ) (count : ℕ) (all : List Laid) → IsKnown asked count all → (i : ℕ) (l : Laid) → IsSound l.stated → Asks (asked_in asked) l → IfOk (said_of all i l) (AreSoundSaid asked count)
+said_sound asked count all k i l h a = said_with asked count all k i l.line l.spot l.length l.size l.stated h a

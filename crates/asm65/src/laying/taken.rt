@@ -1,10 +1,11 @@
 //! Which statements are taken so far.
 
-ghost use Rattle.std.specs.Prelude.{◌≡◌, map, true};
+ghost use Rattle.std.specs.Prelude.{◌≡◌, false, IfErr, true};
 ghost use Rattle.std.specs.List.{list_all};
 ghost use Rattle.syntax65.specs.Trees.{name, tree_of};
+ghost use Rattle.asm65.specs.Faults.{is_failure};
 ghost use Rattle.asm65.specs.Laying.{unless_fault};
-ghost use Rattle.asm65.specs.LineFaults.{item_trees, operand_trees, trees_of};
+ghost use Rattle.asm65.specs.LineFaults.{operand_trees, trees_of};
 ghost use Rattle.asm65.specs.Taken.{is_kind_taken, is_operand_taken, is_plain, is_plain_item, is_register, is_understood, not_taken};
 ghost use Rattle.asm65.specs.Views.{item_of, operand_of, stated_of};
 
@@ -131,7 +132,8 @@ fn is_operand_taken(statement: &Statement) -> bool
 
 /// Refuses a statement that isn't taken.
 pub fn check_taken(statement: &Statement) -> Result<(), AsmFault>
-    ensures { result ≡ unless_fault (not_taken (stated_of statement.now)) tt }
+    ensures taken { result ≡ unless_fault (not_taken (stated_of statement.now)) tt }
+    ensures inside { IfErr result (λ e. is_failure e ≡ false) }
 {
     if !is_understood(statement) {
         return Err(AsmFault::NotUnderstood);

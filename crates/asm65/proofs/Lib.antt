@@ -19,3 +19,4 @@ pub mod Drafting
 pub mod Exporting
 pub mod Taking
 pub mod Segments
+pub mod Added

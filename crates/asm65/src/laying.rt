@@ -1,5 +1,6 @@
 //! From lines to laid statements.
 
+mod adding;
 mod faults;
 mod layout;
 mod sizes;

@@ -20,3 +20,4 @@ pub mod Exporting
 pub mod Taking
 pub mod Segments
 pub mod Added
+pub mod LaidLines

@@ -79,3 +79,7 @@ fitted before s own room x =
 -- what stands behind a statement of so many bytes
 abbrev pub Advances : Standing → Stated → ℕ → Standing → Type 0
 Advances old x len new = (before : List Laid) → length_of before (spot_of old) (own_size old) x ≡ len → new ≡ standing_behind before old x
+
+-- what a line makes of the statements before it, by its tokens
+abbrev pub IsReading : Layout → ℕ → List ℕ → Result Layout AsmFault → Type 0
+IsReading y line text r = (tokens : Result (List Lexeme) LexFault) × IsRead text tokens × First (tokens_in tokens) (IsLine y line) r

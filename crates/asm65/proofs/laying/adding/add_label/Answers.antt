@@ -21,4 +21,4 @@ returns-clause-laid c = add_taken c.args.layout.now c.args.line (stated_of c.arg
 
 pub returns-clause-said : goal.returns-clause-said
 returns-clause-said c = λ quiet. λ file t said.
-    still_said file c.args.layout.now c.args.line (stated_of c.args.label) c.in_ok-next.next c.in_ok-next.ensures.measured c.in_ok-next.ensures.laid c.put.new.layout c.in_ok-put.ensures.statements quiet t said
+    still_said c.args.layout.now c.args.line (stated_of c.args.label) c.in_ok-next.next c.in_ok-next.ensures.measured c.in_ok-next.ensures.laid file c.put.new.layout c.in_ok-put.ensures.statements quiet t said

@@ -36,3 +36,7 @@ pub mod SoundForms
 pub mod SoundParts
 pub mod SoundSayings
 pub mod SoundContents
+pub mod Taking
+pub mod Segments
+pub mod Added
+pub mod LaidLines

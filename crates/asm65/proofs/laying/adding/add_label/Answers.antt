@@ -1,0 +1,24 @@
+use Rattle.std.proofs.lemmas.Result.{err_from_is_err_and}
+use Rattle.asm65.specs.Faults.{is_outside}
+use Rattle.asm65.specs.Views.{stated_of}
+use Rattle.asm65.proofs.Added.{add_refused, add_taken, next_fits, next_taken, still_said}
+use Rattle.asm65.proofs.Gathered.{unless_then}
+use Rattle.asm65.proofs.laying.adding.add_label.Goals as goal
+
+pub returns-in_err-next-clause-laid : goal.returns-in_err-next-clause-laid
+returns-in_err-next-clause-laid c =
+    let p = err_from_is_err_and c.from_residual.result c.from_residual.ensures.1 in
+    rw (p.1, p.2) (unless_then (is_outside c.in_err-next.field-0.0) (add_refused c.args.layout.now c.args.line (stated_of c.args.label) c.in_err-next.field-0.0) c.in_err-next.ensures.measured)
+
+pub put-requires-clause-taken : goal.put-requires-clause-taken
+put-requires-clause-taken c = next_taken c.args.layout.now c.args.line (stated_of c.args.label) c.in_ok-next.next c.in_ok-next.ensures.measured c.in_ok-next.ensures.laid
+
+pub put-requires-clause-end : goal.put-requires-clause-end
+put-requires-clause-end c = next_fits c.args.layout.now c.args.line (stated_of c.args.label) c.in_ok-next.next c.in_ok-next.ensures.measured c.in_ok-next.ensures.laid
+
+pub returns-clause-laid : goal.returns-clause-laid
+returns-clause-laid c = add_taken c.args.layout.now c.args.line (stated_of c.args.label) c.in_ok-next.next c.in_ok-next.ensures.measured c.in_ok-next.ensures.laid c.put.new.layout c.in_ok-put.ensures.statements c.in_ok-put.ensures.behind
+
+pub returns-clause-said : goal.returns-clause-said
+returns-clause-said c = λ quiet. λ file t said.
+    still_said c.args.layout.now c.args.line (stated_of c.args.label) c.in_ok-next.next c.in_ok-next.ensures.measured c.in_ok-next.ensures.laid file c.put.new.layout c.in_ok-put.ensures.statements quiet t said

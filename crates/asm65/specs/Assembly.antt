@@ -10,6 +10,7 @@ use Rattle.asm65.specs.declared.fault.AsmFault.TheVariants.{Source}
 use Rattle.asm65.specs.declared.fault.SourceFault.TheVariants.{FileNotFound, TooLong}
 use Rattle.asm65.specs.declared.refusal.AsmRefusal.{AsmRefusal}
 use Rattle.asm65.specs.declared.refusal.LineFault.{LineFault}
+use Rattle.asm65.specs.declared.texts.Texts.{Texts}
 use Rattle.asm65.specs.Faults.{is_outside_refusal}
 use Rattle.asm65.specs.Laying.{AreLaid, Reached}
 use Rattle.asm65.specs.Layout.{Layout}
@@ -63,6 +64,10 @@ silent e = record { result = Err e; out = []; err = [] }
 abbrev pub outcome_of : List ℕ → Layout → Option LineFault → Assembled
 outcome_of file y None = record { result = in_file file (object_of y); out = printed y.laid; err = all_warned file y.laid }
 outcome_of file y (Some e) = record { result = Err (in_line_of file e); out = printed y.laid; err = warned file y.laid }
+
+-- an answer with what was said
+abbrev pub outcome_with : List ℕ → Result Object LineFault → Texts → Assembled
+outcome_with file r t = record { result = in_file file r; out = t.out; err = t.err }
 
 -- what the bytes of a source come to
 abbrev pub IsAssembledFrom : List ℕ → Result (List ℕ) AsmRefusal → Assembled → Type 0

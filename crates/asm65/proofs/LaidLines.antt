@@ -1,12 +1,12 @@
 -- Lines whose statements are laid.
-use Rattle.std.proofs.Common.{◌≡◌, ℕ, ◌+◌, ◌≤◌, ◌<◌, Bool, true, false, nat_le, List, [], ◌∷◌, map, Option, Some, None, refl, sym, subst, ap, ◌∙◌, arith}
+use Rattle.std.proofs.Common.{◌≡◌, ℕ, ◌+◌, ◌≤◌, ◌<◌, Bool, true, false, nat_le, List, [], ◌∷◌, Option, Some, None, refl, sym, subst, ap, ◌∙◌, arith}
 use Rattle.std.specs.Prelude.{IfErr, Result, Ok, Err, length, if◌then◌else◌}
 use Rattle.std.proofs.lemmas.Bool.Decides.{nat_tests}
 use Rattle.syntax65.specs.Words.{is_reserved}
 use Rattle.syntax65.specs.Faults.{is_lex_outside}
 use Rattle.syntax65.specs.Outcome.{First, Gives, Unless}
 use Rattle.syntax65.specs.Relations.{Answers}
-use Rattle.syntax65.specs.Tokens.{Lexeme, IsRead, lexeme_of, lexemes}
+use Rattle.syntax65.specs.Tokens.{Lexeme, IsRead, lexemes}
 use Rattle.syntax65.specs.declared.lexing.fault.LexFault.{LexFault}
 use Rattle.syntax65.specs.declared.lexing.fault.LexFault.TheVariants.{OutOfMemory, BadCharacter, BadNumber, StringNotClosed, LineTooLong, NameTooLong}
 use Rattle.syntax65.specs.declared.lexing.tokens.Token.{Token}
@@ -20,9 +20,9 @@ use Rattle.asm65.specs.Faults.{is_outside, is_outside_line}
 use Rattle.asm65.specs.Gathering.{at_line}
 use Rattle.asm65.specs.Language.{Stated, label, unnamed_label}
 use Rattle.asm65.specs.Laying.{AreLaid, IsLaid, IsLine, IsReading, IsRest, IsText, Reached, with_label, with_statement}
-use Rattle.asm65.specs.Layout.{Layout, nothing_laid}
+use Rattle.asm65.specs.Layout.{Layout}
 use Rattle.asm65.specs.Lines.{line_limit, lines_of}
-use Rattle.asm65.specs.Parsing.{IsStatement, front_label, is_colon, label_before, label_of, named_label, or_all, with_rest}
+use Rattle.asm65.specs.Parsing.{IsStatement, is_colon, label_before, label_of, named_label, or_all, with_rest}
 use Rattle.asm65.specs.Sounds.{AreSaid, IsRefused, is_silent}
 use Rattle.asm65.specs.declared.texts.Texts.{Texts}
 use Rattle.asm65.proofs.Gathered.{unless_then}

@@ -1,5 +1,5 @@
 -- What tables of names hold.
-use Rattle.std.proofs.Common.{◌≡◌, ℕ, zero, suc, ◌+◌, ◌<◌, Bool, true, false, cond, List, [], ◌∷◌, ◌++◌, length, map, drop, get_or, take, add-one, position, Option, Some, None, refl, sym, ap, ◌∙◌, subst, arith}
+use Rattle.std.proofs.Common.{◌≡◌, ℕ, zero, suc, ◌+◌, ◌<◌, ◌≤◌, Bool, true, false, cond, List, [], ◌∷◌, ◌++◌, length, map, drop, get_or, take, add-one, position, Option, Some, None, refl, sym, ap, ◌∙◌, subst, arith}
 use Rattle.std.specs.Prelude.{OnOk, slice_get, Result, Ok, Err, ◌&&◌, ◌||◌, if◌then◌else◌}
 use Rattle.std.specs.List.{list_any, position_from}
 use Rattle.std.specs.Str.{bytes_eq}
@@ -30,6 +30,16 @@ one_taken {A = A} xs i x e = rw add-one (go xs i e)
     go [] j e = absurd cc
     go (y ∷ ys) zero e = let k : y ≡ x = cc in ap (λ z. z ∷ []) (sym k)
     go (y ∷ ys) (suc j) e = ap (λ zs. y ∷ zs) (go ys j e)
+
+pub one_mapped : {A B : Type 0} (f : A → B) (xs : List A) (i : ℕ) (x : A) → i < length xs → x ≡ get_or xs i x → take i (map f xs) ++ f x ∷ [] ≡ take (suc i) (map f xs)
+one_mapped f [] i x lt e = absurd (omega arith)
+one_mapped f (y ∷ xs) zero x lt e = ap (λ z. f z ∷ []) e
+one_mapped f (y ∷ xs) (suc i) x lt e = ap (λ zs. f y ∷ zs) (one_mapped f xs i x (omega arith) e)
+
+pub mapped_before : {A B : Type 0} (f : A → B) (xs : List A) (i : ℕ) → i ≤ length xs → length (take i (map f xs)) ≡ i
+mapped_before f xs zero le = refl
+mapped_before f [] (suc i) le = absurd (omega arith)
+mapped_before f (x ∷ xs) (suc i) le = ap suc (mapped_before f xs i (omega arith))
 
 pub drop_mapped : {A B : Type 0} (f : A → B) (xs : List A) (i : ℕ) (x : A) → i < length xs → x ≡ get_or xs i x → drop i (map f xs) ≡ f x ∷ drop (suc i) (map f xs)
 drop_mapped f [] i x lt e = absurd (omega arith)

@@ -36,7 +36,7 @@ fn is_defined_twice(laid: &Result<Layout, LineFault>, line: u32) -> bool {
 
 #[test]
 fn offsets(rt: HostRuntime) -> Result<(), Fail> {
-    let text = b"a: nop\n asl a\nb = 2\n .byte 1,\"ab\"\n .dword b\nc: .word a,c\n";
+    let text = b"k: nop\n asl a\nl = 2\n .byte 1,\"ab\"\n .dword l\nm: .word k,m\n";
     let mut texts = silence(rt.alloc());
     let Ok(layout) = lay(rt.alloc(), "b.s", text, &mut texts) else {
         return Err(Fail::from("the text is refused"));
@@ -49,14 +49,14 @@ fn offsets(rt: HostRuntime) -> Result<(), Fail> {
     assert_eq!(rt; all[7].line, 6);
     assert_eq!(rt; all[7].length, 4);
     assert_eq!(rt; layout.standing.segments[0].end, 13);
-    assert_eq!(rt; layout.names.place_of(b"c"), Some(6));
-    assert_eq!(rt; layout.names.place_of(b"d"), None);
+    assert_eq!(rt; layout.names.place_of(b"m"), Some(6));
+    assert_eq!(rt; layout.names.place_of(b"n"), None);
     Ok(())
 }
 
 #[test]
 fn imports_in_order(rt: HostRuntime) -> Result<(), Fail> {
-    let text = b".import b,c\n.global b\n.importzp a\n";
+    let text = b".import k,l\n.global k\n.importzp m\n";
     let mut texts = silence(rt.alloc());
     let Ok(layout) = lay(rt.alloc(), "b.s", text, &mut texts) else {
         return Err(Fail::from("the text is refused"));
@@ -64,8 +64,8 @@ fn imports_in_order(rt: HostRuntime) -> Result<(), Fail> {
     let names = layout.names.import_names(rt.alloc())?;
     let names = names.as_slice();
     assert_eq!(rt; names.len(), 3);
-    assert!(rt; names[2].as_slice() == b"a");
-    assert_eq!(rt; layout.names.import_of(b"c"), Some(1));
+    assert!(rt; names[2].as_slice() == b"m".as_slice());
+    assert_eq!(rt; layout.names.import_of(b"l"), Some(1));
     Ok(())
 }
 
@@ -75,8 +75,8 @@ fn texts_before_a_fault(rt: HostRuntime) -> Result<(), Fail> {
     let mut texts = silence(rt.alloc());
     let refused = lay(rt.alloc(), "b.s", text, &mut texts);
     assert!(rt; stops_at(&refused, 3));
-    assert!(rt; texts.out.as_slice() == b"one\n");
-    assert!(rt; texts.err.as_slice() == b"b.s:2: Warning: two\n");
+    assert!(rt; texts.out.as_slice() == b"one\n".as_slice());
+    assert!(rt; texts.err.as_slice() == b"b.s:2: Warning: two\n".as_slice());
     Ok(())
 }
 

@@ -1,22 +1,19 @@
 -- Statements that are laid behind others, and what they say.
-use Rattle.std.proofs.Common.{◌≡◌, ℕ, ◌+◌, ◌≤◌, Bool, true, false, List, [], ◌∷◌, ◌++◌, map, Option, Some, None, refl, sym, ap, ◌∙◌, subst, append-nil}
-use Rattle.std.specs.Prelude.{Result, Ok, Err}
+use Rattle.std.proofs.Common.{◌≡◌, ℕ, ◌+◌, ◌≤◌, true, List, [], ◌∷◌, ◌++◌, Option, Some, None, refl, sym, ap, ◌∙◌, subst, append-nil}
+use Rattle.std.specs.Prelude.{Ok, Err}
 use Rattle.std.specs.List.{flat_map}
 use Rattle.std.proofs.lemmas.List.{map-append}
 use Rattle.object65.specs.Objects.{section_limit}
-use Rattle.syntax65.specs.Outcome.{Unless, Gives}
 use Rattle.asm65.specs.declared.fault.AsmFault.{AsmFault}
 use Rattle.asm65.specs.declared.laid.Laid.{Laid}
 use Rattle.asm65.specs.declared.laying.layout.Layout.{Layout}
-use Rattle.asm65.specs.Faults.{is_outside}
 use Rattle.asm65.specs.Language.{Stated, says, warns}
 use Rattle.asm65.specs.Module.{out_of, printed, warned, warned_by}
-use Rattle.asm65.specs.Sounds.{AreSaid, KeepsSaid, says_nothing}
+use Rattle.asm65.specs.Sounds.{AreSaid, says_nothing}
 use Rattle.asm65.specs.declared.texts.Texts.{Texts}
 use Rattle.std.proofs.lemmas.Grind.{flat_map-append}
 use Rattle.asm65.specs.Laid as there
 use Rattle.asm65.specs.Laying.{Advances, measured, unless_fault, with_statement}
-use Rattle.asm65.specs.Layout as layout
 use Rattle.asm65.specs.Layout.{laid, layout_behind, own_size, spot_of, standing_behind}
 use Rattle.asm65.specs.LineFaults.{line_fault, or_then}
 use Rattle.asm65.specs.Sizes.{length_of}
@@ -72,6 +69,7 @@ module _ (old : Layout) (line : ℕ) (x : Stated) (next : Laid) (m : measured (a
   pub still_said : (file : List ℕ) (new : Layout) → new.statements ≡ old.statements ++ next ∷ [] → says_nothing x ≡ true → (t : Texts) → AreSaid file (all_of old.statements) t → AreSaid file (all_of new.statements) t
   still_said file new statements quiet t said =
       let more : all_of new.statements ≡ all_of old.statements ++ laid_of next ∷ [] = ap all_of statements ∙ map-append laid_of old.statements (next ∷ []) in
-      let q : says_nothing (laid_of next).stated ≡ true = ap says_nothing same_stated ∙ quiet in
-      (said.0 ∙ sym (ap printed more ∙ nothing_more out_of (all_of old.statements) (laid_of next) (nothing_out (laid_of next).stated (laid_of next) refl q)),
-      said.1 ∙ sym (ap (warned file) more ∙ nothing_more (warned_by file) (all_of old.statements) (laid_of next) (nothing_warned file (laid_of next).stated (laid_of next) refl q)))
+      let q : says_nothing (laid_of next).stated ≡ true = ap says_nothing same_stated ∙ quiet in (
+        said.0 ∙ sym (ap printed more ∙ nothing_more out_of (all_of old.statements) (laid_of next) (nothing_out (laid_of next).stated (laid_of next) refl q)),
+        said.1 ∙ sym (ap (warned file) more ∙ nothing_more (warned_by file) (all_of old.statements) (laid_of next) (nothing_warned file (laid_of next).stated (laid_of next) refl q)),
+      )

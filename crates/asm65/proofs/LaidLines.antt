@@ -1,12 +1,12 @@
 -- Lines whose statements are laid.
-use Rattle.std.proofs.Common.{◌≡◌, ℕ, ◌+◌, ◌≤◌, ◌<◌, Bool, true, false, nat_le, List, [], ◌∷◌, map, Option, Some, None, refl, sym, subst, ap, ◌∙◌, arith}
-use Rattle.std.specs.Prelude.{Result, Ok, Err, length, if◌then◌else◌}
+use Rattle.std.proofs.Common.{◌≡◌, ℕ, ◌+◌, ◌≤◌, ◌<◌, Bool, true, false, nat_le, List, [], ◌∷◌, Option, Some, None, refl, sym, subst, ap, ◌∙◌, arith}
+use Rattle.std.specs.Prelude.{IfErr, Result, Ok, Err, length, if◌then◌else◌}
 use Rattle.std.proofs.lemmas.Bool.Decides.{nat_tests}
 use Rattle.syntax65.specs.Words.{is_reserved}
 use Rattle.syntax65.specs.Faults.{is_lex_outside}
 use Rattle.syntax65.specs.Outcome.{First, Gives, Unless}
 use Rattle.syntax65.specs.Relations.{Answers}
-use Rattle.syntax65.specs.Tokens.{Lexeme, IsRead, lexeme_of, lexemes}
+use Rattle.syntax65.specs.Tokens.{Lexeme, IsRead, lexemes}
 use Rattle.syntax65.specs.declared.lexing.fault.LexFault.{LexFault}
 use Rattle.syntax65.specs.declared.lexing.fault.LexFault.TheVariants.{OutOfMemory, BadCharacter, BadNumber, StringNotClosed, LineTooLong, NameTooLong}
 use Rattle.syntax65.specs.declared.lexing.tokens.Token.{Token}
@@ -20,10 +20,11 @@ use Rattle.asm65.specs.Faults.{is_outside, is_outside_line}
 use Rattle.asm65.specs.Gathering.{at_line}
 use Rattle.asm65.specs.Language.{Stated, label, unnamed_label}
 use Rattle.asm65.specs.Laying.{AreLaid, IsLaid, IsLine, IsReading, IsRest, IsText, Reached, with_label, with_statement}
-use Rattle.asm65.specs.Layout.{Layout, nothing_laid}
+use Rattle.asm65.specs.Layout.{Layout}
 use Rattle.asm65.specs.Lines.{line_limit, lines_of}
-use Rattle.asm65.specs.Parsing.{IsStatement, front_label, is_colon, label_before, label_of, named_label, or_all, with_rest}
-use Rattle.asm65.specs.Sounds.{is_silent}
+use Rattle.asm65.specs.Parsing.{IsStatement, is_colon, label_before, label_of, named_label, or_all, with_rest}
+use Rattle.asm65.specs.Sounds.{AreSaid, IsRefused, is_silent}
+use Rattle.asm65.specs.declared.texts.Texts.{Texts}
 use Rattle.asm65.proofs.Gathered.{unless_then}
 
 -- ---- A label says nothing.
@@ -129,3 +130,15 @@ goes_on text rest first behind y z line inv lines is = λ r g. inv r (rw lines (
 
 pub stops : (text rest first behind : List ℕ) (y : Layout) (line : ℕ) (e : AsmFault) → GoesOn text y line rest → lines_of rest ≡ first ∷ lines_of behind → IsText y (line + 1) first (Err e) → AreLaid (lines_of text) (record { layout = y; fault = Some (record { line = line + 1; fault = e }) })
 stops text rest first behind y line e inv lines is = inv _ (rw lines (Err e, is, refl))
+
+unless_both : {P Q R : Type 0} (b : Bool) → (P → Q → R) → Unless b P → Unless b Q → Unless b R
+unless_both true f p q = tt
+unless_both false f p q = f p q
+
+-- a line's fault, with what was said before the line
+pub refused_line : (text rest first behind file : List ℕ) (y z : Layout) (line : ℕ) (r : Result (Unit {0}) AsmFault) (f : LineFault) (old new : Texts) → GoesOn text y line rest → lines_of rest ≡ first ∷ lines_of behind → at_line (line + 1) r ≡ Err f → Answers is_outside (λ _. z) r (IsText y (line + 1) first) → IfErr r (λ e. Unless (is_outside e) (new ≡ old)) → AreSaid file y.laid old → Unless (is_outside_line f) (IsRefused file text f new)
+refused_line text rest first behind file y z line (Ok u) f old new inv lines at is silent said = absurd cc
+refused_line text rest first behind file y z line (Err e) f old new inv lines at is silent said =
+    let k : record { line = line + 1; fault = e } ≡ f = cc in
+    subst (λ (g : LineFault). Unless (is_outside_line g) (IsRefused file text g new)) k
+    (unless_both (is_outside e) (λ there same. (y, stops text rest first behind y line e inv lines there, subst (AreSaid file y.laid) (sym same) said)) is silent)

@@ -15,8 +15,8 @@ use Rattle.syntax65.specs.Outcome.{Gives, Unless}
 use Rattle.asm65.specs.declared.fault.AsmFault.TheVariants.{NotUnderstood, NoSuchForm, SectionTooLarge}
 use Rattle.asm65.specs.declared.language.Item.{Item}
 use Rattle.asm65.specs.declared.language.Item.TheVariants.{Value, Text}
-use Rattle.asm65.specs.Laid.{Laid, Spot, defined_name, opens_region}
-use Rattle.asm65.specs.Language.{Stated, label, cheap_label, unnamed_label, constant, instruction, values, reserve, align, file_part, segment, push_segment, pop_segment, open_scope, close_scope, open_proc, close_proc, imports, exports, globals, forced, assertion, says, warns, nothing}
+use Rattle.asm65.specs.Laid.{Laid, defined_name, opens_region}
+use Rattle.asm65.specs.Language.{Stated, label, constant, instruction, values, imports, exports, globals, forced, assertion, says, warns}
 use Rattle.asm65.specs.Laying.{fitted, measured, unless_fault}
 use Rattle.asm65.specs.Layout.{Standing, grown_at, spot_of, standing_behind, own_size}
 use Rattle.asm65.specs.LineFaults.{first_fault, form_fault, item_trees, line_fault, lost_scope, lost_scopes, named_twice, or_then, trees_of, when}

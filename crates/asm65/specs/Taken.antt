@@ -1,5 +1,5 @@
 -- Which statements are taken so far. The others are refused at their line.
-use Rattle.std.specs.Prelude.{◌≡◌, Bool, true, false, not, ◌&&◌, List, [], ◌∷◌, Option, Some, None}
+use Rattle.std.specs.Prelude.{◌≡◌, Bool, true, false, not, ◌&&◌, List, [], ◌∷◌, Option}
 use Rattle.std.specs.List.{list_all, AllByRecursion}
 use Rattle.syntax65.specs.Trees.{Tree, name, cheap, forward, backward, unary, binary}
 use Rattle.asm65.specs.declared.fault.AsmFault.{AsmFault}

@@ -17,14 +17,13 @@ mod line;
 mod sizes;
 mod taken;
 
-pub use layout::{Layout, Standing};
-
 use crate::contents::Segment;
 use crate::gathering::at_line;
 use crate::lines::first_line;
 use crate::refusal::LineFault;
 use crate::resolving::Names;
 use crate::texts::Texts;
+pub use layout::{Layout, Standing};
 use line::lay_text;
 use std::alloc::{AllocError, Global};
 use syntax65::{AddressSize, Sequence};
@@ -91,12 +90,7 @@ fn lay_lines(
 
 /// The statements of a text's lines, one laid behind the other, or the first fault that is found at a line. What they
 /// say while they are read is said, up to that line.
-pub fn lay(
-    alloc: Global,
-    file: &str,
-    text: &[u8],
-    texts: &mut Texts,
-) -> Result<Layout, LineFault>
+pub fn lay(alloc: Global, file: &str, text: &[u8], texts: &mut Texts) -> Result<Layout, LineFault>
     requires { AreSaid file.now [] texts.old }
     ensures laid { IfOk result (λ y. AreLaid (lines_of text.now) (record { layout = layout_of y; fault = None })) }
     ensures sound { IfOk result IsSound }

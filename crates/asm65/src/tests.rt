@@ -5,6 +5,7 @@ ghost use Rattle.object65.specs.Objects.{is_good_object};
 
 mod faults;
 mod forms;
+mod laying;
 mod limits;
 mod objects;
 mod operators;

@@ -56,12 +56,7 @@ fn placed(standing: &Standing, line: u32, statement: Statement, len: u32) -> Lai
 }
 
 /// A statement with what it lies by behind others, or its first fault there.
-fn lay(
-    alloc: Global,
-    layout: &Layout,
-    line: u32,
-    statement: Statement,
-) -> Result<Laid, AsmFault>
+fn lay(alloc: Global, layout: &Layout, line: u32, statement: Statement) -> Result<Laid, AsmFault>
     requires { IsSound layout.now }
     ensures measured { Gives is_outside (λ l. l.length) result (measured (all_of layout.now.statements) (standing_of layout.now.standing) (stated_of statement)) }
     ensures laid { IfOk result (λ l. length_of (all_of layout.now.statements) (spot_of (standing_of layout.now.standing)) (own_size (standing_of layout.now.standing)) (stated_of statement) ≡ l.length

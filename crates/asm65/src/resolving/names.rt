@@ -7,8 +7,9 @@ ghost use Rattle.indexmap.specs.IndexMap.{get_by};
 ghost use Rattle.asm65.specs.Laid.{defined_name};
 ghost use Rattle.asm65.specs.Names.{imports_of, with_new};
 ghost use Rattle.asm65.specs.Resolving.{AreNames, Defines, Grows};
-ghost use Rattle.asm65.specs.Views.{stated_of};
+ghost use Rattle.asm65.specs.Views.{all_of, stated_of};
 
+use crate::laid::Laid;
 use crate::language::Statement;
 use indexmap::{IndexMap, IndexSet};
 use std::alloc::{AllocError, Global};
@@ -72,6 +73,17 @@ impl Names {
         }
         Ok(names)
     }
+}
+
+/// The names of statements.
+pub fn names_of(alloc: Global, all: &[Laid]) -> Result<Names, AllocError>
+    ensures { IfOk result (λ n. AreNames (all_of all.now) n) }
+{
+    let mut names = Names::new(alloc);
+    for i in 0..all.len() {
+        names.add(alloc, i, &all[i].statement)?;
+    }
+    Ok(names)
 }
 
 fn name_at(names: &IndexSet<Vec<u8>>, place: usize) -> &[u8]

@@ -3,7 +3,7 @@
 use crate::AsmFault;
 use crate::laid::{Laid, Spot};
 use crate::language::Statement;
-use crate::resolving::{Module, Names, find_defined, find_norm, no_forms};
+use crate::resolving::{Module, find_defined, find_norm, names_of, no_forms};
 use object65::{Node, Norm};
 use std::alloc::{AllocError, Global};
 use std::test::Fail;
@@ -49,14 +49,6 @@ fn at(statement: Statement, offset: u32) -> Laid {
 fn constant(alloc: Global, text: &[u8], value: Expr) -> Result<Laid, AllocError> {
     let name = bytes(alloc, text)?;
     Ok(at(Statement::Constant { name, value }, 0))
-}
-
-fn names_of(alloc: Global, all: &[Laid]) -> Result<Names, AllocError> {
-    let mut names = Names::new(alloc);
-    for i in 0..all.len() {
-        names.add(alloc, i, &all[i].statement)?;
-    }
-    Ok(names)
 }
 
 /// The form of an expression behind these statements.

@@ -1,4 +1,4 @@
-use Rattle.std.proofs.Common.{◌≡◌, ◌≤◌, ◌*◌, length}
+use Rattle.std.proofs.Common.{◌≤◌, ◌*◌, length}
 use Rattle.asm65.specs.Lines.{line_limit}
 use Rattle.asm65.specs.Sounds.{AreSaid, IsSound}
 use Rattle.asm65.specs.Views.{all_of, layout_of}

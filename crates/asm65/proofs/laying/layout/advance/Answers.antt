@@ -1,4 +1,4 @@
-use Rattle.std.proofs.Common.{◌≡◌, ◌+◌, ℕ, [], ap, ◌∙◌, sym}
+use Rattle.std.proofs.Common.{◌+◌, ℕ, [], ap, ◌∙◌, sym}
 use Rattle.object65.specs.Objects.{section_limit}
 use Rattle.asm65.specs.Laid.{opens_region}
 use Rattle.asm65.specs.Layout.{Standing, grown_at}

@@ -1,4 +1,4 @@
-use Rattle.std.proofs.Common.{arith, rules}
+use Rattle.std.proofs.Common.{rules}
 use Rattle.asm65.proofs.Segments.{grown_is, segment_or}
 use Rattle.asm65.proofs.laying.layout.grow.Goals as goal
 

@@ -1,4 +1,3 @@
-use Rattle.std.proofs.Common.{Option}
 use Rattle.std.specs.Prelude.{option_map}
 use Rattle.syntax65.specs.Tokens.{lexemes}
 use Rattle.asm65.specs.Views.{stated_of}

@@ -1,6 +1,5 @@
-use Rattle.std.proofs.Common.{◌≡◌, ◌<◌, nat_lt, false, arith, refl, ◌∙◌, sym}
+use Rattle.std.proofs.Common.{◌≡◌, nat_lt, false, arith, refl}
 use Rattle.std.proofs.lemmas.Bool.Decides.{nat_tests}
-use Rattle.asm65.specs.Sizes.{mode_of}
 use Rattle.asm65.proofs.laying.sizes.instruction_len.Goals as goal
 
 pub returns-else-room-eq0-clause-fitted : goal.returns-else-room-eq0-clause-fitted

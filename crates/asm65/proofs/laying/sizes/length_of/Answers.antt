@@ -1,6 +1,4 @@
-use Rattle.std.proofs.Common.{map, sym}
-use Rattle.asm65.specs.Language.{values}
-use Rattle.asm65.specs.Views.{item_of}
+use Rattle.std.proofs.Common.{sym}
 use Rattle.asm65.proofs.laying.sizes.length_of.Goals as goal
 
 pub returns-in-Values-clause-fitted : goal.returns-in-Values-clause-fitted

@@ -1,6 +1,4 @@
-use Rattle.std.proofs.Common.{◌≡◌, ◌+◌, ◌<◌, arith, length, map, drop, sum_by}
-use Rattle.asm65.specs.Sizes.{item_len}
-use Rattle.asm65.specs.Views.{item_of}
+use Rattle.std.proofs.Common.{arith}
 use Rattle.asm65.proofs.Taking.{items_left, none_left}
 use Rattle.asm65.proofs.laying.sizes.room_behind.Goals as goal
 

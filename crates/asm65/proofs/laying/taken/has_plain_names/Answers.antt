@@ -1,4 +1,4 @@
-use Rattle.std.proofs.Common.{◌≡◌, ap, ◌∙◌, sym}
+use Rattle.std.proofs.Common.{ap, ◌∙◌, sym}
 use Rattle.std.specs.List.{list_all}
 use Rattle.asm65.specs.LineFaults.{trees_of}
 use Rattle.asm65.specs.Taken.{is_plain, is_plain_item}

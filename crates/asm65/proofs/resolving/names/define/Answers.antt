@@ -1,4 +1,4 @@
-use Rattle.std.proofs.Common.{◌≡◌, true, sym, ap, ◌∙◌, Vec, Global, List, ℕ, Some}
+use Rattle.std.proofs.Common.{◌≡◌, sym, ap, ◌∙◌, Vec, Global, ℕ}
 use Rattle.std.specs.Str.{bytes_eq}
 use Rattle.std.specs.Map.{lookup}
 use Rattle.indexmap.specs.IndexMap.{get_by}

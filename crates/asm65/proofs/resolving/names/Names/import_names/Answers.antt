@@ -1,4 +1,4 @@
-use Rattle.std.proofs.Common.{◌≡◌, ◌∙◌, ap, sym, ◌++◌, ◌∷◌, [], map, take, arith}
+use Rattle.std.proofs.Common.{◌∙◌, ap, ◌++◌, ◌∷◌, [], map, take}
 use Rattle.asm65.proofs.NameTables.{one_taken}
 use Rattle.asm65.proofs.resolving.names.Names.import_names.Goals as goal
 

@@ -10,7 +10,7 @@ use Rattle.asm65.specs.declared.refusal.LineFault.{LineFault}
 use Rattle.asm65.specs.Contents.{content_of}
 use Rattle.asm65.specs.Evaluating.{Within, unchanged}
 use Rattle.asm65.specs.Faults.{is_outside, is_outside_line}
-use Rattle.asm65.specs.Gathering.{at_line}
+use Rattle.asm65.specs.Lines.{at_line}
 use Rattle.asm65.specs.Laid.{Laid}
 use Rattle.asm65.specs.Module.{asserted_at, asserted_from, contents_from, more, sound_from}
 use Rattle.asm65.specs.Taken.{AreTaken, is_taken}

@@ -17,7 +17,7 @@ use Rattle.asm65.specs.declared.fault.AsmFault.TheVariants.{Source}
 use Rattle.asm65.specs.declared.fault.SourceFault.TheVariants.{Lex, TooManyLines}
 use Rattle.asm65.specs.declared.refusal.LineFault.{LineFault}
 use Rattle.asm65.specs.Faults.{is_outside, is_outside_line}
-use Rattle.asm65.specs.Gathering.{at_line}
+use Rattle.asm65.specs.Lines.{at_line}
 use Rattle.asm65.specs.Language.{Stated, label, unnamed_label}
 use Rattle.asm65.specs.Laying.{AreLaid, IsLaid, IsLine, IsReading, IsRest, IsText, Reached, with_label, with_statement}
 use Rattle.asm65.specs.Layout.{Layout}
@@ -25,7 +25,7 @@ use Rattle.asm65.specs.Lines.{line_limit, lines_of}
 use Rattle.asm65.specs.Parsing.{IsStatement, is_colon, label_before, label_of, named_label, or_all, with_rest}
 use Rattle.asm65.specs.Sounds.{AreSaid, IsRefused, is_silent}
 use Rattle.asm65.specs.declared.texts.Texts.{Texts}
-use Rattle.asm65.proofs.Gathered.{unless_then}
+use Rattle.asm65.proofs.Steps.{unless_then}
 
 -- ---- A label says nothing.
 

@@ -3,12 +3,9 @@ pub mod OneStatements
 pub mod Naming
 pub mod Sounding
 pub mod Shown
-pub mod Numbered
 pub mod Sources
-pub mod Sizes
-pub mod Gathered
+pub mod Steps
 pub mod OneAnswers
-pub mod Joins
 pub mod Parts
 pub mod Each
 pub mod NameTables

@@ -1,5 +1,5 @@
 -- Assembling has one answer at most.
-use Rattle.std.proofs.Common.{◌≡◌, ◌∙◌, ℕ, ◌+◌, List, [], ◌∷◌, Option, sym, ap, subst}
+use Rattle.std.proofs.Common.{◌≡◌, ◌∙◌, ℕ, ◌+◌, List, [], ◌∷◌, sym, subst}
 use Rattle.std.specs.Prelude.{Result, Ok, Err}
 use Rattle.std.specs.FinMap.{get}
 use Rattle.syntax65.specs.Outcome.{◌>>=◌, First}
@@ -9,8 +9,8 @@ use Rattle.syntax65.proofs.Readings.{one_reading}
 use Rattle.asm65.specs.declared.refusal.AsmRefusal.{AsmRefusal}
 use Rattle.asm65.specs.declared.refusal.LineFault.{LineFault}
 use Rattle.asm65.specs.Assembly.{Assembled, Job, IsAssembled, IsAssembledFrom, outcome_of, silent, source_in}
-use Rattle.asm65.specs.Gathering.{at_line, counted, tokens_in}
-use Rattle.asm65.specs.Laying.{AreLaid, Behind, IsLaid, IsLine, IsRest, IsText, Reached, open_fault, with_label, with_statement}
+use Rattle.asm65.specs.Lines.{at_line, counted, tokens_in}
+use Rattle.asm65.specs.Laying.{AreLaid, Behind, IsLaid, IsLine, IsRest, IsText, Reached, with_label, with_statement}
 use Rattle.asm65.specs.Layout.{Layout, nothing_laid}
 use Rattle.asm65.specs.Lines.{lines_of}
 use Rattle.asm65.specs.Parsing.{IsStatement, label_of}
@@ -26,7 +26,7 @@ line_one y line ts = first_one (with_label y line (label_of ts).0) (λ z s. IsRe
 text_one : (y : Layout) (line : ℕ) (text : List ℕ) → One (IsText y line text)
 text_one y line text =
     first_one (counted line) (λ u. λ s. (tokens : _) × IsRead text tokens × First (tokens_in tokens) (IsLine y line) s)
-        (λ u. followed_one (IsRead text) tokens_in (IsLine y line) (one_reading text) (line_one y line))
+    (λ u. followed_one (IsRead text) tokens_in (IsLine y line) (one_reading text) (line_one y line))
 
 behind_one : (y : Layout) (Next : Layout → Reached → Type 0) (q : Result Layout LineFault) → ((z : Layout) → One (Next z)) → One (Behind y Next q)
 behind_one y Next (Ok z) one r s h k = one z r s h k
@@ -37,7 +37,7 @@ laid_one y last [] r s h k = h ∙ sym k
 laid_one y last (text ∷ texts) r s h k =
     let same = text_one y (last + 1) text k.0 h.0 k.1 h.1 in
     behind_one y (λ z t. IsLaid z (last + 1) texts t) (at_line (last + 1) h.0) (λ z. laid_one z (last + 1) texts) r s h.2
-        (subst (λ q. Behind y (λ z t. IsLaid z (last + 1) texts t) (at_line (last + 1) q) s) same k.2)
+    (subst (λ q. Behind y (λ z t. IsLaid z (last + 1) texts t) (at_line (last + 1) q) s) same k.2)
 
 from_one : (file : List ℕ) (text : Result (List ℕ) AsmRefusal) → One (IsAssembledFrom file text)
 from_one file (Err e) = same_one (silent e)

@@ -7,7 +7,6 @@ use Rattle.syntax65.specs.Outcome.{◌>>=◌, First}
 use Rattle.syntax65.specs.Tokens.{Lexeme}
 use Rattle.syntax65.specs.Trees.{Tree}
 use Rattle.syntax65.specs.Words.{is_reserved}
-use Rattle.syntax65.specs.declared.expressions.fault.ExprFault.{ExprFault}
 use Rattle.syntax65.specs.declared.instructions.names.Mnemonic.{Mnemonic}
 use Rattle.syntax65.specs.declared.lexing.tokens.AddressSize.{AddressSize}
 use Rattle.syntax65.specs.declared.lexing.tokens.TokenKind.{TokenKind}
@@ -16,8 +15,6 @@ use Rattle.syntax65.specs.declared.lexing.tokens.Mark.TheVariants as mark
 use Rattle.syntax65.proofs.Parses.{one_parse}
 use Rattle.object65.specs.declared.object.Width.{Width}
 use Rattle.asm65.specs.declared.fault.AsmFault.{AsmFault}
-use Rattle.asm65.specs.declared.language.Index.{Index}
-use Rattle.asm65.specs.declared.reading.words.Amount.{Amount}
 use Rattle.asm65.specs.declared.reading.words.Directive.{Directive}
 use Rattle.asm65.specs.declared.reading.words.Directive.TheVariants as directive
 use Rattle.asm65.specs.declared.reading.words.Elements.{Elements}
@@ -73,7 +70,7 @@ each_one : {A B : Type 0} (Is : A → Result B AsmFault → Type 0) → ((x : A)
 each_one Is one [] r s h k = h ∙ sym k
 each_one {A} {B} Is one (x ∷ xs) r s h k =
     followed_one (Is x) (λ q. q) (λ (y : B) (t : Result (List B) AsmFault). (rest : Result (List B) AsmFault) × p.EachIs Is xs rest × (t ≡ (rest >>= (λ ys. Ok (y ∷ ys)))))
-        (one x) (λ y. made_one (p.EachIs Is xs) (λ rest. rest >>= (λ ys. Ok (y ∷ ys))) (each_one Is one xs)) r s h k
+    (one x) (λ y. made_one (p.EachIs Is xs) (λ rest. rest >>= (λ ys. Ok (y ∷ ys))) (each_one Is one xs)) r s h k
 
 value_one : (ts : List Lexeme) → One (p.IsValue ts)
 value_one ts = then_one (p.IsExpression ts) (λ x. Ok (l.value x)) (expression_one ts)

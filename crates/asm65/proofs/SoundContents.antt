@@ -13,7 +13,7 @@ use Rattle.object65.proofs.Reached.{names_push}
 use Rattle.asm65.specs.declared.contents.Content.{Content}
 use Rattle.asm65.specs.declared.fault.AsmFault.{AsmFault}
 use Rattle.asm65.specs.Contents.{content_of, parts_of, said_of}
-use Rattle.asm65.specs.Gathering.{at_line}
+use Rattle.asm65.specs.Lines.{at_line}
 use Rattle.asm65.specs.Laid.{Laid, asks_section}
 use Rattle.asm65.specs.Language as l
 use Rattle.asm65.specs.Laws.{SoundContents}

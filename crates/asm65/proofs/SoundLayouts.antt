@@ -16,7 +16,7 @@ use Rattle.object65.specs.Objects.{are_names, section_limit}
 use Rattle.asm65.specs.declared.contents.Segment.{Segment}
 use Rattle.asm65.specs.declared.fault.AsmFault.{AsmFault}
 use Rattle.asm65.specs.declared.fault.AsmFault.TheVariants.{NotUnderstood, NoSuchForm, SectionTooLarge}
-use Rattle.asm65.specs.Gathering.{at_line, counted, tokens_in}
+use Rattle.asm65.specs.Lines.{at_line, counted, tokens_in}
 use Rattle.asm65.specs.Laid.{Laid, Spot, scope_name}
 use Rattle.asm65.specs.Language.{Operand, no_operand, accumulator, immediate, address, indirect, indirect_x, indirect_y, Stated, label, cheap_label, unnamed_label, instruction, reserve, align, file_part, segment, pop_segment}
 use Rattle.asm65.specs.Layout.{Layout, Standing, current_behind, grown_at, laid, layout_behind, multiple_of, nothing_laid, own_size, segment_at, segments_behind, spot_of}

@@ -1,7 +1,6 @@
 -- What lines say is sound: names of identifiers, and texts that are short enough.
-use Rattle.std.proofs.Common.{◌≡◌, ℕ, ◌+◌, ◌≤◌, ◌<◌, Bool, true, false, List, [], ◌∷◌, refl, sym, ap, subst, ◌∙◌, arith}
-use Rattle.std.specs.Prelude.{Result, Ok, Err, ◌++◌, nat_lt, nat_le, length, take, drop, codes, ◌==◌, ◌&&◌, ◌||◌, if◌then◌else◌, ⊤, None, Some, Option}
-use Rattle.std.specs.Char.{is_ascii_alphabetic, is_ascii_digit}
+use Rattle.std.proofs.Common.{◌≡◌, ℕ, ◌<◌, Bool, true, false, List, [], ◌∷◌, refl, sym, subst, ◌∙◌, arith}
+use Rattle.std.specs.Prelude.{Result, Ok, Err, ◌++◌, nat_le, length, codes, if◌then◌else◌, None, Some, Option}
 use Rattle.std.specs.List.{list_all, AllByRecursion}
 use Rattle.std.specs.Str.{bytes_eq}
 use Rattle.std.proofs.lemmas.Bool.Decides.{nat_tests}
@@ -12,11 +11,9 @@ use Rattle.syntax65.specs.Words.{is_reserved}
 use Rattle.syntax65.specs.declared.instructions.names.Mnemonic.{Mnemonic}
 use Rattle.syntax65.specs.Mnemonics.{mnemonic_of}
 use Rattle.syntax65.specs.declared.lexing.tokens.AddressSize.{AddressSize}
-use Rattle.syntax65.specs.declared.lexing.tokens.AddressSize.TheVariants as size
-use Rattle.syntax65.specs.declared.lexing.tokens.TokenKind.{TokenKind}
 use Rattle.syntax65.specs.declared.lexing.tokens.TokenKind.TheVariants as token
-use Rattle.object65.proofs.Goods.{and, left, right}
-use Rattle.object65.specs.Objects.{is_name, is_printed}
+use Rattle.object65.proofs.Goods.{and}
+use Rattle.object65.specs.Objects.{is_name}
 use Rattle.object65.specs.declared.object.Action.{Action}
 use Rattle.object65.specs.declared.object.Width.TheVariants.{Byte}
 use Rattle.asm65.specs.declared.fault.AsmFault.{AsmFault}
@@ -179,7 +176,7 @@ segment_sound : (ts : List Lexeme) (x : l.Stated) → good x ≡ p.segment_of ts
 segment_sound [] x h = cc
 segment_sound (t ∷ ts) x h =
     after (p.understood (p.quoted_in t)) (λ n. p.size_behind ts >>= (λ own. p.segment_named n own)) x
-        (λ n. after (p.size_behind ts) (λ own. p.segment_named n own) x (λ own. identifier_sound n own x (p.is_identifier n) refl)) h
+    (λ n. after (p.size_behind ts) (λ own. p.segment_named n own) x (λ own. identifier_sound n own x (p.is_identifier n) refl)) h
 
 short_words : (s words : List ℕ) (is : Bool) → nat_le (length s) 255 ≡ is → Ok words ≡ p.short s → length words < 256
 short_words s words true is h = let e : p.short s ≡ Ok s = rw is refl in let same : s ≡ words = cc in let few : length s < 256 = grind (arith, nat_tests) in subst (λ (w : List ℕ). length w < 256) same few

@@ -1,5 +1,5 @@
 -- What assembling a file gives.
-use Rattle.std.specs.Prelude.{◌≡◌, ℕ, nat_le, Bool, false, true, List, [], length, Option, Some, None, Result, Ok, Err, if◌then◌else◌}
+use Rattle.std.specs.Prelude.{◌≡◌, ℕ, nat_le, Bool, false, List, [], length, Option, Some, None, Result, Ok, Err, if◌then◌else◌}
 use Rattle.std.specs.FinMap.{get}
 use Rattle.syntax65.specs.Store.{Files}
 use Rattle.object65.specs.declared.object.Object.{Object}

@@ -7,7 +7,7 @@ use Rattle.syntax65.specs.declared.lexing.fault.LexFault.{LexFault}
 use Rattle.asm65.specs.declared.fault.AsmFault.{AsmFault}
 use Rattle.asm65.specs.declared.fault.AsmFault.TheVariants.{BadScope, SectionTooLarge}
 use Rattle.asm65.specs.declared.refusal.LineFault.{LineFault}
-use Rattle.asm65.specs.Gathering.{at_line, counted, tokens_in}
+use Rattle.asm65.specs.Lines.{at_line, counted, tokens_in}
 use Rattle.asm65.specs.Language.{Stated}
 use Rattle.asm65.specs.Laid.{Laid, Spot}
 use Rattle.asm65.specs.Layout.{Layout, Standing, layout_behind, nothing_laid, own_size, spot_of, standing_behind}

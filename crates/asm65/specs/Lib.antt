@@ -1,9 +1,5 @@
 pub mod Faults
 pub mod Lines
-pub mod Statements
-pub mod Gathering
-pub mod Objects
-pub mod Bytes
 pub mod Assembly
 pub mod Laws
 pub mod Language

@@ -1,5 +1,11 @@
--- The lines of a file.
-use Rattle.std.specs.Prelude.{ℕ, ◌-◌, Bool, false, nat_eq, ◌&&◌, List, [], ◌∷◌, length, take, slice_get, option_map, unwrap_or, if◌then◌else◌}
+-- The lines of a file, and faults that are found at one.
+use Rattle.std.specs.Prelude.{ℕ, ◌-◌, Bool, false, nat_eq, nat_le, ◌&&◌, List, [], ◌∷◌, length, take, slice_get, option_map, unwrap_or, Result, Ok, Err, if◌then◌else◌}
+use Rattle.syntax65.specs.Tokens.{Lexeme}
+use Rattle.syntax65.specs.declared.lexing.fault.LexFault.{LexFault}
+use Rattle.asm65.specs.declared.fault.AsmFault.{AsmFault}
+use Rattle.asm65.specs.declared.fault.AsmFault.TheVariants.{Source}
+use Rattle.asm65.specs.declared.fault.SourceFault.TheVariants.{Lex, TooManyLines}
+use Rattle.asm65.specs.declared.refusal.LineFault.{LineFault}
 
 -- LF
 abbrev pub is_line_end : ℕ → Bool
@@ -38,3 +44,17 @@ without_return line = if ends_in_return line then take (length line - 1) line el
 -- how many lines are read
 abbrev pub line_limit : ℕ
 line_limit = 1048576
+
+-- a fault is found at a line
+abbrev pub at_line : {A : Type 0} → ℕ → Result A AsmFault → Result A LineFault
+at_line line (Ok x) = Ok x
+at_line line (Err e) = Err (record { line = line; fault = e })
+
+-- there may be a line of this number
+abbrev pub counted : ℕ → Result (Unit {0}) AsmFault
+counted line = if nat_le line line_limit then Ok tt else Err (Source TooManyLines)
+
+-- a line's tokens, or its fault as the assembler's
+abbrev pub tokens_in : Result (List Lexeme) LexFault → Result (List Lexeme) AsmFault
+tokens_in (Ok ts) = Ok ts
+tokens_in (Err e) = Err (Source (Lex e))

@@ -8,7 +8,7 @@ use Rattle.object65.specs.declared.object.Action.TheVariants as action
 use Rattle.object65.specs.declared.object.Object.{Object}
 use Rattle.asm65.specs.declared.fault.AsmFault.{AsmFault}
 use Rattle.asm65.specs.declared.refusal.LineFault.{LineFault}
-use Rattle.asm65.specs.Gathering.{at_line}
+use Rattle.asm65.specs.Lines.{at_line}
 use Rattle.asm65.specs.declared.contents.Content.{Content}
 use Rattle.asm65.specs.Contents.{content_of}
 use Rattle.asm65.specs.Language.{Stated, assertion, says, warns}

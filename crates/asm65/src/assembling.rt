@@ -67,12 +67,7 @@ fn object_of_layout(
     let contents = evaluate(alloc, file, &whole, &mut states, err)?;
     let names = layout.names.import_names(alloc)?;
     let segments = layout.standing.segments.as_slice();
-    Ok(object_of(
-        alloc,
-        segments,
-        names.as_slice(),
-        contents.as_slice(),
-    )?)
+    Ok(object_of(alloc, segments, names.as_slice(), contents.as_slice())?)
 }
 
 /// The object of a text's statements, or the first fault; and what is said up to there.

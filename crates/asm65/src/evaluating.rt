@@ -19,9 +19,8 @@ ghost use Rattle.asm65.specs.Views.{all_of, laid_of, stated_of};
 
 use crate::AsmFault;
 use crate::contents::Content;
-use crate::gathering::at_line;
 use crate::laid::Laid;
-use crate::refusal::LineFault;
+use crate::refusal::{LineFault, at_line};
 use crate::resolving::{Module, State};
 use asking::asks_section;
 use parts::parts_of;

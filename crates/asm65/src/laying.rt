@@ -18,9 +18,8 @@ mod sizes;
 mod taken;
 
 use crate::contents::Segment;
-use crate::gathering::at_line;
 use crate::lines::first_line;
-use crate::refusal::LineFault;
+use crate::refusal::{LineFault, at_line};
 use crate::resolving::Names;
 use crate::texts::Texts;
 pub use layout::{Layout, Standing};

@@ -3,22 +3,18 @@
 
 mod assembling;
 mod assembly;
-mod building;
 mod contents;
 mod evaluating;
 mod fault;
-mod gathering;
 mod laid;
 mod language;
 pub mod laws;
 mod laying;
 mod lines;
 mod numbering;
-mod parsing;
 mod reading;
 mod refusal;
 mod resolving;
-mod statement;
 mod texts;
 
 pub use assembling::assemble;

@@ -2,6 +2,7 @@
 
 ghost use Rattle.std.specs.Prelude.{◌≡◌, None};
 ghost use Rattle.asm65.specs.declared.fault.AsmFault.TheVariants.{OutOfMemory};
+ghost use Rattle.asm65.specs.Lines.{at_line};
 
 use crate::AsmFault;
 use std::alloc::{AllocError, AllocFailed};
@@ -61,5 +62,15 @@ impl<T: Drop> From<AllocFailed<T>> for LineFault {
             line: 0,
             fault: AsmFault::OutOfMemory,
         }
+    }
+}
+
+/// A fault is found at a line.
+pub fn at_line<T>(line: u32, outcome: Result<T, AsmFault>) -> Result<T, LineFault>
+    ensures { result ≡ at_line line outcome }
+{
+    match outcome {
+        Ok(value) => Ok(value),
+        Err(fault) => Err(LineFault { line, fault }),
     }
 }

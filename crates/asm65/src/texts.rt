@@ -15,12 +15,7 @@ pub struct Texts {
 }
 
 /// Adds a warning at a line of a file.
-pub fn warn(
-    err: &mut Sequence<u8>,
-    file: &str,
-    line: u32,
-    words: &[u8],
-) -> Result<(), AllocError>
+pub fn warn(err: &mut Sequence<u8>, file: &str, line: u32, words: &[u8]) -> Result<(), AllocError>
     ensures { OnOk result (err.new ≡ err.old ++ warning_at file.now line words.now) }
 {
     let mut buffer = Buffer::new();

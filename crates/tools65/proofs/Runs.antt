@@ -105,7 +105,7 @@ assembled_as (Some m) new fo fn a out err out_old out_new err_old err_new status
 pub assembled_run : (known mid new : Option Files) (fo fm fn : ℕ) (a : Assembling) (out err : List ℕ) (r : Result Object AsmRefusal) (o : Outcome) (out_old out_new err_old err_new : Option (List ℕ)) (status : Status) → mid ≡ known → fm ≤ fn → PassesBy has_failed fo fm r → AssemblesWith a out err r o → IfSome known (λ m. Finds is_outside_refusal (λ x. IsAssembled m (record { source = a.source }) (record { result = x; out = out; err = err })) r) → IfSome mid (λ m. NoneFailed fm fn → Performs o m new out_old out_new err_old err_new status ⊎ StopsShort o (memory_line a.source) m new out_old out_new err_old err_new status) → IfSome known (λ m. NoneFailed fo fn → Ran (Assembles a) (memory_line a.source) m new out_old out_new err_old err_new status)
 assembled_run known mid new fo fm fn a out err r o out_old out_new err_old err_new status same later count comes finds performs =
     assembled_as known new fo fn a out err out_old out_new err_old err_new status
-        (computed_run (λ e. is_asm_memory e.fault) has_failed (memory_line a.source) (λ m x. IsAssembled m (record { source = a.source }) (record { result = x; out = out; err = err })) (AssemblesWith a out err) (asm_memory a out err) known mid new fo fm fn r o out_old out_new err_old err_new status same later count comes finds performs)
+    (computed_run (λ e. is_asm_memory e.fault) has_failed (memory_line a.source) (λ m x. IsAssembled m (record { source = a.source }) (record { result = x; out = out; err = err })) (AssemblesWith a out err) (asm_memory a out err) known mid new fo fm fn r o out_old out_new err_old err_new status same later count comes finds performs)
 
 link_memory : (l : Linking) (e : Refusal) (o : Outcome) → is_memory e ≡ true → o ≡ outcome_of l (Err e) → o ≡ failing memory_message
 link_memory l e o h is = is ∙ by_memory

@@ -22,10 +22,7 @@ pub fn join(alloc: Global, parts: &[&[u8]]) -> Result<Sequence<u8>, AllocError>
 pub fn file_message(alloc: Global, name: &str, words: &[u8]) -> Result<Sequence<u8>, AllocError>
     ensures { IfOk result (λ text. text ≡ file_message name.now words.now) }
 {
-    join(
-        alloc,
-        &[name.as_bytes(), b": Error: ", words, b"\n"],
-    )
+    join(alloc, &[name.as_bytes(), b": Error: ", words, b"\n"])
 }
 
 /// `name:line: Error: words`

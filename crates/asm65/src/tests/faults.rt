@@ -63,7 +63,10 @@ fn not_taken_so_far(rt: HostRuntime) -> Result<(), Fail> {
     for line in lines {
         let source = format!(in rt.alloc(); ".byte 256\n{line}")?;
         let found = refusal(rt.alloc(), source.as_bytes())?;
-        assert!(rt; found.as_str() == "b.s:2: statement not understood", "{line}");
+        assert!(rt;
+            found.as_str() == "b.s:2: statement not understood",
+            "{line}"
+        );
     }
     Ok(())
 }

@@ -152,11 +152,20 @@ fn bytes_of_sources(rt: HostRuntime) -> Result<(), Fail> {
             b"\x07\x04\x01\x12\x34\x34\x12\x41\x42\x43\x41\x00".as_slice(),
         ),
         (".byte ($FFFFFFFF + 1) >> 32", b"\x01".as_slice()),
-        (".dword $12345678\n.addr 1", b"\x78\x56\x34\x12\x01\x00".as_slice()),
+        (
+            ".dword $12345678\n.addr 1",
+            b"\x78\x56\x34\x12\x01\x00".as_slice(),
+        ),
         (".byte k + 1\nk = b * 2\nb := 5", b"\x0b".as_slice()),
-        ("s: .byte 0, * - s\n.byte * - s, e - s\ne:", b"\x00\x00\x02\x04".as_slice()),
+        (
+            "s: .byte 0, * - s\n.byte * - s, e - s\ne:",
+            b"\x00\x00\x02\x04".as_slice(),
+        ),
         ("h = *\n.byte 9\n.byte * - h", b"\x09\x01".as_slice()),
-        ("l: .byte <(l - l - 1), >$1234, ^$123456", b"\xff\x12\x12".as_slice()),
+        (
+            "l: .byte <(l - l - 1), >$1234, ^$123456",
+            b"\xff\x12\x12".as_slice(),
+        ),
     ];
     for (source, bytes) in cases {
         let Ok(object) = assembled(rt.alloc(), source.as_bytes())? else {

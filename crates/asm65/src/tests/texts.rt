@@ -6,7 +6,11 @@ use std::test::Fail;
 #[test]
 fn messages_and_warnings(rt: HostRuntime) -> Result<(), Fail> {
     let cases = [
-        (".out \"x\"\n.warning \"w\"\nnop", "x\n", "b.s:2: Warning: w\n"),
+        (
+            ".out \"x\"\n.warning \"w\"\nnop",
+            "x\n",
+            "b.s:2: Warning: w\n",
+        ),
         (
             ".assert 0, warning, \"late\"\n.warning \"early\"",
             "",
@@ -14,7 +18,11 @@ fn messages_and_warnings(rt: HostRuntime) -> Result<(), Fail> {
         ),
         (".assert 1, warning\n.assert l, error\nl:", "", ""),
         // Faults of lines come before assertions are looked at.
-        (".assert 0, warning\n.warning \"w\"\n.bogus", "", "b.s:2: Warning: w\n"),
+        (
+            ".assert 0, warning\n.warning \"w\"\n.bogus",
+            "",
+            "b.s:2: Warning: w\n",
+        ),
         // Other faults come in the order of statements, and so do assertions.
         (
             ".assert 0, warning, \"a\"\n.byte 256\n.assert 0, warning, \"b\"\n.out \"o\"",

@@ -102,7 +102,11 @@ pub fn refusal_message(
             fault.line,
             fault.to_string(alloc)?.as_bytes(),
         ),
-        Refusal::Object(fault) => file_message(alloc, line.input, fault.to_string(alloc)?.as_bytes()),
+        Refusal::Object(fault) => file_message(
+            alloc,
+            line.input,
+            fault.to_string(alloc)?.as_bytes(),
+        ),
         Refusal::Place(fault) => file_message(alloc, "ld65", fault.to_string(alloc)?.as_bytes()),
     }
 }

@@ -85,10 +85,7 @@ fn names_a_fault_with_its_line(rt: HostRuntime) -> Result<(), Fail> {
     let rows: [(&[u8], &str); 6] = [
         (b".byte 256", "b.s:1: Error: out of range\n"),
         (b"u = v\nv = u", "b.s:1: Error: circular definition\n"),
-        (
-            b".byte n1, 2\n",
-            "b.s:1: Error: undefined name: n1\n",
-        ),
+        (b".byte n1, 2\n", "b.s:1: Error: undefined name: n1\n"),
         (b"nop\n nop $\n", "b.s:2: Error: bad number\n"),
         (
             b"nop\r\n\r\n.bogus",

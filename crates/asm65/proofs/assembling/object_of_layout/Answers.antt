@@ -1,9 +1,7 @@
 use Rattle.std.proofs.Common.{◌≡◌, ◌∙◌, Ok, sym, subst, List, ℕ}
-use Rattle.std.specs.Prelude.{Result}
 use Rattle.asm65.specs.declared.contents.Content.{Content}
 use Rattle.asm65.specs.declared.contents.Segment.{Segment}
 use Rattle.asm65.specs.declared.laid.Laid.{Laid}
-use Rattle.asm65.specs.declared.refusal.LineFault.{LineFault}
 use Rattle.asm65.specs.Module.{contents_from}
 use Rattle.asm65.specs.Sound.{AreSound}
 use Rattle.asm65.specs.Views.{all_of, layout_of}

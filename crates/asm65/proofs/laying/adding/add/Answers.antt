@@ -2,7 +2,7 @@ use Rattle.std.proofs.lemmas.Result.{err_from_is_err_and}
 use Rattle.asm65.specs.Faults.{is_outside}
 use Rattle.asm65.specs.Views.{stated_of}
 use Rattle.asm65.proofs.Added.{add_refused, add_taken, next_fits, next_taken}
-use Rattle.asm65.proofs.Gathered.{unless_then}
+use Rattle.asm65.proofs.Steps.{unless_then}
 use Rattle.asm65.proofs.laying.adding.add.Goals as goal
 
 pub returns-in_err-next-clause-laid : goal.returns-in_err-next-clause-laid

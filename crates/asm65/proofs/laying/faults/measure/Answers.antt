@@ -3,7 +3,7 @@ use Rattle.std.proofs.lemmas.Result.{err_from_is_err_and}
 use Rattle.asm65.specs.Faults.{is_outside}
 use Rattle.asm65.specs.Layout.{own_size, spot_of}
 use Rattle.asm65.specs.Views.{all_of, standing_of, stated_of}
-use Rattle.asm65.proofs.Gathered.{unless_then}
+use Rattle.asm65.proofs.Steps.{unless_then}
 use Rattle.asm65.proofs.Taking.{gives_same, measured_new, measured_refused, measured_twice, taken_is, unless_so}
 use Rattle.asm65.proofs.laying.faults.measure.Goals as goal
 

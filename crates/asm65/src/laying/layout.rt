@@ -18,7 +18,7 @@ use syntax65::Sequence;
 const MAX_SECTION: u32 = 16_777_216;
 
 /// The multiple to which a statement aligns that asks for none.
-const FEWEST: u32 = 1;
+const UNALIGNED: u32 = 1;
 
 /// What stands behind statements. There are no scopes and no kept segments yet.
 #[derive(Drop)]
@@ -91,7 +91,7 @@ fn move_end(standing: &mut Standing, len: u32)
     ensures moved { standing_of standing.new ≡ record (standing_of standing.old) { segments = grown_at standing.old.segments.items standing.old.current len 1 } }
 {
     let place = standing.current as usize;
-    grow(&mut standing.segments, place, len, FEWEST);
+    grow(&mut standing.segments, place, len, UNALIGNED);
 }
 
 /// How many regions of cheap labels a statement opens.

@@ -74,12 +74,12 @@ fn largest_section(rt: HostRuntime) -> Result<(), Fail> {
     Ok(())
 }
 
-/// A word of the sum of so many imports, behind a prefix.
-fn sum_of_imports(alloc: Global, prefix: &[u8], count: usize) -> Result<Vec<u8>, AllocError> {
+/// A word of an import and so many more added to it, behind a prefix.
+fn sum_of_imports(alloc: Global, prefix: &[u8], more: usize) -> Result<Vec<u8>, AllocError> {
     let mut text = Vec::from_slice(alloc, b".import v\n.word ")?;
     text.extend_from_slice(prefix)?;
     text.extend_from_slice(b"(v")?;
-    add_times(&mut text, b"+v", count - 1)?;
+    add_times(&mut text, b"+v", more)?;
     text.push(b')')?;
     Ok(text)
 }
@@ -87,25 +87,24 @@ fn sum_of_imports(alloc: Global, prefix: &[u8], count: usize) -> Result<Vec<u8>,
 /// A sum of 128 imports has 255 nodes.
 #[test]
 fn largest_forms(rt: HostRuntime) -> Result<(), Fail> {
-    let text = sum_of_imports(rt.alloc(), b"", 128)?;
+    let text = sum_of_imports(rt.alloc(), b"", 127)?;
     assert!(rt; refusal(rt.alloc(), &text)?.is_empty());
-    let text = sum_of_imports(rt.alloc(), b"-", 128)?;
+    let text = sum_of_imports(rt.alloc(), b"-", 127)?;
     assert!(rt; refusal(rt.alloc(), &text)?.as_str() == "b.s:2: expression too large");
-    let text = sum_of_imports(rt.alloc(), b"", 129)?;
+    let text = sum_of_imports(rt.alloc(), b"", 128)?;
     assert!(rt; refusal(rt.alloc(), &text)?.as_str() == "b.s:2: expression too large");
     Ok(())
 }
 
-/// So many constants, each defined by the next one; the last is the first again, or a number.
-fn chain(alloc: Global, count: usize, last: &[u8]) -> Result<Vec<u8>, AllocError> {
+/// So many constants, each defined by the next one, and a last one.
+fn chain(alloc: Global, count: u32, last: &[u8]) -> Result<Vec<u8>, AllocError> {
     let mut text = Vec::from_slice(alloc, b".byte <c0\n")?;
-    for i in 1..count {
-        let before = i - 1;
-        let line = format!(in alloc; "c{before} = c{i} + 1\n")?;
+    for i in 0..count {
+        let next = i + 1;
+        let line = format!(in alloc; "c{i} = c{next} + 1\n")?;
         text.extend_from_slice(line.as_bytes())?;
     }
-    let end = count - 1;
-    let line = format!(in alloc; "c{end} = ")?;
+    let line = format!(in alloc; "c{count} = ")?;
     text.extend_from_slice(line.as_bytes())?;
     text.extend_from_slice(last)?;
     Ok(text)

@@ -124,9 +124,9 @@ fn assertions_for_the_linker(rt: HostRuntime) -> Result<(), Fail> {
     };
     let asserts = object.asserts.as_slice();
     assert_eq!(rt; asserts.len(), 2);
-    assert!(rt; asserts[0].text.as_slice() == b"no v");
+    assert!(rt; asserts[0].text.as_slice() == b"no v".as_slice());
     assert_eq!(rt; asserts[0].line, 2);
-    assert!(rt; asserts[1].text.as_slice() == b"assertion failed");
+    assert!(rt; asserts[1].text.as_slice() == b"assertion failed".as_slice());
     assert_eq!(rt; asserts[1].line, 4);
     Ok(())
 }

@@ -13,7 +13,7 @@ fn has_low_byte(alloc: Global, expression: &str, byte: u8) -> Result<bool, Alloc
     };
     Ok(match object.sections.as_slice() {
         [section] => match section.fragments.as_slice() {
-            [Fragment::Literal(bytes)] => bytes.as_slice() == [byte],
+            [Fragment::Literal(bytes)] => bytes.as_slice() == [byte].as_slice(),
             _ => false,
         },
         _ => false,

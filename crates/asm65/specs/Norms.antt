@@ -49,7 +49,7 @@ operand_meaning all p i s e = by (plain_name e)
   where
     by : Option (List ℕ) → Result Meaning AsmFault
     by None = Err NotUnderstood
-    by (Some n) = plain_meaning (take p all) s.path n
+    by (Some n) = plain_meaning (take p all) s.scope n
 
 -- The normal form of an expression at place i, names meaning what they do among the first p statements, where at most so
 -- many expressions stand one inside the other, each but the first as a constant of the one before.

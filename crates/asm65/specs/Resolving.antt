@@ -1,5 +1,5 @@
 -- What the tables of names and forms hold among all statements of a module, and attempts at forms by them.
-use Rattle.std.specs.Prelude.{◌≡◌, ℕ, ◌+◌, ◌≤◌, pos, List, [], ◌∷◌, length, position, slice_get, sum_by, Bool, false, true, Option, Some, None, Result, Ok, Err}
+use Rattle.std.specs.Prelude.{◌≡◌, ℕ, zero, ◌+◌, ◌≤◌, pos, List, [], ◌∷◌, length, position, slice_get, sum_by, Bool, false, true, Option, Some, None, Result, Ok, Err}
 use Rattle.std.specs.Str.{bytes_eq}
 use Rattle.indexmap.specs.IndexMap.{get_by}
 use Rattle.syntax65.specs.Outcome.{◌>>=◌}
@@ -27,7 +27,7 @@ use Rattle.asm65.specs.Views.{all_of}
 
 -- each name that is defined and each that is imported is found, and no other
 abbrev pub AreNames : List Laid → Names → Type 0
-AreNames all n = (name : List ℕ) → (get_by (λ k. bytes_eq name k.now) n.defined ≡ defined_in all [] name) × (position (λ k. bytes_eq name k.now) n.imports.keys ≡ import_key all name)
+AreNames all n = (name : List ℕ) → (get_by (λ k. bytes_eq name k.now) n.defined ≡ defined_in all zero name) × (position (λ k. bytes_eq name k.now) n.imports.keys ≡ import_key all name)
 
 abbrev pub IsModule : Module → Type 0
 IsModule m = AreNames (all_of m.statements.now) m.names

@@ -53,7 +53,7 @@ stated_of statement.Nothing = l.nothing
 
 -- there are no scopes yet
 abbrev pub spot_of : Spot → laid.Spot
-spot_of s = record { path = []; region = s.region; unnamed = s.unnamed; segment = s.segment; offset = s.offset }
+spot_of s = record { scope = 0; region = s.region; unnamed = s.unnamed; segment = s.segment; offset = s.offset }
 
 abbrev pub laid_of : Laid → laid.Laid
 laid_of x = record { stated = stated_of x.statement; line = x.line; spot = spot_of x.spot; length = x.length; size = x.size }

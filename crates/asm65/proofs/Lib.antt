@@ -20,3 +20,5 @@ pub mod Beginnings
 pub mod Keys
 pub mod Drafting
 pub mod Exporting
+pub mod Taking
+pub mod Segments

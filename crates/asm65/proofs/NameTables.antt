@@ -1,16 +1,20 @@
 -- What tables of names hold.
-use Rattle.std.proofs.Common.{◌≡◌, ℕ, zero, suc, ◌+◌, ◌-◌, ◌<◌, ◌≤◌, Bool, true, false, cond, List, [], ◌∷◌, ◌++◌, length, map, drop, get_or, position, Option, Some, None, refl, sym, ap, ◌∙◌, Bor, arith}
-use Rattle.std.specs.Prelude.{◌&&◌, ◌||◌, if◌then◌else◌}
+use Rattle.std.proofs.Common.{◌≡◌, ℕ, zero, suc, ◌+◌, ◌-◌, ◌<◌, ◌≤◌, Bool, true, false, cond, List, [], ◌∷◌, ◌++◌, length, map, drop, get_or, take, add-one, position, Option, Some, None, refl, sym, ap, ◌∙◌, subst, arith}
+use Rattle.std.specs.Prelude.{OnOk, slice_get, Result, Ok, Err, ◌&&◌, ◌||◌, if◌then◌else◌}
 use Rattle.std.specs.List.{list_any, position_from}
 use Rattle.std.specs.Str.{bytes_eq}
 use Rattle.std.proofs.lemmas.Iterator.Adapters.{position_from-zero}
 use Rattle.std.proofs.lemmas.List.{drop_all}
+use Rattle.std.proofs.lemmas.Slice.Eq.{bytes_eq-Decides}
+use Rattle.std.specs.Map.{lookup}
+use Rattle.indexmap.specs.IndexMap.{get_by, insert_entry}
 use Rattle.indexmap.specs.IndexSet.{insert_key}
-use Rattle.asm65.specs.declared.laid.Laid.{Laid}
 use Rattle.asm65.specs.Laid as laid
 use Rattle.asm65.specs.Laid.{defined_name}
-use Rattle.asm65.specs.Names.{same_path, is_named}
-use Rattle.asm65.specs.Views.{all_of, laid_of, stated_of}
+use Rattle.asm65.specs.Names.{defined_in, same_path, is_named, imports_of, imported_names, with_new}
+use Rattle.asm65.specs.Language.{Stated}
+use Rattle.asm65.specs.Resolving.{AreNames, Defines, Grows, or_here}
+use Rattle.asm65.specs.declared.resolving.names.Names.{Names}
 
 -- ---- Lists.
 
@@ -19,6 +23,14 @@ pub drop_item : {A : Type 0} (xs : List A) (i : ℕ) (x : A) → i < length xs �
 drop_item [] i x lt e = absurd (omega arith)
 drop_item (y ∷ xs) zero x lt e = ap (λ z. z ∷ xs) (sym e)
 drop_item (y ∷ xs) (suc i) x lt e = drop_item xs i x (omega arith) e
+
+pub one_taken : {A : Type 0} (xs : List A) (i : ℕ) (x : A) → slice_get xs i ≡ Some x → take i xs ++ x ∷ [] ≡ take (i + 1) xs
+one_taken {A = A} xs i x e = rw add-one (go xs i e)
+  where
+    go : (ys : List A) (j : ℕ) → slice_get ys j ≡ Some x → take j ys ++ x ∷ [] ≡ take (suc j) ys
+    go [] j e = absurd cc
+    go (y ∷ ys) zero e = let k : y ≡ x = cc in ap (λ z. z ∷ []) (sym k)
+    go (y ∷ ys) (suc j) e = ap (λ zs. y ∷ zs) (go ys j e)
 
 pub drop_mapped : {A B : Type 0} (f : A → B) (xs : List A) (i : ℕ) (x : A) → i < length xs → x ≡ get_or xs i x → drop i (map f xs) ≡ f x ∷ drop (suc i) (map f xs)
 drop_mapped f [] i x lt e = absurd (omega arith)
@@ -44,38 +56,109 @@ position_is p xs = sym (position_from-zero p xs)
 abbrev pub defines : List ℕ → laid.Laid → Bool
 defines n l = same_path l.spot.path [] && is_named n (defined_name l.stated)
 
-pub none_defined : (xs : List Laid) (name : List ℕ) → position_from (defines name) (length xs) (drop (length xs) (all_of xs)) ≡ None
-none_defined xs name = ap (position_from (defines name) (length xs)) (drop_all (length xs) (all_of xs) (let e : length (all_of xs) ≡ length xs = map_length laid_of xs in omega (arith, e)))
+-- the place of the first item in a list with one more
+pub position_more : {A : Type 0} (p : A → Bool) (xs : List A) (x : A) → position p (xs ++ x ∷ []) ≡ or_here (position p xs) (p x) (length xs)
+position_more {A = A} p xs x = position_from-zero p (xs ++ x ∷ []) ∙ more 0 xs ∙ ap (λ o. or_here o (p x) (0 + length xs)) (sym (position_from-zero p xs)) ∙ ap (or_here (position p xs) (p x)) (omega arith)
+  where
+    at_end : (b : Bool) (i n : ℕ) → i ≡ n → cond b (Some i) None ≡ or_here None b n
+    at_end true i n e = ap Some e
+    at_end false i n e = refl
+    item : (b : Bool) (i : ℕ) (o q : Option ℕ) (c : Bool) (n m : ℕ) → o ≡ or_here q c n → n ≡ m → cond b (Some i) o ≡ or_here (cond b (Some i) q) c m
+    item true i o q c n m e same = refl
+    item false i o q c n m e same = e ∙ ap (or_here q c) same
+    more : (i : ℕ) (ys : List A) → position_from p i (ys ++ x ∷ []) ≡ or_here (position_from p i ys) (p x) (i + length ys)
+    more i [] = at_end (p x) i (i + 0) (omega arith)
+    more i (y ∷ ys) = item (p y) i (position_from p (i + 1) (ys ++ x ∷ [])) (position_from p (i + 1) ys) (p x) (i + 1 + length ys) (i + suc (length ys)) (more (i + 1) ys) (omega arith)
 
-pub one_more : (xs : List Laid) (i : ℕ) (x : Laid) (name : List ℕ) (old new : Option ℕ) → 0 < i → i ≤ length xs → x ≡ get_or xs (i - 1) x → new ≡ cond (is_named name (defined_name (stated_of x.statement))) (Some (i - 1)) old → old ≡ position_from (defines name) i (drop i (all_of xs)) → new ≡ position_from (defines name) (i - 1) (drop (i - 1) (all_of xs))
-one_more xs zero x name old new pos le at e inv = absurd (omega arith)
-one_more xs (suc i) x name old new pos le at e inv =
-    let same : suc i - 1 ≡ i = omega arith in
-    let lt : i < length xs = omega arith in
-    let next : i + 1 ≡ suc i = omega arith in
-    rw same (
-    rw same at e
-    ∙ ap (cond (is_named name (defined_name (stated_of x.statement))) (Some i)) (inv ∙ ap (λ j. position_from (defines name) j (drop (suc i) (all_of xs))) (sym next))
-    ∙ sym (ap (position_from (defines name) i) (drop_mapped laid_of xs i x lt (rw same at at))))
+pub none_more : (o : Option ℕ) (place : ℕ) → o ≡ or_here o false place
+none_more (Some i) place = refl
+none_more None place = refl
+
+pub there_already : (o : Option ℕ) (b : Bool) (place i : ℕ) → (b ≡ true → o ≡ Some i) → o ≡ or_here o b place
+there_already (Some j) b place i h = refl
+there_already None true place i h = absurd (let e = h refl in cc)
+there_already None false place i h = refl
+
+-- what a table of names finds, with a new one
+pub lookup_insert : {K : Type 0} (f : K → List ℕ) (k : K) (v : ℕ) (other : List ℕ) (es : List (K × ℕ)) → lookup (λ j. bytes_eq (f k) (f j)) es ≡ None → lookup (λ j. bytes_eq other (f j)) (insert_entry (λ a b. bytes_eq (f a) (f b)) es k v) ≡ or_here (lookup (λ j. bytes_eq other (f j)) es) (bytes_eq other (f k)) v
+lookup_insert f k v other [] h = last (bytes_eq other (f k))
+  where
+    last : (b : Bool) → cond b (Some v) None ≡ or_here None b v
+    last true = refl
+    last false = refl
+lookup_insert f k v other (e ∷ es) h = by (bytes_eq (f k) (f e.0)) h (lookup_insert f k v other es)
+  where
+    go_on : (b c : Bool) (o n : Option ℕ) → n ≡ or_here o c v → cond b (Some e.1) n ≡ or_here (cond b (Some e.1) o) c v
+    go_on true c o n same = refl
+    go_on false c o n same = same
+    by : (b : Bool) → cond b (Some e.1) (lookup (λ j. bytes_eq (f k) (f j)) es) ≡ None → (lookup (λ j. bytes_eq (f k) (f j)) es ≡ None → lookup (λ j. bytes_eq other (f j)) (insert_entry (λ a b. bytes_eq (f a) (f b)) es k v) ≡ or_here (lookup (λ j. bytes_eq other (f j)) es) (bytes_eq other (f k)) v) → lookup (λ j. bytes_eq other (f j)) (if b then (e.0, v) ∷ es else e ∷ insert_entry (λ a b. bytes_eq (f a) (f b)) es k v) ≡ or_here (lookup (λ j. bytes_eq other (f j)) (e ∷ es)) (bytes_eq other (f k)) v
+    by true none rest = absurd cc
+    by false none rest = go_on (bytes_eq other (f e.0)) (bytes_eq other (f k)) (lookup (λ j. bytes_eq other (f j)) es) (lookup (λ j. bytes_eq other (f j)) (insert_entry (λ a b. bytes_eq (f a) (f b)) es k v)) (rest none)
+
+-- two names of the same bytes are one
+pub same_bytes : (xs ys : List ℕ) → bytes_eq xs ys ≡ true → xs ≡ ys
+same_bytes xs ys e = grind (arith, bytes_eq-Decides xs ys)
+
+pub bytes_swap : (xs ys : List ℕ) → bytes_eq xs ys ≡ bytes_eq ys xs
+bytes_swap xs ys = by (bytes_eq xs ys) (bytes_eq ys xs) (λ e. same_bytes xs ys e) (λ e. same_bytes ys xs e) (λ e. subst (λ zs. bytes_eq ys zs ≡ true) e (itself ys)) (λ e. subst (λ zs. bytes_eq xs zs ≡ true) e (itself xs))
+  where
+    itself : (zs : List ℕ) → bytes_eq zs zs ≡ true
+    itself zs = grind (arith, bytes_eq-Decides zs zs)
+    by : (b c : Bool) → (b ≡ true → xs ≡ ys) → (c ≡ true → ys ≡ xs) → (ys ≡ xs → c ≡ true) → (xs ≡ ys → b ≡ true) → b ≡ c
+    by true true f g h k = refl
+    by false false f g h k = refl
+    by true false f g h k = sym (h (sym (f refl)))
+    by false true f g h k = k (sym (g refl))
 
 -- ---- Names that are imported.
-
-any_mapped : (n : List ℕ) (known : List (Bor (List ℕ))) → list_any (λ k. bytes_eq n k.now) known ≡ list_any (λ k. bytes_eq n k) (map (λ k. k.now) known)
-any_mapped n [] = refl
-any_mapped n (k ∷ known) = ap (λ b. bytes_eq n k.now || b) (any_mapped n known)
-
-append_mapped : (n : Bor (List ℕ)) (known : List (Bor (List ℕ))) → map (λ k. k.now) (known ++ n ∷ []) ≡ map (λ k. k.now) known ++ n.now ∷ []
-append_mapped n [] = refl
-append_mapped n (k ∷ known) = ap (λ l. k.now ∷ l) (append_mapped n known)
 
 -- the names that are known after one more
 abbrev pub with_one : List (List ℕ) → List ℕ → List (List ℕ)
 with_one known n = if list_any (λ k. bytes_eq n k) known then known else known ++ n ∷ []
 
--- the keys of a set of names after one is put in
-pub insert_name : (known : List (Bor (List ℕ))) (n : Bor (List ℕ)) → map (λ k. k.now) (insert_key (λ a b. bytes_eq a.now b.now) known n) ≡ with_one (map (λ k. k.now) known) n.now
-insert_name known n = by (list_any (λ k. bytes_eq n.now k.now) known) ∙ ap (λ b. if b then map (λ k. k.now) known else map (λ k. k.now) known ++ n.now ∷ []) (any_mapped n.now known)
+module _ {K : Type 0} (f : K → List ℕ) where
+  any_mapped : (n : List ℕ) (known : List K) → list_any (λ k. bytes_eq n (f k)) known ≡ list_any (λ k. bytes_eq n k) (map f known)
+  any_mapped n [] = refl
+  any_mapped n (k ∷ known) = ap (λ b. bytes_eq n (f k) || b) (any_mapped n known)
+
+  append_mapped : (n : K) (known : List K) → map f (known ++ n ∷ []) ≡ map f known ++ f n ∷ []
+  append_mapped n [] = refl
+  append_mapped n (k ∷ known) = ap (λ l. f k ∷ l) (append_mapped n known)
+
+  -- the keys of a set of names after one is put in
+  pub insert_name : (known : List K) (n : K) → map f (insert_key (λ a b. bytes_eq (f a) (f b)) known n) ≡ with_one (map f known) (f n)
+  insert_name known n = by (list_any (λ k. bytes_eq (f n) (f k)) known) ∙ ap (λ b. if b then map f known else map f known ++ f n ∷ []) (any_mapped (f n) known)
+    where
+      by : (b : Bool) → map f (if b then known else known ++ n ∷ []) ≡ (if b then map f known else map f known ++ f n ∷ [])
+      by true = refl
+      by false = append_mapped n known
+
+-- the imports of statements and one more
+pub imported_more : (known : List (List ℕ)) (all : List laid.Laid) (l : laid.Laid) → imported_names known (all ++ l ∷ []) ≡ with_new (imported_names known all) (imports_of l.stated)
+imported_more known [] l = refl
+imported_more known (a ∷ all) l = imported_more (with_new known (imports_of a.stated)) all l
+
+-- ---- Statements that are added.
+
+pub on_ok : {A E P Q : Type 0} (r : Result A E) → (P → Q) → OnOk r P → OnOk r Q
+on_ok (Ok x) f h = f h
+on_ok (Err e) f h = tt
+
+-- both tables grow as the statements do
+pub grown : (old new : Names) (place : ℕ) (x : Stated) → Defines (λ n. get_by (λ k. bytes_eq n k.items) old.defined) (defined_name x) place (λ n. get_by (λ k. bytes_eq n k.items) new.defined) → map (λ k. k.items) new.imports.keys ≡ with_new (map (λ k. k.items) old.imports.keys) (imports_of x) → Grows old place x new
+grown old new place x finds known = λ all l long stated path names. record {
+  defined = λ name.
+    finds name
+    ∙ ap (λ o. or_here o (is_named name (defined_name x)) place) (names.defined name)
+    ∙ ap (or_here (defined_in all [] name) (is_named name (defined_name x))) (sym long)
+    ∙ ap (λ b. or_here (defined_in all [] name) b (length all)) (here l x name path stated)
+    ∙ sym (position_more (defines name) all l);
+  imports =
+    known
+    ∙ ap (λ ns. with_new ns (imports_of x)) names.imports
+    ∙ ap (λ y. with_new (imported_names [] all) (imports_of y)) (sym stated)
+    ∙ sym (imported_more [] all l);
+}
   where
-    by : (b : Bool) → map (λ k. k.now) (if b then known else known ++ n ∷ []) ≡ (if b then map (λ k. k.now) known else map (λ k. k.now) known ++ n.now ∷ [])
-    by true = refl
-    by false = append_mapped n known
+    here : (l : laid.Laid) (x : Stated) (name : List ℕ) → l.spot.path ≡ [] → l.stated ≡ x → is_named name (defined_name x) ≡ defines name l
+    here l x name path stated = ap (λ y. is_named name (defined_name y)) (sym stated) ∙ ap (λ p. same_path p [] && is_named name (defined_name l.stated)) (sym path)

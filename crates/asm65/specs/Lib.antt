@@ -23,3 +23,4 @@ pub mod Sound
 pub mod Module
 pub mod Resolving
 pub mod Drafts
+pub mod Sounds

@@ -1,5 +1,5 @@
 -- What the tables of names and forms hold among all statements of a module, and attempts at forms by them.
-use Rattle.std.specs.Prelude.{◌≡◌, ℕ, zero, ◌+◌, ◌≤◌, pos, List, [], ◌∷◌, length, position, slice_get, sum_by, Bool, false, true, Option, Some, None, Result, Ok, Err}
+use Rattle.std.specs.Prelude.{◌≡◌, ℕ, zero, ◌+◌, ◌≤◌, pos, List, [], ◌∷◌, ◌++◌, length, map, slice_get, sum_by, Bool, false, true, Option, Some, None, Result, Ok, Err, if◌then◌else◌}
 use Rattle.std.specs.Str.{bytes_eq}
 use Rattle.indexmap.specs.IndexMap.{get_by}
 use Rattle.syntax65.specs.Outcome.{◌>>=◌}
@@ -19,18 +19,32 @@ use Rattle.asm65.specs.declared.resolving.names.Names.{Names}
 use Rattle.asm65.specs.Faults.{is_memory}
 use Rattle.asm65.specs.Language.{Stated, constant}
 use Rattle.asm65.specs.Laid.{Laid, Spot}
-use Rattle.asm65.specs.Names.{Meaning, defined_at, imported_as, defined_in, import_key}
+use Rattle.asm65.specs.Names.{Meaning, defined_at, imported_as, defined_in, imported_names, is_named}
 use Rattle.asm65.specs.Norms.{address_of, folded, form_of_laid, norm, operand_meaning}
 use Rattle.asm65.specs.Views.{all_of}
 
 -- ---- Names.
 
--- each name that is defined and each that is imported is found, and no other
-abbrev pub AreNames : List Laid → Names → Type 0
-AreNames all n = (name : List ℕ) → (get_by (λ k. bytes_eq name k.now) n.defined ≡ defined_in all zero name) × (position (λ k. bytes_eq name k.now) n.imports.keys ≡ import_key all name)
+-- each name that is defined is found, at its first definition, and no other; each name that is imported is there once
+pub record AreNames (all : List Laid) (n : Names) : Type 0 where
+  pub defined : (name : List ℕ) → get_by (λ k. bytes_eq name k.items) n.defined ≡ defined_in all zero name
+  pub imports : map (λ k. k.items) n.imports.keys ≡ imported_names [] all
+
+-- names with those of one more statement behind all others, in the global scope
+abbrev pub Grows : Names → ℕ → Stated → Names → Type 0
+Grows old place x new = (all : List Laid) (l : Laid) → length all ≡ place → l.stated ≡ x → l.spot.scope ≡ zero → AreNames all old → AreNames (all ++ l ∷ []) new
+
+-- the place that is there, or this one
+abbrev pub or_here : Option ℕ → Bool → ℕ → Option ℕ
+or_here (Some i) is_here place = Some i
+or_here None is_here place = if is_here then Some place else None
+
+-- what is found of names, with one more name at this place, unless it is found already
+abbrev pub Defines : (List ℕ → Option ℕ) → Option (List ℕ) → ℕ → (List ℕ → Option ℕ) → Type 0
+Defines old name place new = (other : List ℕ) → new other ≡ or_here (old other) (is_named other name) place
 
 abbrev pub IsModule : Module → Type 0
-IsModule m = AreNames (all_of m.statements.now) m.names
+IsModule m = AreNames (all_of m.statements.now) m.names.now
 
 abbrev pub meaning_in : code.Meaning → Meaning
 meaning_in (Defined i) = defined_at i

@@ -4,7 +4,7 @@ use Rattle.std.specs.List.{list_all, AllByRecursion}
 use Rattle.syntax65.specs.Trees.{Tree, name, cheap, forward, backward, unary, binary}
 use Rattle.asm65.specs.declared.fault.AsmFault.{AsmFault}
 use Rattle.asm65.specs.declared.fault.AsmFault.TheVariants.{NotUnderstood, NoSuchForm}
-use Rattle.asm65.specs.Language.{Operand, no_operand, accumulator, Stated, label, constant, instruction, values, imports, exports, globals, forced, assertion, says, warns}
+use Rattle.asm65.specs.Language.{Item, value, text, Operand, no_operand, accumulator, Stated, label, constant, instruction, values, imports, exports, globals, forced, assertion, says, warns}
 use Rattle.asm65.specs.Laid.{Laid}
 use Rattle.asm65.specs.LineFaults.{first_fault, trees_of, when}
 
@@ -18,6 +18,10 @@ is_plain (backward n) = false
 is_plain (unary op e) = is_plain e
 is_plain (binary op e f) = is_plain e && is_plain f
 is_plain _ = true
+
+abbrev pub is_plain_item : Item → Bool
+is_plain_item (value e) = is_plain e
+is_plain_item (text bytes) = true
 
 abbrev pub is_kind_taken : Stated → Bool
 is_kind_taken (label n) = true

@@ -9,6 +9,7 @@ mod fault;
 mod gathering;
 mod laid;
 mod language;
+mod laying;
 pub mod laws;
 mod lines;
 mod numbering;

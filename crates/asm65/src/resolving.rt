@@ -8,4 +8,4 @@ mod names;
 pub use attempt::State;
 pub use finding::{find_defined, find_norm, no_forms};
 pub use meaning::Module;
-pub use names::names_of;
+pub use names::{Names, name_of};

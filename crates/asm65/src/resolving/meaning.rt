@@ -30,7 +30,7 @@ pub enum Meaning {
 #[derive(Drop)]
 pub struct Module<'a> {
     pub statements: &'a [Laid],
-    pub names: Names<'a>,
+    pub names: &'a Names,
 }
 
 /// The plain name that an operand is.

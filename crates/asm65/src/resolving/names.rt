@@ -1,15 +1,14 @@
 //! The names of a module.
 
-ghost use Rattle.std.specs.Prelude.{◌≡◌, IfOk, List, OnOk, [], map, position, ℕ};
+ghost use Rattle.std.specs.Prelude.{◌≡◌, ◌<◌, IfOk, OnOk, Some, [], length, map, position, slice_get};
 ghost use Rattle.std.specs.Option.{option_map};
 ghost use Rattle.std.specs.Str.{bytes_eq};
 ghost use Rattle.indexmap.specs.IndexMap.{get_by};
 ghost use Rattle.asm65.specs.Laid.{defined_name};
-ghost use Rattle.asm65.specs.Names.{defined_in, imported_names, imports_of, with_new};
-ghost use Rattle.asm65.specs.Resolving.{AreNames};
-ghost use Rattle.asm65.specs.Views.{all_of, stated_of};
+ghost use Rattle.asm65.specs.Names.{imports_of, with_new};
+ghost use Rattle.asm65.specs.Resolving.{AreNames, Defines, Grows};
+ghost use Rattle.asm65.specs.Views.{stated_of};
 
-use crate::laid::Laid;
 use crate::language::Statement;
 use indexmap::{IndexMap, IndexSet};
 use std::alloc::{AllocError, Global};
@@ -17,40 +16,76 @@ use syntax65::Sequence;
 
 /// The names of a module, all of whose statements stand in the global scope.
 #[derive(Drop)]
-pub struct Names<'a> {
+pub struct Names {
     /// The places of the statements that define names.
-    defined: IndexMap<&'a [u8], usize>,
+    defined: IndexMap<Vec<u8>, usize>,
     /// The imports in the order in which they were first named.
-    imports: IndexSet<&'a [u8]>,
+    imports: IndexSet<Vec<u8>>,
 }
 
-impl Names<'_> {
+impl Names {
+    /// The names of no statement.
+    pub fn new(alloc: Global) -> Self
+        ensures { AreNames [] result }
+    {
+        Names {
+            defined: IndexMap::new(alloc),
+            imports: IndexSet::new(alloc),
+        }
+    }
+
     /// The place of the statement that defines a name.
     pub fn place_of(&self, name: &[u8]) -> Option<usize>
-        ensures { result ≡ get_by (λ k. bytes_eq name.now k.now) self.now.defined }
+        ensures { result ≡ get_by (λ k. bytes_eq name.now k.items) self.now.defined }
     {
         self.defined.get(name).copied()
     }
 
     /// The place of a name among the imports.
     pub fn import_of(&self, name: &[u8]) -> Option<usize>
-        ensures { result ≡ position (λ k. bytes_eq name.now k.now) self.now.imports.keys }
+        ensures { result ≡ position (λ k. bytes_eq name.now k) (map (λ k. k.items) self.now.imports.keys) }
     {
         self.imports.get_index_of(name)
     }
+
+    /// Adds the names of the statement at a place, which stands behind all others.
+    pub fn add(
+        &mut self,
+        alloc: Global,
+        place: usize,
+        statement: &Statement,
+    ) -> Result<(), AllocError>
+        ensures { OnOk result (Grows self.old place (stated_of statement.now) self.new) }
+    {
+        add_definition(alloc, &mut self.defined, name_of(statement), place)?;
+        add_imports(alloc, &mut self.imports, imported(statement))
+    }
+
+    /// The names of the imports, in the order in which they were first named.
+    pub fn import_names(&self, alloc: Global) -> Result<Sequence<Sequence<u8>>, AllocError>
+        ensures { IfOk result (λ s. s ≡ map (λ k. k.items) self.now.imports.keys) }
+    {
+        let mut names = Sequence::new(alloc);
+        for place in 0..self.imports.len() {
+            let name = name_at(&self.imports, place);
+            names.push(Sequence::from_vec(Vec::from_slice(alloc, name)?))?;
+        }
+        Ok(names)
+    }
 }
 
-/// The names of statements.
-pub fn names_of<'a>(alloc: Global, all: &'a [Laid]) -> Result<Names<'a>, AllocError>
-    ensures { IfOk result (λ n. AreNames (all_of all.now) n) }
+fn name_at(names: &IndexSet<Vec<u8>>, place: usize) -> &[u8]
+    requires { place < length names.now.keys }
+    ensures { slice_get (map (λ k. k.items) names.now.keys) place ≡ Some result.now }
 {
-    let defined = definitions(alloc, all)?;
-    let imports = imports_among(alloc, all)?;
-    Ok(Names { defined, imports })
+    match names.get_index(place) {
+        Some(name) => name.as_slice(),
+        None => &[],
+    }
 }
 
 /// The name that a statement defines.
-fn name_of(statement: &Statement) -> Option<&[u8]>
+pub fn name_of(statement: &Statement) -> Option<&[u8]>
     ensures { option_map (λ n. n.now) result ≡ defined_name (stated_of statement.now) }
 {
     match statement {
@@ -61,18 +96,42 @@ fn name_of(statement: &Statement) -> Option<&[u8]>
     }
 }
 
-// Of two statements that define a name the first counts, so it comes last.
-fn definitions<'a>(alloc: Global, all: &'a [Laid]) -> Result<IndexMap<&'a [u8], usize>, AllocError>
-    ensures { IfOk result (λ m. (name : List ℕ) →
-        get_by (λ k. bytes_eq name k.now) m ≡ defined_in (all_of all.now) [] name) }
+fn place_in(defined: &IndexMap<Vec<u8>, usize>, name: &[u8]) -> Option<usize>
+    ensures { result ≡ get_by (λ k. bytes_eq name.now k.items) defined.now }
 {
-    let mut defined = IndexMap::new(alloc);
-    for i in (0..all.len()).rev() {
-        if let Some(name) = name_of(&all[i].statement) {
-            defined.insert(name, i)?;
+    defined.get(name).copied()
+}
+
+// Of two statements that define a name the first counts.
+fn define(
+    alloc: Global,
+    defined: &mut IndexMap<Vec<u8>, usize>,
+    name: &[u8],
+    place: usize,
+) -> Result<(), AllocError>
+    ensures { OnOk result (Defines (λ n. get_by (λ k. bytes_eq n k.items) defined.old) (Some name.now) place (λ n. get_by (λ k. bytes_eq n k.items) defined.new)) }
+{
+    match place_in(defined, name) {
+        Some(_) => {}
+        None => {
+            defined.insert(Vec::from_slice(alloc, name)?, place)?;
         }
     }
-    Ok(defined)
+    Ok(())
+}
+
+fn add_definition(
+    alloc: Global,
+    defined: &mut IndexMap<Vec<u8>, usize>,
+    name: Option<&[u8]>,
+    place: usize,
+) -> Result<(), AllocError>
+    ensures { OnOk result (Defines (λ n. get_by (λ k. bytes_eq n k.items) defined.old) (option_map (λ n. n.now) name.entry) place (λ n. get_by (λ k. bytes_eq n k.items) defined.new)) }
+{
+    match name {
+        Some(name) => define(alloc, defined, name, place),
+        None => Ok(()),
+    }
 }
 
 /// The names that a statement imports.
@@ -87,24 +146,15 @@ fn imported(statement: &Statement) -> &[Sequence<u8>]
     }
 }
 
-fn add_imports<'a>(
-    known: &mut IndexSet<&'a [u8]>,
-    names: &'a [Sequence<u8>],
+fn add_imports(
+    alloc: Global,
+    known: &mut IndexSet<Vec<u8>>,
+    names: &[Sequence<u8>],
 ) -> Result<(), AllocError>
-    ensures { OnOk result (map (λ k. k.now) known.new.keys ≡ with_new (map (λ k. k.now) known.old.keys) names.now) }
+    ensures { OnOk result (map (λ k. k.items) known.new.keys ≡ with_new (map (λ k. k.items) known.old.keys) names.now) }
 {
     for name in names {
-        known.insert(name.as_slice())?;
+        known.insert(Vec::from_slice(alloc, name.as_slice())?)?;
     }
     Ok(())
-}
-
-fn imports_among<'a>(alloc: Global, all: &'a [Laid]) -> Result<IndexSet<&'a [u8]>, AllocError>
-    ensures { IfOk result (λ s. map (λ k. k.now) s.keys ≡ imported_names [] (all_of all.now)) }
-{
-    let mut known = IndexSet::new(alloc);
-    for laid in all {
-        add_imports(&mut known, imported(&laid.statement))?;
-    }
-    Ok(known)
 }

@@ -3,7 +3,7 @@
 use crate::AsmFault;
 use crate::laid::{Laid, Spot};
 use crate::language::Statement;
-use crate::resolving::{Module, find_defined, find_norm, names_of, no_forms};
+use crate::resolving::{Module, Names, find_defined, find_norm, no_forms};
 use object65::{Node, Norm};
 use std::alloc::{AllocError, Global};
 use std::test::Fail;
@@ -51,6 +51,14 @@ fn constant(alloc: Global, text: &[u8], value: Expr) -> Result<Laid, AllocError>
     Ok(at(Statement::Constant { name, value }, 0))
 }
 
+fn names_of(alloc: Global, all: &[Laid]) -> Result<Names, AllocError> {
+    let mut names = Names::new(alloc);
+    for i in 0..all.len() {
+        names.add(alloc, i, &all[i].statement)?;
+    }
+    Ok(names)
+}
+
 /// The form of an expression behind these statements.
 fn form_of(
     alloc: Global,
@@ -60,7 +68,7 @@ fn form_of(
     let names = names_of(alloc, all)?;
     let whole = Module {
         statements: all,
-        names,
+        names: &names,
     };
     let mut states = no_forms(alloc, all)?;
     let spot = Spot {
@@ -160,9 +168,10 @@ fn first_faults(rt: HostRuntime) -> Result<(), Fail> {
 #[test]
 fn defined_forms(rt: HostRuntime) -> Result<(), Fail> {
     let all = statements(rt.alloc())?;
+    let names = names_of(rt.alloc(), all.as_slice())?;
     let whole = Module {
         statements: all.as_slice(),
-        names: names_of(rt.alloc(), all.as_slice())?,
+        names: &names,
     };
     let mut states = no_forms(rt.alloc(), all.as_slice())?;
     let Ok(form) = find_defined(rt.alloc(), &whole, &mut states, 1) else {

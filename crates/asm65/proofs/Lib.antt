@@ -22,3 +22,4 @@ pub mod Drafting
 pub mod Exporting
 pub mod Taking
 pub mod Segments
+pub mod Tables

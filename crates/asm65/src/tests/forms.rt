@@ -36,6 +36,7 @@ fn at(statement: Statement, offset: u32) -> Laid {
         statement,
         line: 1,
         spot: Spot {
+            scope: 0,
             region: 0,
             unnamed: 0,
             segment: 0,
@@ -54,7 +55,7 @@ fn constant(alloc: Global, text: &[u8], value: Expr) -> Result<Laid, AllocError>
 fn names_of(alloc: Global, all: &[Laid]) -> Result<Names, AllocError> {
     let mut names = Names::new(alloc);
     for i in 0..all.len() {
-        names.add(alloc, i, &all[i].statement)?;
+        names.add(alloc, i, &all[i])?;
     }
     Ok(names)
 }
@@ -72,6 +73,7 @@ fn form_of(
     };
     let mut states = no_forms(alloc, all)?;
     let spot = Spot {
+        scope: 0,
         region: 0,
         unnamed: 0,
         segment: 0,

@@ -23,3 +23,4 @@ pub mod Exporting
 pub mod Taking
 pub mod Segments
 pub mod Tables
+pub mod Scopes

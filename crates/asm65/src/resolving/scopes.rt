@@ -1,7 +1,7 @@
 //! Scopes, and what is found in them.
 
-ghost use Rattle.std.specs.Prelude.{◌≡◌, Some, take};
-ghost use Rattle.asm65.specs.Names.{defined_in, enclosing, first_found, inside, scope_from, scope_in, scopes_from};
+ghost use Rattle.std.specs.Prelude.{◌≡◌, Some, slice_get, take};
+ghost use Rattle.asm65.specs.Names.{defined_in, enclosing, first_found, inside, scope_at, scope_from, scope_in, scopes_from};
 ghost use Rattle.asm65.specs.Resolving.{IsModule};
 ghost use Rattle.asm65.specs.Views.{all_of};
 
@@ -12,6 +12,16 @@ use syntax65::Sequence;
 /// The number of the global scope.
 const GLOBAL: usize = 0;
 
+/// The scope in which a statement stands.
+fn scope_at(statements: &[Laid], place: usize) -> usize
+    ensures { result ≡ scope_at (slice_get (all_of statements.now) place) }
+{
+    match statements.get(place) {
+        Some(laid) => laid.spot.scope as usize,
+        None => GLOBAL,
+    }
+}
+
 /// The scope in which a scope was opened.
 fn enclosing(statements: &[Laid], scope: usize) -> usize
     ensures { result ≡ enclosing (all_of statements.now) scope }
@@ -19,10 +29,7 @@ fn enclosing(statements: &[Laid], scope: usize) -> usize
     if scope == GLOBAL {
         return GLOBAL;
     }
-    match statements.get(scope - 1) {
-        Some(laid) => laid.spot.scope as usize,
-        None => GLOBAL,
-    }
+    scope_at(statements, scope - 1)
 }
 
 /// The place of what a name means that is defined: in the innermost scope that defines it, from one outward.
@@ -37,7 +44,10 @@ pub fn defined_outward(whole: &Module<'_>, scope: usize, name: &[u8]) -> Option<
         if let Some(place) = whole.names.definition(scope, name) {
             return Some(place);
         }
-        if scope == GLOBAL || left == 0 {
+        if scope == GLOBAL {
+            return None;
+        }
+        if left == 0 {
             return None;
         }
         left -= 1;
@@ -60,9 +70,10 @@ fn scope_in(whole: &Module<'_>, place: usize, scope: usize, name: &[u8]) -> Opti
 fn before<'a>(statements: &'a [Laid], place: usize) -> &'a [Laid]
     ensures { all_of result.now ≡ take place (all_of statements.now) }
 {
-    match statements.get(..place) {
-        Some(before) => before,
-        None => statements,
+    if place < statements.len() {
+        &statements[..place]
+    } else {
+        statements
     }
 }
 
@@ -78,7 +89,10 @@ fn scope_outward(whole: &Module<'_>, place: usize, scope: usize, name: &[u8]) ->
         if let Some(inner) = scope_in(whole, place, scope, name) {
             return Some(inner);
         }
-        if scope == GLOBAL || left == 0 {
+        if scope == GLOBAL {
+            return None;
+        }
+        if left == 0 {
             return None;
         }
         left -= 1;

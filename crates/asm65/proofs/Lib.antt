@@ -24,3 +24,4 @@ pub mod Taking
 pub mod Segments
 pub mod Tables
 pub mod Scopes
+pub mod NameParts

@@ -141,8 +141,8 @@ fn scopes_in(parts: &[Sequence<u8>]) -> &[Sequence<u8>]
 fn last_in(parts: &[Sequence<u8>]) -> &[u8]
     ensures { result.now ≡ last_of parts.now }
 {
-    match parts.last() {
-        Some(last) => last.as_slice(),
+    match parts.split_last() {
+        Some((last, _)) => last.as_slice(),
         None => &[],
     }
 }

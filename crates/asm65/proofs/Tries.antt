@@ -2,7 +2,10 @@
 use Rattle.std.proofs.Common.{◌≡◌, ℕ, suc, ◌≤◌, refl, sym, ap, ◌∙◌, subst, List, [], ◌∷◌, length, Option, Some, None, slice_get, Result, Ok, Err, ◌⊎◌, inl, inr}
 use Rattle.std.specs.Prelude.{⊤}
 use Rattle.syntax65.specs.Outcome.{◌>>=◌}
-use Rattle.syntax65.specs.Trees.{Tree, number, here, name, cheap, forward, backward, unary, binary}
+use Rattle.syntax65.specs.Trees.{Tree, number, here, name, cheap, forward, backward, unary, binary, tree_of}
+use Rattle.syntax65.specs.declared.expressions.trees.Expr.{Expr}
+use Rattle.syntax65.specs.declared.expressions.trees.Expr.TheVariants as expr
+use Rattle.syntax65.specs.declared.expressions.trees.Name.{Name}
 use Rattle.object65.specs.Form.{Form}
 use Rattle.object65.specs.Folding.{fold1, fold2}
 use Rattle.asm65.specs.declared.fault.AsmFault.{AsmFault}
@@ -214,3 +217,12 @@ last_course all v (w ∷ ws) = last_course all (constant_course all w) ws
 pub attempt_last : (c : ℕ) (all : List Laid) (states : List State) → FoundBy c all states → (v : Course) (a : Result Form Stop) → IsAttempt c all states v a → (ws : List ℕ) → IsAttempt c all states (last_course all v ws) (tried_last states all a ws)
 attempt_last c all states h v a t [] = t
 attempt_last c all states h v a t (w ∷ ws) = attempt_last c all states h (constant_course all w) (tried_at states all w) (attempt_at c all states h w) ws
+
+-- ---- Operands.
+
+-- the attempt at an expression that is an operand
+pub operand_tried : (a : Tree → Result Form Stop) (s : Spot) (e : Expr) → ((x : Name) × (e ≡ expr.Name x)) ⊎ (((x : List ℕ) × (e ≡ expr.Cheap x)) ⊎ (((x : ℕ) × (e ≡ expr.Forward x)) ⊎ ((x : ℕ) × (e ≡ expr.Backward x)))) → a (tree_of e) ≡ tried_by a s (tree_of e)
+operand_tried a s e (inl (x, q)) = ap (λ z. a (tree_of z)) q ∙ sym (ap (λ z. tried_by a s (tree_of z)) q)
+operand_tried a s e (inr (inl (x, q))) = ap (λ z. a (tree_of z)) q ∙ sym (ap (λ z. tried_by a s (tree_of z)) q)
+operand_tried a s e (inr (inr (inl (x, q)))) = ap (λ z. a (tree_of z)) q ∙ sym (ap (λ z. tried_by a s (tree_of z)) q)
+operand_tried a s e (inr (inr (inr (x, q)))) = ap (λ z. a (tree_of z)) q ∙ sym (ap (λ z. tried_by a s (tree_of z)) q)

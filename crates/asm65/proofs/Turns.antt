@@ -8,7 +8,7 @@ use Rattle.asm65.specs.declared.fault.AsmFault.{AsmFault}
 use Rattle.asm65.specs.declared.fault.AsmFault.TheVariants.{Circular}
 use Rattle.asm65.specs.Language.{Stated, constant}
 use Rattle.asm65.specs.Laid.{Laid, Spot}
-use Rattle.asm65.specs.Names.{Meaning, defined_at, imported_as}
+use Rattle.asm65.specs.Names.{Meaning, defined_at, imported_as, meaning_of}
 use Rattle.asm65.specs.Norms.{folded, form_by, form_of_stated, form_of_laid, form_of_meaning, norm}
 
 -- the second is the first, unless the first is circular

@@ -6,6 +6,7 @@ ghost use Rattle.object65.specs.Objects.{is_good_object};
 mod faults;
 mod forms;
 mod limits;
+mod meanings;
 mod objects;
 mod statements;
 mod stores;

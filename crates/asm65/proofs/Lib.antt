@@ -37,3 +37,6 @@ pub mod Taking
 pub mod Segments
 pub mod Added
 pub mod LaidLines
+pub mod Tables
+pub mod Scopes
+pub mod NameParts

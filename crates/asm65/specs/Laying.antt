@@ -43,7 +43,7 @@ IsText y line text r =
 
 -- a scope that is open behind the last line
 abbrev pub open_fault : ℕ → Layout → Option LineFault
-open_fault last y = if is_open y.standing.path then Some (record { line = last; fault = BadScope }) else None
+open_fault last y = if is_open y.standing.scope then Some (record { line = last; fault = BadScope }) else None
 
 -- the statements up to the first fault of a line, and that fault, if there is one
 pub record Reached : Type 0 where

@@ -54,9 +54,8 @@ stated_of (statement.Out words) = l.says words
 stated_of (statement.Warning words) = l.warns words
 stated_of statement.Nothing = l.nothing
 
--- there are no scopes yet
 abbrev pub spot_of : Spot → laid.Spot
-spot_of s = record { path = []; region = s.region; unnamed = s.unnamed; segment = s.segment; offset = s.offset }
+spot_of s = record { scope = s.scope; region = s.region; unnamed = s.unnamed; segment = s.segment; offset = s.offset }
 
 abbrev pub laid_of : Laid → laid.Laid
 laid_of x = record { stated = stated_of x.statement; line = x.line; spot = spot_of x.spot; length = x.length; size = x.size }
@@ -64,9 +63,9 @@ laid_of x = record { stated = stated_of x.statement; line = x.line; spot = spot_
 abbrev pub all_of : List Laid → List laid.Laid
 all_of xs = map laid_of xs
 
--- there are no kept segments yet
+-- there are no scopes and no kept segments yet
 abbrev pub standing_of : Standing → layout.Standing
-standing_of w = record { path = []; region = w.region; unnamed = w.unnamed; segments = w.segments.items; current = w.current; kept = [] }
+standing_of w = record { scope = 0; region = w.region; unnamed = w.unnamed; segments = w.segments.items; current = w.current; kept = [] }
 
 abbrev pub layout_of : Layout → layout.Layout
 layout_of y = record { laid = all_of y.statements; standing = standing_of y.standing }

@@ -3,9 +3,11 @@
 use crate::language::Statement;
 use syntax65::AddressSize;
 
-/// Where a statement stands. There are no scopes yet.
+/// Where a statement stands.
 #[derive(Clone, Copy, Debug, PartialEq, Eq)]
 pub struct Spot {
+    /// The innermost open scope: 0 is the global one, any other one more than the place of the statement that opened it.
+    pub scope: u32,
     /// How many regions of cheap labels were opened before.
     pub region: u32,
     /// How many unnamed labels stand before.

@@ -4,6 +4,9 @@ mod attempt;
 mod finding;
 mod meaning;
 mod names;
+mod places;
+mod scopes;
+mod shown;
 
 pub use attempt::State;
 pub use finding::{find_defined, find_norm, no_forms};

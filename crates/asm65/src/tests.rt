@@ -7,6 +7,7 @@ mod faults;
 mod forms;
 mod laying;
 mod limits;
+mod meanings;
 mod objects;
 mod operators;
 mod statements;

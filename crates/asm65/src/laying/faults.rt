@@ -27,7 +27,7 @@ fn check_name(alloc: Global, names: &Names, statement: &Statement) -> Result<(),
     let Some(name) = name_of(statement) else {
         return Ok(());
     };
-    match names.place_of(name) {
+    match names.definition(0, name) {
         None => Ok(()),
         Some(_) => {
             let name = Vec::from_slice(alloc, name)?;

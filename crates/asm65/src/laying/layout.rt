@@ -56,6 +56,7 @@ impl Standing {
         ensures { laid_spot result ≡ spot_of (standing_of self.now) }
     {
         Spot {
+            scope: 0,
             region: self.region,
             unnamed: self.unnamed,
             segment: self.current,

@@ -3,7 +3,7 @@
 use crate::AsmFault;
 use crate::laid::{Laid, Spot};
 use crate::language::Statement;
-use crate::resolving::{Module, find_defined, find_norm, names_of, no_forms};
+use crate::resolving::{Module, Names, find_defined, find_norm, no_forms};
 use object65::{Node, Norm};
 use std::alloc::{AllocError, Global};
 use std::test::Fail;
@@ -36,6 +36,7 @@ fn at(statement: Statement, offset: u32) -> Laid {
         statement,
         line: 1,
         spot: Spot {
+            scope: 0,
             region: 0,
             unnamed: 0,
             segment: 0,
@@ -51,6 +52,14 @@ fn constant(alloc: Global, text: &[u8], value: Expr) -> Result<Laid, AllocError>
     Ok(at(Statement::Constant { name, value }, 0))
 }
 
+fn names_of(alloc: Global, all: &[Laid]) -> Result<Names, AllocError> {
+    let mut names = Names::new(alloc);
+    for i in 0..all.len() {
+        names.add(alloc, i, &all[i])?;
+    }
+    Ok(names)
+}
+
 /// The form of an expression behind these statements.
 fn form_of(
     alloc: Global,
@@ -64,6 +73,7 @@ fn form_of(
     };
     let mut states = no_forms(alloc, all)?;
     let spot = Spot {
+        scope: 0,
         region: 0,
         unnamed: 0,
         segment: 0,

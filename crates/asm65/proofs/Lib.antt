@@ -40,3 +40,6 @@ pub mod LaidLines
 pub mod Tables
 pub mod Scopes
 pub mod NameParts
+pub mod Growing
+pub mod GrowingForms
+pub mod Knowns

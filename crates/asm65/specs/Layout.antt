@@ -5,11 +5,11 @@ use Rattle.std.specs.Str.{bytes_eq}
 use Rattle.syntax65.specs.declared.lexing.tokens.AddressSize.{AddressSize}
 use Rattle.syntax65.specs.declared.lexing.tokens.AddressSize.TheVariants as size
 use Rattle.asm65.specs.declared.contents.Segment.{Segment}
-use Rattle.asm65.specs.Language.{Stated, align, segment, push_segment, pop_segment}
+use Rattle.asm65.specs.Language.{Stated, constant, align, segment, push_segment, pop_segment}
 use Rattle.asm65.specs.Laid.{Laid, Spot, opens_scope, closes_scope, opens_region, is_unnamed}
 use Rattle.asm65.specs.Names.{enclosing}
 use Rattle.asm65.specs.Norms.{constant_behind}
-use Rattle.asm65.specs.Sizes.{counted, length_of}
+use Rattle.asm65.specs.Sizes.{counted, length_of, size_of}
 
 -- the multiples to which a section can be aligned
 abbrev pub powers : List ℕ
@@ -94,10 +94,10 @@ spot_of w = record { scope = w.scope; region = w.region; unnamed = w.unnamed; se
 abbrev pub own_size : Standing → AddressSize
 own_size w = (segment_at w.segments w.current).size
 
--- The address size of what a statement defines. That of a constant is the segment's, as no operand of an instruction asks
--- for it so far.
+-- the address size of what a statement defines
 abbrev pub size_defined : List Laid → Spot → AddressSize → Stated → AddressSize
-size_defined before s own x = own
+size_defined before s own (constant n e) = size_of before s own e
+size_defined before s own _ = own
 
 abbrev pub laid : List Laid → Standing → ℕ → Stated → Laid
 laid before w line x =

@@ -1,5 +1,5 @@
 -- Statements without where they lie in memory.
-use Rattle.std.specs.Prelude.{[], List, map}
+use Rattle.std.specs.Prelude.{List, map, reverse}
 use Rattle.syntax65.specs.Trees.{tree_of}
 use Rattle.std.specs.Prelude.{option_map}
 use Rattle.asm65.specs.declared.language.Item.{Item}
@@ -11,7 +11,7 @@ use Rattle.asm65.specs.declared.language.Statement.TheVariants as statement
 use Rattle.asm65.specs.declared.laid.Laid.{Laid}
 use Rattle.asm65.specs.declared.laid.Spot.{Spot}
 use Rattle.asm65.specs.declared.laying.layout.Layout.{Layout}
-use Rattle.asm65.specs.declared.laying.layout.Standing.{Standing}
+use Rattle.asm65.specs.declared.laying.standing.Standing.{Standing}
 use Rattle.asm65.specs.Language as l
 use Rattle.asm65.specs.Laid as laid
 use Rattle.asm65.specs.Layout as layout
@@ -63,9 +63,9 @@ laid_of x = record { stated = stated_of x.statement; line = x.line; spot = spot_
 abbrev pub all_of : List Laid → List laid.Laid
 all_of xs = map laid_of xs
 
--- there are no scopes and no kept segments yet
+-- the segments that are kept stand with the last one last
 abbrev pub standing_of : Standing → layout.Standing
-standing_of w = record { scope = 0; region = w.region; unnamed = w.unnamed; segments = w.segments.items; current = w.current; kept = [] }
+standing_of w = record { scope = w.scope; region = w.region; unnamed = w.unnamed; segments = w.segments.items; current = w.current; kept = reverse w.kept.items }
 
 abbrev pub layout_of : Layout → layout.Layout
 layout_of y = record { laid = all_of y.statements; standing = standing_of y.standing }

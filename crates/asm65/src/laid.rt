@@ -1,7 +1,7 @@
 //! Statements with what they lie by.
 
 use crate::language::Statement;
-use syntax65::AddressSize;
+use syntax65::{AddressSize, Mode};
 
 /// Where a statement stands.
 #[derive(Clone, Copy, Debug, PartialEq, Eq)]
@@ -18,6 +18,16 @@ pub struct Spot {
     pub offset: u32,
 }
 
+/// What is settled of a statement at its line.
+#[derive(Clone, Copy, Debug, PartialEq, Eq)]
+pub enum Settled {
+    Nothing,
+    /// The addressing form of an instruction.
+    Form(Mode),
+    /// The byte that fills its room.
+    Byte(u8),
+}
+
 /// A statement with what it lies by.
 #[derive(Debug, Drop)]
 pub struct Laid {
@@ -29,4 +39,5 @@ pub struct Laid {
     pub length: u32,
     /// The address size of what it defines: that of a constant's expression at its line, or of the segment.
     pub size: AddressSize,
+    pub settled: Settled,
 }

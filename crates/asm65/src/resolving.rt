@@ -2,6 +2,7 @@
 
 mod attempt;
 mod finding;
+mod known;
 mod meaning;
 mod names;
 mod places;
@@ -9,6 +10,7 @@ mod scopes;
 mod shown;
 
 pub use attempt::State;
+pub use known::Known;
 pub use finding::{find_defined, find_norm, no_forms};
 pub use meaning::Module;
 pub use names::{Names, name_of, names_of};

@@ -20,58 +20,13 @@ const MAX_SECTION: u32 = 16_777_216;
 /// The multiple to which a statement aligns that asks for none.
 const UNALIGNED: u32 = 1;
 
-/// What stands behind statements. There are no scopes and no kept segments yet.
-#[derive(Drop)]
-pub struct Standing {
-    /// How many regions of cheap labels were opened.
-    pub region: u32,
-    /// How many unnamed labels stand before.
-    pub unnamed: u32,
-    /// The segments in the order in which they were first named.
-    pub segments: Vec<Segment>,
-    /// The place of the segment in which the next statement stands.
-    pub current: u32,
-}
-
 /// Statements with what they lie by, their names, and what stands behind them.
 #[derive(Drop)]
 pub struct Layout {
     pub statements: Sequence<Laid>,
     pub names: Names,
+    pub known: Known,
     pub standing: Standing,
-}
-
-impl Standing {
-    /// The segment in which the next statement stands.
-    pub fn segment(&self) -> &Segment
-        requires { self.now.current < length self.now.segments.items }
-        ensures { result.now ≡ segment_at self.now.segments.items self.now.current }
-    {
-        &self.segments[self.current as usize]
-    }
-
-    /// Where the next statement stands.
-    pub fn spot(&self) -> Spot
-        requires { self.now.current < length self.now.segments.items }
-        ensures { laid_spot result ≡ spot_of (standing_of self.now) }
-    {
-        Spot {
-            scope: 0,
-            region: self.region,
-            unnamed: self.unnamed,
-            segment: self.current,
-            offset: self.segment().end,
-        }
-    }
-
-    /// How many bytes the section has room for.
-    pub fn room(&self) -> u32
-        requires current { self.now.current < length self.now.segments.items }
-        requires end { (spot_of (standing_of self.now)).offset ≤ section_limit }
-        ensures { (spot_of (standing_of self.now)).offset + result ≡ section_limit }
-    {
-        MAX_SECTION - self.segment().end
-    }
 }
 
 /// Moves the end of a segment's section.

@@ -23,3 +23,4 @@ pub mod Drafts
 pub mod Evaluating
 pub mod Sounds
 pub mod Knowns
+pub mod LayoutViews

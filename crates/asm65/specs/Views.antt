@@ -1,5 +1,5 @@
 -- Statements without where they lie in memory.
-use Rattle.std.specs.Prelude.{List, map, reverse}
+use Rattle.std.specs.Prelude.{List, map}
 use Rattle.syntax65.specs.Trees.{tree_of}
 use Rattle.std.specs.Prelude.{option_map}
 use Rattle.asm65.specs.declared.language.Item.{Item}
@@ -10,11 +10,8 @@ use Rattle.asm65.specs.declared.language.Statement.{Statement}
 use Rattle.asm65.specs.declared.language.Statement.TheVariants as statement
 use Rattle.asm65.specs.declared.laid.Laid.{Laid}
 use Rattle.asm65.specs.declared.laid.Spot.{Spot}
-use Rattle.asm65.specs.declared.laying.layout.Layout.{Layout}
-use Rattle.asm65.specs.declared.laying.standing.Standing.{Standing}
 use Rattle.asm65.specs.Language as l
 use Rattle.asm65.specs.Laid as laid
-use Rattle.asm65.specs.Layout as layout
 
 abbrev pub item_of : Item → l.Item
 item_of (item.Value e) = l.value (tree_of e)
@@ -62,10 +59,3 @@ laid_of x = record { stated = stated_of x.statement; line = x.line; spot = spot_
 
 abbrev pub all_of : List Laid → List laid.Laid
 all_of xs = map laid_of xs
-
--- the segments that are kept stand with the last one last
-abbrev pub standing_of : Standing → layout.Standing
-standing_of w = record { scope = w.scope; region = w.region; unnamed = w.unnamed; segments = w.segments.items; current = w.current; kept = reverse w.kept.items }
-
-abbrev pub layout_of : Layout → layout.Layout
-layout_of y = record { laid = all_of y.statements; standing = standing_of y.standing }

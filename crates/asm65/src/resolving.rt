@@ -13,4 +13,4 @@ pub use attempt::State;
 pub use known::Known;
 pub use finding::{find_defined, find_norm, no_forms};
 pub use meaning::Module;
-pub use names::{Names, name_of, names_of};
+pub use names::{Names, name_of};

@@ -4,7 +4,8 @@ ghost use Rattle.std.specs.Prelude.{◌≡◌, ◌+◌, ◌<◌, ◌≤◌, leng
 ghost use Rattle.object65.specs.Objects.{section_limit};
 ghost use Rattle.asm65.specs.Layout.{place_of, segment_at, spot_of};
 ghost use Rattle.asm65.specs.Sounds.{IsSoundStanding};
-ghost use Rattle.asm65.specs.Views.{spot_of as laid_spot, standing_of};
+ghost use Rattle.asm65.specs.LayoutViews.{standing_of};
+ghost use Rattle.asm65.specs.Views.{spot_of as laid_spot};
 
 use crate::contents::Segment;
 use crate::laid::Spot;

@@ -25,7 +25,6 @@ pub mod Fitting
 pub mod SoundLayouts
 pub mod Insides
 pub mod Aheads
-pub mod Registers
 pub mod Sayings
 pub mod Evaluations
 pub mod Holding
@@ -33,10 +32,6 @@ pub mod SoundForms
 pub mod SoundParts
 pub mod SoundSayings
 pub mod SoundContents
-pub mod Taking
-pub mod Segments
-pub mod Added
-pub mod LaidLines
 pub mod Tables
 pub mod Scopes
 pub mod NameParts

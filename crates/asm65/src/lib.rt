@@ -3,6 +3,7 @@
 
 mod assembly;
 mod contents;
+mod evaluating;
 mod fault;
 mod knowing;
 mod laid;

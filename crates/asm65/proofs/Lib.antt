@@ -1,5 +1,6 @@
 pub mod Splitting
 pub mod OneStatements
+pub mod Growing
 pub mod Naming
 pub mod Sounding
 pub mod Shown

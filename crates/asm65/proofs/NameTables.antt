@@ -1,6 +1,6 @@
 -- What tables of names hold.
 use Rattle.std.proofs.Common.{◌≡◌, ℕ, zero, suc, ◌+◌, ◌-◌, ◌<◌, ◌≤◌, Bool, true, false, cond, List, [], ◌∷◌, ◌++◌, length, map, drop, get_or, take, add-one, position, Option, Some, None, refl, sym, ap, ◌∙◌, subst, arith}
-use Rattle.std.specs.Prelude.{OnOk, slice_get, Result, Ok, Err, ◌&&◌, ◌||◌, if◌then◌else◌}
+use Rattle.std.specs.Prelude.{◌==◌, OnOk, slice_get, Result, Ok, Err, ◌&&◌, ◌||◌, if◌then◌else◌}
 use Rattle.std.specs.List.{list_any, position_from}
 use Rattle.std.specs.Str.{bytes_eq}
 use Rattle.std.proofs.lemmas.Iterator.Adapters.{position_from-zero}
@@ -11,7 +11,7 @@ use Rattle.indexmap.specs.IndexMap.{get_by, insert_entry}
 use Rattle.indexmap.specs.IndexSet.{insert_key}
 use Rattle.asm65.specs.Laid as laid
 use Rattle.asm65.specs.Laid.{defined_name}
-use Rattle.asm65.specs.Names.{defined_in, same_path, is_named, imports_of, imported_names, with_new}
+use Rattle.asm65.specs.Names.{defined_in, is_named, imports_of, imported_names, with_new}
 use Rattle.asm65.specs.Language.{Stated}
 use Rattle.asm65.specs.Resolving.{AreNames, Defines, Grows, or_here}
 use Rattle.asm65.specs.declared.resolving.names.Names.{Names}
@@ -54,7 +54,7 @@ position_is p xs = sym (position_from-zero p xs)
 -- ---- Names that are defined.
 
 abbrev pub defines : List ℕ → laid.Laid → Bool
-defines n l = same_path l.spot.path [] && is_named n (defined_name l.stated)
+defines n l = l.spot.scope == 0 && is_named n (defined_name l.stated)
 
 -- the place of the first item in a list with one more
 pub position_more : {A : Type 0} (p : A → Bool) (xs : List A) (x : A) → position p (xs ++ x ∷ []) ≡ or_here (position p xs) (p x) (length xs)
@@ -150,8 +150,8 @@ grown old new place x finds known = λ all l long stated path names. record {
   defined = λ name.
     finds name
     ∙ ap (λ o. or_here o (is_named name (defined_name x)) place) (names.defined name)
-    ∙ ap (or_here (defined_in all [] name) (is_named name (defined_name x))) (sym long)
-    ∙ ap (λ b. or_here (defined_in all [] name) b (length all)) (here l x name path stated)
+    ∙ ap (or_here (defined_in all zero name) (is_named name (defined_name x))) (sym long)
+    ∙ ap (λ b. or_here (defined_in all zero name) b (length all)) (here l x name path stated)
     ∙ sym (position_more (defines name) all l);
   imports =
     known
@@ -160,5 +160,5 @@ grown old new place x finds known = λ all l long stated path names. record {
     ∙ sym (imported_more [] all l);
 }
   where
-    here : (l : laid.Laid) (x : Stated) (name : List ℕ) → l.spot.path ≡ [] → l.stated ≡ x → is_named name (defined_name x) ≡ defines name l
-    here l x name path stated = ap (λ y. is_named name (defined_name y)) (sym stated) ∙ ap (λ p. same_path p [] && is_named name (defined_name l.stated)) (sym path)
+    here : (l : laid.Laid) (x : Stated) (name : List ℕ) → l.spot.scope ≡ zero → l.stated ≡ x → is_named name (defined_name x) ≡ defines name l
+    here l x name path stated = ap (λ y. is_named name (defined_name y)) (sym stated) ∙ ap (λ (p : ℕ). p == 0 && is_named name (defined_name l.stated)) (sym path)

@@ -166,8 +166,3 @@ meaning_of all p i s (cheap n) = cheap_meaning (take p all) s.region n
 meaning_of all p i s (forward n) = unnamed_meaning (take p all) (s.unnamed + n - 1)
 meaning_of all p i s (backward n) = backward_meaning (take p all) s.unnamed n
 meaning_of all p i s _ = Err NoSuchLabel
-
--- ---- Operands that mean something so far: plain names.
-abbrev pub plain_name : Tree → Option (List ℕ)
-plain_name (name false (n ∷ [])) = Some n
-plain_name _ = None

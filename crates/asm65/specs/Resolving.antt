@@ -19,8 +19,8 @@ use Rattle.asm65.specs.declared.resolving.names.Names.{Names}
 use Rattle.asm65.specs.Faults.{is_memory}
 use Rattle.asm65.specs.Language.{Stated, constant}
 use Rattle.asm65.specs.Laid.{Laid, Spot}
-use Rattle.asm65.specs.Names.{Meaning, defined_at, imported_as, defined_in, imported_names, is_named}
-use Rattle.asm65.specs.Norms.{address_of, folded, form_of_laid, norm, operand_meaning}
+use Rattle.asm65.specs.Names.{Meaning, defined_at, imported_as, defined_in, imported_names, is_named, meaning_of}
+use Rattle.asm65.specs.Norms.{address_of, folded, form_of_laid, norm}
 use Rattle.asm65.specs.Views.{all_of}
 
 -- ---- Names.
@@ -84,7 +84,7 @@ meaning_form states all (imported_as k) = Ok (imp k)
 meaning_form states all (defined_at j) = attempt_laid (λ s e. known_form j (slice_get states j)) (slice_get all j)
 
 abbrev pub operand_form : List State → List Laid → ℕ → Spot → Tree → Result Form Stop
-operand_form states all i s e = stopped (operand_meaning all (length all) i s e) >>= meaning_form states all
+operand_form states all i s e = stopped (meaning_of all (length all) i s e) >>= meaning_form states all
 
 abbrev pub tried_by : (Tree → Result Form Stop) → Spot → Tree → Result Form Stop
 tried_by operand s (number v) = Ok (lit (pos v))

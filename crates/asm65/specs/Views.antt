@@ -66,7 +66,7 @@ all_of xs = map laid_of xs
 
 -- there are no kept segments yet
 abbrev pub standing_of : Standing → layout.Standing
-standing_of w = record { path = []; region = w.region; unnamed = w.unnamed; segments = w.segments.items; current = w.current; kept = [] }
+standing_of w = record { scope = 0; region = w.region; unnamed = w.unnamed; segments = w.segments.items; current = w.current; kept = [] }
 
 abbrev pub layout_of : Layout → layout.Layout
 layout_of y = record { laid = all_of y.statements; standing = standing_of y.standing }

@@ -6,3 +6,8 @@ ghost use Rattle.asm65.specs.Laws.{OneAnswer};
 pub fn one_answer()
     ensures { OneAnswer }
 {}
+
+ghost use Rattle.asm65.specs.Laws.{Probe};
+pub fn probe()
+    ensures { Probe }
+{}

@@ -1,0 +1,6 @@
+use Rattle.std.proofs.Common.{sym}
+use Rattle.asm65.proofs.Growing as g
+use Rattle.asm65.proofs.laws.probe.Goals as goal
+
+pub returns : goal.returns
+returns c = λ a b e. sym e

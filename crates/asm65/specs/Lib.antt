@@ -24,3 +24,4 @@ pub mod Module
 pub mod Resolving
 pub mod Drafts
 pub mod Sounds
+pub mod Growing

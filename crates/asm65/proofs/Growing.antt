@@ -1,10 +1,9 @@
 -- What names mean stays so behind one more statement, unless that statement hides what its name meant there.
 use Rattle.std.proofs.Common.{◌≡◌, ◌∙◌, ℕ, zero, suc, ◌+◌, ◌<◌, ◌≤◌, Bool, true, false, cond, not, List, [], ◌∷◌, ◌++◌, length, take, position, Option, Some, None, Result, Ok, Err, refl, sym, ap, subst, arith}
 use Rattle.std.specs.Prelude.{slice_get, nat_le, ◌-◌, ◌==◌, ◌&&◌, if◌then◌else◌}
-use Rattle.std.specs.List.{position_from, list_any}
+use Rattle.std.specs.List.{list_any}
 use Rattle.std.specs.Str.{bytes_eq}
 use Rattle.std.proofs.lemmas.Bool.Decides.{nat_tests}
-use Rattle.std.proofs.lemmas.Iterator.Adapters.{position_from-zero}
 use Rattle.std.proofs.lemmas.List.{take-append-le, length-append, take_all}
 use Rattle.syntax65.specs.Trees.{Tree, name, cheap, forward, backward, number, here, unary, binary}
 use Rattle.asm65.specs.declared.fault.AsmFault.{AsmFault}
@@ -39,18 +38,6 @@ new_names p (n ∷ names) known k h = new_names p names (if list_any (λ q. byte
     by : (b : Bool) → position p (if b then known else known ++ n ∷ []) ≡ Some k
     by true = h
     by false = stays p known n k h
-
--- what is found in a list is found in a longer one
-prefix_from : {A : Type 0} (p : A → Bool) (i : ℕ) (xs ys : List A) (k : ℕ) → position_from p i xs ≡ Some k → position_from p i (xs ++ ys) ≡ Some k
-prefix_from p i [] ys k h = absurd cc
-prefix_from p i (x ∷ xs) ys k h = by (p x) h (prefix_from p (i + 1) xs ys k)
-  where
-    by : (b : Bool) → cond b (Some i) (position_from p (i + 1) xs) ≡ Some k → (position_from p (i + 1) xs ≡ Some k → position_from p (i + 1) (xs ++ ys) ≡ Some k) → cond b (Some i) (position_from p (i + 1) (xs ++ ys)) ≡ Some k
-    by true e rest = e
-    by false e rest = rest e
-
-in_prefix : {A : Type 0} (p : A → Bool) (xs ys : List A) (k : ℕ) → position p xs ≡ Some k → position p (xs ++ ys) ≡ Some k
-in_prefix p xs ys k h = position_from-zero p (xs ++ ys) ∙ prefix_from p 0 xs ys k (sym (position_from-zero p xs) ∙ h)
 
 pub get_stays : {A : Type 0} (xs : List A) (x : A) (i : ℕ) → i < length xs → slice_get (xs ++ x ∷ []) i ≡ slice_get xs i
 get_stays [] x i lt = absurd (omega arith)

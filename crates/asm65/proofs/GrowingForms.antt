@@ -1,5 +1,5 @@
 -- Forms that are found stay so behind one more statement, as the names that they hold do.
-use Rattle.std.proofs.Common.{◌≡◌, ◌∙◌, ℕ, zero, suc, ◌+◌, ◌<◌, ◌≤◌, List, [], ◌∷◌, ◌++◌, length, length-append, Option, Some, None, slice_get, Result, Ok, Err, refl, sym, ap, subst, arith}
+use Rattle.std.proofs.Common.{◌≡◌, ◌∙◌, ℕ, zero, suc, ◌+◌, ◌<◌, ◌≤◌, List, [], ◌∷◌, ◌++◌, length, length-append, Option, Some, None, slice_get, Result, Ok, Err, ◌⊎◌, inl, inr, refl, sym, ap, subst, arith}
 use Rattle.std.proofs.lemmas.List.Sums.{sum_by-append}
 use Rattle.std.proofs.lemmas.Option.{slice_get_within}
 use Rattle.syntax65.specs.Outcome.{◌>>=◌}
@@ -75,3 +75,35 @@ module _ (all : List Laid) (l : Laid) (nested : AreNested all) where
   -- so does that of what a statement defines
   pub constant_stays : HidesNothing all l → (c j : ℕ) (f : Form) → form_of_laid (norm c all (length all) j) (slice_get all j) ≡ Ok f → form_of_laid (norm c (all ++ l ∷ []) (length all + 1) j) (slice_get (all ++ l ∷ []) j) ≡ Ok f
   constant_stays hides c j f h = laid_stays (norm c all (length all) j) (norm c (all ++ l ∷ []) (length all + 1) j) j (λ le s e within g k. norm_stays hides c j s e g le within k) f h
+
+-- ---- The table of forms.
+
+get_more : {A : Type 0} (xs : List A) (x y : A) (j : ℕ) → slice_get (xs ++ x ∷ []) j ≡ Some y → (slice_get xs j ≡ Some y) ⊎ (y ≡ x)
+get_more [] x y zero e = let same : x ≡ y = cc in inr (sym same)
+get_more [] x y (suc j) e = absurd cc
+get_more (z ∷ xs) x y zero e = inl e
+get_more (z ∷ xs) x y (suc j) e = get_more xs x y j e
+
+unknown_more : (states : List State) → unknown (states ++ Unknown ∷ []) ≡ unknown states + 1
+unknown_more states = sum_by-append is_open states (Unknown ∷ [])
+
+-- a table stays one, with nothing known of the statement
+pub table_stays : (all : List Laid) (l : Laid) (states : List State) → AreNested all → HidesNothing all l → IsTable all states → IsTable (all ++ l ∷ []) (states ++ Unknown ∷ [])
+table_stays all l states nested hides t = record {
+  long = longer ∙ ap (λ n. n + 1) t.long ∙ sym grown;
+  turns = t.turns;
+  room = (let room = t.room in let more = unknown_more states in omega (arith, room, more, grown));
+  found = λ j f q. subst (λ p. form_of_laid (norm t.turns (all ++ l ∷ []) p j) (slice_get (all ++ l ∷ []) j) ≡ Ok f) (sym grown) (constant_stays all l nested hides t.turns j f (t.found j f (known j (Found f) (λ e. cc) q)));
+  idle = λ j q. t.idle j (known j Waiting (λ e. cc) q);
+}
+  where
+    grown : length (all ++ l ∷ []) ≡ length all + 1
+    grown = length-append all (l ∷ [])
+    longer : length (states ++ Unknown ∷ []) ≡ length states + 1
+    longer = length-append states (Unknown ∷ [])
+    known : (j : ℕ) (x : State) → (x ≡ Unknown → ⊥) → slice_get (states ++ Unknown ∷ []) j ≡ Some x → slice_get states j ≡ Some x
+    known j x differs q = by (get_more states Unknown x j q)
+      where
+        by : (slice_get states j ≡ Some x) ⊎ (x ≡ Unknown) → slice_get states j ≡ Some x
+        by (inl e) = e
+        by (inr e) = absurd (differs e)

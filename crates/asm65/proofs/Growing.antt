@@ -1,5 +1,5 @@
 -- What names mean stays so behind one more statement, unless that statement hides what its name meant there.
-use Rattle.std.proofs.Common.{◌≡◌, ◌∙◌, ℕ, zero, suc, ◌+◌, ◌<◌, ◌≤◌, Bool, true, false, cond, not, List, [], ◌∷◌, ◌++◌, length, take, position, Option, Some, None, Result, Ok, Err, refl, sym, ap, subst, arith}
+use Rattle.std.proofs.Common.{◌≡◌, ◌∙◌, ℕ, zero, suc, ◌+◌, ◌<◌, ◌≤◌, Bool, true, false, cond, not, List, [], ◌∷◌, ◌++◌, length, take, position, Option, Some, None, Result, Ok, Err, ◌⊎◌, inl, inr, refl, sym, ap, subst, arith}
 use Rattle.std.specs.Prelude.{slice_get, nat_le, ◌-◌, ◌==◌, ◌&&◌, if◌then◌else◌}
 use Rattle.std.specs.List.{list_any}
 use Rattle.std.specs.Str.{bytes_eq}
@@ -10,9 +10,9 @@ use Rattle.asm65.specs.declared.fault.AsmFault.{AsmFault}
 use Rattle.asm65.specs.declared.fault.AsmFault.TheVariants.{Undefined, NoSuchScope, NoSuchLabel}
 use Rattle.asm65.specs.Laid.{Laid, Spot, defined_name, is_unnamed}
 use Rattle.asm65.specs.Names.{Meaning, defined_at, imported_as, cheap_meaning, backward_meaning, defined_in, enclosing, first_found, global_meaning, import_key, imported_names, imports_of, is_cheap, is_named, last_of, meaning_of, member_meaning, or_else, or_fault, outward_from, plain_meaning, scope_at, scope_from, scoped_meaning, scopes_from, scopes_of, shown, unnamed_meaning, with_new}
-use Rattle.asm65.specs.Growing.{AreNested, HidesNothing, MeansNothing}
+use Rattle.asm65.specs.Growing.{AreNested, HidesNothing, MeansNothing, hides, hides_at, is_meant}
 use Rattle.asm65.specs.Resolving.{or_here}
-use Rattle.asm65.proofs.NameTables.{imported_more, position_more}
+use Rattle.asm65.proofs.NameTables.{imported_more, position_more, same_bytes}
 
 -- ---- Lists.
 
@@ -159,6 +159,61 @@ module _ (all : List Laid) (l : Laid) (nested : AreNested all) (hides : HidesNot
   member_stays absent lost None m h = absurd cc
   member_stays absent lost (Some zero) m h = global_stays absent m h
   member_stays absent lost (Some (suc q)) m h = position_stays (defines_in (suc q) n) all l absent m h
+
+-- ---- What is tested.
+
+-- a plain name with no meaning means nothing
+pub meant_nothing : (all : List Laid) (s : ℕ) (n : List ℕ) (z : AsmFault) → plain_meaning all s n ≡ Err z → MeansNothing all s n
+meant_nothing all s n z h = by (first_found (λ q. defined_in all q n) (scopes_from all s)) (import_key all n) h
+  where
+    by : (o p : Option ℕ) → or_fault (Undefined n) o p ≡ Err z → (o ≡ None) × (p ≡ None)
+    by (Some j) p e = absurd cc
+    by None (Some k) e = absurd cc
+    by None None e = (refl, refl)
+
+-- where the test says no, nothing is hidden
+pub hides_nothing : (all : List Laid) (l : Laid) → hides all l ≡ false → HidesNothing all l
+hides_nothing all l h = λ n named. by n (defined_name l.stated) h named
+  where
+    meant : (n : List ℕ) (r : Result Meaning AsmFault) → plain_meaning all l.spot.scope n ≡ r → is_meant r ≡ false → MeansNothing all l.spot.scope n
+    meant n (Ok m) is e = absurd cc
+    meant n (Err z) is e = meant_nothing all l.spot.scope n z is
+    by : (n : List ℕ) (o : Option (List ℕ)) → hides_at all l.spot.scope o ≡ false → is_named n o ≡ true → MeansNothing all l.spot.scope n
+    by n None e named = absurd cc
+    by n (Some k) e named = subst (MeansNothing all l.spot.scope) (same_bytes k n named) (meant k (plain_meaning all l.spot.scope k) refl e)
+
+-- a statement that defines no name hides none
+pub defines_nothing : (all : List Laid) (l : Laid) → defined_name l.stated ≡ None → HidesNothing all l
+defines_nothing all l h = hides_nothing all l (ap (hides_at all l.spot.scope) h)
+
+pub nested_starts : AreNested []
+nested_starts = λ i. by i
+  where
+    by : (i : ℕ) → scope_at (slice_get [] i) ≤ i
+    by zero = omega arith
+    by (suc i) = omega arith
+
+-- a statement in a scope that is opened keeps what is nested
+pub nested_more : (all : List Laid) (l : Laid) → AreNested all → l.spot.scope ≤ length all → AreNested (all ++ l ∷ [])
+nested_more all l nested le = λ i. by i (slice_get (all ++ l ∷ []) i) refl
+  where
+    last : (xs : List Laid) (x : Laid) (i : ℕ) (o : Option Laid) → slice_get (xs ++ x ∷ []) i ≡ o → (i < length xs) ⊎ (scope_at o ≤ zero) ⊎ ((o ≡ Some x) × (length xs ≤ i))
+    last [] x zero o e = inr (inr (sym e, omega arith))
+    last [] x (suc i) o e = inr (inl (let gone : o ≡ None = sym e in let at_none : scope_at o ≡ zero = ap scope_at gone in omega (arith, at_none)))
+    last (y ∷ xs) x zero o e = inl (omega arith)
+    last (y ∷ xs) x (suc i) o e = later (last xs x i o e)
+      where
+        later : ((i < length xs) ⊎ (scope_at o ≤ zero) ⊎ ((o ≡ Some x) × (length xs ≤ i))) → (suc i < length (y ∷ xs)) ⊎ (scope_at o ≤ zero) ⊎ ((o ≡ Some x) × (length (y ∷ xs) ≤ suc i))
+        later (inl lt) = inl (omega (arith, lt))
+        later (inr (inl none)) = inr (inl none)
+        later (inr (inr (is, past))) = inr (inr (is, omega (arith, past)))
+    by : (i : ℕ) (o : Option Laid) → slice_get (all ++ l ∷ []) i ≡ o → scope_at (slice_get (all ++ l ∷ []) i) ≤ i
+    by i o e = at (last all l i o e)
+      where
+        at : ((i < length all) ⊎ (scope_at o ≤ zero) ⊎ ((o ≡ Some l) × (length all ≤ i))) → scope_at (slice_get (all ++ l ∷ []) i) ≤ i
+        at (inl lt) = let inner : scope_at (slice_get all i) ≤ i = nested i in let same : scope_at (slice_get (all ++ l ∷ []) i) ≡ scope_at (slice_get all i) = ap scope_at (get_stays all l i lt) in omega (arith, inner, same)
+        at (inr (inl none)) = let same : scope_at (slice_get (all ++ l ∷ []) i) ≡ scope_at o = ap scope_at e in omega (arith, none, same)
+        at (inr (inr (is, past))) = let same : scope_at (slice_get (all ++ l ∷ []) i) ≡ l.spot.scope = ap scope_at (e ∙ is) in omega (arith, le, past, same)
 
 -- ---- Meanings.
 

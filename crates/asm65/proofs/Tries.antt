@@ -13,8 +13,8 @@ use Rattle.asm65.specs.declared.resolving.attempt.Stop.{Stop}
 use Rattle.asm65.specs.declared.resolving.attempt.Stop.TheVariants.{Needs, Fault}
 use Rattle.asm65.specs.Language.{Stated, constant}
 use Rattle.asm65.specs.Laid.{Laid, Spot}
-use Rattle.asm65.specs.Names.{Meaning, defined_at, imported_as}
-use Rattle.asm65.specs.Norms.{folded, form_by, form_of_stated, form_of_laid, form_of_meaning, operand_meaning, norm}
+use Rattle.asm65.specs.Names.{Meaning, defined_at, imported_as, meaning_of}
+use Rattle.asm65.specs.Norms.{folded, form_by, form_of_stated, form_of_laid, form_of_meaning, norm}
 use Rattle.asm65.specs.Resolving.{stopped, known_form, attempt_stated, attempt_laid, meaning_form, operand_form, tried_by, tried, tried_at, tried_last, FoundBy}
 use Rattle.asm65.proofs.Turns.{Known, Course, expression_course, constant_course, constant_is, ok_later, ok_before}
 
@@ -89,8 +89,8 @@ agrees_meaning C all states k t (Ok (defined_at j)) = found_laid C (at_turn all 
 
 agrees_tried : (C : Type 0) (all : List Laid) (states : List State) (k : ℕ) → Fits C (at_turn all k) states → (i : ℕ) (s : Spot) (e : Tree) → Agrees C (at_turn all k) (tried states all i s e) (expression_course all i s e (suc k))
 agrees_tried C all states k t i s e =
-    agrees_by C (at_turn all k) (operand_form states all i s) (λ u. operand_meaning all (length all) i s u >>= form_of_meaning (norm k all (length all)) all) s
-    (λ u. agrees_meaning C all states k t (operand_meaning all (length all) i s u)) e
+    agrees_by C (at_turn all k) (operand_form states all i s) (λ u. meaning_of all (length all) i s u >>= form_of_meaning (norm k all (length all)) all) s
+    (λ u. agrees_meaning C all states k t (meaning_of all (length all) i s u)) e
 
 agrees_stated : (C : Type 0) (v : ℕ → Result Form AsmFault) (a : Spot → Tree → Result Form Stop) (b : Spot → Tree → Result Form AsmFault) → ((s : Spot) (e : Tree) → Agrees C v (a s e) (b s e)) → (s : Spot) (x : Stated) → Agrees C v (attempt_stated a s x) (form_of_stated b s x)
 agrees_stated C v a b h s (constant n e) = h s e
@@ -161,7 +161,7 @@ lacks_meaning all states (Ok (imported_as k)) = λ i e. absurd cc
 lacks_meaning all states (Ok (defined_at j)) = lacks_laid all states j (slice_get all j) refl
 
 lacks_tried : (all : List Laid) (states : List State) (i : ℕ) (s : Spot) (e : Tree) → OnlyNeeds (Lacks all states) (tried states all i s e)
-lacks_tried all states i s e = only_by (Lacks all states) (operand_form states all i s) s (λ u. lacks_meaning all states (operand_meaning all (length all) i s u)) e
+lacks_tried all states i s e = only_by (Lacks all states) (operand_form states all i s) s (λ u. lacks_meaning all states (meaning_of all (length all) i s u)) e
 
 lacks_by_stated : (P : ℕ → Type 0) (a : Spot → Tree → Result Form Stop) → ((s : Spot) (e : Tree) → OnlyNeeds P (a s e)) → (s : Spot) (x : Stated) → OnlyNeeds P (attempt_stated a s x)
 lacks_by_stated P a h s (constant n e) = h s e

@@ -78,7 +78,7 @@ module _ (all : List Laid) (l : Laid) (nested : AreNested all) where
 
 -- ---- The table of forms.
 
-get_more : {A : Type 0} (xs : List A) (x y : A) (j : ℕ) → slice_get (xs ++ x ∷ []) j ≡ Some y → (slice_get xs j ≡ Some y) ⊎ (y ≡ x)
+pub get_more : {A : Type 0} (xs : List A) (x y : A) (j : ℕ) → slice_get (xs ++ x ∷ []) j ≡ Some y → (slice_get xs j ≡ Some y) ⊎ (y ≡ x)
 get_more [] x y zero e = let same : x ≡ y = cc in inr (sym same)
 get_more [] x y (suc j) e = absurd cc
 get_more (z ∷ xs) x y zero e = inl e

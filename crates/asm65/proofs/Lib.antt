@@ -2,6 +2,7 @@ pub mod Splitting
 pub mod OneStatements
 pub mod Growing
 pub mod GrowingForms
+pub mod Knowns
 pub mod Naming
 pub mod Sounding
 pub mod Shown

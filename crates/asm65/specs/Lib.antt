@@ -25,3 +25,4 @@ pub mod Resolving
 pub mod Drafts
 pub mod Sounds
 pub mod Growing
+pub mod Knowns

@@ -2,10 +2,12 @@
 
 mod attempt;
 mod finding;
+mod known;
 mod meaning;
 mod names;
 
 pub use attempt::State;
 pub use finding::{find_defined, find_norm, no_forms};
+pub use known::Known;
 pub use meaning::Module;
 pub use names::{Names, name_of};

@@ -1,0 +1,75 @@
+-- Which places are noted of a table of forms.
+use Rattle.std.proofs.Common.{◌≡◌, ◌≢◌, ℕ, zero, suc, ◌+◌, ◌<◌, ◌≤◌, refl, sym, ap, ◌∙◌, subst, arith, List, [], ◌∷◌, ◌++◌, length, Option, Some, None, slice_get, Bool, true, false, nat_eq, Result, Ok, Err, ◌⊎◌, inl, inr}
+use Rattle.std.specs.Prelude.{slice_set, ◌==◌, ◌||◌}
+use Rattle.std.specs.List.{list_any}
+use Rattle.std.proofs.lemmas.Bool.Decides.{nat_tests}
+use Rattle.std.proofs.lemmas.Grind.{common_steps}
+use Rattle.std.proofs.lemmas.List.Folds.{list_any-append}
+use Rattle.std.proofs.lemmas.Option.{gets, slice_get_within}
+use Rattle.asm65.specs.declared.resolving.attempt.State.{State}
+use Rattle.asm65.specs.declared.resolving.attempt.State.TheVariants.{Unknown, Waiting, Found}
+use Rattle.asm65.specs.Knowns.{AreNoted, is_known}
+use Rattle.asm65.specs.Laid.{Laid}
+use Rattle.asm65.specs.Resolving.{IsTable}
+use Rattle.asm65.proofs.Beginnings.{AreUnknown, blank_table}
+use Rattle.asm65.proofs.GrowingForms.{get_more}
+
+-- nothing is known of one more place
+pub noted_more : (states : List State) (noted : List ℕ) → AreNoted states noted → AreNoted (states ++ Unknown ∷ []) noted
+noted_more states noted h = λ j e. by j (slice_get (states ++ Unknown ∷ []) j) refl e
+  where
+    by : (j : ℕ) (o : Option State) → slice_get (states ++ Unknown ∷ []) j ≡ o → is_known o ≡ true → list_any (λ i. i == j) noted ≡ true
+    by j None is e = absurd cc
+    by j (Some x) is e = at (get_more states Unknown x j is)
+      where
+        at : (slice_get states j ≡ Some x) ⊎ (x ≡ Unknown) → list_any (λ i. i == j) noted ≡ true
+        at (inl same) = h j (ap is_known same ∙ e)
+        at (inr new) = let no : true ≡ false = sym e ∙ ap (λ y. is_known (Some y)) new in absurd cc
+
+-- a place more that is noted
+pub noted_one_more : (states : List State) (noted : List ℕ) (place : ℕ) → AreNoted states noted → AreNoted states (noted ++ place ∷ [])
+noted_one_more states noted place h = λ j e. list_any-append (λ i. i == j) noted (place ∷ []) ∙ ap (λ b. b || list_any (λ i. i == j) (place ∷ [])) (h j e)
+
+get_other : (states : List State) (i j : ℕ) (x : State) → i ≢ j → slice_get (slice_set states j x) i ≡ slice_get states i
+get_other states i j x other = grind (arith, common_steps, gets)
+
+get_same : (states : List State) (j : ℕ) (x : State) → j < length states → slice_get (slice_set states j x) j ≡ Some x
+get_same states j x lt = grind (arith, common_steps, gets)
+
+-- what isn't known at its place needn't be noted
+pub noted_less : (states : List State) (noted : List ℕ) (place : ℕ) → AreNoted states (noted ++ place ∷ []) → AreNoted (slice_set states place Unknown) noted
+noted_less states noted place h = λ j e. by j e (nat_eq j place) refl
+  where
+    last : (j : ℕ) (b : Bool) → list_any (λ i. i == j) (place ∷ []) ≡ false → b || list_any (λ i. i == j) (place ∷ []) ≡ true → b ≡ true
+    last j true isnt e = refl
+    last j false isnt e = absurd (let never : true ≡ false = sym e ∙ isnt in cc)
+    by : (j : ℕ) → is_known (slice_get (slice_set states place Unknown) j) ≡ true → (b : Bool) → nat_eq j place ≡ b → list_any (λ i. i == j) noted ≡ true
+    by j e true b =
+        let one : j ≡ place = grind (arith, nat_tests) in
+        let at_place : is_known (slice_get (slice_set states place Unknown) place) ≡ true = subst (λ (k : ℕ). is_known (slice_get (slice_set states place Unknown) k) ≡ true) one e in
+        absurd (never (slice_get (slice_set states place Unknown) place) refl at_place)
+      where
+        never : (o : Option State) → slice_get (slice_set states place Unknown) place ≡ o → is_known o ≡ true → ⊥
+        never None is k = cc
+        never (Some x) is k =
+            let lt : place < length states = (let in_set : place < length (slice_set states place Unknown) = slice_get_within (slice_set states place Unknown) place x is in let long : length (slice_set states place Unknown) ≡ length states = grind (arith, common_steps) in omega (arith, in_set, long)) in
+            let now : Some x ≡ Some Unknown = sym is ∙ get_same states place Unknown lt in
+            let no : true ≡ false = sym k ∙ ap is_known now in cc
+    by j e false b =
+        let other : j ≢ place = grind (arith, nat_tests) in
+        let test : (place == j) ≡ false = grind (arith, nat_tests) in
+        let before : is_known (slice_get states j) ≡ true = sym (ap is_known (get_other states j place Unknown other)) ∙ e in
+        last j (list_any (λ i. i == j) noted) (ap (λ b. b || false) test) (sym (list_any-append (λ i. i == j) noted (place ∷ [])) ∙ h j before)
+
+-- where none is noted, nothing is known
+pub none_noted : (states : List State) → AreNoted states [] → AreUnknown states
+none_noted [] h = tt
+none_noted (x ∷ states) h = (at x (h zero), none_noted states (λ j e. h (suc j) e))
+  where
+    at : (y : State) → (is_known (Some y) ≡ true → false ≡ true) → y ≡ Unknown
+    at Unknown k = refl
+    at Waiting k = let no = k refl in absurd cc
+    at (Found f) k = let no = k refl in absurd cc
+
+pub none_known : (all : List Laid) (states : List State) → AreNoted states [] → length states ≡ length all → IsTable all states
+none_known all states h e = blank_table all states (none_noted states h) e

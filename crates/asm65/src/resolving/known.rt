@@ -1,0 +1,64 @@
+//! Forms of constants that stay found while statements are laid.
+
+ghost use Rattle.std.specs.Prelude.{◌++◌, ◌∷◌, ◌≡◌, List, OnOk, [], length, slice_get, slice_set, true};
+ghost use Rattle.asm65.specs.declared.resolving.attempt.State.TheVariants.{Unknown, Waiting, Found};
+ghost use Rattle.asm65.specs.Growing.{AreNested, HidesNothing};
+ghost use Rattle.asm65.specs.Knowns.{AreNoted, is_known};
+ghost use Rattle.asm65.specs.Laid.{Laid};
+ghost use Rattle.asm65.specs.Resolving.{IsTable};
+
+use super::attempt::State;
+use object65::Norm;
+use std::alloc::{AllocError, Global};
+
+/// The table of the forms of constants, with the places of which something is known.
+#[derive(Drop)]
+pub struct Known {
+    pub states: Vec<State>,
+    noted: Vec<usize>,
+    ghost noted_all: { AreNoted states.items noted.items },
+}
+
+impl Known {
+    /// The table for no statement.
+    pub fn new(alloc: Global) -> Self
+        ensures { IsTable [] result.states.items }
+    {
+        Known {
+            states: Vec::new(alloc),
+            noted: Vec::new(alloc),
+        }
+    }
+
+    /// The table for one more statement, behind all others, of which nothing is known. What is known stays so unless
+    /// the statement hides what a name meant.
+    pub fn push(&mut self) -> Result<(), AllocError>
+        ensures states { OnOk result (self.new.states.items ≡ self.old.states.items ++ Unknown ∷ []) }
+        ensures table { OnOk result ((all : List Laid) (l : Laid) → AreNested all → HidesNothing all l → IsTable all self.old.states.items → IsTable (all ++ l ∷ []) self.new.states.items) }
+    {
+        self.states.push(State::Unknown)?;
+        Ok(())
+    }
+
+    /// Forgets what is known: the table for any statements, as many as before.
+    pub fn forget(&mut self)
+        ensures long { length self.new.states.items ≡ length self.old.states.items }
+        ensures table { (all : List Laid) → length self.old.states.items ≡ length all → IsTable all self.new.states.items }
+    {
+        forget_noted(&mut self.states, &mut self.noted);
+    }
+}
+
+/// Forgets what is known at the places that are noted.
+fn forget_noted(states: &mut Vec<State>, noted: &mut Vec<usize>)
+    requires { AreNoted states.old.items noted.old.items }
+    ensures long { length states.new.items ≡ length states.old.items }
+    ensures noted { AreNoted states.new.items [] }
+    ensures none { noted.new.items ≡ [] }
+{
+    'places: while let Some(place) = noted.pop() {
+        if place < states.len() {
+            states[place] = State::Unknown;
+        }
+    }
+}

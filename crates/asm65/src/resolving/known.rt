@@ -49,16 +49,22 @@ impl Known {
     }
 }
 
+/// Forgets what is known at a place, if there is one.
+fn lose(states: &mut [State], place: usize)
+    ensures { states.new ≡ slice_set states.old place Unknown }
+{
+    if place < states.len() {
+        states[place] = State::Unknown;
+    }
+}
+
 /// Forgets what is known at the places that are noted.
-fn forget_noted(states: &mut Vec<State>, noted: &mut Vec<usize>)
-    requires { AreNoted states.old.items noted.old.items }
-    ensures long { length states.new.items ≡ length states.old.items }
-    ensures noted { AreNoted states.new.items [] }
+fn forget_noted(states: &mut [State], noted: &mut Vec<usize>)
+    requires { AreNoted states.old noted.old.items }
+    ensures noted { AreNoted states.new noted.new.items }
     ensures none { noted.new.items ≡ [] }
 {
     'places: while let Some(place) = noted.pop() {
-        if place < states.len() {
-            states[place] = State::Unknown;
-        }
+        lose(states, place);
     }
 }

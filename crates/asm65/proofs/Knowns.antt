@@ -9,23 +9,23 @@ use Rattle.std.proofs.lemmas.List.Folds.{list_any-append}
 use Rattle.std.proofs.lemmas.Option.{gets, slice_get_within}
 use Rattle.asm65.specs.declared.resolving.attempt.State.{State}
 use Rattle.asm65.specs.declared.resolving.attempt.State.TheVariants.{Unknown, Waiting, Found}
-use Rattle.asm65.specs.Knowns.{AreNoted, is_known}
+use Rattle.asm65.specs.Knowns.{AreNoted, is_found}
 use Rattle.asm65.specs.Laid.{Laid}
 use Rattle.asm65.specs.Resolving.{IsTable}
 use Rattle.asm65.proofs.Beginnings.{AreUnknown, blank_table}
 use Rattle.asm65.proofs.GrowingForms.{get_more}
 
--- nothing is known of one more place
+-- nothing is found at one more place
 pub noted_more : (states : List State) (noted : List ℕ) → AreNoted states noted → AreNoted (states ++ Unknown ∷ []) noted
 noted_more states noted h = λ j e. by j (slice_get (states ++ Unknown ∷ []) j) refl e
   where
-    by : (j : ℕ) (o : Option State) → slice_get (states ++ Unknown ∷ []) j ≡ o → is_known o ≡ true → list_any (λ i. i == j) noted ≡ true
+    by : (j : ℕ) (o : Option State) → slice_get (states ++ Unknown ∷ []) j ≡ o → is_found o ≡ true → list_any (λ i. i == j) noted ≡ true
     by j None is e = absurd cc
     by j (Some x) is e = at (get_more states Unknown x j is)
       where
         at : (slice_get states j ≡ Some x) ⊎ (x ≡ Unknown) → list_any (λ i. i == j) noted ≡ true
-        at (inl same) = h j (ap is_known same ∙ e)
-        at (inr new) = let no : true ≡ false = sym e ∙ ap (λ y. is_known (Some y)) new in absurd cc
+        at (inl same) = h j (ap is_found same ∙ e)
+        at (inr new) = let no : true ≡ false = sym e ∙ ap (λ y. is_found (Some y)) new in absurd cc
 
 -- a place more that is noted
 pub noted_one_more : (states : List State) (noted : List ℕ) (place : ℕ) → AreNoted states noted → AreNoted states (noted ++ place ∷ [])
@@ -37,43 +37,56 @@ get_other states i j x other = grind (arith, common_steps, gets)
 get_same : (states : List State) (j : ℕ) (x : State) → j < length states → slice_get (slice_set states j x) j ≡ Some x
 get_same states j x lt = grind (arith, common_steps, gets)
 
--- what isn't known at its place needn't be noted
+-- what isn't found at its place needn't be noted
 pub noted_less : (states : List State) (noted : List ℕ) (place : ℕ) → AreNoted states (noted ++ place ∷ []) → AreNoted (slice_set states place Unknown) noted
 noted_less states noted place h = λ j e. by j e (nat_eq j place) refl
   where
     last : (j : ℕ) (b : Bool) → list_any (λ i. i == j) (place ∷ []) ≡ false → b || list_any (λ i. i == j) (place ∷ []) ≡ true → b ≡ true
     last j true isnt e = refl
     last j false isnt e = absurd (let never : true ≡ false = sym e ∙ isnt in cc)
-    by : (j : ℕ) → is_known (slice_get (slice_set states place Unknown) j) ≡ true → (b : Bool) → nat_eq j place ≡ b → list_any (λ i. i == j) noted ≡ true
+    by : (j : ℕ) → is_found (slice_get (slice_set states place Unknown) j) ≡ true → (b : Bool) → nat_eq j place ≡ b → list_any (λ i. i == j) noted ≡ true
     by j e true b =
         let one : j ≡ place = grind (arith, nat_tests) in
-        let at_place : is_known (slice_get (slice_set states place Unknown) place) ≡ true = subst (λ (k : ℕ). is_known (slice_get (slice_set states place Unknown) k) ≡ true) one e in
+        let at_place : is_found (slice_get (slice_set states place Unknown) place) ≡ true = subst (λ (k : ℕ). is_found (slice_get (slice_set states place Unknown) k) ≡ true) one e in
         absurd (never (slice_get (slice_set states place Unknown) place) refl at_place)
       where
-        never : (o : Option State) → slice_get (slice_set states place Unknown) place ≡ o → is_known o ≡ true → ⊥
+        never : (o : Option State) → slice_get (slice_set states place Unknown) place ≡ o → is_found o ≡ true → ⊥
         never None is k = cc
         never (Some x) is k =
             let lt : place < length states = (let in_set : place < length (slice_set states place Unknown) = slice_get_within (slice_set states place Unknown) place x is in let long : length (slice_set states place Unknown) ≡ length states = grind (arith, common_steps) in omega (arith, in_set, long)) in
             let now : Some x ≡ Some Unknown = sym is ∙ get_same states place Unknown lt in
-            let no : true ≡ false = sym k ∙ ap is_known now in cc
+            let no : true ≡ false = sym k ∙ ap is_found now in cc
     by j e false b =
         let other : j ≢ place = grind (arith, nat_tests) in
         let test : (place == j) ≡ false = grind (arith, nat_tests) in
-        let before : is_known (slice_get states j) ≡ true = sym (ap is_known (get_other states j place Unknown other)) ∙ e in
+        let before : is_found (slice_get states j) ≡ true = sym (ap is_found (get_other states j place Unknown other)) ∙ e in
         last j (list_any (λ i. i == j) noted) (ap (λ b. b || false) test) (sym (list_any-append (λ i. i == j) noted (place ∷ [])) ∙ h j before)
 
--- where none is noted, nothing is known
-pub none_noted : (states : List State) → AreNoted states [] → AreUnknown states
-none_noted [] h = tt
-none_noted (x ∷ states) h = (at x (h zero), none_noted states (λ j e. h (suc j) e))
+-- where none is noted and none waits, nothing is known
+pub none_noted : (states : List State) → AreNoted states [] → ((j : ℕ) → slice_get states j ≡ Some Waiting → ⊥) → AreUnknown states
+none_noted [] h idle = tt
+none_noted (x ∷ states) h idle = (at x (h zero) (idle zero), none_noted states (λ j e. h (suc j) e) (λ j e. idle (suc j) e))
   where
-    at : (y : State) → (is_known (Some y) ≡ true → false ≡ true) → y ≡ Unknown
-    at Unknown k = refl
-    at Waiting k = let no = k refl in absurd cc
-    at (Found f) k = let no = k refl in absurd cc
+    at : (y : State) → (is_found (Some y) ≡ true → false ≡ true) → (Some y ≡ Some Waiting → ⊥) → y ≡ Unknown
+    at Unknown k w = refl
+    at Waiting k w = absurd (w refl)
+    at (Found f) k w = let never = k refl in absurd cc
 
-pub none_known : (all : List Laid) (states : List State) → AreNoted states [] → length states ≡ length all → IsTable all states
-none_known all states h e = blank_table all states (none_noted states h) e
+pub none_known : (all : List Laid) (states : List State) → AreNoted states [] → ((j : ℕ) → slice_get states j ≡ Some Waiting → ⊥) → length states ≡ length all → IsTable all states
+none_known all states h idle e = blank_table all states (none_noted states h idle) e
+
+-- nothing more waits where nothing is known of one more place
+pub idle_set : (states : List State) (place : ℕ) → ((j : ℕ) → slice_get states j ≡ Some Waiting → ⊥) → (j : ℕ) → slice_get (slice_set states place Unknown) j ≡ Some Waiting → ⊥
+idle_set states place idle j e = by (nat_eq j place) refl
+  where
+    by : (b : Bool) → nat_eq j place ≡ b → ⊥
+    by true b =
+        let one : j ≡ place = grind (arith, nat_tests) in
+        let in_set : j < length (slice_set states place Unknown) = slice_get_within (slice_set states place Unknown) j Waiting e in
+        let long : length (slice_set states place Unknown) ≡ length states = grind (arith, common_steps) in
+        let now : slice_get (slice_set states place Unknown) place ≡ Some Unknown = get_same states place Unknown (omega (arith, in_set, long, one)) in
+        let same : Some Waiting ≡ Some Unknown = sym e ∙ ap (slice_get (slice_set states place Unknown)) one ∙ now in cc
+    by false b = let other : j ≢ place = grind (arith, nat_tests) in idle j (sym (get_other states j place Unknown other) ∙ e)
 
 -- a list written over by one as long is that one
 pub written_over : {A : Type 0} (n : ℕ) (xs ys : List A) → length xs ≡ length ys → n ≡ length ys → take n (xs ++ drop (length xs) ys) ≡ xs

@@ -1,9 +1,9 @@
 //! Forms of constants that stay found while statements are laid.
 
-ghost use Rattle.std.specs.Prelude.{◌++◌, ◌∷◌, ◌≡◌, List, OnOk, [], length, slice_get, slice_set, true};
+ghost use Rattle.std.specs.Prelude.{◌++◌, ◌∷◌, ◌≡◌, List, OnOk, Some, [], length, ℕ, slice_get, slice_set, true};
 ghost use Rattle.asm65.specs.declared.resolving.attempt.State.TheVariants.{Unknown, Waiting, Found};
 ghost use Rattle.asm65.specs.Growing.{AreNested, HidesNothing};
-ghost use Rattle.asm65.specs.Knowns.{AreNoted, is_known};
+ghost use Rattle.asm65.specs.Knowns.{AreNoted, is_found, without};
 ghost use Rattle.asm65.specs.Laid.{Laid};
 ghost use Rattle.asm65.specs.Resolving.{IsTable};
 
@@ -11,7 +11,7 @@ use super::attempt::State;
 use object65::Norm;
 use std::alloc::{AllocError, Global};
 
-/// The table of the forms of constants, with the places of which something is known.
+/// The table of the forms of constants, with the places of those that are found.
 #[derive(Drop)]
 pub struct Known {
     pub states: Vec<State>,
@@ -42,6 +42,7 @@ impl Known {
 
     /// Forgets what is known: the table for any statements, as many as before.
     pub fn forget(&mut self)
+        requires { (j : ℕ) → slice_get self.old.states.items j ≡ Some Waiting → ⊥ }
         ensures long { length self.new.states.items ≡ length self.old.states.items }
         ensures table { (all : List Laid) → length self.old.states.items ≡ length all → IsTable all self.new.states.items }
     {
@@ -60,8 +61,10 @@ fn lose(states: &mut [State], place: usize)
 
 /// Forgets what is known at the places that are noted.
 fn forget_noted(states: &mut [State], noted: &mut Vec<usize>)
-    requires { AreNoted states.old noted.old.items }
+    requires noted { AreNoted states.old noted.old.items }
+    requires idle { (j : ℕ) → slice_get states.old j ≡ Some Waiting → ⊥ }
     ensures noted { AreNoted states.new noted.new.items }
+    ensures idle { (j : ℕ) → slice_get states.new j ≡ Some Waiting → ⊥ }
     ensures none { noted.new.items ≡ [] }
 {
     'places: while let Some(place) = noted.pop() {

@@ -11,4 +11,4 @@ returns-clause-table c = λ all e.
     let long : c.args.self.now.states.len ≡ length c.args.self.now.states.items = sym c.deref_mut.ensures.len ∙ ap length c.deref_mut.ensures.value in
     let whole = written_over c.args.self.now.states.len c.forget_noted.new.states c.args.self.now.states.items same long in
     let none : AreNoted c.forget_noted.new.states [] = subst (AreNoted c.forget_noted.new.states) c.forget_noted.ensures.none c.forget_noted.ensures.noted in
-    subst (IsTable all) (sym whole) (none_known all c.forget_noted.new.states none (same ∙ e))
+    subst (IsTable all) (sym whole) (none_known all c.forget_noted.new.states none c.forget_noted.ensures.idle (same ∙ e))

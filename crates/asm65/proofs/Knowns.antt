@@ -9,7 +9,7 @@ use Rattle.std.proofs.lemmas.List.Folds.{list_any-append}
 use Rattle.std.proofs.lemmas.Option.{gets, slice_get_within}
 use Rattle.asm65.specs.declared.resolving.attempt.State.{State}
 use Rattle.asm65.specs.declared.resolving.attempt.State.TheVariants.{Unknown, Waiting, Found}
-use Rattle.asm65.specs.Knowns.{AreNoted, is_found}
+use Rattle.asm65.specs.Knowns.{AreNoted, is_found, without}
 use Rattle.asm65.specs.Laid.{Laid}
 use Rattle.asm65.specs.Resolving.{IsTable}
 use Rattle.asm65.proofs.Beginnings.{AreUnknown, blank_table}
@@ -61,6 +61,45 @@ noted_less states noted place h = λ j e. by j e (nat_eq j place) refl
         let test : (place == j) ≡ false = grind (arith, nat_tests) in
         let before : is_found (slice_get states j) ≡ true = sym (ap is_found (get_other states j place Unknown other)) ∙ e in
         last j (list_any (λ i. i == j) noted) (ap (λ b. b || false) test) (sym (list_any-append (λ i. i == j) noted (place ∷ [])) ∙ h j before)
+
+found_at_set : (states : List State) (place j : ℕ) (x : State) → is_found (Some x) ≡ false → is_found (slice_get (slice_set states place x) j) ≡ true → is_found (slice_get states j) ≡ true
+found_at_set states place j x isnt e = by (nat_eq j place) refl
+  where
+    never : (o : Option State) → slice_get (slice_set states place x) place ≡ o → is_found o ≡ true → ⊥
+    never None is k = cc
+    never (Some y) is k =
+        let in_set : place < length (slice_set states place x) = slice_get_within (slice_set states place x) place y is in
+        let long : length (slice_set states place x) ≡ length states = grind (arith, common_steps) in
+        let now : Some y ≡ Some x = sym is ∙ get_same states place x (omega (arith, in_set, long)) in
+        let same : true ≡ false = sym k ∙ ap is_found now ∙ isnt in cc
+    by : (b : Bool) → nat_eq j place ≡ b → is_found (slice_get states j) ≡ true
+    by true b =
+        let one : j ≡ place = grind (arith, nat_tests) in
+        absurd (never (slice_get (slice_set states place x) place) refl (subst (λ (k : ℕ). is_found (slice_get (slice_set states place x) k) ≡ true) one e))
+    by false b = let other : j ≢ place = grind (arith, nat_tests) in sym (ap is_found (get_other states j place x other)) ∙ e
+
+-- what isn't found needs no note
+pub noted_set : (states : List State) (noted : List ℕ) (place : ℕ) (x : State) → is_found (Some x) ≡ false → AreNoted states noted → AreNoted (slice_set states place x) noted
+noted_set states noted place x isnt h = λ j e. h j (found_at_set states place j x isnt e)
+
+-- what is found is noted
+pub noted_found : (states : List State) (noted : List ℕ) (place : ℕ) (x : State) → AreNoted states noted → AreNoted (slice_set states place x) (noted ++ place ∷ [])
+noted_found states noted place x h = λ j e. by j e (nat_eq j place) refl
+  where
+    last : (b c : Bool) → c ≡ true → (b || c) ≡ true
+    last true c e = refl
+    last false c e = e
+    by : (j : ℕ) → is_found (slice_get (slice_set states place x) j) ≡ true → (b : Bool) → nat_eq j place ≡ b → list_any (λ i. i == j) (noted ++ place ∷ []) ≡ true
+    by j e true b =
+        let test : (place == j) ≡ true = grind (arith, nat_tests) in
+        list_any-append (λ i. i == j) noted (place ∷ []) ∙ last (list_any (λ i. i == j) noted) (list_any (λ i. i == j) (place ∷ [])) (ap (λ b. b || false) test)
+    by j e false b =
+        let other : j ≢ place = grind (arith, nat_tests) in
+        noted_one_more states noted place h j (sym (ap is_found (get_other states j place x other)) ∙ e)
+
+pub noted_without : (states : List State) (noted ws : List ℕ) → AreNoted states noted → AreNoted (without states ws) noted
+noted_without states noted [] h = h
+noted_without states noted (w ∷ ws) h = noted_without (slice_set states w Unknown) noted ws (noted_set states noted w Unknown refl h)
 
 -- where none is noted and none waits, nothing is known
 pub none_noted : (states : List State) → AreNoted states [] → ((j : ℕ) → slice_get states j ≡ Some Waiting → ⊥) → AreUnknown states

@@ -1,6 +1,6 @@
 //! Forms of constants that stay found while statements are laid.
 
-ghost use Rattle.std.specs.Prelude.{◌++◌, ◌∷◌, ◌≡◌, List, OnOk, Some, [], length, ℕ, slice_get, slice_set, true};
+ghost use Rattle.std.specs.Prelude.{◌++◌, ◌∷◌, ◌<◌, ◌≡◌, List, OnOk, Some, [], length, ℕ, slice_get, slice_set, true};
 ghost use Rattle.asm65.specs.declared.resolving.attempt.State.TheVariants.{Unknown, Waiting, Found};
 ghost use Rattle.asm65.specs.Growing.{AreNested, HidesNothing};
 ghost use Rattle.asm65.specs.Knowns.{AreNoted, is_found, without};
@@ -48,6 +48,31 @@ impl Known {
     {
         forget_noted(&mut self.states, &mut self.noted);
     }
+
+    /// The constant at a place waits for others.
+    fn wait(&mut self, place: usize)
+        requires { place < length self.old.states.items }
+        ensures { self.new.states.items ≡ slice_set self.old.states.items place Waiting }
+    {
+        self.states[place] = State::Waiting;
+    }
+
+    /// The form of the constant at a place is found.
+    fn settle(&mut self, place: usize, form: Norm) -> Result<(), AllocError>
+        requires { place < length self.old.states.items }
+        ensures { OnOk result (self.new.states.items ≡ slice_set self.old.states.items place (Found form)) }
+    {
+        self.noted.push(place)?;
+        self.states[place] = State::Found(form);
+        Ok(())
+    }
+
+    /// Constants wait no more, though their forms aren't found.
+    fn give_up(&mut self, waiting: &[usize])
+        ensures { self.new.states.items ≡ without self.old.states.items waiting.now }
+    {
+        lose_all(&mut self.states, waiting);
+    }
 }
 
 /// Forgets what is known at a place, if there is one.
@@ -56,6 +81,15 @@ fn lose(states: &mut [State], place: usize)
 {
     if place < states.len() {
         states[place] = State::Unknown;
+    }
+}
+
+/// Forgets what is known at places.
+fn lose_all(states: &mut [State], places: &[usize])
+    ensures { states.new ≡ without states.old places.now }
+{
+    for place in places {
+        lose(states, *place);
     }
 }
 

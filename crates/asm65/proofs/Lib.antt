@@ -3,6 +3,7 @@ pub mod OneStatements
 pub mod Growing
 pub mod GrowingForms
 pub mod Knowns
+pub mod GivenUp
 pub mod Naming
 pub mod Sounding
 pub mod Shown

@@ -1,6 +1,7 @@
 use Rattle.std.proofs.Common.{sym}
 use Rattle.asm65.proofs.GrowingForms as g
 use Rattle.asm65.proofs.Knowns as b
+use Rattle.asm65.proofs.GivenUp as d
 use Rattle.asm65.proofs.laws.probe.Goals as goal
 
 pub returns : goal.returns

@@ -107,3 +107,11 @@ table_stays all l states nested hides t = record {
         by : (slice_get states j ≡ Some x) ⊎ (x ≡ Unknown) → slice_get states j ≡ Some x
         by (inl e) = e
         by (inr e) = absurd (differs e)
+
+-- and nothing waits in it where nothing waited
+pub idle_more : (states : List State) → ((j : ℕ) → slice_get states j ≡ Some Waiting → ⊥) → (j : ℕ) → slice_get (states ++ Unknown ∷ []) j ≡ Some Waiting → ⊥
+idle_more states idle j e = by (get_more states Unknown Waiting j e)
+  where
+    by : (slice_get states j ≡ Some Waiting) ⊎ (Waiting ≡ Unknown) → ⊥
+    by (inl same) = idle j same
+    by (inr never) = cc

@@ -1,4 +1,4 @@
-use Rattle.std.proofs.Common.{rules, ◌≡◌, sym, ap, ◌∙◌, ℕ, List, [], length, slice_get, Ok, Err, Bool, true, false, refl, subst, Result}
+use Rattle.std.proofs.Common.{rules, ◌≡◌, sym, ap, ◌∙◌, ℕ, List, length, slice_get, Err, Bool, true, false, refl, subst, Result}
 use Rattle.std.proofs.lemmas.List.{nil_from_length}
 use Rattle.std.proofs.lemmas.Option.{slice_get_within}
 use Rattle.syntax65.specs.Trees.{Tree, tree_of}
@@ -7,7 +7,6 @@ use Rattle.asm65.specs.Laid.{Laid, Spot}
 use Rattle.asm65.specs.Views.{all_of, spot_of}
 use Rattle.asm65.specs.Faults.{is_memory}
 use Rattle.asm65.specs.Knowns.{without}
-use Rattle.asm65.specs.declared.fault.AsmFault.{AsmFault}
 use Rattle.asm65.specs.declared.resolving.attempt.State.{State}
 use Rattle.asm65.specs.declared.resolving.attempt.State.TheVariants.{Unknown}
 use Rattle.asm65.specs.declared.resolving.attempt.Stop.TheVariants.{Needs}
@@ -15,7 +14,7 @@ use Rattle.asm65.specs.declared.resolving.attempt.Stop.{Stop}
 use Rattle.syntax65.specs.Outcome.{Refuses, Unless}
 use Rattle.asm65.specs.Resolving.{IsTable, is_unknown, lacks_memory, tried, tried_last}
 use Rattle.asm65.proofs.GivenUp.{pursuit_lost}
-use Rattle.asm65.proofs.Turns.{Course, expression_course, expression_is}
+use Rattle.asm65.proofs.Turns.{expression_course, expression_is}
 use Rattle.asm65.proofs.Tries.{IsAttempt, attempt_first, attempt_last, last_course}
 use Rattle.asm65.proofs.Pursuits.{IsPursuit, pursuit_starts, pursuit_done, pursuit_faults, pursuit_inside, pursuit_meets, pursuit_needs, pursuit_pops, pursuit_table, unless_more, unknown_is, down_smaller, up_smaller}
 use Rattle.asm65.proofs.resolving.known.Known.find.Goals as goal

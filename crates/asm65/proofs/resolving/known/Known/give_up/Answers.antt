@@ -1,4 +1,4 @@
-use Rattle.std.proofs.Common.{◌≡◌, ◌∙◌, List, ℕ, length, ap, sym, subst}
+use Rattle.std.proofs.Common.{◌≡◌, ◌∙◌, List, length, ap, sym, subst}
 use Rattle.asm65.specs.declared.resolving.attempt.State.{State}
 use Rattle.asm65.specs.Knowns.{AreNoted, without}
 use Rattle.asm65.proofs.Knowns.{noted_without, written_over}

@@ -1,4 +1,4 @@
-use Rattle.std.proofs.Common.{◌≡◌, List, ℕ, sym, subst}
+use Rattle.std.proofs.Common.{sym, subst}
 use Rattle.asm65.specs.declared.resolving.attempt.State.TheVariants.{Found}
 use Rattle.asm65.specs.Knowns.{AreNoted}
 use Rattle.std.specs.Prelude.{slice_set}

@@ -72,6 +72,14 @@ impl Known {
         forget_noted(&mut self.states, &mut self.noted);
     }
 
+    /// The table alone.
+    pub fn into_states(self) -> Vec<State>
+        ensures { result.items ≡ self.states.items }
+    {
+        let Known { states, noted: _ } = self;
+        states
+    }
+
     /// The constant at a place waits for others.
     fn wait(&mut self, place: usize)
         requires { place < length self.old.states.items }

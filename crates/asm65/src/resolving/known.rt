@@ -50,8 +50,8 @@ impl Known {
         Ok(())
     }
 
-    /// The table for one more statement, behind all others, where it is said whether the name that the statement defines
-    /// means something there already.
+    /// The table for one more statement, behind all others. It is hiding if the name that it defines means something
+    /// there already.
     pub fn grow(&mut self, is_hiding: bool) -> Result<(), AllocError>
         requires { (j : ℕ) → slice_get self.old.states.items j ≡ Some Waiting → ⊥ }
         ensures { OnOk result ((all : List Laid) (l : Laid) → AreNested all → hides all l ≡ is_hiding → IsTable all self.old.states.items → IsTable (all ++ l ∷ []) self.new.states.items) }

@@ -3,32 +3,19 @@
 
 ghost use Rattle.std.specs.Prelude.{◌≡◌, IfOk, OnOk};
 ghost use Rattle.syntax65.specs.Trees.{tree_of};
-ghost use Rattle.asm65.specs.Norms.{constant_behind};
 ghost use Rattle.asm65.specs.Resolving.{IsModule, IsTable};
 ghost use Rattle.asm65.specs.Sizes.{mode_of, size_of};
 ghost use Rattle.asm65.specs.Views.{all_of, operand_of, spot_of};
+
+mod constants;
+
+pub use constants::constant;
 
 use crate::laid::Spot;
 use crate::language::Operand;
 use crate::resolving::{Known, Module};
 use std::alloc::{AllocError, Global};
 use syntax65::{AddressSize, Expr, Mnemonic, Mode};
-
-/// The value of an expression where it is constant behind the statements so far.
-pub fn constant(
-    alloc: Global,
-    whole: &Module<'_>,
-    known: &mut Known,
-    spot: Spot,
-    value: &Expr,
-) -> Result<Option<i64>, AllocError>
-    requires names { IsModule whole.now }
-    requires table { IsTable (all_of whole.now.statements.now) known.old.states.items }
-    ensures value { IfOk result (λ v. v ≡ constant_behind (all_of whole.now.statements.now) (spot_of spot) (tree_of value.now)) }
-    ensures table { OnOk result (IsTable (all_of whole.now.statements.now) known.new.states.items) }
-{
-    Err(AllocError)
-}
 
 /// The size of an expression behind the statements so far, where the segment has this size.
 pub fn size(

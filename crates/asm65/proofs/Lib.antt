@@ -27,5 +27,6 @@ pub mod GoodSections
 pub mod GoodObjects
 pub mod Fitting
 pub mod Tables
+pub mod ZeroPages
 pub mod Scopes
 pub mod NameParts

@@ -28,5 +28,6 @@ pub mod GoodObjects
 pub mod Fitting
 pub mod Tables
 pub mod ZeroPages
+pub mod Sizing
 pub mod Scopes
 pub mod NameParts

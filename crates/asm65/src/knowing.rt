@@ -2,37 +2,21 @@
 //! forms of instructions.
 
 ghost use Rattle.std.specs.Prelude.{◌≡◌, IfOk, OnOk};
-ghost use Rattle.syntax65.specs.Trees.{tree_of};
 ghost use Rattle.asm65.specs.Resolving.{IsModule, IsTable};
-ghost use Rattle.asm65.specs.Sizes.{mode_of, size_of};
+ghost use Rattle.asm65.specs.Sizes.{mode_of};
 ghost use Rattle.asm65.specs.Views.{all_of, operand_of, spot_of};
 
 mod constants;
+mod sizes;
 
 pub use constants::constant;
+pub use sizes::size;
 
 use crate::laid::Spot;
 use crate::language::Operand;
 use crate::resolving::{Known, Module};
 use std::alloc::{AllocError, Global};
 use syntax65::{AddressSize, Expr, Mnemonic, Mode};
-
-/// The size of an expression behind the statements so far, where the segment has this size.
-pub fn size(
-    alloc: Global,
-    whole: &Module<'_>,
-    known: &mut Known,
-    spot: Spot,
-    own: AddressSize,
-    value: &Expr,
-) -> Result<AddressSize, AllocError>
-    requires names { IsModule whole.now }
-    requires table { IsTable (all_of whole.now.statements.now) known.old.states.items }
-    ensures size { IfOk result (λ s. s ≡ size_of (all_of whole.now.statements.now) (spot_of spot) own (tree_of value.now)) }
-    ensures table { OnOk result (IsTable (all_of whole.now.statements.now) known.new.states.items) }
-{
-    Err(AllocError)
-}
 
 /// The addressing form of an instruction behind the statements so far, if it has that form.
 pub fn mode(

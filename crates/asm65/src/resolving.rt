@@ -12,5 +12,5 @@ mod shown;
 pub use attempt::State;
 pub use finding::{find_defined, find_norm, no_forms};
 pub use known::Known;
-pub use meaning::Module;
+pub use meaning::{Meaning, Module, meaning_of};
 pub use names::{Names, name_of};

@@ -1,5 +1,5 @@
 -- The sizes of expressions that are constant.
-use Rattle.std.proofs.Common.{◌≡◌, ℤ, pos, List, length, Option, Some, None, ap, ◌∙◌}
+use Rattle.std.proofs.Common.{◌≡◌, ℤ, pos, List, length, Some, ap}
 use Rattle.std.specs.Prelude.{if◌then◌else◌}
 use Rattle.syntax65.specs.Trees.{Tree, number, here, name, cheap, forward, backward, unary, binary}
 use Rattle.syntax65.specs.declared.lexing.tokens.AddressSize.{AddressSize}

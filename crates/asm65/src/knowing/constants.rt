@@ -1,6 +1,6 @@
 //! The values of expressions that are constant at a line.
 
-ghost use Rattle.std.specs.Prelude.{◌≡◌, IfOk, Ok, OnOk, length};
+ghost use Rattle.std.specs.Prelude.{◌≡◌, IfOk, Ok, OnOk};
 ghost use Rattle.syntax65.specs.Outcome.{Finds, Gives};
 ghost use Rattle.syntax65.specs.Trees.{tree_of};
 ghost use Rattle.asm65.specs.Faults.{is_memory};

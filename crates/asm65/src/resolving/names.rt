@@ -89,7 +89,10 @@ impl Names {
     pub fn import_at(&self, place: usize) -> Option<&[u8]>
         ensures { option_map (λ n. n.now) result ≡ slice_get (map (λ k. k.items) self.now.imports.keys) place }
     {
-        import_at(&self.imports, place)
+        match self.imports.get_index(place) {
+            Some(name) => Some(name.as_slice()),
+            None => None,
+        }
     }
 
     /// Whether a name was imported for the zero page.
@@ -135,15 +138,6 @@ fn name_at(names: &IndexSet<Vec<u8>>, place: usize) -> &[u8]
     match names.get_index(place) {
         Some(name) => name.as_slice(),
         None => &[],
-    }
-}
-
-fn import_at(names: &IndexSet<Vec<u8>>, place: usize) -> Option<&[u8]>
-    ensures { option_map (λ n. n.now) result ≡ slice_get (map (λ k. k.items) names.now.keys) place }
-{
-    match names.get_index(place) {
-        Some(name) => Some(name.as_slice()),
-        None => None,
     }
 }
 

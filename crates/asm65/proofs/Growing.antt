@@ -1,5 +1,5 @@
 -- What names mean stays so behind one more statement, unless that statement hides what its name meant there.
-use Rattle.std.proofs.Common.{◌≡◌, ◌∙◌, ℕ, zero, suc, ◌+◌, ◌<◌, ◌≤◌, Bool, true, false, cond, not, List, [], ◌∷◌, ◌++◌, length, take, position, Option, Some, None, Result, Ok, Err, ◌⊎◌, inl, inr, refl, sym, ap, subst, arith}
+use Rattle.std.proofs.Common.{◌≡◌, ◌∙◌, ℕ, zero, suc, ◌+◌, ◌<◌, ◌≤◌, Bool, true, false, List, [], ◌∷◌, ◌++◌, length, take, position, Option, Some, None, Result, Ok, Err, ◌⊎◌, inl, inr, refl, sym, ap, subst, arith}
 use Rattle.std.specs.Prelude.{slice_get, nat_le, ◌-◌, ◌==◌, ◌&&◌, if◌then◌else◌}
 use Rattle.std.specs.List.{list_any}
 use Rattle.std.specs.Str.{bytes_eq}
@@ -9,7 +9,7 @@ use Rattle.syntax65.specs.Trees.{Tree, name, cheap, forward, backward, number, h
 use Rattle.asm65.specs.declared.fault.AsmFault.{AsmFault}
 use Rattle.asm65.specs.declared.fault.AsmFault.TheVariants.{Undefined, NoSuchScope, NoSuchLabel}
 use Rattle.asm65.specs.Laid.{Laid, Spot, defined_name, is_unnamed}
-use Rattle.asm65.specs.Names.{Meaning, defined_at, imported_as, cheap_meaning, backward_meaning, defined_in, enclosing, first_found, global_meaning, import_key, imported_names, imports_of, is_cheap, is_named, last_of, meaning_of, member_meaning, or_else, or_fault, outward_from, plain_meaning, scope_at, scope_from, scoped_meaning, scopes_from, scopes_of, shown, unnamed_meaning, with_new}
+use Rattle.asm65.specs.Names.{Meaning, cheap_meaning, defined_in, enclosing, first_found, global_meaning, import_key, imported_names, imports_of, is_cheap, is_named, last_of, meaning_of, member_meaning, or_else, or_fault, outward_from, plain_meaning, scope_at, scope_from, scoped_meaning, scopes_from, scopes_of, shown, unnamed_meaning, with_new}
 use Rattle.asm65.specs.Growing.{AreNested, HidesNothing, MeansNothing, hides, hides_at, is_meant}
 use Rattle.asm65.specs.Resolving.{or_here}
 use Rattle.asm65.proofs.NameTables.{imported_more, position_more, same_bytes}

@@ -13,8 +13,8 @@ use Rattle.asm65.specs.Growing.{AreNested, HidesNothing}
 use Rattle.asm65.specs.Language.{Stated, constant}
 use Rattle.asm65.specs.Laid.{Laid, Spot}
 use Rattle.asm65.specs.Names.{Meaning, defined_at, imported_as, meaning_of, scope_at}
-use Rattle.asm65.specs.Norms.{folded, form_by, form_of_laid, form_of_meaning, form_of_stated, norm}
-use Rattle.asm65.specs.Resolving.{FoundBy, IsTable, is_open, unknown}
+use Rattle.asm65.specs.Norms.{folded, form_by, form_of_laid, form_of_meaning, form_of_stated, norm, norm_behind, norm_of}
+use Rattle.asm65.specs.Resolving.{IsTable, is_open, unknown}
 use Rattle.asm65.proofs.Growing.{get_stays, meaning_stays}
 
 -- the second is the first where that is there
@@ -107,3 +107,15 @@ table_stays all l states nested hides t = record {
         by : (slice_get states j ≡ Some x) ⊎ (x ≡ Unknown) → slice_get states j ≡ Some x
         by (inl e) = e
         by (inr e) = absurd (differs e)
+
+-- and nothing waits in it where nothing waited
+pub idle_more : (states : List State) → ((j : ℕ) → slice_get states j ≡ Some Waiting → ⊥) → (j : ℕ) → slice_get (states ++ Unknown ∷ []) j ≡ Some Waiting → ⊥
+idle_more states idle j e = by (get_more states Unknown Waiting j e)
+  where
+    by : (slice_get states j ≡ Some Waiting) ⊎ (Waiting ≡ Unknown) → ⊥
+    by (inl same) = idle j same
+    by (inr never) = cc
+
+-- what is behind the statements before is what stands at the place behind them
+pub behind_is : (before : List Laid) (s : Spot) (e : Tree) → norm_behind before s e ≡ norm_of before (length before) s e
+behind_is before s e = refl

@@ -1,5 +1,5 @@
 -- Which places are noted of a table of forms.
-use Rattle.std.proofs.Common.{◌≡◌, ◌≢◌, ℕ, zero, suc, ◌+◌, ◌<◌, ◌≤◌, refl, sym, ap, ◌∙◌, subst, arith, List, [], ◌∷◌, ◌++◌, length, take, drop, Option, Some, None, slice_get, Bool, true, false, nat_eq, Result, Ok, Err, ◌⊎◌, inl, inr}
+use Rattle.std.proofs.Common.{◌≡◌, ◌≢◌, ℕ, zero, suc, ◌+◌, ◌<◌, refl, sym, ap, ◌∙◌, subst, arith, List, [], ◌∷◌, ◌++◌, length, take, drop, Option, Some, None, slice_get, Bool, true, false, nat_eq, ◌⊎◌, inl, inr}
 use Rattle.std.specs.Prelude.{slice_set, ◌==◌, ◌||◌}
 use Rattle.std.specs.List.{list_any}
 use Rattle.std.proofs.lemmas.Bool.Decides.{nat_tests}
@@ -31,10 +31,10 @@ noted_more states noted h = λ j e. by j (slice_get (states ++ Unknown ∷ []) j
 pub noted_one_more : (states : List State) (noted : List ℕ) (place : ℕ) → AreNoted states noted → AreNoted states (noted ++ place ∷ [])
 noted_one_more states noted place h = λ j e. list_any-append (λ i. i == j) noted (place ∷ []) ∙ ap (λ b. b || list_any (λ i. i == j) (place ∷ [])) (h j e)
 
-get_other : (states : List State) (i j : ℕ) (x : State) → i ≢ j → slice_get (slice_set states j x) i ≡ slice_get states i
+pub get_other : (states : List State) (i j : ℕ) (x : State) → i ≢ j → slice_get (slice_set states j x) i ≡ slice_get states i
 get_other states i j x other = grind (arith, common_steps, gets)
 
-get_same : (states : List State) (j : ℕ) (x : State) → j < length states → slice_get (slice_set states j x) j ≡ Some x
+pub get_same : (states : List State) (j : ℕ) (x : State) → j < length states → slice_get (slice_set states j x) j ≡ Some x
 get_same states j x lt = grind (arith, common_steps, gets)
 
 -- what isn't found at its place needn't be noted

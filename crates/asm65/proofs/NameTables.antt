@@ -111,7 +111,7 @@ abbrev pub with_one : List (List ℕ) → List ℕ → List (List ℕ)
 with_one known n = if list_any (λ k. bytes_eq n k) known then known else known ++ n ∷ []
 
 module _ {K : Type 0} (f : K → List ℕ) where
-  any_mapped : (n : List ℕ) (known : List K) → list_any (λ k. bytes_eq n (f k)) known ≡ list_any (λ k. bytes_eq n k) (map f known)
+  pub any_mapped : (n : List ℕ) (known : List K) → list_any (λ k. bytes_eq n (f k)) known ≡ list_any (λ k. bytes_eq n k) (map f known)
   any_mapped n [] = refl
   any_mapped n (k ∷ known) = ap (λ b. bytes_eq n (f k) || b) (any_mapped n known)
 

@@ -1,5 +1,5 @@
 -- Which places of a table of forms are found, and the table without those that wait.
-use Rattle.std.specs.Prelude.{◌≡◌, ℕ, List, [], ◌∷◌, slice_get, slice_set, Bool, true, false, Option, Some, None, ◌==◌}
+use Rattle.std.specs.Prelude.{◌≡◌, ℕ, List, [], ◌∷◌, slice_get, slice_set, Bool, true, false, Option, Some, ◌==◌}
 use Rattle.std.specs.List.{list_any}
 use Rattle.asm65.specs.declared.resolving.attempt.State.{State}
 use Rattle.asm65.specs.declared.resolving.attempt.State.TheVariants.{Unknown, Found}

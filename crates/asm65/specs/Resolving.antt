@@ -1,5 +1,6 @@
 -- What the tables of names and forms hold among all statements of a module, and attempts at forms by them.
 use Rattle.std.specs.Prelude.{◌≡◌, ℕ, zero, ◌+◌, ◌≤◌, ◌==◌, ◌&&◌, position, take, codes, ◌^◌, pos, List, [], ◌∷◌, ◌++◌, length, map, slice_get, sum_by, Bool, false, true, Option, Some, None, Result, Ok, Err, if◌then◌else◌}
+use Rattle.std.specs.List.{list_any}
 use Rattle.std.specs.Str.{bytes_eq}
 use Rattle.indexmap.specs.IndexMap.{IndexMap, get_by}
 use Rattle.syntax65.specs.Outcome.{◌>>=◌}
@@ -23,6 +24,7 @@ use Rattle.asm65.specs.Language.{Stated, cheap_label, constant}
 use Rattle.asm65.specs.Laid.{Laid, Spot, scope_name, is_unnamed}
 use Rattle.asm65.specs.Names.{Meaning, defined_at, imported_as, defined_in, imported_names, is_cheap, is_named, meaning_of, plain_meaning, scoped_meaning}
 use Rattle.asm65.specs.Norms.{address_of, folded, form_of_laid, norm}
+use Rattle.asm65.specs.Sizes.{is_zero_page_name}
 use Rattle.asm65.specs.Views.{all_of}
 
 -- ---- Names.
@@ -84,6 +86,7 @@ pub record AreNames (all : List Laid) (n : Names) : Type 0 where
   pub unnamed : (count : ℕ) → get_by (λ k. count == k) n.unnamed ≡ unnamed_in all count
   pub bounded : (count : ℕ) → 2 ^ 32 ≤ count → unnamed_in all count ≡ None
   pub imports : map (λ k. k.items) n.imports.keys ≡ imported_names [] all
+  pub zero_page : (name : List ℕ) → list_any (λ k. bytes_eq name k.items) n.zero_page.keys ≡ is_zero_page_name all name
 
 -- names with those of one more statement behind all others
 abbrev pub Grows : Names → ℕ → Laid → Names → Type 0

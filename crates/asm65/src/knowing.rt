@@ -1,66 +1,10 @@
 //! What is known of expressions at a line: their values where they are constant there, their sizes, and the addressing
 //! forms of instructions.
 
-ghost use Rattle.std.specs.Prelude.{◌≡◌, IfOk, OnOk};
-ghost use Rattle.syntax65.specs.Trees.{tree_of};
-ghost use Rattle.asm65.specs.Norms.{constant_behind};
-ghost use Rattle.asm65.specs.Resolving.{IsModule, IsTable};
-ghost use Rattle.asm65.specs.Sizes.{mode_of, size_of};
-ghost use Rattle.asm65.specs.Views.{all_of, operand_of, spot_of};
+mod constants;
+mod modes;
+mod sizes;
 
-use crate::laid::Spot;
-use crate::language::Operand;
-use crate::resolving::{Known, Module};
-use std::alloc::{AllocError, Global};
-use syntax65::{AddressSize, Expr, Mnemonic, Mode};
-
-/// The value of an expression where it is constant behind the statements so far.
-pub fn constant(
-    alloc: Global,
-    whole: &Module<'_>,
-    known: &mut Known,
-    spot: Spot,
-    value: &Expr,
-) -> Result<Option<i64>, AllocError>
-    requires names { IsModule whole.now }
-    requires table { IsTable (all_of whole.now.statements.now) known.old.states.items }
-    ensures value { IfOk result (λ v. v ≡ constant_behind (all_of whole.now.statements.now) (spot_of spot) (tree_of value.now)) }
-    ensures table { OnOk result (IsTable (all_of whole.now.statements.now) known.new.states.items) }
-{
-    Err(AllocError)
-}
-
-/// The size of an expression behind the statements so far, where the segment has this size.
-pub fn size(
-    alloc: Global,
-    whole: &Module<'_>,
-    known: &mut Known,
-    spot: Spot,
-    own: AddressSize,
-    value: &Expr,
-) -> Result<AddressSize, AllocError>
-    requires names { IsModule whole.now }
-    requires table { IsTable (all_of whole.now.statements.now) known.old.states.items }
-    ensures size { IfOk result (λ s. s ≡ size_of (all_of whole.now.statements.now) (spot_of spot) own (tree_of value.now)) }
-    ensures table { OnOk result (IsTable (all_of whole.now.statements.now) known.new.states.items) }
-{
-    Err(AllocError)
-}
-
-/// The addressing form of an instruction behind the statements so far, if it has that form.
-pub fn mode(
-    alloc: Global,
-    whole: &Module<'_>,
-    known: &mut Known,
-    spot: Spot,
-    own: AddressSize,
-    mnemonic: Mnemonic,
-    operand: &Operand,
-) -> Result<Option<Mode>, AllocError>
-    requires names { IsModule whole.now }
-    requires table { IsTable (all_of whole.now.statements.now) known.old.states.items }
-    ensures mode { IfOk result (λ m. m ≡ mode_of (all_of whole.now.statements.now) (spot_of spot) own mnemonic (operand_of operand.now)) }
-    ensures table { OnOk result (IsTable (all_of whole.now.statements.now) known.new.states.items) }
-{
-    Err(AllocError)
-}
+pub use constants::constant;
+pub use modes::mode;
+pub use sizes::size;

@@ -10,7 +10,7 @@ mod scopes;
 mod shown;
 
 pub use attempt::State;
-pub use known::Known;
 pub use finding::{find_defined, find_norm, no_forms};
-pub use meaning::Module;
+pub use known::Known;
+pub use meaning::{Meaning, Module, meaning_of};
 pub use names::{Names, name_of};

@@ -1,12 +1,14 @@
 //! The names of a module.
 
 ghost use Rattle.std.specs.Prelude.{◌≡◌, ◌<◌, ◌^◌, ◌==◌, IfOk, OnOk, Some, [], length, map, position, slice_get, true};
+ghost use Rattle.std.specs.List.{list_any};
 ghost use Rattle.std.specs.Option.{option_map};
 ghost use Rattle.std.specs.Str.{bytes_eq};
 ghost use Rattle.indexmap.specs.IndexMap.{get_by};
 ghost use Rattle.asm65.specs.Laid.{defined_name, is_unnamed, scope_name};
 ghost use Rattle.asm65.specs.Names.{imports_of, with_new};
 ghost use Rattle.asm65.specs.Resolving.{AreNames, Counts, Grows, cheap_name, found};
+ghost use Rattle.asm65.specs.Sizes.{zero_page_names};
 ghost use Rattle.asm65.specs.Views.{laid_of, stated_of};
 
 use super::places::Places;
@@ -14,7 +16,7 @@ use crate::laid::Laid;
 use crate::language::Statement;
 use indexmap::{IndexMap, IndexSet};
 use std::alloc::{AllocError, Global};
-use syntax65::Sequence;
+use syntax65::{AddressSize, Sequence};
 
 /// The names of a module.
 #[derive(Drop)]
@@ -29,6 +31,8 @@ pub struct Names {
     unnamed: IndexMap<usize, usize>,
     /// The imports in the order in which they were first named.
     imports: IndexSet<Vec<u8>>,
+    /// Those that were imported for the zero page.
+    zero_page: IndexSet<Vec<u8>>,
 }
 
 impl Names {
@@ -42,6 +46,7 @@ impl Names {
             cheap: Places::new(alloc),
             unnamed: IndexMap::new(alloc),
             imports: IndexSet::new(alloc),
+            zero_page: IndexSet::new(alloc),
         }
     }
 
@@ -80,6 +85,23 @@ impl Names {
         self.imports.get_index_of(name)
     }
 
+    /// The name of the import at a place among the imports.
+    pub fn import_at(&self, place: usize) -> Option<&[u8]>
+        ensures { option_map (λ n. n.now) result ≡ slice_get (map (λ k. k.items) self.now.imports.keys) place }
+    {
+        match self.imports.get_index(place) {
+            Some(name) => Some(name.as_slice()),
+            None => None,
+        }
+    }
+
+    /// Whether a name was imported for the zero page.
+    pub fn is_zero_page(&self, name: &[u8]) -> bool
+        ensures { result ≡ list_any (λ k. bytes_eq name.now k.items) self.now.zero_page.keys }
+    {
+        self.zero_page.contains(name)
+    }
+
     /// Adds the names of the statement at a place, which stands behind all others.
     pub fn add(&mut self, alloc: Global, place: usize, laid: &Laid) -> Result<(), AllocError>
         ensures { OnOk result (Grows self.old place (laid_of laid.now) self.new) }
@@ -92,6 +114,7 @@ impl Names {
         self.scopes.add(alloc, scope, scope_name(statement), place)?;
         self.cheap.add(alloc, region, cheap_name(statement), place)?;
         add_unnamed(&mut self.unnamed, spot.unnamed, statement, place)?;
+        add_imports(alloc, &mut self.zero_page, zero_page_names(statement))?;
         add_imports(alloc, &mut self.imports, imported(statement))
     }
 
@@ -203,6 +226,23 @@ fn imported(statement: &Statement) -> &[Sequence<u8>]
         Statement::Import { size: _, names } => names.as_slice(),
         Statement::Global { size: _, names } => names.as_slice(),
         Statement::ForceImport(names) => names.as_slice(),
+        _ => &[],
+    }
+}
+
+/// The names that a statement imports for the zero page.
+fn zero_page_names(statement: &Statement) -> &[Sequence<u8>]
+    ensures { result.now ≡ zero_page_names (stated_of statement.now) }
+{
+    match statement {
+        Statement::Import {
+            size: AddressSize::ZeroPage,
+            names,
+        }
+        | Statement::Global {
+            size: AddressSize::ZeroPage,
+            names,
+        } => names.as_slice(),
         _ => &[],
     }
 }

@@ -1,5 +1,4 @@
-use Rattle.std.proofs.Common.{◌≡◌, List, [], length, sym, ap, ◌∙◌, subst}
-use Rattle.asm65.specs.declared.resolving.attempt.State.{State}
+use Rattle.std.proofs.Common.{◌≡◌, [], length, sym, ap, ◌∙◌, subst}
 use Rattle.asm65.specs.Knowns.{AreNoted}
 use Rattle.asm65.specs.Resolving.{IsTable}
 use Rattle.asm65.proofs.Knowns.{none_known, written_over}

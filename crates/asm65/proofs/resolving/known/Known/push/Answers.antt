@@ -1,6 +1,5 @@
-use Rattle.std.proofs.Common.{◌≡◌, ◌++◌, ◌∷◌, [], List, sym, subst}
+use Rattle.std.proofs.Common.{◌++◌, ◌∷◌, [], List, sym, subst}
 use Rattle.asm65.specs.declared.resolving.attempt.State.{State}
-use Rattle.asm65.specs.declared.resolving.attempt.State.TheVariants.{Unknown}
 use Rattle.asm65.specs.Resolving.{IsTable}
 use Rattle.asm65.proofs.GrowingForms.{table_stays}
 use Rattle.asm65.proofs.resolving.known.Known.push.Goals as goal

@@ -148,7 +148,7 @@ fn operand_parts(
 ) -> Result<Option<Part>, AsmFault>
     requires names { IsModule whole.now }
     requires table { IsTable (all_of whole.now.statements.now) states.old }
-    ensures parts { Gives is_outside listed result (operand_parts (all_of whole.now.statements.now) place (laid_of laid.now) width (option_map (λ e. tree_of e.now) value)) }
+    ensures parts { Gives is_outside listed result (operand_parts (all_of whole.now.statements.now) place (laid_of laid.now) width (option_map (λ e. tree_of e.now) value.entry)) }
     ensures inside { IfErr result (λ e. is_failure e ≡ false) }
     ensures table { OnOk result (IsTable (all_of whole.now.statements.now) states.new) }
 {

@@ -2,7 +2,7 @@
 
 ghost use Rattle.std.specs.Prelude.{◌++◌, ◌∷◌, ◌<◌, ◌≡◌, List, OnOk, Some, [], length, ℕ, slice_get, slice_set, true};
 ghost use Rattle.asm65.specs.declared.resolving.attempt.State.TheVariants.{Unknown, Waiting, Found};
-ghost use Rattle.asm65.specs.Growing.{AreNested, HidesNothing};
+ghost use Rattle.asm65.specs.Growing.{AreNested, HidesNothing, hides};
 ghost use Rattle.asm65.specs.Knowns.{AreNoted, is_found, without};
 ghost use Rattle.asm65.specs.Laid.{Laid};
 ghost use Rattle.asm65.specs.Resolving.{IsTable};
@@ -37,6 +37,19 @@ impl Known {
         ensures table { OnOk result ((all : List Laid) (l : Laid) → AreNested all → HidesNothing all l → IsTable all self.old.states.items → IsTable (all ++ l ∷ []) self.new.states.items) }
     {
         self.states.push(State::Unknown)?;
+        Ok(())
+    }
+
+    /// The table for one more statement, behind all others, where it is said whether the name that the statement defines
+    /// means something there already.
+    pub fn grow(&mut self, is_hiding: bool) -> Result<(), AllocError>
+        requires { (j : ℕ) → slice_get self.old.states.items j ≡ Some Waiting → ⊥ }
+        ensures { OnOk result ((all : List Laid) (l : Laid) → AreNested all → hides all l ≡ is_hiding → IsTable all self.old.states.items → IsTable (all ++ l ∷ []) self.new.states.items) }
+    {
+        self.push()?;
+        if is_hiding {
+            self.forget();
+        }
         Ok(())
     }
 

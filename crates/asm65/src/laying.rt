@@ -1,5 +1,8 @@
 //! From lines to laid statements.
 
+mod adding;
+mod hiding;
+mod measuring;
 mod standing;
 
 pub use standing::Standing;

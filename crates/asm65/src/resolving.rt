@@ -13,4 +13,5 @@ pub use attempt::State;
 pub use known::Known;
 pub use finding::{find_defined, find_norm, no_forms};
 pub use meaning::Module;
+pub use scopes::defined_outward;
 pub use names::{Names, name_of};

@@ -1,14 +1,13 @@
 //! A statement that is laid behind others.
 
-ghost use Rattle.std.specs.Prelude.{◌≡◌, ◌≤◌, ◌<◌, ◌+◌, ◌++◌, ◌∷◌, [], codes, false, IfErr, IfOk, length, OnOk, true, List};
+ghost use Rattle.std.specs.Prelude.{◌≡◌, ◌≤◌, ◌<◌, ◌+◌, ◌++◌, ◌∷◌, [], codes, false, IfErr, IfOk, length, OnOk, true, ℕ};
 ghost use Rattle.syntax65.specs.Outcome.{Gives, Unless};
 ghost use Rattle.object65.specs.Objects.{section_limit};
 ghost use Rattle.asm65.specs.Faults.{is_failure, is_outside};
-ghost use Rattle.asm65.specs.Laid.{Laid as There};
 ghost use Rattle.asm65.specs.Laying.{advanced, measured, with_statement};
 ghost use Rattle.asm65.specs.Layout.{spot_of};
 ghost use Rattle.asm65.specs.LayoutViews.{layout_of, standing_of};
-ghost use Rattle.asm65.specs.Resolving.{AreNames, IsModule, IsTable};
+ghost use Rattle.asm65.specs.Resolving.{AreNames, IsTable};
 ghost use Rattle.asm65.specs.Settling.{IsSettled};
 ghost use Rattle.asm65.specs.Sounds.{AreSaid, AreWithin, IsSound, IsSoundStanding, KeepsSaid, SaysMore, says_nothing};
 ghost use Rattle.asm65.specs.Views.{all_of, laid_of, stated_of};
@@ -20,7 +19,7 @@ use super::standing::Standing;
 use crate::AsmFault;
 use crate::laid::Laid;
 use crate::language::Statement;
-use crate::resolving::{Known, Module};
+use crate::resolving::Module;
 use crate::texts::{Texts, warn};
 use std::alloc::{AllocError, Global};
 use syntax65::Sequence;
@@ -55,6 +54,8 @@ fn placed(standing: &Standing, line: u32, statement: Statement, measure: Measure
     requires { standing.now.current < length standing.now.segments.items }
     ensures laid { laid_of result.laid ≡ record { stated = stated_of statement; line = line; spot = spot_of (standing_of standing.now); length = measure.length; size = measure.size } }
     ensures settled { result.laid.settled ≡ measure.settled }
+    ensures length { result.laid.length ≡ measure.length }
+    ensures size { result.laid.size ≡ measure.size }
     ensures multiple { result.multiple ≡ measure.multiple }
 {
     Next {
@@ -70,6 +71,26 @@ fn placed(standing: &Standing, line: u32, statement: Statement, measure: Measure
     }
 }
 
+/// The measure of a statement behind others, or its first fault there.
+fn measured(
+    alloc: Global,
+    layout: &mut Layout,
+    statement: &Statement,
+) -> Result<Measured, AsmFault>
+    requires sound { IsSound layout.old }
+    ensures measured { Gives is_outside (λ m. record { length = m.length; size = m.size; multiple = m.multiple }) result (measured (all_of layout.old.statements) (standing_of layout.old.standing) (stated_of statement.now)) }
+    ensures settled { IfOk result (λ m. (line : ℕ) → IsSettled (all_of layout.old.statements) (record { stated = stated_of statement.now; line = line; spot = spot_of (standing_of layout.old.standing); length = m.length; size = m.size }) m.settled) }
+    ensures same { layout.new ≡ record layout.old { known = layout.new.known } }
+    ensures table { OnOk result (IsTable (all_of layout.old.statements) layout.new.known.states.items) }
+    ensures inside { IfErr result (λ e. is_failure e ≡ false) }
+{
+    let whole = Module {
+        statements: layout.statements.as_slice(),
+        names: &layout.names,
+    };
+    measure(alloc, &whole, &mut layout.known, &layout.standing, statement)
+}
+
 /// A statement with what it lies by behind others, or its first fault there.
 fn lay(
     alloc: Global,
@@ -81,15 +102,12 @@ fn lay(
     ensures measured { Gives is_outside (λ n. record { length = n.laid.length; size = n.laid.size; multiple = n.multiple }) result (measured (all_of layout.old.statements) (standing_of layout.old.standing) (stated_of statement)) }
     ensures laid { IfOk result (λ n. laid_of n.laid ≡ record { stated = stated_of statement; line = line; spot = spot_of (standing_of layout.old.standing); length = n.laid.length; size = n.laid.size }) }
     ensures settled { IfOk result (λ n. IsSettled (all_of layout.old.statements) (laid_of n.laid) n.laid.settled) }
-    ensures same { layout.new ≡ record layout.old { known = layout.new.known } }
-    ensures table { OnOk result (IsTable (all_of layout.old.statements) layout.new.known.states.items) }
+    ensures statements { layout.new.statements ≡ layout.old.statements }
+    ensures standing { layout.new.standing ≡ layout.old.standing }
+    ensures sound { OnOk result (IsSound layout.new) }
     ensures inside { IfErr result (λ e. is_failure e ≡ false) }
 {
-    let whole = Module {
-        statements: layout.statements.as_slice(),
-        names: &layout.names,
-    };
-    let measure = measure(alloc, &whole, &mut layout.known, &layout.standing, &statement)?;
+    let measure = measured(alloc, layout, &statement)?;
     Ok(placed(&layout.standing, line, statement, measure))
 }
 

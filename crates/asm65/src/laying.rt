@@ -2,6 +2,7 @@
 
 mod adding;
 mod hiding;
+mod line;
 mod measuring;
 mod standing;
 

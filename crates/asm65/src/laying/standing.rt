@@ -4,7 +4,7 @@ ghost use Rattle.std.specs.Prelude.{◌≡◌, ◌+◌, ◌<◌, ◌≤◌, leng
 ghost use Rattle.object65.specs.Objects.{section_limit};
 ghost use Rattle.asm65.specs.Laid.{closes_scope, is_unnamed, opens_region, opens_scope};
 ghost use Rattle.asm65.specs.Laying.{advanced};
-ghost use Rattle.asm65.specs.Layout.{current_behind, first_size, grown_at, kept_behind, last_kept, named_segments, new_segment, or_last, place_of, rest_kept, scope_behind, segment_at, segments_behind, spot_of};
+ghost use Rattle.asm65.specs.Layout.{current_behind, first_size, grown_at, kept_behind, last_kept, named_segments, new_segment, or_last, place_of, rest_kept, scope_behind, segment_at, segments_behind, spot_of, start};
 ghost use Rattle.asm65.specs.Names.{enclosing, scope_at};
 ghost use Rattle.asm65.specs.Sounds.{AreWithin, IsSoundStanding};
 ghost use Rattle.asm65.specs.LayoutViews.{standing_of};
@@ -43,6 +43,27 @@ pub struct Standing {
 }
 
 impl Standing {
+    /// Where the first statement stands: in CODE.
+    pub fn start(alloc: Global) -> Result<Self, AllocError>
+        ensures begun { IfOk result (λ w. standing_of w ≡ start) }
+        ensures sound { IfOk result IsSoundStanding }
+        ensures ends { IfOk result (λ w. AreWithin w.segments.items) }
+    {
+        let mut segments = Vec::new(alloc);
+        segments.push(segment_of(alloc, b"CODE", None)?)?;
+        let mut names = IndexSet::new(alloc);
+        names.insert(Vec::from_slice(alloc, b"CODE")?)?;
+        Ok(Standing {
+            scope: GLOBAL,
+            region: 0,
+            unnamed: 0,
+            segments,
+            current: 0,
+            kept: Vec::new(alloc),
+            names,
+        })
+    }
+
     /// The segment in which the next statement stands.
     pub fn segment(&self) -> &Segment
         requires { self.now.current < length self.now.segments.items }

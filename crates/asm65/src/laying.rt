@@ -95,6 +95,27 @@ fn check_closed(layout: &Layout, last: u32) -> Result<(), LineFault>
     }
 }
 
+/// Lays the statements of a text's lines behind nothing, up to the first fault.
+fn lay_all(
+    alloc: Global,
+    file: &str,
+    text: &[u8],
+    layout: &mut Layout,
+    texts: &mut Texts,
+) -> Result<(), LineFault>
+    requires begun { layout_of layout.old ≡ nothing_laid }
+    requires sound { IsSound layout.old }
+    requires said { AreSaid file.now [] texts.old }
+    ensures laid { OnOk result (AreLaid (lines_of text.now) (record { layout = layout_of layout.new; fault = None })) }
+    ensures sound { OnOk result (IsSound layout.new) }
+    ensures said { OnOk result (AreSaid file.now (all_of layout.new.statements) texts.new) }
+    ensures refused { IfErr result (λ e. Unless (is_outside_line e) (IsRefused file.now text.now e texts.new)) }
+    ensures inside { IfErr result (λ e. is_failure e.fault ≡ false) }
+{
+    let last = lay_lines(alloc, file, text, layout, texts)?;
+    check_closed(layout, last)
+}
+
 /// The statements of a text's lines, one laid behind the other, or the first fault that is found at a line. What they
 /// say while they are read is said, up to that line.
 pub fn lay(alloc: Global, file: &str, text: &[u8], texts: &mut Texts) -> Result<Layout, LineFault>
@@ -106,7 +127,6 @@ pub fn lay(alloc: Global, file: &str, text: &[u8], texts: &mut Texts) -> Result<
     ensures inside { IfErr result (λ e. is_failure e.fault ≡ false) }
 {
     let mut layout = nothing_laid(alloc)?;
-    let last = lay_lines(alloc, file, text, &mut layout, texts)?;
-    check_closed(&layout, last)?;
+    lay_all(alloc, file, text, &mut layout, texts)?;
     Ok(layout)
 }

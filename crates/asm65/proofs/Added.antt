@@ -51,8 +51,10 @@ settled_more xs x all one = λ i y e. by i y (item_more xs x y i e)
   where
     long : length (all_of xs) ≡ length xs
     long = map_length laid_of xs
+
     front : (i : ℕ) → i ≤ length xs → take i (all_of (xs ++ x ∷ [])) ≡ take i (all_of xs)
     front i le = ap (take i) (map-append laid_of xs (x ∷ [])) ∙ take-append-le i (all_of xs) (laid_of x ∷ []) (omega (arith, le, long))
+
     by : (i : ℕ) (y : Laid) → ((i < length xs) × (slice_get xs i ≡ Some y)) ⊎ ((i ≡ length xs) × (x ≡ y)) → IsSettled (take i (all_of (xs ++ x ∷ []))) (laid_of y) y.settled
     by i y (inl (lt, is)) = subst (λ ls. IsSettled ls (laid_of y) y.settled) (sym (front i (omega (arith, lt)))) (all i y is)
     by i y (inr (at, is)) =
@@ -69,6 +71,7 @@ scope_within all scope x nested le = by (there.opens_scope x) (there.closes_scop
     outer : (s : ℕ) → s ≤ length all → enclosing all s ≤ length all + 1
     outer zero h = omega arith
     outer (suc i) h = let inner : scope_at (slice_get all i) ≤ i = nested i in omega (arith, inner, h)
+
     by : (a b : Bool) → (if a then suc (length all) else if b then enclosing all scope else scope) ≤ length all + 1
     by true b = omega arith
     by false true = outer scope le
@@ -195,8 +198,8 @@ abbrev pub measure_of : ℕ → AddressSize → ℕ → Measured
 measure_of n s k = record { length = n; size = s; multiple = k }
 
 module _ (old : Layout) (line : ℕ) (x : Stated) (next : Laid) (multiple : ℕ)
-  (m : measured (all_of old.statements) (standing_of old.standing) x ≡ Ok (measure_of next.length next.size multiple))
-  (l : laid_of next ≡ placed (standing_of old.standing) line x next.length next.size) where
+    (m : measured (all_of old.statements) (standing_of old.standing) x ≡ Ok (measure_of next.length next.size multiple))
+    (l : laid_of next ≡ placed (standing_of old.standing) line x next.length next.size) where
   abbrev before : List there.Laid
   before = all_of old.statements
 
@@ -232,7 +235,7 @@ module _ (old : Layout) (line : ℕ) (x : Stated) (next : Laid) (multiple : ℕ)
       let laid_here : laid_of next ≡ laid before w line x = l ∙ ap (λ n. placed w line x n next.size) (sym long) ∙ ap (placed w line x (length_of before (spot_of w) (own_size w) x)) (sym sized) in
       let more : all_of new.statements ≡ before ++ laid before w line x ∷ [] = ap all_of statements ∙ map-append laid_of old.statements (next ∷ []) ∙ ap (λ y. before ++ y ∷ []) laid_here in
       let stands : standing_of new.standing ≡ standing_behind before w x =
-          moved ∙ ap (λ y. advanced before w y next.length multiple) same_stated ∙ ap (λ n. advanced before w x n multiple) (sym long) ∙ ap (advanced before w x (length_of before (spot_of w) (own_size w) x)) (sym aligned) in
+      moved ∙ ap (λ y. advanced before w y next.length multiple) same_stated ∙ ap (λ n. advanced before w x n multiple) (sym long) ∙ ap (advanced before w x (length_of before (spot_of w) (own_size w) x)) (sym aligned) in
       taken (line_fault before w x) (layout_behind (layout_of old) line x) fits.0
       ∙ ap (λ ls. Ok (layout_by ls (standing_behind before w x))) (sym more)
       ∙ ap (λ v. Ok (layout_by (all_of new.statements) v)) (sym stands)

@@ -121,6 +121,7 @@ new_name n w sound none = absent (map (λ k. k.items) w.names.keys) (position_ma
         by : (b : Bool) → cond b (Some i) (position_from (bytes_eq n) (i + 1) ns) ≡ None → (position_from (bytes_eq n) (i + 1) ns ≡ None → list_any (λ k. bytes_eq n k) ns ≡ false) → (b || list_any (λ k. bytes_eq n k) ns) ≡ false
         by true h f = absurd cc
         by false h f = f h
+
     absent : (ns : List (List ℕ)) → position (bytes_eq n) ns ≡ None → list_any (λ k. bytes_eq n k) ns ≡ false
     absent ns e = go 0 ns (sym (position_from-zero (bytes_eq n) ns) ∙ e)
 

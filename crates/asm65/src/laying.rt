@@ -16,8 +16,6 @@ mod line;
 mod measuring;
 mod standing;
 
-pub use standing::Standing;
-
 use crate::AsmFault;
 use crate::laid::Laid;
 use crate::lines::first_line;
@@ -25,6 +23,7 @@ use crate::refusal::{LineFault, at_line};
 use crate::resolving::{Known, Names};
 use crate::texts::Texts;
 use line::lay_text;
+pub use standing::Standing;
 use std::alloc::{AllocError, Global};
 use syntax65::Sequence;
 

@@ -72,11 +72,7 @@ fn placed(standing: &Standing, line: u32, statement: Statement, measure: Measure
 }
 
 /// The measure of a statement behind others, or its first fault there.
-fn measured(
-    alloc: Global,
-    layout: &mut Layout,
-    statement: &Statement,
-) -> Result<Measured, AsmFault>
+fn measured(alloc: Global, layout: &mut Layout, statement: &Statement) -> Result<Measured, AsmFault>
     requires sound { IsSound layout.old }
     ensures measured { Gives is_outside (λ m. record { length = m.length; size = m.size; multiple = m.multiple }) result (measured (all_of layout.old.statements) (standing_of layout.old.standing) (stated_of statement.now)) }
     ensures settled { IfOk result (λ m. (line : ℕ) → IsSettled (all_of layout.old.statements) (record { stated = stated_of statement.now; line = line; spot = spot_of (standing_of layout.old.standing); length = m.length; size = m.size }) m.settled) }
@@ -88,7 +84,13 @@ fn measured(
         statements: layout.statements.as_slice(),
         names: &layout.names,
     };
-    measure(alloc, &whole, &mut layout.known, &layout.standing, statement)
+    measure(
+        alloc,
+        &whole,
+        &mut layout.known,
+        &layout.standing,
+        statement,
+    )
 }
 
 /// A statement with what it lies by behind others, or its first fault there.
@@ -131,7 +133,9 @@ fn note(alloc: Global, layout: &mut Layout, next: &Laid, multiple: u32) -> Resul
     layout.known.grow(hides(&whole, next))?;
     layout.names.add(alloc, layout.statements.len(), next)?;
     let statements = layout.statements.as_slice();
-    layout.standing.advance(alloc, statements, &next.statement, next.length, multiple)
+    layout
+        .standing
+        .advance(alloc, statements, &next.statement, next.length, multiple)
 }
 
 /// Puts a statement behind the others.

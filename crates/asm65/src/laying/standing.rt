@@ -334,10 +334,7 @@ fn enclosing(statements: &[Laid], scope: u32) -> u32
 fn opens_scope(statement: &Statement) -> bool
     ensures { result ≡ opens_scope (stated_of statement.now) }
 {
-    matches!(
-        statement,
-        Statement::OpenScope(_) | Statement::OpenProc(_)
-    )
+    matches!(statement, Statement::OpenScope(_) | Statement::OpenProc(_))
 }
 
 fn closes_scope(statement: &Statement) -> bool

@@ -1,3 +1,4 @@
+pub mod Added
 pub mod Aheads
 pub mod Beginnings
 pub mod Drafting
@@ -15,6 +16,7 @@ pub mod Holding
 pub mod Insides
 pub mod Keys
 pub mod Knowns
+pub mod LaidLines
 pub mod Lasts
 pub mod NameParts
 pub mod NameTables
@@ -26,6 +28,7 @@ pub mod Pursuits
 pub mod Renumbering
 pub mod Sayings
 pub mod Scopes
+pub mod Segments
 pub mod Shown
 pub mod Sizing
 pub mod SoundContents

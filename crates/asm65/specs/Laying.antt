@@ -9,8 +9,8 @@ use Rattle.asm65.specs.declared.fault.AsmFault.TheVariants.{BadScope}
 use Rattle.asm65.specs.declared.refusal.LineFault.{LineFault}
 use Rattle.asm65.specs.Lines.{at_line, counted, tokens_in}
 use Rattle.asm65.specs.Language.{Stated}
-use Rattle.asm65.specs.Laid.{Laid}
-use Rattle.asm65.specs.Layout.{Layout, Standing, layout_behind, multiple_of, nothing_laid, own_size, size_defined, spot_of}
+use Rattle.asm65.specs.Laid.{Laid, is_unnamed, opens_region}
+use Rattle.asm65.specs.Layout.{Layout, Standing, current_behind, kept_behind, layout_behind, multiple_of, nothing_laid, own_size, scope_behind, segments_behind, size_defined, spot_of}
 use Rattle.asm65.specs.LineFaults.{is_open, line_fault}
 use Rattle.asm65.specs.Parsing.{IsStatement, label_of}
 use Rattle.asm65.specs.Sizes.{length_of}
@@ -80,6 +80,17 @@ measured before w x =
       size = size_defined before (spot_of w) (own_size w) x;
       multiple = multiple_of before (spot_of w) x;
     })
+
+-- what stands behind a statement of so many bytes, which aligns its section to a multiple
+abbrev pub advanced : List Laid → Standing → Stated → (count multiple : ℕ) → Standing
+advanced before w x count multiple = record {
+  scope = scope_behind before w.scope x;
+  region = if opens_region x then w.region + 1 else w.region;
+  unnamed = if is_unnamed x then w.unnamed + 1 else w.unnamed;
+  segments = segments_behind w.segments w.current count multiple x;
+  current = current_behind w x;
+  kept = kept_behind w x;
+}
 
 -- what a line makes of the statements before it, by its tokens
 abbrev pub IsReading : Layout → ℕ → List ℕ → Result Layout AsmFault → Type 0

@@ -1,7 +1,8 @@
 -- What holds of the code's layout and of what is said, between statements.
-use Rattle.std.specs.Prelude.{◌≡◌, ℕ, ◌<◌, ◌≤◌, Bool, true, false, Option, Some, None, List, ◌++◌, length, map}
+use Rattle.std.specs.Prelude.{◌≡◌, ℕ, ◌+◌, ◌<◌, ◌≤◌, Bool, true, false, Option, Some, None, List, ◌++◌, length, map}
 use Rattle.std.specs.List.{AllByRecursion}
 use Rattle.object65.specs.Objects.{section_limit}
+use Rattle.asm65.specs.declared.contents.Segment.{Segment}
 use Rattle.asm65.specs.declared.laying.Layout.{Layout}
 use Rattle.asm65.specs.declared.laying.standing.Standing.{Standing}
 use Rattle.asm65.specs.Growing.{AreNested}
@@ -26,13 +27,18 @@ pub record IsSoundStanding (w : Standing) : Type 0 where
   pub names : map (λ k. k.items) w.names.keys ≡ map (λ g. g.name) w.segments.items
   pub kept : AllByRecursion (λ k. k < length w.segments.items) w.kept.items
 
+-- no section is longer than sections can be
+abbrev pub AreWithin : List Segment → Type 0
+AreWithin gs = AllByRecursion (λ g. g.end ≤ section_limit) gs
+
 pub record IsSound (y : Layout) : Type 0 where
   pub names : AreNames (all_of y.statements) y.names
   pub known : IsTable (all_of y.statements) y.known.states.items
   pub nested : AreNested (all_of y.statements)
   pub settled : AreSettled y.statements
   pub standing : IsSoundStanding y.standing
-  pub ends : AllByRecursion (λ g. g.end ≤ section_limit) y.standing.segments.items
+  pub ends : AreWithin y.standing.segments.items
+  pub segments : length y.standing.segments.items ≤ length y.statements + 1
   pub scope : y.standing.scope ≤ length y.statements
   pub regions : y.standing.region ≤ length y.statements
   pub unnamed : y.standing.unnamed ≤ length y.statements

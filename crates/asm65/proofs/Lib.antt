@@ -43,3 +43,4 @@ pub mod NameParts
 pub mod Growing
 pub mod GrowingForms
 pub mod Knowns
+pub mod Measuring

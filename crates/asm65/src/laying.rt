@@ -1,5 +1,6 @@
 //! From lines to laid statements.
 
+mod measuring;
 mod standing;
 
 pub use standing::Standing;

@@ -3,6 +3,7 @@
 mod attempt;
 mod finding;
 mod known;
+mod lost;
 mod meaning;
 mod names;
 mod places;
@@ -12,5 +13,6 @@ mod shown;
 pub use attempt::State;
 pub use known::Known;
 pub use finding::{find_defined, find_norm, no_forms};
+pub use lost::check_scopes;
 pub use meaning::Module;
-pub use names::{Names, name_of};
+pub use names::{Names, cheap_name, name_of, scope_name};

@@ -1,0 +1,4 @@
+//! What a statement places behind others and what it defines, or its first fault there.
+
+mod names;
+mod trees;

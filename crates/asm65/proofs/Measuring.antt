@@ -1,16 +1,24 @@
 -- Faults one after the other.
-use Rattle.std.proofs.Common.{◌≡◌, ℕ, Bool, true, false, List, [], ◌∷◌, length, take, Option, Some, None, refl, sym, ap, ◌∙◌}
-use Rattle.std.specs.Prelude.{Result, Ok, Err}
+use Rattle.std.proofs.Common.{◌≡◌, ℕ, suc, ◌+◌, ◌<◌, ◌||◌, cond, map, drop, get_or, add-one, Bool, true, false, List, [], ◌∷◌, length, take, Option, Some, None, refl, sym, ap, ◌∙◌}
+use Rattle.std.specs.Prelude.{◌==◌, ◌&&◌, position, Result, Ok, Err}
+use Rattle.std.specs.List.{list_any, position_from}
+use Rattle.std.proofs.lemmas.Iterator.Adapters.{position_from-zero}
 use Rattle.std.proofs.Math.Seq.{take-length}
 use Rattle.syntax65.specs.Outcome.{◌>>=◌, Gives, Unless}
 use Rattle.syntax65.specs.Trees.{Tree, name}
 use Rattle.asm65.specs.declared.fault.AsmFault.{AsmFault}
 use Rattle.asm65.specs.Faults.{is_outside}
+use Rattle.asm65.specs.declared.fault.AsmFault.TheVariants.{DefinedTwice}
+use Rattle.asm65.specs.declared.language.Item.{Item}
 use Rattle.asm65.specs.Laid.{Laid}
+use Rattle.asm65.specs.Language as l
+use Rattle.asm65.specs.Names.{is_cheap}
+use Rattle.asm65.specs.Views.{item_of}
+use Rattle.asm65.proofs.NameTables.{drop_mapped}
 use Rattle.asm65.specs.Laying.{unless_fault}
-use Rattle.asm65.specs.LineFaults.{first_fault, lost_scope, or_then}
-use Rattle.asm65.specs.Measuring.{lost_parts}
-use Rattle.asm65.specs.Resolving.{plain_part}
+use Rattle.asm65.specs.LineFaults.{cheap_twice, first_fault, item_trees, lost_scope, lost_scopes, or_then, when, where_there}
+use Rattle.asm65.specs.Measuring.{cheap_there, lost_parts}
+use Rattle.asm65.specs.Resolving.{cheap_in, cheap_name, plain_part}
 use Rattle.asm65.proofs.Steps.{unless_then}
 
 -- the second fault is looked for where there is no first
@@ -37,3 +45,36 @@ refused_first e f g x h = unless_then (is_outside e) (λ p. two_faults f g x ∙
 -- a refusal of what is the same
 pub refused_same : {A : Type 0} (e : AsmFault) (r s : Result A AsmFault) → s ≡ r → Unless (is_outside e) (r ≡ Err e) → Unless (is_outside e) (s ≡ Err e)
 refused_same e r s q h = unless_then (is_outside e) (λ p. q ∙ p) h
+
+-- what is left where the first of two faults isn't there
+pub left_behind : {A : Type 0} (f g : Option AsmFault) (x y : A) → unless_fault f x ≡ Ok y → or_then f g ≡ g
+left_behind None g x y h = refl
+left_behind (Some e) g x y h = absurd cc
+
+-- ---- Lists of values.
+
+or_none : (a b : Option AsmFault) → or_then (or_then a None) b ≡ or_then a b
+or_none None b = refl
+or_none (Some e) b = refl
+
+first_item : (before : List Laid) (scope : ℕ) (item : l.Item) (items : List l.Item) → lost_scopes before scope (item_trees (item ∷ items)) ≡ or_then (lost_scopes before scope (item_trees (item ∷ []))) (lost_scopes before scope (item_trees items))
+first_item before scope (l.value e) items = sym (or_none (lost_scope before scope e) (lost_scopes before scope (item_trees items)))
+first_item before scope (l.text bytes) items = refl
+
+-- what the items from a place on are refused for
+pub items_lost : (before : List Laid) (scope : ℕ) (items : List Item) (i : ℕ) (item : Item) → i < length items → item ≡ get_or items i item → lost_scopes before scope (item_trees (drop i (map item_of items))) ≡ or_then (lost_scopes before scope (item_trees (item_of item ∷ []))) (lost_scopes before scope (item_trees (drop (i + 1) (map item_of items))))
+items_lost before scope items i item lt e = rw add-one (ap (λ is. lost_scopes before scope (item_trees is)) (drop_mapped item_of items i item lt e) ∙ first_item before scope (item_of item) (drop (suc i) (map item_of items)))
+
+-- ---- Cheap labels.
+
+any_from : {A : Type 0} (p : A → Bool) (i : ℕ) (xs : List A) (e : AsmFault) → when (list_any p xs) e ≡ where_there (position_from p i xs) e
+any_from p i [] e = refl
+any_from p i (x ∷ xs) e = by (p x) (any_from p (i + 1) xs e)
+  where
+    by : (b : Bool) → when (list_any p xs) e ≡ where_there (position_from p (i + 1) xs) e → when (b || list_any p xs) e ≡ where_there (cond b (Some i) (position_from p (i + 1) xs)) e
+    by true h = refl
+    by false h = h
+
+pub cheap_is : (before : List Laid) (region : ℕ) (x : l.Stated) → cheap_twice before region x ≡ cheap_there before region (cheap_name x)
+cheap_is before region (l.cheap_label n) = any_from (λ a. a.spot.region == region && is_cheap n a.stated) 0 before (DefinedTwice n) ∙ ap (λ o. where_there o (DefinedTwice n)) (sym (position_from-zero (λ a. a.spot.region == region && is_cheap n a.stated) before))
+cheap_is before region _ = refl

@@ -5,9 +5,10 @@ ghost use Rattle.syntax65.specs.Outcome.{Gives};
 ghost use Rattle.asm65.specs.Faults.{is_failure, is_outside};
 ghost use Rattle.asm65.specs.Laid.{defined_name, scope_name};
 ghost use Rattle.asm65.specs.Laying.{unless_fault};
-ghost use Rattle.asm65.specs.LineFaults.{cheap_twice, is_open, named_twice, opened_twice, stands_outside, when};
+ghost use Rattle.asm65.specs.LineFaults.{is_open, named_twice, opened_twice, stands_outside, when};
 ghost use Rattle.asm65.specs.declared.fault.AsmFault.TheVariants.{NotUnderstood};
-ghost use Rattle.asm65.specs.Resolving.{IsModule};
+ghost use Rattle.asm65.specs.Measuring.{cheap_there};
+ghost use Rattle.asm65.specs.Resolving.{IsModule, cheap_name};
 ghost use Rattle.asm65.specs.Views.{all_of, stated_of};
 
 use crate::AsmFault;
@@ -93,7 +94,7 @@ pub fn check_cheap(
     statement: &Statement,
 ) -> Result<(), AsmFault>
     requires { IsModule whole.now }
-    ensures new { Gives is_outside (λ u. u) result (unless_fault (cheap_twice (all_of whole.now.statements.now) region (stated_of statement.now)) tt) }
+    ensures new { Gives is_outside (λ u. u) result (unless_fault (cheap_there (all_of whole.now.statements.now) region (cheap_name (stated_of statement.now))) tt) }
     ensures inside { IfErr result (λ e. is_failure e ≡ false) }
 {
     let Some(name) = cheap_name(statement) else {

@@ -1,6 +1,7 @@
 -- Faults one after the other.
-use Rattle.std.proofs.Common.{◌≡◌, ℕ, suc, ◌+◌, ◌<◌, ◌||◌, cond, map, drop, get_or, add-one, Bool, true, false, List, [], ◌∷◌, length, take, Option, Some, None, refl, sym, ap, ◌∙◌}
-use Rattle.std.specs.Prelude.{◌==◌, ◌&&◌, position, Result, Ok, Err}
+use Rattle.std.proofs.Common.{◌≡◌, ℕ, zero, suc, ◌+◌, ◌-◌, ◌<◌, ◌≤◌, nat_lt, arith, ◌||◌, cond, map, drop, get_or, add-one, Bool, true, false, List, [], ◌∷◌, length, take, Option, Some, None, refl, sym, ap, ◌∙◌}
+use Rattle.std.specs.Prelude.{◌==◌, ◌&&◌, position, slice_get, Result, Ok, Err}
+use Rattle.std.proofs.lemmas.Bool.Decides.{nat_tests}
 use Rattle.std.specs.List.{list_any, position_from}
 use Rattle.std.proofs.lemmas.Iterator.Adapters.{position_from-zero}
 use Rattle.std.proofs.Math.Seq.{take-length}
@@ -16,7 +17,11 @@ use Rattle.asm65.specs.Names.{is_cheap}
 use Rattle.asm65.specs.Views.{item_of}
 use Rattle.asm65.proofs.NameTables.{drop_mapped}
 use Rattle.asm65.specs.Laying.{unless_fault}
-use Rattle.asm65.specs.LineFaults.{cheap_twice, first_fault, item_trees, lost_scope, lost_scopes, or_then, when, where_there}
+use Rattle.object65.specs.Objects.{section_limit}
+use Rattle.syntax65.specs.declared.lexing.tokens.AddressSize.TheVariants.{Absolute}
+use Rattle.asm65.specs.declared.contents.Segment.{Segment}
+use Rattle.asm65.specs.Layout.{segment_at}
+use Rattle.asm65.specs.LineFaults.{cheap_twice, first_fault, opener, item_trees, lost_scope, lost_scopes, or_then, when, where_there}
 use Rattle.asm65.specs.Measuring.{cheap_there, lost_parts}
 use Rattle.asm65.specs.Resolving.{cheap_in, cheap_name, plain_part}
 use Rattle.asm65.proofs.Steps.{unless_then}
@@ -78,3 +83,25 @@ any_from p i (x ∷ xs) e = by (p x) (any_from p (i + 1) xs e)
 pub cheap_is : (before : List Laid) (region : ℕ) (x : l.Stated) → cheap_twice before region x ≡ cheap_there before region (cheap_name x)
 cheap_is before region (l.cheap_label n) = any_from (λ a. a.spot.region == region && is_cheap n a.stated) 0 before (DefinedTwice n) ∙ ap (λ o. where_there o (DefinedTwice n)) (sym (position_from-zero (λ a. a.spot.region == region && is_cheap n a.stated) before))
 cheap_is before region _ = refl
+
+-- ---- Room.
+
+pub same_test : (offset room len : ℕ) → offset + room ≡ section_limit → nat_lt section_limit (offset + len) ≡ nat_lt room len
+same_test offset room len e = by (nat_lt section_limit (offset + len)) (nat_lt room len) refl refl
+  where
+    by : (a b : Bool) → nat_lt section_limit (offset + len) ≡ a → nat_lt room len ≡ b → a ≡ b
+    by true true p q = refl
+    by false false p q = refl
+    by true false p q = absurd (grind (arith, nat_tests))
+    by false true p q = absurd (grind (arith, nat_tests))
+
+-- ---- Segments and blocks.
+
+pub opener_is : (ls : List Laid) (scope : ℕ) → (scope ≡ 0 → ⊥) → opener ls scope ≡ slice_get ls (scope - 1)
+opener_is ls zero h = absurd (h refl)
+opener_is ls (suc i) h = ap (slice_get ls) (let e : i ≡ suc i - 1 = omega arith in e)
+
+pub no_segment : (gs : List Segment) (i : ℕ) → length gs ≤ i → (segment_at gs i).size ≡ Absolute
+no_segment [] i h = refl
+no_segment (f ∷ gs) zero h = absurd (omega arith)
+no_segment (f ∷ gs) (suc i) h = no_segment gs i (omega arith)

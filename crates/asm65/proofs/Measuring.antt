@@ -2,6 +2,11 @@
 use Rattle.std.proofs.Common.{◌≡◌, ℕ, zero, suc, ◌+◌, ◌-◌, ◌<◌, ◌≤◌, nat_lt, arith, ◌||◌, cond, map, drop, get_or, add-one, Bool, true, false, List, [], ◌∷◌, length, take, Option, Some, None, refl, sym, ap, ◌∙◌}
 use Rattle.std.specs.Prelude.{◌==◌, ◌&&◌, position, slice_get, Result, Ok, Err}
 use Rattle.std.proofs.lemmas.Bool.Decides.{nat_tests}
+use Rattle.std.specs.Prelude.{sum_by}
+use Rattle.std.proofs.lemmas.List.{drop_all}
+use Rattle.std.proofs.lemmas.List.Sums.{sum_by-cons}
+use Rattle.object65.specs.declared.object.Width.{Width}
+use Rattle.asm65.specs.Sizes.{item_len}
 use Rattle.std.specs.List.{list_any, position_from}
 use Rattle.std.proofs.lemmas.Iterator.Adapters.{position_from-zero}
 use Rattle.std.proofs.Math.Seq.{take-length}
@@ -15,7 +20,7 @@ use Rattle.asm65.specs.Laid.{Laid}
 use Rattle.asm65.specs.Language as l
 use Rattle.asm65.specs.Names.{is_cheap}
 use Rattle.asm65.specs.Views.{item_of}
-use Rattle.asm65.proofs.NameTables.{drop_mapped}
+use Rattle.asm65.proofs.NameTables.{drop_mapped, map_length}
 use Rattle.asm65.specs.Laying.{unless_fault}
 use Rattle.object65.specs.Objects.{section_limit}
 use Rattle.syntax65.specs.declared.lexing.tokens.AddressSize.TheVariants.{Absolute}
@@ -105,3 +110,12 @@ pub no_segment : (gs : List Segment) (i : ℕ) → length gs ≤ i → (segment_
 no_segment [] i h = refl
 no_segment (f ∷ gs) zero h = absurd (omega arith)
 no_segment (f ∷ gs) (suc i) h = no_segment gs i (omega arith)
+
+-- ---- Lengths of lists.
+
+-- how many bytes the items from a place on take
+pub items_left : (width : Width) (items : List Item) (i : ℕ) (item : Item) → i < length items → item ≡ get_or items i item → sum_by (item_len width) (drop i (map item_of items)) ≡ item_len width (item_of item) + sum_by (item_len width) (drop (i + 1) (map item_of items))
+items_left width items i item lt e = rw add-one (ap (sum_by (item_len width)) (drop_mapped item_of items i item lt e) ∙ sum_by-cons (item_len width) (item_of item) (drop (suc i) (map item_of items)))
+
+pub none_left : (width : Width) (items : List Item) (i : ℕ) → length items ≤ i → sum_by (item_len width) (drop i (map item_of items)) ≡ 0
+none_left width items i le = ap (sum_by (item_len width)) (drop_all i (map item_of items) (let e : length (map item_of items) ≡ length items = map_length item_of items in omega (arith, e)))

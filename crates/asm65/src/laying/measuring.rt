@@ -1,6 +1,7 @@
 //! What a statement places behind others and what it defines, or its first fault there.
 
 mod blocks;
+mod bytes;
 mod names;
 mod trees;
 

@@ -7,7 +7,7 @@ use Rattle.asm65.proofs.laying.measuring.blocks.size_at.Goals as goal
 pub returns-in-Some : goal.returns-in-Some
 returns-in-Some c =
     let less : c.args.place < length c.args.segments.now = (let is = c.in-Some.ensures.lookup.0 in grind (arith, nat_tests)) in
-    ap (λ g. g.size) (segment_is c.args.segments.now c.args.place c.in-Some.segment.now less c.in-Some.ensures.lookup.1.0)
+    ap (λ g. g.size) (segment_is c.args.segments.now c.args.place c.in-Some.segment.now less c.in-Some.ensures.lookup.1)
 
 pub returns-in-None : goal.returns-in-None
 returns-in-None c =

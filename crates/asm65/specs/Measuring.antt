@@ -4,6 +4,7 @@ use Rattle.object65.specs.Objects.{section_limit}
 use Rattle.asm65.specs.declared.fault.AsmFault.{AsmFault}
 use Rattle.asm65.specs.declared.fault.AsmFault.TheVariants.{DefinedTwice, NoSuchScope, NotUnderstood, SectionTooLarge}
 use Rattle.asm65.specs.declared.laying.measuring.Measure.{Measure}
+use Rattle.asm65.specs.declared.laid.Settled.{Settled}
 use Rattle.asm65.specs.Laid.{Laid, Spot, scope_name}
 use Rattle.asm65.specs.Language.{Stated}
 use Rattle.asm65.specs.Laying.{Measured, unless_fault}
@@ -66,3 +67,7 @@ IsSettledHere before w x m = (line : ℕ) → IsSettled before (record { stated 
 
 abbrev pub measured_of : Measure → Measured
 measured_of m = record { length = m.length; size = m.size; multiple = m.multiple }
+
+-- what is settled stands apart from its faults
+abbrev pub any_settled : Settled → Unit {0}
+any_settled x = tt

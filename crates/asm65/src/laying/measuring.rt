@@ -3,6 +3,7 @@
 mod blocks;
 mod bytes;
 mod names;
+mod rooms;
 mod trees;
 
 ghost use Rattle.std.specs.Prelude.{◌≡◌, ◌+◌, ◌≤◌, false, IfErr, nat_lt};

@@ -6,7 +6,9 @@ use Rattle.std.specs.Prelude.{sum_by}
 use Rattle.std.proofs.lemmas.List.{drop_all}
 use Rattle.std.proofs.lemmas.List.Sums.{sum_by-cons}
 use Rattle.object65.specs.declared.object.Width.{Width}
-use Rattle.asm65.specs.Sizes.{item_len}
+use Rattle.asm65.specs.Sizes.{counted, gap, item_len, optional_value}
+use Rattle.asm65.specs.Norms.{constant_behind}
+use Rattle.std.specs.Prelude.{ℤ, pos, negsuc, not}
 use Rattle.std.specs.List.{list_any, position_from}
 use Rattle.std.proofs.lemmas.Iterator.Adapters.{position_from-zero}
 use Rattle.std.proofs.Math.Seq.{take-length}
@@ -14,20 +16,21 @@ use Rattle.syntax65.specs.Outcome.{◌>>=◌, Gives, Unless}
 use Rattle.syntax65.specs.Trees.{Tree, name}
 use Rattle.asm65.specs.declared.fault.AsmFault.{AsmFault}
 use Rattle.asm65.specs.Faults.{is_outside}
-use Rattle.asm65.specs.declared.fault.AsmFault.TheVariants.{DefinedTwice}
+use Rattle.asm65.specs.declared.fault.AsmFault.TheVariants.{BadOperand, DefinedTwice, SectionTooLarge}
 use Rattle.asm65.specs.declared.language.Item.{Item}
 use Rattle.asm65.specs.Laid.{Laid}
 use Rattle.asm65.specs.Language as l
 use Rattle.asm65.specs.Names.{is_cheap}
 use Rattle.asm65.specs.Views.{item_of}
 use Rattle.asm65.proofs.NameTables.{drop_mapped, map_length}
-use Rattle.asm65.specs.Laying.{unless_fault}
+use Rattle.asm65.specs.Laying.{Measured, unless_fault}
 use Rattle.object65.specs.Objects.{section_limit}
 use Rattle.syntax65.specs.declared.lexing.tokens.AddressSize.TheVariants.{Absolute}
+use Rattle.syntax65.specs.declared.lexing.tokens.AddressSize.{AddressSize}
 use Rattle.asm65.specs.declared.contents.Segment.{Segment}
-use Rattle.asm65.specs.Layout.{segment_at}
-use Rattle.asm65.specs.LineFaults.{cheap_twice, first_fault, opener, item_trees, lost_scope, lost_scopes, or_then, when, where_there}
-use Rattle.asm65.specs.Measuring.{cheap_there, lost_parts}
+use Rattle.asm65.specs.Layout.{Standing, own_size, segment_at, spot_of}
+use Rattle.asm65.specs.LineFaults.{cheap_twice, first_fault, is_byte_value, is_there, multiple_fault, opener, item_trees, lost_scope, lost_scopes, or_then, when, where_there}
+use Rattle.asm65.specs.Measuring.{cheap_there, fitted, lost_parts, placed}
 use Rattle.asm65.specs.Resolving.{cheap_in, cheap_name, plain_part}
 use Rattle.asm65.proofs.Steps.{unless_then}
 
@@ -119,3 +122,54 @@ items_left width items i item lt e = rw add-one (ap (sum_by (item_len width)) (d
 
 pub none_left : (width : Width) (items : List Item) (i : ℕ) → length items ≤ i → sum_by (item_len width) (drop i (map item_of items)) ≡ 0
 none_left width items i le = ap (sum_by (item_len width)) (drop_all i (map item_of items) (let e : length (map item_of items) ≡ length items = map_length item_of items in omega (arith, e)))
+
+-- ---- Alignment.
+
+no_fault : {A : Type 0} (f : Option AsmFault) (x y : A) → unless_fault f x ≡ Ok y → (f ≡ None) × (x ≡ y)
+no_fault None x y h = (refl, cc)
+no_fault (Some e) x y h = absurd cc
+
+-- what `.align` places, by the value of its multiple, and whether its other value is a byte
+abbrev pub aligned : Standing → Bool → Option ℤ → Result Measured AsmFault
+aligned w b k =
+    unless_fault (first_fault (
+    None
+    ∷ when (not (is_there k && b)) BadOperand
+    ∷ multiple_fault k
+    ∷ None ∷ None ∷ None ∷ None ∷ None
+    ∷ when (nat_lt section_limit ((spot_of w).offset + gap (spot_of w).offset k)) SectionTooLarge
+    ∷ []))
+    (record { length = gap (spot_of w).offset k; size = own_size w; multiple = counted k })
+
+pub aligned_as : (before : List Laid) (w : Standing) (n : Tree) (v : Option Tree) (k : Option ℤ) → constant_behind before (spot_of w) n ≡ k → placed before w (l.align n v) ≡ aligned w (is_byte_value (optional_value before (spot_of w) v (pos 0))) k
+aligned_as before w n v k e = ap (aligned w (is_byte_value (optional_value before (spot_of w) v (pos 0)))) e
+
+-- a multiple that is refused, where the values aren't
+refused_third : {A : Type 0} (a b : Bool) (f r : Option AsmFault) (x : A) (m : ℕ) (e : AsmFault) → unless_fault {A = Unit {0}} (when (not a) BadOperand) tt ≡ Ok tt → unless_fault {A = Unit {0}} (when (not b) BadOperand) tt ≡ Ok tt → Unless (is_outside e) (unless_fault f m ≡ Err e) → Unless (is_outside e) (unless_fault (first_fault (None ∷ when (not (a && b)) BadOperand ∷ f ∷ None ∷ None ∷ None ∷ None ∷ None ∷ r ∷ [])) x ≡ Err e)
+refused_third false b f r x m e t h g = absurd cc
+refused_third true false f r x m e t h g = absurd cc
+refused_third true true None r x m e t h g = unless_then (is_outside e) (λ p. absurd cc) g
+refused_third true true (Some d) r x m e t h g = unless_then (is_outside e) (λ p. let same : d ≡ e = cc in ap (λ k. Err k) same) g
+
+pub bad_multiple : (w : Standing) (b : Bool) (k : Option ℤ) (e : AsmFault) → unless_fault {A = Unit {0}} (when (not (is_there k)) BadOperand) tt ≡ Ok tt → unless_fault {A = Unit {0}} (when (not b) BadOperand) tt ≡ Ok tt → Unless (is_outside e) (unless_fault (multiple_fault k) (counted k) ≡ Err e) → Unless (is_outside e) (aligned w b k ≡ Err e)
+bad_multiple w b k e t h g = refused_third (is_there k) b (multiple_fault k) _ _ (counted k) e t h g
+
+all_well : {A : Type 0} (f r : Option AsmFault) (x : A) → f ≡ None → r ≡ None → unless_fault (first_fault (None ∷ None ∷ f ∷ None ∷ None ∷ None ∷ None ∷ None ∷ r ∷ [])) x ≡ Ok x
+all_well None None x p q = refl
+all_well (Some e) r x p q = absurd cc
+all_well None (Some e) x p q = absurd cc
+
+abbrev pub as_ok : ℕ → AddressSize → ℕ → Result Measured AsmFault
+as_ok len own multiple = Ok (record { length = len; size = own; multiple = multiple })
+
+pub aligned_well : (w : Standing) (b : Bool) (k : Option ℤ) (m g len : ℕ) → unless_fault {A = Unit {0}} (when (not b) BadOperand) tt ≡ Ok tt → unless_fault (multiple_fault k) (counted k) ≡ Ok m → g ≡ gap (spot_of w).offset (Some (pos m)) → fitted w g ≡ Ok len → aligned w b k ≡ as_ok len (own_size w) m
+aligned_well w false k m g len h hm hg hf = absurd cc
+aligned_well w true None m g len h hm hg hf = absurd cc
+aligned_well w true (Some (negsuc j)) m g len h hm hg hf = absurd cc
+aligned_well w true (Some (pos j)) m g len h hm hg hf =
+    let p = no_fault (multiple_fault (Some (pos j))) j m hm in
+    let q = no_fault (when (nat_lt section_limit ((spot_of w).offset + g)) SectionTooLarge) g len hf in
+    let same : gap (spot_of w).offset (Some (pos j)) ≡ g = ap (λ i. gap (spot_of w).offset (Some (pos i))) p.1 ∙ sym hg in
+    all_well (multiple_fault (Some (pos j))) _ _ p.0 (ap (λ n. when (nat_lt section_limit ((spot_of w).offset + n)) SectionTooLarge) same ∙ q.0)
+    ∙ ap (λ n. as_ok n (own_size w) j) (same ∙ q.1)
+    ∙ ap (as_ok len (own_size w)) p.1

@@ -1,12 +1,12 @@
 -- The parts in which the code measures a statement.
-use Rattle.std.specs.Prelude.{ℕ, ◌+◌, ◌&&◌, nat_lt, Bool, List, [], ◌∷◌, Option, Some, None, Result, Ok, Err}
+use Rattle.std.specs.Prelude.{ℕ, ◌+◌, ◌&&◌, nat_lt, Bool, true, false, List, [], ◌∷◌, Option, Some, None, Result, Ok, Err}
 use Rattle.object65.specs.Objects.{section_limit}
 use Rattle.asm65.specs.declared.fault.AsmFault.{AsmFault}
 use Rattle.asm65.specs.declared.fault.AsmFault.TheVariants.{DefinedTwice, NoSuchScope, NotUnderstood, SectionTooLarge}
 use Rattle.asm65.specs.declared.laying.measuring.Measure.{Measure}
 use Rattle.asm65.specs.declared.laid.Settled.{Settled}
 use Rattle.asm65.specs.Laid.{Laid, Spot, scope_name}
-use Rattle.asm65.specs.Language.{Stated}
+use Rattle.asm65.specs.Language.{Stated, align, constant, file_part, instruction, reserve, values}
 use Rattle.asm65.specs.Laying.{Measured, unless_fault}
 use Rattle.asm65.specs.Layout.{Standing, multiple_of, own_size, size_defined, spot_of}
 use Rattle.asm65.specs.LineFaults.{alignment_fault, block_fault, defined_twice, first_fault, form_fault, is_open, lost_scopes, missing_file, opened_twice, operand_fault, or_then, part_fault, pop_fault, size_fault, stands_outside, trees_of, unless_there, when, where_there}
@@ -71,3 +71,13 @@ measured_of m = record { length = m.length; size = m.size; multiple = m.multiple
 -- what is settled stands apart from its faults
 abbrev pub any_settled : Settled → Unit {0}
 any_settled x = tt
+
+-- a statement that places no bytes and has no value that counts at its line
+abbrev pub is_bare : Stated → Bool
+is_bare (constant n e) = false
+is_bare (instruction m o) = false
+is_bare (values width items) = false
+is_bare (reserve n v) = false
+is_bare (align n v) = false
+is_bare (file_part bytes start len) = false
+is_bare _ = true

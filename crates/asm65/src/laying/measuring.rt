@@ -2,30 +2,32 @@
 
 mod blocks;
 mod bytes;
+mod kinds;
 mod names;
 mod rooms;
 mod trees;
 
-ghost use Rattle.std.specs.Prelude.{◌≡◌, ◌+◌, ◌≤◌, false, IfErr, nat_lt};
+ghost use Rattle.std.specs.Prelude.{◌≡◌, ◌+◌, false, IfErr, IfOk, nat_lt, OnOk};
 ghost use Rattle.object65.specs.Objects.{section_limit};
 ghost use Rattle.syntax65.specs.Outcome.{Gives};
 ghost use Rattle.asm65.specs.Faults.{is_failure, is_outside};
-ghost use Rattle.asm65.specs.Laying.{unless_fault};
+ghost use Rattle.asm65.specs.Laying.{measured, unless_fault};
 ghost use Rattle.asm65.specs.Layout.{own_size, spot_of};
 ghost use Rattle.asm65.specs.LayoutViews.{standing_of};
 ghost use Rattle.asm65.specs.LineFaults.{defined_twice};
-ghost use Rattle.asm65.specs.Measuring.{fitted, naming_fault};
-ghost use Rattle.asm65.specs.Resolving.{IsModule};
+ghost use Rattle.asm65.specs.Measuring.{fitted, measured_of, naming_fault, IsSettledHere};
+ghost use Rattle.asm65.specs.Resolving.{IsModule, IsTable};
 ghost use Rattle.asm65.specs.Sounds.{IsSoundStanding};
 ghost use Rattle.asm65.specs.Views.{all_of, spot_of as laid_spot, stated_of};
 
+use self::kinds::place;
 use self::names::{check_cheap, check_name, check_opened, check_outside};
 use self::trees::check_trees;
 use super::standing::Standing;
 use crate::AsmFault;
 use crate::laid::{Settled, Spot};
 use crate::language::Statement;
-use crate::resolving::Module;
+use crate::resolving::{Known, Module};
 use std::alloc::Global;
 use syntax65::AddressSize;
 
@@ -103,4 +105,24 @@ fn nothing(standing: &Standing) -> Measure
         multiple: 1,
         settled: Settled::Nothing,
     }
+}
+
+/// What a statement places behind these and what it defines, or its first fault there.
+pub fn take_measure(
+    alloc: Global,
+    whole: &Module<'_>,
+    known: &mut Known,
+    standing: &Standing,
+    statement: &Statement,
+) -> Result<Measure, AsmFault>
+    requires names { IsModule whole.now }
+    requires table { IsTable (all_of whole.now.statements.now) known.old.states.items }
+    requires standing { IsSoundStanding standing.now }
+    ensures measured { Gives is_outside measured_of result (measured (all_of whole.now.statements.now) (standing_of standing.now) (stated_of statement.now)) }
+    ensures settled { IfOk result (IsSettledHere (all_of whole.now.statements.now) (standing_of standing.now) (stated_of statement.now)) }
+    ensures table { OnOk result (IsTable (all_of whole.now.statements.now) known.new.states.items) }
+    ensures inside { IfErr result (λ e. is_failure e ≡ false) }
+{
+    check_naming(alloc, whole, standing.spot(), statement)?;
+    place(alloc, whole, known, standing, statement)
 }

@@ -101,16 +101,29 @@ pub fn reserve(
     })
 }
 
+/// Refuses what isn't constant.
+fn check_constant(value: Option<i64>) -> Result<(), AsmFault>
+    ensures constant { Gives is_outside (λ u. u) result (unless_fault (when (not (is_there value)) BadOperand) tt) }
+    ensures inside { IfErr result (λ e. is_failure e ≡ false) }
+{
+    match value {
+        Some(_) => Ok(()),
+        None => Err(AsmFault::BadOperand),
+    }
+}
+
 /// A value as a multiple to which sections are aligned.
-fn multiple_of(value: i64) -> Result<u32, AsmFault>
-    ensures multiple { Gives is_outside (λ n. n) result (unless_fault (multiple_fault (Some value)) (counted (Some value))) }
+fn multiple_of(value: Option<i64>) -> Result<u32, AsmFault>
+    ensures multiple { Gives is_outside (λ n. n) result (unless_fault (multiple_fault value) (counted value)) }
     ensures bounds { IfOk result (λ n. n ≤ 32768) }
     ensures positive { IfOk result (λ n. 0 < n) }
     ensures inside { IfErr result (λ e. is_failure e ≡ false) }
 {
     match value {
-        1 | 2 | 4 | 8 | 16 | 32 | 64 | 128 | 256 | 512 | 1024 | 2048 | 4096 | 8192 | 16384
-        | 32768 => Ok(value as u32),
+        Some(
+            value @ (1 | 2 | 4 | 8 | 16 | 32 | 64 | 128 | 256 | 512 | 1024 | 2048 | 4096 | 8192
+            | 16384 | 32768),
+        ) => Ok(value as u32),
         _ => Err(AsmFault::BadAlignment),
     }
 }
@@ -144,9 +157,8 @@ pub fn align(
     ensures inside { IfErr result (λ e. is_failure e ≡ false) }
 {
     let spot = standing.spot();
-    let Some(multiple) = knowing::constant(alloc, whole, known, spot, multiple)? else {
-        return Err(AsmFault::BadOperand);
-    };
+    let multiple = knowing::constant(alloc, whole, known, spot, multiple)?;
+    check_constant(multiple)?;
     let settled = fill(alloc, whole, known, spot, value)?;
     let multiple = multiple_of(multiple)?;
     let length = fit(standing, gap(standing, multiple) as usize)?;

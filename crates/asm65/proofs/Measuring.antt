@@ -6,7 +6,7 @@ use Rattle.std.specs.Prelude.{sum_by}
 use Rattle.std.proofs.lemmas.List.{drop_all}
 use Rattle.std.proofs.lemmas.List.Sums.{sum_by-cons}
 use Rattle.object65.specs.declared.object.Width.{Width}
-use Rattle.asm65.specs.Sizes.{counted, gap, item_len, optional_value}
+use Rattle.asm65.specs.Sizes.{counted, gap, item_len, length_of, optional_value}
 use Rattle.asm65.specs.Norms.{constant_behind}
 use Rattle.std.specs.Prelude.{ℤ, pos, negsuc, not}
 use Rattle.std.specs.List.{list_any, position_from}
@@ -16,21 +16,21 @@ use Rattle.syntax65.specs.Outcome.{◌>>=◌, Gives, Unless}
 use Rattle.syntax65.specs.Trees.{Tree, name}
 use Rattle.asm65.specs.declared.fault.AsmFault.{AsmFault}
 use Rattle.asm65.specs.Faults.{is_outside}
-use Rattle.asm65.specs.declared.fault.AsmFault.TheVariants.{BadOperand, DefinedTwice, SectionTooLarge}
+use Rattle.asm65.specs.declared.fault.AsmFault.TheVariants.{BadOperand, DefinedTwice, NotUnderstood, SectionTooLarge}
 use Rattle.asm65.specs.declared.language.Item.{Item}
-use Rattle.asm65.specs.Laid.{Laid}
+use Rattle.asm65.specs.Laid.{Laid, scope_name}
 use Rattle.asm65.specs.Language as l
 use Rattle.asm65.specs.Names.{is_cheap}
 use Rattle.asm65.specs.Views.{item_of}
 use Rattle.asm65.proofs.NameTables.{drop_mapped, map_length}
-use Rattle.asm65.specs.Laying.{Measured, unless_fault}
+use Rattle.asm65.specs.Laying.{Measured, measured, unless_fault}
 use Rattle.object65.specs.Objects.{section_limit}
 use Rattle.syntax65.specs.declared.lexing.tokens.AddressSize.TheVariants.{Absolute}
 use Rattle.syntax65.specs.declared.lexing.tokens.AddressSize.{AddressSize}
 use Rattle.asm65.specs.declared.contents.Segment.{Segment}
-use Rattle.asm65.specs.Layout.{Standing, own_size, segment_at, spot_of}
-use Rattle.asm65.specs.LineFaults.{cheap_twice, first_fault, is_byte_value, is_there, multiple_fault, opener, item_trees, lost_scope, lost_scopes, or_then, when, where_there}
-use Rattle.asm65.specs.Measuring.{cheap_there, fitted, lost_parts, placed}
+use Rattle.asm65.specs.Layout.{Standing, multiple_of, own_size, segment_at, size_defined, spot_of}
+use Rattle.asm65.specs.LineFaults.{cheap_twice, first_fault, defined_twice, is_open, line_fault, opened_twice, stands_outside, trees_of, is_byte_value, is_there, multiple_fault, opener, item_trees, lost_scope, lost_scopes, or_then, when, where_there}
+use Rattle.asm65.specs.Measuring.{cheap_there, fitted, lost_parts, naming_fault, placed, placing_fault, placing_faults}
 use Rattle.asm65.specs.Resolving.{cheap_in, cheap_name, plain_part}
 use Rattle.asm65.proofs.Steps.{unless_then}
 
@@ -173,3 +173,27 @@ aligned_well w true (Some (pos j)) m g len h hm hg hf =
     all_well (multiple_fault (Some (pos j))) _ _ p.0 (ap (λ n. when (nat_lt section_limit ((spot_of w).offset + n)) SectionTooLarge) same ∙ q.0)
     ∙ ap (λ n. as_ok n (own_size w) j) (same ∙ q.1)
     ∙ ap (as_ok len (own_size w)) p.1
+
+-- ---- All faults.
+
+four_first : (a b c d : Option AsmFault) (rest : List (Option AsmFault)) → first_fault (a ∷ b ∷ c ∷ d ∷ rest) ≡ or_then (or_then a (or_then b (or_then c d))) (first_fault rest)
+four_first (Some e) b c d rest = refl
+four_first None (Some e) c d rest = refl
+four_first None None (Some e) d rest = refl
+four_first None None None (Some e) rest = refl
+four_first None None None None rest = refl
+
+module _ (before : List Laid) (w : Standing) (x : l.Stated) where
+  abbrev all_measured : Measured
+  all_measured = record { length = length_of before (spot_of w) (own_size w) x; size = size_defined before (spot_of w) (own_size w) x; multiple = multiple_of before (spot_of w) x }
+
+  faults_are : line_fault before w x ≡ or_then (naming_fault before (spot_of w) x) (placing_fault before w x)
+  faults_are = four_first (when (stands_outside x && is_open w.scope) NotUnderstood) (lost_scopes before w.scope (trees_of x)) (opened_twice before w.scope (scope_name x)) (defined_twice before (spot_of w) x) (placing_faults before w x)
+
+  -- a statement that is refused for its names
+  pub measured_refused : (e : AsmFault) → Unless (is_outside e) (unless_fault {A = Unit {0}} (naming_fault before (spot_of w) x) tt ≡ Err e) → Unless (is_outside e) (measured before w x ≡ Err e)
+  measured_refused e h = refused_same e _ _ (ap (λ f. unless_fault f all_measured) faults_are) (refused_first e (naming_fault before (spot_of w) x) (placing_fault before w x) all_measured h)
+
+  -- and one that isn't
+  pub measured_named : unless_fault {A = Unit {0}} (naming_fault before (spot_of w) x) tt ≡ Ok tt → measured before w x ≡ placed before w x
+  measured_named h = ap (λ f. unless_fault f all_measured) (faults_are ∙ left_behind (naming_fault before (spot_of w) x) (placing_fault before w x) tt tt h)

@@ -3,7 +3,7 @@ use Rattle.std.specs.Prelude.{ℕ, ◌+◌, ◌&&◌, nat_lt, Bool, true, false,
 use Rattle.object65.specs.Objects.{section_limit}
 use Rattle.asm65.specs.declared.fault.AsmFault.{AsmFault}
 use Rattle.asm65.specs.declared.fault.AsmFault.TheVariants.{DefinedTwice, NoSuchScope, NotUnderstood, SectionTooLarge}
-use Rattle.asm65.specs.declared.laying.measuring.Measure.{Measure}
+use Rattle.asm65.specs.declared.laying.measuring.Measured as code
 use Rattle.asm65.specs.declared.laid.Settled.{Settled}
 use Rattle.asm65.specs.Laid.{Laid, Spot, scope_name}
 use Rattle.asm65.specs.Language.{Stated, align, constant, file_part, instruction, reserve, values}
@@ -33,10 +33,9 @@ naming_fault before s x =
     (or_then (lost_scopes before s.scope (trees_of x)) (or_then (opened_twice before s.scope (scope_name x)) (defined_twice before s x)))
 
 -- all faults behind them
-abbrev pub placing_fault : List Laid → Standing → Stated → Option AsmFault
-placing_fault before w x =
+abbrev pub placing_faults : List Laid → Standing → Stated → List (Option AsmFault)
+placing_faults before w x =
     let s : Spot = spot_of w in
-    first_fault (
     form_fault before s (own_size w) x
     ∷ operand_fault before s x
     ∷ alignment_fault before s x
@@ -46,7 +45,10 @@ placing_fault before w x =
     ∷ block_fault before s.scope x
     ∷ pop_fault w.kept x
     ∷ when (nat_lt section_limit (s.offset + length_of before s (own_size w) x)) SectionTooLarge
-    ∷ [])
+    ∷ []
+
+abbrev pub placing_fault : List Laid → Standing → Stated → Option AsmFault
+placing_fault before w x = first_fault (placing_faults before w x)
 
 -- what a statement places behind others, or its first fault of those
 abbrev pub placed : List Laid → Standing → Stated → Result Measured AsmFault
@@ -62,10 +64,10 @@ abbrev pub fitted : Standing → ℕ → Result ℕ AsmFault
 fitted w count = unless_fault (when (nat_lt section_limit ((spot_of w).offset + count)) SectionTooLarge) count
 
 -- what is settled of a statement that is laid here
-abbrev pub IsSettledHere : List Laid → Standing → Stated → Measure → Type 0
+abbrev pub IsSettledHere : List Laid → Standing → Stated → code.Measured → Type 0
 IsSettledHere before w x m = (line : ℕ) → IsSettled before (record { stated = x; line = line; spot = spot_of w; length = m.length; size = m.size }) m.settled
 
-abbrev pub measured_of : Measure → Measured
+abbrev pub measured_of : code.Measured → Measured
 measured_of m = record { length = m.length; size = m.size; multiple = m.multiple }
 
 -- what is settled stands apart from its faults

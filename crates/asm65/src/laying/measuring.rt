@@ -7,7 +7,7 @@ mod names;
 mod rooms;
 mod trees;
 
-ghost use Rattle.std.specs.Prelude.{◌≡◌, ◌+◌, false, IfErr, IfOk, nat_lt, OnOk};
+ghost use Rattle.std.specs.Prelude.{◌≡◌, ℕ, ◌+◌, false, IfErr, IfOk, nat_lt, OnOk};
 ghost use Rattle.object65.specs.Objects.{section_limit};
 ghost use Rattle.syntax65.specs.Outcome.{Gives};
 ghost use Rattle.asm65.specs.Faults.{is_failure, is_outside};
@@ -15,8 +15,9 @@ ghost use Rattle.asm65.specs.Laying.{measured, unless_fault};
 ghost use Rattle.asm65.specs.Layout.{own_size, spot_of};
 ghost use Rattle.asm65.specs.LayoutViews.{standing_of};
 ghost use Rattle.asm65.specs.LineFaults.{defined_twice};
-ghost use Rattle.asm65.specs.Measuring.{fitted, measured_of, naming_fault, IsSettledHere};
+ghost use Rattle.asm65.specs.Measuring.{fitted, naming_fault};
 ghost use Rattle.asm65.specs.Resolving.{IsModule, IsTable};
+ghost use Rattle.asm65.specs.Settling.{IsSettled};
 ghost use Rattle.asm65.specs.Sounds.{IsSoundStanding};
 ghost use Rattle.asm65.specs.Views.{all_of, spot_of as laid_spot, stated_of};
 
@@ -33,7 +34,7 @@ use syntax65::AddressSize;
 
 /// What a statement places and defines.
 #[derive(Clone, Copy, Debug, PartialEq, Eq)]
-pub struct Measure {
+pub struct Measured {
     /// How many bytes it places.
     pub length: u32,
     /// The address size of what it defines.
@@ -92,14 +93,14 @@ fn fit(standing: &Standing, length: usize) -> Result<u32, AsmFault>
 }
 
 /// What a statement without bytes places.
-fn nothing(standing: &Standing) -> Measure
+fn nothing(standing: &Standing) -> Measured
     requires { IsSoundStanding standing.now }
     ensures room { nat_lt section_limit ((spot_of (standing_of standing.now)).offset + 0) ≡ false }
     ensures length { result.length ≡ 0 }
     ensures size { result.size ≡ own_size (standing_of standing.now) }
     ensures multiple { result.multiple ≡ 1 }
 {
-    Measure {
+    Measured {
         length: 0,
         size: standing.segment().size,
         multiple: 1,
@@ -108,18 +109,18 @@ fn nothing(standing: &Standing) -> Measure
 }
 
 /// What a statement places behind these and what it defines, or its first fault there.
-pub fn take_measure(
+pub fn measure(
     alloc: Global,
     whole: &Module<'_>,
     known: &mut Known,
     standing: &Standing,
     statement: &Statement,
-) -> Result<Measure, AsmFault>
+) -> Result<Measured, AsmFault>
     requires names { IsModule whole.now }
     requires table { IsTable (all_of whole.now.statements.now) known.old.states.items }
     requires standing { IsSoundStanding standing.now }
-    ensures measured { Gives is_outside measured_of result (measured (all_of whole.now.statements.now) (standing_of standing.now) (stated_of statement.now)) }
-    ensures settled { IfOk result (IsSettledHere (all_of whole.now.statements.now) (standing_of standing.now) (stated_of statement.now)) }
+    ensures measured { Gives is_outside (λ m. record { length = m.length; size = m.size; multiple = m.multiple }) result (measured (all_of whole.now.statements.now) (standing_of standing.now) (stated_of statement.now)) }
+    ensures settled { IfOk result (λ m. (line : ℕ) → IsSettled (all_of whole.now.statements.now) (record { stated = stated_of statement.now; line = line; spot = spot_of (standing_of standing.now); length = m.length; size = m.size }) m.settled) }
     ensures table { OnOk result (IsTable (all_of whole.now.statements.now) known.new.states.items) }
     ensures inside { IfErr result (λ e. is_failure e ≡ false) }
 {

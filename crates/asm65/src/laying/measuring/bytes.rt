@@ -13,7 +13,7 @@ ghost use Rattle.asm65.specs.Sounds.{IsSoundStanding};
 ghost use Rattle.asm65.specs.Views.{all_of, item_of, operand_of};
 ghost use Rattle.object65.specs.Objects.{width_len};
 
-use super::{Measure, fit};
+use super::{Measured, fit};
 use crate::AsmFault;
 use crate::knowing;
 use crate::laid::Settled;
@@ -43,7 +43,7 @@ pub fn instruction(
     standing: &Standing,
     mnemonic: Mnemonic,
     operand: &Operand,
-) -> Result<Measure, AsmFault>
+) -> Result<Measured, AsmFault>
     requires names { IsModule whole.now }
     requires table { IsTable (all_of whole.now.statements.now) known.old.states.items }
     requires standing { IsSoundStanding standing.now }
@@ -58,7 +58,7 @@ pub fn instruction(
         return Err(AsmFault::NoSuchForm);
     };
     let length = fit(standing, mode_len(mode))?;
-    Ok(Measure {
+    Ok(Measured {
         length,
         size: own,
         multiple: 1,
@@ -112,13 +112,13 @@ fn list_len(standing: &Standing, width: Width, items: &[Item]) -> Result<u32, As
 }
 
 /// What a list of values places.
-pub fn values(standing: &Standing, width: Width, items: &[Item]) -> Result<Measure, AsmFault>
+pub fn values(standing: &Standing, width: Width, items: &[Item]) -> Result<Measured, AsmFault>
     requires { IsSoundStanding standing.now }
     ensures placed { (before : List Laid) → Gives is_outside measured_of result (placed before (standing_of standing.now) (values width (map item_of items.now))) }
     ensures inside { IfErr result (λ e. is_failure e ≡ false) }
 {
     let length = list_len(standing, width, items)?;
-    Ok(Measure {
+    Ok(Measured {
         length,
         size: standing.segment().size,
         multiple: 1,

@@ -15,7 +15,7 @@ ghost use Rattle.asm65.specs.Views.{all_of, stated_of};
 use super::blocks::{check_kept, check_proc, check_scope, check_segment};
 use super::bytes::{instruction, values};
 use super::rooms::{align, reserve};
-use super::{Measure, nothing};
+use super::{Measured, nothing};
 use crate::AsmFault;
 use crate::knowing;
 use crate::laid::Laid;
@@ -32,7 +32,7 @@ fn constant(
     known: &mut Known,
     standing: &Standing,
     value: &Expr,
-) -> Result<Measure, AsmFault>
+) -> Result<Measured, AsmFault>
     requires names { IsModule whole.now }
     requires table { IsTable (all_of whole.now.statements.now) known.old.states.items }
     requires standing { IsSoundStanding standing.now }
@@ -42,7 +42,7 @@ fn constant(
 {
     let measure = nothing(standing);
     let size = knowing::size(alloc, whole, known, standing.spot(), measure.size, value)?;
-    Ok(Measure { size, ..measure })
+    Ok(Measured { size, ..measure })
 }
 
 /// What `.segment` and the like place.
@@ -50,7 +50,7 @@ fn segment(
     standing: &Standing,
     name: &[u8],
     size: Option<AddressSize>,
-) -> Result<Measure, AsmFault>
+) -> Result<Measured, AsmFault>
     requires { IsSoundStanding standing.now }
     ensures placed { (before : List laid.Laid) → Gives is_outside measured_of result (placed before (standing_of standing.now) (segment name.now size)) }
     ensures inside { IfErr result (λ e. is_failure e ≡ false) }
@@ -60,7 +60,7 @@ fn segment(
 }
 
 /// What `.popseg` places.
-fn pop_segment(standing: &Standing) -> Result<Measure, AsmFault>
+fn pop_segment(standing: &Standing) -> Result<Measured, AsmFault>
     requires { IsSoundStanding standing.now }
     ensures placed { (before : List laid.Laid) → Gives is_outside measured_of result (placed before (standing_of standing.now) pop_segment) }
     ensures inside { IfErr result (λ e. is_failure e ≡ false) }
@@ -70,7 +70,7 @@ fn pop_segment(standing: &Standing) -> Result<Measure, AsmFault>
 }
 
 /// What `.endscope` places.
-fn close_scope(statements: &[Laid], standing: &Standing) -> Result<Measure, AsmFault>
+fn close_scope(statements: &[Laid], standing: &Standing) -> Result<Measured, AsmFault>
     requires { IsSoundStanding standing.now }
     ensures placed { Gives is_outside measured_of result (placed (all_of statements.now) (standing_of standing.now) close_scope) }
     ensures inside { IfErr result (λ e. is_failure e ≡ false) }
@@ -80,7 +80,7 @@ fn close_scope(statements: &[Laid], standing: &Standing) -> Result<Measure, AsmF
 }
 
 /// What `.endproc` places.
-fn close_proc(statements: &[Laid], standing: &Standing) -> Result<Measure, AsmFault>
+fn close_proc(statements: &[Laid], standing: &Standing) -> Result<Measured, AsmFault>
     requires { IsSoundStanding standing.now }
     ensures placed { Gives is_outside measured_of result (placed (all_of statements.now) (standing_of standing.now) close_proc) }
     ensures inside { IfErr result (λ e. is_failure e ≡ false) }
@@ -94,7 +94,7 @@ fn without_bytes(
     statements: &[Laid],
     standing: &Standing,
     statement: &Statement,
-) -> Result<Measure, AsmFault>
+) -> Result<Measured, AsmFault>
     requires standing { IsSoundStanding standing.now }
     requires bare { is_bare (stated_of statement.now) ≡ true }
     ensures placed { Gives is_outside measured_of result (placed (all_of statements.now) (standing_of standing.now) (stated_of statement.now)) }
@@ -116,7 +116,7 @@ pub fn place(
     known: &mut Known,
     standing: &Standing,
     statement: &Statement,
-) -> Result<Measure, AsmFault>
+) -> Result<Measured, AsmFault>
     requires names { IsModule whole.now }
     requires table { IsTable (all_of whole.now.statements.now) known.old.states.items }
     requires standing { IsSoundStanding standing.now }

@@ -19,7 +19,7 @@ ghost use Rattle.asm65.specs.Sizes.{counted, gap, optional_value};
 ghost use Rattle.asm65.specs.Sounds.{IsSoundStanding};
 ghost use Rattle.asm65.specs.Views.{all_of, spot_of};
 
-use super::{Measure, fit};
+use super::{Measured, fit};
 use crate::AsmFault;
 use crate::knowing;
 use crate::laid::{Settled, Spot};
@@ -80,7 +80,7 @@ pub fn reserve(
     standing: &Standing,
     count: &Expr,
     value: &Option<Expr>,
-) -> Result<Measure, AsmFault>
+) -> Result<Measured, AsmFault>
     requires names { IsModule whole.now }
     requires table { IsTable (all_of whole.now.statements.now) known.old.states.items }
     requires standing { IsSoundStanding standing.now }
@@ -93,7 +93,7 @@ pub fn reserve(
     let count = count_of(knowing::constant(alloc, whole, known, spot, count)?)?;
     let settled = fill(alloc, whole, known, spot, value)?;
     let length = fit(standing, count)?;
-    Ok(Measure {
+    Ok(Measured {
         length,
         size: standing.segment().size,
         multiple: 1,
@@ -147,7 +147,7 @@ pub fn align(
     standing: &Standing,
     multiple: &Expr,
     value: &Option<Expr>,
-) -> Result<Measure, AsmFault>
+) -> Result<Measured, AsmFault>
     requires names { IsModule whole.now }
     requires table { IsTable (all_of whole.now.statements.now) known.old.states.items }
     requires standing { IsSoundStanding standing.now }
@@ -162,7 +162,7 @@ pub fn align(
     let settled = fill(alloc, whole, known, spot, value)?;
     let multiple = multiple_of(multiple)?;
     let length = fit(standing, gap(standing, multiple) as usize)?;
-    Ok(Measure {
+    Ok(Measured {
         length,
         size: standing.segment().size,
         multiple,

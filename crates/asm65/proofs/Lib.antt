@@ -18,6 +18,7 @@ pub mod Keys
 pub mod Knowns
 pub mod LaidLines
 pub mod Lasts
+pub mod Measuring
 pub mod NameParts
 pub mod NameTables
 pub mod Naming

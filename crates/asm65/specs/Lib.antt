@@ -24,3 +24,4 @@ pub mod Evaluating
 pub mod Sounds
 pub mod Knowns
 pub mod LayoutViews
+pub mod Measuring

@@ -129,7 +129,7 @@ fn scoped_meaning(
 }
 
 /// The parts that name scopes: all but the last.
-fn scopes_in(parts: &[Sequence<u8>]) -> &[Sequence<u8>]
+pub fn scopes_in(parts: &[Sequence<u8>]) -> &[Sequence<u8>]
     ensures { result.now ≡ scopes_of parts.now }
 {
     match parts.split_last() {
@@ -148,7 +148,7 @@ fn last_in(parts: &[Sequence<u8>]) -> &[u8]
 }
 
 /// The one part of a plain name.
-fn plain_part(name: &Name) -> Option<&[u8]>
+pub fn plain_part(name: &Name) -> Option<&[u8]>
     ensures { option_map (λ n. n.now) result ≡ plain_part name.now.is_global name.now.parts }
 {
     match name.parts.as_slice() {

@@ -154,7 +154,7 @@ pub fn name_of(statement: &Statement) -> Option<&[u8]>
 }
 
 /// The name of the scope that a statement opens.
-fn scope_name(statement: &Statement) -> Option<&[u8]>
+pub fn scope_name(statement: &Statement) -> Option<&[u8]>
     ensures { option_map (λ n. n.now) result ≡ scope_name (stated_of statement.now) }
 {
     match statement {
@@ -164,7 +164,7 @@ fn scope_name(statement: &Statement) -> Option<&[u8]>
     }
 }
 
-fn cheap_name(statement: &Statement) -> Option<&[u8]>
+pub fn cheap_name(statement: &Statement) -> Option<&[u8]>
     ensures { option_map (λ n. n.now) result ≡ cheap_name (stated_of statement.now) }
 {
     match statement {

@@ -220,12 +220,16 @@ fn fill_of(laid: &Laid, value: &Option<Expr>) -> Option<u8>
     }
 }
 
-/// A list of one part.
-fn alone(alloc: Global, part: Part) -> Result<Sequence<Part>, AllocError>
-    ensures { IfOk result (λ ps. ps ≡ part ∷ []) }
+/// What a statement with room puts into its section.
+fn room_parts(
+    alloc: Global,
+    laid: &Laid,
+    value: &Option<Expr>,
+) -> Result<Sequence<Part>, AllocError>
+    ensures { IfOk result (λ ps. (before : List LaidThere) → IsFilledBy before (spot_of laid.now.spot) (option_map tree_of value.now) laid.now.settled → ps ≡ room_part before (spot_of laid.now.spot) laid.now.length (option_map tree_of value.now) ∷ []) }
 {
     let mut parts = Sequence::new(alloc);
-    parts.push(part)?;
+    parts.push(room(alloc, laid.length, fill_of(laid, value))?)?;
     Ok(parts)
 }
 
@@ -254,9 +258,8 @@ pub fn parts_of(
         Statement::Values { width, items } => {
             list_parts(alloc, whole, states, place, laid, *width, items.as_slice())
         }
-        Statement::Reserve { count: _, value } | Statement::Align { multiple: _, value } => {
-            Ok(alone(alloc, room(alloc, laid.length, fill_of(laid, value))?)?)
-        }
+        Statement::Reserve { count: _, value } => Ok(room_parts(alloc, laid, value)?),
+        Statement::Align { multiple: _, value } => Ok(room_parts(alloc, laid, value)?),
         _ => Ok(Sequence::new(alloc)),
     }
 }

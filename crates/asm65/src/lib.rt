@@ -1,6 +1,7 @@
 //! The assembler: a source file becomes a relocatable object.
 #![tactic(auto)]
 
+mod assembling;
 mod assembly;
 mod contents;
 mod evaluating;
@@ -17,6 +18,7 @@ mod refusal;
 mod resolving;
 mod texts;
 
+pub use assembling::assemble;
 pub use assembly::{AsmJob, Assembly};
 pub use fault::{AsmFault, SourceFault};
 pub use refusal::{AsmRefusal, Place};

@@ -1,5 +1,5 @@
 -- The parts of sound statements.
-use Rattle.std.proofs.Common.{◌≡◌, ◌∙◌, ℕ, ◌+◌, Bool, true, false, nat_eq, nat_lt, refl, sym, ap, subst, arith, pos, List, [], ◌∷◌, length, replicate, take, Option, Some, None, Result, Ok, Err}
+use Rattle.std.proofs.Common.{◌≡◌, ◌∙◌, ℕ, ◌+◌, Bool, true, false, nat_eq, nat_lt, refl, sym, ap, subst, arith, pos, List, [], ◌∷◌, length, replicate, take, Option, Some, None, Ok, Err}
 use Rattle.std.specs.Prelude.{⊤, ℤ, IfOk, ◌&&◌, sum_by, if◌then◌else◌}
 use Rattle.std.specs.List.{AllByRecursion, list_all, list_any}
 use Rattle.std.proofs.lemmas.List.{length-replicate}
@@ -19,8 +19,7 @@ use Rattle.object65.specs.Objects.{fits_width, value_bytes, width_len}
 use Rattle.object65.specs.declared.object.Width.{Width}
 use Rattle.object65.specs.declared.object.Width.TheVariants.{Byte, Word, HighFirst, Dword, Branch}
 use Rattle.asm65.specs.declared.contents.Part.{Part}
-use Rattle.asm65.specs.declared.contents.Part.TheVariants.{Known, Filled}
-use Rattle.asm65.specs.declared.fault.AsmFault.{AsmFault}
+use Rattle.asm65.specs.declared.contents.Part.TheVariants.{Known}
 use Rattle.asm65.specs.declared.fault.AsmFault.TheVariants.{OutOfRange}
 use Rattle.asm65.specs.Contents.{instruction_parts, item_part, opcode_part, operand_form, operand_parts, operand_tree, parts_of, room_part, stored}
 use Rattle.asm65.specs.Laid.{Laid, Spot, asks_section, has_here}

@@ -1,5 +1,5 @@
 -- What lines lay is sound: names of segments, statements, their lengths, and the room in each section.
-use Rattle.std.proofs.Common.{◌≡◌, ◌∙◌, ℕ, zero, suc, ◌+◌, ◌<◌, ◌≤◌, Bool, true, false, nat_eq, nat_lt, cond, List, [], ◌∷◌, ◌++◌, length, map, take, position, slice_get, Option, Some, None, Result, Ok, Err, refl, sym, ap, subst, arith}
+use Rattle.std.proofs.Common.{◌≡◌, ◌∙◌, ℕ, zero, suc, ◌+◌, ◌<◌, ◌≤◌, Bool, true, false, nat_eq, nat_lt, cond, List, [], ◌∷◌, ◌++◌, length, map, take, slice_get, Option, Some, None, Result, Ok, Err, refl, sym, ap, subst, arith}
 use Rattle.std.specs.Prelude.{◌&&◌, ◌||◌, sum_by, if◌then◌else◌}
 use Rattle.std.specs.List.{AllByRecursion, position_from}
 use Rattle.std.specs.Str.{bytes_eq}
@@ -7,7 +7,6 @@ use Rattle.std.proofs.lemmas.Bool.Decides.{nat_tests}
 use Rattle.std.proofs.lemmas.Iterator.Adapters.{position_from-zero}
 use Rattle.std.proofs.lemmas.List.{length-append, map-append}
 use Rattle.std.proofs.lemmas.List.Elements.{filter-append}
-use Rattle.std.proofs.lemmas.List.Quantifiers.{position-Some}
 use Rattle.std.proofs.lemmas.List.Sums.{sum_by-append}
 use Rattle.syntax65.specs.Outcome.{◌>>=◌, First}
 use Rattle.syntax65.specs.Tokens.{Lexeme, IsRead}
@@ -32,6 +31,7 @@ use Rattle.asm65.specs.Laws.{SoundLayoutLaw}
 use Rattle.asm65.specs.Sizes.{length_of}
 use Rattle.asm65.specs.Sound.{IsMeasured, IsSound, IsSoundLayout, statements_in}
 use Rattle.asm65.proofs.NameTables.{bytes_swap}
+use Rattle.asm65.proofs.Segments.{all_more, all_same, found_below, grown_end, grown_length, grown_names}
 use Rattle.asm65.proofs.Sounding.{line_sound}
 
 -- ---- Faults that there aren't.
@@ -83,21 +83,6 @@ same_length before s own x = refl
 
 -- ---- A segment that grows.
 
-grown_names : (gs : List Segment) (i count multiple : ℕ) → map (λ (g : Segment). g.name) (grown_at gs i count multiple) ≡ map (λ (g : Segment). g.name) gs
-grown_names [] i count multiple = refl
-grown_names (g ∷ gs) zero count multiple = refl
-grown_names (g ∷ gs) (suc i) count multiple = ap (λ ns. g.name ∷ ns) (grown_names gs i count multiple)
-
-grown_length : (gs : List Segment) (i count multiple : ℕ) → length (grown_at gs i count multiple) ≡ length gs
-grown_length [] i count multiple = refl
-grown_length (g ∷ gs) zero count multiple = refl
-grown_length (g ∷ gs) (suc i) count multiple = ap suc (grown_length gs i count multiple)
-
-grown_here : (gs : List Segment) (i count multiple : ℕ) → i < length gs → (segment_at (grown_at gs i count multiple) i).end ≡ (segment_at gs i).end + count
-grown_here [] i count multiple lt = absurd (omega arith)
-grown_here (g ∷ gs) zero count multiple lt = refl
-grown_here (g ∷ gs) (suc i) count multiple lt = grown_here gs i count multiple (omega arith)
-
 grown_other : (gs : List Segment) (i h count multiple : ℕ) → nat_eq i h ≡ false → segment_at (grown_at gs i count multiple) h ≡ segment_at gs h
 grown_other [] i h count multiple apart = refl
 grown_other (g ∷ gs) zero zero count multiple apart = absurd cc
@@ -116,7 +101,7 @@ grows : (gs : List Segment) (current count multiple : ℕ) → current < length 
 grows gs current count multiple lt = record {
   names = grown_names gs current count multiple;
   size = grown_length gs current count multiple;
-  here = grown_here gs current count multiple lt;
+  here = grown_end gs current count multiple lt;
   others = λ g e. ap (λ (h : Segment). h.end) (grown_other gs current g count multiple e);
 }
 
@@ -151,14 +136,6 @@ record Good (ls : List Laid) (gs : List Segment) (current : ℕ) (kept : List �
 abbrev IsGood : Layout → Type 0
 IsGood y = Good y.laid y.standing.segments y.standing.current y.standing.kept
 
-all_push : {A : Type 0} (P : A → Type 0) (xs : List A) (x : A) → AllByRecursion P xs → P x → AllByRecursion P (xs ++ x ∷ [])
-all_push P [] x h p = (p, tt)
-all_push P (y ∷ xs) x h p = (h.0, all_push P xs x h.1 p)
-
-all_more : {A : Type 0} (P Q : A → Type 0) → ((x : A) → P x → Q x) → (xs : List A) → AllByRecursion P xs → AllByRecursion Q xs
-all_more P Q f [] h = tt
-all_more P Q f (x ∷ xs) (p, h) = (f x p, all_more P Q f xs h)
-
 behind_push : (M : List Laid → Laid → Type 0) (ls : List Laid) (l : Laid) → EachBehind M ls → M ls l → EachBehind M (ls ++ l ∷ [])
 behind_push M [] l h m zero x e = let same : l ≡ x = cc in subst (M []) same m
 behind_push M [] l h m (suc i) x e = absurd cc
@@ -179,8 +156,8 @@ total_push ls l g =
 good_push : (ls : List Laid) (gs hs : List Segment) (current : ℕ) (kept : List ℕ) (l : Laid) → Good ls gs current kept → Grows gs hs current l.length → l.spot.segment ≡ current → IsSound l.stated → IsMeasured ls l → (segment_at gs current).end + l.length ≤ section_limit → Good (ls ++ l ∷ []) hs current kept
 good_push ls gs hs current kept l good more at sound measured room = record {
   named = ap are_names more.names ∙ good.named;
-  sound = all_push (λ (m : Laid). IsSound m.stated) ls l good.sound sound;
-  standing = subst (λ n. AllByRecursion (stands_in n) (ls ++ l ∷ [])) (sym more.size) (all_push (stands_in (length gs)) ls l good.standing (subst (λ n. n < length gs) (sym at) good.here));
+  sound = all_more (λ (m : Laid). IsSound m.stated) ls l good.sound sound;
+  standing = subst (λ n. AllByRecursion (stands_in n) (ls ++ l ∷ [])) (sym more.size) (all_more (stands_in (length gs)) ls l good.standing (subst (λ n. n < length gs) (sym at) good.here));
   measured = behind_push IsMeasured ls l good.measured measured;
   here = subst (λ n. current < n) (sym more.size) good.here;
   keeps = subst (λ n. are_below n kept) (sym more.size) good.keeps;
@@ -235,17 +212,17 @@ good_named ls gs current kept n own None good fine e =
     record {
       named = ap are_names (map-append (λ (g : Segment). g.name) gs (last ∷ [])) ∙ names_push (map (λ (g : Segment). g.name) gs) n good.named fine (not_among n gs e);
       sound = good.sound;
-      standing = all_more (stands_in (length gs)) (stands_in (length (gs ++ last ∷ []))) (λ l lt. further l.spot.segment lt) ls good.standing;
+      standing = all_same (stands_in (length gs)) (stands_in (length (gs ++ last ∷ []))) (λ l lt. further l.spot.segment lt) ls good.standing;
       measured = good.measured;
       here = further current good.here;
-      keeps = all_more (λ k. k < length gs) (λ k. k < length (gs ++ last ∷ [])) further kept good.keeps;
+      keeps = all_same (λ k. k < length gs) (λ k. k < length (gs ++ last ∷ [])) further kept good.keeps;
       ends = λ g. good.ends g ∙ sym (end_behind gs n (first_size n own) g);
       limit = λ g. subst (λ m. m ≤ section_limit) (sym (end_behind gs n (first_size n own) g)) (good.limit g);
     }
 
 named_there : (gs : List Segment) (n : List ℕ) (own : Option AddressSize) (place : Option ℕ) → place_of gs n ≡ place → or_last gs place < length (named_segments gs n own place)
 named_there gs n own None e = let longer : length (gs ++ new_segment n (first_size n own) ∷ []) ≡ length gs + 1 = one_longer gs (new_segment n (first_size n own)) in omega (arith, longer)
-named_there gs n own (Some i) e = (position-Some (λ g. bytes_eq g.name n) gs i (new_segment n (first_size n own)) e).0
+named_there gs n own (Some i) e = found_below gs n i e
 
 -- ---- One statement.
 

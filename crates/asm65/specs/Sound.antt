@@ -2,7 +2,6 @@
 use Rattle.std.specs.Prelude.{◌≡◌, ℕ, ◌≤◌, ◌<◌, nat_eq, nat_lt, true, false, List, [], ◌∷◌, ◌++◌, length, map, sum_by, slice_get, take, Some, ⊤}
 use Rattle.std.specs.List.{list_all, list_any, filter, AllByRecursion}
 use Rattle.syntax65.specs.Tokens.{Lexeme}
-use Rattle.syntax65.specs.declared.lexing.tokens.AddressSize.{AddressSize}
 use Rattle.syntax65.specs.declared.lexing.tokens.TokenKind.{TokenKind}
 use Rattle.syntax65.specs.declared.lexing.tokens.TokenKind.TheVariants as token
 use Rattle.object65.specs.Folding.{is_literal}
@@ -16,7 +15,7 @@ use Rattle.asm65.specs.declared.contents.Said.{Said}
 use Rattle.asm65.specs.declared.contents.Said.TheVariants.{Exported, Demanded, Checked}
 use Rattle.asm65.specs.declared.contents.Segment.{Segment}
 use Rattle.asm65.specs.Language as l
-use Rattle.asm65.specs.Laid.{Laid, Spot}
+use Rattle.asm65.specs.Laid.{Laid}
 use Rattle.asm65.specs.Layout.{Layout}
 use Rattle.asm65.specs.Numbering.{imports_in, parts_in, section_keys}
 use Rattle.asm65.specs.Sizes.{length_of}

@@ -24,6 +24,7 @@ pub mod NameTables
 pub mod Naming
 pub mod OneAnswers
 pub mod OneStatements
+pub mod Outcomes
 pub mod PartLists
 pub mod Parts
 pub mod Pursuits

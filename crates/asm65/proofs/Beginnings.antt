@@ -3,6 +3,7 @@ use Rattle.std.proofs.Common.{◌≡◌, ℕ, zero, suc, ◌+◌, refl, sym, ap,
 use Rattle.std.specs.Prelude.{⊤}
 use Rattle.std.proofs.lemmas.List.Sums.{sum_by-cons}
 use Rattle.asm65.specs.declared.laid.Laid.{Laid}
+use Rattle.asm65.specs.Laid as laid
 use Rattle.asm65.specs.declared.resolving.attempt.State.{State}
 use Rattle.asm65.specs.declared.resolving.attempt.State.TheVariants.{Unknown, Waiting, Found}
 use Rattle.asm65.specs.Resolving.{IsTable, is_open, unknown}
@@ -31,11 +32,15 @@ unknown_at [] j x h e = absurd cc
 unknown_at (y ∷ xs) zero x (u, h) e = let same : y ≡ x = cc in sym same ∙ u
 unknown_at (y ∷ xs) (suc j) x (u, h) e = unknown_at xs j x h e
 
-pub unknown_table : (all : List Laid) (xs : List State) → AreUnknown xs → length xs ≡ length all → IsTable (all_of all) xs
-unknown_table all xs h e = record {
-  long = e ∙ sym (map_length laid_of all);
+-- it is one for any statements
+pub blank_table : (all : List laid.Laid) (xs : List State) → AreUnknown xs → length xs ≡ length all → IsTable all xs
+blank_table all xs h e = record {
+  long = e;
   turns = 0;
-  room = (let whole = unknown_all xs h in let long : length (all_of all) ≡ length all = map_length laid_of all in omega (arith, whole, long, e));
+  room = (let whole = unknown_all xs h in omega (arith, whole, e));
   found = λ j f q. (let never : Found f ≡ Unknown = unknown_at xs j (Found f) h q in absurd cc);
   idle = λ j q. (let never : Waiting ≡ Unknown = unknown_at xs j Waiting h q in absurd cc);
 }
+
+pub unknown_table : (all : List Laid) (xs : List State) → AreUnknown xs → length xs ≡ length all → IsTable (all_of all) xs
+unknown_table all xs h e = blank_table (all_of all) xs h (e ∙ sym (map_length laid_of all))

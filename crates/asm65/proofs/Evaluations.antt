@@ -1,8 +1,9 @@
 -- The contents of statements, one behind the other, and what is said meanwhile.
-use Rattle.std.proofs.Common.{◌≡◌, ◌∙◌, ℕ, zero, suc, ◌+◌, List, [], ◌∷◌, ◌++◌, take, drop, length, get_or, ◌<◌, ◌≤◌, Bool, true, false, subst, refl, sym, ap, append-nil, append_assoc, arith, Result, Ok, Err}
+use Rattle.std.proofs.Common.{◌≡◌, ◌∙◌, ℕ, suc, ◌+◌, List, [], ◌∷◌, ◌++◌, take, drop, length, get_or, ◌<◌, ◌≤◌, Bool, true, false, subst, refl, sym, ap, append-nil, append_assoc, arith, Result, Ok, Err}
 use Rattle.std.specs.Prelude.{IfErr, OnOk}
 use Rattle.std.specs.Result.{IsErrAnd}
 use Rattle.std.proofs.lemmas.List.{drop_all}
+use Rattle.std.proofs.lemmas.Option.{slice_get_read}
 use Rattle.syntax65.specs.Outcome.{◌>>=◌, Gives, Unless}
 use Rattle.asm65.specs.declared.contents.Content.{Content}
 use Rattle.asm65.specs.declared.fault.AsmFault.{AsmFault}
@@ -13,8 +14,8 @@ use Rattle.asm65.specs.Faults.{is_outside, is_outside_line}
 use Rattle.asm65.specs.Lines.{at_line}
 use Rattle.asm65.specs.Laid.{Laid}
 use Rattle.asm65.specs.Module.{asserted_at, asserted_from, contents_from, more, sound_from}
-use Rattle.asm65.specs.Taken.{AreTaken, is_taken}
-use Rattle.asm65.specs.Views.{all_of, laid_of, stated_of}
+use Rattle.asm65.specs.Settling.{AreSettled, IsSettled}
+use Rattle.asm65.specs.Views.{all_of, laid_of}
 use Rattle.asm65.specs.declared.laid.Laid as source
 use Rattle.asm65.proofs.NameTables.{map_length}
 use Rattle.asm65.proofs.Aheads.{ahead, each_further, unless_then}
@@ -91,10 +92,8 @@ heard_end file all left i old d = ap (λ xs. old ++ heard file all i xs) d ∙ a
 
 -- ---- One statement among all.
 
-pub taken_at : (ls : List source.Laid) (i : ℕ) (x : source.Laid) → AreTaken (all_of ls) → i < length ls → x ≡ get_or ls i x → is_taken (stated_of x.statement) ≡ true
-taken_at [] i x h lt e = absurd (omega arith)
-taken_at (l ∷ ls) zero x (t, h) lt e = ap (λ (y : source.Laid). is_taken (stated_of y.statement)) e ∙ t
-taken_at (l ∷ ls) (suc i) x (t, h) lt e = taken_at ls i x h (omega arith) e
+pub settled_at : (ls : List source.Laid) (i : ℕ) (x : source.Laid) → AreSettled ls → i < length ls → x ≡ get_or ls i x → IsSettled (take i (all_of ls)) (laid_of x) x.settled
+settled_at ls i x h lt e = h i x (slice_get_read ls (length ls) i x refl lt e)
 
 unless_both : {P Q R : Type 0} (b : Bool) → (P → Q → R) → Unless b P → Unless b Q → Unless b R
 unless_both true f h k = tt

@@ -1,6 +1,6 @@
 -- No form fails by a store.
-use Rattle.std.proofs.Common.{◌≡◌, ℕ, zero, suc, Bool, true, false, refl, List, [], ◌∷◌, length, take, Option, Some, None, slice_get, Result, Ok, Err}
-use Rattle.std.specs.Prelude.{IfErr}
+use Rattle.std.proofs.Common.{◌≡◌, ℕ, zero, suc, Bool, true, false, refl, List, [], ◌∷◌, ◌+◌, length, take, position, Option, Some, None, slice_get, Result, Ok, Err}
+use Rattle.std.specs.Prelude.{IfErr, ◌==◌, ◌&&◌, ◌-◌, nat_le, if◌then◌else◌}
 use Rattle.syntax65.specs.Outcome.{◌>>=◌, Gives, Unless}
 use Rattle.syntax65.specs.Trees.{Tree, number, here, name, cheap, forward, backward, unary, binary}
 use Rattle.object65.specs.Form.{Form}
@@ -8,14 +8,14 @@ use Rattle.object65.specs.Folding.{fold1, fold2}
 use Rattle.object65.specs.declared.folding.FormFault.{FormFault}
 use Rattle.object65.specs.declared.folding.FormFault.TheVariants as form
 use Rattle.asm65.specs.declared.fault.AsmFault.{AsmFault}
-use Rattle.asm65.specs.declared.fault.AsmFault.TheVariants.{Source, FileError, Undefined}
+use Rattle.asm65.specs.declared.fault.AsmFault.TheVariants.{Source, FileError, Undefined, NoSuchScope, NoSuchLabel}
 use Rattle.asm65.specs.declared.fault.SourceFault.TheVariants as source
 use Rattle.asm65.specs.Contents.{export_form}
 use Rattle.asm65.specs.Faults.{is_failure, is_memory}
 use Rattle.asm65.specs.Language.{Stated, constant}
-use Rattle.asm65.specs.Laid.{Laid, Spot}
-use Rattle.asm65.specs.Names.{Meaning, defined_at, imported_as, defined_in, import_key, or_fault, outward}
-use Rattle.asm65.specs.Norms.{folded, form_by, form_of_stated, form_of_laid, form_of_meaning, operand_meaning, norm, norm_of}
+use Rattle.asm65.specs.Laid.{Laid, Spot, is_unnamed}
+use Rattle.asm65.specs.Names.{Meaning, defined_at, imported_as, defined_in, first_found, import_key, is_cheap, last_of, meaning_of, member_meaning, or_fault, scope_from, scopes_from, scopes_of, shown, unnamed_meaning}
+use Rattle.asm65.specs.Norms.{folded, form_by, form_of_stated, form_of_laid, form_of_meaning, norm, norm_of}
 
 abbrev pub IsInside : {A : Type 0} → Result A AsmFault → Type 0
 IsInside r = IfErr r (λ e. is_failure e ≡ false)
@@ -59,15 +59,30 @@ inside_found z h (Some i) p = tt
 inside_found z h None (Some k) = tt
 inside_found z h None None = h
 
-inside_operand : (all : List Laid) (p i : ℕ) (s : Spot) (e : Tree) → IsInside (operand_meaning all p i s e)
-inside_operand all p i s (name false (n ∷ [])) = inside_found (Undefined n) refl (outward (λ q. defined_in (take p all) q n) s.path) (import_key (take p all) n)
+inside_member : (ls : List Laid) (n : List ℕ) (absent lost : AsmFault) → is_failure absent ≡ false → is_failure lost ≡ false → (scope : Option ℕ) → IsInside (member_meaning ls n absent lost scope)
+inside_member ls n absent lost a b None = b
+inside_member ls n absent lost a b (Some zero) = inside_found absent a (defined_in ls zero n) (import_key ls n)
+inside_member ls n absent lost a b (Some (suc i)) = inside_found absent a (defined_in ls (suc i) n) None
+
+inside_back : (ls : List Laid) (k n : ℕ) (b : Bool) → IsInside (if b then unnamed_meaning ls (k - n) else Err NoSuchLabel)
+inside_back ls k n true = inside_found NoSuchLabel refl (position (λ l. l.spot.unnamed == k - n && is_unnamed l.stated) ls) None
+inside_back ls k n false = refl
+
+inside_operand : (all : List Laid) (p i : ℕ) (s : Spot) (e : Tree) → IsInside (meaning_of all p i s e)
+inside_operand all p i s (name false (n ∷ [])) = inside_found (Undefined n) refl (first_found (λ q. defined_in (take p all) q n) (scopes_from (take p all) s.scope)) (import_key (take p all) n)
+inside_operand all p i s (name false []) = inside_member (take p all) (last_of []) (Undefined (shown false [])) (NoSuchScope (shown false [])) refl refl (scope_from (take i all) s.scope false (scopes_of []))
+inside_operand all p i s (name false (n ∷ m ∷ parts)) = inside_member (take p all) (last_of (n ∷ m ∷ parts)) (Undefined (shown false (n ∷ m ∷ parts))) (NoSuchScope (shown false (n ∷ m ∷ parts))) refl refl (scope_from (take i all) s.scope false (scopes_of (n ∷ m ∷ parts)))
+inside_operand all p i s (name true parts) = inside_member (take p all) (last_of parts) (Undefined (shown true parts)) (NoSuchScope (shown true parts)) refl refl (scope_from (take i all) s.scope true (scopes_of parts))
+inside_operand all p i s (cheap n) = inside_found (Undefined n) refl (position (λ l. l.spot.region == s.region && is_cheap n l.stated) (take p all)) None
+inside_operand all p i s (forward n) = inside_found NoSuchLabel refl (position (λ l. l.spot.unnamed == s.unnamed + n - 1 && is_unnamed l.stated) (take p all)) None
+inside_operand all p i s (backward n) = inside_back (take p all) s.unnamed n (nat_le n s.unnamed)
 inside_operand all p i s _ = refl
 
 inside_norm : (n : ℕ) (all : List Laid) (p i : ℕ) (s : Spot) (e : Tree) → IsInside (norm n all p i s e)
 inside_norm zero all p i s e = refl
 inside_norm (suc n) all p i s e =
-    inside_form (λ t. operand_meaning all p i s t >>= form_of_meaning (norm n all p) all) s
-    (λ t. inside_then (operand_meaning all p i s t) (form_of_meaning (norm n all p) all) (inside_operand all p i s t) (inside_meaning (norm n all p) all (inside_norm n all p))) e
+    inside_form (λ t. meaning_of all p i s t >>= form_of_meaning (norm n all p) all) s
+    (λ t. inside_then (meaning_of all p i s t) (form_of_meaning (norm n all p) all) (inside_operand all p i s t) (inside_meaning (norm n all p) all (inside_norm n all p))) e
 
 inside_norm_of : (all : List Laid) (i : ℕ) (s : Spot) (e : Tree) → IsInside (norm_of all i s e)
 inside_norm_of all i s e = inside_norm (suc (length all)) all (length all) i s e

@@ -19,7 +19,7 @@ use Rattle.asm65.specs.declared.refusal.LineFault.{LineFault}
 use Rattle.asm65.specs.Faults.{is_outside, is_outside_line}
 use Rattle.asm65.specs.Lines.{at_line}
 use Rattle.asm65.specs.Language.{Stated, label, unnamed_label}
-use Rattle.asm65.specs.Laying.{AreLaid, IsLaid, IsLine, IsReading, IsRest, IsText, Reached, with_label, with_statement}
+use Rattle.asm65.specs.Laying.{AreLaid, IsLaid, IsLine, IsReading, IsRest, IsText, Reached, open_fault, with_label, with_statement}
 use Rattle.asm65.specs.Layout.{Layout}
 use Rattle.asm65.specs.Lines.{line_limit, lines_of}
 use Rattle.asm65.specs.Parsing.{IsStatement, is_colon, label_before, label_of, named_label, or_all, with_rest}
@@ -142,3 +142,22 @@ refused_line text rest first behind file y z line (Err e) f old new inv lines at
     let k : record { line = line + 1; fault = e } ≡ f = cc in
     subst (λ (g : LineFault). Unless (is_outside_line g) (IsRefused file text g new)) k
     (unless_both (is_outside e) (λ there same. (y, stops text rest first behind y line e inv lines there, subst (AreSaid file y.laid) (sym same) said)) is silent)
+
+-- ---- The last line.
+
+pub no_lines : (rest : List ℕ) → length rest ≡ 0 → lines_of rest ≡ []
+no_lines [] e = refl
+no_lines (b ∷ rest) e = absurd (omega arith)
+
+pub ended : (text rest : List ℕ) (y : Layout) (line : ℕ) → GoesOn text y line rest → length rest ≡ 0 → AreLaid (lines_of text) (record { layout = y; fault = open_fault line y })
+ended text rest y line inv e = inv _ (rw (no_lines rest e) refl)
+
+pub closed : (text : List ℕ) (y : Layout) (o : Option LineFault) (f : Option LineFault) → o ≡ f → AreLaid (lines_of text) (record { layout = y; fault = o }) → AreLaid (lines_of text) (record { layout = y; fault = f })
+closed text y o f e h = let P : Option LineFault → Type 0 = λ g. AreLaid (lines_of text) (record { layout = y; fault = g }) in subst P e h
+
+pub refused_open : (text file : List ℕ) (y : Layout) (o : Option LineFault) (e : LineFault) (t : Texts) → o ≡ Some e → AreLaid (lines_of text) (record { layout = y; fault = o }) → AreSaid file y.laid t → Unless (is_outside_line e) (IsRefused file text e t)
+refused_open text file y o e t is h said = by (is_outside_line e)
+  where
+    by : (b : Bool) → Unless b (IsRefused file text e t)
+    by true = tt
+    by false = (y, closed text y o (Some e) is h, said)

@@ -1,19 +1,16 @@
 -- What tables of names hold.
-use Rattle.std.proofs.Common.{◌≡◌, ℕ, zero, suc, ◌+◌, ◌<◌, ◌≤◌, Bool, true, false, cond, List, [], ◌∷◌, ◌++◌, length, map, drop, get_or, take, add-one, position, Option, Some, None, refl, sym, ap, ◌∙◌, subst, arith}
-use Rattle.std.specs.Prelude.{OnOk, slice_get, Result, Ok, Err, ◌&&◌, ◌||◌, if◌then◌else◌}
+use Rattle.std.proofs.Common.{◌≡◌, ℕ, zero, suc, ◌+◌, ◌<◌, Bool, true, false, cond, List, [], ◌∷◌, ◌++◌, length, map, drop, get_or, take, add-one, position, Option, Some, None, refl, sym, ap, ◌∙◌, subst, arith}
+use Rattle.std.specs.Prelude.{OnOk, slice_get, Result, Ok, Err, ◌||◌, if◌then◌else◌}
 use Rattle.std.specs.List.{list_any, position_from}
 use Rattle.std.specs.Str.{bytes_eq}
 use Rattle.std.proofs.lemmas.Iterator.Adapters.{position_from-zero}
 use Rattle.std.proofs.lemmas.Slice.Eq.{bytes_eq-Decides}
 use Rattle.std.specs.Map.{lookup}
-use Rattle.indexmap.specs.IndexMap.{get_by, insert_entry}
+use Rattle.indexmap.specs.IndexMap.{insert_entry}
 use Rattle.indexmap.specs.IndexSet.{insert_key}
 use Rattle.asm65.specs.Laid as laid
-use Rattle.asm65.specs.Laid.{defined_name}
-use Rattle.asm65.specs.Names.{defined_in, same_path, is_named, imports_of, imported_names, with_new}
-use Rattle.asm65.specs.Language.{Stated}
-use Rattle.asm65.specs.Resolving.{Defines, Grows, or_here}
-use Rattle.asm65.specs.declared.resolving.names.Names.{Names}
+use Rattle.asm65.specs.Names.{imports_of, imported_names, with_new}
+use Rattle.asm65.specs.Resolving.{or_here}
 
 -- ---- Lists.
 
@@ -30,16 +27,6 @@ one_taken {A = A} xs i x e = rw add-one (go xs i e)
     go [] j e = absurd cc
     go (y ∷ ys) zero e = let k : y ≡ x = cc in ap (λ z. z ∷ []) (sym k)
     go (y ∷ ys) (suc j) e = ap (λ zs. y ∷ zs) (go ys j e)
-
-pub one_mapped : {A B : Type 0} (f : A → B) (xs : List A) (i : ℕ) (x : A) → i < length xs → x ≡ get_or xs i x → take i (map f xs) ++ f x ∷ [] ≡ take (suc i) (map f xs)
-one_mapped f [] i x lt e = absurd (omega arith)
-one_mapped f (y ∷ xs) zero x lt e = ap (λ z. f z ∷ []) e
-one_mapped f (y ∷ xs) (suc i) x lt e = ap (λ zs. f y ∷ zs) (one_mapped f xs i x (omega arith) e)
-
-pub mapped_before : {A B : Type 0} (f : A → B) (xs : List A) (i : ℕ) → i ≤ length xs → length (take i (map f xs)) ≡ i
-mapped_before f xs zero le = refl
-mapped_before f [] (suc i) le = absurd (omega arith)
-mapped_before f (x ∷ xs) (suc i) le = ap suc (mapped_before f xs i (omega arith))
 
 pub drop_mapped : {A B : Type 0} (f : A → B) (xs : List A) (i : ℕ) (x : A) → i < length xs → x ≡ get_or xs i x → drop i (map f xs) ≡ f x ∷ drop (suc i) (map f xs)
 drop_mapped f [] i x lt e = absurd (omega arith)
@@ -60,10 +47,7 @@ position_mapped p f xs = position_from-zero p (map f xs) ∙ from_mapped p f 0 x
 pub position_is : {A : Type 0} (p : A → Bool) (xs : List A) → position_from p 0 (drop 0 xs) ≡ position p xs
 position_is p xs = sym (position_from-zero p xs)
 
--- ---- Names that are defined.
-
-abbrev pub defines : List ℕ → laid.Laid → Bool
-defines n l = same_path l.spot.path [] && is_named n (defined_name l.stated)
+-- ---- Names that are found.
 
 -- the place of the first item in a list with one more
 pub position_more : {A : Type 0} (p : A → Bool) (xs : List A) (x : A) → position p (xs ++ x ∷ []) ≡ or_here (position p xs) (p x) (length xs)
@@ -90,22 +74,22 @@ there_already (Some j) b place i h = refl
 there_already None true place i h = absurd (let e = h refl in cc)
 there_already None false place i h = refl
 
--- what a table of names finds, with a new one
-pub lookup_insert : {K : Type 0} (f : K → List ℕ) (k : K) (v : ℕ) (other : List ℕ) (es : List (K × ℕ)) → lookup (λ j. bytes_eq (f k) (f j)) es ≡ None → lookup (λ j. bytes_eq other (f j)) (insert_entry (λ a b. bytes_eq (f a) (f b)) es k v) ≡ or_here (lookup (λ j. bytes_eq other (f j)) es) (bytes_eq other (f k)) v
-lookup_insert f k v other [] h = last (bytes_eq other (f k))
+-- what a table finds, with a new key
+pub lookup_insert : {K : Type 0} (eq : K → K → Bool) (test : K → Bool) (k : K) (v : ℕ) (es : List (K × ℕ)) → lookup (eq k) es ≡ None → lookup test (insert_entry eq es k v) ≡ or_here (lookup test es) (test k) v
+lookup_insert eq test k v [] h = last (test k)
   where
     last : (b : Bool) → cond b (Some v) None ≡ or_here None b v
     last true = refl
     last false = refl
-lookup_insert f k v other (e ∷ es) h = by (bytes_eq (f k) (f e.0)) h (lookup_insert f k v other es)
+lookup_insert eq test k v (e ∷ es) h = by (eq k e.0) h (lookup_insert eq test k v es)
   where
     go_on : (b c : Bool) (o n : Option ℕ) → n ≡ or_here o c v → cond b (Some e.1) n ≡ or_here (cond b (Some e.1) o) c v
     go_on true c o n same = refl
     go_on false c o n same = same
 
-    by : (b : Bool) → cond b (Some e.1) (lookup (λ j. bytes_eq (f k) (f j)) es) ≡ None → (lookup (λ j. bytes_eq (f k) (f j)) es ≡ None → lookup (λ j. bytes_eq other (f j)) (insert_entry (λ a b. bytes_eq (f a) (f b)) es k v) ≡ or_here (lookup (λ j. bytes_eq other (f j)) es) (bytes_eq other (f k)) v) → lookup (λ j. bytes_eq other (f j)) (if b then (e.0, v) ∷ es else e ∷ insert_entry (λ a b. bytes_eq (f a) (f b)) es k v) ≡ or_here (lookup (λ j. bytes_eq other (f j)) (e ∷ es)) (bytes_eq other (f k)) v
+    by : (b : Bool) → cond b (Some e.1) (lookup (eq k) es) ≡ None → (lookup (eq k) es ≡ None → lookup test (insert_entry eq es k v) ≡ or_here (lookup test es) (test k) v) → lookup test (if b then (e.0, v) ∷ es else e ∷ insert_entry eq es k v) ≡ or_here (lookup test (e ∷ es)) (test k) v
     by true none rest = absurd cc
-    by false none rest = go_on (bytes_eq other (f e.0)) (bytes_eq other (f k)) (lookup (λ j. bytes_eq other (f j)) es) (lookup (λ j. bytes_eq other (f j)) (insert_entry (λ a b. bytes_eq (f a) (f b)) es k v)) (rest none)
+    by false none rest = go_on (test e.0) (test k) (lookup test es) (lookup test (insert_entry eq es k v)) (rest none)
 
 -- two names of the same bytes are one
 pub same_bytes : (xs ys : List ℕ) → bytes_eq xs ys ≡ true → xs ≡ ys
@@ -130,7 +114,7 @@ abbrev pub with_one : List (List ℕ) → List ℕ → List (List ℕ)
 with_one known n = if list_any (λ k. bytes_eq n k) known then known else known ++ n ∷ []
 
 module _ {K : Type 0} (f : K → List ℕ) where
-  any_mapped : (n : List ℕ) (known : List K) → list_any (λ k. bytes_eq n (f k)) known ≡ list_any (λ k. bytes_eq n k) (map f known)
+  pub any_mapped : (n : List ℕ) (known : List K) → list_any (λ k. bytes_eq n (f k)) known ≡ list_any (λ k. bytes_eq n k) (map f known)
   any_mapped n [] = refl
   any_mapped n (k ∷ known) = ap (λ b. bytes_eq n (f k) || b) (any_mapped n known)
 
@@ -156,22 +140,3 @@ imported_more known (a ∷ all) l = imported_more (with_new known (imports_of a.
 pub on_ok : {A E P Q : Type 0} (r : Result A E) → (P → Q) → OnOk r P → OnOk r Q
 on_ok (Ok x) f h = f h
 on_ok (Err e) f h = tt
-
--- both tables grow as the statements do
-pub grown : (old new : Names) (place : ℕ) (x : Stated) → Defines (λ n. get_by (λ k. bytes_eq n k.items) old.defined) (defined_name x) place (λ n. get_by (λ k. bytes_eq n k.items) new.defined) → map (λ k. k.items) new.imports.keys ≡ with_new (map (λ k. k.items) old.imports.keys) (imports_of x) → Grows old place x new
-grown old new place x finds known = λ all l long stated path names. record {
-  defined = λ name.
-      finds name
-      ∙ ap (λ o. or_here o (is_named name (defined_name x)) place) (names.defined name)
-      ∙ ap (or_here (defined_in all [] name) (is_named name (defined_name x))) (sym long)
-      ∙ ap (λ b. or_here (defined_in all [] name) b (length all)) (here l x name path stated)
-      ∙ sym (position_more (defines name) all l);
-  imports =
-      known
-      ∙ ap (λ ns. with_new ns (imports_of x)) names.imports
-      ∙ ap (λ y. with_new (imported_names [] all) (imports_of y)) (sym stated)
-      ∙ sym (imported_more [] all l);
-}
-  where
-    here : (l : laid.Laid) (x : Stated) (name : List ℕ) → l.spot.path ≡ [] → l.stated ≡ x → is_named name (defined_name x) ≡ defines name l
-    here l x name path stated = ap (λ y. is_named name (defined_name y)) (sym stated) ∙ ap (λ p. same_path p [] && is_named name (defined_name l.stated)) (sym path)

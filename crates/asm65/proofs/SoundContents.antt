@@ -1,5 +1,5 @@
 -- The contents of sound statements.
-use Rattle.std.proofs.Common.{◌≡◌, ◌∙◌, ℕ, ◌+◌, ◌<◌, Bool, true, false, cond, nat_eq, refl, sym, ap, subst, arith, List, [], ◌∷◌, ◌++◌, length, map, take, Result, Ok, Err}
+use Rattle.std.proofs.Common.{◌≡◌, ◌∙◌, ℕ, suc, ◌+◌, ◌<◌, Bool, true, false, cond, nat_eq, refl, sym, ap, subst, arith, List, [], ◌∷◌, ◌++◌, length, map, take, slice_get, Some, Result, Ok, Err}
 use Rattle.std.specs.Prelude.{⊤, IfOk, ◌||◌, sum_by, if◌then◌else◌}
 use Rattle.std.specs.List.{AllByRecursion, list_any, filter, flat_map}
 use Rattle.std.specs.Str.{bytes_eq}
@@ -21,7 +21,6 @@ use Rattle.asm65.specs.Module.{contents_from}
 use Rattle.asm65.specs.Names.{imported_names, imports_of, with_new}
 use Rattle.asm65.specs.Numbering.{once, parts_in, section_keys, segments_asked}
 use Rattle.asm65.specs.Sound.{IsMeasured, IsSound, IsSoundContent, part_len, statements_in}
-use Rattle.asm65.specs.Taken.{AreTaken, is_taken}
 use Rattle.asm65.proofs.SoundForms.{Asks, Imports, well_then}
 use Rattle.asm65.proofs.SoundParts.{IsKnown, PartsOf, asked_in, below, parts_sound}
 use Rattle.asm65.proofs.SoundSayings.{AreSoundSaid, names_all, said_sound}
@@ -102,11 +101,21 @@ at_line_ok : {A : Type 0} (P : A → Type 0) (line : ℕ) (r : Result A AsmFault
 at_line_ok P line (Ok x) h = h
 at_line_ok P line (Err e) h = tt
 
-contents_with : (R : Laid → Content → Type 0) (all : List Laid) (P : Laid → Type 0) → ((i : ℕ) (l : Laid) → P l → IfOk (content_of all i l) (R l)) → (i : ℕ) (ls : List Laid) → AllByRecursion P ls → IfOk (contents_from all i ls) (EachWith R ls)
-contents_with R all P h i [] ps = tt
-contents_with R all P h i (l ∷ ls) (p, ps) =
-    well_then (R l) (EachWith R (l ∷ ls)) (at_line l.line (content_of all i l)) (λ c. contents_from all (i + 1) ls >>= (λ cs. Ok (c ∷ cs))) (at_line_ok (R l) l.line (content_of all i l) (h i l p))
-    (λ c w. well_then (EachWith R ls) (EachWith R (l ∷ ls)) (contents_from all (i + 1) ls) (λ cs. Ok (c ∷ cs)) (contents_with R all P h (i + 1) ls ps) (λ cs ws. (w, ws)))
+-- so it is with each statement at its place, the first one standing at place i
+abbrev AtPlaces : (ℕ → Laid → Type 0) → ℕ → List Laid → Type 0
+AtPlaces M i ls = (j : ℕ) (l : Laid) → slice_get ls j ≡ Some l → M (j + i) l
+
+contents_with : (R : Laid → Content → Type 0) (all : List Laid) (P : Laid → Type 0) (M : ℕ → Laid → Type 0) → ((i : ℕ) (l : Laid) → P l → M i l → IfOk (content_of all i l) (R l)) → (i : ℕ) (ls : List Laid) → AllByRecursion P ls → AtPlaces M i ls → IfOk (contents_from all i ls) (EachWith R ls)
+contents_with R all P M h i [] ps ms = tt
+contents_with R all P M h i (l ∷ ls) (p, ps) ms =
+    well_then (R l) (EachWith R (l ∷ ls)) (at_line l.line (content_of all i l)) (λ c. contents_from all (i + 1) ls >>= (λ cs. Ok (c ∷ cs))) (at_line_ok (R l) l.line (content_of all i l) (h i l p here))
+    (λ c w. well_then (EachWith R ls) (EachWith R (l ∷ ls)) (contents_from all (i + 1) ls) (λ cs. Ok (c ∷ cs)) (contents_with R all P M h (i + 1) ls ps behind) (λ cs ws. (w, ws)))
+  where
+    here : M i l
+    here = (let same : 0 + i ≡ i = omega arith in subst (λ n. M n l) same (ms 0 l refl))
+
+    behind : AtPlaces M (i + 1) ls
+    behind = λ j x e. (let same : suc j + i ≡ j + (i + 1) = omega arith in subst (λ n. M n x) same (ms (suc j) x e))
 
 any_one : {A : Type 0} (r : Result A AsmFault) → IfOk r (λ x. ⊤)
 any_one (Ok x) = tt
@@ -160,10 +169,8 @@ asked_keys ls cs h = asks_more (asked_in (segments_asked cs)) (asked_in (section
 
 -- what is known of each statement
 record IsSafe (asked : List ℕ) (bound : ℕ) (l : Laid) : Type 0 where
-  taken : is_taken l.stated ≡ true
   sound : IsSound l.stated
   standing : l.spot.segment < bound
-  measured : IsMeasured l
   asks : Asks (asked_in asked) l
 
 record IsFor (asked : List ℕ) (count bound : ℕ) (l : Laid) (c : Content) : Type 0 where
@@ -172,15 +179,18 @@ record IsFor (asked : List ℕ) (count bound : ℕ) (l : Laid) (c : Content) : T
   sound : IsSoundContent asked count c
   long : sum_by part_len c.parts ≡ l.length
 
-content_for : (asked : List ℕ) (count bound : ℕ) (all : List Laid) → IsKnown asked count all → (i : ℕ) (l : Laid) → IsSafe asked bound l → IfOk (content_of all i l) (IsFor asked count bound l)
-content_for asked count bound all k i l p =
-    well_then (PartsOf asked count l.length) (IsFor asked count bound l) (parts_of all i l) (λ ps. said_of all i l >>= (λ ss. Ok (record { segment = l.spot.segment; asks = asks_section l.stated; parts = ps; said = ss }))) (parts_sound asked count all k i l p.taken p.asks (p.measured (take i all) l.spot l.size))
+abbrev MeasuredAt : List Laid → ℕ → Laid → Type 0
+MeasuredAt all i l = IsMeasured (take i all) l
+
+content_for : (asked : List ℕ) (count bound : ℕ) (all : List Laid) → IsKnown asked count all → (i : ℕ) (l : Laid) → IsSafe asked bound l → MeasuredAt all i l → IfOk (content_of all i l) (IsFor asked count bound l)
+content_for asked count bound all k i l p e =
+    well_then (PartsOf asked count l.length) (IsFor asked count bound l) (parts_of all i l) (λ ps. said_of all i l >>= (λ ss. Ok (record { segment = l.spot.segment; asks = asks_section l.stated; parts = ps; said = ss }))) (parts_sound asked count all k i l p.asks e)
     (λ ps w. well_then (AreSoundSaid asked count) (IsFor asked count bound l) (said_of all i l) (λ ss. Ok (record { segment = l.spot.segment; asks = asks_section l.stated; parts = ps; said = ss })) (said_sound asked count all k i l p.sound p.asks)
     (λ ss v. record { place = refl; within = p.standing; sound = record { parts = w.0; said = v }; long = w.1 }))
 
-safe_all : (asked : List ℕ) (bound : ℕ) (ls : List Laid) → AreTaken ls → AllByRecursion (λ l. IsSound l.stated) ls → AllByRecursion (λ l. l.spot.segment < bound) ls → AllByRecursion IsMeasured ls → AllByRecursion (Asks (asked_in asked)) ls → AllByRecursion (IsSafe asked bound) ls
-safe_all asked bound [] t s b m a = tt
-safe_all asked bound (l ∷ ls) (t, ts) (s, ss) (b, bs) (m, ms) (a, every) = (record { taken = t; sound = s; standing = b; measured = m; asks = a }, safe_all asked bound ls ts ss bs ms every)
+safe_all : (asked : List ℕ) (bound : ℕ) (ls : List Laid) → AllByRecursion (λ l. IsSound l.stated) ls → AllByRecursion (λ l. l.spot.segment < bound) ls → AllByRecursion (Asks (asked_in asked)) ls → AllByRecursion (IsSafe asked bound) ls
+safe_all asked bound [] s b a = tt
+safe_all asked bound (l ∷ ls) (s, ss) (b, bs) (a, every) = (record { sound = s; standing = b; asks = a }, safe_all asked bound ls ss bs every)
 
 -- ---- What holds of all contents.
 
@@ -222,11 +232,12 @@ sound_contents = λ y cs s e.
     let names = imported_names [] y.laid in
     let bound = length y.standing.segments in
     let asked = section_keys cs in
-    let shape = given (EachWith Stands y.laid) (contents_from y.laid 0 y.laid) cs e (contents_with Stands y.laid (λ l. ⊤) (λ i l u. stands y.laid i l) 0 y.laid (all_any y.laid)) in
+    let shape = given (EachWith Stands y.laid) (contents_from y.laid 0 y.laid) cs e (contents_with Stands y.laid (λ l. ⊤) (λ i l. ⊤) (λ i l u v. stands y.laid i l) 0 y.laid (all_any y.laid) (λ j l at. tt)) in
     let asks = asked_keys y.laid cs shape in
     let known : IsKnown asked (length names) y.laid = record { asks = asks; imports = imports_below y.laid } in
-    let safe = safe_all asked bound y.laid s.taken s.sound s.standing s.measured asks in
-    let made = given (EachWith (IsFor asked (length names) bound) y.laid) (contents_from y.laid 0 y.laid) cs e (contents_with (IsFor asked (length names) bound) y.laid (IsSafe asked bound) (λ i l p. content_for asked (length names) bound y.laid known i l p) 0 y.laid safe) in
+    let safe = safe_all asked bound y.laid s.sound s.standing asks in
+    let measured : AtPlaces (MeasuredAt y.laid) 0 y.laid = λ j l at. (let same : j ≡ j + 0 = omega arith in subst (λ n. MeasuredAt y.laid n l) same (s.measured j l at)) in
+    let made = given (EachWith (IsFor asked (length names) bound) y.laid) (contents_from y.laid 0 y.laid) cs e (contents_with (IsFor asked (length names) bound) y.laid (IsSafe asked bound) (MeasuredAt y.laid) (λ i l p m. content_for asked (length names) bound y.laid known i l p m) 0 y.laid safe measured) in
     record {
       named = s.named;
       imported = all_names y.laid [] refl s.sound;

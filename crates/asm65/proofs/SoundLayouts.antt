@@ -1,8 +1,11 @@
 -- What lines lay is sound: names of segments, statements, their lengths, and the room in each section.
-use Rattle.std.proofs.Common.{◌≡◌, ◌∙◌, ℕ, zero, suc, ◌+◌, ◌<◌, ◌≤◌, Bool, true, false, not, ◌&&◌, nat_eq, nat_lt, cond, List, [], ◌∷◌, ◌++◌, length, map, Option, Some, None, Result, Ok, Err, refl, sym, ap, subst, arith}
-use Rattle.std.specs.Prelude.{sum_by, if◌then◌else◌}
-use Rattle.std.specs.List.{AllByRecursion, list_all}
+use Rattle.std.proofs.Common.{◌≡◌, ◌∙◌, ℕ, zero, suc, ◌+◌, ◌<◌, ◌≤◌, Bool, true, false, nat_eq, nat_lt, cond, List, [], ◌∷◌, ◌++◌, length, map, take, slice_get, Option, Some, None, Result, Ok, Err, refl, sym, ap, subst, arith}
+use Rattle.std.specs.Prelude.{◌&&◌, ◌||◌, sum_by, if◌then◌else◌}
+use Rattle.std.specs.List.{AllByRecursion, position_from}
+use Rattle.std.specs.Str.{bytes_eq}
 use Rattle.std.proofs.lemmas.Bool.Decides.{nat_tests}
+use Rattle.std.proofs.lemmas.Iterator.Adapters.{position_from-zero}
+use Rattle.std.proofs.lemmas.List.{length-append, map-append}
 use Rattle.std.proofs.lemmas.List.Elements.{filter-append}
 use Rattle.std.proofs.lemmas.List.Sums.{sum_by-append}
 use Rattle.syntax65.specs.Outcome.{◌>>=◌, First}
@@ -12,33 +15,26 @@ use Rattle.syntax65.specs.declared.lexing.tokens.AddressSize.{AddressSize}
 use Rattle.syntax65.specs.declared.lexing.tokens.TokenKind.{TokenKind}
 use Rattle.syntax65.specs.declared.lexing.tokens.TokenKind.TheVariants as token
 use Rattle.syntax65.specs.Words.{is_reserved}
-use Rattle.object65.specs.Objects.{are_names, section_limit}
+use Rattle.object65.specs.Objects.{are_names, is_among, is_name, section_limit}
+use Rattle.object65.proofs.Reached.{names_push}
 use Rattle.asm65.specs.declared.contents.Segment.{Segment}
 use Rattle.asm65.specs.declared.fault.AsmFault.{AsmFault}
-use Rattle.asm65.specs.declared.fault.AsmFault.TheVariants.{NotUnderstood, NoSuchForm, SectionTooLarge}
+use Rattle.asm65.specs.declared.fault.AsmFault.TheVariants.{NotUnderstood, SectionTooLarge}
 use Rattle.asm65.specs.Lines.{at_line, counted, tokens_in}
 use Rattle.asm65.specs.Laid.{Laid, Spot, scope_name}
-use Rattle.asm65.specs.Language.{Operand, no_operand, accumulator, immediate, address, indirect, indirect_x, indirect_y, Stated, label, cheap_label, unnamed_label, instruction, reserve, align, file_part, segment, pop_segment}
-use Rattle.asm65.specs.Layout.{Layout, Standing, current_behind, grown_at, laid, layout_behind, multiple_of, nothing_laid, own_size, segment_at, segments_behind, spot_of}
-use Rattle.asm65.specs.LineFaults.{alignment_fault, block_fault, defined_twice, first_fault, form_fault, is_open, line_fault, lost_scopes, missing_file, opened_twice, operand_fault, or_then, part_fault, pop_fault, size_fault, stands_outside, trees_of, when}
+use Rattle.asm65.specs.Language.{Stated, label, cheap_label, unnamed_label, constant, segment, push_segment, pop_segment}
+use Rattle.asm65.specs.Layout.{Layout, Standing, current_behind, first_size, grown_at, kept_behind, laid, last_kept, layout_behind, multiple_of, named_segments, new_segment, nothing_laid, or_last, own_size, place_of, rest_kept, segment_at, segments_behind, size_defined, spot_of}
+use Rattle.asm65.specs.LineFaults.{alignment_fault, block_fault, defined_twice, first_fault, form_fault, is_open, line_fault, lost_scopes, missing_file, opened_twice, operand_fault, part_fault, pop_fault, size_fault, stands_outside, trees_of, when}
 use Rattle.asm65.specs.Laying.{Behind, IsLaid, IsLine, IsRest, IsText, Reached, unless_fault, with_label, with_statement}
 use Rattle.asm65.specs.Parsing.{IsStatement, is_colon, label_before, label_of, named_label, or_all, with_rest}
 use Rattle.asm65.specs.Laws.{SoundLayoutLaw}
-use Rattle.asm65.proofs.Sounding.{line_sound}
 use Rattle.asm65.specs.Sizes.{length_of}
 use Rattle.asm65.specs.Sound.{IsMeasured, IsSound, IsSoundLayout, statements_in}
-use Rattle.asm65.specs.Taken.{AreTaken, is_kind_taken, is_operand_taken, is_plain, is_taken, is_understood, not_taken}
-use Rattle.asm65.proofs.Renumbering.{left, right, and}
+use Rattle.asm65.proofs.NameTables.{bytes_swap}
+use Rattle.asm65.proofs.Segments.{all_more, all_same, found_below, grown_end, grown_length, grown_names}
+use Rattle.asm65.proofs.Sounding.{line_sound}
 
 -- ---- Faults that there aren't.
-
-none_first : (o p : Option AsmFault) → or_then o p ≡ None → o ≡ None
-none_first None p h = refl
-none_first (Some e) p h = absurd cc
-
-none_second : (o p : Option AsmFault) → or_then o p ≡ None → p ≡ None
-none_second None p h = h
-none_second (Some e) p h = absurd cc
 
 none_all : (os : List (Option AsmFault)) → first_fault os ≡ None → AllByRecursion (λ o. o ≡ None) os
 none_all [] h = tt
@@ -49,23 +45,12 @@ not_when : (b : Bool) (e : AsmFault) → when b e ≡ None → b ≡ false
 not_when true e h = absurd cc
 not_when false e h = refl
 
-turned_back : (b : Bool) → not b ≡ false → b ≡ true
-turned_back true e = refl
-turned_back false e = absurd cc
-
-now_taken : (x : Stated) → not_taken x ≡ None → is_taken x ≡ true
-now_taken x h =
-    let all = none_all (when (not (is_understood x)) NotUnderstood ∷ when (not (is_operand_taken x)) NoSuchForm ∷ []) h in
-    and (is_understood x) (is_operand_taken x)
-    (turned_back (is_understood x) (not_when (not (is_understood x)) NotUnderstood all.0))
-    (turned_back (is_operand_taken x) (not_when (not (is_operand_taken x)) NoSuchForm all.1.0))
-
 -- the faults of a statement at its line, in their order
 abbrev faults : List Laid → Standing → Stated → List (Option AsmFault)
 faults before w x =
-    when (stands_outside x && is_open (spot_of w).path) NotUnderstood
-    ∷ lost_scopes before (spot_of w).path (trees_of x)
-    ∷ opened_twice before (spot_of w).path (scope_name x)
+    when (stands_outside x && is_open (spot_of w).scope) NotUnderstood
+    ∷ lost_scopes before (spot_of w).scope (trees_of x)
+    ∷ opened_twice before (spot_of w).scope (scope_name x)
     ∷ defined_twice before (spot_of w) x
     ∷ form_fault before (spot_of w) (own_size w) x
     ∷ operand_fault before (spot_of w) x
@@ -73,7 +58,7 @@ faults before w x =
     ∷ missing_file x
     ∷ part_fault before (spot_of w) x
     ∷ size_fault w.segments x
-    ∷ block_fault before (spot_of w).path x
+    ∷ block_fault before (spot_of w).scope x
     ∷ pop_fault w.kept x
     ∷ when (nat_lt section_limit ((spot_of w).offset + length_of before (spot_of w) (own_size w) x)) SectionTooLarge
     ∷ []
@@ -85,57 +70,18 @@ has_room before w x h =
     not_when (nat_lt section_limit ((spot_of w).offset + length_of before (spot_of w) (own_size w) x)) SectionTooLarge all.1.1.1.1.1.1.1.1.1.1.1.1.0 in
     grind (arith, nat_tests)
 
--- ---- Statements that are taken.
+-- ---- Lengths.
 
-abbrev kind_is : Stated → Type 0
-kind_is x = is_kind_taken x ≡ true
+abbrev is_segment : Stated → Bool
+is_segment (segment n own) = true
+is_segment _ = false
 
-taken_kind : (x : Stated) → is_taken x ≡ true → kind_is x
-taken_kind x h = left (is_kind_taken x) (list_all is_plain (trees_of x)) (left (is_understood x) (is_operand_taken x) h)
-
--- their lengths don't depend on what stands before them
-register_length : (o : Operand) (m : _) (b c : List Laid) (s t : Spot) (own other : AddressSize) → is_operand_taken (instruction m o) ≡ true → length_of b s own (instruction m o) ≡ length_of c t other (instruction m o)
-register_length no_operand m b c s t own other h = refl
-register_length accumulator m b c s t own other h = refl
-register_length (immediate e) m b c s t own other h = absurd cc
-register_length (address size e r) m b c s t own other h = absurd cc
-register_length (indirect e) m b c s t own other h = absurd cc
-register_length (indirect_x e) m b c s t own other h = absurd cc
-register_length (indirect_y e) m b c s t own other h = absurd cc
-
-same_length : (x : Stated) (b c : List Laid) (s t : Spot) (own other : AddressSize) → kind_is x → is_operand_taken x ≡ true → length_of b s own x ≡ length_of c t other x
-same_length (instruction m o) b c s t own other k h = register_length o m b c s t own other h
-same_length (reserve n v) b c s t own other k h = absurd cc
-same_length (align n v) b c s t own other k h = absurd cc
-same_length (file_part bytes start len) b c s t own other k h = absurd cc
-same_length x b c s t own other k h = refl
-
--- they stay in their segment, and name none
-same_segments : (gs : List Segment) (current count multiple : ℕ) (x : Stated) → kind_is x → segments_behind gs current count multiple x ≡ grown_at gs current count multiple
-same_segments gs current count multiple (segment n own) k = absurd cc
-same_segments gs current count multiple x k = refl
-
-same_current : (w : Standing) (x : Stated) → kind_is x → current_behind w x ≡ w.current
-same_current w (segment n own) k = absurd cc
-same_current w pop_segment k = absurd cc
-same_current w x k = refl
+-- only a constant has a size of its own, and it places nothing
+same_length : (before : List Laid) (s : Spot) (own : AddressSize) (x : Stated) → length_of before s own x ≡ length_of before s (size_defined before s own x) x
+same_length before s own (constant n e) = refl
+same_length before s own x = refl
 
 -- ---- A segment that grows.
-
-grown_names : (gs : List Segment) (i count multiple : ℕ) → map (λ (g : Segment). g.name) (grown_at gs i count multiple) ≡ map (λ (g : Segment). g.name) gs
-grown_names [] i count multiple = refl
-grown_names (g ∷ gs) zero count multiple = refl
-grown_names (g ∷ gs) (suc i) count multiple = ap (λ ns. g.name ∷ ns) (grown_names gs i count multiple)
-
-grown_length : (gs : List Segment) (i count multiple : ℕ) → length (grown_at gs i count multiple) ≡ length gs
-grown_length [] i count multiple = refl
-grown_length (g ∷ gs) zero count multiple = refl
-grown_length (g ∷ gs) (suc i) count multiple = ap suc (grown_length gs i count multiple)
-
-grown_here : (gs : List Segment) (i count multiple : ℕ) → i < length gs → (segment_at (grown_at gs i count multiple) i).end ≡ (segment_at gs i).end + count
-grown_here [] i count multiple lt = absurd (omega arith)
-grown_here (g ∷ gs) zero count multiple lt = refl
-grown_here (g ∷ gs) (suc i) count multiple lt = grown_here gs i count multiple (omega arith)
 
 grown_other : (gs : List Segment) (i h count multiple : ℕ) → nat_eq i h ≡ false → segment_at (grown_at gs i count multiple) h ≡ segment_at gs h
 grown_other [] i h count multiple apart = refl
@@ -143,6 +89,24 @@ grown_other (g ∷ gs) zero zero count multiple apart = absurd cc
 grown_other (g ∷ gs) zero (suc h) count multiple apart = refl
 grown_other (g ∷ gs) (suc i) zero count multiple apart = refl
 grown_other (g ∷ gs) (suc i) (suc h) count multiple apart = grown_other gs i h count multiple (grind (arith, nat_tests))
+
+-- the segment in which a statement stands has so many bytes more, and the others stay as they were
+record Grows (gs hs : List Segment) (current count : ℕ) : Type 0 where
+  names : map (λ (g : Segment). g.name) hs ≡ map (λ (g : Segment). g.name) gs
+  size : length hs ≡ length gs
+  here : (segment_at hs current).end ≡ (segment_at gs current).end + count
+  others : (g : ℕ) → nat_eq current g ≡ false → (segment_at hs g).end ≡ (segment_at gs g).end
+
+grows : (gs : List Segment) (current count multiple : ℕ) → current < length gs → Grows gs (grown_at gs current count multiple) current count
+grows gs current count multiple lt = record {
+  names = grown_names gs current count multiple;
+  size = grown_length gs current count multiple;
+  here = grown_end gs current count multiple lt;
+  others = λ g e. ap (λ (h : Segment). h.end) (grown_other gs current g count multiple e);
+}
+
+grows_none : (gs : List Segment) (current : ℕ) → Grows gs gs current 0
+grows_none gs current = record { names = refl; size = refl; here = omega arith; others = λ g e. refl }
 
 -- ---- What holds behind each statement.
 
@@ -152,22 +116,31 @@ total_in ls g = sum_by (λ (l : Laid). l.length) (statements_in ls g)
 abbrev stands_in : ℕ → Laid → Type 0
 stands_in count l = l.spot.segment < count
 
-record Good (ls : List Laid) (gs : List Segment) (current : ℕ) : Type 0 where
+abbrev are_below : ℕ → List ℕ → Type 0
+are_below count ks = AllByRecursion (λ k. k < count) ks
+
+-- so it is with each statement and those before it
+abbrev EachBehind : (List Laid → Laid → Type 0) → List Laid → Type 0
+EachBehind M ls = (i : ℕ) (l : Laid) → slice_get ls i ≡ Some l → M (take i ls) l
+
+record Good (ls : List Laid) (gs : List Segment) (current : ℕ) (kept : List ℕ) : Type 0 where
   named : are_names (map (λ (g : Segment). g.name) gs) ≡ true
-  taken : AreTaken ls
   sound : AllByRecursion (λ (l : Laid). IsSound l.stated) ls
   standing : AllByRecursion (stands_in (length gs)) ls
-  measured : AllByRecursion IsMeasured ls
+  measured : EachBehind IsMeasured ls
   here : current < length gs
+  keeps : are_below (length gs) kept
   ends : (g : ℕ) → total_in ls g ≡ (segment_at gs g).end
   limit : (g : ℕ) → (segment_at gs g).end ≤ section_limit
 
 abbrev IsGood : Layout → Type 0
-IsGood y = Good y.laid y.standing.segments y.standing.current
+IsGood y = Good y.laid y.standing.segments y.standing.current y.standing.kept
 
-all_push : {A : Type 0} (P : A → Type 0) (xs : List A) (x : A) → AllByRecursion P xs → P x → AllByRecursion P (xs ++ x ∷ [])
-all_push P [] x h p = (p, tt)
-all_push P (y ∷ xs) x h p = (h.0, all_push P xs x h.1 p)
+behind_push : (M : List Laid → Laid → Type 0) (ls : List Laid) (l : Laid) → EachBehind M ls → M ls l → EachBehind M (ls ++ l ∷ [])
+behind_push M [] l h m zero x e = let same : l ≡ x = cc in subst (M []) same m
+behind_push M [] l h m (suc i) x e = absurd cc
+behind_push M (y ∷ ys) l h m zero x e = h zero x e
+behind_push M (y ∷ ys) l h m (suc i) x e = behind_push (λ zs z. M (y ∷ zs) z) ys l (λ j z f. h (suc j) z f) m i x e
 
 total_push : (ls : List Laid) (l : Laid) (g : ℕ) → total_in (ls ++ l ∷ []) g ≡ total_in ls g + cond (nat_eq l.spot.segment g) l.length 0
 total_push ls l g =
@@ -180,59 +153,135 @@ total_push ls l g =
     one false = refl
 
 -- one more statement in the current segment
-good_push : (ls : List Laid) (gs : List Segment) (current multiple : ℕ) (l : Laid) → Good ls gs current → l.spot.segment ≡ current → is_taken l.stated ≡ true → IsSound l.stated → IsMeasured l → (segment_at gs current).end + l.length ≤ section_limit → Good (ls ++ l ∷ []) (grown_at gs current l.length multiple) current
-good_push ls gs current multiple l good at taken sound measured room = record {
-  named = ap are_names (grown_names gs current l.length multiple) ∙ good.named;
-  taken = all_push (λ (m : Laid). is_taken m.stated ≡ true) ls l good.taken taken;
-  sound = all_push (λ (m : Laid). IsSound m.stated) ls l good.sound sound;
-  standing = subst (λ n. AllByRecursion (stands_in n) (ls ++ l ∷ [])) (sym (grown_length gs current l.length multiple)) (all_push (stands_in (length gs)) ls l good.standing (subst (λ n. n < length gs) (sym at) good.here));
-  measured = all_push IsMeasured ls l good.measured measured;
-  here = subst (λ n. current < n) (sym (grown_length gs current l.length multiple)) good.here;
+good_push : (ls : List Laid) (gs hs : List Segment) (current : ℕ) (kept : List ℕ) (l : Laid) → Good ls gs current kept → Grows gs hs current l.length → l.spot.segment ≡ current → IsSound l.stated → IsMeasured ls l → (segment_at gs current).end + l.length ≤ section_limit → Good (ls ++ l ∷ []) hs current kept
+good_push ls gs hs current kept l good more at sound measured room = record {
+  named = ap are_names more.names ∙ good.named;
+  sound = all_more (λ (m : Laid). IsSound m.stated) ls l good.sound sound;
+  standing = subst (λ n. AllByRecursion (stands_in n) (ls ++ l ∷ [])) (sym more.size) (all_more (stands_in (length gs)) ls l good.standing (subst (λ n. n < length gs) (sym at) good.here));
+  measured = behind_push IsMeasured ls l good.measured measured;
+  here = subst (λ n. current < n) (sym more.size) good.here;
+  keeps = subst (λ n. are_below n kept) (sym more.size) good.keeps;
   ends = λ g. total_push ls l g ∙ ap (λ n. total_in ls g + cond (nat_eq n g) l.length 0) at ∙ ends_at g (nat_eq current g) refl;
   limit = λ g. limit_at g (nat_eq current g) refl;
 }
   where
-    same_here : (g : ℕ) → nat_eq current g ≡ true → (segment_at (grown_at gs current l.length multiple) g).end ≡ (segment_at gs g).end + l.length
+    same_here : (g : ℕ) → nat_eq current g ≡ true → (segment_at hs g).end ≡ (segment_at gs g).end + l.length
     same_here g e =
         let same : current ≡ g = grind (arith, nat_tests) in
-        subst (λ h. (segment_at (grown_at gs current l.length multiple) h).end ≡ (segment_at gs h).end + l.length) same (grown_here gs current l.length multiple good.here)
+        subst (λ h. (segment_at hs h).end ≡ (segment_at gs h).end + l.length) same more.here
 
-    same_there : (g : ℕ) → nat_eq current g ≡ false → (segment_at (grown_at gs current l.length multiple) g).end ≡ (segment_at gs g).end
-    same_there g e = ap (λ (h : Segment). h.end) (grown_other gs current g l.length multiple e)
-
-    ends_at : (g : ℕ) (b : Bool) → nat_eq current g ≡ b → total_in ls g + cond (nat_eq current g) l.length 0 ≡ (segment_at (grown_at gs current l.length multiple) g).end
+    ends_at : (g : ℕ) (b : Bool) → nat_eq current g ≡ b → total_in ls g + cond (nat_eq current g) l.length 0 ≡ (segment_at hs g).end
     ends_at g true e = ap (λ c. total_in ls g + cond c l.length 0) e ∙ ap (λ n. n + l.length) (good.ends g) ∙ sym (same_here g e)
-    ends_at g false e = ap (λ c. total_in ls g + cond c l.length 0) e ∙ (let whole : total_in ls g ≡ (segment_at gs g).end = good.ends g in omega (arith, whole)) ∙ sym (same_there g e)
+    ends_at g false e = ap (λ c. total_in ls g + cond c l.length 0) e ∙ (let whole : total_in ls g ≡ (segment_at gs g).end = good.ends g in omega (arith, whole)) ∙ sym (more.others g e)
 
-    limit_at : (g : ℕ) (b : Bool) → nat_eq current g ≡ b → (segment_at (grown_at gs current l.length multiple) g).end ≤ section_limit
+    limit_at : (g : ℕ) (b : Bool) → nat_eq current g ≡ b → (segment_at hs g).end ≤ section_limit
     limit_at g true e =
         let same : current ≡ g = grind (arith, nat_tests) in
         subst (λ n. n ≤ section_limit) (sym (same_here g e)) (subst (λ h. (segment_at gs h).end + l.length ≤ section_limit) same room)
-    limit_at g false e = subst (λ n. n ≤ section_limit) (sym (same_there g e)) (good.limit g)
+    limit_at g false e = subst (λ n. n ≤ section_limit) (sym (more.others g e)) (good.limit g)
+
+-- ---- One more segment.
+
+-- a name without a place is none of theirs
+not_among : (n : List ℕ) (gs : List Segment) → place_of gs n ≡ None → is_among (map (λ (g : Segment). g.name) gs) n ≡ false
+not_among n gs e = from 0 gs (sym (position_from-zero (λ (g : Segment). bytes_eq g.name n) gs) ∙ e)
+  where
+    from : (i : ℕ) (hs : List Segment) → position_from (λ (g : Segment). bytes_eq g.name n) i hs ≡ None → is_among (map (λ (g : Segment). g.name) hs) n ≡ false
+    from i [] h = refl
+    from i (g ∷ hs) h = by (bytes_eq g.name n) refl h (from (i + 1) hs)
+      where
+        by : (b : Bool) → bytes_eq g.name n ≡ b → cond b (Some i) (position_from (λ (k : Segment). bytes_eq k.name n) (i + 1) hs) ≡ None → (position_from (λ (k : Segment). bytes_eq k.name n) (i + 1) hs ≡ None → is_among (map (λ (k : Segment). k.name) hs) n ≡ false) → is_among (map (λ (k : Segment). k.name) (g ∷ hs)) n ≡ false
+        by true same k more = absurd cc
+        by false apart k more = ap (λ b. b || is_among (map (λ (m : Segment). m.name) hs) n) (bytes_swap n g.name ∙ apart) ∙ more k
+
+end_behind : (gs : List Segment) (n : List ℕ) (own : AddressSize) (g : ℕ) → (segment_at (gs ++ new_segment n own ∷ []) g).end ≡ (segment_at gs g).end
+end_behind [] n own zero = refl
+end_behind [] n own (suc g) = refl
+end_behind (x ∷ gs) n own zero = refl
+end_behind (x ∷ gs) n own (suc g) = end_behind gs n own g
+
+one_longer : (gs : List Segment) (g : Segment) → length (gs ++ g ∷ []) ≡ length gs + 1
+one_longer gs g = length-append gs (g ∷ [])
+
+good_named : (ls : List Laid) (gs : List Segment) (current : ℕ) (kept : List ℕ) (n : List ℕ) (own : Option AddressSize) (place : Option ℕ) → Good ls gs current kept → is_name n ≡ true → place_of gs n ≡ place → Good ls (named_segments gs n own place) current kept
+good_named ls gs current kept n own (Some i) good fine e = good
+good_named ls gs current kept n own None good fine e =
+    let last : Segment = new_segment n (first_size n own) in
+    let longer : length (gs ++ last ∷ []) ≡ length gs + 1 = one_longer gs last in
+    let further : (k : ℕ) → k < length gs → k < length (gs ++ last ∷ []) = λ k lt. omega (arith, longer, lt) in
+    record {
+      named = ap are_names (map-append (λ (g : Segment). g.name) gs (last ∷ [])) ∙ names_push (map (λ (g : Segment). g.name) gs) n good.named fine (not_among n gs e);
+      sound = good.sound;
+      standing = all_same (stands_in (length gs)) (stands_in (length (gs ++ last ∷ []))) (λ l lt. further l.spot.segment lt) ls good.standing;
+      measured = good.measured;
+      here = further current good.here;
+      keeps = all_same (λ k. k < length gs) (λ k. k < length (gs ++ last ∷ [])) further kept good.keeps;
+      ends = λ g. good.ends g ∙ sym (end_behind gs n (first_size n own) g);
+      limit = λ g. subst (λ m. m ≤ section_limit) (sym (end_behind gs n (first_size n own) g)) (good.limit g);
+    }
+
+named_there : (gs : List Segment) (n : List ℕ) (own : Option AddressSize) (place : Option ℕ) → place_of gs n ≡ place → or_last gs place < length (named_segments gs n own place)
+named_there gs n own None e = let longer : length (gs ++ new_segment n (first_size n own) ∷ []) ≡ length gs + 1 = one_longer gs (new_segment n (first_size n own)) in omega (arith, longer)
+named_there gs n own (Some i) e = found_below gs n i e
 
 -- ---- One statement.
 
-good_step : (y : Layout) (line : ℕ) (x : Stated) → IsGood y → IsSound x → is_taken x ≡ true → line_fault y.laid y.standing x ≡ None → IsGood (layout_behind y line x)
-good_step y line x good sound taken none =
-    let w = y.standing in
-    let before = y.laid in
+-- another segment is the current one
+good_move : (ls : List Laid) (gs : List Segment) (current next : ℕ) (kept rest : List ℕ) → Good ls gs current kept → next < length gs → are_below (length gs) rest → Good ls gs next rest
+good_move ls gs current next kept rest good lt below = record {
+  named = good.named;
+  sound = good.sound;
+  standing = good.standing;
+  measured = good.measured;
+  here = lt;
+  keeps = below;
+  ends = good.ends;
+  limit = good.limit;
+}
+
+last_below : (count current : ℕ) (kept : List ℕ) → current < count → are_below count kept → last_kept current kept < count
+last_below count current [] lt h = lt
+last_below count current (k ∷ kept) lt h = h.0
+
+rest_below : (count : ℕ) (kept : List ℕ) → are_below count kept → are_below count (rest_kept kept)
+rest_below count [] h = tt
+rest_below count (k ∷ kept) h = h.1
+
+good_current : (ls : List Laid) (w : Standing) (count multiple : ℕ) (x : Stated) → Good ls (segments_behind w.segments w.current count multiple x) w.current w.kept → Good ls (segments_behind w.segments w.current count multiple x) (current_behind w x) (kept_behind w x)
+good_current ls w count multiple (segment n own) good = good_move ls (named_segments w.segments n own (place_of w.segments n)) w.current (or_last w.segments (place_of w.segments n)) w.kept w.kept good (named_there w.segments n own (place_of w.segments n) refl) good.keeps
+good_current ls w count multiple push_segment good = good_move ls (grown_at w.segments w.current count multiple) w.current w.current w.kept (w.current ∷ w.kept) good good.here (good.here, good.keeps)
+good_current ls w count multiple pop_segment good =
+    let gs : List Segment = grown_at w.segments w.current count multiple in
+    good_move ls gs w.current (last_kept w.current w.kept) w.kept (rest_kept w.kept) good (last_below (length gs) w.current w.kept good.here good.keeps) (rest_below (length gs) w.kept good.keeps)
+good_current ls w count multiple x good = good
+
+good_laying : (ls : List Laid) (w : Standing) (count multiple : ℕ) (x : Stated) → Good ls w.segments w.current w.kept → IsSound x → (more : List Laid) → ((hs : List Segment) → Grows w.segments hs w.current count → Good more hs w.current w.kept) → (is_segment x ≡ true → count ≡ 0) → Good more (segments_behind w.segments w.current count multiple x) w.current w.kept
+good_laying ls w count multiple (segment n own) good sound more next none =
+    good_named more w.segments w.current w.kept n own (place_of w.segments n) (next w.segments (subst (Grows w.segments w.segments w.current) (sym (none refl)) (grows_none w.segments w.current))) sound refl
+good_laying ls w count multiple x good sound more next none = next (grown_at w.segments w.current count multiple) (grows w.segments w.current count multiple good.here)
+
+segment_empty : (before : List Laid) (s : Spot) (own : AddressSize) (x : Stated) → is_segment x ≡ true → length_of before s own x ≡ 0
+segment_empty before s own (segment n size) h = refl
+segment_empty before s own x h = absurd cc
+
+good_step : (y : Layout) (line : ℕ) (x : Stated) → IsGood y → IsSound x → line_fault y.laid y.standing x ≡ None → IsGood (layout_behind y line x)
+good_step y line x good sound none =
+    let w : Standing = y.standing in
+    let before : List Laid = y.laid in
     let l : Laid = laid before w line x in
-    let multiple = multiple_of before (spot_of w) x in
-    let kind : kind_is x = taken_kind x taken in
-    let measured : IsMeasured l = λ b s own. same_length x before b (spot_of w) s (own_size w) own kind (right (is_understood x) (is_operand_taken x) taken) in
-    let next : Good (before ++ l ∷ []) (grown_at w.segments w.current l.length multiple) w.current =
-    good_push before w.segments w.current multiple l good refl taken sound measured (has_room before w x none) in
-    subst (λ gs. Good (before ++ l ∷ []) gs (current_behind w x)) (sym (same_segments w.segments w.current l.length multiple x kind))
-    (subst (λ c. Good (before ++ l ∷ []) (grown_at w.segments w.current l.length multiple) c) (sym (same_current w x kind)) next)
+    let room = has_room before w x none in
+    let measured : IsMeasured before l = same_length before (spot_of w) (own_size w) x in
+    good_current (before ++ l ∷ []) w l.length (multiple_of before (spot_of w) x) x
+    (good_laying before w l.length (multiple_of before (spot_of w) x) x good sound (before ++ l ∷ []) (λ hs more. good_push before w.segments hs w.current w.kept l good more refl sound measured room) (segment_empty before (spot_of w) (own_size w) x))
 
 good_statement : (y z : Layout) (line : ℕ) (x : Stated) → IsGood y → IsSound x → with_statement y line x ≡ Ok z → IsGood z
-good_statement y z line x good sound h = by (or_then (not_taken x) (line_fault y.laid y.standing x)) refl h
+good_statement y z line x good sound h = by (line_fault y.laid y.standing x) refl h
   where
-    by : (o : Option AsmFault) → or_then (not_taken x) (line_fault y.laid y.standing x) ≡ o → unless_fault o (layout_behind y line x) ≡ Ok z → IsGood z
+    by : (o : Option AsmFault) → line_fault y.laid y.standing x ≡ o → unless_fault o (layout_behind y line x) ≡ Ok z → IsGood z
     by (Some e) is h = absurd cc
     by None is h =
         let same : layout_behind y line x ≡ z = cc in
-        subst IsGood same (good_step y line x good sound (now_taken x (none_first (not_taken x) (line_fault y.laid y.standing x) is)) (none_second (not_taken x) (line_fault y.laid y.standing x) is))
+        subst IsGood same (good_step y line x good sound is)
 
 -- ---- Lines.
 
@@ -318,15 +367,19 @@ good_laid y last (text ∷ texts) r good h = by h.0 h.1 h.2 (λ z. good_laid z (
 nothing_good : IsGood nothing_laid
 nothing_good = record {
   named = refl;
-  taken = tt;
   sound = tt;
   standing = tt;
-  measured = tt;
+  measured = λ i l e. none_behind i l e;
   here = omega arith;
+  keeps = tt;
   ends = λ g. ends_at g;
   limit = λ g. subst (λ n. n ≤ section_limit) (ends_at g) (omega arith);
 }
   where
+    none_behind : EachBehind IsMeasured []
+    none_behind zero l e = absurd cc
+    none_behind (suc i) l e = absurd cc
+
     ends_at : (g : ℕ) → 0 ≡ (segment_at nothing_laid.standing.segments g).end
     ends_at zero = refl
     ends_at (suc g) = refl
@@ -334,7 +387,6 @@ nothing_good = record {
 sound_from : (y : Layout) → IsGood y → IsSoundLayout y
 sound_from y good = record {
   named = good.named;
-  taken = good.taken;
   sound = good.sound;
   standing = good.standing;
   measured = good.measured;

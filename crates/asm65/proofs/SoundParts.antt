@@ -1,37 +1,35 @@
 -- The parts of sound statements.
-use Rattle.std.proofs.Common.{◌≡◌, ◌∙◌, ℕ, ◌+◌, Bool, true, false, nat_eq, nat_lt, refl, sym, ap, subst, List, [], ◌∷◌, length, take, Option, Some, None, Result, Ok, Err}
-use Rattle.std.specs.Prelude.{ℤ, IfOk, ◌&&◌, sum_by, if◌then◌else◌}
+use Rattle.std.proofs.Common.{◌≡◌, ◌∙◌, ℕ, ◌+◌, Bool, true, false, nat_eq, nat_lt, refl, sym, ap, subst, arith, pos, List, [], ◌∷◌, length, replicate, take, Option, Some, None, Ok, Err}
+use Rattle.std.specs.Prelude.{⊤, ℤ, IfOk, ◌&&◌, sum_by, if◌then◌else◌}
 use Rattle.std.specs.List.{AllByRecursion, list_all, list_any}
+use Rattle.std.proofs.lemmas.List.{length-replicate}
 use Rattle.std.proofs.lemmas.List.Sums.{sum_by-cons}
 use Rattle.std.proofs.lemmas.List.Folds.{list_all-append}
 use Rattle.syntax65.specs.Outcome.{◌>>=◌, each}
 use Rattle.syntax65.specs.Opcodes.{opcode_of}
 use Rattle.syntax65.specs.Trees.{Tree}
 use Rattle.syntax65.specs.declared.instructions.codes.Mode.{Mode}
-use Rattle.syntax65.specs.declared.instructions.codes.Mode.TheVariants.{Implied, Accumulator}
+use Rattle.syntax65.specs.declared.instructions.codes.Mode.TheVariants.{Implied, Accumulator, Immediate, Indirect, IndirectX, IndirectY, Relative}
 use Rattle.syntax65.specs.declared.instructions.names.Mnemonic.{Mnemonic}
 use Rattle.syntax65.specs.declared.lexing.tokens.AddressSize.{AddressSize}
+use Rattle.syntax65.specs.declared.lexing.tokens.AddressSize.TheVariants as size
+use Rattle.syntax65.specs.declared.values.Op2.TheVariants.{Subtract}
 use Rattle.object65.specs.Form.{Form, lit, sec, imp, prefix, binary}
 use Rattle.object65.specs.Objects.{fits_width, value_bytes, width_len}
 use Rattle.object65.specs.declared.object.Width.{Width}
 use Rattle.object65.specs.declared.object.Width.TheVariants.{Byte, Word, HighFirst, Dword, Branch}
 use Rattle.asm65.specs.declared.contents.Part.{Part}
 use Rattle.asm65.specs.declared.contents.Part.TheVariants.{Known}
-use Rattle.asm65.specs.declared.fault.AsmFault.{AsmFault}
 use Rattle.asm65.specs.declared.fault.AsmFault.TheVariants.{OutOfRange}
-use Rattle.asm65.specs.Contents.{item_part, parts_of, stored}
-use Rattle.asm65.specs.Evaluating.{code_parts, register_code}
+use Rattle.asm65.specs.Contents.{instruction_parts, item_part, opcode_part, operand_form, operand_parts, operand_tree, parts_of, room_part, stored}
 use Rattle.asm65.specs.Laid.{Laid, Spot, asks_section, has_here}
 use Rattle.asm65.specs.Language.{Item, value, text, Operand, no_operand, accumulator, immediate, address, indirect, indirect_x, indirect_y, Stated, instruction, values, reserve, align, file_part}
-use Rattle.asm65.specs.LineFaults.{trees_of}
-use Rattle.asm65.specs.Names.{or_else}
-use Rattle.asm65.specs.Norms.{norm_of}
+use Rattle.asm65.specs.declared.language.Index.{Index}
+use Rattle.asm65.specs.Norms.{constant_behind, norm_of}
 use Rattle.asm65.specs.Numbering.{imports_in}
-use Rattle.asm65.specs.Sizes.{first_of, item_len, length_of, mode_len, mode_of, width_of}
+use Rattle.asm65.specs.Sizes.{address_mode, branch_mode, counted, first_of, is_branch, item_len, length_of, mode_for, mode_len, mode_of, operand_len, part_of, size_of, width_of}
 use Rattle.asm65.specs.Sound.{IsSoundForm, IsSoundPart, part_len, sections_in}
-use Rattle.asm65.specs.Taken.{is_plain, is_register, is_taken}
-use Rattle.asm65.proofs.Holding.{Holds, IsWell}
-use Rattle.asm65.proofs.Registers.{first_none, first_second, first_some, or_same, register_parts, second}
+use Rattle.asm65.proofs.Holding.{Holds, IsWell, two_well}
 use Rattle.asm65.proofs.SoundForms.{Asks, Imports, norm_well, well_then}
 
 -- ---- Forms.
@@ -104,51 +102,134 @@ items_sound asked count all k i l h width (it ∷ its) =
     (λ p w. well_then (PartsOf asked count (sum_by (item_len width) its)) (PartsOf asked count (sum_by (item_len width) (it ∷ its))) (each (item_part all i l width) its) (λ ps. Ok (p ∷ ps)) (items_sound asked count all k i l h width its)
     (λ ps v. ((w.0, v.0), sum_by-cons part_len p ps ∙ ap (λ n. n + sum_by part_len ps) w.1 ∙ ap (λ n. item_len width it + n) v.1 ∙ sym (sum_by-cons (item_len width) it its))))
 
+-- ---- Forms of instructions.
+
+-- the instruction has this form, and without an operand nothing is stored behind its code
+record IsForm (m : Mnemonic) (t : Option Tree) (mode : Mode) : Type 0 where
+  code : part_len (opcode_part (opcode_of m mode)) ≡ 1
+  alone : t ≡ None → width_of mode ≡ None
+
+abbrev MayForm : Mnemonic → Option Tree → Option Mode → Type 0
+MayForm m t None = ⊤
+MayForm m t (Some mode) = IsForm m t mode
+
+abbrev Alone : Option Tree → Mode → Type 0
+Alone t mode = t ≡ None → width_of mode ≡ None
+
+with_code : (m : Mnemonic) (t : Option Tree) (mode : Mode) (c : ℕ) → Alone t mode → opcode_of m mode ≡ Some c → IsForm m t mode
+with_code m t mode c a h = record { code = ap (λ o. part_len (opcode_part o)) h; alone = a }
+
+first_some : (m : Mnemonic) (a b : Mode) (c : ℕ) → opcode_of m a ≡ Some c → first_of m a b ≡ Some a
+first_some m a b c h = rw h refl
+
+first_second : (m : Mnemonic) (a b : Mode) (c : ℕ) → opcode_of m a ≡ None → opcode_of m b ≡ Some c → first_of m a b ≡ Some b
+first_second m a b c h k = rw (h, k) refl
+
+first_none : (m : Mnemonic) (a b : Mode) → opcode_of m a ≡ None → opcode_of m b ≡ None → first_of m a b ≡ None
+first_none m a b h k = rw (h, k) refl
+
+first_form : (m : Mnemonic) (t : Option Tree) (a b : Mode) → Alone t a → Alone t b → MayForm m t (first_of m a b)
+first_form m t a b v w = go (opcode_of m a) (opcode_of m b) refl refl
+  where
+    go : (x y : Option ℕ) → opcode_of m a ≡ x → opcode_of m b ≡ y → MayForm m t (first_of m a b)
+    go (Some c) y h k = subst (MayForm m t) (sym (first_some m a b c h)) (with_code m t a c v h)
+    go None (Some d) h k = subst (MayForm m t) (sym (first_second m a b d h k)) (with_code m t b d w k)
+    go None None h k = subst (MayForm m t) (sym (first_none m a b h k)) tt
+
+stored_behind : (e : Tree) (mode : Mode) → Alone (Some e) mode
+stored_behind e mode h = absurd cc
+
+address_form : (m : Mnemonic) (e : Tree) (forced : Option AddressSize) (own : AddressSize) (r : Option Index) → MayForm m (Some e) (address_mode m forced own r)
+address_form m e (Some forced) own r = first_form m (Some e) (mode_for forced r) (mode_for forced r) (stored_behind e (mode_for forced r)) (stored_behind e (mode_for forced r))
+address_form m e None size.ZeroPage r = first_form m (Some e) (mode_for size.ZeroPage r) (mode_for size.Absolute r) (stored_behind e (mode_for size.ZeroPage r)) (stored_behind e (mode_for size.Absolute r))
+address_form m e None size.Absolute r = first_form m (Some e) (mode_for size.Absolute r) (mode_for size.ZeroPage r) (stored_behind e (mode_for size.Absolute r)) (stored_behind e (mode_for size.ZeroPage r))
+
+not_branch : (m : Mnemonic) → opcode_of m Relative ≡ None → is_branch m ≡ false
+not_branch m h = rw h refl
+
+branch_code : (m : Mnemonic) → is_branch m ≡ true → part_len (opcode_part (opcode_of m Relative)) ≡ 1
+branch_code m b = go (opcode_of m Relative) refl
+  where
+    go : (o : Option ℕ) → opcode_of m Relative ≡ o → part_len (opcode_part (opcode_of m Relative)) ≡ 1
+    go (Some c) h = ap (λ o. part_len (opcode_part o)) h
+    go None h = (let other = not_branch m h in absurd cc)
+
+branch_form : (m : Mnemonic) (e : Tree) (forced : Option AddressSize) (r : Option Index) → is_branch m ≡ true → MayForm m (Some e) (branch_mode forced r)
+branch_form m e None None b = record { code = branch_code m b; alone = stored_behind e Relative }
+branch_form m e None (Some r) b = tt
+branch_form m e (Some forced) r b = tt
+
+operand_mode : (before : List Laid) (s : Spot) (own : AddressSize) (m : Mnemonic) (o : Operand) → MayForm m (operand_tree o) (mode_of before s own m o)
+operand_mode before s own m no_operand = first_form m None Implied Accumulator (λ h. refl) (λ h. refl)
+operand_mode before s own m accumulator = first_form m None Accumulator Accumulator (λ h. refl) (λ h. refl)
+operand_mode before s own m (immediate e) = first_form m (Some e) Immediate Immediate (stored_behind e Immediate) (stored_behind e Immediate)
+operand_mode before s own m (address forced e r) = by (is_branch m) refl
+  where
+    by : (b : Bool) → is_branch m ≡ b → MayForm m (Some e) (if b then branch_mode forced r else address_mode m forced (size_of before s own e) r)
+    by true h = branch_form m e forced r h
+    by false h = address_form m e forced (size_of before s own e) r
+operand_mode before s own m (indirect e) = first_form m (Some e) Indirect Indirect (stored_behind e Indirect) (stored_behind e Indirect)
+operand_mode before s own m (indirect_x e) = first_form m (Some e) IndirectX IndirectX (stored_behind e IndirectX) (stored_behind e IndirectX)
+operand_mode before s own m (indirect_y e) = first_form m (Some e) IndirectY IndirectY (stored_behind e IndirectY) (stored_behind e IndirectY)
+
 -- ---- Instructions.
 
-alone_len : (m : Mnemonic) (a b : Mode) → width_of a ≡ None → width_of b ≡ None → sum_by part_len (code_parts (or_else (opcode_of m a) (opcode_of m b))) ≡ mode_len (first_of m a b)
-alone_len m a b v w = go (opcode_of m a) (opcode_of m b) refl refl
-  where
-    one : (mode : Mode) → width_of mode ≡ None → 1 ≡ mode_len (Some mode)
-    one mode z = rw z refl
+operand_sound : (asked : List ℕ) (count : ℕ) (s : Spot) → asked_in asked s.segment ≡ true → (width : Width) (f : Form) → IsWell (asked_in asked) (below count) f → IfOk (operand_form width s f) (IsWell (asked_in asked) (below count))
+operand_sound asked count s h Branch f w = two_well (asked_in asked) (below count) Subtract f (sec s.segment (pos (s.offset + 2))) w (record { folded = (refl, omega arith); holds = h })
+operand_sound asked count s h Byte f w = w
+operand_sound asked count s h Word f w = w
+operand_sound asked count s h HighFirst f w = w
+operand_sound asked count s h Dword f w = w
 
-    go : (x y : Option ℕ) → opcode_of m a ≡ x → opcode_of m b ≡ y → sum_by part_len (code_parts (or_else (opcode_of m a) (opcode_of m b))) ≡ mode_len (first_of m a b)
-    go (Some c) y h k = ap (λ x. sum_by part_len (code_parts (or_else x (opcode_of m b)))) h ∙ one a v ∙ sym (ap mode_len (first_some m a b c h))
-    go None (Some d) h k = ap (λ x. sum_by part_len (code_parts (or_else x (opcode_of m b)))) h ∙ ap (λ x. sum_by part_len (code_parts x)) k ∙ one b w ∙ sym (ap mode_len (first_second m a b d h k))
-    go None None h k = ap (λ x. sum_by part_len (code_parts (or_else x (opcode_of m b)))) h ∙ ap (λ x. sum_by part_len (code_parts x)) k ∙ sym (ap mode_len (first_none m a b h k))
+behind_sound : (asked : List ℕ) (count : ℕ) (all : List Laid) → IsKnown asked count all → (i : ℕ) (l : Laid) → asked_in asked l.spot.segment ≡ true → (w : Option Width) (t : Option Tree) → (t ≡ None → w ≡ None) → IfOk (operand_parts all i l w t) (PartsOf asked count (operand_len w))
+behind_sound asked count all k i l h None t a = (tt, refl)
+behind_sound asked count all k i l h (Some width) None a = (let none : Some width ≡ None = a refl in absurd cc)
+behind_sound asked count all k i l h (Some width) (Some e) a =
+    let Well : Form → Type 0 = IsWell (asked_in asked) (below count) in
+    well_then Well (PartsOf asked count (width_len width)) (norm_of all i l.spot e) (λ f. operand_form width l.spot f >>= (λ g. stored width l.line g >>= (λ p. Ok (p ∷ [])))) (form_sound asked count all k i l.spot e (λ z. h))
+    (λ f v. well_then Well (PartsOf asked count (width_len width)) (operand_form width l.spot f) (λ g. stored width l.line g >>= (λ p. Ok (p ∷ []))) (operand_sound asked count l.spot h width f v)
+    (λ g w. well_then (PartOf asked count (width_len width)) (PartsOf asked count (width_len width)) (stored width l.line g) (λ p. Ok (p ∷ [])) (stored_sound asked count width l.line g w)
+    (λ p z. ((z.0, tt), sum_by-cons part_len p [] ∙ (let same = z.1 in omega (arith, same))))))
 
-register_len : (before : List Laid) (s : Spot) (own : AddressSize) (m : Mnemonic) (o : Operand) → is_register o ≡ true → sum_by part_len (code_parts (register_code m o)) ≡ mode_len (mode_of before s own m o)
-unfolding register_code
-register_len before s own m no_operand h = alone_len m Implied Accumulator refl refl
-register_len before s own m accumulator h = sym (ap (λ x. sum_by part_len (code_parts x)) (or_same (opcode_of m Accumulator))) ∙ alone_len m Accumulator Accumulator refl refl
-register_len before s own m (immediate e) h = absurd cc
-register_len before s own m (address forced e r) h = absurd cc
-register_len before s own m (indirect e) h = absurd cc
-register_len before s own m (indirect_x e) h = absurd cc
-register_len before s own m (indirect_y e) h = absurd cc
+code_sound : (asked : List ℕ) (count : ℕ) (o : Option ℕ) → IsSoundPart asked count (opcode_part o)
+code_sound asked count None = tt
+code_sound asked count (Some c) = tt
 
-codes_sound : (asked : List ℕ) (count : ℕ) (o : Option ℕ) → AllByRecursion (IsSoundPart asked count) (code_parts o)
-codes_sound asked count None = tt
-codes_sound asked count (Some c) = (tt, tt)
+instruction_sound : (asked : List ℕ) (count : ℕ) (all : List Laid) → IsKnown asked count all → (i : ℕ) (l : Laid) → asked_in asked l.spot.segment ≡ true → (m : Mnemonic) (o : Operand) (mode : Option Mode) → MayForm m (operand_tree o) mode → IfOk (instruction_parts all i l m o mode) (PartsOf asked count (mode_len mode))
+instruction_sound asked count all k i l h m o None f = (tt, refl)
+instruction_sound asked count all k i l h m o (Some mode) f =
+    well_then (PartsOf asked count (operand_len (width_of mode))) (PartsOf asked count (1 + operand_len (width_of mode))) (operand_parts all i l (width_of mode) (operand_tree o)) (λ ps. Ok (opcode_part (opcode_of m mode) ∷ ps)) (behind_sound asked count all k i l h (width_of mode) (operand_tree o) f.alone)
+    (λ ps v. ((code_sound asked count (opcode_of m mode), v.0), sum_by-cons part_len (opcode_part (opcode_of m mode)) ps ∙ ap (λ n. n + sum_by part_len ps) f.code ∙ ap (λ n. 1 + n) v.1))
+
+-- ---- Room.
+
+replicated : (n b : ℕ) → length (replicate n b) ≡ n
+replicated n b = length-replicate n b
+
+room_sound : (asked : List ℕ) (count : ℕ) (before : List Laid) (s : Spot) (len : ℕ) (v : Option Tree) → PartOf asked count len (room_part before s len v)
+room_sound asked count before s len None = (tt, refl)
+room_sound asked count before s len (Some v) = (tt, replicated len (counted (constant_behind before s v)))
+
+one_part : (asked : List ℕ) (count len : ℕ) (p : Part) → PartOf asked count len p → PartsOf asked count len (p ∷ [])
+one_part asked count len p h = ((h.0, tt), sum_by-cons part_len p [] ∙ (let same = h.1 in omega (arith, same)))
 
 -- ---- Statements.
 
 abbrev pub laid_with : Stated → ℕ → Spot → ℕ → AddressSize → Laid
 laid_with x line s len own = record { stated = x; line = line; spot = s; length = len; size = own }
 
-parts_with : (asked : List ℕ) (count : ℕ) (all : List Laid) → IsKnown asked count all → (i line : ℕ) (s : Spot) (len : ℕ) (own : AddressSize) (x : Stated) → is_taken x ≡ true → (asks_section x ≡ true → asked_in asked s.segment ≡ true) → len ≡ length_of (take i all) s own x → IfOk (parts_of all i (laid_with x line s len own)) (PartsOf asked count len)
-parts_with asked count all k i line s len own (instruction m o) t a e =
-    let P : Result (List Part) AsmFault → Type 0 = λ z. IfOk z (PartsOf asked count len) in
-    let register = second (list_all is_plain (trees_of (instruction m o))) (is_register o) t in
-    subst P (sym (register_parts all (take i all) i (laid_with (instruction m o) line s len own) s own m o register))
-    (codes_sound asked count (register_code m o), register_len (take i all) s own m o register ∙ sym e)
-parts_with asked count all k i line s len own (values width its) t a e =
+parts_with : (asked : List ℕ) (count : ℕ) (all : List Laid) → IsKnown asked count all → (i line : ℕ) (s : Spot) (len : ℕ) (own : AddressSize) (x : Stated) → (asks_section x ≡ true → asked_in asked s.segment ≡ true) → len ≡ length_of (take i all) s own x → IfOk (parts_of all i (laid_with x line s len own)) (PartsOf asked count len)
+parts_with asked count all k i line s len own (instruction m o) a e =
+    let l : Laid = laid_with (instruction m o) line s len own in
+    let P : ℕ → Type 0 = λ n. IfOk (instruction_parts all i l m o (mode_of (take i all) s own m o)) (PartsOf asked count n) in
+    subst P (sym e) (instruction_sound asked count all k i l (a refl) m o (mode_of (take i all) s own m o) (operand_mode (take i all) s own m o))
+parts_with asked count all k i line s len own (values width its) a e =
     let P : ℕ → Type 0 = λ n. IfOk (each (item_part all i (laid_with (values width its) line s len own) width) its) (PartsOf asked count n) in
     subst P (sym e) (items_sound asked count all k i (laid_with (values width its) line s len own) (a refl) width its)
-parts_with asked count all k i line s len own (reserve n v) t a e = absurd cc
-parts_with asked count all k i line s len own (align n v) t a e = absurd cc
-parts_with asked count all k i line s len own (file_part bytes start more) t a e = absurd cc
-parts_with asked count all k i line s len own _ t a e = (tt, sym e)
+parts_with asked count all k i line s len own (reserve n v) a e = one_part asked count len (room_part (take i all) s len v) (room_sound asked count (take i all) s len v)
+parts_with asked count all k i line s len own (align n v) a e = one_part asked count len (room_part (take i all) s len v) (room_sound asked count (take i all) s len v)
+parts_with asked count all k i line s len own (file_part bytes start more) a e = one_part asked count len (Known (part_of (take i all) s bytes start more)) (tt, sym e)
+parts_with asked count all k i line s len own _ a e = (tt, sym e)
 
-pub parts_sound : (asked : List ℕ) (count : ℕ) (all : List Laid) → IsKnown asked count all → (i : ℕ) (l : Laid) → is_taken l.stated ≡ true → Asks (asked_in asked) l → l.length ≡ length_of (take i all) l.spot l.size l.stated → IfOk (parts_of all i l) (PartsOf asked count l.length)
-parts_sound asked count all k i l t a e = parts_with asked count all k i l.line l.spot l.length l.size l.stated t a e
+pub parts_sound : (asked : List ℕ) (count : ℕ) (all : List Laid) → IsKnown asked count all → (i : ℕ) (l : Laid) → Asks (asked_in asked) l → l.length ≡ length_of (take i all) l.spot l.size l.stated → IfOk (parts_of all i l) (PartsOf asked count l.length)
+parts_sound asked count all k i l a e = parts_with asked count all k i l.line l.spot l.length l.size l.stated a e

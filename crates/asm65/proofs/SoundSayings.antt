@@ -56,9 +56,9 @@ each_sound asked count f P h names ps =
     subst Q (said_each f names) (by_names asked count f P h names ps)
 
 import_sound : (asked : List ℕ) (count : ℕ) (all : List Laid) (n : List ℕ) → IfOk (import_fault all n) (AreSoundSaid asked count)
-import_sound asked count all n = go (defined_in all [] n) refl
+import_sound asked count all n = go (defined_in all 0 n) refl
   where
-    go : (o : Option ℕ) → defined_in all [] n ≡ o → IfOk (import_fault all n) (AreSoundSaid asked count)
+    go : (o : Option ℕ) → defined_in all 0 n ≡ o → IfOk (import_fault all n) (AreSoundSaid asked count)
     go None e = rw e tt
     go (Some j) e = rw e tt
 
@@ -66,10 +66,10 @@ absent_sound : (asked : List ℕ) (count : ℕ) (b : Bool) (n : List ℕ) → If
 absent_sound asked count true n = tt
 absent_sound asked count false n = tt
 
-export_sound : (asked : List ℕ) (count : ℕ) (all : List Laid) → IsKnown asked count all → (line : ℕ) (b : Bool) (n : List ℕ) → is_name n ≡ true → IfOk (export_said all line n (absent_of b n) (defined_in all [] n)) (AreSoundSaid asked count)
-export_sound asked count all k line b n h = go (defined_in all [] n) refl
+export_sound : (asked : List ℕ) (count : ℕ) (all : List Laid) → IsKnown asked count all → (line : ℕ) (b : Bool) (n : List ℕ) → is_name n ≡ true → IfOk (export_said all line n (absent_of b n) (defined_in all 0 n)) (AreSoundSaid asked count)
+export_sound asked count all k line b n h = go (defined_in all 0 n) refl
   where
-    go : (o : Option ℕ) → defined_in all [] n ≡ o → IfOk (export_said all line n (absent_of b n) o) (AreSoundSaid asked count)
+    go : (o : Option ℕ) → defined_in all 0 n ≡ o → IfOk (export_said all line n (absent_of b n) o) (AreSoundSaid asked count)
     go None e = absent_sound asked count b n
     go (Some j) e =
         well_then (IsWell (asked_in asked) (below count)) (AreSoundSaid asked count) (export_form all j) (λ f. Ok (Exported n line f ∷ [])) (export_well (asked_in asked) (below count) all k.asks k.imports n j e)
@@ -97,8 +97,8 @@ decided_sound asked count act line words f lt w = ((lt, sound_form asked count f
 said_with : (asked : List ℕ) (count : ℕ) (all : List Laid) → IsKnown asked count all → (i line : ℕ) (s : Spot) (len : ℕ) (own : AddressSize) (x : Stated) → IsSound x → (asks_section x ≡ true → asked_in asked s.segment ≡ true) → IfOk (said_of all i (laid_with x line s len own)) (AreSoundSaid asked count)
 said_with asked count all k i line s len own (constant n e) h a = well_then (IsWell (asked_in asked) (below count)) (AreSoundSaid asked count) (norm_of all i s e) (λ f. Ok []) (form_sound asked count all k i s e a) (λ f w. tt)
 said_with asked count all k i line s len own (imports size names) h a = each_sound asked count (import_fault all) (λ n. ⊤) (λ n p. import_sound asked count all n) names (all_any names)
-said_with asked count all k i line s len own (exports names) h a = each_sound asked count (λ n. export_said all line n (absent_of true n) (defined_in all [] n)) (λ n. is_name n ≡ true) (λ n p. export_sound asked count all k line true n p) names (names_all names h)
-said_with asked count all k i line s len own (globals size names) h a = each_sound asked count (λ n. export_said all line n (absent_of false n) (defined_in all [] n)) (λ n. is_name n ≡ true) (λ n p. export_sound asked count all k line false n p) names (names_all names h)
+said_with asked count all k i line s len own (exports names) h a = each_sound asked count (λ n. export_said all line n (absent_of true n) (defined_in all 0 n)) (λ n. is_name n ≡ true) (λ n p. export_sound asked count all k line true n p) names (names_all names h)
+said_with asked count all k i line s len own (globals size names) h a = each_sound asked count (λ n. export_said all line n (absent_of false n) (defined_in all 0 n)) (λ n. is_name n ≡ true) (λ n p. export_sound asked count all k line false n p) names (names_all names h)
 said_with asked count all k i line s len own (forced names) h a =
     well_then (AreSoundSaid asked count) (AreSoundSaid asked count) (each_of (import_fault all) names) (λ none. Ok (map Demanded names)) (each_sound asked count (import_fault all) (λ n. ⊤) (λ n p. import_sound asked count all n) names (all_any names)) (λ none q. demanded_sound asked count names)
 said_with asked count all k i line s len own (assertion e act words) h a =

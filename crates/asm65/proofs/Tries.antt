@@ -2,7 +2,10 @@
 use Rattle.std.proofs.Common.{◌≡◌, ℕ, suc, ◌≤◌, refl, sym, ap, ◌∙◌, subst, List, [], ◌∷◌, length, Option, Some, None, slice_get, Result, Ok, Err, ◌⊎◌, inl, inr}
 use Rattle.std.specs.Prelude.{⊤}
 use Rattle.syntax65.specs.Outcome.{◌>>=◌}
-use Rattle.syntax65.specs.Trees.{Tree, number, here, name, cheap, forward, backward, unary, binary}
+use Rattle.syntax65.specs.Trees.{Tree, number, here, name, cheap, forward, backward, unary, binary, tree_of}
+use Rattle.syntax65.specs.declared.expressions.trees.Expr.{Expr}
+use Rattle.syntax65.specs.declared.expressions.trees.Expr.TheVariants as expr
+use Rattle.syntax65.specs.declared.expressions.trees.Name.{Name}
 use Rattle.object65.specs.Form.{Form}
 use Rattle.object65.specs.Folding.{fold1, fold2}
 use Rattle.asm65.specs.declared.fault.AsmFault.{AsmFault}
@@ -13,8 +16,8 @@ use Rattle.asm65.specs.declared.resolving.attempt.Stop.{Stop}
 use Rattle.asm65.specs.declared.resolving.attempt.Stop.TheVariants.{Needs, Fault}
 use Rattle.asm65.specs.Language.{Stated, constant}
 use Rattle.asm65.specs.Laid.{Laid, Spot}
-use Rattle.asm65.specs.Names.{Meaning, defined_at, imported_as}
-use Rattle.asm65.specs.Norms.{folded, form_by, form_of_stated, form_of_laid, form_of_meaning, operand_meaning, norm}
+use Rattle.asm65.specs.Names.{Meaning, defined_at, imported_as, meaning_of}
+use Rattle.asm65.specs.Norms.{folded, form_by, form_of_stated, form_of_laid, form_of_meaning, norm}
 use Rattle.asm65.specs.Resolving.{stopped, known_form, attempt_stated, attempt_laid, meaning_form, operand_form, tried_by, tried, tried_at, tried_last, FoundBy}
 use Rattle.asm65.proofs.Turns.{Known, Course, expression_course, constant_course, constant_is, ok_later, ok_before}
 
@@ -89,8 +92,8 @@ agrees_meaning C all states k t (Ok (defined_at j)) = found_laid C (at_turn all 
 
 agrees_tried : (C : Type 0) (all : List Laid) (states : List State) (k : ℕ) → Fits C (at_turn all k) states → (i : ℕ) (s : Spot) (e : Tree) → Agrees C (at_turn all k) (tried states all i s e) (expression_course all i s e (suc k))
 agrees_tried C all states k t i s e =
-    agrees_by C (at_turn all k) (operand_form states all i s) (λ u. operand_meaning all (length all) i s u >>= form_of_meaning (norm k all (length all)) all) s
-    (λ u. agrees_meaning C all states k t (operand_meaning all (length all) i s u)) e
+    agrees_by C (at_turn all k) (operand_form states all i s) (λ u. meaning_of all (length all) i s u >>= form_of_meaning (norm k all (length all)) all) s
+    (λ u. agrees_meaning C all states k t (meaning_of all (length all) i s u)) e
 
 agrees_stated : (C : Type 0) (v : ℕ → Result Form AsmFault) (a : Spot → Tree → Result Form Stop) (b : Spot → Tree → Result Form AsmFault) → ((s : Spot) (e : Tree) → Agrees C v (a s e) (b s e)) → (s : Spot) (x : Stated) → Agrees C v (attempt_stated a s x) (form_of_stated b s x)
 agrees_stated C v a b h s (constant n e) = h s e
@@ -161,7 +164,7 @@ lacks_meaning all states (Ok (imported_as k)) = λ i e. absurd cc
 lacks_meaning all states (Ok (defined_at j)) = lacks_laid all states j (slice_get all j) refl
 
 lacks_tried : (all : List Laid) (states : List State) (i : ℕ) (s : Spot) (e : Tree) → OnlyNeeds (Lacks all states) (tried states all i s e)
-lacks_tried all states i s e = only_by (Lacks all states) (operand_form states all i s) s (λ u. lacks_meaning all states (operand_meaning all (length all) i s u)) e
+lacks_tried all states i s e = only_by (Lacks all states) (operand_form states all i s) s (λ u. lacks_meaning all states (meaning_of all (length all) i s u)) e
 
 lacks_by_stated : (P : ℕ → Type 0) (a : Spot → Tree → Result Form Stop) → ((s : Spot) (e : Tree) → OnlyNeeds P (a s e)) → (s : Spot) (x : Stated) → OnlyNeeds P (attempt_stated a s x)
 lacks_by_stated P a h s (constant n e) = h s e
@@ -214,3 +217,12 @@ last_course all v (w ∷ ws) = last_course all (constant_course all w) ws
 pub attempt_last : (c : ℕ) (all : List Laid) (states : List State) → FoundBy c all states → (v : Course) (a : Result Form Stop) → IsAttempt c all states v a → (ws : List ℕ) → IsAttempt c all states (last_course all v ws) (tried_last states all a ws)
 attempt_last c all states h v a t [] = t
 attempt_last c all states h v a t (w ∷ ws) = attempt_last c all states h (constant_course all w) (tried_at states all w) (attempt_at c all states h w) ws
+
+-- ---- Operands.
+
+-- the attempt at an expression that is an operand
+pub operand_tried : (a : Tree → Result Form Stop) (s : Spot) (e : Expr) → ((x : Name) × (e ≡ expr.Name x)) ⊎ (((x : List ℕ) × (e ≡ expr.Cheap x)) ⊎ (((x : ℕ) × (e ≡ expr.Forward x)) ⊎ ((x : ℕ) × (e ≡ expr.Backward x)))) → a (tree_of e) ≡ tried_by a s (tree_of e)
+operand_tried a s e (inl (x, q)) = ap (λ z. a (tree_of z)) q ∙ sym (ap (λ z. tried_by a s (tree_of z)) q)
+operand_tried a s e (inr (inl (x, q))) = ap (λ z. a (tree_of z)) q ∙ sym (ap (λ z. tried_by a s (tree_of z)) q)
+operand_tried a s e (inr (inr (inl (x, q)))) = ap (λ z. a (tree_of z)) q ∙ sym (ap (λ z. tried_by a s (tree_of z)) q)
+operand_tried a s e (inr (inr (inr (x, q)))) = ap (λ z. a (tree_of z)) q ∙ sym (ap (λ z. tried_by a s (tree_of z)) q)

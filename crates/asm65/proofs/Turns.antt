@@ -8,8 +8,8 @@ use Rattle.asm65.specs.declared.fault.AsmFault.{AsmFault}
 use Rattle.asm65.specs.declared.fault.AsmFault.TheVariants.{Circular}
 use Rattle.asm65.specs.Language.{Stated, constant}
 use Rattle.asm65.specs.Laid.{Laid, Spot}
-use Rattle.asm65.specs.Names.{Meaning, defined_at, imported_as}
-use Rattle.asm65.specs.Norms.{folded, form_by, form_of_stated, form_of_laid, form_of_meaning, operand_meaning, norm}
+use Rattle.asm65.specs.Names.{Meaning, defined_at, imported_as, meaning_of}
+use Rattle.asm65.specs.Norms.{folded, form_by, form_of_stated, form_of_laid, form_of_meaning, norm}
 
 -- the second is the first, unless the first is circular
 abbrev pub Known : Result Form AsmFault → Result Form AsmFault → Type 0
@@ -54,8 +54,8 @@ known_result a b all h (Err z) = inr refl
 pub norm_known : (n : ℕ) (all : List Laid) (p i : ℕ) (s : Spot) (e : Tree) → Known (norm n all p i s e) (norm (suc n) all p i s e)
 norm_known zero all p i s e = inl refl
 norm_known (suc n) all p i s e =
-    known_form (λ t. operand_meaning all p i s t >>= form_of_meaning (norm n all p) all) (λ t. operand_meaning all p i s t >>= form_of_meaning (norm (suc n) all p) all) s
-    (λ t. known_result (norm n all p) (norm (suc n) all p) all (norm_known n all p) (operand_meaning all p i s t)) e
+    known_form (λ t. meaning_of all p i s t >>= form_of_meaning (norm n all p) all) (λ t. meaning_of all p i s t >>= form_of_meaning (norm (suc n) all p) all) s
+    (λ t. known_result (norm n all p) (norm (suc n) all p) all (norm_known n all p) (meaning_of all p i s t)) e
 
 -- ---- What is said so at more and more turns.
 

@@ -86,7 +86,7 @@ parts_of all i l = go l.stated
 
 -- an import that the module defines
 abbrev pub import_fault : List Laid → List ℕ → Result (List Said) AsmFault
-import_fault all n = go (defined_in all [] n)
+import_fault all n = go (defined_in all zero n)
   where
     go : Option ℕ → Result (List Said) AsmFault
     go None = Ok []
@@ -115,8 +115,8 @@ said_of all i l = go l.stated
     go : Stated → Result (List Said) AsmFault
     go (constant n e) = norm_of all i l.spot e >>= (λ f. Ok [])
     go (imports size names) = each_of (import_fault all) names
-    go (exports names) = each_of (λ n. export_said all l.line n (Err (NotDefined n)) (defined_in all [] n)) names
-    go (globals size names) = each_of (λ n. export_said all l.line n (Ok []) (defined_in all [] n)) names
+    go (exports names) = each_of (λ n. export_said all l.line n (Err (NotDefined n)) (defined_in all zero n)) names
+    go (globals size names) = each_of (λ n. export_said all l.line n (Ok []) (defined_in all zero n)) names
     go (forced names) = each_of (import_fault all) names >>= (λ none. Ok (map Demanded names))
     go (assertion e act words) = norm_of all i l.spot e >>= decided act l.line words
     go _ = Ok []

@@ -1,18 +1,18 @@
 -- How the contents of statements are found, one item behind the other.
-use Rattle.std.specs.Prelude.{◌≡◌, ℕ, ℤ, List, [], ◌∷◌, Bool, true, false, Option, Some, None, Result, Err, Ok}
-use Rattle.syntax65.specs.Opcodes.{opcode_of}
-use Rattle.syntax65.specs.Outcome.{Unless}
-use Rattle.syntax65.specs.declared.instructions.codes.Mode.TheVariants.{Implied, Accumulator}
-use Rattle.syntax65.specs.declared.instructions.names.Mnemonic.{Mnemonic}
+use Rattle.std.specs.Prelude.{◌≡◌, ℕ, ℤ, List, [], ◌∷◌, replicate, Bool, true, false, Option, Some, None, Result, Err, Ok}
+use Rattle.syntax65.specs.Outcome.{◌>>=◌, Unless}
+use Rattle.syntax65.specs.Trees.{Tree}
+use Rattle.object65.specs.declared.object.Width.{Width}
 use Rattle.object65.specs.Form.{Form, lit}
 use Rattle.asm65.specs.declared.contents.Part.{Part}
-use Rattle.asm65.specs.declared.contents.Part.TheVariants.{Known}
+use Rattle.asm65.specs.declared.contents.Part.TheVariants.{Known, Filled}
 use Rattle.asm65.specs.declared.contents.Said.{Said}
 use Rattle.asm65.specs.declared.fault.AsmFault.{AsmFault}
 use Rattle.asm65.specs.declared.fault.AsmFault.TheVariants.{NotDefined}
 use Rattle.asm65.specs.Faults.{is_outside}
-use Rattle.asm65.specs.Language.{Operand, no_operand, accumulator}
-use Rattle.asm65.specs.Names.{or_else}
+use Rattle.asm65.specs.Contents.{operand_form, stored}
+use Rattle.asm65.specs.Laid.{Laid}
+use Rattle.asm65.specs.Norms.{norm_of}
 
 -- so it is, unless this is a fault from outside
 abbrev pub Within : {E A : Type 0} → (E → Bool) → Result A E → Type 0 → Type 0
@@ -36,13 +36,13 @@ abbrev pub literal_of : Form → Option ℤ
 literal_of (lit v) = Some v
 literal_of _ = None
 
--- ---- Instructions whose operand isn't in memory.
+-- ---- Instructions and room.
 
-unfoldable pub register_code : Mnemonic → Operand → Option ℕ
-register_code m no_operand = or_else (opcode_of m Implied) (opcode_of m Accumulator)
-register_code m accumulator = opcode_of m Accumulator
-register_code m _ = None
+-- the part of an operand of this width
+abbrev pub operand_value : List Laid → ℕ → Laid → Width → Tree → Result Part AsmFault
+operand_value all i l width e = norm_of all i l.spot e >>= (λ f. operand_form width l.spot f >>= stored width l.line)
 
-abbrev pub code_parts : Option ℕ → List Part
-code_parts None = []
-code_parts (Some code) = Known (code ∷ []) ∷ []
+-- room of so many bytes, filled with this byte, if there is one
+abbrev pub filled_room : ℕ → Option ℕ → Part
+filled_room count None = Filled count
+filled_room count (Some b) = Known (replicate count b)

@@ -6,8 +6,8 @@ use Rattle.asm65.specs.Language.{Stated, label, cheap_label, unnamed_label, cons
 
 -- where a statement stands
 pub record Spot : Type 0 where
-  -- the scopes that are open, innermost first, each by the place of the statement that opened it
-  pub path : List ℕ
+  -- the innermost open scope: 0 is the global one, any other one more than the place of the statement that opened it
+  pub scope : ℕ
   -- how many regions of cheap labels were opened before
   pub region : ℕ
   -- how many unnamed labels stand before

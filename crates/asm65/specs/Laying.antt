@@ -1,20 +1,19 @@
 -- From lines to laid statements, or the first fault that is found at a line.
-use Rattle.std.specs.Prelude.{◌≡◌, ℕ, ◌+◌, nat_lt, List, [], ◌∷◌, Option, Some, None, Result, Ok, Err, if◌then◌else◌}
+use Rattle.std.specs.Prelude.{◌≡◌, ℕ, ◌+◌, List, [], ◌∷◌, Option, Some, None, Result, Ok, Err, if◌then◌else◌}
 use Rattle.syntax65.specs.Outcome.{◌>>=◌, First}
 use Rattle.syntax65.specs.declared.lexing.tokens.AddressSize.{AddressSize}
 use Rattle.syntax65.specs.Tokens.{Lexeme, IsRead}
 use Rattle.syntax65.specs.declared.lexing.fault.LexFault.{LexFault}
 use Rattle.asm65.specs.declared.fault.AsmFault.{AsmFault}
-use Rattle.asm65.specs.declared.fault.AsmFault.TheVariants.{BadScope, SectionTooLarge}
+use Rattle.asm65.specs.declared.fault.AsmFault.TheVariants.{BadScope}
 use Rattle.asm65.specs.declared.refusal.LineFault.{LineFault}
 use Rattle.asm65.specs.Lines.{at_line, counted, tokens_in}
 use Rattle.asm65.specs.Language.{Stated}
-use Rattle.asm65.specs.Laid.{Laid, Spot}
-use Rattle.asm65.specs.Layout.{Layout, Standing, layout_behind, nothing_laid, own_size, spot_of, standing_behind}
-use Rattle.asm65.specs.LineFaults.{form_fault, is_open, line_fault, or_then, when}
+use Rattle.asm65.specs.Laid.{Laid, is_unnamed, opens_region}
+use Rattle.asm65.specs.Layout.{Layout, Standing, current_behind, kept_behind, layout_behind, multiple_of, nothing_laid, own_size, scope_behind, segments_behind, size_defined, spot_of}
+use Rattle.asm65.specs.LineFaults.{is_open, line_fault}
 use Rattle.asm65.specs.Parsing.{IsStatement, label_of}
 use Rattle.asm65.specs.Sizes.{length_of}
-use Rattle.asm65.specs.Taken.{not_taken}
 
 abbrev pub unless_fault : {A : Type 0} → Option AsmFault → A → Result A AsmFault
 unless_fault None x = Ok x
@@ -22,7 +21,7 @@ unless_fault (Some e) x = Err e
 
 -- a statement behind those before it, or its first fault there
 abbrev pub with_statement : Layout → ℕ → Stated → Result Layout AsmFault
-with_statement y line x = unless_fault (or_then (not_taken x) (line_fault y.laid y.standing x)) (layout_behind y line x)
+with_statement y line x = unless_fault (line_fault y.laid y.standing x) (layout_behind y line x)
 
 abbrev pub with_label : Layout → ℕ → Option Stated → Result Layout AsmFault
 with_label y line None = Ok y
@@ -43,7 +42,7 @@ IsText y line text r =
 
 -- a scope that is open behind the last line
 abbrev pub open_fault : ℕ → Layout → Option LineFault
-open_fault last y = if is_open y.standing.path then Some (record { line = last; fault = BadScope }) else None
+open_fault last y = if is_open y.standing.scope then Some (record { line = last; fault = BadScope }) else None
 
 -- the statements up to the first fault of a line, and that fault, if there is one
 pub record Reached : Type 0 where
@@ -67,18 +66,31 @@ AreLaid texts r = IsLaid nothing_laid 0 texts r
 
 -- ---- How the code lays a statement.
 
--- how many bytes a statement places behind others, or its first fault there
-abbrev pub measured : List Laid → Standing → Stated → Result ℕ AsmFault
-measured before w x = unless_fault (or_then (not_taken x) (line_fault before w x)) (length_of before (spot_of w) (own_size w) x)
+-- what a statement places behind others, and what it defines
+pub record Measured : Type 0 where
+  pub length : ℕ
+  pub size : AddressSize
+  pub multiple : ℕ
 
--- the same of a statement that is taken and whose names are new, where the section has this room
-abbrev pub fitted : List Laid → Spot → AddressSize → ℕ → Stated → Result ℕ AsmFault
-fitted before s own room x =
-    unless_fault (or_then (form_fault before s own x) (when (nat_lt room (length_of before s own x)) SectionTooLarge)) (length_of before s own x)
+-- this, or its first fault there
+abbrev pub measured : List Laid → Standing → Stated → Result Measured AsmFault
+measured before w x =
+    unless_fault (line_fault before w x) (record {
+      length = length_of before (spot_of w) (own_size w) x;
+      size = size_defined before (spot_of w) (own_size w) x;
+      multiple = multiple_of before (spot_of w) x;
+    })
 
--- what stands behind a statement of so many bytes
-abbrev pub Advances : Standing → Stated → ℕ → Standing → Type 0
-Advances old x len new = (before : List Laid) → length_of before (spot_of old) (own_size old) x ≡ len → new ≡ standing_behind before old x
+-- what stands behind a statement of so many bytes, which aligns its section to a multiple
+abbrev pub advanced : List Laid → Standing → Stated → (count multiple : ℕ) → Standing
+advanced before w x count multiple = record {
+  scope = scope_behind before w.scope x;
+  region = if opens_region x then w.region + 1 else w.region;
+  unnamed = if is_unnamed x then w.unnamed + 1 else w.unnamed;
+  segments = segments_behind w.segments w.current count multiple x;
+  current = current_behind w x;
+  kept = kept_behind w x;
+}
 
 -- what a line makes of the statements before it, by its tokens
 abbrev pub IsReading : Layout → ℕ → List ℕ → Result Layout AsmFault → Type 0

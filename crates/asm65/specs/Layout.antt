@@ -5,10 +5,11 @@ use Rattle.std.specs.Str.{bytes_eq}
 use Rattle.syntax65.specs.declared.lexing.tokens.AddressSize.{AddressSize}
 use Rattle.syntax65.specs.declared.lexing.tokens.AddressSize.TheVariants as size
 use Rattle.asm65.specs.declared.contents.Segment.{Segment}
-use Rattle.asm65.specs.Language.{Stated, align, segment, push_segment, pop_segment}
+use Rattle.asm65.specs.Language.{Stated, constant, align, segment, push_segment, pop_segment}
 use Rattle.asm65.specs.Laid.{Laid, Spot, opens_scope, closes_scope, opens_region, is_unnamed}
+use Rattle.asm65.specs.Names.{enclosing}
 use Rattle.asm65.specs.Norms.{constant_behind}
-use Rattle.asm65.specs.Sizes.{counted, length_of}
+use Rattle.asm65.specs.Sizes.{counted, length_of, size_of}
 
 -- the multiples to which a section can be aligned
 abbrev pub powers : List ℕ
@@ -16,7 +17,7 @@ powers = 1 ∷ 2 ∷ 4 ∷ 8 ∷ 16 ∷ 32 ∷ 64 ∷ 128 ∷ 256 ∷ 512 ∷ 10
 
 -- what stands behind statements
 pub record Standing : Type 0 where
-  pub path : List ℕ
+  pub scope : ℕ
   pub region : ℕ
   pub unnamed : ℕ
   pub segments : List Segment
@@ -29,7 +30,7 @@ new_segment n own = record { name = n; size = own; end = 0; align = 1 }
 
 -- assembly begins in CODE
 abbrev pub start : Standing
-start = record { path = []; region = 0; unnamed = 0; segments = new_segment (codes "CODE") size.Absolute ∷ []; current = 0; kept = [] }
+start = record { scope = 0; region = 0; unnamed = 0; segments = new_segment (codes "CODE") size.Absolute ∷ []; current = 0; kept = [] }
 
 -- ---- Segments.
 
@@ -88,22 +89,23 @@ kept_behind w _ = w.kept
 -- ---- One statement.
 
 abbrev pub spot_of : Standing → Spot
-spot_of w = record { path = w.path; region = w.region; unnamed = w.unnamed; segment = w.current; offset = (segment_at w.segments w.current).end }
+spot_of w = record { scope = w.scope; region = w.region; unnamed = w.unnamed; segment = w.current; offset = (segment_at w.segments w.current).end }
 
 abbrev pub own_size : Standing → AddressSize
 own_size w = (segment_at w.segments w.current).size
 
--- The address size of what a statement defines. That of a constant is the segment's, as no operand of an instruction asks
--- for it so far.
+-- the address size of what a statement defines
 abbrev pub size_defined : List Laid → Spot → AddressSize → Stated → AddressSize
-size_defined before s own x = own
+size_defined before s own (constant n e) = size_of before s own e
+size_defined before s own _ = own
 
 abbrev pub laid : List Laid → Standing → ℕ → Stated → Laid
 laid before w line x =
     record { stated = x; line = line; spot = spot_of w; length = length_of before (spot_of w) (own_size w) x; size = size_defined before (spot_of w) (own_size w) x }
 
-abbrev pub path_behind : ℕ → List ℕ → Stated → List ℕ
-path_behind place path x = if opens_scope x then place ∷ path else if closes_scope x then rest_kept path else path
+-- the scope that is open behind a statement
+abbrev pub scope_behind : List Laid → ℕ → Stated → ℕ
+scope_behind before scope x = if opens_scope x then suc (length before) else if closes_scope x then enclosing before scope else scope
 
 -- the multiple to which a statement aligns its section
 abbrev pub multiple_of : List Laid → Spot → Stated → ℕ
@@ -112,7 +114,7 @@ multiple_of before s _ = 1
 
 abbrev pub standing_behind : List Laid → Standing → Stated → Standing
 standing_behind before w x = record {
-  path = path_behind (length before) w.path x;
+  scope = scope_behind before w.scope x;
   region = if opens_region x then w.region + 1 else w.region;
   unnamed = if is_unnamed x then w.unnamed + 1 else w.unnamed;
   segments = segments_behind w.segments w.current (length_of before (spot_of w) (own_size w) x) (multiple_of before (spot_of w) x) x;

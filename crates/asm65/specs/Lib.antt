@@ -13,7 +13,8 @@ pub mod Contents
 pub mod Numbering
 pub mod Parsing
 pub mod Views
-pub mod Taken
+pub mod Settling
+pub mod Growing
 pub mod Laying
 pub mod Sound
 pub mod Module
@@ -21,3 +22,6 @@ pub mod Resolving
 pub mod Drafts
 pub mod Evaluating
 pub mod Sounds
+pub mod Knowns
+pub mod LayoutViews
+pub mod Measuring

@@ -1,5 +1,5 @@
 -- The faults that are found at a statement's line, in their order.
-use Rattle.std.specs.Prelude.{ℕ, ◌+◌, ◌-◌, ◌==◌, ℤ, pos, Bool, true, false, nat_le, nat_lt, not, ◌&&◌, List, [], ◌∷◌, ◌++◌, length, Option, Some, None, slice_get}
+use Rattle.std.specs.Prelude.{ℕ, zero, suc, ◌+◌, ◌-◌, ◌==◌, ℤ, pos, Bool, true, false, nat_le, nat_lt, not, ◌&&◌, List, [], ◌∷◌, ◌++◌, length, Option, Some, None, slice_get}
 use Rattle.std.specs.List.{list_any}
 use Rattle.syntax65.specs.Trees.{Tree, name, unary, binary}
 use Rattle.syntax65.specs.declared.lexing.tokens.AddressSize.{AddressSize}
@@ -42,9 +42,10 @@ stands_outside (globals s names) = true
 stands_outside (forced names) = true
 stands_outside _ = false
 
-abbrev pub is_open : List ℕ → Bool
-is_open [] = false
-is_open (s ∷ path) = true
+-- a scope that isn't the global one
+abbrev pub is_open : ℕ → Bool
+is_open zero = false
+is_open (suc i) = true
 
 -- ---- Scopes of names.
 
@@ -82,33 +83,33 @@ or_then (Some e) other = Some e
 or_then None other = other
 
 -- the first name with `::` whose scope isn't open or closed before
-abbrev pub lost_scope : List Laid → List ℕ → Tree → Option AsmFault
-lost_scope before path (name false (n ∷ [])) = None
-lost_scope before path (name global parts) = unless_there (scope_from before path global (scopes_of parts)) (NoSuchScope (shown global parts))
-lost_scope before path (unary op e) = lost_scope before path e
-lost_scope before path (binary op e f) = or_then (lost_scope before path e) (lost_scope before path f)
-lost_scope before path _ = None
+abbrev pub lost_scope : List Laid → ℕ → Tree → Option AsmFault
+lost_scope before scope (name false (n ∷ [])) = None
+lost_scope before scope (name global parts) = unless_there (scope_from before scope global (scopes_of parts)) (NoSuchScope (shown global parts))
+lost_scope before scope (unary op e) = lost_scope before scope e
+lost_scope before scope (binary op e f) = or_then (lost_scope before scope e) (lost_scope before scope f)
+lost_scope before scope _ = None
 
-abbrev pub lost_scopes : List Laid → List ℕ → List Tree → Option AsmFault
-lost_scopes before path [] = None
-lost_scopes before path (e ∷ es) = or_then (lost_scope before path e) (lost_scopes before path es)
+abbrev pub lost_scopes : List Laid → ℕ → List Tree → Option AsmFault
+lost_scopes before scope [] = None
+lost_scopes before scope (e ∷ es) = or_then (lost_scope before scope e) (lost_scopes before scope es)
 
 -- ---- Names and scopes that are there already.
 
-abbrev pub opened_twice : List Laid → List ℕ → Option (List ℕ) → Option AsmFault
-opened_twice before path None = None
-opened_twice before path (Some n) = where_there (scope_in before path n) (ScopeTwice n)
+abbrev pub opened_twice : List Laid → ℕ → Option (List ℕ) → Option AsmFault
+opened_twice before scope None = None
+opened_twice before scope (Some n) = where_there (scope_in before scope n) (ScopeTwice n)
 
-abbrev pub named_twice : List Laid → List ℕ → Option (List ℕ) → Option AsmFault
-named_twice before path None = None
-named_twice before path (Some n) = where_there (defined_in before path n) (DefinedTwice n)
+abbrev pub named_twice : List Laid → ℕ → Option (List ℕ) → Option AsmFault
+named_twice before scope None = None
+named_twice before scope (Some n) = where_there (defined_in before scope n) (DefinedTwice n)
 
 abbrev pub cheap_twice : List Laid → ℕ → Stated → Option AsmFault
 cheap_twice before region (cheap_label n) = when (list_any (λ l. l.spot.region == region && is_cheap n l.stated) before) (DefinedTwice n)
 cheap_twice before region _ = None
 
 abbrev pub defined_twice : List Laid → Spot → Stated → Option AsmFault
-defined_twice before s x = or_then (named_twice before s.path (defined_name x)) (cheap_twice before s.region x)
+defined_twice before s x = or_then (named_twice before s.scope (defined_name x)) (cheap_twice before s.region x)
 
 -- ---- Operands.
 
@@ -190,15 +191,16 @@ is_scope (Some l) = go l.stated
     go (open_scope n) = true
     go _ = false
 
-abbrev pub innermost : List Laid → List ℕ → Option Laid
-innermost before [] = None
-innermost before (s ∷ path) = slice_get before s
+-- the statement that opened a scope
+abbrev pub opener : List Laid → ℕ → Option Laid
+opener before zero = None
+opener before (suc i) = slice_get before i
 
 -- a scope or a proc is closed by its own kind
-abbrev pub block_fault : List Laid → List ℕ → Stated → Option AsmFault
-block_fault before path close_scope = when (not (is_open path && is_scope (innermost before path))) BadScope
-block_fault before path close_proc = when (not (is_open path && not (is_scope (innermost before path)))) BadScope
-block_fault before path _ = None
+abbrev pub block_fault : List Laid → ℕ → Stated → Option AsmFault
+block_fault before scope close_scope = when (not (is_open scope && is_scope (opener before scope))) BadScope
+block_fault before scope close_proc = when (not (is_open scope && not (is_scope (opener before scope)))) BadScope
+block_fault before scope _ = None
 
 abbrev pub is_kept : List ℕ → Bool
 is_kept [] = false
@@ -213,9 +215,9 @@ abbrev pub line_fault : List Laid → Standing → Stated → Option AsmFault
 line_fault before w x =
     let s : Spot = spot_of w in
     first_fault (
-    when (stands_outside x && is_open s.path) NotUnderstood
-    ∷ lost_scopes before s.path (trees_of x)
-    ∷ opened_twice before s.path (scope_name x)
+    when (stands_outside x && is_open s.scope) NotUnderstood
+    ∷ lost_scopes before s.scope (trees_of x)
+    ∷ opened_twice before s.scope (scope_name x)
     ∷ defined_twice before s x
     ∷ form_fault before s (own_size w) x
     ∷ operand_fault before s x
@@ -223,7 +225,7 @@ line_fault before w x =
     ∷ missing_file x
     ∷ part_fault before s x
     ∷ size_fault w.segments x
-    ∷ block_fault before s.path x
+    ∷ block_fault before s.scope x
     ∷ pop_fault w.kept x
     ∷ when (nat_lt section_limit (s.offset + length_of before s (own_size w) x)) SectionTooLarge
     ∷ [])

@@ -1,5 +1,5 @@
 -- Normal forms of expressions among laid statements, and what is constant there.
-use Rattle.std.specs.Prelude.{ℕ, zero, suc, ℤ, pos, List, length, take, Option, Some, None, slice_get, Result, Ok, Err}
+use Rattle.std.specs.Prelude.{ℕ, zero, suc, ℤ, pos, List, length, Option, Some, None, slice_get, Result, Ok, Err}
 use Rattle.syntax65.specs.Outcome.{◌>>=◌}
 use Rattle.syntax65.specs.Trees.{Tree, number, here, unary, binary}
 use Rattle.object65.specs.Form.{Form, lit, sec, imp}
@@ -7,10 +7,10 @@ use Rattle.object65.specs.Folding.{fold1, fold2}
 use Rattle.object65.specs.declared.folding.FormFault.{FormFault}
 use Rattle.object65.specs.declared.folding.FormFault.TheVariants as form
 use Rattle.asm65.specs.declared.fault.AsmFault.{AsmFault}
-use Rattle.asm65.specs.declared.fault.AsmFault.TheVariants.{OutOfMemory, Circular, NotUnderstood, NoValue, TooLarge, NoSuchLabel}
+use Rattle.asm65.specs.declared.fault.AsmFault.TheVariants.{OutOfMemory, Circular, NoValue, TooLarge, NoSuchLabel}
 use Rattle.asm65.specs.Language.{Stated, constant}
 use Rattle.asm65.specs.Laid.{Laid, Spot}
-use Rattle.asm65.specs.Names.{Meaning, defined_at, imported_as, plain_meaning, plain_name}
+use Rattle.asm65.specs.Names.{Meaning, defined_at, imported_as, meaning_of}
 
 abbrev pub folded : Result Form FormFault → Result Form AsmFault
 folded (Ok f) = Ok f
@@ -43,19 +43,11 @@ abbrev pub form_of_meaning : (ℕ → Spot → Tree → Result Form AsmFault) �
 form_of_meaning constant_form all (imported_as k) = Ok (imp k)
 form_of_meaning constant_form all (defined_at j) = form_of_laid (constant_form j) (slice_get all j)
 
--- what an operand means; other operands than plain names aren't understood so far
-abbrev pub operand_meaning : List Laid → (p i : ℕ) → Spot → Tree → Result Meaning AsmFault
-operand_meaning all p i s e = by (plain_name e)
-  where
-    by : Option (List ℕ) → Result Meaning AsmFault
-    by None = Err NotUnderstood
-    by (Some n) = plain_meaning (take p all) s.path n
-
 -- The normal form of an expression at place i, names meaning what they do among the first p statements, where at most so
 -- many expressions stand one inside the other, each but the first as a constant of the one before.
 abbrev pub norm : ℕ → List Laid → (p i : ℕ) → Spot → Tree → Result Form AsmFault
 norm zero all p i s e = Err Circular
-norm (suc n) all p i s e = form_by (λ operand. operand_meaning all p i s operand >>= form_of_meaning (norm n all p) all) s e
+norm (suc n) all p i s e = form_by (λ operand. meaning_of all p i s operand >>= form_of_meaning (norm n all p) all) s e
 
 -- The normal form of an expression of a module. With it there are at most as many expressions as statements and one, so
 -- a constant that needs more of them one inside the other leads back to itself.

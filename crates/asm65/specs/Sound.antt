@@ -1,8 +1,7 @@
 -- What holds of a module's statements and of their contents, so that their object is one of the grammar.
-use Rattle.std.specs.Prelude.{◌≡◌, ℕ, ◌≤◌, ◌<◌, nat_eq, nat_lt, true, false, List, [], ◌∷◌, ◌++◌, length, map, sum_by, ⊤}
+use Rattle.std.specs.Prelude.{◌≡◌, ℕ, ◌≤◌, ◌<◌, nat_eq, nat_lt, true, false, List, [], ◌∷◌, ◌++◌, length, map, sum_by, slice_get, take, Some, ⊤}
 use Rattle.std.specs.List.{list_all, list_any, filter, AllByRecursion}
 use Rattle.syntax65.specs.Tokens.{Lexeme}
-use Rattle.syntax65.specs.declared.lexing.tokens.AddressSize.{AddressSize}
 use Rattle.syntax65.specs.declared.lexing.tokens.TokenKind.{TokenKind}
 use Rattle.syntax65.specs.declared.lexing.tokens.TokenKind.TheVariants as token
 use Rattle.object65.specs.Folding.{is_literal}
@@ -16,11 +15,10 @@ use Rattle.asm65.specs.declared.contents.Said.{Said}
 use Rattle.asm65.specs.declared.contents.Said.TheVariants.{Exported, Demanded, Checked}
 use Rattle.asm65.specs.declared.contents.Segment.{Segment}
 use Rattle.asm65.specs.Language as l
-use Rattle.asm65.specs.Laid.{Laid, Spot}
+use Rattle.asm65.specs.Laid.{Laid}
 use Rattle.asm65.specs.Layout.{Layout}
 use Rattle.asm65.specs.Numbering.{imports_in, parts_in, section_keys}
 use Rattle.asm65.specs.Sizes.{length_of}
-use Rattle.asm65.specs.Taken.{AreTaken}
 
 -- ---- Tokens and statements.
 
@@ -47,16 +45,15 @@ IsSound _ = ⊤
 abbrev pub statements_in : List Laid → ℕ → List Laid
 statements_in ls g = filter (λ l. nat_eq l.spot.segment g) ls
 
--- a statement's length doesn't depend on those before it
-abbrev pub IsMeasured : Laid → Type 0
-IsMeasured l = (before : List Laid) (s : Spot) (own : AddressSize) → l.length ≡ length_of before s own l.stated
+-- a statement places as many bytes as is said behind those before it
+abbrev pub IsMeasured : List Laid → Laid → Type 0
+IsMeasured before l = l.length ≡ length_of before l.spot l.size l.stated
 
 pub record IsSoundLayout (y : Layout) : Type 0 where
   pub named : are_names (map (λ g. g.name) y.standing.segments) ≡ true
-  pub taken : AreTaken y.laid
   pub sound : AllByRecursion (λ l. IsSound l.stated) y.laid
   pub standing : AllByRecursion (λ l. l.spot.segment < length y.standing.segments) y.laid
-  pub measured : AllByRecursion IsMeasured y.laid
+  pub measured : (i : ℕ) (l : Laid) → slice_get y.laid i ≡ Some l → IsMeasured (take i y.laid) l
   pub room : (g : ℕ) → sum_by (λ l. l.length) (statements_in y.laid g) ≤ section_limit
 
 -- ---- Contents.

@@ -1,7 +1,12 @@
 -- What holds of the code's layout and of what is said, between statements.
-use Rattle.std.specs.Prelude.{◌≡◌, ℕ, ◌<◌, ◌≤◌, Bool, true, false, Option, Some, None, List, ◌++◌, length}
+use Rattle.std.specs.Prelude.{◌≡◌, ℕ, ◌+◌, ◌<◌, ◌≤◌, Bool, true, false, Option, Some, None, List, ◌++◌, length, map}
+use Rattle.std.specs.List.{AllByRecursion}
 use Rattle.object65.specs.Objects.{section_limit}
-use Rattle.asm65.specs.declared.laying.layout.Layout.{Layout}
+use Rattle.asm65.specs.declared.contents.Segment.{Segment}
+use Rattle.asm65.specs.declared.laying.Layout.{Layout}
+use Rattle.asm65.specs.declared.laying.standing.Standing.{Standing}
+use Rattle.asm65.specs.Growing.{AreNested}
+use Rattle.asm65.specs.Settling.{AreSettled}
 use Rattle.asm65.specs.declared.texts.Texts.{Texts}
 use Rattle.asm65.specs.Laid.{Laid}
 use Rattle.asm65.specs.Language.{Stated, says, warns}
@@ -11,14 +16,32 @@ use Rattle.asm65.specs.Layout as layout
 use Rattle.asm65.specs.Layout.{spot_of}
 use Rattle.asm65.specs.Lines.{lines_of}
 use Rattle.asm65.specs.Module.{out_of, printed, warned, warned_by}
-use Rattle.asm65.specs.Resolving.{AreNames}
-use Rattle.asm65.specs.Views.{all_of, standing_of}
+use Rattle.asm65.specs.Resolving.{AreNames, IsTable}
+use Rattle.asm65.specs.LayoutViews.{standing_of}
+use Rattle.asm65.specs.Views.{all_of}
+
+-- the current segment is there, has room left, and each segment is found by its name; what is kept is there
+pub record IsSoundStanding (w : Standing) : Type 0 where
+  pub current : w.current < length w.segments.items
+  pub end : (spot_of (standing_of w)).offset ≤ section_limit
+  pub names : map (λ k. k.items) w.names.keys ≡ map (λ g. g.name) w.segments.items
+  pub kept : AllByRecursion (λ k. k < length w.segments.items) w.kept.items
+
+-- no section is longer than sections can be
+abbrev pub AreWithin : List Segment → Type 0
+AreWithin gs = AllByRecursion (λ g. g.end ≤ section_limit) gs
 
 pub record IsSound (y : Layout) : Type 0 where
   pub names : AreNames (all_of y.statements) y.names
-  pub current : y.standing.current < length y.standing.segments.items
-  pub end : (spot_of (standing_of y.standing)).offset ≤ section_limit
+  pub known : IsTable (all_of y.statements) y.known.states.items
+  pub nested : AreNested (all_of y.statements)
+  pub settled : AreSettled y.statements
+  pub standing : IsSoundStanding y.standing
+  pub ends : AreWithin y.standing.segments.items
+  pub segments : length y.standing.segments.items ≤ length y.statements + 1
+  pub scope : y.standing.scope ≤ length y.statements
   pub regions : y.standing.region ≤ length y.statements
+  pub unnamed : y.standing.unnamed ≤ length y.statements
 
 -- ---- What is said.
 

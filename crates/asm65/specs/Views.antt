@@ -1,5 +1,5 @@
 -- Statements without where they lie in memory.
-use Rattle.std.specs.Prelude.{[], List, map}
+use Rattle.std.specs.Prelude.{List, map}
 use Rattle.syntax65.specs.Trees.{tree_of}
 use Rattle.std.specs.Prelude.{option_map}
 use Rattle.asm65.specs.declared.language.Item.{Item}
@@ -10,11 +10,8 @@ use Rattle.asm65.specs.declared.language.Statement.{Statement}
 use Rattle.asm65.specs.declared.language.Statement.TheVariants as statement
 use Rattle.asm65.specs.declared.laid.Laid.{Laid}
 use Rattle.asm65.specs.declared.laid.Spot.{Spot}
-use Rattle.asm65.specs.declared.laying.layout.Layout.{Layout}
-use Rattle.asm65.specs.declared.laying.layout.Standing.{Standing}
 use Rattle.asm65.specs.Language as l
 use Rattle.asm65.specs.Laid as laid
-use Rattle.asm65.specs.Layout as layout
 
 abbrev pub item_of : Item → l.Item
 item_of (item.Value e) = l.value (tree_of e)
@@ -54,19 +51,11 @@ stated_of (statement.Out words) = l.says words
 stated_of (statement.Warning words) = l.warns words
 stated_of statement.Nothing = l.nothing
 
--- there are no scopes yet
 abbrev pub spot_of : Spot → laid.Spot
-spot_of s = record { path = []; region = s.region; unnamed = s.unnamed; segment = s.segment; offset = s.offset }
+spot_of s = record { scope = s.scope; region = s.region; unnamed = s.unnamed; segment = s.segment; offset = s.offset }
 
 abbrev pub laid_of : Laid → laid.Laid
 laid_of x = record { stated = stated_of x.statement; line = x.line; spot = spot_of x.spot; length = x.length; size = x.size }
 
 abbrev pub all_of : List Laid → List laid.Laid
 all_of xs = map laid_of xs
-
--- there are no kept segments yet
-abbrev pub standing_of : Standing → layout.Standing
-standing_of w = record { path = []; region = w.region; unnamed = w.unnamed; segments = w.segments.items; current = w.current; kept = [] }
-
-abbrev pub layout_of : Layout → layout.Layout
-layout_of y = record { laid = all_of y.statements; standing = standing_of y.standing }

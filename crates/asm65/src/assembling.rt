@@ -11,7 +11,8 @@ ghost use Rattle.asm65.specs.Faults.{has_failed, is_failure, is_outside_line, is
 ghost use Rattle.asm65.specs.Module.{asserted_from, object_of, sound_from};
 ghost use Rattle.asm65.specs.Sound.{IsSoundLayout};
 ghost use Rattle.asm65.specs.Sounds.{AreSaid, IsSound};
-ghost use Rattle.asm65.specs.Views.{all_of, layout_of};
+ghost use Rattle.asm65.specs.LayoutViews.{layout_of};
+ghost use Rattle.asm65.specs.Views.{all_of};
 
 use crate::evaluating::evaluate;
 use crate::laying::{Layout, lay};

@@ -14,8 +14,8 @@ ghost use Rattle.asm65.specs.Evaluating.{unchanged, Within};
 ghost use Rattle.asm65.specs.Faults.{is_failure, is_outside, is_outside_line};
 ghost use Rattle.asm65.specs.Module.{asserted_at, asserted_from, contents_from, sound_from};
 ghost use Rattle.asm65.specs.Resolving.{IsModule, IsTable};
-ghost use Rattle.asm65.specs.Taken.{is_taken, AreTaken};
-ghost use Rattle.asm65.specs.Views.{all_of, laid_of, stated_of};
+ghost use Rattle.asm65.specs.Settling.{AreSettled, IsSettled};
+ghost use Rattle.asm65.specs.Views.{all_of, laid_of};
 
 use crate::AsmFault;
 use crate::contents::Content;
@@ -40,7 +40,7 @@ fn content_of(
 ) -> Result<Content, AsmFault>
     requires names { IsModule whole.now }
     requires table { IsTable (all_of whole.now.statements.now) states.old }
-    requires taken { is_taken (stated_of laid.now.statement) ≡ true }
+    requires settled { IsSettled (take place (all_of whole.now.statements.now)) (laid_of laid.now) laid.now.settled }
     ensures content { Gives is_outside (λ c. c) result (content_of (all_of whole.now.statements.now) place (laid_of laid.now)) }
     ensures inside { IfErr result (λ e. is_failure e ≡ false) }
     ensures table { OnOk result (IsTable (all_of whole.now.statements.now) states.new) }
@@ -68,7 +68,7 @@ pub fn evaluate(
 ) -> Result<Sequence<Content>, LineFault>
     requires names { IsModule whole.now }
     requires table { IsTable (all_of whole.now.statements.now) states.old }
-    requires taken { AreTaken (all_of whole.now.statements.now) }
+    requires settled { AreSettled whole.now.statements.now }
     ensures contents { Gives is_outside_line (λ cs. cs) result (contents_from (all_of whole.now.statements.now) 0 (all_of whole.now.statements.now)) }
     ensures inside { IfErr result (λ e. is_failure e.fault ≡ false) }
     ensures warned { Within is_outside_line result (err.new ≡ err.old ++ asserted_from file.now (all_of whole.now.statements.now) 0 (take (sound_from (all_of whole.now.statements.now) 0 (all_of whole.now.statements.now)) (all_of whole.now.statements.now))) }

@@ -6,6 +6,7 @@ mod assembly;
 mod contents;
 mod evaluating;
 mod fault;
+mod knowing;
 mod laid;
 mod language;
 pub mod laws;

@@ -2,10 +2,18 @@
 
 mod attempt;
 mod finding;
+mod known;
+mod lost;
 mod meaning;
 mod names;
+mod places;
+mod scopes;
+mod shown;
 
 pub use attempt::State;
 pub use finding::{find_defined, find_norm, no_forms};
-pub use meaning::Module;
-pub use names::{Names, name_of, names_of};
+pub use known::Known;
+pub use lost::check_scopes;
+pub use meaning::{Meaning, Module, meaning_of};
+pub use names::{Names, cheap_name, name_of, scope_name};
+pub use scopes::defined_outward;

@@ -4,17 +4,20 @@ ghost use Rattle.std.specs.Prelude.{◌≡◌, true, IfOk};
 ghost use Rattle.object65.specs.Objects.{is_good_object};
 
 mod faults;
-mod forms;
+mod instructions;
 mod laying;
 mod limits;
 mod objects;
 mod operators;
+mod scopes;
+mod segments;
+mod sizes;
 mod statements;
 mod stores;
 mod texts;
 
 use crate::{AsmJob, AsmRefusal, Assembly, assemble};
-use object65::Object;
+use object65::{Fragment, Object, Width};
 use std::alloc::{AllocError, Global};
 use syntax65::MemStore;
 
@@ -54,6 +57,41 @@ fn in_words(alloc: Global, refusal: &AsmRefusal) -> Result<String, AllocError> {
         }
         None => String::from_str(alloc, fault),
     }
+}
+
+/// The bytes of an object's sections one behind the other, 0 where there is room or a value.
+fn contents(alloc: Global, object: &Object) -> Result<Vec<u8>, AllocError> {
+    let mut bytes = Vec::new(alloc);
+    for section in object.sections.as_slice() {
+        for fragment in section.fragments.as_slice() {
+            match fragment {
+                Fragment::Literal(literal) => bytes.extend_from_slice(literal.as_slice())?,
+                Fragment::Fill(count) => add_times(&mut bytes, &[0], *count as usize)?,
+                Fragment::Value { width, .. } => add_times(&mut bytes, &[0], length(*width))?,
+            }
+        }
+    }
+    Ok(bytes)
+}
+
+fn length(width: Width) -> usize {
+    match width {
+        Width::Byte | Width::Branch => 1,
+        Width::Word | Width::HighFirst => 2,
+        Width::Dword => 4,
+    }
+}
+
+/// The first byte of an object's first literal.
+fn code(object: &Object) -> Option<u8> {
+    for section in object.sections.as_slice() {
+        for fragment in section.fragments.as_slice() {
+            if let Fragment::Literal(bytes) = fragment {
+                return bytes.as_slice().first().copied();
+            }
+        }
+    }
+    None
 }
 
 /// Adds a piece so many times.

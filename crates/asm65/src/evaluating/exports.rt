@@ -20,9 +20,9 @@ use syntax65::Sequence;
 /// The place of the statement that defines a name.
 fn place_of(whole: &Module<'_>, name: &[u8]) -> Option<usize>
     requires { IsModule whole.now }
-    ensures { result ≡ defined_in (all_of whole.now.statements.now) [] name.now }
+    ensures { result ≡ defined_in (all_of whole.now.statements.now) 0 name.now }
 {
-    whole.names.place_of(name)
+    whole.names.definition(0, name)
 }
 
 /// What an export says. One that isn't defined is a fault where it has to be.
@@ -36,7 +36,7 @@ fn export_of(
 ) -> Result<Option<Said>, AsmFault>
     requires names { IsModule whole.now }
     requires table { IsTable (all_of whole.now.statements.now) states.old }
-    ensures said { Gives is_outside listed result (export_said (all_of whole.now.statements.now) line name.now (absent_of is_needed name.now) (defined_in (all_of whole.now.statements.now) [] name.now)) }
+    ensures said { Gives is_outside listed result (export_said (all_of whole.now.statements.now) line name.now (absent_of is_needed name.now) (defined_in (all_of whole.now.statements.now) 0 name.now)) }
     ensures inside { IfErr result (λ e. is_failure e ≡ false) }
     ensures table { OnOk result (IsTable (all_of whole.now.statements.now) states.new) }
 {
@@ -66,7 +66,7 @@ pub fn exports_of(
 ) -> Result<Sequence<Said>, AsmFault>
     requires names { IsModule whole.now }
     requires table { IsTable (all_of whole.now.statements.now) states.old }
-    ensures said { Gives is_outside (λ ss. ss) result (each_of (λ n. export_said (all_of whole.now.statements.now) line n (absent_of is_needed n) (defined_in (all_of whole.now.statements.now) [] n)) names.now) }
+    ensures said { Gives is_outside (λ ss. ss) result (each_of (λ n. export_said (all_of whole.now.statements.now) line n (absent_of is_needed n) (defined_in (all_of whole.now.statements.now) 0 n)) names.now) }
     ensures inside { IfErr result (λ e. is_failure e ≡ false) }
     ensures table { OnOk result (IsTable (all_of whole.now.statements.now) states.new) }
 {

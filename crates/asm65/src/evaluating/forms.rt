@@ -3,10 +3,12 @@
 ghost use Rattle.std.specs.Prelude.{◌≡◌, false, IfErr, IfOk, OnOk};
 ghost use Rattle.syntax65.specs.Outcome.{Gives};
 ghost use Rattle.syntax65.specs.Trees.{tree_of};
-ghost use Rattle.asm65.specs.Contents.{export_form, stored};
+ghost use Rattle.syntax65.specs.declared.values.Op2.TheVariants.{Subtract};
+ghost use Rattle.object65.specs.Folding.{fold2};
+ghost use Rattle.asm65.specs.Contents.{export_form, operand_form, stored};
 ghost use Rattle.asm65.specs.Evaluating.{literal_of};
 ghost use Rattle.asm65.specs.Faults.{is_failure, is_outside};
-ghost use Rattle.asm65.specs.Norms.{norm_of};
+ghost use Rattle.asm65.specs.Norms.{folded, norm_of};
 ghost use Rattle.asm65.specs.Resolving.{IsModule, IsTable};
 ghost use Rattle.asm65.specs.Views.{all_of, spot_of};
 
@@ -14,9 +16,9 @@ use crate::AsmFault;
 use crate::contents::Part;
 use crate::laid::Spot;
 use crate::resolving::{Module, State, find_defined, find_norm};
-use object65::{Node, Norm, Width, fits, put};
+use object65::{FormFault, Node, Norm, Width, fits, put};
 use std::alloc::{AllocError, Global};
-use syntax65::{Expr, Sequence};
+use syntax65::{Expr, Op2, Sequence};
 
 /// A copy of bytes.
 pub fn copy_of(alloc: Global, bytes: &[u8]) -> Result<Sequence<u8>, AllocError>
@@ -82,5 +84,31 @@ pub fn stored(alloc: Global, width: Width, line: u32, form: Norm) -> Result<Part
             Ok(Part::Known(copy_of(alloc, &put(width, value))?))
         }
         None => Ok(Part::Waiting { width, line, form }),
+    }
+}
+
+/// The form that is stored of an operand: of a branch, how far its target lies from behind it.
+pub fn operand_form(alloc: Global, width: Width, spot: Spot, form: Norm) -> Result<Norm, AsmFault>
+    ensures form { Gives is_outside (λ f. f) result (operand_form width (spot_of spot) form) }
+    ensures inside { IfErr result (λ e. is_failure e ≡ false) }
+{
+    match width {
+        Width::Branch => {
+            let behind = Norm::new(Node::Sec(spot.segment, i64::from(spot.offset) + 2));
+            difference(alloc, form, behind)
+        }
+        _ => Ok(form),
+    }
+}
+
+fn difference(alloc: Global, left: Norm, right: Norm) -> Result<Norm, AsmFault>
+    ensures form { Gives is_outside (λ f. f) result (folded (fold2 Subtract left right)) }
+    ensures inside { IfErr result (λ e. is_failure e ≡ false) }
+{
+    match Norm::binary(alloc, Op2::Subtract, left, right) {
+        Ok(form) => Ok(form),
+        Err(FormFault::OutOfMemory) => Err(AsmFault::OutOfMemory),
+        Err(FormFault::NoValue) => Err(AsmFault::NoValue),
+        Err(FormFault::TooLarge) => Err(AsmFault::TooLarge),
     }
 }

@@ -1,25 +1,35 @@
 //! A statement that is laid behind others.
 
-ghost use Rattle.std.specs.Prelude.{◌≡◌, ◌≤◌, ◌<◌, ◌+◌, ◌++◌, ◌∷◌, [], codes, false, IfErr, IfOk, length, List, OnOk, true};
+ghost use Rattle.std.specs.Prelude.{◌≡◌, ◌≤◌, ◌<◌, ◌+◌, ◌++◌, ◌∷◌, [], codes, false, IfErr, IfOk, length, OnOk, true, ℕ};
 ghost use Rattle.syntax65.specs.Outcome.{Gives, Unless};
 ghost use Rattle.object65.specs.Objects.{section_limit};
 ghost use Rattle.asm65.specs.Faults.{is_failure, is_outside};
-ghost use Rattle.asm65.specs.Laid.{Laid as LaidThere};
-ghost use Rattle.asm65.specs.Laying.{Advances, measured, with_statement};
-ghost use Rattle.asm65.specs.Layout.{laid, own_size, spot_of};
-ghost use Rattle.asm65.specs.Sizes.{length_of};
-ghost use Rattle.asm65.specs.Sounds.{AreSaid, IsSound, KeepsSaid, SaysMore, says_nothing};
-ghost use Rattle.asm65.specs.Taken.{is_taken};
-ghost use Rattle.asm65.specs.Views.{all_of, laid_of, layout_of, standing_of, stated_of};
+ghost use Rattle.asm65.specs.Laying.{advanced, measured, with_statement};
+ghost use Rattle.asm65.specs.Layout.{spot_of};
+ghost use Rattle.asm65.specs.LayoutViews.{layout_of, standing_of};
+ghost use Rattle.asm65.specs.Resolving.{AreNames, IsTable};
+ghost use Rattle.asm65.specs.Settling.{IsSettled};
+ghost use Rattle.asm65.specs.Sounds.{AreSaid, AreWithin, IsSound, IsSoundStanding, KeepsSaid, SaysMore, says_nothing};
+ghost use Rattle.asm65.specs.Views.{all_of, laid_of, stated_of};
 
-use super::faults::measure;
-use super::layout::{Layout, Standing, advance};
+use super::Layout;
+use super::hiding::hides;
+use super::measuring::{Measured, measure};
+use super::standing::Standing;
 use crate::AsmFault;
 use crate::laid::Laid;
 use crate::language::Statement;
+use crate::resolving::Module;
 use crate::texts::{Texts, warn};
 use std::alloc::{AllocError, Global};
 use syntax65::Sequence;
+
+/// A statement with what it lies by, and the multiple to which it aligns its section.
+#[derive(Drop)]
+struct Next {
+    laid: Laid,
+    multiple: u32,
+}
 
 fn say_line(out: &mut Sequence<u8>, words: &[u8]) -> Result<(), AllocError>
     ensures { OnOk result (out.new ≡ out.old ++ words.now ++ codes "\n") }
@@ -39,48 +49,108 @@ fn say(texts: &mut Texts, file: &str, said: &Laid) -> Result<(), AllocError>
     }
 }
 
-/// A statement of so many bytes with what it lies by.
-fn placed(standing: &Standing, line: u32, statement: Statement, len: u32) -> Laid
+/// A statement of this measure with what it lies by.
+fn placed(standing: &Standing, line: u32, statement: Statement, measure: Measured) -> Next
     requires { standing.now.current < length standing.now.segments.items }
-    ensures laid { (before : List LaidThere) → length_of before (spot_of (standing_of standing.now)) (own_size (standing_of standing.now)) (stated_of statement) ≡ len
-        → laid_of result ≡ laid before (standing_of standing.now) line (stated_of statement) }
-    ensures len { result.length ≡ len }
+    ensures laid { laid_of result.laid ≡ record { stated = stated_of statement; line = line; spot = spot_of (standing_of standing.now); length = measure.length; size = measure.size } }
+    ensures settled { result.laid.settled ≡ measure.settled }
+    ensures length { result.laid.length ≡ measure.length }
+    ensures size { result.laid.size ≡ measure.size }
+    ensures multiple { result.multiple ≡ measure.multiple }
 {
-    Laid {
-        statement,
-        line,
-        spot: standing.spot(),
-        length: len,
-        size: standing.segment().size,
+    Next {
+        laid: Laid {
+            statement,
+            line,
+            spot: standing.spot(),
+            length: measure.length,
+            size: measure.size,
+            settled: measure.settled,
+        },
+        multiple: measure.multiple,
     }
 }
 
-/// A statement with what it lies by behind others, or its first fault there.
-fn lay(alloc: Global, layout: &Layout, line: u32, statement: Statement) -> Result<Laid, AsmFault>
-    requires { IsSound layout.now }
-    ensures measured { Gives is_outside (λ l. l.length) result (measured (all_of layout.now.statements) (standing_of layout.now.standing) (stated_of statement)) }
-    ensures laid { IfOk result (λ l. length_of (all_of layout.now.statements) (spot_of (standing_of layout.now.standing)) (own_size (standing_of layout.now.standing)) (stated_of statement) ≡ l.length
-        → laid_of l ≡ laid (all_of layout.now.statements) (standing_of layout.now.standing) line (stated_of statement)) }
+/// The measure of a statement behind others, or its first fault there.
+fn measured(alloc: Global, layout: &mut Layout, statement: &Statement) -> Result<Measured, AsmFault>
+    requires sound { IsSound layout.old }
+    ensures measured { Gives is_outside (λ m. record { length = m.length; size = m.size; multiple = m.multiple }) result (measured (all_of layout.old.statements) (standing_of layout.old.standing) (stated_of statement.now)) }
+    ensures settled { IfOk result (λ m. (line : ℕ) → IsSettled (all_of layout.old.statements) (record { stated = stated_of statement.now; line = line; spot = spot_of (standing_of layout.old.standing); length = m.length; size = m.size }) m.settled) }
+    ensures same { layout.new ≡ record layout.old { known = layout.new.known } }
+    ensures table { OnOk result (IsTable (all_of layout.old.statements) layout.new.known.states.items) }
     ensures inside { IfErr result (λ e. is_failure e ≡ false) }
 {
-    let len = measure(alloc, layout, &statement)?;
-    Ok(placed(&layout.standing, line, statement, len))
+    let whole = Module {
+        statements: layout.statements.as_slice(),
+        names: &layout.names,
+    };
+    measure(
+        alloc,
+        &whole,
+        &mut layout.known,
+        &layout.standing,
+        statement,
+    )
+}
+
+/// A statement with what it lies by behind others, or its first fault there.
+fn lay(
+    alloc: Global,
+    layout: &mut Layout,
+    line: u32,
+    statement: Statement,
+) -> Result<Next, AsmFault>
+    requires sound { IsSound layout.old }
+    ensures measured { Gives is_outside (λ n. record { length = n.laid.length; size = n.laid.size; multiple = n.multiple }) result (measured (all_of layout.old.statements) (standing_of layout.old.standing) (stated_of statement)) }
+    ensures laid { IfOk result (λ n. laid_of n.laid ≡ record { stated = stated_of statement; line = line; spot = spot_of (standing_of layout.old.standing); length = n.laid.length; size = n.laid.size }) }
+    ensures settled { IfOk result (λ n. IsSettled (all_of layout.old.statements) (laid_of n.laid) n.laid.settled) }
+    ensures statements { layout.new.statements ≡ layout.old.statements }
+    ensures standing { layout.new.standing ≡ layout.old.standing }
+    ensures sound { OnOk result (IsSound layout.new) }
+    ensures inside { IfErr result (λ e. is_failure e ≡ false) }
+{
+    let measure = measured(alloc, layout, &statement)?;
+    Ok(placed(&layout.standing, line, statement, measure))
+}
+
+/// Notes a statement behind the others in all but their list.
+fn note(alloc: Global, layout: &mut Layout, next: &Laid, multiple: u32) -> Result<(), AllocError>
+    requires sound { IsSound layout.old }
+    requires few { length layout.old.statements < 4294967294 }
+    requires room { (spot_of (standing_of layout.old.standing)).offset + next.now.length ≤ section_limit }
+    ensures statements { layout.new.statements ≡ layout.old.statements }
+    ensures names { OnOk result (AreNames (all_of layout.old.statements ++ laid_of next.now ∷ []) layout.new.names) }
+    ensures known { OnOk result (IsTable (all_of layout.old.statements ++ laid_of next.now ∷ []) layout.new.known.states.items) }
+    ensures moved { OnOk result (standing_of layout.new.standing ≡ advanced (all_of layout.old.statements) (standing_of layout.old.standing) (stated_of next.now.statement) next.now.length multiple) }
+    ensures sound { OnOk result (IsSoundStanding layout.new.standing) }
+    ensures ends { OnOk result (AreWithin layout.new.standing.segments.items) }
+    ensures many { OnOk result (length layout.new.standing.segments.items ≤ length layout.old.standing.segments.items + 1) }
+{
+    let whole = Module {
+        statements: layout.statements.as_slice(),
+        names: &layout.names,
+    };
+    layout.known.grow(hides(&whole, next))?;
+    layout.names.add(alloc, layout.statements.len(), next)?;
+    let statements = layout.statements.as_slice();
+    layout
+        .standing
+        .advance(alloc, statements, &next.statement, next.length, multiple)
 }
 
 /// Puts a statement behind the others.
-fn put(alloc: Global, layout: &mut Layout, next: Laid) -> Result<(), AllocError>
+fn put(alloc: Global, layout: &mut Layout, next: Next) -> Result<(), AllocError>
     requires sound { IsSound layout.old }
-    requires taken { is_taken (stated_of next.statement) ≡ true }
-    requires end { (spot_of (standing_of layout.old.standing)).offset + next.length ≤ section_limit }
-    requires few { length layout.old.statements < 4294967295 }
-    ensures statements { OnOk result (layout.new.statements ≡ layout.old.statements ++ next ∷ []) }
-    ensures behind { OnOk result (Advances (standing_of layout.old.standing) (stated_of next.statement) next.length (standing_of layout.new.standing)) }
+    requires few { length layout.old.statements < 4294967294 }
+    requires room { (spot_of (standing_of layout.old.standing)).offset + next.laid.length ≤ section_limit }
+    requires spot { (laid_of next.laid).spot ≡ spot_of (standing_of layout.old.standing) }
+    requires settled { IsSettled (all_of layout.old.statements) (laid_of next.laid) next.laid.settled }
+    ensures statements { OnOk result (layout.new.statements ≡ layout.old.statements ++ next.laid ∷ []) }
+    ensures moved { OnOk result (standing_of layout.new.standing ≡ advanced (all_of layout.old.statements) (standing_of layout.old.standing) (stated_of next.laid.statement) next.laid.length next.multiple) }
     ensures sound { OnOk result (IsSound layout.new) }
 {
-    let place = layout.statements.len();
-    layout.names.add(alloc, place, &next.statement)?;
-    advance(&mut layout.standing, &next.statement, next.length);
-    layout.statements.push(next)?;
+    note(alloc, layout, &next.laid, next.multiple)?;
+    layout.statements.push(next.laid)?;
     Ok(())
 }
 
@@ -90,18 +160,19 @@ fn say_and_put(
     file: &str,
     layout: &mut Layout,
     texts: &mut Texts,
-    next: Laid,
+    next: Next,
 ) -> Result<(), AllocError>
     requires sound { IsSound layout.old }
-    requires taken { is_taken (stated_of next.statement) ≡ true }
-    requires end { (spot_of (standing_of layout.old.standing)).offset + next.length ≤ section_limit }
-    requires few { length layout.old.statements < 4294967295 }
-    ensures statements { OnOk result (layout.new.statements ≡ layout.old.statements ++ next ∷ []) }
-    ensures behind { OnOk result (Advances (standing_of layout.old.standing) (stated_of next.statement) next.length (standing_of layout.new.standing)) }
+    requires few { length layout.old.statements < 4294967294 }
+    requires room { (spot_of (standing_of layout.old.standing)).offset + next.laid.length ≤ section_limit }
+    requires spot { (laid_of next.laid).spot ≡ spot_of (standing_of layout.old.standing) }
+    requires settled { IsSettled (all_of layout.old.statements) (laid_of next.laid) next.laid.settled }
+    ensures statements { OnOk result (layout.new.statements ≡ layout.old.statements ++ next.laid ∷ []) }
+    ensures moved { OnOk result (standing_of layout.new.standing ≡ advanced (all_of layout.old.statements) (standing_of layout.old.standing) (stated_of next.laid.statement) next.laid.length next.multiple) }
     ensures sound { OnOk result (IsSound layout.new) }
-    ensures said { OnOk result (SaysMore file.now (laid_of next) texts.old texts.new) }
+    ensures said { OnOk result (SaysMore file.now (laid_of next.laid) texts.old texts.new) }
 {
-    say(texts, file, &next)?;
+    say(texts, file, &next.laid)?;
     put(alloc, layout, next)
 }
 
@@ -115,7 +186,7 @@ pub fn add(
     statement: Statement,
 ) -> Result<(), AsmFault>
     requires sound { IsSound layout.old }
-    requires few { length layout.old.statements < 4294967295 }
+    requires few { length layout.old.statements < 4294967294 }
     ensures laid { Gives is_outside (λ _. layout_of layout.new) result (with_statement (layout_of layout.old) line (stated_of statement)) }
     ensures inside { IfErr result (λ e. is_failure e ≡ false) }
     ensures sound { OnOk result (IsSound layout.new) }
@@ -136,7 +207,7 @@ pub fn add_label(
     label: Statement,
 ) -> Result<(), AsmFault>
     requires sound { IsSound layout.old }
-    requires few { length layout.old.statements < 4294967295 }
+    requires few { length layout.old.statements < 4294967294 }
     ensures laid { Gives is_outside (λ _. layout_of layout.new) result (with_statement (layout_of layout.old) line (stated_of label)) }
     ensures inside { IfErr result (λ e. is_failure e ≡ false) }
     ensures sound { OnOk result (IsSound layout.new) }

@@ -8,10 +8,11 @@ ghost use Rattle.asm65.specs.Faults.{is_failure, is_outside};
 ghost use Rattle.asm65.specs.Laying.{IsLine, IsReading, IsRest, IsText, with_label};
 ghost use Rattle.asm65.specs.Lines.{line_limit};
 ghost use Rattle.asm65.specs.Sounds.{AreSaid, IsSound, KeepsSaid, is_silent};
-ghost use Rattle.asm65.specs.Views.{all_of, layout_of, stated_of};
+ghost use Rattle.asm65.specs.LayoutViews.{layout_of};
+ghost use Rattle.asm65.specs.Views.{all_of, stated_of};
 
+use super::Layout;
 use super::adding::{add, add_label};
-use super::layout::Layout;
 use crate::language::Statement;
 use crate::reading::{label, statement};
 use crate::texts::Texts;
@@ -32,7 +33,7 @@ fn lay_rest(
     tokens: &[Token<'_>],
 ) -> Result<(), AsmFault>
     requires sound { IsSound layout.old }
-    requires few { length layout.old.statements < 4294967295 }
+    requires few { length layout.old.statements < 4294967294 }
     ensures laid { Answers is_outside (λ _. layout_of layout.new) result (IsRest (layout_of layout.old) line (lexemes tokens.now)) }
     ensures inside { IfErr result (λ e. is_failure e ≡ false) }
     ensures sound { OnOk result (IsSound layout.new) }
@@ -55,7 +56,7 @@ fn lay_label(
     label: Option<Statement>,
 ) -> Result<(), AsmFault>
     requires sound { IsSound layout.old }
-    requires few { length layout.old.statements < 4294967295 }
+    requires few { length layout.old.statements < 4294967294 }
     ensures laid { Gives is_outside (λ _. layout_of layout.new) result (with_label (layout_of layout.old) line (option_map stated_of label)) }
     ensures inside { IfErr result (λ e. is_failure e ≡ false) }
     ensures sound { OnOk result (IsSound layout.new) }
@@ -78,7 +79,7 @@ fn lay_line(
     tokens: &[Token<'_>],
 ) -> Result<(), AsmFault>
     requires sound { IsSound layout.old }
-    requires few { length layout.old.statements < 4294967294 }
+    requires few { length layout.old.statements < 4294967293 }
     ensures laid { Answers is_outside (λ _. layout_of layout.new) result (IsLine (layout_of layout.old) line (lexemes tokens.now)) }
     ensures inside { IfErr result (λ e. is_failure e ≡ false) }
     ensures sound { OnOk result (IsSound layout.new) }
@@ -101,7 +102,7 @@ fn lay_tokens(
     text: &[u8],
 ) -> Result<(), AsmFault>
     requires sound { IsSound layout.old }
-    requires few { length layout.old.statements < 4294967294 }
+    requires few { length layout.old.statements < 4294967293 }
     ensures laid { Answers is_outside (λ _. layout_of layout.new) result (IsReading (layout_of layout.old) line text.now) }
     ensures inside { IfErr result (λ e. is_failure e ≡ false) }
     ensures sound { OnOk result (IsSound layout.new) }
@@ -123,7 +124,7 @@ pub fn lay_text(
     text: &[u8],
 ) -> Result<(), AsmFault>
     requires sound { IsSound layout.old }
-    requires few { length layout.old.statements < 4294967294 }
+    requires few { length layout.old.statements < 4294967293 }
     ensures laid { Answers is_outside (λ _. layout_of layout.new) result (IsText (layout_of layout.old) line text.now) }
     ensures inside { IfErr result (λ e. is_failure e ≡ false) }
     ensures sound { OnOk result (IsSound layout.new) }

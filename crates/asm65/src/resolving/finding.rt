@@ -19,7 +19,7 @@ use std::alloc::{AllocError, Global};
 use syntax65::Expr;
 
 /// Whether nothing is known of the form of the constant at a place.
-fn is_unknown(states: &[State], place: usize) -> bool
+pub fn is_unknown(states: &[State], place: usize) -> bool
     ensures { result ≡ is_unknown (slice_get states.now place) }
 {
     matches!(states.get(place), Some(State::Unknown))

@@ -1,27 +1,38 @@
 //! The names of a module.
 
-ghost use Rattle.std.specs.Prelude.{◌≡◌, ◌<◌, IfOk, OnOk, Some, [], length, map, position, slice_get};
+ghost use Rattle.std.specs.Prelude.{◌≡◌, ◌<◌, ◌^◌, ◌==◌, IfOk, OnOk, Some, [], length, map, position, slice_get, true};
+ghost use Rattle.std.specs.List.{list_any};
 ghost use Rattle.std.specs.Option.{option_map};
 ghost use Rattle.std.specs.Str.{bytes_eq};
 ghost use Rattle.indexmap.specs.IndexMap.{get_by};
-ghost use Rattle.asm65.specs.Laid.{defined_name};
+ghost use Rattle.asm65.specs.Laid.{defined_name, is_unnamed, scope_name};
 ghost use Rattle.asm65.specs.Names.{imports_of, with_new};
-ghost use Rattle.asm65.specs.Resolving.{AreNames, Defines, Grows};
-ghost use Rattle.asm65.specs.Views.{all_of, stated_of};
+ghost use Rattle.asm65.specs.Resolving.{AreNames, Counts, Grows, cheap_name, found};
+ghost use Rattle.asm65.specs.Sizes.{zero_page_names};
+ghost use Rattle.asm65.specs.Views.{laid_of, stated_of};
 
+use super::places::Places;
 use crate::laid::Laid;
 use crate::language::Statement;
 use indexmap::{IndexMap, IndexSet};
 use std::alloc::{AllocError, Global};
-use syntax65::Sequence;
+use syntax65::{AddressSize, Sequence};
 
-/// The names of a module, all of whose statements stand in the global scope.
+/// The names of a module.
 #[derive(Drop)]
 pub struct Names {
-    /// The places of the statements that define names.
-    defined: IndexMap<Vec<u8>, usize>,
+    /// The statements that define names, within their scopes.
+    defined: Places,
+    /// The statements that open scopes, within those in which they stand.
+    scopes: Places,
+    /// The cheap labels within their regions.
+    cheap: Places,
+    /// The unnamed labels, by how many stand before.
+    unnamed: IndexMap<usize, usize>,
     /// The imports in the order in which they were first named.
     imports: IndexSet<Vec<u8>>,
+    /// Those that were imported for the zero page.
+    zero_page: IndexSet<Vec<u8>>,
 }
 
 impl Names {
@@ -30,16 +41,41 @@ impl Names {
         ensures { AreNames [] result }
     {
         Names {
-            defined: IndexMap::new(alloc),
+            defined: Places::new(alloc),
+            scopes: Places::new(alloc),
+            cheap: Places::new(alloc),
+            unnamed: IndexMap::new(alloc),
             imports: IndexSet::new(alloc),
+            zero_page: IndexSet::new(alloc),
         }
     }
 
-    /// The place of the statement that defines a name.
-    pub fn place_of(&self, name: &[u8]) -> Option<usize>
-        ensures { result ≡ get_by (λ k. bytes_eq name.now k.items) self.now.defined }
+    /// The place of the statement that defines a name directly in a scope.
+    pub fn definition(&self, scope: usize, name: &[u8]) -> Option<usize>
+        ensures { result ≡ found self.now.defined scope name.now }
     {
-        self.defined.get(name).copied()
+        self.defined.find(scope, name)
+    }
+
+    /// The place of the statement that opens a scope of a name directly in a scope.
+    pub fn opener(&self, scope: usize, name: &[u8]) -> Option<usize>
+        ensures { result ≡ found self.now.scopes scope name.now }
+    {
+        self.scopes.find(scope, name)
+    }
+
+    /// The place of a cheap label of a region.
+    pub fn cheap_label(&self, region: usize, name: &[u8]) -> Option<usize>
+        ensures { result ≡ found self.now.cheap region name.now }
+    {
+        self.cheap.find(region, name)
+    }
+
+    /// The place of the unnamed label before which so many stand.
+    pub fn unnamed_label(&self, count: usize) -> Option<usize>
+        ensures { result ≡ get_by (λ k. count == k) self.now.unnamed }
+    {
+        place_in(&self.unnamed, count)
     }
 
     /// The place of a name among the imports.
@@ -49,16 +85,36 @@ impl Names {
         self.imports.get_index_of(name)
     }
 
-    /// Adds the names of the statement at a place, which stands behind all others.
-    pub fn add(
-        &mut self,
-        alloc: Global,
-        place: usize,
-        statement: &Statement,
-    ) -> Result<(), AllocError>
-        ensures { OnOk result (Grows self.old place (stated_of statement.now) self.new) }
+    /// The name of the import at a place among the imports.
+    pub fn import_at(&self, place: usize) -> Option<&[u8]>
+        ensures { option_map (λ n. n.now) result ≡ slice_get (map (λ k. k.items) self.now.imports.keys) place }
     {
-        add_definition(alloc, &mut self.defined, name_of(statement), place)?;
+        match self.imports.get_index(place) {
+            Some(name) => Some(name.as_slice()),
+            None => None,
+        }
+    }
+
+    /// Whether a name was imported for the zero page.
+    pub fn is_zero_page(&self, name: &[u8]) -> bool
+        ensures { result ≡ list_any (λ k. bytes_eq name.now k.items) self.now.zero_page.keys }
+    {
+        self.zero_page.contains(name)
+    }
+
+    /// Adds the names of the statement at a place, which stands behind all others.
+    pub fn add(&mut self, alloc: Global, place: usize, laid: &Laid) -> Result<(), AllocError>
+        ensures { OnOk result (Grows self.old place (laid_of laid.now) self.new) }
+    {
+        let spot = laid.spot;
+        let scope = spot.scope as usize;
+        let region = spot.region as usize;
+        let statement = &laid.statement;
+        self.defined.add(alloc, scope, name_of(statement), place)?;
+        self.scopes.add(alloc, scope, scope_name(statement), place)?;
+        self.cheap.add(alloc, region, cheap_name(statement), place)?;
+        add_unnamed(&mut self.unnamed, spot.unnamed, statement, place)?;
+        add_imports(alloc, &mut self.zero_page, zero_page_names(statement))?;
         add_imports(alloc, &mut self.imports, imported(statement))
     }
 
@@ -73,17 +129,6 @@ impl Names {
         }
         Ok(names)
     }
-}
-
-/// The names of statements.
-pub fn names_of(alloc: Global, all: &[Laid]) -> Result<Names, AllocError>
-    ensures { IfOk result (λ n. AreNames (all_of all.now) n) }
-{
-    let mut names = Names::new(alloc);
-    for i in 0..all.len() {
-        names.add(alloc, i, &all[i].statement)?;
-    }
-    Ok(names)
 }
 
 fn name_at(names: &IndexSet<Vec<u8>>, place: usize) -> &[u8]
@@ -108,41 +153,68 @@ pub fn name_of(statement: &Statement) -> Option<&[u8]>
     }
 }
 
-fn place_in(defined: &IndexMap<Vec<u8>, usize>, name: &[u8]) -> Option<usize>
-    ensures { result ≡ get_by (λ k. bytes_eq name.now k.items) defined.now }
+/// The name of the scope that a statement opens.
+pub fn scope_name(statement: &Statement) -> Option<&[u8]>
+    ensures { option_map (λ n. n.now) result ≡ scope_name (stated_of statement.now) }
 {
-    defined.get(name).copied()
+    match statement {
+        Statement::OpenScope(Some(name)) => Some(name.as_slice()),
+        Statement::OpenProc(name) => Some(name.as_slice()),
+        _ => None,
+    }
 }
 
-// Of two statements that define a name the first counts.
-fn define(
-    alloc: Global,
-    defined: &mut IndexMap<Vec<u8>, usize>,
-    name: &[u8],
+pub fn cheap_name(statement: &Statement) -> Option<&[u8]>
+    ensures { option_map (λ n. n.now) result ≡ cheap_name (stated_of statement.now) }
+{
+    match statement {
+        Statement::CheapLabel(name) => Some(name.as_slice()),
+        _ => None,
+    }
+}
+
+fn is_unnamed(statement: &Statement) -> bool
+    ensures { result ≡ is_unnamed (stated_of statement.now) }
+{
+    matches!(statement, Statement::UnnamedLabel)
+}
+
+fn place_in(unnamed: &IndexMap<usize, usize>, count: usize) -> Option<usize>
+    ensures { result ≡ get_by (λ k. count == k) unnamed.now }
+{
+    unnamed.get(&count).copied()
+}
+
+fn put_unnamed(
+    unnamed: &mut IndexMap<usize, usize>,
+    count: usize,
     place: usize,
 ) -> Result<(), AllocError>
-    ensures { OnOk result (Defines (λ n. get_by (λ k. bytes_eq n k.items) defined.old) (Some name.now) place (λ n. get_by (λ k. bytes_eq n k.items) defined.new)) }
+    ensures { OnOk result (Counts unnamed.old count true place unnamed.new) }
 {
-    match place_in(defined, name) {
+    match place_in(unnamed, count) {
         Some(_) => {}
         None => {
-            defined.insert(Vec::from_slice(alloc, name)?, place)?;
+            unnamed.insert(count, place)?;
         }
     }
     Ok(())
 }
 
-fn add_definition(
-    alloc: Global,
-    defined: &mut IndexMap<Vec<u8>, usize>,
-    name: Option<&[u8]>,
+/// Adds a statement before which so many unnamed labels stand, if it is one.
+fn add_unnamed(
+    unnamed: &mut IndexMap<usize, usize>,
+    count: u32,
+    statement: &Statement,
     place: usize,
 ) -> Result<(), AllocError>
-    ensures { OnOk result (Defines (λ n. get_by (λ k. bytes_eq n k.items) defined.old) (option_map (λ n. n.now) name.entry) place (λ n. get_by (λ k. bytes_eq n k.items) defined.new)) }
+    ensures bounded { count < 2 ^ 32 }
+    ensures counts { OnOk result (Counts unnamed.old count (is_unnamed (stated_of statement.now)) place unnamed.new) }
 {
-    match name {
-        Some(name) => define(alloc, defined, name, place),
-        None => Ok(()),
+    if is_unnamed(statement) {
+        put_unnamed(unnamed, count as usize, place)
+    } else {
+        Ok(())
     }
 }
 
@@ -154,6 +226,23 @@ fn imported(statement: &Statement) -> &[Sequence<u8>]
         Statement::Import { size: _, names } => names.as_slice(),
         Statement::Global { size: _, names } => names.as_slice(),
         Statement::ForceImport(names) => names.as_slice(),
+        _ => &[],
+    }
+}
+
+/// The names that a statement imports for the zero page.
+fn zero_page_names(statement: &Statement) -> &[Sequence<u8>]
+    ensures { result.now ≡ zero_page_names (stated_of statement.now) }
+{
+    match statement {
+        Statement::Import {
+            size: AddressSize::ZeroPage,
+            names,
+        }
+        | Statement::Global {
+            size: AddressSize::ZeroPage,
+            names,
+        } => names.as_slice(),
         _ => &[],
     }
 }

@@ -20,7 +20,7 @@ fn faults_of_lines(rt: HostRuntime) -> Result<(), Fail> {
         ("\n\nl: foo", "b.s:3: statement not understood"),
         ("lda (5)+1", "b.s:1: statement not understood"),
         ("lda", "b.s:1: no such addressing form"),
-        ("nop\r\nlda #1\r\n", "b.s:2: no such addressing form"),
+        ("nop\r\nlda (1)\r\n", "b.s:2: no such addressing form"),
         ("brk 1", "b.s:1: no such addressing form"),
         ("nop a", "b.s:1: no such addressing form"),
         ("asl 5", "b.s:1: no such addressing form"),
@@ -36,29 +36,21 @@ fn faults_of_lines(rt: HostRuntime) -> Result<(), Fail> {
     Ok(())
 }
 
-/// What isn't taken so far is refused at its line.
+/// Directives that aren't known are refused at their line, before the faults of expressions.
 #[test]
-fn not_taken_so_far(rt: HostRuntime) -> Result<(), Fail> {
+fn unknown_directives(rt: HostRuntime) -> Result<(), Fail> {
     let lines = [
-        "@l: nop",
-        ": nop",
-        ".byte @l",
-        ".byte :+",
-        ".byte ::a",
-        ".byte s::a",
-        "lda :-",
-        ".scope s",
-        ".proc p",
-        ".code",
-        ".segment \"X\"",
-        ".res 1",
-        ".align 2",
         ".incbin \"x\"",
-        ".pushseg",
-        ".p02",
-        ".setcpu \"6502\"",
         ".include \"x\"",
         ".if 1",
+        ".macro m",
+        ".repeat 2",
+        ".org 5",
+        ".setcpu \"65C02\"",
+        "* = 5",
+        "l nop",
+        "@l nop",
+        ".byte :<",
     ];
     for line in lines {
         let source = format!(in rt.alloc(); ".byte 256\n{line}")?;

@@ -49,8 +49,8 @@ fn offsets(rt: HostRuntime) -> Result<(), Fail> {
     assert_eq!(rt; all[7].line, 6);
     assert_eq!(rt; all[7].length, 4);
     assert_eq!(rt; layout.standing.segments[0].end, 13);
-    assert_eq!(rt; layout.names.place_of(b"m"), Some(6));
-    assert_eq!(rt; layout.names.place_of(b"n"), None);
+    assert_eq!(rt; layout.names.definition(0, b"m"), Some(6));
+    assert_eq!(rt; layout.names.definition(0, b"n"), None);
     Ok(())
 }
 
@@ -71,7 +71,7 @@ fn imports_in_order(rt: HostRuntime) -> Result<(), Fail> {
 
 #[test]
 fn texts_before_a_fault(rt: HostRuntime) -> Result<(), Fail> {
-    let text = b".out \"one\"\n.warning \"two\"\nl: .scope\n.out \"three\"\n";
+    let text = b".out \"one\"\n.warning \"two\"\nl: .bogus\n.out \"three\"\n";
     let mut texts = silence(rt.alloc());
     let refused = lay(rt.alloc(), "b.s", text, &mut texts);
     assert!(rt; stops_at(&refused, 3));

@@ -2,11 +2,11 @@ use Rattle.std.proofs.Common.{◌∙◌, ◌+◌, ◌++◌, ap, sym, drop, arith
 use Rattle.asm65.specs.Module.{contents_from}
 use Rattle.asm65.specs.Views.{all_of, laid_of}
 use Rattle.asm65.proofs.Aheads.{ahead, next_mapped}
-use Rattle.asm65.proofs.Evaluations.{all_passed, content_goes, content_stops, heard_all, heard_end, table_goes, taken_at, warned_goes, warned_stops}
+use Rattle.asm65.proofs.Evaluations.{all_passed, content_goes, content_stops, heard_all, heard_end, table_goes, settled_at, warned_goes, warned_stops}
 use Rattle.asm65.proofs.evaluating.evaluate.Goals as goal
 
-pub content_of-content-requires-clause-taken : goal.content_of-content-requires-clause-taken
-content_of-content-requires-clause-taken c = taken_at c.args.whole.now.statements.now c.loop-place.place c.laid-item.result c.requires.taken c.loop-place-test.true c.laid-item.is
+pub content_of-content-requires-clause-settled : goal.content_of-content-requires-clause-settled
+content_of-content-requires-clause-settled c = settled_at c.args.whole.now.statements.now c.loop-place.place c.laid-item.result c.requires.settled c.loop-place-test.true c.laid-item.is
 
 pub returns-in_err-at_line-clause-contents : goal.returns-in_err-at_line-clause-contents
 returns-in_err-at_line-clause-contents c =

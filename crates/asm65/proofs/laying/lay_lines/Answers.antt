@@ -1,6 +1,6 @@
 use Rattle.std.proofs.Common.{◌∙◌, sym}
 use Rattle.std.proofs.lemmas.Result.{err_from_is_err_and}
-use Rattle.asm65.specs.Views.{layout_of}
+use Rattle.asm65.specs.LayoutViews.{layout_of}
 use Rattle.asm65.proofs.LaidLines.{refused_line}
 use Rattle.asm65.proofs.laying.lay_lines.Goals as goal
 

@@ -5,7 +5,7 @@ use Rattle.syntax65.specs.Tokens.{lexemes}
 use Rattle.syntax65.specs.declared.lexing.tokens.Token.{Token}
 use Rattle.asm65.specs.Faults.{is_outside}
 use Rattle.asm65.specs.Laying.{IsLine}
-use Rattle.asm65.specs.Views.{layout_of}
+use Rattle.asm65.specs.LayoutViews.{layout_of}
 use Rattle.asm65.proofs.LaidLines.{reading_fault, reading_then}
 use Rattle.asm65.proofs.laying.line.lay_tokens.Goals as goal
 

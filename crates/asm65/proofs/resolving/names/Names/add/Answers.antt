@@ -1,14 +1,22 @@
 use Rattle.std.proofs.Common.{ap, ◌∙◌, map, subst, Option, List, ℕ}
-use Rattle.std.specs.Str.{bytes_eq}
-use Rattle.indexmap.specs.IndexMap.{get_by}
 use Rattle.asm65.specs.Names.{with_new}
-use Rattle.asm65.specs.Resolving.{Defines}
-use Rattle.asm65.specs.Views.{stated_of}
-use Rattle.asm65.proofs.NameTables.{grown, on_ok}
+use Rattle.asm65.specs.Resolving.{Adds}
+use Rattle.asm65.specs.Views.{laid_of}
+use Rattle.asm65.proofs.NameTables.{on_ok}
+use Rattle.asm65.proofs.Tables.{grown}
 use Rattle.asm65.proofs.resolving.names.Names.add.Goals as goal
 
 pub returns : goal.returns
 returns c =
-    on_ok c.add_imports.result (λ known. grown c.args.self.now (record { defined = c.add_definition.new.defined; imports = c.add_imports.new.known }) c.args.place (stated_of c.args.statement.now)
-    (subst (λ (n : Option (List ℕ)). Defines (λ n. get_by (λ k. bytes_eq n k.items) c.args.self.now.defined) n c.args.place (λ n. get_by (λ k. bytes_eq n k.items) c.add_definition.new.defined)) c.name_of.ensures c.in_ok-add_definition.ensures)
-    (known ∙ ap (with_new (map (λ k. k.items) c.args.self.now.imports.keys)) c.imported.ensures)) c.add_imports.ensures
+    let old = c.args.self.now in
+    let l = laid_of c.args.laid.now in
+    on_ok c.add_imports-2.result
+    (λ known. grown old (record { defined = c.add.new.self; scopes = c.add-2.new.self; cheap = c.add-3.new.self; unnamed = c.add_unnamed.new.unnamed; imports = c.add_imports-2.new.known; zero_page = c.add_imports.new.known }) c.args.place l
+    (subst (λ (n : Option (List ℕ)). Adds old.defined l.spot.scope n c.args.place c.add.new.self) c.name_of.ensures c.in_ok-add.ensures)
+    (subst (λ (n : Option (List ℕ)). Adds old.scopes l.spot.scope n c.args.place c.add-2.new.self) c.scope_name.ensures c.in_ok-add-2.ensures)
+    (subst (λ (n : Option (List ℕ)). Adds old.cheap l.spot.region n c.args.place c.add-3.new.self) c.cheap_name.ensures c.in_ok-add-3.ensures)
+    c.in_ok-add_unnamed.ensures.counts
+    c.add_unnamed.ensures.bounded
+    (known ∙ ap (with_new (map (λ k. k.items) old.imports.keys)) c.imported.ensures)
+    (c.in_ok-add_imports.ensures ∙ ap (with_new (map (λ k. k.items) old.zero_page.keys)) c.zero_page_names.ensures))
+    c.add_imports-2.ensures

@@ -1,0 +1,24 @@
+use Rattle.std.proofs.Common.{ap, Option}
+use Rattle.std.specs.Prelude.{◌&&◌}
+use Rattle.std.proofs.lemmas.Result.{err_from_is_err_and}
+use Rattle.asm65.specs.declared.fault.AsmFault.{AsmFault}
+use Rattle.asm65.specs.declared.fault.AsmFault.TheVariants.{NotUnderstood}
+use Rattle.asm65.specs.Laid.{scope_name}
+use Rattle.asm65.specs.Laying.{unless_fault}
+use Rattle.asm65.specs.LineFaults.{defined_twice, is_open, lost_scopes, opened_twice, or_then, stands_outside, trees_of, when}
+use Rattle.asm65.specs.Views.{all_of, spot_of, stated_of}
+use Rattle.asm65.proofs.Measuring.{left_behind, refused_first, refused_same}
+use Rattle.asm65.proofs.laying.measuring.check_naming.Goals as goal
+
+pub returns-in_err-check_trees-clause-named : goal.returns-in_err-check_trees-clause-named
+returns-in_err-check_trees-clause-named c =
+    let p = err_from_is_err_and c.from_residual-in_err-check_trees.result c.from_residual-in_err-check_trees.ensures.1 in
+    let e = c.in_err-check_trees.field-0.0 in
+    let before = all_of c.args.whole.now.statements.now in
+    let s = spot_of c.args.spot in
+    let x = stated_of c.args.statement.now in
+    let lost : Option AsmFault = lost_scopes before s.scope (trees_of x) in
+    let rest : Option AsmFault = or_then (opened_twice before s.scope (scope_name x)) (defined_twice before s x) in
+    rw (p.1, p.2) (refused_same e _ _
+    (ap (λ f. unless_fault {A = Unit {0}} f tt) (left_behind (when (stands_outside x && is_open s.scope) NotUnderstood) (or_then lost rest) tt _ c.in_ok-check_outside.ensures.outside))
+    (refused_first e lost rest tt c.in_err-check_trees.ensures.found))

@@ -1,0 +1,22 @@
+use Rattle.std.proofs.Common.{◌∙◌, ap, map, drop, ◌∷◌, [], ◌+◌, arith}
+use Rattle.std.proofs.lemmas.Result.{err_from_is_err_and}
+use Rattle.asm65.specs.Laying.{unless_fault}
+use Rattle.asm65.specs.LineFaults.{item_trees, lost_scopes}
+use Rattle.asm65.specs.Views.{all_of, item_of}
+use Rattle.asm65.proofs.Measuring.{items_lost, left_behind, refused_first, refused_same}
+use Rattle.asm65.proofs.laying.measuring.trees.check_items.Goals as goal
+
+pub returns-in_err-check_item-clause-found : goal.returns-in_err-check_item-clause-found
+returns-in_err-check_item-clause-found c =
+    let p = err_from_is_err_and c.from_residual.result c.from_residual.ensures.1 in
+    let e = c.in_err-check_item.field-0.0 in
+    let before = all_of c.args.whole.now.statements.now in
+    let split = items_lost before c.args.scope c.args.items.now c.loop-item.item-index c.item-item.result (omega arith) c.item-item.is in
+    rw (p.1, p.2) (refused_same e _ _ (ap (λ f. unless_fault {A = Unit {0}} f tt) (c.loop-item.invariant ∙ split))
+    (refused_first e (lost_scopes before c.args.scope (item_trees (item_of c.item-item.result ∷ []))) (lost_scopes before c.args.scope (item_trees (drop (c.loop-item.item-index + 1) (map item_of c.args.items.now)))) tt c.in_err-check_item.ensures.found))
+
+pub loop-item-preserved : goal.loop-item-preserved
+loop-item-preserved c =
+    let before = all_of c.args.whole.now.statements.now in
+    let split = items_lost before c.args.scope c.args.items.now c.loop-item.item-index c.item-item.result (omega arith) c.item-item.is in
+    c.loop-item.invariant ∙ split ∙ left_behind (lost_scopes before c.args.scope (item_trees (item_of c.item-item.result ∷ []))) (lost_scopes before c.args.scope (item_trees (drop (c.loop-item.item-index + 1) (map item_of c.args.items.now)))) tt _ c.in_ok-check_item.ensures.found

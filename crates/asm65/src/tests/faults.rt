@@ -23,7 +23,7 @@ fn faults_of_lines(rt: HostRuntime) -> Result<(), Fail> {
         ("nop\r\nlda (1)\r\n", "b.s:2: no such addressing form"),
         ("brk 1", "b.s:1: no such addressing form"),
         ("nop a", "b.s:1: no such addressing form"),
-        ("asl 5", "b.s:1: no such addressing form"),
+        ("asl #5", "b.s:1: no such addressing form"),
         ("nop: clc", "b.s:1: statement not understood"),
         ("l:\nl: nop", "b.s:2: defined twice: l"),
         ("l = 1\n\nl:", "b.s:3: defined twice: l"),

@@ -34,7 +34,8 @@ build() {
     else
         echo "cc65 isn't here: $image is compared with the checksum of cc65's alone."
     fi
-    [ "$(cksum < "$image")" = "$checksum" ] || fail "$image has the checksum $(cksum < "$image"), and cc65's image $checksum"
+    [ "$(cksum < "$image")" = "$checksum" ] ||
+        fail "$image has the checksum $(cksum < "$image"), and the image that cc65 made $checksum"
     echo "$image has the checksum of the image that cc65 makes."
 }
 
@@ -51,12 +52,15 @@ compare_with_cc65() {
         diff "$source.sizes" "cc65/$source.sizes" || fail "$source.o has sections of other sizes than cc65's"
     done
     ld65 -C "../../$folder.cfg" -o "cc65/$image" $real
-    [ "$(cksum < "cc65/$image")" = "$checksum" ] || fail "cc65's $image has the checksum $(cksum < "cc65/$image"), not $checksum"
+    [ "$(cksum < "cc65/$image")" = "$checksum" ] ||
+        fail "cc65 makes $image with the checksum $(cksum < "cc65/$image") here, and this script has $checksum"
     cmp "$image" "cc65/$image" || fail "$image isn't cc65's"
     echo "$image and the sizes of its objects' sections are those that cc65 makes here."
 }
 
-build nes game.nes '3915879728 40976' 'ZEROPAGE=$2 OAM=$200 BSS=$300 HEADER=$0 CODE=$8000 RODATA=+256 VECTORS=$FFFA CHARS=$0' \
+build nes game.nes '3915879728 40976' \
+    'ZEROPAGE=$2 OAM=$200 BSS=$300 HEADER=$0 CODE=$8000 RODATA=+256 VECTORS=$FFFA CHARS=$0' \
     main controller player pictures
-build c64 game.prg '108397790 762' 'ZEROPAGE=$2 LOADADDR=$7FF EXEHDR=$801 CODE=+1 RODATA=+1 DATA=+1 BSS=+1' \
+build c64 game.prg '108397790 762' \
+    'ZEROPAGE=$2 LOADADDR=$7FF EXEHDR=$801 CODE=+1 RODATA=+1 DATA=+1 BSS=+1' \
     main print numbers

@@ -16,7 +16,9 @@ button_down     = 1 << 2
 button_left     = 1 << 1
 button_right    = 1 << 0
 
-        .assert button_a .bitor button_b .bitor button_select .bitor button_start .bitor button_up .bitor button_down .bitor button_left .bitor button_right = $FF, error
+directions      = button_up .bitor button_down .bitor button_left .bitor button_right
+        .assert directions = $0F, error, "the directions aren't the lowest four bits"
+        .assert button_a ^ button_b ^ button_select ^ button_start = directions << 4, error
 
 .zeropage
 held:           .res    1

@@ -9,7 +9,6 @@ program=$1
 here=$(cd "$(dirname "$0")" && pwd)
 
 bin65() { "$program" "$@"; }
-resolve() { python3 "$here/resolve.py" "$@"; }
 shown() { echo "\$ $*"; "$@"; }
 fail() { echo "programs.sh: $*" >&2; exit 1; }
 have() { for tool; do command -v "$tool" > /dev/null || return 1; done; }
@@ -27,7 +26,7 @@ build() {
         echo "$image isn't made: there is no python3, and the linker takes no values yet."
         return
     fi
-    shown resolve -o resolved.o $places $objects
+    shown python3 ../../resolve.py -o resolved.o $places $objects
     shown bin65 ld65 -C "../../$folder.cfg" -o "$image" resolved.o
     if have ca65 ld65 od65; then
         compare_with_cc65 "$@"
@@ -47,7 +46,7 @@ compare_with_cc65() {
         real="$real cc65/$source.o"
         od65 --dump-segsize "cc65/$source.o" | awk '$2 ~ /^[1-9]/ { sub(":", "", $1); print $1, $2 }' | sort \
             > "cc65/$source.sizes"
-        resolve sizes "$source.o" | sort > "$source.sizes"
+        python3 ../../resolve.py sizes "$source.o" | sort > "$source.sizes"
         [ -s "$source.sizes" ] || fail "$source.o has no sections"
         diff "$source.sizes" "cc65/$source.sizes" || fail "$source.o has sections of other sizes than cc65's"
     done
@@ -59,8 +58,8 @@ compare_with_cc65() {
 }
 
 build nes game.nes '3915879728 40976' \
-    'ZEROPAGE=$2 OAM=$200 BSS=$300 HEADER=$0 CODE=$8000 RODATA=+256 VECTORS=$FFFA CHARS=$0' \
+    'ZEROPAGE=0x2 OAM=0x200 BSS=0x300 HEADER=0x0 CODE=0x8000 RODATA=+256 VECTORS=0xFFFA CHARS=0x0' \
     main controller player pictures
 build c64 game.prg '108397790 762' \
-    'ZEROPAGE=$2 LOADADDR=$7FF EXEHDR=$801 CODE=+1 RODATA=+1 DATA=+1 BSS=+1' \
+    'ZEROPAGE=0x2 LOADADDR=0x7FF EXEHDR=0x801 CODE=+1 RODATA=+1 DATA=+1 BSS=+1' \
     main print numbers

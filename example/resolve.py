@@ -7,7 +7,7 @@ sections of each segment behind each other at the address that its line names, c
 object of literal bytes and fills, which the program's linker links by a script. Nothing checks the objects further.
 With a wrong address on the line the bytes are wrong, and the image differs from cc65's.
 
-usage: resolve.py -o OUTPUT SEGMENT=PLACE.. OBJECT..    PLACE is an address ($ and hex digits), or +N: the next
+usage: resolve.py -o OUTPUT SEGMENT=PLACE.. OBJECT..    PLACE is an address (0x and hex digits), or +N: the next
                                                         multiple of N behind the segment before on the line
        resolve.py sizes OBJECT                          prints name and size of each section that has bytes
 """
@@ -115,7 +115,7 @@ def places(words, segments):
     addresses, end = {}, 0
     for name, place in (word.encode().split(b"=") for word in words):
         step = int(place[1:]) if place.startswith(b"+") else 0
-        addresses[name] = -(-end // step) * step if step else int(place.lstrip(b"$"), 16)
+        addresses[name] = -(-end // step) * step if step else int(place, 0)
         end = addresses[name] + segments[name][1]
     return addresses
 

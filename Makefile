@@ -1,4 +1,5 @@
-# bin65: make example builds the proved program, and assembles and links a first source; make test is the merge gate.
+# bin65: make example builds the proved program, and assembles and links a first source and two programs with it;
+# make test is the merge gate.
 PREFIX ?= /usr/local
 PROGRAM := crates/bin65/out/bin65
 
@@ -13,6 +14,7 @@ program:
 
 example: program
 	@sh example/first.sh $(abspath $(PROGRAM))
+	@sh example/programs.sh $(abspath $(PROGRAM))
 
 test:
 	@bash tests/all.sh

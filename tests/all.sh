@@ -25,6 +25,7 @@ make --no-print-directory program 2>&1 | tail -n 20
 bash tests/program.sh "$PWD/crates/bin65/out/bin65" > "$log" 2>&1; status=$?
 grep -vE '^[0-9]+ passed, [0-9]+ failed$' "$log"; count "$status"
 sh example/first.sh "$PWD/crates/bin65/out/bin65" && passed=$((passed + 1)) || failed=$((failed + 1))
+sh example/programs.sh "$PWD/crates/bin65/out/bin65" && passed=$((passed + 1)) || failed=$((failed + 1))
 
 echo "$passed passed, $failed failed"
 [ "$failed" = 0 ]

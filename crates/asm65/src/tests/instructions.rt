@@ -141,7 +141,7 @@ fn cells(alloc: Global, row: &'static str) -> Result<(&'static str, Vec<&'static
 
 #[test]
 fn every_form_of_operand(rt: HostRuntime) -> Result<(), Fail> {
-    let mut opcodes = 0;
+    let mut opcodes = 0u32;
     for row in ROWS.lines() {
         let (mnemonic, cells) = cells(rt.alloc(), row)?;
         assert_eq!(rt; cells.len(), OPERANDS.len());
@@ -149,7 +149,7 @@ fn every_form_of_operand(rt: HostRuntime) -> Result<(), Fail> {
             let found = encoded(rt.alloc(), mnemonic, operand)?;
             assert!(rt; is_cell(&found, cell, behind), "{mnemonic} {operand}");
             if found.is_some() {
-                opcodes += 1;
+                opcodes = opcodes.saturating_add(1);
             }
         }
     }
@@ -167,13 +167,15 @@ fn forms_by_size(rt: HostRuntime) -> Result<(), Fail> {
             continue;
         }
         for (short, long, operand) in PAIRS {
-            let (cell, behind) = if cells[short] == "--" {
-                (cells[long], 2)
-            } else {
-                (cells[short], 1)
-            };
+            let short = cells.get(short).ok_or("no cell")?;
+            let long = cells.get(long).ok_or("no cell")?;
             let found = encoded(rt.alloc(), mnemonic, operand)?;
-            assert!(rt; is_cell(&found, cell, behind), "{mnemonic} {operand}");
+            let is_wanted = if *short == "--" {
+                is_cell(&found, long, 2)
+            } else {
+                is_cell(&found, short, 1)
+            };
+            assert!(rt; is_wanted, "{mnemonic} {operand}");
         }
     }
     Ok(())

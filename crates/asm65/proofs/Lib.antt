@@ -47,3 +47,4 @@ pub mod Tables
 pub mod Tries
 pub mod Turns
 pub mod ZeroPages
+pub mod Roots

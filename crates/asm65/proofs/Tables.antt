@@ -11,6 +11,9 @@ use Rattle.indexmap.specs.IndexSet.{insert_key}
 use Rattle.asm65.specs.Laid.{Laid, defined_name, is_unnamed, scope_name}
 use Rattle.asm65.specs.Language.{Stated, label, cheap_label, unnamed_label, constant}
 use Rattle.asm65.specs.Names.{imports_of, is_cheap, is_named, with_new}
+use Rattle.asm65.specs.Growing.{AreNested, hides}
+use Rattle.asm65.specs.Roots.{AreRoots, RootsBehind}
+use Rattle.asm65.proofs.Roots.{roots_stay}
 use Rattle.asm65.specs.Resolving.{Adds, ArePlaces, Counts, Grows, cheap_name, found, is_key, or_here, place_at, unnamed_in}
 use Rattle.asm65.specs.Sizes.{zero_page_names}
 use Rattle.asm65.specs.declared.resolving.names.Names.{Names}
@@ -253,10 +256,14 @@ pub count_known : {S : Type 0} (m : IndexMap ℕ ℕ S) (count place i : ℕ) �
 count_known m count place i e = λ k. there_already (get_by (λ j. k == j) m) (k == count && true) place i
     (λ t. (let same : k ≡ count = grind (arith, nat_tests) in rw same e))
 
+pub roots_more : {S : Type 0} (all : List Laid) (l : Laid) (old new : IndexMap ℕ ℕ S) (is_hiding : Bool) → AreNested all → hides all l ≡ is_hiding → RootsBehind old is_hiding new → AreRoots all old → AreRoots (all ++ l ∷ []) new
+roots_more {S} all l old new true nested hidden gone known = λ j r e. absurd (let none : None ≡ Some r = sym (gone j) ∙ e in cc)
+roots_more {S} all l old new false nested hidden same known = subst (AreRoots (all ++ l ∷ [])) (sym same) (roots_stay all l old nested hidden known)
+
 -- all tables grow as the statements do
 pub grown : (old new : Names) (place : ℕ) (l : Laid) → Adds old.defined l.spot.scope (defined_name l.stated) place new.defined → Adds old.scopes l.spot.scope (scope_name l.stated) place new.scopes → Adds old.cheap l.spot.region (cheap_name l.stated) place new.cheap →
-    Counts old.unnamed l.spot.unnamed (is_unnamed l.stated) place new.unnamed → l.spot.unnamed < 2 ^ 32 → map (λ k. k.items) new.imports.keys ≡ with_new (map (λ k. k.items) old.imports.keys) (imports_of l.stated) → map (λ k. k.items) new.zero_page.keys ≡ with_new (map (λ k. k.items) old.zero_page.keys) (zero_page_names l.stated) → Grows old place l new
-grown old new place l defined scopes cheap unnamed lt imports zero_page = λ all long names. record {
+    Counts old.unnamed l.spot.unnamed (is_unnamed l.stated) place new.unnamed → l.spot.unnamed < 2 ^ 32 → map (λ k. k.items) new.imports.keys ≡ with_new (map (λ k. k.items) old.imports.keys) (imports_of l.stated) → map (λ k. k.items) new.zero_page.keys ≡ with_new (map (λ k. k.items) old.zero_page.keys) (zero_page_names l.stated) → (is_hiding : Bool) → RootsBehind old.roots is_hiding new.roots → Grows old place l is_hiding new
+grown old new place l defined scopes cheap unnamed lt imports zero_page is_hiding roots = λ all long nested hidden names. record {
   defined = places_more old.defined new.defined all l l.spot.scope (defined_name l.stated) place (λ x. x.spot.scope) (λ other x. is_named other (defined_name x.stated)) long refl (λ other. refl) defined names.defined;
   scopes = places_more old.scopes new.scopes all l l.spot.scope (scope_name l.stated) place (λ x. x.spot.scope) (λ other x. is_named other (scope_name x.stated)) long refl (λ other. refl) scopes names.scopes;
   cheap = places_more old.cheap new.cheap all l l.spot.region (cheap_name l.stated) place (λ x. x.spot.region) (λ other x. is_cheap other x.stated) long refl (λ other. cheap_test other l.stated) cheap names.cheap;
@@ -267,4 +274,5 @@ grown old new place l defined scopes cheap unnamed lt imports zero_page = λ all
       ∙ ap (λ ns. with_new ns (imports_of l.stated)) names.imports
       ∙ sym (imported_more [] all l);
   zero_page = λ name. zero_page_more (λ k. k.items) old.zero_page.keys new.zero_page.keys all l zero_page name (names.zero_page name);
+  roots = roots_more all l old.roots new.roots is_hiding nested hidden roots names.roots;
 }

@@ -18,6 +18,7 @@ pub mod Growing
 pub mod Laying
 pub mod Sound
 pub mod Module
+pub mod Roots
 pub mod Resolving
 pub mod Drafts
 pub mod Evaluating

@@ -20,10 +20,12 @@ use Rattle.asm65.specs.declared.resolving.names.Names.{Names}
 use Rattle.asm65.specs.declared.resolving.places.Key.{Key}
 use Rattle.asm65.specs.declared.resolving.places.Places.{Places}
 use Rattle.asm65.specs.Faults.{is_memory}
+use Rattle.asm65.specs.Growing.{AreNested, hides}
 use Rattle.asm65.specs.Language.{Stated, cheap_label, constant}
 use Rattle.asm65.specs.Laid.{Laid, Spot, scope_name, is_unnamed}
 use Rattle.asm65.specs.Names.{Meaning, defined_at, imported_as, defined_in, imported_names, is_cheap, is_named, meaning_of, plain_meaning, scoped_meaning}
 use Rattle.asm65.specs.Norms.{address_of, folded, form_of_laid, norm}
+use Rattle.asm65.specs.Roots.{AreRoots, LeadsTo}
 use Rattle.asm65.specs.Sizes.{is_zero_page_name}
 use Rattle.asm65.specs.Views.{all_of}
 
@@ -87,10 +89,15 @@ pub record AreNames (all : List Laid) (n : Names) : Type 0 where
   pub bounded : (count : ℕ) → 2 ^ 32 ≤ count → unnamed_in all count ≡ None
   pub imports : map (λ k. k.items) n.imports.keys ≡ imported_names [] all
   pub zero_page : (name : List ℕ) → list_any (λ k. bytes_eq name k.items) n.zero_page.keys ≡ is_zero_page_name all name
+  pub roots : AreRoots all n.roots
 
--- names with those of one more statement behind all others
-abbrev pub Grows : Names → ℕ → Laid → Names → Type 0
-Grows old place l new = (all : List Laid) → length all ≡ place → AreNames all old → AreNames (all ++ l ∷ []) new
+-- names with those of one more statement behind all others, which perhaps hides what the name that it defines means
+abbrev pub Grows : Names → ℕ → Laid → Bool → Names → Type 0
+Grows old place l is_hiding new = (all : List Laid) → length all ≡ place → AreNested all → hides all l ≡ is_hiding → AreNames all old → AreNames (all ++ l ∷ []) new
+
+-- names with one more root
+abbrev pub Leads : Names → ℕ → ℕ → Names → Type 0
+Leads old place root new = (all : List Laid) → LeadsTo all place root → AreNames all old → AreNames all new
 
 abbrev pub IsModule : Module → Type 0
 IsModule m = AreNames (all_of m.statements.now) m.names.now

@@ -1,6 +1,7 @@
 //! What names mean and what forms expressions have among all statements of a module.
 
 mod attempt;
+mod blocked;
 mod finding;
 mod known;
 mod lost;
@@ -11,6 +12,7 @@ mod scopes;
 mod shown;
 
 pub use attempt::State;
+pub use blocked::{is_blocked, root_of};
 pub use finding::{find_defined, find_norm, no_forms};
 pub use known::Known;
 pub use lost::check_scopes;

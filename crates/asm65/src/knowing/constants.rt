@@ -10,7 +10,7 @@ ghost use Rattle.asm65.specs.Views.{all_of, spot_of};
 
 use crate::AsmFault;
 use crate::laid::Spot;
-use crate::resolving::{Known, Module};
+use crate::resolving::{Known, Module, is_blocked};
 use object65::{Node, Norm};
 use std::alloc::{AllocError, Global};
 use syntax65::Expr;
@@ -54,6 +54,11 @@ pub fn constant(
     ensures value { IfOk result (λ v. v ≡ constant_behind (all_of whole.now.statements.now) (spot_of spot) (tree_of value.now)) }
     ensures table { OnOk result (IsTable (all_of whole.now.statements.now) known.new.states.items) }
 {
+    // A chain of constants without a form isn't followed anew at each line.
+    let behind = whole.statements.len();
+    if whole.names.has_roots() && is_blocked(alloc, whole, behind, spot, value)? {
+        return Ok(None);
+    }
     match form_behind(alloc, whole, known, spot, value) {
         Ok(form) => Ok(literal(&form)),
         Err(fault) => {

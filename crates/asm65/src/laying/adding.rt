@@ -1,13 +1,15 @@
 //! A statement that is laid behind others.
 
-ghost use Rattle.std.specs.Prelude.{◌≡◌, ◌≤◌, ◌<◌, ◌+◌, ◌++◌, ◌∷◌, [], codes, false, IfErr, IfOk, length, OnOk, true, ℕ};
+ghost use Rattle.std.specs.Prelude.{◌≡◌, ◌≤◌, ◌<◌, ◌+◌, ◌++◌, ◌∷◌, [], Some, codes, false, IfErr, IfOk, length, OnOk, true, ℕ};
 ghost use Rattle.syntax65.specs.Outcome.{Gives, Unless};
 ghost use Rattle.object65.specs.Objects.{section_limit};
 ghost use Rattle.asm65.specs.Faults.{is_failure, is_outside};
+ghost use Rattle.asm65.specs.Growing.{AreNested, HidesNothing, hides};
 ghost use Rattle.asm65.specs.Laying.{advanced, measured, with_statement};
 ghost use Rattle.asm65.specs.Layout.{spot_of};
 ghost use Rattle.asm65.specs.LayoutViews.{layout_of, standing_of};
 ghost use Rattle.asm65.specs.Resolving.{AreNames, IsTable};
+ghost use Rattle.asm65.specs.Roots.{LeadsTo};
 ghost use Rattle.asm65.specs.Settling.{IsSettled};
 ghost use Rattle.asm65.specs.Sounds.{AreSaid, AreWithin, IsSound, IsSoundStanding, KeepsSaid, SaysMore, says_nothing};
 ghost use Rattle.asm65.specs.Views.{all_of, laid_of, stated_of};
@@ -19,7 +21,7 @@ use super::standing::Standing;
 use crate::AsmFault;
 use crate::laid::Laid;
 use crate::language::Statement;
-use crate::resolving::Module;
+use crate::resolving::{Module, root_of};
 use crate::texts::{Texts, warn};
 use std::alloc::{AllocError, Global};
 use syntax65::Sequence;
@@ -113,9 +115,34 @@ fn lay(
     Ok(placed(&layout.standing, line, statement, measure))
 }
 
+/// Notes the names of a statement behind the others, and the constant to which it leads in which a name means nothing.
+fn name(
+    alloc: Global,
+    layout: &mut Layout,
+    next: &Laid,
+    is_hiding: bool,
+    root: Option<usize>,
+) -> Result<(), AllocError>
+    requires names { AreNames (all_of layout.old.statements) layout.old.names }
+    requires nested { AreNested (all_of layout.old.statements) }
+    requires hiding { hides (all_of layout.old.statements) (laid_of next.now) ≡ is_hiding }
+    requires root { (r : ℕ) → root ≡ Some r → AreNested (all_of layout.old.statements) → HidesNothing (all_of layout.old.statements) (laid_of next.now) → (laid_of next.now).spot.scope ≤ length (all_of layout.old.statements) → LeadsTo (all_of layout.old.statements ++ laid_of next.now ∷ []) (length (all_of layout.old.statements)) r }
+    requires scope { (laid_of next.now).spot.scope ≤ length (all_of layout.old.statements) }
+    ensures names { OnOk result (AreNames (all_of layout.old.statements ++ laid_of next.now ∷ []) layout.new.names) }
+    ensures same { layout.new ≡ record layout.old { names = layout.new.names } }
+{
+    let place = layout.statements.len();
+    layout.names.add(alloc, place, next, is_hiding)?;
+    match root {
+        Some(root) if !is_hiding => layout.names.lead(place, root),
+        _ => Ok(()),
+    }
+}
+
 /// Notes a statement behind the others in all but their list.
 fn note(alloc: Global, layout: &mut Layout, next: &Laid, multiple: u32) -> Result<(), AllocError>
     requires sound { IsSound layout.old }
+    requires spot { (laid_of next.now).spot ≡ spot_of (standing_of layout.old.standing) }
     requires few { length layout.old.statements < 4294967294 }
     requires room { (spot_of (standing_of layout.old.standing)).offset + next.now.length ≤ section_limit }
     ensures statements { layout.new.statements ≡ layout.old.statements }
@@ -130,8 +157,10 @@ fn note(alloc: Global, layout: &mut Layout, next: &Laid, multiple: u32) -> Resul
         statements: layout.statements.as_slice(),
         names: &layout.names,
     };
-    layout.known.grow(hides(&whole, next))?;
-    layout.names.add(alloc, layout.statements.len(), next)?;
+    let is_hiding = hides(&whole, next);
+    let root = root_of(alloc, &whole, next)?;
+    layout.known.grow(is_hiding)?;
+    name(alloc, layout, next, is_hiding, root)?;
     let statements = layout.statements.as_slice();
     layout
         .standing

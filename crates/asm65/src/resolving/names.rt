@@ -7,7 +7,8 @@ ghost use Rattle.std.specs.Str.{bytes_eq};
 ghost use Rattle.indexmap.specs.IndexMap.{get_by};
 ghost use Rattle.asm65.specs.Laid.{defined_name, is_unnamed, scope_name};
 ghost use Rattle.asm65.specs.Names.{imports_of, with_new};
-ghost use Rattle.asm65.specs.Resolving.{AreNames, Counts, Grows, cheap_name, found};
+ghost use Rattle.asm65.specs.Resolving.{AreNames, Counts, Grows, Leads, cheap_name, found};
+ghost use Rattle.asm65.specs.Roots.{RootsBehind};
 ghost use Rattle.asm65.specs.Sizes.{zero_page_names};
 ghost use Rattle.asm65.specs.Views.{laid_of, stated_of};
 
@@ -33,6 +34,8 @@ pub struct Names {
     imports: IndexSet<Vec<u8>>,
     /// Those that were imported for the zero page.
     zero_page: IndexSet<Vec<u8>>,
+    /// Of constants without a form, the constant in which a name means nothing.
+    roots: IndexMap<usize, usize>,
 }
 
 impl Names {
@@ -47,6 +50,7 @@ impl Names {
             unnamed: IndexMap::new(alloc),
             imports: IndexSet::new(alloc),
             zero_page: IndexSet::new(alloc),
+            roots: IndexMap::new(alloc),
         }
     }
 
@@ -102,10 +106,37 @@ impl Names {
         self.zero_page.contains(name)
     }
 
-    /// Adds the names of the statement at a place, which stands behind all others.
-    pub fn add(&mut self, alloc: Global, place: usize, laid: &Laid) -> Result<(), AllocError>
-        ensures { OnOk result (Grows self.old place (laid_of laid.now) self.new) }
+    /// The constant to which one led that had no form, and in which a name meant nothing.
+    pub fn root(&self, place: usize) -> Option<usize>
+        ensures { result ≡ get_by (λ k. place == k) self.now.roots }
     {
+        place_in(&self.roots, place)
+    }
+
+    /// Whether there may be constants without a form.
+    pub fn has_roots(&self) -> bool {
+        !self.roots.is_empty()
+    }
+
+    /// Notes that a constant leads to one in which a name means nothing.
+    pub fn lead(&mut self, place: usize, root: usize) -> Result<(), AllocError>
+        ensures { OnOk result (Leads self.old place root self.new) }
+    {
+        put_first(&mut self.roots, place, root)
+    }
+
+    /// Adds the names of the statement at a place, which stands behind all others. It is hiding if the name that it
+    /// defines means something there already; then constants may have another form than they had, or have one.
+    pub fn add(
+        &mut self,
+        alloc: Global,
+        place: usize,
+        laid: &Laid,
+        is_hiding: bool,
+    ) -> Result<(), AllocError>
+        ensures { OnOk result (Grows self.old place (laid_of laid.now) is_hiding self.new) }
+    {
+        forget_if(alloc, &mut self.roots, is_hiding);
         let spot = laid.spot;
         let scope = spot.scope as usize;
         let region = spot.region as usize;
@@ -138,6 +169,15 @@ fn name_at(names: &IndexSet<Vec<u8>>, place: usize) -> &[u8]
     match names.get_index(place) {
         Some(name) => name.as_slice(),
         None => &[],
+    }
+}
+
+/// Forgets the roots of constants behind a statement that is hiding.
+fn forget_if(alloc: Global, roots: &mut IndexMap<usize, usize>, is_hiding: bool)
+    ensures { RootsBehind roots.old is_hiding roots.new }
+{
+    if is_hiding {
+        *roots = IndexMap::new(alloc);
     }
 }
 
@@ -179,23 +219,24 @@ fn is_unnamed(statement: &Statement) -> bool
     matches!(statement, Statement::UnnamedLabel)
 }
 
-fn place_in(unnamed: &IndexMap<usize, usize>, count: usize) -> Option<usize>
-    ensures { result ≡ get_by (λ k. count == k) unnamed.now }
+fn place_in(places: &IndexMap<usize, usize>, number: usize) -> Option<usize>
+    ensures { result ≡ get_by (λ k. number == k) places.now }
 {
-    unnamed.get(&count).copied()
+    places.get(&number).copied()
 }
 
-fn put_unnamed(
-    unnamed: &mut IndexMap<usize, usize>,
-    count: usize,
+/// Puts a place at a number that has none yet.
+fn put_first(
+    places: &mut IndexMap<usize, usize>,
+    number: usize,
     place: usize,
 ) -> Result<(), AllocError>
-    ensures { OnOk result (Counts unnamed.old count true place unnamed.new) }
+    ensures { OnOk result (Counts places.old number true place places.new) }
 {
-    match place_in(unnamed, count) {
+    match place_in(places, number) {
         Some(_) => {}
         None => {
-            unnamed.insert(count, place)?;
+            places.insert(number, place)?;
         }
     }
     Ok(())
@@ -212,7 +253,7 @@ fn add_unnamed(
     ensures counts { OnOk result (Counts unnamed.old count (is_unnamed (stated_of statement.now)) place unnamed.new) }
 {
     if is_unnamed(statement) {
-        put_unnamed(unnamed, count as usize, place)
+        put_first(unnamed, count as usize, place)
     } else {
         Ok(())
     }

@@ -5,13 +5,13 @@ use Rattle.indexmap.specs.IndexMap.{get_by}
 use Rattle.asm65.specs.Resolving.{or_here}
 use Rattle.asm65.proofs.NameTables.{lookup_insert}
 use Rattle.asm65.proofs.Tables.{and_true, count_known}
-use Rattle.asm65.proofs.resolving.names.put_unnamed.Goals as goal
+use Rattle.asm65.proofs.resolving.names.put_first.Goals as goal
 
 pub returns-in-Some : goal.returns-in-Some
-returns-in-Some c = λ k. count_known c.args.unnamed.now c.args.count c.args.place c.in-Some.field-0 (sym c.place_in.ensures ∙ c.in-Some.is) k
+returns-in-Some c = λ k. count_known c.args.places.now c.args.number c.args.place c.in-Some.field-0 (sym c.place_in.ensures ∙ c.in-Some.is) k
 
 pub returns-in_ok-insert-in-None : goal.returns-in_ok-insert-in-None
 returns-in_ok-insert-in-None c = λ k.
     ap (lookup (λ j. k == j)) c.in_ok-insert-in-None.ensures.entries
-    ∙ lookup_insert (λ a b. a == b) (λ j. k == j) c.args.count c.args.place c.args.unnamed.now.entries (sym c.place_in.ensures ∙ c.in-None.is)
-    ∙ ap (λ b. or_here (get_by (λ j. k == j) c.args.unnamed.now) b c.args.place) (sym (and_true (k == c.args.count)))
+    ∙ lookup_insert (λ a b. a == b) (λ j. k == j) c.args.number c.args.place c.args.places.now.entries (sym c.place_in.ensures ∙ c.in-None.is)
+    ∙ ap (λ b. or_here (get_by (λ j. k == j) c.args.places.now) b c.args.place) (sym (and_true (k == c.args.number)))

@@ -39,6 +39,49 @@ fn assembles_and_links(rt: HostRuntime) -> Result<(), Fail> {
     Ok(())
 }
 
+/// The script of one area of 256 bytes.
+const WIDE: &str =
+    "MEMORY { ROM: start = $8000, size = $100; } SEGMENTS { CODE: load = ROM, type = ro; DATA: load = ROM, optional = yes; }";
+
+/// Sources whose values are all known are linked, and their images begin and end so.
+#[test]
+fn assembles_and_links_programs(rt: HostRuntime) -> Result<(), Fail> {
+    let rows: [(&[u8], &[u8], &[u8]); 5] = [
+        (b"l: .res 126,0\nbne l", &[0, 0], &[0, 0xd0, 0x80]),
+        (b"bne l\n.res 127,0\nl: rts", &[0xd0, 0x7f, 0], &[0, 0x60]),
+        (
+            b"lda 5,y\nstx 5,y\nldx 5,y\nlda a:5\nasl\nasl a",
+            &[0xb9, 5, 0, 0x96, 5, 0xb6],
+            &[5, 0xad, 5, 0, 0x0a, 0x0a],
+        ),
+        (
+            b".proc p\n@l: dex\nbne @l\nq = 5\n.endproc\nlda #p::q",
+            &[0xca, 0xd0, 0xfd, 0xa9, 5],
+            &[0xca, 0xd0, 0xfd, 0xa9, 5],
+        ),
+        (
+            b"nop\n.align 4\n.byte 5\n.data\n.byte 6",
+            &[0xea, 0, 0, 0, 5, 6],
+            &[5, 6],
+        ),
+    ];
+    for (source, first, last) in rows.iter() {
+        let mut store = files(rt.alloc(), &O1, WIDE)?;
+        store.put("a.s", source)?;
+        let ran = run_on(rt.alloc(), &mut store, &["bin65", "ca65", "a.s"]);
+        assert!(rt; is_quiet(&ran));
+        run_on(
+            rt.alloc(),
+            &mut store,
+            &["bin65", "ld65", "-C", "s.cfg", "a.o"],
+        );
+        let image = store.get("a.out").ok_or("no image")?;
+        assert!(rt; image.starts_with(first));
+        assert!(rt; image.ends_with(last));
+    }
+    Ok(())
+}
+
 /// An empty source has no section, so its image is empty.
 #[test]
 fn links_an_empty_source(rt: HostRuntime) -> Result<(), Fail> {
@@ -83,7 +126,7 @@ fn names_the_object(rt: HostRuntime) -> Result<(), Fail> {
 
 #[test]
 fn names_a_fault_with_its_line(rt: HostRuntime) -> Result<(), Fail> {
-    let rows: [(&[u8], &str); 6] = [
+    let rows: [(&[u8], &str); 8] = [
         (b".byte 256", "b.s:1: Error: out of range\n"),
         (b"u = v\nv = u", "b.s:1: Error: circular definition\n"),
         (b".byte n1, 2\n", "b.s:1: Error: undefined name: n1\n"),
@@ -92,7 +135,12 @@ fn names_a_fault_with_its_line(rt: HostRuntime) -> Result<(), Fail> {
             b"nop\r\n\r\n.bogus",
             "b.s:3: Error: statement not understood\n",
         ),
-        (b"lda #1", "b.s:1: Error: no such addressing form\n"),
+        (b"lda (5)", "b.s:1: Error: no such addressing form\n"),
+        (
+            b"v = $10\n.scope s\nlda v\nv = $1234\n.endscope",
+            "b.s:3: Error: out of range\n",
+        ),
+        (b"lda p::q", "b.s:1: Error: no such scope: p::q\n"),
     ];
     for (source, message) in rows.iter() {
         let mut store = MemStore::new(rt.alloc());

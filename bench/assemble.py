@@ -33,6 +33,37 @@ def expressions(count):
     return lines
 
 
+def programs(count):
+    """Lines of instructions in procs: branches, cheap and unnamed labels, the zero page, constants, data."""
+    blocks = count // 20
+    lines = ["p = $10", "q = p + 2"]
+    for k in range(blocks):
+        before, behind = max(0, k - numbers.randrange(1, 50)), min(blocks - 1, k + numbers.randrange(1, 50))
+        lines += [
+            f".proc r{k}",
+            f"    size = {numbers.randrange(1, 200)}",
+            f"    lda #<(r{behind} - r{before})",
+            "    sta p",
+            f"    ldy #>(r{behind} - r{before})",
+            "    sty p + 1",
+            "    ldx #size",
+            "@next:",
+            "    lda (p),y",
+            f"    cmp #{numbers.randrange(256)} & $7F",
+            "    beq :+",
+            "    sta $0200,x",
+            "    inc q",
+            ":   dex",
+            "    bne @next",
+            "    lda a:q",
+            f"    and #{numbers.randrange(20)}+{numbers.randrange(10)}*{numbers.randrange(10)}",
+            "    rts",
+            f"    .byte (* - @next) & $3F, size, ${numbers.randrange(256):02X}",
+            ".endproc",
+        ]
+    return lines
+
+
 CASES = {
     "1": ("100,000 lines of nop", 100_000, ["    nop"] * 100_000),
     "2": ("200,000 lines of nop", 200_000, ["    nop"] * 200_000),
@@ -40,6 +71,9 @@ CASES = {
     "e1": ("100,000 of expressions", 100_000, expressions(100_000)),
     "e2": ("200,000 of expressions", 200_000, expressions(200_000)),
     "e4": ("400,000 of expressions", 400_000, expressions(400_000)),
+    "m1": ("100,000 of instructions", 100_000, programs(100_000)),
+    "m2": ("200,000 of instructions", 200_000, programs(200_000)),
+    "m4": ("400,000 of instructions", 400_000, programs(400_000)),
     "data": (
         "1 MB of .byte lists",
         1 << 20,
@@ -92,7 +126,7 @@ for name, (what, units, lines) in CASES.items():
             other = least(theirs)
             ratio = f"   cc65 {other:8.4f} s   bin65 / cc65 {ours / other:5.2f}"
         print(f"{what:24} {words[1]:6} bin65 {ours:8.4f} s{ratio}", flush=True)
-        total += (instructions(words) or 0) if name in ("1", "e1", "data") else 0
+        total += (instructions(words) or 0) if name in ("1", "e1", "m1", "data") else 0
     if total:
         print(f"{'':24} {total / units:.0f} instructions for each line or byte of data, ca65 and ld65 together")
     if real:

@@ -113,7 +113,7 @@ impl Names {
         place_in(&self.roots, place)
     }
 
-    /// Whether there may be constants without a form.
+    /// Whether there may be constants without a form. No answer hangs on it, only how soon one comes.
     pub fn has_roots(&self) -> bool {
         !self.roots.is_empty()
     }

@@ -1,9 +1,10 @@
 //! Sources that have an object.
 
 use super::{assembled, refusal};
-use object65::{Fragment, Object, write_object};
+use object65::{Fragment, Node, Norm, Object, Width, write_object};
 use std::alloc::Global;
 use std::test::Fail;
+use syntax65::Op2;
 
 /// The bytes of the object of a source.
 fn spelled(alloc: Global, source: &[u8]) -> Result<Vec<u8>, Fail> {
@@ -50,6 +51,96 @@ fn exported_label(rt: HostRuntime) -> Result<(), Fail> {
     assert_eq!(rt; wanted.len(), 67);
     let found = spelled(rt.alloc(), b".export start\nstart: .word start")?;
     assert!(rt; found.as_slice() == wanted.as_slice());
+    Ok(())
+}
+
+/// A jump to an exported label.
+#[test]
+fn jump_to_itself(rt: HostRuntime) -> Result<(), Fail> {
+    let wanted = [
+        0x52, 0x36, 0x35, 0x6f, 0x01, 0x02, 0x09, 0x00, 0x03, 0x00, 0x00, 0x00, 0x00, 0x43, 0x4f,
+        0x44, 0x45, 0x03, 0x01, 0x00, 0x4c, 0x05, 0x12, 0x00, 0x01, 0x02, 0x00, 0x00, 0x00, 0x01,
+        0x00, 0x00, 0x00, 0x00, 0x00, 0x00, 0x00, 0x00, 0x00, 0x00, 0x00, 0x00, 0x06, 0x17, 0x00,
+        0x05, 0x73, 0x74, 0x61, 0x72, 0x74, 0x01, 0x00, 0x00, 0x00, 0x01, 0x00, 0x00, 0x00, 0x00,
+        0x00, 0x00, 0x00, 0x00, 0x00, 0x00, 0x00, 0x00, 0x08, 0x00, 0x00,
+    ];
+    assert_eq!(rt; wanted.len(), 71);
+    let found = spelled(rt.alloc(), b".export start\nstart: jmp start")?;
+    assert!(rt; found.as_slice() == wanted.as_slice());
+    Ok(())
+}
+
+/// Whether a fragment is a literal of these bytes.
+fn is_literal(fragment: &Fragment, bytes: &[u8]) -> bool {
+    match fragment {
+        Fragment::Literal(literal) => literal.as_slice() == bytes,
+        _ => false,
+    }
+}
+
+/// Whether a fragment is a value of a line that is the address of a section's offset.
+fn is_address(fragment: &Fragment, wanted: Width, at: u32, section: u32, offset: i64) -> bool {
+    match fragment {
+        Fragment::Value { width, line, form } => {
+            *width == wanted && *line == at && is_place(form, section, offset)
+        }
+        _ => false,
+    }
+}
+
+fn is_place(form: &Norm, section: u32, offset: i64) -> bool {
+    match form.node() {
+        Node::Sec(place, found) => *place == section && *found == offset,
+        _ => false,
+    }
+}
+
+/// A label of the zero page that is known takes the short form, one that comes later the long one.
+#[test]
+fn known_and_later_labels(rt: HostRuntime) -> Result<(), Fail> {
+    let source = b".zeropage\np: .res 1\n.code\nlda p\nlda q\n.zeropage\nq: .res 1";
+    let object = assembled(rt.alloc(), source)??;
+    let [page, code] = object.sections.as_slice() else {
+        return Err(Fail::from("not two sections"));
+    };
+    assert!(rt; page.name.as_slice() == b"ZEROPAGE".as_slice());
+    assert!(rt; matches!(page.fragments.as_slice(), [Fragment::Fill(2)]));
+    let [lda_p, p, lda_q, q] = code.fragments.as_slice() else {
+        return Err(Fail::from("not four fragments"));
+    };
+    assert!(rt; is_literal(lda_p, &[0xa5]));
+    assert!(rt; is_address(p, Width::Byte, 4, 0, 0));
+    assert!(rt; is_literal(lda_q, &[0xad]));
+    assert!(rt; is_address(q, Width::Word, 5, 0, 1));
+    Ok(())
+}
+
+/// A branch to an unnamed label of another segment is the difference of that label and what stands behind the branch.
+#[test]
+fn branch_to_another_segment(rt: HostRuntime) -> Result<(), Fail> {
+    let object = assembled(rt.alloc(), b"bne :+\n.data\n: .byte 0\n.code\n: rts")??;
+    let [code, data] = object.sections.as_slice() else {
+        return Err(Fail::from("not two sections"));
+    };
+    let [bne, value, rts] = code.fragments.as_slice() else {
+        return Err(Fail::from("not three fragments"));
+    };
+    assert!(rt; is_literal(bne, &[0xd0]));
+    assert!(rt; is_literal(rts, &[0x60]));
+    assert!(rt; matches!(data.fragments.as_slice(), [zero] if is_literal(zero, &[0])));
+    let Fragment::Value {
+        width: Width::Branch,
+        line: 1,
+        form,
+    } = value
+    else {
+        return Err(Fail::from("no branch of line 1"));
+    };
+    let Node::Binary(Op2::Subtract, label, behind) = form.node() else {
+        return Err(Fail::from("no difference"));
+    };
+    assert!(rt; is_place(label, 1, 0));
+    assert!(rt; is_place(behind, 0, 2));
     Ok(())
 }
 

@@ -20,6 +20,9 @@ count() {
     fi
 }
 
+# A task a processor. By itself rt takes fewer: it expects 14 GB of the largest crate's check, which takes 3, and would
+# let that crate run alone.
+export RT_JOBS=${RT_JOBS:-$(nproc)}
 rt ci 2>&1 | tee "$log" | grep -vE '^[0-9]+ passed, [0-9]+ failed$'; count "${PIPESTATUS[0]}"
 make --no-print-directory program 2>&1 | tail -n 20
 bash tests/program.sh "$PWD/crates/bin65/out/bin65" > "$log" 2>&1; status=$?

@@ -20,7 +20,7 @@ count() {
     fi
 }
 
-# A task a processor. By itself rt takes fewer: it expects 14 GB of the largest crate's check, which takes 3, and would
+# A task a processor. By itself rt takes fewer: it expects 14 GB of the largest crate's checks, which take 5 to 7, and would
 # let that crate run alone.
 export RT_JOBS=${RT_JOBS:-$(nproc)}
 rt ci 2>&1 | tee "$log" | grep -vE '^[0-9]+ passed, [0-9]+ failed$'; count "${PIPESTATUS[0]}"

@@ -106,7 +106,8 @@ class Case:
     def all_commands(self):
         if self.commands:
             return self.commands
-        self.commands = [Command("ca65 b.s" if self.main() == "b.s" else "ld65 -C s.cfg a.o")]
+        links = "s.cfg" in self.files and "b.s" not in self.files
+        self.commands = [Command("ld65 -C s.cfg a.o" if links else "ca65 b.s")]
         return self.commands
 
     def settle(self, result):
@@ -115,8 +116,8 @@ class Case:
         fault = re.fullmatch(r"(\d+): (.*)", result)
         if fault:
             last.err = [f"{self.main()}:{fault[1]}: Error: {fault[2]}"]
-        elif ": Error: " in result:
-            last.err = [result]
+        elif ": Error: " in result or ": Warning: " in result:
+            last.err = result.split(" && ")
         elif result != "ok":
             self.result = result
 

@@ -1,0 +1,185 @@
+#!/usr/bin/env python3
+"""The real program past all sizes at once: a source of more than 100,000 lines with 5,000 imports, 1,000 sections of 4 MB and
+1 MB of text for each stream; and its link without the imports, by a script of 2,000 areas and 21,000 rows, into an image of 4 MB
+with 1 MB of warnings. Whole answers are compared with what is computed here.
+
+usage: large.py BIN65    Prints a line a test, and last 'N passed, M failed'.
+"""
+
+import os
+import shutil
+import subprocess
+import sys
+import tempfile
+import time
+
+SECTIONS = 1000
+IMPORTS = 5000
+AREAS = 2000
+ABSENT_ROWS = 20000
+AREA_SIZE = 4400
+# Lines of data in a section, values of four bytes in a line, texts for each stream in a section.
+LINES, VALUES, TEXTS = 98, 11, 5
+
+
+def value(section, line, place):
+    return (section * 2654435761 + line * 40503 + place * 12582917) % 2**32
+
+
+def data(section):
+    """The bytes of a section's data."""
+    values = (value(section, line, place) for line in range(LINES) for place in range(VALUES))
+    return b"".join(it.to_bytes(4, "little") for it in values)
+
+
+def record(kind, body):
+    return bytes([kind]) + len(body).to_bytes(2, "little") + body
+
+
+def literals(piece):
+    return b"".join(record(3, piece[at : at + 4096]) for at in range(0, len(piece), 4096))
+
+
+class Source:
+    """A source as it is made, with what is said of it and the values of its imports."""
+
+    def __init__(self, with_imports):
+        self.lines, self.out, self.err = [], [], []
+        self.used = {section: [] for section in range(SECTIONS)}
+        self.with_imports = with_imports
+        if with_imports:
+            for first in range(0, IMPORTS, 10):
+                self.lines.append(".import " + ", ".join(f"v{at}" for at in range(first, first + 10)))
+        for section in range(SECTIONS):
+            self.add_section(section)
+
+    def add_section(self, section):
+        self.lines.append(f'.segment "S{section}"')
+        for line in range(LINES):
+            self.lines.append(".dword " + ",".join(str(value(section, line, place)) for place in range(VALUES)))
+        if self.with_imports:
+            for at in range(5):
+                # The last import is used first.
+                name = IMPORTS - 1 - (section * 5 + at)
+                self.lines.append(f".word v{name}")
+                self.used[section].append(len(self.lines))
+        for at in range(TEXTS):
+            text = f"{section}.{at} ".ljust(210, "abc"[at % 3])
+            self.lines.append(f'.out "{text}"')
+            self.out.append(text)
+            self.lines.append(f'.warning "{text}"')
+            self.err.append(f"b.s:{len(self.lines)}: Warning: {text}")
+
+    def object(self):
+        """The object's bytes."""
+        parts = [b"R65o\x01"]
+        if self.with_imports:
+            parts += [record(1, b"v%d" % at) for at in reversed(range(IMPORTS))]
+        for section in range(SECTIONS):
+            size = LINES * VALUES * 4 + 2 * len(self.used[section])
+            parts.append(record(2, size.to_bytes(4, "little") + b"\0S%d" % section))
+        number = 0
+        for section in range(SECTIONS):
+            parts.append(literals(data(section)))
+            for line in self.used[section]:
+                parts.append(record(5, b"\1" + line.to_bytes(4, "little") + b"\2" + number.to_bytes(4, "little")))
+                number += 1
+        return b"".join(parts) + record(8, b"")
+
+
+def joined(lines):
+    return "".join(line + "\n" for line in lines).encode()
+
+
+def section_of(area):
+    """The section whose row lies in an area; sections and areas have other orders."""
+    return area * 7 % SECTIONS
+
+
+def absent(at):
+    return f"X{at:019}"
+
+
+def script():
+    """Half of the areas follow each other in the output, each with a row; the others in another file, without."""
+    parts = ["MEMORY {"]
+    for area in range(AREAS // 2):
+        parts.append(f"A{area}:start=0,size={AREA_SIZE},fill=yes,fillval={area % 256};")
+        parts.append(f'B{area}:start=0,size=64,fill=yes,fillval={area % 255};'.replace(";", ',file="side";'))
+    parts.append("} SEGMENTS {")
+    parts += [f"S{section_of(area)}:load=A{area};" for area in range(AREAS // 2)]
+    parts += [f"{absent(at)}:load=A0;" for at in range(ABSENT_ROWS)]
+    text = "\n".join(parts) + "}"
+    assert len(text) <= 1048576
+    return text
+
+
+def image():
+    areas = range(AREAS // 2)
+    return b"".join(data(section_of(area)).ljust(AREA_SIZE, bytes([area % 256])) for area in areas)
+
+
+def side():
+    return b"".join(bytes([area % 255]) * 64 for area in range(AREAS // 2))
+
+
+class Tests:
+    def __init__(self, program):
+        self.program, self.passed, self.failed = program, 0, 0
+
+    def run(self, *words):
+        began = time.monotonic()
+        ran = subprocess.run([self.program, *words], stdin=subprocess.DEVNULL, capture_output=True, timeout=600)
+        self.took = time.monotonic() - began
+        return ran
+
+    def check(self, name, pairs):
+        """Each pair is what was found and what is wanted."""
+        wrong = [what for what, found, wanted in pairs if found != wanted]
+        self.passed, self.failed = self.passed + (not wrong), self.failed + bool(wrong)
+        print(f"{name}: " + (f"FAILED: {', '.join(wrong)} differ" if wrong else f"ok, {self.took:.1f} s"), flush=True)
+
+
+def get(name):
+    if not os.path.exists(name):
+        return None
+    with open(name, "rb") as opened:
+        return opened.read()
+
+
+def put(name, text):
+    with open(name, "w", encoding="ascii") as opened:
+        opened.write(text)
+
+
+def assemble(tests, name, source):
+    put("b.s", "\n".join(source.lines))
+    ran = tests.run("ca65", "b.s")
+    said = [("out", ran.stdout, joined(source.out)), ("err", ran.stderr, joined(source.err))]
+    tests.check(name, [("status", ran.returncode, 0), *said, ("object", get("b.o"), source.object())])
+
+
+def main():
+    tests = Tests(os.path.abspath(sys.argv[1]))
+    folder = tempfile.mkdtemp(prefix="large-")
+    os.chdir(folder)
+    try:
+        source = Source(with_imports=True)
+        assert len(source.lines) > 100000 and min(len(joined(source.out)), len(joined(source.err))) > 1000000
+        assemble(tests, "a source past all sizes", source)
+        assemble(tests, "the same without imports", Source(with_imports=False))
+        put("s.cfg", script())
+        ran = tests.run("ld65", "-C", "s.cfg", "-o", "image", "b.o")
+        warnings = joined(f"ld65: Warning: segment {absent(at)} does not exist" for at in range(ABSENT_ROWS))
+        assert len(image()) > 4 * 2**20 and len(warnings) > 1000000
+        said = [("status", ran.returncode, 0), ("out", ran.stdout, b""), ("err", ran.stderr, warnings)]
+        tests.check("its link", [*said, ("image", get("image"), image()), ("side", get("side"), side())])
+    finally:
+        os.chdir("/")
+        shutil.rmtree(folder)
+    print(f"{tests.passed} passed, {tests.failed} failed")
+    sys.exit(tests.failed != 0)
+
+
+if __name__ == "__main__":
+    main()

@@ -27,6 +27,8 @@ rt ci 2>&1 | tee "$log" | grep -vE '^[0-9]+ passed, [0-9]+ failed$'; count "${PI
 make --no-print-directory program 2>&1 | tail -n 20
 bash tests/program.sh "$PWD/crates/bin65/out/bin65" > "$log" 2>&1; status=$?
 grep -vE '^[0-9]+ passed, [0-9]+ failed$' "$log"; count "$status"
+python3 tests/cases.py "$PWD/crates/bin65/out/bin65" > "$log" 2>&1; status=$?; grep -vE '^[0-9]+ passed, [0-9]+ failed$' "$log"; count "$status"
+for it in disk large; do python3 "tests/$it.py" "$PWD/crates/bin65/out/bin65" > "$log" 2>&1; status=$?; grep -vE '^[0-9]+ passed, [0-9]+ failed$' "$log"; count "$status"; done
 sh example/first.sh "$PWD/crates/bin65/out/bin65" && passed=$((passed + 1)) || failed=$((failed + 1))
 sh example/programs.sh "$PWD/crates/bin65/out/bin65" && passed=$((passed + 1)) || failed=$((failed + 1))
 

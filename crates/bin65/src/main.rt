@@ -1,26 +1,39 @@
-//! bin65: ld65 of the cc65 suite, as one program.
+//! bin65: ca65 and ld65 of the cc65 suite, as one program.
 #![tactic(auto)]
 
+use std::io::ErrorKind;
 use std::process::ExitCode;
 use std::{env, io};
-use tools65::{DiskStore, Status, run};
+use tools65::{DiskStore, Status, print, run};
 
-fn main(rt: HostRuntime) -> io::Result<ExitCode> {
-    let mut err = rt.stderr();
+/// Runs the program's words as a command. It fails where memory runs out before they are there, or where some word isn't
+/// text.
+fn run_words(rt: &HostRuntime) -> io::Result<Status> {
     let mut words = Vec::new(rt.alloc());
-    let Ok(given) = env::args(&rt) else {
-        // Some word isn't text.
-        tools65::print(&mut err, b"bin65: Error: bad arguments\n");
-        return Ok(ExitCode::FAILURE);
-    };
-    for word in given {
+    for word in env::args(rt)? {
         words.push(word)?;
     }
     let mut store = DiskStore::new(rt.alloc(), rt.clone()?);
     let mut out = rt.stdout();
-    let status = run(rt.alloc(), words.as_slice(), &mut store, &mut out, &mut err);
-    Ok(match status {
-        Status::Success => ExitCode::SUCCESS,
-        Status::Failure => ExitCode::FAILURE,
-    })
+    let mut err = rt.stderr();
+    Ok(run(rt.alloc(), words.as_slice(), &mut store, &mut out, &mut err))
+}
+
+/// What is said where no command could be run.
+fn text_of(error: &io::Error) -> &'static [u8] {
+    match error.kind() {
+        ErrorKind::OutOfMemory => b"bin65: Error: out of memory\n",
+        _ => b"bin65: Error: bad arguments\n",
+    }
+}
+
+fn main(rt: HostRuntime) -> ExitCode {
+    match run_words(&rt) {
+        Ok(Status::Success) => ExitCode::SUCCESS,
+        Ok(Status::Failure) => ExitCode::FAILURE,
+        Err(error) => {
+            print(&mut rt.stderr(), text_of(&error));
+            ExitCode::FAILURE
+        }
+    }
 }

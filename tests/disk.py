@@ -145,13 +145,13 @@ def streams(tests):
     if not os.path.exists("/dev/full"):
         print("streams that take nothing: skipped, there is no /dev/full")
         return
-    os.remove("t.o")
+    tests.put("u.s", tests.get("t.s"))
     with open("/dev/full", "wb") as full:
-        ran = tests.run("ca65", "t.s", stdout=full)
-        found = ran, tests.get("t.o")
+        ran = tests.run("ca65", "u.s", stdout=full)
+        found = ran, tests.get("u.o")
         tests.check("standard output takes nothing: nothing further is said or written", found, ((1, None, b""), None))
-        ran = tests.run("ca65", "t.s", stderr=full)
-        tests.check("standard error takes nothing: nothing is written", (ran, tests.get("t.o")), ((1, b"one\n", None), None))
+        ran = tests.run("ca65", "u.s", stderr=full)
+        tests.check("standard error takes nothing: nothing is written", (ran, tests.get("u.o")), ((1, b"one\n", None), None))
         ran = tests.run("ca65", "none.s", stderr=full)
         tests.check("a refusal that can't be said", ran, (1, b"", None))
         ran = tests.run("ca65", "b.s", stdout=full, stderr=full)

@@ -1,7 +1,7 @@
 //! Every instruction with every form of operand.
 
 use super::{assembled, contents, refusal};
-use crate::AsmFault;
+use language65::AsmFault;
 use std::alloc::Global;
 use std::test::Fail;
 

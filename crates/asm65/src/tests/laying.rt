@@ -2,10 +2,10 @@
 
 ghost use Rattle.std.specs.Prelude.{◌≡◌, []};
 
-use crate::AsmFault;
 use crate::laying::{Layout, lay};
 use crate::refusal::LineFault;
 use crate::texts::Texts;
+use language65::AsmFault;
 use std::alloc::Global;
 use std::test::Fail;
 use syntax65::Sequence;

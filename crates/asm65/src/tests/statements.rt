@@ -1,8 +1,7 @@
 //! What lines are read as: the kind of each statement, or that it isn't understood.
 
-use crate::AsmFault;
-use crate::language::{Index, Item, Operand, Statement};
-use crate::reading::{label, statement};
+use language65::{AsmFault, Index, Item, Operand, Statement};
+use statements65::{label, statement};
 use std::alloc::Global;
 use std::test::Fail;
 use syntax65::line_tokens;

@@ -1,7 +1,7 @@
 #!/usr/bin/env python3
 """Proves what isn't proved yet and builds the program: crates that don't stand on each other side by side.
 
-usage: prove.py [CRATE..]    these libraries and what they stand on; with none, all, and then the program.
+usage: prove.py [CRATE..]    these libraries and what they stand on; with none, the program and what it stands on.
 It says what it does as it goes, and at the end how long each crate took. What a crate's proof said is in its
 out/prove.log. Where no file changed since the program was built, it does nothing."""
 import copy
@@ -30,7 +30,7 @@ def sum_of_sources(rt):
 
 
 def prove(crate, jobs):
-    """Builds a library, or checks a program, and returns whether it is proved."""
+    """Builds a library, and returns whether it is proved."""
     os.makedirs(f"{crate.folder}/out", exist_ok=True)
     crate, log = copy.copy(crate), f"{crate.folder}/out/prove.log"
     ended = threading.Event()
@@ -46,8 +46,7 @@ def prove(crate, jobs):
         teller = threading.Thread(target=tell, daemon=True)
         teller.start()
         try:
-            flags = ["--jobs", str(jobs)]
-            return not (crate.check(flags) if crate.is_program else crate.build_rlib(flags, anew=False))
+            return not crate.build_rlib(["--jobs", str(jobs)], anew=False)
         except SystemExit:
             return False
         finally:
@@ -63,12 +62,15 @@ def in_lanes(crates, lanes):
             ready = [it for it in left if {*it.below()} <= proved]
             for at, crate in enumerate(ready):
                 idle = lanes - sum(jobs for _, _, jobs in running.values())
-                if idle > 0:
+                if crate.is_built():
+                    left.remove(crate)
+                    proved.add(crate)
+                elif idle > 0:
                     left.remove(crate)
                     jobs = max(1, idle // (len(ready) - at))
                     kit.say(f"{crate.name}: its proof begins ({len(proved)} of {len(crates)} crates are proved)")
                     running[pool.submit(prove, crate, jobs)] = crate, time.time(), jobs
-            for it in wait(running, return_when=FIRST_COMPLETED).done:
+            for it in wait(running, return_when=FIRST_COMPLETED).done if running else ():
                 crate, begun, _ = running.pop(it)
                 if not it.result():
                     kit.say(f"{crate.name}: NOT PROVED; {os.path.relpath(crate.folder, kit.ROOT)}/out/prove.log says why")
@@ -85,8 +87,11 @@ def main(names):
     made = sum_of_sources(rt)
     if not names and os.path.isfile(PROGRAM) and rt.rtlib.text_of(SUM) == made:
         return 0
+    if not names and os.path.isfile(PROGRAM):
+        os.remove(PROGRAM)
     crates = kit.crates(rt)
-    chosen = [it for it in crates if not names or it.name in names or any(it in that.below() for that in crates if that.name in names)]
+    asked = [it for it in crates if it.name in names or not names and it.is_program]
+    chosen = [it for it in crates if not it.is_program and (it in asked or any(it in that.below() for that in asked))]
     held = rt.rtlib.lock(crates)
     took = in_lanes(chosen, rt.processors())
     for it in held:
@@ -95,15 +100,17 @@ def main(names):
         return 1
     if not names:
         begun = time.time()
+        kit.say("bin65: its proof begins, and then it is compiled")
         # (with no arguments the program answers 'bad arguments', which is no fault of the build)
         subprocess.run(["rt", "run"], cwd=f"{kit.ROOT}/crates/bin65", stdin=subprocess.DEVNULL, stdout=subprocess.DEVNULL, stderr=subprocess.DEVNULL)
         if not os.path.isfile(PROGRAM):
             kit.say("the program was not built: rt run in crates/bin65 says why")
             return 1
-        took["the program, compiled and linked"] = time.time() - begun
+        took["bin65, proved, compiled and linked"] = time.time() - begun
         with open(SUM, "w") as it:
             it.write(made)
-    kit.table("How long each part took:", took.items())
+    if took:
+        kit.table("How long each part took:", took.items())
     return 0
 
 

@@ -1,7 +1,7 @@
 //! Whole runs of ca65.
 
 use super::{O1, S1, files, is_quiet, run_on, says};
-use crate::Status;
+use tools65::Status;
 use std::test::Fail;
 use syntax65::MemStore;
 

@@ -1,7 +1,7 @@
 //! Areas, their files, and what is warned of.
 
 use super::{LINK, O1, S1, files, is_quiet, run_on, says};
-use crate::Status;
+use tools65::Status;
 use std::alloc::{AllocError, Global};
 use std::test::Fail;
 

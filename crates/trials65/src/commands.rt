@@ -6,7 +6,7 @@ mod devices;
 mod linking;
 mod scripts;
 
-use crate::{Status, run};
+use tools65::{Status, run};
 use std::alloc::{AllocError, Global};
 use syntax65::{MemStore, Store};
 

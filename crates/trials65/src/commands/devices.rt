@@ -5,7 +5,7 @@ ghost use Rattle.std.specs.Option.{ForSome};
 ghost use Rattle.std.specs.Bool.{OnTrue, OnFalse};
 
 use super::{LINK, O1, S1, files, is_quiet, run_on, says};
-use crate::{Status, run};
+use tools65::{Status, run};
 use std::io;
 use std::io::{ErrorKind, Write};
 use std::test::Fail;

@@ -1,0 +1,6 @@
+//! Trials of what no contract says: each crate's public calls on worked inputs, and with stores and streams that give
+//! little, fail or stop.
+#![tactic(auto)]
+
+#[cfg(test)]
+mod commands;

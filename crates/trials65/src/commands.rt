@@ -3,6 +3,7 @@
 mod areas;
 mod assembling;
 mod devices;
+mod lines;
 mod linking;
 mod scripts;
 

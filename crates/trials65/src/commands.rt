@@ -1,11 +1,10 @@
-//! Runs of whole commands over files in memory.
+//! Runs of whole commands over files in memory: the worked ones, and what no command on the disk shows. All others are
+//! cases for the real program.
 
-mod areas;
 mod assembling;
 mod devices;
 mod lines;
 mod linking;
-mod scripts;
 
 use tools65::{Status, run};
 use std::alloc::{AllocError, Global};
@@ -22,7 +21,7 @@ pub const S1: &str =
 
 pub const LINK: [&str; 7] = ["bin65", "ld65", "-C", "s.cfg", "-o", "a.out", "a.o"];
 
-/// A store with O1 and a script.
+/// A store with an object and a script.
 pub fn files(alloc: Global, object: &[u8], script: &str) -> Result<MemStore, AllocError> {
     let mut store = MemStore::new(alloc);
     store.put("a.o", object)?;
@@ -53,5 +52,10 @@ pub fn says(ran: &Ran, message: &str) -> bool {
 
 /// Whether a run succeeded and said nothing.
 pub fn is_quiet(ran: &Ran) -> bool {
-    ran.status == Status::Success && ran.out.is_empty() && ran.err.is_empty()
+    warns(ran, "")
+}
+
+/// Whether a run succeeded with these warnings.
+pub fn warns(ran: &Ran, warnings: &str) -> bool {
+    ran.status == Status::Success && ran.out.is_empty() && ran.err.as_slice() == warnings.as_bytes()
 }

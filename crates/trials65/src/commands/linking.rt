@@ -1,112 +1,109 @@
 //! Whole links.
 
-use super::{LINK, O1, S1, files, is_quiet, run_on, says};
+use super::{LINK, O1, S1, files, is_quiet, run_on, says, warns};
+use std::alloc::{AllocError, Global};
 use std::test::Fail;
-use syntax65::MemStore;
+
+/// P and Q of one byte each.
+const PAIR: &[u8] =
+    b"R65o\x01\x02\x06\0\x01\0\0\0\0P\x02\x06\0\x01\0\0\0\0Q\x03\x01\0\x11\x03\x01\0\x22\x08\0\0";
+
+/// CODE with `EA`, BSS with room for two bytes and DATA with `01`.
+const ROOM: &[u8] =
+    b"R65o\x01\x02\x09\0\x01\0\0\0\0CODE\x02\x08\0\x02\0\0\0\0BSS\x02\x09\0\x01\0\0\0\0DATA\x03\x01\0\xEA\x04\x04\0\x02\0\0\0\x03\x01\0\x01\x08\0\0";
+
+/// CODE with `EA`, room for three bytes and `05`, at a multiple of 4.
+const ALIGNED: &[u8] =
+    b"R65o\x01\x02\x09\0\x05\0\0\0\x02CODE\x03\x01\0\xEA\x04\x04\0\x03\0\0\0\x03\x01\0\x05\x08\0\0";
+
+/// Whether an object and a script are linked into these bytes, with these warnings.
+fn links(
+    alloc: Global,
+    object: &[u8],
+    script: &str,
+    image: &[u8],
+    warnings: &str,
+) -> Result<bool, AllocError> {
+    let mut store = files(alloc, object, script)?;
+    let ran = run_on(alloc, &mut store, &LINK);
+    Ok(warns(&ran, warnings) && store.get("a.out") == Some(image))
+}
+
+/// Whether an object and a script are refused with this message, and nothing is written.
+fn refuses(alloc: Global, object: &[u8], script: &str, message: &str) -> Result<bool, AllocError> {
+    let mut store = files(alloc, object, script)?;
+    let ran = run_on(alloc, &mut store, &LINK);
+    Ok(says(&ran, message) && store.get("a.out").is_none())
+}
 
 #[test]
 fn links_the_first_object(rt: HostRuntime) -> Result<(), Fail> {
-    let mut store = files(rt.alloc(), &O1, S1)?;
-    let ran = run_on(rt.alloc(), &mut store, &LINK);
-    assert!(rt; is_quiet(&ran));
-    assert!(rt; matches!(store.get("a.out"), Some([0xa9, 0x00, 0x60])));
+    assert!(rt; links(rt.alloc(), &O1, S1, b"\xa9\0\x60", "")?);
+    let script =
+        "MEMORY { ROM: start = $8000, size = 8, fill = yes, fillval = $FF; } SEGMENTS { CODE: load = ROM, type = ro; }";
+    assert!(rt;
+        links(
+            rt.alloc(),
+            &O1,
+            script,
+            b"\xa9\0\x60\xff\xff\xff\xff\xff",
+            ""
+        )?
+    );
+    Ok(())
+}
+
+/// A gap for room that isn't written, an alignment that the row hasn't, and a row that no module has.
+#[test]
+fn fills_gaps_and_warns(rt: HostRuntime) -> Result<(), Fail> {
+    let script =
+        "MEMORY { ROM: start = $8000, size = $10, fillval = $FF; } SEGMENTS { CODE: load = ROM; BSS: load = ROM, type = bss; DATA: load = ROM; }";
+    assert!(rt; links(rt.alloc(), ROOM, script, b"\xea\xff\xff\x01", "")?);
+    let warning = "ld65: Warning: segment CODE needs alignment 4\n";
+    assert!(rt; links(rt.alloc(), ALIGNED, S1, b"\xea\0\0\0\x05", warning)?);
+    let script =
+        "MEMORY { ROM: start = $8000, size = $10; } SEGMENTS { CODE: load = ROM; X: load = ROM; }";
+    let warning = "ld65: Warning: segment X does not exist\n";
+    assert!(rt; links(rt.alloc(), &O1, script, b"\xa9\0\x60", warning)?);
     Ok(())
 }
 
 #[test]
-fn names_the_output(rt: HostRuntime) -> Result<(), Fail> {
-    let mut store = files(rt.alloc(), &O1, S1)?;
-    let ran = run_on(
-        rt.alloc(),
-        &mut store,
-        &["bin65", "ld65", "a.o", "-Cs.cfg", "-oimage"],
+fn refuses_what_is_not_placed(rt: HostRuntime) -> Result<(), Fail> {
+    let script =
+        "MEMORY { ROM: start = $8000, size = $10; } SEGMENTS { P: load = ROM, start = $8000; Q: load = ROM, start = $8000; }";
+    let message = "ld65: Error: start below what is placed: Q\n";
+    assert!(rt; refuses(rt.alloc(), PAIR, script, message)?);
+    let script = "MEMORY { ROM: start = 0, size = 9, type = ro; } SEGMENTS { CODE: load = ROM; }";
+    assert!(rt;
+        refuses(
+            rt.alloc(),
+            &O1,
+            script,
+            "ld65: Error: read-only area: CODE\n"
+        )?
     );
-    assert!(rt; is_quiet(&ran));
-    assert!(rt; matches!(store.get("image"), Some([0xa9, 0x00, 0x60])));
-    let ran = run_on(
-        rt.alloc(),
-        &mut store,
-        &["bin65", "ld65", "-C", "s.cfg", "a.o"],
-    );
-    assert!(rt; is_quiet(&ran));
-    assert!(rt; matches!(store.get("a.out"), Some([0xa9, 0x00, 0x60])));
-    let ran = run_on(
-        rt.alloc(),
-        &mut store,
-        &["bin65", "ld65", "-C", "s.cfg", "-o", "", "a.o"],
-    );
-    assert!(rt; is_quiet(&ran));
-    assert!(rt; store.get("").is_none());
     Ok(())
 }
 
-/// An object for segments DATA and CODE, of one byte and two.
-const TWO: [u8; 48] = [
-    0x52, 0x36, 0x35, 0x6f, 0x01, 0x02, 0x09, 0x00, 0x01, 0x00, 0x00, 0x00, 0x00, b'D', b'A', b'T',
-    b'A', 0x02, 0x09, 0x00, 0x02, 0x00, 0x00, 0x00, 0x00, b'C', b'O', b'D', b'E', 0x03, 0x01, 0x00,
-    0x11, 0x03, 0x02, 0x00, 0x22, 0x33, 0x08, 0x00, 0x00, 0, 0, 0, 0, 0, 0, 0,
-];
-
-#[test]
-fn lays_rows_in_the_scripts_order(rt: HostRuntime) -> Result<(), Fail> {
-    let mut store = files(rt.alloc(), &TWO[..41], S1)?;
-    let ran = run_on(rt.alloc(), &mut store, &LINK);
-    assert!(rt; is_quiet(&ran));
-    assert!(rt; matches!(store.get("a.out"), Some([0x22, 0x33, 0x11])));
-    Ok(())
-}
-
-#[test]
-fn refuses_bad_arguments(rt: HostRuntime) -> Result<(), Fail> {
-    let lines: [&[&str]; 8] = [
-        &["bin65", "ld65", "a.o"],
-        &["bin65"],
-        &["bin65", "ld65", "-C", "s.cfg"],
-        &["bin65", "ld65", "-C", "s.cfg", "a.o", "a.o"],
-        &["bin65", "ld65", "-C", "s.cfg", "-m", "a.map", "a.o"],
-        &["bin65", "ld65", "-C", "s.cfg", "-o", "x", "-o", "y", "a.o"],
-        &["bin65", "ld65", "--help"],
-        &["bin65", "help"],
-    ];
-    for line in lines.iter() {
-        let mut store = files(rt.alloc(), &O1, S1)?;
-        let ran = run_on(rt.alloc(), &mut store, line);
-        assert!(rt; says(&ran, "bin65: Error: bad arguments\n"));
-        assert!(rt; store.get("a.out").is_none());
-    }
-    Ok(())
-}
-
-/// Why O1 with another end, or with its literal in two records, is no object.
+/// An object without its last byte, with one behind it, and with its literal in two records.
 #[test]
 fn refuses_other_spellings(rt: HostRuntime) -> Result<(), Fail> {
-    let mut longer = [0; 27];
-    longer[..26].copy_from_slice(&O1);
-    let split = [
-        0x52, 0x36, 0x35, 0x6f, 0x01, 0x02, 0x09, 0x00, 0x03, 0x00, 0x00, 0x00, 0x00, 0x43, 0x4f,
-        0x44, 0x45, 0x03, 0x02, 0x00, 0xa9, 0x00, 0x03, 0x01, 0x00, 0x60, 0x08, 0x00, 0x00,
-    ];
-    let rows: [(&[u8], &str); 3] = [
-        (&O1[..25], "a.o: Error: object cut short\n"),
-        (&longer, "a.o: Error: bytes after the end\n"),
-        (&split, "a.o: Error: not canonical\n"),
-    ];
-    for (object, message) in rows.iter() {
-        let mut store = files(rt.alloc(), object, S1)?;
-        let ran = run_on(rt.alloc(), &mut store, &LINK);
-        assert!(rt; says(&ran, message));
-        assert!(rt; store.get("a.out").is_none());
-    }
+    assert!(rt; refuses(rt.alloc(), &O1[..25], S1, "a.o: Error: object cut short\n")?);
+    let longer = b"R65o\x01\x02\x09\0\x03\0\0\0\0CODE\x03\x03\0\xa9\0\x60\x08\0\0\0";
+    assert!(rt; refuses(rt.alloc(), longer, S1, "a.o: Error: bytes after the end\n")?);
+    let split = b"R65o\x01\x02\x09\0\x03\0\0\0\0CODE\x03\x02\0\xa9\0\x03\x01\0\x60\x08\0\0";
+    assert!(rt; refuses(rt.alloc(), split, S1, "a.o: Error: not canonical\n")?);
+    let script = "MEMORY {\n\n";
+    assert!(rt; refuses(rt.alloc(), &O1, script, "s.cfg:3: Error: syntax error\n")?);
     Ok(())
 }
 
 #[test]
-fn refuses_missing_files(rt: HostRuntime) -> Result<(), Fail> {
-    let mut store = MemStore::new(rt.alloc());
-    let ran = run_on(rt.alloc(), &mut store, &LINK);
-    assert!(rt; says(&ran, "s.cfg: Error: file not found\n"));
-    store.put("s.cfg", S1.as_bytes())?;
-    let ran = run_on(rt.alloc(), &mut store, &LINK);
-    assert!(rt; says(&ran, "a.o: Error: file not found\n"));
+fn names_no_file_where_none_is_named(rt: HostRuntime) -> Result<(), Fail> {
+    let mut store = files(rt.alloc(), &O1, S1)?;
+    let words = ["bin65", "ld65", "-C", "s.cfg", "-o", "", "a.o"];
+    assert!(rt; is_quiet(&run_on(rt.alloc(), &mut store, &words)));
+    assert!(rt; store.get("").is_none() && store.get("a.out").is_none());
     Ok(())
 }

@@ -13,6 +13,3 @@ mod texts;
 pub use assembling::assemble;
 pub use assembly::{AsmJob, Assembly};
 pub use refusal::{AsmRefusal, Place};
-
-#[cfg(test)]
-mod tests;

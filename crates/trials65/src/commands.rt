@@ -6,9 +6,9 @@ mod devices;
 mod lines;
 mod linking;
 
-use tools65::{Status, run};
 use std::alloc::{AllocError, Global};
 use syntax65::{MemStore, Store};
+use tools65::{Status, run};
 
 /// `A9 00 60` in segment CODE.
 pub const O1: [u8; 26] = [

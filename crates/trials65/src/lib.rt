@@ -4,3 +4,5 @@
 
 #[cfg(test)]
 mod commands;
+#[cfg(test)]
+mod sources;

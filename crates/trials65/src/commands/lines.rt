@@ -1,11 +1,11 @@
 //! Command lines on their own.
 
 use super::{O1, S1, files, run_on, says};
-use crate::{
-    AssembleLine, Line, LineFault, LinkLine, Status, print, read_line, run_line, write_file,
-};
 use std::test::Fail;
 use syntax65::MemStore;
+use tools65::{
+    AssembleLine, Line, LineFault, LinkLine, Status, print, read_line, run_line, write_file,
+};
 
 #[test]
 fn reads_lines(rt: HostRuntime) -> Result<(), Fail> {

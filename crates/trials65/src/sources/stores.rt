@@ -3,7 +3,7 @@
 ghost use Rattle.std.specs.Prelude.{None};
 
 use super::in_words;
-use crate::{AsmJob, AsmRefusal, assemble};
+use asm65::{AsmJob, AsmRefusal, assemble};
 use object65::Object;
 use std::alloc::{AllocError, Global};
 use std::test::Fail;

@@ -2,7 +2,8 @@
 
 mod stores;
 
-use crate::{AsmFault, AsmJob, AsmRefusal, SourceFault, assemble};
+use asm65::{AsmJob, AsmRefusal, assemble};
+use language65::{AsmFault, SourceFault};
 use object65::write_object;
 use std::alloc::{AllocError, Global};
 use std::test::Fail;
@@ -26,7 +27,8 @@ fn in_words(alloc: Global, refusal: &AsmRefusal) -> Result<String, AllocError> {
 fn answer(alloc: Global, source: &[u8]) -> Result<Vec<u8>, Fail> {
     let mut store = MemStore::new(alloc);
     store.put("b.s", source)?;
-    match assemble(alloc, &mut store, &AsmJob { source: "b.s" }).result {
+    let assembled = assemble(alloc, &mut store, &AsmJob { source: "b.s" }).result;
+    match assembled {
         Ok(object) => {
             let mut out = Vec::new(alloc);
             write_object(alloc, &object, &mut out)?;

@@ -199,22 +199,3 @@ fn answers_failed_before(rt: HostRuntime) -> Result<(), Fail> {
         }
     }
 }
-
-#[test]
-fn says_why(rt: HostRuntime) -> Result<(), Fail> {
-    for (fault, words) in [
-        (ObjectFault::NotAnObject, "not an object"),
-        (ObjectFault::UnknownVersion, "unknown version"),
-        (ObjectFault::CutShort, "object cut short"),
-        (ObjectFault::UnknownRecord, "unknown record"),
-        (ObjectFault::OutOfOrder, "record out of order"),
-        (ObjectFault::IndexOutOfRange, "index out of range"),
-        (ObjectFault::BadSize, "bad size"),
-        (ObjectFault::NotCanonical, "not canonical"),
-        (ObjectFault::BytesAfterEnd, "bytes after the end"),
-    ] {
-        let text = format!(in rt.alloc(); "{fault}")?;
-        assert!(rt; text.as_str() == words);
-    }
-    Ok(())
-}

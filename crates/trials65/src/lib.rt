@@ -5,4 +5,8 @@
 #[cfg(test)]
 mod commands;
 #[cfg(test)]
+mod objects;
+#[cfg(test)]
+mod scripts;
+#[cfg(test)]
 mod sources;

@@ -1,5 +1,5 @@
 use super::ROM;
-use crate::{Access, AreaFile, Begin, SymbolKind, read_script};
+use script65::{Access, AreaFile, Begin, SymbolKind, read_script};
 use std::test::Fail;
 
 #[test]

@@ -6,10 +6,10 @@ mod records;
 ghost use Rattle.std.specs.Prelude.{◌≡◌, IfOk, None, true};
 ghost use Rattle.object65.specs.Objects.{is_good_object};
 
-use crate::{
+use arrayvec::ArrayVec;
+use object65::{
     Builder, Fragment, Object, ObjectFault, Record, read_object, read_record, write_object,
 };
-use arrayvec::ArrayVec;
 use std::alloc::Global;
 use std::test::Fail;
 use syntax65::{MemStore, Store, StoreFault};

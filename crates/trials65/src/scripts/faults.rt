@@ -1,5 +1,5 @@
 use super::{ROM, fault_of};
-use crate::{Fault, ScriptFault, read_script};
+use script65::{Fault, ScriptFault, read_script};
 use std::alloc::Global;
 use std::test::Fail;
 

@@ -1,8 +1,8 @@
 //! Objects of all kinds of records, worked out by hand: what is read and written back, and what is refused.
 
 use super::read;
-use crate::{Builder, ObjectFault, Record, write_object};
 use arrayvec::ArrayVec;
+use object65::{Builder, ObjectFault, Record, write_object};
 use std::alloc::Global;
 use std::test::Fail;
 

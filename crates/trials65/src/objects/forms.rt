@@ -1,7 +1,7 @@
 //! Forms that are folded, and what folding says of them.
 
-use crate::laws::{binary_keeps_its_value, prefix_keeps_its_value};
-use crate::{FormFault, Node, Norm, ObjectFault};
+use object65::laws::{binary_keeps_its_value, prefix_keeps_its_value};
+use object65::{FormFault, Node, Norm, ObjectFault};
 use std::alloc::{AllocError, Global};
 use std::test::Fail;
 use syntax65::{Op1, Op2};

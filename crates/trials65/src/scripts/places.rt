@@ -1,5 +1,5 @@
 use super::{ROM, need, place_text};
-use crate::{AreaPlace, RowPlace, place, read_script};
+use script65::{AreaPlace, RowPlace, place, read_script};
 use std::test::Fail;
 
 fn row(load: u64, run: u64, size: u64) -> RowPlace {

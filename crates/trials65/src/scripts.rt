@@ -4,7 +4,7 @@ mod faults;
 mod places;
 mod scripts;
 
-use crate::{Placement, Script, SegmentNeed, Sequence, place, read_script};
+use script65::{Placement, Script, SegmentNeed, Sequence, place, read_script};
 use std::alloc::Global;
 use std::test::Fail;
 

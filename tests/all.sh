@@ -37,7 +37,9 @@ one() {
 program=$PWD/crates/bin65/out/bin65
 # The program is the one that rt ci builds.
 part 'rt ci' python3 gate/watched.py rt ci
+part 'cases' python3 tests/cases.py "$program"
 part 'the program on files' bash tests/program.sh "$program"
+part 'the disk' python3 tests/disk.py "$program"
 part 'a first link' one sh example/first.sh "$program"
 part 'two programs' one sh example/programs.sh "$program"
 

@@ -10,3 +10,5 @@ mod objects;
 mod scripts;
 #[cfg(test)]
 mod sources;
+#[cfg(test)]
+mod syntax;

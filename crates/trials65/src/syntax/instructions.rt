@@ -1,7 +1,7 @@
 //! Mnemonics and opcodes, one of each form. The whole table is among the cases.
 
-use crate::{Mnemonic, Mode, is_reserved, mnemonic, opcode};
 use std::test::Fail;
+use syntax65::{Mnemonic, Mode, is_reserved, mnemonic, opcode};
 
 /// The opcode of a mnemonic's form.
 fn code(name: &[u8], mode: Mode) -> Option<u8> {

@@ -1,9 +1,9 @@
 //! The trees of expressions. A row's answer has the tree, each operation in parentheses behind its name, and
 //! the number of tokens, or the fault's words.
 
-use crate::{Expr, ExprFault, Name, line_tokens, read_expr};
 use std::alloc::{AllocError, Global};
 use std::test::Fail;
+use syntax65::{Expr, ExprFault, Name, line_tokens, read_expr};
 
 /// An expression, an arrow and what it is read as. The cases have every operator and fault.
 const ROWS: &str = "\

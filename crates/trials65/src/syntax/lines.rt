@@ -1,8 +1,8 @@
 //! The tokens of lines. A row's answer has each token as its kind, a blank, its bytes and `|`, or the fault's words.
 
-use crate::{AddressSize, LexFault, TokenKind, line_tokens};
 use std::alloc::{AllocError, Global};
 use std::test::Fail;
+use syntax65::{AddressSize, LexFault, TokenKind, line_tokens};
 
 /// A line, an arrow and what it is read as: one of each kind, and lines that no source shows to be read so. Numbers, names,
 /// strings and faults are among the cases.

@@ -1,6 +1,6 @@
 //! The values of operators.
 
-use crate::{Op1, Op2, apply1, apply2};
+use syntax65::{Op1, Op2, apply1, apply2};
 
 #[test]
 fn values_of_two(rt: HostRuntime) {

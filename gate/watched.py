@@ -29,18 +29,30 @@ class Part:
         return sum(self.used.values())
 
 
-def processes():
-    """The toolchain's checks that run now: crate, kind, number of the process and the processor's seconds so far."""
-    tick = os.sysconf("SC_CLK_TCK")
-    for number in filter(str.isdigit, os.listdir("/proc")):
+def stat(number):
+    """The parent of a process, and the processor's seconds that it took itself."""
+    with open(f"/proc/{number}/stat") as it:
+        fields = it.read().rpartition(")")[2].split()
+    return int(fields[1]), sum(map(int, fields[11:13])) / os.sysconf("SC_CLK_TCK")
+
+
+def is_below(number, top):
+    """Whether a process was begun by another, or by one that this one began, and so on."""
+    while number not in (0, 1, top):
+        number = stat(number)[0]
+    return number == top
+
+
+def processes(top):
+    """The checks that a process has begun and that run now: crate, kind, number and the processor's seconds so far."""
+    for number in map(int, filter(str.isdigit, os.listdir("/proc"))):
         try:
             with open(f"/proc/{number}/cmdline", "rb") as it:
                 words = it.read().decode(errors="replace").split("\0")
-            if not words[0].endswith("/bin/rattle") or "--crate-name" not in words:
+            if not words[0].endswith("/bin/rattle") or "--crate-name" not in words or not is_below(number, top):
                 continue
             folder = os.readlink(f"/proc/{number}/cwd")
-            with open(f"/proc/{number}/stat") as it:
-                times = it.read().rpartition(")")[2].split()[11:13]
+            used = stat(number)[1]
         except OSError:
             continue
         crate = words[words.index("--crate-name") + 1]
@@ -50,15 +62,15 @@ def processes():
             kind = "its wrong bodies"
         else:
             continue
-        yield (crate, kind), int(number), sum(map(int, times)) / tick
+        yield (crate, kind), number, used
 
 
-def watch(parts, ended):
+def watch(top, parts, ended):
     """Keeps what each part took, and says when one begins and ends, and each minute what is under way."""
     said = time.time()
     while not ended.wait(2):
         running = set()
-        for key, number, used in processes():
+        for key, number, used in processes(top):
             running.add(key)
             if key not in parts:
                 parts[key] = Part()
@@ -78,9 +90,9 @@ def watch(parts, ended):
 
 def main(words):
     parts, ended, begun = {}, threading.Event(), time.time()
-    watcher = threading.Thread(target=watch, args=(parts, ended), daemon=True)
-    watcher.start()
     with subprocess.Popen(words, cwd=kit.ROOT, stdout=subprocess.PIPE, stderr=subprocess.STDOUT, errors="replace") as ran:
+        watcher = threading.Thread(target=watch, args=(ran.pid, parts, ended), daemon=True)
+        watcher.start()
         for line in ran.stdout:
             print(line, end="", flush=True)
     ended.set()

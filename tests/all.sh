@@ -24,7 +24,7 @@ count() {
 took=
 part() {
     local name=$1 begun=$SECONDS; shift
-    "$@" 2>&1 | tee "$log" | grep -vE '^[0-9]+ passed, [0-9]+ failed$'; count "${PIPESTATUS[0]}"
+    "$@" 2>&1 | tee "$log" | grep --line-buffered -vE '^[0-9]+ passed, [0-9]+ failed$'; count "${PIPESTATUS[0]}"
     took="$took$(printf '%7d:%02d  %s' $(((SECONDS - begun) / 60)) $(((SECONDS - begun) % 60)) "$name")
 "
 }

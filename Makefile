@@ -1,16 +1,13 @@
-# bin65: make example builds the proved program, and assembles and links a first source and two programs with it;
+# bin65: make example proves and builds the program, and assembles and links a first source and two programs with it;
 # make test is the merge gate.
 PREFIX ?= /usr/local
 PROGRAM := crates/bin65/out/bin65
 
-.PHONY: example test program install bench clean
+.PHONY: example test program wrong-bodies install bench clean
 
-# The program is built only once every function below it is proved. With no arguments it answers 'bad
-# arguments', which is no fault of the build.
+# The program is built only once every function below it is proved; nothing is done where no source changed.
 program:
-	@rm -f $(PROGRAM)
-	@cd crates/bin65 && mkdir -p out; rt run > out/run.log 2>&1 || true
-	@test -x $(PROGRAM) || { cat crates/bin65/out/run.log; exit 1; }
+	@python3 gate/prove.py
 
 example: program
 	@sh example/first.sh $(abspath $(PROGRAM))
@@ -18,6 +15,10 @@ example: program
 
 test:
 	@bash tests/all.sh
+
+# The wrong bodies that the gate leaves out: all, those of a crate (CRATE=asm65), or one (CRATE=asm65/NAME).
+wrong-bodies:
+	@python3 gate/wrong_bodies.py $(CRATE)
 
 bench: program
 	@sh bench/run.sh $(abspath $(PROGRAM))

@@ -20,17 +20,30 @@ count() {
     fi
 }
 
-# A task a processor. By itself rt takes fewer: it expects 14 GB of the largest crate's checks, which take 5 to 7, and would
-# let that crate run alone.
-export RT_JOBS=${RT_JOBS:-$(nproc)}
-rt ci 2>&1 | tee "$log" | grep -vE '^[0-9]+ passed, [0-9]+ failed$'; count "${PIPESTATUS[0]}"
-make --no-print-directory program 2>&1 | tail -n 20
-bash tests/program.sh "$PWD/crates/bin65/out/bin65" > "$log" 2>&1; status=$?
-grep -vE '^[0-9]+ passed, [0-9]+ failed$' "$log"; count "$status"
-python3 tests/cases.py "$PWD/crates/bin65/out/bin65" > "$log" 2>&1; status=$?; grep -vE '^[0-9]+ passed, [0-9]+ failed$' "$log"; count "$status"
-for it in disk large; do python3 "tests/$it.py" "$PWD/crates/bin65/out/bin65" > "$log" 2>&1; status=$?; grep -vE '^[0-9]+ passed, [0-9]+ failed$' "$log"; count "$status"; done
-sh example/first.sh "$PWD/crates/bin65/out/bin65" && passed=$((passed + 1)) || failed=$((failed + 1))
-sh example/programs.sh "$PWD/crates/bin65/out/bin65" && passed=$((passed + 1)) || failed=$((failed + 1))
+# part NAME COMMAND..: runs a part whose last line counts, and says how long it took
+took=
+part() {
+    local name=$1 begun=$SECONDS; shift
+    "$@" 2>&1 | tee "$log" | grep --line-buffered -vE '^[0-9]+ passed, [0-9]+ failed$'; count "${PIPESTATUS[0]}"
+    took="$took$(printf '%7d:%02d  %s' $(((SECONDS - begun) / 60)) $(((SECONDS - begun) % 60)) "$name")
+"
+}
 
+# one COMMAND..: a part that passes or fails as a whole
+one() {
+    "$@" && echo '1 passed, 0 failed' || echo '0 passed, 1 failed'
+}
+
+program=$PWD/crates/bin65/out/bin65
+# The program is the one that rt ci builds.
+part 'rt ci' python3 gate/watched.py rt ci
+part 'cases' python3 tests/cases.py "$program"
+part 'the program on files' bash tests/program.sh "$program"
+part 'the disk' python3 tests/disk.py "$program"
+part 'large sizes' python3 tests/large.py "$program"
+part 'a first link' one sh example/first.sh "$program"
+part 'two programs' one sh example/programs.sh "$program"
+
+printf '\nThe parts:\n%s' "$took"
 echo "$passed passed, $failed failed"
 [ "$failed" = 0 ]

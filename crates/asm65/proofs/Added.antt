@@ -7,28 +7,28 @@ use Rattle.std.proofs.lemmas.Grind.{flat_map-append}
 use Rattle.std.proofs.lemmas.List.{length-append, map-append, take-append-le, take_all}
 use Rattle.object65.specs.Objects.{section_limit}
 use Rattle.syntax65.specs.declared.lexing.tokens.AddressSize.{AddressSize}
-use Rattle.asm65.specs.declared.fault.AsmFault.{AsmFault}
-use Rattle.asm65.specs.declared.fault.AsmFault.TheVariants.{NotUnderstood, SectionTooLarge}
-use Rattle.asm65.specs.declared.laid.Laid.{Laid}
+use Rattle.language65.specs.declared.fault.AsmFault.{AsmFault}
+use Rattle.language65.specs.declared.fault.AsmFault.TheVariants.{NotUnderstood, SectionTooLarge}
+use Rattle.language65.specs.declared.laid.Laid.{Laid}
 use Rattle.asm65.specs.declared.laying.Layout.{Layout}
 use Rattle.asm65.specs.declared.laying.standing.Standing as code
 use Rattle.asm65.specs.declared.texts.Texts.{Texts}
-use Rattle.asm65.specs.Growing.{AreNested}
-use Rattle.asm65.specs.Language.{Stated, says, warns}
-use Rattle.asm65.specs.Laid as there
+use Rattle.symbols65.specs.Growing.{AreNested}
+use Rattle.language65.specs.Language.{Stated, says, warns}
+use Rattle.language65.specs.Laid as there
 use Rattle.asm65.specs.Laying.{Measured, advanced, measured, unless_fault, with_statement}
-use Rattle.asm65.specs.Layout.{Layout as Behind, Standing, laid, layout_behind, own_size, scope_behind, size_defined, multiple_of, spot_of, standing_behind}
+use Rattle.language65.specs.Layout.{Layout as Behind, Standing, laid, layout_behind, own_size, scope_behind, size_defined, multiple_of, spot_of, standing_behind}
 use Rattle.asm65.specs.LayoutViews.{layout_of, standing_of}
-use Rattle.asm65.specs.LineFaults.{alignment_fault, block_fault, defined_twice, first_fault, form_fault, is_open, line_fault, lost_scopes, missing_file, opened_twice, operand_fault, part_fault, pop_fault, size_fault, stands_outside, trees_of, when}
+use Rattle.language65.specs.LineFaults.{alignment_fault, block_fault, defined_twice, first_fault, form_fault, is_open, line_fault, lost_scopes, missing_file, opened_twice, operand_fault, part_fault, pop_fault, size_fault, stands_outside, trees_of, when}
 use Rattle.asm65.specs.Module.{out_of, printed, warned, warned_by}
-use Rattle.asm65.specs.Names.{enclosing, scope_at}
-use Rattle.asm65.specs.Settling.{AreSettled, IsSettled}
-use Rattle.asm65.specs.Sizes.{length_of}
-use Rattle.asm65.specs.Resolving.{AreNames, IsTable}
+use Rattle.language65.specs.Names.{enclosing, scope_at}
+use Rattle.symbols65.specs.Settling.{AreSettled, IsSettled}
+use Rattle.language65.specs.Sizes.{length_of}
+use Rattle.symbols65.specs.Resolving.{AreNames, IsTable}
 use Rattle.asm65.specs.Sounds.{AreSaid, AreWithin, IsSound, IsSoundStanding, says_nothing}
-use Rattle.asm65.specs.Views.{all_of, laid_of, stated_of}
-use Rattle.asm65.proofs.Growing.{nested_more}
-use Rattle.asm65.proofs.NameTables.{map_length}
+use Rattle.language65.specs.Views.{all_of, laid_of, stated_of}
+use Rattle.symbols65.proofs.Growing.{nested_more}
+use Rattle.language65.proofs.Lists.{map_length}
 
 pub same_measure : (r : Result Measured AsmFault) (l k : ℕ) (s t : AddressSize) (m n : ℕ) → l ≡ k → s ≡ t → m ≡ n → r ≡ Ok (record { length = l; size = s; multiple = m }) → r ≡ Ok (record { length = k; size = t; multiple = n })
 same_measure r l k s t m n a b c h = rw (sym a, sym b, sym c) h

@@ -3,11 +3,11 @@ use Rattle.std.proofs.Common.{◌≡◌, ℕ, ◌+◌, ◌<◌, Bool, true, fals
 use Rattle.std.specs.List.{flat_map}
 use Rattle.std.specs.Result.{IsErrAnd}
 use Rattle.syntax65.specs.Outcome.{◌>>=◌, Gives, Unless, each}
-use Rattle.asm65.specs.declared.contents.Said.{Said}
-use Rattle.asm65.specs.declared.fault.AsmFault.{AsmFault}
-use Rattle.asm65.specs.Contents.{each_of}
-use Rattle.asm65.specs.Faults.{is_outside}
-use Rattle.asm65.proofs.NameTables.{drop_item, drop_mapped}
+use Rattle.language65.specs.declared.contents.Said.{Said}
+use Rattle.language65.specs.declared.fault.AsmFault.{AsmFault}
+use Rattle.language65.specs.Contents.{each_of}
+use Rattle.language65.specs.Faults.{is_outside}
+use Rattle.language65.proofs.Lists.{drop_item, drop_mapped}
 
 -- what was found, before what is found behind it
 abbrev pub ahead : {E A : Type 0} → List A → Result (List A) E → Result (List A) E

@@ -5,19 +5,20 @@ use Rattle.std.specs.Result.{IsErrAnd}
 use Rattle.std.proofs.lemmas.List.{drop_all}
 use Rattle.std.proofs.lemmas.Option.{slice_get_read}
 use Rattle.syntax65.specs.Outcome.{◌>>=◌, Gives, Unless}
-use Rattle.asm65.specs.declared.contents.Content.{Content}
-use Rattle.asm65.specs.declared.fault.AsmFault.{AsmFault}
+use Rattle.language65.specs.declared.contents.Content.{Content}
+use Rattle.language65.specs.declared.fault.AsmFault.{AsmFault}
 use Rattle.asm65.specs.declared.refusal.LineFault.{LineFault}
-use Rattle.asm65.specs.Contents.{content_of}
+use Rattle.language65.specs.Contents.{content_of}
 use Rattle.asm65.specs.Evaluating.{Within, unchanged}
-use Rattle.asm65.specs.Faults.{is_outside, is_outside_line}
+use Rattle.language65.specs.Faults.{is_outside}
+use Rattle.asm65.specs.Refusals.{is_outside_line}
 use Rattle.asm65.specs.Lines.{at_line}
-use Rattle.asm65.specs.Laid.{Laid}
+use Rattle.language65.specs.Laid.{Laid}
 use Rattle.asm65.specs.Module.{asserted_at, asserted_from, contents_from, more, sound_from}
-use Rattle.asm65.specs.Settling.{AreSettled, IsSettled}
-use Rattle.asm65.specs.Views.{all_of, laid_of}
-use Rattle.asm65.specs.declared.laid.Laid as source
-use Rattle.asm65.proofs.NameTables.{map_length}
+use Rattle.symbols65.specs.Settling.{AreSettled, IsSettled}
+use Rattle.language65.specs.Views.{all_of, laid_of}
+use Rattle.language65.specs.declared.laid.Laid as source
+use Rattle.language65.proofs.Lists.{map_length}
 use Rattle.asm65.proofs.Aheads.{ahead, each_further, unless_then}
 
 -- ---- Contents.

@@ -12,7 +12,7 @@ use Rattle.object65.specs.Folding.{fold1, fold2, fold_any, fold_difference, fold
 use Rattle.object65.specs.Form.{Form, lit, sec, imp, prefix, binary, nodes}
 use Rattle.object65.specs.Laws.{IsFolded}
 use Rattle.object65.proofs.Foldings.{normal_law}
-use Rattle.asm65.specs.Norms.{folded}
+use Rattle.language65.specs.Norms.{folded}
 
 -- its sections pass one test, and its imports another
 abbrev pub Holds : (ℕ → Bool) → (ℕ → Bool) → Form → Type 0

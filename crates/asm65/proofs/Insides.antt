@@ -7,15 +7,15 @@ use Rattle.object65.specs.Form.{Form}
 use Rattle.object65.specs.Folding.{fold1, fold2}
 use Rattle.object65.specs.declared.folding.FormFault.{FormFault}
 use Rattle.object65.specs.declared.folding.FormFault.TheVariants as form
-use Rattle.asm65.specs.declared.fault.AsmFault.{AsmFault}
-use Rattle.asm65.specs.declared.fault.AsmFault.TheVariants.{Source, FileError, Undefined, NoSuchScope, NoSuchLabel}
-use Rattle.asm65.specs.declared.fault.SourceFault.TheVariants as source
-use Rattle.asm65.specs.Contents.{export_form}
-use Rattle.asm65.specs.Faults.{is_failure, is_memory}
-use Rattle.asm65.specs.Language.{Stated, constant}
-use Rattle.asm65.specs.Laid.{Laid, Spot, is_unnamed}
-use Rattle.asm65.specs.Names.{Meaning, defined_at, imported_as, defined_in, first_found, import_key, is_cheap, last_of, meaning_of, member_meaning, or_fault, scope_from, scopes_from, scopes_of, shown, unnamed_meaning}
-use Rattle.asm65.specs.Norms.{folded, form_by, form_of_stated, form_of_laid, form_of_meaning, norm, norm_of}
+use Rattle.language65.specs.declared.fault.AsmFault.{AsmFault}
+use Rattle.language65.specs.declared.fault.AsmFault.TheVariants.{Source, FileError, Undefined, NoSuchScope, NoSuchLabel}
+use Rattle.language65.specs.declared.fault.SourceFault.TheVariants as source
+use Rattle.language65.specs.Contents.{export_form}
+use Rattle.language65.specs.Faults.{is_failure, is_memory}
+use Rattle.language65.specs.Language.{Stated, constant}
+use Rattle.language65.specs.Laid.{Laid, Spot, is_unnamed}
+use Rattle.language65.specs.Names.{Meaning, defined_at, imported_as, defined_in, first_found, import_key, is_cheap, last_of, meaning_of, member_meaning, or_fault, scope_from, scopes_from, scopes_of, shown, unnamed_meaning}
+use Rattle.language65.specs.Norms.{folded, form_by, form_of_stated, form_of_laid, form_of_meaning, norm, norm_of}
 
 abbrev pub IsInside : {A : Type 0} → Result A AsmFault → Type 0
 IsInside r = IfErr r (λ e. is_failure e ≡ false)

@@ -12,17 +12,18 @@ use Rattle.syntax65.specs.declared.lexing.fault.LexFault.TheVariants.{OutOfMemor
 use Rattle.syntax65.specs.declared.lexing.tokens.Token.{Token}
 use Rattle.syntax65.specs.declared.lexing.tokens.TokenKind.{TokenKind}
 use Rattle.syntax65.specs.declared.lexing.tokens.TokenKind.TheVariants as token
-use Rattle.asm65.specs.declared.fault.AsmFault.{AsmFault}
-use Rattle.asm65.specs.declared.fault.AsmFault.TheVariants.{Source}
-use Rattle.asm65.specs.declared.fault.SourceFault.TheVariants.{Lex, TooManyLines}
+use Rattle.language65.specs.declared.fault.AsmFault.{AsmFault}
+use Rattle.language65.specs.declared.fault.AsmFault.TheVariants.{Source}
+use Rattle.language65.specs.declared.fault.SourceFault.TheVariants.{Lex, TooManyLines}
 use Rattle.asm65.specs.declared.refusal.LineFault.{LineFault}
-use Rattle.asm65.specs.Faults.{is_outside, is_outside_line}
+use Rattle.language65.specs.Faults.{is_outside}
+use Rattle.asm65.specs.Refusals.{is_outside_line}
 use Rattle.asm65.specs.Lines.{at_line}
-use Rattle.asm65.specs.Language.{Stated, label, unnamed_label}
+use Rattle.language65.specs.Language.{Stated, label, unnamed_label}
 use Rattle.asm65.specs.Laying.{AreLaid, IsLaid, IsLine, IsReading, IsRest, IsText, Reached, open_fault, with_label, with_statement}
-use Rattle.asm65.specs.Layout.{Layout}
+use Rattle.language65.specs.Layout.{Layout}
 use Rattle.asm65.specs.Lines.{line_limit, lines_of}
-use Rattle.asm65.specs.Parsing.{IsStatement, is_colon, label_before, label_of, named_label, or_all, with_rest}
+use Rattle.statements65.specs.Parsing.{IsStatement, is_colon, label_before, label_of, named_label, or_all, with_rest}
 use Rattle.asm65.specs.Sounds.{AreSaid, IsRefused, is_silent}
 use Rattle.asm65.specs.declared.texts.Texts.{Texts}
 use Rattle.asm65.proofs.Steps.{unless_then}

@@ -6,31 +6,31 @@ use Rattle.std.specs.Prelude.{sum_by}
 use Rattle.std.proofs.lemmas.List.{drop_all}
 use Rattle.std.proofs.lemmas.List.Sums.{sum_by-cons}
 use Rattle.object65.specs.declared.object.Width.{Width}
-use Rattle.asm65.specs.Sizes.{counted, gap, item_len, length_of, optional_value}
-use Rattle.asm65.specs.Norms.{constant_behind}
+use Rattle.language65.specs.Sizes.{counted, gap, item_len, length_of, optional_value}
+use Rattle.language65.specs.Norms.{constant_behind}
 use Rattle.std.specs.Prelude.{ℤ, pos, negsuc, not}
 use Rattle.std.specs.List.{list_any, position_from}
 use Rattle.std.proofs.lemmas.Iterator.Adapters.{position_from-zero}
 use Rattle.syntax65.specs.Outcome.{◌>>=◌, Unless}
 use Rattle.syntax65.specs.Trees.{Tree, name}
-use Rattle.asm65.specs.declared.fault.AsmFault.{AsmFault}
-use Rattle.asm65.specs.Faults.{is_outside}
-use Rattle.asm65.specs.declared.fault.AsmFault.TheVariants.{BadOperand, DefinedTwice, NotUnderstood, SectionTooLarge}
-use Rattle.asm65.specs.declared.language.Item.{Item}
-use Rattle.asm65.specs.Laid.{Laid, scope_name}
-use Rattle.asm65.specs.Language as l
-use Rattle.asm65.specs.Names.{is_cheap}
-use Rattle.asm65.specs.Views.{item_of}
-use Rattle.asm65.proofs.NameTables.{drop_mapped, map_length}
+use Rattle.language65.specs.declared.fault.AsmFault.{AsmFault}
+use Rattle.language65.specs.Faults.{is_outside}
+use Rattle.language65.specs.declared.fault.AsmFault.TheVariants.{BadOperand, DefinedTwice, NotUnderstood, SectionTooLarge}
+use Rattle.language65.specs.declared.language.Item.{Item}
+use Rattle.language65.specs.Laid.{Laid, scope_name}
+use Rattle.language65.specs.Language as l
+use Rattle.language65.specs.Names.{is_cheap}
+use Rattle.language65.specs.Views.{item_of}
+use Rattle.language65.proofs.Lists.{drop_mapped, map_length}
 use Rattle.asm65.specs.Laying.{Measured, measured, unless_fault}
 use Rattle.object65.specs.Objects.{section_limit}
 use Rattle.syntax65.specs.declared.lexing.tokens.AddressSize.TheVariants.{Absolute}
 use Rattle.syntax65.specs.declared.lexing.tokens.AddressSize.{AddressSize}
-use Rattle.asm65.specs.declared.contents.Segment.{Segment}
-use Rattle.asm65.specs.Layout.{Standing, multiple_of, own_size, segment_at, size_defined, spot_of}
-use Rattle.asm65.specs.LineFaults.{cheap_twice, first_fault, defined_twice, is_open, line_fault, opened_twice, stands_outside, trees_of, is_byte_value, is_there, multiple_fault, opener, item_trees, lost_scope, lost_scopes, or_then, when, where_there}
+use Rattle.language65.specs.declared.contents.Segment.{Segment}
+use Rattle.language65.specs.Layout.{Standing, multiple_of, own_size, segment_at, size_defined, spot_of}
+use Rattle.language65.specs.LineFaults.{cheap_twice, first_fault, defined_twice, is_open, line_fault, opened_twice, stands_outside, trees_of, is_byte_value, is_there, multiple_fault, opener, item_trees, lost_scope, lost_scopes, or_then, when, where_there}
 use Rattle.asm65.specs.Measuring.{cheap_there, fitted, lost_parts, naming_fault, placed, placing_fault, placing_faults}
-use Rattle.asm65.specs.Resolving.{cheap_name, plain_part}
+use Rattle.symbols65.specs.Resolving.{cheap_name, plain_part}
 use Rattle.asm65.proofs.Steps.{unless_then}
 
 -- the second fault is looked for where there is no first

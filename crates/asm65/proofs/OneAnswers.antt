@@ -11,10 +11,10 @@ use Rattle.asm65.specs.declared.refusal.LineFault.{LineFault}
 use Rattle.asm65.specs.Assembly.{Assembled, Job, IsAssembled, IsAssembledFrom, outcome_of, silent, source_in}
 use Rattle.asm65.specs.Lines.{at_line, counted, tokens_in}
 use Rattle.asm65.specs.Laying.{AreLaid, Behind, IsLaid, IsLine, IsRest, IsText, Reached, with_label, with_statement}
-use Rattle.asm65.specs.Layout.{Layout, nothing_laid}
+use Rattle.language65.specs.Layout.{Layout, nothing_laid}
 use Rattle.asm65.specs.Lines.{lines_of}
-use Rattle.asm65.specs.Parsing.{IsStatement, label_of}
-use Rattle.asm65.proofs.OneStatements.{One, first_one, followed_one, made_one, same_one, statement_one}
+use Rattle.statements65.specs.Parsing.{IsStatement, label_of}
+use Rattle.statements65.proofs.OneStatements.{One, first_one, followed_one, made_one, same_one, statement_one}
 
 rest_one : (y : Layout) (line : ℕ) (ts : List Lexeme) → One (IsRest y line ts)
 rest_one y line [] = same_one (Ok y)

@@ -6,9 +6,9 @@ use Rattle.asm65.specs.declared.refusal.AsmRefusal.{AsmRefusal}
 use Rattle.asm65.specs.declared.refusal.LineFault.{LineFault}
 use Rattle.asm65.specs.Assembly.{Assembled, in_file, outcome_of}
 use Rattle.asm65.specs.Evaluating.{Within}
-use Rattle.asm65.specs.Faults.{is_outside_line}
+use Rattle.asm65.specs.Refusals.{is_outside_line}
 use Rattle.asm65.specs.Laying.{AreLaid, Reached}
-use Rattle.asm65.specs.Layout.{Layout}
+use Rattle.language65.specs.Layout.{Layout}
 use Rattle.asm65.specs.Module.{asserted_from, object_of, printed, sound_from, warned}
 
 abbrev told : Result Object AsmRefusal → List ℕ → List ℕ → Assembled

@@ -5,13 +5,13 @@ use Rattle.syntax65.specs.Outcome.{◌>>=◌, Gives, Unless}
 use Rattle.syntax65.specs.Trees.{Tree}
 use Rattle.object65.specs.Form.{Form}
 use Rattle.object65.specs.declared.object.Width.{Width}
-use Rattle.asm65.specs.declared.contents.Part.{Part}
-use Rattle.asm65.specs.declared.fault.AsmFault.{AsmFault}
-use Rattle.asm65.specs.Contents.{operand_form, operand_parts, stored}
+use Rattle.language65.specs.declared.contents.Part.{Part}
+use Rattle.language65.specs.declared.fault.AsmFault.{AsmFault}
+use Rattle.language65.specs.Contents.{operand_form, operand_parts, stored}
 use Rattle.asm65.specs.Evaluating.{listed, operand_value}
-use Rattle.asm65.specs.Faults.{is_outside}
-use Rattle.asm65.specs.Laid.{Laid}
-use Rattle.asm65.specs.Norms.{norm_of}
+use Rattle.language65.specs.Faults.{is_outside}
+use Rattle.language65.specs.Laid.{Laid}
+use Rattle.language65.specs.Norms.{norm_of}
 use Rattle.asm65.proofs.Aheads.{unless_then}
 
 abbrev alone : Result Part AsmFault → Result (List Part) AsmFault

@@ -3,17 +3,17 @@ use Rattle.std.proofs.Common.{◌≡◌, ℕ, true, false, List, sym, subst}
 use Rattle.std.specs.Prelude.{Result}
 use Rattle.syntax65.specs.Outcome.{Gives}
 use Rattle.syntax65.specs.declared.lexing.tokens.AddressSize.{AddressSize}
-use Rattle.asm65.specs.declared.contents.Said.{Said}
-use Rattle.asm65.specs.declared.fault.AsmFault.{AsmFault}
-use Rattle.asm65.specs.declared.laid.Laid as source
-use Rattle.asm65.specs.declared.language.Statement.{Statement}
-use Rattle.asm65.specs.declared.language.Statement.TheVariants.{Export, Global}
-use Rattle.asm65.specs.Contents.{each_of, export_said, said_of}
+use Rattle.language65.specs.declared.contents.Said.{Said}
+use Rattle.language65.specs.declared.fault.AsmFault.{AsmFault}
+use Rattle.language65.specs.declared.laid.Laid as source
+use Rattle.language65.specs.declared.language.Statement.{Statement}
+use Rattle.language65.specs.declared.language.Statement.TheVariants.{Export, Global}
+use Rattle.language65.specs.Contents.{each_of, export_said, said_of}
 use Rattle.asm65.specs.Evaluating.{absent_of}
-use Rattle.asm65.specs.Faults.{is_outside}
-use Rattle.asm65.specs.Laid.{Laid}
-use Rattle.asm65.specs.Names.{defined_in}
-use Rattle.asm65.specs.Views.{laid_of, spot_of, stated_of}
+use Rattle.language65.specs.Faults.{is_outside}
+use Rattle.language65.specs.Laid.{Laid}
+use Rattle.language65.specs.Names.{defined_in}
+use Rattle.language65.specs.Views.{laid_of, spot_of, stated_of}
 
 abbrev pub IsSaid : Result (List Said) AsmFault → List Laid → ℕ → source.Laid → Statement → Type 0
 IsSaid r all i l s = Gives is_outside (λ ss. ss) r (said_of all i (record { stated = stated_of s; line = l.line; spot = spot_of l.spot; length = l.length; size = l.size }))

@@ -5,14 +5,14 @@ use Rattle.std.specs.Prelude.{Bool, true, false, cond, ◌||◌, Some, None, if�
 use Rattle.std.specs.List.{list_any, position_from}
 use Rattle.std.proofs.lemmas.Iterator.Adapters.{position_from-zero}
 use Rattle.std.proofs.lemmas.List.{length-append, map-append}
-use Rattle.asm65.specs.declared.contents.Segment.{Segment}
+use Rattle.language65.specs.declared.contents.Segment.{Segment}
 use Rattle.std.specs.List.{AllByRecursion}
 use Rattle.std.specs.Str.{bytes_eq}
 use Rattle.object65.specs.Objects.{section_limit}
 use Rattle.asm65.specs.declared.laying.standing.Standing.{Standing}
-use Rattle.asm65.specs.Layout.{grown, grown_at, place_of, segment_at}
+use Rattle.language65.specs.Layout.{grown, grown_at, place_of, segment_at}
 use Rattle.asm65.specs.Sounds.{AreWithin, IsSoundStanding}
-use Rattle.asm65.proofs.NameTables.{bytes_swap, position_mapped}
+use Rattle.language65.proofs.Lists.{bytes_swap, position_mapped}
 
 pub segment_is : (gs : List Segment) (i : ℕ) (g : Segment) → i < length gs → g ≡ get_or gs i g → g ≡ segment_at gs i
 segment_is [] i g lt e = absurd (omega arith)

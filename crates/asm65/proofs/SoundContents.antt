@@ -10,17 +10,17 @@ use Rattle.std.proofs.lemmas.List.Sums.{sum_by-append, sum_by-cons}
 use Rattle.syntax65.specs.Outcome.{◌>>=◌}
 use Rattle.object65.specs.Objects.{are_names, is_name}
 use Rattle.object65.proofs.Reached.{names_push}
-use Rattle.asm65.specs.declared.contents.Content.{Content}
-use Rattle.asm65.specs.declared.fault.AsmFault.{AsmFault}
-use Rattle.asm65.specs.Contents.{content_of, parts_of, said_of}
+use Rattle.language65.specs.declared.contents.Content.{Content}
+use Rattle.language65.specs.declared.fault.AsmFault.{AsmFault}
+use Rattle.language65.specs.Contents.{content_of, parts_of, said_of}
 use Rattle.asm65.specs.Lines.{at_line}
-use Rattle.asm65.specs.Laid.{Laid, asks_section}
-use Rattle.asm65.specs.Language as l
+use Rattle.language65.specs.Laid.{Laid, asks_section}
+use Rattle.language65.specs.Language as l
 use Rattle.asm65.specs.Laws.{SoundContents}
 use Rattle.asm65.specs.Module.{contents_from}
-use Rattle.asm65.specs.Names.{imported_names, imports_of, with_new}
-use Rattle.asm65.specs.Numbering.{once, parts_in, section_keys, segments_asked}
-use Rattle.asm65.specs.Sound.{IsMeasured, IsSound, IsSoundContent, part_len, statements_in}
+use Rattle.language65.specs.Names.{imported_names, imports_of, with_new}
+use Rattle.language65.specs.Numbering.{once, parts_in, section_keys, segments_asked}
+use Rattle.language65.specs.Sound.{IsMeasured, IsSound, IsSoundContent, part_len, statements_in}
 use Rattle.asm65.proofs.SoundForms.{Asks, Imports, well_then}
 use Rattle.asm65.proofs.SoundParts.{IsKnown, PartsOf, asked_in, below, parts_sound}
 use Rattle.asm65.proofs.SoundSayings.{AreSoundSaid, names_all, said_sound}

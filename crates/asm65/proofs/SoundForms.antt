@@ -9,13 +9,13 @@ use Rattle.syntax65.specs.Outcome.{◌>>=◌}
 use Rattle.syntax65.specs.Trees.{Tree, number, here, name, cheap, forward, backward, unary, binary}
 use Rattle.object65.specs.Form.{Form}
 use Rattle.object65.specs.Folding.{fold1, fold2}
-use Rattle.asm65.specs.declared.fault.AsmFault.{AsmFault}
-use Rattle.asm65.specs.declared.fault.AsmFault.TheVariants.{Undefined, NoSuchScope, NoSuchLabel}
-use Rattle.asm65.specs.Contents.{export_form}
-use Rattle.asm65.specs.Language.{Stated, label, cheap_label, unnamed_label, constant, open_proc}
-use Rattle.asm65.specs.Laid.{Laid, Spot, asks_section, defined_name, has_here, is_unnamed}
-use Rattle.asm65.specs.Names.{Meaning, defined_at, imported_as, backward_meaning, cheap_meaning, defined_in, first_found, global_meaning, import_key, is_cheap, is_named, last_of, meaning_of, member_meaning, or_else, or_fault, plain_meaning, scope_from, scoped_meaning, scopes_from, scopes_of, shown, unnamed_meaning}
-use Rattle.asm65.specs.Norms.{folded, form_by, form_of_stated, form_of_laid, form_of_meaning, norm, norm_of}
+use Rattle.language65.specs.declared.fault.AsmFault.{AsmFault}
+use Rattle.language65.specs.declared.fault.AsmFault.TheVariants.{Undefined, NoSuchScope, NoSuchLabel}
+use Rattle.language65.specs.Contents.{export_form}
+use Rattle.language65.specs.Language.{Stated, label, cheap_label, unnamed_label, constant, open_proc}
+use Rattle.language65.specs.Laid.{Laid, Spot, asks_section, defined_name, has_here, is_unnamed}
+use Rattle.language65.specs.Names.{Meaning, defined_at, imported_as, backward_meaning, cheap_meaning, defined_in, first_found, global_meaning, import_key, is_cheap, is_named, last_of, meaning_of, member_meaning, or_else, or_fault, plain_meaning, scope_from, scoped_meaning, scopes_from, scopes_of, shown, unnamed_meaning}
+use Rattle.language65.specs.Norms.{folded, form_by, form_of_stated, form_of_laid, form_of_meaning, norm, norm_of}
 use Rattle.asm65.proofs.Holding.{IsWell, one_well, two_well}
 
 pub well_then : {A B E : Type 0} (P : A → Type 0) (Q : B → Type 0) (r : Result A E) (f : A → Result B E) → IfOk r P → ((x : A) → P x → IfOk (f x) Q) → IfOk (r >>= f) Q

@@ -17,22 +17,22 @@ use Rattle.syntax65.specs.declared.lexing.tokens.TokenKind.TheVariants as token
 use Rattle.syntax65.specs.Words.{is_reserved}
 use Rattle.object65.specs.Objects.{are_names, is_among, is_name, section_limit}
 use Rattle.object65.proofs.Reached.{names_push}
-use Rattle.asm65.specs.declared.contents.Segment.{Segment}
-use Rattle.asm65.specs.declared.fault.AsmFault.{AsmFault}
-use Rattle.asm65.specs.declared.fault.AsmFault.TheVariants.{NotUnderstood, SectionTooLarge}
+use Rattle.language65.specs.declared.contents.Segment.{Segment}
+use Rattle.language65.specs.declared.fault.AsmFault.{AsmFault}
+use Rattle.language65.specs.declared.fault.AsmFault.TheVariants.{NotUnderstood, SectionTooLarge}
 use Rattle.asm65.specs.Lines.{at_line, counted, tokens_in}
-use Rattle.asm65.specs.Laid.{Laid, Spot, scope_name}
-use Rattle.asm65.specs.Language.{Stated, label, cheap_label, unnamed_label, constant, segment, push_segment, pop_segment}
-use Rattle.asm65.specs.Layout.{Layout, Standing, current_behind, first_size, grown_at, kept_behind, laid, last_kept, layout_behind, multiple_of, named_segments, new_segment, nothing_laid, or_last, own_size, place_of, rest_kept, segment_at, segments_behind, size_defined, spot_of}
-use Rattle.asm65.specs.LineFaults.{alignment_fault, block_fault, defined_twice, first_fault, form_fault, is_open, line_fault, lost_scopes, missing_file, opened_twice, operand_fault, part_fault, pop_fault, size_fault, stands_outside, trees_of, when}
+use Rattle.language65.specs.Laid.{Laid, Spot, scope_name}
+use Rattle.language65.specs.Language.{Stated, label, cheap_label, unnamed_label, constant, segment, push_segment, pop_segment}
+use Rattle.language65.specs.Layout.{Layout, Standing, current_behind, first_size, grown_at, kept_behind, laid, last_kept, layout_behind, multiple_of, named_segments, new_segment, nothing_laid, or_last, own_size, place_of, rest_kept, segment_at, segments_behind, size_defined, spot_of}
+use Rattle.language65.specs.LineFaults.{alignment_fault, block_fault, defined_twice, first_fault, form_fault, is_open, line_fault, lost_scopes, missing_file, opened_twice, operand_fault, part_fault, pop_fault, size_fault, stands_outside, trees_of, when}
 use Rattle.asm65.specs.Laying.{Behind, IsLaid, IsLine, IsRest, IsText, Reached, unless_fault, with_label, with_statement}
-use Rattle.asm65.specs.Parsing.{IsStatement, is_colon, label_before, label_of, named_label, or_all, with_rest}
+use Rattle.statements65.specs.Parsing.{IsStatement, is_colon, label_before, label_of, named_label, or_all, with_rest}
 use Rattle.asm65.specs.Laws.{SoundLayoutLaw}
-use Rattle.asm65.specs.Sizes.{length_of}
-use Rattle.asm65.specs.Sound.{IsMeasured, IsSound, IsSoundLayout, statements_in}
-use Rattle.asm65.proofs.NameTables.{bytes_swap}
+use Rattle.language65.specs.Sizes.{length_of}
+use Rattle.language65.specs.Sound.{IsMeasured, IsSound, IsSoundLayout, statements_in}
+use Rattle.language65.proofs.Lists.{bytes_swap}
 use Rattle.asm65.proofs.Segments.{all_more, all_same, found_below, grown_end, grown_length, grown_names}
-use Rattle.asm65.proofs.Sounding.{line_sound}
+use Rattle.statements65.proofs.Sounding.{line_sound}
 
 -- ---- Faults that there aren't.
 

@@ -18,17 +18,17 @@ use Rattle.object65.specs.Form.{Form, lit, sec, imp, prefix, binary}
 use Rattle.object65.specs.Objects.{fits_width, value_bytes, width_len}
 use Rattle.object65.specs.declared.object.Width.{Width}
 use Rattle.object65.specs.declared.object.Width.TheVariants.{Byte, Word, HighFirst, Dword, Branch}
-use Rattle.asm65.specs.declared.contents.Part.{Part}
-use Rattle.asm65.specs.declared.contents.Part.TheVariants.{Known}
-use Rattle.asm65.specs.declared.fault.AsmFault.TheVariants.{OutOfRange}
-use Rattle.asm65.specs.Contents.{instruction_parts, item_part, opcode_part, operand_form, operand_parts, operand_tree, parts_of, room_part, stored}
-use Rattle.asm65.specs.Laid.{Laid, Spot, asks_section, has_here}
-use Rattle.asm65.specs.Language.{Item, value, text, Operand, no_operand, accumulator, immediate, address, indirect, indirect_x, indirect_y, Stated, instruction, values, reserve, align, file_part}
-use Rattle.asm65.specs.declared.language.Index.{Index}
-use Rattle.asm65.specs.Norms.{constant_behind, norm_of}
-use Rattle.asm65.specs.Numbering.{imports_in}
-use Rattle.asm65.specs.Sizes.{address_mode, branch_mode, counted, first_of, is_branch, item_len, length_of, mode_for, mode_len, mode_of, operand_len, part_of, size_of, width_of}
-use Rattle.asm65.specs.Sound.{IsSoundForm, IsSoundPart, part_len, sections_in}
+use Rattle.language65.specs.declared.contents.Part.{Part}
+use Rattle.language65.specs.declared.contents.Part.TheVariants.{Known}
+use Rattle.language65.specs.declared.fault.AsmFault.TheVariants.{OutOfRange}
+use Rattle.language65.specs.Contents.{instruction_parts, item_part, opcode_part, operand_form, operand_parts, operand_tree, parts_of, room_part, stored}
+use Rattle.language65.specs.Laid.{Laid, Spot, asks_section, has_here}
+use Rattle.language65.specs.Language.{Item, value, text, Operand, no_operand, accumulator, immediate, address, indirect, indirect_x, indirect_y, Stated, instruction, values, reserve, align, file_part}
+use Rattle.language65.specs.declared.language.Index.{Index}
+use Rattle.language65.specs.Norms.{constant_behind, norm_of}
+use Rattle.language65.specs.Numbering.{imports_in}
+use Rattle.language65.specs.Sizes.{address_mode, branch_mode, counted, first_of, is_branch, item_len, length_of, mode_for, mode_len, mode_of, operand_len, part_of, size_of, width_of}
+use Rattle.language65.specs.Sound.{IsSoundForm, IsSoundPart, part_len, sections_in}
 use Rattle.asm65.proofs.Holding.{Holds, IsWell, two_well}
 use Rattle.asm65.proofs.SoundForms.{Asks, Imports, norm_well, well_then}
 

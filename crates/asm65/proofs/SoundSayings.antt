@@ -8,16 +8,16 @@ use Rattle.object65.specs.Form.{Form, lit}
 use Rattle.object65.specs.Objects.{is_name}
 use Rattle.object65.specs.declared.object.Action.{Action}
 use Rattle.object65.specs.declared.object.Action.TheVariants as action
-use Rattle.asm65.specs.declared.contents.Said.{Said}
-use Rattle.asm65.specs.declared.contents.Said.TheVariants.{Exported, Demanded}
-use Rattle.asm65.specs.declared.fault.AsmFault.{AsmFault}
-use Rattle.asm65.specs.Contents.{decided, each_of, export_form, export_said, import_fault, said_of}
+use Rattle.language65.specs.declared.contents.Said.{Said}
+use Rattle.language65.specs.declared.contents.Said.TheVariants.{Exported, Demanded}
+use Rattle.language65.specs.declared.fault.AsmFault.{AsmFault}
+use Rattle.language65.specs.Contents.{decided, each_of, export_form, export_said, import_fault, said_of}
 use Rattle.asm65.specs.Evaluating.{absent_of}
-use Rattle.asm65.specs.Laid.{Laid, Spot, asks_section}
-use Rattle.asm65.specs.Language.{Stated, constant, imports, exports, globals, forced, assertion}
-use Rattle.asm65.specs.Names.{defined_in}
-use Rattle.asm65.specs.Norms.{norm_of}
-use Rattle.asm65.specs.Sound.{IsSound, IsSoundSaid}
+use Rattle.language65.specs.Laid.{Laid, Spot, asks_section}
+use Rattle.language65.specs.Language.{Stated, constant, imports, exports, globals, forced, assertion}
+use Rattle.language65.specs.Names.{defined_in}
+use Rattle.language65.specs.Norms.{norm_of}
+use Rattle.language65.specs.Sound.{IsSound, IsSoundSaid}
 use Rattle.asm65.proofs.Aheads.{said_by, said_each}
 use Rattle.asm65.proofs.Holding.{IsWell}
 use Rattle.asm65.proofs.SoundForms.{Asks, export_well, well_then}

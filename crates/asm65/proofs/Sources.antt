@@ -6,8 +6,8 @@ use Rattle.std.proofs.lemmas.Bool.Decides.{nat_tests}
 use Rattle.std.proofs.lemmas.List.{length-take, take_all}
 use Rattle.syntax65.specs.Store.{Files}
 use Rattle.syntax65.specs.Reading.{front_in}
-use Rattle.asm65.specs.declared.fault.AsmFault.TheVariants.{Source}
-use Rattle.asm65.specs.declared.fault.SourceFault.TheVariants.{TooLong}
+use Rattle.language65.specs.declared.fault.AsmFault.TheVariants.{Source}
+use Rattle.language65.specs.declared.fault.SourceFault.TheVariants.{TooLong}
 use Rattle.asm65.specs.Assembly.{source_in, source_limit, without_place}
 
 long : (t : Bool) (file text : List ℕ) → nat_le (length file) source_limit ≡ t → take (source_limit + 1) file ≡ text → source_limit < length text → source_in (Some file) ≡ Err (without_place (Source TooLong))

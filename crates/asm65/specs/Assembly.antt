@@ -5,15 +5,15 @@ use Rattle.syntax65.specs.Store.{Files}
 use Rattle.object65.specs.declared.object.Object.{Object}
 use Rattle.asm65.specs.declared.assembly.AsmJob.{AsmJob}
 use Rattle.asm65.specs.declared.assembly.Assembly.{Assembly}
-use Rattle.asm65.specs.declared.fault.AsmFault.{AsmFault}
-use Rattle.asm65.specs.declared.fault.AsmFault.TheVariants.{Source}
-use Rattle.asm65.specs.declared.fault.SourceFault.TheVariants.{FileNotFound, TooLong}
+use Rattle.language65.specs.declared.fault.AsmFault.{AsmFault}
+use Rattle.language65.specs.declared.fault.AsmFault.TheVariants.{Source}
+use Rattle.language65.specs.declared.fault.SourceFault.TheVariants.{FileNotFound, TooLong}
 use Rattle.asm65.specs.declared.refusal.AsmRefusal.{AsmRefusal}
 use Rattle.asm65.specs.declared.refusal.LineFault.{LineFault}
 use Rattle.asm65.specs.declared.texts.Texts.{Texts}
-use Rattle.asm65.specs.Faults.{is_outside_refusal}
+use Rattle.asm65.specs.Refusals.{is_outside_refusal}
 use Rattle.asm65.specs.Laying.{AreLaid, Reached}
-use Rattle.asm65.specs.Layout.{Layout}
+use Rattle.language65.specs.Layout.{Layout}
 use Rattle.asm65.specs.Lines.{lines_of}
 use Rattle.asm65.specs.Module.{all_warned, object_of, printed, warned}
 

@@ -4,15 +4,15 @@ use Rattle.syntax65.specs.Outcome.{◌>>=◌, Unless}
 use Rattle.syntax65.specs.Trees.{Tree}
 use Rattle.object65.specs.declared.object.Width.{Width}
 use Rattle.object65.specs.Form.{Form, lit}
-use Rattle.asm65.specs.declared.contents.Part.{Part}
-use Rattle.asm65.specs.declared.contents.Part.TheVariants.{Known, Filled}
-use Rattle.asm65.specs.declared.contents.Said.{Said}
-use Rattle.asm65.specs.declared.fault.AsmFault.{AsmFault}
-use Rattle.asm65.specs.declared.fault.AsmFault.TheVariants.{NotDefined}
-use Rattle.asm65.specs.Faults.{is_outside}
-use Rattle.asm65.specs.Contents.{operand_form, stored}
-use Rattle.asm65.specs.Laid.{Laid}
-use Rattle.asm65.specs.Norms.{norm_of}
+use Rattle.language65.specs.declared.contents.Part.{Part}
+use Rattle.language65.specs.declared.contents.Part.TheVariants.{Known, Filled}
+use Rattle.language65.specs.declared.contents.Said.{Said}
+use Rattle.language65.specs.declared.fault.AsmFault.{AsmFault}
+use Rattle.language65.specs.declared.fault.AsmFault.TheVariants.{NotDefined}
+use Rattle.language65.specs.Faults.{is_outside}
+use Rattle.language65.specs.Contents.{operand_form, stored}
+use Rattle.language65.specs.Laid.{Laid}
+use Rattle.language65.specs.Norms.{norm_of}
 
 -- so it is, unless this is a fault from outside
 abbrev pub Within : {E A : Type 0} → (E → Bool) → Result A E → Type 0 → Type 0

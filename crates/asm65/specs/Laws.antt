@@ -1,13 +1,13 @@
 -- What is proved of the definitions.
 use Rattle.std.specs.Prelude.{◌≡◌, ℕ, List, [], Ok}
 use Rattle.syntax65.specs.Store.{Files}
-use Rattle.asm65.specs.declared.contents.Content.{Content}
+use Rattle.language65.specs.declared.contents.Content.{Content}
 use Rattle.asm65.specs.Assembly.{Assembled, Job, IsAssembled}
 use Rattle.asm65.specs.Laying.{AreLaid, Reached}
-use Rattle.asm65.specs.Layout.{Layout}
+use Rattle.language65.specs.Layout.{Layout}
 use Rattle.asm65.specs.Module.{contents_from}
-use Rattle.asm65.specs.Names.{imported_names}
-use Rattle.asm65.specs.Sound.{AreSound, IsSoundLayout}
+use Rattle.language65.specs.Names.{imported_names}
+use Rattle.language65.specs.Sound.{AreSound, IsSoundLayout}
 
 -- assembling has one answer at most: one object or one fault with its place, and one text on each stream
 abbrev pub OneAnswer : Type 0

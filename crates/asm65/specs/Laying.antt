@@ -4,16 +4,16 @@ use Rattle.syntax65.specs.Outcome.{◌>>=◌, First}
 use Rattle.syntax65.specs.declared.lexing.tokens.AddressSize.{AddressSize}
 use Rattle.syntax65.specs.Tokens.{Lexeme, IsRead}
 use Rattle.syntax65.specs.declared.lexing.fault.LexFault.{LexFault}
-use Rattle.asm65.specs.declared.fault.AsmFault.{AsmFault}
-use Rattle.asm65.specs.declared.fault.AsmFault.TheVariants.{BadScope}
+use Rattle.language65.specs.declared.fault.AsmFault.{AsmFault}
+use Rattle.language65.specs.declared.fault.AsmFault.TheVariants.{BadScope}
 use Rattle.asm65.specs.declared.refusal.LineFault.{LineFault}
 use Rattle.asm65.specs.Lines.{at_line, counted, tokens_in}
-use Rattle.asm65.specs.Language.{Stated}
-use Rattle.asm65.specs.Laid.{Laid, is_unnamed, opens_region}
-use Rattle.asm65.specs.Layout.{Layout, Standing, current_behind, kept_behind, layout_behind, multiple_of, nothing_laid, own_size, scope_behind, segments_behind, size_defined, spot_of}
-use Rattle.asm65.specs.LineFaults.{is_open, line_fault}
-use Rattle.asm65.specs.Parsing.{IsStatement, label_of}
-use Rattle.asm65.specs.Sizes.{length_of}
+use Rattle.language65.specs.Language.{Stated}
+use Rattle.language65.specs.Laid.{Laid, is_unnamed, opens_region}
+use Rattle.language65.specs.Layout.{Layout, Standing, current_behind, kept_behind, layout_behind, multiple_of, nothing_laid, own_size, scope_behind, segments_behind, size_defined, spot_of}
+use Rattle.language65.specs.LineFaults.{is_open, line_fault}
+use Rattle.statements65.specs.Parsing.{IsStatement, label_of}
+use Rattle.language65.specs.Sizes.{length_of}
 
 abbrev pub unless_fault : {A : Type 0} → Option AsmFault → A → Result A AsmFault
 unless_fault None x = Ok x

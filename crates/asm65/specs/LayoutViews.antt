@@ -2,8 +2,8 @@
 use Rattle.std.specs.Prelude.{reverse}
 use Rattle.asm65.specs.declared.laying.Layout.{Layout}
 use Rattle.asm65.specs.declared.laying.standing.Standing.{Standing}
-use Rattle.asm65.specs.Layout as layout
-use Rattle.asm65.specs.Views.{all_of}
+use Rattle.language65.specs.Layout as layout
+use Rattle.language65.specs.Views.{all_of}
 
 -- the segments that are kept stand with the last one last
 abbrev pub standing_of : Standing → layout.Standing

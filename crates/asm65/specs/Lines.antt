@@ -2,9 +2,9 @@
 use Rattle.std.specs.Prelude.{ℕ, ◌-◌, Bool, false, nat_eq, nat_le, ◌&&◌, List, [], ◌∷◌, length, take, slice_get, option_map, unwrap_or, Result, Ok, Err, if◌then◌else◌}
 use Rattle.syntax65.specs.Tokens.{Lexeme}
 use Rattle.syntax65.specs.declared.lexing.fault.LexFault.{LexFault}
-use Rattle.asm65.specs.declared.fault.AsmFault.{AsmFault}
-use Rattle.asm65.specs.declared.fault.AsmFault.TheVariants.{Source}
-use Rattle.asm65.specs.declared.fault.SourceFault.TheVariants.{Lex, TooManyLines}
+use Rattle.language65.specs.declared.fault.AsmFault.{AsmFault}
+use Rattle.language65.specs.declared.fault.AsmFault.TheVariants.{Source}
+use Rattle.language65.specs.declared.fault.SourceFault.TheVariants.{Lex, TooManyLines}
 use Rattle.asm65.specs.declared.refusal.LineFault.{LineFault}
 
 -- LF

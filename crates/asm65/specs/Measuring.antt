@@ -1,19 +1,19 @@
 -- The parts in which the code measures a statement.
 use Rattle.std.specs.Prelude.{ℕ, ◌+◌, ◌&&◌, nat_lt, Bool, true, false, List, [], ◌∷◌, Option, Some, None, Result}
 use Rattle.object65.specs.Objects.{section_limit}
-use Rattle.asm65.specs.declared.fault.AsmFault.{AsmFault}
-use Rattle.asm65.specs.declared.fault.AsmFault.TheVariants.{DefinedTwice, NoSuchScope, NotUnderstood, SectionTooLarge}
+use Rattle.language65.specs.declared.fault.AsmFault.{AsmFault}
+use Rattle.language65.specs.declared.fault.AsmFault.TheVariants.{DefinedTwice, NoSuchScope, NotUnderstood, SectionTooLarge}
 use Rattle.asm65.specs.declared.laying.measuring.Measured as code
-use Rattle.asm65.specs.declared.laid.Settled.{Settled}
-use Rattle.asm65.specs.Laid.{Laid, Spot, scope_name}
-use Rattle.asm65.specs.Language.{Stated, align, constant, file_part, instruction, reserve, values}
+use Rattle.language65.specs.declared.laid.Settled.{Settled}
+use Rattle.language65.specs.Laid.{Laid, Spot, scope_name}
+use Rattle.language65.specs.Language.{Stated, align, constant, file_part, instruction, reserve, values}
 use Rattle.asm65.specs.Laying.{Measured, unless_fault}
-use Rattle.asm65.specs.Layout.{Standing, multiple_of, own_size, size_defined, spot_of}
-use Rattle.asm65.specs.LineFaults.{alignment_fault, block_fault, defined_twice, first_fault, form_fault, is_open, lost_scopes, missing_file, opened_twice, operand_fault, or_then, part_fault, pop_fault, size_fault, stands_outside, trees_of, unless_there, when, where_there}
-use Rattle.asm65.specs.Names.{scope_from, scopes_of, shown}
-use Rattle.asm65.specs.Resolving.{cheap_in}
-use Rattle.asm65.specs.Settling.{IsSettled}
-use Rattle.asm65.specs.Sizes.{length_of}
+use Rattle.language65.specs.Layout.{Standing, multiple_of, own_size, size_defined, spot_of}
+use Rattle.language65.specs.LineFaults.{alignment_fault, block_fault, defined_twice, first_fault, form_fault, is_open, lost_scopes, missing_file, opened_twice, operand_fault, or_then, part_fault, pop_fault, size_fault, stands_outside, trees_of, unless_there, when, where_there}
+use Rattle.language65.specs.Names.{scope_from, scopes_of, shown}
+use Rattle.symbols65.specs.Resolving.{cheap_in}
+use Rattle.symbols65.specs.Settling.{IsSettled}
+use Rattle.language65.specs.Sizes.{length_of}
 
 -- a name that isn't plain, and whose scope isn't there
 abbrev pub lost_parts : List Laid → ℕ → Bool → List (List ℕ) → Option AsmFault

@@ -6,17 +6,17 @@ use Rattle.object65.specs.Form.{Form, lit}
 use Rattle.object65.specs.declared.object.Action.{Action}
 use Rattle.object65.specs.declared.object.Action.TheVariants as action
 use Rattle.object65.specs.declared.object.Object.{Object}
-use Rattle.asm65.specs.declared.fault.AsmFault.{AsmFault}
+use Rattle.language65.specs.declared.fault.AsmFault.{AsmFault}
 use Rattle.asm65.specs.declared.refusal.LineFault.{LineFault}
 use Rattle.asm65.specs.Lines.{at_line}
-use Rattle.asm65.specs.declared.contents.Content.{Content}
-use Rattle.asm65.specs.Contents.{content_of}
-use Rattle.asm65.specs.Language.{Stated, assertion, says, warns}
-use Rattle.asm65.specs.Laid.{Laid}
-use Rattle.asm65.specs.Layout.{Layout}
-use Rattle.asm65.specs.Names.{imported_names}
-use Rattle.asm65.specs.Norms.{norm_of}
-use Rattle.asm65.specs.Numbering.{object_with}
+use Rattle.language65.specs.declared.contents.Content.{Content}
+use Rattle.language65.specs.Contents.{content_of}
+use Rattle.language65.specs.Language.{Stated, assertion, says, warns}
+use Rattle.language65.specs.Laid.{Laid}
+use Rattle.language65.specs.Layout.{Layout}
+use Rattle.language65.specs.Names.{imported_names}
+use Rattle.language65.specs.Norms.{norm_of}
+use Rattle.language65.specs.Numbering.{object_with}
 
 -- ---- Contents.
 

@@ -2,23 +2,23 @@
 use Rattle.std.specs.Prelude.{◌≡◌, ℕ, ◌+◌, ◌<◌, ◌≤◌, Bool, true, false, Option, Some, None, List, ◌++◌, length, map}
 use Rattle.std.specs.List.{AllByRecursion}
 use Rattle.object65.specs.Objects.{section_limit}
-use Rattle.asm65.specs.declared.contents.Segment.{Segment}
+use Rattle.language65.specs.declared.contents.Segment.{Segment}
 use Rattle.asm65.specs.declared.laying.Layout.{Layout}
 use Rattle.asm65.specs.declared.laying.standing.Standing.{Standing}
-use Rattle.asm65.specs.Growing.{AreNested}
-use Rattle.asm65.specs.Settling.{AreSettled}
+use Rattle.symbols65.specs.Growing.{AreNested}
+use Rattle.symbols65.specs.Settling.{AreSettled}
 use Rattle.asm65.specs.declared.texts.Texts.{Texts}
-use Rattle.asm65.specs.Laid.{Laid}
-use Rattle.asm65.specs.Language.{Stated, says, warns}
+use Rattle.language65.specs.Laid.{Laid}
+use Rattle.language65.specs.Language.{Stated, says, warns}
 use Rattle.asm65.specs.declared.refusal.LineFault.{LineFault}
 use Rattle.asm65.specs.Laying.{AreLaid}
-use Rattle.asm65.specs.Layout as layout
-use Rattle.asm65.specs.Layout.{spot_of}
+use Rattle.language65.specs.Layout as layout
+use Rattle.language65.specs.Layout.{spot_of}
 use Rattle.asm65.specs.Lines.{lines_of}
 use Rattle.asm65.specs.Module.{out_of, printed, warned, warned_by}
-use Rattle.asm65.specs.Resolving.{AreNames, IsTable}
+use Rattle.symbols65.specs.Resolving.{AreNames, IsTable}
 use Rattle.asm65.specs.LayoutViews.{standing_of}
-use Rattle.asm65.specs.Views.{all_of}
+use Rattle.language65.specs.Views.{all_of}
 
 -- the current segment is there, has room left, and each segment is found by its name; what is kept is there
 pub record IsSoundStanding (w : Standing) : Type 0 where

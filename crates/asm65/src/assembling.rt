@@ -7,22 +7,24 @@ ghost use Rattle.syntax65.specs.Store.{PassesBy};
 ghost use Rattle.object65.specs.Objects.{is_good_object, ObjectFits};
 ghost use Rattle.asm65.specs.Assembly.{IsAssembled, IsAssembledFrom, assembled_of, in_line_of, is_from_outside, job_of, outcome_with, silent, source_in};
 ghost use Rattle.asm65.specs.Evaluating.{Within};
-ghost use Rattle.asm65.specs.Faults.{has_failed, is_failure, is_outside_line, is_outside_refusal};
+ghost use Rattle.language65.specs.Faults.{is_failure};
+ghost use Rattle.asm65.specs.Refusals.{has_failed, is_outside_line, is_outside_refusal};
 ghost use Rattle.asm65.specs.Module.{asserted_from, object_of, sound_from};
-ghost use Rattle.asm65.specs.Sound.{IsSoundLayout};
+ghost use Rattle.language65.specs.Sound.{IsSoundLayout};
 ghost use Rattle.asm65.specs.Sounds.{AreSaid, IsSound};
 ghost use Rattle.asm65.specs.LayoutViews.{layout_of};
-ghost use Rattle.asm65.specs.Views.{all_of};
+ghost use Rattle.language65.specs.Views.{all_of};
 
 use crate::evaluating::evaluate;
 use crate::laying::{Layout, lay};
-use crate::numbering::object_of;
 use crate::refusal::LineFault;
-use crate::resolving::{Module, no_forms};
 use crate::texts::Texts;
-use crate::{AsmFault, AsmJob, AsmRefusal, Assembly, Place, SourceFault};
+use crate::{AsmJob, AsmRefusal, Assembly, Place};
+use language65::{AsmFault, SourceFault};
 use object65::Object;
+use sections65::object_of;
 use std::alloc::Global;
+use symbols65::{Module, no_forms};
 use syntax65::{Sequence, Store, Text, read_front};
 
 /// How many bytes a source has at most.

@@ -9,23 +9,22 @@ mod sayings;
 
 ghost use Rattle.std.specs.Prelude.{◌≡◌, ◌++◌, false, take, true, zero, IfErr, OnOk};
 ghost use Rattle.syntax65.specs.Outcome.{Gives};
-ghost use Rattle.asm65.specs.Contents.{content_of};
+ghost use Rattle.language65.specs.Contents.{content_of};
 ghost use Rattle.asm65.specs.Evaluating.{unchanged, Within};
-ghost use Rattle.asm65.specs.Faults.{is_failure, is_outside, is_outside_line};
+ghost use Rattle.language65.specs.Faults.{is_failure, is_outside};
+ghost use Rattle.asm65.specs.Refusals.{is_outside_line};
 ghost use Rattle.asm65.specs.Module.{asserted_at, asserted_from, contents_from, sound_from};
-ghost use Rattle.asm65.specs.Resolving.{IsModule, IsTable};
-ghost use Rattle.asm65.specs.Settling.{AreSettled, IsSettled};
-ghost use Rattle.asm65.specs.Views.{all_of, laid_of};
+ghost use Rattle.symbols65.specs.Resolving.{IsModule, IsTable};
+ghost use Rattle.symbols65.specs.Settling.{AreSettled, IsSettled};
+ghost use Rattle.language65.specs.Views.{all_of, laid_of};
 
-use crate::AsmFault;
-use crate::contents::Content;
-use crate::laid::Laid;
 use crate::refusal::{LineFault, at_line};
-use crate::resolving::{Module, State};
 use asking::asks_section;
+use language65::{AsmFault, Content, Laid};
 use parts::parts_of;
 use sayings::said_of;
 use std::alloc::Global;
+use symbols65::{Module, State};
 use syntax65::Sequence;
 
 /// A statement at a place as the object has it. The warning of an assertion that failed is added to the others.

@@ -2,29 +2,30 @@
 
 ghost use Rattle.std.specs.Prelude.{◌≡◌, false, IfErr, IfOk, None, OnOk, Some, []};
 ghost use Rattle.syntax65.specs.Outcome.{Unless};
-ghost use Rattle.asm65.specs.Faults.{is_failure, is_outside_line};
+ghost use Rattle.language65.specs.Faults.{is_failure};
+ghost use Rattle.asm65.specs.Refusals.{is_outside_line};
 ghost use Rattle.asm65.specs.Laying.{AreLaid, open_fault};
-ghost use Rattle.asm65.specs.Layout.{nothing_laid};
+ghost use Rattle.language65.specs.Layout.{nothing_laid};
 ghost use Rattle.asm65.specs.LayoutViews.{layout_of};
 ghost use Rattle.asm65.specs.Lines.{lines_of};
 ghost use Rattle.asm65.specs.Sounds.{AreSaid, IsRefused, IsSound};
-ghost use Rattle.asm65.specs.Views.{all_of};
+ghost use Rattle.language65.specs.Views.{all_of};
 
 mod adding;
 mod hiding;
 mod line;
+mod lost;
 mod measuring;
 mod standing;
 
-use crate::AsmFault;
-use crate::laid::Laid;
 use crate::lines::first_line;
 use crate::refusal::{LineFault, at_line};
-use crate::resolving::{Known, Names};
 use crate::texts::Texts;
+use language65::{AsmFault, Laid};
 use line::lay_text;
 pub use standing::Standing;
 use std::alloc::{AllocError, Global};
+use symbols65::{Known, Names};
 use syntax65::Sequence;
 
 /// Statements with what they lie by, their names, what is known of their forms, and what stands behind them.

@@ -1,10 +1,10 @@
 //! Why a source has no object, and where.
 
 ghost use Rattle.std.specs.Prelude.{◌≡◌, None};
-ghost use Rattle.asm65.specs.declared.fault.AsmFault.TheVariants.{OutOfMemory};
+ghost use Rattle.language65.specs.declared.fault.AsmFault.TheVariants.{OutOfMemory};
 ghost use Rattle.asm65.specs.Lines.{at_line};
 
-use crate::AsmFault;
+use language65::AsmFault;
 use std::alloc::{AllocError, AllocFailed};
 use syntax65::{StoreFault, Text};
 
@@ -24,7 +24,7 @@ pub struct AsmRefusal {
 
 impl From<StoreFault> for AsmRefusal {
     ghost use Rattle.asm65.specs.Assembly.{without_place};
-    ghost use Rattle.asm65.specs.Faults.{of_store};
+    ghost use Rattle.language65.specs.Faults.{of_store};
 
     ghost from_gives = { λ f e. e ≡ without_place (of_store f) };
 

@@ -19,8 +19,6 @@ mod reading;
 mod record;
 mod storing;
 mod taking;
-#[cfg(test)]
-mod tests;
 mod writing;
 
 pub use builder::Builder;

@@ -16,6 +16,3 @@ pub use placing::place;
 pub use reading::read_script;
 pub use script::{Access, Area, AreaFile, Begin, Row, Script, Symbol, SymbolKind};
 pub use sequence::Sequence;
-
-#[cfg(test)]
-mod tests;

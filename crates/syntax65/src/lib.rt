@@ -23,6 +23,3 @@ pub use sequence::Sequence;
 pub use store::{Store, StoreFault, read_full};
 pub use text::Text;
 pub use values::{Op1, Op2, apply1, apply2};
-
-#[cfg(test)]
-mod tests;

@@ -11,7 +11,8 @@ use Rattle.tools65.specs.declared.outcome.Status.TheVariants.{Failure}
 use Rattle.object65.specs.declared.object.Object.{Object}
 use Rattle.asm65.specs.declared.refusal.AsmRefusal.{AsmRefusal}
 use Rattle.asm65.specs.Assembly.{IsAssembled}
-use Rattle.asm65.specs.Faults.{has_failed, is_outside_refusal, is_memory as is_asm_memory}
+use Rattle.language65.specs.Faults.{is_memory as is_asm_memory}
+use Rattle.asm65.specs.Refusals.{has_failed, is_outside_refusal}
 use Rattle.tools65.specs.Command.{failing, outcome_of, Assembles, AssemblesWith, Does, DoesLine, Commands, Ran, RanWords, line_memory, refused_with}
 use Rattle.tools65.specs.Leaving.{Prints, SaysBoth, Settles, Performs, StopsShort}
 use Rattle.tools65.specs.Line.{Assembling, Linking, Says, line_of}

@@ -177,8 +177,10 @@ short None new fo fm fn o memory u out_old out_new err_old err_mid err_new whole
 short (Some m) new fo fm fn o memory u out_old out_new err_old err_mid err_new whole status P e later same cause there left said more = λ none.
     let want : u.fault ≡ OutOfMemory = by_cause u (not_failed (is_failure u) refl none) there in
     inr (record {
+      err_mid = err_mid;
+      said = said;
       whole = whole;
-      said = (said.0, said_more err_old err_mid err_new o.err memory whole said.1 (more want));
+      behind = more want;
       place = u.place;
       left = left;
       failed = e;

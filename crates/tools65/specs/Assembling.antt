@@ -2,7 +2,7 @@
 use Rattle.std.specs.Prelude.{◌≡◌, ℕ, List, Option, Some, None}
 use Rattle.asm65.specs.declared.refusal.AsmRefusal.{AsmRefusal}
 use Rattle.asm65.specs.declared.refusal.Place.{Place}
-use Rattle.asm65.specs.Faults.{fault_text}
+use Rattle.language65.specs.Faults.{fault_text}
 use Rattle.tools65.specs.Messages.{file_message, line_message}
 use Rattle.tools65.specs.Naming.{IsObjectName}
 

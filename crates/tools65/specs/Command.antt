@@ -5,7 +5,7 @@ use Rattle.object65.specs.declared.object.Object.{Object}
 use Rattle.object65.specs.Spelling.{object_bytes}
 use Rattle.asm65.specs.declared.refusal.AsmRefusal.{AsmRefusal}
 use Rattle.asm65.specs.Assembly.{Assembled, IsAssembled}
-use Rattle.asm65.specs.Faults.{is_memory}
+use Rattle.language65.specs.Faults.{is_memory}
 use Rattle.tools65.specs.Assembling.{IsOutputName, asm_message}
 use Rattle.tools65.specs.declared.command_line.fault.LineFault.{LineFault}
 use Rattle.tools65.specs.declared.linking.linked.Linked.{Linked}

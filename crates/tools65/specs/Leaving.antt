@@ -56,11 +56,14 @@ pub record Performs (o : Outcome) (old : Files) (new : Option Files) (out_old ou
   pub said : SaysBoth out_old out_new o.out err_old err_new o.err whole
   pub settled : Settles o old new status whole
 
--- Memory ran out while an outcome's files were written: its texts were taken, and behind them stands what is said of
--- want of memory, or a first part of that.
+-- Memory ran out while an outcome's files were written: its texts were taken whole, and behind them stands what is said
+-- of want of memory, or a first part of that.
 pub record StopsShort (o : Outcome) (memory : List ℕ) (old : Files) (new : Option Files) (out_old out_new err_old err_new : Option (List ℕ)) (status : Status) : Type 0 where
+  -- standard error behind its own text
+  pub err_mid : Option (List ℕ)
+  pub said : SaysBoth out_old out_new o.out err_old err_mid o.err true
   pub whole : Bool
-  pub said : Prints out_old out_new o.out true × Prints err_old err_new (o.err ++ memory) whole
+  pub behind : Prints err_mid err_new memory whole
   pub place : ℕ
   pub left : Tells (StopsAt o.outputs place) (Some old) new
   pub failed : status ≡ Failure

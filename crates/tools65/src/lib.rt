@@ -21,6 +21,3 @@ pub use outcome::{Outcome, Output, Status};
 pub use printing::print;
 pub use running::{run, run_line};
 pub use writing::write_file;
-
-#[cfg(test)]
-mod tests;

@@ -2,10 +2,10 @@
 
 ghost use Rattle.std.specs.Prelude.{◌≡◌};
 ghost use Rattle.syntax65.specs.Trees.{tree_of};
-ghost use Rattle.asm65.specs.Laid.{asks_section, has_here};
-ghost use Rattle.asm65.specs.Views.{stated_of};
+ghost use Rattle.language65.specs.Laid.{asks_section, has_here};
+ghost use Rattle.language65.specs.Views.{stated_of};
 
-use crate::language::Statement;
+use language65::Statement;
 use syntax65::Expr;
 
 /// Whether an expression has a `*`.

@@ -3,16 +3,15 @@
 ghost use Rattle.std.specs.Prelude.{◌≡◌, ◌++◌, false, pos, zero, [], ◌∷◌, Ok, IfErr, IfOk, OnOk};
 ghost use Rattle.syntax65.specs.Outcome.{Gives};
 ghost use Rattle.object65.specs.Form.{lit};
-ghost use Rattle.asm65.specs.declared.contents.Said.TheVariants.{Checked};
-ghost use Rattle.asm65.specs.Contents.{decided};
+ghost use Rattle.language65.specs.declared.contents.Said.TheVariants.{Checked};
+ghost use Rattle.language65.specs.Contents.{decided};
 ghost use Rattle.asm65.specs.Evaluating.{unchanged};
-ghost use Rattle.asm65.specs.Faults.{is_failure, is_outside};
+ghost use Rattle.language65.specs.Faults.{is_failure, is_outside};
 ghost use Rattle.asm65.specs.Module.{failed};
 
 use super::forms::{copy_of, literal_of};
-use crate::AsmFault;
-use crate::contents::Said;
 use crate::texts::warn;
+use language65::{AsmFault, Said};
 use object65::{Action, Norm};
 use std::alloc::{AllocError, Global};
 use syntax65::Sequence;

@@ -2,19 +2,18 @@
 
 ghost use Rattle.std.specs.Prelude.{◌≡◌, false, map, [], IfErr, IfOk, OnOk};
 ghost use Rattle.syntax65.specs.Outcome.{Gives};
-ghost use Rattle.asm65.specs.declared.contents.Said.TheVariants.{Demanded};
-ghost use Rattle.asm65.specs.Contents.{each_of, export_said, import_fault};
+ghost use Rattle.language65.specs.declared.contents.Said.TheVariants.{Demanded};
+ghost use Rattle.language65.specs.Contents.{each_of, export_said, import_fault};
 ghost use Rattle.asm65.specs.Evaluating.{absent_of, listed};
-ghost use Rattle.asm65.specs.Faults.{is_failure, is_outside};
-ghost use Rattle.asm65.specs.Names.{defined_in};
-ghost use Rattle.asm65.specs.Resolving.{IsModule, IsTable};
-ghost use Rattle.asm65.specs.Views.{all_of};
+ghost use Rattle.language65.specs.Faults.{is_failure, is_outside};
+ghost use Rattle.language65.specs.Names.{defined_in};
+ghost use Rattle.symbols65.specs.Resolving.{IsModule, IsTable};
+ghost use Rattle.language65.specs.Views.{all_of};
 
 use super::forms::{copy_of, form_defined};
-use crate::AsmFault;
-use crate::contents::Said;
-use crate::resolving::{Module, State};
+use language65::{AsmFault, Said};
 use std::alloc::{AllocError, Global};
+use symbols65::{Module, State};
 use syntax65::Sequence;
 
 /// The place of the statement that defines a name.

@@ -5,19 +5,17 @@ ghost use Rattle.syntax65.specs.Outcome.{Gives};
 ghost use Rattle.syntax65.specs.Trees.{tree_of};
 ghost use Rattle.syntax65.specs.declared.values.Op2.TheVariants.{Subtract};
 ghost use Rattle.object65.specs.Folding.{fold2};
-ghost use Rattle.asm65.specs.Contents.{export_form, operand_form, stored};
+ghost use Rattle.language65.specs.Contents.{export_form, operand_form, stored};
 ghost use Rattle.asm65.specs.Evaluating.{literal_of};
-ghost use Rattle.asm65.specs.Faults.{is_failure, is_outside};
-ghost use Rattle.asm65.specs.Norms.{folded, norm_of};
-ghost use Rattle.asm65.specs.Resolving.{IsModule, IsTable};
-ghost use Rattle.asm65.specs.Views.{all_of, spot_of};
+ghost use Rattle.language65.specs.Faults.{is_failure, is_outside};
+ghost use Rattle.language65.specs.Norms.{folded, norm_of};
+ghost use Rattle.symbols65.specs.Resolving.{IsModule, IsTable};
+ghost use Rattle.language65.specs.Views.{all_of, spot_of};
 
-use crate::AsmFault;
-use crate::contents::Part;
-use crate::laid::Spot;
-use crate::resolving::{Module, State, find_defined, find_norm};
+use language65::{AsmFault, Part, Spot};
 use object65::{FormFault, Node, Norm, Width, fits, put};
 use std::alloc::{AllocError, Global};
+use symbols65::{Module, State, find_defined, find_norm};
 use syntax65::{Expr, Op2, Sequence};
 
 /// A copy of bytes.

@@ -3,23 +3,20 @@
 ghost use Rattle.std.specs.Prelude.{◌≡◌, ◌∷◌, [], false, map, take, option_map, IfErr, IfOk, List, OnOk, Some};
 ghost use Rattle.syntax65.specs.Outcome.{Gives, each};
 ghost use Rattle.syntax65.specs.Trees.{tree_of};
-ghost use Rattle.asm65.specs.Contents.{instruction_parts, item_part, opcode_part, operand_parts, operand_tree, parts_of, room_part};
+ghost use Rattle.language65.specs.Contents.{instruction_parts, item_part, opcode_part, operand_parts, operand_tree, parts_of, room_part};
 ghost use Rattle.asm65.specs.Evaluating.{filled_room, listed, operand_value};
-ghost use Rattle.asm65.specs.Faults.{is_failure, is_outside};
-ghost use Rattle.asm65.specs.Laid.{Laid as LaidThere};
-ghost use Rattle.asm65.specs.Resolving.{IsModule, IsTable};
-ghost use Rattle.asm65.specs.Settling.{IsFilledBy, IsSettled};
-ghost use Rattle.asm65.specs.Sizes.{width_of};
-ghost use Rattle.asm65.specs.Views.{all_of, item_of, laid_of, operand_of, spot_of};
+ghost use Rattle.language65.specs.Faults.{is_failure, is_outside};
+ghost use Rattle.language65.specs.Laid.{Laid as LaidThere};
+ghost use Rattle.symbols65.specs.Resolving.{IsModule, IsTable};
+ghost use Rattle.symbols65.specs.Settling.{IsFilledBy, IsSettled};
+ghost use Rattle.language65.specs.Sizes.{width_of};
+ghost use Rattle.language65.specs.Views.{all_of, item_of, laid_of, operand_of, spot_of};
 
 use super::forms::{copy_of, form_of, operand_form, stored};
-use crate::AsmFault;
-use crate::contents::Part;
-use crate::laid::{Laid, Settled};
-use crate::language::{Item, Operand, Statement};
-use crate::resolving::{Module, State};
+use language65::{AsmFault, Item, Laid, Operand, Part, Settled, Statement};
 use object65::Width;
 use std::alloc::{AllocError, Global};
+use symbols65::{Module, State};
 use syntax65::{Expr, Mnemonic, Mode, Sequence, opcode};
 
 /// What an element of a list of data puts into the section.

@@ -2,22 +2,19 @@
 
 ghost use Rattle.std.specs.Prelude.{◌≡◌, ◌++◌, false, IfErr, IfOk, OnOk};
 ghost use Rattle.syntax65.specs.Outcome.{Gives};
-ghost use Rattle.asm65.specs.Contents.{said_of};
+ghost use Rattle.language65.specs.Contents.{said_of};
 ghost use Rattle.asm65.specs.Evaluating.{unchanged};
-ghost use Rattle.asm65.specs.Faults.{is_failure, is_outside};
+ghost use Rattle.language65.specs.Faults.{is_failure, is_outside};
 ghost use Rattle.asm65.specs.Module.{asserted_at};
-ghost use Rattle.asm65.specs.Resolving.{IsModule, IsTable};
-ghost use Rattle.asm65.specs.Views.{all_of, laid_of};
+ghost use Rattle.symbols65.specs.Resolving.{IsModule, IsTable};
+ghost use Rattle.language65.specs.Views.{all_of, laid_of};
 
 use super::assertions::{Claim, decided};
 use super::exports::{check_imports, demanded, exports_of};
 use super::forms::form_of;
-use crate::AsmFault;
-use crate::contents::Said;
-use crate::laid::Laid;
-use crate::language::Statement;
-use crate::resolving::{Module, State};
+use language65::{AsmFault, Laid, Said, Statement};
 use std::alloc::Global;
+use symbols65::{Module, State};
 use syntax65::Sequence;
 
 /// What a statement at a place says. The warning of an assertion that failed is added to the others.

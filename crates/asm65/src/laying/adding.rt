@@ -3,27 +3,25 @@
 ghost use Rattle.std.specs.Prelude.{◌≡◌, ◌≤◌, ◌<◌, ◌+◌, ◌++◌, ◌∷◌, [], Some, codes, false, IfErr, IfOk, length, OnOk, true, ℕ};
 ghost use Rattle.syntax65.specs.Outcome.{Gives, Unless};
 ghost use Rattle.object65.specs.Objects.{section_limit};
-ghost use Rattle.asm65.specs.Faults.{is_failure, is_outside};
-ghost use Rattle.asm65.specs.Growing.{AreNested, HidesNothing, hides};
+ghost use Rattle.language65.specs.Faults.{is_failure, is_outside};
+ghost use Rattle.symbols65.specs.Growing.{AreNested, HidesNothing, hides};
 ghost use Rattle.asm65.specs.Laying.{advanced, measured, with_statement};
-ghost use Rattle.asm65.specs.Layout.{spot_of};
+ghost use Rattle.language65.specs.Layout.{spot_of};
 ghost use Rattle.asm65.specs.LayoutViews.{layout_of, standing_of};
-ghost use Rattle.asm65.specs.Resolving.{AreNames, IsTable};
-ghost use Rattle.asm65.specs.Roots.{LeadsTo};
-ghost use Rattle.asm65.specs.Settling.{IsSettled};
+ghost use Rattle.symbols65.specs.Resolving.{AreNames, IsTable};
+ghost use Rattle.symbols65.specs.Roots.{LeadsTo};
+ghost use Rattle.symbols65.specs.Settling.{IsSettled};
 ghost use Rattle.asm65.specs.Sounds.{AreSaid, AreWithin, IsSound, IsSoundStanding, KeepsSaid, SaysMore, says_nothing};
-ghost use Rattle.asm65.specs.Views.{all_of, laid_of, stated_of};
+ghost use Rattle.language65.specs.Views.{all_of, laid_of, stated_of};
 
 use super::Layout;
 use super::hiding::hides;
 use super::measuring::{Measured, measure};
 use super::standing::Standing;
-use crate::AsmFault;
-use crate::laid::Laid;
-use crate::language::Statement;
-use crate::resolving::{Module, root_of};
 use crate::texts::{Texts, warn};
+use language65::{AsmFault, Laid, Statement};
 use std::alloc::{AllocError, Global};
+use symbols65::{Module, root_of};
 use syntax65::Sequence;
 
 /// A statement with what it lies by, and the multiple to which it aligns its section.

@@ -1,13 +1,13 @@
 //! Whether a statement hides what the name that it defines means already.
 
 ghost use Rattle.std.specs.Prelude.{◌≡◌};
-ghost use Rattle.asm65.specs.Growing.{hides, is_meant};
-ghost use Rattle.asm65.specs.Names.{plain_meaning};
-ghost use Rattle.asm65.specs.Resolving.{IsModule};
-ghost use Rattle.asm65.specs.Views.{all_of, laid_of};
+ghost use Rattle.symbols65.specs.Growing.{hides, is_meant};
+ghost use Rattle.language65.specs.Names.{plain_meaning};
+ghost use Rattle.symbols65.specs.Resolving.{IsModule};
+ghost use Rattle.language65.specs.Views.{all_of, laid_of};
 
-use crate::laid::Laid;
-use crate::resolving::{Module, defined_outward, name_of};
+use language65::Laid;
+use symbols65::{Module, defined_outward, name_of};
 
 /// Whether a plain name means something in a scope.
 fn is_meant(whole: &Module<'_>, scope: usize, name: &[u8]) -> bool

@@ -4,19 +4,18 @@ ghost use Rattle.std.specs.Prelude.{◌≡◌, ◌≤◌, ◌<◌, ◌+◌, fals
 ghost use Rattle.syntax65.specs.Outcome.{Gives, Unless};
 ghost use Rattle.syntax65.specs.Relations.{Answers};
 ghost use Rattle.syntax65.specs.Tokens.{lexemes};
-ghost use Rattle.asm65.specs.Faults.{is_failure, is_outside};
+ghost use Rattle.language65.specs.Faults.{is_failure, is_outside};
 ghost use Rattle.asm65.specs.Laying.{IsLine, IsReading, IsRest, IsText, with_label};
 ghost use Rattle.asm65.specs.Lines.{line_limit};
 ghost use Rattle.asm65.specs.Sounds.{AreSaid, IsSound, KeepsSaid, is_silent};
 ghost use Rattle.asm65.specs.LayoutViews.{layout_of};
-ghost use Rattle.asm65.specs.Views.{all_of, stated_of};
+ghost use Rattle.language65.specs.Views.{all_of, stated_of};
 
 use super::Layout;
 use super::adding::{add, add_label};
-use crate::language::Statement;
-use crate::reading::{label, statement};
 use crate::texts::Texts;
-use crate::{AsmFault, SourceFault};
+use language65::{AsmFault, SourceFault, Statement};
+use statements65::{label, statement};
 use std::alloc::Global;
 use syntax65::{Token, line_tokens};
 

@@ -10,26 +10,24 @@ mod trees;
 ghost use Rattle.std.specs.Prelude.{◌≡◌, ℕ, ◌+◌, false, IfErr, IfOk, nat_lt, OnOk};
 ghost use Rattle.object65.specs.Objects.{section_limit};
 ghost use Rattle.syntax65.specs.Outcome.{Gives};
-ghost use Rattle.asm65.specs.Faults.{is_failure, is_outside};
+ghost use Rattle.language65.specs.Faults.{is_failure, is_outside};
 ghost use Rattle.asm65.specs.Laying.{measured, unless_fault};
-ghost use Rattle.asm65.specs.Layout.{own_size, spot_of};
+ghost use Rattle.language65.specs.Layout.{own_size, spot_of};
 ghost use Rattle.asm65.specs.LayoutViews.{standing_of};
-ghost use Rattle.asm65.specs.LineFaults.{defined_twice};
+ghost use Rattle.language65.specs.LineFaults.{defined_twice};
 ghost use Rattle.asm65.specs.Measuring.{fitted, naming_fault};
-ghost use Rattle.asm65.specs.Resolving.{IsModule, IsTable};
-ghost use Rattle.asm65.specs.Settling.{IsSettled};
+ghost use Rattle.symbols65.specs.Resolving.{IsModule, IsTable};
+ghost use Rattle.symbols65.specs.Settling.{IsSettled};
 ghost use Rattle.asm65.specs.Sounds.{IsSoundStanding};
-ghost use Rattle.asm65.specs.Views.{all_of, spot_of as laid_spot, stated_of};
+ghost use Rattle.language65.specs.Views.{all_of, spot_of as laid_spot, stated_of};
 
 use self::kinds::place;
 use self::names::{check_cheap, check_name, check_opened, check_outside};
 use self::trees::check_trees;
 use super::standing::Standing;
-use crate::AsmFault;
-use crate::laid::{Settled, Spot};
-use crate::language::Statement;
-use crate::resolving::{Known, Module};
+use language65::{AsmFault, Settled, Spot, Statement};
 use std::alloc::Global;
+use symbols65::{Known, Module};
 use syntax65::AddressSize;
 
 /// What a statement places and defines.

@@ -2,18 +2,16 @@
 
 ghost use Rattle.std.specs.Prelude.{◌≡◌, ◌+◌, ◌<◌, ◌≤◌, length, OnOk, IfOk, None, slice_get, ◌++◌, ◌∷◌, [], if◌then◌else◌};
 ghost use Rattle.object65.specs.Objects.{section_limit};
-ghost use Rattle.asm65.specs.Laid.{closes_scope, is_unnamed, opens_region, opens_scope};
+ghost use Rattle.language65.specs.Laid.{closes_scope, is_unnamed, opens_region, opens_scope};
 ghost use Rattle.asm65.specs.Laying.{advanced};
-ghost use Rattle.asm65.specs.Layout.{current_behind, first_size, grown_at, kept_behind, last_kept, named_segments, new_segment, or_last, place_of, rest_kept, scope_behind, segment_at, segments_behind, spot_of, start};
-ghost use Rattle.asm65.specs.Names.{enclosing, scope_at};
+ghost use Rattle.language65.specs.Layout.{current_behind, first_size, grown_at, kept_behind, last_kept, named_segments, new_segment, or_last, place_of, rest_kept, scope_behind, segment_at, segments_behind, spot_of, start};
+ghost use Rattle.language65.specs.Names.{enclosing, scope_at};
 ghost use Rattle.asm65.specs.Sounds.{AreWithin, IsSoundStanding};
 ghost use Rattle.asm65.specs.LayoutViews.{standing_of};
-ghost use Rattle.asm65.specs.Views.{all_of, spot_of as laid_spot, stated_of};
+ghost use Rattle.language65.specs.Views.{all_of, spot_of as laid_spot, stated_of};
 
-use crate::contents::Segment;
-use crate::laid::{Laid, Spot};
-use crate::language::Statement;
 use indexmap::IndexSet;
+use language65::{Laid, Segment, Spot, Statement};
 use std::alloc::{AllocError, Global};
 use syntax65::{AddressSize, Sequence};
 

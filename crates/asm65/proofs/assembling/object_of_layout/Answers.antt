@@ -1,11 +1,11 @@
 use Rattle.std.proofs.Common.{◌≡◌, ◌∙◌, Ok, sym, subst, List, ℕ}
-use Rattle.asm65.specs.declared.contents.Content.{Content}
-use Rattle.asm65.specs.declared.contents.Segment.{Segment}
-use Rattle.asm65.specs.declared.laid.Laid.{Laid}
+use Rattle.language65.specs.declared.contents.Content.{Content}
+use Rattle.language65.specs.declared.contents.Segment.{Segment}
+use Rattle.language65.specs.declared.laid.Laid.{Laid}
 use Rattle.asm65.specs.Module.{contents_from}
-use Rattle.asm65.specs.Sound.{AreSound}
+use Rattle.language65.specs.Sound.{AreSound}
 use Rattle.asm65.specs.LayoutViews.{layout_of}
-use Rattle.asm65.specs.Views.{all_of}
+use Rattle.language65.specs.Views.{all_of}
 use Rattle.asm65.proofs.SoundContents.{sound_contents}
 use Rattle.asm65.proofs.assembling.object_of_layout.Goals as goal
 

@@ -1,6 +1,6 @@
 use Rattle.std.proofs.Common.{◌∙◌, ◌+◌, ◌++◌, ap, sym, drop, arith}
 use Rattle.asm65.specs.Module.{contents_from}
-use Rattle.asm65.specs.Views.{all_of, laid_of}
+use Rattle.language65.specs.Views.{all_of, laid_of}
 use Rattle.asm65.proofs.Aheads.{ahead, next_mapped}
 use Rattle.asm65.proofs.Evaluations.{all_passed, content_goes, content_stops, heard_all, heard_end, table_goes, settled_at, warned_goes, warned_stops}
 use Rattle.asm65.proofs.evaluating.evaluate.Goals as goal

@@ -1,7 +1,7 @@
 use Rattle.std.proofs.Common.{◌≡◌, ◌++◌, drop}
 use Rattle.asm65.specs.Module.{contents_from}
-use Rattle.asm65.specs.Resolving.{IsTable}
-use Rattle.asm65.specs.Views.{all_of}
+use Rattle.symbols65.specs.Resolving.{IsTable}
+use Rattle.language65.specs.Views.{all_of}
 use Rattle.asm65.proofs.Aheads.{ahead}
 use Rattle.asm65.proofs.Evaluations.{heard}
 use Rattle.asm65.proofs.evaluating.evaluate.Given as goal

@@ -1,7 +1,7 @@
 use Rattle.std.proofs.Common.{◌≤◌, ◌*◌, length}
 use Rattle.asm65.specs.Lines.{line_limit}
 use Rattle.asm65.specs.Sounds.{AreSaid, IsSound}
-use Rattle.asm65.specs.Views.{all_of}
+use Rattle.language65.specs.Views.{all_of}
 use Rattle.asm65.specs.LayoutViews.{layout_of}
 use Rattle.asm65.proofs.LaidLines.{GoesOn}
 use Rattle.asm65.proofs.laying.lay_lines.Given as goal

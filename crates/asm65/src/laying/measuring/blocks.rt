@@ -1,20 +1,17 @@
 //! Segments and blocks.
 
 ghost use Rattle.std.specs.Prelude.{◌≡◌, ◌&&◌, false, IfErr, not, slice_get};
-ghost use Rattle.asm65.specs.declared.fault.AsmFault.TheVariants.{BadScope, PopWithoutPush};
-ghost use Rattle.asm65.specs.Faults.{is_failure};
+ghost use Rattle.language65.specs.declared.fault.AsmFault.TheVariants.{BadScope, PopWithoutPush};
+ghost use Rattle.language65.specs.Faults.{is_failure};
 ghost use Rattle.asm65.specs.Laying.{unless_fault};
-ghost use Rattle.asm65.specs.Layout.{place_of, segment_at};
+ghost use Rattle.language65.specs.Layout.{place_of, segment_at};
 ghost use Rattle.asm65.specs.LayoutViews.{standing_of};
-ghost use Rattle.asm65.specs.LineFaults.{changed_size, is_kept, is_open, is_scope, opener, same_size, when};
+ghost use Rattle.language65.specs.LineFaults.{changed_size, is_kept, is_open, is_scope, opener, same_size, when};
 ghost use Rattle.asm65.specs.Sounds.{IsSoundStanding};
-ghost use Rattle.asm65.specs.Views.{all_of};
+ghost use Rattle.language65.specs.Views.{all_of};
 
-use crate::AsmFault;
-use crate::contents::Segment;
-use crate::laid::Laid;
-use crate::language::Statement;
 use crate::laying::standing::Standing;
+use language65::{AsmFault, Laid, Segment, Statement};
 use syntax65::AddressSize;
 
 fn opens_scope(statements: &[Laid], place: usize) -> bool

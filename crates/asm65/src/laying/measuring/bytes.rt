@@ -2,25 +2,23 @@
 
 ghost use Rattle.std.specs.Prelude.{◌≡◌, ◌+◌, ◌<◌, false, IfErr, IfOk, List, map, MatchOption, OnOk, Some, sum_by};
 ghost use Rattle.syntax65.specs.Outcome.{Gives};
-ghost use Rattle.asm65.specs.Faults.{is_failure, is_outside};
-ghost use Rattle.asm65.specs.Laid.{Laid};
-ghost use Rattle.asm65.specs.Language.{instruction, values};
+ghost use Rattle.language65.specs.Faults.{is_failure, is_outside};
+ghost use Rattle.language65.specs.Laid.{Laid};
+ghost use Rattle.language65.specs.Language.{instruction, values};
 ghost use Rattle.asm65.specs.LayoutViews.{standing_of};
 ghost use Rattle.asm65.specs.Measuring.{fitted, measured_of, placed, IsSettledHere};
-ghost use Rattle.asm65.specs.Resolving.{IsModule, IsTable};
-ghost use Rattle.asm65.specs.Sizes.{item_len, mode_len};
+ghost use Rattle.symbols65.specs.Resolving.{IsModule, IsTable};
+ghost use Rattle.language65.specs.Sizes.{item_len, mode_len};
 ghost use Rattle.asm65.specs.Sounds.{IsSoundStanding};
-ghost use Rattle.asm65.specs.Views.{all_of, item_of, operand_of};
+ghost use Rattle.language65.specs.Views.{all_of, item_of, operand_of};
 ghost use Rattle.object65.specs.Objects.{width_len};
 
 use super::{Measured, fit};
-use crate::laid::Settled;
-use crate::language::{Item, Operand};
 use crate::laying::standing::Standing;
-use crate::resolving::{Known, Module};
-use crate::{AsmFault, knowing};
+use language65::{AsmFault, Item, Operand, Settled};
 use object65::Width;
 use std::alloc::Global;
+use symbols65::{Known, Module, knowing};
 use syntax65::{Mnemonic, Mode};
 
 /// How many bytes an instruction of a form takes.

@@ -3,25 +3,23 @@
 ghost use Rattle.std.specs.Prelude.{◌≡◌, ℕ, false, IfErr, IfOk, List, OnOk, true};
 ghost use Rattle.syntax65.specs.Outcome.{Gives};
 ghost use Rattle.syntax65.specs.Trees.{tree_of};
-ghost use Rattle.asm65.specs.Faults.{is_failure, is_outside};
-ghost use Rattle.asm65.specs.Laid as laid;
-ghost use Rattle.asm65.specs.Language.{close_proc, close_scope, constant, pop_segment, segment};
+ghost use Rattle.language65.specs.Faults.{is_failure, is_outside};
+ghost use Rattle.language65.specs.Laid as laid;
+ghost use Rattle.language65.specs.Language.{close_proc, close_scope, constant, pop_segment, segment};
 ghost use Rattle.asm65.specs.LayoutViews.{standing_of};
 ghost use Rattle.asm65.specs.Measuring.{is_bare, measured_of, placed, IsSettledHere};
-ghost use Rattle.asm65.specs.Resolving.{IsModule, IsTable};
+ghost use Rattle.symbols65.specs.Resolving.{IsModule, IsTable};
 ghost use Rattle.asm65.specs.Sounds.{IsSoundStanding};
-ghost use Rattle.asm65.specs.Views.{all_of, stated_of};
+ghost use Rattle.language65.specs.Views.{all_of, stated_of};
 
 use super::blocks::{check_kept, check_proc, check_scope, check_segment};
 use super::bytes::{instruction, values};
 use super::rooms::{align, reserve};
 use super::{Measured, nothing};
-use crate::laid::Laid;
-use crate::language::Statement;
 use crate::laying::standing::Standing;
-use crate::resolving::{Known, Module};
-use crate::{AsmFault, knowing};
+use language65::{AsmFault, Laid, Statement};
 use std::alloc::Global;
+use symbols65::{Known, Module, knowing};
 use syntax65::{AddressSize, Expr};
 
 /// What a constant places and defines.

@@ -2,19 +2,18 @@
 
 ghost use Rattle.std.specs.Prelude.{◌≡◌, ◌&&◌, false, IfErr};
 ghost use Rattle.syntax65.specs.Outcome.{Gives};
-ghost use Rattle.asm65.specs.Faults.{is_failure, is_outside};
-ghost use Rattle.asm65.specs.Laid.{defined_name, scope_name};
+ghost use Rattle.language65.specs.Faults.{is_failure, is_outside};
+ghost use Rattle.language65.specs.Laid.{defined_name, scope_name};
 ghost use Rattle.asm65.specs.Laying.{unless_fault};
-ghost use Rattle.asm65.specs.LineFaults.{is_open, named_twice, opened_twice, stands_outside, when};
-ghost use Rattle.asm65.specs.declared.fault.AsmFault.TheVariants.{NotUnderstood};
+ghost use Rattle.language65.specs.LineFaults.{is_open, named_twice, opened_twice, stands_outside, when};
+ghost use Rattle.language65.specs.declared.fault.AsmFault.TheVariants.{NotUnderstood};
 ghost use Rattle.asm65.specs.Measuring.{cheap_there};
-ghost use Rattle.asm65.specs.Resolving.{IsModule, cheap_name};
-ghost use Rattle.asm65.specs.Views.{all_of, stated_of};
+ghost use Rattle.symbols65.specs.Resolving.{IsModule, cheap_name};
+ghost use Rattle.language65.specs.Views.{all_of, stated_of};
 
-use crate::AsmFault;
-use crate::language::Statement;
-use crate::resolving::{Module, cheap_name, name_of, scope_name};
+use language65::{AsmFault, Statement};
 use std::alloc::Global;
+use symbols65::{Module, cheap_name, name_of, scope_name};
 use syntax65::Sequence;
 
 fn stands_outside(statement: &Statement) -> bool

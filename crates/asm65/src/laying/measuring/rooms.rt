@@ -4,27 +4,26 @@ ghost use Rattle.std.specs.Prelude.{◌≡◌, ◌+◌, ◌<◌, ◌≤◌, ◌&
 ghost use Rattle.std.specs.Option.{option_map};
 ghost use Rattle.syntax65.specs.Outcome.{Gives};
 ghost use Rattle.syntax65.specs.Trees.{tree_of};
-ghost use Rattle.asm65.specs.declared.fault.AsmFault.TheVariants.{BadAlignment, BadOperand};
-ghost use Rattle.asm65.specs.Faults.{is_failure, is_outside};
-ghost use Rattle.asm65.specs.Language.{align, reserve};
+ghost use Rattle.language65.specs.declared.fault.AsmFault.TheVariants.{BadAlignment, BadOperand};
+ghost use Rattle.language65.specs.Faults.{is_failure, is_outside};
+ghost use Rattle.language65.specs.Language.{align, reserve};
 ghost use Rattle.asm65.specs.Laying.{unless_fault};
-ghost use Rattle.asm65.specs.Layout.{spot_of as standing_spot};
+ghost use Rattle.language65.specs.Layout.{spot_of as standing_spot};
 ghost use Rattle.asm65.specs.LayoutViews.{standing_of};
-ghost use Rattle.asm65.specs.LineFaults.{is_byte_value, is_count, is_there, multiple_fault, when};
+ghost use Rattle.language65.specs.LineFaults.{is_byte_value, is_count, is_there, multiple_fault, when};
 ghost use Rattle.asm65.specs.Measuring.{any_settled, measured_of, placed, IsSettledHere};
-ghost use Rattle.asm65.specs.Norms.{constant_behind};
-ghost use Rattle.asm65.specs.Resolving.{IsModule, IsTable};
-ghost use Rattle.asm65.specs.Settling.{IsFilledBy};
-ghost use Rattle.asm65.specs.Sizes.{counted, gap, optional_value};
+ghost use Rattle.language65.specs.Norms.{constant_behind};
+ghost use Rattle.symbols65.specs.Resolving.{IsModule, IsTable};
+ghost use Rattle.symbols65.specs.Settling.{IsFilledBy};
+ghost use Rattle.language65.specs.Sizes.{counted, gap, optional_value};
 ghost use Rattle.asm65.specs.Sounds.{IsSoundStanding};
-ghost use Rattle.asm65.specs.Views.{all_of, spot_of};
+ghost use Rattle.language65.specs.Views.{all_of, spot_of};
 
 use super::{Measured, fit};
-use crate::laid::{Settled, Spot};
 use crate::laying::standing::Standing;
-use crate::resolving::{Known, Module};
-use crate::{AsmFault, knowing};
+use language65::{AsmFault, Settled, Spot};
 use std::alloc::Global;
+use symbols65::{Known, Module, knowing};
 use syntax65::Expr;
 
 /// A value as the byte that fills room.

@@ -4,16 +4,16 @@ ghost use Rattle.std.specs.Prelude.{◌≡◌, [], ◌∷◌, false, IfErr, map}
 ghost use Rattle.std.specs.Option.{option_map};
 ghost use Rattle.syntax65.specs.Outcome.{Gives};
 ghost use Rattle.syntax65.specs.Trees.{tree_of};
-ghost use Rattle.asm65.specs.Faults.{is_failure, is_outside};
+ghost use Rattle.language65.specs.Faults.{is_failure, is_outside};
 ghost use Rattle.asm65.specs.Laying.{unless_fault};
-ghost use Rattle.asm65.specs.LineFaults.{item_trees, lost_scopes, operand_trees, optional_tree, trees_of};
-ghost use Rattle.asm65.specs.Resolving.{IsModule};
-ghost use Rattle.asm65.specs.Views.{all_of, item_of, operand_of, stated_of};
+ghost use Rattle.language65.specs.LineFaults.{item_trees, lost_scopes, operand_trees, optional_tree, trees_of};
+ghost use Rattle.symbols65.specs.Resolving.{IsModule};
+ghost use Rattle.language65.specs.Views.{all_of, item_of, operand_of, stated_of};
 
-use crate::AsmFault;
-use crate::language::{Item, Operand, Statement};
-use crate::resolving::{Module, check_scopes};
+use crate::laying::lost::check_scopes;
+use language65::{AsmFault, Item, Operand, Statement};
 use std::alloc::Global;
+use symbols65::Module;
 use syntax65::Expr;
 
 fn check_one(alloc: Global, whole: &Module<'_>, scope: usize, value: &Expr) -> Result<(), AsmFault>

@@ -1,5 +1,5 @@
-use Rattle.asm65.specs.Contents.{import_fault}
-use Rattle.asm65.specs.Views.{all_of}
+use Rattle.language65.specs.Contents.{import_fault}
+use Rattle.language65.specs.Views.{all_of}
 use Rattle.asm65.proofs.Aheads.{said_each}
 use Rattle.asm65.proofs.evaluating.exports.check_imports.Goals as goal
 

@@ -1,6 +1,6 @@
 use Rattle.std.proofs.Common.{◌≡◌, drop}
-use Rattle.asm65.specs.Contents.{each_of, import_fault}
-use Rattle.asm65.specs.Views.{all_of}
+use Rattle.language65.specs.Contents.{each_of, import_fault}
+use Rattle.language65.specs.Views.{all_of}
 use Rattle.asm65.proofs.Aheads.{said_by}
 use Rattle.asm65.proofs.evaluating.exports.check_imports.Given as goal
 

@@ -1,5 +1,5 @@
 use Rattle.std.proofs.Common.{◌≡◌, ◌++◌, drop, map}
-use Rattle.asm65.specs.declared.contents.Said.TheVariants.{Demanded}
+use Rattle.language65.specs.declared.contents.Said.TheVariants.{Demanded}
 use Rattle.asm65.proofs.evaluating.exports.demanded.Given as goal
 
 abbrev pub invariant-loop-name : goal.invariant-loop-name

@@ -1,8 +1,8 @@
 use Rattle.std.proofs.Common.{◌∙◌, ap, List}
-use Rattle.asm65.specs.Contents.{export_said}
+use Rattle.language65.specs.Contents.{export_said}
 use Rattle.asm65.specs.Evaluating.{absent_of}
-use Rattle.asm65.specs.Names.{defined_in}
-use Rattle.asm65.specs.Views.{all_of}
+use Rattle.language65.specs.Names.{defined_in}
+use Rattle.language65.specs.Views.{all_of}
 use Rattle.asm65.proofs.Aheads.{ahead, ahead_nothing, said_by, said_each}
 use Rattle.asm65.proofs.evaluating.exports.exports_of.Goals as goal
 

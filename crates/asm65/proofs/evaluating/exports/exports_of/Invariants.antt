@@ -1,9 +1,9 @@
 use Rattle.std.proofs.Common.{◌≡◌, drop}
-use Rattle.asm65.specs.Contents.{each_of, export_said}
+use Rattle.language65.specs.Contents.{each_of, export_said}
 use Rattle.asm65.specs.Evaluating.{absent_of}
-use Rattle.asm65.specs.Names.{defined_in}
-use Rattle.asm65.specs.Resolving.{IsTable}
-use Rattle.asm65.specs.Views.{all_of}
+use Rattle.language65.specs.Names.{defined_in}
+use Rattle.symbols65.specs.Resolving.{IsTable}
+use Rattle.language65.specs.Views.{all_of}
 use Rattle.asm65.proofs.Aheads.{ahead, said_by}
 use Rattle.asm65.proofs.evaluating.exports.exports_of.Given as goal
 

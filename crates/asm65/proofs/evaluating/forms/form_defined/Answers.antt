@@ -1,4 +1,4 @@
-use Rattle.asm65.specs.Views.{all_of}
+use Rattle.language65.specs.Views.{all_of}
 use Rattle.asm65.proofs.Insides.{export_inside}
 use Rattle.asm65.proofs.evaluating.forms.form_defined.Goals as goal
 

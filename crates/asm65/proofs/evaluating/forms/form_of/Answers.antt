@@ -1,5 +1,5 @@
 use Rattle.syntax65.specs.Trees.{tree_of}
-use Rattle.asm65.specs.Views.{all_of, spot_of}
+use Rattle.language65.specs.Views.{all_of, spot_of}
 use Rattle.asm65.proofs.Insides.{norm_inside}
 use Rattle.asm65.proofs.evaluating.forms.form_of.Goals as goal
 

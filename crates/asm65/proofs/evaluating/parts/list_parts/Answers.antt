@@ -1,7 +1,7 @@
 use Rattle.std.proofs.Common.{◌+◌, ◌∙◌, ap, sym, drop, map}
 use Rattle.syntax65.specs.Outcome.{each}
-use Rattle.asm65.specs.Contents.{item_part}
-use Rattle.asm65.specs.Views.{all_of, item_of, laid_of}
+use Rattle.language65.specs.Contents.{item_part}
+use Rattle.language65.specs.Views.{all_of, item_of, laid_of}
 use Rattle.asm65.proofs.Aheads.{ahead, each_none, each_one, next_mapped, stops}
 use Rattle.asm65.proofs.evaluating.parts.list_parts.Goals as goal
 

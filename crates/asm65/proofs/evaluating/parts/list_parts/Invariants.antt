@@ -1,8 +1,8 @@
 use Rattle.std.proofs.Common.{◌≡◌, drop, map}
 use Rattle.syntax65.specs.Outcome.{each}
-use Rattle.asm65.specs.Contents.{item_part}
-use Rattle.asm65.specs.Resolving.{IsTable}
-use Rattle.asm65.specs.Views.{all_of, item_of, laid_of}
+use Rattle.language65.specs.Contents.{item_part}
+use Rattle.symbols65.specs.Resolving.{IsTable}
+use Rattle.language65.specs.Views.{all_of, item_of, laid_of}
 use Rattle.asm65.proofs.Aheads.{ahead}
 use Rattle.asm65.proofs.evaluating.parts.list_parts.Given as goal
 

@@ -1,5 +1,5 @@
 use Rattle.syntax65.specs.Trees.{tree_of}
-use Rattle.asm65.specs.Views.{all_of, laid_of}
+use Rattle.language65.specs.Views.{all_of, laid_of}
 use Rattle.asm65.proofs.PartLists.{operand_stops}
 use Rattle.asm65.proofs.evaluating.parts.operand_parts.Goals as goal
 

@@ -1,4 +1,4 @@
-use Rattle.asm65.specs.Views.{all_of}
+use Rattle.language65.specs.Views.{all_of}
 use Rattle.asm65.proofs.Sayings.{exports_said, globals_said}
 use Rattle.asm65.proofs.evaluating.sayings.said_of.Goals as goal
 

@@ -1,8 +1,8 @@
 use Rattle.std.proofs.lemmas.Result.{err_from_is_err_and}
 use Rattle.std.proofs.Common.{List, ◌++◌, ◌∷◌, [], ◌∙◌, ap}
-use Rattle.asm65.specs.declared.laid.Laid.{Laid}
-use Rattle.asm65.specs.Faults.{is_outside}
-use Rattle.asm65.specs.Views.{stated_of}
+use Rattle.language65.specs.declared.laid.Laid.{Laid}
+use Rattle.language65.specs.Faults.{is_outside}
+use Rattle.language65.specs.Views.{stated_of}
 use Rattle.asm65.proofs.Added.{add_refused, add_taken, next_fits, next_moved, next_settled, next_spot}
 use Rattle.asm65.proofs.Steps.{unless_then}
 use Rattle.asm65.proofs.laying.adding.add.Goals as goal

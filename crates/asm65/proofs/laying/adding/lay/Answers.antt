@@ -4,8 +4,8 @@ use Rattle.asm65.specs.declared.laying.Layout.{Layout}
 use Rattle.asm65.specs.declared.laying.standing.Standing.{Standing}
 use Rattle.asm65.specs.LayoutViews.{standing_of}
 use Rattle.asm65.specs.Laying.{measured}
-use Rattle.asm65.specs.Settling.{IsSettled}
-use Rattle.asm65.specs.Views.{all_of, stated_of}
+use Rattle.symbols65.specs.Settling.{IsSettled}
+use Rattle.language65.specs.Views.{all_of, stated_of}
 use Rattle.asm65.proofs.Added.{placed, same_measure, sound_with}
 use Rattle.asm65.proofs.laying.adding.lay.Goals as goal
 

@@ -1,12 +1,12 @@
 use Rattle.std.proofs.Common.{List, subst}
 use Rattle.syntax65.specs.Outcome.{Gives}
-use Rattle.asm65.specs.declared.laid.Laid.{Laid}
+use Rattle.language65.specs.declared.laid.Laid.{Laid}
 use Rattle.asm65.specs.declared.laying.measuring.Measured.{Measured}
-use Rattle.asm65.specs.Faults.{is_outside}
+use Rattle.language65.specs.Faults.{is_outside}
 use Rattle.asm65.specs.Laying.{measured}
 use Rattle.asm65.specs.LayoutViews.{standing_of}
-use Rattle.asm65.specs.Settling.{IsSettled}
-use Rattle.asm65.specs.Views.{all_of, stated_of}
+use Rattle.symbols65.specs.Settling.{IsSettled}
+use Rattle.language65.specs.Views.{all_of, stated_of}
 use Rattle.asm65.proofs.Added.{measure_of, placed}
 use Rattle.std.specs.Prelude.{IfOk, ℕ}
 use Rattle.asm65.proofs.laying.adding.measured.Goals as goal

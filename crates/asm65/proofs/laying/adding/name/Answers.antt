@@ -1,8 +1,8 @@
 use Rattle.std.proofs.Common.{◌≡◌, ℕ, sym, subst, ◌∙◌, ◌++◌, ◌∷◌, [], length}
-use Rattle.asm65.specs.Roots.{LeadsTo}
-use Rattle.asm65.specs.Views.{all_of, laid_of}
-use Rattle.asm65.proofs.Growing.{hides_nothing}
-use Rattle.asm65.proofs.NameTables.{map_length, on_ok}
+use Rattle.symbols65.specs.Roots.{LeadsTo}
+use Rattle.language65.specs.Views.{all_of, laid_of}
+use Rattle.symbols65.proofs.Growing.{hides_nothing}
+use Rattle.language65.proofs.Lists.{map_length, on_ok}
 use Rattle.asm65.proofs.laying.adding.name.Goals as goal
 
 pub returns-in-Some-clause-names : goal.returns-in-Some-clause-names

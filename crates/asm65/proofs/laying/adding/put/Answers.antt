@@ -1,5 +1,5 @@
 use Rattle.std.proofs.Common.{List, [], ◌∷◌, ◌++◌, ◌∙◌, ap}
-use Rattle.asm65.specs.declared.laid.Laid.{Laid}
+use Rattle.language65.specs.declared.laid.Laid.{Laid}
 use Rattle.asm65.proofs.Added.{sound_more}
 use Rattle.asm65.proofs.laying.adding.put.Goals as goal
 

@@ -1,8 +1,8 @@
 use Rattle.std.specs.Prelude.{option_map}
 use Rattle.syntax65.specs.Tokens.{lexemes}
-use Rattle.asm65.specs.Views.{stated_of}
+use Rattle.language65.specs.Views.{stated_of}
 use Rattle.asm65.proofs.LaidLines.{silent_front}
-use Rattle.asm65.proofs.NameTables.{on_ok}
+use Rattle.language65.proofs.Lists.{on_ok}
 use Rattle.asm65.proofs.laying.line.lay_line.Goals as goal
 
 pub returns-clause-said : goal.returns-clause-said

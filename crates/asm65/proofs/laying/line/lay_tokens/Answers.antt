@@ -3,7 +3,7 @@ use Rattle.std.proofs.lemmas.Result.{err_from_is_err_and}
 use Rattle.syntax65.specs.Relations.{Answers}
 use Rattle.syntax65.specs.Tokens.{lexemes}
 use Rattle.syntax65.specs.declared.lexing.tokens.Token.{Token}
-use Rattle.asm65.specs.Faults.{is_outside}
+use Rattle.language65.specs.Faults.{is_outside}
 use Rattle.asm65.specs.Laying.{IsLine}
 use Rattle.asm65.specs.LayoutViews.{layout_of}
 use Rattle.asm65.proofs.LaidLines.{reading_fault, reading_then}

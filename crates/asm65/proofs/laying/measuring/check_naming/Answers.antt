@@ -1,12 +1,12 @@
 use Rattle.std.proofs.Common.{ap, Option}
 use Rattle.std.specs.Prelude.{◌&&◌}
 use Rattle.std.proofs.lemmas.Result.{err_from_is_err_and}
-use Rattle.asm65.specs.declared.fault.AsmFault.{AsmFault}
-use Rattle.asm65.specs.declared.fault.AsmFault.TheVariants.{NotUnderstood}
-use Rattle.asm65.specs.Laid.{scope_name}
+use Rattle.language65.specs.declared.fault.AsmFault.{AsmFault}
+use Rattle.language65.specs.declared.fault.AsmFault.TheVariants.{NotUnderstood}
+use Rattle.language65.specs.Laid.{scope_name}
 use Rattle.asm65.specs.Laying.{unless_fault}
-use Rattle.asm65.specs.LineFaults.{defined_twice, is_open, lost_scopes, opened_twice, or_then, stands_outside, trees_of, when}
-use Rattle.asm65.specs.Views.{all_of, spot_of, stated_of}
+use Rattle.language65.specs.LineFaults.{defined_twice, is_open, lost_scopes, opened_twice, or_then, stands_outside, trees_of, when}
+use Rattle.language65.specs.Views.{all_of, spot_of, stated_of}
 use Rattle.asm65.proofs.Measuring.{left_behind, refused_first, refused_same}
 use Rattle.asm65.proofs.laying.measuring.check_naming.Goals as goal
 

@@ -1,13 +1,13 @@
 use Rattle.std.proofs.Common.{◌∙◌, ap, sym, subst, Result}
 use Rattle.std.proofs.lemmas.Result.{err_from_is_err_and}
 use Rattle.syntax65.specs.Outcome.{Gives}
-use Rattle.asm65.specs.declared.fault.AsmFault.{AsmFault}
-use Rattle.asm65.specs.Faults.{is_outside}
-use Rattle.asm65.specs.Laid.{Spot}
+use Rattle.language65.specs.declared.fault.AsmFault.{AsmFault}
+use Rattle.language65.specs.Faults.{is_outside}
+use Rattle.language65.specs.Laid.{Spot}
 use Rattle.asm65.specs.Laying.{Measured, unless_fault}
 use Rattle.asm65.specs.LayoutViews.{standing_of}
 use Rattle.asm65.specs.Measuring.{measured_of, naming_fault}
-use Rattle.asm65.specs.Views.{all_of, stated_of}
+use Rattle.language65.specs.Views.{all_of, stated_of}
 use Rattle.asm65.proofs.Measuring.{measured_named, measured_refused, refused_same}
 use Rattle.asm65.proofs.laying.measuring.measure.Goals as goal
 

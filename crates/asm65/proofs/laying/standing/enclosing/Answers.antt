@@ -1,6 +1,6 @@
 use Rattle.std.proofs.Common.{◌∙◌, sym}
-use Rattle.asm65.specs.Views.{all_of}
-use Rattle.asm65.proofs.Scopes.{enclosing_is}
+use Rattle.language65.specs.Views.{all_of}
+use Rattle.symbols65.proofs.Scopes.{enclosing_is}
 use Rattle.asm65.proofs.laying.standing.enclosing.Goals as goal
 
 pub returns : goal.returns

@@ -1,6 +1,6 @@
 use Rattle.std.proofs.Common.{◌≡◌, ◌+◌, map, drop, sum_by}
-use Rattle.asm65.specs.Sizes.{item_len}
-use Rattle.asm65.specs.Views.{item_of}
+use Rattle.language65.specs.Sizes.{item_len}
+use Rattle.language65.specs.Views.{item_of}
 use Rattle.asm65.proofs.laying.measuring.bytes.room_behind.Given as goal
 
 abbrev pub invariant-loop-item : goal.invariant-loop-item

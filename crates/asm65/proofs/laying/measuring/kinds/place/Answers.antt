@@ -1,5 +1,5 @@
 use Rattle.std.proofs.Common.{sym}
-use Rattle.asm65.specs.Views.{all_of}
+use Rattle.language65.specs.Views.{all_of}
 use Rattle.asm65.proofs.laying.measuring.kinds.place.Goals as goal
 
 pub returns-in-Values-clause-placed : goal.returns-in-Values-clause-placed

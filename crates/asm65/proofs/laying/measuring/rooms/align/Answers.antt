@@ -3,15 +3,15 @@ use Rattle.std.specs.Prelude.{not, pos}
 use Rattle.std.specs.Option.{option_map}
 use Rattle.std.proofs.lemmas.Result.{err_from_is_err_and}
 use Rattle.syntax65.specs.Trees.{Tree, tree_of}
-use Rattle.asm65.specs.declared.fault.AsmFault.TheVariants.{BadOperand}
-use Rattle.asm65.specs.Laid.{Spot}
+use Rattle.language65.specs.declared.fault.AsmFault.TheVariants.{BadOperand}
+use Rattle.language65.specs.Laid.{Spot}
 use Rattle.asm65.specs.Laying.{unless_fault}
-use Rattle.asm65.specs.Layout.{spot_of}
+use Rattle.language65.specs.Layout.{spot_of}
 use Rattle.asm65.specs.LayoutViews.{standing_of}
-use Rattle.asm65.specs.LineFaults.{is_byte_value, when}
-use Rattle.asm65.specs.Norms.{constant_behind}
-use Rattle.asm65.specs.Sizes.{optional_value}
-use Rattle.asm65.specs.Views.{all_of}
+use Rattle.language65.specs.LineFaults.{is_byte_value, when}
+use Rattle.language65.specs.Norms.{constant_behind}
+use Rattle.language65.specs.Sizes.{optional_value}
+use Rattle.language65.specs.Views.{all_of}
 use Rattle.asm65.proofs.Measuring.{aligned_as, aligned_well, as_ok, bad_multiple, refused_same}
 use Rattle.asm65.proofs.laying.measuring.rooms.align.Goals as goal
 

@@ -1,8 +1,8 @@
 use Rattle.std.proofs.Common.{◌∙◌, ap, map, drop, ◌∷◌, [], ◌+◌, arith}
 use Rattle.std.proofs.lemmas.Result.{err_from_is_err_and}
 use Rattle.asm65.specs.Laying.{unless_fault}
-use Rattle.asm65.specs.LineFaults.{item_trees, lost_scopes}
-use Rattle.asm65.specs.Views.{all_of, item_of}
+use Rattle.language65.specs.LineFaults.{item_trees, lost_scopes}
+use Rattle.language65.specs.Views.{all_of, item_of}
 use Rattle.asm65.proofs.Measuring.{items_lost, left_behind, refused_first, refused_same}
 use Rattle.asm65.proofs.laying.measuring.trees.check_items.Goals as goal
 

@@ -1,6 +1,6 @@
 use Rattle.std.proofs.Common.{◌≡◌, map, drop}
-use Rattle.asm65.specs.LineFaults.{item_trees, lost_scopes}
-use Rattle.asm65.specs.Views.{all_of, item_of}
+use Rattle.language65.specs.LineFaults.{item_trees, lost_scopes}
+use Rattle.language65.specs.Views.{all_of, item_of}
 use Rattle.asm65.proofs.laying.measuring.trees.check_items.Given as goal
 
 abbrev pub invariant-loop-item : goal.invariant-loop-item

@@ -1,5 +1,5 @@
 use Rattle.std.proofs.Common.{ap, length, ◌∙◌}
-use Rattle.asm65.specs.Layout as layout
+use Rattle.language65.specs.Layout as layout
 use Rattle.asm65.proofs.Segments.{grown_length, grown_within, sound_grown}
 use Rattle.asm65.proofs.laying.standing.Standing.grow.Goals as goal
 

@@ -1,0 +1,66 @@
+-- Lists and names of which several crates speak.
+use Rattle.std.proofs.Common.{◌≡◌, ℕ, zero, suc, ◌+◌, ◌<◌, Bool, true, false, cond, List, [], ◌∷◌, ◌++◌, length, map, drop, get_or, take, add-one, position, Option, Some, None, refl, sym, ap, ◌∙◌, subst, arith}
+use Rattle.std.specs.Prelude.{OnOk, slice_get, Result, Ok, Err, if◌then◌else◌}
+use Rattle.std.specs.List.{position_from}
+use Rattle.std.specs.Str.{bytes_eq}
+use Rattle.std.proofs.lemmas.Iterator.Adapters.{position_from-zero}
+use Rattle.std.proofs.lemmas.Slice.Eq.{bytes_eq-Decides}
+
+-- ---- Lists.
+
+-- the rest of a list begins with the item at its place
+pub drop_item : {A : Type 0} (xs : List A) (i : ℕ) (x : A) → i < length xs → x ≡ get_or xs i x → drop i xs ≡ x ∷ drop (suc i) xs
+drop_item [] i x lt e = absurd (omega arith)
+drop_item (y ∷ xs) zero x lt e = ap (λ z. z ∷ xs) (sym e)
+drop_item (y ∷ xs) (suc i) x lt e = drop_item xs i x (omega arith) e
+
+pub one_taken : {A : Type 0} (xs : List A) (i : ℕ) (x : A) → slice_get xs i ≡ Some x → take i xs ++ x ∷ [] ≡ take (i + 1) xs
+one_taken {A = A} xs i x e = rw add-one (go xs i e)
+  where
+    go : (ys : List A) (j : ℕ) → slice_get ys j ≡ Some x → take j ys ++ x ∷ [] ≡ take (suc j) ys
+    go [] j e = absurd cc
+    go (y ∷ ys) zero e = let k : y ≡ x = cc in ap (λ z. z ∷ []) (sym k)
+    go (y ∷ ys) (suc j) e = ap (λ zs. y ∷ zs) (go ys j e)
+
+pub drop_mapped : {A B : Type 0} (f : A → B) (xs : List A) (i : ℕ) (x : A) → i < length xs → x ≡ get_or xs i x → drop i (map f xs) ≡ f x ∷ drop (suc i) (map f xs)
+drop_mapped f [] i x lt e = absurd (omega arith)
+drop_mapped f (y ∷ xs) zero x lt e = ap (λ z. f z ∷ map f xs) (sym e)
+drop_mapped f (y ∷ xs) (suc i) x lt e = drop_mapped f xs i x (omega arith) e
+
+pub map_length : {A B : Type 0} (f : A → B) (xs : List A) → length (map f xs) ≡ length xs
+map_length f [] = refl
+map_length f (x ∷ xs) = ap suc (map_length f xs)
+
+from_mapped : {A B : Type 0} (p : B → Bool) (f : A → B) (i : ℕ) (xs : List A) → position_from p i (map f xs) ≡ position_from (λ x. p (f x)) i xs
+from_mapped p f i [] = refl
+from_mapped p f i (x ∷ xs) = ap (cond (p (f x)) (Some i)) (from_mapped p f (i + 1) xs)
+
+pub position_mapped : {A B : Type 0} (p : B → Bool) (f : A → B) (xs : List A) → position p (map f xs) ≡ position (λ x. p (f x)) xs
+position_mapped p f xs = position_from-zero p (map f xs) ∙ from_mapped p f 0 xs ∙ sym (position_from-zero (λ x. p (f x)) xs)
+
+pub position_is : {A : Type 0} (p : A → Bool) (xs : List A) → position_from p 0 (drop 0 xs) ≡ position p xs
+position_is p xs = sym (position_from-zero p xs)
+
+-- ---- Names.
+
+-- two names of the same bytes are one
+pub same_bytes : (xs ys : List ℕ) → bytes_eq xs ys ≡ true → xs ≡ ys
+same_bytes xs ys e = grind (arith, bytes_eq-Decides xs ys)
+
+pub bytes_swap : (xs ys : List ℕ) → bytes_eq xs ys ≡ bytes_eq ys xs
+bytes_swap xs ys = by (bytes_eq xs ys) (bytes_eq ys xs) (λ e. same_bytes xs ys e) (λ e. same_bytes ys xs e) (λ e. subst (λ zs. bytes_eq ys zs ≡ true) e (itself ys)) (λ e. subst (λ zs. bytes_eq xs zs ≡ true) e (itself xs))
+  where
+    itself : (zs : List ℕ) → bytes_eq zs zs ≡ true
+    itself zs = grind (arith, bytes_eq-Decides zs zs)
+
+    by : (b c : Bool) → (b ≡ true → xs ≡ ys) → (c ≡ true → ys ≡ xs) → (ys ≡ xs → c ≡ true) → (xs ≡ ys → b ≡ true) → b ≡ c
+    by true true f g h k = refl
+    by false false f g h k = refl
+    by true false f g h k = sym (h (sym (f refl)))
+    by false true f g h k = k (sym (g refl))
+
+-- ---- Results.
+
+pub on_ok : {A E P Q : Type 0} (r : Result A E) → (P → Q) → OnOk r P → OnOk r Q
+on_ok (Ok x) f h = f h
+on_ok (Err e) f h = tt

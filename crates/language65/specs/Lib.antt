@@ -1,0 +1,12 @@
+pub mod Faults
+pub mod Language
+pub mod Laid
+pub mod Names
+pub mod Norms
+pub mod Sizes
+pub mod Layout
+pub mod LineFaults
+pub mod Contents
+pub mod Numbering
+pub mod Views
+pub mod Sound

@@ -1,0 +1,231 @@
+-- The faults that are found at a statement's line, in their order.
+use Rattle.std.specs.Prelude.{ℕ, zero, suc, ◌+◌, ◌-◌, ◌==◌, ℤ, pos, Bool, true, false, nat_le, nat_lt, not, ◌&&◌, List, [], ◌∷◌, ◌++◌, length, Option, Some, None, slice_get}
+use Rattle.std.specs.List.{list_any}
+use Rattle.syntax65.specs.Trees.{Tree, name, unary, binary}
+use Rattle.syntax65.specs.declared.lexing.tokens.AddressSize.{AddressSize}
+use Rattle.syntax65.specs.declared.lexing.tokens.AddressSize.TheVariants as size
+use Rattle.object65.specs.Objects.{section_limit}
+use Rattle.language65.specs.declared.contents.Segment.{Segment}
+use Rattle.language65.specs.declared.fault.AsmFault.{AsmFault}
+use Rattle.language65.specs.declared.fault.AsmFault.TheVariants.{NotUnderstood, NoSuchForm, DefinedTwice, SectionTooLarge, NoSuchScope, ScopeTwice, BadAlignment, PopWithoutPush, BadOperand, BadPart, SizeChanged, BadScope, FileNotFound}
+use Rattle.language65.specs.Language.{Item, value, text, Operand, no_operand, accumulator, immediate, address, indirect, indirect_x, indirect_y, Stated, cheap_label, constant, instruction, values, reserve, align, file_part, segment, pop_segment, open_scope, close_scope, close_proc, imports, exports, globals, forced, assertion}
+use Rattle.language65.specs.Laid.{Laid, Spot, defined_name, scope_name}
+use Rattle.language65.specs.Names.{defined_in, scope_in, scope_from, scopes_of, shown, is_cheap}
+use Rattle.language65.specs.Norms.{constant_behind}
+use Rattle.language65.specs.Sizes.{is_byte, mode_of, optional_value, length_of}
+use Rattle.language65.specs.Layout.{Standing, powers, segment_at, place_of, spot_of, own_size}
+
+-- the first of some faults, if there is one
+abbrev pub first_fault : List (Option AsmFault) → Option AsmFault
+first_fault [] = None
+first_fault (Some e ∷ es) = Some e
+first_fault (None ∷ es) = first_fault es
+
+abbrev pub when : Bool → AsmFault → Option AsmFault
+when true e = Some e
+when false e = None
+
+abbrev pub unless_there : {A : Type 0} → Option A → AsmFault → Option AsmFault
+unless_there None e = Some e
+unless_there (Some x) e = None
+
+abbrev pub where_there : {A : Type 0} → Option A → AsmFault → Option AsmFault
+where_there None e = None
+where_there (Some x) e = Some e
+
+-- ---- Names in the global scope alone.
+
+abbrev pub stands_outside : Stated → Bool
+stands_outside (imports s names) = true
+stands_outside (exports names) = true
+stands_outside (globals s names) = true
+stands_outside (forced names) = true
+stands_outside _ = false
+
+-- a scope that isn't the global one
+abbrev pub is_open : ℕ → Bool
+is_open zero = false
+is_open (suc i) = true
+
+-- ---- Scopes of names.
+
+abbrev pub operand_trees : Operand → List Tree
+operand_trees no_operand = []
+operand_trees accumulator = []
+operand_trees (immediate e) = e ∷ []
+operand_trees (address prefix e r) = e ∷ []
+operand_trees (indirect e) = e ∷ []
+operand_trees (indirect_x e) = e ∷ []
+operand_trees (indirect_y e) = e ∷ []
+
+abbrev pub item_trees : List Item → List Tree
+item_trees [] = []
+item_trees (value e ∷ items) = e ∷ item_trees items
+item_trees (text bytes ∷ items) = item_trees items
+
+abbrev pub optional_tree : Option Tree → List Tree
+optional_tree None = []
+optional_tree (Some e) = e ∷ []
+
+-- the expressions of a statement
+abbrev pub trees_of : Stated → List Tree
+trees_of (constant n e) = e ∷ []
+trees_of (instruction m operand) = operand_trees operand
+trees_of (values width items) = item_trees items
+trees_of (reserve n v) = n ∷ optional_tree v
+trees_of (align n v) = n ∷ optional_tree v
+trees_of (file_part bytes start len) = optional_tree start ++ optional_tree len
+trees_of (assertion e action words) = e ∷ []
+trees_of _ = []
+
+abbrev pub or_then : Option AsmFault → Option AsmFault → Option AsmFault
+or_then (Some e) other = Some e
+or_then None other = other
+
+-- the first name with `::` whose scope isn't open or closed before
+abbrev pub lost_scope : List Laid → ℕ → Tree → Option AsmFault
+lost_scope before scope (name false (n ∷ [])) = None
+lost_scope before scope (name global parts) = unless_there (scope_from before scope global (scopes_of parts)) (NoSuchScope (shown global parts))
+lost_scope before scope (unary op e) = lost_scope before scope e
+lost_scope before scope (binary op e f) = or_then (lost_scope before scope e) (lost_scope before scope f)
+lost_scope before scope _ = None
+
+abbrev pub lost_scopes : List Laid → ℕ → List Tree → Option AsmFault
+lost_scopes before scope [] = None
+lost_scopes before scope (e ∷ es) = or_then (lost_scope before scope e) (lost_scopes before scope es)
+
+-- ---- Names and scopes that are there already.
+
+abbrev pub opened_twice : List Laid → ℕ → Option (List ℕ) → Option AsmFault
+opened_twice before scope None = None
+opened_twice before scope (Some n) = where_there (scope_in before scope n) (ScopeTwice n)
+
+abbrev pub named_twice : List Laid → ℕ → Option (List ℕ) → Option AsmFault
+named_twice before scope None = None
+named_twice before scope (Some n) = where_there (defined_in before scope n) (DefinedTwice n)
+
+abbrev pub cheap_twice : List Laid → ℕ → Stated → Option AsmFault
+cheap_twice before region (cheap_label n) = when (list_any (λ l. l.spot.region == region && is_cheap n l.stated) before) (DefinedTwice n)
+cheap_twice before region _ = None
+
+abbrev pub defined_twice : List Laid → Spot → Stated → Option AsmFault
+defined_twice before s x = or_then (named_twice before s.scope (defined_name x)) (cheap_twice before s.region x)
+
+-- ---- Operands.
+
+abbrev pub form_fault : List Laid → Spot → AddressSize → Stated → Option AsmFault
+form_fault before s own (instruction m operand) = unless_there (mode_of before s own m operand) NoSuchForm
+form_fault before s own _ = None
+
+abbrev pub is_count : Option ℤ → Bool
+is_count (Some (pos n)) = true
+is_count _ = false
+
+abbrev pub is_byte_value : Option ℤ → Bool
+is_byte_value None = false
+is_byte_value (Some v) = is_byte v
+
+abbrev pub is_there : {A : Type 0} → Option A → Bool
+is_there None = false
+is_there (Some x) = true
+
+-- what has to be constant is, and lies in its range
+abbrev pub operand_fault : List Laid → Spot → Stated → Option AsmFault
+operand_fault before s (reserve n v) = when (not (is_count (constant_behind before s n) && is_byte_value (optional_value before s v (pos 0)))) BadOperand
+operand_fault before s (align n v) = when (not (is_there (constant_behind before s n) && is_byte_value (optional_value before s v (pos 0)))) BadOperand
+operand_fault before s (file_part bytes start len) = when (not (is_there (optional_value before s start (pos 0)) && is_there (optional_value before s len (pos 0)))) BadOperand
+operand_fault before s _ = None
+
+abbrev pub multiple_fault : Option ℤ → Option AsmFault
+multiple_fault (Some (pos n)) = when (not (list_any (λ m. m == n) powers)) BadAlignment
+multiple_fault _ = Some BadAlignment
+
+abbrev pub alignment_fault : List Laid → Spot → Stated → Option AsmFault
+alignment_fault before s (align n v) = multiple_fault (constant_behind before s n)
+alignment_fault before s _ = None
+
+-- ---- Files.
+
+abbrev pub file_limit : ℕ
+file_limit = 16777216
+
+abbrev pub missing_file : Stated → Option AsmFault
+missing_file (file_part bytes start len) = unless_there bytes FileNotFound
+missing_file _ = None
+
+-- a part of a file of so many bytes
+abbrev pub is_part : ℕ → Option ℤ → Option ℤ → Bool
+is_part count (Some (pos start)) (Some (pos len)) = nat_le (start + len) count
+is_part count _ _ = false
+
+abbrev pub left_from : ℕ → Option ℤ → ℤ
+left_from count (Some (pos start)) = pos (count - start)
+left_from count _ = pos 0
+
+abbrev pub part_fault : List Laid → Spot → Stated → Option AsmFault
+part_fault before s (file_part (Some bytes) start len) =
+    let from : Option ℤ = optional_value before s start (pos 0) in
+    when (not (nat_le (length bytes) file_limit && is_part (length bytes) from (optional_value before s len (left_from (length bytes) from)))) BadPart
+part_fault before s _ = None
+
+-- ---- Segments and blocks.
+
+abbrev pub same_size : AddressSize → AddressSize → Bool
+same_size size.ZeroPage size.ZeroPage = true
+same_size size.Absolute size.Absolute = true
+same_size _ _ = false
+
+abbrev pub changed_size : List Segment → Option AddressSize → Option ℕ → Option AsmFault
+changed_size gs (Some own) (Some i) = when (not (same_size own (segment_at gs i).size)) SizeChanged
+changed_size gs own place = None
+
+abbrev pub size_fault : List Segment → Stated → Option AsmFault
+size_fault gs (segment n own) = changed_size gs own (place_of gs n)
+size_fault gs _ = None
+
+abbrev pub is_scope : Option Laid → Bool
+is_scope None = false
+is_scope (Some l) = go l.stated
+  where
+    go : Stated → Bool
+    go (open_scope n) = true
+    go _ = false
+
+-- the statement that opened a scope
+abbrev pub opener : List Laid → ℕ → Option Laid
+opener before zero = None
+opener before (suc i) = slice_get before i
+
+-- a scope or a proc is closed by its own kind
+abbrev pub block_fault : List Laid → ℕ → Stated → Option AsmFault
+block_fault before scope close_scope = when (not (is_open scope && is_scope (opener before scope))) BadScope
+block_fault before scope close_proc = when (not (is_open scope && not (is_scope (opener before scope)))) BadScope
+block_fault before scope _ = None
+
+abbrev pub is_kept : List ℕ → Bool
+is_kept [] = false
+is_kept (k ∷ kept) = true
+
+abbrev pub pop_fault : List ℕ → Stated → Option AsmFault
+pop_fault kept pop_segment = when (not (is_kept kept)) PopWithoutPush
+pop_fault kept _ = None
+
+-- ---- The first fault of a statement that is understood, behind others.
+abbrev pub line_fault : List Laid → Standing → Stated → Option AsmFault
+line_fault before w x =
+    let s : Spot = spot_of w in
+    first_fault (
+    when (stands_outside x && is_open s.scope) NotUnderstood
+    ∷ lost_scopes before s.scope (trees_of x)
+    ∷ opened_twice before s.scope (scope_name x)
+    ∷ defined_twice before s x
+    ∷ form_fault before s (own_size w) x
+    ∷ operand_fault before s x
+    ∷ alignment_fault before s x
+    ∷ missing_file x
+    ∷ part_fault before s x
+    ∷ size_fault w.segments x
+    ∷ block_fault before s.scope x
+    ∷ pop_fault w.kept x
+    ∷ when (nat_lt section_limit (s.offset + length_of before s (own_size w) x)) SectionTooLarge
+    ∷ [])

@@ -1,0 +1,158 @@
+-- The object of a module's contents. Sections and imports have their numbers only here.
+use Rattle.std.specs.Prelude.{ℕ, zero, ◌+◌, nat_eq, Bool, true, false, not, List, [], ◌∷◌, ◌++◌, map, filter_map, Option, Some, None, unwrap_or, slice_get, if◌then◌else◌}
+use Rattle.std.specs.List.{position, list_any, flat_map, filter}
+use Rattle.std.specs.Str.{bytes_eq}
+use Rattle.object65.specs.Form.{Form, lit, sec, imp, prefix, binary}
+use Rattle.object65.specs.declared.object.Assert.{Assert}
+use Rattle.object65.specs.declared.object.Export.{Export}
+use Rattle.object65.specs.declared.object.Fragment.{Fragment}
+use Rattle.object65.specs.declared.object.Fragment.TheVariants.{Literal, Fill, Value}
+use Rattle.object65.specs.declared.object.Object.{Object}
+use Rattle.object65.specs.declared.object.Section.{Section}
+use Rattle.language65.specs.declared.contents.Content.{Content}
+use Rattle.language65.specs.declared.contents.Part.{Part}
+use Rattle.language65.specs.declared.contents.Part.TheVariants.{Known, Filled, Waiting}
+use Rattle.language65.specs.declared.contents.Said.{Said}
+use Rattle.language65.specs.declared.contents.Said.TheVariants.{Exported, Demanded, Checked}
+use Rattle.language65.specs.declared.contents.Segment.{Segment}
+use Rattle.language65.specs.Layout.{powers}
+
+-- ---- Numbers.
+
+-- keys behind those found, each once, in the order in which they first come
+abbrev pub once : List ℕ → List ℕ → List ℕ
+once found [] = found
+once found (k ∷ ks) = once (if list_any (nat_eq k) found then found else found ++ k ∷ []) ks
+
+abbrev pub number_of : List ℕ → ℕ → ℕ
+number_of keys k = unwrap_or (position (nat_eq k) keys) 0
+
+-- the form with the numbers of sections and imports
+abbrev pub numbered : (sections imports : List ℕ) → Form → Form
+numbered sections imports (lit v) = lit v
+numbered sections imports (sec g a) = sec (number_of sections g) a
+numbered sections imports (imp k) = imp (number_of imports k)
+numbered sections imports (prefix op f) = prefix op (numbered sections imports f)
+numbered sections imports (binary op f g) = binary op (numbered sections imports f) (numbered sections imports g)
+
+-- ---- Sections, in the order of the first statement that asks for one.
+
+abbrev pub segments_asked : List Content → List ℕ
+segments_asked cs = map (λ c. c.segment) (filter (λ c. c.asks) cs)
+
+abbrev pub section_keys : List Content → List ℕ
+section_keys cs = once [] (segments_asked cs)
+
+-- ---- Imports, in the order in which written forms first hold them.
+
+abbrev pub imports_in : Form → List ℕ
+imports_in (lit v) = []
+imports_in (sec g a) = []
+imports_in (imp k) = k ∷ []
+imports_in (prefix op f) = imports_in f
+imports_in (binary op f g) = imports_in f ++ imports_in g
+
+abbrev pub part_imports : Part → List ℕ
+part_imports (Known bytes) = []
+part_imports (Filled n) = []
+part_imports (Waiting width line f) = imports_in f
+
+abbrev pub optional_key : Option ℕ → List ℕ
+optional_key None = []
+optional_key (Some k) = k ∷ []
+
+-- the key of the first import of a name
+abbrev pub key_of : List (List ℕ) → List ℕ → Option ℕ
+key_of names n = position (λ m. bytes_eq m n) names
+
+-- names are those of all imports, in the order of their keys
+abbrev pub said_imports : List (List ℕ) → Said → List ℕ
+said_imports names (Exported n line f) = imports_in f
+said_imports names (Demanded n) = optional_key (key_of names n)
+said_imports names (Checked act line words f) = imports_in f
+
+abbrev pub content_imports : List (List ℕ) → Content → List ℕ
+content_imports names c = flat_map part_imports c.parts ++ flat_map (said_imports names) c.said
+
+abbrev pub import_keys : List (List ℕ) → List Content → List ℕ
+import_keys names cs = once [] (flat_map (content_imports names) cs)
+
+abbrev pub name_of : List (List ℕ) → ℕ → List ℕ
+name_of names k = unwrap_or (slice_get names k) []
+
+-- ---- Fragments.
+
+abbrev pub fragment_of : (sections imports : List ℕ) → Part → Fragment
+fragment_of sections imports (Known bytes) = Literal bytes
+fragment_of sections imports (Filled n) = Fill n
+fragment_of sections imports (Waiting width line f) = Value width line (numbered sections imports f)
+
+-- of no byte
+abbrev pub is_empty : Fragment → Bool
+is_empty (Literal []) = true
+is_empty (Fill zero) = true
+is_empty _ = false
+
+-- a fragment and those behind it, of which neighbours of one kind are one
+abbrev pub joined : Fragment → List Fragment → List Fragment
+joined f [] = f ∷ []
+joined (Literal a) (Literal b ∷ fs) = joined (Literal (a ++ b)) fs
+joined (Fill m) (Fill n ∷ fs) = joined (Fill (m + n)) fs
+joined f (g ∷ fs) = f ∷ joined g fs
+
+abbrev pub all_joined : List Fragment → List Fragment
+all_joined [] = []
+all_joined (f ∷ fs) = joined f fs
+
+-- the fragments of parts, without the empty ones
+abbrev pub fragments_of : (sections imports : List ℕ) → List Part → List Fragment
+fragments_of sections imports ps = filter (λ f. not (is_empty f)) (map (fragment_of sections imports) ps)
+
+-- what statements put into a segment
+abbrev pub parts_in : List Content → ℕ → List Part
+parts_in cs g = flat_map (λ c. c.parts) (filter (λ c. nat_eq c.segment g) cs)
+
+-- ---- Sections.
+
+abbrev pub segment_name : Option Segment → List ℕ
+segment_name None = []
+segment_name (Some s) = s.name
+
+-- the power of two to a multiple of which a segment is aligned
+abbrev pub segment_power : Option Segment → ℕ
+segment_power None = 0
+segment_power (Some s) = number_of powers s.align
+
+abbrev pub section_of : List Segment → (sections imports : List ℕ) → List Content → ℕ → Section
+section_of segments sections imports cs g = record {
+  name = segment_name (slice_get segments g);
+  align = segment_power (slice_get segments g);
+  fragments = all_joined (fragments_of sections imports (parts_in cs g));
+}
+
+-- ---- Exports, each once, and assertions.
+
+abbrev pub exports_among : (sections imports : List ℕ) → List Export → List Said → List Export
+exports_among sections imports found [] = found
+exports_among sections imports found (Exported n line f ∷ ss) =
+    exports_among sections imports (if list_any (λ e. bytes_eq n e.name) found then found else found ++ record { name = n; line = line; form = numbered sections imports f } ∷ []) ss
+exports_among sections imports found (s ∷ ss) = exports_among sections imports found ss
+
+abbrev pub assert_of : (sections imports : List ℕ) → Said → Option Assert
+assert_of sections imports (Checked act line words f) = Some (record { action = act; line = line; text = words; form = numbered sections imports f })
+assert_of sections imports _ = None
+
+abbrev pub all_said : List Content → List Said
+all_said cs = flat_map (λ c. c.said) cs
+
+-- ---- The object.
+abbrev pub object_with : List Segment → List (List ℕ) → List Content → Object
+object_with segments names cs =
+    let sections : List ℕ = section_keys cs in
+    let imports : List ℕ = import_keys names cs in
+    record {
+      imports = map (name_of names) imports;
+      sections = map (section_of segments sections imports cs) sections;
+      exports = exports_among sections imports [] (all_said cs);
+      asserts = filter_map (assert_of sections imports) (all_said cs);
+    }

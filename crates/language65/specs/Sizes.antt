@@ -1,0 +1,185 @@
+-- Address sizes, the forms of instructions, and how many bytes a statement places.
+use Rattle.std.specs.Prelude.{ℕ, suc, ◌+◌, ◌-◌, ℤ, pos, negsuc, Bool, true, false, nat_lt, List, [], length, take, drop, sum_by, Option, Some, None, slice_get, Result, Ok, Err, if◌then◌else◌}
+use Rattle.std.specs.Int.{next_multiple_of}
+use Rattle.std.specs.List.{list_any}
+use Rattle.std.specs.Str.{bytes_eq}
+use Rattle.syntax65.specs.Opcodes.{opcode_of}
+use Rattle.syntax65.specs.Trees.{Tree, number, here, unary, binary}
+use Rattle.syntax65.specs.declared.instructions.codes.Mode.{Mode}
+use Rattle.syntax65.specs.declared.instructions.codes.Mode.TheVariants.{Implied, Accumulator, Immediate, ZeroPage, ZeroPageX, ZeroPageY, Absolute, AbsoluteX, AbsoluteY, Indirect, IndirectX, IndirectY, Relative}
+use Rattle.syntax65.specs.declared.instructions.names.Mnemonic.{Mnemonic}
+use Rattle.syntax65.specs.declared.lexing.tokens.AddressSize.{AddressSize}
+use Rattle.syntax65.specs.declared.lexing.tokens.AddressSize.TheVariants as size
+use Rattle.syntax65.specs.declared.values.Op1.{Op1}
+use Rattle.syntax65.specs.declared.values.Op1.TheVariants.{LowByte, HighByte, BankByte}
+use Rattle.object65.specs.declared.object.Width.{Width}
+use Rattle.object65.specs.declared.object.Width.TheVariants.{Byte, Word, Branch}
+use Rattle.object65.specs.Objects.{width_len}
+use Rattle.language65.specs.declared.fault.AsmFault.{AsmFault}
+use Rattle.language65.specs.declared.language.Index.{Index}
+use Rattle.language65.specs.declared.language.Index.TheVariants as index
+use Rattle.language65.specs.Language.{Item, value, text, Operand, no_operand, accumulator, immediate, address, indirect, indirect_x, indirect_y, Stated, instruction, values, reserve, align, file_part, imports, globals}
+use Rattle.language65.specs.Laid.{Laid, Spot}
+use Rattle.language65.specs.Names.{Meaning, defined_at, imported_as, imported_names, meaning_of}
+use Rattle.language65.specs.Norms.{constant_behind}
+
+-- ---- Address sizes.
+
+abbrev pub is_byte : ℤ → Bool
+is_byte (pos n) = nat_lt n 256
+is_byte (negsuc n) = false
+
+abbrev pub size_of_value : ℤ → AddressSize
+size_of_value v = if is_byte v then size.ZeroPage else size.Absolute
+
+-- the larger of two
+abbrev pub larger : AddressSize → AddressSize → AddressSize
+larger size.ZeroPage b = b
+larger size.Absolute b = size.Absolute
+
+abbrev pub takes_byte : Op1 → Bool
+takes_byte LowByte = true
+takes_byte HighByte = true
+takes_byte BankByte = true
+takes_byte _ = false
+
+-- the names that were imported for the zero page
+abbrev pub zero_page_names : Stated → List (List ℕ)
+zero_page_names (imports size.ZeroPage names) = names
+zero_page_names (globals size.ZeroPage names) = names
+zero_page_names _ = []
+
+abbrev pub is_zero_page_name : List Laid → List ℕ → Bool
+is_zero_page_name before n = list_any (λ l. list_any (λ m. bytes_eq m n) (zero_page_names l.stated)) before
+
+abbrev pub size_of_laid : Option Laid → AddressSize
+size_of_laid None = size.Absolute
+size_of_laid (Some l) = l.size
+
+abbrev pub size_of_import : List Laid → Option (List ℕ) → AddressSize
+size_of_import before None = size.Absolute
+size_of_import before (Some n) = if is_zero_page_name before n then size.ZeroPage else size.Absolute
+
+abbrev pub size_of_meaning : List Laid → Result Meaning AsmFault → AddressSize
+size_of_meaning before (Ok (defined_at j)) = size_of_laid (slice_get before j)
+size_of_meaning before (Ok (imported_as k)) = size_of_import before (slice_get (imported_names [] before) k)
+size_of_meaning before (Err e) = size.Absolute
+
+abbrev pub size_by : AddressSize → Option ℤ → AddressSize
+size_by other None = other
+size_by other (Some v) = size_of_value v
+
+-- The size of an expression behind these statements, where the segment has this size: that of its value where it is
+-- constant; a byte behind `<`, `>` and `^`; else that of what it names, and the largest of its parts.
+abbrev pub size_of : List Laid → Spot → AddressSize → Tree → AddressSize
+size_of before s own (unary op e) = size_by (if takes_byte op then size.ZeroPage else size_of before s own e) (constant_behind before s (unary op e))
+size_of before s own (binary op e f) = size_by (larger (size_of before s own e) (size_of before s own f)) (constant_behind before s (binary op e f))
+size_of before s own here = own
+size_of before s own (number v) = size_of_value (pos v)
+size_of before s own e = size_by (size_of_meaning before (meaning_of before (length before) (length before) s e)) (constant_behind before s e)
+
+-- ---- Instructions.
+
+abbrev pub mode_for : AddressSize → Option Index → Mode
+mode_for size.ZeroPage None = ZeroPage
+mode_for size.ZeroPage (Some index.X) = ZeroPageX
+mode_for size.ZeroPage (Some index.Y) = ZeroPageY
+mode_for size.Absolute None = Absolute
+mode_for size.Absolute (Some index.X) = AbsoluteX
+mode_for size.Absolute (Some index.Y) = AbsoluteY
+
+-- the first of two forms that the instruction has
+abbrev pub first_of : Mnemonic → Mode → Mode → Option Mode
+first_of m a b = go (opcode_of m a) (opcode_of m b)
+  where
+    go : Option ℕ → Option ℕ → Option Mode
+    go (Some x) other = Some a
+    go None (Some y) = Some b
+    go None None = None
+
+-- the form of an address that a prefix forces, or that goes by the size of its expression
+abbrev pub address_mode : Mnemonic → Option AddressSize → AddressSize → Option Index → Option Mode
+address_mode m (Some forced) own r = first_of m (mode_for forced r) (mode_for forced r)
+address_mode m None size.ZeroPage r = first_of m (mode_for size.ZeroPage r) (mode_for size.Absolute r)
+address_mode m None size.Absolute r = first_of m (mode_for size.Absolute r) (mode_for size.ZeroPage r)
+
+abbrev pub is_branch : Mnemonic → Bool
+is_branch m = go (opcode_of m Relative)
+  where
+    go : Option ℕ → Bool
+    go None = false
+    go (Some x) = true
+
+-- a branch takes a target alone, without a prefix
+abbrev pub branch_mode : Option AddressSize → Option Index → Option Mode
+branch_mode None None = Some Relative
+branch_mode forced r = None
+
+-- the addressing form of an operand, if the instruction has it
+abbrev pub mode_of : List Laid → Spot → AddressSize → Mnemonic → Operand → Option Mode
+mode_of before s own m no_operand = first_of m Implied Accumulator
+mode_of before s own m accumulator = first_of m Accumulator Accumulator
+mode_of before s own m (immediate e) = first_of m Immediate Immediate
+mode_of before s own m (address forced e r) = if is_branch m then branch_mode forced r else address_mode m forced (size_of before s own e) r
+mode_of before s own m (indirect e) = first_of m Indirect Indirect
+mode_of before s own m (indirect_x e) = first_of m IndirectX IndirectX
+mode_of before s own m (indirect_y e) = first_of m IndirectY IndirectY
+
+-- how the operand of a form is stored
+abbrev pub width_of : Mode → Option Width
+width_of Implied = None
+width_of Accumulator = None
+width_of Absolute = Some Word
+width_of AbsoluteX = Some Word
+width_of AbsoluteY = Some Word
+width_of Indirect = Some Word
+width_of Relative = Some Branch
+width_of _ = Some Byte
+
+-- ---- Lengths.
+
+abbrev pub item_len : Width → Item → ℕ
+item_len width (value e) = width_len width
+item_len width (text bytes) = length bytes
+
+abbrev pub operand_len : Option Width → ℕ
+operand_len None = 0
+operand_len (Some width) = width_len width
+
+abbrev pub mode_len : Option Mode → ℕ
+mode_len None = 0
+mode_len (Some mode) = 1 + operand_len (width_of mode)
+
+-- a number of bytes
+abbrev pub counted : Option ℤ → ℕ
+counted (Some (pos n)) = n
+counted _ = 0
+
+abbrev pub optional_value : List Laid → Spot → Option Tree → ℤ → Option ℤ
+optional_value before s None default = Some default
+optional_value before s (Some e) default = constant_behind before s e
+
+-- how far the end of the section moves up to a multiple
+abbrev pub gap : ℕ → Option ℤ → ℕ
+gap offset (Some (pos (suc n))) = next_multiple_of offset (suc n) - offset
+gap offset _ = 0
+
+-- the bytes of a file from a start on, so many or all that follow
+abbrev pub bytes_between : List ℕ → ℕ → Option ℤ → List ℕ
+bytes_between bytes start None = []
+bytes_between bytes start (Some len) = take (counted (Some len)) (drop start bytes)
+
+abbrev pub part_of : List Laid → Spot → Option (List ℕ) → Option Tree → Option Tree → List ℕ
+part_of before s None start len = []
+part_of before s (Some bytes) start len =
+    let from : ℕ = counted (optional_value before s start (pos 0)) in
+    bytes_between bytes from (optional_value before s len (pos (length bytes - from)))
+
+-- How many bytes a statement places, behind these statements and where the segment has this size.
+abbrev pub length_of : List Laid → Spot → AddressSize → Stated → ℕ
+length_of before s own (instruction m operand) = mode_len (mode_of before s own m operand)
+length_of before s own (values width items) = sum_by (item_len width) items
+length_of before s own (reserve n v) = counted (constant_behind before s n)
+length_of before s own (align n v) = gap s.offset (constant_behind before s n)
+length_of before s own (file_part bytes start len) = length (part_of before s bytes start len)
+length_of before s own _ = 0

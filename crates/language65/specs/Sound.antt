@@ -1,0 +1,100 @@
+-- What holds of a module's statements and of their contents, so that their object is one of the grammar.
+use Rattle.std.specs.Prelude.{◌≡◌, ℕ, ◌≤◌, ◌<◌, nat_eq, nat_lt, true, false, List, [], ◌∷◌, ◌++◌, length, map, sum_by, slice_get, take, Some, ⊤}
+use Rattle.std.specs.List.{list_all, list_any, filter, AllByRecursion}
+use Rattle.syntax65.specs.Tokens.{Lexeme}
+use Rattle.syntax65.specs.declared.lexing.tokens.TokenKind.{TokenKind}
+use Rattle.syntax65.specs.declared.lexing.tokens.TokenKind.TheVariants as token
+use Rattle.object65.specs.Folding.{is_literal}
+use Rattle.object65.specs.Form.{Form, lit, sec, imp, prefix, binary}
+use Rattle.object65.specs.Laws.{IsFolded}
+use Rattle.object65.specs.Objects.{are_names, is_name, section_limit, width_len}
+use Rattle.language65.specs.declared.contents.Content.{Content}
+use Rattle.language65.specs.declared.contents.Part.{Part}
+use Rattle.language65.specs.declared.contents.Part.TheVariants.{Known, Filled, Waiting}
+use Rattle.language65.specs.declared.contents.Said.{Said}
+use Rattle.language65.specs.declared.contents.Said.TheVariants.{Exported, Demanded, Checked}
+use Rattle.language65.specs.declared.contents.Segment.{Segment}
+use Rattle.language65.specs.Language as l
+use Rattle.language65.specs.Laid.{Laid}
+use Rattle.language65.specs.Layout.{Layout}
+use Rattle.language65.specs.Numbering.{imports_in, parts_in, section_keys}
+use Rattle.language65.specs.Sizes.{length_of}
+
+-- ---- Tokens and statements.
+
+-- an identifier is a name that objects can hold
+abbrev pub IsNamed : TokenKind → List ℕ → Type 0
+IsNamed token.Identifier t = is_name t ≡ true
+IsNamed _ t = ⊤
+
+abbrev pub AreNamed : List Lexeme → Type 0
+AreNamed ts = AllByRecursion (λ t. IsNamed t.0 t.1) ts
+
+-- what a statement hands to the object are names, and texts that are short enough
+abbrev pub IsSound : l.Stated → Type 0
+IsSound (l.segment n own) = is_name n ≡ true
+IsSound (l.imports own names) = list_all is_name names ≡ true
+IsSound (l.exports names) = list_all is_name names ≡ true
+IsSound (l.globals own names) = list_all is_name names ≡ true
+IsSound (l.forced names) = list_all is_name names ≡ true
+IsSound (l.assertion e action words) = length words < 256
+IsSound _ = ⊤
+
+-- ---- Layouts.
+
+abbrev pub statements_in : List Laid → ℕ → List Laid
+statements_in ls g = filter (λ l. nat_eq l.spot.segment g) ls
+
+-- a statement places as many bytes as is said behind those before it
+abbrev pub IsMeasured : List Laid → Laid → Type 0
+IsMeasured before l = l.length ≡ length_of before l.spot l.size l.stated
+
+pub record IsSoundLayout (y : Layout) : Type 0 where
+  pub named : are_names (map (λ g. g.name) y.standing.segments) ≡ true
+  pub sound : AllByRecursion (λ l. IsSound l.stated) y.laid
+  pub standing : AllByRecursion (λ l. l.spot.segment < length y.standing.segments) y.laid
+  pub measured : (i : ℕ) (l : Laid) → slice_get y.laid i ≡ Some l → IsMeasured (take i y.laid) l
+  pub room : (g : ℕ) → sum_by (λ l. l.length) (statements_in y.laid g) ≤ section_limit
+
+-- ---- Contents.
+
+-- the segments whose sections a form holds
+abbrev pub sections_in : Form → List ℕ
+sections_in (lit v) = []
+sections_in (sec g a) = g ∷ []
+sections_in (imp k) = []
+sections_in (prefix op f) = sections_in f
+sections_in (binary op f g) = sections_in f ++ sections_in g
+
+-- a form that can be written, where these segments have sections and there are so many imports
+pub record IsSoundForm (asked : List ℕ) (count : ℕ) (f : Form) : Type 0 where
+  pub folded : IsFolded f
+  pub sections : list_all (λ g. list_any (nat_eq g) asked) (sections_in f) ≡ true
+  pub imports : list_all (λ k. nat_lt k count) (imports_in f) ≡ true
+
+abbrev pub IsSoundPart : List ℕ → ℕ → Part → Type 0
+IsSoundPart asked count (Known bytes) = ⊤
+IsSoundPart asked count (Filled n) = ⊤
+IsSoundPart asked count (Waiting width line f) = IsSoundForm asked count f × (is_literal f ≡ false)
+
+abbrev pub IsSoundSaid : List ℕ → ℕ → Said → Type 0
+IsSoundSaid asked count (Exported n line f) = (is_name n ≡ true) × IsSoundForm asked count f
+IsSoundSaid asked count (Demanded n) = ⊤
+IsSoundSaid asked count (Checked act line words f) = (length words < 256) × IsSoundForm asked count f × (is_literal f ≡ false)
+
+pub record IsSoundContent (asked : List ℕ) (count : ℕ) (c : Content) : Type 0 where
+  pub parts : AllByRecursion (IsSoundPart asked count) c.parts
+  pub said : AllByRecursion (IsSoundSaid asked count) c.said
+
+abbrev pub part_len : Part → ℕ
+part_len (Known bytes) = length bytes
+part_len (Filled n) = n
+part_len (Waiting width line f) = width_len width
+
+-- what the object of contents with these segments and imports rests on
+pub record AreSound (segments : List Segment) (names : List (List ℕ)) (cs : List Content) : Type 0 where
+  pub named : are_names (map (λ g. g.name) segments) ≡ true
+  pub imported : are_names names ≡ true
+  pub standing : AllByRecursion (λ c. c.segment < length segments) cs
+  pub room : (g : ℕ) → sum_by part_len (parts_in cs g) ≤ section_limit
+  pub contents : AllByRecursion (IsSoundContent (section_keys cs) (length names)) cs

@@ -1,0 +1,13 @@
+//! The assembler's language: its statements as data, what they lie by, what they put into an object, the faults of a
+//! source, and the definitions of what all this means.
+#![tactic(auto)]
+
+mod contents;
+mod fault;
+mod laid;
+mod language;
+
+pub use contents::{Content, Part, Said, Segment};
+pub use fault::{AsmFault, SourceFault};
+pub use laid::{Laid, Settled, Spot};
+pub use language::{Index, Item, Operand, Statement};

@@ -1,0 +1,47 @@
+-- Objects in the making whose numbers are those of their types.
+use Rattle.std.proofs.Common.{◌≡◌, ℕ, zero, suc, Bool, true, false, List, [], ◌∷◌, ◌++◌, cond, get_or, map, slice_set, Option, Some, sym, subst}
+use Rattle.std.specs.List.{AllByRecursion}
+use Rattle.object65.specs.declared.object.Fragment.{Fragment}
+use Rattle.object65.specs.declared.object.Fragment.TheVariants.{Literal}
+use Rattle.object65.specs.declared.object.Section.{Section}
+use Rattle.object65.specs.Objects.{FragmentFits}
+use Rattle.language65.specs.declared.contents.Segment.{Segment}
+use Rattle.sections65.specs.declared.numbering.drafts.Draft.{Draft}
+use Rattle.sections65.specs.Drafts.{DraftFits, all_of_draft, begun, grown, new_draft, optional_fragment, section_from, with_fragment}
+use Rattle.language65.specs.Numbering.{is_empty}
+
+pub all_more : {A : Type 0} (P : A → Type 0) (xs ys : List A) → AllByRecursion P xs → AllByRecursion P ys → AllByRecursion P (xs ++ ys)
+all_more P [] ys h g = g
+all_more P (x ∷ xs) ys h g = (h.0, all_more P xs ys h.1 g)
+
+-- one item is changed to one of the same kind
+pub set_keeps : {A : Type 0} (P : A → Type 0) (xs : List A) (at : ℕ) (d e : A) → d ≡ get_or xs at d → (P d → P e) → AllByRecursion P xs → AllByRecursion P (slice_set xs at e)
+set_keeps P [] at d e is step h = tt
+set_keeps P (x ∷ xs) zero d e is step h = (step (subst P (sym is) h.0), h.1)
+set_keeps P (x ∷ xs) (suc at) d e is step h = (h.0, set_keeps P xs at d e is step h.1)
+
+pub all_fits : (d : Draft) → DraftFits d → AllByRecursion FragmentFits (all_of_draft d)
+all_fits d h = all_more FragmentFits d.done (optional_fragment d.last) h.done h.last
+
+pub begun_fits : (d : Draft) (f : Fragment) → DraftFits d → FragmentFits f → DraftFits (begun d f)
+begun_fits d f h g = record { done = all_fits d h; last = (g, tt) }
+
+grown_fits : (d : Draft) (bytes : List ℕ) → DraftFits d → (o : Option Fragment) → DraftFits (grown d o (Literal bytes))
+grown_fits d bytes h (Some (Literal a)) = record { done = h.done; last = (tt, tt) }
+grown_fits d bytes h _ = begun_fits d (Literal bytes) h tt
+
+-- more bytes always fit
+pub bytes_fit : (d : Draft) (bytes : List ℕ) → DraftFits d → DraftFits (with_fragment d (Literal bytes))
+bytes_fit d bytes h = by (is_empty (Literal bytes))
+  where
+    by : (b : Bool) → DraftFits (cond b d (grown d d.last (Literal bytes)))
+    by true = h
+    by false = grown_fits d bytes h d.last
+
+pub new_fit : (keys : List ℕ) → AllByRecursion DraftFits (map new_draft keys)
+new_fit [] = tt
+new_fit (k ∷ keys) = (record { done = tt; last = tt }, new_fit keys)
+
+pub sections_fit : (segments : List Segment) (ds : List Draft) → AllByRecursion DraftFits ds → AllByRecursion (λ (s : Section). AllByRecursion FragmentFits s.fragments) (map (section_from segments) ds)
+sections_fit segments [] h = tt
+sections_fit segments (d ∷ ds) h = (all_fits d h.0, sections_fit segments ds h.1)

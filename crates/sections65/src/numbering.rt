@@ -1,0 +1,161 @@
+//! From the contents of statements to the object.
+
+ghost use Rattle.std.specs.Prelude.{◌≡◌, map, nat_eq, slice_get, option_copied, true, IfOk};
+ghost use Rattle.std.specs.List.{IsDistinct};
+ghost use Rattle.object65.specs.Objects.{is_good_object, ObjectFits};
+ghost use Rattle.sections65.specs.Drafts.{all_of_draft, section_from};
+ghost use Rattle.language65.specs.Layout.{powers};
+ghost use Rattle.language65.specs.Numbering.{name_of, number_of, object_with, section_of, segment_name, segment_power};
+ghost use Rattle.language65.specs.Sound.{AreSound};
+
+mod drafts;
+mod exports;
+mod keys;
+mod names;
+mod numbers;
+
+use drafts::{Draft, copy_of, filled};
+use exports::{asserts_of, exports_of};
+use keys::{import_keys, section_keys};
+use language65::{Content, Segment};
+use numbers::Numbers;
+use object65::{Fragment, Object, Section};
+use std::alloc::{AllocError, Global};
+use syntax65::Sequence;
+
+/// The power of two to a multiple of which a segment is aligned.
+fn power_of(align: u32) -> u8
+    ensures { result ≡ number_of powers align }
+{
+    match align {
+        2 => 1,
+        4 => 2,
+        8 => 3,
+        16 => 4,
+        32 => 5,
+        64 => 6,
+        128 => 7,
+        256 => 8,
+        512 => 9,
+        1024 => 10,
+        2048 => 11,
+        4096 => 12,
+        8192 => 13,
+        16384 => 14,
+        32768 => 15,
+        _ => 0,
+    }
+}
+
+/// The name of a segment's section.
+fn section_name(alloc: Global, segment: Option<&Segment>) -> Result<Sequence<u8>, AllocError>
+    ensures { IfOk result (λ s. s ≡ segment_name (option_copied segment.entry)) }
+{
+    match segment {
+        Some(segment) => copy_of(alloc, segment.name.as_slice()),
+        None => Ok(Sequence::new(alloc)),
+    }
+}
+
+/// The alignment of a segment's section.
+fn section_power(segment: Option<&Segment>) -> u8
+    ensures { result ≡ segment_power (option_copied segment.entry) }
+{
+    match segment {
+        Some(segment) => power_of(segment.align),
+        None => 0,
+    }
+}
+
+/// The fragments of a section that is full.
+fn fragments_of(draft: Draft) -> Result<Sequence<Fragment>, AllocError>
+    ensures { IfOk result (λ fragments. fragments ≡ all_of_draft draft) }
+{
+    let Draft {
+        segment: _,
+        done,
+        last,
+    } = draft;
+    let mut fragments = done;
+    if let Some(last) = last {
+        fragments.push(last)?;
+    }
+    Ok(fragments)
+}
+
+/// The section of what was put into a segment.
+fn finish_section(alloc: Global, segments: &[Segment], draft: Draft) -> Result<Section, AllocError>
+    ensures { IfOk result (λ s. s ≡ section_from segments.now draft) }
+{
+    let segment = segments.get(draft.segment as usize);
+    Ok(Section {
+        name: section_name(alloc, segment)?,
+        align: section_power(segment),
+        fragments: fragments_of(draft)?,
+    })
+}
+
+/// The sections of a module.
+fn finish_sections(
+    alloc: Global,
+    segments: &[Segment],
+    drafts: Vec<Draft>,
+) -> Result<Sequence<Section>, AllocError>
+    ensures { IfOk result (λ sections. sections ≡ map (section_from segments.now) drafts.items) }
+{
+    let mut sections = Sequence::new(alloc);
+    for draft in drafts {
+        sections.push(finish_section(alloc, segments, draft)?)?;
+    }
+    Ok(sections)
+}
+
+/// The name of an import, empty where it has none.
+fn import_name(alloc: Global, names: &[Sequence<u8>], key: u32) -> Result<Sequence<u8>, AllocError>
+    ensures { IfOk result (λ name. name ≡ name_of names.now key) }
+{
+    match names.get(key as usize) {
+        Some(name) => copy_of(alloc, name.as_slice()),
+        None => Ok(Sequence::new(alloc)),
+    }
+}
+
+/// The names of imports.
+fn import_names(
+    alloc: Global,
+    names: &[Sequence<u8>],
+    keys: &[u32],
+) -> Result<Sequence<Sequence<u8>>, AllocError>
+    ensures { IfOk result (λ found. found ≡ map (name_of names.now) keys.now) }
+{
+    let mut found = Sequence::new(alloc);
+    for key in keys {
+        found.push(import_name(alloc, names, *key)?)?;
+    }
+    Ok(found)
+}
+
+/// The object of a module: of its segments, the names of its imports in the order of their keys, and the contents of its
+/// statements.
+pub fn object_of(
+    alloc: Global,
+    segments: &[Segment],
+    names: &[Sequence<u8>],
+    contents: &[Content],
+) -> Result<Object, AllocError>
+    ensures object { IfOk result (λ o. o ≡ object_with segments.now names.now contents.now) }
+    ensures fits { IfOk result ObjectFits }
+    ensures good { IfOk result (λ o. AreSound segments.now names.now contents.now → is_good_object o ≡ true) }
+{
+    let numbers = Numbers {
+        sections: section_keys(alloc, contents)?,
+        imports: import_keys(alloc, names, contents)?,
+    };
+    let drafts = filled(alloc, &numbers, contents)?;
+    Ok(Object {
+        imports: import_names(alloc, names, numbers.imports.as_slice())?,
+        sections: finish_sections(alloc, segments, drafts)?,
+        exports: exports_of(alloc, &numbers, contents)?,
+        asserts: asserts_of(alloc, &numbers, contents)?,
+    })
+}

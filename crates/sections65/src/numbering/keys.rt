@@ -1,0 +1,155 @@
+//! The keys of the sections and imports that an object has, in the order of their numbers.
+
+ghost use Rattle.std.specs.Prelude.{◌≡◌, nat_eq, IfOk, OnOk};
+ghost use Rattle.std.specs.List.{flat_map};
+ghost use Rattle.indexmap.specs.IndexSet.{IsUnique};
+ghost use Rattle.sections65.specs.Drafts.{IsTable};
+ghost use Rattle.language65.specs.Numbering.{content_imports, import_keys, imports_in, key_of, once, optional_key, part_imports, said_imports, section_keys};
+
+use super::names::ImportTable;
+use indexmap::IndexSet;
+use language65::{Content, Part, Said};
+use object65::{Node, Norm};
+use std::alloc::{AllocError, Global};
+use syntax65::Sequence;
+
+/// The segments that have a section.
+pub fn section_keys(alloc: Global, contents: &[Content]) -> Result<IndexSet<u32>, AllocError>
+    ensures keys { IfOk result (λ s. s.keys ≡ section_keys contents.now) }
+{
+    let mut keys = IndexSet::new(alloc);
+    for content in contents {
+        if content.asks {
+            keys.insert(content.segment)?;
+        }
+    }
+    Ok(keys)
+}
+
+/// Adds the imports that a form holds.
+#[tactic(auto, using(crate::proofs::Keys::once_append))]
+fn add_form(keys: &mut IndexSet<u32>, form: &Norm) -> Result<(), AllocError>
+    ensures { OnOk result (keys.new.keys ≡ once keys.old.keys (imports_in form.now)) }
+{
+    match form.node() {
+        Node::Lit(_) | Node::Sec(_, _) => Ok(()),
+        Node::Imp(key) => {
+            keys.insert(*key)?;
+            Ok(())
+        }
+        Node::Prefix(_, part) => add_form(keys, part),
+        Node::Binary(_, left, right) => {
+            add_form(keys, left)?;
+            add_form(keys, right)
+        }
+    }
+}
+
+/// Adds the imports of a part.
+fn add_part(keys: &mut IndexSet<u32>, part: &Part) -> Result<(), AllocError>
+    ensures { OnOk result (keys.new.keys ≡ once keys.old.keys (part_imports part.now)) }
+{
+    match part {
+        Part::Known(_) | Part::Filled(_) => Ok(()),
+        Part::Waiting {
+            width: _,
+            line: _,
+            form,
+        } => add_form(keys, form),
+    }
+}
+
+/// Adds the imports of parts.
+fn add_parts(keys: &mut IndexSet<u32>, parts: &[Part]) -> Result<(), AllocError>
+    ensures { OnOk result (keys.new.keys ≡ once keys.old.keys (flat_map part_imports parts.now)) }
+{
+    for part in parts {
+        add_part(keys, part)?;
+    }
+    Ok(())
+}
+
+/// Adds the import of a name, if there is one.
+fn add_name(
+    keys: &mut IndexSet<u32>,
+    names: &ImportTable<'_>,
+    name: &[u8],
+) -> Result<(), AllocError>
+    requires { IsTable names.now }
+    ensures { OnOk result (keys.new.keys ≡ once keys.old.keys (optional_key (key_of names.now.all.now name.now))) }
+{
+    if let Some(key) = names.get(name) {
+        keys.insert(key)?;
+    }
+    Ok(())
+}
+
+/// Adds the imports of what a statement says.
+fn add_saying(
+    keys: &mut IndexSet<u32>,
+    names: &ImportTable<'_>,
+    said: &Said,
+) -> Result<(), AllocError>
+    requires { IsTable names.now }
+    ensures { OnOk result (keys.new.keys ≡ once keys.old.keys (said_imports names.now.all.now said.now)) }
+{
+    match said {
+        Said::Exported {
+            name: _,
+            line: _,
+            form,
+        } => add_form(keys, form),
+        Said::Demanded(name) => add_name(keys, names, name.as_slice()),
+        Said::Checked {
+            action: _,
+            line: _,
+            text: _,
+            form,
+        } => add_form(keys, form),
+    }
+}
+
+/// Adds the imports of all that a statement says.
+fn add_said(
+    keys: &mut IndexSet<u32>,
+    names: &ImportTable<'_>,
+    said: &[Said],
+) -> Result<(), AllocError>
+    requires { IsTable names.now }
+    ensures { OnOk result (keys.new.keys ≡ once keys.old.keys (flat_map (said_imports names.now.all.now) said.now)) }
+{
+    for saying in said {
+        add_saying(keys, names, saying)?;
+    }
+    Ok(())
+}
+
+/// Adds the imports of a statement.
+#[tactic(auto, using(crate::proofs::Keys::once_append))]
+fn add_content(
+    keys: &mut IndexSet<u32>,
+    names: &ImportTable<'_>,
+    content: &Content,
+) -> Result<(), AllocError>
+    requires { IsTable names.now }
+    ensures { OnOk result (keys.new.keys ≡ once keys.old.keys (content_imports names.now.all.now content.now)) }
+{
+    add_parts(keys, content.parts.as_slice())?;
+    add_said(keys, names, content.said.as_slice())
+}
+
+/// The imports that the object has.
+pub fn import_keys(
+    alloc: Global,
+    names: &[Sequence<u8>],
+    contents: &[Content],
+) -> Result<IndexSet<u32>, AllocError>
+    ensures { IfOk result (λ s. s.keys ≡ import_keys names.now contents.now) }
+{
+    let table = ImportTable::of(alloc, names)?;
+    let mut keys = IndexSet::new(alloc);
+    for content in contents {
+        add_content(&mut keys, &table, content)?;
+    }
+    Ok(keys)
+}

@@ -1,0 +1,5 @@
+pub mod Each
+pub mod Naming
+pub mod OneStatements
+pub mod Parts
+pub mod Sounding

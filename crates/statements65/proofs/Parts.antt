@@ -1,0 +1,198 @@
+-- Parts between commas.
+use Rattle.std.proofs.Common.{◌≡◌, ◌≢◌, ℕ, zero, suc, ◌+◌, ◌-◌, ◌<◌, ◌≤◌, Bool, true, false, nat_eq, not, List, [], ◌∷◌, Option, if◌then◌else◌, length, take, drop, Result, Ok, Err, refl, ap, sym, ◌∙◌, arith, add-one, one-add, length-drop, subst}
+use Rattle.std.proofs.lemmas.Bool.Decides.{nat_tests}
+use Rattle.std.specs.List.{prefix_len}
+use Rattle.std.proofs.lemmas.List.{take_all}
+use Rattle.syntax65.specs.Expressions.{IsParsed}
+use Rattle.syntax65.specs.Faults.{is_expr_outside}
+use Rattle.std.specs.Result.{IsErrAnd}
+use Rattle.syntax65.specs.Outcome.{◌>>=◌, First, Unless}
+use Rattle.syntax65.specs.Relations.{Answers}
+use Rattle.language65.specs.declared.fault.AsmFault.{AsmFault}
+use Rattle.syntax65.specs.declared.expressions.fault.ExprFault.TheVariants.{OutOfMemory, OperandExpected, ParenthesisExpected, TooDeep}
+use Rattle.language65.specs.Faults.{is_outside, of_expr}
+use Rattle.syntax65.specs.Tokens.{Lexeme, lexeme_of, lexemes}
+use Rattle.syntax65.specs.Trees.{Tree}
+use Rattle.syntax65.specs.declared.expressions.fault.ExprFault.{ExprFault}
+use Rattle.syntax65.specs.declared.lexing.tokens.Token.{Token}
+use Rattle.statements65.specs.Parsing.{before_parts, is_comma, parts_of, unknown, whole, words_of, IsAmount, IsExpression, IsFront, Then}
+use Rattle.language65.specs.Language.{Stated}
+
+pub lexemes_len : (ts : List Token) → length (lexemes ts) ≡ length ts
+lexemes_len [] = refl
+lexemes_len (t ∷ ts) = ap suc (lexemes_len ts)
+
+lexemes_drop : (n : ℕ) (ts : List Token) → drop n (lexemes ts) ≡ lexemes (drop n ts)
+lexemes_drop zero ts = refl
+lexemes_drop (suc n) [] = refl
+lexemes_drop (suc n) (t ∷ ts) = lexemes_drop n ts
+
+-- ---- Expressions of all the tokens.
+
+whole_all : (e : Tree) (n count : ℕ) → n ≡ count → whole count (Ok (e, n)) ≡ Ok e
+whole_all e n count h = go (nat_eq n count) refl
+  where
+    go : (t : Bool) → nat_eq n count ≡ t → whole count (Ok (e, n)) ≡ Ok e
+    go true f = rw f refl
+    go false f = absurd (grind (arith, nat_tests))
+
+whole_short : (e : Tree) (n count : ℕ) → n ≢ count → whole count (Ok (e, n)) ≡ unknown
+whole_short e n count h = go (nat_eq n count) refl
+  where
+    go : (t : Bool) → nat_eq n count ≡ t → whole count (Ok (e, n)) ≡ unknown
+    go true f = absurd (h (grind (arith, nat_tests)))
+    go false f = rw f refl
+
+pub is_whole : (ts : List Token) (e : Tree) (n : ℕ) → IsParsed (lexemes ts) (Ok (e, n)) → n ≡ length ts → IsExpression (lexemes ts) (Ok e)
+is_whole ts e n h f = (Ok (e, n), h, sym (whole_all e n (length (lexemes ts)) (f ∙ sym (lexemes_len ts))))
+
+pub is_short : (ts : List Token) (e : Tree) (n : ℕ) → IsParsed (lexemes ts) (Ok (e, n)) → n ≢ length ts → IsExpression (lexemes ts) unknown
+is_short ts e n h f = (Ok (e, n), h, sym (whole_short e n (length (lexemes ts)) (λ g. f (g ∙ lexemes_len ts))))
+
+pub is_none : (ts : List Lexeme) (f : ExprFault) → Unless (is_expr_outside f) (IsParsed ts (Err f)) → Unless (is_outside (of_expr f)) (IsExpression ts (Err (of_expr f)))
+is_none ts OutOfMemory h = tt
+is_none ts OperandExpected h = (Err OperandExpected, h, refl)
+is_none ts ParenthesisExpected h = (Err ParenthesisExpected, h, refl)
+is_none ts TooDeep h = (Err TooDeep, h, refl)
+
+pub is_front : (ts : List Token) (e : Tree) (n : ℕ) → IsParsed (lexemes ts) (Ok (e, n)) → IsFront (lexemes ts) (Ok (e, lexemes (take (length ts - n) (drop n ts))))
+is_front ts e n h =
+    let short : length (drop n ts) ≤ length ts - n = omega (arith, length-drop n ts) in
+    let all : take (length ts - n) (drop n ts) ≡ drop n ts = take_all (length ts - n) (drop n ts) short in
+    rw all (Ok (e, n), h, ap (λ us. Ok (e, us)) (sym (lexemes_drop n ts)))
+
+pub no_front : (ts : List Lexeme) (f : ExprFault) → Unless (is_expr_outside f) (IsParsed ts (Err f)) → Unless (is_outside (of_expr f)) (IsFront ts (Err (of_expr f)))
+no_front ts OutOfMemory h = tt
+no_front ts OperandExpected h = (Err OperandExpected, h, refl)
+no_front ts ParenthesisExpected h = (Err ParenthesisExpected, h, refl)
+no_front ts TooDeep h = (Err TooDeep, h, refl)
+
+-- a fault of the first part is a fault of the whole
+pub then_fault : {A B X : Type 0} (Is : Result A AsmFault → Type 0) (next : A → Result B AsmFault) (view : X → B) (result : Result X AsmFault) (e : AsmFault) → IsErrAnd result (λ f. f ≡ e) → Unless (is_outside e) (Is (Err e)) → Answers is_outside view result (Then Is next)
+then_fault Is next view (Ok x) e h i = absurd h
+then_fault Is next view (Err f) e h i = rw h (go (is_outside e) i)
+  where
+    go : (t : Bool) → Unless t (Is (Err e)) → Unless t (Then Is next (Err e))
+    go true j = tt
+    go false j = (Err e, j, refl)
+
+-- ---- The first part.
+
+is_inside : Token → Bool
+is_inside t = not (is_comma (lexeme_of t))
+
+len : List Token → ℕ
+len ts = prefix_len (λ t. not (is_comma (lexeme_of t))) ts
+
+len_comma : (t : Token) (ts : List Token) → is_comma (lexeme_of t) ≡ true → len (t ∷ ts) ≡ 0
+unfolding len
+len_comma t ts e = rw e refl
+
+len_more : (t : Token) (ts : List Token) → is_comma (lexeme_of t) ≡ false → len (t ∷ ts) ≡ suc (len ts)
+unfolding len
+len_more t ts e = rw e (one-add (len ts))
+
+parts_comma : (t : Token) (ts : List Token) → is_comma (lexeme_of t) ≡ true → parts_of (lexemes (t ∷ ts)) ≡ [] ∷ parts_of (lexemes ts)
+parts_comma t ts e = rw e refl
+
+parts_more : (t : Token) (ts : List Token) → is_comma (lexeme_of t) ≡ false → parts_of (lexemes (t ∷ ts)) ≡ before_parts (lexeme_of t) (parts_of (lexemes ts))
+parts_more t ts e = rw e refl
+
+last : (ts : List Token) → length ts ≤ len ts → parts_of (lexemes ts) ≡ lexemes ts ∷ []
+last [] h = refl
+last (t ∷ ts) h = go (is_comma (lexeme_of t)) refl (last ts)
+  where
+    go : (c : Bool) → is_comma (lexeme_of t) ≡ c → (length ts ≤ len ts → parts_of (lexemes ts) ≡ lexemes ts ∷ []) → parts_of (lexemes (t ∷ ts)) ≡ lexemes (t ∷ ts) ∷ []
+    go true e next = let x = len_comma t ts e in absurd (omega arith)
+    go false e next = let x = len_more t ts e in parts_more t ts e ∙ ap (before_parts (lexeme_of t)) (next (omega arith))
+
+front : List Token → List Token
+front ts = take (len ts) ts
+
+rest : List Token → List Token
+rest ts = drop (suc (len ts)) ts
+
+first : (ts : List Token) → len ts < length ts → parts_of (lexemes ts) ≡ lexemes (front ts) ∷ parts_of (lexemes (rest ts))
+unfolding front rest
+first [] h = absurd (omega arith)
+first (t ∷ ts) h = go (is_comma (lexeme_of t)) refl (first ts)
+  where
+    go : (c : Bool) → is_comma (lexeme_of t) ≡ c → (len ts < length ts → parts_of (lexemes ts) ≡ lexemes (front ts) ∷ parts_of (lexemes (rest ts))) → parts_of (lexemes (t ∷ ts)) ≡ lexemes (front (t ∷ ts)) ∷ parts_of (lexemes (rest (t ∷ ts)))
+    go true e next = let x = len_comma t ts e in parts_comma t ts e ∙ rw x refl
+    go false e next = let x = len_more t ts e in parts_more t ts e ∙ ap (before_parts (lexeme_of t)) (next (omega arith)) ∙ rw x refl
+
+pub last_part : (ts : List Token) (n : ℕ) → n ≡ prefix_len (λ t. not (is_comma (lexeme_of t))) ts → length ts ≤ n → parts_of (lexemes ts) ≡ lexemes ts ∷ []
+unfolding len
+last_part ts n e h = last ts (omega arith)
+
+pub one_part : (ts : List Token) (n : ℕ) → n ≡ prefix_len (λ t. not (is_comma (lexeme_of t))) ts → n < length ts → parts_of (lexemes ts) ≡ lexemes (take n ts) ∷ parts_of (lexemes (take (length ts - (n + 1)) (drop (n + 1) ts)))
+unfolding len front rest
+one_part ts n e lt =
+    let short : length (drop (n + 1) ts) ≤ length ts - (n + 1) = omega (arith, length-drop (n + 1) ts) in
+    let all : take (length ts - (n + 1)) (drop (n + 1) ts) ≡ drop (n + 1) ts = take_all (length ts - (n + 1)) (drop (n + 1) ts) short in
+    rw all (let P : ℕ → Type 0 = λ k. parts_of (lexemes ts) ≡ lexemes (take k ts) ∷ parts_of (lexemes (drop (k + 1) ts)) in subst P (sym e) (rw add-one (first ts (omega arith))))
+
+-- a fault of what follows is a fault of the whole
+pub second_fault : {A B X : Type 0} (Is : Result A AsmFault → Type 0) (next : A → Result B AsmFault) (view : X → B) (result : Result X AsmFault) (x : A) (e : AsmFault) → IsErrAnd result (λ f. f ≡ e) → Is (Ok x) → next x ≡ Err e → Answers is_outside view result (Then Is next)
+second_fault Is next view (Ok y) x e h i n = absurd h
+second_fault Is next view (Err f) x e h i n = rw h (go (is_outside e))
+  where
+    go : (t : Bool) → Unless t (Then Is next (Err e))
+    go true = tt
+    go false = (Ok x, i, sym n)
+
+pub bind_err : {A B : Type 0} (q : Result A AsmFault) (k : A → Result B AsmFault) (e : AsmFault) → Err e ≡ q → (q >>= k) ≡ Err e
+bind_err q k e h = rw (← h) refl
+
+pub bind_ok : {A B : Type 0} (q : Result A AsmFault) (k : A → Result B AsmFault) (x : A) → Ok x ≡ q → (q >>= k) ≡ k x
+bind_ok q k x h = rw (← h) refl
+
+-- what follows is the whole's answer
+pub then_goes : {A B X : Type 0} (Is : Result A AsmFault → Type 0) (next : A → Result B AsmFault) (view : X → B) (result : Result X AsmFault) (x : A) → Is (Ok x) → Answers is_outside view result (λ r. r ≡ next x) → Answers is_outside view result (Then Is next)
+then_goes Is next view (Ok y) x i h = (Ok x, i, h)
+then_goes Is next view (Err f) x i h = go (is_outside f) h
+  where
+    go : (t : Bool) → Unless t (Err f ≡ next x) → Unless t (Then Is next (Err f))
+    go true j = tt
+    go false j = (Ok x, i, j)
+
+pub first_fault : {A B X : Type 0} (Is : Result A AsmFault → Type 0) (Next : A → Result B AsmFault → Type 0) (view : X → B) (result : Result X AsmFault) (e : AsmFault) → IsErrAnd result (λ f. f ≡ e) → Unless (is_outside e) (Is (Err e)) → Answers is_outside view result (λ r. (q : Result A AsmFault) × Is q × First q Next r)
+first_fault Is Next view (Ok x) e h i = absurd h
+first_fault Is Next view (Err f) e h i = rw h (go (is_outside e) i)
+  where
+    go : (t : Bool) → Unless t (Is (Err e)) → Unless t ((q : Result _ AsmFault) × Is q × First q Next (Err e))
+    go true j = tt
+    go false j = (Err e, j, refl)
+
+pub first_goes : {A B X : Type 0} (Is : Result A AsmFault → Type 0) (Next : A → Result B AsmFault → Type 0) (view : X → B) (result : Result X AsmFault) (x : A) → Is (Ok x) → Answers is_outside view result (Next x) → Answers is_outside view result (λ r. (q : Result A AsmFault) × Is q × First q Next r)
+first_goes Is Next view (Ok y) x i h = (Ok x, i, h)
+first_goes Is Next view (Err f) x i h = go (is_outside f) h
+  where
+    go : (t : Bool) → Unless t (Next x (Err f)) → Unless t ((q : Result _ AsmFault) × Is q × First q Next (Err f))
+    go true j = tt
+    go false j = (Ok x, i, j)
+
+-- ---- Too many parts.
+
+some_part : (ts : List Lexeme) → parts_of ts ≢ []
+some_part [] h = absurd cc
+some_part (t ∷ ts) h = go (is_comma t) (parts_of ts) refl refl
+  where
+    go : (c : Bool) (ps : List (List Lexeme)) → is_comma t ≡ c → parts_of ts ≡ ps → ⊥
+    go true ps e f = let P : Bool → Type 0 = λ b. (if b then [] ∷ parts_of ts else before_parts t (parts_of ts)) ≡ [] in let x = subst P e h in absurd cc
+    go false [] e f = let P : Bool → Type 0 = λ b. (if b then [] ∷ parts_of ts else before_parts t (parts_of ts)) ≡ [] in let x = subst P e h in let Q : List (List Lexeme) → Type 0 = λ ps. before_parts t ps ≡ [] in let y = subst Q f x in absurd cc
+    go false (p ∷ ps) e f = let P : Bool → Type 0 = λ b. (if b then [] ∷ parts_of ts else before_parts t (parts_of ts)) ≡ [] in let x = subst P e h in let Q : List (List Lexeme) → Type 0 = λ ps. before_parts t ps ≡ [] in let y = subst Q f x in absurd cc
+
+pub too_many : (make : Tree → Option Tree → Stated) (n v ts : List Lexeme) → IsAmount make (n ∷ v ∷ parts_of ts) unknown
+too_many make n v ts = go (parts_of ts) (some_part ts)
+  where
+    go : (ps : List (List Lexeme)) → ps ≢ [] → IsAmount make (n ∷ v ∷ ps) unknown
+    go [] h = absurd (h refl)
+    go (p ∷ ps) h = refl
+
+pub too_many_words : (part ts : List Lexeme) → words_of (part ∷ parts_of ts) ≡ unknown
+too_many_words part ts = go (parts_of ts) (some_part ts)
+  where
+    go : (ps : List (List Lexeme)) → ps ≢ [] → words_of (part ∷ ps) ≡ unknown
+    go [] h = absurd (h refl)
+    go (p ∷ ps) h = refl

@@ -1,0 +1,6 @@
+//! From the tokens of a line to its label and its statement.
+#![tactic(auto)]
+
+mod reading;
+
+pub use reading::{label, statement};

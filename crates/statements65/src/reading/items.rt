@@ -1,0 +1,57 @@
+//! Lists of data.
+
+ghost use Rattle.std.specs.Prelude.{◌≡◌, false, map, IfErr};
+ghost use Rattle.syntax65.specs.Relations.{Answers};
+ghost use Rattle.syntax65.specs.Tokens.{lexemes};
+ghost use Rattle.language65.specs.Faults.{is_failure, is_outside};
+ghost use Rattle.statements65.specs.Parsing.{parts_of, EachIs, IsItem, IsValue};
+ghost use Rattle.language65.specs.Views.{item_of};
+
+use super::parts::{expression, first_part};
+use super::tokens::{copy_of, string_of};
+use super::words::Elements;
+use language65::{AsmFault, Item};
+use std::alloc::Global;
+use syntax65::{Sequence, Token};
+
+/// An element that is a value.
+#[tactic(auto, using(crate::proofs::Parts::then_fault))]
+fn value_item(alloc: Global, tokens: &[Token<'_>]) -> Result<Item, AsmFault>
+    ensures value { Answers is_outside item_of result (IsValue (lexemes tokens.now)) }
+    ensures inside { IfErr result (λ e. is_failure e ≡ false) }
+{
+    Ok(Item::Value(expression(alloc, tokens)?))
+}
+
+/// An element of a list.
+fn item(alloc: Global, elements: Elements, tokens: &[Token<'_>]) -> Result<Item, AsmFault>
+    ensures value { Answers is_outside item_of result (IsItem elements (lexemes tokens.now)) }
+    ensures inside { IfErr result (λ e. is_failure e ≡ false) }
+{
+    match elements {
+        Elements::Values => value_item(alloc, tokens),
+        Elements::ValuesAndTexts => match string_of(tokens) {
+            Some(text) => Ok(Item::Text(copy_of(alloc, text)?)),
+            None => value_item(alloc, tokens),
+        },
+    }
+}
+
+/// The elements of a list, with a comma between each two.
+pub fn items(
+    alloc: Global,
+    elements: Elements,
+    tokens: &[Token<'_>],
+) -> Result<Sequence<Item>, AsmFault>
+    ensures value { Answers is_outside (λ items. map item_of items) result (EachIs (IsItem elements) (parts_of (lexemes tokens.now))) }
+    ensures inside { IfErr result (λ e. is_failure e ≡ false) }
+{
+    let mut items = Sequence::new(alloc);
+    let mut rest = Some(tokens);
+    'parts: while let Some(left) = rest {
+        let (part, behind) = first_part(left);
+        items.push(item(alloc, elements, part)?)?;
+        rest = behind;
+    }
+    Ok(items)
+}

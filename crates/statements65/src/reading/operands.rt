@@ -1,0 +1,146 @@
+//! Operands of instructions.
+
+ghost use Rattle.std.specs.Prelude.{◌≡◌, ◌∷◌, false, IfErr};
+ghost use Rattle.syntax65.specs.Relations.{Answers};
+ghost use Rattle.syntax65.specs.Tokens.{lexeme_of, lexemes};
+ghost use Rattle.syntax65.specs.Trees.{tree_of};
+ghost use Rattle.language65.specs.Faults.{is_failure, is_outside};
+ghost use Rattle.statements65.specs.Parsing.{closing_of, index_of, indirect_by, IsAddress, IsImmediate, IsIndirect, IsOperand, IsOperandFrom, IsPlainOperand};
+ghost use Rattle.language65.specs.Views.{operand_of};
+
+use super::parts::{expression, front};
+use super::tokens::{is_close, is_comma, is_spelled, spells, word_of};
+use language65::{AsmFault, Index, Operand};
+use std::alloc::Global;
+use syntax65::{AddressSize, Expr, Mark, Token, TokenKind};
+
+/// The register behind a comma, or nothing.
+fn index_of(tokens: &[Token<'_>]) -> Result<Option<Index>, AsmFault>
+    ensures { result ≡ index_of (lexemes tokens.now) }
+{
+    match tokens {
+        [] => Ok(None),
+        [comma, register] => {
+            if is_comma(comma) && spells(register, b"x") {
+                Ok(Some(Index::X))
+            } else if is_comma(comma) && spells(register, b"y") {
+                Ok(Some(Index::Y))
+            } else {
+                Err(AsmFault::NotUnderstood)
+            }
+        }
+        _ => Err(AsmFault::NotUnderstood),
+    }
+}
+
+/// `e`, `e,x` or `e,y`.
+fn address(
+    alloc: Global,
+    prefix: Option<AddressSize>,
+    tokens: &[Token<'_>],
+) -> Result<Operand, AsmFault>
+    ensures value { Answers is_outside operand_of result (IsAddress prefix (lexemes tokens.now)) }
+    ensures inside { IfErr result (λ e. is_failure e ≡ false) }
+{
+    let (value, behind) = front(alloc, tokens)?;
+    let index = index_of(behind)?;
+    Ok(Operand::Address {
+        prefix,
+        value,
+        index,
+    })
+}
+
+/// What stands behind `(` and an expression: `)`, `,x)` or `),y`.
+fn closing_of(tokens: &[Token<'_>]) -> Result<Option<Index>, AsmFault>
+    ensures { result ≡ closing_of (lexemes tokens.now) }
+{
+    match tokens {
+        [first] => {
+            if is_close(first) {
+                Ok(None)
+            } else {
+                Err(AsmFault::NotUnderstood)
+            }
+        }
+        [first, second, third] => {
+            if is_comma(first) && spells(second, b"x") && is_close(third) {
+                Ok(Some(Index::X))
+            } else if is_close(first) && is_comma(second) && spells(third, b"y") {
+                Ok(Some(Index::Y))
+            } else {
+                Err(AsmFault::NotUnderstood)
+            }
+        }
+        _ => Err(AsmFault::NotUnderstood),
+    }
+}
+
+fn indirect_by(index: Option<Index>, value: Expr) -> Operand
+    ensures { operand_of result ≡ indirect_by index (tree_of value) }
+{
+    match index {
+        None => Operand::Indirect(value),
+        Some(Index::X) => Operand::IndirectX(value),
+        Some(Index::Y) => Operand::IndirectY(value),
+    }
+}
+
+/// What stands behind a `(`.
+fn indirect(alloc: Global, tokens: &[Token<'_>]) -> Result<Operand, AsmFault>
+    ensures value { Answers is_outside operand_of result (IsIndirect (lexemes tokens.now)) }
+    ensures inside { IfErr result (λ e. is_failure e ≡ false) }
+{
+    let (value, behind) = front(alloc, tokens)?;
+    let index = closing_of(behind)?;
+    Ok(indirect_by(index, value))
+}
+
+/// What stands behind a `#`.
+fn immediate(alloc: Global, tokens: &[Token<'_>]) -> Result<Operand, AsmFault>
+    ensures value { Answers is_outside operand_of result (IsImmediate (lexemes tokens.now)) }
+    ensures inside { IfErr result (λ e. is_failure e ≡ false) }
+{
+    Ok(Operand::Immediate(expression(alloc, tokens)?))
+}
+
+/// `a`, or an address without a prefix.
+fn plain_operand(alloc: Global, tokens: &[Token<'_>]) -> Result<Operand, AsmFault>
+    ensures value { Answers is_outside operand_of result (IsPlainOperand (lexemes tokens.now)) }
+    ensures inside { IfErr result (λ e. is_failure e ≡ false) }
+{
+    if is_spelled(word_of(tokens), b"a") {
+        Ok(Operand::Accumulator)
+    } else {
+        address(alloc, None, tokens)
+    }
+}
+
+/// An operand by its first token's kind.
+fn operand_from(
+    alloc: Global,
+    kind: TokenKind,
+    tokens: &[Token<'_>],
+    behind: &[Token<'_>],
+) -> Result<Operand, AsmFault>
+    ensures value { Answers is_outside operand_of result (IsOperandFrom kind (lexemes tokens.now) (lexemes behind.now)) }
+    ensures inside { IfErr result (λ e. is_failure e ≡ false) }
+{
+    match kind {
+        TokenKind::Symbol(Mark::Hash) => immediate(alloc, behind),
+        TokenKind::Symbol(Mark::OpenParenthesis) => indirect(alloc, behind),
+        TokenKind::SizePrefix(size) => address(alloc, Some(size), behind),
+        _ => plain_operand(alloc, tokens),
+    }
+}
+
+/// What stands behind a mnemonic.
+pub fn operand(alloc: Global, tokens: &[Token<'_>]) -> Result<Operand, AsmFault>
+    ensures value { Answers is_outside operand_of result (IsOperand (lexemes tokens.now)) }
+    ensures inside { IfErr result (λ e. is_failure e ≡ false) }
+{
+    match tokens.split_first() {
+        Some((first, behind)) => operand_from(alloc, first.kind, tokens, behind),
+        None => Ok(Operand::Absent),
+    }
+}

@@ -1,0 +1,97 @@
+//! Labels and statements.
+
+ghost use Rattle.std.specs.Prelude.{◌≡◌, false, IfErr, Some};
+ghost use Rattle.syntax65.specs.Mnemonics.{mnemonic_of};
+ghost use Rattle.syntax65.specs.Relations.{Answers};
+ghost use Rattle.syntax65.specs.Tokens.{lexemes};
+ghost use Rattle.language65.specs.Faults.{is_failure, is_outside};
+ghost use Rattle.statements65.specs.Parsing.{IsConstant, IsInstruction, IsNamed, IsPlainConstant, IsStatement};
+ghost use Rattle.language65.specs.Views.{stated_of};
+
+use super::directives::directive_statement;
+use super::operands::operand;
+use super::parts::expression;
+use super::tokens::{copy_of, defines};
+use language65::{AsmFault, Statement};
+use std::alloc::Global;
+use syntax65::{Mnemonic, Token, TokenKind, is_reserved, mnemonic};
+
+fn plain_constant(alloc: Global, name: &[u8], tokens: &[Token<'_>]) -> Result<Statement, AsmFault>
+    ensures value { Answers is_outside stated_of result (IsPlainConstant name.now (lexemes tokens.now)) }
+    ensures inside { IfErr result (λ e. is_failure e ≡ false) }
+{
+    let value = expression(alloc, tokens)?;
+    let name = copy_of(alloc, name)?;
+    Ok(Statement::Constant { name, value })
+}
+
+/// `name = e`, by the name and what stands behind the mark.
+fn constant(alloc: Global, name: &[u8], tokens: &[Token<'_>]) -> Result<Statement, AsmFault>
+    ensures value { Answers is_outside stated_of result (IsConstant name.now (lexemes tokens.now)) }
+    ensures inside { IfErr result (λ e. is_failure e ≡ false) }
+{
+    if is_reserved(name) {
+        Err(AsmFault::NotUnderstood)
+    } else {
+        plain_constant(alloc, name, tokens)
+    }
+}
+
+fn with_operand(
+    alloc: Global,
+    mnemonic: Mnemonic,
+    tokens: &[Token<'_>],
+) -> Result<Statement, AsmFault>
+    ensures value { Answers is_outside stated_of result (IsInstruction (Some mnemonic) (lexemes tokens.now)) }
+    ensures inside { IfErr result (λ e. is_failure e ≡ false) }
+{
+    let operand = operand(alloc, tokens)?;
+    Ok(Statement::Instruction { mnemonic, operand })
+}
+
+/// An instruction, by its name and its operand.
+fn instruction(alloc: Global, name: &[u8], tokens: &[Token<'_>]) -> Result<Statement, AsmFault>
+    ensures value { Answers is_outside stated_of result (IsInstruction (mnemonic_of name.now) (lexemes tokens.now)) }
+    ensures inside { IfErr result (λ e. is_failure e ≡ false) }
+{
+    match mnemonic(name) {
+        Some(mnemonic) => with_operand(alloc, mnemonic, tokens),
+        None => Err(AsmFault::NotUnderstood),
+    }
+}
+
+/// A statement that begins with an identifier.
+fn named(alloc: Global, name: &[u8], tokens: &[Token<'_>]) -> Result<Statement, AsmFault>
+    ensures value { Answers is_outside stated_of result (IsNamed name.now (lexemes tokens.now)) }
+    ensures inside { IfErr result (λ e. is_failure e ≡ false) }
+{
+    match tokens.split_first() {
+        Some((first, behind)) => {
+            if defines(first) {
+                constant(alloc, name, behind)
+            } else {
+                instruction(alloc, name, tokens)
+            }
+        }
+        None => instruction(alloc, name, tokens),
+    }
+}
+
+/// The statement of some tokens, behind their label.
+///
+/// # Errors
+///
+/// Tokens that are no statement aren't understood.
+pub fn statement(alloc: Global, tokens: &[Token<'_>]) -> Result<Statement, AsmFault>
+    ensures value { Answers is_outside stated_of result (IsStatement (lexemes tokens.now)) }
+    ensures inside { IfErr result (λ e. is_failure e ≡ false) }
+{
+    let Some((first, behind)) = tokens.split_first() else {
+        return Err(AsmFault::NotUnderstood);
+    };
+    match first.kind {
+        TokenKind::Identifier => named(alloc, first.text, behind),
+        TokenKind::Directive => directive_statement(alloc, first.text, behind),
+        _ => Err(AsmFault::NotUnderstood),
+    }
+}

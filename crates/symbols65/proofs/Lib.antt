@@ -1,0 +1,16 @@
+pub mod Beginnings
+pub mod GivenUp
+pub mod Growing
+pub mod GrowingForms
+pub mod Knowns
+pub mod Lasts
+pub mod NameParts
+pub mod NameTables
+pub mod Pursuits
+pub mod Scopes
+pub mod Sizing
+pub mod Tables
+pub mod Tries
+pub mod Turns
+pub mod ZeroPages
+pub mod Roots

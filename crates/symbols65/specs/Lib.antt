@@ -1,0 +1,5 @@
+pub mod Settling
+pub mod Growing
+pub mod Roots
+pub mod Resolving
+pub mod Knowns

@@ -1,0 +1,61 @@
+//! Runs of whole commands over files in memory: the worked ones, and what no command on the disk shows. All others are
+//! cases for the real program.
+
+mod assembling;
+mod devices;
+mod lines;
+mod linking;
+
+use std::alloc::{AllocError, Global};
+use syntax65::{MemStore, Store};
+use tools65::{Status, run};
+
+/// `A9 00 60` in segment CODE.
+pub const O1: [u8; 26] = [
+    0x52, 0x36, 0x35, 0x6f, 0x01, 0x02, 0x09, 0x00, 0x03, 0x00, 0x00, 0x00, 0x00, 0x43, 0x4f, 0x44,
+    0x45, 0x03, 0x03, 0x00, 0xa9, 0x00, 0x60, 0x08, 0x00, 0x00,
+];
+
+pub const S1: &str =
+    "MEMORY { ROM: start = $8000, size = $10; } SEGMENTS { CODE: load = ROM, type = ro; DATA: load = ROM, type = ro, optional = yes; }";
+
+pub const LINK: [&str; 7] = ["bin65", "ld65", "-C", "s.cfg", "-o", "a.out", "a.o"];
+
+/// A store with an object and a script.
+pub fn files(alloc: Global, object: &[u8], script: &str) -> Result<MemStore, AllocError> {
+    let mut store = MemStore::new(alloc);
+    store.put("a.o", object)?;
+    store.put("s.cfg", script.as_bytes())?;
+    Ok(store)
+}
+
+/// What a run printed and answered.
+#[derive(Drop)]
+pub struct Ran {
+    pub status: Status,
+    pub out: Vec<u8>,
+    pub err: Vec<u8>,
+}
+
+/// Runs words over a store, with both streams in memory.
+pub fn run_on<S: Store>(alloc: Global, store: &mut S, words: &[&str]) -> Ran {
+    let mut out = Vec::new(alloc);
+    let mut err = Vec::new(alloc);
+    let status = run(alloc, words, store, &mut out, &mut err);
+    Ran { status, out, err }
+}
+
+/// Whether a run failed with this one message and nothing else.
+pub fn says(ran: &Ran, message: &str) -> bool {
+    ran.status == Status::Failure && ran.out.is_empty() && ran.err.as_slice() == message.as_bytes()
+}
+
+/// Whether a run succeeded and said nothing.
+pub fn is_quiet(ran: &Ran) -> bool {
+    warns(ran, "")
+}
+
+/// Whether a run succeeded with these warnings.
+pub fn warns(ran: &Ran, warnings: &str) -> bool {
+    ran.status == Status::Success && ran.out.is_empty() && ran.err.as_slice() == warnings.as_bytes()
+}

@@ -1,0 +1,183 @@
+//! Stores and writers that give little or fail.
+
+ghost use Rattle.std.specs.Prelude.{Some, ◌≡◌, true, false, if◌then◌else◌};
+ghost use Rattle.std.specs.Option.{ForSome};
+ghost use Rattle.std.specs.Bool.{OnTrue, OnFalse};
+
+use super::{LINK, O1, S1, files, is_quiet, run_on, says};
+use std::io;
+use std::io::{ErrorKind, Write};
+use std::test::Fail;
+use syntax65::{MemStore, Store, StoreFault};
+use tools65::{Status, run};
+
+/// Files in memory, of which each call moves one byte at most.
+#[derive(Drop)]
+struct ByteByByte {
+    files: MemStore,
+}
+
+impl Store for ByteByByte {
+    ghost files = { λ s. Some s.files };
+
+    ghost failures = { λ _. 0 };
+
+    fn read_at(&mut self, name: &str, at: u64, buf: &mut [u8]) -> Result<usize, StoreFault> {
+        let most = buf.len().min(1);
+        self.files.read_at(name, at, &mut buf[..most])
+    }
+
+    fn create(&mut self, name: &str) -> Result<(), StoreFault> {
+        self.files.create(name)
+    }
+
+    fn append(&mut self, name: &str, piece: &[u8]) -> Result<usize, StoreFault> {
+        let most = piece.len().min(1);
+        self.files.append(name, &piece[..most])
+    }
+}
+
+/// Files in memory. One call fails, the one behind so many others, and is counted.
+#[derive(Drop)]
+struct FailsOnce {
+    files: MemStore,
+    left: Option<u64>,
+    failed: bool,
+    ghost once: { ForSome left (λ _. failed ≡ false) },
+}
+
+impl FailsOnce {
+    /// Whether this is the call that fails.
+    fn fails(&mut self) -> bool
+        ensures files { self.new.files ≡ self.old.files }
+        ensures yes { OnTrue result ((self.old.failed ≡ false) × (self.new.failed ≡ true)) }
+        ensures no { OnFalse result (self.new.failed ≡ self.old.failed) }
+    {
+        match self.left {
+            Some(0) => {
+                self.left = None;
+                self.failed = true;
+                true
+            }
+            Some(n) => {
+                self.left = Some(n - 1);
+                false
+            }
+            None => false,
+        }
+    }
+}
+
+impl Store for FailsOnce {
+    ghost files = { λ s. Some s.files };
+
+    ghost failures = { λ s. if s.failed then 1 else 0 };
+
+    fn read_at(&mut self, name: &str, at: u64, buf: &mut [u8]) -> Result<usize, StoreFault> {
+        if self.fails() {
+            return Err(StoreFault::FileError);
+        }
+        self.files.read_at(name, at, buf)
+    }
+
+    fn create(&mut self, name: &str) -> Result<(), StoreFault> {
+        if self.fails() {
+            return Err(StoreFault::FileError);
+        }
+        self.files.create(name)
+    }
+
+    fn append(&mut self, name: &str, piece: &[u8]) -> Result<usize, StoreFault> {
+        if self.fails() {
+            return Err(StoreFault::FileError);
+        }
+        self.files.append(name, piece)
+    }
+}
+
+/// A writer that stops behind so many bytes.
+#[derive(Drop)]
+struct Stopping {
+    taken: Vec<u8>,
+    left: usize,
+}
+
+impl Write for Stopping {
+    ghost contents = { λ w. Some w.taken.items };
+
+    fn write(&mut self, buf: &[u8]) -> io::Result<usize> {
+        let n = buf.len().min(self.left);
+        if n == 0 && !buf.is_empty() {
+            return Err(io::Error::from(ErrorKind::Other));
+        }
+        self.taken.extend_from_slice(&buf[..n])?;
+        self.left -= n;
+        Ok(n)
+    }
+
+    fn flush(&mut self) -> io::Result<()> {
+        Ok(())
+    }
+}
+
+#[test]
+fn links_byte_by_byte(rt: HostRuntime) -> Result<(), Fail> {
+    let mut store = ByteByByte {
+        files: files(rt.alloc(), &O1, S1)?,
+    };
+    let ran = run_on(rt.alloc(), &mut store, &LINK);
+    assert!(rt; is_quiet(&ran));
+    assert!(rt; matches!(store.files.get("a.out"), Some([0xa9, 0x00, 0x60])));
+    Ok(())
+}
+
+/// Fails each call in turn, up to the run that meets no failure.
+#[test]
+fn names_each_failure(rt: HostRuntime) -> Result<(), Fail> {
+    let mut met = false;
+    for k in 0..64 {
+        let mut store = FailsOnce {
+            files: files(rt.alloc(), &O1, S1)?,
+            left: Some(k),
+            failed: false,
+        };
+        let ran = run_on(rt.alloc(), &mut store, &LINK);
+        if !store.failed {
+            // Two reads of the script, seven at least of the object, a creation and a writing.
+            assert!(rt; is_quiet(&ran) && k >= 11);
+            met = true;
+            break;
+        }
+        let script = says(&ran, "s.cfg: Error: file error\n");
+        let object = says(&ran, "a.o: Error: file error\n");
+        let output = says(&ran, "a.out: Error: file error\n");
+        assert!(rt; script || object || output);
+        if output {
+            assert!(rt; matches!(store.files.get("a.out"), None | Some([])));
+        } else {
+            assert!(rt; store.files.get("a.out").is_none());
+        }
+    }
+    assert!(rt; met);
+    Ok(())
+}
+
+#[test]
+fn stops_with_its_stream(rt: HostRuntime) -> Result<(), Fail> {
+    let message = b"s.cfg: Error: file not found\n";
+    for k in 0..=message.len() {
+        let mut store = MemStore::new(rt.alloc());
+        store.put("a.o", &O1)?;
+        let mut out = Vec::new(rt.alloc());
+        let mut err = Stopping {
+            taken: Vec::new(rt.alloc()),
+            left: k,
+        };
+        let status = run(rt.alloc(), &LINK, &mut store, &mut out, &mut err);
+        assert_eq!(rt; status, Status::Failure);
+        assert!(rt; out.is_empty());
+        assert!(rt; err.taken.as_slice() == &message[..k]);
+        assert!(rt; store.get("a.out").is_none());
+    }
+    Ok(())
+}

@@ -1,0 +1,71 @@
+//! Command lines on their own.
+
+use super::{O1, S1, files, run_on, says};
+use std::test::Fail;
+use syntax65::MemStore;
+use tools65::{
+    AssembleLine, Line, LineFault, LinkLine, Status, print, read_line, run_line, write_file,
+};
+
+#[test]
+fn reads_lines(rt: HostRuntime) -> Result<(), Fail> {
+    let words = ["bin65", "ld65", "a.o", "-Cs.cfg", "-o", "image"];
+    let Ok(Line::Link(line)) = read_line(rt.alloc(), words.as_slice()) else {
+        return Err(Fail::from("no line of ld65"));
+    };
+    assert!(rt; line.script == "s.cfg" && line.output == Some("image") && line.input == "a.o");
+    let words = ["bin65", "ca65", "a.s"];
+    let Ok(Line::Assemble(line)) = read_line(rt.alloc(), words.as_slice()) else {
+        return Err(Fail::from("no line of ca65"));
+    };
+    assert!(rt; line.output.is_none() && line.source == "a.s");
+    let words = ["bin65", "ld65", "a.o"];
+    let refused = read_line(rt.alloc(), words.as_slice());
+    assert!(rt; matches!(refused, Err(LineFault::BadArguments)));
+    Ok(())
+}
+
+#[test]
+fn refuses_a_line_without_a_script(rt: HostRuntime) -> Result<(), Fail> {
+    let mut store = files(rt.alloc(), &O1, S1)?;
+    let ran = run_on(rt.alloc(), &mut store, &["bin65", "ld65", "a.o"]);
+    assert!(rt; says(&ran, "bin65: Error: bad arguments\n"));
+    assert!(rt; store.get("a.out").is_none());
+    Ok(())
+}
+
+#[test]
+fn runs_lines(rt: HostRuntime) -> Result<(), Fail> {
+    let mut store = files(rt.alloc(), &O1, S1)?;
+    store.put("a.s", b".out \"one\"\nnop")?;
+    let mut out = Vec::new(rt.alloc());
+    let mut err = Vec::new(rt.alloc());
+    let line = Line::Assemble(AssembleLine {
+        output: Some("b.o"),
+        source: "a.s",
+    });
+    let status = run_line(rt.alloc(), &line, &mut store, &mut out, &mut err);
+    assert!(rt; status == Status::Success && out.as_slice() == b"one\n".as_slice());
+    assert!(rt; store.get("b.o").is_some_and(|object| object.len() == 24));
+    let line = Line::Link(LinkLine {
+        script: "s.cfg",
+        output: None,
+        input: "a.o",
+    });
+    let status = run_line(rt.alloc(), &line, &mut store, &mut out, &mut err);
+    assert!(rt; status == Status::Success && err.is_empty());
+    assert!(rt; store.get("a.out") == Some(b"\xa9\0\x60".as_slice()));
+    Ok(())
+}
+
+#[test]
+fn writes_and_prints(rt: HostRuntime) -> Result<(), Fail> {
+    let mut store = MemStore::new(rt.alloc());
+    store.put("b", b"longer")?;
+    assert_eq!(rt; write_file(&mut store, "b", b"new"), Ok(()));
+    assert!(rt; store.get("b") == Some(b"new".as_slice()));
+    let mut out = Vec::new(rt.alloc());
+    assert!(rt; print(&mut out, b"text"));
+    assert!(rt; out.as_slice() == b"text".as_slice());
+    Ok(())
+}

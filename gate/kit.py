@@ -1,0 +1,44 @@
+"""The toolchain's command `rt` as a module, so that what is tried here is tried by the gate's own functions."""
+import importlib.machinery
+import importlib.util
+import os
+import subprocess
+import sys
+import time
+
+sys.dont_write_bytecode = True
+ROOT = os.path.dirname(os.path.dirname(os.path.realpath(__file__)))
+
+
+def load():
+    """`rt ci`'s own code; a crate is then read as the gate reads it."""
+    page = subprocess.run(["rt", "doc"], capture_output=True, text=True, check=True).stdout.strip()
+    loader = importlib.machinery.SourceFileLoader("rt", f"{os.path.dirname(page)}/bin/rt")
+    spec = importlib.util.spec_from_loader("rt", loader)
+    rt = importlib.util.module_from_spec(spec)
+    sys.modules["rt"] = rt
+    loader.exec_module(rt)
+    rt.rtlib.stop = rt.stop
+    return rt
+
+
+def crates(rt):
+    """The repository's crates, lowest first."""
+    os.chdir(ROOT)
+    return sorted(rt.rtlib.crates_below(ROOT), key=lambda it: len(it.below()))
+
+
+def minutes(seconds):
+    return f"{int(seconds) // 60}:{int(seconds) % 60:02d}"
+
+
+def table(title, rows):
+    """Prints what took how long, the longest first."""
+    print(f"\n{title}")
+    for name, seconds in sorted(rows, key=lambda it: -it[1]):
+        print(f"  {minutes(seconds):>7}  {name}")
+    sys.stdout.flush()
+
+
+def say(text):
+    print(f"{time.strftime('%H:%M:%S')} {text}", flush=True)

@@ -1,0 +1,118 @@
+#!/usr/bin/env python3
+"""Proves what isn't proved yet and builds the program: crates that don't stand on each other side by side.
+
+usage: prove.py [CRATE..]    these libraries and what they stand on; with none, the program and what it stands on.
+It says what it does as it goes, and at the end how long each crate took. What a crate's proof said is in its
+out/prove.log. Where no file changed since the program was built, it does nothing."""
+import copy
+import hashlib
+import os
+import subprocess
+import sys
+import threading
+import time
+from concurrent.futures import FIRST_COMPLETED, ThreadPoolExecutor, wait
+
+import kit
+
+PROGRAM = f"{kit.ROOT}/crates/bin65/out/bin65"
+SUM = f"{PROGRAM}.sum"
+
+
+def sum_of_sources(rt):
+    """A sum of all that the program is made of."""
+    found = hashlib.sha256(subprocess.run(["rt", "version"], capture_output=True).stdout)
+    for file in [f"{kit.ROOT}/crates.txt", *(f for it in kit.crates(rt) for f in sorted(rt.rtlib.files_of(it.folder)))]:
+        found.update(f"{os.path.relpath(file, kit.ROOT)}\0".encode())
+        with open(file, "rb") as it:
+            found.update(it.read() + b"\0")
+    return found.hexdigest()
+
+
+def prove(crate, jobs):
+    """Builds a library, and returns whether it is proved."""
+    os.makedirs(f"{crate.folder}/out", exist_ok=True)
+    crate, log = copy.copy(crate), f"{crate.folder}/out/prove.log"
+    ended = threading.Event()
+
+    def tell():
+        """Says how far the proof is, each half minute."""
+        while not ended.wait(30):
+            with open(log, errors="replace") as it:
+                far = [line for line in it if line.startswith("so far: ")]
+            kit.say(f"{crate.name}: {far[-1].strip()[len('so far: '):] if far else 'at work'}")
+
+    with open(log, "w", errors="replace") as crate.out:
+        teller = threading.Thread(target=tell, daemon=True)
+        teller.start()
+        try:
+            return not crate.build_rlib(["--jobs", str(jobs)], anew=False)
+        except SystemExit:
+            return False
+        finally:
+            ended.set()
+            teller.join()
+
+
+def in_lanes(crates, lanes):
+    """Proves the crates, each once those below it are proved, and returns how long each took, or None where one isn't proved."""
+    left, proved, running, took = [*crates], set(), {}, {}
+    with ThreadPoolExecutor(lanes) as pool:
+        while left or running:
+            ready = [it for it in left if {*it.below()} <= proved]
+            for at, crate in enumerate(ready):
+                idle = lanes - sum(jobs for _, _, jobs in running.values())
+                if crate.is_built():
+                    left.remove(crate)
+                    proved.add(crate)
+                elif idle > 0:
+                    left.remove(crate)
+                    jobs = max(1, idle // (len(ready) - at))
+                    kit.say(f"{crate.name}: its proof begins ({len(proved)} of {len(crates)} crates are proved)")
+                    running[pool.submit(prove, crate, jobs)] = crate, time.time(), jobs
+            for it in wait(running, return_when=FIRST_COMPLETED).done if running else ():
+                crate, begun, _ = running.pop(it)
+                if not it.result():
+                    kit.say(f"{crate.name}: NOT PROVED; {os.path.relpath(crate.folder, kit.ROOT)}/out/prove.log says why")
+                    return None
+                proved.add(crate)
+                took[crate.name] = time.time() - begun
+                kit.say(f"{crate.name}: proved after {kit.minutes(took[crate.name])}")
+    return took
+
+
+def main(names):
+    rt = kit.load()
+    rt.rtlib.guarded()
+    made = sum_of_sources(rt)
+    if not names and os.path.isfile(PROGRAM) and rt.rtlib.text_of(SUM) == made:
+        return 0
+    if not names and os.path.isfile(PROGRAM):
+        os.remove(PROGRAM)
+    crates = kit.crates(rt)
+    asked = [it for it in crates if it.name in names or not names and it.is_program]
+    chosen = [it for it in crates if not it.is_program and (it in asked or any(it in that.below() for that in asked))]
+    held = rt.rtlib.lock(crates)
+    took = in_lanes(chosen, rt.processors())
+    for it in held:
+        os.close(it)
+    if took is None:
+        return 1
+    if not names:
+        begun = time.time()
+        kit.say("bin65: its proof begins, and then it is compiled")
+        # (with no arguments the program answers 'bad arguments', which is no fault of the build)
+        subprocess.run(["rt", "run"], cwd=f"{kit.ROOT}/crates/bin65", stdin=subprocess.DEVNULL, stdout=subprocess.DEVNULL, stderr=subprocess.DEVNULL)
+        if not os.path.isfile(PROGRAM):
+            kit.say("the program was not built: rt run in crates/bin65 says why")
+            return 1
+        took["bin65, proved, compiled and linked"] = time.time() - begun
+        with open(SUM, "w") as it:
+            it.write(made)
+    if took:
+        kit.table("How long each part took:", took.items())
+    return 0
+
+
+if __name__ == "__main__":
+    sys.exit(main(sys.argv[1:]))

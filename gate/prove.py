@@ -19,10 +19,11 @@ PROGRAM = f"{kit.ROOT}/crates/bin65/out/bin65"
 SUM = f"{PROGRAM}.sum"
 
 
-def sum_of_sources(rt):
-    """A sum of all that the program is made of."""
-    found = hashlib.sha256(subprocess.run(["rt", "version"], capture_output=True).stdout)
-    for file in [f"{kit.ROOT}/crates.txt", *(f for it in kit.crates(rt) for f in sorted(rt.rtlib.files_of(it.folder)))]:
+def sum_of_all(rt):
+    """A sum of all that the program is made of, and of the program itself."""
+    found = hashlib.sha256(subprocess.run(["rt", "version"], capture_output=True, check=True).stdout)
+    files = [f"{kit.ROOT}/crates.txt", *(f for it in kit.crates(rt) for f in sorted(rt.rtlib.files_of(it.folder))), PROGRAM]
+    for file in filter(os.path.isfile, files):
         found.update(f"{os.path.relpath(file, kit.ROOT)}\0".encode())
         with open(file, "rb") as it:
             found.update(it.read() + b"\0")
@@ -56,7 +57,7 @@ def prove(crate, jobs):
 
 def in_lanes(crates, lanes):
     """Proves the crates, each once those below it are proved, and returns how long each took, or None where one isn't proved."""
-    left, proved, running, took = [*crates], set(), {}, {}
+    left, proved, failed, running, took = [*crates], set(), [], {}, {}
     with ThreadPoolExecutor(lanes) as pool:
         while left or running:
             ready = [it for it in left if {*it.below()} <= proved]
@@ -74,22 +75,27 @@ def in_lanes(crates, lanes):
                 crate, begun, _ = running.pop(it)
                 if not it.result():
                     kit.say(f"{crate.name}: NOT PROVED; {os.path.relpath(crate.folder, kit.ROOT)}/out/prove.log says why")
-                    return None
+                    failed.append(crate)
+                    left = []
+                    continue
                 proved.add(crate)
                 took[crate.name] = time.time() - begun
                 kit.say(f"{crate.name}: proved after {kit.minutes(took[crate.name])}")
-    return took
+    return None if failed else took
 
 
 def main(names):
     rt = kit.load()
     rt.rtlib.guarded()
-    made = sum_of_sources(rt)
-    if not names and os.path.isfile(PROGRAM) and rt.rtlib.text_of(SUM) == made:
+    if not names and os.path.isfile(PROGRAM) and rt.rtlib.text_of(SUM) == sum_of_all(rt):
         return 0
     if not names and os.path.isfile(PROGRAM):
         os.remove(PROGRAM)
     crates = kit.crates(rt)
+    unknown = [name for name in names if not any(it.name == name and not it.is_program for it in crates)]
+    if unknown:
+        kit.say(f"{unknown[0]} is no library of crates.txt")
+        return 2
     asked = [it for it in crates if it.name in names or not names and it.is_program]
     chosen = [it for it in crates if not it.is_program and (it in asked or any(it in that.below() for that in asked))]
     held = rt.rtlib.lock(crates)
@@ -102,13 +108,16 @@ def main(names):
         begun = time.time()
         kit.say("bin65: its proof begins, and then it is compiled")
         # (with no arguments the program answers 'bad arguments', which is no fault of the build)
-        subprocess.run(["rt", "run"], cwd=f"{kit.ROOT}/crates/bin65", stdin=subprocess.DEVNULL, stdout=subprocess.DEVNULL, stderr=subprocess.DEVNULL)
+        folder = f"{kit.ROOT}/crates/bin65"
+        os.makedirs(f"{folder}/out", exist_ok=True)
+        with open(f"{folder}/out/prove.log", "w") as log:
+            subprocess.run(["rt", "run"], cwd=folder, stdin=subprocess.DEVNULL, stdout=log, stderr=subprocess.STDOUT)
         if not os.path.isfile(PROGRAM):
-            kit.say("the program was not built: rt run in crates/bin65 says why")
+            kit.say("bin65: NOT BUILT; crates/bin65/out/prove.log says why")
             return 1
         took["bin65, proved, compiled and linked"] = time.time() - begun
         with open(SUM, "w") as it:
-            it.write(made)
+            it.write(sum_of_all(rt))
     if took:
         kit.table("How long each part took:", took.items())
     return 0

@@ -7,14 +7,14 @@ log=$(mktemp)
 trap 'rm -f "$log"' EXIT
 passed=0 failed=0
 
-# count STATUS: adds the last line 'N passed, M failed' of the log
+# count STATUS: adds the last line 'N passed, M failed' of the log. A part that tried nothing has failed.
 count() {
     local last
     last=$(grep -E '^[0-9]+ passed, [0-9]+ failed$' "$log" | tail -n 1)
     if [ -n "$last" ]; then
         set -- "$1" $last
         passed=$((passed + $2)); failed=$((failed + $4))
-        [ "$1" = 0 ] || [ "$4" != 0 ] || failed=$((failed + 1))
+        [ "$4" != 0 ] || { [ "$1" = 0 ] && [ "$2" != 0 ]; } || failed=$((failed + 1))
     else
         failed=$((failed + 1))
     fi

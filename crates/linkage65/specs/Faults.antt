@@ -1,0 +1,30 @@
+-- Why nothing is linked: in words, and whether memory ran out.
+use Rattle.std.specs.Prelude.{ℕ, Bool, true, false, List, [], ◌∷◌, ◌++◌, codes}
+use Rattle.object65.specs.Fault.{fault_text as object_words, is_memory as is_object_memory}
+use Rattle.script65.specs.Faults.{is_place_outside, place_fault_text}
+use Rattle.linkage65.specs.declared.fault.LinkFault.{LinkFault}
+use Rattle.linkage65.specs.declared.fault.LinkFault.TheVariants.{FailedBefore, OutOfMemory, Object, DuplicateExport, Unresolved, Place, Circular, OutOfRange, NoValue, Assertion}
+
+abbrev pub is_memory : LinkFault → Bool
+is_memory OutOfMemory = true
+is_memory (Object f) = is_object_memory f
+is_memory (Place f) = is_place_outside f
+is_memory _ = false
+
+-- names between commas and blanks
+abbrev pub listed : List (List ℕ) → List ℕ
+listed [] = []
+listed (name ∷ []) = name
+listed (name ∷ other ∷ names) = name ++ codes ", " ++ listed (other ∷ names)
+
+abbrev pub fault_text : LinkFault → List ℕ
+fault_text FailedBefore = codes "failed before"
+fault_text OutOfMemory = codes "out of memory"
+fault_text (Object f) = object_words f
+fault_text (DuplicateExport name) = codes "duplicate export: " ++ name
+fault_text (Unresolved names) = codes "unresolved: " ++ listed names
+fault_text (Place f) = place_fault_text f
+fault_text (Circular s) = codes "circular definition"
+fault_text (OutOfRange s) = codes "out of range"
+fault_text (NoValue s) = codes "zero divisor or bad shift count"
+fault_text (Assertion s text) = text

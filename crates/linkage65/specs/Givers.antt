@@ -1,0 +1,62 @@
+-- Who gives a name: a module that exports it, the script, or else the script's weak name.
+use Rattle.std.specs.Prelude.{ℕ, Bool, not, ◌||◌, List, [], ◌∷◌, ◌++◌, map, filter, find, position, Option, Some, None, if◌then◌else◌}
+use Rattle.std.specs.List.{flat_map, list_any}
+use Rattle.std.specs.Str.{bytes_eq}
+use Rattle.script65.specs.declared.script.Script.{Script}
+use Rattle.linkage65.specs.declared.parts.Exported.{Exported}
+use Rattle.linkage65.specs.declared.parts.Giver.{Giver}
+use Rattle.linkage65.specs.declared.parts.Giver.TheVariants.{ByModule, ByScript, Nobody}
+use Rattle.linkage65.specs.Names.{Definition, script_names, symbol_imports, weak_symbols}
+use Rattle.linkage65.specs.Programs.{Program}
+
+-- ---- Names given twice.
+
+abbrev pub is_among : List (List ℕ) → List ℕ → Bool
+is_among names name = list_any (λ n. bytes_eq n name) names
+
+-- the first name that equals one before it
+abbrev pub first_again : List (List ℕ) → List (List ℕ) → Option (List ℕ)
+first_again before [] = None
+first_again before (name ∷ names) = if is_among before name then Some name else first_again (before ++ name ∷ []) names
+
+abbrev pub export_names : Program → List (List ℕ)
+export_names p = map (λ e. e.name) p.exports
+
+-- the names of which none may be given twice: the script's, then the modules' exports
+abbrev pub given_names : Script → Program → List (List ℕ)
+given_names s p = script_names s ++ export_names p
+
+-- ---- Names that nobody gives.
+
+abbrev pub is_given : Script → Program → List ℕ → Bool
+is_given s p name = is_among (given_names s p) name || is_among (map (λ d. d.name) (weak_symbols s.symbols)) name
+
+-- each name once, where it first stands
+abbrev pub each_once : List (List ℕ) → List (List ℕ) → List (List ℕ)
+each_once before [] = before
+each_once before (name ∷ names) = each_once (if is_among before name then before else before ++ name ∷ []) names
+
+-- what has to be given, in order of first reference: the script's imports, then those of the modules
+abbrev pub references : Script → Program → List (List ℕ)
+references s p = each_once [] (symbol_imports s.symbols ++ flat_map (λ m. m.imports) p.members)
+
+abbrev pub unresolved : Script → Program → List (List ℕ)
+unresolved s p = filter (λ name. not (is_given s p name)) (references s p)
+
+-- ---- Who gives a name.
+
+abbrev pub by_definition : Option Definition → Giver → Giver
+by_definition (Some d) other = ByScript d.value
+by_definition None other = other
+
+abbrev pub by_export : Option ℕ → Giver → Giver
+by_export (Some k) other = ByModule k
+by_export None other = other
+
+abbrev pub definition_of : List Definition → List ℕ → Option Definition
+definition_of ds name = find (λ d. bytes_eq d.name name) ds
+
+-- by the exports of modules, the script's own definitions and its weak names; an export is named by its place
+abbrev pub giver_of : List Exported → List Definition → List Definition → List ℕ → Giver
+giver_of exports own weak name =
+    by_export (position (λ e. bytes_eq e.name name) exports) (by_definition (definition_of own name) (by_definition (definition_of weak name) Nobody))

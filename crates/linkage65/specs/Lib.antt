@@ -1,0 +1,13 @@
+pub mod Modules
+pub mod Segments
+pub mod Programs
+pub mod Names
+pub mod Givers
+pub mod Values
+pub mod Places
+pub mod Checks
+pub mod Files
+pub mod Warnings
+pub mod Maps
+pub mod Faults
+pub mod Links

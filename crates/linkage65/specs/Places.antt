@@ -1,0 +1,44 @@
+-- Where sections lie by a placement, and who gives each import.
+use Rattle.std.specs.Prelude.{ℕ, ◌+◌, ℤ, pos, List, [], ◌∷◌, map, if◌then◌else◌}
+use Rattle.std.specs.Str.{bytes_eq}
+use Rattle.syntax65.specs.Values.{wrapped}
+use Rattle.script65.specs.declared.placement.Placement.{Placement}
+use Rattle.script65.specs.declared.placement.RowPlace.{RowPlace}
+use Rattle.script65.specs.declared.placement.SegmentNeed.{SegmentNeed}
+use Rattle.script65.specs.declared.script.Row.{Row}
+use Rattle.script65.specs.declared.script.Script.{Script}
+use Rattle.linkage65.specs.declared.parts.Member.{Member}
+use Rattle.linkage65.specs.declared.parts.Resolved.{Resolved}
+use Rattle.linkage65.specs.declared.parts.SectionPlace.{SectionPlace}
+use Rattle.linkage65.specs.Givers.{giver_of}
+use Rattle.linkage65.specs.Names.{script_definitions, weak_symbols}
+use Rattle.linkage65.specs.Programs.{Program}
+use Rattle.linkage65.specs.Segments.{Segment}
+use Rattle.linkage65.specs.Values.{Linkage}
+
+-- what a segment needs of its row
+abbrev pub need_of : Segment → SegmentNeed
+need_of g = record { name = g.name; size = g.size; align = g.align }
+
+-- the needs of segments, in the order in which modules first show them
+abbrev pub needs_of : Program → List SegmentNeed
+needs_of p = map need_of p.segments
+
+-- the address at which a segment runs: that of its row
+abbrev pub run_of : List Row → List RowPlace → List ℕ → ℕ
+run_of (r ∷ rs) (p ∷ ps) name = if bytes_eq r.name name then p.run else run_of rs ps name
+run_of [] ps name = 0
+run_of (r ∷ rs) [] name = 0
+
+abbrev pub address_of : Script → Placement → SectionPlace → ℤ
+address_of s p place = wrapped (pos (run_of s.rows p.rows place.segment + place.offset))
+
+-- a module's sections at their addresses, and who gives its imports
+abbrev pub resolved : Script → Program → Placement → Member → Resolved
+resolved s program p m = record {
+  bases = map (address_of s p) m.sections;
+  givers = map (giver_of program.exports (script_definitions s p) (weak_symbols s.symbols)) m.imports;
+}
+
+abbrev pub linkage_of : Script → Program → Placement → Linkage
+linkage_of s program p = record { modules = map (resolved s program p) program.members; exports = program.exports }

@@ -1,0 +1,79 @@
+//! What a link keeps of its modules.
+
+use object65::{Action, Norm, Width};
+use syntax65::Sequence;
+
+/// A module's name, where its sections lie in their segments, and the names that it imports. Forms name sections and
+/// imports by their places here. An owner is a member's place among the members.
+#[derive(Debug, Drop)]
+pub struct Member {
+    pub name: Sequence<u8>,
+    pub sections: Sequence<SectionPlace>,
+    pub imports: Sequence<Sequence<u8>>,
+}
+
+/// Where a section lies: how far behind the start of its segment, and how many bytes it has.
+#[derive(Debug, Drop)]
+pub struct SectionPlace {
+    pub segment: Sequence<u8>,
+    pub offset: u64,
+    pub size: u64,
+}
+
+/// A value of a module that is computed once all is placed.
+#[derive(Debug, Drop)]
+pub struct Waiting {
+    pub owner: usize,
+    pub width: Width,
+    /// The line of its statement.
+    pub line: u32,
+    pub form: Norm,
+}
+
+/// A name that a module defines for others.
+#[derive(Debug, Drop)]
+pub struct Exported {
+    pub owner: usize,
+    pub name: Sequence<u8>,
+    pub line: u32,
+    pub form: Norm,
+}
+
+/// What a module asks the linker to check.
+#[derive(Debug, Drop)]
+pub struct Asserted {
+    pub owner: usize,
+    pub action: Action,
+    pub line: u32,
+    /// What is printed where the form is 0.
+    pub text: Sequence<u8>,
+    pub form: Norm,
+}
+
+/// Who gives a name.
+#[derive(Clone, Copy, Debug, PartialEq, Eq)]
+pub enum Giver {
+    /// A module: the place of its export among all exports.
+    ByModule(usize),
+    /// The script, which says its value.
+    ByScript(i64),
+    Nobody,
+}
+
+/// The addresses of a module's sections, and who gives its imports.
+#[derive(Debug, Drop)]
+pub struct Resolved {
+    pub bases: Sequence<i64>,
+    pub givers: Sequence<Giver>,
+}
+
+/// Why a form has no value.
+#[derive(Clone, Copy, Debug, PartialEq, Eq)]
+pub enum ValueFault {
+    /// It needs itself.
+    Circular,
+    /// A zero divisor or a bad shift count.
+    NoValue,
+    /// An import that nobody gives.
+    Unresolved,
+}

@@ -4,6 +4,7 @@ pub mod Programs
 pub mod Names
 pub mod Givers
 pub mod Values
+pub mod Marks
 pub mod Places
 pub mod Checks
 pub mod Files
@@ -11,3 +12,4 @@ pub mod Warnings
 pub mod Maps
 pub mod Faults
 pub mod Links
+pub mod Laws

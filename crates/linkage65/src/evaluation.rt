@@ -1,0 +1,6 @@
+//! The values of forms and of exports, found with a stack of its own.
+
+mod mark;
+mod trying;
+
+pub use mark::{Mark, Stop};

@@ -1,0 +1,20 @@
+//! What is known of exports while they are evaluated.
+
+use crate::parts::ValueFault;
+
+/// What is known of an export.
+#[derive(Clone, Copy, Debug)]
+pub enum Mark {
+    Untouched,
+    BeingEvaluated,
+    Found(Result<i64, ValueFault>),
+}
+
+/// Why a form has no value so far.
+#[derive(Clone, Copy, Debug, PartialEq, Eq)]
+pub enum Stop {
+    /// It has none.
+    Fault(ValueFault),
+    /// It needs the export at this place first.
+    Needs(usize),
+}

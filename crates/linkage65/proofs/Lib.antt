@@ -1,2 +1,4 @@
 pub mod Turns
 pub mod Tries
+pub mod Chain
+pub mod Walk

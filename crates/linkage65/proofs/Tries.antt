@@ -124,10 +124,10 @@ then_reaches : (at : ℕ → Answer) (b : ℕ → ℤ → Answer) (v : ℤ) (r :
 then_reaches at b v r g k h t = record {
   turns = t.turns + h.turns;
   found =
-    (let one : at (t.turns + h.turns) ≡ Ok v = stands at (Ok v) g h t.turns in
-    let same : t.turns + h.turns ≡ h.turns + t.turns = omega arith in
-    let two : b (t.turns + h.turns) v ≡ r = ap (λ n. b n v) same ∙ stands (λ n. b n v) r k t h.turns in
-    rw one two);
+      (let one : at (t.turns + h.turns) ≡ Ok v = stands at (Ok v) g h t.turns in
+      let same : t.turns + h.turns ≡ h.turns + t.turns = omega arith in
+      let two : b (t.turns + h.turns) v ≡ r = ap (λ n. b n v) same ∙ stands (λ n. b n v) r k t h.turns in
+      rw one two);
   firm = t.firm;
 }
 

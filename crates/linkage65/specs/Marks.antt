@@ -1,11 +1,14 @@
 -- What is known of exports while they are evaluated.
-use Rattle.std.specs.Prelude.{◌≡◌, ℕ, ℤ, pos, List, slice_get, Option, Some, None, Result, Ok, Err}
+use Rattle.std.specs.Prelude.{◌≡◌, ◌≢◌, ℕ, ℤ, List, length, slice_get, Option, Some, None, Result, Ok, Err}
 use Rattle.object65.specs.Form.{Form}
 use Rattle.object65.specs.FormValue.{value_in}
+use Rattle.linkage65.specs.declared.evaluation.mark.Attempt.{Attempt}
+use Rattle.linkage65.specs.declared.evaluation.mark.Attempt.TheVariants as attempt
 use Rattle.linkage65.specs.declared.evaluation.mark.Mark.{Mark}
 use Rattle.linkage65.specs.declared.evaluation.mark.Mark.TheVariants.{Untouched, BeingEvaluated, Found}
 use Rattle.linkage65.specs.declared.evaluation.mark.Stop.{Stop}
 use Rattle.linkage65.specs.declared.evaluation.mark.Stop.TheVariants.{Fault, Needs}
+use Rattle.linkage65.specs.declared.parts.Exported.{Exported}
 use Rattle.linkage65.specs.declared.parts.Giver.{Giver}
 use Rattle.linkage65.specs.declared.parts.Giver.TheVariants.{ByModule, ByScript, Nobody}
 use Rattle.linkage65.specs.declared.parts.Resolved.{Resolved}
@@ -37,3 +40,25 @@ tried m marks f = value_in (Fault NoValue) (base_of m) (λ j. import_tried marks
 -- what was found of exports is what they come to
 abbrev pub AreTrue : Linkage → List Mark → Type 0
 AreTrue l marks = (x : ℕ) (r : Result ℤ ValueFault) → slice_get marks x ≡ Some (Found r) → ExportComesTo l x r
+
+abbrev pub attempt_of : Result ℤ Stop → Attempt
+attempt_of (Ok v) = attempt.Settled (Ok v)
+attempt_of (Err (Fault e)) = attempt.Settled (Err e)
+attempt_of (Err (Needs x)) = attempt.Needs x
+
+abbrev pub export_tried : List Resolved → List Mark → Option Exported → Attempt
+export_tried modules marks None = attempt.Settled (Err Unresolved)
+export_tried modules marks (Some e) = attempt_of (tried (slice_get modules e.owner) marks e.form)
+
+abbrev pub IsFound : List Mark → ℕ → Type 0
+IsFound marks x = (r : Result ℤ ValueFault) × (slice_get marks x ≡ Some (Found r))
+
+-- a mark for each export, none of which is being evaluated, and what was found is true
+pub record AreSettled (l : Linkage) (marks : List Mark) : Type 0 where
+  pub long : length marks ≡ length l.exports
+  pub all_true : AreTrue l marks
+  pub at_rest : (x : ℕ) → slice_get marks x ≢ Some BeingEvaluated
+
+-- all that was found stays found
+abbrev pub KeepsFound : List Mark → List Mark → Type 0
+KeepsFound old new = (x : ℕ) → IsFound old x → IsFound new x

@@ -65,3 +65,6 @@ pub record AreExports (l : Linkage) (table : List (Result ℤ ValueFault)) : Typ
 
 abbrev pub in_table : List (Result ℤ ValueFault) → Exports
 in_table table x = get_or table x (Err Unresolved)
+
+abbrev pub linkage : List Resolved → List Exported → Linkage
+linkage modules exports = record { modules = modules; exports = exports }

@@ -1,6 +1,7 @@
 //! The values of forms and of exports, found with a stack of its own.
 
 mod mark;
+mod settling;
 mod trying;
 
-pub use mark::{Mark, Stop};
+pub use mark::{Attempt, Mark, Stop};

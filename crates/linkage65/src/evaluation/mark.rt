@@ -18,3 +18,12 @@ pub enum Stop {
     /// It needs the export at this place first.
     Needs(usize),
 }
+
+/// What an attempt at an export gives.
+#[derive(Clone, Copy, Debug)]
+pub enum Attempt {
+    /// What it comes to.
+    Settled(Result<i64, ValueFault>),
+    /// It needs the export at this place first.
+    Needs(usize),
+}

@@ -1,15 +1,15 @@
 //! Attempts at forms.
 
-ghost use Rattle.std.specs.Prelude.{◌≡◌, ◌+ℤ◌, pos, get_or, slice_get, option_copied, Some};
+ghost use Rattle.std.specs.Prelude.{◌≡◌, ◌<◌, ◌+ℤ◌, length, option_copied, slice_get};
 ghost use Rattle.syntax65.specs.Values.{wrapped};
 ghost use Rattle.object65.specs.FormValue.{or_none};
 ghost use Rattle.linkage65.specs.declared.evaluation.mark.Stop.TheVariants.{Fault};
-ghost use Rattle.linkage65.specs.declared.parts.Giver.TheVariants.{Nobody};
 ghost use Rattle.linkage65.specs.declared.parts.ValueFault.TheVariants.{NoValue};
-ghost use Rattle.linkage65.specs.Marks.{as_found, import_tried, tried};
+ghost use Rattle.linkage65.specs.Marks.{as_found, attempt_of, export_tried, import_tried, tried};
+ghost use Rattle.linkage65.specs.Values.{base_of, giver_at};
 
-use crate::evaluation::mark::{Mark, Stop};
-use crate::parts::{Giver, Resolved, ValueFault};
+use crate::evaluation::mark::{Attempt, Mark, Stop};
+use crate::parts::{Exported, Giver, Resolved, ValueFault};
 use object65::{Node, Norm};
 use syntax65::{apply1, apply2};
 
@@ -38,21 +38,28 @@ fn try_import(marks: &[Mark], giver: Giver) -> Result<i64, Stop>
     }
 }
 
-fn giver_at(givers: &[Giver], place: usize) -> Giver
-    ensures { result ≡ get_or givers.now place Nobody }
+/// Who gives a module's import; nobody does where there is no such module or import.
+fn giver_at(resolved: Option<&Resolved>, place: usize) -> Giver
+    ensures { result ≡ giver_at (option_copied resolved.entry) place }
 {
-    match givers.get(place) {
-        Some(giver) => *giver,
+    match resolved {
         None => Giver::Nobody,
+        Some(resolved) => match resolved.givers.as_slice().get(place) {
+            Some(giver) => *giver,
+            None => Giver::Nobody,
+        },
     }
 }
 
-fn base_at(bases: &[i64], section: usize) -> i64
-    ensures { result ≡ get_or bases.now section (pos 0) }
+fn base_at(resolved: Option<&Resolved>, section: usize) -> i64
+    ensures { result ≡ base_of (option_copied resolved.entry) section }
 {
-    match bases.get(section) {
-        Some(base) => *base,
+    match resolved {
         None => 0,
+        Some(resolved) => match resolved.bases.as_slice().get(section) {
+            Some(base) => *base,
+            None => 0,
+        },
     }
 }
 
@@ -72,26 +79,54 @@ fn known(outcome: Option<i64>) -> Result<i64, Stop>
 }
 
 /// The value of a form of a module as far as exports are known, or what it needs first.
-pub fn try_form(form: &Norm, module: &Resolved, marks: &[Mark]) -> Result<i64, Stop>
-    ensures { result ≡ tried (Some module.now) marks.now form.now }
+pub fn try_form(form: &Norm, resolved: Option<&Resolved>, marks: &[Mark]) -> Result<i64, Stop>
+    ensures { result ≡ tried (option_copied resolved.entry) marks.now form.now }
 {
     match form.node() {
         Node::Lit(value) => Ok(*value),
-        Node::Sec(section, offset) => {
-            Ok(sum(base_at(module.bases.as_slice(), *section as usize), *offset))
-        }
-        Node::Imp(place) => try_import(
-            marks,
-            giver_at(module.givers.as_slice(), *place as usize),
-        ),
+        Node::Sec(section, offset) => Ok(sum(base_at(resolved, *section as usize), *offset)),
+        Node::Imp(place) => try_import(marks, giver_at(resolved, *place as usize)),
         Node::Prefix(op, part) => {
-            let value = try_form(part, module, marks)?;
+            let value = try_form(part, resolved, marks)?;
             Ok(apply1(*op, value))
         }
         Node::Binary(op, left, right) => {
-            let first = try_form(left, module, marks)?;
-            let second = try_form(right, module, marks)?;
+            let first = try_form(left, resolved, marks)?;
+            let second = try_form(right, resolved, marks)?;
             known(apply2(*op, first, second))
         }
     }
+}
+
+/// The module at a place, if there is one.
+pub fn resolved_at(modules: &[Resolved], owner: usize) -> Option<&Resolved>
+    ensures { option_copied result ≡ slice_get modules.entry.now owner }
+{
+    modules.get(owner)
+}
+
+/// What an attempt gave.
+fn attempt_of(outcome: Result<i64, Stop>) -> Attempt
+    ensures { result ≡ attempt_of outcome }
+{
+    match outcome {
+        Ok(value) => Attempt::Settled(Ok(value)),
+        Err(Stop::Fault(fault)) => Attempt::Settled(Err(fault)),
+        Err(Stop::Needs(export)) => Attempt::Needs(export),
+    }
+}
+
+/// What the export at a place comes to as far as exports are known, or what it needs first.
+pub fn try_export(
+    modules: &[Resolved],
+    exports: &[Exported],
+    marks: &[Mark],
+    place: usize,
+) -> Attempt
+    requires { place < length exports.now }
+    ensures { result ≡ export_tried modules.now marks.now (slice_get exports.now place) }
+{
+    let export = &exports[place];
+    let resolved = resolved_at(modules, export.owner);
+    attempt_of(try_form(&export.form, resolved, marks))
 }

@@ -2,3 +2,4 @@ pub mod Turns
 pub mod Tries
 pub mod Chain
 pub mod Walk
+pub mod Tables

@@ -1,5 +1,5 @@
 -- What is known of exports while they are evaluated.
-use Rattle.std.specs.Prelude.{◌≡◌, ◌≢◌, ℕ, ℤ, List, length, slice_get, Option, Some, None, Result, Ok, Err}
+use Rattle.std.specs.Prelude.{◌≡◌, ◌≢◌, ◌<◌, ℕ, ℤ, List, length, map, slice_get, Option, Some, None, Result, Ok, Err}
 use Rattle.object65.specs.Form.{Form}
 use Rattle.object65.specs.FormValue.{value_in}
 use Rattle.linkage65.specs.declared.evaluation.mark.Attempt.{Attempt}
@@ -62,3 +62,33 @@ pub record AreSettled (l : Linkage) (marks : List Mark) : Type 0 where
 -- all that was found stays found
 abbrev pub KeepsFound : List Mark → List Mark → Type 0
 KeepsFound old new = (x : ℕ) → IsFound old x → IsFound new x
+
+-- ---- All exports.
+
+-- a mark for each of so many exports, all untouched
+pub record AreUntouched (count : ℕ) (marks : List Mark) : Type 0 where
+  pub long : length marks ≡ count
+  pub each : (x : ℕ) → x < count → slice_get marks x ≡ Some Untouched
+
+abbrev pub AllFound : List Mark → Type 0
+AllFound marks = (x : ℕ) → x < length marks → IsFound marks x
+
+-- all is found, and true
+pub record AreAllFound (l : Linkage) (marks : List Mark) : Type 0 where
+  pub settled : AreSettled l marks
+  pub found : AllFound marks
+
+abbrev pub outcome_of : Mark → Result ℤ ValueFault
+outcome_of Untouched = Err Unresolved
+outcome_of BeingEvaluated = Err Circular
+outcome_of (Found r) = r
+
+-- what exports come to, in order
+abbrev pub table_of : List Mark → List (Result ℤ ValueFault)
+table_of marks = map outcome_of marks
+
+-- what an attempt answered where nothing is needed any more
+abbrev pub as_outcome : Result ℤ Stop → Result ℤ ValueFault
+as_outcome (Ok v) = Ok v
+as_outcome (Err (Fault e)) = Err e
+as_outcome (Err (Needs x)) = Err Circular

@@ -1,12 +1,13 @@
 //! Attempts at forms.
 
-ghost use Rattle.std.specs.Prelude.{◌≡◌, ◌<◌, ◌+ℤ◌, length, option_copied, slice_get};
+ghost use Rattle.std.specs.Prelude.{◌≡◌, ◌<◌, ℕ, List, ◌+ℤ◌, length, option_copied, slice_get};
 ghost use Rattle.syntax65.specs.Values.{wrapped};
 ghost use Rattle.object65.specs.FormValue.{or_none};
 ghost use Rattle.linkage65.specs.declared.evaluation.mark.Stop.TheVariants.{Fault};
+ghost use Rattle.linkage65.specs.declared.parts.Exported.{Exported};
 ghost use Rattle.linkage65.specs.declared.parts.ValueFault.TheVariants.{NoValue};
-ghost use Rattle.linkage65.specs.Marks.{as_found, attempt_of, export_tried, import_tried, tried};
-ghost use Rattle.linkage65.specs.Values.{base_of, giver_at};
+ghost use Rattle.linkage65.specs.Marks.{AllFound, as_found, as_outcome, attempt_of, export_tried, import_tried, table_of, tried};
+ghost use Rattle.linkage65.specs.Values.{base_of, giver_at, in_table, linkage, value_by};
 
 use crate::evaluation::mark::{Attempt, Mark, Stop};
 use crate::parts::{Exported, Giver, Resolved, ValueFault};
@@ -129,4 +130,29 @@ pub fn try_export(
     let export = &exports[place];
     let resolved = resolved_at(modules, export.owner);
     attempt_of(try_form(&export.form, resolved, marks))
+}
+
+/// What an attempt answered where nothing is needed any more.
+fn as_outcome(attempt: Result<i64, Stop>) -> Result<i64, ValueFault>
+    ensures { result ≡ as_outcome attempt }
+{
+    match attempt {
+        Ok(value) => Ok(value),
+        Err(Stop::Fault(fault)) => Err(fault),
+        Err(Stop::Needs(_)) => Err(ValueFault::Circular),
+    }
+}
+
+/// What a form of the module at a place comes to, where all exports are found.
+pub fn value_of(
+    modules: &[Resolved],
+    marks: &[Mark],
+    owner: usize,
+    form: &Norm,
+) -> Result<i64, ValueFault>
+    requires { AllFound marks.now }
+    ensures { (exports : List Exported) →
+        result ≡ value_by (linkage modules.now exports) (in_table (table_of marks.now)) owner form.now }
+{
+    as_outcome(try_form(form, resolved_at(modules, owner), marks))
 }

@@ -2,4 +2,9 @@ pub mod Turns
 pub mod Tries
 pub mod Chain
 pub mod Walk
-pub mod Tables
+pub mod ExportTables
+pub mod Passes
+pub mod SegmentLemmas
+pub mod LoadLemmas
+pub mod FileLemmas
+pub mod ImageLemmas

@@ -2,7 +2,8 @@
 use Rattle.std.specs.Prelude.{◌≡◌, ℕ, ◌+◌, ◌-◌, ◌<◌, ◌==◌, ◌&&◌, ℤ, pos, Bool, true, false, if◌then◌else◌, List, [], ◌∷◌, ◌++◌, length, get_or, nat_le, nat_lt, Option, Some, None, Result, Ok, Err}
 use Rattle.std.specs.List.{flat_map}
 use Rattle.std.specs.Str.{bytes_eq, is_utf8}
-use Rattle.object65.specs.Objects.{value_bytes}
+use Rattle.object65.specs.declared.object.Width.{Width}
+use Rattle.object65.specs.Objects.{fits_width, value_bytes}
 use Rattle.script65.specs.Access.{is_written}
 use Rattle.script65.specs.declared.placement.RowPlace.{RowPlace}
 use Rattle.script65.specs.declared.script.Area.{Area}
@@ -20,11 +21,15 @@ abbrev pub or_zero : Result ℤ ValueFault → ℤ
 or_zero (Ok v) = v
 or_zero (Err e) = pos 0
 
--- the bytes of a cell, by the row's fill value and what exports come to; a value has been found to fit
+-- the bytes of a value, which has been found to fit
+abbrev pub stored : Width → ℤ → List ℕ
+stored width v = if fits_width width v then value_bytes width v else []
+
+-- the bytes of a cell, by the row's fill value and what exports come to
 abbrev pub cell_bytes : Linkage → Exports → ℕ → Cell → List ℕ
 cell_bytes l exports fill (known b) = b ∷ []
 cell_bytes l exports fill filled = fill ∷ []
-cell_bytes l exports fill (waits w) = value_bytes w.width (or_zero (value_by l exports w.owner w.form))
+cell_bytes l exports fill (waits w) = stored w.width (or_zero (value_by l exports w.owner w.form))
 
 abbrev pub segment_bytes : Linkage → Exports → ℕ → Option Segment → List ℕ
 segment_bytes l exports fill None = []
@@ -93,10 +98,13 @@ pub record IsImage (len fill : ℕ) (pieces : List Piece) (image : List ℕ) : T
   pub size : length image ≡ len
   pub bytes : (i : ℕ) → i < len → get_or image i 0 ≡ byte_over pieces i fill
 
--- The file of the area at a place of the script: byte i is that at the address i behind the area's start.
+-- An area's file, by the rows that are loaded there: byte i is that at the address i behind the area's start.
+abbrev pub IsFileBy : RowBytes → Area → List Placed → List ℕ → Type 0
+IsFileBy bytes a ps image = IsImage (file_len a ps) a.fill_value (area_pieces a.start bytes ps) image
+
+-- that of the area at a place of the script
 abbrev pub IsAreaFile : List Row → List RowPlace → RowBytes → ℕ → Area → List ℕ → Type 0
-IsAreaFile rows places bytes k a image =
-    IsImage (file_len a (loaded_in k rows places)) a.fill_value (area_pieces a.start bytes (loaded_in k rows places)) image
+IsAreaFile rows places bytes k a image = IsFileBy bytes a (loaded_in k rows places) image
 
 -- ---- Files by name.
 

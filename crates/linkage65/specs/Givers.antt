@@ -3,10 +3,11 @@ use Rattle.std.specs.Prelude.{ℕ, Bool, not, ◌||◌, List, [], ◌∷◌, ◌
 use Rattle.std.specs.List.{flat_map, list_any}
 use Rattle.std.specs.Str.{bytes_eq}
 use Rattle.script65.specs.declared.script.Script.{Script}
+use Rattle.linkage65.specs.declared.parts.Definition.{Definition}
 use Rattle.linkage65.specs.declared.parts.Exported.{Exported}
 use Rattle.linkage65.specs.declared.parts.Giver.{Giver}
 use Rattle.linkage65.specs.declared.parts.Giver.TheVariants.{ByModule, ByScript, Nobody}
-use Rattle.linkage65.specs.Names.{Definition, script_names, symbol_imports, weak_symbols}
+use Rattle.linkage65.specs.Names.{script_names, symbol_imports, weak_symbols}
 use Rattle.linkage65.specs.Programs.{Program}
 
 -- ---- Names given twice.
@@ -56,7 +57,8 @@ by_export None other = other
 abbrev pub definition_of : List Definition → List ℕ → Option Definition
 definition_of ds name = find (λ d. bytes_eq d.name name) ds
 
--- by the exports of modules, the script's own definitions and its weak names; an export is named by its place
-abbrev pub giver_of : List Exported → List Definition → List Definition → List ℕ → Giver
-giver_of exports own weak name =
-    by_export (position (λ e. bytes_eq e.name name) exports) (by_definition (definition_of own name) (by_definition (definition_of weak name) Nobody))
+-- By the script's own definitions, the exports of modules and the script's weak names; an export is named by its
+-- place. No name is given twice among the first two.
+abbrev pub giver_of : List Definition → List Exported → List Definition → List ℕ → Giver
+giver_of own exports weak name =
+    by_definition (definition_of own name) (by_export (position (λ e. bytes_eq e.name name) exports) (by_definition (definition_of weak name) Nobody))

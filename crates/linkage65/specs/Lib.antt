@@ -5,9 +5,14 @@ pub mod Names
 pub mod Givers
 pub mod Values
 pub mod Marks
+pub mod Evaluation
+pub mod Contents
 pub mod Places
 pub mod Checks
 pub mod Files
+pub mod Loads
+pub mod Laying
+pub mod Holding
 pub mod Warnings
 pub mod Maps
 pub mod Faults

@@ -6,12 +6,13 @@ use Rattle.script65.specs.declared.placement.Placement.{Placement}
 use Rattle.script65.specs.declared.placement.RowPlace.{RowPlace}
 use Rattle.script65.specs.declared.script.Row.{Row}
 use Rattle.script65.specs.declared.script.Script.{Script}
+use Rattle.linkage65.specs.declared.parts.Definition.{Definition}
 use Rattle.linkage65.specs.declared.parts.Exported.{Exported}
 use Rattle.linkage65.specs.declared.parts.Member.{Member}
 use Rattle.linkage65.specs.declared.parts.SectionPlace.{SectionPlace}
 use Rattle.linkage65.specs.Files.{or_zero}
 use Rattle.linkage65.specs.Givers.{given_names, is_among}
-use Rattle.linkage65.specs.Names.{Definition, script_definitions, weak_symbols}
+use Rattle.linkage65.specs.Names.{script_definitions, weak_symbols}
 use Rattle.linkage65.specs.Programs.{Program}
 use Rattle.linkage65.specs.Values.{Exports, Linkage, value_by}
 

@@ -1,5 +1,6 @@
 -- The names that a script gives.
 use Rattle.std.specs.Prelude.{ℕ, ℤ, pos, List, [], ◌∷◌, ◌++◌, map, codes, if◌then◌else◌}
+use Rattle.std.specs.Int.{w64, cast_signed}
 use Rattle.std.specs.List.{flat_map}
 use Rattle.script65.specs.declared.placement.AreaPlace.{AreaPlace}
 use Rattle.script65.specs.declared.placement.Placement.{Placement}
@@ -10,18 +11,14 @@ use Rattle.script65.specs.declared.script.Script.{Script}
 use Rattle.script65.specs.declared.script.Symbol.{Symbol}
 use Rattle.script65.specs.declared.script.SymbolKind.{SymbolKind}
 use Rattle.script65.specs.declared.script.SymbolKind.TheVariants as kind
-
--- a name and its value
-pub record Definition : Type 0 where
-  pub name : List ℕ
-  pub value : ℤ
+use Rattle.linkage65.specs.declared.parts.Definition.{Definition}
 
 -- `__N_PART__`
 abbrev pub part_name : List ℕ → List ℕ → List ℕ
 part_name name part = codes "__" ++ name ++ codes "_" ++ part ++ codes "__"
 
 abbrev pub part : List ℕ → List ℕ → ℕ → Definition
-part name word n = record { name = part_name name word; value = pos n }
+part name word n = record { name = part_name name word; value = cast_signed w64 n }
 
 -- what an area with `define` defines: its start, its size and the first address behind what is placed in it
 abbrev pub area_definitions : Area → AreaPlace → List Definition
@@ -46,12 +43,12 @@ rows_definitions [] ps = []
 rows_definitions (r ∷ rs) [] = []
 
 abbrev pub export_definition : SymbolKind → List ℕ → List Definition
-export_definition (kind.Export n) name = record { name = name; value = pos n } ∷ []
+export_definition (kind.Export n) name = record { name = name; value = cast_signed w64 n } ∷ []
 export_definition (kind.Weak n) name = []
 export_definition kind.Import name = []
 
 abbrev pub weak_definition : SymbolKind → List ℕ → List Definition
-weak_definition (kind.Weak n) name = record { name = name; value = pos n } ∷ []
+weak_definition (kind.Weak n) name = record { name = name; value = cast_signed w64 n } ∷ []
 weak_definition (kind.Export n) name = []
 weak_definition kind.Import name = []
 

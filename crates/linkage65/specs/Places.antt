@@ -1,7 +1,7 @@
 -- Where sections lie by a placement, and who gives each import.
 use Rattle.std.specs.Prelude.{ℕ, ◌+◌, ℤ, pos, List, [], ◌∷◌, map, if◌then◌else◌}
 use Rattle.std.specs.Str.{bytes_eq}
-use Rattle.syntax65.specs.Values.{wrapped}
+use Rattle.std.specs.Int.{w64, cast_signed}
 use Rattle.script65.specs.declared.placement.Placement.{Placement}
 use Rattle.script65.specs.declared.placement.RowPlace.{RowPlace}
 use Rattle.script65.specs.declared.placement.SegmentNeed.{SegmentNeed}
@@ -30,14 +30,15 @@ run_of (r ∷ rs) (p ∷ ps) name = if bytes_eq r.name name then p.run else run_
 run_of [] ps name = 0
 run_of (r ∷ rs) [] name = 0
 
+-- modulo 2 ^ 64, as a signed number
 abbrev pub address_of : Script → Placement → SectionPlace → ℤ
-address_of s p place = wrapped (pos (run_of s.rows p.rows place.segment + place.offset))
+address_of s p place = cast_signed w64 ((run_of s.rows p.rows place.segment + place.offset) % 2 ^ 64)
 
 -- a module's sections at their addresses, and who gives its imports
 abbrev pub resolved : Script → Program → Placement → Member → Resolved
 resolved s program p m = record {
   bases = map (address_of s p) m.sections;
-  givers = map (giver_of program.exports (script_definitions s p) (weak_symbols s.symbols)) m.imports;
+  givers = map (giver_of (script_definitions s p) program.exports (weak_symbols s.symbols)) m.imports;
 }
 
 abbrev pub linkage_of : Script → Program → Placement → Linkage

@@ -77,3 +77,10 @@ pub enum ValueFault {
     /// An import that nobody gives.
     Unresolved,
 }
+
+/// A name that the script gives, and its value.
+#[derive(Debug, Drop)]
+pub struct Definition {
+    pub name: Sequence<u8>,
+    pub value: i64,
+}

@@ -1,4 +1,4 @@
-use Rattle.linkage65.proofs.Tables.{below_kept, below_next}
+use Rattle.linkage65.proofs.ExportTables.{below_kept, below_next}
 use Rattle.linkage65.proofs.evaluation.settling.settle_each.Goals as goal
 
 pub loop-root-preserved : goal.loop-root-preserved

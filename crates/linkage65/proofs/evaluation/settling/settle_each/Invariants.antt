@@ -1,6 +1,6 @@
 use Rattle.linkage65.specs.Marks.{AreSettled}
 use Rattle.linkage65.specs.Values.{linkage}
-use Rattle.linkage65.proofs.Tables.{FoundBelow}
+use Rattle.linkage65.proofs.ExportTables.{FoundBelow}
 use Rattle.linkage65.proofs.evaluation.settling.settle_each.Given as goal
 
 abbrev pub invariant-loop-root : goal.invariant-loop-root

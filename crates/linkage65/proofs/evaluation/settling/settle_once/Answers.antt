@@ -1,5 +1,5 @@
 use Rattle.linkage65.specs.Values.{linkage}
-use Rattle.linkage65.proofs.Tables.{touched_found}
+use Rattle.linkage65.proofs.ExportTables.{touched_found}
 use Rattle.linkage65.proofs.evaluation.settling.settle_once.Goals as goal
 
 pub returns-then-not-is_untouched-clause-found : goal.returns-then-not-is_untouched-clause-found

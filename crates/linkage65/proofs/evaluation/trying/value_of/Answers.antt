@@ -2,7 +2,7 @@ use Rattle.std.proofs.Common.{◌∙◌, ap, Option}
 use Rattle.linkage65.specs.declared.parts.Resolved.{Resolved}
 use Rattle.linkage65.specs.Marks.{as_outcome, tried}
 use Rattle.linkage65.specs.Values.{linkage}
-use Rattle.linkage65.proofs.Tables.{value_found}
+use Rattle.linkage65.proofs.ExportTables.{value_found}
 use Rattle.linkage65.proofs.evaluation.trying.value_of.Goals as goal
 
 pub returns : goal.returns

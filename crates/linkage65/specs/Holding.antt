@@ -1,0 +1,21 @@
+-- What the rows of a placed program hold, as the code has it, and the files so far.
+use Rattle.std.specs.Prelude.{◌≡◌, List, map}
+use Rattle.linkage65.specs.declared.files.Files.{Files}
+use Rattle.linkage65.specs.declared.holding.Held.{Held}
+use Rattle.linkage65.specs.Contents.{AreByName, segments_from}
+use Rattle.linkage65.specs.Evaluation.{exports_in, linkage_in}
+use Rattle.linkage65.specs.Files.{RowBytes, row_bytes}
+use Rattle.linkage65.specs.Marks.{AllFound}
+
+-- the bytes of rows
+abbrev pub bytes_in : Held → RowBytes
+bytes_in h = row_bytes (linkage_in h.program) (exports_in h.program) (segments_from h.segments.now.all.now)
+
+-- all exports are found, and each segment by its name
+pub record IsReady (h : Held) : Type 0 where
+  pub found : AllFound h.program.marks.now
+  pub table : AreByName h.segments.now
+
+-- the names are those of the files, in order
+abbrev pub AreNamed : Files → Type 0
+AreNamed f = map (λ k. k.now) f.names.keys ≡ map (λ o. o.name) f.outputs.items

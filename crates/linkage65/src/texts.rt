@@ -1,0 +1,27 @@
+//! Texts.
+
+ghost use Rattle.std.specs.Prelude.{◌≡◌, IfOk, map};
+ghost use Rattle.linkage65.specs.Warnings.{joined};
+
+use std::alloc::{AllocError, Global};
+use syntax65::Sequence;
+
+/// Texts one behind the other.
+pub fn join(alloc: Global, parts: &[&[u8]]) -> Result<Sequence<u8>, AllocError>
+    ensures { IfOk result (λ text. text ≡ joined (map (λ p. p.now) parts.now)) }
+{
+    let mut text = Sequence::new(alloc);
+    for part in parts {
+        text.extend_from_slice(part)?;
+    }
+    Ok(text)
+}
+
+/// A copy of bytes.
+pub fn copy_of(alloc: Global, bytes: &[u8]) -> Result<Sequence<u8>, AllocError>
+    ensures { IfOk result (λ copy. copy ≡ bytes.now) }
+{
+    let mut copy = Sequence::new(alloc);
+    copy.extend_from_slice(bytes)?;
+    Ok(copy)
+}

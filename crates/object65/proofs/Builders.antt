@@ -1,9 +1,8 @@
 -- What holds of a builder while it hasn't failed.
-use Rattle.std.proofs.Common.{◌≡◌, ◌∙◌, ◌≤◌, ℕ, List, [], ◌∷◌, ◌++◌, length, Bool, true, false, ◌&&◌, not, nat_le, if◌then◌else◌, Result, Ok, Err, refl, ap, subst, arith}
+use Rattle.std.proofs.Common.{◌≡◌, ◌∙◌, ◌≤◌, ℕ, List, [], ◌∷◌, ◌++◌, length, true, ◌&&◌, nat_le, Result, Ok, Err, refl, ap, subst, arith}
 use Rattle.std.proofs.lemmas.Bool.Decides.{nat_tests}
 use Rattle.std.specs.List.{list_all, AllByRecursion}
 use Rattle.object65.specs.declared.fault.ObjectFault.{ObjectFault}
-use Rattle.object65.specs.declared.fault.ObjectFault.TheVariants.{FailedBefore, OutOfOrder}
 use Rattle.object65.specs.declared.object.Object.{Object}
 use Rattle.object65.specs.declared.object.Section.{Section}
 use Rattle.std.specs.Prelude.{IfOk}
@@ -24,14 +23,11 @@ after_last s t u (x ∷ es) e h k =
     let v = bound (Taking.after s x) _ _ h in
     ap (λ r. r >>= (λ w. Taking.after_all w (es ++ e ∷ []))) v.1 ∙ after_last v.0 t u es e v.2 k
 
-taken_after : (s t : Taking.State) (e : Entry) → s.failed ≡ false → s.ended ≡ false → Taking.taken s e ≡ Ok t → Taking.after s e ≡ Ok t
-unfolding Taking.after
-taken_after s t e running going h = ap (λ b. if b then Err FailedBefore else (if s.ended then Err OutOfOrder else Taking.taken s e)) running ∙ ap (λ b. if b then Err OutOfOrder else Taking.taken s e) going ∙ h
-
-pub reached_on : (s t : Taking.State) (e : Entry) → Taking.IsReached s → s.failed ≡ false → s.ended ≡ false → Taking.taken s e ≡ Ok t → Taking.IsReached t
-reached_on s t e r running going h = record {
+-- what a record leads to is reached
+pub reached_next : (s t : Taking.State) (e : Entry) → Taking.IsReached s → Taking.after s e ≡ Ok t → Taking.IsReached t
+reached_next s t e r h = record {
   records = r.records ++ e ∷ [];
-  stands = after_last Taking.start s t r.records e r.stands (taken_after s t e running going h);
+  stands = after_last Taking.start s t r.records e r.stands h;
 }
 
 pub reached_start : Taking.IsReached Taking.start
@@ -41,8 +37,11 @@ good_all : (s t : Taking.State) (es : List Entry) → GoodState s → Taking.aft
 good_all s t [] g h = let same : s ≡ t = cc in subst GoodState same g
 good_all s t (e ∷ es) g h = let u = bound (Taking.after s e) _ _ h in good_all u.0 t es (good_after s u.0 e g u.1) u.2
 
+pub reached_parts : (s : Taking.State) → Taking.IsReached s → GoodState s
+reached_parts s r = good_all Taking.start s r.records good_start r.stands
+
 pub reached_good : (s : Taking.State) → Taking.IsReached s → list_all (λ a. is_small_text a.text) s.asserts ≡ true → s.ended ≡ true → is_good_object (Taking.object_from s) ≡ true
-reached_good s r texts ended = finished_good s (good_all Taking.start s r.records good_start r.stands) texts ended
+reached_good s r texts ended = finished_good s (reached_parts s r) texts ended
 
 sized_sections : (n i : ℕ) (xs : List Section) → list_all (is_good_section n i) xs ≡ true → AllByRecursion (λ s. section_len s ≤ section_limit) xs
 sized_sections n i [] e = tt
@@ -60,7 +59,3 @@ good_sized o e = sized_sections (length o.sections) (length o.imports) o.section
 pub if_given : {X : Type 0} (result : Result X ObjectFault) (x : X) (P : X → Type 0) → Gives is_memory (λ y. y) result (Ok x) → P x → IfOk result P
 if_given (Ok y) x P given p = let same : x ≡ y = cc in subst P same p
 if_given (Err f) x P given p = tt
-
-pub turned_not : (b : Bool) → not b ≡ false → b ≡ true
-turned_not true e = refl
-turned_not false e = cc

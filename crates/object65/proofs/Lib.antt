@@ -2,7 +2,6 @@ pub mod Forms
 pub mod Frees
 pub mod Lists
 pub mod Names
-pub mod Opens
 pub mod Pieces
 pub mod Records
 pub mod Sounds
@@ -19,5 +18,8 @@ pub mod Readings
 pub mod Shorts
 pub mod Again
 pub mod Spellings
+pub mod Scannings
 pub mod Builders
+pub mod Withins
+pub mod Itemings
 pub mod Foldings

@@ -1,20 +1,57 @@
--- How the parts of a builder stay sound.
-use Rattle.std.proofs.Common.{◌≡◌, ◌∙◌, ◌≤◌, get_or, set, true, List, [], ◌∷◌, ◌++◌, ℕ, length, take, ap}
-use Rattle.std.proofs.lemmas.List.{map-append, take-append-le, take-set}
-use Rattle.std.proofs.Math.Seq.{map-set_same}
-use Rattle.std.specs.List.{list_all}
-use Rattle.object65.specs.declared.draft.Draft.{Draft}
-use Rattle.object65.specs.Sound.{draft_names}
-use Rattle.object65.specs.Taking.{is_full}
+-- How what a scan keeps stays sound.
+use Rattle.std.proofs.Common.{◌≡◌, ◌∙◌, ◌≤◌, ◌<◌, ◌+◌, ℕ, zero, suc, get_or, set, Bool, true, false, ◌&&◌, List, [], ◌∷◌, ◌++◌, length, refl, arith, nat_eq, cond}
+use Rattle.std.proofs.lemmas.Bool.Decides.{nat_tests}
+use Rattle.std.specs.List.{list_all, prefix_len}
 
-pub names-push : (ds : List Draft) (d : Draft) → draft_names (ds ++ d ∷ []) ≡ draft_names ds ++ d.name ∷ []
-names-push ds d = map-append (λ x. x.name) ds (d ∷ [])
+one_more : (b : Bool) (n k m : ℕ) → (n ≤ k → n ≤ m) → suc n ≤ cond b (1 + k) 0 → suc n ≤ cond b (1 + m) 0
+one_more true n k m less h = let rest = less (omega arith) in omega (arith, rest)
+one_more false n k m less h = absurd (omega arith)
 
-pub full-push : (n : ℕ) (ds : List Draft) (d : Draft) → n ≤ length ds → list_all is_full (take n ds) ≡ true → list_all is_full (take n (ds ++ d ∷ [])) ≡ true
-full-push n ds d within full = rw (take-append-le n ds (d ∷ []) within) full
+-- the front stays where something behind it changes
+pub front-set : {X : Type 0} (p : X → Bool) (xs : List X) (n : ℕ) (y : X) → n ≤ prefix_len p xs → n ≤ prefix_len p (set xs n y)
+front-set p [] n y h = h
+front-set p (x ∷ xs) zero y h = omega arith
+front-set p (x ∷ xs) (suc n) y h = one_more (p x) n (prefix_len p xs) (prefix_len p (set xs n y)) (front-set p xs n y) h
 
-pub names-set : (ds : List Draft) (i : ℕ) (d e : Draft) → d ≡ get_or ds i d → e.name ≡ d.name → draft_names (set ds i e) ≡ draft_names ds
-names-set ds i d e is same = map-set_same (λ x. x.name) ds i e d (same ∙ ap (λ (x : Draft). x.name) is)
+at_least : (b : Bool) (k m : ℕ) → k ≤ m → cond b (1 + k) 0 ≤ cond b (1 + m) 0
+at_least true k m h = omega (arith, h)
+at_least false k m h = omega arith
 
-pub full-set : (ds : List Draft) (i : ℕ) (e : Draft) → list_all is_full (take i ds) ≡ true → list_all is_full (take i (set ds i e)) ≡ true
-full-set ds i e full = rw (take-set ds i e) full
+longer : {X : Type 0} (p : X → Bool) (xs ys : List X) → prefix_len p xs ≤ prefix_len p (xs ++ ys)
+longer p [] ys = omega arith
+longer p (x ∷ xs) ys = at_least (p x) (prefix_len p xs) (prefix_len p (xs ++ ys)) (longer p xs ys)
+
+-- and where something is put behind all
+pub front-push : {X : Type 0} (p : X → Bool) (xs ys : List X) (n : ℕ) → n ≤ prefix_len p xs → n ≤ prefix_len p (xs ++ ys)
+front-push p xs ys n h = omega (arith, longer p xs ys)
+
+all_more : (b r : Bool) (k m : ℕ) → nat_eq k m ≡ r → nat_eq (cond b (1 + k) 0) (suc m) ≡ (b && r)
+all_more true r k m h =
+    let same : nat_eq (1 + k) (suc m) ≡ nat_eq k m = grind (arith, nat_tests) in
+    same ∙ h
+all_more false r k m h = grind (arith, nat_tests)
+
+-- all are in front where the front has the length of all
+pub front-all : {X : Type 0} (p : X → Bool) (xs : List X) → nat_eq (prefix_len p xs) (length xs) ≡ list_all p xs
+front-all p [] = refl
+front-all p (x ∷ xs) = all_more (p x) (list_all p xs) (prefix_len p xs) (length xs) (front-all p xs)
+
+step_on : (b : Bool) (i k : ℕ) → (i ≤ k → i + 1 ≤ k) → suc i ≤ cond b (1 + k) 0 → suc i + 1 ≤ cond b (1 + k) 0
+step_on true i k on h = let rest = on (omega arith) in omega (arith, rest)
+step_on false i k on h = absurd (omega arith)
+
+-- what passes behind the front belongs to it
+pub front-on : {X : Type 0} (p : X → Bool) (xs : List X) (i : ℕ) (d : X) → i < length xs → p (get_or xs i d) ≡ true → i ≤ prefix_len p xs → i + 1 ≤ prefix_len p xs
+front-on p [] i d within passes h = absurd (omega arith)
+front-on p (x ∷ xs) zero d within passes h = rw passes (omega arith)
+front-on p (x ∷ xs) (suc i) d within passes h = step_on (p x) i (prefix_len p xs) (front-on p xs i d (omega arith) passes) h
+
+step_ends : (b : Bool) (i k : ℕ) → (i ≤ k → i ≡ k) → suc i ≤ cond b (1 + k) 0 → suc i ≡ cond b (1 + k) 0
+step_ends true i k ends h = let rest = ends (omega arith) in omega (arith, rest)
+step_ends false i k ends h = absurd (omega arith)
+
+-- the front ends where one doesn't pass
+pub front-ends : {X : Type 0} (p : X → Bool) (xs : List X) (i : ℕ) (d : X) → p (get_or xs i d) ≡ false → i ≤ prefix_len p xs → i ≡ prefix_len p xs
+front-ends p [] i d stops h = omega arith
+front-ends p (x ∷ xs) zero d stops h = rw stops refl
+front-ends p (x ∷ xs) (suc i) d stops h = step_ends (p x) i (prefix_len p xs) (front-ends p xs i d stops) h

@@ -10,6 +10,11 @@ use Rattle.object65.specs.Form.{Form, prefix, binary, nodes}
 use Rattle.object65.specs.FormValue.{value_in, value_of_one, value_of_two}
 use Rattle.object65.specs.Reading.{room, file_limit}
 use Rattle.object65.specs.Spelling.{IsObject}
+use Rattle.object65.specs.Fault.{◌>>=◌}
+use Rattle.object65.specs.Items.{with_items}
+use Rattle.object65.specs.Record.{Entry}
+use Rattle.object65.specs.Scanning.{items_of, outline_of}
+use Rattle.object65.specs.Taking.{State, after_all}
 use Rattle.object65.specs.Whole.{object_at}
 
 -- what is read as an object is spelled so
@@ -31,6 +36,10 @@ OneSpellingLaw = (a b : List ℕ) (o : Object) → IsObject a o → IsObject b o
 -- no other bytes of the same length give a number
 abbrev pub NumberLaw : Type 0
 NumberLaw = (n : ℕ) (a b : List ℕ) → IsBytes a → IsBytes b → length a ≡ n → length b ≡ n → little_number n a ≡ little_number n b → a ≡ b
+
+-- the items that a scan gives make what the records make, and it refuses what is refused of them, for the same fault
+abbrev pub ItemsLaw : Type 0
+ItemsLaw = (s : State) (es : List Entry) → (items_of (outline_of s) es >>= (λ is. Ok (with_items s is))) ≡ after_all s es
 
 -- folding a prefix operation keeps its value, and that it has none, wherever sections lie and whatever imports mean
 abbrev pub PrefixFoldLaw : Type 0 → Type 0

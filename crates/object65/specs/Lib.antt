@@ -11,7 +11,9 @@ pub mod Reading
 pub mod Bodies
 pub mod Taking
 pub mod Whole
-pub mod Sound
 pub mod Small
+pub mod Items
+pub mod Scanning
+pub mod Sound
 pub mod Bytes
 pub mod Laws

@@ -1,32 +1,68 @@
--- What the parts of a builder stand for, and how they hang together.
-use Rattle.std.specs.Prelude.{Bool, ◌≡◌, ◌≤◌, ℕ, List, length, take, map, true, false}
-use Rattle.std.specs.List.{list_all}
+-- What the parts of a scan and of a builder stand for, and how they hang together.
+use Rattle.std.specs.Prelude.{◌≡◌, ◌≤◌, ◌+◌, ℕ, List, map, slice_get, Some, true, false, ⊤}
+use Rattle.std.specs.List.{list_all, prefix_len}
+use Rattle.object65.specs.declared.kept.Kept.{Kept}
 use Rattle.object65.specs.declared.parts.Parts.{Parts}
 use Rattle.object65.specs.declared.draft.Draft.{Draft}
-use Rattle.object65.specs.declared.object.Export.{Export}
+use Rattle.object65.specs.declared.item.Item.{Item}
+use Rattle.object65.specs.declared.item.Item.TheVariants.{Import, Section, Part, Export, Assert, End}
+use Rattle.object65.specs.declared.object.Fragment.{Fragment}
+use Rattle.object65.specs.Objects.{fragment_len}
+use Rattle.object65.specs.Scanning.{Outline, is_filled, outline_of}
 use Rattle.object65.specs.Small.{is_small_text}
-use Rattle.object65.specs.Taking.{State, is_full, IsReached}
+use Rattle.object65.specs.Taking.{State, IsReached}
+
+-- ---- A scan.
+
+abbrev pub outline_in : Kept → Outline
+outline_in k = record { imports = map (λ n. n.items) k.imports.keys; sections = map (λ n. n.items) k.sections.keys; rooms = k.rooms.items; begun = k.begun; exports = map (λ n. n.items) k.exports.keys; asserting = k.asserting; ended = k.ended; failed = false }
+
+-- all sections before the one being filled are full
+pub record IsSound (k : Kept) : Type 0 where
+  pub filling : k.filling ≤ prefix_len is_filled k.rooms.items
+
+-- some records lead to an object in the making of which this is kept
+pub record Stands (o : Outline) : Type 0 where
+  pub state : State
+  pub reached : IsReached state
+  pub same : o ≡ outline_of state
+
+-- what holds of a scan that hasn't failed
+pub record IsIntact (k : Kept) : Type 0 where
+  pub sound : IsSound k
+  pub stands : Stands (outline_in k)
+
+-- ---- A builder.
 
 abbrev pub state_of : Parts → State
-state_of p = record { imports = p.imports; drafts = p.drafts.items; begun = p.begun; exports = p.exports; asserts = p.asserts; ended = false; failed = false }
+state_of p = record { imports = p.imports; drafts = p.drafts.items; begun = false; exports = p.exports; asserts = p.asserts; ended = false; failed = false }
 
-abbrev pub draft_names : List Draft → List (List ℕ)
-draft_names ds = map (λ d. d.name) ds
+-- without what the scan beside it knows
+abbrev pub unmarked : State → State
+unmarked s = record s { begun = false; ended = false; failed = false }
 
-abbrev pub export_names : List Export → List (List ℕ)
-export_names es = map (λ e. e.name) es
+-- with what the scan beside it knows
+abbrev pub state_in : Parts → Outline → State
+state_in p o = record (state_of p) { begun = o.begun; ended = o.ended }
 
--- the names by which parts are found are theirs, and all sections before the one being filled are full
-pub record IsSound (p : Parts) : Type 0 where
-  pub import_names : map (λ n. n.items) p.import_names.keys ≡ p.imports
-  pub export_names : map (λ n. n.items) p.export_names.keys ≡ export_names p.exports
-  pub section_names : map (λ n. n.items) p.section_names.keys ≡ draft_names p.drafts.items
-  pub within : p.filling ≤ length p.drafts.items
-  pub filling : list_all is_full (take p.filling p.drafts.items) ≡ true
-  -- the length of a text was one byte
-  pub texts : list_all (λ a. is_small_text a.text) p.asserts ≡ true
+-- there is a section at this place, and the fragment is within it
+pub record HasPlace (ds : List Draft) (k : ℕ) (f : Fragment) : Type 0 where
+  pub draft : Draft
+  pub there : slice_get ds k ≡ Some draft
+  pub within : draft.filled + fragment_len f ≤ draft.size
+
+abbrev pub HasRoom : List Draft → Item → Type 0
+HasRoom ds (Part k offset f) = HasPlace ds k f
+HasRoom ds (Import name) = ⊤
+HasRoom ds (Section name size align) = ⊤
+HasRoom ds (Export name line form) = ⊤
+HasRoom ds (Assert action line text form) = ⊤
+HasRoom ds End = ⊤
 
 -- what holds of a builder that hasn't failed
-pub record IsIntact (p : Parts) (ended : Bool) : Type 0 where
-  pub sound : IsSound p
-  pub reached : IsReached (record (state_of p) { ended = ended })
+pub record IsWhole (p : Parts) (o : Outline) : Type 0 where
+  -- its scan has taken the same records
+  pub scanned : o ≡ outline_of (state_in p o)
+  pub reached : IsReached (state_in p o)
+  -- the length of a text was one byte
+  pub texts : list_all (λ a. is_small_text a.text) p.asserts ≡ true

@@ -1,5 +1,5 @@
 -- What a builder becomes by one record after another.
-use Rattle.std.specs.Prelude.{◌≡◌, ℕ, ◌+◌, ◌-◌, ◌%◌, List, [], ◌∷◌, ◌++◌, length, map, get_or, slice_get, slice_set, Option, Some, Bool, true, false, Result, Ok, Err, nat_le, ◌==◌, ◌&&◌, not, if◌then◌else◌}
+use Rattle.std.specs.Prelude.{◌≡◌, ℕ, ◌+◌, ◌-◌, ◌%◌, List, [], ◌∷◌, ◌++◌, length, map, slice_get, Option, Some, Bool, true, false, Result, Ok, Err, nat_le, ◌==◌, ◌&&◌, not, if◌then◌else◌}
 use Rattle.std.specs.List.{list_all}
 use Rattle.object65.specs.declared.fault.ObjectFault.{ObjectFault}
 use Rattle.object65.specs.declared.fault.ObjectFault.TheVariants.{FailedBefore, CutShort, OutOfOrder, IndexOutOfRange, BadSize, NotCanonical}
@@ -134,10 +134,6 @@ with_value sections imports body d = do
 abbrev pub in_first_open : (Draft → Result Draft ObjectFault) → List Draft → Result (List Draft) ObjectFault
 in_first_open grow [] = Err OutOfOrder
 in_first_open grow (d ∷ ds) = if is_full d then (in_first_open grow ds >>= (λ es. Ok (d ∷ es))) else (grow d >>= (λ e. Ok (e ∷ ds)))
-
--- a fragment goes to the section at this place
-abbrev pub GrowsAt : List Draft → ℕ → Type 0
-GrowsAt ds i = (d : Draft) → d ≡ get_or ds i d → (grow : Draft → Result Draft ObjectFault) → in_first_open grow ds ≡ (grow d >>= (λ e. Ok (slice_set ds i e)))
 
 -- ---- One record.
 

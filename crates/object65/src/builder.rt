@@ -7,19 +7,20 @@ ghost use Rattle.object65.specs.Record.{entry_of};
 ghost use Rattle.std.specs.List.{AllByRecursion};
 ghost use Rattle.object65.specs.Taking.{start, after, finished};
 
+use crate::adding::add_item;
 use crate::finishing::finish_object;
 use crate::parts::Parts;
-use crate::taking::take_record;
-use crate::{Object, ObjectFault, Record};
-use indexmap::IndexSet;
+use crate::{Object, ObjectFault, Record, Scan};
 use std::alloc::Global;
 use std::marker::Model;
 use syntax65::Sequence;
 
 /// An object in the making, which stands for the records taken so far.
 pub struct Builder {
+    /// What takes the records.
+    scan: Scan,
+    /// What they say.
     parts: Parts,
-    ended: bool,
     failed: bool,
 }
 
@@ -33,18 +34,18 @@ impl Model for Builder {
 
     ghost coded = { Prim.hlevel (codes, form_code) };
 
-    ghost use Rattle.object65.specs.Sound.{state_of, IsIntact};
+    ghost use Rattle.object65.specs.Sound.{state_in, IsWhole};
 
-    ghost view = { λ b. record (state_of b.parts) { ended = b.ended; failed = b.failed } };
+    ghost view = { λ b. record (state_in b.parts b.scan) { failed = b.failed } };
 
-    ghost invariant = { λ b. b.failed ≡ false → IsIntact b.parts b.ended };
+    ghost invariant = { λ b. b.failed ≡ false → IsWhole b.parts b.scan };
 }
 
 impl Drop for Builder {
     fn drop(self) {
         let Builder {
+            scan: _,
             parts: _,
-            ended: _,
             failed: _,
         } = self;
     }
@@ -56,19 +57,14 @@ impl Builder {
         ensures { result ≡ start }
     {
         Builder {
+            scan: Scan::new(alloc),
             parts: Parts {
                 alloc,
                 imports: Sequence::new(alloc),
-                import_names: IndexSet::new(alloc),
                 drafts: Vec::new(alloc),
-                section_names: IndexSet::new(alloc),
-                begun: false,
-                filling: 0,
                 exports: Sequence::new(alloc),
-                export_names: IndexSet::new(alloc),
                 asserts: Sequence::new(alloc),
             },
-            ended: false,
             failed: false,
         }
     }
@@ -83,15 +79,14 @@ impl Builder {
         if self.failed {
             return Err(ObjectFault::FailedBefore);
         }
-        if self.ended {
-            self.failed = true;
-            return Err(ObjectFault::OutOfOrder);
-        }
-        match take_record(&mut self.parts, next) {
-            Ok(ended) => {
-                self.ended = ended;
-                Ok(())
-            }
+        match self.scan.take(next) {
+            Ok(item) => match add_item(&mut self.parts, item) {
+                Ok(()) => Ok(()),
+                Err(e) => {
+                    self.failed = true;
+                    Err(e)
+                }
+            },
             Err(e) => {
                 self.failed = true;
                 Err(e)
@@ -103,7 +98,7 @@ impl Builder {
     pub fn is_ended(&self) -> bool
         ensures { result ≡ self.now.ended }
     {
-        self.ended
+        self.scan.is_ended()
     }
 
     /// The object, where its END was taken.
@@ -117,12 +112,12 @@ impl Builder {
         if self.failed {
             return Err(ObjectFault::FailedBefore);
         }
-        if !self.ended {
+        if !self.scan.is_ended() {
             return Err(ObjectFault::CutShort);
         }
         let Builder {
+            scan: _,
             parts,
-            ended: _,
             failed: _,
         } = self;
         finish_object(parts)

@@ -1,29 +1,42 @@
-//! Adds fragments to a section in the making.
+//! Adds fragments to a section without its bytes.
 
-ghost use Rattle.std.specs.Prelude.{◌≡◌, ◌≤◌, ◌+◌, [], Ok, OnOk};
+ghost use Rattle.std.specs.Prelude.{◌≡◌, ◌≤◌, ◌+◌, ◌%◌, Ok};
 ghost use Rattle.object65.specs.Bodies.{fill_of, value_of, width_of};
 ghost use Rattle.object65.specs.Fault.{Gives, is_memory};
 ghost use Rattle.object65.specs.Objects.{width_len};
-ghost use Rattle.object65.specs.Taking.{has_room, known, canonical, canonical_open, closed, ends_in_fill, with_fill, with_value, with_fragment, wants};
+ghost use Rattle.object65.specs.Scanning.{room_for, room_behind, room_literal, room_fill, room_value};
+ghost use Rattle.object65.specs.Taking.{known, canonical, canonical_open};
 
-use crate::draft::Draft;
 use crate::forming::{byte_at, form_of, u32_at};
 use crate::normal::{are_there, is_folded, is_limited, is_number};
-use crate::taking::check;
+use crate::room::{Last, Room};
+use crate::taking::{check, copy_of};
 use crate::{Fragment, Norm, ObjectFault, Width};
 use byteorder::{ByteOrder, LittleEndian};
 use std::alloc::Global;
-use std::mem;
-use syntax65::Sequence;
+
+const LARGEST_LITERAL: usize = 4096;
 
 /// Refuses what passes the section's end.
-fn check_room(draft: &Draft, len: u32) -> Result<(), ObjectFault>
-    ensures { result ≡ has_room draft.now len }
+fn check_room(room: Room, len: u32) -> Result<(), ObjectFault>
+    ensures { result ≡ room_for room len }
 {
     check(
-        len <= draft.size.saturating_sub(draft.filled),
+        len <= room.size.saturating_sub(room.filled),
         ObjectFault::BadSize,
     )
+}
+
+/// The section with so many bytes more.
+fn room_behind(room: Room, len: u32, last: Last) -> Room
+    requires { room.filled + len ≤ room.size }
+    ensures { result ≡ room_behind room len last }
+{
+    Room {
+        size: room.size,
+        filled: room.filled + len,
+        last,
+    }
 }
 
 /// Refuses a form whose sections or imports aren't there.
@@ -56,36 +69,6 @@ pub fn check_open_form(form: &Norm) -> Result<(), ObjectFault>
     )
 }
 
-/// Puts the literal in the making behind the other fragments.
-fn close_literal(alloc: Global, draft: &mut Draft) -> Result<(), ObjectFault>
-    ensures closed { OnOk result (draft.new ≡ record draft.old { fragments = closed draft.old; literal = [] }) }
-    ensures memory { Gives is_memory (λ u. u) result (Ok tt) }
-    ensures name { draft.new.name ≡ draft.old.name }
-{
-    if draft.literal.len() > 0 {
-        let literal = mem::replace(&mut draft.literal, Sequence::new(alloc));
-        draft.fragments.push(Fragment::Literal(literal))?;
-    }
-    Ok(())
-}
-
-/// Puts a fragment that is no literal behind the others.
-fn push_fragment(
-    alloc: Global,
-    draft: &mut Draft,
-    len: u32,
-    fragment: Fragment,
-) -> Result<(), ObjectFault>
-    requires { draft.old.filled + len ≤ draft.old.size }
-    ensures pushed { Gives is_memory (λ _. draft.new) result (Ok (with_fragment draft.old len fragment)) }
-    ensures name { draft.new.name ≡ draft.old.name }
-{
-    close_literal(alloc, draft)?;
-    draft.fragments.push(fragment)?;
-    draft.filled += len;
-    Ok(())
-}
-
 /// How many bytes the body of a FILL asks for.
 fn read_fill(body: &[u8]) -> Result<u32, ObjectFault>
     ensures { Gives is_memory (λ n. n) result (fill_of body.now) }
@@ -100,29 +83,37 @@ fn read_fill(body: &[u8]) -> Result<u32, ObjectFault>
     Ok(count)
 }
 
-fn has_fill_last(fragments: &[Fragment]) -> bool
-    ensures { result ≡ ends_in_fill fragments.now }
+/// Adds a LITERAL to a section.
+#[tactic(auto, unfolding(crate::specs::Scanning::room_literal))]
+pub fn room_with_literal(
+    alloc: Global,
+    room: Room,
+    body: &[u8],
+) -> Result<(Room, Fragment), ObjectFault>
+    ensures { Gives is_memory (λ x. x) result (room_literal body.now room) }
 {
-    matches!(fragments.last(), Some(Fragment::Fill(_)))
-}
-
-/// Whether the last fragment is a fill.
-fn ends_with_fill(draft: &Draft) -> bool
-    ensures { result ≡ ends_in_fill (closed draft.now) }
-{
-    draft.literal.len() == 0 && has_fill_last(draft.fragments.as_slice())
+    check(!body.is_empty(), ObjectFault::BadSize)?;
+    let left = room.size.saturating_sub(room.filled);
+    check(body.len() <= left as usize, ObjectFault::BadSize)?;
+    check(room.last != Last::Short, ObjectFault::NotCanonical)?;
+    let last = if body.len() % LARGEST_LITERAL == 0 {
+        Last::Other
+    } else {
+        Last::Short
+    };
+    let grown = room_behind(room, body.len() as u32, last);
+    Ok((grown, Fragment::Literal(copy_of(alloc, body)?)))
 }
 
 /// Adds a FILL to a section.
-#[tactic(auto, unfolding(crate::specs::Taking::with_fill))]
-pub fn grow_fill(alloc: Global, draft: &mut Draft, body: &[u8]) -> Result<(), ObjectFault>
-    ensures grown { Gives is_memory (λ _. draft.new) result (with_fill body.now draft.old) }
-    ensures name { draft.new.name ≡ draft.old.name }
+#[tactic(auto, unfolding(crate::specs::Scanning::room_fill))]
+pub fn room_with_fill(room: Room, body: &[u8]) -> Result<(Room, Fragment), ObjectFault>
+    ensures { Gives is_memory (λ x. x) result (room_fill body.now room) }
 {
     let count = read_fill(body)?;
-    check_room(draft, count)?;
-    check(!ends_with_fill(draft), ObjectFault::NotCanonical)?;
-    push_fragment(alloc, draft, count, Fragment::Fill(count))
+    check_room(room, count)?;
+    check(room.last != Last::Fill, ObjectFault::NotCanonical)?;
+    Ok((room_behind(room, count, Last::Fill), Fragment::Fill(count)))
 }
 
 /// The width of a code.
@@ -140,7 +131,7 @@ fn width_at(code: u8) -> Result<Width, ObjectFault>
 }
 
 /// How many bytes a value takes.
-fn width_size(width: Width) -> u32
+pub fn width_size(width: Width) -> u32
     ensures { result ≡ width_len width }
 {
     match width {
@@ -163,21 +154,21 @@ fn read_value(alloc: Global, body: &[u8]) -> Result<(Width, u32, Norm), ObjectFa
 }
 
 /// Adds a VALUE to a section of an object with so many sections and imports.
-#[tactic(auto, unfolding(crate::specs::Taking::with_value))]
-pub fn grow_value(
+#[tactic(auto, unfolding(crate::specs::Scanning::room_value))]
+pub fn room_with_value(
     alloc: Global,
-    draft: &mut Draft,
+    room: Room,
     body: &[u8],
     sections: usize,
     imports: usize,
-) -> Result<(), ObjectFault>
-    ensures grown { Gives is_memory (λ _. draft.new) result (with_value sections imports body.now draft.old) }
-    ensures name { draft.new.name ≡ draft.old.name }
+) -> Result<(Room, Fragment), ObjectFault>
+    ensures { Gives is_memory (λ x. x) result (room_value sections imports body.now room) }
 {
     let (width, line, form) = read_value(alloc, body)?;
     let len = width_size(width);
-    check_room(draft, len)?;
+    check_room(room, len)?;
     check_places(&form, sections, imports)?;
     check_open_form(&form)?;
-    push_fragment(alloc, draft, len, Fragment::Value { width, line, form })
+    let grown = room_behind(room, len, Last::Other);
+    Ok((grown, Fragment::Value { width, line, form }))
 }

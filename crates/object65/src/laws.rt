@@ -1,6 +1,6 @@
 //! What holds of objects and their bytes, whatever wrote them, and of forms. Each function's contract is a law.
 
-ghost use Rattle.object65.specs.Laws.{ReadLaw, SpellingLaw, PrefixLaw, OneSpellingLaw, NumberLaw, PrefixFoldLaw, BinaryFoldLaw, NormalLaw, StaysLaw};
+ghost use Rattle.object65.specs.Laws.{ReadLaw, SpellingLaw, PrefixLaw, OneSpellingLaw, NumberLaw, ItemsLaw, PrefixFoldLaw, BinaryFoldLaw, NormalLaw, StaysLaw};
 
 /// What is read as an object is spelled so.
 pub fn read_is_spelled()
@@ -25,6 +25,12 @@ pub fn one_spelling()
 /// No other bytes of the same length give a number.
 pub fn one_number()
     ensures { NumberLaw }
+{}
+
+/// The items that a scan gives make the object that a builder makes of the same records, and it refuses what a
+/// builder refuses, for the same fault.
+pub fn items_make_the_object()
+    ensures { ItemsLaw }
 {}
 
 /// Folding a prefix operation keeps its value wherever sections lie and whatever imports mean, and that it has

@@ -1,6 +1,7 @@
 //! Objects: modules in parts, as records in a file and as values.
 #![tactic(auto)]
 
+mod adding;
 mod builder;
 mod draft;
 mod fault;
@@ -9,6 +10,8 @@ mod finishing;
 mod folding;
 mod form;
 mod forming;
+mod item;
+mod kept;
 pub mod laws;
 mod loading;
 mod naming;
@@ -17,6 +20,8 @@ mod object;
 mod parts;
 mod reading;
 mod record;
+mod room;
+mod scan;
 mod storing;
 mod taking;
 #[cfg(test)]
@@ -27,9 +32,11 @@ pub use builder::Builder;
 pub use fault::ObjectFault;
 pub use folding::FormFault;
 pub use form::{Node, Norm};
+pub use item::Item;
 pub use loading::read_object;
 pub use object::{Action, Assert, Export, Fragment, Object, Section, Width};
 pub use reading::{check_end, read_head, read_record};
 pub use record::Record;
+pub use scan::Scan;
 pub use storing::{fits, put};
 pub use writing::write_object;

@@ -1,56 +1,37 @@
-//! Takes imports, exports and assertions into the parts of an object.
+//! Takes imports, exports and assertions into what a scan keeps.
 
-ghost use Rattle.std.specs.Prelude.{◌≡◌, ◌++◌, ◌∷◌, [], ◌&&◌, length, map, Ok, IfOk, OnOk, true, false};
+ghost use Rattle.std.specs.Prelude.{◌≡◌, ◌++◌, ◌∷◌, [], ◌&&◌, length, map, not, Ok, IfOk, OnOk, true, false};
 ghost use Rattle.std.specs.List.{list_all};
 ghost use Rattle.object65.specs.Bodies.{export_of, assert_of, action_of};
 ghost use Rattle.object65.specs.Fault.{Gives, is_memory};
-ghost use Rattle.object65.specs.Objects.{is_among};
+ghost use Rattle.object65.specs.Items.{has_small_text};
 ghost use Rattle.object65.specs.Small.{is_small_text};
-ghost use Rattle.object65.specs.Sound.{state_of, export_names, IsSound};
-ghost use Rattle.object65.specs.Taking.{with_import, with_export, with_assert};
+ghost use Rattle.object65.specs.Scanning.{scan_import, scan_export, scan_assert};
+ghost use Rattle.object65.specs.Sound.{outline_in, IsSound};
 
 use crate::filling::{check_form, check_open_form, check_places};
 use crate::forming::{byte_at, form_of, text_of, u32_at};
-use crate::parts::Parts;
-use crate::taking::{all_full, check, check_name};
-use crate::{Action, Assert, Export, ObjectFault};
+use crate::kept::Kept;
+use crate::taking::{add_name, all_full, check, check_name, copy_of};
+use crate::{Action, Assert, Export, Item, ObjectFault};
 use std::alloc::Global;
-use syntax65::Sequence;
-
-/// A copy of bytes.
-fn copy_of(alloc: Global, bytes: &[u8]) -> Result<Sequence<u8>, ObjectFault>
-    ensures { Gives is_memory (λ s. s) result (Ok bytes.now) }
-{
-    Ok(Sequence::from_vec(Vec::from_slice(alloc, bytes)?))
-}
-
-/// Adds an import of a new name.
-fn add_import(parts: &mut Parts, name: &[u8]) -> Result<(), ObjectFault>
-    requires sound { IsSound parts.old }
-    requires name { is_among parts.old.imports name.now ≡ false }
-    ensures added { Gives is_memory (λ _. state_of parts.new) result (Ok (record (state_of parts.old) { imports = parts.old.imports ++ name.now ∷ [] })) }
-    ensures sound { OnOk result (IsSound parts.new) }
-{
-    let key = Vec::from_slice(parts.alloc, name)?;
-    parts.import_names.insert(key)?;
-    let name = copy_of(parts.alloc, name)?;
-    parts.imports.push(name)?;
-    Ok(())
-}
 
 /// Takes an IMPORT.
-#[tactic(auto, unfolding(crate::specs::Taking::with_import))]
-pub fn take_import(parts: &mut Parts, body: &[u8]) -> Result<(), ObjectFault>
-    requires { IsSound parts.old }
-    ensures taken { Gives is_memory (λ _. state_of parts.new) result (with_import (state_of parts.old) body.now) }
-    ensures sound { OnOk result (IsSound parts.new) }
+#[tactic(auto, unfolding(crate::specs::Scanning::scan_import))]
+pub fn take_import(kept: &mut Kept, body: &[u8]) -> Result<Item, ObjectFault>
+    requires { IsSound kept.old }
+    ensures taken { Gives is_memory (λ i. (outline_in kept.new, i)) result (scan_import (outline_in kept.old) body.now) }
+    ensures small { IfOk result (λ i. has_small_text i ≡ true) }
+    ensures sound { OnOk result (IsSound kept.new) }
 {
     check(
-        parts.drafts.len() == 0 && parts.exports.len() == 0 && parts.asserts.len() == 0,
+        kept.rooms.len() == 0 && kept.exports.len() == 0 && !kept.asserting,
         ObjectFault::OutOfOrder,
     )?;
-    check_name(&parts.import_names, body)?;
-    add_import(parts, body)
+    check_name(&kept.imports, body)?;
+    add_name(kept.alloc, &mut kept.imports, body)?;
+    let name = copy_of(kept.alloc, body)?;
+    Ok(Item::Import(name))
 }
 
 /// The name, the line and the form in the body of an EXPORT.
@@ -65,33 +46,22 @@ fn read_export(alloc: Global, body: &[u8]) -> Result<Export, ObjectFault>
     Ok(Export { name, line, form })
 }
 
-/// Adds an export of a new name.
-fn add_export(parts: &mut Parts, export: Export) -> Result<(), ObjectFault>
-    requires sound { IsSound parts.old }
-    requires name { is_among (export_names parts.old.exports) export.name ≡ false }
-    ensures added { Gives is_memory (λ _. state_of parts.new) result (Ok (record (state_of parts.old) { exports = parts.old.exports ++ export ∷ [] })) }
-    ensures sound { OnOk result (IsSound parts.new) }
-{
-    let key = Vec::from_slice(parts.alloc, export.name.as_slice())?;
-    parts.export_names.insert(key)?;
-    parts.exports.push(export)?;
-    Ok(())
-}
-
 /// Takes an EXPORT.
-#[tactic(auto, unfolding(crate::specs::Taking::with_export))]
-pub fn take_export(parts: &mut Parts, body: &[u8]) -> Result<(), ObjectFault>
-    requires { IsSound parts.old }
-    ensures taken { Gives is_memory (λ _. state_of parts.new) result (with_export (state_of parts.old) body.now) }
-    ensures sound { OnOk result (IsSound parts.new) }
+#[tactic(auto, unfolding(crate::specs::Scanning::scan_export))]
+pub fn take_export(kept: &mut Kept, body: &[u8]) -> Result<Item, ObjectFault>
+    requires { IsSound kept.old }
+    ensures taken { Gives is_memory (λ i. (outline_in kept.new, i)) result (scan_export (outline_in kept.old) body.now) }
+    ensures small { IfOk result (λ i. has_small_text i ≡ true) }
+    ensures sound { OnOk result (IsSound kept.new) }
 {
-    let full = all_full(parts);
-    check(full && parts.asserts.len() == 0, ObjectFault::OutOfOrder)?;
-    let export = read_export(parts.alloc, body)?;
-    check_places(&export.form, parts.drafts.len(), parts.imports.len())?;
-    check_name(&parts.export_names, export.name.as_slice())?;
-    check_form(&export.form)?;
-    add_export(parts, export)
+    let full = all_full(kept);
+    check(full && !kept.asserting, ObjectFault::OutOfOrder)?;
+    let Export { name, line, form } = read_export(kept.alloc, body)?;
+    check_places(&form, kept.rooms.len(), kept.imports.len())?;
+    check_name(&kept.exports, name.as_slice())?;
+    check_form(&form)?;
+    add_name(kept.alloc, &mut kept.exports, name.as_slice())?;
+    Ok(Item::Export(name, line, form))
 }
 
 /// The action of a code.
@@ -125,27 +95,23 @@ fn read_assert(alloc: Global, body: &[u8]) -> Result<Assert, ObjectFault>
     })
 }
 
-/// Adds an assertion whose text had its length in a byte.
-fn add_assert(parts: &mut Parts, assert: Assert) -> Result<(), ObjectFault>
-    requires sound { IsSound parts.old }
-    requires short { is_small_text assert.text ≡ true }
-    ensures added { Gives is_memory (λ _. state_of parts.new) result (Ok (record (state_of parts.old) { asserts = parts.old.asserts ++ assert ∷ [] })) }
-    ensures sound { OnOk result (IsSound parts.new) }
-{
-    parts.asserts.push(assert)?;
-    Ok(())
-}
-
 /// Takes an ASSERT.
-#[tactic(auto, unfolding(crate::specs::Taking::with_assert))]
-pub fn take_assert(parts: &mut Parts, body: &[u8]) -> Result<(), ObjectFault>
-    requires { IsSound parts.old }
-    ensures taken { Gives is_memory (λ _. state_of parts.new) result (with_assert (state_of parts.old) body.now) }
-    ensures sound { OnOk result (IsSound parts.new) }
+#[tactic(auto, unfolding(crate::specs::Scanning::scan_assert))]
+pub fn take_assert(kept: &mut Kept, body: &[u8]) -> Result<Item, ObjectFault>
+    requires { IsSound kept.old }
+    ensures taken { Gives is_memory (λ i. (outline_in kept.new, i)) result (scan_assert (outline_in kept.old) body.now) }
+    ensures small { IfOk result (λ i. has_small_text i ≡ true) }
+    ensures sound { OnOk result (IsSound kept.new) }
 {
-    check(all_full(parts), ObjectFault::OutOfOrder)?;
-    let assert = read_assert(parts.alloc, body)?;
-    check_places(&assert.form, parts.drafts.len(), parts.imports.len())?;
-    check_open_form(&assert.form)?;
-    add_assert(parts, assert)
+    check(all_full(kept), ObjectFault::OutOfOrder)?;
+    let Assert {
+        action,
+        line,
+        text,
+        form,
+    } = read_assert(kept.alloc, body)?;
+    check_places(&form, kept.rooms.len(), kept.imports.len())?;
+    check_open_form(&form)?;
+    kept.asserting = true;
+    Ok(Item::Assert(action, line, text, form))
 }

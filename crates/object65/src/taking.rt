@@ -1,32 +1,30 @@
-//! Takes records, one at a time, into the parts of an object.
+//! Takes records, one at a time, into what a scan keeps.
 
-ghost use Rattle.std.specs.Prelude.{◌≡◌, ◌≤◌, ◌<◌, ◌+◌, ◌++◌, ◌∷◌, [], ◌&&◌, ◌-◌, ◌%◌, not, length, nat_le, nat_lt, take, get_or, IfOk, IfErr, IfSome, OnOk, Result, Err, true, false, IsTrue, map, Ok};
-ghost use Rattle.std.specs.List.{list_all};
-ghost use Rattle.object65.specs.Bodies.{Heading, section_of, literal_of, end_of};
+ghost use Rattle.std.specs.Prelude.{◌≡◌, ◌≤◌, ◌<◌, ◌+◌, ◌++◌, ◌∷◌, [], ◌&&◌, ◌-◌, ◌%◌, not, length, nat_le, nat_lt, take, get_or, slice_get, slice_set, IfOk, IfErr, OnOk, Result, Ok, Err, true, false, map};
+ghost use Rattle.std.specs.List.{list_all, prefix_len};
+ghost use Rattle.object65.specs.Bodies.{section_of};
 ghost use Rattle.object65.specs.Fault.{Gives, is_memory};
+ghost use Rattle.object65.specs.Items.{has_small_text};
 ghost use Rattle.object65.specs.Objects.{is_name, is_printed, is_among};
 ghost use Rattle.object65.specs.Record.{entry_of};
-ghost use Rattle.object65.specs.Sound.{state_of, draft_names, IsSound};
-ghost use Rattle.object65.specs.Spelling.{body_limit};
-ghost use Rattle.object65.specs.declared.draft.Draft.{Draft};
-ghost use Rattle.object65.specs.declared.fault.ObjectFault.{ObjectFault};
-ghost use Rattle.object65.specs.Taking.{State, GrowsAt, in_first_open, is_full, is_none, wants, section_stands, assert_stands, new_name, drafted, has_room, with_literal, with_fill, with_value, with_part, with_section, with_end, taken};
+ghost use Rattle.object65.specs.Sound.{outline_in, IsSound};
+ghost use Rattle.object65.specs.declared.room.Room.{Room};
+ghost use Rattle.object65.specs.Scanning.{is_filled, open_room, empty_room, room_literal, room_fill, room_value, scan_section, scan_part, scan_last, scan_entry, heading};
+ghost use Rattle.object65.specs.Taking.{is_none, wants, new_name};
 
-use crate::draft::Draft;
-use crate::filling::{grow_fill, grow_value};
+use crate::filling::{room_with_fill, room_with_literal, room_with_value};
+use crate::kept::Kept;
 use crate::naming::{take_assert, take_export, take_import};
-use crate::parts::Parts;
 use crate::reading::is_kind;
 use crate::record::{ASSERT, EXPORT, FILL, IMPORT, LITERAL, SECTION, VALUE};
-use crate::{ObjectFault, Record};
+use crate::room::{Last, Room};
+use crate::{Item, ObjectFault, Record};
 use byteorder::{ByteOrder, LittleEndian};
 use indexmap::IndexSet;
 use std::alloc::Global;
 use syntax65::Sequence;
 
 const SECTION_LIMIT: u32 = 16_777_216;
-
-const LARGEST_LITERAL: usize = 4096;
 
 const LARGEST_ALIGNMENT: u8 = 15;
 
@@ -65,30 +63,144 @@ pub fn check_name(names: &IndexSet<Vec<u8>>, name: &[u8]) -> Result<(), ObjectFa
     )
 }
 
-fn is_full_draft(draft: &Draft) -> bool
-    ensures { result ≡ is_full draft.now }
+/// Adds a new name.
+pub fn add_name(
+    alloc: Global,
+    names: &mut IndexSet<Vec<u8>>,
+    name: &[u8],
+) -> Result<(), ObjectFault>
+    requires { is_among (map (λ n. n.items) names.old.keys) name.now ≡ false }
+    ensures { Gives is_memory (λ _. map (λ n. n.items) names.new.keys) result (Ok (map (λ n. n.items) names.old.keys ++ name.now ∷ [])) }
 {
-    draft.filled == draft.size
+    let key = Vec::from_slice(alloc, name)?;
+    names.insert(key)?;
+    Ok(())
+}
+
+/// A copy of bytes.
+pub fn copy_of(alloc: Global, bytes: &[u8]) -> Result<Sequence<u8>, ObjectFault>
+    ensures { Gives is_memory (λ s. s) result (Ok bytes.now) }
+{
+    Ok(Sequence::from_vec(Vec::from_slice(alloc, bytes)?))
+}
+
+fn is_full_room(room: &Room) -> bool
+    ensures { result ≡ is_filled room.now }
+{
+    room.filled == room.size
 }
 
 /// The place of the first section that isn't full, from a place on before which all are full.
-fn first_open(drafts: &[Draft], from: usize) -> usize
-    requires within { from ≤ length drafts.now }
-    requires full { list_all is_full (take from drafts.now) ≡ true }
-    ensures within { result ≤ length drafts.now }
-    ensures full { list_all is_full (take result drafts.now) ≡ true }
-    ensures open { (d : Draft) → result < length drafts.now → d ≡ get_or drafts.now result d → is_full d ≡ false }
+fn first_open(rooms: &[Room], from: usize) -> usize
+    requires { from ≤ prefix_len is_filled rooms.now }
+    ensures { result ≡ prefix_len is_filled rooms.now }
 {
     let mut at = from;
-    while at < drafts.len() && is_full_draft(&drafts[at]) {
+    while at < rooms.len() && is_full_room(&rooms[at]) {
         at += 1;
     }
     at
 }
 
-/// What the body of a SECTION says, as a section in the making.
-fn read_section(alloc: Global, body: &[u8]) -> Result<Draft, ObjectFault>
-    ensures { Gives is_memory (λ d. d) result (drafted body.now) }
+/// The place of the first section that isn't full, or the number of sections.
+fn open_place(kept: &mut Kept) -> usize
+    requires { IsSound kept.old }
+    ensures place { result ≡ prefix_len is_filled kept.old.rooms.items }
+    ensures within { result ≤ length kept.old.rooms.items }
+    ensures filling { kept.new.filling ≡ result }
+    ensures rooms { kept.new.rooms ≡ kept.old.rooms }
+    ensures kept { outline_in kept.new ≡ outline_in kept.old }
+    ensures sound { IsSound kept.new }
+{
+    let at = first_open(&kept.rooms, kept.filling);
+    kept.filling = at;
+    at
+}
+
+/// The section to which the next fragment goes, and its place.
+fn next_room(kept: &mut Kept) -> Result<(usize, Room), ObjectFault>
+    requires { IsSound kept.old }
+    ensures room { result ≡ open_room kept.old.rooms.items }
+    ensures filling { IfOk result (λ x. (kept.new.filling ≡ x.0) × (x.0 < length kept.new.rooms.items)) }
+    ensures kept { outline_in kept.new ≡ outline_in kept.old }
+    ensures sound { IsSound kept.new }
+{
+    let at = open_place(kept);
+    if at == kept.rooms.len() {
+        return Err(ObjectFault::OutOfOrder);
+    }
+    Ok((at, kept.rooms[at]))
+}
+
+/// Keeps what the section that was being filled has become.
+fn put_room(kept: &mut Kept, at: usize, room: Room)
+    requires sound { IsSound kept.old }
+    requires filling { kept.old.filling ≡ at }
+    requires within { at < length kept.old.rooms.items }
+    ensures put { outline_in kept.new ≡ record (outline_in kept.old) { rooms = slice_set kept.old.rooms.items at room; begun = true } }
+    ensures sound { IsSound kept.new }
+{
+    kept.rooms[at] = room;
+    kept.begun = true;
+}
+
+/// Takes a LITERAL.
+#[tactic(auto, unfolding(crate::specs::Scanning::scan_part))]
+fn take_literal(kept: &mut Kept, body: &[u8]) -> Result<Item, ObjectFault>
+    requires { IsSound kept.old }
+    ensures taken { Gives is_memory (λ i. (outline_in kept.new, i)) result (scan_part (outline_in kept.old) (room_literal body.now)) }
+    ensures small { IfOk result (λ i. has_small_text i ≡ true) }
+    ensures sound { OnOk result (IsSound kept.new) }
+{
+    let (at, room) = next_room(kept)?;
+    let (grown, fragment) = room_with_literal(kept.alloc, room, body)?;
+    put_room(kept, at, grown);
+    Ok(Item::Part(at, room.filled, fragment))
+}
+
+/// Takes a FILL.
+#[tactic(auto, unfolding(crate::specs::Scanning::scan_part))]
+fn take_fill(kept: &mut Kept, body: &[u8]) -> Result<Item, ObjectFault>
+    requires { IsSound kept.old }
+    ensures taken { Gives is_memory (λ i. (outline_in kept.new, i)) result (scan_part (outline_in kept.old) (room_fill body.now)) }
+    ensures small { IfOk result (λ i. has_small_text i ≡ true) }
+    ensures sound { OnOk result (IsSound kept.new) }
+{
+    let (at, room) = next_room(kept)?;
+    let (grown, fragment) = room_with_fill(room, body)?;
+    put_room(kept, at, grown);
+    Ok(Item::Part(at, room.filled, fragment))
+}
+
+/// Takes a VALUE.
+#[tactic(auto, unfolding(crate::specs::Scanning::scan_part))]
+fn take_value(kept: &mut Kept, body: &[u8]) -> Result<Item, ObjectFault>
+    requires { IsSound kept.old }
+    ensures taken { Gives is_memory (λ i. (outline_in kept.new, i)) result (scan_part (outline_in kept.old) (room_value (length kept.old.rooms.items) (length (map (λ n. n.items) kept.old.imports.keys)) body.now)) }
+    ensures small { IfOk result (λ i. has_small_text i ≡ true) }
+    ensures sound { OnOk result (IsSound kept.new) }
+{
+    let sections = kept.rooms.len();
+    let imports = kept.imports.len();
+    let (at, room) = next_room(kept)?;
+    let (grown, fragment) = room_with_value(kept.alloc, room, body, sections, imports)?;
+    put_room(kept, at, grown);
+    Ok(Item::Part(at, room.filled, fragment))
+}
+
+/// Whether all sections are full.
+pub fn all_full(kept: &mut Kept) -> bool
+    requires { IsSound kept.old }
+    ensures full { result ≡ list_all is_filled kept.old.rooms.items }
+    ensures kept { outline_in kept.new ≡ outline_in kept.old }
+    ensures sound { IsSound kept.new }
+{
+    open_place(kept) == kept.rooms.len()
+}
+
+/// What the body of a SECTION says: the size, the alignment and the name.
+fn read_section(alloc: Global, body: &[u8]) -> Result<(u32, u8, Sequence<u8>), ObjectFault>
+    ensures { Gives is_memory (λ x. heading x.0 x.1 x.2) result (section_of body.now) }
 {
     if body.len() < 5 {
         return Err(ObjectFault::BadSize);
@@ -98,171 +210,79 @@ fn read_section(alloc: Global, body: &[u8]) -> Result<Draft, ObjectFault>
         return Err(ObjectFault::BadSize);
     }
     let align = body[4];
-    let name = Sequence::from_vec(Vec::from_slice(alloc, &body[5..])?);
-    Ok(Draft {
-        name,
-        align,
-        size,
-        filled: 0,
-        fragments: Sequence::new(alloc),
-        literal: Sequence::new(alloc),
-    })
-}
-
-/// Takes a SECTION.
-#[tactic(auto, unfolding(crate::specs::Taking::with_section))]
-fn take_section(parts: &mut Parts, body: &[u8]) -> Result<(), ObjectFault>
-    requires { IsSound parts.old }
-    ensures taken { Gives is_memory (λ _. state_of parts.new) result (with_section (state_of parts.old) body.now) }
-    ensures sound { OnOk result (IsSound parts.new) }
-{
-    check(
-        !parts.begun && parts.exports.len() == 0 && parts.asserts.len() == 0,
-        ObjectFault::OutOfOrder,
-    )?;
-    let draft = read_section(parts.alloc, body)?;
-    check_name(&parts.section_names, draft.name.as_slice())?;
-    check(draft.align <= LARGEST_ALIGNMENT, ObjectFault::NotCanonical)?;
-    add_draft(parts, draft)
+    let name = copy_of(alloc, &body[5..])?;
+    Ok((size, align, name))
 }
 
 /// Adds a section of a new name.
-fn add_draft(parts: &mut Parts, draft: Draft) -> Result<(), ObjectFault>
-    requires sound { IsSound parts.old }
-    requires name { is_among (draft_names parts.old.drafts.items) draft.name ≡ false }
-    ensures added { Gives is_memory (λ _. state_of parts.new) result (Ok (record (state_of parts.old) { drafts = parts.old.drafts.items ++ draft ∷ [] })) }
-    ensures sound { OnOk result (IsSound parts.new) }
+fn add_room(kept: &mut Kept, name: &[u8], size: u32) -> Result<(), ObjectFault>
+    requires sound { IsSound kept.old }
+    requires name { is_among (map (λ n. n.items) kept.old.sections.keys) name.now ≡ false }
+    ensures added { Gives is_memory (λ _. outline_in kept.new) result (Ok (record (outline_in kept.old) { sections = map (λ n. n.items) kept.old.sections.keys ++ name.now ∷ []; rooms = kept.old.rooms.items ++ empty_room size ∷ [] })) }
+    ensures sound { OnOk result (IsSound kept.new) }
 {
-    let name = Vec::from_slice(parts.alloc, draft.name.as_slice())?;
-    parts.section_names.insert(name)?;
-    parts.drafts.push(draft)?;
+    add_name(kept.alloc, &mut kept.sections, name)?;
+    kept.rooms.push(Room {
+        size,
+        filled: 0,
+        last: Last::Other,
+    })?;
     Ok(())
 }
 
-/// The place of the section to which the next fragment goes.
-fn open_place(parts: &mut Parts) -> Result<usize, ObjectFault>
-    requires { IsSound parts.old }
-    ensures state { state_of parts.new ≡ state_of parts.old }
-    ensures sound { IsSound parts.new }
-    ensures place { IfOk result (λ i. (parts.new.filling ≡ i) × (i < length parts.new.drafts.items)) }
-    ensures open { IfOk result (λ i. GrowsAt parts.new.drafts.items i) }
-    ensures none { IfErr result (λ e. (e ≡ ObjectFault.OutOfOrder) × ((grow : Draft → Result Draft ObjectFault) → in_first_open grow parts.old.drafts.items ≡ Err ObjectFault.OutOfOrder)) }
+/// Takes a SECTION.
+#[tactic(auto, unfolding(crate::specs::Scanning::scan_section))]
+fn take_section(kept: &mut Kept, body: &[u8]) -> Result<Item, ObjectFault>
+    requires { IsSound kept.old }
+    ensures taken { Gives is_memory (λ i. (outline_in kept.new, i)) result (scan_section (outline_in kept.old) body.now) }
+    ensures small { IfOk result (λ i. has_small_text i ≡ true) }
+    ensures sound { OnOk result (IsSound kept.new) }
 {
-    let at = first_open(&parts.drafts, parts.filling);
-    parts.filling = at;
-    if at == parts.drafts.len() {
-        return Err(ObjectFault::OutOfOrder);
-    }
-    Ok(at)
-}
-
-/// Adds a literal to a section.
-#[tactic(auto, unfolding(crate::specs::Taking::with_literal))]
-fn grow_literal(draft: &mut Draft, body: &[u8]) -> Result<(), ObjectFault>
-    ensures grown { Gives is_memory (λ _. draft.new) result (with_literal body.now draft.old) }
-    ensures name { draft.new.name ≡ draft.old.name }
-{
-    check(!body.is_empty(), ObjectFault::BadSize)?;
-    let room = draft.size.saturating_sub(draft.filled);
-    check(body.len() <= room as usize, ObjectFault::BadSize)?;
     check(
-        draft.literal.len() % LARGEST_LITERAL == 0,
-        ObjectFault::NotCanonical,
+        !kept.begun && kept.exports.len() == 0 && !kept.asserting,
+        ObjectFault::OutOfOrder,
     )?;
-    draft.literal.extend_from_slice(body)?;
-    draft.filled += body.len() as u32;
-    Ok(())
-}
-
-/// Takes a LITERAL.
-fn take_literal(parts: &mut Parts, body: &[u8]) -> Result<(), ObjectFault>
-    requires { IsSound parts.old }
-    ensures taken { Gives is_memory (λ _. state_of parts.new) result (with_part (state_of parts.old) (with_literal body.now)) }
-    ensures sound { OnOk result (IsSound parts.new) }
-{
-    let at = open_place(parts)?;
-    parts.begun = true;
-    let draft = &mut parts.drafts[at];
-    grow_literal(draft, body)?;
-    Ok(())
-}
-
-/// Takes a FILL.
-fn take_fill(parts: &mut Parts, body: &[u8]) -> Result<(), ObjectFault>
-    requires { IsSound parts.old }
-    ensures taken { Gives is_memory (λ _. state_of parts.new) result (with_part (state_of parts.old) (with_fill body.now)) }
-    ensures sound { OnOk result (IsSound parts.new) }
-{
-    let at = open_place(parts)?;
-    parts.begun = true;
-    let alloc = parts.alloc;
-    let draft = &mut parts.drafts[at];
-    grow_fill(alloc, draft, body)?;
-    Ok(())
-}
-
-/// Takes a VALUE.
-fn take_value(parts: &mut Parts, body: &[u8]) -> Result<(), ObjectFault>
-    requires { IsSound parts.old }
-    ensures taken { Gives is_memory (λ _. state_of parts.new) result (with_part (state_of parts.old) (with_value (length parts.old.drafts.items) (length parts.old.imports) body.now)) }
-    ensures sound { OnOk result (IsSound parts.new) }
-{
-    let sections = parts.drafts.as_slice().len();
-    let imports = parts.imports.len();
-    let at = open_place(parts)?;
-    parts.begun = true;
-    let alloc = parts.alloc;
-    let draft = &mut parts.drafts[at];
-    grow_value(alloc, draft, body, sections, imports)?;
-    Ok(())
-}
-
-/// Whether all sections are full.
-pub fn all_full(parts: &mut Parts) -> bool
-    requires { IsSound parts.old }
-    ensures full { result ≡ list_all is_full parts.old.drafts.items }
-    ensures state { state_of parts.new ≡ state_of parts.old }
-    ensures sound { IsSound parts.new }
-{
-    let at = first_open(&parts.drafts, parts.filling);
-    parts.filling = at;
-    at == parts.drafts.len()
+    let (size, align, name) = read_section(kept.alloc, body)?;
+    check_name(&kept.sections, name.as_slice())?;
+    check(align <= LARGEST_ALIGNMENT, ObjectFault::NotCanonical)?;
+    add_room(kept, name.as_slice(), size)?;
+    Ok(Item::Section(name, size, align))
 }
 
 /// Takes an END.
-#[tactic(auto, unfolding(crate::specs::Taking::with_end))]
-fn take_end(parts: &mut Parts, body: &[u8]) -> Result<(), ObjectFault>
-    requires { IsSound parts.old }
-    ensures taken { Gives is_memory (λ _. record (state_of parts.new) { ended = true }) result (with_end (state_of parts.old) body.now) }
-    ensures sound { OnOk result (IsSound parts.new) }
+#[tactic(auto, unfolding(crate::specs::Scanning::scan_last))]
+fn take_end(kept: &mut Kept, body: &[u8]) -> Result<Item, ObjectFault>
+    requires { IsSound kept.old }
+    ensures taken { Gives is_memory (λ i. (outline_in kept.new, i)) result (scan_last (outline_in kept.old) body.now) }
+    ensures small { IfOk result (λ i. has_small_text i ≡ true) }
+    ensures sound { OnOk result (IsSound kept.new) }
 {
-    check(all_full(parts), ObjectFault::OutOfOrder)?;
-    check(body.is_empty(), ObjectFault::BadSize)
+    check(all_full(kept), ObjectFault::OutOfOrder)?;
+    check(body.is_empty(), ObjectFault::BadSize)?;
+    kept.ended = true;
+    Ok(Item::End)
 }
 
-/// Takes a record, and answers whether it is the END.
-#[tactic(auto, unfolding(crate::specs::Taking::taken))]
-pub fn take_record(parts: &mut Parts, next: &Record) -> Result<bool, ObjectFault>
-    requires { IsSound parts.old }
-    ensures taken { Gives is_memory (λ ended. record (state_of parts.new) { ended = ended }) result (taken (state_of parts.old) (entry_of next.now)) }
-    ensures sound { OnOk result (IsSound parts.new) }
+/// Takes a record, and answers its item.
+#[tactic(auto, unfolding(crate::specs::Scanning::scan_entry))]
+pub fn take_record(kept: &mut Kept, next: &Record) -> Result<Item, ObjectFault>
+    requires { IsSound kept.old }
+    ensures taken { Gives is_memory (λ i. (outline_in kept.new, i)) result (scan_entry (outline_in kept.old) (entry_of next.now)) }
+    ensures small { IfOk result (λ i. has_small_text i ≡ true) }
+    ensures sound { OnOk result (IsSound kept.new) }
 {
     if !is_kind(next.kind) {
         return Err(ObjectFault::OutOfOrder);
     }
     let body = next.body.as_slice();
     match next.kind {
-        IMPORT => take_import(parts, body)?,
-        SECTION => take_section(parts, body)?,
-        LITERAL => take_literal(parts, body)?,
-        FILL => take_fill(parts, body)?,
-        VALUE => take_value(parts, body)?,
-        EXPORT => take_export(parts, body)?,
-        ASSERT => take_assert(parts, body)?,
-        _ => {
-            take_end(parts, body)?;
-            return Ok(true);
-        }
+        IMPORT => take_import(kept, body),
+        SECTION => take_section(kept, body),
+        LITERAL => take_literal(kept, body),
+        FILL => take_fill(kept, body),
+        VALUE => take_value(kept, body),
+        EXPORT => take_export(kept, body),
+        ASSERT => take_assert(kept, body),
+        _ => take_end(kept, body),
     }
-    Ok(false)
 }

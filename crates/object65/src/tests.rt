@@ -2,6 +2,7 @@
 
 mod forms;
 mod records;
+mod scans;
 
 ghost use Rattle.std.specs.Prelude.{◌≡◌, IfOk, None, true};
 ghost use Rattle.object65.specs.Objects.{is_good_object};

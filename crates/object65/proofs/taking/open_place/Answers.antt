@@ -1,14 +1,6 @@
-use Rattle.std.proofs.Common.{◌<◌, length, refl, arith}
-use Rattle.object65.proofs.Opens.{grows_at, nowhere}
+use Rattle.std.proofs.lemmas.List.Sums.{prefix_len-le-length}
+use Rattle.object65.specs.Scanning.{is_filled}
 use Rattle.object65.proofs.taking.open_place.Goals as goal
 
-pub returns-then-at-len-clause-none : goal.returns-then-at-len-clause-none
-returns-then-at-len-clause-none c =
-    let ds = c.args.parts.now.drafts.items in
-    (refl, λ grow. nowhere ds c.first_open-at.result grow (rw c.deref.ensures.value at c.first_open-at.ensures.full) (omega arith))
-
-pub returns-clause-open : goal.returns-clause-open
-returns-clause-open c =
-    let ds = c.args.parts.now.drafts.items in
-    let within : c.first_open-at.result < length ds = omega (arith, c.first_open-at.ensures.within, c.deref.ensures.len) in
-    grows_at ds c.first_open-at.result (rw c.deref.ensures.value at c.first_open-at.ensures.full) within (rw c.deref.ensures.value at c.first_open-at.ensures.open)
+pub returns-clause-within : goal.returns-clause-within
+returns-clause-within c = rw (c.first_open-at.ensures, c.deref.ensures.value) (prefix_len-le-length is_filled c.args.kept.now.rooms.items)

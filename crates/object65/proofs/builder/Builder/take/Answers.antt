@@ -1,15 +1,15 @@
-use Rattle.std.proofs.Common.{Bool, refl, subst}
 use Rattle.object65.specs.Record.{entry_of}
-use Rattle.object65.specs.Sound.{state_of}
-use Rattle.object65.specs.Taking.{IsReached}
-use Rattle.object65.proofs.Builders.{reached_on}
+use Rattle.object65.specs.Sound.{state_in}
+use Rattle.object65.proofs.Withins.{room_next, whole_next}
 use Rattle.object65.proofs.builder.Builder.take.Goals as goal
 
-pub invariant_of-self-in-Ok : goal.invariant_of-self-in-Ok
-invariant_of-self-in-Ok c = λ running.
-    let parts = c.self.inside.parts in
-    let before = subst (λ (b : Bool). IsReached (record (state_of parts) { ended = b })) c.if-self-2.false (c.self.invariant running).reached in
-    record {
-      sound = c.in-Ok.ensures.sound;
-      reached = reached_on (state_of parts) (record (state_of c.take_record.new.parts) { ended = c.in-Ok.ended }) (entry_of c.args.next.now) before refl refl c.in-Ok.ensures.taken;
-    }
+pub add_item-requires : goal.add_item-requires
+add_item-requires c =
+    let b = c.self.inside in
+    let whole = c.self.invariant c.if-self.false in
+    room_next (state_in b.parts b.scan) b.scan (entry_of c.args.next.now) (c.take.new.self, c.in-Ok.item) whole.reached whole.scanned c.in-Ok.ensures.scanned
+
+pub invariant_of-self : goal.invariant_of-self
+invariant_of-self c = λ running.
+    let b = c.self.inside in
+    whole_next b.parts c.add_item.new.parts b.scan c.take.new.self (entry_of c.args.next.now) c.in-Ok.item (c.self.invariant running) c.in-Ok.ensures.scanned c.in-Ok.ensures.within c.in-Ok-add_item.ensures

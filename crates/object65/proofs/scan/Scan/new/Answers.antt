@@ -1,0 +1,10 @@
+use Rattle.std.proofs.Common.{refl, arith}
+use Rattle.object65.specs.Taking.{start}
+use Rattle.object65.proofs.Builders.{reached_start}
+use Rattle.object65.proofs.scan.Scan.new.Goals as goal
+
+pub invariant_of-result : goal.invariant_of-result
+invariant_of-result c = λ running. record {
+  sound = record { filling = omega arith };
+  stands = record { state = start; reached = reached_start; same = rw (c.new.ensures.empty, c.new-2.ensures.empty, c.new-3.ensures.items, c.new-4.ensures.empty) refl };
+}

@@ -1,0 +1,47 @@
+-- What an object in the making becomes by an item.
+use Rattle.std.specs.Prelude.{ℕ, ◌+◌, List, [], ◌∷◌, ◌++◌, length, slice_get, slice_set, Option, Some, None, Bool, true}
+use Rattle.object65.specs.declared.draft.Draft.{Draft}
+use Rattle.object65.specs.declared.item.Item.{Item}
+use Rattle.object65.specs.declared.item.Item.TheVariants.{Import, Section, Part, Export, Assert, End}
+use Rattle.object65.specs.declared.object.Fragment.{Fragment}
+use Rattle.object65.specs.declared.object.Fragment.TheVariants.{Literal, Fill, Value}
+use Rattle.object65.specs.Objects.{fragment_len}
+use Rattle.object65.specs.Small.{is_small_text}
+use Rattle.object65.specs.Taking.{State, with_fragment}
+
+-- a section with one fragment more; a literal joins the one before it
+abbrev pub grown : Draft → Fragment → Draft
+grown d (Literal bytes) = record d { filled = d.filled + length bytes; literal = d.literal ++ bytes }
+grown d (Fill n) = with_fragment d n (Fill n)
+grown d (Value width line form) = with_fragment d (fragment_len (Value width line form)) (Value width line form)
+
+abbrev pub with_piece_in : List Draft → ℕ → Fragment → Option Draft → List Draft
+with_piece_in ds k f None = ds
+with_piece_in ds k f (Some d) = slice_set ds k (grown d f)
+
+-- the sections, with a fragment more in the one at this place
+abbrev pub with_piece : List Draft → ℕ → Fragment → List Draft
+with_piece ds k f = with_piece_in ds k f (slice_get ds k)
+
+-- a section that has no fragment yet
+abbrev pub empty_draft : List ℕ → ℕ → ℕ → Draft
+empty_draft name size align = record { name = name; align = align; size = size; filled = 0; fragments = []; literal = [] }
+
+-- the object in the making with an item behind what was taken
+abbrev pub with_item : State → Item → State
+with_item s (Import name) = record s { imports = s.imports ++ name ∷ [] }
+with_item s (Section name size align) = record s { drafts = s.drafts ++ empty_draft name size align ∷ [] }
+with_item s (Part k offset f) = record s { drafts = with_piece s.drafts k f; begun = true }
+with_item s (Export name line form) = record s { exports = s.exports ++ (record { name = name; line = line; form = form }) ∷ [] }
+with_item s (Assert action line text form) = record s { asserts = s.asserts ++ (record { action = action; line = line; text = text; form = form }) ∷ [] }
+with_item s End = record s { ended = true }
+
+-- the object in the making with these items one behind the other
+abbrev pub with_items : State → List Item → State
+with_items s [] = s
+with_items s (i ∷ is) = with_items (with_item s i) is
+
+-- the text of an assertion had its length in a byte
+abbrev pub has_small_text : Item → Bool
+has_small_text (Assert action line text form) = is_small_text text
+has_small_text _ = true

@@ -1,0 +1,201 @@
+-- What a scan becomes by one record after another: what it keeps of an object in the making, and each record's item.
+use Rattle.std.specs.Prelude.{◌≡◌, ℕ, ◌+◌, ◌-◌, ◌%◌, ◌≤◌, List, [], ◌∷◌, ◌++◌, length, map, slice_get, slice_set, Option, Some, None, Bool, true, false, Result, Ok, Err, nat_le, ◌==◌, ◌&&◌, not, if◌then◌else◌, ⊤}
+use Rattle.std.specs.List.{list_all, prefix_len}
+use Rattle.object65.specs.declared.fault.ObjectFault.{ObjectFault}
+use Rattle.object65.specs.declared.fault.ObjectFault.TheVariants.{FailedBefore, CutShort, OutOfOrder, BadSize, NotCanonical}
+use Rattle.object65.specs.declared.draft.Draft.{Draft}
+use Rattle.object65.specs.declared.item.Item.{Item}
+use Rattle.object65.specs.declared.item.Item.TheVariants.{Import, Section, Part, Export, Assert, End}
+use Rattle.object65.specs.declared.object.Fragment.{Fragment}
+use Rattle.object65.specs.declared.object.Fragment.TheVariants.{Literal, Fill, Value}
+use Rattle.object65.specs.declared.room.Last.{Last}
+use Rattle.object65.specs.declared.room.Last.TheVariants as last
+use Rattle.object65.specs.declared.room.Room.{Room}
+use Rattle.object65.specs.Bodies.{Heading, section_of, literal_of, fill_of, value_of, export_of, assert_of, end_of}
+use Rattle.object65.specs.Fault.{◌>>=◌}
+use Rattle.object65.specs.Objects.{fragment_len, section_limit, width_len}
+use Rattle.object65.specs.Record.{Entry, is_record_kind}
+use Rattle.object65.specs.Spelling.{body_limit}
+use Rattle.object65.specs.Small.{is_small_text}
+use Rattle.object65.specs.Taking.{State, is_none, wants, new_name, known, canonical, canonical_open, closed, ends_in_fill}
+
+-- ---- What is kept.
+
+-- a record of a literal that isn't full stands last, or a fill
+abbrev pub last_of : Draft → Last
+last_of d = if not (length d.literal % body_limit == 0) then last.Short else if ends_in_fill (closed d) then last.Fill else last.Other
+
+-- a section in the making without its bytes
+abbrev pub room_of : Draft → Room
+room_of d = record { size = d.size; filled = d.filled; last = last_of d }
+
+-- an object in the making without its fragments and forms
+pub record Outline : Type 0 where
+  pub imports : List (List ℕ)
+  -- the names of the sections
+  pub sections : List (List ℕ)
+  pub rooms : List Room
+  -- whether a fragment was taken
+  pub begun : Bool
+  -- the names of the exports
+  pub exports : List (List ℕ)
+  -- whether an assertion was taken
+  pub asserting : Bool
+  pub ended : Bool
+  pub failed : Bool
+
+abbrev pub outline_of : State → Outline
+outline_of s = record { imports = s.imports; sections = map (λ d. d.name) s.drafts; rooms = map room_of s.drafts; begun = s.begun; exports = map (λ e. e.name) s.exports; asserting = not (is_none s.asserts); ended = s.ended; failed = s.failed }
+
+-- what a SECTION says
+abbrev pub heading : ℕ → ℕ → List ℕ → Heading
+heading size align name = record { size = size; align = align; name = name }
+
+-- ---- Fragments.
+
+abbrev pub is_filled : Room → Bool
+is_filled r = r.filled == r.size
+
+abbrev pub room_at : ℕ → Option Room → Result (ℕ × Room) ObjectFault
+room_at k None = Err OutOfOrder
+room_at k (Some r) = Ok (k, r)
+
+-- the place of the first section that isn't full, and that section
+abbrev pub open_room : List Room → Result (ℕ × Room) ObjectFault
+open_room rs = room_at (prefix_len is_filled rs) (slice_get rs (prefix_len is_filled rs))
+
+-- so many bytes more are within the section
+abbrev pub room_for : Room → ℕ → Result (Unit {0}) ObjectFault
+room_for r len = wants (nat_le len (r.size - r.filled)) BadSize
+
+abbrev pub is_short : Last → Bool
+is_short last.Short = true
+is_short last.Fill = false
+is_short last.Other = false
+
+abbrev pub is_fill : Last → Bool
+is_fill last.Fill = true
+is_fill last.Short = false
+is_fill last.Other = false
+
+-- what stands last behind a literal of so many bytes
+abbrev pub last_behind : ℕ → Last
+last_behind len = if len % body_limit == 0 then last.Other else last.Short
+
+-- the section behind a fragment
+abbrev pub room_behind : Room → ℕ → Last → Room
+room_behind r len l = record { size = r.size; filled = r.filled + len; last = l }
+
+unfoldable pub room_literal : List ℕ → Room → Result (Room × Fragment) ObjectFault
+room_literal body r = do
+  bytes ← literal_of body
+  u ← room_for r (length bytes)
+  v ← wants (not (is_short r.last)) NotCanonical
+  Ok (room_behind r (length bytes) (last_behind (length bytes)), Literal bytes)
+
+unfoldable pub room_fill : List ℕ → Room → Result (Room × Fragment) ObjectFault
+room_fill body r = do
+  count ← fill_of body
+  u ← room_for r count
+  v ← wants (not (is_fill r.last)) NotCanonical
+  Ok (room_behind r count last.Fill, Fill count)
+
+unfoldable pub room_value : ℕ → ℕ → List ℕ → Room → Result (Room × Fragment) ObjectFault
+room_value sections imports body r = do
+  value ← value_of body
+  u ← room_for r (width_len value.0)
+  v ← known sections imports value.2
+  w ← canonical_open value.2
+  Ok (room_behind r (width_len value.0) last.Other, Value value.0 value.1 value.2)
+
+-- ---- One record.
+
+unfoldable pub scan_import : Outline → List ℕ → Result (Outline × Item) ObjectFault
+scan_import o body = do
+  u ← wants (is_none o.rooms && is_none o.exports && not o.asserting) OutOfOrder
+  v ← new_name o.imports body
+  Ok (record o { imports = o.imports ++ body ∷ [] }, Import body)
+
+-- a section that has no fragment yet
+abbrev pub empty_room : ℕ → Room
+empty_room size = record { size = size; filled = 0; last = last.Other }
+
+unfoldable pub scan_section : Outline → List ℕ → Result (Outline × Item) ObjectFault
+scan_section o body = do
+  u ← wants (not o.begun && is_none o.exports && not o.asserting) OutOfOrder
+  h ← section_of body
+  v ← new_name o.sections h.name
+  w ← wants (nat_le h.align 15) NotCanonical
+  Ok (record o { sections = o.sections ++ h.name ∷ []; rooms = o.rooms ++ empty_room h.size ∷ [] }, Section h.name h.size h.align)
+
+-- a record of a fragment, which goes to the first section that isn't full
+unfoldable pub scan_part : Outline → (Room → Result (Room × Fragment) ObjectFault) → Result (Outline × Item) ObjectFault
+scan_part o grow = do
+  place ← open_room o.rooms
+  grown ← grow place.1
+  Ok (record o { rooms = slice_set o.rooms place.0 grown.0; begun = true }, Part place.0 place.1.filled grown.1)
+
+unfoldable pub scan_export : Outline → List ℕ → Result (Outline × Item) ObjectFault
+scan_export o body = do
+  u ← wants (list_all is_filled o.rooms && not o.asserting) OutOfOrder
+  e ← export_of body
+  v ← known (length o.rooms) (length o.imports) e.form
+  w ← new_name o.exports e.name
+  x ← canonical e.form
+  Ok (record o { exports = o.exports ++ e.name ∷ [] }, Export e.name e.line e.form)
+
+unfoldable pub scan_assert : Outline → List ℕ → Result (Outline × Item) ObjectFault
+scan_assert o body = do
+  u ← wants (list_all is_filled o.rooms) OutOfOrder
+  a ← assert_of body
+  v ← known (length o.rooms) (length o.imports) a.form
+  w ← canonical_open a.form
+  Ok (record o { asserting = true }, Assert a.action a.line a.text a.form)
+
+unfoldable pub scan_last : Outline → List ℕ → Result (Outline × Item) ObjectFault
+scan_last o body = do
+  u ← wants (list_all is_filled o.rooms) OutOfOrder
+  v ← end_of body
+  Ok (record o { ended = true }, End)
+
+unfoldable pub scan_entry : Outline → Entry → Result (Outline × Item) ObjectFault
+scan_entry o e =
+    if not (is_record_kind e.kind) then Err OutOfOrder
+    else if e.kind == 1 then scan_import o e.body
+    else if e.kind == 2 then scan_section o e.body
+    else if e.kind == 3 then scan_part o (room_literal e.body)
+    else if e.kind == 4 then scan_part o (room_fill e.body)
+    else if e.kind == 5 then scan_part o (room_value (length o.rooms) (length o.imports) e.body)
+    else if e.kind == 6 then scan_export o e.body
+    else if e.kind == 7 then scan_assert o e.body
+    else scan_last o e.body
+
+-- what is kept behind the record and the item that it gives, or the first fault
+unfoldable pub scanned : Outline → Entry → Result (Outline × Item) ObjectFault
+scanned o e = if o.failed then Err FailedBefore else if o.ended then Err OutOfOrder else scan_entry o e
+
+-- the items of records one behind the other, or the first fault
+abbrev pub items_of : Outline → List Entry → Result (List Item) ObjectFault
+items_of o [] = Ok []
+items_of o (e ∷ es) = scanned o e >>= (λ x. items_of x.0 es >>= (λ is. Ok (x.1 ∷ is)))
+
+-- whether the object may end here
+abbrev pub scan_end : Outline → Result (Unit {0}) ObjectFault
+scan_end o = if o.failed then Err FailedBefore else if o.ended then Ok tt else Err CutShort
+
+-- ---- What an item keeps to.
+
+-- a fragment stands in this section, behind what was taken of it
+pub record FitsIn (room : Room) (place : ℕ) (f : Fragment) : Type 0 where
+  pub behind : place ≡ room.filled
+  pub within : place + fragment_len f ≤ room.size
+  pub size : room.size ≤ section_limit
+
+-- the numbers of an item are within their limits
+abbrev pub IsWithin : Outline → Item → Type 0
+IsWithin o (Import name) = ⊤
+IsWithin o (Section name size align) = (size ≤ section_limit) × (align ≤ 15)
+IsWithin o (Part k offset f) = (room : Room) × (slice_get o.rooms k ≡ Some room) × FitsIn room offset f
+IsWithin o (Export name line form) = ⊤
+IsWithin o (Assert action line text form) = is_small_text text ≡ true
+IsWithin o End = ⊤

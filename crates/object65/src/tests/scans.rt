@@ -1,0 +1,96 @@
+//! The items of objects that were worked out by hand.
+
+use super::TWO_LITERALS;
+use crate::{Fragment, Item, Node, ObjectFault, Scan, Width, read_head, read_record};
+use std::alloc::Global;
+use std::test::Fail;
+use syntax65::MemStore;
+
+/// A section CODE whose jump goes to its own start, which is exported.
+const JUMP: [u8; 71] = [
+    0x52, 0x36, 0x35, 0x6f, 0x01, 0x02, 0x09, 0x00, 0x03, 0x00, 0x00, 0x00, 0x00, 0x43, 0x4f, 0x44,
+    0x45, 0x03, 0x01, 0x00, 0x4c, 0x05, 0x12, 0x00, 0x01, 0x02, 0x00, 0x00, 0x00, 0x01, 0x00, 0x00,
+    0x00, 0x00, 0x00, 0x00, 0x00, 0x00, 0x00, 0x00, 0x00, 0x00, 0x06, 0x17, 0x00, 0x05, 0x73, 0x74,
+    0x61, 0x72, 0x74, 0x01, 0x00, 0x00, 0x00, 0x01, 0x00, 0x00, 0x00, 0x00, 0x00, 0x00, 0x00, 0x00,
+    0x00, 0x00, 0x00, 0x00, 0x08, 0x00, 0x00,
+];
+
+/// The items of the object, and how the scan of it ends; where a record is refused, its fault.
+fn scan_bytes(
+    alloc: Global,
+    bytes: &[u8],
+) -> Result<(Vec<Item>, Result<(), ObjectFault>), ObjectFault> {
+    let mut store = MemStore::new(alloc);
+    store.put("a.o", bytes)?;
+    let limit = bytes.len() as u64;
+    let mut items = Vec::new(alloc);
+    let mut scan = Scan::new(alloc);
+    let mut at = read_head(&mut store, "a.o", 0, limit)?;
+    for _ in 0..bytes.len() {
+        if at < limit {
+            let (record, next) = read_record(&mut store, "a.o", at, limit)?;
+            items.push(scan.take(&record)?)?;
+            at = next;
+        }
+    }
+    Ok((items, scan.finish()))
+}
+
+fn is_start_of_first(node: &Node) -> bool {
+    matches!(node, Node::Sec(0, 0))
+}
+
+/// Whether the item is that of the record at this place among those of the jump.
+fn is_of_jump(place: usize, item: &Item) -> bool {
+    match (place, item) {
+        (0, Item::Section(name, 3, 0)) => name.as_slice() == b"CODE".as_slice(),
+        (1, Item::Part(0, 0, Fragment::Literal(bytes))) => bytes.as_slice() == [0x4c].as_slice(),
+        (
+            2,
+            Item::Part(
+                0,
+                1,
+                Fragment::Value {
+                    width: Width::Word,
+                    line: 2,
+                    form,
+                },
+            ),
+        ) => is_start_of_first(form.node()),
+        (3, Item::Export(name, 1, form)) => {
+            name.as_slice() == b"start".as_slice() && is_start_of_first(form.node())
+        }
+        (4, Item::End) => true,
+        _ => false,
+    }
+}
+
+#[test]
+fn gives_an_item_a_record(rt: HostRuntime) -> Result<(), Fail> {
+    let (items, end) = scan_bytes(rt.alloc(), &JUMP)?;
+    assert_eq!(rt; items.len(), 5);
+    for (place, item) in items.iter().enumerate() {
+        assert!(rt; is_of_jump(place, item), "at {place}");
+    }
+    assert_eq!(rt; end, Ok(()));
+    Ok(())
+}
+
+#[test]
+fn wants_the_end(rt: HostRuntime) -> Result<(), Fail> {
+    let (items, end) = scan_bytes(rt.alloc(), &JUMP[..68])?;
+    assert_eq!(rt; items.len(), 4);
+    assert_eq!(rt; end, Err(ObjectFault::CutShort));
+    Ok(())
+}
+
+#[test]
+fn refuses_what_a_builder_refuses(rt: HostRuntime) -> Result<(), Fail> {
+    match scan_bytes(rt.alloc(), &TWO_LITERALS) {
+        Ok(_) => Err(Fail::from("scanned")),
+        Err(e) => {
+            assert_eq!(rt; e, ObjectFault::NotCanonical);
+            Ok(())
+        }
+    }
+}

@@ -1,6 +1,7 @@
 pub mod Modules
 pub mod Segments
 pub mod Programs
+pub mod Growing
 pub mod Names
 pub mod Givers
 pub mod Values

@@ -1,8 +1,15 @@
 //! What holds of links, whatever the modules and the script are. Each function's contract is a law.
 
+ghost use Rattle.linkage65.specs.Growing.{GrowthLaw};
 ghost use Rattle.linkage65.specs.Laws.{OneValueLaw};
 
 /// A form comes to one answer.
 pub fn one_value()
     ensures { OneValueLaw }
+{}
+
+/// What a scan hands out of a module, item by item, grows a program as the module does; when all has come, the
+/// module stands behind the others.
+pub fn items_grow_a_program()
+    ensures { GrowthLaw }
 {}

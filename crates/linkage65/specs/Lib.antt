@@ -8,6 +8,7 @@ pub mod Values
 pub mod Marks
 pub mod Evaluation
 pub mod Contents
+pub mod Grounds
 pub mod Places
 pub mod Checks
 pub mod Files

@@ -8,6 +8,7 @@ mod contents;
 mod evaluation;
 mod fault;
 mod files;
+mod growing;
 mod holding;
 mod imaging;
 pub mod laws;
@@ -19,6 +20,7 @@ mod texts;
 pub use contents::{Content, Piece};
 pub use evaluation::{Attempt, Evaluated, Mark, Stop};
 pub use fault::{LinkFault, Site};
+pub use growing::Growing;
 pub use linked::{Linked, LinkedFile};
 pub use parts::{
     Asserted, Definition, Exported, Giver, Member, Resolved, SectionPlace, ValueFault, Waiting,

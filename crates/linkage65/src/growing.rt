@@ -1,0 +1,136 @@
+//! A program while its modules come, item by item.
+
+ghost use Rattle.std.specs.Prelude.{◌≡◌, ◌≤◌, ◌<◌, ◌+◌, ◌-◌, ◌^◌, ◌++◌, ◌∷◌, [], Ok, OnOk, IfOk, length, map, max, position, replicate, slice_get};
+ghost use Rattle.std.specs.Str.{bytes_eq};
+ghost use Rattle.object65.specs.Objects.{fragment_len};
+ghost use Rattle.script65.specs.Placing.{rounded_up};
+ghost use Rattle.syntax65.specs.Outcome.{Gives};
+ghost use Rattle.linkage65.specs.Contents.{cells_of, segment_from};
+ghost use Rattle.linkage65.specs.Faults.{is_memory};
+ghost use Rattle.linkage65.specs.Grounds.{AreNamed, IsSmall, growth_in, with_gap};
+ghost use Rattle.linkage65.specs.Growing.{bare_section, grown_by, with_bare, with_cells, with_part};
+ghost use Rattle.linkage65.specs.Segments.{filled, fragment_cells, grown};
+
+use crate::contents::{Content, Piece};
+use crate::fault::LinkFault;
+use crate::parts::{Asserted, Exported, Member, SectionPlace, Waiting};
+use indexmap::IndexSet;
+use object65::{Fragment, Item, Width};
+use std::alloc::Global;
+use syntax65::Sequence;
+
+/// The modules taken so far, and what the open one has put into segments, exports and assertions.
+#[derive(Drop)]
+pub struct Growing {
+    pub alloc: Global,
+    pub members: Sequence<Member>,
+    /// The names of the segments, by which their places are found.
+    pub names: IndexSet<Vec<u8>>,
+    pub contents: Vec<Content>,
+    pub exports: Sequence<Exported>,
+    pub asserts: Sequence<Asserted>,
+    /// Where the sections of the open module lie.
+    pub sections: Vec<SectionPlace>,
+    /// The names that the open module imports.
+    pub imports: Sequence<Sequence<u8>>,
+}
+
+/// A sum, for which there is no room where it is too large.
+fn sum(a: u64, b: u64) -> Result<u64, LinkFault>
+    ensures { Gives is_memory (λ n. n) result (Ok (a + b)) }
+{
+    match a.checked_add(b) {
+        Some(n) => Ok(n),
+        None => Err(LinkFault::OutOfMemory),
+    }
+}
+
+/// The least multiple of an alignment that isn't below an end.
+fn begin_behind(end: u64, align: u32) -> Result<u64, LinkFault>
+    requires { 0 < align }
+    ensures begin { Gives is_memory (λ n. n) result (Ok (rounded_up end align)) }
+    ensures near { IfOk result (λ n. n - end ≤ align) }
+{
+    match end.div_ceil(u64::from(align)).checked_mul(u64::from(align)) {
+        Some(n) => Ok(n),
+        None => Err(LinkFault::OutOfMemory),
+    }
+}
+
+/// Adds so many bytes of the fill value.
+fn add_gap(content: &mut Content, gap: u32) -> Result<(), LinkFault>
+    ensures { Gives is_memory (λ _. segment_from content.new) result (Ok (with_gap gap (segment_from content.old))) }
+{
+    if gap > 0 {
+        content.pieces.push(Piece::Filled(gap))?;
+    }
+    Ok(())
+}
+
+/// Begins a section in a segment, and answers how far behind the segment's start.
+fn open_section(content: &mut Content, align: u32) -> Result<u64, LinkFault>
+    requires { 0 < align }
+    ensures begin { Gives is_memory (λ n. n) result (Ok (rounded_up content.old.size align)) }
+    ensures grown { OnOk result (segment_from content.new ≡ record (with_gap (rounded_up content.old.size align - content.old.size) (segment_from content.old)) { size = rounded_up content.old.size align; align = max content.old.align align }) }
+    ensures name { OnOk result (content.new.name ≡ content.old.name) }
+{
+    let begin = begin_behind(content.size, align)?;
+    let gap = begin.saturating_sub(content.size) as u32;
+    add_gap(content, gap)?;
+    content.size = begin;
+    content.align = content.align.max(align);
+    Ok(begin)
+}
+
+/// How many bytes a fragment has.
+fn fragment_size(fragment: &Fragment) -> u64
+    ensures { result ≡ fragment_len fragment.now }
+{
+    match fragment {
+        Fragment::Literal(bytes) => bytes.len() as u64,
+        Fragment::Fill(count) => u64::from(*count),
+        Fragment::Value {
+            width,
+            line: _,
+            form: _,
+        } => match width {
+            Width::Byte | Width::Branch => 1,
+            Width::Word | Width::HighFirst => 2,
+            Width::Dword => 4,
+        },
+    }
+}
+
+/// A fragment of a module as a piece of a segment.
+fn piece_of(owner: usize, fragment: Fragment) -> Piece
+    ensures { cells_of (result ∷ []) ≡ fragment_cells owner fragment }
+{
+    match fragment {
+        Fragment::Literal(bytes) => Piece::Known(bytes),
+        Fragment::Fill(count) => Piece::Filled(count),
+        Fragment::Value { width, line, form } => Piece::Waits(Waiting {
+            owner,
+            width,
+            line,
+            form,
+        }),
+    }
+}
+
+/// Adds a fragment to a segment.
+fn add_fragment(
+    content: &mut Content,
+    owner: usize,
+    len: u64,
+    fragment: Fragment,
+) -> Result<(), LinkFault>
+    requires { len ≡ fragment_len fragment }
+    ensures grown { OnOk result (segment_from content.new ≡ with_cells (fragment_len fragment) (fragment_cells owner fragment) (segment_from content.old)) }
+    ensures name { OnOk result (content.new.name ≡ content.old.name) }
+    ensures memory { Gives is_memory (λ u. u) result (Ok tt) }
+{
+    let size = sum(content.size, len)?;
+    content.pieces.push(piece_of(owner, fragment))?;
+    content.size = size;
+    Ok(())
+}

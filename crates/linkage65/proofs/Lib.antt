@@ -8,3 +8,4 @@ pub mod SegmentLemmas
 pub mod LoadLemmas
 pub mod FileLemmas
 pub mod ImageLemmas
+pub mod HoldingLemmas

@@ -9,3 +9,4 @@ pub mod LoadLemmas
 pub mod FileLemmas
 pub mod ImageLemmas
 pub mod GrowingLaw
+pub mod HoldingLemmas

@@ -13,9 +13,12 @@ mod holding;
 mod imaging;
 pub mod laws;
 mod linked;
+mod naming;
+mod needs;
 mod parts;
 mod tables;
 mod texts;
+mod warning;
 
 pub use contents::{Content, Piece};
 pub use evaluation::{Attempt, Evaluated, Mark, Stop};

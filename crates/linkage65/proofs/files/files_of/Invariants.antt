@@ -7,5 +7,5 @@ use Rattle.linkage65.proofs.files.files_of.Given as goal
 abbrev pub invariant-loop-k : goal.invariant-loop-k
 invariant-loop-k l = record {
   named : AreNamed l.files;
-  rest : (after : List LinkedFile) → AddsAreas l.output (IsAreaFile l.script.rows l.places (bytes_in l.held)) l.k (drop l.k l.script.areas) l.files.outputs.items after → AddsAreas l.output (IsAreaFile l.script.rows l.places (bytes_in l.held)) 0 l.script.areas [] after;
+  rest : (after : List LinkedFile) → AddsAreas l.output (IsAreaFile l.script.rows l.places (bytes_in l.held)) l.k (drop l.k l.areas) l.files.outputs.items after → AddsAreas l.output (IsAreaFile l.script.rows l.places (bytes_in l.held)) 0 l.areas [] after;
 }

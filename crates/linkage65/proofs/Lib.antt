@@ -9,4 +9,5 @@ pub mod LoadLemmas
 pub mod FileLemmas
 pub mod ImageLemmas
 pub mod GrowingLaw
+pub mod PlaceOf
 pub mod HoldingLemmas

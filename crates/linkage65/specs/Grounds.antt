@@ -1,11 +1,12 @@
 -- What the code keeps of a program while its modules come.
-use Rattle.std.specs.Prelude.{◌≡◌, ◌≤◌, ℕ, List, ◌++◌, map, replicate, ⊤}
+use Rattle.std.specs.Prelude.{◌≡◌, ◌≤◌, ℕ, List, [], ◌∷◌, ◌++◌, map, position, replicate, Option, if◌then◌else◌, ⊤}
+use Rattle.std.specs.Str.{bytes_eq}
 use Rattle.object65.specs.declared.item.Item.{Item}
 use Rattle.object65.specs.declared.item.Item.TheVariants as item
 use Rattle.linkage65.specs.declared.growing.Growing.{Growing}
 use Rattle.linkage65.specs.Contents.{segments_from}
-use Rattle.linkage65.specs.Growing.{Growth}
-use Rattle.linkage65.specs.Segments.{Segment, filled}
+use Rattle.linkage65.specs.Growing.{Growth, with_segments}
+use Rattle.linkage65.specs.Segments.{Segment, empty_segment, filled}
 
 -- a segment with so many bytes of the fill value behind, that don't count yet
 abbrev pub with_gap : ℕ → Segment → Segment
@@ -30,3 +31,18 @@ IsSmall (item.Part k offset f) = ⊤
 IsSmall (item.Export name line form) = ⊤
 IsSmall (item.Assert action line text form) = ⊤
 IsSmall item.End = ⊤
+
+-- segments among which there is one of this name
+abbrev pub with_name : List ℕ → List Segment → List Segment
+with_name name [] = empty_segment name ∷ []
+with_name name (g ∷ gs) = if bytes_eq g.name name then g ∷ gs else g ∷ with_name name gs
+
+-- the place of the segment of a name
+abbrev pub place_in : List ℕ → List (List ℕ) → Option ℕ
+place_in name names = position (λ n. bytes_eq name n) names
+
+abbrev pub names_in : Growing → List (List ℕ)
+names_in g = map (λ n. n.items) g.names.keys
+
+abbrev pub having : Growth → List Segment → Growth
+having g gs = record { program = with_segments g.program gs; sections = g.sections; imports = g.imports }

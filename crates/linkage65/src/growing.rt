@@ -1,19 +1,20 @@
 //! A program while its modules come, item by item.
 
-ghost use Rattle.std.specs.Prelude.{◌≡◌, ◌≤◌, ◌<◌, ◌+◌, ◌-◌, ◌^◌, ◌++◌, ◌∷◌, [], Ok, OnOk, IfOk, length, map, max, position, replicate, slice_get};
+ghost use Rattle.std.specs.Prelude.{◌≡◌, ◌≤◌, ◌<◌, ◌+◌, ◌-◌, ◌^◌, ◌++◌, ◌∷◌, [], Ok, OnOk, IfErr, IfOk, IfSome, true, None, Some, length, map, max, position, replicate, slice_get};
 ghost use Rattle.std.specs.Str.{bytes_eq};
 ghost use Rattle.object65.specs.Objects.{fragment_len};
 ghost use Rattle.script65.specs.Placing.{rounded_up};
 ghost use Rattle.syntax65.specs.Outcome.{Gives};
-ghost use Rattle.linkage65.specs.Contents.{cells_of, segment_from};
+ghost use Rattle.linkage65.specs.Contents.{cells_of, segment_from, segments_from};
 ghost use Rattle.linkage65.specs.Faults.{is_memory};
-ghost use Rattle.linkage65.specs.Grounds.{AreNamed, IsSmall, growth_in, with_gap};
+ghost use Rattle.linkage65.specs.Grounds.{AreNamed, IsSmall, growth_in, having, names_in, place_in, with_gap, with_name};
 ghost use Rattle.linkage65.specs.Growing.{bare_section, grown_by, with_bare, with_cells, with_part};
-ghost use Rattle.linkage65.specs.Segments.{filled, fragment_cells, grown};
+ghost use Rattle.linkage65.specs.Segments.{empty_segment, filled, fragment_cells, grown};
 
 use crate::contents::{Content, Piece};
 use crate::fault::LinkFault;
 use crate::parts::{Asserted, Exported, Member, SectionPlace, Waiting};
+use crate::texts::copy_of;
 use indexmap::IndexSet;
 use object65::{Fragment, Item, Width};
 use std::alloc::Global;
@@ -127,10 +128,59 @@ fn add_fragment(
     requires { len ≡ fragment_len fragment }
     ensures grown { OnOk result (segment_from content.new ≡ with_cells (fragment_len fragment) (fragment_cells owner fragment) (segment_from content.old)) }
     ensures name { OnOk result (content.new.name ≡ content.old.name) }
-    ensures memory { Gives is_memory (λ u. u) result (Ok tt) }
+    ensures memory { IfErr result (λ e. is_memory e ≡ true) }
 {
     let size = sum(content.size, len)?;
     content.pieces.push(piece_of(owner, fragment))?;
     content.size = size;
     Ok(())
+}
+
+/// The place of the segment of a name, if there is one.
+fn place_of(names: &IndexSet<Vec<u8>>, name: &[u8]) -> Option<usize>
+    ensures place { result ≡ place_in name.now (map (λ n. n.items) names.now.keys) }
+    ensures within { IfSome result (λ i. i < length names.now.keys) }
+{
+    names.get_index_of(name)
+}
+
+/// Adds a segment that has nothing yet, of a new name.
+fn add_segment(growing: &mut Growing, name: &[u8]) -> Result<(), LinkFault>
+    requires named { AreNamed growing.old }
+    requires new { place_in name.now (names_in growing.old) ≡ None }
+    ensures added { OnOk result (growth_in growing.new ≡ having (growth_in growing.old) (segments_from growing.old.contents.items ++ empty_segment name.now ∷ [])) }
+    ensures names { OnOk result (names_in growing.new ≡ names_in growing.old ++ name.now ∷ []) }
+    ensures named { OnOk result (AreNamed growing.new) }
+    ensures memory { IfErr result (λ e. is_memory e ≡ true) }
+{
+    let alloc = growing.alloc;
+    let key = Vec::from_slice(alloc, name)?;
+    let name = copy_of(alloc, name)?;
+    growing.contents.push(Content {
+        name,
+        size: 0,
+        align: 1,
+        pieces: Sequence::new(alloc),
+    })?;
+    growing.names.insert(key)?;
+    Ok(())
+}
+
+/// The place of the segment of a name, which is begun where there is none.
+fn segment_at(growing: &mut Growing, name: &[u8]) -> Result<usize, LinkFault>
+    requires { AreNamed growing.old }
+    ensures added { OnOk result (growth_in growing.new ≡ having (growth_in growing.old) (with_name name.now (segments_from growing.old.contents.items))) }
+    ensures place { IfOk result (λ i. place_in name.now (names_in growing.new) ≡ Some i) }
+    ensures within { IfOk result (λ i. i < length growing.new.contents.items) }
+    ensures named { OnOk result (AreNamed growing.new) }
+    ensures memory { IfErr result (λ e. is_memory e ≡ true) }
+{
+    match place_of(&growing.names, name) {
+        Some(place) => Ok(place),
+        None => {
+            let place = growing.contents.len();
+            add_segment(growing, name)?;
+            Ok(place)
+        }
+    }
 }

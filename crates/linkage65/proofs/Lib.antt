@@ -10,4 +10,5 @@ pub mod FileLemmas
 pub mod ImageLemmas
 pub mod GrowingLaw
 pub mod PlaceOf
+pub mod Beginnings
 pub mod HoldingLemmas

@@ -184,3 +184,31 @@ fn segment_at(growing: &mut Growing, name: &[u8]) -> Result<usize, LinkFault>
         }
     }
 }
+
+/// An alignment as a number.
+fn multiple_of(align: u8) -> u32
+    requires { align ≤ 15 }
+    ensures value { result ≡ 2 ^ align }
+    ensures positive { 0 < result }
+{
+    1 << align
+}
+
+/// Begins a section of the open module, behind what its segment has.
+fn begin_section(growing: &mut Growing, name: Sequence<u8>, align: u8) -> Result<(), LinkFault>
+    requires named { AreNamed growing.old }
+    requires small { align ≤ 15 }
+    ensures begun { OnOk result (growth_in growing.new ≡ with_bare (growth_in growing.old) (bare_section name align)) }
+    ensures named { OnOk result (AreNamed growing.new) }
+    ensures memory { IfErr result (λ e. is_memory e ≡ true) }
+{
+    let at = segment_at(growing, name.as_slice())?;
+    let multiple = multiple_of(align);
+    let begin = open_section(&mut growing.contents[at], multiple)?;
+    growing.sections.push(SectionPlace {
+        segment: name,
+        offset: begin,
+        size: 0,
+    })?;
+    Ok(())
+}

@@ -1,10 +1,12 @@
 -- A section begins in its segment.
-use Rattle.std.proofs.Common.{◌≡◌, ◌∙◌, ◌+◌, ◌-◌, ◌^◌, ◌<◌, ℕ, List, [], ◌∷◌, ◌++◌, length, map, get_or, replicate, Option, Some, Ok, Result, refl, sym, ap, arith}
+use Rattle.std.proofs.Common.{◌≡◌, ◌∙◌, ◌+◌, ◌-◌, ◌^◌, ◌<◌, ℕ, List, [], ◌∷◌, ◌++◌, length, map, get_or, replicate, Option, Some, None, Ok, Result, refl, sym, ap, arith}
 use Rattle.std.specs.Prelude.{slice_get, slice_set, max}
 use Rattle.std.proofs.lemmas.List.{map-set}
 use Rattle.std.proofs.lemmas.Option.{slice_get-map, slice_get_read}
 use Rattle.std.specs.List.{flat_map}
 use Rattle.std.specs.Option.{option_map}
+use Rattle.object65.specs.declared.object.Fragment.{Fragment}
+use Rattle.object65.specs.Objects.{fragment_len}
 use Rattle.object65.proofs.Closings.{nil}
 use Rattle.script65.specs.Placing.{rounded_up}
 use Rattle.linkage65.specs.declared.contents.Content.{Content}
@@ -13,9 +15,9 @@ use Rattle.linkage65.specs.declared.growing.Growing.{Growing}
 use Rattle.linkage65.specs.declared.parts.SectionPlace.{SectionPlace}
 use Rattle.linkage65.specs.Contents.{cells_of, segment_from, segments_from}
 use Rattle.linkage65.specs.Grounds.{growth_in, having, names_in, place_in, with_gap, with_name}
-use Rattle.linkage65.specs.Growing.{Growth, bare_section, with_bare, with_segments}
+use Rattle.linkage65.specs.Growing.{Growth, bare_section, longer, with_bare, with_cells, with_more, with_part, with_segments}
 use Rattle.linkage65.specs.Segments
-use Rattle.linkage65.proofs.PlaceOf.{AtPlace, at_place, begun_end, begun_section, segment_names}
+use Rattle.linkage65.proofs.PlaceOf.{AtPlace, at_place, begun_end, begun_section, more_nowhere, segment_names}
 
 -- a segment with a bare section
 opened_is : (owner m : ℕ) (g h : Segments.Segment) (name : List ℕ) (align : ℕ) → m ≡ 2 ^ align → h ≡ record (with_gap (rounded_up g.size m - g.size) g) { size = rounded_up g.size m; align = max g.align m } → h ≡ Segments.grown owner g (bare_section name align)
@@ -61,3 +63,32 @@ bare_begun g mid at m begin c h name align grew named there within is multiple o
     ∙ ap (λ (hs : List Segments.Segment). put g hs (placed mid.sections.items begin)) now
     ∙ ap (λ (old : List SectionPlace). put g (Segments.with_section owner gs bare) (placed old begin)) places
     ∙ ap (λ b. put g (Segments.with_section owner gs bare) (placed g.sections b)) offset
+
+-- ---- A fragment goes to its section's segment.
+
+of_content : (r : Option Content) (s : Segments.Segment) → option_map segment_from r ≡ Some s → (x : Content) × (r ≡ Some x) × (segment_from x ≡ s)
+of_content (Some x) s e = (x, refl, some_same (segment_from x) s e)
+of_content None s e = cc
+
+pub part_added : (g : Growing) (k at : ℕ) (f : Fragment) (p : SectionPlace) (contents : List Content) (sections : List SectionPlace) → names_in g ≡ map (λ x. x.name) g.contents.items → slice_get g.sections.items k ≡ Some p → place_in p.segment (names_in g) ≡ Some at → ((x : Content) → slice_get g.contents.items at ≡ Some x → segments_from contents ≡ slice_set (segments_from g.contents.items) at (with_cells (fragment_len f) (Segments.fragment_cells (length g.members) f) (segment_from x))) → sections ≡ slice_set g.sections.items k (longer p (fragment_len f)) → put (growth_in g) (segments_from contents) sections ≡ with_part (growth_in g) k f (slice_get g.sections.items k)
+part_added g k at f p contents sections named there place added lengthened =
+    let cs = g.contents.items in
+    let len = fragment_len f in
+    let cells = Segments.fragment_cells (length g.members) f in
+    let a = at_place p.segment (segments_from cs) at (ap (place_in p.segment) (segment_names cs ∙ sym named) ∙ place) in
+    let x = of_content (slice_get cs at) a.segment (sym (slice_get-map segment_from cs at) ∙ a.there) in
+    ap (λ (hs : List Segments.Segment). put (growth_in g) hs sections) (added x.0 x.1 ∙ ap (λ (s : Segments.Segment). slice_set (segments_from cs) at (with_cells len cells s)) x.2 ∙ sym (a.more len cells))
+    ∙ ap (put (growth_in g) (with_more p.segment len cells (segments_from cs))) lengthened
+    ∙ sym (ap (with_part (growth_in g) k f) there)
+
+pub part_nowhere : (g : Growing) (k : ℕ) (f : Fragment) (p : SectionPlace) (sections : List SectionPlace) → names_in g ≡ map (λ x. x.name) g.contents.items → slice_get g.sections.items k ≡ Some p → place_in p.segment (names_in g) ≡ None → sections ≡ slice_set g.sections.items k (longer p (fragment_len f)) → put (growth_in g) (segments_from g.contents.items) sections ≡ with_part (growth_in g) k f (slice_get g.sections.items k)
+part_nowhere g k f p sections named there place lengthened =
+    let cs = g.contents.items in
+    let len = fragment_len f in
+    let cells = Segments.fragment_cells (length g.members) f in
+    ap (λ (hs : List Segments.Segment). put (growth_in g) hs sections) (sym (more_nowhere p.segment len cells (segments_from cs) (ap (place_in p.segment) (segment_names cs ∙ sym named) ∙ place)))
+    ∙ ap (put (growth_in g) (with_more p.segment len cells (segments_from cs))) lengthened
+    ∙ sym (ap (with_part (growth_in g) k f) there)
+
+pub same_content : (cs : List Content) (at : ℕ) (x y : Content) → at < length cs → x ≡ get_or cs at x → slice_get cs at ≡ Some y → x ≡ y
+same_content cs at x y within is there = some_same x y (sym (slice_get_read cs (length cs) at x refl within is) ∙ there)

@@ -1,14 +1,16 @@
 //! A program while its modules come, item by item.
 
-ghost use Rattle.std.specs.Prelude.{◌≡◌, ◌≤◌, ◌<◌, ◌+◌, ◌-◌, ◌^◌, ◌++◌, ◌∷◌, [], Ok, OnOk, IfErr, IfOk, IfSome, true, None, Some, length, map, max, position, replicate, slice_get};
+ghost use Rattle.std.specs.Prelude.{◌≡◌, ◌≤◌, ◌<◌, ◌+◌, ◌-◌, ◌^◌, ◌++◌, ◌∷◌, [], Ok, OnOk, IfErr, IfOk, IfSome, true, None, Some, length, map, max, position, replicate, slice_get, slice_set};
 ghost use Rattle.std.specs.Str.{bytes_eq};
 ghost use Rattle.object65.specs.Objects.{fragment_len};
 ghost use Rattle.script65.specs.Placing.{rounded_up};
 ghost use Rattle.syntax65.specs.Outcome.{Gives};
 ghost use Rattle.linkage65.specs.Contents.{cells_of, segment_from, segments_from};
+ghost use Rattle.linkage65.specs.declared.contents.Content.{Content};
+ghost use Rattle.linkage65.specs.declared.parts.SectionPlace.{SectionPlace};
 ghost use Rattle.linkage65.specs.Faults.{is_memory};
 ghost use Rattle.linkage65.specs.Grounds.{AreNamed, IsSmall, growth_in, having, names_in, place_in, with_gap, with_name};
-ghost use Rattle.linkage65.specs.Growing.{bare_section, grown_by, with_bare, with_cells, with_part};
+ghost use Rattle.linkage65.specs.Growing.{bare_section, grown_by, longer, with_bare, with_cells, with_part};
 ghost use Rattle.linkage65.specs.Segments.{empty_segment, filled, fragment_cells, grown};
 
 use crate::contents::{Content, Piece};
@@ -210,5 +212,86 @@ fn begin_section(growing: &mut Growing, name: Sequence<u8>, align: u8) -> Result
         offset: begin,
         size: 0,
     })?;
+    Ok(())
+}
+
+/// Adds a fragment to the segment at a place.
+fn add_at(
+    contents: &mut Vec<Content>,
+    at: usize,
+    owner: usize,
+    fragment: Fragment,
+) -> Result<(), LinkFault>
+    requires { at < length contents.old.items }
+    ensures grown { OnOk result ((c : Content) → slice_get contents.old.items at ≡ Some c → segments_from contents.new.items ≡ slice_set (segments_from contents.old.items) at (with_cells (fragment_len fragment) (fragment_cells owner fragment) (segment_from c))) }
+    ensures names { OnOk result (map (λ c. c.name) contents.new.items ≡ map (λ c. c.name) contents.old.items) }
+    ensures memory { IfErr result (λ e. is_memory e ≡ true) }
+{
+    let len = fragment_size(&fragment);
+    add_fragment(&mut contents[at], owner, len, fragment)?;
+    Ok(())
+}
+
+/// Makes the section at a place longer.
+fn lengthen(sections: &mut Vec<SectionPlace>, k: usize, len: u64) -> Result<(), LinkFault>
+    requires { k < length sections.old.items }
+    ensures longer { OnOk result ((p : SectionPlace) → slice_get sections.old.items k ≡ Some p → sections.new.items ≡ slice_set sections.old.items k (longer p len)) }
+    ensures memory { IfErr result (λ e. is_memory e ≡ true) }
+{
+    let place = &mut sections[k];
+    place.size = sum(place.size, len)?;
+    Ok(())
+}
+
+/// Adds a fragment of the open module's section at a place.
+fn add_part(growing: &mut Growing, k: usize, fragment: Fragment) -> Result<(), LinkFault>
+    requires { AreNamed growing.old }
+    ensures grown { OnOk result (growth_in growing.new ≡ with_part (growth_in growing.old) k fragment (slice_get growing.old.sections.items k)) }
+    ensures named { OnOk result (AreNamed growing.new) }
+    ensures memory { IfErr result (λ e. is_memory e ≡ true) }
+{
+    if k >= growing.sections.len() {
+        return Ok(());
+    }
+    let owner = growing.members.len();
+    let at = place_of(&growing.names, growing.sections[k].segment.as_slice());
+    lengthen(&mut growing.sections, k, fragment_size(&fragment))?;
+    match at {
+        Some(at) => {
+            add_at(&mut growing.contents, at, owner, fragment)?;
+            Ok(())
+        }
+        None => Ok(()),
+    }
+}
+
+/// Takes an item of the open module.
+pub fn take_item(growing: &mut Growing, item: Item) -> Result<(), LinkFault>
+    requires named { AreNamed growing.old }
+    requires small { IsSmall item }
+    ensures grown { OnOk result (growth_in growing.new ≡ grown_by (growth_in growing.old) item) }
+    ensures named { OnOk result (AreNamed growing.new) }
+    ensures memory { IfErr result (λ e. is_memory e ≡ true) }
+{
+    let owner = growing.members.len();
+    match item {
+        Item::Import(name) => growing.imports.push(name)?,
+        Item::Section(name, _, align) => begin_section(growing, name, align)?,
+        Item::Part(k, _, fragment) => add_part(growing, k, fragment)?,
+        Item::Export(name, line, form) => growing.exports.push(Exported {
+            owner,
+            name,
+            line,
+            form,
+        })?,
+        Item::Assert(action, line, text, form) => growing.asserts.push(Asserted {
+            owner,
+            action,
+            line,
+            text,
+            form,
+        })?,
+        Item::End => {}
+    }
     Ok(())
 }

@@ -10,7 +10,8 @@ ghost use Rattle.linkage65.specs.declared.contents.Content.{Content};
 ghost use Rattle.linkage65.specs.declared.parts.SectionPlace.{SectionPlace};
 ghost use Rattle.linkage65.specs.Faults.{is_memory};
 ghost use Rattle.linkage65.specs.Grounds.{AreNamed, IsSmall, growth_in, having, names_in, place_in, with_gap, with_name};
-ghost use Rattle.linkage65.specs.Growing.{bare_section, grown_by, longer, with_bare, with_cells, with_part};
+ghost use Rattle.linkage65.specs.Growing.{at_rest, bare_section, ended, grown_by, longer, with_bare, with_cells, with_part};
+ghost use Rattle.linkage65.specs.Programs.{no_program};
 ghost use Rattle.linkage65.specs.Segments.{empty_segment, filled, fragment_cells, grown};
 
 use crate::contents::{Content, Piece};
@@ -20,6 +21,7 @@ use crate::texts::copy_of;
 use indexmap::IndexSet;
 use object65::{Fragment, Item, Width};
 use std::alloc::Global;
+use std::mem;
 use syntax65::Sequence;
 
 /// The modules taken so far, and what the open one has put into segments, exports and assertions.
@@ -294,4 +296,39 @@ pub fn take_item(growing: &mut Growing, item: Item) -> Result<(), LinkFault>
         Item::End => {}
     }
     Ok(())
+}
+
+/// Ends the open module, which has this name.
+pub fn end_module(growing: &mut Growing, name: Sequence<u8>) -> Result<(), LinkFault>
+    requires { AreNamed growing.old }
+    ensures ended { OnOk result (growth_in growing.new ≡ at_rest (ended (growth_in growing.old) name)) }
+    ensures named { OnOk result (AreNamed growing.new) }
+    ensures memory { IfErr result (λ e. is_memory e ≡ true) }
+{
+    let alloc = growing.alloc;
+    let sections = mem::replace(&mut growing.sections, Vec::new(alloc));
+    let imports = mem::replace(&mut growing.imports, Sequence::new(alloc));
+    growing.members.push(Member {
+        name,
+        sections: Sequence::from_vec(sections),
+        imports,
+    })?;
+    Ok(())
+}
+
+/// A program that no module has been taken of.
+pub fn no_module(alloc: Global) -> Growing
+    ensures empty { growth_in result ≡ at_rest no_program }
+    ensures named { AreNamed result }
+{
+    Growing {
+        alloc,
+        members: Sequence::new(alloc),
+        names: IndexSet::new(alloc),
+        contents: Vec::new(alloc),
+        exports: Sequence::new(alloc),
+        asserts: Sequence::new(alloc),
+        sections: Vec::new(alloc),
+        imports: Sequence::new(alloc),
+    }
 }

@@ -9,3 +9,8 @@ pub mod LoadLemmas
 pub mod FileLemmas
 pub mod ImageLemmas
 pub mod HoldingLemmas
+pub mod WarningLemmas
+pub mod ZipLemmas
+pub mod PlaceLemmas
+pub mod HexLemmas
+pub mod LineLemmas

@@ -1,6 +1,7 @@
 pub mod Modules
 pub mod Segments
 pub mod Programs
+pub mod Lists
 pub mod Names
 pub mod Givers
 pub mod Values
@@ -18,3 +19,4 @@ pub mod Maps
 pub mod Faults
 pub mod Links
 pub mod Laws
+pub mod Resolving

@@ -37,7 +37,7 @@ fn stored(width: Width, value: i64) -> ArrayVec<u8, 4>
     }
 }
 
-fn or_zero(outcome: Result<i64, ValueFault>) -> i64
+pub fn or_zero(outcome: Result<i64, ValueFault>) -> i64
     ensures { result ≡ or_zero outcome }
 {
     match outcome {

@@ -14,3 +14,5 @@ pub mod ZipLemmas
 pub mod PlaceLemmas
 pub mod HexLemmas
 pub mod LineLemmas
+pub mod FinishLemmas
+pub mod OutcomeLemmas

@@ -20,3 +20,4 @@ pub mod Faults
 pub mod Links
 pub mod Laws
 pub mod Resolving
+pub mod Finishing

@@ -8,8 +8,10 @@ mod contents;
 mod evaluation;
 mod fault;
 mod files;
+mod finishing;
 mod holding;
 mod imaging;
+mod kept;
 pub mod laws;
 mod linked;
 mod mapping;
@@ -22,9 +24,16 @@ mod texts;
 mod warning;
 
 pub use contents::{Content, Piece};
-pub use evaluation::{Attempt, Evaluated, Mark, Stop};
+pub use evaluation::{Attempt, Evaluated, Mark, Stop, settle_all, value_in};
 pub use fault::{LinkFault, Site};
+pub use finishing::{Job, finish};
+pub use holding::Held;
+pub use kept::Kept;
 pub use linked::{Linked, LinkedFile};
+pub use naming::{definitions_of, weak_symbols};
+pub use needs::needs_of;
 pub use parts::{
     Asserted, Definition, Exported, Giver, Member, Resolved, SectionPlace, ValueFault, Waiting,
 };
+pub use resolving::{Addresses, Names, Places, resolve_all};
+pub use tables::Segments;

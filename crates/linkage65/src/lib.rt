@@ -37,3 +37,6 @@ pub use parts::{
 };
 pub use resolving::{Addresses, Names, Places, resolve_all};
 pub use tables::Segments;
+
+#[cfg(test)]
+mod tests;

@@ -12,3 +12,11 @@ pub mod GrowingLaw
 pub mod PlaceOf
 pub mod Beginnings
 pub mod HoldingLemmas
+pub mod WarningLemmas
+pub mod ZipLemmas
+pub mod PlaceLemmas
+pub mod HexLemmas
+pub mod LineLemmas
+pub mod FinishLemmas
+pub mod OutcomeLemmas
+pub mod LinkingLemmas

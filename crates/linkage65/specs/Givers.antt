@@ -1,12 +1,14 @@
 -- Who gives a name: a module that exports it, the script, or else the script's weak name.
-use Rattle.std.specs.Prelude.{ℕ, Bool, not, ◌||◌, List, [], ◌∷◌, ◌++◌, map, filter, find, position, Option, Some, None, if◌then◌else◌}
+use Rattle.std.specs.Prelude.{ℕ, pos, Bool, not, ◌||◌, List, [], ◌∷◌, ◌++◌, map, filter, slice_get, Option, Some, None, if◌then◌else◌}
 use Rattle.std.specs.List.{flat_map, list_any}
+use Rattle.std.specs.Option.{option_map_or}
 use Rattle.std.specs.Str.{bytes_eq}
 use Rattle.script65.specs.declared.script.Script.{Script}
 use Rattle.linkage65.specs.declared.parts.Definition.{Definition}
 use Rattle.linkage65.specs.declared.parts.Exported.{Exported}
 use Rattle.linkage65.specs.declared.parts.Giver.{Giver}
 use Rattle.linkage65.specs.declared.parts.Giver.TheVariants.{ByModule, ByScript, Nobody}
+use Rattle.linkage65.specs.Lists.{position_in}
 use Rattle.linkage65.specs.Names.{script_names, symbol_imports, weak_symbols}
 use Rattle.linkage65.specs.Programs.{Program}
 
@@ -46,19 +48,23 @@ unresolved s p = filter (λ name. not (is_given s p name)) (references s p)
 
 -- ---- Who gives a name.
 
-abbrev pub by_definition : Option Definition → Giver → Giver
-by_definition (Some d) other = ByScript d.value
-by_definition None other = other
+abbrev pub by_definition : List Definition → Option ℕ → Giver → Giver
+by_definition ds (Some i) other = ByScript (option_map_or (λ d. d.value) (slice_get ds i) (pos 0))
+by_definition ds None other = other
 
 abbrev pub by_export : Option ℕ → Giver → Giver
-by_export (Some k) other = ByModule k
+by_export (Some i) other = ByModule i
 by_export None other = other
 
-abbrev pub definition_of : List Definition → List ℕ → Option Definition
-definition_of ds name = find (λ d. bytes_eq d.name name) ds
+-- the place of the first definition of a name
+abbrev pub defined_at : List Definition → List ℕ → Option ℕ
+defined_at ds name = position_in (map (λ d. d.name) ds) name
+
+abbrev pub exported_at : List Exported → List ℕ → Option ℕ
+exported_at exports name = position_in (map (λ e. e.name) exports) name
 
 -- By the script's own definitions, the exports of modules and the script's weak names; an export is named by its
 -- place. No name is given twice among the first two.
 abbrev pub giver_of : List Definition → List Exported → List Definition → List ℕ → Giver
 giver_of own exports weak name =
-    by_definition (definition_of own name) (by_export (position (λ e. bytes_eq e.name name) exports) (by_definition (definition_of weak name) Nobody))
+    by_definition own (defined_at own name) (by_export (exported_at exports name) (by_definition weak (defined_at weak name) Nobody))

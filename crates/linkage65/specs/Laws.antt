@@ -1,5 +1,5 @@
 -- What holds of links, whatever the modules and the script are.
-use Rattle.std.specs.Prelude.{◌≡◌, ℕ, ℤ, List, get_or, Result, Ok, Err}
+use Rattle.std.specs.Prelude.{◌≡◌, ℕ, ℤ, List, Result}
 use Rattle.object65.specs.Form.{Form}
 use Rattle.script65.specs.declared.script.Script.{Script}
 use Rattle.linkage65.specs.declared.fault.LinkFault.{LinkFault}
@@ -7,15 +7,11 @@ use Rattle.linkage65.specs.declared.linked.Linked.{Linked}
 use Rattle.linkage65.specs.declared.parts.ValueFault.{ValueFault}
 use Rattle.linkage65.specs.Links.{LinkOf}
 use Rattle.linkage65.specs.Modules.{Module}
-use Rattle.linkage65.specs.Values.{AreExports, ComesTo, Linkage, in_table, value_by}
+use Rattle.linkage65.specs.Values.{ComesTo, Linkage}
 
 -- a link has one outcome
 abbrev pub OneOutcomeLaw : Type 0
 OneOutcomeLaw = (output : List ℕ) (s : Script) (modules : List Module) (r q : Result Linked LinkFault) → LinkOf output s modules r → LinkOf output s modules q → r ≡ q
-
--- a form comes to what it has by what its exports come to
-abbrev pub TableLaw : Type 0
-TableLaw = (l : Linkage) (table : List (Result ℤ ValueFault)) → AreExports l table → (owner : ℕ) (f : Form) → ComesTo l owner f (value_by l (in_table table) owner f)
 
 -- a form comes to one answer
 abbrev pub OneValueLaw : Type 0

@@ -2,6 +2,7 @@ pub mod Modules
 pub mod Segments
 pub mod Programs
 pub mod Growing
+pub mod Lists
 pub mod Names
 pub mod Givers
 pub mod Values
@@ -20,3 +21,5 @@ pub mod Maps
 pub mod Faults
 pub mod Links
 pub mod Laws
+pub mod Resolving
+pub mod Finishing

@@ -12,6 +12,7 @@ use Rattle.script65.specs.declared.script.Symbol.{Symbol}
 use Rattle.script65.specs.declared.script.SymbolKind.{SymbolKind}
 use Rattle.script65.specs.declared.script.SymbolKind.TheVariants as kind
 use Rattle.linkage65.specs.declared.parts.Definition.{Definition}
+use Rattle.linkage65.specs.Lists.{flat_zip}
 
 -- `__N_PART__`
 abbrev pub part_name : List ℕ → List ℕ → List ℕ
@@ -33,14 +34,10 @@ row_definitions r p =
     else []
 
 abbrev pub areas_definitions : List Area → List AreaPlace → List Definition
-areas_definitions (a ∷ as') (p ∷ ps) = area_definitions a p ++ areas_definitions as' ps
-areas_definitions [] ps = []
-areas_definitions (a ∷ as') [] = []
+areas_definitions areas places = flat_zip area_definitions areas places
 
 abbrev pub rows_definitions : List Row → List RowPlace → List Definition
-rows_definitions (r ∷ rs) (p ∷ ps) = row_definitions r p ++ rows_definitions rs ps
-rows_definitions [] ps = []
-rows_definitions (r ∷ rs) [] = []
+rows_definitions rows places = flat_zip row_definitions rows places
 
 abbrev pub export_definition : SymbolKind → List ℕ → List Definition
 export_definition (kind.Export n) name = record { name = name; value = cast_signed w64 n } ∷ []

@@ -11,7 +11,7 @@ ghost use Rattle.linkage65.specs.Values.{value_by};
 
 use crate::contents::Piece;
 use crate::evaluation::{Evaluated, value_in};
-use crate::parts::{ValueFault, Waiting};
+use crate::parts::{Asserted, ValueFault, Waiting};
 use crate::tables::Segments;
 use arrayvec::ArrayVec;
 use object65::{Width, fits, put};
@@ -24,6 +24,7 @@ use syntax65::Sequence;
 pub struct Held<'a> {
     pub program: Evaluated<'a>,
     pub segments: &'a Segments<'a>,
+    pub asserts: &'a [Asserted],
 }
 
 /// The bytes of a value, which has been found to fit.
@@ -37,7 +38,7 @@ fn stored(width: Width, value: i64) -> ArrayVec<u8, 4>
     }
 }
 
-fn or_zero(outcome: Result<i64, ValueFault>) -> i64
+pub fn or_zero(outcome: Result<i64, ValueFault>) -> i64
     ensures { result ≡ or_zero outcome }
 {
     match outcome {

@@ -1,7 +1,7 @@
 //! What holds of links, whatever the modules and the script are. Each function's contract is a law.
 
 ghost use Rattle.linkage65.specs.Growing.{GrowthLaw};
-ghost use Rattle.linkage65.specs.Laws.{OneValueLaw};
+ghost use Rattle.linkage65.specs.Laws.{OneOutcomeLaw, OneValueLaw};
 
 /// A form comes to one answer.
 pub fn one_value()
@@ -12,4 +12,9 @@ pub fn one_value()
 /// module stands behind the others.
 pub fn items_grow_a_program()
     ensures { GrowthLaw }
+{}
+
+/// A link has one outcome.
+pub fn one_outcome()
+    ensures { OneOutcomeLaw }
 {}

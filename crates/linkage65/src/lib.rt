@@ -8,23 +8,39 @@ mod contents;
 mod evaluation;
 mod fault;
 mod files;
+mod finishing;
 mod growing;
 mod holding;
 mod imaging;
+mod kept;
 pub mod laws;
 mod linked;
+mod linking;
+mod mapping;
 mod naming;
 mod needs;
 mod parts;
+mod resolving;
 mod tables;
 mod texts;
 mod warning;
 
 pub use contents::{Content, Piece};
-pub use evaluation::{Attempt, Evaluated, Mark, Stop};
+pub use evaluation::{Attempt, Evaluated, Mark, Stop, settle_all, value_in};
 pub use fault::{LinkFault, Site};
-pub use growing::Growing;
+pub use finishing::{Job, finish};
+pub use growing::{Growing, end_module, no_module, take_item};
+pub use holding::Held;
+pub use kept::Kept;
 pub use linked::{Linked, LinkedFile};
+pub use linking::link_placed;
+pub use naming::{definitions_of, weak_symbols};
+pub use needs::needs_of;
 pub use parts::{
     Asserted, Definition, Exported, Giver, Member, Resolved, SectionPlace, ValueFault, Waiting,
 };
+pub use resolving::{Addresses, Names, Places, resolve_all};
+pub use tables::Segments;
+
+#[cfg(test)]
+mod tests;

@@ -1,6 +1,7 @@
 //! The names that a script gives.
 
-ghost use Rattle.std.specs.Prelude.{◌≡◌, ◌++◌, IfOk, OnOk};
+ghost use Rattle.std.specs.Prelude.{◌≡◌, ◌++◌, IfOk, OnOk, slice_get};
+ghost use Rattle.linkage65.specs.Lists.{with_beside};
 ghost use Rattle.linkage65.specs.Names.{area_definitions, areas_definitions, export_definition, part, part_name, row_definitions, rows_definitions, script_definitions, symbol_exports, weak_definition, weak_symbols};
 
 use crate::parts::Definition;
@@ -44,6 +45,21 @@ fn add_area(
     Ok(())
 }
 
+/// Adds what an area defines, where it is placed.
+fn add_area_at(
+    alloc: Global,
+    definitions: &mut Sequence<Definition>,
+    area: &Area,
+    place: Option<AreaPlace>,
+) -> Result<(), AllocError>
+    ensures { OnOk result (definitions.new ≡ definitions.old ++ with_beside area_definitions area.now place) }
+{
+    match place {
+        Some(place) => add_area(alloc, definitions, area, place),
+        None => Ok(()),
+    }
+}
+
 /// Adds what a row defines.
 fn add_row(
     alloc: Global,
@@ -60,6 +76,21 @@ fn add_row(
         definitions.push(part_of(alloc, name, b"SIZE", place.size)?)?;
     }
     Ok(())
+}
+
+/// Adds what a row defines, where it is placed.
+fn add_row_at(
+    alloc: Global,
+    definitions: &mut Sequence<Definition>,
+    row: &Row,
+    place: Option<RowPlace>,
+) -> Result<(), AllocError>
+    ensures { OnOk result (definitions.new ≡ definitions.old ++ with_beside row_definitions row.now place) }
+{
+    match place {
+        Some(place) => add_row(alloc, definitions, row, place),
+        None => Ok(()),
+    }
 }
 
 /// Adds a symbol that the script exports.
@@ -98,6 +129,19 @@ fn add_weak(
     }
 }
 
+fn area_place(places: &[AreaPlace], i: usize) -> Option<AreaPlace>
+    ensures { result ≡ slice_get places.now i }
+{
+    places.get(i).copied()
+}
+
+/// Where the row at a place stands, if it is placed.
+pub fn row_place(places: &[RowPlace], i: usize) -> Option<RowPlace>
+    ensures { result ≡ slice_get places.now i }
+{
+    places.get(i).copied()
+}
+
 /// Adds what areas define.
 fn add_areas(
     alloc: Global,
@@ -107,8 +151,8 @@ fn add_areas(
 ) -> Result<(), AllocError>
     ensures { OnOk result (definitions.new ≡ definitions.old ++ areas_definitions areas.now places.now) }
 {
-    for (area, place) in areas.iter().zip(places.iter()) {
-        add_area(alloc, definitions, area, *place)?;
+    for (i, area) in areas.iter().enumerate() {
+        add_area_at(alloc, definitions, area, area_place(places, i))?;
     }
     Ok(())
 }
@@ -122,8 +166,8 @@ fn add_rows(
 ) -> Result<(), AllocError>
     ensures { OnOk result (definitions.new ≡ definitions.old ++ rows_definitions rows.now places.now) }
 {
-    for (row, place) in rows.iter().zip(places.iter()) {
-        add_row(alloc, definitions, row, *place)?;
+    for (i, row) in rows.iter().enumerate() {
+        add_row_at(alloc, definitions, row, row_place(places, i))?;
     }
     Ok(())
 }

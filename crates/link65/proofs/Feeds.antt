@@ -1,0 +1,125 @@
+-- What calls lead a linker to.
+use Rattle.std.proofs.Common.{◌≡◌, ◌∙◌, ℕ, List, [], ◌∷◌, ◌++◌, Some, None, Bool, true, false, Result, Ok, Err, if◌then◌else◌, refl, sym, ap, subst}
+use Rattle.object65.specs.declared.fault.ObjectFault.{ObjectFault}
+use Rattle.object65.specs.declared.item.Item.{Item}
+use Rattle.object65.specs.declared.object.Object.{Object}
+use Rattle.object65.specs.declared.item.Item.TheVariants as item
+use Rattle.object65.specs.declared.fault.ObjectFault.TheVariants as object
+use Rattle.syntax65.specs.Outcome.{Refuses, Unless}
+use Rattle.std.specs.Prelude.{IfErr, OnOk}
+use Rattle.object65.specs.Items.{with_item}
+use Rattle.object65.specs.Record.{Entry}
+use Rattle.object65.specs.Scanning.{IsWithin, Outline, outline_of, scanned}
+use Rattle.object65.specs.Taking
+use Rattle.object65.proofs.Builders.{reached_next}
+use Rattle.object65.proofs.Rooms.{bound}
+use Rattle.object65.proofs.Scannings.{Agrees, agrees}
+use Rattle.object65.proofs.Withins.{led}
+use Rattle.linkage65.specs.declared.fault.LinkFault.{LinkFault}
+use Rattle.linkage65.specs.declared.fault.LinkFault.TheVariants as fault
+use Rattle.linkage65.specs.Faults.{is_memory}
+use Rattle.linkage65.specs.Growing.{Growth, at_rest, ended, grown_by}
+use Rattle.linkage65.proofs.GrowingLaw.{growth_law}
+use Rattle.linkage65.specs.Grounds.{IsSmall}
+use Rattle.linkage65.specs.Modules.{Module}
+use Rattle.linkage65.specs.Programs.{Program, program_of, with_module, with_modules}
+use Rattle.link65.specs.Standing.{Comes, Feeding, IsFed, IsFeeding, Leads, Opened, as_link, module_of}
+
+-- ---- Items.
+
+-- what is within its limits is small
+pub small_item : (o : Outline) (i : Item) → IsWithin o i → IsSmall i
+small_item o (item.Import name) w = tt
+small_item o (item.Section name size align) w = w.1
+small_item o (item.Part k offset f) w = tt
+small_item o (item.Export name line form) w = tt
+small_item o (item.Assert action line text form) w = tt
+small_item o item.End w = tt
+
+-- ---- No records lead to a state that failed.
+
+item_fails : (s : Taking.State) (i : Item) → (with_item s i).failed ≡ s.failed
+item_fails s (item.Import name) = refl
+item_fails s (item.Section name size align) = refl
+item_fails s (item.Part k offset f) = refl
+item_fails s (item.Export name line form) = refl
+item_fails s (item.Assert action line text form) = refl
+item_fails s item.End = refl
+
+agreed_fails : (s t : Taking.State) (r : Result Taking.State ObjectFault) (q : Result (Outline × Item) ObjectFault) → Agrees s r q → r ≡ Ok t → t.failed ≡ s.failed
+agreed_fails s t (Ok u) (Ok x) a h = let same : u ≡ t = cc in ap (λ (v : Taking.State). v.failed) (sym same ∙ a.1) ∙ item_fails s x.1
+agreed_fails s t (Ok u) (Err f) a h = absurd a
+agreed_fails s t (Err f) q a h = absurd cc
+
+next_fails : (s t : Taking.State) (e : Entry) → Taking.after s e ≡ Ok t → t.failed ≡ s.failed
+next_fails s t e h = agreed_fails s t (Taking.after s e) (scanned (outline_of s) e) (agrees s e) h
+
+all_fails : (s t : Taking.State) (es : List Entry) → Taking.after_all s es ≡ Ok t → t.failed ≡ s.failed
+all_fails s t [] h = let same : s ≡ t = cc in ap (λ (v : Taking.State). v.failed) (sym same)
+all_fails s t (e ∷ es) h = let u = bound (Taking.after s e) _ _ h in all_fails u.0 t es u.2 ∙ next_fails s u.0 e u.1
+
+pub reached_runs : (s : Taking.State) → Taking.IsReached s → s.failed ≡ false
+reached_runs s r = all_fails Taking.start s r.records r.stands
+
+-- ---- Modules.
+
+with_last : (p : Program) (ms : List Module) (m : Module) → with_modules p (ms ++ m ∷ []) ≡ with_module (with_modules p ms) m
+with_last p [] m = refl
+with_last p (x ∷ ms) m = with_last (with_module p x) ms m
+
+-- the program of modules with one more behind them
+pub one_more : (ms : List Module) (m : Module) → program_of (ms ++ m ∷ []) ≡ with_module (program_of ms) m
+one_more ms m = with_last _ ms m
+
+-- ---- Calls.
+
+out_of_memory : {A : Type 0} (f : LinkFault) (read : Result A LinkFault) → is_memory f ≡ true → Refuses is_memory f read
+out_of_memory f read m = subst (λ b. Unless b (read ≡ Err f)) (sym m) tt
+
+-- an item of the open module leads on as its record does
+pub took : (p : Program) (s : Taking.State) (e : Entry) (old new : Growth) (o n : Outline) (i : Item) → Comes p s old o → scanned o e ≡ Ok (n, i) → new ≡ grown_by old i → (t : Taking.State) × (as_link (Taking.after s e) ≡ Ok t) × Comes p t new n
+took p s e old new o n i h scan grown =
+    let t = with_item s i in
+    let l = led s o e (n, i) h.scan scan in
+    let law = growth_law.0 p s e (n, i) h.reached (ap (λ q. scanned q e) (sym h.scan) ∙ scan) in (
+      t,
+      ap as_link l.0,
+      record {
+        growth = grown ∙ ap (λ g. grown_by g i) h.growth ∙ sym law;
+        scan = l.1;
+        reached = reached_next s t e h.reached l.0;
+      },
+    )
+
+finishes : (s : Taking.State) (b : Bool) → s.failed ≡ false → s.ended ≡ b → Taking.finished s ≡ (if b then Ok (Taking.object_from s) else Err object.CutShort)
+finishes s b runs e =
+    ap (λ c. if c then Err object.FailedBefore else (if s.ended then Ok (Taking.object_from s) else Err object.CutShort)) runs
+    ∙ ap (λ c. if c then Ok (Taking.object_from s) else Err object.CutShort) e
+
+-- a module whose END has come stands behind the others
+pub closed_whole : (p : Program) (s : Taking.State) (old new : Growth) (o : Outline) (name : List ℕ) (r : Result (Unit {0}) LinkFault) → Comes p s old o → o.ended ≡ true → OnOk r (new ≡ at_rest (ended old name)) → IfErr r (λ f. is_memory f ≡ true) → Leads (λ object. new ≡ at_rest (with_module p (module_of name object))) r (as_link (Taking.finished s))
+closed_whole p s old new o name (Ok u) h end grown memory =
+    let whole = finishes s true (reached_runs s h.reached) (ap (λ (q : Outline). q.ended) (sym h.scan) ∙ end) in
+    (Taking.object_from s, ap as_link whole, grown ∙ ap (λ g. at_rest (ended g name)) h.growth ∙ ap at_rest (growth_law.2 p name s))
+closed_whole p s old new o name (Err f) h end grown memory = out_of_memory f _ memory
+
+-- one whose END hasn't come is cut short
+pub cut_short : (p : Program) (s : Taking.State) (old : Growth) (o : Outline) (f : LinkFault) → Comes p s old o → o.ended ≡ false → f ≡ fault.Object object.CutShort → Refuses is_memory f (as_link (Taking.finished s))
+cut_short p s old o f h going is =
+    let cut = finishes s false (reached_runs s h.reached) (ap (λ (q : Outline). q.ended) (sym h.scan) ∙ going) in
+    subst (λ g. Refuses is_memory g (as_link (Taking.finished s))) (sym is) (ap as_link cut)
+
+-- what a linker stands for has come of the open module
+coming : (f : Feeding) (modules : List Module) (name : List ℕ) (s : Taking.State) (g : Growth) (o : Opened) → f.growth ≡ g → f.opened ≡ Some o → IsFeeding f modules name s → Comes (program_of modules) s g o.scan × (o.name ≡ name)
+coming f modules name s g o grown there h =
+    let same : o ≡ record { name = name; scan = outline_of s } = let k = h.opened in cc in
+    (record { growth = sym grown ∙ h.growth; scan = ap (λ (m : Opened). m.scan) same; reached = h.reached }, ap (λ (m : Opened). m.name) same)
+
+-- the module that ends stands behind the others
+pub ended_next : (old new : Feeding) (modules : List Module) (name : List ℕ) (s : Taking.State) (g : Growth) (o : Opened) → old.growth ≡ g → old.opened ≡ Some o → new.opened ≡ None → new.failed ≡ false → ((p : Program) (t : Taking.State) → Comes p t g o.scan → (x : Object) × (as_link (Taking.finished t) ≡ Ok x) × (new.growth ≡ at_rest (with_module p (module_of o.name x)))) → IsFeeding old modules name s → (x : Object) × (as_link (Taking.finished s) ≡ Ok x) × IsFed new (modules ++ module_of name x ∷ [])
+ended_next old new modules name s g o grown there none runs ends h =
+    let come = coming old modules name s g o grown there h in
+    let end = ends (program_of modules) s come.0 in
+    let object = end.0 in
+    let behind = ap (λ n. at_rest (with_module (program_of modules) (module_of n object))) come.1 ∙ ap at_rest (sym (one_more modules (module_of name object))) in
+    (object, end.1, record { growth = end.2 ∙ behind; opened = none; failed = runs })

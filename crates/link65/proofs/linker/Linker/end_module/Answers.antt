@@ -1,0 +1,15 @@
+use Rattle.std.proofs.Common.{◌∙◌, ap, sym, refl}
+use Rattle.linkage65.specs.Grounds.{growth_in}
+use Rattle.link65.specs.Fields.{opened_in}
+use Rattle.link65.specs.Standing.{Feeding}
+use Rattle.link65.proofs.Feeds.{ended_next}
+use Rattle.link65.proofs.linker.Linker.end_module.Goals as goal
+
+pub returns-in-Ok-clause-ended : goal.returns-in-Ok-clause-ended
+returns-in-Ok-clause-ended c = λ modules name s feeding.
+    let l = c.self.inside in
+    let o = c.in-Some.opened in
+    ended_next c.args.self.now _ modules name s (growth_in l.growing) (record { name = o.name; scan = o.scan })
+    (ap (λ (f : Feeding). f.growth) (sym c.self.view_is))
+    (ap (λ (f : Feeding). f.opened) (sym c.self.view_is) ∙ ap opened_in c.in-Some.is)
+    refl c.if-self.false c.in-Ok.ensures.ended feeding

@@ -1,0 +1,180 @@
+//! The linker.
+
+ghost use Rattle.std.specs.Prelude.{◌≡◌, ◌+◌, ◌++◌, ◌∷◌, [], None, Err, IfErr, IfOk, OnErr, OnOk, List, ℕ, true, false};
+ghost use Rattle.object65.specs.Record.{entry_of};
+ghost use Rattle.object65.specs.Taking.{State, after, finished, start};
+ghost use Rattle.linkage65.specs.Faults.{is_memory};
+ghost use Rattle.linkage65.specs.Modules.{Module};
+ghost use Rattle.link65.specs.Standing.{IsFed, IsFeeding, IsRefused, Keeps, Leads, as_link, is_open, module_of, values_in};
+
+use crate::feeding::{close_module, open_module, take_record};
+use crate::open::Open;
+use linkage65::{Growing, LinkFault, no_module};
+use object65::Record;
+use script65::Script;
+use std::alloc::Global;
+use std::marker::Model;
+use syntax65::Text;
+
+/// A linker, which stands for the modules that were fed and the records so far of the one that is open. It keeps
+/// what they put into segments, exports and assertions, and no module or record.
+pub struct Linker {
+    script: Script,
+    /// The name of the file that is linked.
+    output: Text,
+    growing: Growing,
+    opened: Option<Open>,
+    /// How many values were taken.
+    pending: usize,
+    failed: bool,
+}
+
+impl Model for Linker {
+    ghost use Rattle.std.specs.Prelude.{◌≡◌, false};
+    ghost use Rattle.std.specs.Coded.{codes};
+    ghost use Rattle.object65.specs.Form.{form_code};
+    ghost use Rattle.linkage65.specs.Grounds.{AreNamed, growth_in};
+    ghost use Rattle.link65.specs.Standing.{Feeding};
+    ghost use Rattle.link65.specs.Fields.{opened_in};
+
+    ghost Value = { Feeding };
+
+    ghost coded = { Prim.hlevel (codes, form_code) };
+
+    ghost view = { λ l. record { script = l.script; output = l.output; growth = growth_in l.growing; opened = opened_in l.opened; pending = l.pending; failed = l.failed } };
+
+    ghost invariant = { λ l. l.failed ≡ false → AreNamed l.growing };
+}
+
+impl Drop for Linker {
+    fn drop(self) {
+        let Linker {
+            script: _,
+            output: _,
+            growing: _,
+            opened: _,
+            pending: _,
+            failed: _,
+        } = self;
+    }
+}
+
+impl Linker {
+    /// A linker that no module was fed to. The output is the name of the file that is linked.
+    pub fn new(alloc: Global, script: Script, output: &str) -> Result<Self, LinkFault>
+        ensures fed { IfOk result (λ l. IsFed l []) }
+        ensures script { IfOk result (λ l. l.script ≡ script) }
+        ensures output { IfOk result (λ l. l.output ≡ output.now) }
+        ensures pending { IfOk result (λ l. l.pending ≡ 0) }
+        ensures memory { IfErr result (λ e. is_memory e ≡ true) }
+    {
+        let output = Text::copy_of(alloc, output)?;
+        Ok(Linker {
+            script,
+            output,
+            growing: no_module(alloc),
+            opened: None,
+            pending: 0,
+            failed: false,
+        })
+    }
+
+    /// Whether a module is open.
+    pub fn is_open(&self) -> bool
+        ensures { result ≡ is_open self.now }
+    {
+        self.opened.is_some()
+    }
+
+    /// How many values were taken.
+    pub fn pending(&self) -> usize
+        ensures { result ≡ self.now.pending }
+    {
+        self.pending
+    }
+
+    /// Opens a module of this name, where none is open. After a refusal each call answers that it failed before.
+    pub fn begin_module(&mut self, name: &[u8]) -> Result<(), LinkFault>
+        requires { is_open self.old ≡ false }
+        ensures begun { (modules : List Module) → IsFed self.old modules → OnOk result (IsFeeding self.new modules name.now start) }
+        ensures memory { self.old.failed ≡ false → IfErr result (λ e. is_memory e ≡ true) }
+        ensures opened { OnOk result (is_open self.new ≡ true) }
+        ensures pending { OnOk result (self.new.pending ≡ self.old.pending) }
+        ensures keeps { Keeps self.old self.new }
+        ensures refused { OnErr result (IsRefused self.old self.new) }
+        ensures again { self.old.failed ≡ true → result ≡ Err LinkFault.FailedBefore }
+    {
+        if self.failed {
+            return Err(LinkFault::FailedBefore);
+        }
+        match open_module(self.growing.alloc, name) {
+            Ok(opened) => {
+                self.opened = Some(opened);
+                Ok(())
+            }
+            Err(e) => {
+                self.failed = true;
+                Err(e)
+            }
+        }
+    }
+
+    /// Takes the next record of the module that is open, which has to be one. After a refusal each call answers that
+    /// it failed before.
+    pub fn record(&mut self, next: &Record) -> Result<(), LinkFault>
+        requires { is_open self.old ≡ true }
+        // For all modules and records that it stands for, it stands for the record behind them too.
+        ensures taken { (modules : List Module) (name : List ℕ) (s : State) → IsFeeding self.old modules name s → Leads (IsFeeding self.new modules name) result (as_link (after s (entry_of next.now))) }
+        ensures opened { is_open self.new ≡ true }
+        ensures pending { OnOk result (self.new.pending ≡ self.old.pending + values_in (entry_of next.now)) }
+        ensures keeps { Keeps self.old self.new }
+        ensures refused { OnErr result (IsRefused self.old self.new) }
+        ensures again { self.old.failed ≡ true → result ≡ Err LinkFault.FailedBefore }
+    {
+        if self.failed {
+            return Err(LinkFault::FailedBefore);
+        }
+        match &mut self.opened {
+            Some(opened) => {
+                match take_record(&mut self.growing, opened, &mut self.pending, next) {
+                    Ok(()) => Ok(()),
+                    Err(e) => {
+                        self.failed = true;
+                        Err(e)
+                    }
+                }
+            }
+            None => unreachable!(),
+        }
+    }
+
+    /// Ends the module that is open, which has to be one: it is cut short where its END did not come. After a refusal
+    /// each call answers that it failed before.
+    pub fn end_module(&mut self) -> Result<(), LinkFault>
+        requires { is_open self.old ≡ true }
+        // For all modules and records that it stands for, it stands for the modules with this one behind them.
+        ensures ended { (modules : List Module) (name : List ℕ) (s : State) → IsFeeding self.old modules name s → Leads (λ object. IsFed self.new (modules ++ module_of name object ∷ [])) result (as_link (finished s)) }
+        ensures opened { OnOk result (is_open self.new ≡ false) }
+        ensures pending { OnOk result (self.new.pending ≡ self.old.pending) }
+        ensures keeps { Keeps self.old self.new }
+        ensures refused { OnErr result (IsRefused self.old self.new) }
+        ensures again { self.old.failed ≡ true → result ≡ Err LinkFault.FailedBefore }
+    {
+        if self.failed {
+            return Err(LinkFault::FailedBefore);
+        }
+        match &mut self.opened {
+            Some(opened) => match close_module(&mut self.growing, opened) {
+                Ok(()) => {
+                    self.opened = None;
+                    Ok(())
+                }
+                Err(e) => {
+                    self.failed = true;
+                    Err(e)
+                }
+            },
+            None => unreachable!(),
+        }
+    }
+}

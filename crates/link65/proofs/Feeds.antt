@@ -23,7 +23,8 @@ use Rattle.linkage65.proofs.GrowingLaw.{growth_law}
 use Rattle.linkage65.specs.Grounds.{IsSmall}
 use Rattle.linkage65.specs.Modules.{Module}
 use Rattle.linkage65.specs.Programs.{Program, program_of, with_module, with_modules}
-use Rattle.link65.specs.Standing.{Comes, Feeding, IsFed, IsFeeding, Leads, Opened, as_link, module_of}
+use Rattle.link65.specs.Fields.{Comes}
+use Rattle.link65.specs.Standing.{Feeding, IsFed, IsFeeding, Leads, Opened, as_link, module_of}
 
 -- ---- Items.
 

@@ -1,18 +1,18 @@
 -- What a linker stands for: the modules that it was fed, and the records so far of the one that is open.
-use Rattle.std.specs.Prelude.{◌≡◌, ℕ, List, Option, Some, None, is_some, Bool, true, false, Result, Ok, Err, ◌==◌, if◌then◌else◌}
+use Rattle.std.specs.Prelude.{◌≡◌, ◌++◌, ◌∷◌, [], ℕ, List, Option, Some, None, is_some, Bool, true, false, Result, Ok, Err, OnOk, ◌==◌, if◌then◌else◌}
 use Rattle.syntax65.specs.Outcome.{Refuses}
 use Rattle.object65.specs.declared.fault.ObjectFault.{ObjectFault}
 use Rattle.object65.specs.declared.object.Object.{Object}
 use Rattle.object65.specs.Record.{Entry}
 use Rattle.object65.specs.Scanning.{Outline, outline_of}
-use Rattle.object65.specs.Taking.{IsReached, State}
+use Rattle.object65.specs.Taking.{IsReached, State, after, finished, start}
 use Rattle.script65.specs.declared.script.Script.{Script}
 use Rattle.linkage65.specs.declared.fault.LinkFault.{LinkFault}
 use Rattle.linkage65.specs.declared.fault.LinkFault.TheVariants as fault
 use Rattle.linkage65.specs.Faults.{is_memory}
 use Rattle.linkage65.specs.Growing.{Growth, at_rest, growth_of}
 use Rattle.linkage65.specs.Modules.{Module}
-use Rattle.linkage65.specs.Programs.{Program, program_of}
+use Rattle.linkage65.specs.Programs.{program_of}
 
 -- a module that is open: its name, and what is kept of its records beside what grows
 pub record Opened : Type 0 where
@@ -48,12 +48,6 @@ pub record IsFeeding (f : Feeding) (modules : List Module) (name : List ℕ) (s 
   pub reached : IsReached s
   pub failed : f.failed ≡ false
 
--- so much of a module has come behind a program
-pub record Comes (p : Program) (s : State) (g : Growth) (o : Outline) : Type 0 where
-  pub growth : g ≡ growth_of p s
-  pub scan : o ≡ outline_of s
-  pub reached : IsReached s
-
 abbrev pub module_of : List ℕ → Object → Module
 module_of name object = record { name = name; object = object }
 
@@ -83,3 +77,21 @@ pub record IsRefused (old new : Feeding) : Type 0 where
 pub record Keeps (old new : Feeding) : Type 0 where
   pub script : new.script ≡ old.script
   pub output : new.output ≡ old.output
+
+-- ---- Calls, for all modules and records that the linker stands for.
+
+-- a module of this name begins
+abbrev pub Begins : List ℕ → Feeding → Feeding → Result (Unit {0}) LinkFault → Type 0
+Begins name old new r = (modules : List Module) → IsFed old modules → OnOk r (IsFeeding new modules name start)
+
+-- a record comes behind those of the open module
+abbrev pub Continues : Entry → Feeding → Feeding → Result (Unit {0}) LinkFault → Type 0
+Continues e old new r =
+    (modules : List Module) (name : List ℕ) (s : State) → IsFeeding old modules name s
+    → Leads (IsFeeding new modules name) r (as_link (after s e))
+
+-- the open module comes behind the others
+abbrev pub Ends : Feeding → Feeding → Result (Unit {0}) LinkFault → Type 0
+Ends old new r =
+    (modules : List Module) (name : List ℕ) (s : State) → IsFeeding old modules name s
+    → Leads (λ object. IsFed new (modules ++ module_of name object ∷ [])) r (as_link (finished s))

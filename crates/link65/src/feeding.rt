@@ -3,13 +3,12 @@
 ghost use Rattle.std.specs.Prelude.{◌≡◌, ◌+◌, Ok, OnErr, OnOk, IfErr, IfOk, true};
 ghost use Rattle.object65.specs.Record.{entry_of};
 ghost use Rattle.object65.specs.Scanning.{outline_of};
-ghost use Rattle.object65.specs.Taking.{IsReached, State, after, finished, start};
+ghost use Rattle.object65.specs.Taking.{start};
 ghost use Rattle.syntax65.specs.Outcome.{Gives};
 ghost use Rattle.linkage65.specs.Faults.{is_memory};
 ghost use Rattle.linkage65.specs.Grounds.{AreNamed, growth_in};
-ghost use Rattle.linkage65.specs.Growing.{at_rest, growth_of};
-ghost use Rattle.linkage65.specs.Programs.{Program, with_module};
-ghost use Rattle.link65.specs.Standing.{Comes, Leads, as_link, module_of, values_in};
+ghost use Rattle.link65.specs.Fields.{Closes, Grows};
+ghost use Rattle.link65.specs.Standing.{values_in};
 
 use crate::open::Open;
 use linkage65::{Growing, LinkFault, end_module, take_item};
@@ -55,7 +54,7 @@ pub fn take_record(
     next: &Record,
 ) -> Result<(), LinkFault>
     requires { AreNamed growing.old }
-    ensures taken { (p : Program) (s : State) → Comes p s (growth_in growing.old) opened.old.scan → Leads (λ t. Comes p t (growth_in growing.new) opened.new.scan) result (as_link (after s (entry_of next.now))) }
+    ensures taken { Grows (entry_of next.now) (growth_in growing.old) (growth_in growing.new) opened.old.scan opened.new.scan result }
     ensures name { opened.new.name ≡ opened.old.name }
     ensures counted { OnOk result (pending.new ≡ pending.old + values_in (entry_of next.now)) }
     ensures uncounted { OnErr result (pending.new ≡ pending.old) }
@@ -71,7 +70,7 @@ pub fn take_record(
 /// Ends the open module.
 pub fn close_module(growing: &mut Growing, opened: &mut Open) -> Result<(), LinkFault>
     requires { AreNamed growing.old }
-    ensures ended { (p : Program) (s : State) → Comes p s (growth_in growing.old) opened.old.scan → Leads (λ object. growth_in growing.new ≡ at_rest (with_module p (module_of opened.old.name object))) result (as_link (finished s)) }
+    ensures ended { Closes (growth_in growing.old) (growth_in growing.new) opened.old result }
     ensures named { OnOk result (AreNamed growing.new) }
 {
     if !opened.scan.is_ended() {

@@ -7,3 +7,6 @@ mod open;
 
 pub use linkage65::{LinkFault, Site};
 pub use linker::Linker;
+
+#[cfg(test)]
+mod tests;

@@ -1,11 +1,9 @@
 //! The linker.
 
-ghost use Rattle.std.specs.Prelude.{◌≡◌, ◌+◌, ◌++◌, ◌∷◌, [], None, Err, IfErr, IfOk, OnErr, OnOk, List, ℕ, true, false};
+ghost use Rattle.std.specs.Prelude.{◌≡◌, ◌+◌, [], Err, IfErr, IfOk, OnErr, OnOk, true, false};
 ghost use Rattle.object65.specs.Record.{entry_of};
-ghost use Rattle.object65.specs.Taking.{State, after, finished, start};
 ghost use Rattle.linkage65.specs.Faults.{is_memory};
-ghost use Rattle.linkage65.specs.Modules.{Module};
-ghost use Rattle.link65.specs.Standing.{IsFed, IsFeeding, IsRefused, Keeps, Leads, as_link, is_open, module_of, values_in};
+ghost use Rattle.link65.specs.Standing.{Begins, Continues, Ends, IsFed, IsRefused, Keeps, is_open, values_in};
 
 use crate::feeding::{close_module, open_module, take_record};
 use crate::open::Open;
@@ -96,7 +94,7 @@ impl Linker {
     /// Opens a module of this name, where none is open. After a refusal each call answers that it failed before.
     pub fn begin_module(&mut self, name: &[u8]) -> Result<(), LinkFault>
         requires { is_open self.old ≡ false }
-        ensures begun { (modules : List Module) → IsFed self.old modules → OnOk result (IsFeeding self.new modules name.now start) }
+        ensures begun { Begins name.now self.old self.new result }
         ensures memory { self.old.failed ≡ false → IfErr result (λ e. is_memory e ≡ true) }
         ensures opened { OnOk result (is_open self.new ≡ true) }
         ensures pending { OnOk result (self.new.pending ≡ self.old.pending) }
@@ -123,8 +121,7 @@ impl Linker {
     /// it failed before.
     pub fn record(&mut self, next: &Record) -> Result<(), LinkFault>
         requires { is_open self.old ≡ true }
-        // For all modules and records that it stands for, it stands for the record behind them too.
-        ensures taken { (modules : List Module) (name : List ℕ) (s : State) → IsFeeding self.old modules name s → Leads (IsFeeding self.new modules name) result (as_link (after s (entry_of next.now))) }
+        ensures taken { Continues (entry_of next.now) self.old self.new result }
         ensures opened { is_open self.new ≡ true }
         ensures pending { OnOk result (self.new.pending ≡ self.old.pending + values_in (entry_of next.now)) }
         ensures keeps { Keeps self.old self.new }
@@ -152,8 +149,7 @@ impl Linker {
     /// each call answers that it failed before.
     pub fn end_module(&mut self) -> Result<(), LinkFault>
         requires { is_open self.old ≡ true }
-        // For all modules and records that it stands for, it stands for the modules with this one behind them.
-        ensures ended { (modules : List Module) (name : List ℕ) (s : State) → IsFeeding self.old modules name s → Leads (λ object. IsFed self.new (modules ++ module_of name object ∷ [])) result (as_link (finished s)) }
+        ensures ended { Ends self.old self.new result }
         ensures opened { OnOk result (is_open self.new ≡ false) }
         ensures pending { OnOk result (self.new.pending ≡ self.old.pending) }
         ensures keeps { Keeps self.old self.new }

@@ -80,13 +80,13 @@ fn counts_the_values(rt: HostRuntime) -> Result<(), Fail> {
 }
 
 /// Whether the call was refused because the object is cut short.
-fn is_cut_short(result: Result<(), LinkFault>) -> bool {
-    matches!(result, Err(LinkFault::Object(ObjectFault::CutShort)))
+fn is_cut_short(answer: Result<(), LinkFault>) -> bool {
+    matches!(answer, Err(LinkFault::Object(ObjectFault::CutShort)))
 }
 
 /// Whether the call was refused because one before it was.
-fn is_failed_before(result: Result<(), LinkFault>) -> bool {
-    matches!(result, Err(LinkFault::FailedBefore))
+fn is_failed_before(answer: Result<(), LinkFault>) -> bool {
+    matches!(answer, Err(LinkFault::FailedBefore))
 }
 
 #[test]

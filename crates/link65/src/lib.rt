@@ -2,6 +2,7 @@
 #![tactic(auto)]
 
 mod feeding;
+mod given;
 mod linker;
 mod open;
 

@@ -19,4 +19,3 @@ pub mod HexLemmas
 pub mod LineLemmas
 pub mod FinishLemmas
 pub mod OutcomeLemmas
-pub mod LinkingLemmas

@@ -19,3 +19,4 @@ pub mod HexLemmas
 pub mod LineLemmas
 pub mod FinishLemmas
 pub mod OutcomeLemmas
+pub mod LinkingLemmas

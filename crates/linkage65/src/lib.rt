@@ -15,6 +15,7 @@ mod imaging;
 mod kept;
 pub mod laws;
 mod linked;
+mod linking;
 mod mapping;
 mod naming;
 mod needs;
@@ -32,6 +33,7 @@ pub use growing::{Growing, end_module, no_module, take_item};
 pub use holding::Held;
 pub use kept::Kept;
 pub use linked::{Linked, LinkedFile};
+pub use linking::link_placed;
 pub use naming::{definitions_of, weak_symbols};
 pub use needs::needs_of;
 pub use parts::{

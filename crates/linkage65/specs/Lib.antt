@@ -23,3 +23,4 @@ pub mod Links
 pub mod Laws
 pub mod Resolving
 pub mod Finishing
+pub mod Missing

@@ -21,3 +21,4 @@ pub mod FinishLemmas
 pub mod OutcomeLemmas
 pub mod LinkingLemmas
 pub mod MissingLemmas
+pub mod GivenLemmas

@@ -24,3 +24,4 @@ pub mod Laws
 pub mod Resolving
 pub mod Finishing
 pub mod Missing
+pub mod GivenTwice

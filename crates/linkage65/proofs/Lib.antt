@@ -20,3 +20,5 @@ pub mod LineLemmas
 pub mod FinishLemmas
 pub mod OutcomeLemmas
 pub mod LinkingLemmas
+pub mod MissingLemmas
+pub mod GivenLemmas

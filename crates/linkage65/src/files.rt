@@ -69,7 +69,7 @@ impl<'a> Files<'a> {
         alloc: Global,
         name: &'a str,
         area: &Area,
-        held: &Held<'_>,
+        held: &Held<'_, '_>,
         loads: &[Load<'_>],
     ) -> Result<(), AllocError>
         requires named { AreNamed self.old }
@@ -97,7 +97,7 @@ pub fn files_of(
     alloc: Global,
     output: &str,
     script: &Script,
-    held: &Held<'_>,
+    held: &Held<'_, '_>,
     places: &[RowPlace],
 ) -> Result<Sequence<LinkedFile>, AllocError>
     requires { IsReady held.now }

@@ -33,7 +33,7 @@ pub struct Job<'a> {
 }
 
 /// What is warned of assertions, where data, exports and assertions pass.
-fn check_all(alloc: Global, script: &Script, held: &Held<'_>) -> Result<Sequence<u8>, LinkFault>
+fn check_all(alloc: Global, script: &Script, held: &Held<'_, '_>) -> Result<Sequence<u8>, LinkFault>
     requires { IsReady held.now }
     ensures { Gives is_memory (λ text. text) result (checked script.now (program_in held.now) (linkage_in held.now.program) (exports_in held.now.program)) }
 {
@@ -46,7 +46,7 @@ fn map_text(
     alloc: Global,
     job: &Job<'_>,
     names: &Names<'_>,
-    held: &Held<'_>,
+    held: &Held<'_, '_>,
 ) -> Result<Sequence<u8>, AllocError>
     requires { AreOf job.now names.now held.now }
     ensures { IfOk result (λ text. text ≡ map_text job.now.script.now (program_in held.now) job.now.placement.now (linkage_in held.now.program) (exports_in held.now.program)) }
@@ -73,7 +73,7 @@ fn image(
     alloc: Global,
     job: &Job<'_>,
     names: &Names<'_>,
-    held: &Held<'_>,
+    held: &Held<'_, '_>,
     assertions: &[u8],
 ) -> Result<Linked, AllocError>
     requires { AreOf job.now names.now held.now }
@@ -98,7 +98,7 @@ pub fn finish(
     alloc: Global,
     job: &Job<'_>,
     names: &Names<'_>,
-    held: &Held<'_>,
+    held: &Held<'_, '_>,
 ) -> Result<Linked, LinkFault>
     requires { AreOf job.now names.now held.now }
     ensures { Finds is_memory (IsFinished job.now.output.now job.now.script.now (program_in held.now) job.now.placement.now (linkage_in held.now.program) (exports_in held.now.program)) result }

@@ -21,9 +21,9 @@ use syntax65::Sequence;
 
 /// A placed program and its segments.
 #[derive(Clone, Copy)]
-pub struct Held<'a> {
+pub struct Held<'a, 'b> {
     pub program: Evaluated<'a>,
-    pub segments: &'a Segments<'a>,
+    pub segments: &'a Segments<'b>,
     pub asserts: &'a [Asserted],
 }
 
@@ -105,7 +105,11 @@ fn bytes_of_pieces(
 }
 
 /// The bytes of a row.
-pub fn bytes_of_row(alloc: Global, held: &Held<'_>, row: &Row) -> Result<Sequence<u8>, AllocError>
+pub fn bytes_of_row(
+    alloc: Global,
+    held: &Held<'_, '_>,
+    row: &Row,
+) -> Result<Sequence<u8>, AllocError>
     requires { IsReady held.now }
     ensures { IfOk result (λ bytes. bytes ≡ bytes_in held.now row.now) }
 {

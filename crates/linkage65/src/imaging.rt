@@ -27,7 +27,7 @@ fn lay_rows(
     alloc: Global,
     image: &mut [u8],
     start: u32,
-    held: &Held<'_>,
+    held: &Held<'_, '_>,
     loads: &[Load<'_>],
 ) -> Result<(), AllocError>
     requires { IsReady held.now }
@@ -70,7 +70,7 @@ fn file_len(area: &Area, loads: &[Load<'_>]) -> u128
 pub fn area_file(
     alloc: Global,
     area: &Area,
-    held: &Held<'_>,
+    held: &Held<'_, '_>,
     loads: &[Load<'_>],
 ) -> Result<Vec<u8>, AllocError>
     requires { IsReady held.now }

@@ -1,47 +1,32 @@
--- Names that are given one behind the other, none twice.
-use Rattle.std.proofs.Common.{◌≡◌, ◌∙◌, ℕ, List, [], ◌∷◌, ◌++◌, ◌||◌, Some, Bool, true, false, Result, Ok, Err, if◌then◌else◌, refl, sym, ap, append_assoc, map, length}
-use Rattle.std.specs.Str.{bytes_eq}
-use Rattle.std.proofs.lemmas.Cmp.{nat_list_eq_equiv}
-use Rattle.object65.specs.Objects
+-- Names that are given behind others, none twice.
+use Rattle.std.proofs.Common.{◌≡◌, ◌∙◌, ℕ, List, [], ◌∷◌, ◌++◌, map, length, Result, Ok, Err, refl, sym, ap, append_assoc}
 use Rattle.linkage65.specs.declared.fault.LinkFault.{LinkFault}
-use Rattle.linkage65.specs.declared.fault.LinkFault.TheVariants as fault
-use Rattle.linkage65.specs.Givers.{export_names, first_again, given_names, is_among}
-use Rattle.linkage65.specs.Links.{no_name_again}
+use Rattle.linkage65.specs.GivenTwice.{all_once, with_each, with_new}
+use Rattle.linkage65.specs.Givers.{export_names, given_names}
 use Rattle.linkage65.specs.Modules.{Module}
 use Rattle.linkage65.specs.Names.{script_names}
 use Rattle.linkage65.specs.Programs.{Program, exported, with_module}
+use Rattle.linkage65.proofs.GivenLemmas.{each_once_all}
 use Rattle.script65.specs.declared.script.Script.{Script}
 use Rattle.syntax65.specs.Outcome.{◌>>=◌}
-use Rattle.link65.specs.Giving.{with_name, with_names}
 
--- a name is among others, whichever of two is compared with the other
-pub among_alike : (names : List (List ℕ)) (name : List ℕ) → Objects.is_among names name ≡ is_among names name
-among_alike [] name = refl
-among_alike (n ∷ names) name = ap (λ b. b || Objects.is_among names name) (nat_list_eq_equiv.symm name n) ∙ ap (λ b. bytes_eq n name || b) (among_alike names name)
+abbrev Names : Type 0
+Names = List (List ℕ)
 
--- ---- One name is given twice among those behind others, or they all stand there.
-
-again_or_all : (b : Bool) (before : List (List ℕ)) (name : List ℕ) (names : List (List ℕ)) → with_names (before ++ name ∷ []) names ≡ (no_name_again (first_again (before ++ name ∷ []) names) >>= (λ u. Ok ((before ++ name ∷ []) ++ names))) → ((if b then Err (fault.DuplicateExport name) else Ok (before ++ name ∷ [])) >>= (λ all. with_names all names)) ≡ (no_name_again (if b then Some name else first_again (before ++ name ∷ []) names) >>= (λ u. Ok (before ++ name ∷ names)))
-again_or_all true before name names h = refl
-again_or_all false before name names h = h ∙ ap (λ all. no_name_again (first_again (before ++ name ∷ []) names) >>= (λ u. Ok all)) (append_assoc before (name ∷ []) names)
-
-append_none : (xs : List (List ℕ)) → xs ++ [] ≡ xs
-append_none [] = refl
-append_none (x ∷ xs) = ap (λ ys. x ∷ ys) (append_none xs)
-
-pub given_once : (before names : List (List ℕ)) → with_names before names ≡ (no_name_again (first_again before names) >>= (λ u. Ok (before ++ names)))
-given_once before [] = ap Ok (sym (append_none before))
-given_once before (name ∷ names) = again_or_all (is_among before name) before name names (given_once (before ++ name ∷ []) names)
-
--- ---- Names behind names.
-
-behind_one : (r : Result (List (List ℕ)) LinkFault) (xs ys : List (List ℕ)) → ((all : List (List ℕ)) → with_names all (xs ++ ys) ≡ (with_names all xs >>= (λ more. with_names more ys))) → (r >>= (λ all. with_names all (xs ++ ys))) ≡ ((r >>= (λ all. with_names all xs)) >>= (λ more. with_names more ys))
+behind_one : (r : Result Names LinkFault) (xs ys : Names) → ((all : Names) → with_each all (xs ++ ys) ≡ (with_each all xs >>= (λ more. with_each more ys))) → (r >>= (λ all. with_each all (xs ++ ys))) ≡ ((r >>= (λ all. with_each all xs)) >>= (λ more. with_each more ys))
 behind_one (Ok all) xs ys h = h all
 behind_one (Err e) xs ys h = refl
 
-pub names_behind : (before xs ys : List (List ℕ)) → with_names before (xs ++ ys) ≡ (with_names before xs >>= (λ all. with_names all ys))
-names_behind before [] ys = refl
-names_behind before (x ∷ xs) ys = behind_one (with_name before x) xs ys (λ all. names_behind all xs ys)
+each_behind : (before xs ys : Names) → with_each before (xs ++ ys) ≡ (with_each before xs >>= (λ all. with_each all ys))
+each_behind before [] ys = refl
+each_behind before (x ∷ xs) ys = behind_one (with_new before x) xs ys (λ all. each_behind all xs ys)
+
+-- where some are given, others behind them are given as they are by themselves
+pub once_behind : (given xs ys : Names) → all_once [] xs ≡ Ok given → all_once [] (xs ++ ys) ≡ all_once given ys
+once_behind given xs ys h =
+    sym (each_once_all (xs ++ ys) []) ∙ each_behind [] xs ys
+    ∙ ap (λ r. r >>= (λ all. with_each all ys)) (each_once_all xs [] ∙ h)
+    ∙ each_once_all ys given
 
 map_behind : {A B C : Type 0} (f : B → C) (g : A → B) (old : List B) (xs : List A) → map f (old ++ map g xs) ≡ map f old ++ map (λ x. f (g x)) xs
 map_behind f g [] [] = refl

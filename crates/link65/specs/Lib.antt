@@ -1,3 +1,2 @@
-pub mod Giving
 pub mod Standing
 pub mod Fields

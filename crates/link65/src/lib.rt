@@ -2,7 +2,6 @@
 #![tactic(auto)]
 
 mod feeding;
-mod given;
 mod linker;
 mod open;
 

@@ -1,6 +1,6 @@
 -- What a linker stands for: the modules that it was fed, and the records so far of the one that is open.
-use Rattle.std.specs.Prelude.{◌≡◌, ◌++◌, ◌∷◌, [], ℕ, List, Option, Some, None, is_some, Bool, true, false, Result, Ok, Err, OnOk, ◌==◌, if◌then◌else◌}
-use Rattle.syntax65.specs.Outcome.{Refuses}
+use Rattle.std.specs.Prelude.{◌≡◌, ◌++◌, ◌∷◌, [], ℕ, List, length, Option, Some, None, is_some, Bool, true, false, Result, Ok, Err, OnOk, ◌==◌, if◌then◌else◌}
+use Rattle.syntax65.specs.Outcome.{◌>>=◌, Refuses}
 use Rattle.object65.specs.declared.fault.ObjectFault.{ObjectFault}
 use Rattle.object65.specs.declared.object.Object.{Object}
 use Rattle.object65.specs.Record.{Entry}
@@ -12,12 +12,17 @@ use Rattle.linkage65.specs.declared.fault.LinkFault.TheVariants as fault
 use Rattle.linkage65.specs.Faults.{is_memory}
 use Rattle.linkage65.specs.Growing.{Growth, at_rest, growth_of}
 use Rattle.linkage65.specs.Modules.{Module}
-use Rattle.linkage65.specs.Programs.{program_of}
+use Rattle.linkage65.specs.Programs.{Program, program_of}
+use Rattle.linkage65.specs.GivenTwice.{all_once}
+use Rattle.linkage65.specs.Givers.{given_names}
+use Rattle.linkage65.specs.Links.{names_once}
 
 -- a module that is open: its name, and what is kept of its records beside what grows
 pub record Opened : Type 0 where
   pub name : List ℕ
   pub scan : Outline
+  -- the place of its first export among all
+  pub first_export : ℕ
 
 -- What a linker is seen as.
 pub record Feeding : Type 0 where
@@ -25,6 +30,8 @@ pub record Feeding : Type 0 where
   -- the name of the file that is linked
   pub output : List ℕ
   pub growth : Growth
+  -- the names that the script and the modules before the open one give
+  pub given : List (List ℕ)
   pub opened : Option Opened
   -- how many values were taken
   pub pending : ℕ
@@ -35,16 +42,22 @@ is_open f = is_some f.opened
 
 -- ---- What it stands for.
 
+-- a module behind a program, of which this has come
+abbrev pub opening : Program → List ℕ → State → Opened
+opening p name s = record { name = name; scan = outline_of s; first_export = length p.exports }
+
 -- these modules were fed, and none is open
 pub record IsFed (f : Feeding) (modules : List Module) : Type 0 where
   pub growth : f.growth ≡ at_rest (program_of modules)
+  pub given : all_once [] (given_names f.script (program_of modules)) ≡ Ok f.given
   pub opened : f.opened ≡ None
   pub failed : f.failed ≡ false
 
 -- these modules were fed, and one of this name is open, of which this has come
 pub record IsFeeding (f : Feeding) (modules : List Module) (name : List ℕ) (s : State) : Type 0 where
   pub growth : f.growth ≡ growth_of (program_of modules) s
-  pub opened : f.opened ≡ Some (record { name = name; scan = outline_of s })
+  pub given : all_once [] (given_names f.script (program_of modules)) ≡ Ok f.given
+  pub opened : f.opened ≡ Some (opening (program_of modules) name s)
   pub reached : IsReached s
   pub failed : f.failed ≡ false
 
@@ -90,8 +103,13 @@ Continues e old new r =
     (modules : List Module) (name : List ℕ) (s : State) → IsFeeding old modules name s
     → Leads (IsFeeding new modules name) r (as_link (after s e))
 
+-- the object of a module, where its END came and no name is given twice
+abbrev pub whole : Script → List Module → List ℕ → State → Result Object LinkFault
+whole script modules name s =
+    as_link (finished s) >>= (λ object. names_once script (program_of (modules ++ module_of name object ∷ [])) >>= (λ u. Ok object))
+
 -- the open module comes behind the others
 abbrev pub Ends : Feeding → Feeding → Result (Unit {0}) LinkFault → Type 0
 Ends old new r =
     (modules : List Module) (name : List ℕ) (s : State) → IsFeeding old modules name s
-    → Leads (λ object. IsFed new (modules ++ module_of name object ∷ [])) r (as_link (finished s))
+    → Leads (λ object. IsFed new (modules ++ module_of name object ∷ [])) r (whole old.script modules name s)

@@ -2,12 +2,15 @@
 
 ghost use Rattle.std.specs.Prelude.{◌≡◌, ◌+◌, [], Err, IfErr, IfOk, OnErr, OnOk, true, false};
 ghost use Rattle.object65.specs.Record.{entry_of};
+ghost use Rattle.syntax65.specs.Outcome.{Gives};
 ghost use Rattle.linkage65.specs.Faults.{is_memory};
+ghost use Rattle.linkage65.specs.Links.{names_once};
+ghost use Rattle.linkage65.specs.Programs.{program_of};
 ghost use Rattle.link65.specs.Standing.{Begins, Continues, Ends, IsFed, IsRefused, Keeps, is_open, values_in};
 
 use crate::feeding::{close_module, open_module, take_record};
 use crate::open::Open;
-use linkage65::{Growing, LinkFault, no_module};
+use linkage65::{Given, Growing, LinkFault, no_module};
 use object65::Record;
 use script65::Script;
 use std::alloc::Global;
@@ -21,6 +24,7 @@ pub struct Linker {
     /// The name of the file that is linked.
     output: Text,
     growing: Growing,
+    given: Given,
     opened: Option<Open>,
     /// How many values were taken.
     pending: usize,
@@ -31,6 +35,7 @@ impl Model for Linker {
     ghost use Rattle.std.specs.Prelude.{◌≡◌, false};
     ghost use Rattle.std.specs.Coded.{codes};
     ghost use Rattle.object65.specs.Form.{form_code};
+    ghost use Rattle.linkage65.specs.GivenTwice.{names_in};
     ghost use Rattle.linkage65.specs.Grounds.{AreNamed, growth_in};
     ghost use Rattle.link65.specs.Standing.{Feeding};
     ghost use Rattle.link65.specs.Fields.{opened_in};
@@ -39,7 +44,7 @@ impl Model for Linker {
 
     ghost coded = { Prim.hlevel (codes, form_code) };
 
-    ghost view = { λ l. record { script = l.script; output = l.output; growth = growth_in l.growing; opened = opened_in l.opened; pending = l.pending; failed = l.failed } };
+    ghost view = { λ l. record { script = l.script; output = l.output; growth = growth_in l.growing; given = names_in l.given; opened = opened_in l.opened; pending = l.pending; failed = l.failed } };
 
     ghost invariant = { λ l. l.failed ≡ false → AreNamed l.growing };
 }
@@ -50,6 +55,7 @@ impl Drop for Linker {
             script: _,
             output: _,
             growing: _,
+            given: _,
             opened: _,
             pending: _,
             failed: _,
@@ -64,13 +70,15 @@ impl Linker {
         ensures script { IfOk result (λ l. l.script ≡ script) }
         ensures output { IfOk result (λ l. l.output ≡ output.now) }
         ensures pending { IfOk result (λ l. l.pending ≡ 0) }
-        ensures memory { IfErr result (λ e. is_memory e ≡ true) }
+        ensures names { Gives is_memory (λ _. tt) result (names_once script (program_of [])) }
     {
+        let given = Given::of(alloc, &script)?;
         let output = Text::copy_of(alloc, output)?;
         Ok(Linker {
             script,
             output,
             growing: no_module(alloc),
+            given,
             opened: None,
             pending: 0,
             failed: false,
@@ -105,7 +113,7 @@ impl Linker {
         if self.failed {
             return Err(LinkFault::FailedBefore);
         }
-        match open_module(self.growing.alloc, name) {
+        match open_module(self.growing.alloc, name, self.growing.exports.len()) {
             Ok(opened) => {
                 self.opened = Some(opened);
                 Ok(())
@@ -160,7 +168,7 @@ impl Linker {
             return Err(LinkFault::FailedBefore);
         }
         match &mut self.opened {
-            Some(opened) => match close_module(&mut self.growing, opened) {
+            Some(opened) => match close_module(&mut self.growing, &mut self.given, opened) {
                 Ok(()) => {
                     self.opened = None;
                     Ok(())

@@ -8,4 +8,6 @@ use syntax65::Sequence;
 pub struct Open {
     pub name: Sequence<u8>,
     pub scan: Scan,
+    /// The place of its first export among all.
+    pub first_export: usize,
 }

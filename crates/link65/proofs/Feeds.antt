@@ -5,7 +5,8 @@ use Rattle.object65.specs.declared.item.Item.{Item}
 use Rattle.object65.specs.declared.object.Object.{Object}
 use Rattle.object65.specs.declared.item.Item.TheVariants as item
 use Rattle.object65.specs.declared.fault.ObjectFault.TheVariants as object
-use Rattle.syntax65.specs.Outcome.{Refuses, Unless}
+use Rattle.syntax65.specs.Outcome.{◌>>=◌, Refuses, Unless}
+use Rattle.linkage65.specs.GivenTwice.{all_once}
 use Rattle.std.specs.Prelude.{IfErr, OnOk}
 use Rattle.object65.specs.Items.{with_item}
 use Rattle.object65.specs.Record.{Entry}
@@ -97,18 +98,34 @@ finishes s b runs e =
     ap (λ c. if c then Err object.FailedBefore else (if s.ended then Ok (Taking.object_from s) else Err object.CutShort)) runs
     ∙ ap (λ c. if c then Ok (Taking.object_from s) else Err object.CutShort) e
 
+-- the object of a module, where its names may be given
+abbrev admitted : List (List ℕ) → List (List ℕ) → Result Object ObjectFault → Result Object LinkFault
+admitted before names r = as_link r >>= (λ object. all_once before names >>= (λ u. Ok object))
+
+ends_whole : (p : Program) (s : Taking.State) (old : Growth) (o : Outline) → Comes p s old o → o.ended ≡ true → Taking.finished s ≡ Ok (Taking.object_from s)
+ends_whole p s old o h end = finishes s true (reached_runs s h.reached) (ap (λ (q : Outline). q.ended) (sym h.scan) ∙ end)
+
 -- a module whose END has come stands behind the others
-pub closed_whole : (p : Program) (s : Taking.State) (old new : Growth) (o : Outline) (name : List ℕ) (r : Result (Unit {0}) LinkFault) → Comes p s old o → o.ended ≡ true → OnOk r (new ≡ at_rest (ended old name)) → IfErr r (λ f. is_memory f ≡ true) → Leads (λ object. new ≡ at_rest (with_module p (module_of name object))) r (as_link (Taking.finished s))
-closed_whole p s old new o name (Ok u) h end grown memory =
-    let whole = finishes s true (reached_runs s h.reached) (ap (λ (q : Outline). q.ended) (sym h.scan) ∙ end) in
-    (Taking.object_from s, ap as_link whole, grown ∙ ap (λ g. at_rest (ended g name)) h.growth ∙ ap at_rest (growth_law.2 p name s))
-closed_whole p s old new o name (Err f) h end grown memory = out_of_memory f _ memory
+pub closed_whole : (p : Program) (s : Taking.State) (old new : Growth) (o : Outline) (name : List ℕ) (before given names : List (List ℕ)) (r : Result (Unit {0}) LinkFault) → Comes p s old o → o.ended ≡ true → all_once before names ≡ Ok given → OnOk r (new ≡ at_rest (ended old name)) → IfErr r (λ f. is_memory f ≡ true) → Leads (λ object. (new ≡ at_rest (with_module p (module_of name object))) × (all_once before names ≡ Ok given)) r (admitted before names (Taking.finished s))
+closed_whole p s old new o name before given names (Ok u) h end once grown memory =
+    let object = Taking.object_from s in
+    (object, ap (admitted before names) (ends_whole p s old o h end) ∙ ap (λ q. q >>= (λ v. Ok object)) once, (grown ∙ ap (λ g. at_rest (ended g name)) h.growth ∙ ap at_rest (growth_law.2 p name s), once))
+closed_whole p s old new o name before given names (Err f) h end once grown memory = out_of_memory f _ memory
+
+passed : {A B : Type 0} (b : Bool) (f : LinkFault) (read : Result A LinkFault) (k : A → Result B LinkFault) → Unless b (read ≡ Err f) → Unless b ((read >>= k) ≡ Err f)
+passed true f read k h = tt
+passed false f read k h = ap (λ r. r >>= k) h
+
+-- one that gives a name twice is refused
+pub given_twice : (p : Program) (s : Taking.State) (old : Growth) (o : Outline) (before names : List (List ℕ)) (f : LinkFault) → Comes p s old o → o.ended ≡ true → Refuses is_memory f (all_once before names) → Refuses is_memory f (admitted before names (Taking.finished s))
+given_twice p s old o before names f h end refused =
+    subst (λ r. Refuses is_memory f (admitted before names r)) (sym (ends_whole p s old o h end)) (passed (is_memory f) f (all_once before names) (λ u. Ok (Taking.object_from s)) refused)
 
 -- one whose END hasn't come is cut short
-pub cut_short : (p : Program) (s : Taking.State) (old : Growth) (o : Outline) (f : LinkFault) → Comes p s old o → o.ended ≡ false → f ≡ fault.Object object.CutShort → Refuses is_memory f (as_link (Taking.finished s))
-cut_short p s old o f h going is =
+pub cut_short : (p : Program) (s : Taking.State) (old : Growth) (o : Outline) (before names : List (List ℕ)) (f : LinkFault) → Comes p s old o → o.ended ≡ false → f ≡ fault.Object object.CutShort → Refuses is_memory f (admitted before names (Taking.finished s))
+cut_short p s old o before names f h going is =
     let cut = finishes s false (reached_runs s h.reached) (ap (λ (q : Outline). q.ended) (sym h.scan) ∙ going) in
-    subst (λ g. Refuses is_memory g (as_link (Taking.finished s))) (sym is) (ap as_link cut)
+    subst (λ g. Refuses is_memory g (admitted before names (Taking.finished s))) (sym is) (ap (admitted before names) cut)
 
 -- what a linker stands for has come of the open module
 coming : (f : Feeding) (modules : List Module) (name : List ℕ) (s : Taking.State) (g : Growth) (o : Opened) → f.growth ≡ g → f.opened ≡ Some o → IsFeeding f modules name s → Comes (program_of modules) s g o.scan × (o.name ≡ name)

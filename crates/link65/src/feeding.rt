@@ -93,7 +93,12 @@ pub fn close_module(
     if !opened.scan.is_ended() {
         return Err(LinkFault::from(ObjectFault::CutShort));
     }
-    given.add_exports(from_place(growing.exports.as_slice(), opened.first_export))?;
-    let name = mem::replace(&mut opened.name, Sequence::new(growing.alloc));
-    end_module(growing, name)
+    let exports = from_place(growing.exports.as_slice(), opened.first_export);
+    match given.add_exports(exports) {
+        Ok(()) => {
+            let name = mem::replace(&mut opened.name, Sequence::new(growing.alloc));
+            end_module(growing, name)
+        }
+        Err(e) => Err(e),
+    }
 }

@@ -22,3 +22,4 @@ pub mod OutcomeLemmas
 pub mod LinkingLemmas
 pub mod MissingLemmas
 pub mod GivenLemmas
+pub mod Shown

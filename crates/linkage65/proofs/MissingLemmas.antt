@@ -1,18 +1,16 @@
 -- Names that nobody gives.
-use Rattle.std.proofs.Common.{◌≡◌, ◌∙◌, ℕ, ◌+◌, Bool, true, false, not, ◌||◌, cond, filter, List, [], ◌∷◌, ◌++◌, map, Option, Some, None, is_some, if◌then◌else◌, refl, sym, subst, ap}
+use Rattle.std.proofs.Common.{◌≡◌, ◌∙◌, ℕ, ◌+◌, Bool, true, false, not, ◌||◌, cond, filter, List, [], ◌∷◌, ◌++◌, map, Option, Some, is_some, if◌then◌else◌, refl, sym, subst, ap}
 use Rattle.std.proofs.lemmas.Cmp.{nat_list_eq_equiv}
 use Rattle.std.proofs.lemmas.List.{map-append}
 use Rattle.std.proofs.lemmas.List.Elements.{filter-append}
 use Rattle.std.proofs.lemmas.List.Folds.{list_any-append}
 use Rattle.std.proofs.lemmas.Slice.Eq.{bytes_eq-Decides}
-use Rattle.std.specs.Borrow.{Bor}
 use Rattle.std.specs.List.{list_any, position_from}
 use Rattle.std.specs.Str.{bytes_eq}
 use Rattle.script65.specs.declared.script.Script.{Script}
 use Rattle.linkage65.specs.declared.missing.GivenNames.{GivenNames}
 use Rattle.linkage65.specs.declared.resolving.Places.{Places}
 use Rattle.linkage65.specs.Givers.{each_once, export_names, is_among, is_given}
-use Rattle.linkage65.specs.Lists.{position_in}
 use Rattle.linkage65.specs.Missing.{AreGiven, gives_in, has, missing_behind}
 use Rattle.linkage65.specs.Names.{script_names, weak_symbols}
 use Rattle.linkage65.specs.Programs.{Program}

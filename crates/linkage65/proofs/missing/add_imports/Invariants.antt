@@ -1,7 +1,5 @@
 use Rattle.std.proofs.Common.{◌≡◌, drop, map}
-use Rattle.std.specs.List.{flat_map}
 use Rattle.linkage65.specs.Missing.{gives_in, missing_behind}
-use Rattle.linkage65.specs.Names.{symbol_imports}
 use Rattle.linkage65.proofs.missing.add_imports.Given as goal
 
 abbrev pub invariant-loop-name : goal.invariant-loop-name

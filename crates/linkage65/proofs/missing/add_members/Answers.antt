@@ -1,4 +1,4 @@
-use Rattle.std.proofs.Common.{◌≡◌, ◌∙◌, ◌+◌, ◌++◌, List, ℕ, drop, map, sym, ap}
+use Rattle.std.proofs.Common.{◌∙◌, ◌+◌, ◌++◌, List, ℕ, drop, map, sym, ap}
 use Rattle.std.specs.List.{flat_map}
 use Rattle.script65.proofs.NeedLemmas.{drop_item}
 use Rattle.linkage65.specs.declared.parts.Member.{Member}

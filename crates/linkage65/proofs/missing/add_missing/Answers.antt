@@ -1,4 +1,4 @@
-use Rattle.std.proofs.Common.{◌≡◌, ◌∙◌, ◌||◌, ◌∷◌, [], ◌++◌, Bool, true, false, List, ℕ, map, if◌then◌else◌, sym, ap}
+use Rattle.std.proofs.Common.{◌≡◌, ◌∙◌, ◌||◌, ◌∷◌, [], ◌++◌, false, map, if◌then◌else◌, sym, ap}
 use Rattle.linkage65.specs.Givers.{is_among}
 use Rattle.linkage65.specs.Missing.{gives_in}
 use Rattle.linkage65.proofs.MissingLemmas.{inserted}

@@ -1,6 +1,4 @@
 pub mod ImageLemmas
-pub mod Rows
-pub mod Taken
 pub mod Texts
 pub mod LinkLemmas
 pub mod Runs

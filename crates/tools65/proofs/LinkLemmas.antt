@@ -21,7 +21,7 @@ use Rattle.script65.specs.Scripts.{IsScript, script_of, with_line}
 use Rattle.tools65.specs.declared.linking.linked.Linked.{Linked}
 use Rattle.tools65.specs.declared.linking.refusal.Refusal.{Refusal}
 use Rattle.tools65.specs.declared.linking.refusal.Refusal.TheVariants as refusal
-use Rattle.tools65.specs.Line.{Linking}
+use Rattle.line65.specs.Line.{Linking}
 use Rattle.tools65.specs.Refusals.{is_outside}
 use Rattle.tools65.specs.Linkage.{IsPlaced, IsLinkedBy, IsLinked, as_object, as_script, front_of, output_of, script_limit, script_text, text_of}
 

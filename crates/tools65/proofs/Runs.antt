@@ -15,10 +15,10 @@ use Rattle.language65.specs.Faults.{is_memory as is_asm_memory}
 use Rattle.asm65.specs.Refusals.{has_failed, is_outside_refusal}
 use Rattle.tools65.specs.Command.{failing, outcome_of, Assembles, AssemblesWith, Does, DoesLine, Commands, Ran, RanWords, line_memory, refused_with}
 use Rattle.tools65.specs.Leaving.{Prints, SaysBoth, Settles, Performs, StopsShort}
-use Rattle.tools65.specs.Line.{Assembling, Linking, Says, line_of}
-use Rattle.tools65.specs.LineFaults.{is_outside as is_line_outside}
-use Rattle.tools65.specs.declared.command_line.fault.LineFault.{LineFault}
-use Rattle.tools65.specs.declared.command_line.fault.LineFault.TheVariants.{OutOfMemory, BadArguments}
+use Rattle.line65.specs.Line.{Assembling, Linking, Says, line_of}
+use Rattle.line65.specs.LineFaults.{is_outside as is_line_outside}
+use Rattle.line65.specs.declared.fault.LineFault.{LineFault}
+use Rattle.line65.specs.declared.fault.LineFault.TheVariants.{OutOfMemory, BadArguments}
 use Rattle.tools65.specs.Messages.{line_message_of, line_memory_message, memory_line}
 use Rattle.tools65.specs.Linkage.{IsLinked}
 use Rattle.tools65.specs.Refusals.{is_outside, is_memory, is_failure, memory_message}

@@ -7,14 +7,14 @@ use Rattle.asm65.specs.declared.refusal.AsmRefusal.{AsmRefusal}
 use Rattle.asm65.specs.Assembly.{Assembled, IsAssembled}
 use Rattle.language65.specs.Faults.{is_memory}
 use Rattle.tools65.specs.Assembling.{IsOutputName, asm_message}
-use Rattle.tools65.specs.declared.command_line.fault.LineFault.{LineFault}
+use Rattle.line65.specs.declared.fault.LineFault.{LineFault}
 use Rattle.tools65.specs.declared.linking.linked.Linked.{Linked}
 use Rattle.tools65.specs.declared.linking.refusal.Refusal.{Refusal}
 use Rattle.tools65.specs.declared.outcome.Outcome.{Outcome}
 use Rattle.tools65.specs.declared.outcome.Status.{Status}
 use Rattle.tools65.specs.declared.outcome.Status.TheVariants.{Success, Failure}
 use Rattle.tools65.specs.Leaving.{Performs, StopsShort}
-use Rattle.tools65.specs.Line.{Assembling, Linking, Says, assemble, link, line_of}
+use Rattle.line65.specs.Line.{Assembling, Linking, Says, assemble, link, line_of}
 use Rattle.tools65.specs.Linkage.{IsLinked}
 use Rattle.tools65.specs.Outputs.{outputs_of}
 use Rattle.tools65.specs.Messages.{line_message_of, line_memory_message, memory_line}

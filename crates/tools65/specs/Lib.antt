@@ -1,7 +1,4 @@
-pub mod CommandLine
 pub mod Images
-pub mod Line
-pub mod LineFaults
 pub mod Messages
 pub mod Naming
 pub mod Leaving

@@ -18,7 +18,7 @@ use Rattle.tools65.specs.declared.linking.linked.Linked.{Linked}
 use Rattle.tools65.specs.declared.linking.refusal.Refusal.{Refusal}
 use Rattle.tools65.specs.declared.linking.refusal.Refusal.TheVariants as refusal
 use Rattle.tools65.specs.declared.outcome.Output.{Output}
-use Rattle.tools65.specs.Line.{Linking}
+use Rattle.line65.specs.Line.{Linking}
 use Rattle.tools65.specs.Outputs.{AddsAreas}
 use Rattle.tools65.specs.Pieces.{IsFileOf}
 use Rattle.tools65.specs.Sections.{need_of}

@@ -1,12 +1,8 @@
 -- The texts that are printed.
 use Rattle.std.specs.Prelude.{ℕ, List, [], ◌∷◌, codes, decimal}
 use Rattle.std.specs.List.{flat_map}
-use Rattle.tools65.specs.declared.command_line.fault.LineFault.{LineFault}
-use Rattle.tools65.specs.declared.command_line.fault.LineFault.TheVariants as line
-
-abbrev pub line_words : LineFault → List ℕ
-line_words line.OutOfMemory = codes "out of memory"
-line_words line.BadArguments = codes "bad arguments"
+use Rattle.line65.specs.declared.fault.LineFault.{LineFault}
+use Rattle.line65.specs.declared.fault.LineFault.TheVariants as line
 
 -- texts one behind the other
 abbrev pub joined : List (List ℕ) → List ℕ

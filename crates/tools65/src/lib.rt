@@ -2,7 +2,6 @@
 #![tactic(auto)]
 
 mod assembling;
-mod command_line;
 mod disk_store;
 mod linking;
 mod messages;
@@ -13,9 +12,7 @@ mod printing;
 mod running;
 mod writing;
 
-pub use command_line::fault::LineFault;
-pub use command_line::line::{AssembleLine, Line, LinkLine};
-pub use command_line::reading::read_line;
+pub use line65::{AssembleLine, Line, LineFault, LinkLine, read_line};
 pub use disk_store::DiskStore;
 pub use outcome::{Outcome, Output, Status};
 pub use printing::print;

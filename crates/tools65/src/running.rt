@@ -2,15 +2,15 @@
 
 ghost use Rattle.std.specs.Prelude.{◌≡◌, ◌<◌, ◌≤◌, IfOk, IfSome, map};
 ghost use Rattle.syntax65.specs.Store.{NoneFailed};
-ghost use Rattle.tools65.specs.Line.{assembling, linking, view};
+ghost use Rattle.line65.specs.Line.{assembling, linking, view};
 ghost use Rattle.tools65.specs.Messages.{line_message_of, memory_line};
 ghost use Rattle.tools65.specs.Command.{outcome_of, Ran, Assembles, Does, DoesLine, Commands, line_memory};
 ghost use Rattle.tools65.specs.Refusals.{memory_message};
 
 use crate::assembling::outcome::asm_outcome;
-use crate::command_line::fault::LineFault;
-use crate::command_line::line::{AssembleLine, Line, LinkLine};
-use crate::command_line::reading::read_line;
+use line65::LineFault;
+use line65::{AssembleLine, Line, LinkLine};
+use line65::read_line;
 use crate::linking::link::link;
 use crate::linking::linked::Linked;
 use crate::linking::refusal::{Refusal, refusal_message};

@@ -3,7 +3,7 @@
 ghost use Rattle.std.specs.Prelude.{◌≡◌, [], All, IfErr, IfOk, IfSome, false};
 ghost use Rattle.syntax65.specs.Outcome.{First, Finds};
 ghost use Rattle.syntax65.specs.Store.{PassesBy};
-ghost use Rattle.tools65.specs.Line.{linking};
+ghost use Rattle.line65.specs.Line.{linking};
 ghost use Rattle.tools65.specs.Refusals.{is_outside, is_failure};
 ghost use Rattle.tools65.specs.Laying.{LaysArea};
 ghost use Rattle.tools65.specs.Outputs.{AddsAreas};
@@ -11,7 +11,7 @@ ghost use Rattle.tools65.specs.Sections.{IsSound};
 ghost use Rattle.tools65.specs.Linkage.{script_text, output_of, IsPlaced, IsLinkedBy, IsLinked};
 ghost use Rattle.tools65.specs.Warnings.{warnings_of};
 
-use crate::command_line::line::LinkLine;
+use line65::LinkLine;
 use crate::linking::files::files_of;
 use crate::linking::linked::Linked;
 use crate::linking::modules::read_module;

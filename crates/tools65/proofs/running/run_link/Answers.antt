@@ -1,5 +1,5 @@
 use Rattle.std.proofs.Common.{refl}
-use Rattle.tools65.specs.Line.{linking}
+use Rattle.line65.specs.Line.{linking}
 use Rattle.tools65.specs.Command.{Does}
 use Rattle.tools65.specs.Refusals.{memory_message}
 use Rattle.tools65.proofs.Runs.{only_memory, linked_run}

@@ -1,6 +1,6 @@
 use Rattle.std.proofs.Common.{refl}
 use Rattle.tools65.proofs.LinkLemmas.{linked_by}
-use Rattle.tools65.specs.Line.{linking}
+use Rattle.line65.specs.Line.{linking}
 use Rattle.tools65.proofs.linking.link.link_input.Goals as goal
 
 pub returns-clause-linked : goal.returns-clause-linked

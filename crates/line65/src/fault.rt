@@ -1,7 +1,7 @@
 //! Why a command line is refused.
 
 ghost use Rattle.std.specs.Prelude.{◌≡◌, Some};
-ghost use Rattle.tools65.specs.declared.command_line.fault.LineFault.TheVariants.{OutOfMemory};
+ghost use Rattle.line65.specs.declared.fault.LineFault.TheVariants.{OutOfMemory};
 
 use clap::error::ErrorKind;
 use std::alloc::{AllocError, AllocFailed};
@@ -16,7 +16,7 @@ pub enum LineFault {
 
 impl fmt::Display for LineFault {
     ghost use Rattle.std.specs.Prelude.{Some};
-    ghost use Rattle.tools65.specs.Messages.{line_words};
+    ghost use Rattle.line65.specs.LineFaults.{line_words};
 
     ghost output = { λ f. Some (line_words f) };
 
@@ -47,7 +47,7 @@ impl<T: Drop> From<AllocFailed<T>> for LineFault {
 impl From<clap::Error> for LineFault {
     ghost use Rattle.std.specs.Prelude.{◌≡◌};
     ghost use Rattle.clap.specs.Words.{kind_of};
-    ghost use Rattle.tools65.specs.LineFaults.{of_kind};
+    ghost use Rattle.line65.specs.LineFaults.{of_kind};
 
     ghost from_gives = { λ x e. e ≡ of_kind (kind_of x) };
 

@@ -3,13 +3,13 @@ use Rattle.std.specs.Prelude.{ℕ, List, [], ◌∷◌, Option, Some, None, Resu
 use Rattle.std.specs.Str.{bytes_eq}
 use Rattle.clap.specs.Words.{Kinds, Row, Text, first_of, fault_of, subcommand_of}
 use Rattle.syntax65.specs.Outcome.{◌>>=◌}
-use Rattle.tools65.specs.CommandLine.{bin65}
-use Rattle.tools65.specs.declared.command_line.fault.LineFault.{LineFault}
-use Rattle.tools65.specs.declared.command_line.fault.LineFault.TheVariants.{BadArguments}
-use Rattle.tools65.specs.declared.command_line.line.AssembleLine.{AssembleLine}
-use Rattle.tools65.specs.declared.command_line.line.LinkLine.{LinkLine}
-use Rattle.tools65.specs.declared.command_line.line.Line.{Line}
-use Rattle.tools65.specs.declared.command_line.line.Line.TheVariants as line
+use Rattle.line65.specs.CommandLine.{bin65}
+use Rattle.line65.specs.declared.fault.LineFault.{LineFault}
+use Rattle.line65.specs.declared.fault.LineFault.TheVariants.{BadArguments}
+use Rattle.line65.specs.declared.line.AssembleLine.{AssembleLine}
+use Rattle.line65.specs.declared.line.LinkLine.{LinkLine}
+use Rattle.line65.specs.declared.line.Line.{Line}
+use Rattle.line65.specs.declared.line.Line.TheVariants as line
 
 -- where clap has no fault, what it gives
 abbrev pub unless_kinds : {A : Type 0} → Kinds → A → Result A LineFault

@@ -2,8 +2,8 @@
 
 ghost use Rattle.std.specs.Prelude.{◌≡◌, IfOk, false};
 ghost use Rattle.clap.specs.Words.{app_of, rule_of};
-ghost use Rattle.tools65.specs.CommandLine.{Adds, IsMade, named, bin65, ca65, ld65};
-ghost use Rattle.tools65.specs.CommandLine.{option_rule, required_option_rule, word_rule};
+ghost use Rattle.line65.specs.CommandLine.{Adds, IsMade, named, bin65, ca65, ld65};
+ghost use Rattle.line65.specs.CommandLine.{option_rule, required_option_rule, word_rule};
 
 use clap::{Arg, Command};
 use std::alloc::{AllocError, Global};

@@ -1,7 +1,7 @@
 use Rattle.std.proofs.Common.{map}
 use Rattle.std.proofs.lemmas.Result.{err_from_is_err_and}
-use Rattle.tools65.proofs.Taken.{takes_words, refuses_words}
-use Rattle.tools65.proofs.command_line.parsing.parse.Goals as goal
+use Rattle.line65.proofs.Taken.{takes_words, refuses_words}
+use Rattle.line65.proofs.parsing.parse.Goals as goal
 
 pub returns-in_err-try_get_matches_from : goal.returns-in_err-try_get_matches_from
 returns-in_err-try_get_matches_from g c =

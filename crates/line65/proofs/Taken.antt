@@ -6,10 +6,10 @@ use Rattle.clap.specs.declared.error.kind.ErrorKind.{ErrorKind}
 use Rattle.clap.specs.declared.error.kind.ErrorKind.TheVariants as kind
 use Rattle.clap.specs.declared.parser.matches.ArgMatches.{ArgMatches}
 use Rattle.clap.proofs.OnLiterals.{clap_on_literals}
-use Rattle.tools65.specs.CommandLine.{bin65}
-use Rattle.tools65.specs.LineFaults.{of_kind, is_outside}
+use Rattle.line65.specs.CommandLine.{bin65}
+use Rattle.line65.specs.LineFaults.{of_kind, is_outside}
 use Rattle.syntax65.specs.Outcome.{Refuses}
-use Rattle.tools65.specs.Line.{taken, unless_kinds}
+use Rattle.line65.specs.Line.{taken, unless_kinds}
 
 bin65_simple : is_simple bin65 ≡ true
 unfolding clap_on_literals

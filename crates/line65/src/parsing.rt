@@ -2,12 +2,12 @@
 
 ghost use Rattle.std.specs.Prelude.{map};
 ghost use Rattle.clap.specs.Words.{subcommand_rows_of};
-ghost use Rattle.tools65.specs.LineFaults.{is_outside};
+ghost use Rattle.line65.specs.LineFaults.{is_outside};
 ghost use Rattle.syntax65.specs.Outcome.{Gives};
-ghost use Rattle.tools65.specs.Line.{taken};
+ghost use Rattle.line65.specs.Line.{taken};
 
-use crate::command_line::commands::command;
-use crate::command_line::fault::LineFault;
+use crate::commands::command;
+use crate::fault::LineFault;
 use clap::ArgMatches;
 use std::alloc::Global;
 use std::convert::AsStr;

@@ -3,12 +3,12 @@
 ghost use Rattle.std.specs.Prelude.{◌≡◌, map, option_map};
 ghost use Rattle.clap.specs.Words.{found_of, rows_of, first_of};
 ghost use Rattle.syntax65.specs.Outcome.{Gives};
-ghost use Rattle.tools65.specs.LineFaults.{is_outside};
-ghost use Rattle.tools65.specs.Line.{view, assembling, linking, line_of, said_by, assembling_of, linking_of};
+ghost use Rattle.line65.specs.LineFaults.{is_outside};
+ghost use Rattle.line65.specs.Line.{view, assembling, linking, line_of, said_by, assembling_of, linking_of};
 
-use crate::command_line::fault::LineFault;
-use crate::command_line::line::{AssembleLine, Line, LinkLine};
-use crate::command_line::parsing::parse;
+use crate::fault::LineFault;
+use crate::line::{AssembleLine, Line, LinkLine};
+use crate::parsing::parse;
 use clap::ArgMatches;
 use std::alloc::Global;
 use std::convert::AsStr;

@@ -12,8 +12,8 @@ mod printing;
 mod running;
 mod writing;
 
-pub use line65::{AssembleLine, Line, LineFault, LinkLine, read_line};
 pub use disk_store::DiskStore;
+pub use line65::{AssembleLine, Line, LineFault, LinkLine, read_line};
 pub use outcome::{Outcome, Output, Status};
 pub use printing::print;
 pub use running::{run, run_line};

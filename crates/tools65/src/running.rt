@@ -8,9 +8,6 @@ ghost use Rattle.tools65.specs.Command.{outcome_of, Ran, Assembles, Does, DoesLi
 ghost use Rattle.tools65.specs.Refusals.{memory_message};
 
 use crate::assembling::outcome::asm_outcome;
-use line65::LineFault;
-use line65::{AssembleLine, Line, LinkLine};
-use line65::read_line;
 use crate::linking::link::link;
 use crate::linking::linked::Linked;
 use crate::linking::refusal::{Refusal, refusal_message};
@@ -18,6 +15,7 @@ use crate::outcome::{Outcome, Status};
 use crate::performing::{perform, say_memory};
 use crate::printing::print;
 use asm65::{AsmJob, assemble};
+use line65::{AssembleLine, Line, LineFault, LinkLine, read_line};
 use std::alloc::{AllocError, Global};
 use std::convert::AsStr;
 use std::io::Write;

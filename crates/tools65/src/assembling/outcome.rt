@@ -10,11 +10,11 @@ ghost use Rattle.line65.specs.Line.{assembling};
 
 use crate::assembling::naming::object_name;
 use crate::assembling::refusal::asm_message;
-use line65::AssembleLine;
 use crate::messages::join;
 use crate::outcome::{Outcome, Status};
 use crate::outputs::outputs_of;
 use asm65::{AsmRefusal, Assembly};
+use line65::AssembleLine;
 use object65::{Object, write_object};
 use std::alloc::{AllocError, Global};
 use syntax65::{Sequence, Text};

@@ -11,7 +11,6 @@ ghost use Rattle.tools65.specs.Sections.{IsSound};
 ghost use Rattle.tools65.specs.Linkage.{script_text, output_of, IsPlaced, IsLinkedBy, IsLinked};
 ghost use Rattle.tools65.specs.Warnings.{warnings_of};
 
-use line65::LinkLine;
 use crate::linking::files::files_of;
 use crate::linking::linked::Linked;
 use crate::linking::modules::read_module;
@@ -19,6 +18,7 @@ use crate::linking::needs::needs_of;
 use crate::linking::refusal::Refusal;
 use crate::linking::sections::Sections;
 use crate::linking::warning::warnings_of;
+use line65::LinkLine;
 use object65::{Object, Section};
 use script65::{RowPlace, Script, place, read_script};
 use std::alloc::{AllocError, Global};

@@ -4,8 +4,8 @@ ghost use Rattle.std.specs.Prelude.{◌≡◌, IfOk};
 ghost use Rattle.tools65.specs.declared.linking.refusal.Refusal.TheVariants.{OutOfMemory, ScriptFile, Script, Object, Place};
 ghost use Rattle.tools65.specs.Refusals.{is_memory, refusal_message};
 
-use line65::LinkLine;
 use crate::messages::{file_message, join, line_message};
+use line65::LinkLine;
 use object65::ObjectFault;
 use script65::{Fault, PlaceFault, ScriptFault};
 use std::alloc::{AllocError, Global};

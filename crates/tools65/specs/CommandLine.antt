@@ -2,6 +2,7 @@
 use Rattle.std.specs.Prelude.{◌≡◌, ℕ, Some, true, false, codes}
 use Rattle.clap.specs.Words.{App, Rule, Text, app_of, new_rule, new_app, with_rule, with_subcommand}
 use Rattle.clap.specs.Simple.{new_shape}
+use Rattle.clap.specs.declared.builder.action.ArgAction.TheVariants.{Append}
 use Rattle.clap.specs.declared.builder.command.Command.{Command}
 use Rattle.clap.specs.declared.builder.command.Command.TheViews.{out-Command}
 
@@ -16,18 +17,23 @@ required_option_rule id short = record (new_rule id) { short = Some short; requi
 abbrev pub word_rule : Text → Rule
 word_rule id = record (new_rule id) { required = true }
 
+-- words of which there has to be one
+abbrev pub words_rule : Text → Rule
+words_rule id = record (new_rule id) { action = Some Append; required = true }
+
 -- `ca65 [-o FILE] SOURCE`
 abbrev pub ca65 : App
 ca65 = with_rule (with_rule (new_app (codes "ca65"))
     (option_rule (codes "output") 111))
     (word_rule (codes "source"))
 
--- `ld65 -C SCRIPT [-o FILE] INPUT`
+-- `ld65 -C SCRIPT [-o FILE] [-m MAP] INPUT..`
 abbrev pub ld65 : App
-ld65 = with_rule (with_rule (with_rule (new_app (codes "ld65"))
+ld65 = with_rule (with_rule (with_rule (with_rule (new_app (codes "ld65"))
     (required_option_rule (codes "script") 67))
     (option_rule (codes "output") 111))
-    (word_rule (codes "input"))
+    (option_rule (codes "map") 109))
+    (words_rule (codes "input"))
 
 -- the program's own words: one of the subcommands, and neither help nor version
 abbrev pub named : App

@@ -1,7 +1,7 @@
 -- The line that words are, by what clap states of the command.
-use Rattle.std.specs.Prelude.{ℕ, List, [], ◌∷◌, Option, Some, None, Result, Ok, Err, codes, unwrap_or, option_map, if◌then◌else◌}
+use Rattle.std.specs.Prelude.{ℕ, List, [], ◌∷◌, Option, Some, None, Result, Ok, Err, codes, unwrap_or, option_map, map, if◌then◌else◌}
 use Rattle.std.specs.Str.{bytes_eq}
-use Rattle.clap.specs.Words.{Kinds, Row, Text, first_of, fault_of, subcommand_of}
+use Rattle.clap.specs.Words.{Kinds, Row, Text, all_of, first_of, fault_of, subcommand_of}
 use Rattle.syntax65.specs.Outcome.{◌>>=◌}
 use Rattle.tools65.specs.CommandLine.{bin65}
 use Rattle.tools65.specs.declared.command_line.fault.LineFault.{LineFault}
@@ -24,7 +24,8 @@ taken words = unless_kinds (fault_of bin65 words) (subcommand_of bin65 words)
 pub record Linking : Type 0 where
   pub script : Text
   pub output : Option Text
-  pub input : Text
+  pub map : Option Text
+  pub inputs : List Text
 
 -- what a ca65 line says
 pub record Assembling : Type 0 where
@@ -40,12 +41,17 @@ pub data Says : Type 0 where
 abbrev pub given : List ℕ → List Row → Text
 given id rows = unwrap_or (first_of id rows) []
 
--- `ld65 -C SCRIPT [-o FILE] INPUT`
+-- all values of an argument, in order
+abbrev pub all_given : List ℕ → List Row → List Text
+all_given id rows = unwrap_or (all_of id rows) []
+
+-- `ld65 -C SCRIPT [-o FILE] [-m MAP] INPUT..`
 unfoldable pub linking_of : List Row → Linking
 linking_of rows = record {
   script = given (codes "script") rows;
   output = first_of (codes "output") rows;
-  input = given (codes "input") rows;
+  map = first_of (codes "map") rows;
+  inputs = all_given (codes "input") rows;
 }
 
 -- `ca65 [-o FILE] SOURCE`
@@ -72,7 +78,7 @@ line_of words = taken words >>= said
 
 -- what a line says, without where its texts lie
 abbrev pub linking : LinkLine → Linking
-linking l = record { script = l.script.now; output = option_map (λ s. s.now) l.output; input = l.input.now }
+linking l = record { script = l.script.now; output = option_map (λ s. s.now) l.output; map = option_map (λ s. s.now) l.map; inputs = map (λ s. s.now) l.inputs }
 
 abbrev pub assembling : AssembleLine → Assembling
 assembling l = record { output = option_map (λ s. s.now) l.output; source = l.source.now }

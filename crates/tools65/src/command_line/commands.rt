@@ -3,9 +3,9 @@
 ghost use Rattle.std.specs.Prelude.{◌≡◌, IfOk, false};
 ghost use Rattle.clap.specs.Words.{app_of, rule_of};
 ghost use Rattle.tools65.specs.CommandLine.{Adds, IsMade, named, bin65, ca65, ld65};
-ghost use Rattle.tools65.specs.CommandLine.{option_rule, required_option_rule, word_rule};
+ghost use Rattle.tools65.specs.CommandLine.{option_rule, required_option_rule, word_rule, words_rule};
 
-use clap::{Arg, Command};
+use clap::{Arg, ArgAction, Command};
 use std::alloc::{AllocError, Global};
 
 /// The command with one more argument.
@@ -51,6 +51,20 @@ fn with_word<'a>(
     with(command, Arg::new(alloc, id).required(true))
 }
 
+/// The command with words of which there has to be one.
+fn with_words<'a>(
+    alloc: Global,
+    command: Command<'a>,
+    id: &'a str,
+) -> Result<Command<'a>, AllocError>
+    ensures { IfOk result (λ c. Adds command.entry (words_rule id.entry.now) c) }
+{
+    with(
+        command,
+        Arg::new(alloc, id).required(true).action(ArgAction::Append),
+    )
+}
+
 /// `ca65 [-o FILE] SOURCE`
 fn ca65<'a>(alloc: Global) -> Result<Command<'a>, AllocError>
     ensures { IfOk result (λ c. IsMade ca65 c) }
@@ -59,13 +73,14 @@ fn ca65<'a>(alloc: Global) -> Result<Command<'a>, AllocError>
     with_word(alloc, command, "source")
 }
 
-/// `ld65 -C SCRIPT [-o FILE] INPUT`
+/// `ld65 -C SCRIPT [-o FILE] [-m MAP] INPUT..`
 fn ld65<'a>(alloc: Global) -> Result<Command<'a>, AllocError>
     ensures { IfOk result (λ c. IsMade ld65 c) }
 {
     let command = with_required_option(alloc, Command::new(alloc, "ld65"), "script", 'C')?;
     let command = with_option(alloc, command, "output", 'o')?;
-    with_word(alloc, command, "input")
+    let command = with_option(alloc, command, "map", 'm')?;
+    with_words(alloc, command, "input")
 }
 
 /// The program's own part.

@@ -1,14 +1,18 @@
 //! A command line as a value.
 
-/// `ld65 -C SCRIPT [-o FILE] INPUT`
+use syntax65::Sequence;
+
+/// `ld65 -C SCRIPT [-o FILE] [-m MAP] INPUT..`
 #[derive(Debug, Drop)]
 pub struct LinkLine<'a> {
     /// The script's file.
     pub script: &'a str,
     /// The output, where one is named.
     pub output: Option<&'a str>,
-    /// The object's file.
-    pub input: &'a str,
+    /// The map's file, where one is named.
+    pub map: Option<&'a str>,
+    /// The inputs' files, in order.
+    pub inputs: Sequence<&'a str>,
 }
 
 /// `ca65 [-o FILE] SOURCE`

@@ -1,17 +1,18 @@
 //! The line that words are.
 
-ghost use Rattle.std.specs.Prelude.{◌≡◌, map, option_map};
+ghost use Rattle.std.specs.Prelude.{◌≡◌, IfOk, map, option_map};
 ghost use Rattle.clap.specs.Words.{found_of, rows_of, first_of};
 ghost use Rattle.syntax65.specs.Outcome.{Gives};
 ghost use Rattle.tools65.specs.LineFaults.{is_outside};
-ghost use Rattle.tools65.specs.Line.{view, assembling, linking, line_of, said_by, assembling_of, linking_of};
+ghost use Rattle.tools65.specs.Line.{view, all_given, assembling, linking, line_of, said_by, assembling_of, linking_of};
 
 use crate::command_line::fault::LineFault;
 use crate::command_line::line::{AssembleLine, Line, LinkLine};
 use crate::command_line::parsing::parse;
 use clap::ArgMatches;
-use std::alloc::Global;
+use std::alloc::{AllocError, Global};
 use std::convert::AsStr;
+use syntax65::Sequence;
 
 /// The line that words are; the first is the program's name. Words that are no line are bad arguments.
 #[tactic(auto, unfolding(crate::specs::Line::line_of))]
@@ -22,17 +23,17 @@ pub fn read_line<'a, A: AsStr>(alloc: Global, words: &'a [A]) -> Result<Line<'a>
     let Some((name, own)) = found.subcommand() else {
         return Err(LineFault::BadArguments);
     };
-    line_by(name, own)
+    line_by(alloc, name, own)
 }
 
 /// The line of a subcommand's matches.
 #[tactic(auto, unfolding(crate::specs::Line::said_by))]
-fn line_by<'a>(name: &str, own: &ArgMatches<'a>) -> Result<Line<'a>, LineFault>
+fn line_by<'a>(alloc: Global, name: &str, own: &ArgMatches<'a>) -> Result<Line<'a>, LineFault>
     ensures { Gives is_outside view result (said_by name.now (rows_of (found_of own.now))) }
 {
     match name {
         "ca65" => Ok(Line::Assemble(assemble_line(own))),
-        "ld65" => Ok(Line::Link(link_line(own))),
+        "ld65" => Ok(Line::Link(link_line(alloc, own)?)),
         _ => Err(LineFault::BadArguments),
     }
 }
@@ -48,13 +49,25 @@ fn assemble_line<'a>(own: &ArgMatches<'a>) -> AssembleLine<'a>
 }
 
 #[tactic(auto, unfolding(crate::specs::Line::linking_of))]
-fn link_line<'a>(own: &ArgMatches<'a>) -> LinkLine<'a>
-    ensures { linking result ≡ linking_of (rows_of (found_of own.now)) }
+fn link_line<'a>(alloc: Global, own: &ArgMatches<'a>) -> Result<LinkLine<'a>, AllocError>
+    ensures { IfOk result (λ l. linking l ≡ linking_of (rows_of (found_of own.now))) }
 {
-    LinkLine {
+    Ok(LinkLine {
         script: one(own, "script").unwrap_or(""),
         output: one(own, "output"),
-        input: one(own, "input").unwrap_or(""),
+        map: one(own, "map"),
+        inputs: all(alloc, own, "input")?,
+    })
+}
+
+/// All values of an argument, in order.
+#[tactic(auto, using(crate::proofs::Rows::all_rows))]
+fn all<'a>(alloc: Global, own: &ArgMatches<'a>, id: &str) -> Result<Sequence<&'a str>, AllocError>
+    ensures { IfOk result (λ s. map (λ x. x.now) s ≡ all_given id.now (rows_of (found_of own.now))) }
+{
+    match own.get_strs(id) {
+        Some(texts) => Ok(Sequence::from_vec(Vec::from_slice(alloc, texts)?)),
+        None => Ok(Sequence::new(alloc)),
     }
 }
 

@@ -72,6 +72,14 @@ fn output_of<'a>(line: &LinkLine<'a>) -> &'a str
     line.output.unwrap_or("a.out")
 }
 
+/// The first input.
+pub fn first_input<'a>(line: &LinkLine<'a>) -> &'a str {
+    match line.inputs.as_slice().first() {
+        Some(input) => *input,
+        None => "",
+    }
+}
+
 /// What the object in a file comes to.
 fn link_input<S: Store>(
     alloc: Global,
@@ -83,7 +91,7 @@ fn link_input<S: Store>(
     ensures files { S.files store.new ≡ S.files store.old }
     ensures count { PassesBy is_failure (S.failures store.old) (S.failures store.new) result }
 {
-    let object = read_module(alloc, store, line.input, 0, u64::MAX)?;
+    let object = read_module(alloc, store, first_input(line), 0, u64::MAX)?;
     place_object(alloc, output_of(line), script, &object)
 }
 

@@ -86,7 +86,7 @@ pub fn refusal_message(
     line: &LinkLine<'_>,
     refusal: &Refusal,
 ) -> Result<Sequence<u8>, AllocError>
-    ensures { IfOk result (λ text. text ≡ refusal_message line.now.script.now line.now.input.now refusal.now) }
+    ensures { IfOk result (λ text. text ≡ refusal_message line.now.script.now line.now.script.now refusal.now) }
 {
     if refusal.is_memory() {
         return join(alloc, &[b"ld65: Error: out of memory\n"]);
@@ -104,7 +104,7 @@ pub fn refusal_message(
         ),
         Refusal::Object(fault) => file_message(
             alloc,
-            line.input,
+            crate::linking::link::first_input(line),
             fault.to_string(alloc)?.as_bytes(),
         ),
         Refusal::Place(fault) => file_message(alloc, "ld65", fault.to_string(alloc)?.as_bytes()),

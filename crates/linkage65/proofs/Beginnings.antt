@@ -3,7 +3,6 @@ use Rattle.std.proofs.Common.{◌≡◌, ◌∙◌, ◌+◌, ◌-◌, ◌^◌, �
 use Rattle.std.specs.Prelude.{slice_get, slice_set, max}
 use Rattle.std.proofs.lemmas.List.{map-set}
 use Rattle.std.proofs.lemmas.Option.{slice_get-map, slice_get_read}
-use Rattle.std.specs.List.{flat_map}
 use Rattle.std.specs.Option.{option_map}
 use Rattle.object65.specs.declared.object.Fragment.{Fragment}
 use Rattle.object65.specs.Objects.{fragment_len}
@@ -13,11 +12,11 @@ use Rattle.linkage65.specs.declared.contents.Content.{Content}
 use Rattle.linkage65.specs.declared.fault.LinkFault.{LinkFault}
 use Rattle.linkage65.specs.declared.growing.Growing.{Growing}
 use Rattle.linkage65.specs.declared.parts.SectionPlace.{SectionPlace}
-use Rattle.linkage65.specs.Contents.{cells_of, segment_from, segments_from}
+use Rattle.linkage65.specs.Contents.{segment_from, segments_from}
 use Rattle.linkage65.specs.Grounds.{growth_in, having, names_in, place_in, with_gap, with_name}
 use Rattle.linkage65.specs.Growing.{Growth, bare_section, longer, with_bare, with_cells, with_more, with_part, with_segments}
 use Rattle.linkage65.specs.Segments
-use Rattle.linkage65.proofs.PlaceOf.{AtPlace, at_place, begun_end, begun_section, more_nowhere, segment_names}
+use Rattle.linkage65.proofs.PlaceOf.{at_place, begun_end, begun_section, more_nowhere, segment_names}
 
 -- a segment with a bare section
 opened_is : (owner m : ℕ) (g h : Segments.Segment) (name : List ℕ) (align : ℕ) → m ≡ 2 ^ align → h ≡ record (with_gap (rounded_up g.size m - g.size) g) { size = rounded_up g.size m; align = max g.align m } → h ≡ Segments.grown owner g (bare_section name align)

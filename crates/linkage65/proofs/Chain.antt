@@ -1,8 +1,8 @@
 -- Exports that wait for one another.
-use Rattle.std.proofs.Common.{◌≡◌, ℕ, zero, suc, ◌+◌, refl, sym, ◌∙◌, ap, subst, arith, List, [], ◌∷◌, ◌++◌, slice_get, Some, Ok, Err, ◌⊎◌, inl, inr}
+use Rattle.std.proofs.Common.{◌≡◌, ℕ, suc, ◌+◌, refl, sym, subst, arith, List, [], ◌∷◌, ◌++◌, slice_get, Some, Err, ◌⊎◌, inl, inr}
 use Rattle.linkage65.specs.declared.parts.Exported.{Exported}
 use Rattle.linkage65.specs.declared.parts.ValueFault.TheVariants.{Circular}
-use Rattle.linkage65.specs.Values.{ExportComesTo, Linkage, exports_through, value_by}
+use Rattle.linkage65.specs.Values.{Linkage, exports_through, value_by}
 use Rattle.linkage65.proofs.Turns.{loops}
 use Rattle.linkage65.proofs.Tries.{Follows, exports_grow}
 

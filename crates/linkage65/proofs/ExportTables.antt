@@ -1,5 +1,5 @@
 -- What all exports come to.
-use Rattle.std.proofs.Common.{◌≡◌, ◌≢◌, ℕ, zero, suc, ◌+◌, ◌<◌, ◌≤◌, refl, sym, ◌∙◌, ap, subst, arith, List, [], ◌∷◌, length, map, get_or, slice_get, Option, Some, None, Bool, true, false, Result, Ok, Err, ◌⊎◌, inl, inr}
+use Rattle.std.proofs.Common.{◌≡◌, ◌≢◌, ℕ, zero, suc, ◌+◌, ◌<◌, ◌≤◌, refl, sym, ◌∙◌, ap, subst, arith, List, [], ◌∷◌, length, slice_get, Option, Some, None, Bool, true, false, Result, Ok, Err, ◌⊎◌, inl, inr}
 use Rattle.std.specs.Prelude.{ℤ}
 use Rattle.std.proofs.lemmas.Grind.{common_steps}
 use Rattle.std.proofs.Common.{nat_lt}
@@ -12,13 +12,13 @@ use Rattle.object65.specs.FormValue.{or_none, value_in}
 use Rattle.linkage65.specs.declared.evaluation.mark.Mark.{Mark}
 use Rattle.linkage65.specs.declared.evaluation.mark.Mark.TheVariants.{Untouched, BeingEvaluated, Found}
 use Rattle.linkage65.specs.declared.evaluation.mark.Stop.{Stop}
-use Rattle.linkage65.specs.declared.evaluation.mark.Stop.TheVariants.{Fault, Needs}
+use Rattle.linkage65.specs.declared.evaluation.mark.Stop.TheVariants.{Fault}
 use Rattle.linkage65.specs.declared.parts.Giver.{Giver}
 use Rattle.linkage65.specs.declared.parts.Giver.TheVariants.{ByModule, ByScript, Nobody}
 use Rattle.linkage65.specs.declared.parts.Resolved.{Resolved}
 use Rattle.linkage65.specs.declared.parts.ValueFault.{ValueFault}
-use Rattle.linkage65.specs.declared.parts.ValueFault.TheVariants.{Circular, NoValue, Unresolved}
-use Rattle.linkage65.specs.Marks.{AllFound, AreAllFound, AreSettled, AreUntouched, IsFound, KeepsFound, as_found, as_outcome, import_tried, marked, outcome_of, table_of, tried}
+use Rattle.linkage65.specs.declared.parts.ValueFault.TheVariants.{NoValue, Unresolved}
+use Rattle.linkage65.specs.Marks.{AllFound, AreAllFound, AreSettled, AreUntouched, IsFound, KeepsFound, as_found, as_outcome, import_tried, marked, table_of, tried}
 use Rattle.linkage65.specs.Values.{AreExports, ExportComesTo, Linkage, base_of, giver_at, import_value, in_table, value_by}
 
 -- ---- The table.

@@ -1,18 +1,18 @@
 -- The bytes of pieces and of rows.
-use Rattle.std.proofs.Common.{◌≡◌, ◌∙◌, ℕ, zero, suc, List, [], ◌∷◌, ◌++◌, map, refl, sym, ap, append_assoc, Option, Some, None}
+use Rattle.std.proofs.Common.{◌≡◌, ◌∙◌, ℕ, zero, suc, List, [], ◌∷◌, ◌++◌, map, refl, sym, ap, append_assoc, Some, None}
 use Rattle.std.specs.List.{flat_map}
 use Rattle.std.specs.Option.{option_map}
 use Rattle.std.specs.Prelude.{replicate}
 use Rattle.script65.specs.declared.script.Row.{Row}
 use Rattle.linkage65.specs.declared.contents.Content.{Content}
 use Rattle.linkage65.specs.declared.contents.Piece.{Piece}
-use Rattle.linkage65.specs.declared.contents.Piece.TheVariants.{Known, Filled, Waits}
+use Rattle.linkage65.specs.declared.contents.Piece.TheVariants.{Known, Filled}
 use Rattle.linkage65.specs.declared.holding.Held.{Held}
-use Rattle.linkage65.specs.Contents.{cells_of, content_of, piece_cells, segment_from, segments_from}
+use Rattle.linkage65.specs.Contents.{cells_of, content_of, piece_cells, segment_from}
 use Rattle.linkage65.specs.Evaluation.{exports_in, linkage_in}
 use Rattle.linkage65.specs.Files.{cell_bytes, segment_bytes}
 use Rattle.linkage65.specs.Holding.{bytes_in}
-use Rattle.linkage65.specs.Segments.{Cell, known, filled, segment_of}
+use Rattle.linkage65.specs.Segments.{Cell, known, filled}
 use Rattle.linkage65.specs.Values.{Exports, Linkage}
 use Rattle.linkage65.proofs.SegmentLemmas.{found_from}
 

@@ -20,3 +20,6 @@ pub mod LineLemmas
 pub mod FinishLemmas
 pub mod OutcomeLemmas
 pub mod LinkingLemmas
+pub mod MissingLemmas
+pub mod GivenLemmas
+pub mod Shown

@@ -1,6 +1,5 @@
 -- From a finished program to a placed link.
-use Rattle.std.proofs.Common.{◌≡◌, ◌∙◌, sym, subst, ap, Bool, true, false, List, ℕ, map, Result, Ok, Err}
-use Rattle.std.specs.Prelude.{ℤ}
+use Rattle.std.proofs.Common.{◌≡◌, subst, ap, Bool, true, false, List, ℕ, map, Result, Ok, Err}
 use Rattle.syntax65.specs.Outcome.{Finds, Unless}
 use Rattle.script65.specs.declared.placement.Placement.{Placement}
 use Rattle.script65.specs.declared.script.Script.{Script}

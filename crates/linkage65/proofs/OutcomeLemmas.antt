@@ -3,17 +3,15 @@ use Rattle.std.proofs.Common.{◌≡◌, ◌∙◌, ℕ, zero, suc, ◌+◌, ◌
 use Rattle.std.specs.Prelude.{ℤ, ◌==◌}
 use Rattle.syntax65.specs.Outcome.{First}
 use Rattle.script65.specs.declared.placement.Placement.{Placement}
-use Rattle.script65.specs.declared.placement.RowPlace.{RowPlace}
 use Rattle.script65.specs.declared.script.Area.{Area}
-use Rattle.script65.specs.declared.script.Row.{Row}
 use Rattle.script65.specs.declared.script.Script.{Script}
 use Rattle.linkage65.specs.declared.fault.LinkFault.{LinkFault}
 use Rattle.linkage65.specs.declared.linked.Linked.{Linked}
 use Rattle.linkage65.specs.declared.linked.LinkedFile.{LinkedFile}
 use Rattle.linkage65.specs.declared.parts.ValueFault.{ValueFault}
 use Rattle.linkage65.specs.declared.parts.ValueFault.TheVariants.{Unresolved}
-use Rattle.linkage65.specs.Files.{AddsArea, AddsAreas, IsAreaFile, IsImage, Piece, RowBytes, byte_over, file_name, row_bytes, with_bytes}
-use Rattle.linkage65.specs.Links.{AreFiles, IsFinished, IsImaged, IsPlacedLink, IsProgramLink, LinkOf, checked, names_once, placed}
+use Rattle.linkage65.specs.Files.{AddsArea, AddsAreas, IsAreaFile, IsImage, Piece, file_name, row_bytes, with_bytes}
+use Rattle.linkage65.specs.Links.{IsFinished, IsImaged, IsPlacedLink, IsProgramLink, LinkOf, checked, names_once, placed}
 use Rattle.linkage65.specs.Maps.{map_text}
 use Rattle.linkage65.specs.Modules.{Module}
 use Rattle.linkage65.specs.Places.{linkage_of}

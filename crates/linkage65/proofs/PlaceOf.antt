@@ -1,6 +1,6 @@
 -- Segments by their places.
-use Rattle.std.proofs.Common.{◌≡◌, ◌∙◌, ◌+◌, ◌-◌, ◌^◌, ◌<◌, ℕ, zero, suc, List, [], ◌∷◌, ◌++◌, length, map, replicate, cond, Option, Some, None, Bool, true, false, nat_lt, if◌then◌else◌, refl, sym, ap, subst, arith, append_assoc, ◌||◌}
-use Rattle.std.specs.Prelude.{slice_get, slice_set, find, max, position}
+use Rattle.std.proofs.Common.{◌≡◌, ◌∙◌, ◌+◌, ℕ, suc, List, [], ◌∷◌, ◌++◌, length, map, cond, Option, Some, None, Bool, true, false, nat_lt, if◌then◌else◌, refl, sym, ap, subst, arith, ◌||◌}
+use Rattle.std.specs.Prelude.{slice_get, slice_set, position}
 use Rattle.std.proofs.lemmas.Bool.Decides.{nat_tests}
 use Rattle.std.proofs.lemmas.Cmp.{nat_list_eq_equiv}
 use Rattle.std.specs.List.{list_any, position_or_len}
@@ -11,7 +11,7 @@ use Rattle.object65.specs.declared.object.Section.{Section}
 use Rattle.linkage65.specs.declared.contents.Content.{Content}
 use Rattle.linkage65.specs.Contents.{segments_from}
 use Rattle.linkage65.specs.Grounds.{place_in, with_name}
-use Rattle.linkage65.specs.Growing.{bare_section, with_cells, with_more}
+use Rattle.linkage65.specs.Growing.{with_cells, with_more}
 use Rattle.linkage65.specs.Segments
 
 pub at_front : {X : Type 0} (p : X → Bool) (x : X) (xs : List X) → p x ≡ true → position p (x ∷ xs) ≡ Some 0

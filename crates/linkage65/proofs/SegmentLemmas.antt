@@ -1,5 +1,5 @@
 -- Segments by name.
-use Rattle.std.proofs.Common.{◌≡◌, ◌<◌, ◌≤◌, ◌-◌, ℕ, ◌+◌, Bool, true, false, cond, List, [], ◌∷◌, length, map, drop, get_or, Option, Some, None, refl, sym, ap, ◌∙◌, arith}
+use Rattle.std.proofs.Common.{◌≡◌, ◌<◌, ◌≤◌, ◌-◌, ℕ, ◌+◌, Bool, true, false, cond, List, [], ◌∷◌, length, drop, get_or, Option, Some, None, refl, sym, ap, ◌∙◌, arith}
 use Rattle.std.specs.Borrow.{Bor}
 use Rattle.std.specs.Option.{option_map}
 use Rattle.std.specs.Prelude.{find, option_copied}
@@ -8,7 +8,7 @@ use Rattle.std.proofs.lemmas.List.{drop_all}
 use Rattle.script65.proofs.NeedLemmas.{drop_item}
 use Rattle.linkage65.specs.declared.contents.Content.{Content}
 use Rattle.linkage65.specs.Contents.{content_of, segment_from, segments_from}
-use Rattle.linkage65.specs.Segments.{Segment, segment_of}
+use Rattle.linkage65.specs.Segments.{segment_of}
 
 pub none_there : (contents : List Content) (name : List ℕ) → content_of (drop (length contents) contents) name ≡ None
 none_there contents name = ap (find (λ c. bytes_eq c.name name)) (drop_all (length contents) contents (omega arith))

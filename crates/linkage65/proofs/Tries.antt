@@ -1,6 +1,6 @@
 -- What an attempt at a form says of what it comes to.
-use Rattle.std.proofs.Common.{◌≡◌, ℕ, zero, suc, ◌+◌, refl, sym, ◌∙◌, ap, subst, arith, ◌⊎◌, inl, inr, List, slice_get, Option, Some, None, Result, Ok, Err}
-use Rattle.std.specs.Prelude.{ℤ, ◌+ℤ◌, ⊤}
+use Rattle.std.proofs.Common.{◌≡◌, ℕ, zero, suc, ◌+◌, refl, ◌∙◌, ap, arith, ◌⊎◌, inl, inr, List, slice_get, Option, Some, None, Result, Ok, Err}
+use Rattle.std.specs.Prelude.{ℤ, ◌+ℤ◌}
 use Rattle.syntax65.specs.Outcome.{◌>>=◌}
 use Rattle.syntax65.specs.Values.{value1, value2, wrapped}
 use Rattle.object65.specs.Form.{Form, lit, sec, imp, prefix, binary}
@@ -12,12 +12,11 @@ use Rattle.linkage65.specs.declared.evaluation.mark.Stop.TheVariants.{Fault, Nee
 use Rattle.linkage65.specs.declared.parts.Exported.{Exported}
 use Rattle.linkage65.specs.declared.parts.Giver.{Giver}
 use Rattle.linkage65.specs.declared.parts.Giver.TheVariants.{ByModule, ByScript, Nobody}
-use Rattle.linkage65.specs.declared.parts.Resolved.{Resolved}
 use Rattle.linkage65.specs.declared.parts.ValueFault.{ValueFault}
 use Rattle.linkage65.specs.declared.parts.ValueFault.TheVariants.{Circular, NoValue, Unresolved}
 use Rattle.linkage65.specs.Marks.{AreTrue, as_found, import_tried, marked, tried}
 use Rattle.linkage65.specs.Values.{ExportComesTo, Exports, Linkage, Settles, base_of, export_value, exports_through, giver_at, import_value, value_by}
-use Rattle.linkage65.proofs.Turns.{Answer, Grows, Known, Reaches, circular_before, known_same, known_trans, reaches_no_value, reaches_unresolved, reaches_value, stands, stands_or}
+use Rattle.linkage65.proofs.Turns.{Answer, Grows, Known, Reaches, known_same, reaches_no_value, reaches_unresolved, reaches_value, stands, stands_or}
 
 -- ---- More is known of exports with each turn, and so of forms.
 

@@ -1,7 +1,6 @@
 -- Answers that are found at some number of exports one inside the other, and stay.
 use Rattle.std.proofs.Common.{◌≡◌, ℕ, zero, suc, ◌+◌, refl, sym, ◌∙◌, ap, subst, arith, ◌⊎◌, inl, inr, Result, Ok, Err}
 use Rattle.std.specs.Prelude.{ℤ, ⊤}
-use Rattle.syntax65.specs.Outcome.{◌>>=◌}
 use Rattle.linkage65.specs.declared.parts.ValueFault.{ValueFault}
 use Rattle.linkage65.specs.declared.parts.ValueFault.TheVariants.{Circular, NoValue, Unresolved}
 use Rattle.linkage65.specs.Values.{Settles}

@@ -5,20 +5,18 @@ use Rattle.std.proofs.lemmas.Grind.{common_steps}
 use Rattle.std.proofs.lemmas.List.Sums.{sum_by-set}
 use Rattle.std.proofs.lemmas.Option.{gets}
 use Rattle.std.proofs.lemmas.Bool.Decides.{nat_tests}
-use Rattle.linkage65.specs.declared.evaluation.mark.Attempt.{Attempt}
 use Rattle.linkage65.specs.declared.evaluation.mark.Attempt.TheVariants as attempt
 use Rattle.linkage65.specs.declared.evaluation.mark.Mark.{Mark}
 use Rattle.linkage65.specs.declared.evaluation.mark.Mark.TheVariants.{Untouched, BeingEvaluated, Found}
 use Rattle.linkage65.specs.declared.evaluation.mark.Stop.{Stop}
 use Rattle.linkage65.specs.declared.evaluation.mark.Stop.TheVariants.{Fault, Needs}
 use Rattle.linkage65.specs.declared.parts.Exported.{Exported}
-use Rattle.linkage65.specs.declared.parts.Resolved.{Resolved}
 use Rattle.linkage65.specs.declared.parts.ValueFault.{ValueFault}
 use Rattle.linkage65.specs.declared.parts.ValueFault.TheVariants.{Circular, NoValue, Unresolved}
 use Rattle.linkage65.specs.Marks.{AreSettled, AreTrue, IsFound, KeepsFound, attempt_of, export_tried, tried}
 use Rattle.linkage65.specs.Values.{ExportComesTo, Linkage, exports_through, value_by}
 use Rattle.linkage65.proofs.Chain.{Among, IsChain, Leads, chain_less, chain_more, leads_to, met_again}
-use Rattle.linkage65.proofs.Tries.{AreLong, Follows, Meets, Tells, form_tells}
+use Rattle.linkage65.proofs.Tries.{AreLong, Meets, Tells, form_tells}
 use Rattle.linkage65.proofs.Turns.{Reaches}
 
 pub record IsWalk (l : Linkage) (old marks : List Mark) (waiting : List ℕ) (root top : ℕ) : Type 0 where

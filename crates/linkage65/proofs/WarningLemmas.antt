@@ -1,12 +1,12 @@
 -- Data in pieces.
-use Rattle.std.proofs.Common.{◌≡◌, ◌∙◌, ℕ, zero, suc, Bool, true, false, List, [], ◌∷◌, map, length, nat_eq, refl, sym, ap, arith}
+use Rattle.std.proofs.Common.{◌≡◌, ℕ, zero, suc, false, List, [], ◌∷◌, map, length, nat_eq, refl, arith}
 use Rattle.std.specs.List.{list_any}
 use Rattle.std.specs.Prelude.{not, replicate}
 use Rattle.std.proofs.lemmas.Bool.Decides.{nat_tests}
 use Rattle.linkage65.specs.declared.contents.Piece.{Piece}
 use Rattle.linkage65.specs.declared.contents.Piece.TheVariants.{Known, Filled}
 use Rattle.linkage65.specs.Contents.{piece_cells}
-use Rattle.linkage65.specs.Segments.{Cell, known, filled}
+use Rattle.linkage65.specs.Segments.{known, filled}
 use Rattle.linkage65.specs.Warnings.{is_data}
 
 known_data : (bytes : List ℕ) → not (nat_eq (length bytes) 0) ≡ list_any is_data (map known bytes)

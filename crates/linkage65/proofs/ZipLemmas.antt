@@ -1,5 +1,5 @@
 -- Lists beside each other.
-use Rattle.std.proofs.Common.{◌≡◌, ◌∙◌, ◌<◌, ◌≤◌, ℕ, zero, suc, ◌+◌, List, [], ◌∷◌, ◌++◌, length, drop, get_or, slice_get, Option, Some, None, refl, sym, ap, arith, append_assoc, add-one}
+use Rattle.std.proofs.Common.{◌≡◌, ◌∙◌, ◌<◌, ◌≤◌, ℕ, zero, suc, ◌+◌, List, [], ◌∷◌, ◌++◌, length, drop, get_or, slice_get, Option, Some, None, refl, sym, ap, append_assoc, add-one}
 use Rattle.std.proofs.lemmas.List.{drop_all}
 use Rattle.script65.proofs.Eaches.{append_none, drop_at}
 use Rattle.script65.proofs.NeedLemmas.{drop_item}

@@ -1,5 +1,5 @@
 -- Why nothing is linked: in words, and whether memory ran out.
-use Rattle.std.specs.Prelude.{ℕ, Bool, true, false, List, [], ◌∷◌, ◌++◌, codes}
+use Rattle.std.specs.Prelude.{ℕ, Bool, true, false, List, [], ◌∷◌, ◌++◌, codes, encode_utf8_all}
 use Rattle.object65.specs.Fault.{fault_text as object_words, is_memory as is_object_memory}
 use Rattle.script65.specs.Faults.{is_place_outside, place_fault_text}
 use Rattle.linkage65.specs.declared.fault.LinkFault.{LinkFault}
@@ -28,3 +28,21 @@ fault_text (Circular s) = codes "circular definition"
 fault_text (OutOfRange s) = codes "out of range"
 fault_text (NoValue s) = codes "zero divisor or bad shift count"
 fault_text (Assertion s text) = text
+
+-- the same as characters: each byte of a name or of an assertion's text is the character of its code
+abbrev pub displayed : LinkFault → List ℕ
+displayed (DuplicateExport name) = codes "duplicate export: " ++ encode_utf8_all name
+displayed (Unresolved names) = codes "unresolved: " ++ encode_utf8_all (listed names)
+displayed (Assertion s text) = encode_utf8_all text
+displayed FailedBefore = codes "failed before"
+displayed OutOfMemory = codes "out of memory"
+displayed (Object f) = object_words f
+displayed (Place f) = place_fault_text f
+displayed (Circular s) = codes "circular definition"
+displayed (OutOfRange s) = codes "out of range"
+displayed (NoValue s) = codes "zero divisor or bad shift count"
+
+-- what stands between names and one behind them
+abbrev pub separator_behind : List (List ℕ) → List ℕ
+separator_behind [] = []
+separator_behind (name ∷ names) = codes ", "

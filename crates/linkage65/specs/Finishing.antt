@@ -1,14 +1,12 @@
 -- What a placed program is finished from, as the code holds it.
-use Rattle.std.specs.Prelude.{◌≡◌, ℕ, List, map}
+use Rattle.std.specs.Prelude.{◌≡◌}
 use Rattle.linkage65.specs.declared.holding.Held.{Held}
 use Rattle.linkage65.specs.declared.kept.Kept.{Kept}
 use Rattle.linkage65.specs.declared.finishing.Job.{Job}
 use Rattle.linkage65.specs.declared.resolving.Names.{Names}
-use Rattle.linkage65.specs.declared.parts.Resolved.{Resolved}
 use Rattle.linkage65.specs.Contents.{segments_from}
 use Rattle.linkage65.specs.Holding.{IsReady}
 use Rattle.linkage65.specs.Names.{script_definitions, weak_symbols}
-use Rattle.linkage65.specs.Places.{resolved}
 use Rattle.linkage65.specs.Programs.{Program}
 use Rattle.linkage65.specs.Resolving.{AreNames}
 

@@ -1,5 +1,5 @@
 -- A program while a module comes, item by item.
-use Rattle.std.specs.Prelude.{◌≡◌, ℕ, ◌+◌, List, [], ◌∷◌, ◌++◌, length, map, slice_get, slice_set, Option, Some, None, Result, Ok, if◌then◌else◌}
+use Rattle.std.specs.Prelude.{◌≡◌, ℕ, ◌+◌, List, [], ◌∷◌, ◌++◌, length, map, slice_get, slice_set, Option, Some, None, Ok, if◌then◌else◌}
 use Rattle.std.specs.Str.{bytes_eq}
 use Rattle.object65.specs.declared.item.Item.{Item}
 use Rattle.object65.specs.declared.item.Item.TheVariants as item
@@ -10,9 +10,6 @@ use Rattle.object65.specs.Items.{with_item}
 use Rattle.object65.specs.Record.{Entry}
 use Rattle.object65.specs.Scanning.{Outline, outline_of, scanned}
 use Rattle.object65.specs.Taking.{IsReached, State, object_from, section_from, start}
-use Rattle.linkage65.specs.declared.parts.Asserted.{Asserted}
-use Rattle.linkage65.specs.declared.parts.Exported.{Exported}
-use Rattle.linkage65.specs.declared.parts.Member.{Member}
 use Rattle.linkage65.specs.declared.parts.SectionPlace.{SectionPlace}
 use Rattle.linkage65.specs.Modules.{Module}
 use Rattle.linkage65.specs.Programs.{Program, asserted, exported, with_module}

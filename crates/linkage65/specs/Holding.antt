@@ -1,5 +1,5 @@
 -- What the rows of a placed program hold, as the code has it, and the files so far.
-use Rattle.std.specs.Prelude.{◌≡◌, List, map}
+use Rattle.std.specs.Prelude.{◌≡◌, map}
 use Rattle.linkage65.specs.declared.files.Files.{Files}
 use Rattle.linkage65.specs.declared.holding.Held.{Held}
 use Rattle.linkage65.specs.Contents.{AreByName, segments_from}

@@ -23,3 +23,5 @@ pub mod Links
 pub mod Laws
 pub mod Resolving
 pub mod Finishing
+pub mod Missing
+pub mod GivenTwice

@@ -1,5 +1,5 @@
 -- The map: the modules with their sections, the rows with their addresses, the symbols with their values.
-use Rattle.std.specs.Prelude.{ℕ, zero, suc, ◌/◌, ◌%◌, ◌^◌, ℤ, ◌||◌, is_some, nat_lt, get_or, List, [], ◌∷◌, ◌++◌, codes, if◌then◌else◌}
+use Rattle.std.specs.Prelude.{ℕ, zero, suc, ◌/◌, ◌%◌, ◌^◌, ◌||◌, is_some, nat_lt, get_or, List, [], ◌∷◌, ◌++◌, codes, if◌then◌else◌}
 use Rattle.std.specs.Int.{w64, cast_unsigned}
 use Rattle.std.specs.List.{flat_map}
 use Rattle.script65.specs.declared.placement.Placement.{Placement}

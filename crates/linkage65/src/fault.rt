@@ -1,11 +1,13 @@
 //! Why nothing is linked.
 
-ghost use Rattle.std.specs.Prelude.{◌≡◌};
+ghost use Rattle.std.specs.Prelude.{◌≡◌, Some};
 ghost use Rattle.linkage65.specs.declared.fault.LinkFault.TheVariants.{OutOfMemory, Object, Place};
 
 use object65::ObjectFault;
 use script65::PlaceFault;
 use std::alloc::{AllocError, AllocFailed};
+use std::error::Error;
+use std::fmt;
 use syntax65::Sequence;
 
 /// The module and the line of a datum, an export or an assertion.
@@ -36,6 +38,76 @@ pub enum LinkFault {
     NoValue(Site),
     /// An assertion that fails, and its text.
     Assertion(Site, Sequence<u8>),
+}
+
+impl fmt::Display for LinkFault {
+    ghost use Rattle.linkage65.specs.Faults.{displayed};
+
+    ghost output = { λ e. Some (displayed e) };
+
+    fn fmt<W: fmt::Write>(&self, f: &mut fmt::Formatter<W>) -> fmt::Result {
+        match self {
+            LinkFault::FailedBefore => f.write_str("failed before"),
+            LinkFault::OutOfMemory => f.write_str("out of memory"),
+            LinkFault::Object(fault) => write!(f, "{fault}"),
+            LinkFault::DuplicateExport(name) => {
+                let name = Shown(name.as_slice());
+                write!(f, "duplicate export: {name}")
+            }
+            LinkFault::Unresolved(names) => {
+                let names = Listed(names.as_slice());
+                write!(f, "unresolved: {names}")
+            }
+            LinkFault::Place(fault) => write!(f, "{fault}"),
+            LinkFault::Circular(_) => f.write_str("circular definition"),
+            LinkFault::OutOfRange(_) => f.write_str("out of range"),
+            LinkFault::NoValue(_) => f.write_str("zero divisor or bad shift count"),
+            LinkFault::Assertion(_, text) => {
+                let text = Shown(text.as_slice());
+                write!(f, "{text}")
+            }
+        }
+    }
+}
+
+impl Error for LinkFault {}
+
+/// A name as it is printed: each byte is the character of its code.
+#[derive(Clone, Copy)]
+struct Shown<'a>(&'a [u8]);
+
+impl fmt::Display for Shown<'_> {
+    ghost use Rattle.std.specs.Prelude.{encode_utf8_all};
+
+    ghost output = { λ x. Some (encode_utf8_all x.0.now) };
+
+    fn fmt<W: fmt::Write>(&self, f: &mut fmt::Formatter<W>) -> fmt::Result {
+        for byte in self.0 {
+            f.write_char(char::from(*byte))?;
+        }
+        Ok(())
+    }
+}
+
+/// Names as they are printed, between commas and blanks.
+#[derive(Clone, Copy)]
+struct Listed<'a>(&'a [Sequence<u8>]);
+
+impl fmt::Display for Listed<'_> {
+    ghost use Rattle.std.specs.Prelude.{encode_utf8_all};
+    ghost use Rattle.linkage65.specs.Faults.{listed};
+
+    ghost output = { λ x. Some (encode_utf8_all (listed x.0.now)) };
+
+    fn fmt<W: fmt::Write>(&self, f: &mut fmt::Formatter<W>) -> fmt::Result {
+        let mut separator = "";
+        for name in self.0 {
+            let name = Shown(name.as_slice());
+            write!(f, "{separator}{name}")?;
+            separator = ", ";
+        }
+        Ok(())
+    }
 }
 
 impl From<AllocError> for LinkFault {

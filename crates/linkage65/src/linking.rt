@@ -1,10 +1,10 @@
 //! From what is kept of modules to what a placed program comes to.
 
 ghost use Rattle.std.specs.Prelude.{◌≡◌, map};
-ghost use Rattle.syntax65.specs.Outcome.{Finds};
+ghost use Rattle.syntax65.specs.Outcome.{Finds, Gives};
 ghost use Rattle.linkage65.specs.Faults.{is_memory};
 ghost use Rattle.linkage65.specs.Finishing.{program_from};
-ghost use Rattle.linkage65.specs.Links.{IsPlacedLink};
+ghost use Rattle.linkage65.specs.Links.{IsPlacedLink, IsProgramLink, placed};
 ghost use Rattle.linkage65.specs.Names.{script_definitions, weak_symbols};
 ghost use Rattle.linkage65.specs.Places.{resolved};
 ghost use Rattle.linkage65.specs.Resolving.{AreNames};
@@ -15,10 +15,13 @@ use crate::finishing::{Job, finish};
 use crate::holding::Held;
 use crate::kept::Kept;
 use crate::linked::Linked;
+use crate::missing::check_names;
 use crate::naming::{definitions_of, weak_symbols};
+use crate::needs::needs_of;
 use crate::parts::{Definition, Resolved};
 use crate::resolving::{Addresses, Names, resolve_all};
 use crate::tables::Segments;
+use script65::{Placement, Script, place};
 use std::alloc::Global;
 
 /// What a placed program comes to whose sections lie so and whose imports are given so.
@@ -79,4 +82,27 @@ pub fn link_placed(alloc: Global, job: &Job<'_>, kept: &Kept) -> Result<Linked, 
     let own = definitions_of(alloc, job.script, job.placement)?;
     let weak = weak_symbols(alloc, job.script.symbols.as_slice())?;
     link_defined(alloc, job, kept, own.as_slice(), weak.as_slice())
+}
+
+/// Where a program's segments are placed, each of whose names has to be given.
+fn placement_of(alloc: Global, script: &Script, kept: &Kept) -> Result<Placement, LinkFault>
+    ensures { Gives is_memory (λ p. p) result (placed script.now (program_from kept.now)) }
+{
+    check_names(alloc, script, kept)?;
+    let needs = needs_of(alloc, kept.contents.as_slice())?;
+    Ok(place(alloc, script, needs.as_slice())?)
+}
+
+/// What is kept of modules comes to by a script, where no name is given twice: the files, the warnings and the map,
+/// or the first fault.
+pub fn link(alloc: Global, output: &str, script: &Script, kept: &Kept) -> Result<Linked, LinkFault>
+    ensures { Finds is_memory (IsProgramLink output.now script.now (program_from kept.now)) result }
+{
+    let placement = placement_of(alloc, script, kept)?;
+    let job = Job {
+        output,
+        script,
+        placement: &placement,
+    };
+    link_placed(alloc, &job, kept)
 }

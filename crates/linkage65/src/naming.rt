@@ -173,7 +173,7 @@ fn add_rows(
 }
 
 /// Adds the symbols that the script exports.
-fn add_exports(
+pub fn add_exports(
     alloc: Global,
     definitions: &mut Sequence<Definition>,
     symbols: &[Symbol],

@@ -28,7 +28,7 @@ fn name_at<'a>(names: &[&'a [u8]], i: usize) -> &'a [u8]
 }
 
 /// The places of names. Of two that are equal the first counts, so it comes last.
-fn places_of<'a>(alloc: Global, names: &[&'a [u8]]) -> Result<Places<'a>, AllocError>
+pub fn places_of<'a>(alloc: Global, names: &[&'a [u8]]) -> Result<Places<'a>, AllocError>
     ensures { IfOk result (λ t. IsTable t (map (λ n. n.now) names.now)) }
 {
     let mut by_name = IndexMap::new(alloc);
@@ -163,7 +163,7 @@ pub fn is_defined(names: &Names<'_>, name: &[u8]) -> bool
     names.own_places.get(name).is_some() || names.export_places.get(name).is_some()
 }
 
-fn definition_places<'a>(
+pub fn definition_places<'a>(
     alloc: Global,
     definitions: &'a [Definition],
 ) -> Result<Places<'a>, AllocError>
@@ -173,7 +173,7 @@ fn definition_places<'a>(
     places_of(alloc, names.as_slice())
 }
 
-fn export_places<'a>(alloc: Global, exports: &'a [Exported]) -> Result<Places<'a>, AllocError>
+pub fn export_places<'a>(alloc: Global, exports: &'a [Exported]) -> Result<Places<'a>, AllocError>
     ensures { IfOk result (λ t. IsTable t (map (λ e. e.name) exports.entry.now)) }
 {
     let names = export_names(alloc, exports)?;

@@ -1,17 +1,11 @@
-use Rattle.std.proofs.lemmas.Result.{err_from_is_err_and}
-use Rattle.linkage65.specs.Checks.{check_waiting, each_passes, waiting_by_row, waiting_of}
-use Rattle.linkage65.specs.Contents.{content_of, piece_waiting, segments_from}
+use Rattle.linkage65.specs.Checks.{check_waiting, each_passes}
+use Rattle.linkage65.specs.Contents.{piece_waiting}
 use Rattle.linkage65.specs.Evaluation.{exports_in, linkage_in}
 use Rattle.linkage65.specs.Faults.{is_memory}
-use Rattle.linkage65.specs.Segments.{segment_of}
 use Rattle.syntax65.specs.Outcome.{Gives}
 use Rattle.std.specs.List.{flat_map}
-use Rattle.std.proofs.Common.{◌≡◌, ◌∙◌, ap, sym, subst, List, Ok, Err, Result}
-use Rattle.std.specs.Prelude.{option_copied, Some, None, Option}
-use Rattle.std.specs.Option.{option_map}
-use Rattle.linkage65.specs.declared.contents.Content.{Content}
+use Rattle.std.proofs.Common.{◌∙◌, ap, subst, List}
 use Rattle.linkage65.specs.declared.parts.Waiting.{Waiting}
-use Rattle.linkage65.specs.Contents.{cells_of, segment_from}
 use Rattle.linkage65.proofs.Passes.{no_row_waits, row_waits}
 use Rattle.linkage65.proofs.checking.check_row.Goals as goal
 

@@ -1,4 +1,4 @@
-use Rattle.std.proofs.Common.{◌≡◌, ◌<◌, ◌∙◌, drop, ap, arith, length, map, subst, List, Some, [], slice_get}
+use Rattle.std.proofs.Common.{◌≡◌, ◌∙◌, drop, ap, arith, map, subst, List, Some, [], slice_get}
 use Rattle.std.proofs.lemmas.Grind.{common_steps}
 use Rattle.std.proofs.lemmas.Option.{gets}
 use Rattle.script65.specs.declared.script.Area.{Area}

@@ -1,11 +1,10 @@
-use Rattle.std.proofs.Common.{◌≡◌, ◌∙◌, ◌++◌, ap, List, ℕ, Result, Ok}
+use Rattle.std.proofs.Common.{◌∙◌, ◌++◌, ap, List, ℕ, Result, Ok}
 use Rattle.std.proofs.lemmas.Result.{err_from_is_err_and}
 use Rattle.linkage65.specs.declared.fault.LinkFault.{LinkFault}
 use Rattle.linkage65.specs.declared.linked.Linked.{Linked}
 use Rattle.linkage65.specs.Evaluation.{exports_in, linkage_in}
 use Rattle.linkage65.specs.Finishing.{program_in}
 use Rattle.linkage65.specs.Links.{IsImaged, checked}
-use Rattle.linkage65.specs.Maps.{map_text}
 use Rattle.linkage65.specs.Warnings.{warnings_of_rows}
 use Rattle.linkage65.proofs.FinishLemmas.{first_err, first_ok}
 use Rattle.linkage65.proofs.finishing.finish.Goals as goal

@@ -1,4 +1,4 @@
-use Rattle.std.proofs.Common.{◌≡◌, ◌∙◌, ap, sym}
+use Rattle.std.proofs.Common.{◌∙◌, ap, sym}
 use Rattle.std.proofs.Math.Seq.{map-set_same}
 use Rattle.linkage65.specs.declared.contents.Content.{Content}
 use Rattle.linkage65.specs.Grounds.{growth_in}

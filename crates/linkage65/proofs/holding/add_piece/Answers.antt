@@ -1,5 +1,5 @@
-use Rattle.std.proofs.Common.{◌≡◌, ◌∙◌, ◌++◌, ap, subst, List, ℕ}
-use Rattle.std.specs.Prelude.{OnOk, replicate}
+use Rattle.std.proofs.Common.{◌≡◌, ◌∙◌, ◌++◌, subst, List, ℕ}
+use Rattle.std.specs.Prelude.{OnOk}
 use Rattle.linkage65.specs.Evaluation.{exports_in, linkage_in}
 use Rattle.linkage65.proofs.HoldingLemmas.{filled_piece, known_piece}
 use Rattle.linkage65.proofs.holding.add_piece.Goals as goal

@@ -1,6 +1,5 @@
 use Rattle.std.proofs.Common.{◌-◌, ◌∙◌, ap}
 use Rattle.linkage65.specs.Holding.{bytes_in}
-use Rattle.linkage65.specs.Loads.{view}
 use Rattle.linkage65.proofs.ImageLemmas.{next_row, no_row}
 use Rattle.linkage65.proofs.imaging.lay_rows.Goals as goal
 

@@ -1,4 +1,4 @@
-use Rattle.std.proofs.Common.{◌≡◌, ◌∙◌, ap, sym, List, map}
+use Rattle.std.proofs.Common.{◌≡◌, ◌∙◌, ap, List, map}
 use Rattle.script65.specs.declared.placement.RowPlace.{RowPlace}
 use Rattle.script65.specs.declared.script.Row.{Row}
 use Rattle.linkage65.specs.declared.parts.Definition.{Definition}
@@ -6,7 +6,7 @@ use Rattle.linkage65.specs.declared.parts.Exported.{Exported}
 use Rattle.linkage65.specs.declared.parts.Member.{Member}
 use Rattle.linkage65.specs.declared.parts.Resolved.{Resolved}
 use Rattle.linkage65.specs.Givers.{giver_of}
-use Rattle.linkage65.specs.Names.{script_definitions, weak_symbols}
+use Rattle.linkage65.specs.Names.{script_definitions}
 use Rattle.linkage65.specs.Places.{address_of}
 use Rattle.linkage65.specs.Resolving.{resolved_by}
 use Rattle.linkage65.proofs.linking.link_defined.Goals as goal

@@ -1,4 +1,4 @@
-use Rattle.std.proofs.Common.{◌≡◌, ◌∙◌, ap, sym, subst, List}
+use Rattle.std.proofs.Common.{◌∙◌, sym, subst, List}
 use Rattle.syntax65.specs.Outcome.{Finds}
 use Rattle.linkage65.specs.declared.contents.Content.{Content}
 use Rattle.linkage65.specs.declared.evaluation.mark.Mark.{Mark}

@@ -1,6 +1,5 @@
 use Rattle.std.proofs.Common.{◌∙◌}
 use Rattle.std.specs.List.{flat_map}
-use Rattle.linkage65.specs.Evaluation.{exports_in, linkage_in}
 use Rattle.linkage65.specs.Maps.{weak_line}
 use Rattle.linkage65.proofs.LineLemmas.{lines_next}
 use Rattle.linkage65.proofs.mapping.weak_lines.Goals as goal

@@ -1,4 +1,3 @@
-use Rattle.std.proofs.Common.{drop}
 use Rattle.linkage65.specs.Lists.{flat_zip}
 use Rattle.linkage65.specs.Names.{row_definitions}
 use Rattle.linkage65.proofs.ZipLemmas.{zip_end, zip_next}

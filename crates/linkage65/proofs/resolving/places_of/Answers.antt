@@ -1,4 +1,4 @@
-use Rattle.std.proofs.Common.{◌≡◌, drop, Bor, List, ℕ, Some, cond, ap, ◌∙◌, sym, arith}
+use Rattle.std.proofs.Common.{◌≡◌, drop, Bor, List, ℕ, ap, ◌∙◌, sym, arith}
 use Rattle.std.specs.List.{position_from}
 use Rattle.std.specs.Str.{bytes_eq}
 use Rattle.std.specs.Map.{lookup}

@@ -1,4 +1,4 @@
-use Rattle.std.proofs.Common.{◌≡◌, false, take}
+use Rattle.std.proofs.Common.{◌≡◌}
 use Rattle.std.specs.List.{list_any}
 use Rattle.linkage65.specs.Contents.{cells_of}
 use Rattle.linkage65.specs.Warnings.{is_data}

@@ -1,8 +1,8 @@
-use Rattle.std.proofs.Common.{rules, ◌≡◌, ◌<◌, ℕ, ◌++◌, List, [], ◌∷◌, length, arith, Result, Ok, Err}
-use Rattle.std.specs.Prelude.{ℤ, slice_set}
+use Rattle.std.proofs.Common.{rules, ◌≡◌, ◌<◌, ◌++◌, [], ◌∷◌, length}
+use Rattle.std.specs.Prelude.{slice_set}
 use Rattle.linkage65.specs.declared.evaluation.mark.Mark.TheVariants.{Found}
 use Rattle.std.proofs.lemmas.List.{nil_from_length}
-use Rattle.linkage65.specs.Values.{Linkage, linkage}
+use Rattle.linkage65.specs.Values.{linkage}
 use Rattle.linkage65.proofs.Walk.{Ends, next_inside, walk_down, walk_ends, walk_up, work_down, work_up}
 use Rattle.linkage65.proofs.evaluation.settling.settle.Goals as goal
 

@@ -1,4 +1,3 @@
-use Rattle.std.proofs.Common.{ℕ}
 use Rattle.linkage65.specs.Values.{linkage}
 use Rattle.linkage65.proofs.Walk.{IsWalk, work}
 use Rattle.linkage65.proofs.evaluation.settling.settle.Given as goal

@@ -4,6 +4,6 @@ use Rattle.linkage65.proofs.words.listed.Given as goal
 
 abbrev pub invariant-loop-name : goal.invariant-loop-name
 invariant-loop-name l = record {
-  separator : l.separator.now ≡ separator_behind (take l.name-index l.names);
+  separator : l.separator ≡ separator_behind (take l.name-index l.names);
   text : l.text ≡ listed (take l.name-index l.names);
 }

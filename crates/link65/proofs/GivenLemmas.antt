@@ -1,5 +1,5 @@
 -- Names that are given behind others, none twice.
-use Rattle.std.proofs.Common.{◌≡◌, ◌∙◌, ℕ, Bool, true, false, List, [], ◌∷◌, ◌++◌, map, length, Result, Ok, Err, refl, sym, ap, append-nil, append_assoc}
+use Rattle.std.proofs.Common.{◌≡◌, ◌∙◌, ℕ, Bool, true, false, List, [], ◌∷◌, ◌++◌, map, length, Result, Ok, Err, refl, sym, ap, subst, append-nil, append_assoc}
 use Rattle.linkage65.specs.declared.fault.LinkFault.{LinkFault}
 use Rattle.linkage65.specs.GivenTwice.{all_once, with_each, with_new}
 use Rattle.linkage65.specs.Faults.{is_memory}
@@ -71,3 +71,18 @@ refused_once false s e h =
 -- a script that gives a name twice
 pub script_twice : (s : Script) (e : LinkFault) → Refuses is_memory e (all_once [] (script_names s)) → Refuses is_memory e (names_once s (program_of []))
 script_twice s e h = refused_once (is_memory e) s e h
+
+-- ---- Names behind others.
+
+refused_behind : (b : Bool) (xs ys : Names) (e : LinkFault) → Unless b (all_once [] xs ≡ Err e) → Unless b (all_once [] (xs ++ ys) ≡ Err e)
+refused_behind true xs ys e h = tt
+refused_behind false xs ys e h =
+    sym (each_once_all (xs ++ ys) []) ∙ each_behind [] xs ys
+    ∙ ap (λ r. r >>= (λ all. with_each all ys)) (each_once_all xs [] ∙ h)
+
+-- a name that is given twice stays so whatever comes behind
+pub refused_first : (xs ys : Names) (e : LinkFault) → Refuses is_memory e (all_once [] xs) → Refuses is_memory e (all_once [] (xs ++ ys))
+refused_first xs ys e h = refused_behind (is_memory e) xs ys e h
+
+pub refused_next : (xs ys given : Names) (e : LinkFault) → all_once [] xs ≡ Ok given → Refuses is_memory e (all_once given ys) → Refuses is_memory e (all_once [] (xs ++ ys))
+refused_next xs ys given e h refused = subst (λ (r : Result Names LinkFault). Refuses is_memory e r) (sym (once_behind given xs ys h)) refused

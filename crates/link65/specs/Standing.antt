@@ -1,6 +1,6 @@
 -- What a linker stands for: the modules that it was fed, and the records so far of the one that is open.
 use Rattle.std.specs.Prelude.{◌≡◌, ◌++◌, ◌∷◌, [], ℕ, List, length, Option, Some, None, is_some, Bool, true, false, Result, Ok, Err, OnOk, ◌==◌, if◌then◌else◌}
-use Rattle.syntax65.specs.Outcome.{◌>>=◌, Finds, Refuses}
+use Rattle.syntax65.specs.Outcome.{◌>>=◌, Finds, Gives, Refuses}
 use Rattle.object65.specs.declared.fault.ObjectFault.{ObjectFault}
 use Rattle.object65.specs.declared.object.Object.{Object}
 use Rattle.object65.specs.Record.{Entry}
@@ -118,3 +118,10 @@ Ends old new r =
 -- what the modules come to by the script
 abbrev pub Links : Feeding → Result Linked LinkFault → Type 0
 Links f r = (modules : List Module) → IsFed f modules → Finds is_memory (LinkOf f.output f.script modules) r
+
+-- ---- Names, while no module is open.
+
+-- names of the script and of the modules that were fed, unless memory ran out
+abbrev pub AreNames : {N : Type 0} → (N → List (List ℕ)) → (Script → Program → List (List ℕ)) → Feeding → Result N LinkFault → Type 0
+AreNames view names_of f r =
+    (modules : List Module) → IsFed f modules → Gives is_memory view r (Ok (names_of f.script (program_of modules)))

@@ -1,17 +1,19 @@
 //! The linker.
 
-ghost use Rattle.std.specs.Prelude.{◌≡◌, ◌+◌, [], Err, IfErr, IfOk, OnErr, OnOk, true, false};
+ghost use Rattle.std.specs.Prelude.{◌≡◌, ◌+◌, [], Err, IfErr, IfOk, OnErr, OnOk, map, true, false};
 ghost use Rattle.object65.specs.Record.{entry_of};
 ghost use Rattle.syntax65.specs.Outcome.{Gives};
 ghost use Rattle.linkage65.specs.Faults.{is_memory};
 ghost use Rattle.linkage65.specs.Links.{names_once};
 ghost use Rattle.linkage65.specs.Programs.{program_of};
-ghost use Rattle.link65.specs.Standing.{Begins, Continues, Ends, IsFed, IsRefused, Keeps, Links, is_open, values_in};
+ghost use Rattle.linkage65.specs.Givers.{given_names, open_names};
+ghost use Rattle.link65.specs.Standing.{AreNames, Begins, Continues, Ends, IsFed, IsRefused, Keeps, Links, is_open, values_in};
 
 use crate::feeding::{close_module, open_module, take_record};
-use crate::keeping::kept_of;
+use crate::keeping::{given_names, kept_of};
 use crate::open::Open;
-use linkage65::{Given, Growing, LinkFault, Linked, link, no_module};
+use indexmap::IndexSet;
+use linkage65::{Given, Growing, LinkFault, Linked, link, no_module, open_names};
 use object65::Record;
 use script65::Script;
 use std::alloc::Global;
@@ -98,6 +100,40 @@ impl Linker {
         ensures { result ≡ self.now.pending }
     {
         self.pending
+    }
+
+    /// The names that the script or a module needs and neither gives so far, in order of first reference; weak names
+    /// give nothing here.
+    pub fn open_names(&self) -> Result<IndexSet<Vec<u8>>, LinkFault>
+        ensures open { AreNames (λ names. map (λ n. n.items) names.keys) open_names self.now result }
+        ensures again { self.now.failed ≡ true → result ≡ Err LinkFault.FailedBefore }
+    {
+        if self.failed {
+            return Err(LinkFault::FailedBefore);
+        }
+        let alloc = self.growing.alloc;
+        let exports = self.growing.exports.as_slice();
+        Ok(open_names(
+            alloc,
+            &self.script,
+            exports,
+            self.growing.members.as_slice(),
+        )?)
+    }
+
+    /// The names that the script and the modules give so far, but for weak ones.
+    pub fn defined_names(&self) -> Result<IndexSet<Vec<u8>>, LinkFault>
+        ensures defined { AreNames (λ names. map (λ n. n.items) names.keys) given_names self.now result }
+        ensures again { self.now.failed ≡ true → result ≡ Err LinkFault.FailedBefore }
+    {
+        if self.failed {
+            return Err(LinkFault::FailedBefore);
+        }
+        given_names(
+            self.growing.alloc,
+            &self.script,
+            self.growing.exports.as_slice(),
+        )
     }
 
     /// Opens a module of this name, where none is open. After a refusal each call answers that it failed before.

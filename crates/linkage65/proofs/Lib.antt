@@ -21,5 +21,6 @@ pub mod FinishLemmas
 pub mod OutcomeLemmas
 pub mod LinkingLemmas
 pub mod MissingLemmas
+pub mod OpenLemmas
 pub mod GivenLemmas
 pub mod Shown

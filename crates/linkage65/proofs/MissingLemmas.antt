@@ -110,7 +110,7 @@ some_among : (p : List ℕ → Bool) (i : ℕ) (xs : List (List ℕ)) → is_som
 some_among p i [] = refl
 some_among p i (x ∷ xs) = some_step (p x) i (position_from p (i + 1) xs) (list_any p xs) (some_among p (i + 1) xs)
 
-has_name : (t : Places) (names : List (List ℕ)) (name : List ℕ) → IsTable t names → has t name ≡ is_among names name
+pub has_name : (t : Places) (names : List (List ℕ)) (name : List ℕ) → IsTable t names → has t name ≡ is_among names name
 has_name t names name table = ap is_some (table name) ∙ some_among (λ n. bytes_eq n name) 0 names
 
 either : (a b c d : Bool) → d ≡ (a || b) → (a || (b || c)) ≡ (d || c)

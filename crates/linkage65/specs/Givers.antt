@@ -46,6 +46,10 @@ references s p = each_once [] (symbol_imports s.symbols ++ flat_map (λ m. m.imp
 abbrev pub unresolved : Script → Program → List (List ℕ)
 unresolved s p = filter (λ name. not (is_given s p name)) (references s p)
 
+-- what is needed and neither the script nor a module gives so far, weak names left aside: what libraries are searched for
+abbrev pub open_names : Script → Program → List (List ℕ)
+open_names s p = filter (λ name. not (is_among (given_names s p) name)) (references s p)
+
 -- ---- Who gives a name.
 
 abbrev pub by_definition : List Definition → Option ℕ → Giver → Giver

@@ -39,6 +39,7 @@ pub use holding::Held;
 pub use kept::Kept;
 pub use linked::{Linked, OutputFile};
 pub use linking::{link, link_placed};
+pub use missing::open_names;
 pub use naming::{definitions_of, weak_symbols};
 pub use needs::needs_of;
 pub use parts::{

@@ -5,10 +5,11 @@ ghost use Rattle.std.specs.List.{flat_map};
 ghost use Rattle.syntax65.specs.Outcome.{Gives};
 ghost use Rattle.linkage65.specs.Faults.{is_memory};
 ghost use Rattle.linkage65.specs.Finishing.{program_from};
-ghost use Rattle.linkage65.specs.Givers.{unresolved};
+ghost use Rattle.linkage65.specs.Givers.{each_once, open_names, unresolved};
 ghost use Rattle.linkage65.specs.Links.{names_given};
 ghost use Rattle.linkage65.specs.Missing.{AreGiven, gives_in, has, missing_behind};
 ghost use Rattle.linkage65.specs.Names.{import_name, symbol_imports};
+ghost use Rattle.linkage65.specs.Programs.{Program};
 
 use crate::fault::LinkFault;
 use crate::kept::Kept;
@@ -182,6 +183,32 @@ fn unresolved(
     let exports = kept.exports.as_slice();
     let given = GivenNames::of(alloc, own.as_slice(), exports, weak.as_slice())?;
     missing_by(alloc, &given, symbols, kept.members.as_slice())
+}
+
+/// Copies of names, each once.
+fn each_once(alloc: Global, names: &[Sequence<u8>]) -> Result<IndexSet<Vec<u8>>, AllocError>
+    ensures { IfOk result (λ all. map (λ n. n.items) all.keys ≡ each_once [] names.now) }
+{
+    let mut all = IndexSet::new(alloc);
+    for name in names {
+        all.insert(Vec::from_slice(alloc, name.as_slice())?)?;
+    }
+    Ok(all)
+}
+
+/// What the script and the modules need and neither gives, in order of first reference. Weak names are left aside.
+pub fn open_names(
+    alloc: Global,
+    script: &Script,
+    exports: &[Exported],
+    members: &[Member],
+) -> Result<IndexSet<Vec<u8>>, AllocError>
+    ensures { IfOk result (λ names. (p : Program) → p.exports ≡ exports.now → p.members ≡ members.now → map (λ n. n.items) names.keys ≡ open_names script.now p) }
+{
+    let own = script_names(alloc, script)?;
+    let given = GivenNames::of(alloc, own.as_slice(), exports, &[])?;
+    let names = missing_by(alloc, &given, script.symbols.as_slice(), members)?;
+    each_once(alloc, names.as_slice())
 }
 
 /// Refuses names that nobody gives, all at once.

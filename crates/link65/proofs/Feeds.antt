@@ -129,7 +129,7 @@ given_twice p s old o before names f h end refused =
     subst (λ r. Refuses is_memory f (admitted before names r)) (sym (ends_whole p s old o h end)) (passed (is_memory f) f (all_once before names) (λ u. Ok (Taking.object_from s)) refused)
 
 -- one whose END hasn't come is cut short
-pub cut_short : (p : Program) (s : Taking.State) (old : Growth) (o : Outline) (before names : List (List ℕ)) (f : LinkFault) → Comes p s old o → o.ended ≡ false → f ≡ fault.Object object.CutShort → Refuses is_memory f (admitted before names (Taking.finished s))
+pub cut_short : (p : Program) (s : Taking.State) (old : Growth) (o : Outline) (before names : List (List ℕ)) (f : LinkFault) → Comes p s old o → o.ended ≡ false → f ≡ fault.Malformed object.CutShort → Refuses is_memory f (admitted before names (Taking.finished s))
 cut_short p s old o before names f h going is =
     let cut = finishes s false (reached_runs s h.reached) (ap (λ (q : Outline). q.ended) (sym h.scan) ∙ going) in
     subst (λ g. Refuses is_memory g (admitted before names (Taking.finished s))) (sym is) (ap (admitted before names) cut)

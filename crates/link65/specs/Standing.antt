@@ -70,7 +70,7 @@ module_of name object = record { name = name; object = object }
 -- a fault of a module is one of the link
 abbrev pub as_link : {A : Type 0} → Result A ObjectFault → Result A LinkFault
 as_link (Ok x) = Ok x
-as_link (Err e) = Err (fault.Object e)
+as_link (Err e) = Err (fault.Malformed e)
 
 -- a call leads to what reading gives, or is refused as reading is, unless memory ran out
 abbrev pub Leads : {A : Type 0} → (A → Type 0) → Result (Unit {0}) LinkFault → Result A LinkFault → Type 0

@@ -1,7 +1,8 @@
 //! Why nothing is linked.
 
 ghost use Rattle.std.specs.Prelude.{◌≡◌, Some};
-ghost use Rattle.linkage65.specs.declared.fault.LinkFault.TheVariants.{OutOfMemory, Object, Place};
+ghost use Rattle.linkage65.specs.Faults.{of_object, of_place};
+ghost use Rattle.linkage65.specs.declared.fault.LinkFault.TheVariants.{OutOfMemory};
 
 use object65::ObjectFault;
 use script65::PlaceFault;
@@ -23,7 +24,7 @@ pub enum LinkFault {
     FailedBefore,
     OutOfMemory,
     /// A module that isn't an object.
-    Object(ObjectFault),
+    Malformed(ObjectFault),
     /// A name that is given twice.
     DuplicateExport(Sequence<u8>),
     /// All names that nobody gives, in order of first reference.
@@ -49,7 +50,7 @@ impl fmt::Display for LinkFault {
         match self {
             LinkFault::FailedBefore => f.write_str("failed before"),
             LinkFault::OutOfMemory => f.write_str("out of memory"),
-            LinkFault::Object(fault) => write!(f, "{fault}"),
+            LinkFault::Malformed(fault) => write!(f, "{fault}"),
             LinkFault::DuplicateExport(name) => {
                 let name = Shown(name.as_slice());
                 write!(f, "duplicate export: {name}")
@@ -127,17 +128,23 @@ impl<T: Drop> From<AllocFailed<T>> for LinkFault {
 }
 
 impl From<ObjectFault> for LinkFault {
-    ghost from_gives = { λ f e. e ≡ Object f };
+    ghost from_gives = { λ f e. e ≡ of_object f };
 
     fn from(fault: ObjectFault) -> LinkFault {
-        LinkFault::Object(fault)
+        match fault {
+            ObjectFault::OutOfMemory => LinkFault::OutOfMemory,
+            fault => LinkFault::Malformed(fault),
+        }
     }
 }
 
 impl From<PlaceFault> for LinkFault {
-    ghost from_gives = { λ f e. e ≡ Place f };
+    ghost from_gives = { λ f e. e ≡ of_place f };
 
     fn from(fault: PlaceFault) -> LinkFault {
-        LinkFault::Place(fault)
+        match fault {
+            PlaceFault::OutOfMemory => LinkFault::OutOfMemory,
+            fault => LinkFault::Place(fault),
+        }
     }
 }

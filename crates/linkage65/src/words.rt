@@ -35,7 +35,7 @@ pub fn fault_text(alloc: Global, fault: &LinkFault) -> Result<Sequence<u8>, Allo
         LinkFault::Assertion(_, text) => copy_of(alloc, text.as_slice()),
         LinkFault::FailedBefore
         | LinkFault::OutOfMemory
-        | LinkFault::Object(_)
+        | LinkFault::Malformed(_)
         | LinkFault::Place(_)
         | LinkFault::Circular(_)
         | LinkFault::OutOfRange(_)

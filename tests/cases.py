@@ -96,7 +96,7 @@ class Case:
         self.name, self.line = "", 0
         self.files, self.template, self.columns = {}, None, []
         self.commands = []
-        self.wanted, self.absent, self.dumps = {}, [], {}
+        self.wanted, self.absent, self.dumps, self.texts = {}, [], {}, {}
         self.result = None
 
     def main(self):
@@ -187,6 +187,8 @@ class Reader:
             case.absent.append(words[0])
         elif len(words) == 2 and words[1] == "is":
             case.dumps[words[0]] = self.indented()
+        elif len(words) == 2 and words[1] == "says":
+            case.texts[words[0]] = file_bytes(self.indented())
         elif len(words) > 1 and words[1] == "=":
             case.wanted[words[0]] = line.split(" = ", 1)[1].strip()
         elif words[0].endswith(":"):
@@ -328,13 +330,17 @@ def why_files_differ(case, folder, written):
         found = objects.dump(contents(folder)[name])
         if found != lines:
             return f"{name} is\n    " + "\n    ".join(found)
+    for name, text in case.texts.items():
+        found = contents(folder).get(name)
+        if found != text:
+            return f"{name} is {'absent' if found is None else found.decode('latin-1')!r}"
     for name in case.absent:
         if os.path.exists(os.path.join(folder, name)):
             return f"{name} is there"
     if case.result is None:
-        named = {*wanted, *case.dumps}
+        named = {*wanted, *case.dumps, *case.texts}
         return f"wrote {sorted(written)}" if named and set(written) - named else ""
-    if set(written) - {last.output(), *wanted}:
+    if set(written) - {last.output(), *wanted, *case.texts}:
         return f"wrote {sorted(written)}"
     file = contents(folder).get(last.output())
     if file is None:

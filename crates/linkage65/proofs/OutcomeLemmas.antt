@@ -7,7 +7,7 @@ use Rattle.script65.specs.declared.script.Area.{Area}
 use Rattle.script65.specs.declared.script.Script.{Script}
 use Rattle.linkage65.specs.declared.fault.LinkFault.{LinkFault}
 use Rattle.linkage65.specs.declared.linked.Linked.{Linked}
-use Rattle.linkage65.specs.declared.linked.LinkedFile.{LinkedFile}
+use Rattle.linkage65.specs.declared.linked.OutputFile.{OutputFile}
 use Rattle.linkage65.specs.declared.parts.ValueFault.{ValueFault}
 use Rattle.linkage65.specs.declared.parts.ValueFault.TheVariants.{Unresolved}
 use Rattle.linkage65.specs.Files.{AddsArea, AddsAreas, IsAreaFile, IsImage, Piece, file_name, row_bytes, with_bytes}
@@ -41,21 +41,21 @@ image_once len fill pieces a b h k =
     same_list a b 0 (h.size ∙ sym k.size)
     (λ i lt. let inside : i < len = omega (arith, h.size) in h.bytes i inside ∙ sym (k.bytes i inside))
 
-area_once : (unnamed : Bool) (name : List ℕ) (IsFile : List ℕ → Type 0) (before a b : List LinkedFile) → ((x y : List ℕ) → IsFile x → IsFile y → x ≡ y) → AddsArea unnamed name IsFile before a → AddsArea unnamed name IsFile before b → a ≡ b
+area_once : (unnamed : Bool) (name : List ℕ) (IsFile : List ℕ → Type 0) (before a b : List OutputFile) → ((x y : List ℕ) → IsFile x → IsFile y → x ≡ y) → AddsArea unnamed name IsFile before a → AddsArea unnamed name IsFile before b → a ≡ b
 area_once true name IsFile before a b once h k = h ∙ sym k
 area_once false name IsFile before a b once (x, hx, e) (y, hy, f) = e ∙ ap (λ i. with_bytes name i before) (once x y hx hy) ∙ sym f
 
-areas_once : (output : List ℕ) (IsFile : ℕ → Area → List ℕ → Type 0) → ((k : ℕ) (a : Area) (x y : List ℕ) → IsFile k a x → IsFile k a y → x ≡ y) → (areas : List Area) (k : ℕ) (before a b : List LinkedFile) → AddsAreas output IsFile k areas before a → AddsAreas output IsFile k areas before b → a ≡ b
+areas_once : (output : List ℕ) (IsFile : ℕ → Area → List ℕ → Type 0) → ((k : ℕ) (a : Area) (x y : List ℕ) → IsFile k a x → IsFile k a y → x ≡ y) → (areas : List Area) (k : ℕ) (before a b : List OutputFile) → AddsAreas output IsFile k areas before a → AddsAreas output IsFile k areas before b → a ≡ b
 areas_once output IsFile once [] k before a b h g = h ∙ sym g
 areas_once output IsFile once (x ∷ rest) k before a b (m, hm, h) (n, hn, g) =
     let same : m ≡ n = area_once (length (file_name output x.file) == 0) (file_name output x.file) (IsFile k x) before m n (once k x) hm hn in
-    let P : List LinkedFile → Type 0 = λ z. AddsAreas output IsFile (k + 1) rest z a in
+    let P : List OutputFile → Type 0 = λ z. AddsAreas output IsFile (k + 1) rest z a in
     areas_once output IsFile once rest (k + 1) n a b (subst P same h) g
 
 imaged_once : (output : List ℕ) (s : Script) (p : Program) (placement : Placement) (l : Linkage) (exports : Exports) (warnings : List ℕ) (r q : Result Linked LinkFault) → IsImaged output s p placement l exports warnings r → IsImaged output s p placement l exports warnings q → r ≡ q
 imaged_once output s p placement l exports warnings r q (a, ha, e) (b, hb, f) =
     let same : a ≡ b = areas_once output (IsAreaFile s.rows placement.rows (row_bytes l exports p.segments)) (λ k x i j hi hj. image_once _ _ _ i j hi hj) s.areas 0 [] a b ha hb in
-    let made : List LinkedFile → Result Linked LinkFault = λ fs. Ok (record { files = fs; warnings = warnings_of_rows s.rows p.segments ++ warnings; map = map_text s p placement l exports }) in
+    let made : List OutputFile → Result Linked LinkFault = λ fs. Ok (record { files = fs; warnings = warnings_of_rows s.rows p.segments ++ warnings; map = map_text s p placement l exports }) in
     e ∙ ap made same ∙ sym f
 
 tables_once : (l : Linkage) (t u : List (Result ℤ ValueFault)) → AreExports l t → AreExports l u → t ≡ u

@@ -37,3 +37,12 @@ names_more names i name separator lt at is =
 pub next_separator : (names : List (List ℕ)) (name : List ℕ) → codes ", " ≡ separator_behind (names ++ name ∷ [])
 next_separator [] name = refl
 next_separator (x ∷ names) name = refl
+
+-- the same as bytes
+pub next_listed : (names : List (List ℕ)) (i : ℕ) (name separator : List ℕ) → i < length names → name ≡ get_or names i name → separator ≡ separator_behind (take i names) → (listed (take i names) ++ separator) ++ name ≡ listed (take (i + 1) names)
+next_listed names i name separator lt at is =
+    let before = take i names in
+    append_assoc (listed before) separator name
+    ∙ ap (λ s. listed before ++ (s ++ name)) is
+    ∙ sym (listed_push before name)
+    ∙ ap listed (next_names names i name lt at)

@@ -10,7 +10,7 @@ use Rattle.script65.specs.declared.script.Area.{Area}
 use Rattle.script65.specs.declared.script.AreaFile.{AreaFile}
 use Rattle.script65.specs.declared.script.AreaFile.TheVariants as file
 use Rattle.script65.specs.declared.script.Row.{Row}
-use Rattle.linkage65.specs.declared.linked.LinkedFile.{LinkedFile}
+use Rattle.linkage65.specs.declared.linked.OutputFile.{OutputFile}
 use Rattle.linkage65.specs.declared.parts.ValueFault.{ValueFault}
 use Rattle.linkage65.specs.Segments.{Cell, known, filled, waits, Segment, segment_of}
 use Rattle.linkage65.specs.Values.{Exports, Linkage, value_by}
@@ -114,18 +114,18 @@ file_name output file.Output = output
 file_name output (file.Named name) = if is_utf8 name then name else []
 
 -- bytes behind those of the file of a name, or as a new file behind the others
-abbrev pub with_bytes : List ℕ → List ℕ → List LinkedFile → List LinkedFile
+abbrev pub with_bytes : List ℕ → List ℕ → List OutputFile → List OutputFile
 with_bytes name bytes [] = record { name = name; bytes = bytes } ∷ []
 with_bytes name bytes (f ∷ fs) =
     if bytes_eq name f.name then record { name = f.name; bytes = f.bytes ++ bytes } ∷ fs else f ∷ with_bytes name bytes fs
 
 -- the files behind an area, whose file may have no name: then nothing is written
-abbrev pub AddsArea : Bool → List ℕ → (List ℕ → Type 0) → List LinkedFile → List LinkedFile → Type 0
+abbrev pub AddsArea : Bool → List ℕ → (List ℕ → Type 0) → List OutputFile → List OutputFile → Type 0
 AddsArea true name IsFile before after = after ≡ before
 AddsArea false name IsFile before after = (image : List ℕ) × IsFile image × (after ≡ with_bytes name image before)
 
 -- the files behind areas, of which the first stands at a place of the script
-abbrev pub AddsAreas : List ℕ → (ℕ → Area → List ℕ → Type 0) → ℕ → List Area → List LinkedFile → List LinkedFile → Type 0
+abbrev pub AddsAreas : List ℕ → (ℕ → Area → List ℕ → Type 0) → ℕ → List Area → List OutputFile → List OutputFile → Type 0
 AddsAreas output IsFile k [] before after = after ≡ before
 AddsAreas output IsFile k (a ∷ rest) before after =
-    (mid : List LinkedFile) × AddsArea (length (file_name output a.file) == 0) (file_name output a.file) (IsFile k a) before mid × AddsAreas output IsFile (k + 1) rest mid after
+    (mid : List OutputFile) × AddsArea (length (file_name output a.file) == 0) (file_name output a.file) (IsFile k a) before mid × AddsAreas output IsFile (k + 1) rest mid after

@@ -8,7 +8,7 @@ use Rattle.script65.specs.declared.script.Script.{Script}
 use Rattle.linkage65.specs.declared.fault.LinkFault.{LinkFault}
 use Rattle.linkage65.specs.declared.fault.LinkFault.TheVariants as fault
 use Rattle.linkage65.specs.declared.linked.Linked.{Linked}
-use Rattle.linkage65.specs.declared.linked.LinkedFile.{LinkedFile}
+use Rattle.linkage65.specs.declared.linked.OutputFile.{OutputFile}
 use Rattle.linkage65.specs.declared.parts.ValueFault.{ValueFault}
 use Rattle.linkage65.specs.Checks.{check_asserts, check_export, check_waiting, each_passes, waiting_by_row}
 use Rattle.linkage65.specs.Files.{AddsAreas, IsAreaFile, row_bytes}
@@ -56,14 +56,14 @@ checked s p l exports =
     >>= (λ u. check_asserts l p.members exports p.asserts)
 
 -- the files of a placed program
-abbrev pub AreFiles : List ℕ → Script → Program → Placement → Linkage → Exports → List LinkedFile → Type 0
+abbrev pub AreFiles : List ℕ → Script → Program → Placement → Linkage → Exports → List OutputFile → Type 0
 AreFiles output s p placement l exports files =
     AddsAreas output (IsAreaFile s.rows placement.rows (row_bytes l exports p.segments)) 0 s.areas [] files
 
 -- what a placed program is linked to, where all is found to pass with these warnings of assertions
 abbrev pub IsImaged : List ℕ → Script → Program → Placement → Linkage → Exports → List ℕ → Result Linked LinkFault → Type 0
 IsImaged output s p placement l exports warnings r =
-    (files : List LinkedFile) × AreFiles output s p placement l exports files
+    (files : List OutputFile) × AreFiles output s p placement l exports files
     × (r ≡ Ok (record { files = files; warnings = warnings_of_rows s.rows p.segments ++ warnings; map = map_text s p placement l exports }))
 
 -- what a placed program comes to, by what its exports come to

@@ -5,12 +5,12 @@ ghost use Rattle.linkage65.specs.Files.{AddsArea, AddsAreas, IsAreaFile, IsFileB
 ghost use Rattle.linkage65.specs.Holding.{AreNamed, IsReady, bytes_in};
 ghost use Rattle.linkage65.specs.Loads.{view};
 ghost use Rattle.linkage65.specs.declared.areas.Load.{Load};
-ghost use Rattle.linkage65.specs.declared.linked.LinkedFile.{LinkedFile};
+ghost use Rattle.linkage65.specs.declared.linked.OutputFile.{OutputFile};
 
 use crate::areas::{Load, loads_of};
 use crate::holding::Held;
 use crate::imaging::area_file;
-use crate::linked::LinkedFile;
+use crate::linked::OutputFile;
 use indexmap::IndexSet;
 use script65::{Area, AreaFile, RowPlace, Script};
 use std::alloc::{AllocError, Global};
@@ -33,13 +33,13 @@ fn file_name<'a>(output: &'a str, file: &'a AreaFile) -> &'a str
 #[derive(Drop)]
 pub struct Files<'a> {
     pub names: IndexSet<&'a str>,
-    pub outputs: Vec<LinkedFile>,
+    pub outputs: Vec<OutputFile>,
 }
 
 /// Adds bytes to a file that is there.
-fn extend(outputs: &mut Vec<LinkedFile>, place: usize, bytes: &[u8]) -> Result<(), AllocError>
+fn extend(outputs: &mut Vec<OutputFile>, place: usize, bytes: &[u8]) -> Result<(), AllocError>
     requires { place < length outputs.old.items }
-    ensures { OnOk result ((o : LinkedFile) → slice_get outputs.old.items place ≡ Some o →
+    ensures { OnOk result ((o : OutputFile) → slice_get outputs.old.items place ≡ Some o →
         outputs.new.items ≡ slice_set outputs.old.items place (record { name = o.name; bytes = o.bytes ++ bytes.now })) }
 {
     outputs[place].bytes.extend_from_slice(bytes)?;
@@ -56,7 +56,7 @@ impl<'a> Files<'a> {
         let (place, is_new) = self.names.insert_full(name)?;
         if is_new {
             let name = Text::copy_of(alloc, name)?;
-            self.outputs.push(LinkedFile { name, bytes })?;
+            self.outputs.push(OutputFile { name, bytes })?;
             return Ok(());
         }
         extend(&mut self.outputs, place, bytes.as_slice())?;
@@ -99,7 +99,7 @@ pub fn files_of(
     script: &Script,
     held: &Held<'_, '_>,
     places: &[RowPlace],
-) -> Result<Sequence<LinkedFile>, AllocError>
+) -> Result<Sequence<OutputFile>, AllocError>
     requires { IsReady held.now }
     ensures { IfOk result (λ files. AddsAreas output.now (IsAreaFile script.now.rows places.now (bytes_in held.now)) 0 script.now.areas [] files) }
 {

@@ -27,6 +27,7 @@ mod resolving;
 mod tables;
 mod texts;
 mod warning;
+mod words;
 
 pub use contents::{Content, Piece};
 pub use evaluation::{Attempt, Evaluated, Mark, Stop, settle_all, value_in};
@@ -36,7 +37,7 @@ pub use given::Given;
 pub use growing::{Growing, end_module, no_module, take_item};
 pub use holding::Held;
 pub use kept::Kept;
-pub use linked::{Linked, LinkedFile};
+pub use linked::{Linked, OutputFile};
 pub use linking::{link, link_placed};
 pub use naming::{definitions_of, weak_symbols};
 pub use needs::needs_of;
@@ -45,6 +46,7 @@ pub use parts::{
 };
 pub use resolving::{Addresses, Names, Places, resolve_all};
 pub use tables::Segments;
+pub use words::fault_text;
 
 #[cfg(test)]
 mod tests;

@@ -2,9 +2,9 @@
 
 use syntax65::{Sequence, Text};
 
-/// A file that holds the bytes of areas.
+/// A file that a command leaves.
 #[derive(Debug, Drop)]
-pub struct LinkedFile {
+pub struct OutputFile {
     pub name: Text,
     pub bytes: Sequence<u8>,
 }
@@ -13,7 +13,7 @@ pub struct LinkedFile {
 #[derive(Debug, Drop)]
 pub struct Linked {
     /// The files of areas, in the order in which they are written.
-    pub files: Sequence<LinkedFile>,
+    pub files: Sequence<OutputFile>,
     /// What is warned of, a line each.
     pub warnings: Sequence<u8>,
     /// The map's text.

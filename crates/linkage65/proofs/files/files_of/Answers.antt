@@ -3,7 +3,7 @@ use Rattle.std.proofs.lemmas.Grind.{common_steps}
 use Rattle.std.proofs.lemmas.Option.{gets}
 use Rattle.script65.specs.declared.script.Area.{Area}
 use Rattle.script65.specs.declared.script.Row.{Row}
-use Rattle.linkage65.specs.declared.linked.LinkedFile.{LinkedFile}
+use Rattle.linkage65.specs.declared.linked.OutputFile.{OutputFile}
 use Rattle.linkage65.specs.Files.{AddsAreas, IsAreaFile}
 use Rattle.linkage65.specs.Holding.{bytes_in}
 use Rattle.linkage65.specs.Loads.{HoldsLoads, view}
@@ -31,5 +31,5 @@ loop-k-preserved c =
 pub returns : goal.returns
 returns c =
     subst (λ (as' : List Area). AddsAreas c.args.output.now (IsAreaFile c.args.script.now.rows c.args.places.now (bytes_in c.args.held.now)) 0 as' [] c.from_vec.result) c.as_slice-areas.ensures
-    (c.loop-k.invariant.rest c.from_vec.result (let P = λ (fs : List LinkedFile). AddsAreas c.args.output.now (IsAreaFile c.args.script.now.rows c.args.places.now (bytes_in c.args.held.now)) c.loop-k.k (drop c.loop-k.k c.as_slice-areas.result.now) fs c.from_vec.result in
+    (c.loop-k.invariant.rest c.from_vec.result (let P = λ (fs : List OutputFile). AddsAreas c.args.output.now (IsAreaFile c.args.script.now.rows c.args.places.now (bytes_in c.args.held.now)) c.loop-k.k (drop c.loop-k.k c.as_slice-areas.result.now) fs c.from_vec.result in
     subst P c.from_vec.ensures (no_area c.args.output.now (bytes_in c.args.held.now) c.args.script.now.rows c.args.places.now c.as_slice-areas.result.now c.loop-k.k c.from_vec.result c.loop-k-test.false)))

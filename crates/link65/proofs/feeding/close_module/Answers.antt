@@ -1,0 +1,33 @@
+use Rattle.std.proofs.Common.{◌≡◌, ◌∙◌, ap, drop, map, sym, subst, OnOk, Ok, List, ℕ}
+use Rattle.linkage65.specs.declared.parts.Exported.{Exported}
+use Rattle.linkage65.specs.Faults.{is_memory}
+use Rattle.syntax65.specs.Outcome.{Refuses}
+use Rattle.linkage65.specs.GivenTwice.{all_once, names_in}
+use Rattle.linkage65.specs.Growing.{at_rest, ended}
+use Rattle.linkage65.specs.Grounds.{growth_in}
+use Rattle.link65.specs.Fields.{exports_from}
+use Rattle.link65.proofs.Feeds.{closed_whole, cut_short, given_twice}
+use Rattle.link65.proofs.feeding.close_module.Goals as goal
+
+pub returns-then-not-is_ended-clause-ended : goal.returns-then-not-is_ended-clause-ended
+returns-then-not-is_ended-clause-ended c = λ p s comes.
+    cut_short p s (growth_in c.args.growing.now) c.args.opened.now.scan (names_in c.args.given.now) (exports_from c.args.opened.now.first_export (growth_in c.args.growing.now)) c.from.result comes (sym c.is_ended.ensures ∙ c.if-not-is_ended.true) c.from.ensures
+
+pub returns-in-Ok-clause-ended : goal.returns-in-Ok-clause-ended
+returns-in-Ok-clause-ended c = λ p s comes.
+    let old = growth_in c.args.growing.now in
+    let m = c.args.opened.now in
+    let before = names_in c.args.given.now in
+    let given = names_in c.add_exports.new.self in
+    let same = ap (map (λ (e : Exported). e.name)) (c.from_place-exports.ensures ∙ ap (drop m.first_export) c.as_slice.ensures) in
+    let once = subst (λ ns. all_once before ns ≡ Ok given) same c.in-Ok.ensures in
+    let named = subst (λ n. OnOk c.end_module.result (growth_in c.end_module.new.growing ≡ at_rest (ended old n))) c.replace-name.ensures.value c.end_module.ensures.ended in
+    closed_whole p s old (growth_in c.end_module.new.growing) m.scan m.name before given (exports_from m.first_export old) c.end_module.result comes (sym c.is_ended.ensures ∙ c.if-not-is_ended.false) once named c.end_module.ensures.memory
+
+pub returns-in-Err-clause-ended : goal.returns-in-Err-clause-ended
+returns-in-Err-clause-ended c = λ p s comes.
+    let old = growth_in c.args.growing.now in
+    let m = c.args.opened.now in
+    let before = names_in c.args.given.now in
+    let same = ap (map (λ (e : Exported). e.name)) (c.from_place-exports.ensures ∙ ap (drop m.first_export) c.as_slice.ensures) in
+    given_twice p s old m.scan before (exports_from m.first_export old) c.in-Err.e comes (sym c.is_ended.ensures ∙ c.if-not-is_ended.false) (subst (λ ns. Refuses is_memory c.in-Err.e (all_once before ns)) same c.in-Err.ensures)

@@ -1,0 +1,120 @@
+-- What a linker stands for: the modules that it was fed, and the records so far of the one that is open.
+use Rattle.std.specs.Prelude.{◌≡◌, ◌++◌, ◌∷◌, [], ℕ, List, length, Option, Some, None, is_some, Bool, true, false, Result, Ok, Err, OnOk, ◌==◌, if◌then◌else◌}
+use Rattle.syntax65.specs.Outcome.{◌>>=◌, Finds, Refuses}
+use Rattle.object65.specs.declared.fault.ObjectFault.{ObjectFault}
+use Rattle.object65.specs.declared.object.Object.{Object}
+use Rattle.object65.specs.Record.{Entry}
+use Rattle.object65.specs.Scanning.{Outline, outline_of}
+use Rattle.object65.specs.Taking.{IsReached, State, after, finished, start}
+use Rattle.script65.specs.declared.script.Script.{Script}
+use Rattle.linkage65.specs.declared.fault.LinkFault.{LinkFault}
+use Rattle.linkage65.specs.declared.fault.LinkFault.TheVariants as fault
+use Rattle.linkage65.specs.Faults.{is_memory}
+use Rattle.linkage65.specs.Growing.{Growth, at_rest, growth_of}
+use Rattle.linkage65.specs.Modules.{Module}
+use Rattle.linkage65.specs.Programs.{Program, program_of}
+use Rattle.linkage65.specs.GivenTwice.{all_once}
+use Rattle.linkage65.specs.Givers.{given_names}
+use Rattle.linkage65.specs.declared.linked.Linked.{Linked}
+use Rattle.linkage65.specs.Links.{LinkOf, names_once}
+
+-- a module that is open: its name, and what is kept of its records beside what grows
+pub record Opened : Type 0 where
+  pub name : List ℕ
+  pub scan : Outline
+  -- the place of its first export among all
+  pub first_export : ℕ
+
+-- What a linker is seen as.
+pub record Feeding : Type 0 where
+  pub script : Script
+  -- the name of the file that is linked
+  pub output : List ℕ
+  pub growth : Growth
+  -- the names that the script and the modules before the open one give
+  pub given : List (List ℕ)
+  pub opened : Option Opened
+  -- how many values were taken
+  pub pending : ℕ
+  pub failed : Bool
+
+abbrev pub is_open : Feeding → Bool
+is_open f = is_some f.opened
+
+-- ---- What it stands for.
+
+-- a module behind a program, of which this has come
+abbrev pub opening : Program → List ℕ → State → Opened
+opening p name s = record { name = name; scan = outline_of s; first_export = length p.exports }
+
+-- these modules were fed, and none is open
+pub record IsFed (f : Feeding) (modules : List Module) : Type 0 where
+  pub growth : f.growth ≡ at_rest (program_of modules)
+  pub given : all_once [] (given_names f.script (program_of modules)) ≡ Ok f.given
+  pub opened : f.opened ≡ None
+  pub failed : f.failed ≡ false
+
+-- these modules were fed, and one of this name is open, of which this has come
+pub record IsFeeding (f : Feeding) (modules : List Module) (name : List ℕ) (s : State) : Type 0 where
+  pub growth : f.growth ≡ growth_of (program_of modules) s
+  pub given : all_once [] (given_names f.script (program_of modules)) ≡ Ok f.given
+  pub opened : f.opened ≡ Some (opening (program_of modules) name s)
+  pub reached : IsReached s
+  pub failed : f.failed ≡ false
+
+abbrev pub module_of : List ℕ → Object → Module
+module_of name object = record { name = name; object = object }
+
+-- ---- What a call answers.
+
+-- a fault of a module is one of the link
+abbrev pub as_link : {A : Type 0} → Result A ObjectFault → Result A LinkFault
+as_link (Ok x) = Ok x
+as_link (Err e) = Err (fault.Object e)
+
+-- a call leads to what reading gives, or is refused as reading is, unless memory ran out
+abbrev pub Leads : {A : Type 0} → (A → Type 0) → Result (Unit {0}) LinkFault → Result A LinkFault → Type 0
+Leads {A} Next (Ok u) read = (x : A) × (read ≡ Ok x) × Next x
+Leads Next (Err e) read = Refuses is_memory e read
+
+-- how many values a record has
+abbrev pub values_in : Entry → ℕ
+values_in e = if e.kind == 5 then 1 else 0
+
+-- a refusal leaves the linker failed, with the module open that was, if any, and as many values taken
+pub record IsRefused (old new : Feeding) : Type 0 where
+  pub opened : is_open new ≡ is_open old
+  pub pending : new.pending ≡ old.pending
+  pub failed : new.failed ≡ true
+
+-- the script and the name of the output stay
+pub record Keeps (old new : Feeding) : Type 0 where
+  pub script : new.script ≡ old.script
+  pub output : new.output ≡ old.output
+
+-- ---- Calls, for all modules and records that the linker stands for.
+
+-- a module of this name begins
+abbrev pub Begins : List ℕ → Feeding → Feeding → Result (Unit {0}) LinkFault → Type 0
+Begins name old new r = (modules : List Module) → IsFed old modules → OnOk r (IsFeeding new modules name start)
+
+-- a record comes behind those of the open module
+abbrev pub Continues : Entry → Feeding → Feeding → Result (Unit {0}) LinkFault → Type 0
+Continues e old new r =
+    (modules : List Module) (name : List ℕ) (s : State) → IsFeeding old modules name s
+    → Leads (IsFeeding new modules name) r (as_link (after s e))
+
+-- the object of a module, where its END came and no name is given twice
+abbrev pub whole : Script → List Module → List ℕ → State → Result Object LinkFault
+whole script modules name s =
+    as_link (finished s) >>= (λ object. names_once script (program_of (modules ++ module_of name object ∷ [])) >>= (λ u. Ok object))
+
+-- the open module comes behind the others
+abbrev pub Ends : Feeding → Feeding → Result (Unit {0}) LinkFault → Type 0
+Ends old new r =
+    (modules : List Module) (name : List ℕ) (s : State) → IsFeeding old modules name s
+    → Leads (λ object. IsFed new (modules ++ module_of name object ∷ [])) r (whole old.script modules name s)
+
+-- what the modules come to by the script
+abbrev pub Links : Feeding → Result Linked LinkFault → Type 0
+Links f r = (modules : List Module) → IsFed f modules → Finds is_memory (LinkOf f.output f.script modules) r

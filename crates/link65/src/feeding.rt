@@ -1,0 +1,104 @@
+//! The records of the module that is open.
+
+ghost use Rattle.std.specs.Prelude.{◌≡◌, ◌+◌, drop, Ok, OnErr, OnOk, IfErr, IfOk, true};
+ghost use Rattle.object65.specs.Record.{entry_of};
+ghost use Rattle.object65.specs.Scanning.{outline_of};
+ghost use Rattle.object65.specs.Taking.{start};
+ghost use Rattle.syntax65.specs.Outcome.{Gives};
+ghost use Rattle.linkage65.specs.Faults.{is_memory};
+ghost use Rattle.linkage65.specs.GivenTwice.{names_in};
+ghost use Rattle.linkage65.specs.Grounds.{AreNamed, growth_in};
+ghost use Rattle.link65.specs.Fields.{Closes, Grows};
+ghost use Rattle.link65.specs.Standing.{values_in};
+
+use crate::open::Open;
+use linkage65::{Exported, Given, Growing, LinkFault, end_module, take_item};
+use object65::{ObjectFault, Record, Scan};
+use std::alloc::Global;
+use std::mem;
+use syntax65::Sequence;
+
+/// Opens a module of this name.
+pub fn open_module(alloc: Global, name: &[u8], first_export: usize) -> Result<Open, LinkFault>
+    ensures opened { IfOk result (λ o. o ≡ record { name = name.now; scan = outline_of start; first_export = first_export }) }
+    ensures memory { IfErr result (λ e. is_memory e ≡ true) }
+{
+    let mut copy = Sequence::new(alloc);
+    copy.extend_from_slice(name)?;
+    Ok(Open {
+        name: copy,
+        scan: Scan::new(alloc),
+        first_export,
+    })
+}
+
+/// The kind of the records that are values.
+const VALUE: u8 = 5;
+
+/// How many values were taken, with those of a record.
+fn with_values(pending: usize, next: &Record) -> Result<usize, LinkFault>
+    ensures { Gives is_memory (λ n. n) result (Ok (pending + values_in (entry_of next.now))) }
+{
+    if next.kind != VALUE {
+        return Ok(pending);
+    }
+    match pending.checked_add(1) {
+        Some(n) => Ok(n),
+        None => Err(LinkFault::OutOfMemory),
+    }
+}
+
+/// Takes a record of the open module, and counts its values.
+pub fn take_record(
+    growing: &mut Growing,
+    opened: &mut Open,
+    pending: &mut usize,
+    next: &Record,
+) -> Result<(), LinkFault>
+    requires { AreNamed growing.old }
+    ensures taken { Grows (entry_of next.now) (growth_in growing.old) (growth_in growing.new) opened.old.scan opened.new.scan result }
+    ensures name { opened.new.name ≡ opened.old.name }
+    ensures first { opened.new.first_export ≡ opened.old.first_export }
+    ensures counted { OnOk result (pending.new ≡ pending.old + values_in (entry_of next.now)) }
+    ensures uncounted { OnErr result (pending.new ≡ pending.old) }
+    ensures named { OnOk result (AreNamed growing.new) }
+{
+    let count = with_values(*pending, next)?;
+    let item = opened.scan.take(next)?;
+    take_item(growing, item)?;
+    *pending = count;
+    Ok(())
+}
+
+/// The exports from a place on.
+fn from_place(exports: &[Exported], first: usize) -> &[Exported]
+    ensures { result.now ≡ drop first exports.now }
+{
+    match exports.get(first..) {
+        Some(rest) => rest,
+        None => &[],
+    }
+}
+
+/// Ends the open module.
+pub fn close_module(
+    growing: &mut Growing,
+    given: &mut Given,
+    opened: &mut Open,
+) -> Result<(), LinkFault>
+    requires { AreNamed growing.old }
+    ensures ended { Closes (growth_in growing.old) (growth_in growing.new) (names_in given.old) (names_in given.new) opened.old result }
+    ensures named { OnOk result (AreNamed growing.new) }
+{
+    if !opened.scan.is_ended() {
+        return Err(LinkFault::from(ObjectFault::CutShort));
+    }
+    let exports = from_place(growing.exports.as_slice(), opened.first_export);
+    match given.add_exports(exports) {
+        Ok(()) => {
+            let name = mem::replace(&mut opened.name, Sequence::new(growing.alloc));
+            end_module(growing, name)
+        }
+        Err(e) => Err(e),
+    }
+}

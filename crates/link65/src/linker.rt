@@ -1,0 +1,209 @@
+//! The linker.
+
+ghost use Rattle.std.specs.Prelude.{◌≡◌, ◌+◌, [], Err, IfErr, IfOk, OnErr, OnOk, true, false};
+ghost use Rattle.object65.specs.Record.{entry_of};
+ghost use Rattle.syntax65.specs.Outcome.{Gives};
+ghost use Rattle.linkage65.specs.Faults.{is_memory};
+ghost use Rattle.linkage65.specs.Links.{names_once};
+ghost use Rattle.linkage65.specs.Programs.{program_of};
+ghost use Rattle.link65.specs.Standing.{Begins, Continues, Ends, IsFed, IsRefused, Keeps, Links, is_open, values_in};
+
+use crate::feeding::{close_module, open_module, take_record};
+use crate::keeping::kept_of;
+use crate::open::Open;
+use linkage65::{Given, Growing, LinkFault, Linked, link, no_module};
+use object65::Record;
+use script65::Script;
+use std::alloc::Global;
+use std::marker::Model;
+use syntax65::Text;
+
+/// A linker, which stands for the modules that were fed and the records so far of the one that is open. It keeps
+/// what they put into segments, exports and assertions, and no module or record.
+pub struct Linker {
+    script: Script,
+    /// The name of the file that is linked.
+    output: Text,
+    growing: Growing,
+    given: Given,
+    opened: Option<Open>,
+    /// How many values were taken.
+    pending: usize,
+    failed: bool,
+}
+
+impl Model for Linker {
+    ghost use Rattle.std.specs.Prelude.{◌≡◌, false};
+    ghost use Rattle.std.specs.Coded.{codes};
+    ghost use Rattle.object65.specs.Form.{form_code};
+    ghost use Rattle.linkage65.specs.GivenTwice.{names_in};
+    ghost use Rattle.linkage65.specs.Grounds.{AreNamed, growth_in};
+    ghost use Rattle.link65.specs.Standing.{Feeding};
+    ghost use Rattle.link65.specs.Fields.{opened_in};
+
+    ghost Value = { Feeding };
+
+    ghost coded = { Prim.hlevel (codes, form_code) };
+
+    ghost view = { λ l. record { script = l.script; output = l.output; growth = growth_in l.growing; given = names_in l.given; opened = opened_in l.opened; pending = l.pending; failed = l.failed } };
+
+    ghost invariant = { λ l. l.failed ≡ false → AreNamed l.growing };
+}
+
+impl Drop for Linker {
+    fn drop(self) {
+        let Linker {
+            script: _,
+            output: _,
+            growing: _,
+            given: _,
+            opened: _,
+            pending: _,
+            failed: _,
+        } = self;
+    }
+}
+
+impl Linker {
+    /// A linker that no module was fed to. The output is the name of the file that is linked.
+    pub fn new(alloc: Global, script: Script, output: &str) -> Result<Self, LinkFault>
+        ensures fed { IfOk result (λ l. IsFed l []) }
+        ensures script { IfOk result (λ l. l.script ≡ script) }
+        ensures output { IfOk result (λ l. l.output ≡ output.now) }
+        ensures pending { IfOk result (λ l. l.pending ≡ 0) }
+        ensures names { Gives is_memory (λ _. tt) result (names_once script (program_of [])) }
+    {
+        let given = Given::of(alloc, &script)?;
+        let output = Text::copy_of(alloc, output)?;
+        Ok(Linker {
+            script,
+            output,
+            growing: no_module(alloc),
+            given,
+            opened: None,
+            pending: 0,
+            failed: false,
+        })
+    }
+
+    /// Whether a module is open.
+    pub fn is_open(&self) -> bool
+        ensures { result ≡ is_open self.now }
+    {
+        self.opened.is_some()
+    }
+
+    /// How many values were taken.
+    pub fn pending(&self) -> usize
+        ensures { result ≡ self.now.pending }
+    {
+        self.pending
+    }
+
+    /// Opens a module of this name, where none is open. After a refusal each call answers that it failed before.
+    pub fn begin_module(&mut self, name: &[u8]) -> Result<(), LinkFault>
+        requires { is_open self.old ≡ false }
+        ensures begun { Begins name.now self.old self.new result }
+        ensures memory { self.old.failed ≡ false → IfErr result (λ e. is_memory e ≡ true) }
+        ensures opened { OnOk result (is_open self.new ≡ true) }
+        ensures pending { OnOk result (self.new.pending ≡ self.old.pending) }
+        ensures keeps { Keeps self.old self.new }
+        ensures refused { OnErr result (IsRefused self.old self.new) }
+        ensures again { self.old.failed ≡ true → result ≡ Err LinkFault.FailedBefore }
+    {
+        if self.failed {
+            return Err(LinkFault::FailedBefore);
+        }
+        match open_module(self.growing.alloc, name, self.growing.exports.len()) {
+            Ok(opened) => {
+                self.opened = Some(opened);
+                Ok(())
+            }
+            Err(e) => {
+                self.failed = true;
+                Err(e)
+            }
+        }
+    }
+
+    /// Takes the next record of the module that is open, which has to be one. After a refusal each call answers that
+    /// it failed before.
+    pub fn record(&mut self, next: &Record) -> Result<(), LinkFault>
+        requires { is_open self.old ≡ true }
+        ensures taken { Continues (entry_of next.now) self.old self.new result }
+        ensures opened { is_open self.new ≡ true }
+        ensures pending { OnOk result (self.new.pending ≡ self.old.pending + values_in (entry_of next.now)) }
+        ensures keeps { Keeps self.old self.new }
+        ensures refused { OnErr result (IsRefused self.old self.new) }
+        ensures again { self.old.failed ≡ true → result ≡ Err LinkFault.FailedBefore }
+    {
+        if self.failed {
+            return Err(LinkFault::FailedBefore);
+        }
+        match &mut self.opened {
+            Some(opened) => {
+                match take_record(&mut self.growing, opened, &mut self.pending, next) {
+                    Ok(()) => Ok(()),
+                    Err(e) => {
+                        self.failed = true;
+                        Err(e)
+                    }
+                }
+            }
+            None => unreachable!(),
+        }
+    }
+
+    /// Ends the module that is open, which has to be one: it is cut short where its END did not come. After a refusal
+    /// each call answers that it failed before.
+    pub fn end_module(&mut self) -> Result<(), LinkFault>
+        requires { is_open self.old ≡ true }
+        ensures ended { Ends self.old self.new result }
+        ensures opened { OnOk result (is_open self.new ≡ false) }
+        ensures pending { OnOk result (self.new.pending ≡ self.old.pending) }
+        ensures keeps { Keeps self.old self.new }
+        ensures refused { OnErr result (IsRefused self.old self.new) }
+        ensures again { self.old.failed ≡ true → result ≡ Err LinkFault.FailedBefore }
+    {
+        if self.failed {
+            return Err(LinkFault::FailedBefore);
+        }
+        match &mut self.opened {
+            Some(opened) => match close_module(&mut self.growing, &mut self.given, opened) {
+                Ok(()) => {
+                    self.opened = None;
+                    Ok(())
+                }
+                Err(e) => {
+                    self.failed = true;
+                    Err(e)
+                }
+            },
+            None => unreachable!(),
+        }
+    }
+
+    /// What the modules that were fed come to by the script, where none is open: the files, the warnings and the map,
+    /// or the first fault.
+    pub fn finish(self) -> Result<Linked, LinkFault>
+        requires { is_open self ≡ false }
+        ensures linked { Links self result }
+        ensures again { self.failed ≡ true → result ≡ Err LinkFault.FailedBefore }
+    {
+        let Linker {
+            script,
+            output,
+            growing,
+            given: _,
+            opened: _,
+            pending: _,
+            failed,
+        } = self;
+        if failed {
+            return Err(LinkFault::FailedBefore);
+        }
+        let alloc = growing.alloc;
+        let kept = kept_of(growing);
+        link(alloc, output.as_str(), &script, &kept)
+    }
+}

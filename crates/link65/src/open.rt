@@ -1,0 +1,13 @@
+//! A module that is open.
+
+use object65::Scan;
+use syntax65::Sequence;
+
+/// A module that is open: its name, and what is kept of its records to take the next.
+#[derive(Drop)]
+pub struct Open {
+    pub name: Sequence<u8>,
+    pub scan: Scan,
+    /// The place of its first export among all.
+    pub first_export: usize,
+}

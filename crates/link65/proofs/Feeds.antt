@@ -189,7 +189,7 @@ coming f modules name s g o grown there h =
     (record { growth = sym grown ∙ h.growth; scan = ap (λ (m : Opened). m.scan) same; reached = h.reached }, (ap (λ (m : Opened). m.name) same, ap (λ (m : Opened). m.first_export) same))
 
 -- what the open module comes to, as the linker keeps it
-module _ (old : Feeding) (modules : List Module) (name : List ℕ) (s : Taking.State) (g : Growth) (o : Opened) (grown : old.growth ≡ g) (there : old.opened ≡ Some o) (h : IsFeeding old modules name s) where
+module _ (old : Feeding) (modules : List Module) (name : List ℕ) (s : Taking.State) (g : Growth) (o : Opened) (before : List (List ℕ)) (grown : old.growth ≡ g) (there : old.opened ≡ Some o) (gave : old.given ≡ before) (h : IsFeeding old modules name s) where
   come : Comes (program_of modules) s g o.scan × ((o.name ≡ name) × (o.first_export ≡ length (program_of modules).exports))
   come = coming old modules name s g o grown there h
 
@@ -199,20 +199,23 @@ module _ (old : Feeding) (modules : List Module) (name : List ℕ) (s : Taking.S
   names : exports_from o.first_export g ≡ map (λ e. e.name) s.exports
   names = ap (λ k. exports_from k g) come.1.1 ∙ own_exports (program_of modules) s g o.scan come.0
 
-  kept : whole old.script modules name s ≡ admitted old.given (exports_from o.first_export g) (Taking.finished s)
-  kept = whole_admits old.script modules name s old.given s.ended made h.given ∙ ap (λ ns. admitted old.given ns (Taking.finished s)) (sym names)
+  all : all_once [] (given_names old.script (program_of modules)) ≡ Ok before
+  all = h.given ∙ ap (λ ns. let given : Result (List (List ℕ)) LinkFault = Ok ns in given) gave
+
+  kept : whole old.script modules name s ≡ admitted before (exports_from o.first_export g) (Taking.finished s)
+  kept = whole_admits old.script modules name s before s.ended made all ∙ ap (λ ns. admitted before ns (Taking.finished s)) (sym names)
 
   -- the module that ends stands behind the others
   pub ended_next : (new : Feeding) → new.opened ≡ None → new.failed ≡ false → new.script ≡ old.script
-      → ((p : Program) (t : Taking.State) → Comes p t g o.scan → (x : Object) × (admitted old.given (exports_from o.first_export g) (Taking.finished t) ≡ Ok x) × ((new.growth ≡ at_rest (with_module p (module_of o.name x))) × (all_once old.given (exports_from o.first_export g) ≡ Ok new.given)))
+      → ((p : Program) (t : Taking.State) → Comes p t g o.scan → (x : Object) × (admitted before (exports_from o.first_export g) (Taking.finished t) ≡ Ok x) × ((new.growth ≡ at_rest (with_module p (module_of o.name x))) × (all_once before (exports_from o.first_export g) ≡ Ok new.given)))
       → (x : Object) × (whole old.script modules name s ≡ Ok x) × IsFed new (modules ++ module_of name x ∷ [])
   ended_next new none runs script ends =
       let end = ends (program_of modules) s come.0 in
       let x = end.0 in
-      let is : x ≡ Taking.object_from s = admits (Taking.finished s) s.ended (Taking.object_from s) x old.given (exports_from o.first_export g) made end.1 in
+      let is : x ≡ Taking.object_from s = admits (Taking.finished s) s.ended (Taking.object_from s) x before (exports_from o.first_export g) made end.1 in
       let exports = ap (λ (y : Object). map (λ e. e.name) y.exports) is ∙ sym names in
       let behind = ap (λ n. at_rest (with_module (program_of modules) (module_of n x))) come.1.0 ∙ ap at_rest (sym (one_more modules (module_of name x))) in
-      let given = given_behind old.script modules name x old.given h.given ∙ ap (all_once old.given) exports ∙ end.2.1 in (
+      let given = given_behind old.script modules name x before all ∙ ap (all_once before) exports ∙ end.2.1 in (
         x,
         kept ∙ end.1,
         record {
@@ -224,14 +227,13 @@ module _ (old : Feeding) (modules : List Module) (name : List ℕ) (s : Taking.S
       )
 
   -- one that is refused isn't whole
-  pub ended_refused : (e : LinkFault) → ((p : Program) (t : Taking.State) → Comes p t g o.scan → Refuses is_memory e (admitted old.given (exports_from o.first_export g) (Taking.finished t))) → Refuses is_memory e (whole old.script modules name s)
+  pub ended_refused : (e : LinkFault) → ((p : Program) (t : Taking.State) → Comes p t g o.scan → Refuses is_memory e (admitted before (exports_from o.first_export g) (Taking.finished t))) → Refuses is_memory e (whole old.script modules name s)
   ended_refused e ends = subst (λ (r : Result Object LinkFault). Refuses is_memory e r) (sym kept) (ends (program_of modules) s come.0)
 
 -- ---- The link.
 
 -- what is linked of what is kept is what the modules come to
 pub linked : (f : Feeding) (modules : List Module) (kept : Program) (r : Result Linked LinkFault) → kept ≡ f.growth.program → Finds is_memory (IsProgramLink f.output f.script kept) r → IsFed f modules → Finds is_memory (LinkOf f.output f.script modules) r
-linked f modules kept r is found h =
-    let whole = subst (λ (p : Program). Finds is_memory (IsProgramLink f.output f.script p) r) (is ∙ ap (λ (g : Growth). g.program) h.growth) found in
-    let p = program_of modules in
-    subst (λ (n : Result (Unit {0}) LinkFault). Finds is_memory (λ q. First n (λ _. IsProgramLink f.output f.script p) q) r) (sym (once_of f.script p f.given h.given)) whole
+linked f modules p r is found h =
+    let whole = subst (λ (q : Program). Finds is_memory (IsProgramLink f.output f.script q) r) (is ∙ ap (λ (g : Growth). g.program) h.growth) found in
+    subst (λ (n : Result (Unit {0}) LinkFault). Finds is_memory (λ q. First n (λ _. IsProgramLink f.output f.script (program_of modules)) q) r) (sym (once_of f.script (program_of modules) f.given h.given)) whole

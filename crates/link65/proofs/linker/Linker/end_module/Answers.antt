@@ -1,4 +1,5 @@
 use Rattle.std.proofs.Common.{◌∙◌, ap, sym, refl}
+use Rattle.linkage65.specs.GivenTwice.{names_in}
 use Rattle.linkage65.specs.Grounds.{growth_in}
 use Rattle.link65.specs.Fields.{opened_in}
 use Rattle.link65.specs.Standing.{Feeding}
@@ -9,16 +10,18 @@ pub returns-in-Ok-clause-ended : goal.returns-in-Ok-clause-ended
 returns-in-Ok-clause-ended c = λ modules name s feeding.
     let l = c.self.inside in
     let o = c.in-Some.opened in
-    ended_next c.args.self.now modules name s (growth_in l.growing) (record { name = o.name; scan = o.scan; first_export = o.first_export })
+    ended_next c.args.self.now modules name s (growth_in l.growing) (record { name = o.name; scan = o.scan; first_export = o.first_export }) (names_in l.given)
     (ap (λ (f : Feeding). f.growth) (sym c.self.view_is))
     (ap (λ (f : Feeding). f.opened) (sym c.self.view_is) ∙ ap opened_in c.in-Some.is)
-    feeding _ refl c.if-self.false refl c.in-Ok.ensures.ended
+    (ap (λ (f : Feeding). f.given) (sym c.self.view_is))
+    feeding _ refl c.if-self.false (ap (λ (f : Feeding). f.script) c.self.view_is) c.in-Ok.ensures.ended
 
 pub returns-in-Err-clause-ended : goal.returns-in-Err-clause-ended
 returns-in-Err-clause-ended c = λ modules name s feeding.
     let l = c.self.inside in
     let o = c.in-Some.opened in
-    ended_refused c.args.self.now modules name s (growth_in l.growing) (record { name = o.name; scan = o.scan; first_export = o.first_export })
+    ended_refused c.args.self.now modules name s (growth_in l.growing) (record { name = o.name; scan = o.scan; first_export = o.first_export }) (names_in l.given)
     (ap (λ (f : Feeding). f.growth) (sym c.self.view_is))
     (ap (λ (f : Feeding). f.opened) (sym c.self.view_is) ∙ ap opened_in c.in-Some.is)
+    (ap (λ (f : Feeding). f.given) (sym c.self.view_is))
     feeding _ c.in-Err.ensures.ended

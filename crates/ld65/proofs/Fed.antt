@@ -23,7 +23,7 @@ use Rattle.ld65.proofs.Endings.{ended_by}
 
 -- ---- Faults.
 
-unless : (b : Bool) {P Q : Type 0} → (P → Q) → Unless b P → Unless b Q
+pub unless : (b : Bool) {P Q : Type 0} → (P → Q) → Unless b P → Unless b Q
 unless true h p = tt
 unless false h p = h p
 
@@ -65,7 +65,7 @@ from_object : {A : Type 0} (r : Result A ObjectFault) (e : LinkFault) → as_lin
 from_object (Ok x) e h = absurd cc
 from_object (Err f) e h = (f, (let same : link.Object f ≡ e = cc in sym same), refl)
 
-accepted : {A : Type 0} (r : Result A ObjectFault) (x : A) → as_link r ≡ Ok x → r ≡ Ok x
+pub accepted : {A : Type 0} (r : Result A ObjectFault) (x : A) → as_link r ≡ Ok x → r ≡ Ok x
 accepted (Ok y) x h = let same : y ≡ x = cc in ap Ok same
 accepted (Err f) x h = absurd cc
 

@@ -1,3 +1,4 @@
 pub mod Endings
 pub mod Fed
 pub mod Objects
+pub mod Inputs

@@ -2,3 +2,5 @@ pub mod Endings
 pub mod Fed
 pub mod Objects
 pub mod Inputs
+pub mod ScriptLemmas
+pub mod LinkLemmas

@@ -8,6 +8,3 @@ mod open;
 
 pub use linkage65::{LinkFault, Linked, OutputFile, Site, fault_text};
 pub use linker::Linker;
-
-#[cfg(test)]
-mod tests;

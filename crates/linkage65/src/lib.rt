@@ -47,6 +47,3 @@ pub use parts::{
 pub use resolving::{Addresses, Names, Places, resolve_all};
 pub use tables::Segments;
 pub use words::fault_text;
-
-#[cfg(test)]
-mod tests;

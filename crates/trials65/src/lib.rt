@@ -5,6 +5,8 @@
 #[cfg(test)]
 mod commands;
 #[cfg(test)]
+mod linkers;
+#[cfg(test)]
 mod objects;
 #[cfg(test)]
 mod scripts;

@@ -1,9 +1,9 @@
-//! An object that was worked out by hand, fed to a linker.
+//! An object that was worked out by hand, fed to a linker record by record.
 
-use crate::{LinkFault, Linker};
 use arrayvec::ArrayVec;
+use link65::{LinkFault, Linked, Linker};
 use object65::{ObjectFault, Record, read_head, read_record};
-use script65::{Script, Sequence};
+use script65::read_script;
 use std::alloc::Global;
 use std::test::Fail;
 use syntax65::MemStore;
@@ -17,14 +17,15 @@ const JUMP: [u8; 71] = [
     0x00, 0x00, 0x00, 0x00, 0x08, 0x00, 0x00,
 ];
 
-/// A linker with a script that says nothing.
-fn empty_linker(alloc: Global) -> Result<Linker, LinkFault> {
-    let script = Script {
-        areas: Sequence::new(alloc),
-        rows: Sequence::new(alloc),
-        symbols: Sequence::new(alloc),
-    };
-    Linker::new(alloc, script, "out")
+const SCRIPT: &[u8] = b"MEMORY { ROM: start = $8000, size = $10; }
+SEGMENTS { CODE: load = ROM, type = ro; DATA: load = ROM, type = ro, optional = yes; }";
+
+/// A linker by the script.
+fn new_linker(alloc: Global) -> Result<Linker, LinkFault> {
+    match read_script(alloc, SCRIPT) {
+        Ok(script) => Linker::new(alloc, script, "out"),
+        Err(_) => Err(LinkFault::FailedBefore),
+    }
 }
 
 /// The records of the object.
@@ -60,11 +61,19 @@ fn pending_behind(
     Ok(counts)
 }
 
+/// Whether a link gives one file with these bytes.
+fn is_image(linked: &Linked, bytes: &[u8]) -> bool {
+    match linked.files.as_slice() {
+        [file] => file.bytes.as_slice() == bytes,
+        _ => false,
+    }
+}
+
 #[test]
-fn counts_the_values(rt: HostRuntime) -> Result<(), Fail> {
+fn links_a_jump(rt: HostRuntime) -> Result<(), Fail> {
     let alloc = rt.alloc();
     let records = records_of(alloc, &JUMP)?;
-    let mut linker = empty_linker(alloc)?;
+    let mut linker = new_linker(alloc)?;
     assert_eq!(rt; linker.pending(), 0);
     if !linker.is_open() {
         linker.begin_module(b"a.o")?;
@@ -74,8 +83,13 @@ fn counts_the_values(rt: HostRuntime) -> Result<(), Fail> {
     if linker.is_open() {
         linker.end_module()?;
     }
-    assert!(rt; !linker.is_open());
     assert_eq!(rt; linker.pending(), 1);
+    assert!(rt; !linker.is_open());
+    if !linker.is_open() {
+        let linked = linker.finish()?;
+        assert!(rt; is_image(&linked, [0x4c, 0x00, 0x80].as_slice()));
+        assert_eq!(rt; linked.warnings.len(), 0);
+    }
     Ok(())
 }
 
@@ -90,34 +104,23 @@ fn is_failed_before(answer: Result<(), LinkFault>) -> bool {
 }
 
 #[test]
-fn wants_the_end(rt: HostRuntime) -> Result<(), Fail> {
-    let mut linker = empty_linker(rt.alloc())?;
+fn keeps_to_a_refusal(rt: HostRuntime) -> Result<(), Fail> {
+    let mut linker = new_linker(rt.alloc())?;
     if !linker.is_open() {
         linker.begin_module(b"a.o")?;
     }
     if linker.is_open() {
         assert!(rt; is_cut_short(linker.end_module()));
     }
+    let end = Record {
+        kind: 8,
+        body: ArrayVec::new(),
+    };
+    if linker.is_open() {
+        assert!(rt; is_failed_before(linker.record(&end)));
+    }
     if linker.is_open() {
         assert!(rt; is_failed_before(linker.end_module()));
-    }
-    assert!(rt; linker.is_open());
-    Ok(())
-}
-
-#[test]
-fn keeps_to_a_refusal(rt: HostRuntime) -> Result<(), Fail> {
-    let mut linker = empty_linker(rt.alloc())?;
-    if !linker.is_open() {
-        linker.begin_module(b"a.o")?;
-    }
-    let mut body = ArrayVec::new();
-    body.push(0);
-    let end = Record { kind: 8, body };
-    if linker.is_open() {
-        let first = linker.record(&end);
-        assert!(rt; matches!(first, Err(LinkFault::Object(ObjectFault::BadSize))));
-        assert!(rt; is_failed_before(linker.record(&end)));
     }
     assert!(rt; linker.is_open());
     Ok(())

@@ -1,14 +1,2 @@
-pub mod ImageLemmas
-pub mod Rows
-pub mod Taken
 pub mod Texts
-pub mod LinkLemmas
 pub mod Runs
-pub mod LoadLemmas
-pub mod SectionLemmas
-pub mod FillLemmas
-pub mod FileLemmas
-pub mod ModuleLemmas
-pub mod Covered
-pub mod Placements
-pub mod PlacedLemmas

@@ -3,8 +3,8 @@ use Rattle.std.proofs.Common.{◌≡◌, ◌∙◌, ◌⊎◌, inl, inr, ℕ, �
 use Rattle.std.specs.Prelude.{IfSome, IfErr, ◌||◌}
 use Rattle.syntax65.specs.Outcome.{Finds, Refuses, Unless}
 use Rattle.syntax65.specs.Store.{Files, NoneFailed, HasFailed, PassesBy, last_count}
-use Rattle.tools65.specs.declared.linking.linked.Linked.{Linked}
-use Rattle.tools65.specs.declared.linking.refusal.Refusal.{Refusal}
+use Rattle.linkage65.specs.declared.linked.Linked.{Linked}
+use Rattle.ld65.specs.declared.refusal.Refusal.{Refusal}
 use Rattle.tools65.specs.declared.outcome.Outcome.{Outcome}
 use Rattle.tools65.specs.declared.outcome.Status.{Status}
 use Rattle.tools65.specs.declared.outcome.Status.TheVariants.{Failure}
@@ -15,13 +15,13 @@ use Rattle.language65.specs.Faults.{is_memory as is_asm_memory}
 use Rattle.asm65.specs.Refusals.{has_failed, is_outside_refusal}
 use Rattle.tools65.specs.Command.{failing, outcome_of, Assembles, AssemblesWith, Does, DoesLine, Commands, Ran, RanWords, line_memory, refused_with}
 use Rattle.tools65.specs.Leaving.{Prints, SaysBoth, Settles, Performs, StopsShort}
-use Rattle.tools65.specs.Line.{Assembling, Linking, Says, line_of}
-use Rattle.tools65.specs.LineFaults.{is_outside as is_line_outside}
-use Rattle.tools65.specs.declared.command_line.fault.LineFault.{LineFault}
-use Rattle.tools65.specs.declared.command_line.fault.LineFault.TheVariants.{OutOfMemory, BadArguments}
-use Rattle.tools65.specs.Messages.{line_message_of, line_memory_message, memory_line}
-use Rattle.tools65.specs.Linkage.{IsLinked}
-use Rattle.tools65.specs.Refusals.{is_outside, is_memory, is_failure, memory_message}
+use Rattle.line65.specs.Line.{Assembling, Linking, Says, line_of}
+use Rattle.line65.specs.LineFaults.{is_outside as is_line_outside}
+use Rattle.line65.specs.declared.fault.LineFault.{LineFault}
+use Rattle.line65.specs.declared.fault.LineFault.TheVariants.{OutOfMemory, BadArguments}
+use Rattle.line65.specs.Messages.{line_message_of, line_memory_message, memory_line}
+use Rattle.ld65.specs.Linkage.{IsLinked}
+use Rattle.ld65.specs.Refusals.{is_outside, is_memory, is_failure, memory_message}
 
 no_text : (out : Option (List ℕ)) → Prints out out [] true
 no_text None = tt

@@ -3,7 +3,7 @@ use Rattle.std.proofs.Common.{◌≡◌, ◌∙◌, ℕ, ◌<◌, ◌≤◌, ari
 use Rattle.std.specs.FinMap as map
 use Rattle.std.proofs.lemmas.List.{take_at, drop_at, append-nil, map-append, take-append-drop, take-append-le, take_more}
 use Rattle.std.proofs.lemmas.Grind.{flat_map-append}
-use Rattle.tools65.specs.Messages.{joined}
+use Rattle.line65.specs.Messages.{joined}
 use Rattle.std.specs.Io.KnownBytes.{Appends, Keeps}
 use Rattle.std.specs.Ordering.{nat_cmp, eq_by_cmp}
 use Rattle.std.specs.Cmp.{eq_by_cmp_equiv}
@@ -17,7 +17,7 @@ use Rattle.syntax65.proofs.Filling.{take-add}
 use Rattle.tools65.specs.declared.outcome.Outcome.{Outcome}
 use Rattle.tools65.specs.declared.outcome.Status.{Status}
 use Rattle.tools65.specs.declared.outcome.Status.TheVariants.{Failure}
-use Rattle.tools65.specs.declared.outcome.Output.{Output}
+use Rattle.linkage65.specs.declared.linked.OutputFile.{OutputFile}
 use Rattle.std.specs.Prelude.{IfSome, IsErrOf}
 
 -- the first part of the text has been taken, and the rest is left
@@ -107,18 +107,18 @@ still_there e (Some o) None new name bytes rest p q = absurd p
 still_there e (Some o) (Some m) None name bytes rest p q = absurd q
 still_there e (Some o) (Some m) (Some x) name bytes rest p q = λ h. begun_there e o m x name bytes rest p q (let same : e ≡ FileNotFound = cc in same)
 
-apply-append : (os : List Output) (o : Output) (m : Files) → apply (os ++ o ∷ []) m ≡ map.insert (apply os m) o.name o.bytes
+apply-append : (os : List OutputFile) (o : OutputFile) (m : Files) → apply (os ++ o ∷ []) m ≡ map.insert (apply os m) o.name o.bytes
 apply-append [] o m = refl
 apply-append (p ∷ os) o m = apply-append os o (map.insert m p.name p.bytes)
 
 -- one more output
-pub next_output : (known mid new : Option Files) (outputs : List Output) (i : ℕ) (o : Output) → i < length outputs → o ≡ get_or outputs i o → Tells (λ old m. m ≡ apply (take i outputs) old) known mid → Tells (λ m n. n ≡ map.insert m o.name o.bytes) mid new → Tells (λ old n. n ≡ apply (take (i + 1) outputs) old) known new
+pub next_output : (known mid new : Option Files) (outputs : List OutputFile) (i : ℕ) (o : OutputFile) → i < length outputs → o ≡ get_or outputs i o → Tells (λ old m. m ≡ apply (take i outputs) old) known mid → Tells (λ m n. n ≡ map.insert m o.name o.bytes) mid new → Tells (λ old n. n ≡ apply (take (i + 1) outputs) old) known new
 next_output None mid new outputs i o h is p q = tt
 next_output (Some a) None new outputs i o h is p q = absurd p
 next_output (Some a) (Some m) None outputs i o h is p q = absurd q
 next_output (Some a) (Some m) (Some n) outputs i o h is p q =
-    let more : take (i + 1) outputs ≡ take i outputs ++ o ∷ [] = take_more outputs i o h ∙ ap (λ (e : Output). take i outputs ++ e ∷ []) (sym is) in
-    q ∙ ap (λ (w : Files). map.insert w o.name o.bytes) p ∙ sym (apply-append (take i outputs) o a) ∙ ap (λ (os : List Output). apply os a) (sym more)
+    let more : take (i + 1) outputs ≡ take i outputs ++ o ∷ [] = take_more outputs i o h ∙ ap (λ (e : OutputFile). take i outputs ++ e ∷ []) (sym is) in
+    q ∙ ap (λ (w : Files). map.insert w o.name o.bytes) p ∙ sym (apply-append (take i outputs) o a) ∙ ap (λ (os : List OutputFile). apply os a) (sym more)
 
 said_more : (old mid new : Option (List ℕ)) (text more : List ℕ) (whole : Bool) → Prints old mid text true → Prints mid new more whole → Prints old new (text ++ more) whole
 said_more None mid new text more true p q = tt

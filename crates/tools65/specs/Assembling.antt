@@ -3,7 +3,7 @@ use Rattle.std.specs.Prelude.{◌≡◌, ℕ, List, Option, Some, None}
 use Rattle.asm65.specs.declared.refusal.AsmRefusal.{AsmRefusal}
 use Rattle.asm65.specs.declared.refusal.Place.{Place}
 use Rattle.language65.specs.Faults.{fault_text}
-use Rattle.tools65.specs.Messages.{file_message, line_message}
+use Rattle.line65.specs.Messages.{file_message, line_message}
 use Rattle.tools65.specs.Naming.{IsObjectName}
 
 -- the name of the object's file: the one that the line gives, or else the source's with `.o`

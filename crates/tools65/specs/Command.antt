@@ -7,27 +7,27 @@ use Rattle.asm65.specs.declared.refusal.AsmRefusal.{AsmRefusal}
 use Rattle.asm65.specs.Assembly.{Assembled, IsAssembled}
 use Rattle.language65.specs.Faults.{is_memory}
 use Rattle.tools65.specs.Assembling.{IsOutputName, asm_message}
-use Rattle.tools65.specs.declared.command_line.fault.LineFault.{LineFault}
-use Rattle.tools65.specs.declared.linking.linked.Linked.{Linked}
-use Rattle.tools65.specs.declared.linking.refusal.Refusal.{Refusal}
+use Rattle.line65.specs.declared.fault.LineFault.{LineFault}
+use Rattle.linkage65.specs.declared.linked.Linked.{Linked}
+use Rattle.ld65.specs.declared.refusal.Refusal.{Refusal}
 use Rattle.tools65.specs.declared.outcome.Outcome.{Outcome}
 use Rattle.tools65.specs.declared.outcome.Status.{Status}
 use Rattle.tools65.specs.declared.outcome.Status.TheVariants.{Success, Failure}
 use Rattle.tools65.specs.Leaving.{Performs, StopsShort}
-use Rattle.tools65.specs.Line.{Assembling, Linking, Says, assemble, link, line_of}
-use Rattle.tools65.specs.Linkage.{IsLinked}
-use Rattle.tools65.specs.Outputs.{outputs_of}
-use Rattle.tools65.specs.Messages.{line_message_of, line_memory_message, memory_line}
-use Rattle.tools65.specs.Refusals.{refusal_message, memory_message}
+use Rattle.line65.specs.Line.{Assembling, Linking, Says, assemble, link, line_of}
+use Rattle.ld65.specs.Linkage.{IsLinked}
+use Rattle.tools65.specs.Outputs.{outputs_of, with_map}
+use Rattle.line65.specs.Messages.{line_message_of, line_memory_message, memory_line}
+use Rattle.ld65.specs.Refusals.{refusal_message, memory_message}
 
 -- a command that only says why
 abbrev pub failing : List ℕ → Outcome
 failing message = record { out = []; err = message; outputs = []; status = Failure }
 
--- what linking does: it warns and writes its files, or says why there are none
+-- what linking does: it warns and writes its files, the map last, or says why there are none
 abbrev pub outcome_of : Linking → Result Linked Refusal → Outcome
-outcome_of l (Ok linked) = record { out = []; err = linked.warnings; outputs = linked.outputs; status = Success }
-outcome_of l (Err e) = failing (refusal_message l.script l.input e)
+outcome_of l (Ok linked) = record { out = []; err = linked.warnings; outputs = with_map l.map linked.files linked.map; status = Success }
+outcome_of l (Err e) = failing (refusal_message l e)
 
 -- what a link line does with these files
 abbrev pub Does : Linking → Files → Outcome → Type 0

@@ -7,7 +7,7 @@ use Rattle.syntax65.specs.declared.store.StoreFault.{StoreFault}
 use Rattle.syntax65.specs.declared.store.StoreFault.TheVariants.{FileError}
 use Rattle.tools65.specs.declared.writing.Unwritten.{Unwritten}
 use Rattle.tools65.specs.declared.outcome.Outcome.{Outcome}
-use Rattle.tools65.specs.declared.outcome.Output.{Output}
+use Rattle.linkage65.specs.declared.linked.OutputFile.{OutputFile}
 use Rattle.tools65.specs.declared.outcome.Status.{Status}
 use Rattle.tools65.specs.declared.outcome.Status.TheVariants.{Failure}
 
@@ -20,7 +20,7 @@ Prints (Some old) (Some new) text true = new ≡ old ++ text
 Prints (Some old) (Some new) text false = (k : ℕ) × (k < length text) × (new ≡ old ++ take k text)
 
 -- the files behind outputs, each of which sets its name
-abbrev pub apply : List Output → Files → Files
+abbrev pub apply : List OutputFile → Files → Files
 apply [] m = m
 apply (o ∷ os) m = apply os (insert m o.name o.bytes)
 
@@ -29,8 +29,8 @@ abbrev pub IsPartly : Files → List ℕ → List ℕ → Files → Type 0
 IsPartly old name bytes new = (new ≡ old) ⊎ ((k : ℕ) × (new ≡ insert old name (take k bytes)))
 
 -- the outputs before one are applied, and that one is written in part
-abbrev pub StopsAt : List Output → ℕ → Files → Files → Type 0
-StopsAt outputs i old new = (o : Output) × (slice_get outputs i ≡ Some o) × IsPartly (apply (take i outputs) old) o.name o.bytes new
+abbrev pub StopsAt : List OutputFile → ℕ → Files → Files → Type 0
+StopsAt outputs i old new = (o : OutputFile) × (slice_get outputs i ≡ Some o) × IsPartly (apply (take i outputs) old) o.name o.bytes new
 
 -- a text for each of two streams: both have taken theirs whole, or one stops short and nothing further is said
 abbrev pub SaysBoth : Option (List ℕ) → Option (List ℕ) → List ℕ → Option (List ℕ) → Option (List ℕ) → List ℕ → Bool → Type 0

@@ -2,10 +2,7 @@
 #![tactic(auto)]
 
 mod assembling;
-mod command_line;
 mod disk_store;
-mod linking;
-mod messages;
 mod outcome;
 mod outputs;
 mod performing;
@@ -13,11 +10,10 @@ mod printing;
 mod running;
 mod writing;
 
-pub use command_line::fault::LineFault;
-pub use command_line::line::{AssembleLine, Line, LinkLine};
-pub use command_line::reading::read_line;
 pub use disk_store::DiskStore;
-pub use outcome::{Outcome, Output, Status};
+pub use ld65::OutputFile;
+pub use line65::{AssembleLine, Line, LineFault, LinkLine, read_line};
+pub use outcome::{Outcome, Status};
 pub use printing::print;
 pub use running::{run, run_line};
 pub use writing::write_file;

@@ -1,19 +1,13 @@
 //! What a command does.
 
-use syntax65::{Sequence, Text};
+use ld65::OutputFile;
+use syntax65::Sequence;
 
 /// What a run answers to its caller.
 #[derive(Clone, Copy, Debug, PartialEq, Eq)]
 pub enum Status {
     Success = 0,
     Failure = 1,
-}
-
-/// A file that a run leaves.
-#[derive(Debug, Drop)]
-pub struct Output {
-    pub name: Text,
-    pub bytes: Sequence<u8>,
 }
 
 /// What a command does once all is computed: a text for each stream, files in the order in which they are
@@ -24,6 +18,6 @@ pub struct Outcome {
     pub out: Sequence<u8>,
     /// For standard error.
     pub err: Sequence<u8>,
-    pub outputs: Sequence<Output>,
+    pub outputs: Sequence<OutputFile>,
     pub status: Status,
 }

@@ -1,9 +1,9 @@
 //! The files that a command leaves.
 
-ghost use Rattle.std.specs.Prelude.{◌≡◌, IfOk};
-ghost use Rattle.tools65.specs.Outputs.{outputs_of};
+ghost use Rattle.std.specs.Prelude.{◌≡◌, IfOk, option_map};
+ghost use Rattle.tools65.specs.Outputs.{outputs_of, with_map};
 
-use crate::outcome::Output;
+use ld65::OutputFile;
 use std::alloc::{AllocError, Global};
 use syntax65::{Sequence, Text};
 
@@ -12,13 +12,29 @@ pub fn outputs_of(
     alloc: Global,
     name: &str,
     bytes: Sequence<u8>,
-) -> Result<Sequence<Output>, AllocError>
+) -> Result<Sequence<OutputFile>, AllocError>
     ensures { IfOk result (λ outputs. outputs ≡ outputs_of name.now bytes) }
 {
     let mut outputs = Sequence::new(alloc);
     if !name.is_empty() {
         let name = Text::copy_of(alloc, name)?;
-        outputs.push(Output { name, bytes })?;
+        outputs.push(OutputFile { name, bytes })?;
     }
     Ok(outputs)
+}
+
+/// Files with the map behind them, where it has a name.
+pub fn with_map(
+    alloc: Global,
+    name: Option<&str>,
+    mut files: Sequence<OutputFile>,
+    map: Sequence<u8>,
+) -> Result<Sequence<OutputFile>, AllocError>
+    ensures { IfOk result (λ outputs. outputs ≡ with_map (option_map (λ s. s.now) name.entry) files map) }
+{
+    if let Some(name) = name {
+        let name = Text::copy_of(alloc, name)?;
+        files.push(OutputFile { name, bytes: map })?;
+    }
+    Ok(files)
 }

@@ -3,11 +3,12 @@
 ghost use Rattle.std.specs.Prelude.{◌≡◌, ◌<◌, ◌≤◌, ◌⊎◌, IfSome};
 ghost use Rattle.syntax65.specs.Store.{NoneFailed};
 ghost use Rattle.tools65.specs.Leaving.{Prints, SaysBoth, Performs, StopsShort};
-ghost use Rattle.tools65.specs.Messages.{memory_line};
+ghost use Rattle.line65.specs.Messages.{memory_line};
 
-use crate::outcome::{Outcome, Output, Status};
+use crate::outcome::{Outcome, Status};
 use crate::printing::{print, print_all};
 use crate::writing::{Unwritten, write_outputs};
+use ld65::OutputFile;
 use std::io::Write;
 use syntax65::{Store, StoreFault};
 
@@ -33,7 +34,7 @@ pub fn say_memory<E: Write>(err: &mut E, name: &str) -> bool
 /// took all of it.
 fn say_unwritten<E: Write>(
     err: &mut E,
-    outputs: &[Output],
+    outputs: &[OutputFile],
     unwritten: Unwritten,
     memory_name: &str,
 ) -> bool

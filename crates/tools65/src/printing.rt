@@ -2,7 +2,7 @@
 
 ghost use Rattle.std.specs.Prelude.{map};
 ghost use Rattle.tools65.specs.Leaving.{Prints};
-ghost use Rattle.tools65.specs.Messages.{joined};
+ghost use Rattle.line65.specs.Messages.{joined};
 
 use std::io::Write;
 

@@ -2,28 +2,25 @@
 
 ghost use Rattle.std.specs.Prelude.{◌≡◌, ◌<◌, ◌≤◌, IfOk, IfSome, map};
 ghost use Rattle.syntax65.specs.Store.{NoneFailed};
-ghost use Rattle.tools65.specs.Line.{assembling, linking, view};
-ghost use Rattle.tools65.specs.Messages.{line_message_of, memory_line};
+ghost use Rattle.line65.specs.Line.{assembling, linking, view};
+ghost use Rattle.line65.specs.Messages.{memory_line};
 ghost use Rattle.tools65.specs.Command.{outcome_of, Ran, Assembles, Does, DoesLine, Commands, line_memory};
-ghost use Rattle.tools65.specs.Refusals.{memory_message};
+ghost use Rattle.ld65.specs.Refusals.{memory_message};
 
 use crate::assembling::outcome::asm_outcome;
-use crate::command_line::fault::LineFault;
-use crate::command_line::line::{AssembleLine, Line, LinkLine};
-use crate::command_line::reading::read_line;
-use crate::linking::link::link;
-use crate::linking::linked::Linked;
-use crate::linking::refusal::{Refusal, refusal_message};
 use crate::outcome::{Outcome, Status};
+use crate::outputs::with_map;
 use crate::performing::{perform, say_memory};
 use crate::printing::print;
 use asm65::{AsmJob, assemble};
+use ld65::{Linked, Refusal, link_files, refusal_message};
+use line65::{AssembleLine, Line, LinkLine, fault_message, read_line};
 use std::alloc::{AllocError, Global};
 use std::convert::AsStr;
 use std::io::Write;
 use syntax65::{Sequence, Store};
 
-/// What linking does: it warns and writes its files, or says why there are none.
+/// What linking does: it warns and writes its files and its map, or says why there are none.
 fn link_outcome(
     alloc: Global,
     line: &LinkLine<'_>,
@@ -35,7 +32,7 @@ fn link_outcome(
         Ok(linked) => Ok(Outcome {
             out: Sequence::new(alloc),
             err: linked.warnings,
-            outputs: linked.outputs,
+            outputs: with_map(alloc, line.map, linked.files, linked.map)?,
             status: Status::Success,
         }),
         Err(refusal) => Ok(Outcome {
@@ -60,7 +57,7 @@ fn run_link<S: Store, W: Write, E: Write>(
     ensures later { S.failures store.old ≤ S.failures store.new }
     ensures rose { S.failures store.old < S.failures store.new → result ≡ Status.Failure }
 {
-    let linked = link(alloc, store, line);
+    let linked = link_files(alloc, store, line);
     match link_outcome(alloc, line, linked) {
         Ok(outcome) => perform(&outcome, store, out, err, "ld65"),
         Err(_) => {
@@ -119,16 +116,6 @@ pub fn run_line<S: Store, W: Write, E: Write>(
     }
 }
 
-/// Why words are no line.
-fn line_text(fault: LineFault) -> &'static [u8]
-    ensures { result.now ≡ line_message_of fault }
-{
-    match fault {
-        LineFault::OutOfMemory => b"bin65: Error: out of memory\n",
-        LineFault::BadArguments => b"bin65: Error: bad arguments\n",
-    }
-}
-
 /// Runs words as a command, the first being the program's name, and answers the status.
 pub fn run<A: AsStr, S: Store, W: Write, E: Write>(
     alloc: Global,
@@ -145,7 +132,7 @@ pub fn run<A: AsStr, S: Store, W: Write, E: Write>(
     match read_line(alloc, words) {
         Ok(line) => run_line(alloc, &line, store, out, err),
         Err(fault) => {
-            print(err, line_text(fault));
+            print(err, fault_message(fault));
             Status::Failure
         }
     }

@@ -5,7 +5,7 @@ ghost use Rattle.std.specs.FinMap as map;
 ghost use Rattle.syntax65.specs.Store.{Tells, Passes, PassesBy};
 ghost use Rattle.tools65.specs.Leaving.{IsPartly, StopsAt, apply, is_failure};
 
-use crate::outcome::Output;
+use ld65::OutputFile;
 use syntax65::{Store, StoreFault};
 
 /// Writes a whole file. A refusal leaves the first part of it, or the file as it was.
@@ -34,7 +34,7 @@ pub struct Unwritten {
 
 /// Writes outputs in order. A refusal leaves those before it written, that one in part or as it was, and the
 /// rest as they were.
-pub fn write_outputs<S: Store>(store: &mut S, outputs: &[Output]) -> Result<(), Unwritten>
+pub fn write_outputs<S: Store>(store: &mut S, outputs: &[OutputFile]) -> Result<(), Unwritten>
     ensures ok { OnOk result (Tells (λ old new. new ≡ apply outputs.now old) (S.files store.old) (S.files store.new)) }
     ensures err { IfErr result (λ e. Tells (StopsAt outputs.now e.place) (S.files store.old) (S.files store.new)) }
     ensures place { IfErr result (λ e. e.place < length outputs.now) }

@@ -6,15 +6,14 @@ ghost use Rattle.object65.specs.Spelling.{object_bytes};
 ghost use Rattle.tools65.specs.Assembling.{IsOutputName};
 ghost use Rattle.asm65.specs.Assembly.{assembled_of};
 ghost use Rattle.tools65.specs.Command.{AssemblesTo, refused_with};
-ghost use Rattle.tools65.specs.Line.{assembling};
+ghost use Rattle.line65.specs.Line.{assembling};
 
 use crate::assembling::naming::object_name;
 use crate::assembling::refusal::asm_message;
-use crate::command_line::line::AssembleLine;
-use crate::messages::join;
 use crate::outcome::{Outcome, Status};
 use crate::outputs::outputs_of;
 use asm65::{AsmRefusal, Assembly};
+use line65::{AssembleLine, join};
 use object65::{Object, write_object};
 use std::alloc::{AllocError, Global};
 use syntax65::{Sequence, Text};

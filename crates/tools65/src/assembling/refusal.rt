@@ -3,8 +3,8 @@
 ghost use Rattle.std.specs.Prelude.{◌≡◌, IfOk};
 ghost use Rattle.tools65.specs.Assembling.{asm_message};
 
-use crate::messages::{file_message, line_message};
 use asm65::AsmRefusal;
+use line65::{file_message, line_message};
 use std::alloc::{AllocError, Global};
 use syntax65::Sequence;
 
@@ -22,10 +22,10 @@ pub fn asm_message(
     match &refusal.place {
         Some(place) => line_message(
             alloc,
-            place.file.as_str(),
+            place.file.as_str().as_bytes(),
             place.line as usize,
             words.as_slice(),
         ),
-        None => file_message(alloc, source, words.as_slice()),
+        None => file_message(alloc, source.as_bytes(), words.as_slice()),
     }
 }

@@ -2,18 +2,19 @@
 
 use super::{O1, S1, files, run_on, says};
 use std::test::Fail;
-use syntax65::MemStore;
+use syntax65::{MemStore, Sequence};
 use tools65::{
     AssembleLine, Line, LineFault, LinkLine, Status, print, read_line, run_line, write_file,
 };
 
 #[test]
 fn reads_lines(rt: HostRuntime) -> Result<(), Fail> {
-    let words = ["bin65", "ld65", "a.o", "-Cs.cfg", "-o", "image"];
+    let words = ["bin65", "ld65", "a.o", "-Cs.cfg", "-o", "image", "-mmap", "b.o"];
     let Ok(Line::Link(line)) = read_line(rt.alloc(), words.as_slice()) else {
         return Err(Fail::from("no line of ld65"));
     };
-    assert!(rt; line.script == "s.cfg" && line.output == Some("image") && line.input == "a.o");
+    assert!(rt; line.script == "s.cfg" && line.output == Some("image") && line.map == Some("map"));
+    assert!(rt; line.inputs.as_slice() == ["a.o", "b.o"].as_slice());
     let words = ["bin65", "ca65", "a.s"];
     let Ok(Line::Assemble(line)) = read_line(rt.alloc(), words.as_slice()) else {
         return Err(Fail::from("no line of ca65"));
@@ -47,14 +48,19 @@ fn runs_lines(rt: HostRuntime) -> Result<(), Fail> {
     let status = run_line(rt.alloc(), &line, &mut store, &mut out, &mut err);
     assert!(rt; status == Status::Success && out.as_slice() == b"one\n".as_slice());
     assert!(rt; store.get("b.o").is_some_and(|object| object.len() == 24));
+    let mut inputs = Sequence::new(rt.alloc());
+    inputs.push("a.o")?;
+    inputs.push("b.o")?;
     let line = Line::Link(LinkLine {
         script: "s.cfg",
         output: None,
-        input: "a.o",
+        map: Some("map"),
+        inputs,
     });
     let status = run_line(rt.alloc(), &line, &mut store, &mut out, &mut err);
     assert!(rt; status == Status::Success && err.is_empty());
-    assert!(rt; store.get("a.out") == Some(b"\xa9\0\x60".as_slice()));
+    assert!(rt; store.get("a.out") == Some(b"\xa9\0\x60\xea".as_slice()));
+    assert!(rt; store.get("map").is_some_and(|map| map.starts_with(b"MODULES\na.o\n")));
     Ok(())
 }
 

@@ -1,5 +1,5 @@
 use Rattle.std.proofs.Common.{refl}
-use Rattle.tools65.specs.Messages.{memory_line}
+use Rattle.line65.specs.Messages.{memory_line}
 use Rattle.tools65.proofs.Texts.{short}
 use Rattle.tools65.proofs.performing.perform.Goals as goal
 

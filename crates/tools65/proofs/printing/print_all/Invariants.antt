@@ -1,6 +1,6 @@
 use Rattle.std.proofs.Common.{map, take, true}
 use Rattle.tools65.specs.Leaving.{Prints}
-use Rattle.tools65.specs.Messages.{joined}
+use Rattle.line65.specs.Messages.{joined}
 use Rattle.tools65.proofs.printing.print_all.Given as goal
 
 abbrev pub invariant-loop-part : goal.invariant-loop-part

@@ -7,4 +7,4 @@ returns-in-Ok-clause-done g c = line_run _ _ _ _ (map g.A.AsStr.text c.args.word
 
 pub returns-in-Err-clause-done : goal.returns-in-Err-clause-done
 returns-in-Err-clause-done g c =
-    refused_words _ _ (map g.A.AsStr.text c.args.words.now) c.in-Err.fault _ _ _ c.print.result _ _ refl refl c.in-Err.ensures (rw c.line_text.ensures at c.print.ensures)
+    refused_words _ _ (map g.A.AsStr.text c.args.words.now) c.in-Err.fault _ _ _ c.print.result _ _ refl refl c.in-Err.ensures (rw c.fault_message.ensures at c.print.ensures)

@@ -1,7 +1,7 @@
 use Rattle.std.proofs.Common.{refl}
-use Rattle.tools65.specs.Line.{assembling}
+use Rattle.line65.specs.Line.{assembling}
 use Rattle.tools65.specs.Command.{Assembles}
-use Rattle.tools65.specs.Messages.{memory_line}
+use Rattle.line65.specs.Messages.{memory_line}
 use Rattle.tools65.proofs.Runs.{only_memory, assembled_run}
 use Rattle.tools65.proofs.running.run_assemble.Goals as goal
 

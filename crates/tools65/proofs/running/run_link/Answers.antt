@@ -1,13 +1,13 @@
 use Rattle.std.proofs.Common.{refl}
-use Rattle.tools65.specs.Line.{linking}
+use Rattle.line65.specs.Line.{linking}
 use Rattle.tools65.specs.Command.{Does}
-use Rattle.tools65.specs.Refusals.{memory_message}
+use Rattle.ld65.specs.Refusals.{memory_message}
 use Rattle.tools65.proofs.Runs.{only_memory, linked_run}
 use Rattle.tools65.proofs.running.run_link.Goals as goal
 
 pub returns-in-Ok-clause-done : goal.returns-in-Ok-clause-done
 returns-in-Ok-clause-done g c =
-    linked_run _ _ _ _ _ _ (linking c.args.line.now) c.link-linked.result c.in-Ok.outcome _ _ _ _ _ c.link-linked.ensures.files c.perform.ensures.later c.link-linked.ensures.count c.in-Ok.ensures c.link-linked.ensures.linked c.perform.ensures.done
+    linked_run _ _ _ _ _ _ (linking c.args.line.now) c.link_files-linked.result c.in-Ok.outcome _ _ _ _ _ c.link_files-linked.ensures.files c.perform.ensures.later c.link_files-linked.ensures.count c.in-Ok.ensures c.link_files-linked.ensures.linked c.perform.ensures.done
 
 pub returns-in-Err-clause-done : goal.returns-in-Err-clause-done
-returns-in-Err-clause-done g c = only_memory _ _ (Does (linking c.args.line.now)) _ _ _ memory_message c.say_memory.result _ _ c.link-linked.ensures.files refl c.say_memory.ensures
+returns-in-Err-clause-done g c = only_memory _ _ (Does (linking c.args.line.now)) _ _ _ memory_message c.say_memory.result _ _ c.link_files-linked.ensures.files refl c.say_memory.ensures

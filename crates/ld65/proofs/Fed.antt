@@ -1,0 +1,146 @@
+-- Records that are read and fed one after another.
+use Rattle.std.proofs.Common.{◌≡◌, ◌∙◌, ◌<◌, ℕ, List, [], ◌∷◌, ◌++◌, Bool, true, false, ◌==◌, Option, Some, None, Result, Ok, Err, refl, sym, ap, subst, arith}
+use Rattle.std.specs.Prelude.{IfSome}
+use Rattle.std.specs.FinMap.{get}
+use Rattle.std.proofs.lemmas.Bool.Decides.{nat_tests}
+use Rattle.syntax65.specs.Outcome.{Refuses, Unless}
+use Rattle.syntax65.specs.Store.{Files, Passes}
+use Rattle.object65.specs.declared.fault.ObjectFault.{ObjectFault}
+use Rattle.object65.specs.declared.fault.ObjectFault.TheVariants as object
+use Rattle.object65.specs.Fault.{is_outside as is_object_outside, is_memory as is_object_memory}
+use Rattle.object65.specs.Reading.{in_file, record_at}
+use Rattle.object65.specs.Record.{Entry}
+use Rattle.object65.specs.Taking.{State, after, start}
+use Rattle.object65.proofs.Records.{GoesIn, all_in, reading_stops, taking_stops, ends_in, goes_on_in, begins_in}
+use Rattle.object65.proofs.Frees.{after_free}
+use Rattle.linkage65.specs.declared.fault.LinkFault.{LinkFault}
+use Rattle.linkage65.specs.declared.fault.LinkFault.TheVariants as link
+use Rattle.linkage65.specs.Faults.{is_memory}
+use Rattle.linkage65.specs.Modules.{Module}
+use Rattle.link65.specs.Standing.{Continues, Feeding, IsFeeding, as_link}
+use Rattle.ld65.specs.Feeding.{FeedsRecords, is_link_outside, no_limit, records_in}
+use Rattle.ld65.proofs.Endings.{ended_by}
+
+-- ---- Faults.
+
+pub unless : (b : Bool) {P Q : Type 0} → (P → Q) → Unless b P → Unless b Q
+unless true h p = tt
+unless false h p = h p
+
+-- a refusal of an object is one of the link
+pub of_object : {A : Type 0} (f : ObjectFault) (r : Result A ObjectFault) → Refuses is_object_outside f r → Refuses is_link_outside (link.Object f) (as_link r)
+of_object f r h = unless (is_object_outside f) (λ e. ap as_link e) h
+
+pub of_object_in : {A : Type 0} (known : Option Files) (f : ObjectFault) (r : Files → Result A ObjectFault) → IfSome known (λ m. Refuses is_object_outside f (r m)) → IfSome known (λ m. Refuses is_link_outside (link.Object f) (as_link (r m)))
+of_object_in None f r h = tt
+of_object_in (Some m) f r h = of_object f (r m) h
+
+memory_is_outside : (f : LinkFault) → is_memory f ≡ true → is_link_outside f ≡ true
+memory_is_outside link.OutOfMemory h = refl
+memory_is_outside (link.Object object.OutOfMemory) h = refl
+memory_is_outside (link.Object object.FileError) h = refl
+memory_is_outside (link.Object f) h = absurd cc
+memory_is_outside (link.Place f) h = h
+memory_is_outside f h = absurd cc
+
+-- where memory ran out nothing is said
+pub by_memory : {A : Type 0} (known : Option Files) (e : LinkFault) (r : Files → Result A LinkFault) → is_memory e ≡ true → IfSome known (λ m. Refuses is_link_outside e (r m))
+by_memory None e r h = tt
+by_memory (Some m) e r h = rw (memory_is_outside e h) tt
+
+-- a refusal in want of memory alone is one from outside
+pub memory_outside : {A : Type 0} (e : LinkFault) (r : Result A LinkFault) → Refuses is_memory e r → Refuses is_link_outside e r
+memory_outside e r h = go (is_memory e) refl h
+  where
+    go : (b : Bool) → is_memory e ≡ b → Unless b (r ≡ Err e) → Refuses is_link_outside e r
+    go true k u = rw (memory_is_outside e k) tt
+    go false k u = unlessed (is_link_outside e) u
+      where
+        unlessed : (b : Bool) → r ≡ Err e → Unless b (r ≡ Err e)
+        unlessed true u = tt
+        unlessed false u = u
+
+-- the fault of an object that a refusal of the link is
+from_object : {A : Type 0} (r : Result A ObjectFault) (e : LinkFault) → as_link r ≡ Err e → (f : ObjectFault) × (e ≡ link.Object f) × (r ≡ Err f)
+from_object (Ok x) e h = absurd cc
+from_object (Err f) e h = (f, (let same : link.Object f ≡ e = cc in sym same), refl)
+
+pub accepted : {A : Type 0} (r : Result A ObjectFault) (x : A) → as_link r ≡ Ok x → r ≡ Ok x
+accepted (Ok y) x h = let same : y ≡ x = cc in ap Ok same
+accepted (Err f) x h = absurd cc
+
+-- ---- A record that the linker refuses.
+
+-- it is a fault of no store
+pub not_stored : (s : State) (x : Entry) (e : LinkFault) → Refuses is_memory e (as_link (after s x)) → e ≡ link.Object object.FileError → ⊥
+not_stored s x e h is = absurd (after_free s x (refused_so (rw is at h)))
+  where
+    refused_so : as_link (after s x) ≡ Err (link.Object object.FileError) → after s x ≡ Err object.FileError
+    refused_so u = let p = from_object (after s x) _ u in let same : object.FileError ≡ p.0 = cc p.1 in p.2 ∙ ap Err (sym same)
+
+pub taking_refused : (limit at next : ℕ) (known now : Option Files) (name : List ℕ) (s : State) (r : Entry × ℕ) (e : LinkFault) → now ≡ known → GoesIn known name limit at next s → IfSome now (λ m. in_file (get m name) (record_at next limit) ≡ Ok r) → Refuses is_memory e (as_link (after s r.0)) → IfSome known (λ m. Refuses is_link_outside e (as_link (all_in (get m name) at limit)))
+taking_refused limit at next known now name s r e same goes read refused = go (is_memory e) refl refused
+  where
+    go : (b : Bool) → is_memory e ≡ b → Unless b (as_link (after s r.0) ≡ Err e) → IfSome known (λ m. Refuses is_link_outside e (as_link (all_in (get m name) at limit)))
+    go true h u = by_memory known e (λ m. as_link (all_in (get m name) at limit)) h
+    go false h u =
+        let p = from_object (after s r.0) e u in
+        let free : Refuses is_object_outside p.0 (after s r.0) = unless_any (is_object_outside p.0) p.2 in
+        rw p.1 (of_object_in known p.0 (λ m. all_in (get m name) at limit) (taking_stops limit at next known now name s r p.0 same goes read free))
+      where
+        unless_any : (b : Bool) {P : Type 0} → P → Unless b P
+        unless_any true x = tt
+        unless_any false x = x
+
+not_at : (n : ℕ) → (n ≡ 8 → ⊥) → (n == 8) ≡ false
+not_at n h = grind (arith, nat_tests)
+
+-- ---- The loop, for all modules that the linker stands for.
+
+-- what is left of a file reads as all of it, behind what the linker has taken
+abbrev pub IsAt : Option Files → List ℕ → ℕ → ℕ → Feeding → Feeding → Type 0
+IsAt known name at next old now =
+    (modules : List Module) (called : List ℕ) → IsFeeding old modules called start
+    → (s : State) × IsFeeding now modules called s × GoesIn known name no_limit at next s
+
+module _ (known : Option Files) (name : List ℕ) (at : ℕ) where
+  pub is_at_first : (old : Feeding) → IsAt known name at at old old
+  is_at_first old modules called h = (start, h, begins_in no_limit at at known name)
+
+  pub unread : (next : ℕ) (now : Option Files) (old mid new : Feeding) (f : ObjectFault) → now ≡ known → IsAt known name at next old mid → IfSome now (λ m. Refuses is_object_outside f (in_file (get m name) (record_at next no_limit))) → FeedsRecords known name at old new (Err (link.Object f))
+  unread next now old mid new f same is h modules called stands =
+      let p = is modules called stands in
+      of_object_in known f (λ m. records_in m name at) (reading_stops no_limit at next known now name p.0 f same p.2 h)
+
+  pub untaken : (next : ℕ) (now : Option Files) (old mid new : Feeding) (r : Entry × ℕ) (e : LinkFault) → now ≡ known → IsAt known name at next old mid → IfSome now (λ m. in_file (get m name) (record_at next no_limit) ≡ Ok r) → Continues r.0 mid new (Err e) → FeedsRecords known name at old new (Err e)
+  untaken next now old mid new r e same is read refused modules called stands =
+      let p = is modules called stands in
+      taking_refused no_limit at next known now name p.0 r e same p.2 read (refused modules called p.0 p.1)
+
+  pub ends_there : (next : ℕ) (now : Option Files) (old mid new : Feeding) (r : Entry × ℕ) → now ≡ known → IsAt known name at next old mid → IfSome now (λ m. in_file (get m name) (record_at next no_limit) ≡ Ok r) → Continues r.0 mid new (Ok tt) → r.0.kind ≡ 8 → FeedsRecords known name at old new (Ok r.1)
+  ends_there next now old mid new r same is read taken end modules called stands =
+      let p = is modules called stands in
+      let q = taken modules called p.0 p.1 in
+      let step = accepted (after p.0 r.0) q.0 q.1 in
+      ((q.0, r.1), linked known (λ m. records_in m name at) (q.0, r.1) (ends_in no_limit at next known now name p.0 q.0 r same p.2 read step (ended_by p.0 q.0 r.0 step ∙ ap (λ i. i == 8) end)), (refl, q.2))
+    where
+      linked : (k : Option Files) (f : Files → Result (State × ℕ) ObjectFault) (x : State × ℕ) → IfSome k (λ m. f m ≡ Ok x) → IfSome k (λ m. as_link (f m) ≡ Ok x)
+      linked None f x h = tt
+      linked (Some m) f x h = ap as_link h
+
+  pub goes_further : (next : ℕ) (now : Option Files) (old mid new : Feeding) (r : Entry × ℕ) → now ≡ known → IsAt known name at next old mid → IfSome now (λ m. in_file (get m name) (record_at next no_limit) ≡ Ok r) → next < r.1 → Continues r.0 mid new (Ok tt) → (r.0.kind ≡ 8 → ⊥) → IsAt known name at r.1 old new
+  goes_further next now old mid new r same is read later taken end modules called stands =
+      let p = is modules called stands in
+      let q = taken modules called p.0 p.1 in
+      let step = accepted (after p.0 r.0) q.0 q.1 in
+      (q.0, q.2, goes_on_in no_limit at next known now name p.0 q.0 r same p.2 read later step (ended_by p.0 q.0 r.0 step ∙ not_at r.0.kind end))
+
+  -- a record that the linker refuses is no failure of the store
+  pub none_passed : {T : Type 0} (next : ℕ) (old mid new : Feeding) (x : Entry) (e : LinkFault) (count_old count_new : ℕ) → count_new ≡ count_old → IsAt known name at next old mid → Continues x mid new (Err e) → (modules : List Module) (called : List ℕ) → IsFeeding old modules called start → Passes {T = T} (link.Object object.FileError) count_old count_new (Err e)
+  none_passed next old mid new x e count_old count_new same is refused modules called stands = record {
+    later = omega (arith, same);
+    told = λ h. absurd (omega (arith, same));
+    cause = λ h.
+      let p = is modules called stands in
+      absurd (not_stored p.0 x e (refused modules called p.0 p.1) (let f : e ≡ link.Object object.FileError = cc h in f));
+  }

@@ -1,0 +1,16 @@
+use Rattle.std.proofs.Common.{◌≡◌, ◌-◌, ◌^◌, true}
+use Rattle.link65.specs.Standing.{Keeps, is_open}
+use Rattle.ld65.proofs.Fed.{IsAt}
+use Rattle.ld65.proofs.feeding.feed_records.Given as goal
+
+abbrev pub invariant-records : goal.invariant-records
+invariant-records g l = record {
+  files : g.S.Store.files l.store ≡ g.S.Store.files l.fn.store;
+  count : g.S.Store.failures l.store ≡ g.S.Store.failures l.fn.store;
+  opened : is_open l.linker ≡ true;
+  keeps : Keeps l.fn.linker l.linker;
+  stands : IsAt (g.S.Store.files l.fn.store) l.name l.at l.next l.fn.linker l.linker;
+}
+
+abbrev pub decreases-records : goal.decreases-records
+decreases-records g l = 18446744073709551615 - l.next

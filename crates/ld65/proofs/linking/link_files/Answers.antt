@@ -1,0 +1,20 @@
+use Rattle.std.proofs.Common.{ℕ, List, Ok, Err, subst}
+use Rattle.std.proofs.lemmas.Result.{err_from_is_err_and}
+use Rattle.syntax65.specs.Outcome.{Unless}
+use Rattle.line65.specs.Line.{linking}
+use Rattle.script65.specs.Faults.{is_script_outside}
+use Rattle.script65.specs.Scripts.{IsScript}
+use Rattle.ld65.proofs.ScriptLemmas.{script_ok, script_err}
+use Rattle.ld65.proofs.linking.link_files.Goals as goal
+
+pub returns-in_err-script-clause-linked : goal.returns-in_err-script-clause-linked
+returns-in_err-script-clause-linked g c =
+    let p = err_from_is_err_and c.from_residual-in_err-script.result c.from_residual-in_err-script.ensures.1 in
+    let e = c.in_err-script.field-0.0 in
+    let is = subst (λ (text : List ℕ). Unless (is_script_outside e) (IsScript text (Err e))) c.as_slice.ensures c.in_err-script.ensures in
+    rw (p.1, p.2) (script_err _ (linking c.args.line.now) c.in_ok-text.text e c.in_ok-text.ensures.read is)
+
+pub returns-clause-linked : goal.returns-clause-linked
+returns-clause-linked g c =
+    let is = subst (λ (text : List ℕ). IsScript text (Ok c.in_ok-script.script)) c.as_slice.ensures c.in_ok-script.ensures in
+    script_ok _ _ (linking c.args.line.now) c.in_ok-text.text c.in_ok-script.script _ c.in_ok-text.ensures.files c.in_ok-text.ensures.read is c.link_inputs.ensures.linked

@@ -1,0 +1,4 @@
+pub mod Linkage
+pub mod Refusals
+pub mod Texts
+pub mod Feeding

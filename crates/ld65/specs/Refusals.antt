@@ -1,0 +1,76 @@
+-- Why nothing is linked: in words, and whether the cause lies outside the files.
+use Rattle.std.specs.Prelude.{ℕ, List, [], Bool, true, false, codes, ◌||◌, get_or, if◌then◌else◌}
+use Rattle.syntax65.specs.declared.store.StoreFault.{StoreFault}
+use Rattle.syntax65.specs.declared.store.StoreFault.TheVariants as store
+use Rattle.syntax65.specs.StoreFaults.{store_words}
+use Rattle.object65.specs.declared.fault.ObjectFault.{ObjectFault}
+use Rattle.object65.specs.declared.fault.ObjectFault.TheVariants as object
+use Rattle.object65.specs.Fault.{fault_text, is_memory as is_object_memory}
+use Rattle.script65.specs.Faults.{fault_text as script_words, is_memory_fault}
+use Rattle.linkage65.specs.declared.fault.LinkFault.{LinkFault}
+use Rattle.linkage65.specs.declared.fault.LinkFault.TheVariants as link
+use Rattle.linkage65.specs.declared.fault.Site.{Site}
+use Rattle.linkage65.specs.Faults.{fault_text as link_words, is_memory as is_fault_memory}
+use Rattle.line65.specs.Line.{Linking}
+use Rattle.line65.specs.Messages.{file_message, line_message}
+use Rattle.ld65.specs.declared.refusal.Refusal.{Refusal}
+use Rattle.ld65.specs.declared.refusal.Refusal.TheVariants.{OutOfMemory, ScriptFile, Script, Object, Link}
+
+abbrev store_memory : StoreFault → Bool
+store_memory store.OutOfMemory = true
+store_memory _ = false
+
+-- memory ran out where objects are linked
+abbrev pub is_link_memory : LinkFault → Bool
+is_link_memory f = is_fault_memory f
+
+-- memory ran out
+abbrev pub is_memory : Refusal → Bool
+is_memory OutOfMemory = true
+is_memory (ScriptFile f) = store_memory f
+is_memory (Script f) = is_memory_fault f.fault
+is_memory (Object k f) = is_object_memory f
+is_memory (Link f) = is_link_memory f
+
+-- the store failed
+abbrev pub is_failure : Refusal → Bool
+is_failure (ScriptFile store.FileError) = true
+is_failure (Object k object.FileError) = true
+is_failure _ = false
+
+abbrev pub is_outside : Refusal → Bool
+is_outside e = is_memory e || is_failure e
+
+-- what a fault is that is met at the input at a place of the line: one of the input's own is named by the place
+abbrev pub refusal_at : ℕ → LinkFault → Refusal
+refusal_at k (link.Object f) = Object k f
+refusal_at k f = Link f
+
+-- ---- In words.
+
+abbrev pub memory_message : List ℕ
+memory_message = codes "ld65: Error: out of memory\n"
+
+-- a fault of linking: that of a value at its module and line, any other as the linker's
+abbrev pub link_message : LinkFault → List ℕ
+link_message (link.Circular s) = line_message s.module_name s.line (link_words (link.Circular s))
+link_message (link.OutOfRange s) = line_message s.module_name s.line (link_words (link.OutOfRange s))
+link_message (link.NoValue s) = line_message s.module_name s.line (link_words (link.NoValue s))
+link_message (link.Assertion s text) = line_message s.module_name s.line (link_words (link.Assertion s text))
+link_message f = file_message (codes "ld65") (link_words f)
+
+-- the name of the input at a place of the line
+abbrev pub named : List (List ℕ) → ℕ → List ℕ
+named inputs k = get_or inputs k []
+
+-- why nothing is linked, where memory didn't run out
+abbrev cause_message : Linking → Refusal → List ℕ
+cause_message l OutOfMemory = memory_message
+cause_message l (ScriptFile f) = file_message l.script (store_words f)
+cause_message l (Script f) = line_message l.script f.line (script_words f.fault)
+cause_message l (Object k f) = file_message (named l.inputs k) (fault_text f)
+cause_message l (Link f) = link_message f
+
+-- the message of a refusal, by the names in the line
+abbrev pub refusal_message : Linking → Refusal → List ℕ
+refusal_message l e = if is_memory e then memory_message else cause_message l e

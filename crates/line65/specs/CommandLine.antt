@@ -1,0 +1,60 @@
+-- The command that clap reads, as clap sees it.
+use Rattle.std.specs.Prelude.{◌≡◌, ℕ, Some, true, false, codes}
+use Rattle.clap.specs.Words.{App, Rule, Text, app_of, new_rule, new_app, with_rule, with_subcommand}
+use Rattle.clap.specs.Simple.{new_shape}
+use Rattle.clap.specs.declared.builder.action.ArgAction.TheVariants.{Append}
+use Rattle.clap.specs.declared.builder.command.Command.{Command}
+use Rattle.clap.specs.declared.builder.command.Command.TheViews.{out-Command}
+
+-- an option with one value, which may stand once
+abbrev pub option_rule : Text → ℕ → Rule
+option_rule id short = record (new_rule id) { short = Some short }
+
+abbrev pub required_option_rule : Text → ℕ → Rule
+required_option_rule id short = record (new_rule id) { short = Some short; required = true }
+
+-- one word that has to be there
+abbrev pub word_rule : Text → Rule
+word_rule id = record (new_rule id) { required = true }
+
+-- words of which there has to be one
+abbrev pub words_rule : Text → Rule
+words_rule id = record (new_rule id) { action = Some Append; required = true }
+
+-- `ca65 [-o FILE] SOURCE`
+abbrev pub ca65 : App
+ca65 = with_rule (with_rule (new_app (codes "ca65"))
+    (option_rule (codes "output") 111))
+    (word_rule (codes "source"))
+
+-- `ld65 -C SCRIPT [-o FILE] [-m MAP] INPUT..`
+abbrev pub ld65 : App
+ld65 = with_rule (with_rule (with_rule (with_rule (new_app (codes "ld65"))
+    (required_option_rule (codes "script") 67))
+    (option_rule (codes "output") 111))
+    (option_rule (codes "map") 109))
+    (words_rule (codes "input"))
+
+-- the program's own words: one of the subcommands, and neither help nor version
+abbrev pub named : App
+named = record (new_app (codes "bin65")) {
+  top = record (new_shape (codes "bin65")) {
+    disable_help_flag = true;
+    disable_help_subcommand = true;
+    subcommand_required = true;
+  };
+}
+
+-- the whole command
+abbrev pub bin65 : App
+bin65 = with_subcommand (with_subcommand named ca65.top) ld65.top
+
+-- c is read as a, and none of its arguments is global
+pub record IsMade (a : App) (c : Command) : Type 0 where
+  pub app : app_of c ≡ a
+  pub local : (out-Command c).has_globals ≡ false
+
+-- new is old with one more argument, which isn't global
+pub record Adds (old : Command) (r : Rule) (new : Command) : Type 0 where
+  pub app : app_of new ≡ with_rule (app_of old) r
+  pub local : (out-Command new).has_globals ≡ (out-Command old).has_globals

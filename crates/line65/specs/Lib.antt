@@ -1,0 +1,4 @@
+pub mod CommandLine
+pub mod Line
+pub mod LineFaults
+pub mod Messages

@@ -1,0 +1,88 @@
+-- The line that words are, by what clap states of the command.
+use Rattle.std.specs.Prelude.{ℕ, List, [], ◌∷◌, Option, Some, None, Result, Ok, Err, codes, unwrap_or, option_map, map, if◌then◌else◌}
+use Rattle.std.specs.Str.{bytes_eq}
+use Rattle.clap.specs.Words.{Kinds, Row, Text, all_of, first_of, fault_of, subcommand_of}
+use Rattle.syntax65.specs.Outcome.{◌>>=◌}
+use Rattle.line65.specs.CommandLine.{bin65}
+use Rattle.line65.specs.declared.fault.LineFault.{LineFault}
+use Rattle.line65.specs.declared.fault.LineFault.TheVariants.{BadArguments}
+use Rattle.line65.specs.declared.line.AssembleLine.{AssembleLine}
+use Rattle.line65.specs.declared.line.LinkLine.{LinkLine}
+use Rattle.line65.specs.declared.line.Line.{Line}
+use Rattle.line65.specs.declared.line.Line.TheVariants as line
+
+-- where clap has no fault, what it gives
+abbrev pub unless_kinds : {A : Type 0} → Kinds → A → Result A LineFault
+unless_kinds [] x = Ok x
+unless_kinds (k ∷ ks) x = Err BadArguments
+
+-- the subcommand that clap finds in the words, with its matches, where it takes them
+unfoldable pub taken : List Text → Result (Option (Text × List Row)) LineFault
+taken words = unless_kinds (fault_of bin65 words) (subcommand_of bin65 words)
+
+-- what an ld65 line says
+pub record Linking : Type 0 where
+  pub script : Text
+  pub output : Option Text
+  pub map : Option Text
+  pub inputs : List Text
+
+-- what a ca65 line says
+pub record Assembling : Type 0 where
+  pub output : Option Text
+  pub source : Text
+
+-- what a line says
+pub data Says : Type 0 where
+  assemble : Assembling → Says
+  link : Linking → Says
+
+-- the one value of an argument
+abbrev pub given : List ℕ → List Row → Text
+given id rows = unwrap_or (first_of id rows) []
+
+-- all values of an argument, in order
+abbrev pub all_given : List ℕ → List Row → List Text
+all_given id rows = unwrap_or (all_of id rows) []
+
+-- `ld65 -C SCRIPT [-o FILE] [-m MAP] INPUT..`
+unfoldable pub linking_of : List Row → Linking
+linking_of rows = record {
+  script = given (codes "script") rows;
+  output = first_of (codes "output") rows;
+  map = first_of (codes "map") rows;
+  inputs = all_given (codes "input") rows;
+}
+
+-- `ca65 [-o FILE] SOURCE`
+unfoldable pub assembling_of : List Row → Assembling
+assembling_of rows = record {
+  output = first_of (codes "output") rows;
+  source = given (codes "source") rows;
+}
+
+-- the line of a subcommand's name and matches
+unfoldable pub said_by : Text → List Row → Result Says LineFault
+said_by name rows =
+    if bytes_eq name (codes "ca65") then Ok (assemble (assembling_of rows))
+    else if bytes_eq name (codes "ld65") then Ok (link (linking_of rows))
+    else Err BadArguments
+
+abbrev pub said : Option (Text × List Row) → Result Says LineFault
+said None = Err BadArguments
+said (Some p) = said_by p.0 p.1
+
+-- the line that the words are, or why they are none
+unfoldable pub line_of : List Text → Result Says LineFault
+line_of words = taken words >>= said
+
+-- what a line says, without where its texts lie
+abbrev pub linking : LinkLine → Linking
+linking l = record { script = l.script.now; output = option_map (λ s. s.now) l.output; map = option_map (λ s. s.now) l.map; inputs = map (λ s. s.now) l.inputs }
+
+abbrev pub assembling : AssembleLine → Assembling
+assembling l = record { output = option_map (λ s. s.now) l.output; source = l.source.now }
+
+abbrev pub view : Line → Says
+view (line.Assemble l) = assemble (assembling l)
+view (line.Link l) = link (linking l)

@@ -1,0 +1,15 @@
+//! The command line: the line that words are, by what `clap` states of the command, or why they are none; and the
+//! texts that commands print.
+#![tactic(auto)]
+
+mod commands;
+mod fault;
+mod line;
+mod messages;
+mod parsing;
+mod reading;
+
+pub use fault::LineFault;
+pub use line::{AssembleLine, Line, LinkLine};
+pub use messages::{fault_message, file_message, join, line_message};
+pub use reading::read_line;

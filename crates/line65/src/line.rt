@@ -1,0 +1,32 @@
+//! A command line as a value.
+
+use syntax65::Sequence;
+
+/// `ld65 -C SCRIPT [-o FILE] [-m MAP] INPUT..`
+#[derive(Debug, Drop)]
+pub struct LinkLine<'a> {
+    /// The script's file.
+    pub script: &'a str,
+    /// The output, where one is named.
+    pub output: Option<&'a str>,
+    /// The map's file, where one is named.
+    pub map: Option<&'a str>,
+    /// The inputs' files, in order.
+    pub inputs: Sequence<&'a str>,
+}
+
+/// `ca65 [-o FILE] SOURCE`
+#[derive(Debug, Drop)]
+pub struct AssembleLine<'a> {
+    /// The output, where one is named.
+    pub output: Option<&'a str>,
+    /// The source's file.
+    pub source: &'a str,
+}
+
+/// A command line.
+#[derive(Debug, Drop)]
+pub enum Line<'a> {
+    Assemble(AssembleLine<'a>),
+    Link(LinkLine<'a>),
+}

@@ -1,12 +1,12 @@
 -- A weak name that nothing uses changes no image.
 use Rattle.std.proofs.Common.{◌≡◌, ◌∙◌, ℕ, zero, suc, ◌+◌, ◌<◌, Bool, true, false, not, ◌||◌, cond, filter, List, [], ◌∷◌, ◌++◌, map, length, slice_get, Option, Some, None, Result, Ok, Err, if◌then◌else◌, refl, sym, subst, ap, arith}
-use Rattle.std.specs.Prelude.{ℤ, pos}
+use Rattle.std.specs.Prelude.{pos}
 use Rattle.std.proofs.lemmas.Grind.{flat_map-append}
 use Rattle.std.proofs.lemmas.List.{append-nil, map-append}
 use Rattle.std.proofs.lemmas.List.Folds.{list_any-append}
 use Rattle.std.proofs.lemmas.Cmp.{nat_list_eq_equiv}
 use Rattle.std.specs.Int.{w64, cast_signed}
-use Rattle.std.specs.List.{flat_map, list_any, position_from}
+use Rattle.std.specs.List.{flat_map, position_from}
 use Rattle.std.specs.Option.{option_map_or}
 use Rattle.std.specs.Str.{bytes_eq}
 use Rattle.syntax65.specs.Outcome.{◌>>=◌, First}
@@ -17,21 +17,18 @@ use Rattle.script65.specs.declared.script.Symbol.{Symbol}
 use Rattle.script65.specs.declared.script.SymbolKind.TheVariants as kind
 use Rattle.linkage65.specs.declared.fault.LinkFault.{LinkFault}
 use Rattle.linkage65.specs.declared.linked.Linked.{Linked}
-use Rattle.linkage65.specs.declared.linked.OutputFile.{OutputFile}
 use Rattle.linkage65.specs.declared.parts.Definition.{Definition}
 use Rattle.linkage65.specs.declared.parts.Exported.{Exported}
 use Rattle.linkage65.specs.declared.parts.Giver.{Giver}
 use Rattle.linkage65.specs.declared.parts.Giver.TheVariants.{ByScript, Nobody}
 use Rattle.linkage65.specs.declared.parts.Member.{Member}
 use Rattle.linkage65.specs.declared.parts.Resolved.{Resolved}
-use Rattle.linkage65.specs.declared.parts.ValueFault.{ValueFault}
 use Rattle.linkage65.specs.Givers.{by_definition, by_export, defined_at, each_once, export_names, exported_at, first_again, given_names, giver_of, is_among, is_given, references, unresolved}
 use Rattle.linkage65.specs.Laws.{UnusedWeakLaw, UnusedWeakLinks}
 use Rattle.linkage65.specs.Links.{IsFinished, IsImaged, IsPlacedLink, IsProgramLink, LinkOf, as_placement, checked, names_once, no_name_again, none_unresolved, placed}
 use Rattle.linkage65.specs.Lists.{position_in}
 use Rattle.linkage65.specs.Maps.{map_text}
-use Rattle.linkage65.specs.Modules.{Module}
-use Rattle.linkage65.specs.Names.{areas_definitions, rows_definitions, area_names, row_names, export_definition, import_name, script_definitions, script_names, symbol_exports, symbol_imports, weak_definition, weak_symbols}
+use Rattle.linkage65.specs.Names.{areas_definitions, rows_definitions, area_names, row_names, export_definition, import_name, script_definitions, symbol_exports, symbol_imports, weak_definition, weak_symbols}
 use Rattle.linkage65.specs.Places.{address_of, linkage_of, needs_of, resolved}
 use Rattle.linkage65.specs.Programs.{Program, program_of}
 use Rattle.linkage65.specs.Values.{AreExports, Exports, Linkage, in_table, linkage}

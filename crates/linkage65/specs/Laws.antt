@@ -19,16 +19,17 @@ OneOutcomeLaw = (output : List ℕ) (s : Script) (modules : List Module) (r q : 
 abbrev pub OneValueLaw : Type 0
 OneValueLaw = (l : Linkage) (owner : ℕ) (f : Form) (r q : Result ℤ ValueFault) → ComesTo l owner f r → ComesTo l owner f q → r ≡ q
 
--- a weak name that nothing uses changes no image: what a script links to with it is what it links to without it
+-- a weak name that nothing uses changes no image: a script links with it to what it links to without it
 abbrev pub UnusedWeakLaw : Type 0
 UnusedWeakLaw =
-    (output : List ℕ) (s : Script) (name : List ℕ) (value : ℕ) (modules : List Module) (r q : Result Linked LinkFault) →
-    is_used s (program_of modules) name ≡ false →
+    (output : List ℕ) (s : Script) (name : List ℕ) (value : ℕ) (modules : List Module) →
+    (r q : Result Linked LinkFault) → is_used s (program_of modules) name ≡ false →
     LinkOf output s modules r → LinkOf output (with_weak s name value) modules q → SameImages r q
 
 -- and there is such a link wherever there is one without it
 abbrev pub UnusedWeakLinks : Type 0
 UnusedWeakLinks =
-    (output : List ℕ) (s : Script) (name : List ℕ) (value : ℕ) (modules : List Module) (r : Result Linked LinkFault) →
-    is_used s (program_of modules) name ≡ false → LinkOf output s modules r →
+    (output : List ℕ) (s : Script) (name : List ℕ) (value : ℕ) (modules : List Module) →
+    (r : Result Linked LinkFault) → is_used s (program_of modules) name ≡ false →
+    LinkOf output s modules r →
     (q : Result Linked LinkFault) × LinkOf output (with_weak s name value) modules q × SameImages r q

@@ -19,8 +19,8 @@ pub fn one_outcome()
     ensures { OneOutcomeLaw }
 {}
 
-/// A weak name that neither the script nor a module imports changes no image: the script links with it to the same
-/// files and warnings, or is refused for the same fault. Only the map shows it.
+/// A weak name that neither the script nor a module imports changes no image: the script links with
+/// it to the same files and warnings, or is refused for the same fault. Only the map may differ.
 pub fn unused_weak_name()
     ensures same { UnusedWeakLaw }
     ensures links { UnusedWeakLinks }

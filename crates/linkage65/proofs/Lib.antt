@@ -19,6 +19,7 @@ pub mod HexLemmas
 pub mod LineLemmas
 pub mod FinishLemmas
 pub mod OutcomeLemmas
+pub mod WeakLemmas
 pub mod LinkingLemmas
 pub mod MissingLemmas
 pub mod OpenLemmas

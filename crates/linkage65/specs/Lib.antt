@@ -20,6 +20,7 @@ pub mod Warnings
 pub mod Maps
 pub mod Faults
 pub mod Links
+pub mod WeakNames
 pub mod Laws
 pub mod Resolving
 pub mod Finishing

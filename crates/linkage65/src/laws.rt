@@ -1,7 +1,7 @@
 //! What holds of links, whatever the modules and the script are. Each function's contract is a law.
 
 ghost use Rattle.linkage65.specs.Growing.{GrowthLaw};
-ghost use Rattle.linkage65.specs.Laws.{OneOutcomeLaw, OneValueLaw};
+ghost use Rattle.linkage65.specs.Laws.{OneOutcomeLaw, OneValueLaw, UnusedWeakLaw, UnusedWeakLinks};
 
 /// A form comes to one answer.
 pub fn one_value()
@@ -17,4 +17,11 @@ pub fn items_grow_a_program()
 /// A link has one outcome.
 pub fn one_outcome()
     ensures { OneOutcomeLaw }
+{}
+
+/// A weak name that neither the script nor a module imports changes no image: the script links with
+/// it to the same files and warnings, or is refused for the same fault. Only the map may differ.
+pub fn unused_weak_name()
+    ensures same { UnusedWeakLaw }
+    ensures links { UnusedWeakLinks }
 {}

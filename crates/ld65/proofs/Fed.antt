@@ -15,7 +15,7 @@ use Rattle.object65.proofs.Records.{GoesIn, all_in, reading_stops, taking_stops,
 use Rattle.object65.proofs.Frees.{after_free}
 use Rattle.linkage65.specs.declared.fault.LinkFault.{LinkFault}
 use Rattle.linkage65.specs.declared.fault.LinkFault.TheVariants as link
-use Rattle.linkage65.specs.Faults.{is_memory}
+use Rattle.linkage65.specs.Faults.{is_memory, of_object as as_fault}
 use Rattle.linkage65.specs.Modules.{Module}
 use Rattle.link65.specs.Standing.{Continues, Feeding, IsFeeding, as_link}
 use Rattle.ld65.specs.Feeding.{FeedsRecords, is_link_outside, no_limit, records_in}
@@ -27,20 +27,28 @@ pub unless : (b : Bool) {P Q : Type 0} → (P → Q) → Unless b P → Unless b
 unless true h p = tt
 unless false h p = h p
 
--- a refusal of an object is one of the link
-pub of_object : {A : Type 0} (f : ObjectFault) (r : Result A ObjectFault) → Refuses is_object_outside f r → Refuses is_link_outside (link.Object f) (as_link r)
-of_object f r h = unless (is_object_outside f) (λ e. ap as_link e) h
+-- a fault of an object that isn't want of memory is one of the link
+pub of_malformed : {A : Type 0} (f : ObjectFault) (r : Result A ObjectFault) → Refuses is_object_outside f r → Refuses is_link_outside (link.Malformed f) (as_link r)
+of_malformed f r h = unless (is_object_outside f) (λ e. ap as_link e) h
 
-pub of_object_in : {A : Type 0} (known : Option Files) (f : ObjectFault) (r : Files → Result A ObjectFault) → IfSome known (λ m. Refuses is_object_outside f (r m)) → IfSome known (λ m. Refuses is_link_outside (link.Object f) (as_link (r m)))
+of_malformed_in : {A : Type 0} (known : Option Files) (f : ObjectFault) (r : Files → Result A ObjectFault) → IfSome known (λ m. Refuses is_object_outside f (r m)) → IfSome known (λ m. Refuses is_link_outside (link.Malformed f) (as_link (r m)))
+of_malformed_in None f r h = tt
+of_malformed_in (Some m) f r h = of_malformed f (r m) h
+
+-- a refusal of an object is one of the link
+pub of_object : {A : Type 0} (f : ObjectFault) (r : Result A ObjectFault) → Refuses is_object_outside f r → Refuses is_link_outside (as_fault f) (as_link r)
+of_object f r h = go (is_object_memory f) refl
+  where
+    go : (b : Bool) → is_object_memory f ≡ b → Refuses is_link_outside (as_fault f) (as_link r)
+    go true is = rw is tt
+    go false is = rw is (of_malformed f r h)
+
+pub of_object_in : {A : Type 0} (known : Option Files) (f : ObjectFault) (r : Files → Result A ObjectFault) → IfSome known (λ m. Refuses is_object_outside f (r m)) → IfSome known (λ m. Refuses is_link_outside (as_fault f) (as_link (r m)))
 of_object_in None f r h = tt
 of_object_in (Some m) f r h = of_object f (r m) h
 
 memory_is_outside : (f : LinkFault) → is_memory f ≡ true → is_link_outside f ≡ true
 memory_is_outside link.OutOfMemory h = refl
-memory_is_outside (link.Object object.OutOfMemory) h = refl
-memory_is_outside (link.Object object.FileError) h = refl
-memory_is_outside (link.Object f) h = absurd cc
-memory_is_outside (link.Place f) h = h
 memory_is_outside f h = absurd cc
 
 -- where memory ran out nothing is said
@@ -61,9 +69,9 @@ memory_outside e r h = go (is_memory e) refl h
         unlessed false u = u
 
 -- the fault of an object that a refusal of the link is
-from_object : {A : Type 0} (r : Result A ObjectFault) (e : LinkFault) → as_link r ≡ Err e → (f : ObjectFault) × (e ≡ link.Object f) × (r ≡ Err f)
+from_object : {A : Type 0} (r : Result A ObjectFault) (e : LinkFault) → as_link r ≡ Err e → (f : ObjectFault) × (e ≡ link.Malformed f) × (r ≡ Err f)
 from_object (Ok x) e h = absurd cc
-from_object (Err f) e h = (f, (let same : link.Object f ≡ e = cc in sym same), refl)
+from_object (Err f) e h = (f, (let same : link.Malformed f ≡ e = cc in sym same), refl)
 
 pub accepted : {A : Type 0} (r : Result A ObjectFault) (x : A) → as_link r ≡ Ok x → r ≡ Ok x
 accepted (Ok y) x h = let same : y ≡ x = cc in ap Ok same
@@ -72,10 +80,10 @@ accepted (Err f) x h = absurd cc
 -- ---- A record that the linker refuses.
 
 -- it is a fault of no store
-pub not_stored : (s : State) (x : Entry) (e : LinkFault) → Refuses is_memory e (as_link (after s x)) → e ≡ link.Object object.FileError → ⊥
+pub not_stored : (s : State) (x : Entry) (e : LinkFault) → Refuses is_memory e (as_link (after s x)) → e ≡ link.Malformed object.FileError → ⊥
 not_stored s x e h is = absurd (after_free s x (refused_so (rw is at h)))
   where
-    refused_so : as_link (after s x) ≡ Err (link.Object object.FileError) → after s x ≡ Err object.FileError
+    refused_so : as_link (after s x) ≡ Err (link.Malformed object.FileError) → after s x ≡ Err object.FileError
     refused_so u = let p = from_object (after s x) _ u in let same : object.FileError ≡ p.0 = cc p.1 in p.2 ∙ ap Err (sym same)
 
 pub taking_refused : (limit at next : ℕ) (known now : Option Files) (name : List ℕ) (s : State) (r : Entry × ℕ) (e : LinkFault) → now ≡ known → GoesIn known name limit at next s → IfSome now (λ m. in_file (get m name) (record_at next limit) ≡ Ok r) → Refuses is_memory e (as_link (after s r.0)) → IfSome known (λ m. Refuses is_link_outside e (as_link (all_in (get m name) at limit)))
@@ -86,7 +94,7 @@ taking_refused limit at next known now name s r e same goes read refused = go (i
     go false h u =
         let p = from_object (after s r.0) e u in
         let free : Refuses is_object_outside p.0 (after s r.0) = unless_any (is_object_outside p.0) p.2 in
-        rw p.1 (of_object_in known p.0 (λ m. all_in (get m name) at limit) (taking_stops limit at next known now name s r p.0 same goes read free))
+        rw p.1 (of_malformed_in known p.0 (λ m. all_in (get m name) at limit) (taking_stops limit at next known now name s r p.0 same goes read free))
       where
         unless_any : (b : Bool) {P : Type 0} → P → Unless b P
         unless_any true x = tt
@@ -107,7 +115,7 @@ module _ (known : Option Files) (name : List ℕ) (at : ℕ) where
   pub is_at_first : (old : Feeding) → IsAt known name at at old old
   is_at_first old modules called h = (start, h, begins_in no_limit at at known name)
 
-  pub unread : (next : ℕ) (now : Option Files) (old mid new : Feeding) (f : ObjectFault) → now ≡ known → IsAt known name at next old mid → IfSome now (λ m. Refuses is_object_outside f (in_file (get m name) (record_at next no_limit))) → FeedsRecords known name at old new (Err (link.Object f))
+  pub unread : (next : ℕ) (now : Option Files) (old mid new : Feeding) (f : ObjectFault) → now ≡ known → IsAt known name at next old mid → IfSome now (λ m. Refuses is_object_outside f (in_file (get m name) (record_at next no_limit))) → FeedsRecords known name at old new (Err (as_fault f))
   unread next now old mid new f same is h modules called stands =
       let p = is modules called stands in
       of_object_in known f (λ m. records_in m name at) (reading_stops no_limit at next known now name p.0 f same p.2 h)
@@ -136,11 +144,11 @@ module _ (known : Option Files) (name : List ℕ) (at : ℕ) where
       (q.0, q.2, goes_on_in no_limit at next known now name p.0 q.0 r same p.2 read later step (ended_by p.0 q.0 r.0 step ∙ not_at r.0.kind end))
 
   -- a record that the linker refuses is no failure of the store
-  pub none_passed : {T : Type 0} (next : ℕ) (old mid new : Feeding) (x : Entry) (e : LinkFault) (count_old count_new : ℕ) → count_new ≡ count_old → IsAt known name at next old mid → Continues x mid new (Err e) → (modules : List Module) (called : List ℕ) → IsFeeding old modules called start → Passes {T = T} (link.Object object.FileError) count_old count_new (Err e)
+  pub none_passed : {T : Type 0} (next : ℕ) (old mid new : Feeding) (x : Entry) (e : LinkFault) (count_old count_new : ℕ) → count_new ≡ count_old → IsAt known name at next old mid → Continues x mid new (Err e) → (modules : List Module) (called : List ℕ) → IsFeeding old modules called start → Passes {T = T} (link.Malformed object.FileError) count_old count_new (Err e)
   none_passed next old mid new x e count_old count_new same is refused modules called stands = record {
     later = omega (arith, same);
     told = λ h. absurd (omega (arith, same));
     cause = λ h.
-      let p = is modules called stands in
-      absurd (not_stored p.0 x e (refused modules called p.0 p.1) (let f : e ≡ link.Object object.FileError = cc h in f));
+        let p = is modules called stands in
+        absurd (not_stored p.0 x e (refused modules called p.0 p.1) (let f : e ≡ link.Malformed object.FileError = cc h in f));
   }

@@ -9,9 +9,6 @@ use Rattle.object65.specs.declared.fault.ObjectFault.{ObjectFault}
 use Rattle.object65.specs.declared.fault.ObjectFault.TheVariants as object
 use Rattle.object65.specs.declared.object.Object.{Object}
 use Rattle.script65.specs.declared.script.Script.{Script}
-use Rattle.script65.specs.declared.placement.PlaceFault.{PlaceFault}
-use Rattle.script65.specs.declared.placement.PlaceFault.TheVariants as place
-use Rattle.script65.specs.Faults.{is_place_outside}
 use Rattle.linkage65.specs.declared.fault.LinkFault.{LinkFault}
 use Rattle.linkage65.specs.declared.fault.LinkFault.TheVariants as link
 use Rattle.linkage65.specs.Givers.{first_again, given_names}
@@ -27,14 +24,7 @@ use Rattle.ld65.specs.Refusals.{is_failure, is_outside, refusal_at}
 
 -- ---- One input.
 
-place_outside : (f : PlaceFault) (k : ℕ) → is_outside (refusal_at k (link.Place f)) ≡ is_place_outside f
-place_outside place.OutOfMemory k = refl
-place_outside (place.NoRow n) k = refl
-place_outside (place.ReadOnlyArea n) k = refl
-place_outside (place.StartBelow n) k = refl
-place_outside (place.Overflow n i) k = refl
-
-object_outside : (f : ObjectFault) (k : ℕ) → is_outside (refusal_at k (link.Object f)) ≡ is_link_outside (link.Object f)
+object_outside : (f : ObjectFault) (k : ℕ) → is_outside (refusal_at k (link.Malformed f)) ≡ is_link_outside (link.Malformed f)
 object_outside object.OutOfMemory k = refl
 object_outside object.FileError k = refl
 object_outside object.FailedBefore k = refl
@@ -50,8 +40,8 @@ object_outside object.BytesAfterEnd k = refl
 object_outside object.FileNotFound k = refl
 
 same_outside : (e : LinkFault) (k : ℕ) → is_outside (refusal_at k e) ≡ is_link_outside e
-same_outside (link.Object f) k = object_outside f k
-same_outside (link.Place f) k = place_outside f k
+same_outside (link.Malformed f) k = object_outside f k
+same_outside (link.Place f) k = refl
 same_outside link.FailedBefore k = refl
 same_outside link.OutOfMemory k = refl
 same_outside (link.DuplicateExport n) k = refl
@@ -100,7 +90,7 @@ module _ (s : Script) (before : List Module) (m : Files) (k : ℕ) (name : List 
     where
       by : (r : Result Object ObjectFault) → added_by r again ≡ Err e → behind_by r again ≡ Err (refusal_at k e)
       by (Ok p) h = named_err e p (again (module_of name p)) h
-      by (Err f) h = let same : link.Object f ≡ e = cc h in ap (λ x. Err (refusal_at k x)) same
+      by (Err f) h = let same : link.Malformed f ≡ e = cc h in ap (λ x. Err (refusal_at k x)) same
 
       go : (b : Bool) → Unless b (added_in s before m name ≡ Err e) → Unless b (Behind ≡ Err (refusal_at k e))
       go true h = tt
@@ -174,7 +164,7 @@ module _ (known : Option Files) (names : List (List ℕ)) where
 abbrev pub Counted : Feeding → ℕ → ℕ → Type 0
 Counted old count_old count_new = (before : List Module) → IsFed old before → count_new ≡ count_old
 
-pub counted_more : (known : Option Files) (names : List (List ℕ)) (k : ℕ) (old mid : Feeding) (a b c : ℕ) → IsBehind known names k old mid → Counted old a b → ((modules : List Module) → IsFed mid modules → Passes {T = Unit {0}} (link.Object object.FileError) b c (Ok tt)) → Counted old a c
+pub counted_more : (known : Option Files) (names : List (List ℕ)) (k : ℕ) (old mid : Feeding) (a b c : ℕ) → IsBehind known names k old mid → Counted old a b → ((modules : List Module) → IsFed mid modules → Passes {T = Unit {0}} (link.Malformed object.FileError) b c (Ok tt)) → Counted old a c
 counted_more known names k old mid a b c is same passes before stands =
     let p = is before stands in
     let q = passes p.0 p.1 in
@@ -182,19 +172,19 @@ counted_more known names k old mid a b c is same passes before stands =
     let stays : c ≡ b = omega (arith, q.later, not_later) in
     stays ∙ same before stands
 
-is_stored : (k : ℕ) (e : LinkFault) → is_failure (refusal_at k e) ≡ true → e ≡ link.Object object.FileError
-is_stored k (link.Object object.FileError) h = refl
-is_stored k (link.Object f) h = absurd cc
+is_stored : (k : ℕ) (e : LinkFault) → is_failure (refusal_at k e) ≡ true → e ≡ link.Malformed object.FileError
+is_stored k (link.Malformed object.FileError) h = refl
+is_stored k (link.Malformed f) h = absurd cc
 is_stored k e h = absurd cc
 
-pub refused_count : (known : Option Files) (names : List (List ℕ)) (k : ℕ) (old mid : Feeding) (a b c : ℕ) (e : LinkFault) → IsBehind known names k old mid → Counted old a b → ((modules : List Module) → IsFed mid modules → Passes {T = Unit {0}} (link.Object object.FileError) b c (Err e)) → (before : List Module) → IsFed old before → PassesBy {T = Unit {0}} is_failure a c (Err (refusal_at k e))
+pub refused_count : (known : Option Files) (names : List (List ℕ)) (k : ℕ) (old mid : Feeding) (a b c : ℕ) (e : LinkFault) → IsBehind known names k old mid → Counted old a b → ((modules : List Module) → IsFed mid modules → Passes {T = Unit {0}} (link.Malformed object.FileError) b c (Err e)) → (before : List Module) → IsFed old before → PassesBy {T = Unit {0}} is_failure a c (Err (refusal_at k e))
 refused_count known names k old mid a b c e is same passes before stands =
     let p = is before stands in
     let q = passes p.0 p.1 in
     let here : b ≡ a = same before stands in
     record {
       later = subst (λ (n : ℕ). n ≤ c) here q.later;
-      told = λ h. let stored : e ≡ link.Object object.FileError = cc (q.told (subst (λ (n : ℕ). n < c) (sym here) h)) in ap (λ x. is_failure (refusal_at k x)) stored;
+      told = λ h. let stored : e ≡ link.Malformed object.FileError = cc (q.told (subst (λ (n : ℕ). n < c) (sym here) h)) in ap (λ x. is_failure (refusal_at k x)) stored;
       cause = λ h. subst (λ (n : ℕ). HasFailed n c) here (q.cause (ap Err (is_stored k e h)));
     }
 

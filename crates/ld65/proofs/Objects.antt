@@ -14,7 +14,7 @@ use Rattle.object65.specs.Taking.{State, finished, object_from, start}
 use Rattle.object65.specs.Whole.{object_at, records_at}
 use Rattle.linkage65.specs.declared.fault.LinkFault.{LinkFault}
 use Rattle.linkage65.specs.declared.fault.LinkFault.TheVariants as link
-use Rattle.linkage65.specs.Faults.{is_memory}
+use Rattle.linkage65.specs.Faults.{is_memory, of_object as as_fault}
 use Rattle.linkage65.specs.Givers.{first_again, given_names}
 use Rattle.linkage65.specs.Links.{names_once, no_name_again}
 use Rattle.linkage65.specs.Modules.{Module}
@@ -51,7 +51,7 @@ linked_then {A} {B} e r f h = go (is_link_outside e) r h
     go : (b : Bool) (r : Result A ObjectFault) → Unless b (as_link r ≡ Err e) → Unless b (as_link (r >>= f) ≡ Err e)
     go true r h = tt
     go false (Ok x) h = cc
-    go false (Err g) h = let same : link.Object g ≡ e = cc in ap Err same
+    go false (Err g) h = let same : link.Malformed g ≡ e = cc in ap Err same
 
 records_stop : (file : Option (List ℕ)) (first : ℕ) (e : LinkFault) → head_of file ≡ Ok first → Refuses is_link_outside e (as_link (records_of first file)) → Refuses is_link_outside e (as_link (object_of file))
 unfolding object_at
@@ -79,12 +79,12 @@ module _ (known : Option Files) (name : List ℕ) (old : Feeding) where
   abbrev pub HasHead : ℕ → Type 0
   HasHead first = IfSome known (λ m. head_of (get m name) ≡ Ok first)
 
-  pub no_head : (new : Feeding) (f : ObjectFault) → IfSome known (λ m. Refuses is_object_outside f (head_of (get m name))) → FeedsObject known name old new (Err (link.Object f))
+  pub no_head : (new : Feeding) (f : ObjectFault) → IfSome known (λ m. Refuses is_object_outside f (head_of (get m name))) → FeedsObject known name old new (Err (as_fault f))
   no_head new f h modules stands = go known h
     where
-      go : (k : Option Files) → IfSome k (λ m. Refuses is_object_outside f (head_of (get m name))) → IfSome k (λ m. Refuses is_link_outside (link.Object f) (added_in old.script modules m name))
+      go : (k : Option Files) → IfSome k (λ m. Refuses is_object_outside f (head_of (get m name))) → IfSome k (λ m. Refuses is_link_outside (as_fault f) (added_in old.script modules m name))
       go None h = tt
-      go (Some m) h = as_module old.script modules m name (link.Object f) (of_object f (object_in m name) (head_stops (get m name) f h))
+      go (Some m) h = as_module old.script modules m name (as_fault f) (of_object f (object_in m name) (head_stops (get m name) f h))
 
   pub not_begun : (new : Feeding) (e : LinkFault) → (old.failed ≡ false → is_memory e ≡ true) → FeedsObject known name old new (Err e)
   not_begun new e h modules stands = by_memory known e (λ m. added_in old.script modules m name) (h stands.failed)
@@ -96,15 +96,15 @@ module _ (known : Option Files) (name : List ℕ) (old : Feeding) where
       go None head h = tt
       go (Some m) head h = as_module old.script modules m name e (records_stop (get m name) first e head h)
 
-  pub more_behind : (now later : Option Files) (first end : ℕ) (mid new : Feeding) (f : ObjectFault) → now ≡ known → later ≡ known → HasHead first → Begins name old mid (Ok tt) → FeedsRecords now name first mid new (Ok end) → IfSome later (λ m. Refuses is_object_outside f (end_of end (get m name))) → FeedsObject known name old new (Err (link.Object f))
+  pub more_behind : (now later : Option Files) (first end : ℕ) (mid new : Feeding) (f : ObjectFault) → now ≡ known → later ≡ known → HasHead first → Begins name old mid (Ok tt) → FeedsRecords now name first mid new (Ok end) → IfSome later (λ m. Refuses is_object_outside f (end_of end (get m name))) → FeedsObject known name old new (Err (as_fault f))
   more_behind now later first end mid new f same same_later head begun fed behind modules stands =
       let x = fed modules name (begun modules stands) in
       go known x.0.0 x.0.1 x.2.0 head (rw same at x.1) (rw same_later at behind)
     where
-      go : (k : Option Files) (t : State) (n : ℕ) → n ≡ end → IfSome k (λ m. head_of (get m name) ≡ Ok first) → IfSome k (λ m. as_link (records_in m name first) ≡ Ok (t, n)) → IfSome k (λ m. Refuses is_object_outside f (end_of end (get m name))) → IfSome k (λ m. Refuses is_link_outside (link.Object f) (added_in old.script modules m name))
+      go : (k : Option Files) (t : State) (n : ℕ) → n ≡ end → IfSome k (λ m. head_of (get m name) ≡ Ok first) → IfSome k (λ m. as_link (records_in m name first) ≡ Ok (t, n)) → IfSome k (λ m. Refuses is_object_outside f (end_of end (get m name))) → IfSome k (λ m. Refuses is_link_outside (as_fault f) (added_in old.script modules m name))
       go None t n at head records h = tt
       go (Some m) t n at head records h =
-          as_module old.script modules m name (link.Object f)
+          as_module old.script modules m name (as_fault f)
           (of_object f (object_in m name) (end_stops (get m name) first t end f head (accepted (records_in m name first) (t, end) (records ∙ ap (λ i. Ok (t, i)) at)) h))
 
   -- the module is whole
@@ -135,47 +135,47 @@ module _ (known : Option Files) (name : List ℕ) (old : Feeding) where
 -- ---- The count of failures.
 
 abbrev Passed : {T : Type 0} → ℕ → ℕ → Result T LinkFault → Type 0
-Passed old new r = Passes (link.Object object.FileError) old new r
+Passed old new r = Passes (link.Malformed object.FileError) old new r
 
-unpassed : {T : Type 0} (old new : ℕ) (e : LinkFault) → new ≡ old → (e ≡ link.Object object.FileError → ⊥) → Passed {T = T} old new (Err e)
+unpassed : {T : Type 0} (old new : ℕ) (e : LinkFault) → new ≡ old → (e ≡ link.Malformed object.FileError → ⊥) → Passed {T = T} old new (Err e)
 unpassed {T} old new e same other = record {
   later = omega (arith, same);
   told = λ h. absurd (omega (arith, same));
-  cause = λ h. absurd (other (let f : e ≡ link.Object object.FileError = cc h in f));
+  cause = λ h. absurd (other (let f : e ≡ link.Malformed object.FileError = cc h in f));
 }
 
-no_memory : (e : LinkFault) → is_memory e ≡ true → e ≡ link.Object object.FileError → ⊥
+no_memory : (e : LinkFault) → is_memory e ≡ true → e ≡ link.Malformed object.FileError → ⊥
 no_memory e h is = let no_such : false ≡ true = ap is_memory (sym is) ∙ h in absurd cc
 
 pub not_begun_count : (f : Feeding) (old new : ℕ) (e : LinkFault) → new ≡ old → (f.failed ≡ false → is_memory e ≡ true) → (modules : List Module) → IsFed f modules → Passed {T = Unit {0}} old new (Err e)
 not_begun_count f old new e same h modules stands = unpassed old new e same (no_memory e (h stands.failed))
 
 -- the end of a module is no failure of the store
-finished_free : (t : State) → as_link (finished t) ≡ Err (link.Object object.FileError) → ⊥
+finished_free : (t : State) → as_link (finished t) ≡ Err (link.Malformed object.FileError) → ⊥
 finished_free t h = go t.failed t.ended h
   where
-    go : (a b : Bool) → as_link (if a then Err object.FailedBefore else if b then Ok (object_from t) else Err object.CutShort) ≡ Err (link.Object object.FileError) → ⊥
+    go : (a b : Bool) → as_link (if a then Err object.FailedBefore else if b then Ok (object_from t) else Err object.CutShort) ≡ Err (link.Malformed object.FileError) → ⊥
     go true b h = cc
     go false true h = cc
     go false false h = cc
 
-names_free : (s : Script) (p : Program) → names_once s p ≡ Err (link.Object object.FileError) → ⊥
+names_free : (s : Script) (p : Program) → names_once s p ≡ Err (link.Malformed object.FileError) → ⊥
 names_free s p h = go (first_again [] (given_names s p)) h
   where
-    go : (o : Option (List ℕ)) → no_name_again o ≡ Err (link.Object object.FileError) → ⊥
+    go : (o : Option (List ℕ)) → no_name_again o ≡ Err (link.Malformed object.FileError) → ⊥
     go None h = cc
     go (Some n) h = cc
 
-whole_free : (s : Script) (modules : List Module) (name : List ℕ) (t : State) → whole s modules name t ≡ Err (link.Object object.FileError) → ⊥
+whole_free : (s : Script) (modules : List Module) (name : List ℕ) (t : State) → whole s modules name t ≡ Err (link.Malformed object.FileError) → ⊥
 whole_free s modules name t h = go (as_link (finished t)) (finished_free t) h
   where
-    names : (o : Object) (r : Result (Unit {0}) LinkFault) → (r ≡ Err (link.Object object.FileError) → ⊥) → (r >>= (λ u. Ok o)) ≡ Err (link.Object object.FileError) → ⊥
+    names : (o : Object) (r : Result (Unit {0}) LinkFault) → (r ≡ Err (link.Malformed object.FileError) → ⊥) → (r >>= (λ u. Ok o)) ≡ Err (link.Malformed object.FileError) → ⊥
     names o (Ok u) free h = cc
-    names o (Err e) free h = free (let same : e ≡ link.Object object.FileError = cc in ap Err same)
+    names o (Err e) free h = free (let same : e ≡ link.Malformed object.FileError = cc in ap Err same)
 
-    go : (r : Result Object LinkFault) → (r ≡ Err (link.Object object.FileError) → ⊥) → (r >>= (λ o. names_once s (program_of (modules ++ module_of name o ∷ [])) >>= (λ u. Ok o))) ≡ Err (link.Object object.FileError) → ⊥
+    go : (r : Result Object LinkFault) → (r ≡ Err (link.Malformed object.FileError) → ⊥) → (r >>= (λ o. names_once s (program_of (modules ++ module_of name o ∷ [])) >>= (λ u. Ok o))) ≡ Err (link.Malformed object.FileError) → ⊥
     go (Ok o) free h = names o (names_once s (program_of (modules ++ module_of name o ∷ []))) (names_free s (program_of (modules ++ module_of name o ∷ []))) h
-    go (Err e) free h = free (let same : e ≡ link.Object object.FileError = cc in ap Err same)
+    go (Err e) free h = free (let same : e ≡ link.Malformed object.FileError = cc in ap Err same)
 
 pub ends_count : (first end_at : ℕ) (now : Option Files) (name : List ℕ) (old mid fed new : Feeding) (count_old count_new : ℕ) (r : Result (Unit {0}) LinkFault) → count_new ≡ count_old → Begins name old mid (Ok tt) → FeedsRecords now name first mid fed (Ok end_at) → Ends fed new r → (modules : List Module) → IsFed old modules → Passed count_old count_new r
 ends_count first end_at now name old mid fed new count_old count_new (Ok u) same begun feeds ends modules stands = record {
@@ -187,7 +187,7 @@ ends_count first end_at now name old mid fed new count_old count_new (Err e) sam
     let x = feeds modules name (begun modules stands) in
     unpassed count_old count_new e same (other x.0.0 (ends modules name x.0.0 x.2.1))
   where
-    other : (t : State) → Refuses is_memory e (whole fed.script modules name t) → e ≡ link.Object object.FileError → ⊥
+    other : (t : State) → Refuses is_memory e (whole fed.script modules name t) → e ≡ link.Malformed object.FileError → ⊥
     other t h is = whole_free fed.script modules name t (rw is at h)
 
 -- ---- Calls as they answered.
@@ -198,5 +198,5 @@ begun_as name given old new same h = rw same at h
 pub kept_link_count : {T : Type 0} (old now : ℕ) (x : T) → Passed old now (Ok x) → now ≡ old
 kept_link_count old now x passes = let not_later : old < now → ⊥ = λ h. no_error x (passes.told h) in omega (arith, passes.later, not_later)
   where
-    no_error : {T : Type 0} (x : T) → ◌≡◌ {A = Result T LinkFault} (Ok x) (Err (link.Object object.FileError)) → ⊥
+    no_error : {T : Type 0} (x : T) → ◌≡◌ {A = Result T LinkFault} (Ok x) (Err (link.Malformed object.FileError)) → ⊥
     no_error x e = cc

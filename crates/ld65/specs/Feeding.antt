@@ -9,7 +9,6 @@ use Rattle.object65.specs.Fault.{is_outside as is_object_outside}
 use Rattle.object65.specs.Reading.{in_file}
 use Rattle.object65.specs.Taking.{State, start}
 use Rattle.object65.specs.Whole.{records_at}
-use Rattle.script65.specs.Faults.{is_place_outside}
 use Rattle.script65.specs.declared.script.Script.{Script}
 use Rattle.linkage65.specs.declared.fault.LinkFault.{LinkFault}
 use Rattle.linkage65.specs.declared.fault.LinkFault.TheVariants as link
@@ -24,8 +23,7 @@ use Rattle.ld65.specs.declared.refusal.Refusal.{Refusal}
 -- the faults that the bytes don't decide
 abbrev pub is_link_outside : LinkFault → Bool
 is_link_outside link.OutOfMemory = true
-is_link_outside (link.Object f) = is_object_outside f
-is_link_outside (link.Place f) = is_place_outside f
+is_link_outside (link.Malformed f) = is_object_outside f
 is_link_outside _ = false
 
 -- A call gives what reading the files gives and leads to a next state, or is refused as reading is, unless from

@@ -10,7 +10,7 @@ use Rattle.script65.specs.Faults.{fault_text as script_words, is_memory_fault}
 use Rattle.linkage65.specs.declared.fault.LinkFault.{LinkFault}
 use Rattle.linkage65.specs.declared.fault.LinkFault.TheVariants as link
 use Rattle.linkage65.specs.declared.fault.Site.{Site}
-use Rattle.linkage65.specs.Faults.{fault_text as link_words, is_memory as is_fault_memory}
+use Rattle.linkage65.specs.Faults.{fault_text as link_words, is_memory as is_link_memory}
 use Rattle.line65.specs.Line.{Linking}
 use Rattle.line65.specs.Messages.{file_message, line_message}
 use Rattle.ld65.specs.declared.refusal.Refusal.{Refusal}
@@ -19,10 +19,6 @@ use Rattle.ld65.specs.declared.refusal.Refusal.TheVariants.{OutOfMemory, ScriptF
 abbrev store_memory : StoreFault → Bool
 store_memory store.OutOfMemory = true
 store_memory _ = false
-
--- memory ran out where objects are linked
-abbrev pub is_link_memory : LinkFault → Bool
-is_link_memory f = is_fault_memory f
 
 -- memory ran out
 abbrev pub is_memory : Refusal → Bool
@@ -43,7 +39,7 @@ is_outside e = is_memory e || is_failure e
 
 -- what a fault is that is met at the input at a place of the line: one of the input's own is named by the place
 abbrev pub refusal_at : ℕ → LinkFault → Refusal
-refusal_at k (link.Object f) = Object k f
+refusal_at k (link.Malformed f) = Object k f
 refusal_at k f = Link f
 
 -- ---- In words.

@@ -4,7 +4,7 @@ ghost use Rattle.std.specs.Prelude.{◌≡◌, List, ℕ, OnOk, map, true, false
 ghost use Rattle.syntax65.specs.Store.{Passes, PassesBy};
 ghost use Rattle.object65.specs.declared.fault.ObjectFault.TheVariants.{FileError};
 ghost use Rattle.object65.specs.Taking.{start};
-ghost use Rattle.linkage65.specs.declared.fault.LinkFault.TheVariants.{Object};
+ghost use Rattle.linkage65.specs.declared.fault.LinkFault.TheVariants.{Malformed};
 ghost use Rattle.linkage65.specs.Modules.{Module};
 ghost use Rattle.link65.specs.Standing.{IsFed, IsFeeding, Keeps, is_open};
 ghost use Rattle.ld65.specs.Feeding.{FeedsInputs, FeedsObject, FeedsRecords};
@@ -32,7 +32,7 @@ fn feed_records<S: Store>(
     ensures keeps { Keeps linker.old linker.new }
     ensures files { S.files store.new ≡ S.files store.old }
     ensures count { (modules : List Module) (called : List ℕ) → IsFeeding linker.old modules called start →
-        Passes (Object FileError) (S.failures store.old) (S.failures store.new) result }
+        Passes (Malformed FileError) (S.failures store.old) (S.failures store.new) result }
 {
     let mut next = at;
     'records: loop {
@@ -46,18 +46,14 @@ fn feed_records<S: Store>(
 }
 
 /// Feeds the object that takes a whole file, as a module of the file's name.
-fn feed_object<S: Store>(
-    store: &mut S,
-    linker: &mut Linker,
-    name: &str,
-) -> Result<(), LinkFault>
+fn feed_object<S: Store>(store: &mut S, linker: &mut Linker, name: &str) -> Result<(), LinkFault>
     requires { is_open linker.old ≡ false }
     ensures fed { FeedsObject (S.files store.old) name.now linker.old linker.new result }
     ensures opened { OnOk result (is_open linker.new ≡ false) }
     ensures keeps { Keeps linker.old linker.new }
     ensures files { S.files store.new ≡ S.files store.old }
     ensures count { (modules : List Module) → IsFed linker.old modules →
-        Passes (Object FileError) (S.failures store.old) (S.failures store.new) result }
+        Passes (Malformed FileError) (S.failures store.old) (S.failures store.new) result }
 {
     let first = read_head(store, name, 0, u64::MAX)?;
     linker.begin_module(name.as_bytes())?;

@@ -4,12 +4,12 @@ ghost use Rattle.std.specs.Prelude.{◌≡◌, IfOk, map};
 ghost use Rattle.linkage65.specs.declared.fault.LinkFault.{LinkFault};
 ghost use Rattle.line65.specs.Line.{linking};
 ghost use Rattle.ld65.specs.declared.refusal.Refusal.TheVariants.{OutOfMemory, ScriptFile, Script, Link};
-ghost use Rattle.ld65.specs.Refusals.{is_memory, is_link_memory, link_message, named, refusal_at, refusal_message};
+ghost use Rattle.ld65.specs.Refusals.{is_memory, link_message, named, refusal_at, refusal_message};
 
 use line65::{LinkLine, file_message, join, line_message};
 use link65::{LinkFault, fault_text};
 use object65::ObjectFault;
-use script65::{Fault, PlaceFault, ScriptFault};
+use script65::{Fault, ScriptFault};
 use std::alloc::{AllocError, Global};
 use syntax65::{Sequence, StoreFault};
 
@@ -59,18 +59,6 @@ impl From<LinkFault> for Refusal {
     }
 }
 
-/// Whether memory ran out where objects are linked.
-fn is_link_memory(fault: &LinkFault) -> bool
-    ensures { result ≡ is_link_memory fault.now }
-{
-    match fault {
-        LinkFault::OutOfMemory => true,
-        LinkFault::Object(fault) => matches!(fault, ObjectFault::OutOfMemory),
-        LinkFault::Place(fault) => matches!(fault, PlaceFault::OutOfMemory),
-        _ => false,
-    }
-}
-
 impl Refusal {
     /// Whether memory ran out.
     pub fn is_memory(&self) -> bool
@@ -81,7 +69,7 @@ impl Refusal {
             Refusal::ScriptFile(fault) => matches!(fault, StoreFault::OutOfMemory),
             Refusal::Script(fault) => matches!(fault.fault, Fault::OutOfMemory),
             Refusal::Object(_, fault) => matches!(fault, ObjectFault::OutOfMemory),
-            Refusal::Link(fault) => is_link_memory(fault),
+            Refusal::Link(fault) => matches!(fault, LinkFault::OutOfMemory),
         }
     }
 
@@ -90,7 +78,7 @@ impl Refusal {
         ensures { result ≡ refusal_at place fault }
     {
         match fault {
-            LinkFault::Object(fault) => Refusal::Object(place, fault),
+            LinkFault::Malformed(fault) => Refusal::Object(place, fault),
             fault => Refusal::Link(fault),
         }
     }

@@ -81,7 +81,7 @@ taken_ends : (s : Taking.State) (x : Entry) → s.ended ≡ false → Leaves (x.
 unfolding Taking.taken
 taken_ends s x going =
     let stays : (k : ℕ) (r : Result Taking.State ObjectFault) → (k == 8) ≡ false → Leaves s.ended r → (x.kind == k) ≡ true → Leaves (x.kind == 8) r =
-      λ k r differs h is. leaves_as _ _ r (going ∙ other x.kind k is differs) h in
+    λ k r differs h is. leaves_as _ _ r (going ∙ other x.kind k is differs) h in
     chosen _ _ _ _ (λ h. none _ _) (λ k.
     chosen _ (x.kind == 1) _ _ (stays 1 _ refl (import_stays s x.body)) (λ a.
     chosen _ (x.kind == 2) _ _ (stays 2 _ refl (section_stays s x.body)) (λ b.

@@ -141,6 +141,6 @@ module _ (known : Option Files) (name : List ℕ) (at : ℕ) where
     later = omega (arith, same);
     told = λ h. absurd (omega (arith, same));
     cause = λ h.
-      let p = is modules called stands in
-      absurd (not_stored p.0 x e (refused modules called p.0 p.1) (let f : e ≡ link.Object object.FileError = cc h in f));
+        let p = is modules called stands in
+        absurd (not_stored p.0 x e (refused modules called p.0 p.1) (let f : e ≡ link.Object object.FileError = cc h in f));
   }

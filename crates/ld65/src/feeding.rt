@@ -46,11 +46,7 @@ fn feed_records<S: Store>(
 }
 
 /// Feeds the object that takes a whole file, as a module of the file's name.
-fn feed_object<S: Store>(
-    store: &mut S,
-    linker: &mut Linker,
-    name: &str,
-) -> Result<(), LinkFault>
+fn feed_object<S: Store>(store: &mut S, linker: &mut Linker, name: &str) -> Result<(), LinkFault>
     requires { is_open linker.old ≡ false }
     ensures fed { FeedsObject (S.files store.old) name.now linker.old linker.new result }
     ensures opened { OnOk result (is_open linker.new ≡ false) }

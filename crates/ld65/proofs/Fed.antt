@@ -1,5 +1,5 @@
 -- Records that are read and fed one after another.
-use Rattle.std.proofs.Common.{◌≡◌, ◌∙◌, ◌<◌, ℕ, List, [], ◌∷◌, ◌++◌, Bool, true, false, ◌==◌, Option, Some, None, Result, Ok, Err, refl, sym, ap, subst, arith}
+use Rattle.std.proofs.Common.{◌≡◌, ◌∙◌, ◌<◌, ℕ, List, Bool, true, false, ◌==◌, Option, Some, None, Result, Ok, Err, refl, sym, ap, arith}
 use Rattle.std.specs.Prelude.{IfSome}
 use Rattle.std.specs.FinMap.{get}
 use Rattle.std.proofs.lemmas.Bool.Decides.{nat_tests}
@@ -7,7 +7,7 @@ use Rattle.syntax65.specs.Outcome.{Refuses, Unless}
 use Rattle.syntax65.specs.Store.{Files, Passes}
 use Rattle.object65.specs.declared.fault.ObjectFault.{ObjectFault}
 use Rattle.object65.specs.declared.fault.ObjectFault.TheVariants as object
-use Rattle.object65.specs.Fault.{is_outside as is_object_outside, is_memory as is_object_memory}
+use Rattle.object65.specs.Fault.{is_outside as is_object_outside}
 use Rattle.object65.specs.Reading.{in_file, record_at}
 use Rattle.object65.specs.Record.{Entry}
 use Rattle.object65.specs.Taking.{State, after, start}

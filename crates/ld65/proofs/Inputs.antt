@@ -1,7 +1,6 @@
 -- The inputs of a line, one after another.
 use Rattle.std.proofs.Common.{◌≡◌, ◌∙◌, ◌<◌, ◌≤◌, ◌+◌, ℕ, zero, suc, List, [], ◌∷◌, ◌++◌, Bor, drop, length, get_or, map, Bool, true, false, Option, Some, None, Result, Ok, Err, refl, sym, ap, subst, add-one, arith}
-use Rattle.std.specs.Prelude.{IfSome, IfErr, IsErrAnd}
-use Rattle.std.specs.FinMap.{get}
+use Rattle.std.specs.Prelude.{IfSome}
 use Rattle.std.proofs.lemmas.List.{drop_all}
 use Rattle.syntax65.specs.Outcome.{◌>>=◌, Refuses, Unless}
 use Rattle.syntax65.specs.Store.{Files, HasFailed, Passes, PassesBy}
@@ -12,12 +11,11 @@ use Rattle.script65.specs.declared.script.Script.{Script}
 use Rattle.linkage65.specs.declared.fault.LinkFault.{LinkFault}
 use Rattle.linkage65.specs.declared.fault.LinkFault.TheVariants as link
 use Rattle.linkage65.specs.Givers.{first_again, given_names}
-use Rattle.linkage65.specs.Links.{names_once, no_name_again}
+use Rattle.linkage65.specs.Links.{no_name_again}
 use Rattle.linkage65.specs.Modules.{Module}
 use Rattle.linkage65.specs.Programs.{program_of}
-use Rattle.link65.specs.Standing.{Feeding, IsFed, Keeps, as_link, module_of}
+use Rattle.link65.specs.Standing.{Feeding, IsFed, as_link, module_of}
 use Rattle.ld65.specs.declared.refusal.Refusal.{Refusal}
-use Rattle.ld65.specs.declared.refusal.Refusal.TheVariants as refusal
 use Rattle.ld65.specs.Feeding.{FeedsInputs, FeedsObject, added_in, is_link_outside}
 use Rattle.ld65.specs.Linkage.{given_once, module_in, modules_in, object_in, as_object, as_link as as_refusal}
 use Rattle.ld65.specs.Refusals.{is_failure, is_outside, refusal_at}

@@ -1,7 +1,7 @@
 -- From the inputs of a line to what they are linked to.
-use Rattle.std.proofs.Common.{◌≡◌, ◌∙◌, ◌<◌, ℕ, List, [], Bool, true, false, Option, Some, None, Result, Ok, Err, refl, sym, ap, subst, arith}
+use Rattle.std.proofs.Common.{◌≡◌, ◌∙◌, ℕ, List, [], Bool, true, false, Option, Some, None, Result, Ok, Err, refl}
 use Rattle.std.specs.Prelude.{IfSome, ◌||◌}
-use Rattle.syntax65.specs.Outcome.{◌>>=◌, First, Finds, Refuses, Unless}
+use Rattle.syntax65.specs.Outcome.{Finds, Refuses, Unless}
 use Rattle.syntax65.specs.Store.{Files, PassesBy}
 use Rattle.script65.specs.declared.script.Script.{Script}
 use Rattle.linkage65.specs.declared.fault.LinkFault.{LinkFault}
@@ -15,7 +15,7 @@ use Rattle.line65.specs.Line.{Linking}
 use Rattle.ld65.specs.declared.refusal.Refusal.{Refusal}
 use Rattle.ld65.specs.declared.refusal.Refusal.TheVariants as refusal
 use Rattle.ld65.specs.Feeding.{FeedsInputs}
-use Rattle.ld65.specs.Linkage.{IsLinkedBy, LinksTo, as_link, modules_in, output_of}
+use Rattle.ld65.specs.Linkage.{IsLinkedBy, as_link, modules_in, output_of}
 use Rattle.ld65.specs.Refusals.{is_failure, is_outside}
 
 -- the script's own names are refused

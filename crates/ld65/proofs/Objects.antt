@@ -1,9 +1,9 @@
 -- From the parts of an object's file to the module that it is.
-use Rattle.std.proofs.Common.{◌≡◌, ◌∙◌, ◌<◌, ◌≤◌, ℕ, List, [], ◌∷◌, ◌++◌, length, Bool, true, false, Option, Some, None, if◌then◌else◌, Result, Ok, Err, refl, sym, ap, subst, arith}
-use Rattle.std.specs.Prelude.{IfSome, IfErr}
+use Rattle.std.proofs.Common.{◌≡◌, ◌∙◌, ◌<◌, ℕ, List, [], ◌∷◌, ◌++◌, length, Bool, true, false, Option, Some, None, if◌then◌else◌, Result, Ok, Err, refl, sym, ap, arith}
+use Rattle.std.specs.Prelude.{IfSome}
 use Rattle.std.specs.FinMap.{get}
 use Rattle.syntax65.specs.Outcome.{◌>>=◌, Refuses, Unless}
-use Rattle.syntax65.specs.Store.{Files, Passes, HasFailed}
+use Rattle.syntax65.specs.Store.{Files, Passes}
 use Rattle.syntax65.proofs.Outcome.{refused-then}
 use Rattle.object65.specs.declared.fault.ObjectFault.{ObjectFault}
 use Rattle.object65.specs.declared.fault.ObjectFault.TheVariants as object
@@ -20,7 +20,7 @@ use Rattle.linkage65.specs.Links.{names_once, no_name_again}
 use Rattle.linkage65.specs.Modules.{Module}
 use Rattle.linkage65.specs.Programs.{Program, program_of}
 use Rattle.script65.specs.declared.script.Script.{Script}
-use Rattle.link65.specs.Standing.{Begins, Ends, Feeding, IsFed, IsFeeding, Leads, as_link, module_of, whole}
+use Rattle.link65.specs.Standing.{Begins, Ends, Feeding, IsFed, Leads, as_link, module_of, whole}
 use Rattle.ld65.specs.Feeding.{FeedsObject, FeedsRecords, Leads as LeadsIn, added_in, is_link_outside, no_limit, records_in}
 use Rattle.ld65.specs.Linkage.{object_in}
 use Rattle.ld65.proofs.Fed.{accepted, by_memory, memory_outside, of_object, unless}

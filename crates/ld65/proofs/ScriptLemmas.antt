@@ -1,5 +1,5 @@
 -- From a script that was read to what is linked by it.
-use Rattle.std.proofs.Common.{◌≡◌, ◌∙◌, ℕ, ◌+◌, ◌≤◌, ◌<◌, List, [], length, take, map, Bool, true, false, nat_lt, Option, Some, None, Result, Ok, Err, refl, sym, ap, subst, arith}
+use Rattle.std.proofs.Common.{◌≡◌, ◌∙◌, ℕ, ◌+◌, ◌≤◌, ◌<◌, List, length, take, Bool, true, false, nat_lt, Option, Some, None, Result, Ok, Err, refl, ap, subst, arith}
 use Rattle.std.specs.Prelude.{IfSome, ◌||◌, min}
 use Rattle.std.specs.FinMap.{get}
 use Rattle.std.proofs.lemmas.Bool.Decides.{nat_tests}
@@ -14,17 +14,12 @@ use Rattle.script65.specs.Faults.{is_script_outside}
 use Rattle.script65.specs.Grammar.{First as FirstOf, sized}
 use Rattle.script65.specs.Outcome.{◌>>=◌}
 use Rattle.script65.specs.Scripts.{IsScript, script_of, with_line}
-use Rattle.linkage65.specs.declared.fault.LinkFault.{LinkFault}
 use Rattle.linkage65.specs.declared.linked.Linked.{Linked}
-use Rattle.linkage65.specs.Faults.{is_memory}
-use Rattle.linkage65.specs.Links.{LinkOf, names_once}
-use Rattle.linkage65.specs.Modules.{Module}
-use Rattle.linkage65.specs.Programs.{program_of}
 use Rattle.line65.specs.Line.{Linking}
 use Rattle.ld65.specs.declared.refusal.Refusal.{Refusal}
 use Rattle.ld65.specs.declared.refusal.Refusal.TheVariants as refusal
-use Rattle.ld65.specs.Linkage.{IsLinkedBy, IsLinked, LinksTo, as_link, as_script, modules_in, output_of, text_of}
-use Rattle.ld65.specs.Refusals.{is_failure, is_outside}
+use Rattle.ld65.specs.Linkage.{IsLinkedBy, IsLinked, as_script, text_of}
+use Rattle.ld65.specs.Refusals.{is_outside}
 use Rattle.ld65.specs.Texts.{front_of, script_limit, script_text}
 
 first_err : {A B : Type 0} (head : Result A Stop) (e : Stop) (Next : A → Result B Stop → Type 0) (r : Result B Stop) → head ≡ Err e → FirstOf head Next r → r ≡ Err e

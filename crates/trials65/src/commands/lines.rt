@@ -9,7 +9,9 @@ use tools65::{
 
 #[test]
 fn reads_lines(rt: HostRuntime) -> Result<(), Fail> {
-    let words = ["bin65", "ld65", "a.o", "-Cs.cfg", "-o", "image", "-mmap", "b.o"];
+    let words = [
+        "bin65", "ld65", "a.o", "-Cs.cfg", "-o", "image", "-mmap", "b.o",
+    ];
     let Ok(Line::Link(line)) = read_line(rt.alloc(), words.as_slice()) else {
         return Err(Fail::from("no line of ld65"));
     };
@@ -60,7 +62,11 @@ fn runs_lines(rt: HostRuntime) -> Result<(), Fail> {
     let status = run_line(rt.alloc(), &line, &mut store, &mut out, &mut err);
     assert!(rt; status == Status::Success && err.is_empty());
     assert!(rt; store.get("a.out") == Some(b"\xa9\0\x60\xea".as_slice()));
-    assert!(rt; store.get("map").is_some_and(|map| map.starts_with(b"MODULES\na.o\n")));
+    assert!(rt;
+        store
+            .get("map")
+            .is_some_and(|map| map.starts_with(b"MODULES\na.o\n"))
+    );
     Ok(())
 }
 

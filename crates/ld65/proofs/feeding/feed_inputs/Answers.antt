@@ -1,4 +1,4 @@
-use Rattle.std.proofs.Common.{◌∙◌, map, refl, sym}
+use Rattle.std.proofs.Common.{◌∙◌, map}
 use Rattle.ld65.proofs.Inputs.{behind_more, counted_more, name_at, refused_input}
 use Rattle.ld65.proofs.feeding.feed_inputs.Goals as goal
 

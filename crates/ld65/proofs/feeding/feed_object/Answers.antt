@@ -1,4 +1,4 @@
-use Rattle.std.proofs.Common.{◌∙◌, refl, sym}
+use Rattle.std.proofs.Common.{◌∙◌}
 use Rattle.std.proofs.lemmas.Result.{err_from_is_err_and}
 use Rattle.object65.proofs.Records.{kept_count}
 use Rattle.ld65.proofs.Objects.{no_head, no_records, more_behind, whole_module, ends_count, begun_as, kept_link_count}

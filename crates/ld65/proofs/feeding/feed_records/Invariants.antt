@@ -1,4 +1,4 @@
-use Rattle.std.proofs.Common.{◌≡◌, ◌-◌, ◌^◌, true}
+use Rattle.std.proofs.Common.{◌≡◌, ◌-◌, true}
 use Rattle.link65.specs.Standing.{Keeps, is_open}
 use Rattle.ld65.proofs.Fed.{IsAt}
 use Rattle.ld65.proofs.feeding.feed_records.Given as goal

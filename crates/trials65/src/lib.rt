@@ -1,9 +1,6 @@
-//! Trials of what no contract says: each crate's public calls on worked inputs, and with stores and streams that give
-//! little, fail or stop.
+//! Trials of the crates below the commands: public calls on worked inputs, and with stores that give little.
 #![tactic(auto)]
 
-#[cfg(test)]
-mod commands;
 #[cfg(test)]
 mod linkers;
 #[cfg(test)]

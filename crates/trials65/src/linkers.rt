@@ -95,7 +95,7 @@ fn links_a_jump(rt: HostRuntime) -> Result<(), Fail> {
 
 /// Whether the call was refused because the object is cut short.
 fn is_cut_short(answer: Result<(), LinkFault>) -> bool {
-    matches!(answer, Err(LinkFault::Object(ObjectFault::CutShort)))
+    matches!(answer, Err(LinkFault::Malformed(ObjectFault::CutShort)))
 }
 
 /// Whether the call was refused because one before it was.

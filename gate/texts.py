@@ -1,0 +1,53 @@
+#!/usr/bin/env python3
+"""What the gate looks at before it proves anything: texts, layout, and whether each edit of must-fail/ and wrong-bodies/ can be
+applied. Takes half a minute.
+
+usage: texts.py
+The last line is 'N passed, M failed', a crate or an edit each."""
+import os
+import re
+import sys
+
+import kit
+
+FOLDERS = ("must-fail", "wrong-bodies")
+
+
+def why_stopped(rt, crate, crates):
+    """Why the gate would refuse the crate's text, if it would."""
+    try:
+        rt.rtlib.stop_on_links(crate.folder)
+        rt.rtlib.stop_on_unread(crate.folder, crates)
+        rt.rtlib.stop_on_text(crate, "verdict")
+        rt.stop_on_words(crate)
+    except SystemExit:
+        return "its text is refused"
+    code = rt.rtlib.code_of(crate.folder)
+    if re.search(rt.RENAMES, code) or re.search(rt.IGNORED, code):
+        return "it renames std, or ignores a test"
+    if any(re.search(words, code) for words in rt.REACHES.values()):
+        return "it names what only a handle reaches"
+    return "run rt fmt in the crate's folder" if rt.rtlib.fmt(crate.folder, "--check", sys.stdout) else None
+
+
+def main():
+    rt = kit.load()
+    rt.rtlib.guarded()
+    crates = kit.crates(rt)
+    passed = failed = 0
+    for crate in crates:
+        faults = [(crate.name, why_stopped(rt, crate, crates))]
+        for folder in FOLDERS:
+            place = f"{crate.folder}/{folder}"
+            edits = sorted(os.listdir(place)) if os.path.isdir(place) else []
+            faults += [(f"{crate.name}/{folder}/{it}", rt.read_edit(f"{place}/{it}", crate.folder)[1]) for it in edits if it.endswith(".edit")]
+        for name, why in faults:
+            passed, failed = passed + (not why), failed + bool(why)
+            if why:
+                print(f"{name}: {why}")
+    print(f"{passed} passed, {failed} failed")
+    return 1 if failed else 0
+
+
+if __name__ == "__main__":
+    sys.exit(main())

@@ -107,3 +107,18 @@ fn names_no_file_where_none_is_named(rt: HostRuntime) -> Result<(), Fail> {
     assert!(rt; store.get("").is_none() && store.get("a.out").is_none());
     Ok(())
 }
+
+/// The map of one module linked twice.
+const TWICE: &[u8] =
+    b"MODULES\na.o\n  CODE 00000000 00000003\na.o\n  CODE 00000003 00000003\nSEGMENTS\nCODE 00008000 00008000 00000006\nDATA 00008006 00008006 00000000\nSYMBOLS\n";
+
+/// Under the name that the line gives, which may be empty.
+#[test]
+fn writes_the_map(rt: HostRuntime) -> Result<(), Fail> {
+    let mut store = files(rt.alloc(), &O1, S1)?;
+    let words = ["bin65", "ld65", "-C", "s.cfg", "-m", "", "a.o", "a.o"];
+    assert!(rt; is_quiet(&run_on(rt.alloc(), &mut store, &words)));
+    assert!(rt; store.get("a.out") == Some(b"\xa9\0\x60\xa9\0\x60".as_slice()));
+    assert!(rt; store.get("") == Some(TWICE));
+    Ok(())
+}

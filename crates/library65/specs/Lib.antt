@@ -1,0 +1,4 @@
+pub mod Fault
+pub mod Names
+pub mod Spelling
+pub mod Reading

@@ -1,0 +1,11 @@
+//! Libraries of objects: their bytes, their members, and which members a link needs.
+#![tactic(auto)]
+
+mod entry;
+mod fault;
+mod fields;
+mod indexing;
+mod naming;
+
+pub use entry::{Entry, Index, Names};
+pub use fault::LibraryFault;

@@ -1,11 +1,11 @@
 -- Something read of a file in steps, where the file may not be there and the files may not be known.
-use Rattle.std.proofs.Common.{◌≡◌, ◌∙◌, ℕ, List, Bool, true, false, Option, Some, None, Result, Ok, Err, refl, sym, ap}
+use Rattle.std.proofs.Common.{◌≡◌, ◌∙◌, ◌<◌, ◌≤◌, arith, ℕ, List, Bool, true, false, Option, Some, None, Result, Ok, Err, refl, sym, ap}
 use Rattle.std.specs.Prelude.{IfSome}
 use Rattle.std.specs.FinMap as map
 use Rattle.syntax65.specs.Outcome.{◌>>=◌, Refuses, Unless}
-use Rattle.syntax65.specs.Store.{Files}
+use Rattle.syntax65.specs.Store.{Files, Passes}
 use Rattle.library65.specs.declared.fault.LibraryFault.{LibraryFault}
-use Rattle.library65.specs.declared.fault.LibraryFault.TheVariants.{FileNotFound}
+use Rattle.library65.specs.declared.fault.LibraryFault.TheVariants.{FileError, FileNotFound}
 use Rattle.library65.specs.Fault.{is_outside}
 use Rattle.library65.specs.Reading.{in_file}
 
@@ -56,3 +56,10 @@ begins (Some m) name all = file (map.get m name) where
   file : (f : Option (List ℕ)) → IfSome f (λ bytes. all bytes ≡ all bytes)
   file None = tt
   file (Some bytes) = refl
+
+-- a call that answered left the count of failures as it was
+pub kept_count : {T : Type 0} (old now : ℕ) (x : T) → Passes {E = LibraryFault} FileError old now (Ok x) → now ≡ old
+kept_count old now x passes = let not_later : old < now → ⊥ = λ h. ok_or_err x (passes.told h) in omega (arith, passes.later, not_later)
+  where
+    ok_or_err : {T : Type 0} (x : T) → ◌≡◌ {A = Result T LibraryFault} (Ok x) (Err FileError) → ⊥
+    ok_or_err x e = cc

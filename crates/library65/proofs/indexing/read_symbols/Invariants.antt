@@ -4,8 +4,8 @@ use Rattle.library65.specs.Reading.{counted_at, symbols_at}
 use Rattle.library65.proofs.Leads.{Leads}
 use Rattle.library65.proofs.indexing.read_symbols.Given as goal
 
-abbrev pub invariant-loop-counter : goal.invariant-loop-counter
-invariant-loop-counter g l = record {
+abbrev pub invariant-loop : goal.invariant-loop
+invariant-loop g l = record {
   files : g.S.Store.files l.store ≡ g.S.Store.files l.fn.store;
   count : g.S.Store.failures l.store ≡ g.S.Store.failures l.fn.store;
   limit : l.end ≤ file_limit;

@@ -63,3 +63,11 @@ kept_count old now x passes = let not_later : old < now → ⊥ = λ h. ok_or_er
   where
     ok_or_err : {T : Type 0} (x : T) → ◌≡◌ {A = Result T LibraryFault} (Ok x) (Err FileError) → ⊥
     ok_or_err x e = cc
+
+-- a refusal for another cause passes nothing on
+pub none_passed : {T : Type 0} (old now : ℕ) (e : LibraryFault) → now ≡ old → (e ≡ FileError → ⊥) → Passes {T = T} FileError old now (Err e)
+none_passed old now e same other = record {
+  later = omega arith;
+  told = λ h. absurd (omega arith);
+  cause = λ is. absurd (other (let f : e ≡ FileError = cc in f));
+}

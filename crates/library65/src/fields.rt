@@ -85,6 +85,7 @@ pub fn read_name<S: Store>(
     ensures files { S.files store.new ≡ S.files store.old }
     ensures count { Passes LibraryFault.FileError (S.failures store.old) (S.failures store.new) result }
     ensures limit { IfOk result (λ x. x.1 ≤ file_limit) }
+    ensures later { IfOk result (λ x. at < x.1) }
 {
     let mut len = [0u8; 1];
     read_field(store, file, at, &mut len)?;

@@ -1,6 +1,6 @@
 //! The index of a library, read from its file.
 
-ghost use Rattle.std.specs.Prelude.{◌≡◌, ◌≤◌, ◌+◌, ◌++◌, ◌∷◌, [], ℕ, List, length, map, Ok, IfOk, OnOk, IfSome, false};
+ghost use Rattle.std.specs.Prelude.{◌≡◌, ◌≤◌, ◌<◌, ◌+◌, ◌++◌, ◌∷◌, [], ℕ, List, length, map, Ok, IfOk, OnOk, IfSome, false};
 ghost use Rattle.std.specs.FinMap as map;
 ghost use Rattle.syntax65.specs.Outcome.{Gives};
 ghost use Rattle.syntax65.specs.Store.{Passes};
@@ -30,6 +30,7 @@ fn read_symbol<S: Store>(
     ensures files { S.files store.new ≡ S.files store.old }
     ensures count { Passes LibraryFault.FileError (S.failures store.old) (S.failures store.new) result }
     ensures limit { IfOk result (λ x. x.1 ≤ file_limit) }
+    ensures later { IfOk result (λ x. at < x.1) }
 {
     let (name, end) = read_name(alloc, store, file, at)?;
     if !is_symbol_name(name.as_slice()) {
@@ -50,6 +51,7 @@ fn read_symbols<S: Store>(
     ensures files { S.files store.new ≡ S.files store.old }
     ensures count { Passes LibraryFault.FileError (S.failures store.old) (S.failures store.new) result }
     ensures limit { IfOk result (λ x. x.1 ≤ file_limit) }
+    ensures later { IfOk result (λ x. at < x.1) }
 {
     let count = read_number(store, file, at)?;
     let mut names = Sequence::new(alloc);
@@ -76,6 +78,7 @@ fn read_member_name<S: Store>(
     ensures files { S.files store.new ≡ S.files store.old }
     ensures count { Passes LibraryFault.FileError (S.failures store.old) (S.failures store.new) result }
     ensures limit { IfOk result (λ x. x.1 ≤ file_limit) }
+    ensures later { IfOk result (λ x. at < x.1) }
     ensures new { IfOk result (λ x. is_among (map (λ n. n.items) names.now.keys) x.0 ≡ false) }
 {
     let (name, end) = read_name(alloc, store, file, at)?;
@@ -99,6 +102,7 @@ fn read_listing<S: Store>(
     ensures files { S.files store.new ≡ S.files store.old }
     ensures count { Passes LibraryFault.FileError (S.failures store.old) (S.failures store.new) result }
     ensures limit { IfOk result (λ x. x.1 ≤ file_limit) }
+    ensures later { IfOk result (λ x. at < x.1) }
     ensures new { IfOk result (λ x. is_among (map (λ n. n.items) names.now.keys) x.0.name ≡ false) }
 {
     let (name, end) = read_member_name(alloc, store, file, at, names)?;
@@ -127,7 +131,7 @@ fn read_count<S: Store>(store: &mut S, file: &str) -> Result<u32, LibraryFault>
 }
 
 /// Reads what is said of all members, and answers where that ends.
-fn read_list<S: Store>(
+pub fn read_list<S: Store>(
     alloc: Global,
     store: &mut S,
     file: &str,
@@ -136,6 +140,7 @@ fn read_list<S: Store>(
     ensures files { S.files store.new ≡ S.files store.old }
     ensures count { Passes LibraryFault.FileError (S.failures store.old) (S.failures store.new) result }
     ensures limit { IfOk result (λ x. x.1 ≤ file_limit) }
+    ensures some { IfOk result (λ x. 0 < x.1) }
 {
     let count = read_count(store, file)?;
     let mut names = IndexSet::new(alloc);

@@ -6,6 +6,8 @@ mod fault;
 mod fields;
 mod indexing;
 mod naming;
+mod placing;
 
 pub use entry::{Entry, Index, Names};
 pub use fault::LibraryFault;
+pub use placing::read_index;

@@ -12,6 +12,7 @@ loop-init g c = record {
   files = c.in_ok-count.ensures.files;
   count = kept_count _ _ _ c.in_ok-count.ensures.count;
   limit = omega arith;
+  some = omega arith;
   names = rw (c.new-names.ensures.empty, c.new-members.ensures.items) refl;
   read = rw c.new-members.ensures.items (goes_on c.args.file.now list_at list_at count_at (λ n. listings_at (n - 0) [] 9) list_begins _ _ c.in_ok-count.count refl (begins _ c.args.file.now list_at) c.in_ok-count.ensures.read);
 }
@@ -40,6 +41,7 @@ loop-preserved g c =
       files = c.in_ok-member.ensures.files ∙ c.loop.invariant.files;
       count = kept_count _ _ _ c.in_ok-member.ensures.count ∙ c.loop.invariant.count;
       limit = c.in_ok-member.ensures.limit;
+      some = omega (arith, c.in_ok-member.ensures.later);
       names = name_pushed ms c.in_ok-member.member _ names _ c.as_slice.result.now c.loop.invariant.names c.as_slice.ensures c.in_ok-add_name.ensures c.in_ok-push.ensures.items;
       read = rw c.in_ok-push.ensures.items (goes_on c.args.file.now list_at (listings_at (n - i) ms c.loop.end) (listing_at names c.loop.end) (λ m. listings_at (n - (i + 1)) (ms ++ m.0 ∷ []) m.1) (listings_more n i ms names c.loop.end c.loop.invariant.names c.loop-test.true) _ _ (c.in_ok-member.member, c.in_ok-member.next) c.loop.invariant.files c.loop.invariant.read c.in_ok-member.ensures.read);
     }

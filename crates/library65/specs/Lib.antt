@@ -2,3 +2,5 @@ pub mod Fault
 pub mod Names
 pub mod Spelling
 pub mod Reading
+pub mod Selection
+pub mod Searching

@@ -2,12 +2,16 @@
 #![tactic(auto)]
 
 mod entry;
+mod exporting;
 mod fault;
 mod fields;
 mod indexing;
 mod naming;
 mod placing;
+mod searching;
+mod selecting;
 
 pub use entry::{Entry, Index, Names};
 pub use fault::LibraryFault;
 pub use placing::read_index;
+pub use selecting::select;

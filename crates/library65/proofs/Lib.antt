@@ -5,3 +5,5 @@ pub mod Places
 pub mod Searches
 pub mod Selections
 pub mod Tables
+pub mod Members
+pub mod Edits

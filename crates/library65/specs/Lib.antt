@@ -4,3 +4,5 @@ pub mod Spelling
 pub mod Reading
 pub mod Selection
 pub mod Searching
+pub mod Libraries
+pub mod Stored

@@ -1,11 +1,13 @@
 //! Libraries of objects: their bytes, their members, and which members a link needs.
 #![tactic(auto)]
 
+mod contents;
 mod entry;
 mod exporting;
 mod fault;
 mod fields;
 mod indexing;
+mod library;
 mod naming;
 mod placing;
 mod searching;
@@ -13,5 +15,6 @@ mod selecting;
 
 pub use entry::{Entry, Index, Names};
 pub use fault::LibraryFault;
+pub use library::{Library, MemberNames};
 pub use placing::read_index;
 pub use selecting::select;

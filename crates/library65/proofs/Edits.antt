@@ -2,7 +2,7 @@
 use Rattle.std.proofs.Common.{◌≡◌, ◌∙◌, ℕ, Bool, true, false, not, ◌||◌, ◌&&◌, cond, List, [], ◌∷◌, ◌++◌, map, Option, Some, None, Result, Ok, Err, is_some, refl, sym, ap, subst, if◌then◌else◌}
 use Rattle.std.specs.Global.{Vec}
 use Rattle.std.specs.List.{AllByRecursion, list_any}
-use Rattle.std.specs.Map.{lookup, remove_entry}
+use Rattle.std.specs.Map.{keys_of, lookup, remove_entry}
 use Rattle.std.specs.Option.{option_copied, option_map}
 use Rattle.std.specs.Str.{bytes_eq}
 use Rattle.std.proofs.lemmas.Cmp.{nat_list_eq_equiv}
@@ -162,3 +162,9 @@ remove_stored (e ∷ es) name all = step (has_key name e.0) (remove_stored es na
   step : (b : Bool) → AllByRecursion IsStored (remove_entry (has_key name) es) → AllByRecursion IsStored (cond b es (e ∷ remove_entry (has_key name) es))
   step true h = all.1
   step false h = (all.0, h)
+
+-- ---- Names.
+
+pub named : (es : Stock) → map (λ k. k.items) (keys_of es) ≡ member_names (map member_of es)
+named [] = refl
+named (e ∷ es) = ap (λ ns. e.0.items ∷ ns) (named es)

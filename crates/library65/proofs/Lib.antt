@@ -7,3 +7,4 @@ pub mod Selections
 pub mod Tables
 pub mod Members
 pub mod Edits
+pub mod Pieces

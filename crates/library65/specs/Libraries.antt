@@ -87,12 +87,19 @@ agrees e c = are_same e.exports c.exports && are_same e.imports c.imports
 abbrev pub piece_at : ℕ → ℕ → List ℕ → Result (List ℕ) LibraryFault
 piece_at size place bytes = if nat_lt (length (take size (drop place bytes))) size then Err CutShort else Ok (take size (drop place bytes))
 
--- the members with one more, behind those before
-unfoldable pub joined : List Member → Entry → List ℕ → Result (List Member) LibraryFault
-joined before e bytes = do
-  found ← piece_at e.size e.place bytes
+-- what the object of an entry's member exports and imports: the names that the entry has
+unfoldable pub agreed : Entry → List ℕ → Result Contents LibraryFault
+agreed e found = do
   contents ← checked e.name found
-  if agrees e contents then Ok (with_member before e.name found) else Err IndexDisagrees
+  if agrees e contents then Ok contents else Err IndexDisagrees
+
+-- the members before and the one of an entry
+abbrev pub added : List Member → Entry → List ℕ → Result (List Member) LibraryFault
+added before e found = agreed e found >>= (λ c. Ok (with_member before e.name found))
+
+-- the same, the member's bytes in those of the library
+unfoldable pub joined : List Member → Entry → List ℕ → Result (List Member) LibraryFault
+joined before e bytes = piece_at e.size e.place bytes >>= (λ found. added before e found)
 
 abbrev pub joined_all : List Member → List Entry → List ℕ → Result (List Member) LibraryFault
 joined_all before [] bytes = Ok before

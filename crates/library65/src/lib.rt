@@ -8,6 +8,7 @@ mod fault;
 mod fields;
 mod indexing;
 mod library;
+mod loading;
 mod naming;
 mod placing;
 mod searching;

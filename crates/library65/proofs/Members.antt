@@ -1,5 +1,5 @@
 -- The objects in members' bytes.
-use Rattle.std.proofs.Common.{◌≡◌, ◌∙◌, ◌<◌, ◌&&◌, ℕ, suc, Bool, true, false, not, cond, List, [], ◌∷◌, length, drop, get_or, Option, Some, None, Result, Ok, Err, refl, sym, ap, subst, inl, inr, arith}
+use Rattle.std.proofs.Common.{◌≡◌, ◌∙◌, ◌<◌, ◌&&◌, ℕ, suc, Bool, true, false, not, cond, List, [], ◌∷◌, length, drop, get_or, Option, Some, None, Result, Ok, Err, refl, sym, ap, subst, inl, inr, arith, if◌then◌else◌}
 use Rattle.std.specs.Cmp.{eq_by_cmp_equiv}
 use Rattle.std.specs.Cmp.Lexicographic.{slice_cmp}
 use Rattle.std.specs.FinMap as map
@@ -7,7 +7,7 @@ use Rattle.std.specs.Ordering.{nat_cmp}
 use Rattle.std.specs.Str.{bytes_eq}
 use Rattle.std.proofs.Math.Seq.{drop-cons}
 use Rattle.std.proofs.lemmas.Cmp.{nat_list_cmp_total}
-use Rattle.syntax65.specs.Outcome.{Gives, Refuses}
+use Rattle.syntax65.specs.Outcome.{◌>>=◌, Gives, Refuses}
 use Rattle.syntax65.specs.Store.{Files, HasFailed, Passes}
 use Rattle.object65.specs.declared.fault.ObjectFault.{ObjectFault}
 use Rattle.object65.specs.declared.fault.ObjectFault.TheVariants.{FileError, OutOfMemory}
@@ -16,7 +16,11 @@ use Rattle.object65.specs.Fault.{is_outside}
 use Rattle.object65.specs.Reading.{in_file}
 use Rattle.object65.specs.Whole.{object_at}
 use Rattle.library65.specs.Fault.{is_memory}
-use Rattle.library65.specs.Libraries.{are_same, as_member, member_fault, object_in}
+use Rattle.library65.specs.declared.fault.LibraryFault.{LibraryFault}
+use Rattle.library65.specs.declared.fault.LibraryFault.TheVariants as library
+use Rattle.library65.specs.declared.fault.LibraryFault.TheVariants.{BadMemberName}
+use Rattle.library65.specs.Libraries.{are_same, as_member, checked, contents_from, contents_in, member_fault, object_in}
+use Rattle.library65.specs.Names.{is_member_name}
 
 -- two names that stand at one place differ
 pub differ : (names others : List (List ℕ)) (i : ℕ) (x y : List ℕ) → i < length names → i < length others → x ≡ get_or names i x → y ≡ get_or others i y → bytes_eq x y ≡ false → are_same (drop i names) (drop i others) ≡ false
@@ -56,3 +60,16 @@ none_failed e passes is = elim (passes.cause (ap Err is)) [ | inl later ↦ omeg
 pub turned : (b : Bool) → not b ≡ true → b ≡ false
 turned true e = cc
 turned false e = refl
+
+-- ---- No fault of a store comes from a member's bytes.
+
+not_a_file : (name bytes : List ℕ) → checked name bytes ≡ Err library.FileError → ⊥
+unfolding checked contents_in
+not_a_file name bytes e = step (is_member_name name) (object_at 0 (length bytes) bytes) e where
+  step : (b : Bool) (r : Result Object ObjectFault) → (if b then (as_member r >>= (λ o. Ok (contents_from o))) else Err BadMemberName) ≡ Err library.FileError → ⊥
+  step true (Ok o) h = cc
+  step true (Err f) h = cc
+  step false r h = cc
+
+pub not_stored : (name bytes : List ℕ) (e : LibraryFault) → Refuses is_memory e (checked name bytes) → e ≡ library.FileError → ⊥
+not_stored name bytes e refused is = not_a_file name bytes (rw is at refused)

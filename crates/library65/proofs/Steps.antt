@@ -1,10 +1,15 @@
 -- One step of what is read by a loop.
-use Rattle.std.proofs.Common.{◌≡◌, ℕ, suc, ◌+◌, ◌-◌, ◌<◌, ◌≤◌, List, [], ◌∷◌, ◌++◌, map, Result, Ok, Err, refl, sym, ◌∙◌, arith}
+use Rattle.std.proofs.Common.{◌≡◌, ap, subst, add-one, drop, get_or, length, ℕ, zero, suc, ◌+◌, ◌-◌, ◌<◌, ◌≤◌, List, [], ◌∷◌, ◌++◌, map, Result, Ok, Err, refl, sym, ◌∙◌, arith}
+use Rattle.std.proofs.Math.Seq.{drop-cons}
 use Rattle.std.proofs.lemmas.List.{map-append}
+use Rattle.std.specs.List.{AllByRecursion}
 use Rattle.syntax65.specs.Outcome.{◌>>=◌}
+use Rattle.library65.specs.declared.entry.Entry.{Entry}
 use Rattle.library65.specs.declared.entry.Listing.{Listing}
 use Rattle.library65.specs.declared.fault.LibraryFault.{LibraryFault}
-use Rattle.library65.specs.Reading.{count_at, counted_at, list_at, listing_at, listings_at, number_at, symbol_at, symbols_at}
+use Rattle.library65.specs.Libraries.{joined, joined_all, library_at}
+use Rattle.library65.specs.Spelling.{Member}
+use Rattle.library65.specs.Reading.{index_at, count_at, counted_at, list_at, listing_at, listings_at, number_at, symbol_at, symbols_at}
 
 -- ---- The names of exports or imports.
 
@@ -41,3 +46,19 @@ pub name_pushed : (ms : List Listing) (m : Listing) (after : List Listing) (name
 name_pushed ms m after names more name named same added pushed =
     let is : names ++ name ∷ [] ≡ more = cc in
     sym is ∙ rw (named, same, pushed) (sym (map-append (λ x. x.name) ms (m ∷ [])))
+
+-- ---- The members themselves.
+
+pub library_begins : (bytes : List ℕ) → library_at bytes ≡ (index_at bytes >>= (λ es. joined_all [] es bytes))
+unfolding library_at
+library_begins bytes = refl
+
+pub joined_more : (ms : List Member) (es : List Entry) (i : ℕ) (e : Entry) → i < length es → e ≡ get_or es i e → (bytes : List ℕ) → joined_all ms (drop i es) bytes ≡ (joined ms e bytes >>= (λ ns. joined_all ns (drop (i + 1) es) bytes))
+joined_more ms es i e lt at bytes =
+    ap (λ xs. joined_all ms xs bytes) (drop-cons es i e lt ∙ ap (λ x. x ∷ drop (suc i) es) (sym at))
+    ∙ ap (λ k. joined ms e bytes >>= (λ ns. joined_all ns (drop k es) bytes)) (sym (add-one i))
+
+pub all_at : {X : Type 0} (P : X → Type 0) (xs : List X) (i : ℕ) (x : X) → AllByRecursion P xs → i < length xs → x ≡ get_or xs i x → P x
+all_at P [] i x all lt at = absurd (omega arith)
+all_at P (y ∷ xs) zero x all lt at = subst P (sym at) all.0
+all_at P (y ∷ xs) (suc i) x all lt at = all_at P xs i x all.1 (omega arith) at

@@ -1,21 +1,26 @@
 //! Libraries as lists of members.
 
-ghost use Rattle.std.specs.Prelude.{◌≡◌, ◌∷◌, [], IfOk, OnErr, OnOk, Ok};
+ghost use Rattle.std.specs.Prelude.{◌≡◌, ◌∷◌, [], IfOk, IfSome, OnErr, OnOk, Ok};
 ghost use Rattle.std.specs.Iterator.{YieldsFirstRef, item_count};
 ghost use Rattle.std.specs.Option.{option_copied};
 ghost use Rattle.syntax65.specs.Outcome.{Gives};
-ghost use Rattle.library65.specs.Fault.{is_memory};
-ghost use Rattle.library65.specs.Libraries.{bytes_of, checked, deleted, member_names, replaced, with_member, without_member};
+ghost use Rattle.std.specs.FinMap as map;
+ghost use Rattle.syntax65.specs.Store.{Passes};
+ghost use Rattle.library65.specs.Fault.{is_memory, is_outside};
+ghost use Rattle.library65.specs.Reading.{in_file};
+ghost use Rattle.library65.specs.Libraries.{bytes_of, checked, deleted, library_at, member_names, replaced, with_member, without_member};
 ghost use Rattle.library65.specs.Names.{is_among};
 ghost use Rattle.library65.specs.Stored.{IsSound, members_of};
 
-use crate::contents::{Contents, check_member};
-use crate::naming::copy_of;
 use crate::LibraryFault;
+use crate::contents::{Contents, check_member};
+use crate::loading::read_members;
+use crate::naming::copy_of;
 use indexmap::IndexMap;
 use indexmap::map::Keys;
 use std::alloc::{AllocError, Global};
 use std::marker::Model;
+use syntax65::Store;
 
 /// What is kept of a member.
 #[derive(Debug, Drop)]
@@ -156,6 +161,16 @@ impl Library {
             alloc,
             members: IndexMap::new(alloc),
         }
+    }
+
+    /// Reads a library from its file, all of it.
+    pub fn load<S: Store>(alloc: Global, store: &mut S, file: &str) -> Result<Self, LibraryFault>
+        ensures read { IfSome (S.files store.old) (λ m. Gives is_outside (λ l. l) result (in_file (map.get m file.now) library_at)) }
+        ensures files { S.files store.new ≡ S.files store.old }
+        ensures count { Passes LibraryFault.FileError (S.failures store.old) (S.failures store.new) result }
+    {
+        let members = read_members(alloc, store, file)?;
+        Ok(Library { alloc, members })
     }
 
     /// Puts an object in, in the place of the member of its name, or else last. A refusal changes nothing.

@@ -8,7 +8,7 @@ ghost use Rattle.syntax65.specs.Reading.{ReadsChunk};
 ghost use Rattle.syntax65.specs.Store.{Passes};
 ghost use Rattle.object65.specs.Reading.{file_limit};
 ghost use Rattle.library65.specs.Fault.{is_memory, is_outside};
-ghost use Rattle.library65.specs.Libraries.{added, agreed, checked, piece_at};
+ghost use Rattle.library65.specs.Libraries.{added, agreed, checked, joined, library_at, piece_at};
 ghost use Rattle.library65.specs.Reading.{in_file};
 ghost use Rattle.library65.specs.Stored.{IsSound, members_of};
 
@@ -101,4 +101,43 @@ fn add_member(
     let name = Vec::from_slice(alloc, entry.name.as_slice())?;
     put_member(members, name, Stored { bytes, contents })?;
     Ok(())
+}
+
+/// Reads the member of an entry and puts it in.
+#[tactic(auto, unfolding(crate::specs::Libraries::joined))]
+fn join_member<S: Store>(
+    alloc: Global,
+    store: &mut S,
+    file: &str,
+    members: &mut IndexMap<Vec<u8>, Stored>,
+    entry: &Entry,
+) -> Result<(), LibraryFault>
+    requires sound { IsSound members.old }
+    requires within { entry.now.place + entry.now.size ≤ file_limit }
+    ensures read { IfSome (S.files store.old) (λ m. Gives is_outside (λ _. members_of members.new) result (in_file (map.get m file.now) (joined (members_of members.old) entry.now))) }
+    ensures files { S.files store.new ≡ S.files store.old }
+    ensures count { Passes LibraryFault.FileError (S.failures store.old) (S.failures store.new) result }
+    ensures sound { OnOk result (IsSound members.new) }
+{
+    let bytes = read_piece(alloc, store, file, entry.place, entry.size)?;
+    add_member(alloc, members, entry, bytes)
+}
+
+/// Reads all members of a library, one by one in the order in which they stand.
+pub fn read_members<S: Store>(
+    alloc: Global,
+    store: &mut S,
+    file: &str,
+) -> Result<IndexMap<Vec<u8>, Stored>, LibraryFault>
+    ensures read { IfSome (S.files store.old) (λ m. Gives is_outside (λ ms. members_of ms) result (in_file (map.get m file.now) library_at)) }
+    ensures files { S.files store.new ≡ S.files store.old }
+    ensures count { Passes LibraryFault.FileError (S.failures store.old) (S.failures store.new) result }
+    ensures sound { IfOk result (λ ms. IsSound ms) }
+{
+    let index = read_index(alloc, store, file)?;
+    let mut members = IndexMap::new(alloc);
+    for entry in index.entries.as_slice() {
+        join_member(alloc, store, file, &mut members, entry)?;
+    }
+    Ok(members)
 }

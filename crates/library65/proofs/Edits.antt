@@ -153,7 +153,7 @@ pub insert_stored : (es : Stock) (k : Vec ℕ) (v : Stored) → AllByRecursion I
 insert_stored [] k v all one = (one, tt)
 insert_stored (e ∷ es) k v all one = step (same_key k e.0) refl (insert_stored es k v all.1 one) where
   step : (b : Bool) → same_key k e.0 ≡ b → AllByRecursion IsStored (insert_entry same_key es k v) → AllByRecursion IsStored (if b then (e.0, v) ∷ es else e ∷ insert_entry same_key es k v)
-  step true is h = (subst (λ n. checked n v.bytes.items ≡ Ok v.contents) ((bytes_eq-Decides k.items e.0.items).0 is) one, all.1)
+  step true is h = ((subst (λ n. checked n v.bytes.items ≡ Ok v.contents) ((bytes_eq-Decides k.items e.0.items).0 is) one.0, one.1), all.1)
   step false is h = (all.0, h)
 
 pub remove_stored : (es : Stock) (name : List ℕ) → AllByRecursion IsStored es → AllByRecursion IsStored (remove_entry (has_key name) es)

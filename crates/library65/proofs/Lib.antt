@@ -8,3 +8,4 @@ pub mod Tables
 pub mod Members
 pub mod Edits
 pub mod Pieces
+pub mod Symbols

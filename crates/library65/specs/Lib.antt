@@ -6,3 +6,4 @@ pub mod Selection
 pub mod Searching
 pub mod Libraries
 pub mod Stored
+pub mod Writing

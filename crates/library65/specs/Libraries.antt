@@ -126,3 +126,6 @@ library_bytes ms = (library_head ++ (little_bytes 4 (length ms) ++ flat_map memb
 -- the bytes, unless they would pass the limit of a file
 abbrev pub written : List Member → Result (List ℕ) LibraryFault
 written ms = if nat_lt file_limit (length (library_bytes ms)) then Err BadIndex else Ok (library_bytes ms)
+
+abbrev pub written_behind : List ℕ → List Member → Result (List ℕ) LibraryFault
+written_behind before ms = written ms >>= (λ bytes. Ok (before ++ bytes))

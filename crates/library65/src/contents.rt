@@ -5,6 +5,7 @@ ghost use Rattle.syntax65.specs.Outcome.{Gives};
 ghost use Rattle.object65.specs.Objects.{is_good_object};
 ghost use Rattle.library65.specs.Fault.{is_memory};
 ghost use Rattle.library65.specs.Libraries.{agrees, are_same, checked, contents_in, member_fault, object_in};
+ghost use Rattle.library65.specs.Writing.{AreSymbols};
 
 use crate::naming::is_file_name;
 use crate::{Entry, LibraryFault};
@@ -65,6 +66,7 @@ fn object_of(alloc: Global, bytes: &[u8]) -> Result<Object, LibraryFault>
 #[tactic(auto, unfolding(crate::specs::Libraries::contents_in))]
 fn contents_of(alloc: Global, bytes: &[u8]) -> Result<Contents, LibraryFault>
     ensures contents { Gives is_memory (λ c. c) result (contents_in bytes.now) }
+    ensures symbols { IfOk result AreSymbols }
 {
     let object = object_of(alloc, bytes)?;
     let Object {
@@ -80,7 +82,8 @@ fn contents_of(alloc: Global, bytes: &[u8]) -> Result<Contents, LibraryFault>
 /// What a member of this name and these bytes exports and imports.
 #[tactic(auto, unfolding(crate::specs::Libraries::checked))]
 pub fn check_member(alloc: Global, name: &[u8], bytes: &[u8]) -> Result<Contents, LibraryFault>
-    ensures { Gives is_memory (λ c. c) result (checked name.now bytes.now) }
+    ensures checked { Gives is_memory (λ c. c) result (checked name.now bytes.now) }
+    ensures symbols { IfOk result AreSymbols }
 {
     if !is_file_name(name) {
         return Err(LibraryFault::BadMemberName);

@@ -13,6 +13,7 @@ mod naming;
 mod placing;
 mod searching;
 mod selecting;
+mod writing;
 
 pub use entry::{Entry, Index, Names};
 pub use fault::LibraryFault;

@@ -8,14 +8,17 @@ ghost use Rattle.std.specs.FinMap as map;
 ghost use Rattle.syntax65.specs.Store.{Passes};
 ghost use Rattle.library65.specs.Fault.{is_memory, is_outside};
 ghost use Rattle.library65.specs.Reading.{in_file};
-ghost use Rattle.library65.specs.Libraries.{bytes_of, checked, deleted, library_at, member_names, replaced, with_member, without_member};
+ghost use Rattle.library65.specs.Libraries.{bytes_of, checked, deleted, library_at, member_names, replaced, with_member, without_member, written_behind};
 ghost use Rattle.library65.specs.Names.{is_among};
 ghost use Rattle.library65.specs.Stored.{IsSound, members_of};
+ghost use Rattle.library65.specs.Writing.{AreSymbols};
 
 use crate::LibraryFault;
 use crate::contents::{Contents, check_member};
+use crate::fields::FILE_LIMIT;
 use crate::loading::read_members;
 use crate::naming::copy_of;
+use crate::writing::put_library;
 use indexmap::IndexMap;
 use indexmap::map::Keys;
 use std::alloc::{AllocError, Global};
@@ -103,6 +106,7 @@ pub fn put_member(
 ) -> Result<(), AllocError>
     requires sound { IsSound members.old }
     requires checked { checked name.items stored.bytes.items ≡ Ok stored.contents }
+    requires symbols { AreSymbols stored.contents }
     ensures put { OnOk result (members_of members.new ≡ with_member (members_of members.old) name.items stored.bytes.items) }
     ensures unchanged { OnErr result (members_of members.new ≡ members_of members.old) }
     ensures sound { IsSound members.new }
@@ -121,6 +125,7 @@ pub fn put_copy(
 ) -> Result<(), LibraryFault>
     requires sound { IsSound members.old }
     requires checked { checked name.now bytes.now ≡ Ok contents }
+    requires symbols { AreSymbols contents }
     ensures put { Gives is_memory (λ _. members_of members.new) result (Ok (with_member (members_of members.old) name.now bytes.now)) }
     ensures unchanged { OnErr result (members_of members.new ≡ members_of members.old) }
     ensures sound { IsSound members.new }
@@ -209,5 +214,19 @@ impl Library {
         ensures { option_copied result ≡ bytes_of self.now name.now }
     {
         member_bytes(&self.members, name)
+    }
+
+    /// Adds the bytes of the library. A refusal, also where they would pass the limit of a file, changes nothing.
+    pub fn write(&self, out: &mut Vec<u8>) -> Result<(), LibraryFault>
+        ensures written { Gives is_memory (λ _. out.new.items) result (written_behind out.old.items self.now) }
+        ensures unchanged { OnErr result (out.new.items ≡ out.old.items) }
+    {
+        let mut bytes = Vec::new(self.alloc);
+        put_library(&mut bytes, &self.members)?;
+        if bytes.len() as u64 > FILE_LIMIT {
+            return Err(LibraryFault::BadIndex);
+        }
+        out.extend_from_slice(&bytes)?;
+        Ok(())
     }
 }

@@ -11,6 +11,7 @@ ghost use Rattle.library65.specs.Fault.{is_memory, is_outside};
 ghost use Rattle.library65.specs.Libraries.{added, agreed, checked, joined, library_at, piece_at};
 ghost use Rattle.library65.specs.Reading.{in_file};
 ghost use Rattle.library65.specs.Stored.{IsSound, members_of};
+ghost use Rattle.library65.specs.Writing.{AreSymbols};
 
 use crate::contents::{Contents, agrees, check_member};
 use crate::library::{Stored, put_member};
@@ -76,6 +77,7 @@ fn read_piece<S: Store>(
 fn check_entry(alloc: Global, entry: &Entry, bytes: &[u8]) -> Result<Contents, LibraryFault>
     ensures agreed { Gives is_memory (λ c. c) result (agreed entry.now bytes.now) }
     ensures checked { IfOk result (λ c. checked entry.now.name bytes.now ≡ Ok c) }
+    ensures symbols { IfOk result AreSymbols }
     ensures cause { IsErrOf result LibraryFault.FileError → ⊥ }
 {
     let contents = check_member(alloc, entry.name.as_slice(), bytes)?;

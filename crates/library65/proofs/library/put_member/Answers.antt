@@ -16,5 +16,5 @@ returns-clause-sound c =
     let made = ap (map member_of) c.in_ok-insert.ensures.entries ∙ inserted c.args.members.now.entries c.args.name c.args.stored in
     record {
       names = ap (λ (ms : List Member). are_member_names (member_names ms)) made ∙ with_good (map member_of c.args.members.now.entries) c.args.name.items c.args.stored.bytes.items good c.requires.sound.names;
-      stored = subst (AllByRecursion IsStored) (sym c.in_ok-insert.ensures.entries) (insert_stored c.args.members.now.entries c.args.name c.args.stored c.requires.sound.stored c.requires.checked);
+      stored = subst (AllByRecursion IsStored) (sym c.in_ok-insert.ensures.entries) (insert_stored c.args.members.now.entries c.args.name c.args.stored c.requires.sound.stored (c.requires.checked, c.requires.symbols));
     }

@@ -8,4 +8,4 @@ pub returns-in_err-contents-clause-cause : goal.returns-in_err-contents-clause-c
 returns-in_err-contents-clause-cause c =
     let p = err_from_is_err_and c.from_residual.result c.from_residual.ensures.1 in
     let e = c.in_err-contents.field-0.0 in
-    rw (p.1, p.2) (λ is. not_stored c.as_slice.result.now c.args.bytes.now e c.in_err-contents.ensures (let f : e ≡ FileError = cc in f))
+    rw (p.1, p.2) (λ is. not_stored c.as_slice.result.now c.args.bytes.now e c.in_err-contents.ensures.checked (let f : e ≡ FileError = cc in f))

@@ -9,3 +9,4 @@ pub mod Members
 pub mod Edits
 pub mod Pieces
 pub mod Symbols
+pub mod Written

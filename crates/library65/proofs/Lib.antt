@@ -10,3 +10,4 @@ pub mod Edits
 pub mod Pieces
 pub mod Symbols
 pub mod Written
+pub mod Uniques

@@ -7,3 +7,4 @@ pub mod Searching
 pub mod Libraries
 pub mod Stored
 pub mod Writing
+pub mod Laws

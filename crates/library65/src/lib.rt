@@ -7,6 +7,7 @@ mod exporting;
 mod fault;
 mod fields;
 mod indexing;
+pub mod laws;
 mod library;
 mod loading;
 mod naming;

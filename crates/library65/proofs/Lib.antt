@@ -11,3 +11,4 @@ pub mod Pieces
 pub mod Symbols
 pub mod Written
 pub mod Uniques
+pub mod Spelled

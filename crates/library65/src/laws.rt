@@ -1,6 +1,6 @@
 //! What holds of libraries, whatever made them. Each function's contract is a law.
 
-ghost use Rattle.library65.specs.Laws.{GrowingSelectionLaw, OneSelectionLaw};
+ghost use Rattle.library65.specs.Laws.{GrowingSelectionLaw, OneLibraryLaw, OneSelectionLaw};
 
 /// What is wanted has one selection.
 pub fn one_selection()
@@ -10,4 +10,9 @@ pub fn one_selection()
 /// Where more is wanted, no fewer members are selected.
 pub fn selection_grows()
     ensures { GrowingSelectionLaw }
+{}
+
+/// A library has one spelling.
+pub fn one_spelling()
+    ensures { OneLibraryLaw }
 {}

@@ -12,3 +12,5 @@ pub mod Symbols
 pub mod Written
 pub mod Uniques
 pub mod Spelled
+pub mod Again
+pub mod Loaded

@@ -20,3 +20,11 @@ GrowingSelectionLaw = (es : List Entry) (wanted more defined : List (List ℕ)) 
 -- a library has one spelling
 abbrev pub OneLibraryLaw : Type 0
 OneLibraryLaw = (a b : List ℕ) (ms : List Member) → IsLibrary a ms → IsLibrary b ms → a ≡ b
+
+-- what is spelled as an index is read as that index
+abbrev pub IndexSpellingLaw : Type 0
+IndexSpellingLaw = (bytes : List ℕ) (es : List Entry) → IsIndex bytes es → index_at bytes ≡ Ok es
+
+-- what is spelled as a library is loaded as that library
+abbrev pub LibrarySpellingLaw : Type 0
+LibrarySpellingLaw = (bytes : List ℕ) (ms : List Member) → IsLibrary bytes ms → library_at bytes ≡ Ok ms

@@ -1,6 +1,6 @@
 //! What holds of libraries, whatever made them. Each function's contract is a law.
 
-ghost use Rattle.library65.specs.Laws.{GrowingSelectionLaw, OneLibraryLaw, OneSelectionLaw};
+ghost use Rattle.library65.specs.Laws.{GrowingSelectionLaw, IndexSpellingLaw, LibrarySpellingLaw, OneLibraryLaw, OneSelectionLaw};
 
 /// What is wanted has one selection.
 pub fn one_selection()
@@ -15,4 +15,14 @@ pub fn selection_grows()
 /// A library has one spelling.
 pub fn one_spelling()
     ensures { OneLibraryLaw }
+{}
+
+/// What is spelled as an index is read as that index.
+pub fn index_is_read()
+    ensures { IndexSpellingLaw }
+{}
+
+/// What is spelled as a library is loaded as that library.
+pub fn library_is_loaded()
+    ensures { LibrarySpellingLaw }
 {}

@@ -14,3 +14,4 @@ pub mod Uniques
 pub mod Spelled
 pub mod Again
 pub mod Loaded
+pub mod Made

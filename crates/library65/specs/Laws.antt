@@ -7,7 +7,7 @@ use Rattle.library65.specs.Libraries.{library_at, written}
 use Rattle.library65.specs.Names.{is_among}
 use Rattle.library65.specs.Reading.{index_at}
 use Rattle.library65.specs.Selection.{IsSelection, has_place}
-use Rattle.library65.specs.Spelling.{IsIndex, IsLibrary, Member}
+use Rattle.library65.specs.Spelling.{IsIndex, IsLibrary, IsStock, Member}
 
 -- what is wanted has one selection
 abbrev pub OneSelectionLaw : Type 0
@@ -28,3 +28,7 @@ IndexSpellingLaw = (bytes : List ℕ) (es : List Entry) → IsIndex bytes es →
 -- what is spelled as a library is loaded as that library
 abbrev pub LibrarySpellingLaw : Type 0
 LibrarySpellingLaw = (bytes : List ℕ) (ms : List Member) → IsLibrary bytes ms → library_at bytes ≡ Ok ms
+
+-- what is written of members that make a library is a library of them
+abbrev pub WrittenLaw : Type 0
+WrittenLaw = (ms : List Member) (bytes : List ℕ) → IsStock ms → written ms ≡ Ok bytes → IsLibrary bytes ms

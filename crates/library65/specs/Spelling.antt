@@ -79,3 +79,8 @@ pub record IsLibrary (bytes : List ℕ) (ms : List Member) : Type 0 where
   pub index : List Entry
   pub is_index : IsIndex bytes index
   pub members : AreMembers bytes index ms
+
+-- members that make a library: good names, none twice, and objects
+pub record IsStock (ms : List Member) : Type 0 where
+  pub names : are_member_names (map (λ m. m.0) ms) ≡ true
+  pub objects : AllByRecursion (λ m. (o : Object) × IsObject m.1 o) ms

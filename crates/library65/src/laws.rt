@@ -1,6 +1,6 @@
 //! What holds of libraries, whatever made them. Each function's contract is a law.
 
-ghost use Rattle.library65.specs.Laws.{GrowingSelectionLaw, IndexSpellingLaw, LibrarySpellingLaw, OneLibraryLaw, OneSelectionLaw};
+ghost use Rattle.library65.specs.Laws.{GrowingSelectionLaw, IndexSpellingLaw, LibrarySpellingLaw, OneLibraryLaw, OneSelectionLaw, WrittenLaw};
 
 /// What is wanted has one selection.
 pub fn one_selection()
@@ -25,4 +25,9 @@ pub fn index_is_read()
 /// What is spelled as a library is loaded as that library.
 pub fn library_is_loaded()
     ensures { LibrarySpellingLaw }
+{}
+
+/// What is written of members that make a library is a library of them, and so they are loaded again.
+pub fn written_is_a_library()
+    ensures { WrittenLaw }
 {}

@@ -21,3 +21,6 @@ pub use fault::LibraryFault;
 pub use library::{Library, MemberNames};
 pub use placing::read_index;
 pub use selecting::select;
+
+#[cfg(test)]
+mod tests;

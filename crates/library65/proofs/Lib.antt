@@ -15,3 +15,4 @@ pub mod Spelled
 pub mod Again
 pub mod Loaded
 pub mod Made
+pub mod Taken

@@ -82,7 +82,7 @@ then_not : (a b : Bool) → (a || b) ≡ false → b ≡ false
 then_not true b e = cc
 then_not false b e = e
 
-turned : (b : Bool) → not b ≡ true → b ≡ false
+pub turned : (b : Bool) → not b ≡ true → b ≡ false
 turned true e = cc
 turned false e = refl
 

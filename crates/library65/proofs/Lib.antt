@@ -16,3 +16,4 @@ pub mod Again
 pub mod Loaded
 pub mod Made
 pub mod Taken
+pub mod Indexed

@@ -21,6 +21,10 @@ GrowingSelectionLaw = (es : List Entry) (wanted more defined : List (List ℕ)) 
 abbrev pub OneLibraryLaw : Type 0
 OneLibraryLaw = (a b : List ℕ) (ms : List Member) → IsLibrary a ms → IsLibrary b ms → a ≡ b
 
+-- what is read as an index is spelled so
+abbrev pub IndexReadLaw : Type 0
+IndexReadLaw = (bytes : List ℕ) (es : List Entry) → IsBytes bytes → index_at bytes ≡ Ok es → IsIndex bytes es
+
 -- what is spelled as an index is read as that index
 abbrev pub IndexSpellingLaw : Type 0
 IndexSpellingLaw = (bytes : List ℕ) (es : List Entry) → IsIndex bytes es → index_at bytes ≡ Ok es

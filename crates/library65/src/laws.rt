@@ -1,6 +1,6 @@
 //! What holds of libraries, whatever made them. Each function's contract is a law.
 
-ghost use Rattle.library65.specs.Laws.{GrowingSelectionLaw, IndexSpellingLaw, LibrarySpellingLaw, OneLibraryLaw, OneSelectionLaw, WrittenLaw};
+ghost use Rattle.library65.specs.Laws.{GrowingSelectionLaw, IndexReadLaw, IndexSpellingLaw, LibrarySpellingLaw, OneLibraryLaw, OneSelectionLaw, WrittenLaw};
 
 /// What is wanted has one selection.
 pub fn one_selection()
@@ -30,4 +30,9 @@ pub fn library_is_loaded()
 /// What is written of members that make a library is a library of them, and so they are loaded again.
 pub fn written_is_a_library()
     ensures { WrittenLaw }
+{}
+
+/// What is read as an index is spelled so.
+pub fn read_index_is_spelled()
+    ensures { IndexReadLaw }
 {}

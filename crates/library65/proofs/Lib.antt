@@ -17,3 +17,4 @@ pub mod Loaded
 pub mod Made
 pub mod Taken
 pub mod Indexed
+pub mod Read

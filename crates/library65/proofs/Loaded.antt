@@ -30,7 +30,7 @@ same_names : (names : List (List ℕ)) → are_same names names ≡ true
 same_names [] = refl
 same_names (n ∷ ns) = rw (same_bytes n) (same_names ns)
 
-put_last : (ms : List Member) (name bytes : List ℕ) → is_among (member_names ms) name ≡ false → with_member ms name bytes ≡ ms ++ (name, bytes) ∷ []
+pub put_last : (ms : List Member) (name bytes : List ℕ) → is_among (member_names ms) name ≡ false → with_member ms name bytes ≡ ms ++ (name, bytes) ∷ []
 put_last [] name bytes new = refl
 put_last (m ∷ ms) name bytes new = step (bytes_eq name m.0) refl new (put_last ms name bytes) where
   step : (b : Bool) → bytes_eq name m.0 ≡ b → (b || is_among (member_names ms) name) ≡ false → (is_among (member_names ms) name ≡ false → with_member ms name bytes ≡ ms ++ (name, bytes) ∷ []) → (if b then (m.0, bytes) ∷ ms else m ∷ with_member ms name bytes) ≡ m ∷ (ms ++ (name, bytes) ∷ [])

@@ -1,9 +1,9 @@
 -- What holds of indexes, libraries and selections, whatever made them.
-use Rattle.std.specs.Prelude.{◌≡◌, ℕ, List, true, Ok}
+use Rattle.std.specs.Prelude.{◌≡◌, ℕ, List, [], true, Ok}
 use Rattle.std.specs.List.{AllByRecursion}
 use Rattle.object65.specs.Bytes.{IsBytes}
 use Rattle.library65.specs.declared.entry.Entry.{Entry}
-use Rattle.library65.specs.Libraries.{library_at, written}
+use Rattle.library65.specs.Libraries.{deleted as deleted_of, library_at, replaced as replaced_of, written}
 use Rattle.library65.specs.Names.{is_among}
 use Rattle.library65.specs.Reading.{index_at}
 use Rattle.library65.specs.Selection.{IsSelection, has_place}
@@ -36,3 +36,14 @@ LibrarySpellingLaw = (bytes : List ℕ) (ms : List Member) → IsLibrary bytes m
 -- what is written of members that make a library is a library of them
 abbrev pub WrittenLaw : Type 0
 WrittenLaw = (ms : List Member) (bytes : List ℕ) → IsStock ms → written ms ≡ Ok bytes → IsLibrary bytes ms
+
+-- what is loaded as a library is spelled so
+abbrev pub LibraryReadLaw : Type 0
+LibraryReadLaw = (bytes : List ℕ) (ms : List Member) → IsBytes bytes → library_at bytes ≡ Ok ms → IsLibrary bytes ms
+
+-- the empty library, one that is loaded and what edits leave are of members that make a library
+pub record StockLaw : Type 0 where
+  pub none : IsStock []
+  pub loaded : (bytes : List ℕ) (ms : List Member) → IsLibrary bytes ms → IsStock ms
+  pub replaced : (ms ns : List Member) (name bytes : List ℕ) → IsBytes bytes → IsStock ms → replaced_of ms name bytes ≡ Ok ns → IsStock ns
+  pub deleted : (ms ns : List Member) (name : List ℕ) → IsStock ms → deleted_of ms name ≡ Ok ns → IsStock ns

@@ -1,6 +1,6 @@
 //! What holds of libraries, whatever made them. Each function's contract is a law.
 
-ghost use Rattle.library65.specs.Laws.{GrowingSelectionLaw, IndexReadLaw, IndexSpellingLaw, LibrarySpellingLaw, OneLibraryLaw, OneSelectionLaw, WrittenLaw};
+ghost use Rattle.library65.specs.Laws.{GrowingSelectionLaw, IndexReadLaw, IndexSpellingLaw, LibraryReadLaw, LibrarySpellingLaw, OneLibraryLaw, OneSelectionLaw, StockLaw, WrittenLaw};
 
 /// What is wanted has one selection.
 pub fn one_selection()
@@ -35,4 +35,14 @@ pub fn written_is_a_library()
 /// What is read as an index is spelled so.
 pub fn read_index_is_spelled()
     ensures { IndexReadLaw }
+{}
+
+/// What is loaded as a library is spelled so.
+pub fn loaded_is_spelled()
+    ensures { LibraryReadLaw }
+{}
+
+/// The empty library, one that is loaded and what edits leave are of members that make a library.
+pub fn edits_leave_a_library()
+    ensures { StockLaw }
 {}

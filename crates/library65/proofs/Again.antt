@@ -1,7 +1,7 @@
 -- What is spelled as an index is read as that index.
-use Rattle.std.proofs.Common.{◌≡◌, ◌∙◌, ◌<◌, ◌≤◌, ◌^◌, ℕ, ◌+◌, Bool, true, false, not, ◌||◌, ◌&&◌, nat_eq, nat_lt, List, [], ◌∷◌, ◌++◌, length, take, drop, map, Result, Ok, Err, refl, sym, ap, subst, arith, append_assoc, length-append, if◌then◌else◌}
+use Rattle.std.proofs.Common.{◌≡◌, ◌∙◌, ◌<◌, ◌≤◌, ◌^◌, ℕ, ◌+◌, Bool, true, false, ◌||◌, nat_eq, nat_lt, List, [], ◌∷◌, ◌++◌, length, take, drop, map, Result, Ok, refl, sym, ap, subst, arith, append_assoc, length-append}
 use Rattle.std.specs.Prelude.{sum_by}
-use Rattle.std.specs.List.{AllByRecursion, flat_map, list_all, list_any}
+use Rattle.std.specs.List.{AllByRecursion, flat_map, list_all}
 use Rattle.std.specs.Str.{bytes_eq}
 use Rattle.std.specs.Cmp.Lexicographic.{pointwise}
 use Rattle.std.proofs.lemmas.Bool.Decides.{nat_tests}
@@ -16,11 +16,10 @@ use Rattle.syntax65.specs.Outcome.{◌>>=◌}
 use Rattle.library65.specs.declared.entry.Entry.{Entry}
 use Rattle.library65.specs.declared.entry.Listing.{Listing}
 use Rattle.library65.specs.declared.fault.LibraryFault.{LibraryFault}
-use Rattle.library65.specs.declared.fault.LibraryFault.TheVariants.{BadIndex, CutShort}
 use Rattle.library65.specs.Names.{are_member_names, is_among, is_member_name, is_name}
 use Rattle.library65.specs.Reading.{counted_at, end_at, head_at, entry_at, field_at, index_at, list_at, listing, listing_at, listings_at, member_name_at, name_at, number_at, placed, symbol_at, symbols_at, whole}
 use Rattle.library65.specs.Spelling.{IsGoodEntry, IsIndex, StandFrom, entry_bytes, index_bytes, library_head, name_bytes, names_bytes}
-use Rattle.library65.proofs.Edits.{and, good_names, left, right}
+use Rattle.library65.proofs.Edits.{good_names, left, right}
 use Rattle.library65.proofs.Spelled.{entry_size}
 
 -- this part stands behind the first so many bytes, within the limit of a file

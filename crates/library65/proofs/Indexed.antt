@@ -1,7 +1,7 @@
 -- What is read as an index is an index.
-use Rattle.std.proofs.Common.{◌≡◌, ◌∙◌, ◌<◌, ◌≤◌, ◌-◌, ◌^◌, ℕ, zero, suc, ◌+◌, Bool, true, false, not, ◌||◌, ◌&&◌, cond, nat_eq, nat_lt, List, [], ◌∷◌, ◌++◌, length, take, drop, map, Result, Ok, Err, refl, sym, ap, subst, arith, append_assoc, length-append, length-drop, if◌then◌else◌}
+use Rattle.std.proofs.Common.{◌≡◌, ◌∙◌, ◌≤◌, ℕ, zero, suc, ◌+◌, Bool, true, false, not, ◌||◌, ◌&&◌, nat_eq, nat_lt, List, [], ◌∷◌, ◌++◌, length, take, drop, map, Ok, Err, refl, sym, ap, subst, arith, append_assoc, length-drop, if◌then◌else◌}
 use Rattle.std.specs.Prelude.{sum_by}
-use Rattle.std.specs.List.{AllByRecursion, flat_map, list_any}
+use Rattle.std.specs.List.{AllByRecursion, flat_map}
 use Rattle.std.specs.Str.{bytes_eq}
 use Rattle.std.specs.Cmp.Lexicographic.{pointwise}
 use Rattle.std.proofs.lemmas.Bool.Decides.{nat_tests}
@@ -16,13 +16,12 @@ use Rattle.object65.specs.Reading.{file_limit}
 use Rattle.syntax65.specs.Outcome.{◌>>=◌}
 use Rattle.library65.specs.declared.entry.Entry.{Entry}
 use Rattle.library65.specs.declared.entry.Listing.{Listing}
-use Rattle.library65.specs.declared.fault.LibraryFault.{LibraryFault}
 use Rattle.library65.specs.declared.fault.LibraryFault.TheVariants.{BadIndex, CutShort, NotALibrary}
 use Rattle.library65.specs.Laws.{IndexReadLaw}
 use Rattle.library65.specs.Names.{are_member_names, is_among, is_member_name}
 use Rattle.library65.specs.Reading.{count_at, counted_at, end_at, entry_at, head_at, index_at, list_at, listing, listing_at, listings_at, member_name_at, name_at, number_at, placed}
 use Rattle.library65.specs.Spelling.{IsGoodEntry, IsIndex, StandFrom, entry_bytes, index_bytes, library_head, listing_bytes, name_bytes, names_bytes}
-use Rattle.library65.proofs.Edits.{and, left, names_good, right, turned}
+use Rattle.library65.proofs.Edits.{left, names_good, right, turned}
 use Rattle.library65.proofs.Spelled.{entry_size}
 use Rattle.library65.proofs.Taken.{Takes, admits, bound, counted_takes, name_takes, number_takes, passes, takes_none, takes_then}
 

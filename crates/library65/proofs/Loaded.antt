@@ -1,24 +1,18 @@
 -- What is spelled as a library is loaded.
-use Rattle.std.proofs.Common.{◌≡◌, ◌∙◌, ◌≤◌, ℕ, ◌+◌, Bool, true, false, not, ◌||◌, ◌&&◌, nat_eq, nat_lt, List, [], ◌∷◌, ◌++◌, length, take, drop, map, Result, Ok, Err, refl, sym, ap, subst, arith, append_assoc, length-append, if◌then◌else◌}
-use Rattle.std.specs.List.{AllByRecursion, flat_map, list_any}
+use Rattle.std.proofs.Common.{◌≡◌, ◌∙◌, ◌≤◌, ℕ, Bool, true, false, ◌||◌, nat_lt, List, [], ◌∷◌, ◌++◌, length, take, drop, map, Ok, Err, refl, sym, ap, subst, arith, append_assoc, length-append, if◌then◌else◌}
 use Rattle.std.specs.Str.{bytes_eq}
-use Rattle.std.specs.Cmp.Lexicographic.{pointwise}
 use Rattle.std.proofs.lemmas.Bool.Decides.{nat_tests}
 use Rattle.std.proofs.lemmas.List.{append-nil, map-append}
-use Rattle.std.proofs.lemmas.List.Folds.{list_any-append}
 use Rattle.std.proofs.lemmas.Slice.Eq.{bytes_eq-Decides}
-use Rattle.object65.specs.declared.object.Object.{Object}
 use Rattle.object65.specs.Reading.{file_limit}
 use Rattle.syntax65.specs.Outcome.{◌>>=◌}
 use Rattle.library65.specs.declared.contents.Contents.{Contents}
 use Rattle.library65.specs.declared.entry.Entry.{Entry}
-use Rattle.library65.specs.declared.fault.LibraryFault.{LibraryFault}
 use Rattle.library65.specs.declared.fault.LibraryFault.TheVariants.{CutShort}
 use Rattle.library65.specs.Laws.{LibrarySpellingLaw}
-use Rattle.library65.specs.Libraries.{agreed, agrees, are_same, checked, contents_from, contents_in, joined, joined_all, library_at, member_names, piece_at, with_member}
+use Rattle.library65.specs.Libraries.{agreed, are_same, checked, contents_from, contents_in, joined, joined_all, library_at, member_names, piece_at, with_member}
 use Rattle.library65.specs.Names.{are_member_names, is_among, is_member_name}
-use Rattle.library65.specs.Reading.{index_at}
-use Rattle.library65.specs.Spelling.{AreMembers, IsIndex, IsLibrary, IsMember, Member, index_bytes}
+use Rattle.library65.specs.Spelling.{AreMembers, IsMember, Member, index_bytes}
 use Rattle.library65.proofs.Again.{Fresh, fresh_none, fresh_on, index_again}
 use Rattle.library65.proofs.Edits.{good_names}
 use Rattle.library65.proofs.Spelled.{AllFit, Fits, bodies, object_there, stand}

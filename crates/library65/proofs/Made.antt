@@ -1,5 +1,5 @@
 -- What is written is a library.
-use Rattle.std.proofs.Common.{◌≡◌, ◌∙◌, ◌<◌, ◌≤◌, ◌^◌, ℕ, ◌+◌, Bool, true, false, nat_lt, List, [], ◌∷◌, ◌++◌, length, take, drop, map, Result, Ok, Err, refl, sym, ap, subst, arith, append_assoc, length-append, if◌then◌else◌}
+use Rattle.std.proofs.Common.{◌≡◌, ◌∙◌, ◌≤◌, ℕ, ◌+◌, Bool, true, false, nat_lt, List, [], ◌∷◌, ◌++◌, length, take, map, Ok, Err, refl, sym, ap, subst, arith, append_assoc, length-append, if◌then◌else◌}
 use Rattle.std.specs.Prelude.{sum_by}
 use Rattle.std.specs.List.{AllByRecursion, flat_map}
 use Rattle.std.proofs.lemmas.Bool.Decides.{nat_tests}
@@ -10,13 +10,12 @@ use Rattle.object65.specs.declared.object.Object.{Object}
 use Rattle.object65.specs.Reading.{file_limit}
 use Rattle.object65.specs.Spelling.{IsObject}
 use Rattle.library65.specs.declared.entry.Entry.{Entry}
-use Rattle.library65.specs.declared.fault.LibraryFault.{LibraryFault}
 use Rattle.library65.specs.declared.fault.LibraryFault.TheVariants.{BadIndex}
 use Rattle.library65.specs.Laws.{WrittenLaw}
 use Rattle.library65.specs.Libraries.{library_bytes, member_listing, member_names, written}
 use Rattle.library65.specs.Names.{are_member_names}
-use Rattle.library65.specs.Spelling.{AreMembers, IsGoodEntry, IsIndex, IsLibrary, IsMember, IsStock, Member, StandFrom, entry_bytes, index_bytes, library_head, name_bytes, names_bytes}
-use Rattle.library65.proofs.Spelled.{AllFit, Fits, all_listings, bodies, entry_size, same_count}
+use Rattle.library65.specs.Spelling.{AreMembers, IsGoodEntry, IsIndex, Member, StandFrom, entry_bytes, index_bytes, library_head, name_bytes, names_bytes}
+use Rattle.library65.proofs.Spelled.{AllFit, all_listings, bodies, entry_size, same_count}
 use Rattle.library65.proofs.Symbols.{symbols_good}
 use Rattle.library65.proofs.Written.{many_members, many_names}
 

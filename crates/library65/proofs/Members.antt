@@ -1,5 +1,5 @@
 -- The objects in members' bytes.
-use Rattle.std.proofs.Common.{◌≡◌, ◌∙◌, ◌<◌, ◌&&◌, ℕ, suc, Bool, true, false, not, cond, List, [], ◌∷◌, length, drop, get_or, Option, Some, None, Result, Ok, Err, refl, sym, ap, subst, inl, inr, arith, if◌then◌else◌}
+use Rattle.std.proofs.Common.{◌≡◌, ◌∙◌, ◌<◌, ◌&&◌, ℕ, suc, Bool, true, false, not, cond, List, ◌∷◌, length, drop, get_or, Some, Result, Ok, Err, refl, sym, ap, subst, inl, inr, arith, if◌then◌else◌}
 use Rattle.std.specs.Cmp.{eq_by_cmp_equiv}
 use Rattle.std.specs.Cmp.Lexicographic.{slice_cmp}
 use Rattle.std.specs.FinMap as map
@@ -7,8 +7,8 @@ use Rattle.std.specs.Ordering.{nat_cmp}
 use Rattle.std.specs.Str.{bytes_eq}
 use Rattle.std.proofs.Math.Seq.{drop-cons}
 use Rattle.std.proofs.lemmas.Cmp.{nat_list_cmp_total}
-use Rattle.syntax65.specs.Outcome.{◌>>=◌, Gives, Refuses}
-use Rattle.syntax65.specs.Store.{Files, HasFailed, Passes}
+use Rattle.syntax65.specs.Outcome.{◌>>=◌, Refuses}
+use Rattle.syntax65.specs.Store.{Files, Passes}
 use Rattle.object65.specs.declared.fault.ObjectFault.{ObjectFault}
 use Rattle.object65.specs.declared.fault.ObjectFault.TheVariants.{FileError, OutOfMemory}
 use Rattle.object65.specs.declared.object.Object.{Object}
@@ -55,7 +55,7 @@ object_refused name bytes limit m e put len other refused =
 
 -- files in memory don't fail
 pub none_failed : (e : ObjectFault) → Passes {T = Object} FileError 0 0 (Err e) → e ≡ FileError → ⊥
-none_failed e passes is = elim (passes.cause (ap Err is)) [ | inl later ↦ omega arith | inr last ↦ cc ]
+none_failed e passes is = elim (passes.cause (ap Err is)) [ inl later ↦ omega arith | inr last ↦ cc ]
 
 pub turned : (b : Bool) → not b ≡ true → b ≡ false
 turned true e = cc

@@ -1,5 +1,5 @@
 -- The bytes of a member, read chunk by chunk: the front of what a file has from a place on.
-use Rattle.std.proofs.Common.{◌≡◌, ◌∙◌, ℕ, ◌+◌, ◌-◌, ◌≤◌, ◌<◌, Bool, true, false, nat_le, nat_lt, cond, List, ◌++◌, length, take, drop, Option, Some, None, Result, Ok, Err, min, refl, sym, ap, subst, arith, length-drop}
+use Rattle.std.proofs.Common.{◌≡◌, ◌∙◌, ℕ, ◌+◌, ◌-◌, ◌≤◌, ◌<◌, Bool, true, false, nat_le, nat_lt, List, ◌++◌, length, take, drop, Option, Some, None, Ok, Err, min, refl, sym, ap, subst, arith, length-drop}
 use Rattle.std.specs.Prelude.{IfSome}
 use Rattle.std.specs.FinMap as map
 use Rattle.std.proofs.lemmas.Bool.Decides.{nat_tests}
@@ -8,7 +8,6 @@ use Rattle.syntax65.specs.Reading.{ReadsChunk}
 use Rattle.syntax65.specs.Store.{Files}
 use Rattle.syntax65.proofs.Chunks.{more}
 use Rattle.syntax65.proofs.Filling.{take-add}
-use Rattle.library65.specs.declared.fault.LibraryFault.{LibraryFault}
 use Rattle.library65.specs.declared.fault.LibraryFault.TheVariants.{CutShort}
 use Rattle.library65.specs.Reading.{in_file}
 use Rattle.library65.specs.Libraries.{piece_at}

@@ -1,5 +1,5 @@
 -- Places that are marked and listed.
-use Rattle.std.proofs.Common.{◌≡◌, ◌≢◌, ◌∙◌, ◌<◌, ◌≤◌, ◌-◌, ℕ, zero, suc, ◌+◌, Bool, true, false, not, ◌||◌, cond, nat_eq, nat_lt, List, [], ◌∷◌, ◌++◌, length, get_or, slice_get, Option, Some, None, refl, sym, ap, subst, arith, if◌then◌else◌}
+use Rattle.std.proofs.Common.{◌≡◌, ◌≢◌, ◌∙◌, ◌<◌, ◌≤◌, ◌-◌, ℕ, zero, suc, ◌+◌, Bool, true, false, not, ◌||◌, cond, nat_eq, List, [], ◌∷◌, ◌++◌, length, get_or, slice_get, Some, refl, sym, ap, subst, arith, if◌then◌else◌}
 use Rattle.std.specs.Prelude.{count_by, replicate, slice_set}
 use Rattle.std.specs.List.{AllByRecursion, list_any}
 use Rattle.std.proofs.lemmas.Bool.Decides.{nat_tests}
@@ -91,14 +91,14 @@ pub marks_added : (marks : List Bool) (places : List ℕ) (place : ℕ) → plac
 marks_added marks places place within marked i =
     either (nat_eq i place)
     (λ e. let is : i ≡ place = same_place i place e in
-        let P : ℕ → Type 0 = λ j. get_or (slice_set marks place true) j false ≡ has_place (places ++ place ∷ []) j in
-        subst P (sym is) (get_or-set_same marks place true false within ∙ sym (place_behind places (place ∷ []) place (or_left (nat_eq place place) false (place_same place)))))
+    let P : ℕ → Type 0 = λ j. get_or (slice_set marks place true) j false ≡ has_place (places ++ place ∷ []) j in
+    subst P (sym is) (get_or-set_same marks place true false within ∙ sym (place_behind places (place ∷ []) place (or_left (nat_eq place place) false (place_same place)))))
     (λ e. let other : i ≢ place = λ is. let yes : nat_eq i place ≡ true = grind (arith, nat_tests) in cc in
-        get_or-set_other marks place i true false other
-        ∙ marked i
-        ∙ sym (or_false (has_place places i))
-        ∙ ap (λ b. has_place places i || (b || false)) (sym e)
-        ∙ sym (place_append places (place ∷ []) i))
+    get_or-set_other marks place i true false other
+    ∙ marked i
+    ∙ sym (or_false (has_place places i))
+    ∙ ap (λ b. has_place places i || (b || false)) (sym e)
+    ∙ sym (place_append places (place ∷ []) i))
 
 pub count_added : (marks : List Bool) (place : ℕ) → place < length marks → get_or marks place false ≡ false → count_by not (slice_set marks place true) + 1 ≡ count_by not marks
 count_added marks place within new =
@@ -113,8 +113,8 @@ marked_places i j (mark ∷ marks) le =
     either (nat_eq j i)
     (λ e. let is : j - i ≡ 0 = grind (arith, nat_tests) in rw is (here mark e))
     (λ e. let lt : suc i ≤ j = grind (arith, nat_tests) in
-        let k : j - i ≡ suc (j - (i + 1)) = omega arith in
-        rw k (there mark e ∙ marked_places (i + 1) j marks (omega arith)))
+    let k : j - i ≡ suc (j - (i + 1)) = omega arith in
+    rw k (there mark e ∙ marked_places (i + 1) j marks (omega arith)))
   where
     before : (n : ℕ) (ms : List Bool) → j < n → has_place (marked_from n ms) j ≡ false
     before n [] lt = refl
@@ -143,4 +143,3 @@ pub marked_below : (n i : ℕ) (marks : List Bool) → i + length marks ≤ n �
 marked_below n i [] le = tt
 marked_below n i (true ∷ marks) le = (omega arith, marked_below n (i + 1) marks (omega arith))
 marked_below n i (false ∷ marks) le = marked_below n (i + 1) marks (omega arith)
-

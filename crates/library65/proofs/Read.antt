@@ -1,5 +1,5 @@
 -- What is loaded as a library is spelled so, and edits leave members that make a library.
-use Rattle.std.proofs.Common.{◌≡◌, ◌∙◌, ◌≤◌, ◌-◌, ℕ, ◌+◌, Bool, true, false, not, ◌||◌, ◌&&◌, cond, nat_eq, nat_lt, List, [], ◌∷◌, ◌++◌, length, take, drop, map, Result, Ok, Err, refl, sym, ap, subst, arith, append_assoc, length-append, if◌then◌else◌}
+use Rattle.std.proofs.Common.{◌≡◌, ◌∙◌, ◌-◌, ℕ, Bool, true, false, nat_lt, List, [], ◌∷◌, ◌++◌, length, take, drop, map, Result, Ok, Err, refl, sym, ap, subst, arith, append_assoc, if◌then◌else◌}
 use Rattle.std.specs.List.{AllByRecursion}
 use Rattle.std.specs.Str.{bytes_eq}
 use Rattle.std.proofs.lemmas.List.{append-nil, map-append, take_all}
@@ -12,16 +12,14 @@ use Rattle.object65.specs.Spelling.{IsObject}
 use Rattle.object65.specs.Whole.{object_at}
 use Rattle.object65.proofs.Numbers.{bytes_drop, bytes_take}
 use Rattle.object65.proofs.Readings.{read_is_object}
-use Rattle.syntax65.specs.Outcome.{◌>>=◌}
 use Rattle.library65.specs.declared.contents.Contents.{Contents}
 use Rattle.library65.specs.declared.entry.Entry.{Entry}
-use Rattle.library65.specs.declared.fault.LibraryFault.{LibraryFault}
-use Rattle.library65.specs.declared.fault.LibraryFault.TheVariants.{BadMemberName, CutShort, IndexDisagrees, NoSuchMember}
+use Rattle.library65.specs.declared.fault.LibraryFault.TheVariants.{CutShort, IndexDisagrees, NoSuchMember}
 use Rattle.library65.specs.Laws.{LibraryReadLaw, StockLaw}
 use Rattle.library65.specs.Libraries.{added, agreed, agrees, are_same, as_member, checked, contents_from, contents_in, deleted, joined, joined_all, library_at, member_names, object_in, piece_at, replaced, with_member, without_member}
-use Rattle.library65.specs.Names.{are_member_names, is_among, is_member_name}
+use Rattle.library65.specs.Names.{are_member_names, is_among}
 use Rattle.library65.specs.Reading.{index_at}
-use Rattle.library65.specs.Spelling.{AreMembers, IsIndex, IsLibrary, IsMember, IsStock, Member}
+use Rattle.library65.specs.Spelling.{AreMembers, IsLibrary, IsMember, IsStock, Member}
 use Rattle.library65.proofs.Again.{Fresh, fresh_none, fresh_on}
 use Rattle.library65.proofs.Edits.{checked_good, good_names, left, right, with_good, without_good}
 use Rattle.library65.proofs.Indexed.{index_takes}

@@ -1,6 +1,5 @@
 -- The search for the members that a link needs: what it has found is the selection.
-use Rattle.std.proofs.Common.{◌≡◌, ◌∙◌, ◌<◌, ◌≤◌, ℕ, zero, suc, ◌+◌, Bool, true, false, not, ◌||◌, ◌&&◌, nat_eq, List, [], ◌∷◌, ◌++◌, length, slice_get, Option, Some, None, refl, sym, ap, subst, arith, append_assoc}
-use Rattle.std.specs.List.{list_any}
+use Rattle.std.proofs.Common.{◌≡◌, ◌∙◌, ◌<◌, ℕ, ◌+◌, true, false, nat_eq, List, [], ◌∷◌, ◌++◌, length, slice_get, Some, None, refl, sym, ap, subst, arith, append_assoc}
 use Rattle.std.specs.Cmp.Lexicographic.{pointwise}
 use Rattle.std.proofs.lemmas.Bool.Decides.{nat_tests}
 use Rattle.std.proofs.lemmas.List.{append-nil}
@@ -8,9 +7,9 @@ use Rattle.std.proofs.lemmas.List.Folds.{list_any-append}
 use Rattle.std.proofs.lemmas.Slice.Eq.{bytes_eq-Decides}
 use Rattle.library65.specs.declared.entry.Entry.{Entry}
 use Rattle.library65.specs.Names.{is_among}
-use Rattle.library65.specs.Searching.{Finds, IsNeeded, IsSearched}
-use Rattle.library65.specs.Selection.{IsClosed, first_exporter, has_place, imports_at}
-use Rattle.library65.proofs.Places.{any_at, any_of, either, get_kept, or_left, or_right, or_true, place_at, place_behind, place_kept, place_of}
+use Rattle.library65.specs.Searching.{Finds, IsSearched}
+use Rattle.library65.specs.Selection.{first_exporter, has_place, imports_at}
+use Rattle.library65.proofs.Places.{either, get_kept, or_left, or_right, or_true, place_behind, place_kept, place_of}
 
 abbrev pub Names : Type 0
 Names = List (List ℕ)
@@ -101,16 +100,16 @@ module _ (es : List Entry) (wanted defined : Names) where
     needed = λ i there. or_true (has_place found i) (has_place finds.behind i) (sym (list_any-append (nat_eq i) found finds.behind) ∙ subst (λ (js : List ℕ). has_place js i ≡ true) finds.more there)
         (λ e. so_far.needed i e)
         (λ e. let r = finds.only i e in
-            let from = so_far.needed place (place_of found next place at) in
-            (r.0, (λ has closed. closed.goes_on from.0 r.0 place (from.1 has closed) from.2 r.1 r.2), r.3));
+        let from = so_far.needed place (place_of found next place at) in
+        (r.0, (λ has closed. closed.goes_on from.0 r.0 place (from.1 has closed) from.2 r.1 r.2), r.3));
     wanted_found = λ name i among free exported. grown i (so_far.wanted_found name i among free exported);
     imports_found = λ k p less there name i among free exported.
         let before : slice_get found k ≡ Some p = sym (get_kept found finds.behind k (omega arith)) ∙ subst (λ (js : List ℕ). slice_get js k ≡ Some p) finds.more there in
         either (nat_eq k next)
         (λ e. let is : k ≡ next = grind (arith, nat_tests) in
-            let same : Some p ≡ Some place = sym before ∙ ap (slice_get found) is ∙ at in
-            let p_is : p ≡ place = cc in
-            finds.all name i (subst (λ q. is_among (imports_at es q) name ≡ true) p_is among) free exported)
+        let same : Some p ≡ Some place = sym before ∙ ap (slice_get found) is ∙ at in
+        let p_is : p ≡ place = cc in
+        finds.all name i (subst (λ q. is_among (imports_at es q) name ≡ true) p_is among) free exported)
         (λ e. let earlier : k < next = grind (arith, nat_tests) in grown i (so_far.imports_found k p earlier before name i among free exported));
   }
     where

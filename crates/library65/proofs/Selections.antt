@@ -1,13 +1,11 @@
 -- Selections: the search gives one, there is but one, and it grows with what is wanted.
-use Rattle.std.proofs.Common.{◌≡◌, ◌∙◌, ◌<◌, ◌≤◌, ◌-◌, ℕ, zero, suc, ◌+◌, Bool, true, false, not, ◌||◌, ◌&&◌, cond, nat_eq, List, [], ◌∷◌, ◌++◌, length, get_or, slice_get, Option, Some, None, refl, sym, ap, subst, arith}
-use Rattle.std.specs.List.{AllByRecursion, list_any, position_from}
-use Rattle.std.specs.Cmp.Lexicographic.{pointwise}
-use Rattle.std.proofs.lemmas.Bool.Decides.{nat_tests}
+use Rattle.std.proofs.Common.{◌≡◌, ◌∙◌, ◌<◌, ◌-◌, ℕ, ◌+◌, Bool, true, false, not, ◌||◌, ◌&&◌, cond, List, [], ◌∷◌, length, get_or, Option, Some, refl, sym, ap, subst, arith}
+use Rattle.std.specs.List.{list_any, position_from}
 use Rattle.library65.specs.declared.entry.Entry.{Entry}
 use Rattle.library65.specs.Names.{is_among}
 use Rattle.library65.specs.Searching.{IsSearched, marked_from}
 use Rattle.library65.specs.Selection.{IsClosed, IsRising, IsSelection, first_exporter, has_place, imports_at}
-use Rattle.library65.proofs.Places.{any_at, any_of, either, marked_places, marked_rising, or_left, or_right, or_true, place_at, place_of, same_place}
+use Rattle.library65.proofs.Places.{any_at, any_of, marked_places, marked_rising, or_left, or_right, or_true, place_at, place_of}
 
 abbrev Names : Type 0
 Names = List (List ℕ)
@@ -76,8 +74,8 @@ module _ (es : List Entry) (wanted defined : Names) (found : List ℕ) where
       or_true (is_among wanted name) _ parts.1
       (λ e. closed.begins name e not_defined)
       (λ e. let r = any_at (λ i. is_among (imports_at es i) name) found e in
-          let from = done.needed r.1 (place_of found r.0 r.1 r.3) in
-          closed.goes_on from.0 name r.1 (from.1 other closed) from.2 r.4 not_defined)
+      let from = done.needed r.1 (place_of found r.0 r.1 r.3) in
+      closed.goes_on from.0 name r.1 (from.1 other closed) from.2 r.4 not_defined)
 
   pub searched_selected : (marks : List Bool) (places : List ℕ) → IsSearched es wanted defined found (length found) → ((i : ℕ) → get_or marks i false ≡ has_place found i) → places ≡ marked_from 0 marks → IsSelection es wanted defined places
   searched_selected marks places done marked listed =

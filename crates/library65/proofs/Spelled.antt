@@ -1,21 +1,19 @@
 -- The bytes of a library, from those of its members.
-use Rattle.std.proofs.Common.{◌≡◌, ◌∙◌, ◌<◌, ◌≤◌, ◌-◌, ℕ, ◌+◌, Bool, true, false, List, [], ◌∷◌, ◌++◌, length, take, drop, map, Result, Ok, Err, refl, sym, ap, subst, arith, append_assoc, length-append}
+use Rattle.std.proofs.Common.{◌≡◌, ◌∙◌, ◌≤◌, ◌-◌, ℕ, ◌+◌, List, [], ◌∷◌, ◌++◌, length, take, drop, map, Ok, refl, sym, ap, subst, arith, append_assoc, length-append}
 use Rattle.std.specs.Prelude.{sum_by}
-use Rattle.std.specs.List.{AllByRecursion, flat_map}
-use Rattle.std.proofs.lemmas.List.{drop_at, length-take, take-append-drop, take-append-le, take_all}
+use Rattle.std.specs.List.{flat_map}
+use Rattle.std.proofs.lemmas.List.{drop_at, length-take, take-append-drop, take_all}
 use Rattle.std.proofs.lemmas.List.Sums.{sum_by-cons}
 use Rattle.byteorder.specs.Endian.{little_bytes}
 use Rattle.object65.specs.declared.object.Export.{Export}
 use Rattle.object65.specs.declared.object.Object.{Object}
 use Rattle.object65.specs.Reading.{file_limit, room}
 use Rattle.object65.specs.Spelling.{IsObject}
-use Rattle.object65.specs.Whole.{object_at}
 use Rattle.object65.proofs.Spellings.{object_is_read}
-use Rattle.library65.specs.declared.contents.Contents.{Contents}
 use Rattle.library65.specs.declared.entry.Entry.{Entry}
 use Rattle.library65.specs.Laws.{OneLibraryLaw}
-use Rattle.library65.specs.Libraries.{as_member, contents_from, contents_in, library_bytes, member_listing, object_in, or_none}
-use Rattle.library65.specs.Spelling.{AreMembers, IsIndex, IsLibrary, IsMember, Member, StandFrom, entry_bytes, index_bytes, library_head, listing_bytes}
+use Rattle.library65.specs.Libraries.{contents_from, contents_in, library_bytes, member_listing, or_none}
+use Rattle.library65.specs.Spelling.{AreMembers, IsLibrary, Member, StandFrom, entry_bytes, index_bytes, library_head, listing_bytes}
 
 abbrev pub entry_size : Entry → ℕ
 entry_size e = e.size

@@ -1,11 +1,10 @@
 -- The names in an object are good.
-use Rattle.std.proofs.Common.{◌≡◌, ◌∙◌, ◌<◌, ℕ, Bool, true, false, not, ◌&&◌, nat_lt, List, [], ◌∷◌, length, get_or, map, Result, Ok, refl, sym, ap, subst, arith, zero, suc}
+use Rattle.std.proofs.Common.{◌≡◌, ◌∙◌, ◌<◌, ℕ, true, not, ◌&&◌, nat_lt, List, [], ◌∷◌, length, get_or, map, refl, sym, ap, subst, arith, zero, suc}
 use Rattle.std.proofs.lemmas.Bool.Decides.{nat_tests}
 use Rattle.std.specs.List.{list_all}
 use Rattle.object65.specs.declared.object.Export.{Export}
 use Rattle.object65.specs.declared.object.Object.{Object}
 use Rattle.object65.specs.Objects.{are_names, is_among, is_good_object, is_name, is_printed}
-use Rattle.library65.specs.declared.contents.Contents.{Contents}
 use Rattle.library65.specs.Writing.{AreSymbols}
 use Rattle.library65.proofs.Edits.{and, left, right}
 

@@ -1,25 +1,20 @@
 -- What is read as an index is spelled so.
-use Rattle.std.proofs.Common.{◌≡◌, ◌∙◌, ◌<◌, ◌≤◌, ◌^◌, ℕ, zero, suc, ◌+◌, Bool, true, false, not, ◌||◌, ◌&&◌, cond, nat_lt, List, [], ◌∷◌, ◌++◌, length, take, drop, get_or, map, Result, Ok, Err, refl, sym, ap, subst, arith, append_assoc, length-append, length-drop, if◌then◌else◌}
-use Rattle.std.specs.Prelude.{sum_by}
-use Rattle.std.specs.List.{AllByRecursion, flat_map, list_all}
+use Rattle.std.proofs.Common.{◌≡◌, ◌∙◌, ◌<◌, ◌≤◌, ◌^◌, ℕ, zero, suc, ◌+◌, Bool, true, false, cond, nat_lt, List, [], ◌∷◌, ◌++◌, length, take, drop, get_or, Result, Ok, Err, refl, sym, ap, subst, arith, append_assoc, length-append, if◌then◌else◌}
+use Rattle.std.specs.List.{flat_map, list_all}
 use Rattle.std.proofs.lemmas.Bool.Decides.{nat_tests}
-use Rattle.std.proofs.lemmas.List.{append-nil, drop-drop, drop_all, length-take, map-append, take-append-drop, take_all}
-use Rattle.std.proofs.lemmas.List.Concat.{flat_map-cons}
-use Rattle.std.proofs.lemmas.List.Sums.{sum_by-cons}
+use Rattle.std.proofs.lemmas.List.{append-nil, drop-drop, length-take, take-append-drop, take_all}
 use Rattle.byteorder.specs.Endian.{little_bytes, little_number}
 use Rattle.byteorder.specs.Numbers.{little_from-lt}
 use Rattle.object65.specs.Bytes.{IsBytes}
 use Rattle.object65.specs.Reading.{file_limit}
 use Rattle.object65.proofs.Numbers.{bytes_drop, bytes_take, front}
 use Rattle.syntax65.specs.Outcome.{◌>>=◌}
-use Rattle.library65.specs.declared.entry.Entry.{Entry}
-use Rattle.library65.specs.declared.entry.Listing.{Listing}
 use Rattle.library65.specs.declared.fault.LibraryFault.{LibraryFault}
 use Rattle.library65.specs.declared.fault.LibraryFault.TheVariants.{BadIndex, CutShort}
 use Rattle.library65.specs.Names.{is_name}
-use Rattle.library65.specs.Reading.{counted_at, field_at, name_at, number_at, symbol_at, symbols_at, whole}
+use Rattle.library65.specs.Reading.{counted_at, field_at, name_at, number_at, symbol_at, symbols_at}
 use Rattle.library65.specs.Spelling.{name_bytes, names_bytes}
-use Rattle.library65.proofs.Edits.{and, left, right}
+use Rattle.library65.proofs.Edits.{and}
 
 pub bound : {A B : Type 0} (r : Result A LibraryFault) (f : A → Result B LibraryFault) (y : B) → (r >>= f) ≡ Ok y → (x : A) × (r ≡ Ok x) × (f x ≡ Ok y)
 bound (Ok x) f y e = (x, refl, e)

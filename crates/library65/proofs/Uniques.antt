@@ -1,12 +1,8 @@
 -- There is but one selection, and it grows with what is wanted.
-use Rattle.std.proofs.Common.{◌≡◌, ◌∙◌, ◌<◌, ◌≤◌, ℕ, Bool, true, false, ◌||◌, nat_eq, List, [], ◌∷◌, ◌++◌, length, map, refl, sym, ap, subst, arith}
-use Rattle.std.specs.List.{AllByRecursion, flat_map, list_any}
-use Rattle.std.proofs.lemmas.Bool.Decides.{nat_tests}
-use Rattle.object65.specs.declared.object.Object.{Object}
-use Rattle.library65.specs.declared.entry.Entry.{Entry}
+use Rattle.std.proofs.Common.{◌≡◌, ◌<◌, ◌≤◌, ℕ, true, nat_eq, List, [], ◌∷◌, refl, arith}
+use Rattle.std.specs.List.{AllByRecursion}
 use Rattle.library65.specs.Laws.{GrowingSelectionLaw, OneSelectionLaw}
-use Rattle.library65.specs.Names.{is_among}
-use Rattle.library65.specs.Selection.{IsClosed, IsRising, IsSelection, has_place}
+use Rattle.library65.specs.Selection.{IsClosed, IsRising, has_place}
 use Rattle.library65.proofs.Places.{or_left, or_right, or_true, place_same, same_place}
 
 -- ---- Selections.

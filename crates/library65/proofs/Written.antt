@@ -1,21 +1,17 @@
 -- What is written of a library, part by part.
-use Rattle.std.proofs.Common.{◌≡◌, ◌∙◌, ◌<◌, ◌≤◌, ℕ, suc, ◌+◌, Bool, true, false, not, ◌&&◌, nat_lt, if◌then◌else◌, List, [], ◌∷◌, ◌++◌, length, map, Result, Ok, Err, refl, sym, ap, subst, arith, length-append, append_assoc}
+use Rattle.std.proofs.Common.{◌≡◌, ◌∙◌, ◌≤◌, ℕ, ◌+◌, Bool, true, false, if◌then◌else◌, List, [], ◌∷◌, ◌++◌, length, map, Ok, Err, refl, sym, ap, subst, arith, length-append, append_assoc}
 use Rattle.std.specs.Global.{Vec}
-use Rattle.std.specs.List.{AllByRecursion, flat_map}
-use Rattle.object65.specs.Reading.{file_limit}
-use Rattle.std.proofs.lemmas.Bool.Decides.{nat_tests}
-use Rattle.std.specs.List.{list_all}
-use Rattle.std.specs.Str.{is_utf8}
+use Rattle.std.specs.List.{flat_map}
 use Rattle.library65.specs.declared.contents.Contents.{Contents}
 use Rattle.library65.specs.declared.fault.LibraryFault.{LibraryFault}
 use Rattle.library65.specs.declared.fault.LibraryFault.TheVariants.{BadIndex, BadMemberName, OutOfMemory}
 use Rattle.library65.specs.declared.library.Stored.{Stored}
 use Rattle.library65.specs.Libraries.{checked, contents_in, member_listing, member_names, or_none}
-use Rattle.library65.specs.Names.{are_member_names, is_folder, is_member_name, is_plain}
+use Rattle.library65.specs.Names.{are_member_names, is_member_name}
 use Rattle.library65.specs.Spelling.{Member, listing_bytes, name_bytes}
 use Rattle.library65.specs.Stored.{IsStored, member_of}
 use Rattle.library65.specs.Writing.{Puts}
-use Rattle.library65.proofs.Edits.{good_names, left, right}
+use Rattle.library65.proofs.Edits.{good_names}
 
 pub many_names : (names : List (List ℕ)) → length names ≤ length (flat_map name_bytes names)
 many_names [] = omega arith
@@ -51,15 +47,6 @@ Stock = List (Vec ℕ × Stored)
 pub names_next : (all : Stock) (k : Vec ℕ) (v : Stored) (es : Stock) → all ≡ (k, v) ∷ es → are_member_names (member_names (map member_of all)) ≡ true → are_member_names (member_names (map member_of es)) ≡ true
 names_next all k v es split good =
     (good_names k.items (member_names (map member_of es)) (sym (ap (λ (xs : Stock). are_member_names (member_names (map member_of xs))) split) ∙ good)).rest
-
-pub name_first : (all : Stock) (k : Vec ℕ) (v : Stored) (es : Stock) → all ≡ (k, v) ∷ es → are_member_names (member_names (map member_of all)) ≡ true → length k.items < 256
-name_first all k v es split good =
-    let g = (good_names k.items (member_names (map member_of es)) (sym (ap (λ (xs : Stock). are_member_names (member_names (map member_of xs))) split) ∙ good)).good in
-    let a = left (nat_lt 0 (length k.items) && nat_lt (length k.items) 256 && list_all is_plain k.items && is_utf8 k.items) (not (is_folder k.items)) g in
-    let b = left (nat_lt 0 (length k.items) && nat_lt (length k.items) 256 && list_all is_plain k.items) (is_utf8 k.items) a in
-    let c = left (nat_lt 0 (length k.items) && nat_lt (length k.items) 256) (list_all is_plain k.items) b in
-    let short : nat_lt (length k.items) 256 ≡ true = right (nat_lt 0 (length k.items)) (nat_lt (length k.items) 256) c in
-    grind (arith, nat_tests)
 
 pub out_next : (all : Stock) (k : Vec ℕ) (v : Stored) (es : Stock) (name old new whole : List ℕ) → all ≡ (k, v) ∷ es → IsStored (k, v) → name ≡ k.items → new ≡ old ++ listing_bytes name (length v.bytes.items) v.contents.exports v.contents.imports → old ++ flat_map member_listing (map member_of all) ≡ whole → new ++ flat_map member_listing (map member_of es) ≡ whole
 out_next all k v es name old new whole split is same put so_far =

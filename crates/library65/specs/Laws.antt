@@ -1,6 +1,5 @@
 -- What holds of indexes, libraries and selections, whatever made them.
 use Rattle.std.specs.Prelude.{◌≡◌, ℕ, List, [], true, Ok}
-use Rattle.std.specs.List.{AllByRecursion}
 use Rattle.object65.specs.Bytes.{IsBytes}
 use Rattle.library65.specs.declared.entry.Entry.{Entry}
 use Rattle.library65.specs.Libraries.{deleted as deleted_of, library_at, replaced as replaced_of, written}

@@ -1,5 +1,5 @@
 -- What is written part by part.
-use Rattle.std.specs.Prelude.{◌≡◌, ◌<◌, ℕ, ◌+◌, List, ◌++◌, length, true, Result, Ok, Err, ⊤}
+use Rattle.std.specs.Prelude.{◌≡◌, ◌<◌, ℕ, List, ◌++◌, true, Result, Ok, Err, ⊤}
 use Rattle.std.specs.List.{list_all}
 use Rattle.object65.specs.Reading.{file_limit}
 use Rattle.library65.specs.declared.contents.Contents.{Contents}

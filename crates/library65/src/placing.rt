@@ -82,11 +82,7 @@ fn check_end<S: Store>(store: &mut S, file: &str, end: u64) -> Result<(), Librar
 
 /// Reads the index of a library: of its members no byte but the last, to see where the file ends.
 #[tactic(auto, unfolding(crate::specs::Reading::index_at))]
-pub fn read_index<S: Store>(
-    alloc: Global,
-    store: &mut S,
-    file: &str,
-) -> Result<Index, LibraryFault>
+pub fn read_index<S: Store>(alloc: Global, store: &mut S, file: &str) -> Result<Index, LibraryFault>
     ensures read { IfSome (S.files store.old) (λ m. Gives is_outside (λ x. x.entries) result (in_file (map.get m file.now) index_at)) }
     ensures files { S.files store.new ≡ S.files store.old }
     ensures count { Passes LibraryFault.FileError (S.failures store.old) (S.failures store.new) result }

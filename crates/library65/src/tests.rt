@@ -103,9 +103,24 @@ fn a_replaced_member_keeps_its_place(rt: HostRuntime) -> Result<(), Fail> {
 fn a_member_is_an_object_with_a_good_name(rt: HostRuntime) -> Result<(), Fail> {
     let alloc = rt.alloc();
     let mut library = Library::empty(alloc);
-    assert!(rt; matches!(library.replace(b"d/a.o", &NO_MEMBER), Err(LibraryFault::BadMemberName)));
-    assert!(rt; matches!(library.replace(b"..", &THREE_BYTES), Err(LibraryFault::BadMemberName)));
-    assert!(rt; matches!(library.replace(b"a.o", &NO_MEMBER), Err(LibraryFault::NotAnObject)));
+    assert!(rt;
+        matches!(
+            library.replace(b"d/a.o", &NO_MEMBER),
+            Err(LibraryFault::BadMemberName)
+        )
+    );
+    assert!(rt;
+        matches!(
+            library.replace(b"..", &THREE_BYTES),
+            Err(LibraryFault::BadMemberName)
+        )
+    );
+    assert!(rt;
+        matches!(
+            library.replace(b"a.o", &NO_MEMBER),
+            Err(LibraryFault::NotAnObject)
+        )
+    );
     assert_eq!(rt; library.names().count(), 0);
     Ok(())
 }
@@ -167,7 +182,17 @@ fn a_library_that_is_cut_is_refused(rt: HostRuntime) -> Result<(), Fail> {
         }
     }
     store.put("l.lib", &MANY_MEMBERS)?;
-    assert!(rt; matches!(read_index(alloc, &mut store, "l.lib"), Err(LibraryFault::CutShort)));
-    assert!(rt; matches!(read_index(alloc, &mut store, "m.lib"), Err(LibraryFault::FileNotFound)));
+    assert!(rt;
+        matches!(
+            read_index(alloc, &mut store, "l.lib"),
+            Err(LibraryFault::CutShort)
+        )
+    );
+    assert!(rt;
+        matches!(
+            read_index(alloc, &mut store, "m.lib"),
+            Err(LibraryFault::FileNotFound)
+        )
+    );
     Ok(())
 }

@@ -84,10 +84,7 @@ fn put_listing(out: &mut Vec<u8>, name: &[u8], stored: &Stored) -> Result<(), Li
 }
 
 /// Adds what the index says of the members.
-fn put_listings(
-    out: &mut Vec<u8>,
-    members: &IndexMap<Vec<u8>, Stored>,
-) -> Result<(), LibraryFault>
+fn put_listings(out: &mut Vec<u8>, members: &IndexMap<Vec<u8>, Stored>) -> Result<(), LibraryFault>
     requires { IsSound members.now }
     ensures { Puts (flat_map member_listing (members_of members.now)) (length (flat_map member_listing (members_of members.now)) + length (flat_map (λ m. m.1) (members_of members.now))) out.old.items out.new.items result }
 {

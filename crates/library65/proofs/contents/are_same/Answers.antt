@@ -1,4 +1,4 @@
-use Rattle.std.proofs.Common.{◌≡◌, ◌∙◌, ◌<◌, ◌++◌, Bool, true, false, not, List, ℕ, length, get_or, refl, sym, subst, arith}
+use Rattle.std.proofs.Common.{◌≡◌, ◌∙◌, false, sym, arith}
 use Rattle.std.specs.Str.{bytes_eq}
 use Rattle.library65.proofs.Members.{differ, turned}
 use Rattle.library65.proofs.contents.are_same.Goals as goal

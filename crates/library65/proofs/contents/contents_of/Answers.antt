@@ -1,5 +1,4 @@
-use Rattle.std.proofs.Common.{◌≡◌, ◌∙◌, Ok, List, ℕ, Result, map, sym}
-use Rattle.library65.specs.declared.fault.LibraryFault.{LibraryFault}
+use Rattle.std.proofs.Common.{◌≡◌, map, sym}
 use Rattle.object65.specs.declared.object.Export.{Export}
 use Rattle.library65.proofs.Symbols.{symbols_good}
 use Rattle.library65.proofs.contents.contents_of.Goals as goal

@@ -1,4 +1,4 @@
-use Rattle.std.proofs.Common.{◌≡◌, ◌∙◌, [], refl, ap, sym, subst, length}
+use Rattle.std.proofs.Common.{[], refl, sym, subst}
 use Rattle.syntax65.specs.Outcome.{Refuses}
 use Rattle.library65.specs.Fault.{is_memory}
 use Rattle.library65.specs.Libraries.{object_in}

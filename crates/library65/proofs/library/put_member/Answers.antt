@@ -1,4 +1,4 @@
-use Rattle.std.proofs.Common.{◌≡◌, ◌∙◌, List, true, map, sym, subst, ap}
+use Rattle.std.proofs.Common.{◌∙◌, List, map, sym, subst, ap}
 use Rattle.std.specs.List.{AllByRecursion}
 use Rattle.library65.specs.Libraries.{member_names}
 use Rattle.library65.specs.Names.{are_member_names}

@@ -1,13 +1,9 @@
-use Rattle.std.proofs.Common.{◌≡◌, ◌∙◌, ◌≤◌, ◌+◌, [], List, drop, refl, sym, subst, arith}
+use Rattle.std.proofs.Common.{[], refl}
 use Rattle.std.proofs.lemmas.Result.{err_from_is_err_and}
-use Rattle.std.specs.List.{AllByRecursion}
-use Rattle.object65.specs.Reading.{file_limit}
-use Rattle.library65.specs.declared.entry.Entry.{Entry}
-use Rattle.library65.specs.Libraries.{joined, joined_all, library_at}
+use Rattle.library65.specs.Libraries.{joined_all, library_at}
 use Rattle.library65.specs.Reading.{index_at}
-use Rattle.library65.specs.Stored.{members_of}
 use Rattle.library65.proofs.Leads.{begins, goes_on, kept_count, stops}
-use Rattle.library65.proofs.Steps.{all_at, joined_more, library_begins}
+use Rattle.library65.proofs.Steps.{library_begins}
 use Rattle.library65.proofs.loading.read_members.Goals as goal
 
 pub returns-in_err-index-clause-read : goal.returns-in_err-index-clause-read

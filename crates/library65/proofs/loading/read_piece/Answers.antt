@@ -1,4 +1,4 @@
-use Rattle.std.proofs.Common.{◌≡◌, ◌≤◌, ◌-◌, ◌+◌, length, min, arith, rules, sym}
+use Rattle.std.proofs.Common.{◌≡◌, ◌≤◌, ◌-◌, ◌+◌, length, min, arith, rules}
 use Rattle.library65.proofs.Pieces.{piece_whole, told_whole}
 use Rattle.library65.proofs.loading.read_piece.Goals as goal
 

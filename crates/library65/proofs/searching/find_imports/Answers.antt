@@ -1,5 +1,4 @@
-use Rattle.std.proofs.Common.{◌≡◌, ◌∙◌, ◌∷◌, [], ◌++◌, ℕ, List, map, take, sym, subst, ap}
-use Rattle.std.proofs.lemmas.List.{map-append}
+use Rattle.std.proofs.Common.{◌∙◌, ◌∷◌, [], map, take, sym, subst}
 use Rattle.library65.specs.Searching.{Finds}
 use Rattle.library65.proofs.Searches.{finds_more}
 use Rattle.library65.proofs.Tables.{taken_more}

@@ -1,5 +1,4 @@
-use Rattle.std.proofs.Common.{◌≡◌, ◌∙◌, ◌<◌, ◌∷◌, [], ◌++◌, ℕ, List, length, map, Bool, false, Option, Some, Result, Ok, Err, sym, rules}
-use Rattle.std.specs.Prelude.{OnOk}
+use Rattle.std.proofs.Common.{◌≡◌, map, false, Some, sym, rules}
 use Rattle.std.proofs.lemmas.Result.{on_ok_weaker}
 use Rattle.library65.specs.Names.{is_among}
 use Rattle.library65.specs.Selection.{first_exporter}

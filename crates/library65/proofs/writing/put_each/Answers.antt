@@ -1,4 +1,4 @@
-use Rattle.std.proofs.Common.{◌≡◌, ◌<◌, List, ℕ, length, subst, sym}
+use Rattle.std.proofs.Common.{◌<◌, List, ℕ, length, subst, sym}
 use Rattle.library65.proofs.Symbols.{name_short}
 use Rattle.library65.proofs.writing.put_each.Goals as goal
 

@@ -1,4 +1,4 @@
-use Rattle.std.proofs.Common.{rules, refl, ◌≡◌, Bool, true, false, List, ℕ, ap, sym, ◌∙◌, if◌then◌else◌}
+use Rattle.std.proofs.Common.{refl, ◌≡◌, Bool, true, false, List, ℕ}
 use Rattle.std.proofs.lemmas.Str.{IsUtf8-from_is_utf8, is_utf8-from_IsUtf8}
 use Rattle.std.proofs.Output.{has_written_of_eq}
 use Rattle.std.specs.Prelude.{encode_utf8_all}

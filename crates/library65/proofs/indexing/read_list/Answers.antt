@@ -1,0 +1,45 @@
+use Rattle.std.proofs.Common.{◌∙◌, ◌+◌, ◌-◌, ◌++◌, ◌∷◌, [], map, arith, refl}
+use Rattle.std.proofs.lemmas.Result.{err_from_is_err_and}
+use Rattle.library65.specs.Reading.{count_at, list_at, listing_at, listings_at}
+use Rattle.library65.proofs.Leads.{begins, goes_on, kept_count, stops}
+use Rattle.library65.proofs.Steps.{list_begins, listings_more, name_pushed}
+use Rattle.library65.proofs.indexing.read_list.Goals as goal
+
+pub loop-init : goal.loop-init
+loop-init g c = record {
+  files = c.in_ok-count.ensures.files;
+  count = kept_count _ _ _ c.in_ok-count.ensures.count;
+  limit = omega arith;
+  some = omega arith;
+  names = rw (c.new-names.ensures.empty, c.new-members.ensures.items) refl;
+  read = rw c.new-members.ensures.items (goes_on c.args.file.now list_at list_at count_at (λ n. listings_at (n - 0) [] 9) list_begins _ _ c.in_ok-count.count refl (begins _ c.args.file.now list_at) c.in_ok-count.ensures.read);
+}
+
+pub returns-in_err-count-clause-read : goal.returns-in_err-count-clause-read
+returns-in_err-count-clause-read g c =
+    let p = err_from_is_err_and c.from_residual.result c.from_residual.ensures.1 in
+    rw (p.1, p.2) (stops c.args.file.now list_at list_at count_at (λ n. listings_at (n - 0) [] 9) list_begins _ _ c.in_err-count.field-0.0 refl (begins _ c.args.file.now list_at) c.in_err-count.ensures.read)
+
+pub returns-in_err-member-clause-read : goal.returns-in_err-member-clause-read
+returns-in_err-member-clause-read g c =
+    let p = err_from_is_err_and c.from_residual-in_err-member.result c.from_residual-in_err-member.ensures.1 in
+    let n = c.in_ok-count.count in
+    let i = c.loop.counter in
+    let ms = c.loop.members.items in
+    let names = map (λ n. n.items) c.loop.names.keys in
+    rw (p.1, p.2) (stops c.args.file.now list_at (listings_at (n - i) ms c.loop.end) (listing_at names c.loop.end) (λ m. listings_at (n - (i + 1)) (ms ++ m.0 ∷ []) m.1) (listings_more n i ms names c.loop.end c.loop.invariant.names c.loop-test.true) _ _ c.in_err-member.field-0.0 c.loop.invariant.files c.loop.invariant.read c.in_err-member.ensures.read)
+
+pub loop-preserved : goal.loop-preserved
+loop-preserved g c =
+    let n = c.in_ok-count.count in
+    let i = c.loop.counter in
+    let ms = c.loop.members.items in
+    let names = map (λ n. n.items) c.loop.names.keys in
+    record {
+      files = c.in_ok-member.ensures.files ∙ c.loop.invariant.files;
+      count = kept_count _ _ _ c.in_ok-member.ensures.count ∙ c.loop.invariant.count;
+      limit = c.in_ok-member.ensures.limit;
+      some = omega (arith, c.in_ok-member.ensures.later);
+      names = name_pushed ms c.in_ok-member.member _ names _ c.as_slice.result.now c.loop.invariant.names c.as_slice.ensures c.in_ok-add_name.ensures c.in_ok-push.ensures.items;
+      read = rw c.in_ok-push.ensures.items (goes_on c.args.file.now list_at (listings_at (n - i) ms c.loop.end) (listing_at names c.loop.end) (λ m. listings_at (n - (i + 1)) (ms ++ m.0 ∷ []) m.1) (listings_more n i ms names c.loop.end c.loop.invariant.names c.loop-test.true) _ _ (c.in_ok-member.member, c.in_ok-member.next) c.loop.invariant.files c.loop.invariant.read c.in_ok-member.ensures.read);
+    }

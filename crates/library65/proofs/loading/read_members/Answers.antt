@@ -1,0 +1,20 @@
+use Rattle.std.proofs.Common.{[], refl}
+use Rattle.std.proofs.lemmas.Result.{err_from_is_err_and}
+use Rattle.library65.specs.Libraries.{joined_all, library_at}
+use Rattle.library65.specs.Reading.{index_at}
+use Rattle.library65.proofs.Leads.{begins, goes_on, kept_count, stops}
+use Rattle.library65.proofs.Steps.{library_begins}
+use Rattle.library65.proofs.loading.read_members.Goals as goal
+
+pub returns-in_err-index-clause-read : goal.returns-in_err-index-clause-read
+returns-in_err-index-clause-read g c =
+    let p = err_from_is_err_and c.from_residual.result c.from_residual.ensures.1 in
+    rw (p.1, p.2) (stops c.args.file.now library_at library_at index_at (λ es. joined_all [] es) library_begins _ _ c.in_err-index.field-0.0 refl (begins _ c.args.file.now library_at) c.in_err-index.ensures.read)
+
+pub loop-entry-init : goal.loop-entry-init
+loop-entry-init g c = record {
+  files = c.in_ok-index.ensures.files;
+  count = kept_count _ _ _ c.in_ok-index.ensures.count;
+  sound = record { names = rw c.new-members.ensures.empty refl; stored = rw c.new-members.ensures.empty tt };
+  read = rw (c.new-members.ensures.empty, c.as_slice-entry-items.ensures) (goes_on c.args.file.now library_at library_at index_at (λ es. joined_all [] es) library_begins _ _ c.in_ok-index.index.entries refl (begins _ c.args.file.now library_at) c.in_ok-index.ensures.read);
+}

@@ -1,0 +1,16 @@
+use Rattle.std.proofs.Common.{map, arith, length-append}
+use Rattle.std.proofs.lemmas.List.{length-map}
+use Rattle.std.proofs.lemmas.Result.{err_from_is_err_and}
+use Rattle.std.specs.List.{flat_map}
+use Rattle.library65.specs.Libraries.{member_listing}
+use Rattle.library65.specs.Spelling.{Member}
+use Rattle.library65.specs.Stored.{member_of}
+use Rattle.library65.proofs.Written.{many_members}
+use Rattle.library65.proofs.writing.put_library.Goals as goal
+
+pub returns-in_err-count : goal.returns-in_err-count
+returns-in_err-count c =
+    let p = err_from_is_err_and c.from_residual.result c.from_residual.ensures.1 in
+    let err = c.in_err-count.ensures.err in
+    let ms = map member_of c.args.members.now.entries in
+    rw (p.1, p.2, err.0) (omega (arith, err.1, c.len.ensures.len, many_members ms, length-map c.args.members.now.entries member_of, length-append (flat_map member_listing ms) (flat_map (λ (m : Member). m.1) ms)))

@@ -1,0 +1,51 @@
+-- Why a library is refused: in words, and whether the cause lies outside the bytes.
+use Rattle.std.specs.Prelude.{ℕ, List, ◌++◌, Bool, true, false, codes, encode_utf8_all, if◌then◌else◌}
+use Rattle.std.specs.Str.{is_utf8}
+use Rattle.syntax65.specs.declared.store.StoreFault.{StoreFault}
+use Rattle.syntax65.specs.declared.store.StoreFault.TheVariants as store
+use Rattle.library65.specs.declared.fault.LibraryFault.{LibraryFault}
+use Rattle.library65.specs.declared.fault.LibraryFault.TheVariants.{OutOfMemory, NotALibrary, CutShort, BadIndex, NoSuchMember, NotAnObject, IndexDisagrees, FileError, FileNotFound, BadMemberName}
+
+abbrev pub of_store : StoreFault → LibraryFault
+of_store store.OutOfMemory = OutOfMemory
+of_store store.FileNotFound = FileNotFound
+of_store store.FileError = FileError
+
+-- memory ran out
+abbrev pub is_memory : LibraryFault → Bool
+is_memory OutOfMemory = true
+is_memory _ = false
+
+-- memory ran out or the store failed
+abbrev pub is_outside : LibraryFault → Bool
+is_outside OutOfMemory = true
+is_outside FileError = true
+is_outside _ = false
+
+abbrev pub fault_text : LibraryFault → List ℕ
+fault_text OutOfMemory = codes "out of memory"
+fault_text NotALibrary = codes "not a library"
+fault_text CutShort = codes "library cut short"
+fault_text BadIndex = codes "bad index"
+fault_text (NoSuchMember name) = codes "no such member: " ++ name
+fault_text NotAnObject = codes "member is not an object"
+fault_text IndexDisagrees = codes "index disagrees with member"
+fault_text FileError = codes "file error"
+fault_text FileNotFound = codes "file not found"
+fault_text BadMemberName = codes "bad member name"
+
+-- a name as characters: where it isn't text, each byte is the character of its code
+abbrev pub shown : List ℕ → List ℕ
+shown name = if is_utf8 name then name else encode_utf8_all name
+
+abbrev pub displayed : LibraryFault → List ℕ
+displayed (NoSuchMember name) = codes "no such member: " ++ shown name
+displayed OutOfMemory = codes "out of memory"
+displayed NotALibrary = codes "not a library"
+displayed CutShort = codes "library cut short"
+displayed BadIndex = codes "bad index"
+displayed NotAnObject = codes "member is not an object"
+displayed IndexDisagrees = codes "index disagrees with member"
+displayed FileError = codes "file error"
+displayed FileNotFound = codes "file not found"
+displayed BadMemberName = codes "bad member name"

@@ -1,0 +1,48 @@
+-- What holds of indexes, libraries and selections, whatever made them.
+use Rattle.std.specs.Prelude.{◌≡◌, ℕ, List, [], true, Ok}
+use Rattle.object65.specs.Bytes.{IsBytes}
+use Rattle.library65.specs.declared.entry.Entry.{Entry}
+use Rattle.library65.specs.Libraries.{deleted as deleted_of, library_at, replaced as replaced_of, written}
+use Rattle.library65.specs.Names.{is_among}
+use Rattle.library65.specs.Reading.{index_at}
+use Rattle.library65.specs.Selection.{IsSelection, has_place}
+use Rattle.library65.specs.Spelling.{IsIndex, IsLibrary, IsStock, Member}
+
+-- what is wanted has one selection
+abbrev pub OneSelectionLaw : Type 0
+OneSelectionLaw = (es : List Entry) (wanted defined : List (List ℕ)) (a b : List ℕ) → IsSelection es wanted defined a → IsSelection es wanted defined b → a ≡ b
+
+-- where more is wanted, no fewer members are selected
+abbrev pub GrowingSelectionLaw : Type 0
+GrowingSelectionLaw = (es : List Entry) (wanted more defined : List (List ℕ)) (a b : List ℕ) → ((name : List ℕ) → is_among wanted name ≡ true → is_among more name ≡ true) → IsSelection es wanted defined a → IsSelection es more defined b → (place : ℕ) → has_place a place ≡ true → has_place b place ≡ true
+
+-- a library has one spelling
+abbrev pub OneLibraryLaw : Type 0
+OneLibraryLaw = (a b : List ℕ) (ms : List Member) → IsLibrary a ms → IsLibrary b ms → a ≡ b
+
+-- what is read as an index is spelled so
+abbrev pub IndexReadLaw : Type 0
+IndexReadLaw = (bytes : List ℕ) (es : List Entry) → IsBytes bytes → index_at bytes ≡ Ok es → IsIndex bytes es
+
+-- what is spelled as an index is read as that index
+abbrev pub IndexSpellingLaw : Type 0
+IndexSpellingLaw = (bytes : List ℕ) (es : List Entry) → IsIndex bytes es → index_at bytes ≡ Ok es
+
+-- what is spelled as a library is loaded as that library
+abbrev pub LibrarySpellingLaw : Type 0
+LibrarySpellingLaw = (bytes : List ℕ) (ms : List Member) → IsLibrary bytes ms → library_at bytes ≡ Ok ms
+
+-- what is written of members that make a library is a library of them
+abbrev pub WrittenLaw : Type 0
+WrittenLaw = (ms : List Member) (bytes : List ℕ) → IsStock ms → written ms ≡ Ok bytes → IsLibrary bytes ms
+
+-- what is loaded as a library is spelled so
+abbrev pub LibraryReadLaw : Type 0
+LibraryReadLaw = (bytes : List ℕ) (ms : List Member) → IsBytes bytes → library_at bytes ≡ Ok ms → IsLibrary bytes ms
+
+-- the empty library, one that is loaded and what edits leave are of members that make a library
+pub record StockLaw : Type 0 where
+  pub none : IsStock []
+  pub loaded : (bytes : List ℕ) (ms : List Member) → IsLibrary bytes ms → IsStock ms
+  pub replaced : (ms ns : List Member) (name bytes : List ℕ) → IsBytes bytes → IsStock ms → replaced_of ms name bytes ≡ Ok ns → IsStock ns
+  pub deleted : (ms ns : List Member) (name : List ℕ) → IsStock ms → deleted_of ms name ≡ Ok ns → IsStock ns

@@ -1,0 +1,131 @@
+-- A library as the list of its members: how it is changed, read and written.
+use Rattle.std.specs.Prelude.{ℕ, List, [], ◌∷◌, ◌++◌, length, map, take, drop, Bool, nat_lt, ◌&&◌, Option, Some, None, Result, Ok, Err, if◌then◌else◌}
+use Rattle.std.specs.Cmp.Lexicographic.{pointwise}
+use Rattle.std.specs.List.{flat_map}
+use Rattle.std.specs.Str.{bytes_eq}
+use Rattle.byteorder.specs.Endian.{little_bytes}
+use Rattle.syntax65.specs.Outcome.{◌>>=◌}
+use Rattle.object65.specs.declared.fault.ObjectFault.{ObjectFault}
+use Rattle.object65.specs.declared.fault.ObjectFault.TheVariants as object
+use Rattle.object65.specs.declared.object.Object.{Object}
+use Rattle.object65.specs.Reading.{file_limit}
+use Rattle.object65.specs.Whole.{object_at}
+use Rattle.library65.specs.declared.contents.Contents.{Contents}
+use Rattle.library65.specs.declared.entry.Entry.{Entry}
+use Rattle.library65.specs.declared.fault.LibraryFault.{LibraryFault}
+use Rattle.library65.specs.declared.fault.LibraryFault.TheVariants.{BadIndex, BadMemberName, CutShort, IndexDisagrees, NoSuchMember, NotAnObject, OutOfMemory}
+use Rattle.library65.specs.Names.{is_among, is_member_name}
+use Rattle.library65.specs.Reading.{index_at}
+use Rattle.library65.specs.Spelling.{Member, library_head, listing_bytes}
+
+-- ---- Members.
+
+abbrev pub member_names : List Member → List (List ℕ)
+member_names ms = map (λ m. m.0) ms
+
+-- a member in the place of the one of its name, or else last
+abbrev pub with_member : List Member → List ℕ → List ℕ → List Member
+with_member [] name bytes = (name, bytes) ∷ []
+with_member (m ∷ ms) name bytes = if bytes_eq name m.0 then (m.0, bytes) ∷ ms else m ∷ with_member ms name bytes
+
+-- the others behind the member of a name
+abbrev pub without_member : List Member → List ℕ → List Member
+without_member [] name = []
+without_member (m ∷ ms) name = if bytes_eq name m.0 then ms else m ∷ without_member ms name
+
+-- the bytes of the member of a name
+abbrev pub bytes_of : List Member → List ℕ → Option (List ℕ)
+bytes_of [] name = None
+bytes_of (m ∷ ms) name = if bytes_eq name m.0 then Some m.1 else bytes_of ms name
+
+-- ---- The object in a member's bytes.
+
+abbrev pub as_member : Result Object ObjectFault → Result Object LibraryFault
+as_member (Ok o) = Ok o
+as_member (Err e) = Err NotAnObject
+
+-- what an object's fault is of a member
+abbrev pub member_fault : ObjectFault → LibraryFault
+member_fault object.OutOfMemory = OutOfMemory
+member_fault _ = NotAnObject
+
+-- the object that the bytes are
+abbrev pub object_in : List ℕ → Result Object LibraryFault
+object_in bytes = as_member (object_at 0 (length bytes) bytes)
+
+abbrev pub contents_from : Object → Contents
+contents_from o = record { exports = map (λ e. e.name) o.exports; imports = o.imports }
+
+-- what the object that the bytes are exports and imports
+unfoldable pub contents_in : List ℕ → Result Contents LibraryFault
+contents_in bytes = object_in bytes >>= (λ o. Ok (contents_from o))
+
+-- the same of a member of this name
+unfoldable pub checked : List ℕ → List ℕ → Result Contents LibraryFault
+checked name bytes = if is_member_name name then contents_in bytes else Err BadMemberName
+
+-- ---- Edits.
+
+unfoldable pub replaced : List Member → List ℕ → List ℕ → Result (List Member) LibraryFault
+replaced ms name bytes = do
+  contents ← checked name bytes
+  Ok (with_member ms name bytes)
+
+abbrev pub deleted : List Member → List ℕ → Result (List Member) LibraryFault
+deleted ms name = if is_among (member_names ms) name then Ok (without_member ms name) else Err (NoSuchMember name)
+
+-- ---- Reading.
+
+abbrev pub are_same : List (List ℕ) → List (List ℕ) → Bool
+are_same names others = pointwise bytes_eq names others
+
+-- the names are those of the object
+abbrev pub agrees : Entry → Contents → Bool
+agrees e c = are_same e.exports c.exports && are_same e.imports c.imports
+
+-- the bytes of a member, all of which have to be there
+abbrev pub piece_at : ℕ → ℕ → List ℕ → Result (List ℕ) LibraryFault
+piece_at size place bytes = if nat_lt (length (take size (drop place bytes))) size then Err CutShort else Ok (take size (drop place bytes))
+
+-- what the object of an entry's member exports and imports: the names that the entry has
+unfoldable pub agreed : Entry → List ℕ → Result Contents LibraryFault
+agreed e found = do
+  contents ← checked e.name found
+  if agrees e contents then Ok contents else Err IndexDisagrees
+
+-- the members before and the one of an entry
+abbrev pub added : List Member → Entry → List ℕ → Result (List Member) LibraryFault
+added before e found = agreed e found >>= (λ c. Ok (with_member before e.name found))
+
+-- the same, the member's bytes in those of the library
+unfoldable pub joined : List Member → Entry → List ℕ → Result (List Member) LibraryFault
+joined before e bytes = piece_at e.size e.place bytes >>= (λ found. added before e found)
+
+abbrev pub joined_all : List Member → List Entry → List ℕ → Result (List Member) LibraryFault
+joined_all before [] bytes = Ok before
+joined_all before (e ∷ es) bytes = joined before e bytes >>= (λ ms. joined_all ms es bytes)
+
+-- the library that the bytes are, or the first fault
+unfoldable pub library_at : List ℕ → Result (List Member) LibraryFault
+library_at bytes = index_at bytes >>= (λ es. joined_all [] es bytes)
+
+-- ---- Writing.
+
+abbrev pub or_none : Result Contents LibraryFault → Contents
+or_none (Ok c) = c
+or_none (Err e) = record { exports = []; imports = [] }
+
+-- what the index says of a member
+abbrev pub member_listing : Member → List ℕ
+member_listing m = let c = or_none (contents_in m.1) in listing_bytes m.0 (length m.1) c.exports c.imports
+
+-- the bytes of the library of these members
+abbrev pub library_bytes : List Member → List ℕ
+library_bytes ms = (library_head ++ (little_bytes 4 (length ms) ++ flat_map member_listing ms)) ++ flat_map (λ m. m.1) ms
+
+-- the bytes, unless they would pass the limit of a file
+abbrev pub written : List Member → Result (List ℕ) LibraryFault
+written ms = if nat_lt file_limit (length (library_bytes ms)) then Err BadIndex else Ok (library_bytes ms)
+
+abbrev pub written_behind : List ℕ → List Member → Result (List ℕ) LibraryFault
+written_behind before ms = written ms >>= (λ bytes. Ok (before ++ bytes))

@@ -1,0 +1,112 @@
+-- Reading an index from left to right, with the first fault that is met.
+use Rattle.std.specs.Prelude.{ℕ, zero, suc, ◌+◌, List, [], ◌∷◌, ◌++◌, length, map, take, drop, get_or, Option, Some, None, Result, Ok, Err, nat_lt, ◌||◌, ◌&&◌, not, if◌then◌else◌}
+use Rattle.std.specs.Str.{bytes_eq}
+use Rattle.byteorder.specs.Endian.{little_number}
+use Rattle.object65.specs.Reading.{file_limit}
+use Rattle.syntax65.specs.Outcome.{◌>>=◌}
+use Rattle.library65.specs.declared.entry.Entry.{Entry}
+use Rattle.library65.specs.declared.entry.Listing.{Listing}
+use Rattle.library65.specs.declared.fault.LibraryFault.{LibraryFault}
+use Rattle.library65.specs.declared.fault.LibraryFault.TheVariants.{NotALibrary, CutShort, BadIndex, FileNotFound}
+use Rattle.library65.specs.Names.{is_among, is_member_name, is_name}
+use Rattle.library65.specs.Spelling.{library_head}
+
+-- what is read of a file's bytes, or that there is no such file
+abbrev pub in_file : {A : Type 0} → Option (List ℕ) → (List ℕ → Result A LibraryFault) → Result A LibraryFault
+in_file None read = Err FileNotFound
+in_file (Some bytes) read = read bytes
+
+-- five bytes, and those of a library
+abbrev pub head_of : List ℕ → Result (Unit {0}) LibraryFault
+head_of head = if nat_lt (length head) 5 || not (bytes_eq head library_head) then Err NotALibrary else Ok tt
+
+abbrev pub head_at : List ℕ → Result (Unit {0}) LibraryFault
+head_at bytes = head_of (take 5 bytes)
+
+-- Of so many bytes from a place on these are there. One past the limit of a file stands before the end.
+abbrev pub whole : ℕ → ℕ → List ℕ → Result (List ℕ) LibraryFault
+whole n at found = if nat_lt file_limit (at + length found) then Err BadIndex else if nat_lt (length found) n then Err CutShort else Ok found
+
+abbrev pub field_at : ℕ → ℕ → List ℕ → Result (List ℕ) LibraryFault
+field_at n at bytes = whole n at (take n (drop at bytes))
+
+unfoldable pub number_at : ℕ → List ℕ → Result ℕ LibraryFault
+number_at at bytes = do
+  field ← field_at 4 at bytes
+  Ok (little_number 4 field)
+
+-- a name behind its length, and where it ends
+unfoldable pub name_at : ℕ → List ℕ → Result (List ℕ × ℕ) LibraryFault
+name_at at bytes = do
+  len ← field_at 1 at bytes
+  name ← field_at (get_or len 0 0) (at + 1) bytes
+  Ok (name, at + 1 + get_or len 0 0)
+
+-- the name of an export or an import
+unfoldable pub symbol_at : ℕ → List ℕ → Result (List ℕ × ℕ) LibraryFault
+symbol_at at bytes = do
+  name ← name_at at bytes
+  if is_name name.0 then Ok name else Err BadIndex
+
+-- so many more names behind those before
+abbrev pub symbols_at : ℕ → List (List ℕ) → ℕ → List ℕ → Result (List (List ℕ) × ℕ) LibraryFault
+symbols_at zero before at bytes = Ok (before, at)
+symbols_at (suc n) before at bytes = symbol_at at bytes >>= (λ s. symbols_at n (before ++ s.0 ∷ []) s.1 bytes)
+
+-- names behind their number
+unfoldable pub counted_at : ℕ → List ℕ → Result (List (List ℕ) × ℕ) LibraryFault
+counted_at at bytes = do
+  count ← number_at at bytes
+  symbols_at count [] (at + 4) bytes
+
+-- the name of a member, which no member before has
+unfoldable pub member_name_at : List (List ℕ) → ℕ → List ℕ → Result (List ℕ × ℕ) LibraryFault
+member_name_at names at bytes = do
+  name ← name_at at bytes
+  if is_member_name name.0 && not (is_among names name.0) then Ok name else Err BadIndex
+
+abbrev pub listing : List ℕ → ℕ → List (List ℕ) → List (List ℕ) → Listing
+listing name size exports imports = record { name = name; size = size; exports = exports; imports = imports }
+
+unfoldable pub listing_at : List (List ℕ) → ℕ → List ℕ → Result (Listing × ℕ) LibraryFault
+listing_at names at bytes = do
+  name ← member_name_at names at bytes
+  size ← number_at name.1 bytes
+  exports ← counted_at (name.1 + 4) bytes
+  imports ← counted_at exports.1 bytes
+  Ok (listing name.0 size exports.0 imports.0, imports.1)
+
+-- what is said of so many more members behind those before
+abbrev pub listings_at : ℕ → List Listing → ℕ → List ℕ → Result (List Listing × ℕ) LibraryFault
+listings_at zero before at bytes = Ok (before, at)
+listings_at (suc n) before at bytes = listing_at (map (λ m. m.name) before) at bytes >>= (λ m. listings_at n (before ++ m.0 ∷ []) m.1 bytes)
+
+abbrev pub entry_at : ℕ → Listing → Entry
+entry_at at m = record { name = m.name; place = at; size = m.size; exports = m.exports; imports = m.imports }
+
+-- the members one behind the other, and where the last one ends; none ends past the limit of a file
+abbrev pub placed : List Entry → ℕ → List Listing → Result (List Entry × ℕ) LibraryFault
+placed before at [] = Ok (before, at)
+placed before at (m ∷ ms) = if nat_lt file_limit (at + m.size) then Err BadIndex else placed (before ++ entry_at at m ∷ []) (at + m.size) ms
+
+-- the file ends there
+abbrev pub end_at : ℕ → List ℕ → Result (Unit {0}) LibraryFault
+end_at end bytes = if nat_lt (length bytes) end then Err CutShort else if nat_lt end (length bytes) then Err BadIndex else Ok tt
+
+-- the number of members, behind the head
+abbrev pub count_at : List ℕ → Result ℕ LibraryFault
+count_at bytes = head_at bytes >>= (λ u. number_at 5 bytes)
+
+-- what is said of all members, and where that ends
+unfoldable pub list_at : List ℕ → Result (List Listing × ℕ) LibraryFault
+list_at bytes = do
+  count ← count_at bytes
+  listings_at count [] 9 bytes
+
+-- the index of a library's bytes, or the first fault
+unfoldable pub index_at : List ℕ → Result (List Entry) LibraryFault
+index_at bytes = do
+  listed ← list_at bytes
+  entries ← placed [] listed.1 listed.0
+  u ← end_at entries.1 bytes
+  Ok entries.0

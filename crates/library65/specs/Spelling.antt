@@ -1,0 +1,86 @@
+-- The bytes of an index and of a library, as a grammar.
+use Rattle.std.specs.Prelude.{◌≡◌, ℕ, ◌+◌, ◌<◌, ◌≤◌, ◌^◌, List, [], ◌∷◌, ◌++◌, length, map, take, drop, sum_by, true, ⊤}
+use Rattle.std.specs.List.{flat_map, list_all, AllByRecursion}
+use Rattle.byteorder.specs.Endian.{little_bytes}
+use Rattle.object65.specs.declared.object.Object.{Object}
+use Rattle.object65.specs.Reading.{file_limit}
+use Rattle.object65.specs.Spelling.{IsObject}
+use Rattle.library65.specs.declared.entry.Entry.{Entry}
+use Rattle.library65.specs.Names.{is_name, are_member_names}
+
+-- with these bytes a library begins
+abbrev pub library_head : List ℕ
+library_head = 0x52 ∷ 0x36 ∷ 0x35 ∷ 0x6c ∷ 0x01 ∷ []
+
+-- a name behind its length
+abbrev pub name_bytes : List ℕ → List ℕ
+name_bytes name = length name ∷ name
+
+-- names behind their number
+abbrev pub names_bytes : List (List ℕ) → List ℕ
+names_bytes names = little_bytes 4 (length names) ++ flat_map name_bytes names
+
+-- what is said of a member: its name, its size, what it exports and what it imports
+abbrev pub listing_bytes : List ℕ → ℕ → List (List ℕ) → List (List ℕ) → List ℕ
+listing_bytes name size exports imports = name_bytes name ++ (little_bytes 4 size ++ (names_bytes exports ++ names_bytes imports))
+
+abbrev pub entry_bytes : Entry → List ℕ
+entry_bytes e = listing_bytes e.name e.size e.exports e.imports
+
+-- a head and an index
+abbrev pub index_bytes : List Entry → List ℕ
+index_bytes es = library_head ++ (little_bytes 4 (length es) ++ flat_map entry_bytes es)
+
+-- members stand one behind the other from a place on
+abbrev pub StandFrom : ℕ → List Entry → Type 0
+StandFrom at [] = ⊤
+StandFrom at (e ∷ es) = (e.place ≡ at) × StandFrom (at + e.size) es
+
+-- good names, and numbers of 32 bits
+pub record IsGoodEntry (e : Entry) : Type 0 where
+  pub exports : list_all is_name e.exports ≡ true
+  pub imports : list_all is_name e.imports ≡ true
+  pub size : e.size < 2 ^ 32
+  pub export_count : length e.exports < 2 ^ 32
+  pub import_count : length e.imports < 2 ^ 32
+
+-- The bytes are a head, an index and its members' bytes, and nothing more; no byte lies past the limit of a file.
+pub record IsIndex (bytes : List ℕ) (es : List Entry) : Type 0 where
+  pub names : are_member_names (map (λ e. e.name) es) ≡ true
+  pub entries : AllByRecursion IsGoodEntry es
+  pub count : length es < 2 ^ 32
+  pub places : StandFrom (length (index_bytes es)) es
+  pub members : List ℕ
+  pub spelled : bytes ≡ index_bytes es ++ members
+  pub sizes : length members ≡ sum_by (λ e. e.size) es
+  pub limit : length bytes ≤ file_limit
+
+-- a member: its name and its bytes
+abbrev pub Member : Type 0
+Member = List ℕ × List ℕ
+
+-- the member's bytes lie where the entry says, and are an object with the names that the entry has
+pub record IsMember (library : List ℕ) (e : Entry) (m : Member) : Type 0 where
+  pub name : m.0 ≡ e.name
+  pub bytes : m.1 ≡ take e.size (drop e.place library)
+  pub object : Object
+  pub is_object : IsObject m.1 object
+  pub exports : e.exports ≡ map (λ x. x.name) object.exports
+  pub imports : e.imports ≡ object.imports
+
+abbrev pub AreMembers : List ℕ → List Entry → List Member → Type 0
+AreMembers bytes [] [] = ⊤
+AreMembers bytes [] (m ∷ ms) = ⊥
+AreMembers bytes (e ∷ es) [] = ⊥
+AreMembers bytes (e ∷ es) (m ∷ ms) = IsMember bytes e m × AreMembers bytes es ms
+
+-- the bytes are a library of these members, in this order
+pub record IsLibrary (bytes : List ℕ) (ms : List Member) : Type 0 where
+  pub index : List Entry
+  pub is_index : IsIndex bytes index
+  pub members : AreMembers bytes index ms
+
+-- members that make a library: good names, none twice, and objects
+pub record IsStock (ms : List Member) : Type 0 where
+  pub names : are_member_names (map (λ m. m.0) ms) ≡ true
+  pub objects : AllByRecursion (λ m. (o : Object) × IsObject m.1 o) ms

@@ -1,0 +1,36 @@
+//! What a library's index says.
+
+use indexmap::IndexSet;
+use syntax65::Sequence;
+
+/// Names, each once.
+pub type Names = IndexSet<Vec<u8>>;
+
+/// What an index says of a member.
+#[derive(Debug, Drop)]
+pub struct Entry {
+    pub name: Sequence<u8>,
+    /// Where the member's bytes begin in the library's file.
+    pub place: u64,
+    /// How many bytes it has.
+    pub size: u32,
+    /// The names that it exports, in its order.
+    pub exports: Sequence<Sequence<u8>>,
+    /// The names that it imports, in its order.
+    pub imports: Sequence<Sequence<u8>>,
+}
+
+/// The index of a library: its members in the order in which they stand.
+#[derive(Debug, Drop)]
+pub struct Index {
+    pub entries: Sequence<Entry>,
+}
+
+/// What an index says of a member whose place isn't known yet.
+#[derive(Debug, Drop)]
+pub struct Listing {
+    pub name: Sequence<u8>,
+    pub size: u32,
+    pub exports: Sequence<Sequence<u8>>,
+    pub imports: Sequence<Sequence<u8>>,
+}

@@ -1,0 +1,121 @@
+//! Why a library is refused.
+
+ghost use Rattle.std.specs.Prelude.{◌≡◌};
+ghost use Rattle.library65.specs.declared.fault.LibraryFault.TheVariants.{OutOfMemory};
+
+use std::alloc::{AllocError, AllocFailed};
+use std::error::Error;
+use std::fmt;
+use syntax65::{Sequence, StoreFault};
+
+/// Why a library is refused.
+#[derive(Debug, Drop)]
+pub enum LibraryFault {
+    OutOfMemory,
+    NotALibrary,
+    CutShort,
+    BadIndex,
+    /// The name that no member has.
+    NoSuchMember(Sequence<u8>),
+    NotAnObject,
+    IndexDisagrees,
+    FileError,
+    FileNotFound,
+    BadMemberName,
+}
+
+impl From<AllocError> for LibraryFault {
+    ghost from_gives = { λ _ e. e ≡ OutOfMemory };
+
+    fn from(_e: AllocError) -> LibraryFault {
+        LibraryFault::OutOfMemory
+    }
+}
+
+impl<T: Drop> From<AllocFailed<T>> for LibraryFault {
+    ghost from_gives = { λ _ e. e ≡ OutOfMemory };
+
+    fn from(_e: AllocFailed<T>) -> LibraryFault {
+        LibraryFault::OutOfMemory
+    }
+}
+
+impl From<StoreFault> for LibraryFault {
+    ghost use Rattle.std.specs.Prelude.{◌≡◌};
+    ghost use Rattle.library65.specs.Fault.{of_store};
+
+    ghost from_gives = { λ s e. e ≡ of_store s };
+
+    fn from(e: StoreFault) -> LibraryFault {
+        match e {
+            StoreFault::OutOfMemory => LibraryFault::OutOfMemory,
+            StoreFault::FileNotFound => LibraryFault::FileNotFound,
+            StoreFault::FileError => LibraryFault::FileError,
+        }
+    }
+}
+
+impl fmt::Display for LibraryFault {
+    ghost use Rattle.std.specs.Prelude.{Some};
+    ghost use Rattle.library65.specs.Fault.{displayed};
+
+    ghost output = { λ e. Some (displayed e) };
+
+    fn fmt<W: fmt::Write>(&self, f: &mut fmt::Formatter<W>) -> fmt::Result {
+        match self {
+            LibraryFault::OutOfMemory => f.write_str("out of memory"),
+            LibraryFault::NotALibrary => f.write_str("not a library"),
+            LibraryFault::CutShort => f.write_str("library cut short"),
+            LibraryFault::BadIndex => f.write_str("bad index"),
+            LibraryFault::NoSuchMember(name) => {
+                let name = Shown(name.as_slice());
+                write!(f, "no such member: {name}")
+            }
+            LibraryFault::NotAnObject => f.write_str("member is not an object"),
+            LibraryFault::IndexDisagrees => f.write_str("index disagrees with member"),
+            LibraryFault::FileError => f.write_str("file error"),
+            LibraryFault::FileNotFound => f.write_str("file not found"),
+            LibraryFault::BadMemberName => f.write_str("bad member name"),
+        }
+    }
+}
+
+impl Error for LibraryFault {}
+
+/// A name as it is printed: as it is, and where it isn't text, each byte as the character of its code.
+#[derive(Clone, Copy)]
+struct Shown<'a>(&'a [u8]);
+
+impl fmt::Display for Shown<'_> {
+    ghost use Rattle.std.specs.Prelude.{Some};
+    ghost use Rattle.library65.specs.Fault.{shown};
+
+    ghost output = { λ x. Some (shown x.0.now) };
+
+    fn fmt<W: fmt::Write>(&self, f: &mut fmt::Formatter<W>) -> fmt::Result {
+        match std::str::from_utf8(self.0) {
+            Ok(text) => f.write_str(text),
+            Err(_) => {
+                let codes = Codes(self.0);
+                write!(f, "{codes}")
+            }
+        }
+    }
+}
+
+/// Bytes, each as the character of its code.
+#[derive(Clone, Copy)]
+struct Codes<'a>(&'a [u8]);
+
+impl fmt::Display for Codes<'_> {
+    ghost use Rattle.std.specs.Prelude.{Some, encode_utf8_all};
+
+    ghost output = { λ x. Some (encode_utf8_all x.0.now) };
+
+    fn fmt<W: fmt::Write>(&self, f: &mut fmt::Formatter<W>) -> fmt::Result {
+        for byte in self.0 {
+            f.write_char(char::from(*byte))?;
+        }
+        Ok(())
+    }
+}

@@ -1,0 +1,26 @@
+//! Libraries of objects: their bytes, their members, and which members a link needs.
+#![tactic(auto)]
+
+mod contents;
+mod entry;
+mod exporting;
+mod fault;
+mod fields;
+mod indexing;
+pub mod laws;
+mod library;
+mod loading;
+mod naming;
+mod placing;
+mod searching;
+mod selecting;
+mod writing;
+
+pub use entry::{Entry, Index, Names};
+pub use fault::LibraryFault;
+pub use library::{Library, MemberNames};
+pub use placing::read_index;
+pub use selecting::select;
+
+#[cfg(test)]
+mod tests;

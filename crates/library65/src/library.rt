@@ -1,0 +1,232 @@
+//! Libraries as lists of members.
+
+ghost use Rattle.std.specs.Prelude.{◌≡◌, ◌∷◌, [], IfOk, IfSome, OnErr, OnOk, Ok};
+ghost use Rattle.std.specs.Iterator.{YieldsFirstRef, item_count};
+ghost use Rattle.std.specs.Option.{option_copied};
+ghost use Rattle.syntax65.specs.Outcome.{Gives};
+ghost use Rattle.std.specs.FinMap as map;
+ghost use Rattle.syntax65.specs.Store.{Passes};
+ghost use Rattle.library65.specs.Fault.{is_memory, is_outside};
+ghost use Rattle.library65.specs.Reading.{in_file};
+ghost use Rattle.library65.specs.Libraries.{bytes_of, checked, deleted, library_at, member_names, replaced, with_member, without_member, written_behind};
+ghost use Rattle.library65.specs.Names.{is_among};
+ghost use Rattle.library65.specs.Stored.{IsSound, members_of};
+ghost use Rattle.library65.specs.Writing.{AreSymbols};
+
+use crate::LibraryFault;
+use crate::contents::{Contents, check_member};
+use crate::fields::FILE_LIMIT;
+use crate::loading::read_members;
+use crate::naming::copy_of;
+use crate::writing::put_library;
+use indexmap::IndexMap;
+use indexmap::map::Keys;
+use std::alloc::{AllocError, Global};
+use std::marker::Model;
+use syntax65::Store;
+
+/// What is kept of a member.
+#[derive(Debug, Drop)]
+pub struct Stored {
+    pub bytes: Vec<u8>,
+    /// What the object that the bytes are exports and imports.
+    pub contents: Contents,
+}
+
+/// A library: its members, each an object in bytes, by name and in order.
+pub struct Library {
+    alloc: Global,
+    members: IndexMap<Vec<u8>, Stored>,
+}
+
+impl Model for Library {
+    ghost use Rattle.std.specs.Coded.{coded_ℕ, coded_list, coded×};
+    ghost use Rattle.library65.specs.Spelling.{Member};
+    ghost use Rattle.std.specs.Prelude.{List};
+
+    ghost Value = { List Member };
+
+    ghost coded = { coded_list (coded× (coded_list coded_ℕ) (coded_list coded_ℕ)) };
+
+    ghost use Rattle.library65.specs.Stored.{IsSound, members_of};
+
+    ghost view = { λ l. members_of l.members };
+
+    ghost invariant = { λ l. IsSound l.members };
+}
+
+impl Drop for Library {
+    fn drop(self) {
+        let Library {
+            alloc: _,
+            members: _,
+        } = self;
+    }
+}
+
+/// The names of a library's members, in order.
+pub struct MemberNames<'a> {
+    keys: Keys<'a, Vec<u8>, Stored>,
+}
+
+impl<'a> Model for MemberNames<'a> {
+    ghost use Rattle.std.specs.Coded.{coded_ℕ, coded_list};
+    ghost use Rattle.std.specs.Prelude.{List, ℕ, map};
+
+    ghost Value = { List (List ℕ) };
+
+    ghost coded = { coded_list (coded_list coded_ℕ) };
+
+    ghost view = { λ n. map (λ k. k.items) n.keys };
+}
+
+impl<'a> Drop for MemberNames<'a> {
+    fn drop(self) {
+        let MemberNames { keys: _ } = self;
+    }
+}
+
+impl<'a> Iterator for MemberNames<'a> {
+    type Item = &'a [u8];
+
+    ghost next_gives = { YieldsFirstRef (λ rest. rest) };
+
+    ghost remaining = { item_count (λ rest. rest) };
+
+    fn next(&mut self) -> Option<&'a [u8]> {
+        Some(self.keys.next()?.as_slice())
+    }
+}
+
+/// Puts a member in the place of the one of its name, or else last.
+pub fn put_member(
+    members: &mut IndexMap<Vec<u8>, Stored>,
+    name: Vec<u8>,
+    stored: Stored,
+) -> Result<(), AllocError>
+    requires sound { IsSound members.old }
+    requires checked { checked name.items stored.bytes.items ≡ Ok stored.contents }
+    requires symbols { AreSymbols stored.contents }
+    ensures put { OnOk result (members_of members.new ≡ with_member (members_of members.old) name.items stored.bytes.items) }
+    ensures unchanged { OnErr result (members_of members.new ≡ members_of members.old) }
+    ensures sound { IsSound members.new }
+{
+    members.insert(name, stored)?;
+    Ok(())
+}
+
+/// Puts copies in, in the place of the member of the name, or else last.
+pub fn put_copy(
+    alloc: Global,
+    members: &mut IndexMap<Vec<u8>, Stored>,
+    name: &[u8],
+    bytes: &[u8],
+    contents: Contents,
+) -> Result<(), LibraryFault>
+    requires sound { IsSound members.old }
+    requires checked { checked name.now bytes.now ≡ Ok contents }
+    requires symbols { AreSymbols contents }
+    ensures put { Gives is_memory (λ _. members_of members.new) result (Ok (with_member (members_of members.old) name.now bytes.now)) }
+    ensures unchanged { OnErr result (members_of members.new ≡ members_of members.old) }
+    ensures sound { IsSound members.new }
+{
+    let name = Vec::from_slice(alloc, name)?;
+    let bytes = Vec::from_slice(alloc, bytes)?;
+    put_member(members, name, Stored { bytes, contents })?;
+    Ok(())
+}
+
+/// Takes the member of a name out.
+fn remove_member(members: &mut IndexMap<Vec<u8>, Stored>, name: &[u8])
+    requires { IsSound members.old }
+    ensures removed { members_of members.new ≡ without_member (members_of members.old) name.now }
+    ensures sound { IsSound members.new }
+{
+    members.shift_remove(name);
+}
+
+fn has_member(members: &IndexMap<Vec<u8>, Stored>, name: &[u8]) -> bool
+    ensures { result ≡ is_among (member_names (members_of members.now)) name.now }
+{
+    members.contains_key(name)
+}
+
+fn member_bytes<'a>(members: &'a IndexMap<Vec<u8>, Stored>, name: &[u8]) -> Option<&'a [u8]>
+    ensures { option_copied result ≡ bytes_of (members_of members.entry.now) name.now }
+{
+    Some(members.get(name)?.bytes.as_slice())
+}
+
+impl Library {
+    /// A library of no member.
+    pub fn empty(alloc: Global) -> Self
+        ensures { result ≡ [] }
+    {
+        Library {
+            alloc,
+            members: IndexMap::new(alloc),
+        }
+    }
+
+    /// Reads a library from its file, all of it.
+    pub fn load<S: Store>(alloc: Global, store: &mut S, file: &str) -> Result<Self, LibraryFault>
+        ensures read { IfSome (S.files store.old) (λ m. Gives is_outside (λ l. l) result (in_file (map.get m file.now) library_at)) }
+        ensures files { S.files store.new ≡ S.files store.old }
+        ensures count { Passes LibraryFault.FileError (S.failures store.old) (S.failures store.new) result }
+    {
+        let members = read_members(alloc, store, file)?;
+        Ok(Library { alloc, members })
+    }
+
+    /// Puts an object in, in the place of the member of its name, or else last. A refusal changes nothing.
+    #[tactic(auto, unfolding(crate::specs::Libraries::replaced))]
+    pub fn replace(&mut self, name: &[u8], bytes: &[u8]) -> Result<(), LibraryFault>
+        ensures replaced { Gives is_memory (λ _. self.new) result (replaced self.old name.now bytes.now) }
+        ensures unchanged { OnErr result (self.new ≡ self.old) }
+    {
+        let contents = check_member(self.alloc, name, bytes)?;
+        put_copy(self.alloc, &mut self.members, name, bytes, contents)
+    }
+
+    /// Takes a member out. A refusal changes nothing.
+    pub fn delete(&mut self, name: &[u8]) -> Result<(), LibraryFault>
+        ensures deleted { Gives is_memory (λ _. self.new) result (deleted self.old name.now) }
+        ensures unchanged { OnErr result (self.new ≡ self.old) }
+    {
+        if !has_member(&self.members, name) {
+            return Err(LibraryFault::NoSuchMember(copy_of(self.alloc, name)?));
+        }
+        remove_member(&mut self.members, name);
+        Ok(())
+    }
+
+    /// The names of the members, in order.
+    pub fn names(&self) -> MemberNames<'_>
+        ensures { result ≡ member_names self.now }
+    {
+        MemberNames {
+            keys: self.members.keys(),
+        }
+    }
+
+    /// The bytes of the member of a name.
+    pub fn get(&self, name: &[u8]) -> Option<&[u8]>
+        ensures { option_copied result ≡ bytes_of self.now name.now }
+    {
+        member_bytes(&self.members, name)
+    }
+
+    /// Adds the bytes of the library. A refusal, also where they would pass the limit of a file, changes nothing.
+    pub fn write(&self, out: &mut Vec<u8>) -> Result<(), LibraryFault>
+        ensures written { Gives is_memory (λ _. out.new.items) result (written_behind out.old.items self.now) }
+        ensures unchanged { OnErr result (out.new.items ≡ out.old.items) }
+    {
+        let mut bytes = Vec::new(self.alloc);
+        put_library(&mut bytes, &self.members)?;
+        if bytes.len() as u64 > FILE_LIMIT {
+            return Err(LibraryFault::BadIndex);
+        }
+        out.extend_from_slice(&bytes)?;
+        Ok(())
+    }
+}

@@ -1,0 +1,145 @@
+//! A whole library, read from a file.
+
+ghost use Rattle.std.specs.Prelude.{◌≡◌, ◌≤◌, ◌+◌, ◌++◌, [], length, drop, take, Ok, OnOk, IsErrOf, IfSome, IfOk};
+ghost use Rattle.std.specs.FinMap as map;
+ghost use Rattle.std.specs.List.{AllByRecursion};
+ghost use Rattle.syntax65.specs.Outcome.{Gives};
+ghost use Rattle.syntax65.specs.Reading.{ReadsChunk};
+ghost use Rattle.syntax65.specs.Store.{Passes};
+ghost use Rattle.object65.specs.Reading.{file_limit};
+ghost use Rattle.library65.specs.Fault.{is_memory, is_outside};
+ghost use Rattle.library65.specs.Libraries.{added, agreed, checked, joined, library_at, piece_at};
+ghost use Rattle.library65.specs.Reading.{in_file};
+ghost use Rattle.library65.specs.Stored.{IsSound, members_of};
+ghost use Rattle.library65.specs.Writing.{AreSymbols};
+
+use crate::contents::{Contents, agrees, check_member};
+use crate::library::{Stored, put_member};
+use crate::{Entry, LibraryFault, read_index};
+use indexmap::IndexMap;
+use std::alloc::Global;
+use syntax65::{Store, StoreFault, read_full};
+
+const CHUNK: usize = 4096;
+
+/// Adds what a file has from a place on, so many bytes at most, and answers how many there were.
+fn read_chunk<S: Store>(
+    store: &mut S,
+    file: &str,
+    at: u64,
+    want: usize,
+    bytes: &mut Vec<u8>,
+) -> Result<usize, StoreFault>
+    requires want { want ≤ 4096 }
+    requires limit { at ≤ file_limit }
+    ensures read { IfSome (S.files store.old) (λ m. ReadsChunk (map.get m file.now) at want bytes.old.items bytes.new.items result) }
+    ensures grown { IfOk result (λ n. (n ≤ want) × (length bytes.new.items ≡ length bytes.old.items + n)) }
+    ensures files { S.files store.new ≡ S.files store.old }
+    ensures count { Passes StoreFault.FileError (S.failures store.old) (S.failures store.new) result }
+{
+    let mut chunk = [0u8; CHUNK];
+    let n = read_full(store, file, at, &mut chunk[..want])?;
+    bytes.extend_from_slice(&chunk[..n])?;
+    Ok(n)
+}
+
+/// Reads the bytes of a member. Memory grows only by what was read.
+fn read_piece<S: Store>(
+    alloc: Global,
+    store: &mut S,
+    file: &str,
+    at: u64,
+    size: u32,
+) -> Result<Vec<u8>, LibraryFault>
+    requires { at + size ≤ file_limit }
+    ensures read { IfSome (S.files store.old) (λ m. Gives is_outside (λ v. v.items) result (in_file (map.get m file.now) (piece_at size at))) }
+    ensures files { S.files store.new ≡ S.files store.old }
+    ensures count { Passes LibraryFault.FileError (S.failures store.old) (S.failures store.new) result }
+{
+    let size = size as usize;
+    let mut bytes = Vec::new(alloc);
+    'reading: loop {
+        let len = bytes.len();
+        let want = CHUNK.min(size - len);
+        let n = read_chunk(store, file, at + len as u64, want, &mut bytes)?;
+        if n < CHUNK {
+            break;
+        }
+    }
+    if bytes.len() < size {
+        return Err(LibraryFault::CutShort);
+    }
+    Ok(bytes)
+}
+
+/// What is kept of a member with these bytes, where the entry has the names that its object has.
+#[tactic(auto, unfolding(crate::specs::Libraries::agreed))]
+fn check_entry(alloc: Global, entry: &Entry, bytes: &[u8]) -> Result<Contents, LibraryFault>
+    ensures agreed { Gives is_memory (λ c. c) result (agreed entry.now bytes.now) }
+    ensures checked { IfOk result (λ c. checked entry.now.name bytes.now ≡ Ok c) }
+    ensures symbols { IfOk result AreSymbols }
+    ensures cause { IsErrOf result LibraryFault.FileError → ⊥ }
+{
+    let contents = check_member(alloc, entry.name.as_slice(), bytes)?;
+    if !agrees(entry, &contents) {
+        return Err(LibraryFault::IndexDisagrees);
+    }
+    Ok(contents)
+}
+
+/// Puts the member of an entry in.
+fn add_member(
+    alloc: Global,
+    members: &mut IndexMap<Vec<u8>, Stored>,
+    entry: &Entry,
+    bytes: Vec<u8>,
+) -> Result<(), LibraryFault>
+    requires { IsSound members.old }
+    ensures added { Gives is_memory (λ _. members_of members.new) result (added (members_of members.old) entry.now bytes.items) }
+    ensures sound { OnOk result (IsSound members.new) }
+    ensures cause { IsErrOf result LibraryFault.FileError → ⊥ }
+{
+    let contents = check_entry(alloc, entry, bytes.as_slice())?;
+    let name = Vec::from_slice(alloc, entry.name.as_slice())?;
+    put_member(members, name, Stored { bytes, contents })?;
+    Ok(())
+}
+
+/// Reads the member of an entry and puts it in.
+#[tactic(auto, unfolding(crate::specs::Libraries::joined))]
+fn join_member<S: Store>(
+    alloc: Global,
+    store: &mut S,
+    file: &str,
+    members: &mut IndexMap<Vec<u8>, Stored>,
+    entry: &Entry,
+) -> Result<(), LibraryFault>
+    requires sound { IsSound members.old }
+    requires within { entry.now.place + entry.now.size ≤ file_limit }
+    ensures read { IfSome (S.files store.old) (λ m. Gives is_outside (λ _. members_of members.new) result (in_file (map.get m file.now) (joined (members_of members.old) entry.now))) }
+    ensures files { S.files store.new ≡ S.files store.old }
+    ensures count { Passes LibraryFault.FileError (S.failures store.old) (S.failures store.new) result }
+    ensures sound { OnOk result (IsSound members.new) }
+{
+    let bytes = read_piece(alloc, store, file, entry.place, entry.size)?;
+    add_member(alloc, members, entry, bytes)
+}
+
+/// Reads all members of a library, one by one in the order in which they stand.
+pub fn read_members<S: Store>(
+    alloc: Global,
+    store: &mut S,
+    file: &str,
+) -> Result<IndexMap<Vec<u8>, Stored>, LibraryFault>
+    ensures read { IfSome (S.files store.old) (λ m. Gives is_outside (λ ms. members_of ms) result (in_file (map.get m file.now) library_at)) }
+    ensures files { S.files store.new ≡ S.files store.old }
+    ensures count { Passes LibraryFault.FileError (S.failures store.old) (S.failures store.new) result }
+    ensures sound { IfOk result (λ ms. IsSound ms) }
+{
+    let index = read_index(alloc, store, file)?;
+    let mut members = IndexMap::new(alloc);
+    for entry in index.entries.as_slice() {
+        join_member(alloc, store, file, &mut members, entry)?;
+    }
+    Ok(members)
+}

@@ -21,6 +21,3 @@ pub use fault::LibraryFault;
 pub use library::{Library, MemberNames};
 pub use placing::read_index;
 pub use selecting::select;
-
-#[cfg(test)]
-mod tests;

@@ -1,6 +1,6 @@
 //! Libraries of small objects, byte by byte.
 
-use crate::{Library, LibraryFault, Names, read_index, select};
+use library65::{Library, LibraryFault, Names, read_index, select};
 use std::alloc::{AllocError, Global};
 use std::test::Fail;
 use syntax65::MemStore;

@@ -1,2 +1,16 @@
+pub mod Arguments
+pub mod Blocks
+pub mod Conditions
 pub mod Directives
+pub mod Expansion
 pub mod Faults
+pub mod Fronts
+pub mod Includes
+pub mod Lines
+pub mod Macros
+pub mod Meaning
+pub mod Repeats
+pub mod Replacing
+pub mod State
+pub mod Step
+pub mod Taking

@@ -3,5 +3,9 @@
 
 mod directives;
 mod fault;
+mod knows;
+mod place;
 
 pub use fault::ExpandFault;
+pub use knows::Knows;
+pub use place::Place;

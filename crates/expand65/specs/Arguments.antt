@@ -41,9 +41,3 @@ unbraced ts = if is_braced ts then take (length ts - 2) (drop 1 ts) else ts
 abbrev pub arguments_of : List Lexeme → List (List Lexeme)
 arguments_of [] = []
 arguments_of ts = map unbraced (parts_within 0 ts)
-
--- names with their arguments, of which those that are missing are empty
-abbrev pub paired : List (List ℕ) → List (List Lexeme) → List (List ℕ × List Lexeme)
-paired [] arguments = []
-paired (name ∷ names) [] = (name, []) ∷ paired names []
-paired (name ∷ names) (argument ∷ arguments) = (name, argument) ∷ paired names arguments

@@ -1,15 +1,16 @@
 -- Macros: their definitions, their calls, their own names, and leaving them.
 use Rattle.std.specs.Prelude.{◌≡◌, ℕ, ◌+◌, ◌-◌, ◌==◌, nat_le, nat_lt, Bool, true, false, not, List, [], ◌∷◌, ◌++◌, length, drop, map, Option, Some, None, Result, Ok, Err, if◌then◌else◌}
 use Rattle.std.specs.List.{list_any}
+use Rattle.std.specs.Map.{lookup}
 use Rattle.std.specs.Str.{bytes_eq}
 use Rattle.syntax65.specs.Outcome.{◌>>=◌}
 use Rattle.syntax65.specs.Tokens.{Lexeme}
 use Rattle.syntax65.specs.declared.lexing.tokens.TokenKind.TheVariants as token
-use Rattle.expand65.specs.Arguments.{arguments_of, paired}
+use Rattle.expand65.specs.Arguments.{arguments_of}
 use Rattle.expand65.specs.Blocks.{Block, collects}
 use Rattle.expand65.specs.Fronts.{name_in, names_of, unknown}
 use Rattle.expand65.specs.Lines.{nesting_limit}
-use Rattle.expand65.specs.Replacing.{Replacing, is_among}
+use Rattle.expand65.specs.Replacing.{Replacing, number_token, own_token}
 use Rattle.expand65.specs.State.{Item, written, played, labelled, branch, mark, Mark, Left, left, Stop, Definition, State, Stated, plain, Stepped, goes, gives, stops, with_left, with_items, marks, innermost, come_back}
 use Rattle.expand65.specs.declared.fault.ExpandFault.{ExpandFault}
 use Rattle.expand65.specs.declared.fault.ExpandFault.TheVariants.{Nested, TooManyArguments, MacroTwice, NotOpened, NotUnderstood}
@@ -28,7 +29,7 @@ entered s is k p =
 
 abbrev pub are_distinct : List (List ℕ) → Bool
 are_distinct [] = true
-are_distinct (name ∷ names) = if is_among names name then false else are_distinct names
+are_distinct (name ∷ names) = if list_any (bytes_eq name) names then false else are_distinct names
 
 -- no parameters, or names with commas between them, no two alike
 abbrev pub params_of : List Lexeme → Result (List (List ℕ)) ExpandFault
@@ -42,8 +43,7 @@ header_of (t ∷ ts) = name_in t >>= (λ name. params_of ts >>= (λ params. Ok (
 
 -- the macro of a name
 abbrev pub macro_of : List (List ℕ × Definition) → List ℕ → Option Definition
-macro_of [] name = None
-macro_of ((other, m) ∷ ms) name = if bytes_eq other name then Some m else macro_of ms name
+macro_of ms name = lookup (bytes_eq name) ms
 
 abbrev pub kept : State → List ℕ → List (List ℕ) → Result (List (List Lexeme) × Left) Stop → Stepped
 kept s name params (Err e) = stops e
@@ -65,7 +65,7 @@ IsMacro s ts r = IsDefined s (header_of ts) r
 
 -- what an expansion puts into the macro's lines at first
 abbrev pub given_to : Definition → List (List Lexeme) → ℕ → Replacing
-given_to m arguments number = record { given = paired m.params arguments; count = Some (length arguments); locals = []; number = number }
+given_to m arguments number = record { params = m.params; arguments = arguments; count = Some (number_token (length arguments) ∷ []); locals = []; number = number }
 
 abbrev pub expansion_mark : State → Mark
 expansion_mark s = record { is_macro = true; conditions = length s.conditions; back = None }
@@ -97,9 +97,18 @@ ordinary s (t ∷ ts) = called_or_given s t ts (macro_at s.macros t)
 
 -- ---- An expansion's own names.
 
--- more names of its own
+-- a name with what stands for it, once
+abbrev pub with_local : List (List ℕ × List Lexeme) → List ℕ → List Lexeme → List (List ℕ × List Lexeme)
+with_local [] name ts = (name, ts) ∷ []
+with_local ((other, us) ∷ others) name ts = if bytes_eq name other then (other, ts) ∷ others else (other, us) ∷ with_local others name ts
+
+abbrev pub all_local : ℕ → List (List ℕ) → List (List ℕ × List Lexeme) → List (List ℕ × List Lexeme)
+all_local number [] locals = locals
+all_local number (name ∷ names) locals = all_local number names (with_local locals name (own_token number name ∷ []))
+
+-- more names of its own, each of which is followed by `?` and the expansion's number
 abbrev pub with_locals : List (List ℕ) → Replacing → Replacing
-with_locals names r = record { given = r.given; count = r.count; locals = r.locals ++ names; number = r.number }
+with_locals names r = record { params = r.params; arguments = r.arguments; count = r.count; locals = all_local r.number names r.locals; number = r.number }
 
 -- what is left of an expansion, with more names of its own
 abbrev pub localised : List (List ℕ) → List Item → List Item

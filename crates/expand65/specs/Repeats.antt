@@ -19,13 +19,13 @@ abbrev pub turn_limit : ℕ
 turn_limit = 65536
 
 -- nothing, or a comma and a name
-abbrev pub variable_of : List Lexeme → Result (Option (List ℕ)) ExpandFault
-variable_of [] = Ok None
-variable_of (c ∷ t ∷ []) = if is_comma c then name_in t >>= (λ name. Ok (Some name)) else unknown
+abbrev pub variable_of : List Lexeme → Result (List (List ℕ)) ExpandFault
+variable_of [] = Ok []
+variable_of (c ∷ t ∷ []) = if is_comma c then name_in t >>= (λ name. Ok (name ∷ [])) else unknown
 variable_of _ = unknown
 
--- the expression of a count, and the name of the variable
-abbrev pub repeat_header : List Lexeme → Result (Tree × ℕ) ExprFault → Result (Tree × Option (List ℕ)) ExpandFault
+-- the expression of a count, and the variable, if it has one
+abbrev pub repeat_header : List Lexeme → Result (Tree × ℕ) ExprFault → Result (Tree × List (List ℕ)) ExpandFault
 repeat_header ts (Err fault) = unknown
 repeat_header ts (Ok (e, n)) = variable_of (drop n ts) >>= (λ v. Ok (e, v))
 
@@ -34,35 +34,31 @@ turns_of None = Err NotConstant
 turns_of (Some (pos n)) = if nat_le n turn_limit then Ok n else Err CountOutOfRange
 turns_of (Some (negsuc n)) = Err CountOutOfRange
 
--- how many turns there are, and the name of the variable
-abbrev pub repeat_of : Meaning → List Lexeme → Result (Tree × ℕ) ExprFault → Result (ℕ × Option (List ℕ)) ExpandFault
+-- how many turns there are, and the variable, if it has one
+abbrev pub repeat_of : Meaning → List Lexeme → Result (Tree × ℕ) ExprFault → Result (ℕ × List (List ℕ)) ExpandFault
 repeat_of k ts q = repeat_header ts q >>= (λ h. turns_of (k.value h.0) >>= (λ n. Ok (n, h.1)))
 
-abbrev pub given_in_turn : Option (List ℕ) → ℕ → List (List ℕ × List Lexeme)
-given_in_turn None t = []
-given_in_turn (Some variable) t = (variable, number_token t ∷ []) ∷ []
-
 -- what a turn puts into the lines, the first one being 0
-abbrev pub in_turn : Option (List ℕ) → ℕ → Replacing
-in_turn variable t = record { given = given_in_turn variable t; count = None; locals = []; number = 0 }
+abbrev pub in_turn : List (List ℕ) → ℕ → Replacing
+in_turn variable t = record { params = variable; arguments = (number_token t ∷ []) ∷ []; count = None; locals = []; number = 0 }
 
 -- the lines of one turn
-abbrev pub turn : Option (List ℕ) → List (List Lexeme) → ℕ → List Item
+abbrev pub turn : List (List ℕ) → List (List Lexeme) → ℕ → List Item
 turn variable body t = map (played (in_turn variable t)) body
 
 -- the lines of so many turns from turn t on
-abbrev pub turns : Option (List ℕ) → List (List Lexeme) → ℕ → ℕ → List Item
+abbrev pub turns : List (List ℕ) → List (List Lexeme) → ℕ → ℕ → List Item
 turns variable body t zero = []
 turns variable body t (suc n) = turn variable body t ++ turns variable body (t + 1) n
 
 abbrev pub repeat_mark : State → Mark
 repeat_mark s = record { is_macro = false; conditions = length s.conditions; back = None }
 
-abbrev pub repeated : State → ℕ → Option (List ℕ) → Result (List (List Lexeme) × Left) Stop → Stepped
+abbrev pub repeated : State → ℕ → List (List ℕ) → Result (List (List Lexeme) × Left) Stop → Stepped
 repeated s n variable (Err e) = stops e
 repeated s n variable (Ok (body, l)) = entered (with_left s l) (turns variable body 0 n) (repeat_mark s) l.place
 
-abbrev pub IsRepeated : State → Result (ℕ × Option (List ℕ)) ExpandFault → Stepped → Type 0
+abbrev pub IsRepeated : State → Result (ℕ × List (List ℕ)) ExpandFault → Stepped → Type 0
 IsRepeated s (Err f) r = r ≡ stops (f, s.left.place)
 IsRepeated s (Ok (n, variable)) r = (q : Result (List (List Lexeme) × Left) Stop) × Block gathers (0, []) s.left q × (r ≡ repeated s n variable q)
 

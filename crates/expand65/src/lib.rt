@@ -4,8 +4,10 @@
 mod directives;
 mod fault;
 mod knows;
+mod line;
 mod place;
 
 pub use fault::ExpandFault;
 pub use knows::Knows;
+pub use line::Line;
 pub use place::Place;

@@ -6,7 +6,7 @@ use Rattle.syntax65.specs.Tokens.{Lexeme}
 use Rattle.syntax65.specs.Trees.{Tree, name}
 use Rattle.syntax65.specs.declared.expressions.fault.ExprFault.{ExprFault}
 use Rattle.expand65.specs.Blocks.{Block, Branch, at_elseif, at_else, at_endif, skips, passes}
-use Rattle.expand65.specs.Fronts.{alone, opens_parenthesis, unknown}
+use Rattle.expand65.specs.Fronts.{opens_parenthesis, unknown}
 use Rattle.expand65.specs.Meaning.{Meaning}
 use Rattle.expand65.specs.State.{State, Left, left, Stop, Stepped, goes, stops, branch, with_left, with_conditions, Mark}
 use Rattle.expand65.specs.declared.directives.Test.{Test}

@@ -41,6 +41,11 @@ is_outside OutOfMemory = true
 is_outside FileError = true
 is_outside _ = false
 
+-- the store failed
+abbrev pub is_failure : ExpandFault → Bool
+is_failure FileError = true
+is_failure _ = false
+
 -- a fault of a line's tokens
 abbrev pub fault_of_lexing : LexFault → ExpandFault
 fault_of_lexing lex.OutOfMemory = OutOfMemory

@@ -1,6 +1,5 @@
 -- What stands at the front of a line's tokens: a label, a directive; and what single tokens are.
 use Rattle.std.specs.Prelude.{ℕ, Bool, true, false, not, nat_lt, ◌-◌, ◌&&◌, List, [], ◌∷◌, length, take, drop, Option, Some, None, Result, Ok, Err, if◌then◌else◌}
-use Rattle.syntax65.specs.Outcome.{◌>>=◌}
 use Rattle.syntax65.specs.Tokens.{Lexeme}
 use Rattle.syntax65.specs.Words.{is_reserved}
 use Rattle.syntax65.specs.declared.lexing.tokens.Mark.TheVariants.{Colon, Comma, OpenBrace, CloseBrace, OpenParenthesis}
@@ -14,6 +13,16 @@ use Rattle.expand65.specs.declared.fault.ExpandFault.TheVariants.{NotUnderstood}
 -- what isn't understood
 abbrev pub unknown : {A : Type 0} → Result A ExpandFault
 unknown = Err NotUnderstood
+
+abbrev pub understood : {A : Type 0} → Option A → Result A ExpandFault
+understood None = unknown
+understood (Some x) = Ok x
+
+-- this, and then what follows from it, where both are there
+infixl 10 ◌>=>◌
+abbrev pub ◌>=>◌ : {A B : Type 0} → Option A → (A → Option B) → Option B
+None >=> f = None
+(Some x) >=> f = f x
 
 -- ---- Single tokens.
 
@@ -38,32 +47,32 @@ opens_parenthesis (token.Symbol OpenParenthesis, text) = true
 opens_parenthesis _ = false
 
 -- an identifier that is neither a mnemonic nor a register
-abbrev pub name_in : Lexeme → Result (List ℕ) ExpandFault
-name_in (token.Identifier, text) = if is_reserved text then unknown else Ok text
-name_in _ = unknown
+abbrev pub name_in : Lexeme → Option (List ℕ)
+name_in (token.Identifier, text) = if is_reserved text then None else Some text
+name_in _ = None
 
 -- the bytes between the quotes of a string
-abbrev pub quoted_in : Lexeme → Result (List ℕ) ExpandFault
-quoted_in (token.Text, text) = Ok (take (length text - 2) (drop 1 text))
-quoted_in _ = unknown
+abbrev pub quoted_in : Lexeme → Option (List ℕ)
+quoted_in (token.Text, text) = Some (take (length text - 2) (drop 1 text))
+quoted_in _ = None
 
 -- ---- Lists of tokens.
 
 -- nothing stands here
-abbrev pub alone : List Lexeme → Result (Unit {0}) ExpandFault
-alone [] = Ok tt
-alone _ = unknown
+abbrev pub is_nothing : List Lexeme → Bool
+is_nothing [] = true
+is_nothing (t ∷ ts) = false
 
 -- the bytes of one string
-abbrev pub string_of : List Lexeme → Result (List ℕ) ExpandFault
+abbrev pub string_of : List Lexeme → Option (List ℕ)
 string_of (t ∷ []) = quoted_in t
-string_of _ = unknown
+string_of _ = None
 
 -- one name or more with commas between them
-abbrev pub names_of : List Lexeme → Result (List (List ℕ)) ExpandFault
-names_of [] = unknown
-names_of (t ∷ []) = name_in t >>= (λ name. Ok (name ∷ []))
-names_of (t ∷ c ∷ ts) = name_in t >>= (λ name. if is_comma c then names_of ts >>= (λ names. Ok (name ∷ names)) else unknown)
+abbrev pub names_of : List Lexeme → Option (List (List ℕ))
+names_of [] = None
+names_of (t ∷ []) = name_in t >=> (λ name. Some (name ∷ []))
+names_of (t ∷ c ∷ ts) = name_in t >=> (λ name. if is_comma c then names_of ts >=> (λ names. Some (name ∷ names)) else None)
 
 -- ---- Labels.
 
@@ -103,10 +112,10 @@ may_follow_label (Some Error) = true
 may_follow_label (Some End) = true
 may_follow_label (Some _) = false
 
-abbrev pub behind_label : Bool → Option Directive → Result (Option Directive) ExpandFault
-behind_label false directive = Ok directive
-behind_label true directive = if may_follow_label directive then Ok directive else unknown
+-- the directive of a line, behind its label if it has one
+abbrev pub line_directive : List Lexeme → Option Directive
+line_directive ts = front_directive (drop (label_len ts) ts)
 
--- the directive of a line, behind its label if it has one, which may not stand before each
-abbrev pub line_directive : List Lexeme → Result (Option Directive) ExpandFault
-line_directive ts = behind_label (nat_lt 0 (label_len ts)) (front_directive (drop (label_len ts) ts))
+-- whether a line has a label before a directive that it may not stand before
+abbrev pub is_mislabelled : List Lexeme → Bool
+is_mislabelled ts = nat_lt 0 (label_len ts) && not (may_follow_label (line_directive ts))

@@ -10,7 +10,7 @@ use Rattle.expand65.specs.Lines.{lines_of, file_limit}
 use Rattle.expand65.specs.Macros.{entered}
 use Rattle.expand65.specs.State.{Item, written, mark, Mark, left, State, Stepped, stops}
 use Rattle.expand65.specs.declared.fault.ExpandFault.{ExpandFault}
-use Rattle.expand65.specs.declared.fault.ExpandFault.TheVariants.{FileNotFound, FileTooLong}
+use Rattle.expand65.specs.declared.fault.ExpandFault.TheVariants.{FileNotFound, FileTooLong, NotUnderstood}
 use Rattle.expand65.specs.declared.place.Place.{Place}
 
 -- ---- Files.
@@ -70,9 +70,9 @@ abbrev pub included : State → Result (List ℕ × List ℕ) ExpandFault → St
 included s (Err f) = stops (f, s.left.place)
 included s (Ok (name, bytes)) = entered s (numbered 0 (lines_of bytes)) (include_mark s) (record { file = name; line = 0 })
 
-abbrev pub included_by : Files → State → Result (List ℕ) ExpandFault → Stepped
-included_by m s (Err f) = stops (f, s.left.place)
-included_by m s (Ok name) = included s (first_file m (tried s.left.place.file s.folders name))
+abbrev pub included_by : Files → State → Option (List ℕ) → Stepped
+included_by m s None = stops (NotUnderstood, s.left.place)
+included_by m s (Some name) = included s (first_file m (tried s.left.place.file s.folders name))
 
 -- `.include` and what stands behind it
 abbrev pub include_line : Files → State → List Lexeme → Stepped

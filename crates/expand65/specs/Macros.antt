@@ -3,12 +3,11 @@ use Rattle.std.specs.Prelude.{◌≡◌, ℕ, ◌+◌, ◌-◌, ◌==◌, nat_le
 use Rattle.std.specs.List.{list_any}
 use Rattle.std.specs.Map.{lookup}
 use Rattle.std.specs.Str.{bytes_eq}
-use Rattle.syntax65.specs.Outcome.{◌>>=◌}
 use Rattle.syntax65.specs.Tokens.{Lexeme}
 use Rattle.syntax65.specs.declared.lexing.tokens.TokenKind.TheVariants as token
 use Rattle.expand65.specs.Arguments.{arguments_of}
 use Rattle.expand65.specs.Blocks.{Block, collects}
-use Rattle.expand65.specs.Fronts.{name_in, names_of, unknown}
+use Rattle.expand65.specs.Fronts.{name_in, names_of, ◌>=>◌}
 use Rattle.expand65.specs.Lines.{nesting_limit}
 use Rattle.expand65.specs.Replacing.{Replacing, number_token, own_token}
 use Rattle.expand65.specs.State.{Item, written, played, labelled, branch, mark, Mark, Left, left, Stop, Definition, State, Stated, plain, Stepped, goes, gives, stops, with_left, with_items, marks, innermost, come_back}
@@ -32,14 +31,14 @@ are_distinct [] = true
 are_distinct (name ∷ names) = if list_any (bytes_eq name) names then false else are_distinct names
 
 -- no parameters, or names with commas between them, no two alike
-abbrev pub params_of : List Lexeme → Result (List (List ℕ)) ExpandFault
-params_of [] = Ok []
-params_of ts = names_of ts >>= (λ names. if are_distinct names then Ok names else unknown)
+abbrev pub params_of : List Lexeme → Option (List (List ℕ))
+params_of [] = Some []
+params_of ts = names_of ts >=> (λ names. if are_distinct names then Some names else None)
 
 -- a macro's name and its parameters
-abbrev pub header_of : List Lexeme → Result (List ℕ × List (List ℕ)) ExpandFault
-header_of [] = unknown
-header_of (t ∷ ts) = name_in t >>= (λ name. params_of ts >>= (λ params. Ok (name, params)))
+abbrev pub header_of : List Lexeme → Option (List ℕ × List (List ℕ))
+header_of [] = None
+header_of (t ∷ ts) = name_in t >=> (λ name. params_of ts >=> (λ params. Some (name, params)))
 
 -- the macro of a name
 abbrev pub macro_of : List (List ℕ × Definition) → List ℕ → Option Definition
@@ -53,9 +52,9 @@ abbrev pub IsKept : State → List ℕ → List (List ℕ) → Option Definition
 IsKept s name params (Some m) r = r ≡ stops (MacroTwice, s.left.place)
 IsKept s name params None r = (q : Result (List (List Lexeme) × Left) Stop) × Block collects [] s.left q × (r ≡ kept s name params q)
 
-abbrev pub IsDefined : State → Result (List ℕ × List (List ℕ)) ExpandFault → Stepped → Type 0
-IsDefined s (Err f) r = r ≡ stops (f, s.left.place)
-IsDefined s (Ok (name, params)) r = IsKept s name params (macro_of s.macros name) r
+abbrev pub IsDefined : State → Option (List ℕ × List (List ℕ)) → Stepped → Type 0
+IsDefined s None r = r ≡ stops (NotUnderstood, s.left.place)
+IsDefined s (Some (name, params)) r = IsKept s name params (macro_of s.macros name) r
 
 -- `.macro` and what stands behind it
 abbrev pub IsMacro : State → List Lexeme → Stepped → Type 0
@@ -121,16 +120,16 @@ localised names (i ∷ is) = i ∷ localised names is
 abbrev pub is_made : List ℕ → Bool
 is_made name = list_any (λ b. b == 63) name
 
-abbrev pub new_names : List Lexeme → Result (List (List ℕ)) ExpandFault
-new_names ts = names_of ts >>= (λ names. if list_any is_made names then unknown else Ok names)
+abbrev pub new_names : List Lexeme → Option (List (List ℕ))
+new_names ts = names_of ts >=> (λ names. if list_any is_made names then None else Some names)
 
 abbrev pub in_macro : Option Mark → Bool
 in_macro None = false
 in_macro (Some k) = k.is_macro
 
-abbrev pub local_named : State → Result (List (List ℕ)) ExpandFault → Stepped
-local_named s (Err f) = stops (f, s.left.place)
-local_named s (Ok names) = goes (with_items s (localised names s.left.items))
+abbrev pub local_named : State → Option (List (List ℕ)) → Stepped
+local_named s None = stops (NotUnderstood, s.left.place)
+local_named s (Some names) = goes (with_items s (localised names s.left.items))
 
 -- `.local` stands in the body of a macro itself
 abbrev pub local_line : State → List Lexeme → Stepped

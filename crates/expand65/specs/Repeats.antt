@@ -6,7 +6,7 @@ use Rattle.syntax65.specs.Tokens.{Lexeme}
 use Rattle.syntax65.specs.Trees.{Tree}
 use Rattle.syntax65.specs.declared.expressions.fault.ExprFault.{ExprFault}
 use Rattle.expand65.specs.Blocks.{Block, gathers}
-use Rattle.expand65.specs.Fronts.{is_comma, name_in, unknown}
+use Rattle.expand65.specs.Fronts.{is_comma, name_in, understood, unknown, ◌>=>◌}
 use Rattle.expand65.specs.Macros.{entered}
 use Rattle.expand65.specs.Meaning.{Meaning}
 use Rattle.expand65.specs.Replacing.{Replacing, number_token}
@@ -19,15 +19,15 @@ abbrev pub turn_limit : ℕ
 turn_limit = 65536
 
 -- nothing, or a comma and a name
-abbrev pub variable_of : List Lexeme → Result (List (List ℕ)) ExpandFault
-variable_of [] = Ok []
-variable_of (c ∷ t ∷ []) = if is_comma c then name_in t >>= (λ name. Ok (name ∷ [])) else unknown
-variable_of _ = unknown
+abbrev pub variable_of : List Lexeme → Option (List (List ℕ))
+variable_of [] = Some []
+variable_of (c ∷ t ∷ []) = if is_comma c then name_in t >=> (λ name. Some (name ∷ [])) else None
+variable_of _ = None
 
 -- the expression of a count, and the variable, if it has one
 abbrev pub repeat_header : List Lexeme → Result (Tree × ℕ) ExprFault → Result (Tree × List (List ℕ)) ExpandFault
 repeat_header ts (Err fault) = unknown
-repeat_header ts (Ok (e, n)) = variable_of (drop n ts) >>= (λ v. Ok (e, v))
+repeat_header ts (Ok (e, n)) = understood (variable_of (drop n ts)) >>= (λ v. Ok (e, v))
 
 abbrev pub turns_of : Option ℤ → Result ℕ ExpandFault
 turns_of None = Err NotConstant

@@ -3,7 +3,7 @@ use Rattle.std.specs.Prelude.{◌≡◌, ℕ, zero, suc, ◌+◌, ◌==◌, Bool
 use Rattle.syntax65.specs.Store.{Files}
 use Rattle.syntax65.specs.Tokens.{Lexeme}
 use Rattle.expand65.specs.Conditions.{IsIf, IsElse, conditions_in, ended_if, popped}
-use Rattle.expand65.specs.Fronts.{alone, front_directive, label_len, line_directive, string_of}
+use Rattle.expand65.specs.Fronts.{front_directive, is_mislabelled, label_len, line_directive, string_of}
 use Rattle.expand65.specs.Includes.{include_line}
 use Rattle.expand65.specs.Macros.{IsMacro, exit_macro, local_line, ordinary}
 use Rattle.expand65.specs.Meaning.{Meaning}
@@ -30,9 +30,9 @@ abbrev pub last_condition : State → Option (Bool × List Bool)
 last_condition s = popped s.conditions (conditions_in (innermost s.left.items))
 
 -- `.error` and what stands behind it
-abbrev pub error_by : State → Result (List ℕ) ExpandFault → Stepped
-error_by s (Err f) = stops (f, s.left.place)
-error_by s (Ok text) = stops (fault.Error text, s.left.place)
+abbrev pub error_by : State → Option (List ℕ) → Stepped
+error_by s None = stops (fault.NotUnderstood, s.left.place)
+error_by s (Some text) = stops (fault.Error text, s.left.place)
 
 -- `.else` and what stands behind it
 abbrev pub IsElseLine : State → List Lexeme → Stepped → Type 0
@@ -66,9 +66,9 @@ IsSplit m k s ts directive zero r = IsActed m k s ts directive r
 IsSplit m k s ts directive (suc n) r = r ≡ gives (label (take (suc n) ts)) (with_items s (labelled (drop (suc n) ts) ∷ s.left.items))
 
 -- a label comes first, and the rest of its line stands
-abbrev pub IsLabelled : Files → Meaning → State → List Lexeme → Result (Option Directive) ExpandFault → Stepped → Type 0
-IsLabelled m k s ts (Err f) r = r ≡ stops (f, s.left.place)
-IsLabelled m k s ts (Ok directive) r = IsSplit m k s ts directive (label_len ts) r
+abbrev pub IsLabelled : Files → Meaning → State → List Lexeme → Bool → Stepped → Type 0
+IsLabelled m k s ts true r = r ≡ stops (fault.NotUnderstood, s.left.place)
+IsLabelled m k s ts false r = IsSplit m k s ts (line_directive ts) (label_len ts) r
 
 -- an end mark is taken off where as many conditions are open as it says; behind the last one nothing is left
 abbrev pub at_mark : State → List Item → Stepped
@@ -78,7 +78,7 @@ at_mark s (_ ∷ is) = ends s
 
 abbrev pub IsStepBehind : Files → Meaning → State → Taken → Stepped → Type 0
 IsStepBehind m k s (Err e) r = r ≡ stops e
-IsStepBehind m k s (Ok (Some ts, l)) r = IsLabelled m k (with_left s l) ts (line_directive ts) r
+IsStepBehind m k s (Ok (Some ts, l)) r = IsLabelled m k (with_left s l) ts (is_mislabelled ts) r
 IsStepBehind m k s (Ok (None, l)) r = r ≡ at_mark (with_left s l) l.items
 
 -- what stands behind a label is acted on, and a branch is decided; otherwise a line is taken

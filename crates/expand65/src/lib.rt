@@ -3,6 +3,7 @@
 
 mod directives;
 mod fault;
+mod fronts;
 mod knows;
 mod line;
 mod place;

@@ -68,11 +68,16 @@ abbrev pub string_of : List Lexeme → Option (List ℕ)
 string_of (t ∷ []) = quoted_in t
 string_of _ = None
 
+-- names with commas between them, a name being next, or a comma or the end
+abbrev pub names_from : Bool → List Lexeme → Option (List (List ℕ))
+names_from true [] = None
+names_from false [] = Some []
+names_from true (t ∷ ts) = name_in t >=> (λ name. names_from false ts >=> (λ names. Some (name ∷ names)))
+names_from false (c ∷ ts) = if is_comma c then names_from true ts else None
+
 -- one name or more with commas between them
 abbrev pub names_of : List Lexeme → Option (List (List ℕ))
-names_of [] = None
-names_of (t ∷ []) = name_in t >=> (λ name. Some (name ∷ []))
-names_of (t ∷ c ∷ ts) = name_in t >=> (λ name. if is_comma c then names_of ts >=> (λ names. Some (name ∷ names)) else None)
+names_of ts = names_from true ts
 
 -- ---- Labels.
 

@@ -10,6 +10,8 @@ pub mod Kept
 pub mod Lines
 pub mod Macros
 pub mod Meaning
+pub mod Parts
+pub mod Playing
 pub mod Repeats
 pub mod Replacing
 pub mod State

@@ -1,12 +1,14 @@
 //! The statements of a source: macros, repeats, conditions and includes rewritten, line by line.
 #![tactic(auto)]
 
+mod arguments;
 mod directives;
 mod fault;
 mod fronts;
 mod knows;
 mod line;
 mod place;
+mod playing;
 
 pub use fault::ExpandFault;
 pub use knows::Knows;

@@ -1,3 +1,6 @@
+pub mod Filling
+pub mod Gathering
 pub mod Lists
 pub mod Naming
 pub mod Parting
+pub mod Splitting

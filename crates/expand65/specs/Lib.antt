@@ -12,6 +12,7 @@ pub mod Macros
 pub mod Meaning
 pub mod Parts
 pub mod Playing
+pub mod Reading
 pub mod Repeats
 pub mod Replacing
 pub mod State

@@ -4,6 +4,7 @@
 mod arguments;
 mod directives;
 mod fault;
+mod file;
 mod fronts;
 mod knows;
 mod line;

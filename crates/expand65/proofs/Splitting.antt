@@ -261,3 +261,16 @@ piece_ends line here behind n h e lt =
 
 pub piece_is_part : (line here : List ℕ) (n : ℕ) → IsPart line → n ≡ prefix_len is_inside here → IsPart (line ++ take n here)
 piece_is_part line here n h e = let P : ℕ → Type 0 = λ k. IsPart (take k here) in part_append line (take n here) h (subst P (sym e) (front_is_part here))
+
+-- bytes have a line
+pub some_line : (b : ℕ) (bs : List ℕ) → (line : List ℕ) × ((others : List (List ℕ)) × (lines_of (b ∷ bs) ≡ line ∷ others))
+some_line b bs = by (nat_lt (prefix_len is_inside (b ∷ bs)) (length (b ∷ bs))) refl
+  where
+    by : (t : Bool) → nat_lt (prefix_len is_inside (b ∷ bs)) (length (b ∷ bs)) ≡ t → (line : List ℕ) × ((others : List (List ℕ)) × (lines_of (b ∷ bs) ≡ line ∷ others))
+    by true e =
+        let lt : prefix_len is_inside (b ∷ bs) < length (b ∷ bs) = grind (arith, nat_tests, e) in
+        (without_return (take (prefix_len is_inside (b ∷ bs)) (b ∷ bs)), (lines_of (drop (prefix_len is_inside (b ∷ bs) + 1) (b ∷ bs)), ended_there (b ∷ bs) (prefix_len is_inside (b ∷ bs)) refl lt))
+    by false e =
+        let ge : length (b ∷ bs) ≤ prefix_len is_inside (b ∷ bs) = grind (arith, nat_tests, e) in
+        let le : prefix_len is_inside (b ∷ bs) ≤ length (b ∷ bs) = prefix_within (b ∷ bs) in
+        (b ∷ bs, ([], whole (b ∷ bs) (omega arith) (omega (arith, ge, le))))

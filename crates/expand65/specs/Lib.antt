@@ -6,6 +6,7 @@ pub mod Expansion
 pub mod Faults
 pub mod Fronts
 pub mod Includes
+pub mod Inside
 pub mod Kept
 pub mod Lines
 pub mod Macros

@@ -10,34 +10,40 @@ use Rattle.expand65.specs.declared.fault.ExpandFault.{ExpandFault}
 use Rattle.expand65.specs.declared.fault.ExpandFault.TheVariants.{TooManyLines, LineTooLong}
 use Rattle.expand65.specs.declared.place.Place.{Place}
 
+-- the tokens of a line of a file, or its fault
+abbrev pub lexed : Result (List Lexeme) LexFault → Result (List Lexeme) ExpandFault
+lexed (Ok ts) = Ok ts
+lexed (Err fault) = Err (fault_of_lexing fault)
+
+-- the tokens of a line of a body, unless they are too many once names are replaced
+abbrev pub fitted : List Lexeme → Result (List Lexeme) ExpandFault
+fitted ts = if nat_le (length ts) token_limit then Ok ts else Err LineTooLong
+
+-- what a line is read as; what stands behind a label, and an end mark, are no lines
+abbrev pub IsOpened : Item → Result (List Lexeme) ExpandFault → Type 0
+IsOpened (written n bytes) t = (q : Result (List Lexeme) LexFault) × IsRead bytes q × (t ≡ lexed q)
+IsOpened (played e ts) t = t ≡ fitted (replaced e ts)
+IsOpened _ t = ⊥
+
+-- a line of a file moves the place
+abbrev pub reached : Place → Item → Place
+reached p (written n bytes) = moved p n
+reached p _ = p
+
 -- a line's tokens, or none where an end mark or nothing is left; and what is left behind it
 abbrev pub Taken : Type 0
 Taken = Result (Option (List Lexeme) × Left) Stop
 
--- a line of a file, by what its bytes are read as
-abbrev pub lexed : Result (List Lexeme) LexFault → Left → Taken
-lexed (Ok ts) l = Ok (Some ts, l)
-lexed (Err fault) l = Err (fault_of_lexing fault, l.place)
+abbrev pub taken_as : Result (List Lexeme) ExpandFault → Left → Taken
+taken_as (Ok ts) l = Ok (Some ts, l)
+taken_as (Err fault) l = Err (fault, l.place)
 
--- a line of a body, unless it has too many tokens once names are replaced
-abbrev pub fitted : List Lexeme → Result (List Lexeme) ExpandFault
-fitted ts = if nat_le (length ts) token_limit then Ok ts else Err LineTooLong
-
-abbrev pub played_as : Result (List Lexeme) ExpandFault → Left → Taken
-played_as (Ok ts) l = Ok (Some ts, l)
-played_as (Err fault) l = Err (fault, l.place)
-
--- Each line that is taken is counted, and one too many is refused before it is looked at. A line of a file moves the
--- place. What stands behind a label is no line.
+-- each line that is taken is counted, and one too many is refused before it is looked at
 abbrev pub TakesFrom : List Item → ℕ → Place → Taken → Type 0
 TakesFrom [] r p t = t ≡ Ok (None, left [] r p)
 TakesFrom (mark k ∷ is) r p t = t ≡ Ok (None, left (mark k ∷ is) r p)
-TakesFrom (written n bytes ∷ is) zero p t = t ≡ Err (TooManyLines, moved p n)
-TakesFrom (written n bytes ∷ is) (suc r) p t = (q : Result (List Lexeme) LexFault) × IsRead bytes q × (t ≡ lexed q (left is r (moved p n)))
-TakesFrom (played e ts ∷ is) zero p t = t ≡ Err (TooManyLines, p)
-TakesFrom (played e ts ∷ is) (suc r) p t = t ≡ played_as (fitted (replaced e ts)) (left is r p)
-TakesFrom (labelled ts ∷ is) r p t = ⊥
-TakesFrom (branch ts ∷ is) r p t = ⊥
+TakesFrom (i ∷ is) zero p t = t ≡ Err (TooManyLines, reached p i)
+TakesFrom (i ∷ is) (suc r) p t = (q : Result (List Lexeme) ExpandFault) × IsOpened i q × (t ≡ taken_as q (left is r (reached p i)))
 
 abbrev pub Takes : Left → Taken → Type 0
 Takes l t = TakesFrom l.items l.room l.place t

@@ -6,10 +6,12 @@ mod directives;
 mod fault;
 mod file;
 mod fronts;
+mod input;
 mod knows;
 mod line;
 mod place;
 mod playing;
+mod reader;
 
 pub use fault::ExpandFault;
 pub use knows::Knows;

@@ -5,3 +5,4 @@ pub mod Naming
 pub mod Opening
 pub mod Parting
 pub mod Splitting
+pub mod Turning

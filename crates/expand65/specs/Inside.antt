@@ -1,11 +1,11 @@
 -- The lines that open files, expansions and repeats still have.
-use Rattle.std.specs.Prelude.{◌≡◌, ℕ, ◌-◌, ◌+◌, Bool, true, false, List, [], ◌∷◌, ◌++◌, Option, Some, None, Result, Ok, Err}
+use Rattle.std.specs.Prelude.{◌≡◌, ℕ, ◌-◌, ◌+◌, Bool, true, false, List, [], ◌∷◌, ◌++◌, ◌<◌, length, map, Option, Some, None, Result, Ok, Err}
 use Rattle.syntax65.specs.Outcome.{Unless}
 use Rattle.syntax65.specs.Store.{Files}
 use Rattle.syntax65.specs.Tokens.{Lexeme}
 use Rattle.expand65.specs.Faults.{is_outside}
 use Rattle.expand65.specs.Kept.{tokens_in}
-use Rattle.expand65.specs.Playing.{definition_of, left_to_play}
+use Rattle.expand65.specs.Playing.{left_to_play, replacing_of}
 use Rattle.expand65.specs.Reading.{left_in_file}
 use Rattle.expand65.specs.Repeats.{turns}
 use Rattle.expand65.specs.State.{Item, written, mark, Mark, Left, left, Stop}
@@ -17,14 +17,29 @@ use Rattle.expand65.specs.declared.input.NextLine.{NextLine}
 use Rattle.expand65.specs.declared.input.NextLine.TheVariants.{AtEnd, Numbered, Replayed}
 use Rattle.expand65.specs.declared.line.Line.{Line}
 use Rattle.expand65.specs.declared.place.Place.{Place}
+use Rattle.expand65.specs.declared.playing.Replay.{Replay}
 use Rattle.expand65.specs.declared.reader.Input.{Input}
 use Rattle.expand65.specs.declared.reader.Reader.{Reader}
+
+-- the lines that are left of a turn, and those of the turns behind it
+abbrev pub turns_left : Replay → ℕ → ℕ → List Item
+turns_left r next count = left_to_play r ++ turns (replacing_of r) (map tokens_in r.body.value.lines) next (count - next)
 
 -- the lines that a source of lines still has
 abbrev pub left_in : Files → Source → List Item
 left_in m (source.File f) = left_in_file m f
 left_in m (source.Call r) = left_to_play r
-left_in m (source.Repeat r next count) = left_to_play r ++ turns (definition_of r.body.value).params (definition_of r.body.value).body next (count - next)
+left_in m (source.Repeat r next count) = turns_left r next count
+
+abbrev pub is_call : Source → Bool
+is_call (source.Call r) = true
+is_call _ = false
+
+-- a line is at hand
+abbrev pub IsReady : Source → Type 0
+IsReady (source.File f) = f.at < length f.buffer.items
+IsReady (source.Call r) = r.at < length r.body.value.lines
+IsReady (source.Repeat r next count) = r.at < length r.body.value.lines
 
 -- the number of a line of a file
 abbrev pub number_of : Item → NextLine
@@ -42,10 +57,6 @@ TakesLine before (Ok line) after = (i : Item) × (before ≡ i ∷ after) × IsO
 TakesLine before (Err f) after = Unless (is_outside f) ((i : Item) × ((others : List Item) × (before ≡ i ∷ others) × IsOpened i (Err f)))
 
 -- ---- Inputs one inside the other.
-
-abbrev pub is_call : Source → Bool
-is_call (source.Call r) = true
-is_call _ = false
 
 abbrev pub mark_of : Input → Mark
 mark_of i = record { is_macro = is_call i.source; conditions = i.conditions; back = i.back }

@@ -38,25 +38,25 @@ turns_of (Some (negsuc n)) = Err CountOutOfRange
 abbrev pub repeat_of : Meaning → List Lexeme → Result (Tree × ℕ) ExprFault → Result (ℕ × List (List ℕ)) ExpandFault
 repeat_of k ts q = repeat_header ts q >>= (λ h. turns_of (k.value h.0) >>= (λ n. Ok (n, h.1)))
 
--- what a turn puts into the lines, the first one being 0
-abbrev pub in_turn : List (List ℕ) → ℕ → Replacing
-in_turn variable t = record { params = variable; arguments = (number_token t ∷ []) ∷ []; count = None; locals = []; number = 0 }
+-- what a repeat puts into its lines, but for the number of the turn
+abbrev pub repeating : List (List ℕ) → Replacing
+repeating variable = record { params = variable; arguments = []; count = None; locals = []; number = 0 }
 
--- the lines of one turn
-abbrev pub turn : List (List ℕ) → List (List Lexeme) → ℕ → List Item
-turn variable body t = map (played (in_turn variable t)) body
+-- and in a turn, the first one being 0
+abbrev pub in_turn : Replacing → ℕ → Replacing
+in_turn e t = record { params = e.params; arguments = (number_token t ∷ []) ∷ []; count = e.count; locals = e.locals; number = e.number }
 
 -- the lines of so many turns from turn t on
-abbrev pub turns : List (List ℕ) → List (List Lexeme) → ℕ → ℕ → List Item
-turns variable body t zero = []
-turns variable body t (suc n) = turn variable body t ++ turns variable body (t + 1) n
+abbrev pub turns : Replacing → List (List Lexeme) → ℕ → ℕ → List Item
+turns e body t zero = []
+turns e body t (suc n) = map (played (in_turn e t)) body ++ turns e body (t + 1) n
 
 abbrev pub repeat_mark : State → Mark
 repeat_mark s = record { is_macro = false; conditions = length s.conditions; back = None }
 
 abbrev pub repeated : State → ℕ → List (List ℕ) → Result (List (List Lexeme) × Left) Stop → Stepped
 repeated s n variable (Err e) = stops e
-repeated s n variable (Ok (body, l)) = entered (with_left s l) (turns variable body 0 n) (repeat_mark s) l.place
+repeated s n variable (Ok (body, l)) = entered (with_left s l) (turns (repeating variable) body 0 n) (repeat_mark s) l.place
 
 abbrev pub IsRepeated : State → Result (ℕ × List (List ℕ)) ExpandFault → Stepped → Type 0
 IsRepeated s (Err f) r = r ≡ stops (f, s.left.place)

@@ -2,6 +2,7 @@ pub mod Filling
 pub mod Gathering
 pub mod Lists
 pub mod Naming
+pub mod Nexts
 pub mod Opening
 pub mod Parting
 pub mod Splitting

@@ -44,7 +44,7 @@ file_begins (Some m) f n h e = by (rest_of m f) refl
     by [] g = absurd (omega (arith, length-drop f.at f.buffer.items, ap length g, length-append (drop f.at f.buffer.items) (drop f.next (content m f.name))))
     by (b ∷ bs) g =
         let l = some_line b bs in
-        (written (f.line + 1) l.0, (numbered (f.line + 1) l.1.0, ap (λ x. numbered f.line (lines_of x)) g ∙ ap (numbered f.line) l.1.1, ap Numbered (sym e)))
+        (l.0, (numbered (f.line + 1) l.1.0, ap (λ x. numbered f.line (lines_of x)) g ∙ ap (numbered f.line) l.1.1 ∙ ap (λ k. written k l.0 ∷ numbered (f.line + 1) l.1.0) (sym e)))
 
 pub file_too_long : (o : Option Files) (old new : OpenFile) (f : ExpandFault) → IfSome o (λ m. ReadsLine (lines_of (rest_of m old)) (Err f) (lines_of (rest_of m new))) → IfSome o (λ m. TakesLine (left_in_file m old) (Err f) (left_in_file m new))
 file_too_long None old new f h = tt

@@ -64,13 +64,13 @@ some_at (l ∷ ls) (suc at) h =
 pub body_begins : (r : Replay) → r.at < length r.body.value.lines → ComesNext (left_to_play r) Replayed
 body_begins r h =
     let one = some_at (map tokens_in r.body.value.lines) r.at (omega (arith, h, length-map r.body.value.lines tokens_in)) in
-    (played (replacing_of r) one.0, (map (played (replacing_of r)) (drop (r.at + 1) (map tokens_in r.body.value.lines)), ap (map (played (replacing_of r))) one.1, refl))
+    (replacing_of r, (one.0, (map (played (replacing_of r)) (drop (r.at + 1) (map tokens_in r.body.value.lines)), ap (map (played (replacing_of r))) one.1)))
 
 pub turn_begins : (r : Replay) (next count : ℕ) → r.at < length r.body.value.lines → ComesNext (turns_left r next count) Replayed
 turn_begins r next count h =
     let c = body_begins r h in
     let more = turns (replacing_of r) (map tokens_in r.body.value.lines) next (count - next) in
-    (c.0, (c.1.0 ++ more, ap (λ l. l ++ more) c.1.1, c.1.2))
+    (c.0, (c.1.0, (c.1.1.0 ++ more, ap (λ l. l ++ more) c.1.1.1)))
 
 -- a line that is taken before others
 pub takes_before : (before after more rest : List Item) (r : Result Line ExpandFault) → TakesLine before r after → more ≡ rest → TakesLine (before ++ more) r (after ++ rest)

@@ -8,7 +8,8 @@ use Rattle.expand65.specs.Kept.{tokens_in}
 use Rattle.expand65.specs.Playing.{left_to_play, replacing_of}
 use Rattle.expand65.specs.Reading.{left_in_file}
 use Rattle.expand65.specs.Repeats.{turns}
-use Rattle.expand65.specs.State.{Item, written, mark, Mark, Left, left, Stop}
+use Rattle.expand65.specs.Replacing.{Replacing}
+use Rattle.expand65.specs.State.{Item, written, played, mark, Mark, Left, left, moved, Stop}
 use Rattle.expand65.specs.Taking.{IsOpened, Taken}
 use Rattle.expand65.specs.declared.fault.ExpandFault.{ExpandFault}
 use Rattle.expand65.specs.declared.input.Source.{Source}
@@ -41,15 +42,16 @@ IsReady (source.File f) = f.at < length f.buffer.items
 IsReady (source.Call r) = r.at < length r.body.value.lines
 IsReady (source.Repeat r next count) = r.at < length r.body.value.lines
 
--- the number of a line of a file
-abbrev pub number_of : Item → NextLine
-number_of (written n bytes) = Numbered n
-number_of _ = Replayed
-
--- whether a line comes next, with its number where it is a file's
+-- whether a line comes next, of a file with its number, or of a body
 abbrev pub ComesNext : List Item → NextLine → Type 0
 ComesNext is AtEnd = is ≡ []
-ComesNext is n = (i : Item) × ((others : List Item) × (is ≡ i ∷ others) × (number_of i ≡ n))
+ComesNext is (Numbered n) = (bytes : List ℕ) × ((others : List Item) × (is ≡ written n bytes ∷ others))
+ComesNext is Replayed = (e : Replacing) × ((ts : List Lexeme) × ((others : List Item) × (is ≡ played e ts ∷ others)))
+
+-- the place once it is taken
+abbrev pub moved_by : NextLine → Place → Place
+moved_by (Numbered n) p = moved p n
+moved_by _ p = p
 
 -- the first of the lines is taken
 abbrev pub TakesLine : List Item → Result Line ExpandFault → List Item → Type 0

@@ -1,4 +1,5 @@
 pub mod Arguments
+pub mod BlockLines
 pub mod Blocks
 pub mod Conditions
 pub mod Directives

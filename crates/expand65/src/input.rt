@@ -1,6 +1,6 @@
 //! Where lines come from.
 
-ghost use Rattle.std.specs.Prelude.{◌≡◌, ◌<◌, ◌≤◌, ◌+◌, ◌^◌, length, true, false, [], ◌∷◌, Ok, IsTrue, IfErr, IfOk, IfSome, OnOk, Result, List, map};
+ghost use Rattle.std.specs.Prelude.{◌≡◌, ◌↔◌, ◌<◌, ◌≤◌, ◌+◌, ◌^◌, length, true, false, [], ◌∷◌, Ok, IsTrue, IfErr, IfOk, IfSome, OnOk, Result, List, map};
 ghost use Rattle.syntax65.specs.Store.{Passes};
 ghost use Rattle.syntax65.specs.Outcome.{Gives};
 ghost use Rattle.syntax65.specs.Relations.{Answers};
@@ -39,6 +39,15 @@ pub enum NextLine {
     Numbered(u32),
     /// A line of a body.
     Replayed,
+}
+
+impl NextLine {
+    /// Whether nothing comes next.
+    pub fn is_end(self) -> bool
+        ensures { IsTrue result ↔ (self ≡ NextLine.AtEnd) }
+    {
+        matches!(self, NextLine::AtEnd)
+    }
 }
 
 /// A number as a line of one token.

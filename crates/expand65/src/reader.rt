@@ -1,7 +1,19 @@
 //! The open files, expansions and repeats, one inside the other.
 
-use crate::input::Source;
+ghost use Rattle.std.specs.Prelude.{◌≡◌, ◌<◌, ◌≤◌, ◌-◌, IfErr, IfNone, IfOk, IfSome, OnOk, Ok, [], false, option_map};
+ghost use Rattle.syntax65.specs.Store.{Passes};
+ghost use Rattle.expand65.specs.Faults.{is_failure, is_outside};
+ghost use Rattle.expand65.specs.Inside.{Answers, is_call, left_in, left_of, mark_of, moved_by};
+ghost use Rattle.expand65.specs.Kept.{tokens_in};
+ghost use Rattle.expand65.specs.Taking.{Takes};
+ghost use Rattle.expand65.specs.BlockLines.{TakesInBlock};
+
+use crate::fault::ExpandFault;
+use crate::input::{NextLine, Source};
+use crate::line::Line;
 use crate::place::Place;
+use std::alloc::Global;
+use syntax65::Store;
 
 /// An open file, expansion or repeat. At its end so many conditions have to be open, and a file goes back to a place.
 #[derive(Drop)]
@@ -18,4 +30,64 @@ pub struct Reader {
     pub outer: Vec<Input>,
     pub room: u32,
     pub place: Place,
+}
+
+impl Place {
+    /// Moves on to a line of its file.
+    fn move_by(&mut self, next: NextLine)
+        ensures { self.new ≡ moved_by next self.old }
+    {
+        if let NextLine::Numbered(line) = next {
+            self.line = line;
+        }
+    }
+}
+
+impl Reader {
+    /// The next line, or none at the end mark of the innermost input.
+    pub fn next_line<S: Store>(
+        &mut self,
+        alloc: Global,
+        store: &mut S,
+    ) -> Result<Option<Line>, ExpandFault>
+        ensures read { IfSome (S.files store.old) (λ m. Answers (λ l. (option_map tokens_in l, left_of m self.new)) self.new.place result (Takes (left_of m self.old))) }
+        ensures spent { IfSome (S.files store.old) (λ m. IfOk result (λ l. IfNone l (left_in m self.new.top.source ≡ []))) }
+        ensures room { IfOk result (λ l. IfSome l (λ _. self.new.room < self.old.room)) }
+        ensures less { OnOk result (self.new.room ≤ self.old.room) }
+        ensures mark { mark_of self.new.top ≡ mark_of self.old.top }
+        ensures outer { self.new.outer ≡ self.old.outer }
+        ensures files { S.files store.new ≡ S.files store.old }
+        ensures count { Passes ExpandFault.FileError (S.failures store.old) (S.failures store.new) result }
+    {
+        let next = self.top.source.begin_line(alloc, store)?;
+        if next.is_end() {
+            return Ok(None);
+        }
+        self.place.move_by(next);
+        if self.room == 0 {
+            return Err(ExpandFault::TooManyLines);
+        }
+        self.room -= 1;
+        let line = self.top.source.take_line(alloc, store)?;
+        Ok(Some(line))
+    }
+
+    /// The next line of a block, which has to be closed in the input that opened it.
+    pub fn block_line<S: Store>(
+        &mut self,
+        alloc: Global,
+        store: &mut S,
+    ) -> Result<Line, ExpandFault>
+        ensures read { IfSome (S.files store.old) (λ m. Answers (λ l. (tokens_in l, left_of m self.new)) self.new.place result (TakesInBlock (left_of m self.old))) }
+        ensures room { OnOk result (self.new.room < self.old.room) }
+        ensures mark { mark_of self.new.top ≡ mark_of self.old.top }
+        ensures outer { self.new.outer ≡ self.old.outer }
+        ensures files { S.files store.new ≡ S.files store.old }
+        ensures count { Passes ExpandFault.FileError (S.failures store.old) (S.failures store.new) result }
+    {
+        match self.next_line(alloc, store)? {
+            Some(line) => Ok(line),
+            None => Err(ExpandFault::NotClosed),
+        }
+    }
 }

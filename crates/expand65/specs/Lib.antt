@@ -8,6 +8,7 @@ pub mod Faults
 pub mod Fronts
 pub mod Includes
 pub mod Inside
+pub mod Judging
 pub mod Kept
 pub mod Lines
 pub mod Macros

@@ -2,6 +2,7 @@
 #![tactic(auto)]
 
 mod arguments;
+mod blocks;
 mod directives;
 mod fault;
 mod file;

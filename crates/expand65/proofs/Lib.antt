@@ -1,3 +1,4 @@
+pub mod Blocking
 pub mod Filling
 pub mod Gathering
 pub mod Lists

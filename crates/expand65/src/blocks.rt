@@ -1,8 +1,10 @@
 //! Blocks of lines.
 
-ghost use Rattle.std.specs.Prelude.{◌≡◌, ◌∷◌, ◌++◌, [], List, false, drop, IfErr};
+ghost use Rattle.std.specs.Prelude.{◌≡◌, ◌∷◌, ◌++◌, [], ◌<◌, ◌↔◌, List, IsTrue, false, drop, map, IfErr, IfSome, OnOk};
 ghost use Rattle.syntax65.specs.Tokens.{Lexeme, lexemes};
-ghost use Rattle.expand65.specs.Blocks.{collects, gathers, passes, skips};
+ghost use Rattle.syntax65.specs.Store.{Passes};
+ghost use Rattle.expand65.specs.Inside.{Answers, left_of, mark_of};
+ghost use Rattle.expand65.specs.Blocks.{Block, collects, gathers, passes, skips};
 ghost use Rattle.expand65.specs.Faults.{is_failure};
 ghost use Rattle.expand65.specs.Judging.{IsDeeper, Judges, JudgesSkip, alone_or};
 ghost use Rattle.expand65.specs.Fronts.{is_nothing};
@@ -12,8 +14,9 @@ use crate::directives::Directive;
 use crate::fault::ExpandFault;
 use crate::fronts::{is_mislabelled, is_nothing, line_directive};
 use crate::line::Line;
+use crate::reader::Reader;
 use std::alloc::Global;
-use syntax65::Token;
+use syntax65::{Sequence, Store, Token};
 
 /// What a line does to the block that it stands in.
 #[derive(Clone, Copy, Debug)]
@@ -21,6 +24,15 @@ pub enum BlockStep {
     /// The block goes on, with so many others open in it.
     On(u32),
     Closed,
+}
+
+impl BlockStep {
+    /// Whether the block is closed.
+    fn is_last(self) -> bool
+        ensures { IsTrue result ↔ (self ≡ BlockStep.Closed) }
+    {
+        matches!(self, BlockStep::Closed)
+    }
 }
 
 /// The line that lines are skipped up to.
@@ -116,5 +128,58 @@ fn pass_step(tokens: &[Token<'_>], depth: u32) -> Result<BlockStep, ExpandFault>
             }
         }
         _ => Ok(BlockStep::On(depth)),
+    }
+}
+
+/// What a kept line does to the body of a macro.
+fn collected(alloc: Global, line: &Line) -> Result<BlockStep, ExpandFault>
+    ensures step { (body : List (List Lexeme)) → Judges (λ d. body ++ tokens_in line.now ∷ []) body result (collects body (tokens_in line.now)) }
+    ensures inside { IfErr result (λ e. is_failure e ≡ false) }
+{
+    let tokens = line.tokens(alloc)?;
+    collect_step(tokens.as_slice())
+}
+
+/// What a kept line does to the body of a repeat with so many others open in it.
+fn gathered(alloc: Global, line: &Line, depth: u32) -> Result<BlockStep, ExpandFault>
+    ensures step { (body : List (List Lexeme)) → Judges (λ d. (d, body ++ tokens_in line.now ∷ [])) body result (gathers (depth, body) (tokens_in line.now)) }
+    ensures inside { IfErr result (λ e. is_failure e ≡ false) }
+{
+    let tokens = line.tokens(alloc)?;
+    gather_step(tokens.as_slice(), depth)
+}
+
+/// What a kept line does to the lines through an `.endif` with so many conditions open in them.
+fn passed(alloc: Global, line: &Line, depth: u32) -> Result<BlockStep, ExpandFault>
+    ensures step { Judges (λ d. d) tt result (passes depth (tokens_in line.now)) }
+    ensures inside { IfErr result (λ e. is_failure e ≡ false) }
+{
+    let tokens = line.tokens(alloc)?;
+    pass_step(tokens.as_slice(), depth)
+}
+
+impl Reader {
+    /// The lines up to the one that closes a macro.
+    pub fn collect<S: Store>(
+        &mut self,
+        alloc: Global,
+        store: &mut S,
+    ) -> Result<Sequence<Line>, ExpandFault>
+        ensures read { IfSome (S.files store.old) (λ m. Answers (λ b. (map tokens_in b, left_of m self.new)) self.new.place result (Block collects [] (left_of m self.old))) }
+        ensures room { OnOk result (self.new.room < self.old.room) }
+        ensures mark { mark_of self.new.top ≡ mark_of self.old.top }
+        ensures outer { self.new.outer ≡ self.old.outer }
+        ensures files { S.files store.new ≡ S.files store.old }
+        ensures count { Passes ExpandFault.FileError (S.failures store.old) (S.failures store.new) result }
+    {
+        let mut body = Sequence::new(alloc);
+        'lines: loop {
+            let line = self.block_line(alloc, store)?;
+            let step = collected(alloc, &line)?;
+            if step.is_last() {
+                return Ok(body);
+            }
+            body.push(line)?;
+        }
     }
 }

@@ -40,3 +40,8 @@ abbrev pub IsDeeper : ℕ → Result BlockStep ExpandFault → Type 0
 IsDeeper d (Ok (On n)) = n ≡ suc d
 IsDeeper d (Ok Closed) = ⊥
 IsDeeper d (Err f) = f ≡ OutOfMemory
+
+abbrev pub IsSkipDeeper : ℕ → Result SkipStep ExpandFault → Type 0
+IsSkipDeeper d (Ok (skip.On n)) = n ≡ suc d
+IsSkipDeeper d (Ok (skip.At b)) = ⊥
+IsSkipDeeper d (Err f) = f ≡ OutOfMemory

@@ -8,3 +8,4 @@ pub mod Opening
 pub mod Parting
 pub mod Splitting
 pub mod Turning
+pub mod Unique

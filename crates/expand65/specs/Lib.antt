@@ -10,6 +10,7 @@ pub mod Includes
 pub mod Inside
 pub mod Judging
 pub mod Kept
+pub mod Laws
 pub mod Lines
 pub mod Macros
 pub mod Meaning

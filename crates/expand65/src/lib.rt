@@ -9,6 +9,7 @@ mod file;
 mod fronts;
 mod input;
 mod knows;
+pub mod laws;
 mod line;
 mod place;
 mod playing;

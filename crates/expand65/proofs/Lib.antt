@@ -2,6 +2,7 @@ pub mod Blocking
 pub mod Filling
 pub mod Gathering
 pub mod Lists
+pub mod Marks
 pub mod Naming
 pub mod Nexts
 pub mod Opening

@@ -3,6 +3,7 @@ pub mod BlockLines
 pub mod Blocks
 pub mod Conditions
 pub mod Directives
+pub mod Entering
 pub mod Expansion
 pub mod Faults
 pub mod Fronts

@@ -1,10 +1,12 @@
 //! The open files, expansions and repeats, one inside the other.
 
-ghost use Rattle.std.specs.Prelude.{◌≡◌, ◌<◌, ◌≤◌, ◌-◌, IfErr, IfNone, IfOk, IfSome, OnOk, Ok, [], false, option_map};
+ghost use Rattle.std.specs.Prelude.{◌≡◌, ◌<◌, ◌≤◌, ◌-◌, ◌+◌, length, IfErr, IfNone, IfOk, IfSome, OnOk, Ok, [], false, option_map};
 ghost use Rattle.syntax65.specs.Store.{Passes};
 ghost use Rattle.expand65.specs.Faults.{is_failure, is_outside};
 ghost use Rattle.expand65.specs.Inside.{Answers, is_call, left_in, left_of, mark_of, moved_by};
 ghost use Rattle.expand65.specs.Kept.{tokens_in};
+ghost use Rattle.syntax65.specs.Store.{Files};
+ghost use Rattle.expand65.specs.Entering.{pushed};
 ghost use Rattle.expand65.specs.Taking.{Takes};
 ghost use Rattle.expand65.specs.BlockLines.{TakesInBlock};
 
@@ -13,7 +15,11 @@ use crate::input::{NextLine, Source};
 use crate::line::Line;
 use crate::place::Place;
 use std::alloc::Global;
+use std::mem;
 use syntax65::Store;
+
+/// How many files, expansions and repeats are open at most inside the source.
+const MAX_NESTING: usize = 256;
 
 /// An open file, expansion or repeat. At its end so many conditions have to be open, and a file goes back to a place.
 #[derive(Drop)]
@@ -89,5 +95,20 @@ impl Reader {
             Some(line) => Ok(line),
             None => Err(ExpandFault::NotClosed),
         }
+    }
+
+    /// Puts an input inside the innermost one.
+    pub fn enter(&mut self, input: Input) -> Result<(), ExpandFault>
+        ensures entered { (m : Files) → Answers (λ _. left_of m self.new) self.new.place result (λ r. r ≡ pushed (left_in m input.source) (mark_of input) (left_of m self.old)) }
+        ensures room { self.new.room ≡ self.old.room }
+        ensures outer { OnOk result (length self.new.outer.items ≡ length self.old.outer.items + 1) }
+        ensures inside { IfErr result (λ e. is_failure e ≡ false) }
+    {
+        if self.outer.len() >= MAX_NESTING {
+            return Err(ExpandFault::Nested);
+        }
+        let outer = mem::replace(&mut self.top, input);
+        self.outer.push(outer)?;
+        Ok(())
     }
 }

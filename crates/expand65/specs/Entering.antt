@@ -1,0 +1,9 @@
+-- An input put inside the innermost one, and one that is left.
+use Rattle.std.specs.Prelude.{ℕ, ◌==◌, nat_le, Bool, List, [], ◌∷◌, ◌++◌, Result, Ok, Err, if◌then◌else◌}
+use Rattle.expand65.specs.Lines.{nesting_limit}
+use Rattle.expand65.specs.State.{Item, mark, Mark, Left, left, Stop, marks, come_back}
+use Rattle.expand65.specs.declared.fault.ExpandFault.TheVariants.{Nested, NotClosed}
+
+-- lines and an end mark in front of what is left
+abbrev pub pushed : List Item → Mark → Left → Result Left Stop
+pushed is k l = if nat_le (marks l.items) nesting_limit then Ok (left (is ++ mark k ∷ l.items) l.room l.place) else Err (Nested, l.place)

@@ -108,7 +108,7 @@ pub entered_one : (m : Files) (old new : Reader) (i : Input) → length old.oute
 entered_one m old new i h t u r p =
     let few : nat_le (marks (left_of m old).items) 256 ≡ true = grind (arith, nat_tests, marks_all m old) in
     let items : (left_of m new).items ≡ left_in m i.source ++ mark (mark_of i) ∷ (left_of m old).items =
-        ap (λ x. own m x ++ outside m new.outer.items) t ∙ ap (λ l. own m i ++ outside m l) u ∙ ap (λ l. own m i ++ l) (outside_push m old.outer.items old.top) ∙ own_split m i (own m old.top ++ outside m old.outer.items) in
+    ap (λ x. own m x ++ outside m new.outer.items) t ∙ ap (λ l. own m i ++ outside m l) u ∙ ap (λ l. own m i ++ l) (outside_push m old.outer.items old.top) ∙ own_split m i (own m old.top ++ outside m old.outer.items) in
     rw few (ap (λ l. Ok (left l new.room new.place)) items ∙ ap (λ x. Ok (left (left_in m i.source ++ mark (mark_of i) ∷ (left_of m old).items) x new.place)) r ∙ ap (λ q. Ok (left (left_in m i.source ++ mark (mark_of i) ∷ (left_of m old).items) old.room q)) p)
 
 pub entered_none : (m : Files) (old : Reader) (i : Input) → 256 ≤ length old.outer.items → Err (Nested, old.place) ≡ pushed (left_in m i.source) (mark_of i) (left_of m old)

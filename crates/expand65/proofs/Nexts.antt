@@ -57,6 +57,7 @@ one_refused before after tail n r p f c h t = by (is_outside f) t
         let O : Item → Type 0 = λ y. IsOpened y (Err f) in
         let P : List Item → Type 0 = λ l. TakesFrom (l ++ tail) (suc r) p (Err (f, p)) in
         subst P (sym e) (Err f, subst O item o, refl)
+
     by : (b : Bool) → Unless b ((i : Item) × ((others : List Item) × (before ≡ i ∷ others) × IsOpened i (Err f))) → Unless b (TakesFrom (before ++ tail) (suc r) p (Err (f, moved_by n p)))
     by true k = tt
     by false k = go n c h k

@@ -222,7 +222,7 @@ piece_too_long line here behind n h e le long =
     let len : length (take n here) ≡ n = omega (arith, length-take n here) in
     let more : 4097 < length (line ++ take n here) = omega (arith, length-append line (take n here), len, long) in
     let whole : (line ++ take n here) ++ (drop n here ++ behind) ≡ line ++ (here ++ behind) =
-        append_assoc line (take n here) (drop n here ++ behind) ∙ ap (λ l. line ++ l) (sym (append_assoc (take n here) (drop n here) behind) ∙ ap (λ l. l ++ behind) (take-append-drop n here)) in
+    append_assoc line (take n here) (drop n here ++ behind) ∙ ap (λ l. line ++ l) (sym (append_assoc (take n here) (drop n here) behind) ∙ ap (λ l. l ++ behind) (take-append-drop n here)) in
     let Q : List ℕ → Type 0 = λ l. BeginsLong (lines_of l) in
     subst Q whole (part_is_long (line ++ take n here) (drop n here ++ behind) (part_append line (take n here) h piece) more)
 
@@ -256,7 +256,7 @@ piece_ends line here behind n h e lt =
         let P : ℕ → Type 0 = λ k. IsPart (take k here) in
         let piece : IsPart (take n here) = subst P (sym e) (front_is_part here) in
         let all : line ++ (here ++ behind) ≡ (line ++ take n here) ++ b ∷ (bs ++ behind) =
-            ap (λ l. line ++ (l ++ behind)) split ∙ ap (λ l. line ++ l) (append_assoc (take n here) (b ∷ bs) behind) ∙ sym (append_assoc line (take n here) (b ∷ (bs ++ behind))) in
+        ap (λ l. line ++ (l ++ behind)) split ∙ ap (λ l. line ++ l) (append_assoc (take n here) (b ∷ bs) behind) ∙ sym (append_assoc line (take n here) (b ∷ (bs ++ behind))) in
         ap lines_of all ∙ part_ends (line ++ take n here) (bs ++ behind) b (part_append line (take n here) h piece) at_end ∙ ap (λ l. without_return (line ++ take n here) ∷ lines_of (l ++ behind)) (sym gone)
 
 pub piece_is_part : (line here : List ℕ) (n : ℕ) → IsPart line → n ≡ prefix_len is_inside here → IsPart (line ++ take n here)

@@ -41,11 +41,11 @@ next_turn old new next count e lt body at r =
     let lines = map tokens_in old.body.value.lines in
     let more : count - next ≡ suc (count - (next + 1)) = omega arith in
     let front : left_to_play new ≡ map (played (in_turn (replacing_of old) next)) lines =
-        ap (λ z. map (played z) (drop new.at (map tokens_in new.body.value.lines))) r
-        ∙ ap (λ b. map (played (in_turn (replacing_of old) next)) (drop new.at (map tokens_in b.value.lines))) body
-        ∙ ap (λ a. map (played (in_turn (replacing_of old) next)) (drop a lines)) at in
+    ap (λ z. map (played z) (drop new.at (map tokens_in new.body.value.lines))) r
+    ∙ ap (λ b. map (played (in_turn (replacing_of old) next)) (drop new.at (map tokens_in b.value.lines))) body
+    ∙ ap (λ a. map (played (in_turn (replacing_of old) next)) (drop a lines)) at in
     let behind : turns (replacing_of new) (map tokens_in new.body.value.lines) (next + 1) (count - (next + 1)) ≡ turns (replacing_of old) lines (next + 1) (count - (next + 1)) =
-        ap (λ b. turns (replacing_of new) (map tokens_in b.value.lines) (next + 1) (count - (next + 1))) body ∙ ap (λ z. turns z lines (next + 1) (count - (next + 1))) r ∙ same_turns (replacing_of old) next lines (next + 1) (count - (next + 1)) in
+    ap (λ b. turns (replacing_of new) (map tokens_in b.value.lines) (next + 1) (count - (next + 1))) body ∙ ap (λ z. turns z lines (next + 1) (count - (next + 1))) r ∙ same_turns (replacing_of old) next lines (next + 1) (count - (next + 1)) in
     ap (λ l. l ++ turns (replacing_of new) (map tokens_in new.body.value.lines) (next + 1) (count - (next + 1))) front
     ∙ ap (λ l. map (played (in_turn (replacing_of old) next)) lines ++ l) behind
     ∙ ap (turns (replacing_of old) lines next) (sym more)

@@ -273,7 +273,9 @@ fn branch_step(
 {
     match directive {
         Some(Directive::If(_)) => Ok(SkipStep::On(1)),
-        Some(Directive::ElseIf) => Ok(SkipStep::At(BranchLine::ElseIf(behind_first(alloc, tokens)?))),
+        Some(Directive::ElseIf) => Ok(SkipStep::At(BranchLine::ElseIf(behind_first(
+            alloc, tokens,
+        )?))),
         Some(Directive::Else) => {
             closed_alone(tokens)?;
             Ok(SkipStep::At(BranchLine::Else))
@@ -297,11 +299,7 @@ fn behind_first(alloc: Global, tokens: &[Token<'_>]) -> Result<Line, AllocError>
 }
 
 /// What a line does to lines that are skipped with so many conditions open in them.
-fn skip_step(
-    alloc: Global,
-    tokens: &[Token<'_>],
-    depth: u32,
-) -> Result<SkipStep, ExpandFault>
+fn skip_step(alloc: Global, tokens: &[Token<'_>], depth: u32) -> Result<SkipStep, ExpandFault>
     ensures step { JudgesSkip result (skips depth (lexemes tokens.now)) }
     ensures inside { IfErr result (λ e. is_failure e ≡ false) }
 {

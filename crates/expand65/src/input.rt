@@ -212,11 +212,7 @@ impl Source {
     }
 
     /// Takes the next line.
-    pub fn take_line<S: Store>(
-        &mut self,
-        alloc: Global,
-        store: &mut S,
-    ) -> Result<Line, ExpandFault>
+    pub fn take_line<S: Store>(&mut self, alloc: Global, store: &mut S) -> Result<Line, ExpandFault>
         requires { IsReady self.old }
         ensures taken { IfSome (S.files store.old) (λ m. TakesLine (left_in m self.old) result (left_in m self.new)) }
         ensures call { is_call self.new ≡ is_call self.old }

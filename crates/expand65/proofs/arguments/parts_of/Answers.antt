@@ -38,6 +38,6 @@ parts-preserved c =
     let same = part_line c.in_ok-line.line c.split_at-in-parts.result.0.now c.unbraced.result.now rest c.split_at.result.1.now c.part_len-len.result c.in_ok-line.ensures c.unbraced.ensures c.split_at-in-parts.ensures.front back in
     record {
       so_far = rw (c.in_ok-push.ensures.ok, map-append tokens_in c.parts.lines (c.in_ok-line.line ∷ []), ← further c.args.tokens.now c.parts.at (c.part_len-len.result + 1))
-        (parts_more (map tokens_in c.parts.lines) (map unbraced (parts_within 0 (lexemes c.args.tokens.now))) (lexemes rest) (tokens_in c.in_ok-line.line) c.part_len-len.result count more same c.parts.invariant.so_far);
+          (parts_more (map tokens_in c.parts.lines) (map unbraced (parts_within 0 (lexemes c.args.tokens.now))) (lexemes rest) (tokens_in c.in_ok-line.line) c.part_len-len.result count more same c.parts.invariant.so_far);
       inside = omega (arith, length-map rest lexeme_of, length-drop c.parts.at c.args.tokens.now, more);
     }

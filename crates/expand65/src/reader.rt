@@ -1,12 +1,13 @@
 //! The open files, expansions and repeats, one inside the other.
 
-ghost use Rattle.std.specs.Prelude.{◌≡◌, ◌<◌, ◌≤◌, ◌-◌, ◌+◌, length, IfErr, IfNone, IfOk, IfSome, OnOk, Ok, [], false, option_map};
+ghost use Rattle.std.specs.Prelude.{◌≡◌, ◌<◌, ◌≤◌, ◌-◌, ◌+◌, length, IfErr, IfNone, IfOk, IfSome, IsTrue, OnOk, [], false, option_map};
 ghost use Rattle.syntax65.specs.Store.{Passes};
 ghost use Rattle.expand65.specs.Faults.{is_failure, is_outside};
 ghost use Rattle.expand65.specs.Inside.{Answers, is_call, left_in, left_of, mark_of, moved_by};
 ghost use Rattle.expand65.specs.Kept.{tokens_in};
 ghost use Rattle.syntax65.specs.Store.{Files};
-ghost use Rattle.expand65.specs.Entering.{pushed};
+ghost use Rattle.expand65.specs.Entering.{closed, pushed};
+ghost use Rattle.expand65.specs.State.{come_back};
 ghost use Rattle.expand65.specs.Taking.{Takes};
 ghost use Rattle.expand65.specs.BlockLines.{TakesInBlock};
 
@@ -110,5 +111,37 @@ impl Reader {
         let outer = mem::replace(&mut self.top, input);
         self.outer.push(outer)?;
         Ok(())
+    }
+
+    /// Leaves the innermost input, at whose end so many conditions are open, unless it is the source.
+    pub fn leave(&mut self, conditions: usize) -> Result<bool, ExpandFault>
+        ensures left { (m : Files) → left_in m self.old.top.source ≡ [] → Answers (λ more. (more, (left_of m self.new).items, self.new.place)) self.new.place result (λ r. r ≡ closed conditions self.old.place (left_of m self.old).items) }
+        ensures room { self.new.room ≡ self.old.room }
+        ensures outer { IfOk result (λ more. IsTrue more → length self.new.outer.items < length self.old.outer.items) }
+        ensures inside { IfErr result (λ e. is_outside e ≡ false) }
+    {
+        if self.top.conditions != conditions {
+            return Err(ExpandFault::NotClosed);
+        }
+        match self.outer.pop() {
+            None => Ok(false),
+            Some(outer) => {
+                let inner = mem::replace(&mut self.top, outer);
+                self.go_back(inner.back);
+                Ok(true)
+            }
+        }
+    }
+
+    /// Goes back to the place of the line that a file was included from.
+    fn go_back(&mut self, back: Option<Place>)
+        ensures place { self.new.place ≡ come_back self.old.place back }
+        ensures top { self.new.top ≡ self.old.top }
+        ensures outer { self.new.outer ≡ self.old.outer }
+        ensures room { self.new.room ≡ self.old.room }
+    {
+        if let Some(place) = back {
+            self.place = place;
+        }
     }
 }

@@ -10,3 +10,4 @@ pub mod Parting
 pub mod Splitting
 pub mod Turning
 pub mod Unique
+pub mod Wholes

@@ -1,6 +1,8 @@
 -- The faults of expansion: their words, and which of them come from outside.
 use Rattle.std.specs.Prelude.{ℕ, List, [], codes, Bool, true, false}
 use Rattle.syntax65.specs.Faults.{lex_fault_words}
+use Rattle.syntax65.specs.declared.expressions.fault.ExprFault.{ExprFault}
+use Rattle.syntax65.specs.declared.expressions.fault.ExprFault.TheVariants as expr
 use Rattle.syntax65.specs.declared.lexing.fault.LexFault.{LexFault}
 use Rattle.syntax65.specs.declared.lexing.fault.LexFault.TheVariants as lex
 use Rattle.syntax65.specs.declared.store.StoreFault.{StoreFault}
@@ -50,6 +52,11 @@ is_failure _ = false
 abbrev pub fault_of_lexing : LexFault → ExpandFault
 fault_of_lexing lex.OutOfMemory = OutOfMemory
 fault_of_lexing fault = Syntax fault
+
+-- an expression that can't be read isn't understood
+abbrev pub fault_of_parsing : ExprFault → ExpandFault
+fault_of_parsing expr.OutOfMemory = OutOfMemory
+fault_of_parsing fault = NotUnderstood
 
 -- a fault of the store
 abbrev pub fault_of_store : StoreFault → ExpandFault

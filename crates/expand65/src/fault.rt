@@ -2,12 +2,12 @@
 
 ghost use Rattle.std.specs.Prelude.{◌≡◌};
 ghost use Rattle.expand65.specs.declared.fault.ExpandFault.TheVariants.{FileError, FileNotFound, OutOfMemory};
-ghost use Rattle.expand65.specs.Faults.{fault_of_lexing, fault_of_store};
+ghost use Rattle.expand65.specs.Faults.{fault_of_lexing, fault_of_parsing, fault_of_store};
 
 use std::alloc::{AllocError, AllocFailed};
 use std::error::Error;
 use std::fmt;
-use syntax65::{LexFault, Sequence, StoreFault};
+use syntax65::{ExprFault, LexFault, Sequence, StoreFault};
 
 /// Why a source's statements can't be given.
 #[derive(Debug, Drop)]
@@ -106,6 +106,17 @@ impl From<LexFault> for ExpandFault {
         match fault {
             LexFault::OutOfMemory => ExpandFault::OutOfMemory,
             _ => ExpandFault::Syntax(fault),
+        }
+    }
+}
+
+impl From<ExprFault> for ExpandFault {
+    ghost from_gives = { λ fault e. e ≡ fault_of_parsing fault };
+
+    fn from(fault: ExprFault) -> ExpandFault {
+        match fault {
+            ExprFault::OutOfMemory => ExpandFault::OutOfMemory,
+            _ => ExpandFault::NotUnderstood,
         }
     }
 }

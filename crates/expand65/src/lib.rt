@@ -3,6 +3,7 @@
 
 mod arguments;
 mod blocks;
+mod conditions;
 mod directives;
 mod fault;
 mod file;

@@ -1,15 +1,15 @@
 -- Blocks line by line, as the code takes them.
-use Rattle.std.proofs.Common.{◌≡◌, ℕ, Bool, true, false, List, [], ◌∷◌, ◌++◌, refl, sym, ap, ◌∙◌, subst, Option, Some, None, IfSome, Result, Ok, Err}
+use Rattle.std.proofs.Common.{◌≡◌, ℕ, Bool, true, false, List, refl, ap, subst, Option, Some, None, IfSome, Result, Ok, Err}
 use Rattle.syntax65.specs.Outcome.{Unless}
 use Rattle.syntax65.specs.Store.{Files}
 use Rattle.syntax65.specs.Tokens.{Lexeme}
-use Rattle.expand65.specs.BlockLines.{TakesInBlock, within_block}
+use Rattle.expand65.specs.BlockLines.{TakesInBlock}
 use Rattle.expand65.specs.Blocks.{Verdict, on, closed, refused, Block, a_fault, a_mark, a_refusal, the_last, one_more}
 use Rattle.expand65.specs.Faults.{is_outside}
 use Rattle.expand65.specs.Inside.{left_of}
 use Rattle.expand65.specs.Judging.{Judges}
 use Rattle.expand65.specs.State.{Left, Stop}
-use Rattle.expand65.specs.Taking.{Taken, Takes}
+use Rattle.expand65.specs.Taking.{Takes}
 use Rattle.expand65.specs.declared.blocks.BlockStep.{BlockStep}
 use Rattle.expand65.specs.declared.blocks.BlockStep.TheVariants.{On, Closed}
 use Rattle.expand65.specs.declared.fault.ExpandFault.{ExpandFault}

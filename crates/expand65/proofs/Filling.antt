@@ -1,10 +1,9 @@
 -- What an open file has, once more of it is at hand.
-use Rattle.std.proofs.Common.{◌≡◌, ℕ, ◌+◌, ◌-◌, ◌<◌, ◌≤◌, List, [], ◌∷◌, ◌++◌, length, take, drop, min, refl, sym, ap, ◌∙◌, subst, arith, Option, Some, None, IfSome, Bool, true, false, nat_le, nat_lt}
+use Rattle.std.proofs.Common.{◌≡◌, ℕ, ◌+◌, ◌-◌, ◌<◌, ◌≤◌, List, [], ◌++◌, length, take, drop, min, refl, sym, ap, ◌∙◌, subst, arith, Option, Some, None, IfSome, Bool, true, false, nat_le, nat_lt}
 use Rattle.std.proofs.lemmas.Bool.Decides.{nat_tests}
-use Rattle.std.proofs.lemmas.List.{drop_all, drop-drop, drop-take, take-append-drop, take_all, length-take, length-drop, take-take}
+use Rattle.std.proofs.lemmas.List.{drop_all, drop-drop, drop-take, take-append-drop, length-take, length-drop, take-take}
 use Rattle.syntax65.specs.Store.{Files}
-use Rattle.expand65.specs.Reading.{IsPiece, bytes_of, content, rest_of}
-use Rattle.expand65.specs.declared.file.OpenFile.{OpenFile}
+use Rattle.expand65.specs.Reading.{IsPiece, bytes_of, content}
 
 -- within the part of a file that is read
 within_limit : (bs : List ℕ) (at k n : ℕ) → n ≤ k → take n (drop at bs) ++ drop (at + n) (take (at + k) bs) ≡ drop at (take (at + k) bs)

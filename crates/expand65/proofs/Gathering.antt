@@ -1,12 +1,9 @@
 -- A line that is gathered piece by piece from an open file.
-use Rattle.std.proofs.Common.{◌≡◌, ℕ, ◌+◌, ◌-◌, ◌<◌, ◌≤◌, Bool, true, false, List, [], ◌∷◌, ◌++◌, length, take, drop, refl, sym, ap, ◌∙◌, subst, arith, Option, Some, None, IfSome, Ok, Err, append_assoc}
+use Rattle.std.proofs.Common.{◌≡◌, ℕ, ◌<◌, true, false, List, [], ◌∷◌, ◌++◌, length, drop, refl, sym, ap, ◌∙◌, subst, arith, Option, Some, None, IfSome, Ok, Err}
 use Rattle.std.proofs.lemmas.List.{append-nil}
-use Rattle.std.specs.List.{prefix_len}
-use Rattle.syntax65.specs.Outcome.{Unless}
 use Rattle.syntax65.specs.Store.{Files}
-use Rattle.expand65.specs.Faults.{is_outside}
 use Rattle.expand65.specs.Lines.{lines_of}
-use Rattle.expand65.specs.Reading.{ReadsLine, TakesPiece, BeginsLong, content, is_inside, rest_of, without_return}
+use Rattle.expand65.specs.Reading.{ReadsLine, TakesPiece, content, rest_of, without_return}
 use Rattle.expand65.specs.declared.fault.ExpandFault.{ExpandFault}
 use Rattle.expand65.specs.declared.file.OpenFile.{OpenFile}
 use Rattle.expand65.proofs.Splitting.{IsPart, part_is_last}

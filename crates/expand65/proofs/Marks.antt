@@ -1,6 +1,6 @@
 -- End marks among the inputs' lines.
-use Rattle.std.proofs.Common.{◌≡◌, ℕ, zero, suc, ◌+◌, ◌-◌, ◌≤◌, ◌<◌, refl, sym, ◌∙◌, ap, subst, arith, List, [], ◌∷◌, ◌++◌, length, map, drop, append_assoc, add-one, Option, Some, None, Bool, true, false, Ok, Err, length-append}
-use Rattle.std.specs.Prelude.{◌==◌, if◌then◌else◌, nat_le}
+use Rattle.std.proofs.Common.{◌≡◌, ℕ, zero, suc, ◌+◌, ◌-◌, ◌≤◌, ◌<◌, refl, sym, ◌∙◌, ap, subst, arith, List, [], ◌∷◌, ◌++◌, length, map, drop, append_assoc, Some, true, false, Ok, Err}
+use Rattle.std.specs.Prelude.{◌==◌, nat_le}
 use Rattle.std.proofs.lemmas.Bool.Decides.{nat_tests}
 use Rattle.std.proofs.lemmas.List.{append-nil}
 use Rattle.syntax65.specs.Store.{Files}
@@ -14,11 +14,10 @@ use Rattle.expand65.specs.Playing.{left_to_play, replacing_of}
 use Rattle.expand65.specs.Reading.{rest_of}
 use Rattle.expand65.specs.Repeats.{in_turn, turns}
 use Rattle.expand65.specs.Replacing.{Replacing}
-use Rattle.expand65.specs.State.{Item, written, played, labelled, branch, mark, Mark, left, marks, innermost, come_back, Stop}
+use Rattle.expand65.specs.State.{Item, written, played, labelled, branch, mark, Mark, left, marks, innermost, come_back}
 use Rattle.expand65.specs.declared.fault.ExpandFault.TheVariants.{Nested}
 use Rattle.expand65.specs.declared.input.Source.{Source}
 use Rattle.expand65.specs.declared.input.Source.TheVariants as source
-use Rattle.expand65.specs.declared.place.Place.{Place}
 use Rattle.expand65.specs.declared.reader.Input.{Input}
 use Rattle.expand65.specs.declared.reader.Reader.{Reader}
 
@@ -120,13 +119,14 @@ pub left_one : (m : Files) (old new : Reader) (n : ℕ) (g : Input) → left_in 
 left_one m old new n g e h u t p =
     let tail : outside m old.outer.items ≡ own m g ++ outside m new.outer.items = ap (outside m) u ∙ outside_push m new.outer.items g in
     let all : (left_of m old).items ≡ mark (mark_of old.top) ∷ (own m g ++ outside m new.outer.items) =
-        own_split m old.top (outside m old.outer.items) ∙ ap (λ l. l ++ mark (mark_of old.top) ∷ outside m old.outer.items) e ∙ ap (λ l. mark (mark_of old.top) ∷ l) tail in
+    own_split m old.top (outside m old.outer.items) ∙ ap (λ l. l ++ mark (mark_of old.top) ∷ outside m old.outer.items) e ∙ ap (λ l. mark (mark_of old.top) ∷ l) tail in
     let items : own m g ++ outside m new.outer.items ≡ (left_of m new).items = ap (λ x. own m x ++ outside m new.outer.items) (sym t) in
     let P : List Item → Type 0 = λ l. Ok (true, (left_of m new).items, new.place) ≡ closed n old.place l in
     subst P (sym all) (go (own m g ++ outside m new.outer.items) (marks_own m g (outside m new.outer.items)) items)
   where
     same : (a b : ℕ) → a ≡ b → a == b ≡ true
     same a b e = grind (arith, nat_tests)
+
     go : (js : List Item) → marks js ≡ marks (outside m new.outer.items) + 1 → js ≡ (left_of m new).items → Ok (true, (left_of m new).items, new.place) ≡ closed n old.place (mark (mark_of old.top) ∷ js)
     go [] z f = absurd (omega arith)
     go (i ∷ js) z f = rw (same old.top.conditions n h) (ap (λ l. Ok (true, l, new.place)) (sym f) ∙ ap (λ q. Ok (true, i ∷ js, q)) p)

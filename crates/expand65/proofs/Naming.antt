@@ -1,9 +1,8 @@
 -- Lists of names with commas between them, read from a place on.
-use Rattle.std.proofs.Common.{◌≡◌, ℕ, zero, suc, ◌+◌, ◌<◌, Bool, true, false, List, [], ◌∷◌, ◌++◌, length, drop, Option, Some, None, refl, sym, ap, ◌∙◌, arith, append_assoc, slice_get, subst}
+use Rattle.std.proofs.Common.{◌≡◌, ℕ, zero, suc, ◌+◌, ◌<◌, true, false, List, [], ◌∷◌, ◌++◌, length, drop, Option, Some, None, refl, sym, ap, ◌∙◌, arith, append_assoc, subst}
 use Rattle.syntax65.specs.Tokens.{Lexeme}
-use Rattle.expand65.specs.Fronts.{is_comma, name_in, names_from, ◌>=>◌}
-use Rattle.expand65.specs.Parts.{is_comma_at, is_comma_in, name_at}
-use Rattle.expand65.proofs.Lists.{drop_at, drop_past}
+use Rattle.expand65.specs.Fronts.{is_comma, names_from, ◌>=>◌}
+use Rattle.expand65.specs.Parts.{is_comma_at, name_at}
 
 -- a name in front of others
 pub after_name : (o : Option (List (List ℕ))) (n : List ℕ) (found : List (List ℕ)) → ((o >=> (λ ns. Some (n ∷ ns))) >=> (λ ns. Some (found ++ ns))) ≡ (o >=> (λ ns. Some ((found ++ n ∷ []) ++ ns)))

@@ -1,14 +1,12 @@
 -- The next line of the innermost input, as a line that is taken of all that is left.
-use Rattle.std.proofs.Common.{◌≡◌, ℕ, zero, suc, ◌+◌, ◌-◌, ◌<◌, ◌≤◌, Bool, true, false, List, [], ◌∷◌, ◌++◌, refl, sym, ap, ◌∙◌, subst, arith, append_assoc, Option, Some, None, IfSome, Result, Ok, Err}
+use Rattle.std.proofs.Common.{◌≡◌, ℕ, suc, Bool, true, false, List, [], ◌∷◌, ◌++◌, refl, sym, ap, ◌∙◌, subst, append_assoc, Option, Some, None, IfSome, Ok, Err}
 use Rattle.syntax65.specs.Outcome.{Unless}
 use Rattle.syntax65.specs.Store.{Files}
-use Rattle.syntax65.specs.Tokens.{Lexeme}
 use Rattle.expand65.specs.Faults.{is_outside}
 use Rattle.expand65.specs.Inside.{ComesNext, TakesLine, moved_by, left_in, mark_of, own, outside, left_of}
 use Rattle.expand65.specs.Kept.{tokens_in}
-use Rattle.expand65.specs.Replacing.{Replacing}
-use Rattle.expand65.specs.State.{Item, written, played, mark, Mark, left, moved}
-use Rattle.expand65.specs.Taking.{IsOpened, Taken, Takes, TakesFrom}
+use Rattle.expand65.specs.State.{Item, written, played, mark, left, moved}
+use Rattle.expand65.specs.Taking.{IsOpened, Takes, TakesFrom}
 use Rattle.expand65.specs.declared.fault.ExpandFault.{ExpandFault}
 use Rattle.expand65.specs.declared.fault.ExpandFault.TheVariants.{TooManyLines}
 use Rattle.expand65.specs.declared.input.NextLine.{NextLine}

@@ -1,5 +1,5 @@
 -- Lines that are taken of files and bodies.
-use Rattle.std.proofs.Common.{◌≡◌, ℕ, zero, suc, ◌+◌, ◌<◌, ◌≤◌, Bool, true, false, List, [], ◌∷◌, ◌++◌, length, map, drop, refl, sym, ap, ◌∙◌, subst, arith, Option, Some, None, IfSome, Result, Ok, Err, get_or, drop-cons, add-one, length-append}
+use Rattle.std.proofs.Common.{◌≡◌, ℕ, suc, ◌+◌, ◌<◌, Bool, true, false, List, [], ◌∷◌, length, map, drop, refl, sym, ap, ◌∙◌, arith, Option, Some, None, IfSome, Result, Ok, Err, get_or, drop-cons, add-one, length-append}
 use Rattle.std.proofs.lemmas.List.{drop-map, length-drop}
 use Rattle.syntax65.specs.Faults.{is_lex_outside}
 use Rattle.syntax65.specs.Outcome.{Unless, Refuses}
@@ -11,7 +11,7 @@ use Rattle.expand65.specs.Faults.{fault_of_lexing, is_outside}
 use Rattle.expand65.specs.Includes.{numbered}
 use Rattle.expand65.specs.Inside.{ComesNext, TakesLine}
 use Rattle.expand65.specs.Kept.{tokens_in}
-use Rattle.expand65.specs.Lines.{is_line_end, is_return, begins_with_end, lines_of, put_before}
+use Rattle.expand65.specs.Lines.{lines_of}
 use Rattle.expand65.specs.Playing.{left_to_play, replacing_of}
 use Rattle.expand65.specs.Reading.{ReadsLine, BeginsLong, content, left_in_file, rest_of}
 use Rattle.expand65.specs.Replacing.{Replacing, replaced}

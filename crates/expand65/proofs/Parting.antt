@@ -1,7 +1,7 @@
 -- What stands between commas, part by part.
-use Rattle.std.proofs.Common.{◌≡◌, ℕ, zero, suc, ◌+◌, ◌≤◌, ◌<◌, Bool, true, false, List, [], ◌∷◌, ◌++◌, length, take, drop, refl, sym, ap, ◌∙◌, arith, subst, one-add, add-one, append_assoc, map}
+use Rattle.std.proofs.Common.{◌≡◌, ℕ, suc, ◌+◌, ◌≤◌, ◌<◌, Bool, true, false, List, [], ◌∷◌, ◌++◌, length, take, drop, refl, sym, ap, ◌∙◌, arith, subst, one-add, append_assoc, map}
 use Rattle.std.proofs.lemmas.List.{take_all}
-use Rattle.std.specs.Prelude.{◌==◌, ◌&&◌, if◌then◌else◌}
+use Rattle.std.specs.Prelude.{◌==◌, ◌&&◌}
 use Rattle.syntax65.specs.Tokens.{Lexeme}
 use Rattle.expand65.specs.Arguments.{braces_behind, parts_within, put_in_first, unbraced}
 use Rattle.expand65.specs.Fronts.{is_comma}

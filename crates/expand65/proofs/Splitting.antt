@@ -1,5 +1,5 @@
 -- The first line of bytes.
-use Rattle.std.proofs.Common.{◌≡◌, ℕ, suc, ◌+◌, ◌<◌, Bool, true, false, not, List, [], ◌∷◌, length, take, drop, slice_get, refl, ap, sym, ◌∙◌, arith, ◌++◌, length-append, append_assoc, add-one, one-add, length-drop, subst, ◌≤◌}
+use Rattle.std.proofs.Common.{◌≡◌, ℕ, suc, ◌+◌, ◌<◌, Bool, true, false, List, [], ◌∷◌, length, take, drop, slice_get, refl, ap, sym, ◌∙◌, arith, ◌++◌, length-append, append_assoc, add-one, one-add, length-drop, subst, ◌≤◌}
 use Rattle.std.specs.List.{prefix_len}
 use Rattle.std.proofs.lemmas.List.{take_all, drop_all, take_at, length-take, take-append-drop, append-nil, drop-drop}
 use Rattle.std.proofs.lemmas.Bool.Decides.{nat_tests}

@@ -1,5 +1,5 @@
 -- The turns of a repeat.
-use Rattle.std.proofs.Common.{◌≡◌, ℕ, zero, suc, ◌+◌, ◌-◌, ◌<◌, ◌≤◌, List, [], ◌∷◌, ◌++◌, length, map, drop, refl, sym, ap, ◌∙◌, subst, arith, ◌⊎◌, inl, inr, Bool, true, false, Result, Ok, Err}
+use Rattle.std.proofs.Common.{◌≡◌, ℕ, zero, suc, ◌+◌, ◌-◌, ◌<◌, ◌≤◌, List, [], ◌∷◌, ◌++◌, length, map, drop, refl, sym, ap, ◌∙◌, arith, ◌⊎◌, inl, inr, Bool, true, false, Result, Ok, Err}
 use Rattle.std.proofs.lemmas.List.{length-map}
 use Rattle.syntax65.specs.Outcome.{Unless}
 use Rattle.expand65.specs.Faults.{is_outside}
@@ -11,7 +11,7 @@ use Rattle.expand65.specs.Inside.{ComesNext, TakesLine, turns_left}
 use Rattle.expand65.specs.Kept.{tokens_in}
 use Rattle.expand65.specs.Playing.{left_to_play, replacing_of}
 use Rattle.expand65.specs.Repeats.{in_turn, turns}
-use Rattle.expand65.specs.Replacing.{Replacing, number_token}
+use Rattle.expand65.specs.Replacing.{Replacing}
 use Rattle.expand65.specs.State.{Item, played}
 use Rattle.expand65.specs.declared.line.Line.{Line}
 use Rattle.expand65.specs.declared.playing.Replay.{Replay}

@@ -1,23 +1,20 @@
 -- From a state one thing at most comes next.
-use Rattle.std.proofs.Common.{◌≡◌, ℕ, ℤ, zero, suc, Bool, true, false, List, [], ◌∷◌, ◌++◌, drop, refl, sym, ap, ◌∙◌, subst, Option, Some, None, Result, Ok, Err, length, not}
-use Rattle.syntax65.specs.Expressions.{IsParsed}
-use Rattle.syntax65.specs.Laws.{OneReading, OneParse}
+use Rattle.std.proofs.Common.{◌≡◌, ℕ, zero, suc, Bool, true, false, List, [], ◌∷◌, drop, refl, sym, ap, ◌∙◌, subst, Option, Some, None, Result, Ok, Err, length, not}
 use Rattle.syntax65.specs.Outcome.{◌>>=◌}
 use Rattle.syntax65.specs.Store.{Files}
-use Rattle.syntax65.specs.Tokens.{Lexeme, IsRead}
+use Rattle.syntax65.specs.Tokens.{Lexeme}
 use Rattle.syntax65.specs.Trees.{Tree}
 use Rattle.syntax65.specs.declared.expressions.fault.ExprFault.{ExprFault}
-use Rattle.syntax65.specs.declared.lexing.fault.LexFault.{LexFault}
-use Rattle.expand65.specs.Blocks.{Verdict, on, closed, refused, Block, a_fault, a_mark, a_refusal, the_last, one_more, Branch, collects, gathers, skips, passes}
+use Rattle.expand65.specs.Blocks.{Verdict, on, closed, refused, Block, a_fault, a_mark, a_refusal, the_last, one_more, collects, gathers, skips, passes}
 use Rattle.expand65.specs.Conditions.{IsCondition, IsDecided, IsIf, IsElse, defined_in, found, passed, truth, whole}
 use Rattle.expand65.specs.Expansion.{Next, statement, nothing, fault, Reaches, further, given, ended, stopped}
 use Rattle.expand65.specs.Fronts.{front_directive, is_mislabelled, label_len, line_directive}
-use Rattle.expand65.specs.Macros.{IsKept, IsDefined, IsMacro, header_of, kept, macro_of}
+use Rattle.expand65.specs.Macros.{IsKept, IsDefined, header_of, kept, macro_of}
 use Rattle.expand65.specs.Meaning.{Meaning}
 use Rattle.expand65.specs.Repeats.{IsRepeat, IsRepeated, repeat_of, repeated}
-use Rattle.expand65.specs.State.{Item, written, played, labelled, branch, mark, Left, left, Stop, Definition, State, Stated, Stepped, goes, gives, ends, stops, moved, with_left, with_items}
+use Rattle.expand65.specs.State.{Item, written, played, labelled, branch, mark, Left, left, Stop, Definition, State, Stepped, goes, gives, ends, stops, moved, with_left, with_items}
 use Rattle.expand65.specs.Step.{IsElseLine, IsDirected, IsActed, IsSplit, IsLabelled, IsStepBehind, IsStepFrom, IsStep, last_condition}
-use Rattle.expand65.specs.Taking.{IsOpened, Taken, Takes, TakesFrom, taken_as, lexed, reached}
+use Rattle.expand65.specs.Taking.{IsOpened, Taken, Takes, TakesFrom, taken_as, lexed}
 use Rattle.expand65.specs.declared.directives.Directive.{Directive}
 use Rattle.expand65.specs.declared.directives.Directive.TheVariants as directive
 use Rattle.expand65.specs.declared.directives.Test.{Test}

@@ -1,5 +1,5 @@
 -- The next line of a block.
-use Rattle.std.specs.Prelude.{◌≡◌, List, Option, Some, None, Result, Ok, Err}
+use Rattle.std.specs.Prelude.{◌≡◌, List, Some, None, Result, Ok, Err}
 use Rattle.syntax65.specs.Tokens.{Lexeme}
 use Rattle.expand65.specs.State.{Left, Stop}
 use Rattle.expand65.specs.Taking.{Taken, Takes}

@@ -1,12 +1,12 @@
 -- Expansion: from a state to the next statement, and from a source to its first state.
-use Rattle.std.specs.Prelude.{◌≡◌, ℕ, List, [], ◌∷◌, ◌++◌, Bool, false, Option, Some, None, Result, Ok, Err}
+use Rattle.std.specs.Prelude.{ℕ, List, [], ◌∷◌, ◌++◌, false, None, Result, Ok}
 use Rattle.std.specs.FinMap as fmap
 use Rattle.syntax65.specs.Outcome.{◌>>=◌}
 use Rattle.syntax65.specs.Store.{Files}
 use Rattle.expand65.specs.Includes.{bytes_in, numbered}
 use Rattle.expand65.specs.Lines.{lines_of, line_limit}
 use Rattle.expand65.specs.Meaning.{Meaning}
-use Rattle.expand65.specs.State.{Item, mark, Mark, left, Stop, State, Stated, Stepped, goes, gives, ends, stops}
+use Rattle.expand65.specs.State.{mark, Mark, left, Stop, State, Stated, goes, gives, ends, stops}
 use Rattle.expand65.specs.Step.{IsStep}
 use Rattle.expand65.specs.declared.fault.ExpandFault.{ExpandFault}
 

@@ -1,5 +1,5 @@
 -- Files that are included, and where they are looked for.
-use Rattle.std.specs.Prelude.{ℕ, ◌+◌, ◌==◌, nat_le, Bool, true, false, List, [], ◌∷◌, ◌++◌, length, map, Option, Some, None, Result, Ok, Err, if◌then◌else◌}
+use Rattle.std.specs.Prelude.{ℕ, ◌+◌, ◌==◌, nat_le, Bool, false, List, [], ◌∷◌, ◌++◌, length, map, Option, Some, None, Result, Ok, Err, if◌then◌else◌}
 use Rattle.std.specs.FinMap as fmap
 use Rattle.std.specs.List.{list_any}
 use Rattle.std.specs.Str.{is_utf8}
@@ -8,10 +8,9 @@ use Rattle.syntax65.specs.Tokens.{Lexeme}
 use Rattle.expand65.specs.Fronts.{string_of}
 use Rattle.expand65.specs.Lines.{lines_of, file_limit}
 use Rattle.expand65.specs.Macros.{entered}
-use Rattle.expand65.specs.State.{Item, written, mark, Mark, left, State, Stepped, stops}
+use Rattle.expand65.specs.State.{Item, written, Mark, State, Stepped, stops}
 use Rattle.expand65.specs.declared.fault.ExpandFault.{ExpandFault}
 use Rattle.expand65.specs.declared.fault.ExpandFault.TheVariants.{FileNotFound, FileTooLong, NotUnderstood}
-use Rattle.expand65.specs.declared.place.Place.{Place}
 
 -- ---- Files.
 

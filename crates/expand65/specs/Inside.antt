@@ -1,5 +1,5 @@
 -- The lines that open files, expansions and repeats still have.
-use Rattle.std.specs.Prelude.{◌≡◌, ℕ, ◌-◌, ◌+◌, Bool, true, false, List, [], ◌∷◌, ◌++◌, ◌<◌, length, map, Option, Some, None, Result, Ok, Err}
+use Rattle.std.specs.Prelude.{◌≡◌, ℕ, ◌-◌, Bool, true, false, List, [], ◌∷◌, ◌++◌, ◌<◌, length, map, Result, Ok, Err}
 use Rattle.syntax65.specs.Outcome.{Unless}
 use Rattle.syntax65.specs.Store.{Files}
 use Rattle.syntax65.specs.Tokens.{Lexeme}
@@ -10,7 +10,7 @@ use Rattle.expand65.specs.Reading.{left_in_file}
 use Rattle.expand65.specs.Repeats.{turns}
 use Rattle.expand65.specs.Replacing.{Replacing}
 use Rattle.expand65.specs.State.{Item, written, played, mark, Mark, Left, left, moved, Stop}
-use Rattle.expand65.specs.Taking.{IsOpened, Taken}
+use Rattle.expand65.specs.Taking.{IsOpened}
 use Rattle.expand65.specs.declared.fault.ExpandFault.{ExpandFault}
 use Rattle.expand65.specs.declared.input.Source.{Source}
 use Rattle.expand65.specs.declared.input.Source.TheVariants as source

@@ -1,5 +1,5 @@
 -- Macros: their definitions, their calls, their own names, and leaving them.
-use Rattle.std.specs.Prelude.{◌≡◌, ℕ, ◌+◌, ◌-◌, ◌==◌, nat_le, nat_lt, Bool, true, false, not, List, [], ◌∷◌, ◌++◌, length, drop, map, Option, Some, None, Result, Ok, Err, if◌then◌else◌}
+use Rattle.std.specs.Prelude.{◌≡◌, ℕ, ◌+◌, ◌-◌, ◌==◌, nat_le, Bool, true, false, List, [], ◌∷◌, ◌++◌, length, drop, map, Option, Some, None, Result, Ok, Err, if◌then◌else◌}
 use Rattle.std.specs.List.{list_any}
 use Rattle.std.specs.Map.{lookup}
 use Rattle.std.specs.Str.{bytes_eq}
@@ -10,8 +10,7 @@ use Rattle.expand65.specs.Blocks.{Block, collects}
 use Rattle.expand65.specs.Fronts.{name_in, names_of, ◌>=>◌}
 use Rattle.expand65.specs.Lines.{nesting_limit}
 use Rattle.expand65.specs.Replacing.{Replacing, number_token, own_token}
-use Rattle.expand65.specs.State.{Item, written, played, labelled, branch, mark, Mark, Left, left, Stop, Definition, State, Stated, plain, Stepped, goes, gives, stops, with_left, with_items, marks, innermost, come_back}
-use Rattle.expand65.specs.declared.fault.ExpandFault.{ExpandFault}
+use Rattle.expand65.specs.State.{Item, played, mark, Mark, Left, left, Stop, Definition, State, plain, Stepped, goes, gives, stops, with_left, with_items, marks, innermost, come_back}
 use Rattle.expand65.specs.declared.fault.ExpandFault.TheVariants.{Nested, TooManyArguments, MacroTwice, NotOpened, NotUnderstood}
 use Rattle.expand65.specs.declared.place.Place.{Place}
 

@@ -1,11 +1,10 @@
 -- Bodies as they are kept and replayed.
-use Rattle.std.specs.Prelude.{ℕ, List, [], map, drop, Option, Some, None}
+use Rattle.std.specs.Prelude.{List, [], map, drop, Option, Some, None}
 use Rattle.std.specs.Option.{option_map}
 use Rattle.syntax65.specs.Tokens.{Lexeme}
 use Rattle.expand65.specs.Kept.{tokens_in}
 use Rattle.expand65.specs.Replacing.{Replacing}
 use Rattle.expand65.specs.State.{Item, played, Definition}
-use Rattle.expand65.specs.declared.line.Line.{Line}
 use Rattle.expand65.specs.declared.playing.Body.{Body}
 use Rattle.expand65.specs.declared.playing.Replay.{Replay}
 use Rattle.expand65.specs.declared.playing.StandIn.{StandIn}

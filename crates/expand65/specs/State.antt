@@ -1,5 +1,5 @@
 -- The state of expansion: the lines that are left, the macros, the open conditions.
-use Rattle.std.specs.Prelude.{ℕ, ◌+◌, List, [], ◌∷◌, Bool, Option, Some, None, Result}
+use Rattle.std.specs.Prelude.{ℕ, ◌+◌, List, [], ◌∷◌, Bool, Option, Some, None}
 use Rattle.syntax65.specs.Tokens.{Lexeme}
 use Rattle.expand65.specs.Replacing.{Replacing}
 use Rattle.expand65.specs.declared.fault.ExpandFault.{ExpandFault}

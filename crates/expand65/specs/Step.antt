@@ -1,5 +1,5 @@
 -- One step of expansion, by the first line that is left.
-use Rattle.std.specs.Prelude.{◌≡◌, ℕ, zero, suc, ◌+◌, ◌==◌, Bool, true, false, List, [], ◌∷◌, ◌++◌, length, take, drop, Option, Some, None, Result, Ok, Err, if◌then◌else◌}
+use Rattle.std.specs.Prelude.{◌≡◌, ℕ, zero, suc, ◌==◌, Bool, true, false, List, [], ◌∷◌, length, take, drop, Option, Some, None, Ok, Err, if◌then◌else◌}
 use Rattle.syntax65.specs.Store.{Files}
 use Rattle.syntax65.specs.Tokens.{Lexeme}
 use Rattle.expand65.specs.Conditions.{IsIf, IsElse, conditions_in, ended_if, popped}
@@ -8,12 +8,11 @@ use Rattle.expand65.specs.Includes.{include_line}
 use Rattle.expand65.specs.Macros.{IsMacro, exit_macro, local_line, ordinary}
 use Rattle.expand65.specs.Meaning.{Meaning}
 use Rattle.expand65.specs.Repeats.{IsRepeat}
-use Rattle.expand65.specs.State.{Item, labelled, branch, mark, Left, left, Mark, State, Stated, label, Stepped, goes, gives, ends, stops, with_left, with_items, innermost, come_back}
+use Rattle.expand65.specs.State.{Item, labelled, branch, mark, left, State, label, Stepped, goes, gives, ends, stops, with_left, with_items, innermost, come_back}
 use Rattle.expand65.specs.Taking.{Taken, Takes}
 use Rattle.expand65.specs.declared.directives.Directive.{Directive}
 use Rattle.expand65.specs.declared.directives.Directive.TheVariants.{Macro, EndMacro, ExitMacro, Local, Repeat, EndRepeat, If, ElseIf, Else, EndIf, Include, Error, End}
 use Rattle.expand65.specs.declared.directives.Test.TheVariants.{True}
-use Rattle.expand65.specs.declared.fault.ExpandFault.{ExpandFault}
 use Rattle.expand65.specs.declared.fault.ExpandFault.TheVariants as fault
 
 -- what follows where nothing stands behind a directive

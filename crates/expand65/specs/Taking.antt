@@ -4,8 +4,8 @@ use Rattle.syntax65.specs.Tokens.{Lexeme, IsRead}
 use Rattle.syntax65.specs.declared.lexing.fault.LexFault.{LexFault}
 use Rattle.expand65.specs.Faults.{fault_of_lexing}
 use Rattle.expand65.specs.Lines.{token_limit}
-use Rattle.expand65.specs.Replacing.{Replacing, replaced}
-use Rattle.expand65.specs.State.{Item, written, played, labelled, branch, mark, Left, left, Stop, moved}
+use Rattle.expand65.specs.Replacing.{replaced}
+use Rattle.expand65.specs.State.{Item, written, played, mark, Left, left, Stop, moved}
 use Rattle.expand65.specs.declared.fault.ExpandFault.{ExpandFault}
 use Rattle.expand65.specs.declared.fault.ExpandFault.TheVariants.{TooManyLines, LineTooLong}
 use Rattle.expand65.specs.declared.place.Place.{Place}

@@ -1,4 +1,4 @@
-use Rattle.std.proofs.Common.{◌≡◌, ◌≤◌, ◌-◌, ◌++◌, drop, map, true, Some, length}
+use Rattle.std.proofs.Common.{◌≡◌, ◌-◌, ◌++◌, drop, map, true, Some, length}
 use Rattle.syntax65.specs.Tokens.{lexemes}
 use Rattle.expand65.specs.Fronts.{names_from, ◌>=>◌}
 use Rattle.expand65.proofs.arguments.names_of.Given as goal

@@ -1,7 +1,7 @@
-use Rattle.std.proofs.Common.{◌≡◌, ℕ, ◌+◌, ◌≤◌, ◌<◌, ◌++◌, ◌∷◌, [], List, map, ap, sym, ◌∙◌, arith, length, take, drop, refl, append_assoc}
+use Rattle.std.proofs.Common.{◌≡◌, ℕ, ◌+◌, ◌≤◌, ◌<◌, ◌∷◌, [], List, map, ap, sym, ◌∙◌, arith, length, take, drop}
 use Rattle.std.proofs.lemmas.Bool.Decides.{nat_tests}
 use Rattle.std.proofs.lemmas.List.{map-append, length-map, length-drop, take-map, drop-map, drop-drop}
-use Rattle.syntax65.specs.Tokens.{Lexeme, lexeme_of, lexemes}
+use Rattle.syntax65.specs.Tokens.{lexeme_of, lexemes}
 use Rattle.syntax65.specs.declared.lexing.tokens.Token.{Token}
 use Rattle.expand65.specs.Arguments.{unbraced, parts_within}
 use Rattle.expand65.specs.Kept.{tokens_in}

@@ -1,7 +1,6 @@
-use Rattle.std.proofs.Common.{◌≡◌, ◌+◌, ◌∷◌, [], ◌++◌, map, ap, sym, ◌∙◌, arith, refl, inl, inr, length}
+use Rattle.std.proofs.Common.{◌+◌, ◌∷◌, [], ◌++◌, map, ap, ◌∙◌, arith, refl, inl, inr, length}
 use Rattle.expand65.specs.Kept.{tokens_in}
 use Rattle.expand65.specs.Playing.{replacing_of}
-use Rattle.expand65.specs.Repeats.{in_turn}
 use Rattle.expand65.specs.Replacing.{Replacing}
 use Rattle.expand65.specs.declared.playing.Replay.{Replay}
 use Rattle.expand65.proofs.Turning.{turns_over, next_turn, turn_begins}

@@ -1,4 +1,4 @@
-use Rattle.std.proofs.Common.{◌≡◌, ◌-◌, map, ap, sym, ◌∙◌}
+use Rattle.std.proofs.Common.{◌-◌, map, ap, sym, ◌∙◌}
 use Rattle.expand65.specs.Kept.{tokens_in}
 use Rattle.expand65.specs.Playing.{left_to_play, replacing_of}
 use Rattle.expand65.specs.Repeats.{turns}

@@ -1,5 +1,3 @@
-use Rattle.std.proofs.Common.{◌≡◌}
-use Rattle.expand65.proofs.Gathering.{moved_to}
 use Rattle.expand65.proofs.Opening.{file_begins}
 use Rattle.expand65.proofs.file.OpenFile.begin_line.Goals as goal
 

@@ -1,7 +1,6 @@
-use Rattle.std.proofs.Common.{◌≡◌, ℕ, ◌+◌, ◌<◌, ◌≤◌, rules, Bool, true, false, List, [], ◌∷◌, ◌++◌, length, drop, refl, sym, ap, ◌∙◌, subst, arith, Ok, IfSome}
-use Rattle.syntax65.specs.Store.{Files}
+use Rattle.std.proofs.Common.{◌≡◌, ℕ, ◌<◌, rules, Bool, List, [], ◌∷◌, length, drop, sym, ◌∙◌, subst, arith, Ok, IfSome}
 use Rattle.expand65.specs.Lines.{lines_of}
-use Rattle.expand65.specs.Reading.{ReadsLine, TakesPiece, rest_of, without_return}
+use Rattle.expand65.specs.Reading.{TakesPiece, rest_of}
 use Rattle.expand65.proofs.Gathering.{moved_to, line_ends, line_goes_on, with_more, line_is_last, given_that}
 use Rattle.expand65.proofs.file.OpenFile.next_line.Goals as goal
 

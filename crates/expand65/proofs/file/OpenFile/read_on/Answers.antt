@@ -1,4 +1,4 @@
-use Rattle.std.proofs.Common.{◌≡◌, ℕ, List, IfSome, drop, subst}
+use Rattle.std.proofs.Common.{ℕ, List, IfSome, drop, subst}
 use Rattle.expand65.specs.Reading.{IsPiece, bytes_of}
 use Rattle.expand65.proofs.Filling.{told_kept, told_none}
 use Rattle.expand65.proofs.file.OpenFile.read_on.Goals as goal

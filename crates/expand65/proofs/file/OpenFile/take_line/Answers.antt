@@ -5,7 +5,7 @@ use Rattle.expand65.specs.Kept.{tokens_in}
 use Rattle.expand65.specs.Taking.{lexed}
 use Rattle.std.proofs.lemmas.Result.{err_from_is_err_and}
 use Rattle.expand65.specs.declared.file.OpenFile.{OpenFile}
-use Rattle.expand65.proofs.Opening.{file_too_long, file_taken, file_refused}
+use Rattle.expand65.proofs.Opening.{file_too_long, file_taken}
 use Rattle.expand65.proofs.file.OpenFile.take_line.Goals as goal
 
 pub returns-in_err-bytes-clause-taken : goal.returns-in_err-bytes-clause-taken

@@ -1,4 +1,3 @@
-use Rattle.std.proofs.Common.{◌≡◌, Ok, ap, ◌∙◌}
 use Rattle.std.proofs.lemmas.Result.{err_from_is_err_and}
 use Rattle.expand65.specs.Playing.{left_to_play}
 use Rattle.expand65.proofs.Opening.{body_taken, body_refused}

@@ -7,10 +7,9 @@ use Rattle.expand65.specs.BlockLines.{TakesInBlock}
 use Rattle.expand65.specs.Blocks.{gathers}
 use Rattle.expand65.specs.Faults.{is_outside}
 use Rattle.expand65.specs.Inside.{left_of}
-use Rattle.expand65.specs.Judging.{Judges, JudgesSkip, branch_of}
+use Rattle.expand65.specs.Judging.{Judges}
 use Rattle.expand65.specs.Kept.{tokens_in}
 use Rattle.expand65.specs.declared.blocks.BlockStep.{BlockStep}
-use Rattle.expand65.specs.declared.blocks.SkipStep.{SkipStep}
 use Rattle.expand65.proofs.Blocking.{Leads, line_missing, line_refused, line_closes, line_goes_on}
 use Rattle.expand65.proofs.Gathering.{moved_to}
 use Rattle.expand65.proofs.reader.Reader.gather.Goals as goal

@@ -1,5 +1,4 @@
-use Rattle.std.proofs.Common.{◌≡◌, ◌∙◌, ◌++◌, ◌∷◌, [], ap, sym}
-use Rattle.expand65.specs.declared.reader.Reader.{Reader}
+use Rattle.std.proofs.Common.{◌∙◌, ◌++◌, ◌∷◌, [], ap, sym}
 use Rattle.expand65.specs.State.{come_back}
 use Rattle.expand65.proofs.Marks.{left_one}
 use Rattle.expand65.proofs.reader.Reader.leave.Goals as goal

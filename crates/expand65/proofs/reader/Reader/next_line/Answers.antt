@@ -1,6 +1,5 @@
-use Rattle.std.proofs.Common.{◌≡◌, ◌∙◌, ap, sym, refl, suc, arith, ℕ, ◌-◌, Bool, true, Ok, Err}
+use Rattle.std.proofs.Common.{◌≡◌, ◌∙◌, ap, refl, suc, arith, ◌-◌, true, Ok, Err}
 use Rattle.std.proofs.lemmas.Result.{err_from_is_err_and}
-use Rattle.syntax65.specs.Store.{Files}
 use Rattle.expand65.specs.Inside.{TakesLine, left_in}
 use Rattle.expand65.specs.State.{Mark}
 use Rattle.expand65.specs.declared.input.NextLine.TheVariants.{AtEnd}

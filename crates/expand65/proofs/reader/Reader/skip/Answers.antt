@@ -1,17 +1,14 @@
-use Rattle.std.proofs.Common.{◌≡◌, ℕ, ◌∙◌, ◌++◌, ◌∷◌, [], List, map, ap, sym, subst, rules, Ok, Err, arith, IfSome}
-use Rattle.std.proofs.lemmas.List.{map-append}
+use Rattle.std.proofs.Common.{◌∙◌, subst, rules, Ok, Err, arith}
 use Rattle.std.proofs.lemmas.Result.{err_from_is_err_and}
 use Rattle.syntax65.specs.Outcome.{Unless}
-use Rattle.syntax65.specs.Tokens.{Lexeme}
 use Rattle.expand65.specs.BlockLines.{TakesInBlock}
 use Rattle.expand65.specs.Blocks.{skips}
 use Rattle.expand65.specs.Faults.{is_outside}
 use Rattle.expand65.specs.Inside.{left_of}
-use Rattle.expand65.specs.Judging.{Judges, JudgesSkip, branch_of}
+use Rattle.expand65.specs.Judging.{JudgesSkip, branch_of}
 use Rattle.expand65.specs.Kept.{tokens_in}
-use Rattle.expand65.specs.declared.blocks.BlockStep.{BlockStep}
 use Rattle.expand65.specs.declared.blocks.SkipStep.{SkipStep}
-use Rattle.expand65.proofs.Blocking.{Leads, line_missing, line_refused, line_closes, line_goes_on}
+use Rattle.expand65.proofs.Blocking.{line_missing, line_refused, line_closes, line_goes_on}
 use Rattle.expand65.proofs.Gathering.{moved_to}
 use Rattle.expand65.proofs.reader.Reader.skip.Goals as goal
 

@@ -11,6 +11,7 @@ ghost use Rattle.object65.specs.Spelling.{body_limit};
 use crate::reading::{LARGEST_BODY, read_front, read_room};
 use crate::{ObjectFault, Record};
 use arrayvec::ArrayVec;
+use std::marker::Model;
 use syntax65::Store;
 
 /// An object or library file has at most so many bytes.
@@ -22,6 +23,17 @@ const FILE_LIMIT: u64 = 1_073_741_824;
 pub struct RecordReader {
     record: Record,
     bytes: [u8; LARGEST_BODY],
+}
+
+impl Model for RecordReader {
+    ghost use Rattle.object65.specs.Record.{Entry, entry_of};
+    ghost use Rattle.std.specs.Coded.{codes};
+
+    ghost Value = { Entry };
+
+    ghost coded = { Prim.hlevel codes };
+
+    ghost view = { λ r. entry_of r.record };
 }
 
 impl RecordReader {
@@ -39,7 +51,7 @@ impl RecordReader {
     /// The record that was read last. Before the first, and after a refusal, it says nothing.
     #[inline]
     pub fn record(&self) -> &Record
-        ensures { result.now ≡ self.now.record }
+        ensures { entry_of result.now ≡ self.now }
     {
         &self.record
     }
@@ -53,10 +65,10 @@ impl RecordReader {
         at: u64,
         limit: u64,
     ) -> Result<u64, ObjectFault>
-        ensures read { IfSome (S.files store.old) (λ m. Gives is_outside (λ n. (entry_of self.new.record, n)) result (in_file (map.get m name.now) (record_at at limit))) }
+        ensures read { IfSome (S.files store.old) (λ m. Gives is_outside (λ n. (self.new, n)) result (in_file (map.get m name.now) (record_at at limit))) }
         ensures files { S.files store.new ≡ S.files store.old }
         ensures count { Passes ObjectFault.FileError (S.failures store.old) (S.failures store.new) result }
-        ensures bound { IfOk result (λ n. (n ≡ at + 3 + length self.new.record.body.items) × (n ≤ limit) × (n ≤ file_limit)) }
+        ensures bound { IfOk result (λ n. (n ≡ at + 3 + length self.new.body) × (n ≤ limit) × (n ≤ file_limit)) }
     {
         let (kind, len) = read_front(store, name, at, limit)?;
         self.record.kind = kind;

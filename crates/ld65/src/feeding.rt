@@ -38,8 +38,9 @@ fn feed_records<S: Store>(
     let mut next = at;
     'records: loop {
         next = reader.read(store, name, next, u64::MAX)?;
-        linker.record(reader.record())?;
-        if reader.record().kind == END {
+        let record = reader.record();
+        linker.record(record)?;
+        if record.kind == END {
             return Ok(next);
         }
     }

@@ -8,8 +8,8 @@ ghost use Rattle.object65.specs.Record.{is_record_kind};
 ghost use Rattle.object65.specs.Reading.{in_file, head_at, end_at, room, IsRoomRead, front_of};
 ghost use Rattle.object65.specs.Spelling.{body_limit};
 
-use crate::record::{END, IMPORT};
 use crate::ObjectFault;
+use crate::record::{END, IMPORT};
 use byteorder::{ByteOrder, LittleEndian};
 use syntax65::{Store, StoreFault, read_full};
 

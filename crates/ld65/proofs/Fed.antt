@@ -77,6 +77,11 @@ pub accepted : {A : Type 0} (r : Result A ObjectFault) (x : A) → as_link r ≡
 accepted (Ok y) x h = let same : y ≡ x = cc in ap Ok same
 accepted (Err f) x h = absurd cc
 
+-- ---- A record that was read, as the linker sees it.
+
+pub seen : (known : Option Files) (read : Files → Result (Entry × ℕ) ObjectFault) (shown of_reader : Entry) (next : ℕ) → shown ≡ of_reader → IfSome known (λ m. read m ≡ Ok (of_reader, next)) → IfSome known (λ m. read m ≡ Ok (shown, next))
+seen known read shown of_reader next same h = rw same h
+
 -- ---- A record that the linker refuses.
 
 -- it is a fault of no store

@@ -12,7 +12,7 @@ ghost use Rattle.ld65.specs.Refusals.{is_failure};
 
 use crate::refusal::Refusal;
 use link65::{LinkFault, Linker};
-use object65::{check_end, read_head, read_record};
+use object65::{RecordReader, check_end, read_head};
 use syntax65::Store;
 
 /// The kind of the record that ends an object.
@@ -23,6 +23,7 @@ const END: u8 = 8;
 fn feed_records<S: Store>(
     store: &mut S,
     linker: &mut Linker,
+    reader: &mut RecordReader,
     name: &str,
     at: u64,
 ) -> Result<u64, LinkFault>
@@ -36,9 +37,9 @@ fn feed_records<S: Store>(
 {
     let mut next = at;
     'records: loop {
-        let (record, end) = read_record(store, name, next, u64::MAX)?;
-        linker.record(&record)?;
-        next = end;
+        next = reader.read(store, name, next, u64::MAX)?;
+        let record = reader.record();
+        linker.record(record)?;
         if record.kind == END {
             return Ok(next);
         }
@@ -46,7 +47,12 @@ fn feed_records<S: Store>(
 }
 
 /// Feeds the object that takes a whole file, as a module of the file's name.
-fn feed_object<S: Store>(store: &mut S, linker: &mut Linker, name: &str) -> Result<(), LinkFault>
+fn feed_object<S: Store>(
+    store: &mut S,
+    linker: &mut Linker,
+    reader: &mut RecordReader,
+    name: &str,
+) -> Result<(), LinkFault>
     requires { is_open linker.old ≡ false }
     ensures fed { FeedsObject (S.files store.old) name.now linker.old linker.new result }
     ensures opened { OnOk result (is_open linker.new ≡ false) }
@@ -57,7 +63,7 @@ fn feed_object<S: Store>(store: &mut S, linker: &mut Linker, name: &str) -> Resu
 {
     let first = read_head(store, name, 0, u64::MAX)?;
     linker.begin_module(name.as_bytes())?;
-    let end = feed_records(store, linker, name, first)?;
+    let end = feed_records(store, linker, reader, name, first)?;
     check_end(store, name, end, u64::MAX)?;
     linker.end_module()
 }
@@ -76,8 +82,9 @@ pub fn feed_inputs<S: Store>(
     ensures count { (modules : List Module) → IsFed linker.old modules →
         PassesBy is_failure (S.failures store.old) (S.failures store.new) result }
 {
+    let mut reader = RecordReader::new();
     for (place, input) in inputs.iter().enumerate() {
-        match feed_object(store, linker, input) {
+        match feed_object(store, linker, &mut reader, input) {
             Ok(()) => {}
             Err(fault) => return Err(Refusal::of_input(place, fault)),
         }

@@ -22,6 +22,10 @@ cut at limit bytes past = rw (drop_all at bytes past) (empty (limit - at)) where
   empty zero = refl
   empty (suc n) = refl
 
+-- a record that was read, as the borrower of the reader sees it
+pub seen : (known : Option Files) (read : Files → Result (Entry × ℕ) ObjectFault) (shown of_reader : Entry) (next : ℕ) → shown ≡ of_reader → IfSome known (λ m. read m ≡ Ok (of_reader, next)) → IfSome known (λ m. read m ≡ Ok (shown, next))
+seen known read shown of_reader next same h = rw same h
+
 -- from here on the same is read as from the beginning
 pub record Goes (bytes : List ℕ) (limit at next : ℕ) (s : State) : Type 0 where
   pub left : ℕ

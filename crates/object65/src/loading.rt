@@ -10,7 +10,7 @@ ghost use Rattle.object65.specs.Reading.{in_file};
 ghost use Rattle.object65.specs.Taking.{start};
 ghost use Rattle.object65.specs.Whole.{records_at, object_at};
 
-use crate::{Builder, Object, ObjectFault, check_end, read_head, read_record};
+use crate::{Builder, Object, ObjectFault, RecordReader, check_end, read_head};
 use std::alloc::Global;
 use syntax65::Store;
 
@@ -27,11 +27,11 @@ fn read_records<S: Store>(
     ensures count { Passes ObjectFault.FileError (S.failures store.old) (S.failures store.new) result }
 {
     let mut builder = Builder::new(alloc);
+    let mut reader = RecordReader::new();
     let mut next = at;
     'records: loop {
-        let (record, end) = read_record(store, name, next, limit)?;
-        builder.take(&record)?;
-        next = end;
+        next = reader.read(store, name, next, limit)?;
+        builder.take(reader.record())?;
         if builder.is_ended() {
             return Ok((builder, next));
         }

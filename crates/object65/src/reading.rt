@@ -1,16 +1,15 @@
-//! Reading an object's head, records and end from a file.
+//! Reading an object's head and end from a file, and the fronts of its records.
 
-ghost use Rattle.std.specs.Prelude.{◌≡◌, ◌≤◌, ◌<◌, ◌+◌, ◌-◌, ◌^◌, ℕ, List, length, IfOk, IfSome, take};
+ghost use Rattle.std.specs.Prelude.{◌≡◌, ◌≤◌, ◌+◌, ◌-◌, length, IfOk, IfSome, take};
 ghost use Rattle.std.specs.FinMap as map;
 ghost use Rattle.syntax65.specs.Store.{Passes};
 ghost use Rattle.object65.specs.Fault.{Gives, is_outside};
-ghost use Rattle.object65.specs.Record.{entry_of, is_record_kind};
-ghost use Rattle.object65.specs.Reading.{in_file, head_at, record_at, end_at, room, IsRoomRead, front_of, whole, file_limit};
+ghost use Rattle.object65.specs.Record.{is_record_kind};
+ghost use Rattle.object65.specs.Reading.{in_file, head_at, end_at, room, IsRoomRead, front_of};
 ghost use Rattle.object65.specs.Spelling.{body_limit};
 
+use crate::ObjectFault;
 use crate::record::{END, IMPORT};
-use crate::{ObjectFault, Record};
-use arrayvec::ArrayVec;
 use byteorder::{ByteOrder, LittleEndian};
 use syntax65::{Store, StoreFault, read_full};
 
@@ -19,13 +18,11 @@ const MAGIC: [u8; 4] = [0x52, 0x36, 0x35, 0x6f];
 
 const VERSION: u8 = 1;
 
-const LARGEST_BODY: usize = 4096;
-
-/// An object or library file has at most so many bytes.
-const FILE_LIMIT: u64 = 1_073_741_824;
+/// The body of a record has at most so many bytes.
+pub const LARGEST_BODY: usize = 4096;
 
 /// Reads a member's bytes from a place on, up to the end of its room, until the buffer is full.
-fn read_room<S: Store>(
+pub fn read_room<S: Store>(
     store: &mut S,
     name: &str,
     at: u64,
@@ -70,30 +67,8 @@ pub fn read_head<S: Store>(
     Ok(at + 5)
 }
 
-/// Reads a record, and answers where the next begins.
-#[tactic(auto, unfolding(crate::specs::Reading::record_at))]
-pub fn read_record<S: Store>(
-    store: &mut S,
-    name: &str,
-    at: u64,
-    limit: u64,
-) -> Result<(Record, u64), ObjectFault>
-    ensures read { IfSome (S.files store.old) (λ m. Gives is_outside (λ x. (entry_of x.0, x.1)) result (in_file (map.get m name.now) (record_at at limit))) }
-    ensures files { S.files store.new ≡ S.files store.old }
-    ensures count { Passes ObjectFault.FileError (S.failures store.old) (S.failures store.new) result }
-    ensures bound { IfOk result (λ x. (x.1 ≡ at + 3 + length x.0.body.items) × (x.1 ≤ limit) × (x.1 ≤ file_limit)) }
-{
-    let (kind, len) = read_front(store, name, at, limit)?;
-    let body = read_body(store, name, at + 3, limit, len)?;
-    let next = at + 3 + len as u64;
-    if next > FILE_LIMIT {
-        return Err(ObjectFault::BadSize);
-    }
-    Ok((Record { kind, body }, next))
-}
-
 /// Reads the front of a record: its kind and the length of its body.
-fn read_front<S: Store>(
+pub fn read_front<S: Store>(
     store: &mut S,
     name: &str,
     at: u64,
@@ -119,33 +94,6 @@ fn read_front<S: Store>(
         return Err(ObjectFault::BadSize);
     }
     Ok((kind, len))
-}
-
-/// Reads the body of a record.
-fn read_body<S: Store>(
-    store: &mut S,
-    name: &str,
-    at: u64,
-    limit: u64,
-    len: usize,
-) -> Result<ArrayVec<u8, 4096>, ObjectFault>
-    requires { len ≤ body_limit }
-    ensures read { IfSome (S.files store.old) (λ m. Gives is_outside (λ x. x.items) result (in_file (map.get m name.now) (λ bytes. whole len (take len (room bytes at limit))))) }
-    ensures files { S.files store.new ≡ S.files store.old }
-    ensures count { Passes ObjectFault.FileError (S.failures store.old) (S.failures store.new) result }
-    ensures room { IfOk result (λ x. len ≤ limit - at) }
-    ensures len { IfOk result (λ x. length x.items ≡ len) }
-{
-    let mut bytes = [0u8; LARGEST_BODY];
-    let n = read_room(store, name, at, limit, &mut bytes[..len])?;
-    if n < len {
-        return Err(ObjectFault::CutShort);
-    }
-    let mut body = ArrayVec::new();
-    match body.try_extend_from_slice(&bytes[..len]) {
-        Ok(()) => Ok(body),
-        Err(_) => unreachable!(),
-    }
 }
 
 /// Refuses bytes behind an object.

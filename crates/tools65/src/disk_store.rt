@@ -47,10 +47,18 @@ fn fault_of(failures: &mut u64, error: &io::Error) -> StoreFault
     }
 }
 
-/// Opens a file to be read.
-fn open_ahead<R: Files>(alloc: Global, files: &R, name: &str) -> io::Result<ReadAhead<R::File>> {
+/// Opens a file to be read, with the buffer of the one that was read before, if any.
+fn open_ahead<R: Files>(
+    alloc: Global,
+    files: &R,
+    name: &str,
+    last: Option<ReadAhead<R::File>>,
+) -> io::Result<ReadAhead<R::File>> {
     let file = fs::open(files, name)?;
-    Ok(ReadAhead::new(alloc, name, file)?)
+    match last {
+        Some(last) => Ok(last.with_file(Text::copy_of(alloc, name)?, file)),
+        None => Ok(ReadAhead::new(alloc, name, file)?),
+    }
 }
 
 /// Makes a file empty.
@@ -91,14 +99,19 @@ impl<R: Files> DiskStore<R> {
         }
     }
 
-    /// The file to read, as it was left or opened anew.
-    fn reader(&mut self, name: &str) -> io::Result<ReadAhead<R::File>>
+    /// Opens a file to be read, unless it is the one that was read last.
+    fn open_to_read(&mut self, name: &str) -> io::Result<()>
         ensures { self.new.failures ≡ self.old.failures }
     {
-        match self.reading.take() {
-            Some(reading) if reading.is_of(name) => Ok(reading),
-            _ => open_ahead(self.alloc, &self.files, name),
+        let is_open = match &self.reading {
+            Some(reading) => reading.is_of(name),
+            None => false,
+        };
+        if !is_open {
+            let last = self.reading.take();
+            self.reading = Some(open_ahead(self.alloc, &self.files, name, last)?);
         }
+        Ok(())
     }
 
     /// The file to write, as it was left or opened anew.
@@ -116,10 +129,15 @@ impl<R: Files> DiskStore<R> {
         ensures bound { IfOk result (λ n. n ≤ length buf.new) }
         ensures count { self.new.failures ≡ self.old.failures }
     {
-        let mut reading = self.reader(name)?;
-        let n = reading.read_at(at, buf)?;
-        self.reading = Some(reading);
-        Ok(n)
+        self.open_to_read(name)?;
+        let read = match &mut self.reading {
+            Some(reading) => reading.read_at(at, buf),
+            None => Ok(0),
+        };
+        if read.is_err() {
+            self.reading = None;
+        }
+        read
     }
 
     fn begin_file(&mut self, name: &str) -> io::Result<()>

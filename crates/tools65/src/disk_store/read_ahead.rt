@@ -32,6 +32,24 @@ impl<F: Read + Seek + Drop> ReadAhead<F> {
         })
     }
 
+    /// Another file of this name, of which nothing is read yet, with the same buffer.
+    pub fn with_file(self, name: Text, file: F) -> Self {
+        let ReadAhead {
+            name: _,
+            file: _,
+            buffer,
+            start: _,
+            filled: _,
+        } = self;
+        ReadAhead {
+            name,
+            buffer,
+            file,
+            start: 0,
+            filled: 0,
+        }
+    }
+
     /// Whether the file has this name.
     pub fn is_of(&self, name: &str) -> bool {
         self.name.as_str() == name

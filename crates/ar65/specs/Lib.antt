@@ -1,0 +1,2 @@
+pub mod Librarian
+pub mod Refusals

@@ -53,7 +53,7 @@ name_there : (at : ℕ) (bytes : List ℕ) → IsThere (name_at at bytes)
 unfolding name_at
 name_there at bytes =
     then (field_at 1 at bytes) _ (field_there 1 at bytes) (λ len.
-        then (field_at (get_or len 0 0) (at + 1) bytes) _ (field_there (get_or len 0 0) (at + 1) bytes) (λ f. refl))
+    then (field_at (get_or len 0 0) (at + 1) bytes) _ (field_there (get_or len 0 0) (at + 1) bytes) (λ f. refl))
 
 symbol_there : (at : ℕ) (bytes : List ℕ) → IsThere (symbol_at at bytes)
 unfolding symbol_at
@@ -76,9 +76,9 @@ listing_there : (names : List (List ℕ)) (at : ℕ) (bytes : List ℕ) → IsTh
 unfolding listing_at
 listing_there names at bytes =
     then (member_name_at names at bytes) _ (member_name_there names at bytes) (λ n.
-        then (number_at n.1 bytes) _ (number_there n.1 bytes) (λ size.
-            then (counted_at (n.1 + 4) bytes) _ (counted_there (n.1 + 4) bytes) (λ e.
-                then (counted_at e.1 bytes) _ (counted_there e.1 bytes) (λ i. refl))))
+    then (number_at n.1 bytes) _ (number_there n.1 bytes) (λ size.
+    then (counted_at (n.1 + 4) bytes) _ (counted_there (n.1 + 4) bytes) (λ e.
+    then (counted_at e.1 bytes) _ (counted_there e.1 bytes) (λ i. refl))))
 
 listings_there : (n : ℕ) (before : List Listing) (at : ℕ) (bytes : List ℕ) → IsThere (listings_at n before at bytes)
 listings_there zero before at bytes = refl
@@ -104,8 +104,8 @@ index_there : (bytes : List ℕ) → IsThere (index_at bytes)
 unfolding index_at
 index_there bytes =
     then (list_at bytes) _ (list_there bytes) (λ l.
-        then (placed [] l.1 l.0) _ (placed_there [] l.1 l.0) (λ es.
-            then (end_at es.1 bytes) _ (end_there es.1 bytes) (λ u. refl)))
+    then (placed [] l.1 l.0) _ (placed_there [] l.1 l.0) (λ es.
+    then (end_at es.1 bytes) _ (end_there es.1 bytes) (λ u. refl)))
 
 object_there : (bytes : List ℕ) → IsThere (object_in bytes)
 object_there bytes = go (object_at 0 (length bytes) bytes) where
@@ -126,7 +126,7 @@ unfolding joined
 joined_there before e bytes =
     let piece = take e.size (drop e.place bytes) in
     then (piece_at e.size e.place bytes) _ (one_of (nat_lt (length piece) e.size) (Err CutShort) (Ok piece) refl refl) (λ found.
-        then (agreed e found) _ (agreed_there e found) (λ c. refl))
+    then (agreed e found) _ (agreed_there e found) (λ c. refl))
 
 all_there : (before : List Member) (es : List Entry) (bytes : List ℕ) → IsThere (joined_all before es bytes)
 all_there before [] bytes = refl

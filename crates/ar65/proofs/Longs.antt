@@ -46,7 +46,7 @@ records_end (suc left) s at limit bytes x e =
 more_behind : (end : ℕ) (bytes : List ℕ) → end < length bytes → end_at end (length bytes) bytes ≡ Err BytesAfterEnd
 more_behind end bytes h =
     let left : length (take 1 (room bytes end (length bytes))) ≡ min 1 (min (length bytes - end) (length bytes - end)) =
-        length-take 1 (room bytes end (length bytes)) ∙ ap (min 1) (length-take (length bytes - end) (drop end bytes) ∙ ap (min (length bytes - end)) (length-drop end bytes)) in
+    length-take 1 (room bytes end (length bytes)) ∙ ap (min 1) (length-take (length bytes - end) (drop end bytes) ∙ ap (min (length bytes - end)) (length-drop end bytes)) in
     let some : nat_lt 0 (length (take 1 (room bytes end (length bytes)))) ≡ true = grind (arith, nat_tests) in
     rw some refl
 

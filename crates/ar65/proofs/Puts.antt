@@ -59,7 +59,7 @@ put_of (Some m) ms name front put new r named read gives = go (get m name) read
     go (Some bytes) read =
         let same : take (file_limit + 1) bytes ≡ front = cc in
         let whole : replaced ms put front ≡ replaced ms (member_name name) bytes =
-            ap (λ n. replaced ms n front) named ∙ ap (replaced ms (member_name name)) (sym same) ∙ told_by_front ms (member_name name) bytes in
+        ap (λ n. replaced ms n front) named ∙ ap (replaced ms (member_name name)) (sym same) ∙ told_by_front ms (member_name name) bytes in
         weaker_result (λ _. new) r (replaced ms (member_name name) bytes) (subst (Gives is_library_memory (λ _. new) r) whole gives)
 
 no_store : (ms : List Member) (name bytes : List ℕ) → replaced ms name bytes ≡ Err fault.FileError → ⊥
@@ -105,7 +105,6 @@ refused_count start mid new k e same p = record {
   cause = λ h. subst (λ n. HasFailed n new) same (p.cause (ap (λ x. Err x) (is_stored k e h)));
 }
 
-
 -- what is left of the FILEs comes to the same as all of them
 abbrev pub IsLeft : Option Files → List Member → List (List ℕ) → List Member → ℕ → Type 0
 IsLeft known before names ms k = IfSome known (λ m. with_files m ms k (drop k names) ≡ with_files m before 0 names)
@@ -132,7 +131,7 @@ file_none None next before ms names k name e same at left put = tt
 file_none (Some m) next before ms names k name e same at left put =
     let here : Refuses is_library_outside e (with_file m ms name) = rw same at put in
     let whole : with_file m ms name ≡ Err e → with_files m before 0 names ≡ Err (refusal.File k e) = λ h.
-        sym left ∙ ap (with_files m ms k) at ∙ ap (λ r. as_file k r >>= (λ xs. with_files m xs (k + 1) (drop (k + 1) names))) h in
+    sym left ∙ ap (with_files m ms k) at ∙ ap (λ r. as_file k r >>= (λ xs. with_files m xs (k + 1) (drop (k + 1) names))) h in
     file_outside k e (with_files m before 0 names ≡ Err (refusal.File k e)) (unless_then (is_library_outside e) whole here)
 
 pub file_last : (known : Option Files) (before ms : List Member) (names : List (List ℕ)) (k : ℕ) → length names ≤ k → IsLeft known before names ms k → IfSome known (λ m. with_files m before 0 names ≡ Ok ms)

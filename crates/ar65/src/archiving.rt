@@ -65,11 +65,7 @@ fn delete<S: Store>(
 
 /// The names of the library's members.
 #[tactic(auto, unfolding(crate::specs::Librarian::listed_by))]
-fn list<S: Store>(
-    alloc: Global,
-    store: &mut S,
-    line: &ArchiveLine<'_>,
-) -> Result<Archived, Refusal>
+fn list<S: Store>(alloc: Global, store: &mut S, line: &ArchiveLine<'_>) -> Result<Archived, Refusal>
     ensures archived { IfSome (S.files store.old) (λ m. Gives is_outside (λ a. a) result (listed_by m (archiving line.now))) }
     ensures files { S.files store.new ≡ S.files store.old }
     ensures count { PassesBy is_failure (S.failures store.old) (S.failures store.new) result }
@@ -90,11 +86,7 @@ fn extract<S: Store>(
     ensures count { PassesBy is_failure (S.failures store.old) (S.failures store.new) result }
 {
     let library = Library::load(alloc, store, line.library)?;
-    Ok(Archived::Members(extract_files(
-        alloc,
-        &library,
-        line.files.as_slice(),
-    )?))
+    Ok(Archived::Members(extract_files(alloc, &library, line.files.as_slice())?))
 }
 
 /// What a line comes to: the library anew, the names of its members, or members as files. No file is written. First the

@@ -29,9 +29,10 @@ fn file_of(alloc: Global, library: &Library, name: &str) -> Result<MemberFile, L
             name: Text::copy_of(alloc, name)?,
             bytes: Sequence::from_vec(Vec::from_slice(alloc, bytes)?),
         }),
-        None => Err(LibraryFault::NoSuchMember(Sequence::from_vec(
-            Vec::from_slice(alloc, name.as_bytes())?,
-        ))),
+        None => Err(LibraryFault::NoSuchMember(Sequence::from_vec(Vec::from_slice(
+            alloc,
+            name.as_bytes(),
+        )?))),
     }
 }
 

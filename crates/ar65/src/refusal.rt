@@ -79,7 +79,10 @@ pub fn refusal_message(
     ensures { IfOk result (λ text. text ≡ refusal_message (archiving line.now) refusal.now) }
 {
     if refusal.is_memory() {
-        return join(alloc, &[line.library.as_bytes(), b": Error: out of memory\n"]);
+        return join(
+            alloc,
+            &[line.library.as_bytes(), b": Error: out of memory\n"],
+        );
     }
     match refusal {
         Refusal::Library(fault) => file_message(

@@ -13,7 +13,8 @@ use Rattle.asm65.specs.declared.refusal.AsmRefusal.{AsmRefusal}
 use Rattle.asm65.specs.Assembly.{IsAssembled}
 use Rattle.language65.specs.Faults.{is_memory as is_asm_memory}
 use Rattle.asm65.specs.Refusals.{has_failed, is_outside_refusal}
-use Rattle.tools65.specs.Command.{failing, outcome_of, Assembles, AssemblesWith, Does, DoesLine, Commands, Ran, RanWords, line_memory, refused_with}
+use Rattle.tools65.specs.Outputs.{failing}
+use Rattle.tools65.specs.Command.{outcome_of, Assembles, AssemblesWith, Does, DoesLine, Commands, Ran, RanWords, line_memory, refused_with}
 use Rattle.tools65.specs.Leaving.{Prints, SaysBoth, Settles, Performs, StopsShort}
 use Rattle.line65.specs.Line.{Archiving, Assembling, Linking, Says, line_of}
 use Rattle.line65.specs.LineFaults.{is_outside as is_line_outside}

@@ -16,8 +16,7 @@ use Rattle.tools65.specs.declared.outcome.Status.TheVariants.{Success, Failure}
 use Rattle.tools65.specs.Leaving.{Performs, StopsShort}
 use Rattle.line65.specs.Line.{Assembling, Linking, Says, assemble, link, archive, line_of}
 use Rattle.ld65.specs.Linkage.{IsLinked}
-pub use Rattle.tools65.specs.Outputs.{failing}
-use Rattle.tools65.specs.Outputs.{outputs_of, with_map}
+use Rattle.tools65.specs.Outputs.{failing, outputs_of, with_map}
 use Rattle.tools65.specs.Archives.{Archives}
 use Rattle.line65.specs.Messages.{line_message_of, line_memory_message, memory_line}
 use Rattle.ld65.specs.Refusals.{refusal_message, memory_message}

@@ -14,9 +14,9 @@ use Rattle.library65.specs.declared.entry.Listing.{Listing}
 use Rattle.library65.specs.declared.fault.LibraryFault.{LibraryFault}
 use Rattle.library65.specs.declared.fault.LibraryFault.TheVariants.{FileNotFound, BadIndex, BadMemberName, CutShort, IndexDisagrees, NotALibrary}
 use Rattle.library65.specs.Fault.{is_outside}
-use Rattle.library65.specs.Libraries.{added, agreed, agrees, as_member, checked, contents_in, joined, joined_all, library_at, object_in, piece_at, with_member}
+use Rattle.library65.specs.Libraries.{agreed, agrees, as_member, checked, contents_in, joined, joined_all, library_at, object_in, piece_at}
 use Rattle.library65.specs.Names.{is_among, is_member_name, is_name}
-use Rattle.library65.specs.Reading.{count_at, counted_at, end_at, entry_at, field_at, head_at, head_of, in_file, index_at, list_at, listing_at, listings_at, member_name_at, name_at, number_at, placed, symbol_at, symbols_at, whole}
+use Rattle.library65.specs.Reading.{count_at, counted_at, end_at, entry_at, field_at, head_at, in_file, index_at, list_at, listing_at, listings_at, member_name_at, name_at, number_at, placed, symbol_at, symbols_at}
 use Rattle.library65.specs.Spelling.{Member, library_head}
 use Rattle.ar65.specs.Librarian.{begun}
 

@@ -1,12 +1,12 @@
 -- A file past the limit of an object file holds no object, and its front tells so.
-use Rattle.std.proofs.Common.{◌≡◌, ◌∙◌, ℕ, zero, suc, ◌+◌, ◌-◌, ◌<◌, ◌≤◌, Bool, true, false, nat_lt, List, [], ◌∷◌, length, take, drop, Option, Some, None, Result, Ok, Err, refl, sym, ap, arith, min, if◌then◌else◌}
+use Rattle.std.proofs.Common.{◌≡◌, ◌∙◌, ℕ, zero, suc, ◌+◌, ◌-◌, ◌<◌, ◌≤◌, Bool, true, false, nat_lt, List, length, take, drop, Result, Ok, Err, refl, sym, ap, arith, min, if◌then◌else◌}
 use Rattle.std.proofs.lemmas.Bool.Decides.{nat_tests}
 use Rattle.std.proofs.lemmas.List.{take_all, length-take, length-drop}
 use Rattle.object65.specs.declared.fault.ObjectFault.{ObjectFault}
 use Rattle.object65.specs.declared.fault.ObjectFault.TheVariants.{BadSize, BytesAfterEnd}
 use Rattle.object65.specs.declared.object.Object.{Object}
 use Rattle.syntax65.specs.Outcome.{◌>>=◌}
-use Rattle.object65.specs.Reading.{end_at, ending, file_limit, front_of, head_at, record_at, room, whole}
+use Rattle.object65.specs.Reading.{end_at, file_limit, front_of, head_at, record_at, room, whole}
 use Rattle.object65.specs.Record.{Entry}
 use Rattle.object65.specs.Taking.{State, after, finished, start}
 use Rattle.object65.specs.Whole.{object_at, records_at}

@@ -1,7 +1,6 @@
 -- Objects of FILEs put into a library, one behind the other.
-use Rattle.std.proofs.Common.{◌≡◌, ◌∙◌, ℕ, zero, suc, ◌+◌, ◌<◌, ◌≤◌, Bool, true, false, List, [], ◌∷◌, length, get_or, drop, map, take, Option, Some, None, Result, Ok, Err, refl, sym, ap, subst, arith}
-use Rattle.std.specs.Prelude.{IfSome, IsErrOf, ◌||◌, if◌then◌else◌}
-use Rattle.std.specs.Borrow.{Bor}
+use Rattle.std.proofs.Common.{◌≡◌, ◌∙◌, ℕ, ◌+◌, ◌<◌, ◌≤◌, Bool, true, false, List, ◌∷◌, length, drop, take, Option, Some, None, Result, Ok, Err, refl, sym, ap, subst, arith}
+use Rattle.std.specs.Prelude.{IfSome, IsErrOf}
 use Rattle.std.specs.FinMap.{get}
 use Rattle.std.proofs.lemmas.List.{drop_all}
 use Rattle.syntax65.specs.Outcome.{◌>>=◌, Gives, Refuses, Unless}
@@ -19,9 +18,8 @@ use Rattle.library65.specs.Libraries.{checked, replaced, with_member}
 use Rattle.library65.specs.Reading.{in_file}
 use Rattle.library65.specs.Spelling.{Member}
 use Rattle.library65.proofs.Members.{not_stored}
-use Rattle.ar65.specs.declared.refusal.Refusal.{Refusal}
 use Rattle.ar65.specs.declared.refusal.Refusal.TheVariants as refusal
-use Rattle.ar65.specs.Librarian.{as_file, as_library, member_name, with_file, with_files}
+use Rattle.ar65.specs.Librarian.{as_file, member_name, with_file, with_files}
 use Rattle.ar65.specs.Refusals.{is_failure, is_outside}
 use Rattle.ar65.proofs.Longs.{told_by_front}
 

@@ -1,8 +1,8 @@
 -- Members taken out of a library, and members as files.
-use Rattle.std.proofs.Common.{◌≡◌, ◌∙◌, ℕ, ◌+◌, Bool, true, false, List, [], ◌∷◌, ◌++◌, length, drop, map, Option, Some, None, Result, Ok, Err, Bor, refl, sym, ap, subst}
+use Rattle.std.proofs.Common.{◌≡◌, ◌∙◌, ℕ, ◌+◌, Bool, true, false, List, [], ◌∷◌, length, drop, map, Option, Some, None, Result, Ok, Err, Bor, refl, sym, ap}
 use Rattle.std.specs.Prelude.{IfSome, ◌==◌}
 use Rattle.std.specs.FinMap.{get}
-use Rattle.syntax65.specs.Outcome.{◌>>=◌, Gives, Refuses, Unless}
+use Rattle.syntax65.specs.Outcome.{◌>>=◌, Refuses, Unless}
 use Rattle.syntax65.specs.Store.{Files, Passes, PassesBy}
 use Rattle.library65.specs.declared.fault.LibraryFault.{LibraryFault}
 use Rattle.library65.specs.declared.fault.LibraryFault.TheVariants as fault
@@ -11,10 +11,8 @@ use Rattle.library65.specs.Libraries.{deleted, library_at, member_names}
 use Rattle.library65.specs.Reading.{in_file}
 use Rattle.library65.specs.Spelling.{Member}
 use Rattle.line65.specs.Line.{Archiving}
-use Rattle.ar65.specs.declared.archiving.Archived.{Archived}
 use Rattle.ar65.specs.declared.archiving.Archived.TheVariants as archived
 use Rattle.ar65.specs.declared.extracting.MemberFile.{MemberFile}
-use Rattle.ar65.specs.declared.refusal.Refusal.{Refusal}
 use Rattle.ar65.specs.declared.refusal.Refusal.TheVariants as refusal
 use Rattle.ar65.specs.Librarian.{AreTexts, extracted, extracted_by, file_of, files_of, member_name, without_files}
 use Rattle.ar65.specs.Refusals.{is_failure, is_outside}

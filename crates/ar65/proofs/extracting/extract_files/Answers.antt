@@ -1,4 +1,4 @@
-use Rattle.std.proofs.Common.{List, ap, sym, subst}
+use Rattle.std.proofs.Common.{sym, subst}
 use Rattle.syntax65.specs.Outcome.{Gives}
 use Rattle.library65.specs.Fault.{is_memory}
 use Rattle.ar65.proofs.Takes.{some_named}

@@ -38,6 +38,35 @@ impl Store for ByteByByte {
     }
 }
 
+/// Files in memory. The bytes that were read are counted, and the files that were created.
+#[derive(Drop)]
+struct Counting {
+    files: MemStore,
+    read: u64,
+    created: u64,
+}
+
+impl Store for Counting {
+    ghost files = { λ s. Some s.files };
+
+    ghost failures = { λ _. 0 };
+
+    fn read_at(&mut self, name: &str, at: u64, buf: &mut [u8]) -> Result<usize, StoreFault> {
+        let n = self.files.read_at(name, at, buf)?;
+        self.read = self.read.wrapping_add(n as u64);
+        Ok(n)
+    }
+
+    fn create(&mut self, name: &str) -> Result<(), StoreFault> {
+        self.created = self.created.wrapping_add(1);
+        self.files.create(name)
+    }
+
+    fn append(&mut self, name: &str, piece: &[u8]) -> Result<usize, StoreFault> {
+        self.files.append(name, piece)
+    }
+}
+
 /// Files in memory. One call fails, the one behind so many others, and is counted.
 #[derive(Drop)]
 struct FailsOnce {
@@ -205,6 +234,21 @@ fn library(alloc: Global) -> Result<MemStore, AllocError> {
         b"R65l\x01\x01\0\0\0\x03a.o\x08\0\0\0\0\0\0\0\0\0\0\0R65o\x01\x08\0\0",
     )?;
     Ok(store)
+}
+
+/// Of the library's 33 bytes and the object's 26 each is read once, and the library's last one a second time, to see where
+/// the file ends. The library alone is written, and once.
+#[test]
+fn reads_and_writes_once(rt: HostRuntime) -> Result<(), Fail> {
+    let mut store = Counting {
+        files: library(rt.alloc())?,
+        read: 0,
+        created: 0,
+    };
+    let words = ["bin65", "ar65", "r", "l.lib", "a.o"];
+    assert!(rt; is_quiet(&run_on(rt.alloc(), &mut store, &words)));
+    assert!(rt; store.created == 1 && store.read == 60);
+    Ok(())
 }
 
 #[test]

@@ -1,2 +1,3 @@
 pub mod Librarian
 pub mod Refusals
+pub mod Laws

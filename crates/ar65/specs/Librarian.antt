@@ -122,12 +122,12 @@ extracted_by m a = do
   files ← as_library (extracted ms a.files)
   Ok (archived.Members files)
 
+abbrev pub done : Operation → Files → Archiving → Result Archived Refusal
+done operation.Replace m a = replaced_by m a
+done operation.Delete m a = deleted_by m a
+done operation.List m a = listed_by m a
+done operation.Extract m a = extracted_by m a
+
 -- what a line comes to, or its first fault: first the library is read, then the FILEs are taken in order
 abbrev pub archived_of : Files → Archiving → Result Archived Refusal
-archived_of m a = by a.operation
-  where
-    by : Operation → Result Archived Refusal
-    by operation.Replace = replaced_by m a
-    by operation.Delete = deleted_by m a
-    by operation.List = listed_by m a
-    by operation.Extract = extracted_by m a
+archived_of m a = done a.operation m a

@@ -4,6 +4,7 @@
 mod archiving;
 mod deleting;
 mod extracting;
+pub mod laws;
 mod listing;
 mod loading;
 mod naming;

@@ -1,7 +1,7 @@
 #!/usr/bin/env python3
 """The real program past all sizes at once: a source of more than 100,000 lines with 5,000 imports, 1,000 sections of 4 MB and
 1 MB of text for each stream; and its link without the imports, by a script of 2,000 areas and 21,000 rows, into an image of 4 MB
-with 1 MB of warnings. Whole answers are compared with what is computed here.
+with 1 MB of warnings; and a library of 2,000 members. Whole answers are compared with what is computed here.
 
 usage: large.py BIN65    Prints a line a test, and last 'N passed, M failed'.
 """
@@ -17,6 +17,7 @@ SECTIONS = 1000
 IMPORTS = 5000
 AREAS = 2000
 ABSENT_ROWS = 20000
+MEMBERS = 2000
 AREA_SIZE = 4400
 # Lines of data in a section, values of four bytes in a line, texts for each stream in a section.
 LINES, VALUES, TEXTS = 98, 11, 5
@@ -159,6 +160,49 @@ def assemble(tests, name, source):
     tests.check(name, [("status", ran.returncode, 0), *said, ("object", get("b.o"), source.object())])
 
 
+def number(value, size):
+    return value.to_bytes(size, "little")
+
+
+def member(at):
+    """An object of four bytes that exports a name, and imports the next one."""
+    export, wanted = f"f{at}".encode(), f"f{at + 1}".encode()
+    section = record(2, number(4, 4) + b"\0CODE") + literals(number(value(at, at, 0), 4))
+    exported = record(6, bytes([len(export)]) + export + number(1, 4) + b"\0" + number(at, 8))
+    return b"R65o\1" + record(1, wanted) + section + exported + record(8, b"")
+
+
+def library(members):
+    """The library of these members."""
+    index = b"R65l\1" + number(len(members), 4)
+    for at in members:
+        names = [f"m{at}.o".encode(), f"f{at}".encode(), f"f{at + 1}".encode()]
+        name, export, wanted = (bytes([len(it)]) + it for it in names)
+        index += name + number(len(member(at)), 4) + number(1, 4) + export + number(1, 4) + wanted
+    return index + b"".join(map(member, members))
+
+
+def keep_library(tests):
+    """Puts all members into a library, lists them, takes every other one out, and the others apart."""
+    files = [f"m{at}.o" for at in range(MEMBERS)]
+    for at, name in enumerate(files):
+        with open(name, "wb") as opened:
+            opened.write(member(at))
+    ran = tests.run("ar65", "r", "l.lib", *files)
+    tests.check("a library of 2,000 members", [("status", ran.returncode, 0), ("library", get("l.lib"), library(range(MEMBERS)))])
+    ran = tests.run("ar65", "t", "l.lib")
+    tests.check("its names", [("status", ran.returncode, 0), ("out", ran.stdout, joined(files))])
+    ran = tests.run("ar65", "d", "l.lib", *files[::2])
+    left = range(1, MEMBERS, 2)
+    tests.check("half of them", [("status", ran.returncode, 0), ("library", get("l.lib"), library(left))])
+    for name in files:
+        os.remove(name)
+    ran = tests.run("ar65", "x", "l.lib")
+    found = [get(f"m{at}.o") for at in range(MEMBERS)]
+    wanted = [member(at) if at % 2 else None for at in range(MEMBERS)]
+    tests.check("these as files", [("status", ran.returncode, 0), ("files", found, wanted)])
+
+
 def main():
     tests = Tests(os.path.abspath(sys.argv[1]))
     folder = tempfile.mkdtemp(prefix="large-")
@@ -174,6 +218,7 @@ def main():
         assert len(image()) > 4 * 2**20 and len(warnings) > 1000000
         said = [("status", ran.returncode, 0), ("out", ran.stdout, b""), ("err", ran.stderr, warnings)]
         tests.check("its link", [*said, ("image", get("image"), image()), ("side", get("side"), side())])
+        keep_library(tests)
     finally:
         os.chdir("/")
         shutil.rmtree(folder)

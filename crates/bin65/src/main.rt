@@ -1,4 +1,4 @@
-//! bin65: ca65 and ld65 of the cc65 suite, as one program.
+//! bin65: ca65, ld65 and ar65 of the cc65 suite, as one program.
 #![tactic(auto)]
 
 use std::io::ErrorKind;

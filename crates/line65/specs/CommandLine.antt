@@ -17,6 +17,10 @@ required_option_rule id short = record (new_rule id) { short = Some short; requi
 abbrev pub word_rule : Text → Rule
 word_rule id = record (new_rule id) { required = true }
 
+-- any number of words, none too
+abbrev pub any_words_rule : Text → Rule
+any_words_rule id = record (new_rule id) { action = Some Append }
+
 -- words of which there has to be one
 abbrev pub words_rule : Text → Rule
 words_rule id = record (new_rule id) { action = Some Append; required = true }
@@ -35,6 +39,13 @@ ld65 = with_rule (with_rule (with_rule (with_rule (new_app (codes "ld65"))
     (option_rule (codes "map") 109))
     (words_rule (codes "input"))
 
+-- `ar65 OP LIBRARY [FILE]..`
+abbrev pub ar65 : App
+ar65 = with_rule (with_rule (with_rule (new_app (codes "ar65"))
+    (word_rule (codes "operation")))
+    (word_rule (codes "library")))
+    (any_words_rule (codes "file"))
+
 -- the program's own words: one of the subcommands, and neither help nor version
 abbrev pub named : App
 named = record (new_app (codes "bin65")) {
@@ -47,7 +58,7 @@ named = record (new_app (codes "bin65")) {
 
 -- the whole command
 abbrev pub bin65 : App
-bin65 = with_subcommand (with_subcommand named ca65.top) ld65.top
+bin65 = with_subcommand (with_subcommand (with_subcommand named ca65.top) ld65.top) ar65.top
 
 -- c is read as a, and none of its arguments is global
 pub record IsMade (a : App) (c : Command) : Type 0 where

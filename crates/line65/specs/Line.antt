@@ -6,10 +6,13 @@ use Rattle.syntax65.specs.Outcome.{◌>>=◌}
 use Rattle.line65.specs.CommandLine.{bin65}
 use Rattle.line65.specs.declared.fault.LineFault.{LineFault}
 use Rattle.line65.specs.declared.fault.LineFault.TheVariants.{BadArguments}
+use Rattle.line65.specs.declared.line.ArchiveLine.{ArchiveLine}
 use Rattle.line65.specs.declared.line.AssembleLine.{AssembleLine}
 use Rattle.line65.specs.declared.line.LinkLine.{LinkLine}
 use Rattle.line65.specs.declared.line.Line.{Line}
 use Rattle.line65.specs.declared.line.Line.TheVariants as line
+use Rattle.line65.specs.declared.line.Operation.{Operation}
+use Rattle.line65.specs.declared.line.Operation.TheVariants.{Replace, Delete, List as Names, Extract}
 
 -- where clap has no fault, what it gives
 abbrev pub unless_kinds : {A : Type 0} → Kinds → A → Result A LineFault
@@ -32,10 +35,17 @@ pub record Assembling : Type 0 where
   pub output : Option Text
   pub source : Text
 
+-- what an ar65 line says
+pub record Archiving : Type 0 where
+  pub operation : Operation
+  pub library : Text
+  pub files : List Text
+
 -- what a line says
 pub data Says : Type 0 where
   assemble : Assembling → Says
   link : Linking → Says
+  archive : Archiving → Says
 
 -- the one value of an argument
 abbrev pub given : List ℕ → List Row → Text
@@ -61,11 +71,35 @@ assembling_of rows = record {
   source = given (codes "source") rows;
 }
 
+-- the operation of a word: `r`, `d`, `t` or `x`
+unfoldable pub operation_of : Text → Result Operation LineFault
+operation_of word =
+    if bytes_eq word (codes "r") then Ok Replace
+    else if bytes_eq word (codes "d") then Ok Delete
+    else if bytes_eq word (codes "t") then Ok Names
+    else if bytes_eq word (codes "x") then Ok Extract
+    else Err BadArguments
+
+-- `ar65 OP LIBRARY [FILE]..`
+unfoldable pub archiving_of : List Row → Result Archiving LineFault
+archiving_of rows = do
+  operation ← operation_of (given (codes "operation") rows)
+  Ok (record {
+    operation = operation;
+    library = given (codes "library") rows;
+    files = all_given (codes "file") rows;
+  })
+
+abbrev pub as_archive : Result Archiving LineFault → Result Says LineFault
+as_archive (Ok a) = Ok (archive a)
+as_archive (Err e) = Err e
+
 -- the line of a subcommand's name and matches
 unfoldable pub said_by : Text → List Row → Result Says LineFault
 said_by name rows =
     if bytes_eq name (codes "ca65") then Ok (assemble (assembling_of rows))
     else if bytes_eq name (codes "ld65") then Ok (link (linking_of rows))
+    else if bytes_eq name (codes "ar65") then as_archive (archiving_of rows)
     else Err BadArguments
 
 abbrev pub said : Option (Text × List Row) → Result Says LineFault
@@ -83,6 +117,10 @@ linking l = record { script = l.script.now; output = option_map (λ s. s.now) l.
 abbrev pub assembling : AssembleLine → Assembling
 assembling l = record { output = option_map (λ s. s.now) l.output; source = l.source.now }
 
+abbrev pub archiving : ArchiveLine → Archiving
+archiving l = record { operation = l.operation; library = l.library.now; files = map (λ s. s.now) l.files }
+
 abbrev pub view : Line → Says
 view (line.Assemble l) = assemble (assembling l)
 view (line.Link l) = link (linking l)
+view (line.Archive l) = archive (archiving l)

@@ -2,8 +2,8 @@
 
 ghost use Rattle.std.specs.Prelude.{◌≡◌, IfOk, false};
 ghost use Rattle.clap.specs.Words.{app_of, rule_of};
-ghost use Rattle.line65.specs.CommandLine.{Adds, IsMade, named, bin65, ca65, ld65};
-ghost use Rattle.line65.specs.CommandLine.{option_rule, required_option_rule, word_rule, words_rule};
+ghost use Rattle.line65.specs.CommandLine.{Adds, IsMade, named, bin65, ar65, ca65, ld65};
+ghost use Rattle.line65.specs.CommandLine.{any_words_rule, option_rule, required_option_rule, word_rule, words_rule};
 
 use clap::{Arg, ArgAction, Command};
 use std::alloc::{AllocError, Global};
@@ -51,6 +51,17 @@ fn with_word<'a>(
     with(command, Arg::new(alloc, id).required(true))
 }
 
+/// The command with any number of words.
+fn with_any_words<'a>(
+    alloc: Global,
+    command: Command<'a>,
+    id: &'a str,
+) -> Result<Command<'a>, AllocError>
+    ensures { IfOk result (λ c. Adds command.entry (any_words_rule id.entry.now) c) }
+{
+    with(command, Arg::new(alloc, id).action(ArgAction::Append))
+}
+
 /// The command with words of which there has to be one.
 fn with_words<'a>(
     alloc: Global,
@@ -83,6 +94,15 @@ fn ld65<'a>(alloc: Global) -> Result<Command<'a>, AllocError>
     with_words(alloc, command, "input")
 }
 
+/// `ar65 OP LIBRARY [FILE]..`
+fn ar65<'a>(alloc: Global) -> Result<Command<'a>, AllocError>
+    ensures { IfOk result (λ c. IsMade ar65 c) }
+{
+    let command = with_word(alloc, Command::new(alloc, "ar65"), "operation")?;
+    let command = with_word(alloc, command, "library")?;
+    with_any_words(alloc, command, "file")
+}
+
 /// The program's own part.
 fn named<'a>(alloc: Global) -> Command<'a>
     ensures { app_of result ≡ named }
@@ -99,5 +119,9 @@ pub fn command<'a>(alloc: Global) -> Result<Command<'a>, AllocError>
 {
     let assemble = ca65(alloc)?;
     let link = ld65(alloc)?;
-    named(alloc).subcommand(assemble)?.subcommand(link)
+    let archive = ar65(alloc)?;
+    named(alloc)
+        .subcommand(assemble)?
+        .subcommand(link)?
+        .subcommand(archive)
 }

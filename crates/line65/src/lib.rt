@@ -10,6 +10,6 @@ mod parsing;
 mod reading;
 
 pub use fault::LineFault;
-pub use line::{AssembleLine, Line, LinkLine};
+pub use line::{ArchiveLine, AssembleLine, Line, LinkLine, Operation};
 pub use messages::{fault_message, file_message, join, line_message};
 pub use reading::read_line;

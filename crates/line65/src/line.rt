@@ -24,9 +24,33 @@ pub struct AssembleLine<'a> {
     pub source: &'a str,
 }
 
+/// What is done with a library.
+#[derive(Clone, Copy, Debug, PartialEq, Eq)]
+pub enum Operation {
+    /// `r`: objects are put in, each in the place of the member of its name, or else last.
+    Replace,
+    /// `d`: members are taken out.
+    Delete,
+    /// `t`: the members' names are listed.
+    List,
+    /// `x`: members are written to files.
+    Extract,
+}
+
+/// `ar65 OP LIBRARY [FILE]..`
+#[derive(Debug, Drop)]
+pub struct ArchiveLine<'a> {
+    pub operation: Operation,
+    /// The library's file.
+    pub library: &'a str,
+    /// The files of objects, or for members, in order.
+    pub files: Sequence<&'a str>,
+}
+
 /// A command line.
 #[derive(Debug, Drop)]
 pub enum Line<'a> {
     Assemble(AssembleLine<'a>),
     Link(LinkLine<'a>),
+    Archive(ArchiveLine<'a>),
 }

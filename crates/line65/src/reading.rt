@@ -4,10 +4,10 @@ ghost use Rattle.std.specs.Prelude.{◌≡◌, IfOk, map, option_map};
 ghost use Rattle.clap.specs.Words.{found_of, rows_of, first_of};
 ghost use Rattle.syntax65.specs.Outcome.{Gives};
 ghost use Rattle.line65.specs.LineFaults.{is_outside};
-ghost use Rattle.line65.specs.Line.{view, all_given, assembling, linking, line_of, said_by, assembling_of, linking_of};
+ghost use Rattle.line65.specs.Line.{view, all_given, archiving, assembling, linking, line_of, operation_of, said_by, archiving_of, assembling_of, linking_of};
 
 use crate::fault::LineFault;
-use crate::line::{AssembleLine, Line, LinkLine};
+use crate::line::{ArchiveLine, AssembleLine, Line, LinkLine, Operation};
 use crate::parsing::parse;
 use clap::ArgMatches;
 use std::alloc::{AllocError, Global};
@@ -34,6 +34,7 @@ fn line_by<'a>(alloc: Global, name: &str, own: &ArgMatches<'a>) -> Result<Line<'
     match name {
         "ca65" => Ok(Line::Assemble(assemble_line(own))),
         "ld65" => Ok(Line::Link(link_line(alloc, own)?)),
+        "ar65" => Ok(Line::Archive(archive_line(alloc, own)?)),
         _ => Err(LineFault::BadArguments),
     }
 }
@@ -57,6 +58,31 @@ fn link_line<'a>(alloc: Global, own: &ArgMatches<'a>) -> Result<LinkLine<'a>, Al
         output: one(own, "output"),
         map: one(own, "map"),
         inputs: all(alloc, own, "input")?,
+    })
+}
+
+/// The operation of a word.
+#[tactic(auto, unfolding(crate::specs::Line::operation_of))]
+fn operation_of(word: &str) -> Result<Operation, LineFault>
+    ensures { Gives is_outside (λ operation. operation) result (operation_of word.now) }
+{
+    match word {
+        "r" => Ok(Operation::Replace),
+        "d" => Ok(Operation::Delete),
+        "t" => Ok(Operation::List),
+        "x" => Ok(Operation::Extract),
+        _ => Err(LineFault::BadArguments),
+    }
+}
+
+#[tactic(auto, unfolding(crate::specs::Line::archiving_of))]
+fn archive_line<'a>(alloc: Global, own: &ArgMatches<'a>) -> Result<ArchiveLine<'a>, LineFault>
+    ensures { Gives is_outside archiving result (archiving_of (rows_of (found_of own.now))) }
+{
+    Ok(ArchiveLine {
+        operation: operation_of(one(own, "operation").unwrap_or(""))?,
+        library: one(own, "library").unwrap_or(""),
+        files: all(alloc, own, "file")?,
     })
 }
 

@@ -1,6 +1,7 @@
 //! Runs of whole commands over files in memory: the worked ones, and what no command on the disk shows. All others are
 //! cases for the real program.
 
+mod archiving;
 mod assembling;
 mod devices;
 mod lines;

@@ -1,7 +1,7 @@
 -- From the parts of a run to the whole.
-use Rattle.std.proofs.Common.{◌≡◌, ◌∙◌, ◌⊎◌, inl, inr, ℕ, ◌<◌, ◌≤◌, List, [], Bool, true, false, Option, Some, None, Result, Ok, Err, refl, sym, arith, append-nil}
+use Rattle.std.proofs.Common.{◌≡◌, ◌∙◌, ◌⊎◌, inl, inr, ℕ, ◌<◌, ◌≤◌, List, [], Bool, true, false, Option, Some, None, Result, Ok, Err, refl, sym, ap, arith, append-nil}
 use Rattle.std.specs.Prelude.{IfSome, IfErr, ◌||◌}
-use Rattle.syntax65.specs.Outcome.{Finds, Refuses, Unless}
+use Rattle.syntax65.specs.Outcome.{Finds, Gives, Refuses, Unless}
 use Rattle.syntax65.specs.Store.{Files, NoneFailed, HasFailed, PassesBy, last_count}
 use Rattle.linkage65.specs.declared.linked.Linked.{Linked}
 use Rattle.ld65.specs.declared.refusal.Refusal.{Refusal}
@@ -13,13 +13,19 @@ use Rattle.asm65.specs.declared.refusal.AsmRefusal.{AsmRefusal}
 use Rattle.asm65.specs.Assembly.{IsAssembled}
 use Rattle.language65.specs.Faults.{is_memory as is_asm_memory}
 use Rattle.asm65.specs.Refusals.{has_failed, is_outside_refusal}
-use Rattle.tools65.specs.Command.{failing, outcome_of, Assembles, AssemblesWith, Does, DoesLine, Commands, Ran, RanWords, line_memory, refused_with}
+use Rattle.tools65.specs.Outputs.{failing}
+use Rattle.tools65.specs.Command.{outcome_of, Assembles, AssemblesWith, Does, DoesLine, Commands, Ran, RanWords, line_memory, refused_with}
 use Rattle.tools65.specs.Leaving.{Prints, SaysBoth, Settles, Performs, StopsShort}
-use Rattle.line65.specs.Line.{Assembling, Linking, Says, line_of}
+use Rattle.line65.specs.Line.{Archiving, Assembling, Linking, Says, line_of}
 use Rattle.line65.specs.LineFaults.{is_outside as is_line_outside}
 use Rattle.line65.specs.declared.fault.LineFault.{LineFault}
 use Rattle.line65.specs.declared.fault.LineFault.TheVariants.{OutOfMemory, BadArguments}
 use Rattle.line65.specs.Messages.{line_message_of, line_memory_message, memory_line}
+use Rattle.ar65.specs.declared.archiving.Archived.{Archived}
+use Rattle.ar65.specs.declared.refusal.Refusal.{Refusal as ArchiveRefusal}
+use Rattle.ar65.specs.Librarian.{archived_of}
+use Rattle.ar65.specs.Refusals.{is_failure as is_archive_failure, is_memory as is_archive_memory, is_outside as is_archive_outside}
+use Rattle.tools65.specs.Archives.{Archives, archive_outcome}
 use Rattle.ld65.specs.Linkage.{IsLinked}
 use Rattle.ld65.specs.Refusals.{is_outside, is_memory, is_failure, memory_message}
 
@@ -117,6 +123,35 @@ link_memory l e o h is = is ∙ by_memory
 -- what was linked is carried out
 pub linked_run : (known mid new : Option Files) (fo fm fn : ℕ) (l : Linking) (r : Result Linked Refusal) (o : Outcome) (out_old out_new err_old err_new : Option (List ℕ)) (status : Status) → mid ≡ known → fm ≤ fn → PassesBy is_failure fo fm r → o ≡ outcome_of l r → IfSome known (λ m. Finds is_outside (IsLinked m l) r) → IfSome mid (λ m. NoneFailed fm fn → Performs o m new out_old out_new err_old err_new status ⊎ StopsShort o memory_message m new out_old out_new err_old err_new status) → IfSome known (λ m. NoneFailed fo fn → Ran (Does l) memory_message m new out_old out_new err_old err_new status)
 linked_run known mid new fo fm fn l r o = computed_run is_memory is_failure memory_message (λ m. IsLinked m l) (λ r o. o ≡ outcome_of l r) (link_memory l) known mid new fo fm fn r o
+
+archive_memory : (a : Archiving) (e : ArchiveRefusal) (o : Outcome) → is_archive_memory e ≡ true → o ≡ archive_outcome a (Err e) → o ≡ failing (memory_line a.library)
+archive_memory a e o h is = is ∙ by_memory
+  where
+    by_memory : archive_outcome a (Err e) ≡ failing (memory_line a.library)
+    by_memory = rw h refl
+
+-- what a line of the librarian comes to, as the command finds it
+abbrev IsArchived : Archiving → Files → Result Archived ArchiveRefusal → Type 0
+IsArchived a m r = archived_of m a ≡ r
+
+archived_found : (known : Option Files) (a : Archiving) (r : Result Archived ArchiveRefusal) → IfSome known (λ m. Gives is_archive_outside (λ x. x) r (archived_of m a)) → IfSome known (λ m. Finds is_archive_outside (IsArchived a m) r)
+archived_found None a r h = tt
+archived_found (Some m) a (Ok x) h = h
+archived_found (Some m) a (Err e) h = h
+
+does_archive : (a : Archiving) (m : Files) (o : Outcome) → ((r : Result Archived ArchiveRefusal) × IsArchived a m r × (o ≡ archive_outcome a r)) → Archives a m o
+does_archive a m o h = h.2 ∙ ap (archive_outcome a) (sym h.1)
+
+archives_so : (known new : Option Files) (fo fn : ℕ) (a : Archiving) (out_old out_new err_old err_new : Option (List ℕ)) (status : Status) → IfSome known (λ m. NoneFailed fo fn → Ran (λ n o. (r : Result Archived ArchiveRefusal) × IsArchived a n r × (o ≡ archive_outcome a r)) (memory_line a.library) m new out_old out_new err_old err_new status) → IfSome known (λ m. NoneFailed fo fn → Ran (Archives a) (memory_line a.library) m new out_old out_new err_old err_new status)
+archives_so None new fo fn a out_old out_new err_old err_new status h = tt
+archives_so (Some m) new fo fn a out_old out_new err_old err_new status h = λ none.
+    ran_as (λ n o. (r : Result Archived ArchiveRefusal) × IsArchived a n r × (o ≡ archive_outcome a r)) (Archives a) (does_archive a) (memory_line a.library) m new out_old out_new err_old err_new status (h none)
+
+-- what was archived is carried out
+pub archived_run : (known mid new : Option Files) (fo fm fn : ℕ) (a : Archiving) (r : Result Archived ArchiveRefusal) (o : Outcome) (out_old out_new err_old err_new : Option (List ℕ)) (status : Status) → mid ≡ known → fm ≤ fn → PassesBy is_archive_failure fo fm r → o ≡ archive_outcome a r → IfSome known (λ m. Gives is_archive_outside (λ x. x) r (archived_of m a)) → IfSome mid (λ m. NoneFailed fm fn → Performs o m new out_old out_new err_old err_new status ⊎ StopsShort o (memory_line a.library) m new out_old out_new err_old err_new status) → IfSome known (λ m. NoneFailed fo fn → Ran (Archives a) (memory_line a.library) m new out_old out_new err_old err_new status)
+archived_run known mid new fo fm fn a r o out_old out_new err_old err_new status same later count comes gives performs =
+    archives_so known new fo fn a out_old out_new err_old err_new status
+    (computed_run is_archive_memory is_archive_failure (memory_line a.library) (λ m. IsArchived a m) (λ r o. o ≡ archive_outcome a r) (archive_memory a) known mid new fo fm fn r o out_old out_new err_old err_new status same later count comes (archived_found known a r gives) performs)
 
 -- a line that was run
 pub line_run : (known new : Option Files) (fo fn : ℕ) (words : List (List ℕ)) (line : Says) (out_old out_new err_old err_new : Option (List ℕ)) (status : Status) → line_of words ≡ Ok line → IfSome known (λ m. NoneFailed fo fn → Ran (DoesLine line) (line_memory line) m new out_old out_new err_old err_new status) → IfSome known (λ m. NoneFailed fo fn → Commands words m new out_old out_new err_old err_new status)

@@ -14,15 +14,12 @@ use Rattle.tools65.specs.declared.outcome.Outcome.{Outcome}
 use Rattle.tools65.specs.declared.outcome.Status.{Status}
 use Rattle.tools65.specs.declared.outcome.Status.TheVariants.{Success, Failure}
 use Rattle.tools65.specs.Leaving.{Performs, StopsShort}
-use Rattle.line65.specs.Line.{Assembling, Linking, Says, assemble, link, line_of}
+use Rattle.line65.specs.Line.{Assembling, Linking, Says, assemble, link, archive, line_of}
 use Rattle.ld65.specs.Linkage.{IsLinked}
-use Rattle.tools65.specs.Outputs.{outputs_of, with_map}
+use Rattle.tools65.specs.Outputs.{failing, outputs_of, with_map}
+use Rattle.tools65.specs.Archives.{Archives}
 use Rattle.line65.specs.Messages.{line_message_of, line_memory_message, memory_line}
 use Rattle.ld65.specs.Refusals.{refusal_message, memory_message}
-
--- a command that only says why
-abbrev pub failing : List ℕ → Outcome
-failing message = record { out = []; err = message; outputs = []; status = Failure }
 
 -- what linking does: it warns and writes its files, the map last, or says why there are none
 abbrev pub outcome_of : Linking → Result Linked Refusal → Outcome
@@ -62,6 +59,7 @@ Ran does memory m new out_old out_new err_old err_new status =
 abbrev pub DoesLine : Says → Files → Outcome → Type 0
 DoesLine (assemble a) m o = Assembles a m o
 DoesLine (link l) m o = Does l m o
+DoesLine (archive a) m o = Archives a m o
 
 -- what words do as a command, given the files
 abbrev pub DoesWords : Result Says LineFault → Files → Outcome → Type 0
@@ -72,6 +70,7 @@ DoesWords (Err e) m o = o ≡ failing (line_message_of e)
 abbrev pub line_memory : Says → List ℕ
 line_memory (assemble a) = memory_line a.source
 line_memory (link l) = memory_message
+line_memory (archive a) = memory_line a.library
 
 -- A run of words: their line's, or what is said of words that are none; or memory ran out before they were a line.
 abbrev pub RanWords : Result Says LineFault → Files → Option Files → Option (List ℕ) → Option (List ℕ) → Option (List ℕ) → Option (List ℕ) → Status → Type 0

@@ -1,6 +1,12 @@
--- The files that commands write.
+-- What commands write.
 use Rattle.std.specs.Prelude.{ℕ, ◌==◌, if◌then◌else◌, List, [], ◌∷◌, ◌++◌, length, Option, Some, None}
 use Rattle.linkage65.specs.declared.linked.OutputFile.{OutputFile}
+use Rattle.tools65.specs.declared.outcome.Outcome.{Outcome}
+use Rattle.tools65.specs.declared.outcome.Status.TheVariants.{Failure}
+
+-- a command that only says why
+abbrev pub failing : List ℕ → Outcome
+failing message = record { out = []; err = message; outputs = []; status = Failure }
 
 -- the file of a name, or none where the name is empty
 abbrev pub outputs_of : List ℕ → List ℕ → List OutputFile

@@ -1,6 +1,7 @@
 //! The commands of bin65.
 #![tactic(auto)]
 
+mod archiving;
 mod assembling;
 mod disk_store;
 mod outcome;
@@ -12,7 +13,7 @@ mod writing;
 
 pub use disk_store::DiskStore;
 pub use ld65::OutputFile;
-pub use line65::{AssembleLine, Line, LineFault, LinkLine, read_line};
+pub use line65::{ArchiveLine, AssembleLine, Line, LineFault, LinkLine, Operation, read_line};
 pub use outcome::{Outcome, Status};
 pub use printing::print;
 pub use running::{run, run_line};

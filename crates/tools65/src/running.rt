@@ -2,19 +2,22 @@
 
 ghost use Rattle.std.specs.Prelude.{◌≡◌, ◌<◌, ◌≤◌, IfOk, IfSome, map};
 ghost use Rattle.syntax65.specs.Store.{NoneFailed};
-ghost use Rattle.line65.specs.Line.{assembling, linking, view};
+ghost use Rattle.line65.specs.Line.{archiving, assembling, linking, view};
 ghost use Rattle.line65.specs.Messages.{memory_line};
+ghost use Rattle.tools65.specs.Archives.{Archives};
 ghost use Rattle.tools65.specs.Command.{outcome_of, Ran, Assembles, Does, DoesLine, Commands, line_memory};
 ghost use Rattle.ld65.specs.Refusals.{memory_message};
 
+use crate::archiving::archive_outcome;
 use crate::assembling::outcome::asm_outcome;
 use crate::outcome::{Outcome, Status};
 use crate::outputs::with_map;
 use crate::performing::{perform, say_memory};
 use crate::printing::print;
+use ar65::archive;
 use asm65::{AsmJob, assemble};
 use ld65::{Linked, Refusal, link_files, refusal_message};
-use line65::{AssembleLine, Line, LinkLine, fault_message, read_line};
+use line65::{ArchiveLine, AssembleLine, Line, LinkLine, fault_message, read_line};
 use std::alloc::{AllocError, Global};
 use std::convert::AsStr;
 use std::io::Write;
@@ -96,6 +99,29 @@ fn run_assemble<S: Store, W: Write, E: Write>(
     }
 }
 
+/// Does what a line of the librarian says, and answers the status.
+fn run_archive<S: Store, W: Write, E: Write>(
+    alloc: Global,
+    line: &ArchiveLine<'_>,
+    store: &mut S,
+    out: &mut W,
+    err: &mut E,
+) -> Status
+    ensures done { IfSome (S.files store.old) (λ m. NoneFailed (S.failures store.old) (S.failures store.new) →
+        Ran (Archives (archiving line.now)) (memory_line line.now.library.now) m (S.files store.new) (W.contents out.old) (W.contents out.new) (E.contents err.old) (E.contents err.new) result) }
+    ensures later { S.failures store.old ≤ S.failures store.new }
+    ensures rose { S.failures store.old < S.failures store.new → result ≡ Status.Failure }
+{
+    let archived = archive(alloc, store, line);
+    match archive_outcome(alloc, line, archived) {
+        Ok(outcome) => perform(&outcome, store, out, err, line.library),
+        Err(_) => {
+            say_memory(err, line.library);
+            Status::Failure
+        }
+    }
+}
+
 /// Runs a line, and answers the status. Everything is computed first, then the texts are printed, then the
 /// files are written; a run that is refused writes none.
 pub fn run_line<S: Store, W: Write, E: Write>(
@@ -113,6 +139,7 @@ pub fn run_line<S: Store, W: Write, E: Write>(
     match line {
         Line::Assemble(line) => run_assemble(alloc, line, store, out, err),
         Line::Link(line) => run_link(alloc, line, store, out, err),
+        Line::Archive(line) => run_archive(alloc, line, store, out, err),
     }
 }
 

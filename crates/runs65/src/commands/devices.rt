@@ -5,6 +5,7 @@ ghost use Rattle.std.specs.Option.{ForSome};
 ghost use Rattle.std.specs.Bool.{OnTrue, OnFalse};
 
 use super::{LINK, O1, S1, files, is_quiet, run_on, says};
+use std::alloc::{AllocError, Global};
 use std::io;
 use std::io::{ErrorKind, Write};
 use std::test::Fail;
@@ -34,6 +35,35 @@ impl Store for ByteByByte {
     fn append(&mut self, name: &str, piece: &[u8]) -> Result<usize, StoreFault> {
         let most = piece.len().min(1);
         self.files.append(name, &piece[..most])
+    }
+}
+
+/// Files in memory. The bytes that were read are counted, and the files that were created.
+#[derive(Drop)]
+struct Counting {
+    files: MemStore,
+    read: u64,
+    created: u64,
+}
+
+impl Store for Counting {
+    ghost files = { λ s. Some s.files };
+
+    ghost failures = { λ _. 0 };
+
+    fn read_at(&mut self, name: &str, at: u64, buf: &mut [u8]) -> Result<usize, StoreFault> {
+        let n = self.files.read_at(name, at, buf)?;
+        self.read = self.read.wrapping_add(n as u64);
+        Ok(n)
+    }
+
+    fn create(&mut self, name: &str) -> Result<(), StoreFault> {
+        self.created = self.created.wrapping_add(1);
+        self.files.create(name)
+    }
+
+    fn append(&mut self, name: &str, piece: &[u8]) -> Result<usize, StoreFault> {
+        self.files.append(name, piece)
     }
 }
 
@@ -159,6 +189,80 @@ fn names_each_failure(rt: HostRuntime) -> Result<(), Fail> {
         }
     }
     assert!(rt; met);
+    Ok(())
+}
+
+/// A library of O1 and the object that replaces its member: the library stays as it was up to its writing.
+#[test]
+fn names_each_failure_of_the_librarian(rt: HostRuntime) -> Result<(), Fail> {
+    let mut met = false;
+    for k in 0..64 {
+        let mut store = FailsOnce {
+            files: library(rt.alloc())?,
+            left: Some(k),
+            failed: false,
+        };
+        let words = ["bin65", "ar65", "r", "l.lib", "a.o"];
+        let ran = run_on(rt.alloc(), &mut store, &words);
+        if !store.failed {
+            assert!(rt; is_quiet(&ran) && k >= 6);
+            met = true;
+            break;
+        }
+        let library = says(&ran, "l.lib: Error: file error\n");
+        let object = says(&ran, "a.o: Error: file error\n");
+        assert!(rt; library || object);
+        if object {
+            assert!(rt;
+                store
+                    .files
+                    .get("l.lib")
+                    .is_some_and(|bytes| bytes.len() == 33)
+            );
+        }
+    }
+    assert!(rt; met);
+    Ok(())
+}
+
+/// A library of a member without sections, and another object of its name.
+fn library(alloc: Global) -> Result<MemStore, AllocError> {
+    let mut store = MemStore::new(alloc);
+    store.put("a.o", &O1)?;
+    store.put(
+        "l.lib",
+        b"R65l\x01\x01\0\0\0\x03a.o\x08\0\0\0\0\0\0\0\0\0\0\0R65o\x01\x08\0\0",
+    )?;
+    Ok(store)
+}
+
+/// Of the library's 33 bytes and the object's 26 each is read once, and the library's last one a second time, to see where
+/// the file ends. The library alone is written, and once.
+#[test]
+fn reads_and_writes_once(rt: HostRuntime) -> Result<(), Fail> {
+    let mut store = Counting {
+        files: library(rt.alloc())?,
+        read: 0,
+        created: 0,
+    };
+    let words = ["bin65", "ar65", "r", "l.lib", "a.o"];
+    assert!(rt; is_quiet(&run_on(rt.alloc(), &mut store, &words)));
+    assert!(rt; store.created == 1 && store.read == 60);
+    Ok(())
+}
+
+#[test]
+fn stops_within_the_names(rt: HostRuntime) -> Result<(), Fail> {
+    let mut store = library(rt.alloc())?;
+    let mut out = Stopping {
+        taken: Vec::new(rt.alloc()),
+        left: 2,
+    };
+    let mut err = Vec::new(rt.alloc());
+    let words = ["bin65", "ar65", "t", "l.lib"];
+    let status = run(rt.alloc(), &words, &mut store, &mut out, &mut err);
+    assert_eq!(rt; status, Status::Failure);
+    assert!(rt; out.taken.as_slice() == b"a.".as_slice() && err.is_empty());
     Ok(())
 }
 

@@ -4,7 +4,8 @@ use super::{O1, S1, files, run_on, says};
 use std::test::Fail;
 use syntax65::{MemStore, Sequence};
 use tools65::{
-    AssembleLine, Line, LineFault, LinkLine, Status, print, read_line, run_line, write_file,
+    AssembleLine, Line, LineFault, LinkLine, Operation, Status, print, read_line, run_line,
+    write_file,
 };
 
 #[test]
@@ -22,6 +23,12 @@ fn reads_lines(rt: HostRuntime) -> Result<(), Fail> {
         return Err(Fail::from("no line of ca65"));
     };
     assert!(rt; line.output.is_none() && line.source == "a.s");
+    let words = ["bin65", "ar65", "d", "l.lib", "a.o", "b.o"];
+    let Ok(Line::Archive(line)) = read_line(rt.alloc(), words.as_slice()) else {
+        return Err(Fail::from("no line of ar65"));
+    };
+    assert!(rt; line.operation == Operation::Delete && line.library == "l.lib");
+    assert!(rt; line.files.as_slice() == ["a.o", "b.o"].as_slice());
     let words = ["bin65", "ld65", "a.o"];
     let refused = read_line(rt.alloc(), words.as_slice());
     assert!(rt; matches!(refused, Err(LineFault::BadArguments)));

@@ -1,0 +1,102 @@
+-- What the librarian writes is a library.
+use Rattle.std.proofs.Common.{◌≡◌, ◌∙◌, ℕ, ◌+◌, List, [], ◌∷◌, Option, Some, None, Result, Ok, Err, refl, ap, subst}
+use Rattle.std.specs.Prelude.{IfSome}
+use Rattle.std.specs.FinMap.{get}
+use Rattle.syntax65.specs.Outcome.{◌>>=◌}
+use Rattle.syntax65.specs.Store.{Files}
+use Rattle.object65.specs.Bytes.{IsBytes}
+use Rattle.library65.specs.declared.fault.LibraryFault.{LibraryFault}
+use Rattle.library65.specs.Libraries.{deleted, library_at, replaced, written}
+use Rattle.library65.specs.Reading.{in_file}
+use Rattle.library65.specs.Spelling.{IsLibrary, IsStock, Member}
+use Rattle.library65.proofs.Made.{written_is}
+use Rattle.library65.proofs.Read.{library_taken, stock_law}
+use Rattle.line65.specs.declared.line.Operation.{Operation}
+use Rattle.line65.specs.declared.line.Operation.TheVariants as operation
+use Rattle.line65.specs.Line.{Archiving}
+use Rattle.ar65.specs.declared.archiving.Archived.TheVariants as archived
+use Rattle.ar65.specs.Laws.{HoldBytes, KeptLibraryLaw}
+use Rattle.ar65.specs.Librarian.{as_file, as_library, begun, deleted_by, done, extracted, extracted_by, listed_by, member_name, members_in, replaced_by, rewritten, with_file, with_files, without_files}
+
+bound : {E A B : Type 0} (r : Result A E) (f : A → Result B E) (y : B) → (r >>= f) ≡ Ok y → (x : A) × (r ≡ Ok x) × (f x ≡ Ok y)
+bound (Ok x) f y e = (x, refl, e)
+bound (Err g) f y e = absurd cc
+
+of_library : {A : Type 0} (r : Result A LibraryFault) (x : A) → as_library r ≡ Ok x → r ≡ Ok x
+of_library (Ok y) x e = let same : y ≡ x = cc in ap (λ z. Ok z) same
+of_library (Err f) x e = absurd cc
+
+of_file : {A : Type 0} (k : ℕ) (r : Result A LibraryFault) (x : A) → as_file k r ≡ Ok x → r ≡ Ok x
+of_file k (Ok y) x e = let same : y ≡ x = cc in ap (λ z. Ok z) same
+of_file k (Err f) x e = absurd cc
+
+-- ---- The members make a library, whatever is done with them.
+
+read_stock : (file : Option (List ℕ)) (ms : List Member) → IfSome file IsBytes → in_file file library_at ≡ Ok ms → IsStock ms
+read_stock None ms is e = absurd cc
+read_stock (Some bytes) ms is e = stock_law.loaded bytes ms (library_taken bytes ms is e)
+
+begun_stock : (file : Option (List ℕ)) (ms : List Member) → IfSome file IsBytes → begun file ≡ Ok ms → IsStock ms
+begun_stock None ms is e = let same : [] ≡ ms = cc in subst IsStock same stock_law.none
+begun_stock (Some bytes) ms is e = read_stock (Some bytes) ms is e
+
+put_stock : (file : Option (List ℕ)) (name : List ℕ) (ms ns : List Member) → IfSome file IsBytes → IsStock ms → in_file file (replaced ms name) ≡ Ok ns → IsStock ns
+put_stock None name ms ns is stock e = absurd cc
+put_stock (Some bytes) name ms ns is stock e = stock_law.replaced ms ns name bytes is stock e
+
+with_stock : (m : Files) (ms ns : List Member) (k : ℕ) (files : List (List ℕ)) → HoldBytes m → IsStock ms → with_files m ms k files ≡ Ok ns → IsStock ns
+with_stock m ms ns k [] hold stock e = let same : ms ≡ ns = cc in subst IsStock same stock
+with_stock m ms ns k (file ∷ files) hold stock e =
+    let one = bound (as_file k (with_file m ms file)) _ _ e in
+    let put = of_file k (with_file m ms file) one.0 one.1 in
+    with_stock m one.0 ns (k + 1) files hold (put_stock (get m file) (member_name file) ms one.0 (hold file) stock put) one.2
+
+without_stock : (ms ns : List Member) (files : List (List ℕ)) → IsStock ms → without_files ms files ≡ Ok ns → IsStock ns
+without_stock ms ns [] stock e = let same : ms ≡ ns = cc in subst IsStock same stock
+without_stock ms ns (file ∷ files) stock e =
+    let one = bound (deleted ms (member_name file)) _ _ e in
+    without_stock one.0 ns files (stock_law.deleted ms one.0 (member_name file) stock one.1) one.2
+
+-- ---- So what is written of them is a library.
+
+written_anew : (ns : List Member) (bytes : List ℕ) → IsStock ns → as_library (rewritten ns) ≡ Ok (archived.Library bytes) → (ms : List Member) × IsLibrary bytes ms
+written_anew ns bytes stock e =
+    let made = bound (written ns) _ _ (of_library (rewritten ns) (archived.Library bytes) e) in
+    let same : made.0 ≡ bytes = cc (made.2) in
+    (ns, written_is ns bytes stock (made.1 ∙ ap (λ b. Ok b) same))
+
+by_replacing : (m : Files) (a : Archiving) (bytes : List ℕ) → HoldBytes m → replaced_by m a ≡ Ok (archived.Library bytes) → (ms : List Member) × IsLibrary bytes ms
+unfolding replaced_by
+by_replacing m a bytes hold e =
+    let old = bound (as_library (begun (get m a.library))) _ _ e in
+    let new = bound (with_files m old.0 0 a.files) _ _ old.2 in
+    let first = begun_stock (get m a.library) old.0 (hold a.library) (of_library (begun (get m a.library)) old.0 old.1) in
+    written_anew new.0 bytes (with_stock m old.0 new.0 0 a.files hold first new.1) new.2
+
+by_deleting : (m : Files) (a : Archiving) (bytes : List ℕ) → HoldBytes m → deleted_by m a ≡ Ok (archived.Library bytes) → (ms : List Member) × IsLibrary bytes ms
+unfolding deleted_by
+by_deleting m a bytes hold e =
+    let old = bound (as_library (members_in m a.library)) _ _ e in
+    let new = bound (as_library (without_files old.0 a.files)) _ _ old.2 in
+    let first = read_stock (get m a.library) old.0 (hold a.library) (of_library (members_in m a.library) old.0 old.1) in
+    written_anew new.0 bytes (without_stock old.0 new.0 a.files first (of_library (without_files old.0 a.files) new.0 new.1)) new.2
+
+not_listed : (m : Files) (a : Archiving) (bytes : List ℕ) → listed_by m a ≡ Ok (archived.Library bytes) → ⊥
+unfolding listed_by
+not_listed m a bytes e = let old = bound (as_library (members_in m a.library)) _ _ e in cc (old.2)
+
+not_extracted : (m : Files) (a : Archiving) (bytes : List ℕ) → extracted_by m a ≡ Ok (archived.Library bytes) → ⊥
+unfolding extracted_by
+not_extracted m a bytes e =
+    let old = bound (as_library (members_in m a.library)) _ _ e in
+    let files = bound (as_library (extracted old.0 a.files)) _ _ old.2 in
+    cc (files.2)
+
+by_operation : (op : Operation) (m : Files) (a : Archiving) (bytes : List ℕ) → HoldBytes m → done op m a ≡ Ok (archived.Library bytes) → (ms : List Member) × IsLibrary bytes ms
+by_operation operation.Replace m a bytes hold e = by_replacing m a bytes hold e
+by_operation operation.Delete m a bytes hold e = by_deleting m a bytes hold e
+by_operation operation.List m a bytes hold e = absurd (not_listed m a bytes e)
+by_operation operation.Extract m a bytes hold e = absurd (not_extracted m a bytes e)
+
+pub kept_library : KeptLibraryLaw
+kept_library m a bytes hold e = by_operation a.operation m a bytes hold e

@@ -1,0 +1,97 @@
+-- A file past the limit of an object file holds no object, and its front tells so.
+use Rattle.std.proofs.Common.{◌≡◌, ◌∙◌, ℕ, zero, suc, ◌+◌, ◌-◌, ◌<◌, ◌≤◌, Bool, true, false, nat_lt, List, length, take, drop, Result, Ok, Err, refl, sym, ap, arith, min, if◌then◌else◌}
+use Rattle.std.proofs.lemmas.Bool.Decides.{nat_tests}
+use Rattle.std.proofs.lemmas.List.{take_all, length-take, length-drop}
+use Rattle.object65.specs.declared.fault.ObjectFault.{ObjectFault}
+use Rattle.object65.specs.declared.fault.ObjectFault.TheVariants.{BadSize, BytesAfterEnd}
+use Rattle.object65.specs.declared.object.Object.{Object}
+use Rattle.syntax65.specs.Outcome.{◌>>=◌}
+use Rattle.object65.specs.Reading.{end_at, file_limit, front_of, head_at, record_at, room, whole}
+use Rattle.object65.specs.Record.{Entry}
+use Rattle.object65.specs.Taking.{State, after, finished, start}
+use Rattle.object65.specs.Whole.{object_at, records_at}
+use Rattle.object65.proofs.Rooms.{bound, passes}
+use Rattle.library65.specs.declared.fault.LibraryFault.{LibraryFault}
+use Rattle.library65.specs.declared.fault.LibraryFault.TheVariants.{BadMemberName, NotAnObject}
+use Rattle.library65.specs.Libraries.{as_member, checked, contents_from, contents_in, object_in, replaced, with_member}
+use Rattle.library65.specs.Names.{is_member_name}
+use Rattle.library65.specs.Spelling.{Member}
+
+-- a record ends within the limit
+record_ends : (bytes : List ℕ) (at limit : ℕ) (x : Entry × ℕ) → record_at at limit bytes ≡ Ok x → x.1 ≤ file_limit
+unfolding record_at
+record_ends bytes at limit x e =
+    let f = bound (front_of (take 3 (room bytes at limit))) _ _ e in
+    let b = bound (whole f.0.1 (take f.0.1 (room bytes (at + 3) limit))) _ _ f.2 in
+    let last = passes (nat_lt file_limit (at + 3 + f.0.1)) BadSize _ _ b.2 in
+    let x_is : ◌≡◌ {A = Entry × ℕ} (record { kind = f.0.0; body = b.0 }, at + 3 + f.0.1) x = cc (last.1) in
+    let end : at + 3 + f.0.1 ≡ x.1 = ap (λ p. p.1) x_is in
+    let within : nat_lt file_limit (at + 3 + f.0.1) ≡ false = last.0 in
+    let least : at + 3 + f.0.1 ≤ file_limit = grind (arith, nat_tests) in
+    omega (arith, end, least)
+
+-- so do records up to an END
+records_end : (left : ℕ) (s : State) (at limit : ℕ) (bytes : List ℕ) (x : State × ℕ) → records_at left s at limit bytes ≡ Ok x → x.1 ≤ file_limit
+records_end zero s at limit bytes x e = absurd cc
+records_end (suc left) s at limit bytes x e =
+    let r = bound (record_at at limit bytes) _ _ e in
+    let u = bound (after s r.0.0) _ _ r.2 in
+    go u.0.ended r.0 u.0 (record_ends bytes at limit r.0 r.1) (λ t next h. records_end left t next limit bytes x h) u.2
+  where
+    go : (b : Bool) (r : Entry × ℕ) (t : State) → r.1 ≤ file_limit → ((t : State) (next : ℕ) → records_at left t next limit bytes ≡ Ok x → x.1 ≤ file_limit) → (if b then Ok (t, r.1) else records_at left t r.1 limit bytes) ≡ Ok x → x.1 ≤ file_limit
+    go true r t h further e = let same : ◌≡◌ {A = State × ℕ} (t, r.1) x = cc in let end : r.1 ≡ x.1 = ap (λ p. p.1) same in omega (arith, h, end)
+    go false r t h further e = further t r.1 e
+
+-- where more follows, the object doesn't end there
+more_behind : (end : ℕ) (bytes : List ℕ) → end < length bytes → end_at end (length bytes) bytes ≡ Err BytesAfterEnd
+more_behind end bytes h =
+    let left : length (take 1 (room bytes end (length bytes))) ≡ min 1 (min (length bytes - end) (length bytes - end)) =
+    length-take 1 (room bytes end (length bytes)) ∙ ap (min 1) (length-take (length bytes - end) (drop end bytes) ∙ ap (min (length bytes - end)) (length-drop end bytes)) in
+    let some : nat_lt 0 (length (take 1 (room bytes end (length bytes)))) ≡ true = grind (arith, nat_tests) in
+    rw some refl
+
+pub long_file : (bytes : List ℕ) → file_limit < length bytes → object_in bytes ≡ Err NotAnObject
+unfolding object_at
+long_file bytes h = from_head (head_at 0 (length bytes) bytes)
+  where
+    n : ℕ
+    n = length bytes
+
+    from_end : (x : State × ℕ) → x.1 ≤ file_limit → as_member (end_at x.1 n bytes >>= (λ u. finished x.0)) ≡ Err NotAnObject
+    from_end x within = let more : end_at x.1 n bytes ≡ Err BytesAfterEnd = more_behind x.1 bytes (omega (arith, h, within)) in rw more refl
+
+    from_records : (r : Result (State × ℕ) ObjectFault) → ((x : State × ℕ) → r ≡ Ok x → x.1 ≤ file_limit) → as_member (r >>= (λ x. end_at x.1 n bytes >>= (λ u. finished x.0))) ≡ Err NotAnObject
+    from_records (Err e) ends = refl
+    from_records (Ok x) ends = from_end x (ends x refl)
+
+    from_head : (r : Result ℕ ObjectFault) → as_member (r >>= (λ first. records_at n start first n bytes >>= (λ x. end_at x.1 n bytes >>= (λ u. finished x.0)))) ≡ Err NotAnObject
+    from_head (Err e) = refl
+    from_head (Ok first) = from_records (records_at n start first n bytes) (λ x e. records_end n start first n bytes x e)
+
+-- what a file's object does to members is told by its front
+pub told_by_front : (ms : List Member) (name bytes : List ℕ) → replaced ms name (take (file_limit + 1) bytes) ≡ replaced ms name bytes
+unfolding replaced checked contents_in
+told_by_front ms name bytes = go (nat_lt file_limit (length bytes)) refl
+  where
+    front : List ℕ
+    front = take (file_limit + 1) bytes
+
+    go : (b : Bool) → nat_lt file_limit (length bytes) ≡ b → replaced ms name front ≡ replaced ms name bytes
+    go false e =
+        let short : length bytes ≤ file_limit = grind (arith, nat_tests) in
+        ap (replaced ms name) (take_all (file_limit + 1) bytes (omega (arith, short)))
+    go true e =
+        let long : file_limit < length bytes = grind (arith, nat_tests) in
+        let len : length front ≡ min (file_limit + 1) (length bytes) = length-take (file_limit + 1) bytes in
+        let still : file_limit < length front = omega (arith, long, len) in
+        step (is_member_name name) (object_in front) (object_in bytes) (long_file front still) (long_file bytes long)
+      where
+        by : Bool → Result Object LibraryFault → List ℕ → Result (List Member) LibraryFault
+        by good r b = (if good then (r >>= (λ o. Ok (contents_from o))) else Err BadMemberName) >>= (λ c. Ok (with_member ms name b))
+
+        neither : (good : Bool) → by good (Err NotAnObject) front ≡ by good (Err NotAnObject) bytes
+        neither true = refl
+        neither false = refl
+
+        step : (good : Bool) (x y : Result Object LibraryFault) → x ≡ Err NotAnObject → y ≡ Err NotAnObject → by good x front ≡ by good y bytes
+        step good x y p q = ap (λ r. by good r front) p ∙ neither good ∙ ap (λ r. by good r bytes) (sym q)

@@ -1,0 +1,137 @@
+-- Objects of FILEs put into a library, one behind the other.
+use Rattle.std.proofs.Common.{◌≡◌, ◌∙◌, ℕ, ◌+◌, ◌<◌, ◌≤◌, Bool, true, false, List, ◌∷◌, length, drop, take, Option, Some, None, Result, Ok, Err, refl, sym, ap, subst, arith}
+use Rattle.std.specs.Prelude.{IfSome, IsErrOf}
+use Rattle.std.specs.FinMap.{get}
+use Rattle.std.proofs.lemmas.List.{drop_all}
+use Rattle.syntax65.specs.Outcome.{◌>>=◌, Gives, Refuses, Unless}
+use Rattle.syntax65.specs.Reading.{front_in}
+use Rattle.syntax65.specs.Store.{Files, HasFailed, Passes, PassesBy}
+use Rattle.syntax65.specs.StoreFaults.{is_outside_store}
+use Rattle.syntax65.specs.declared.store.StoreFault.{StoreFault}
+use Rattle.syntax65.specs.declared.store.StoreFault.TheVariants as store
+use Rattle.object65.specs.Reading.{file_limit}
+use Rattle.library65.specs.declared.contents.Contents.{Contents}
+use Rattle.library65.specs.declared.fault.LibraryFault.{LibraryFault}
+use Rattle.library65.specs.declared.fault.LibraryFault.TheVariants as fault
+use Rattle.library65.specs.Fault.{is_memory as is_library_memory, is_outside as is_library_outside, of_store}
+use Rattle.library65.specs.Libraries.{checked, replaced, with_member}
+use Rattle.library65.specs.Reading.{in_file}
+use Rattle.library65.specs.Spelling.{Member}
+use Rattle.library65.proofs.Members.{not_stored}
+use Rattle.ar65.specs.declared.refusal.Refusal.TheVariants as refusal
+use Rattle.ar65.specs.Librarian.{as_file, member_name, with_file, with_files}
+use Rattle.ar65.specs.Refusals.{is_failure, is_outside}
+use Rattle.ar65.proofs.Longs.{told_by_front}
+
+-- ---- One FILE.
+
+-- the file couldn't be read
+pub unread : (known : Option Files) (ms : List Member) (name : List ℕ) (e : StoreFault) → IfSome known (λ m. Refuses is_outside_store e (front_in (get m name) (file_limit + 1))) → IfSome known (λ m. Refuses is_library_outside (of_store e) (with_file m ms name))
+unread None ms name e h = tt
+unread (Some m) ms name e h = go (get m name) e h
+  where
+    go : (file : Option (List ℕ)) (e : StoreFault) → Refuses is_outside_store e (front_in file (file_limit + 1)) → Refuses is_library_outside (of_store e) (in_file file (replaced ms (member_name name)))
+    go None store.FileNotFound h = refl
+    go None store.OutOfMemory h = tt
+    go None store.FileError h = tt
+    go (Some bytes) store.FileNotFound h = absurd cc
+    go (Some bytes) store.OutOfMemory h = tt
+    go (Some bytes) store.FileError h = tt
+
+weaker : {Y : Type 0} (e : LibraryFault) (r : Result Y LibraryFault) → Refuses is_library_memory e r → Refuses is_library_outside e r
+weaker fault.OutOfMemory r h = tt
+weaker fault.FileError r h = tt
+weaker e r h = h
+
+pub weaker_result : {X Y : Type 0} (view : X → Y) (r : Result X LibraryFault) (whole : Result Y LibraryFault) → Gives is_library_memory view r whole → Gives is_library_outside view r whole
+weaker_result view (Ok x) whole h = h
+weaker_result view (Err e) whole h = weaker e whole h
+
+-- what was put in is the file's object
+pub put_of : (known : Option Files) (ms : List Member) (name front put : List ℕ) (new : List Member) (r : Result (Unit {0}) LibraryFault) → put ≡ member_name name → IfSome known (λ m. front_in (get m name) (file_limit + 1) ≡ Ok front) → Gives is_library_memory (λ _. new) r (replaced ms put front) → IfSome known (λ m. Gives is_library_outside (λ _. new) r (with_file m ms name))
+put_of None ms name front put new r named read gives = tt
+put_of (Some m) ms name front put new r named read gives = go (get m name) read
+  where
+    go : (file : Option (List ℕ)) → front_in file (file_limit + 1) ≡ Ok front → Gives is_library_outside (λ _. new) r (in_file file (replaced ms (member_name name)))
+    go None read = absurd cc
+    go (Some bytes) read =
+        let same : take (file_limit + 1) bytes ≡ front = cc in
+        let whole : replaced ms put front ≡ replaced ms (member_name name) bytes =
+        ap (λ n. replaced ms n front) named ∙ ap (replaced ms (member_name name)) (sym same) ∙ told_by_front ms (member_name name) bytes in
+        weaker_result (λ _. new) r (replaced ms (member_name name) bytes) (subst (Gives is_library_memory (λ _. new) r) whole gives)
+
+no_store : (ms : List Member) (name bytes : List ℕ) → replaced ms name bytes ≡ Err fault.FileError → ⊥
+unfolding replaced
+no_store ms name bytes e = go (checked name bytes) refl e
+  where
+    go : (r : Result Contents LibraryFault) → checked name bytes ≡ r → (r >>= (λ c. Ok (with_member ms name bytes))) ≡ Err fault.FileError → ⊥
+    go (Ok c) is h = cc
+    go (Err f) is h = not_stored name bytes fault.FileError (let same : f ≡ fault.FileError = cc in is ∙ ap (λ x. Err x) same) refl
+
+-- an object that is put in fails no store
+pub not_failed : (ms : List Member) (name bytes : List ℕ) (new : List Member) (r : Result (Unit {0}) LibraryFault) → Gives is_library_memory (λ _. new) r (replaced ms name bytes) → IsErrOf r fault.FileError → ⊥
+not_failed ms name bytes new (Ok u) gives h = absurd cc
+not_failed ms name bytes new (Err e) gives h =
+    let same : e ≡ fault.FileError = cc in
+    no_store ms name bytes (subst (λ f. Refuses is_library_memory f (replaced ms name bytes)) same gives)
+
+-- the count of failures goes by the call before
+pub passes_on : {T U E : Type 0} (f : E) (old new : ℕ) (x : T) (r : Result U LibraryFault) → Passes f old new (Ok x) → (IsErrOf r fault.FileError → ⊥) → Passes fault.FileError old new r
+passes_on f old new x r p none = record {
+  later = p.later;
+  told = λ h. absurd (cc (p.told h));
+  cause = λ h. absurd (none h);
+}
+
+-- ---- One behind the other.
+
+pub same_count : {T : Type 0} (start mid new : ℕ) (x : T) → mid ≡ start → Passes fault.FileError mid new (Ok x) → new ≡ start
+same_count start mid new x e p =
+    let not_later : mid < new → ⊥ = λ h. cc (p.told h) in
+    omega (arith, e, p.later, not_later)
+
+is_stored : (k : ℕ) (e : LibraryFault) → is_failure (refusal.File k e) ≡ true → e ≡ fault.FileError
+is_stored k fault.FileError h = refl
+is_stored k e h = absurd cc
+
+pub refused_count : {T U : Type 0} (start mid new k : ℕ) (e : LibraryFault) → mid ≡ start → Passes {T = T} fault.FileError mid new (Err e) → PassesBy {T = U} is_failure start new (Err (refusal.File k e))
+refused_count start mid new k e same p = record {
+  later = subst (λ n. n ≤ new) same p.later;
+  told = λ h.
+      let stored : e ≡ fault.FileError = cc (p.told (subst (λ n. n < new) (sym same) h)) in
+      ap (λ x. is_failure (refusal.File k x)) stored;
+  cause = λ h. subst (λ n. HasFailed n new) same (p.cause (ap (λ x. Err x) (is_stored k e h)));
+}
+
+-- what is left of the FILEs comes to the same as all of them
+abbrev pub IsLeft : Option Files → List Member → List (List ℕ) → List Member → ℕ → Type 0
+IsLeft known before names ms k = IfSome known (λ m. with_files m ms k (drop k names) ≡ with_files m before 0 names)
+
+pub file_more : (known next : Option Files) (before ms ns : List Member) (names : List (List ℕ)) (k : ℕ) (name : List ℕ) → next ≡ known → drop k names ≡ name ∷ drop (k + 1) names → IsLeft known before names ms k → IfSome next (λ m. with_file m ms name ≡ Ok ns) → IsLeft known before names ns (k + 1)
+file_more None next before ms ns names k name same at left put = tt
+file_more (Some m) next before ms ns names k name same at left put =
+    let here : with_file m ms name ≡ Ok ns = rw same at put in
+    sym (ap (λ r. as_file k r >>= (λ xs. with_files m xs (k + 1) (drop (k + 1) names))) here)
+    ∙ sym (ap (with_files m ms k) at)
+    ∙ left
+
+file_outside : (k : ℕ) (e : LibraryFault) (P : Type 0) → Unless (is_library_outside e) P → Unless (is_outside (refusal.File k e)) P
+file_outside k fault.OutOfMemory P h = tt
+file_outside k fault.FileError P h = tt
+file_outside k e P h = h
+
+unless_then : {P Q : Type 0} (b : Bool) → (P → Q) → Unless b P → Unless b Q
+unless_then true f h = tt
+unless_then false f h = f h
+
+pub file_none : (known next : Option Files) (before ms : List Member) (names : List (List ℕ)) (k : ℕ) (name : List ℕ) (e : LibraryFault) → next ≡ known → drop k names ≡ name ∷ drop (k + 1) names → IsLeft known before names ms k → IfSome next (λ m. Refuses is_library_outside e (with_file m ms name)) → IfSome known (λ m. Refuses is_outside (refusal.File k e) (with_files m before 0 names))
+file_none None next before ms names k name e same at left put = tt
+file_none (Some m) next before ms names k name e same at left put =
+    let here : Refuses is_library_outside e (with_file m ms name) = rw same at put in
+    let whole : with_file m ms name ≡ Err e → with_files m before 0 names ≡ Err (refusal.File k e) = λ h.
+    sym left ∙ ap (with_files m ms k) at ∙ ap (λ r. as_file k r >>= (λ xs. with_files m xs (k + 1) (drop (k + 1) names))) h in
+    file_outside k e (with_files m before 0 names ≡ Err (refusal.File k e)) (unless_then (is_library_outside e) whole here)
+
+pub file_last : (known : Option Files) (before ms : List Member) (names : List (List ℕ)) (k : ℕ) → length names ≤ k → IsLeft known before names ms k → IfSome known (λ m. with_files m before 0 names ≡ Ok ms)
+file_last None before ms names k past left = tt
+file_last (Some m) before ms names k past left = sym left ∙ ap (with_files m ms k) (drop_all k names past)

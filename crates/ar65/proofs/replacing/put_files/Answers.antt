@@ -1,0 +1,18 @@
+use Rattle.std.proofs.Common.{◌∙◌, map}
+use Rattle.ar65.proofs.Puts.{file_more, file_none, refused_count, same_count}
+use Rattle.ar65.proofs.Turns.{name_next}
+use Rattle.ar65.proofs.replacing.put_files.Goals as goal
+
+pub returns-in-Err-clause-put : goal.returns-in-Err-clause-put
+returns-in-Err-clause-put g c =
+    file_none _ _ c.args.library.now c.loop-place.library (map (λ s. s.now) c.args.files.now) c.loop-place.place _ c.in-Err.fault c.loop-place.invariant.files (name_next (λ s. s.now) c.args.files.now c.loop-place.place _ c.loop-place-test.true) c.loop-place.invariant.left c.in-Err.ensures.put
+
+pub returns-in-Err-clause-count : goal.returns-in-Err-clause-count
+returns-in-Err-clause-count g c = refused_count _ _ _ c.loop-place.place c.in-Err.fault c.loop-place.invariant.count c.in-Err.ensures.count
+
+pub loop-place-preserved : goal.loop-place-preserved
+loop-place-preserved g c = record {
+  files = c.in-Ok.ensures.files ∙ c.loop-place.invariant.files;
+  left = file_more _ _ c.args.library.now c.loop-place.library c.put_file.new.library (map (λ s. s.now) c.args.files.now) c.loop-place.place _ c.loop-place.invariant.files (name_next (λ s. s.now) c.args.files.now c.loop-place.place _ c.loop-place-test.true) c.loop-place.invariant.left c.in-Ok.ensures.put;
+  count = same_count _ _ _ _ c.loop-place.invariant.count c.in-Ok.ensures.count;
+}

@@ -1,0 +1,34 @@
+-- What holds of the librarian, whatever the files.
+use Rattle.std.specs.Prelude.{◌≡◌, ℕ, List, [], map, Some, IfSome, Ok}
+use Rattle.std.specs.FinMap.{get}
+use Rattle.std.specs.List.{AllByRecursion}
+use Rattle.syntax65.specs.Store.{Files}
+use Rattle.object65.specs.Bytes.{IsBytes}
+use Rattle.library65.specs.Libraries.{written}
+use Rattle.library65.specs.Spelling.{IsLibrary, Member}
+use Rattle.line65.specs.Line.{Archiving}
+use Rattle.ar65.specs.declared.archiving.Archived.TheVariants as archived
+use Rattle.ar65.specs.declared.extracting.MemberFile.{MemberFile}
+use Rattle.ar65.specs.Librarian.{archived_of, extracted, with_files}
+
+-- each file is a list of bytes
+abbrev pub HoldBytes : Files → Type 0
+HoldBytes m = (name : List ℕ) → IfSome (get m name) IsBytes
+
+-- what `r` and `d` write is a library
+abbrev pub KeptLibraryLaw : Type 0
+KeptLibraryLaw =
+    (m : Files) (a : Archiving) (bytes : List ℕ) → HoldBytes m
+    → archived_of m a ≡ Ok (archived.Library bytes)
+    → (ms : List Member) × IsLibrary bytes ms
+
+-- each of these files stands under its name
+abbrev pub AreWritten : Files → List MemberFile → Type 0
+AreWritten m files = AllByRecursion (λ f. get m f.name ≡ Some f.bytes) files
+
+-- Members that were all written as files, put into a library of no member in their order, are the same library.
+abbrev pub PutTogetherLaw : Type 0
+PutTogetherLaw =
+    (bytes : List ℕ) (ms : List Member) (files : List MemberFile) (m : Files) → IsLibrary bytes ms
+    → extracted ms [] ≡ Ok files → AreWritten m files
+    → (with_files m [] 0 (map (λ f. f.name) files) ≡ Ok ms) × (written ms ≡ Ok bytes)

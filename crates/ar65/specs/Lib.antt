@@ -1,0 +1,3 @@
+pub mod Librarian
+pub mod Refusals
+pub mod Laws

@@ -1,0 +1,109 @@
+//! What a line of the librarian comes to.
+
+ghost use Rattle.std.specs.Prelude.{◌≡◌, IfSome};
+ghost use Rattle.std.specs.FinMap as map;
+ghost use Rattle.syntax65.specs.Outcome.{Gives};
+ghost use Rattle.syntax65.specs.Store.{PassesBy};
+ghost use Rattle.line65.specs.Line.{archiving};
+ghost use Rattle.ar65.specs.Librarian.{archived_of, deleted_by, extracted_by, listed_by, replaced_by};
+ghost use Rattle.ar65.specs.Refusals.{is_failure, is_outside};
+
+use crate::deleting::delete_files;
+use crate::extracting::{MemberFile, extract_files};
+use crate::listing::list_names;
+use crate::loading::load_or_begin;
+use crate::refusal::Refusal;
+use crate::replacing::put_files;
+use crate::writing::library_bytes;
+use library65::Library;
+use line65::{ArchiveLine, Operation};
+use std::alloc::Global;
+use syntax65::{Sequence, Store};
+
+/// What a line of the librarian comes to.
+#[derive(Debug, Drop)]
+pub enum Archived {
+    /// The library's new bytes.
+    Library(Sequence<u8>),
+    /// The names of the members, one a line.
+    Names(Sequence<u8>),
+    /// Members, each to be written to a file of its name.
+    Members(Sequence<MemberFile>),
+}
+
+/// The library with the objects of the line's files in it.
+#[tactic(auto, unfolding(crate::specs::Librarian::replaced_by))]
+fn replace<S: Store>(
+    alloc: Global,
+    store: &mut S,
+    line: &ArchiveLine<'_>,
+) -> Result<Archived, Refusal>
+    ensures archived { IfSome (S.files store.old) (λ m. Gives is_outside (λ a. a) result (replaced_by m (archiving line.now))) }
+    ensures files { S.files store.new ≡ S.files store.old }
+    ensures count { PassesBy is_failure (S.failures store.old) (S.failures store.new) result }
+{
+    let mut library = load_or_begin(alloc, store, line.library)?;
+    put_files(alloc, store, &mut library, line.files.as_slice())?;
+    Ok(Archived::Library(library_bytes(alloc, &library)?))
+}
+
+/// The library without the members of the line's files' names.
+#[tactic(auto, unfolding(crate::specs::Librarian::deleted_by))]
+fn delete<S: Store>(
+    alloc: Global,
+    store: &mut S,
+    line: &ArchiveLine<'_>,
+) -> Result<Archived, Refusal>
+    ensures archived { IfSome (S.files store.old) (λ m. Gives is_outside (λ a. a) result (deleted_by m (archiving line.now))) }
+    ensures files { S.files store.new ≡ S.files store.old }
+    ensures count { PassesBy is_failure (S.failures store.old) (S.failures store.new) result }
+{
+    let mut library = Library::load(alloc, store, line.library)?;
+    delete_files(&mut library, line.files.as_slice())?;
+    Ok(Archived::Library(library_bytes(alloc, &library)?))
+}
+
+/// The names of the library's members.
+#[tactic(auto, unfolding(crate::specs::Librarian::listed_by))]
+fn list<S: Store>(alloc: Global, store: &mut S, line: &ArchiveLine<'_>) -> Result<Archived, Refusal>
+    ensures archived { IfSome (S.files store.old) (λ m. Gives is_outside (λ a. a) result (listed_by m (archiving line.now))) }
+    ensures files { S.files store.new ≡ S.files store.old }
+    ensures count { PassesBy is_failure (S.failures store.old) (S.failures store.new) result }
+{
+    let library = Library::load(alloc, store, line.library)?;
+    Ok(Archived::Names(list_names(alloc, &library)?))
+}
+
+/// Members of the library, as files.
+#[tactic(auto, unfolding(crate::specs::Librarian::extracted_by))]
+fn extract<S: Store>(
+    alloc: Global,
+    store: &mut S,
+    line: &ArchiveLine<'_>,
+) -> Result<Archived, Refusal>
+    ensures archived { IfSome (S.files store.old) (λ m. Gives is_outside (λ a. a) result (extracted_by m (archiving line.now))) }
+    ensures files { S.files store.new ≡ S.files store.old }
+    ensures count { PassesBy is_failure (S.failures store.old) (S.failures store.new) result }
+{
+    let library = Library::load(alloc, store, line.library)?;
+    Ok(Archived::Members(extract_files(alloc, &library, line.files.as_slice())?))
+}
+
+/// What a line comes to: the library anew, the names of its members, or members as files. No file is written. First the
+/// library is read, then the line's files are taken in order; the first fault in this order is the refusal.
+pub fn archive<S: Store>(
+    alloc: Global,
+    store: &mut S,
+    line: &ArchiveLine<'_>,
+) -> Result<Archived, Refusal>
+    ensures archived { IfSome (S.files store.old) (λ m. Gives is_outside (λ a. a) result (archived_of m (archiving line.now))) }
+    ensures files { S.files store.new ≡ S.files store.old }
+    ensures count { PassesBy is_failure (S.failures store.old) (S.failures store.new) result }
+{
+    match line.operation {
+        Operation::Replace => replace(alloc, store, line),
+        Operation::Delete => delete(alloc, store, line),
+        Operation::List => list(alloc, store, line),
+        Operation::Extract => extract(alloc, store, line),
+    }
+}

@@ -1,0 +1,13 @@
+//! What holds of the librarian, whatever the files. Each function's contract is a law.
+
+ghost use Rattle.ar65.specs.Laws.{KeptLibraryLaw, PutTogetherLaw};
+
+/// What `r` and `d` write is a library.
+pub fn keeps_a_library()
+    ensures { KeptLibraryLaw }
+{}
+
+/// What `x` takes apart, `r` puts together again: the same library, byte for byte.
+pub fn puts_together()
+    ensures { PutTogetherLaw }
+{}

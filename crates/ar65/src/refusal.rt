@@ -1,0 +1,99 @@
+//! Why a line of the librarian is refused.
+
+ghost use Rattle.std.specs.Prelude.{◌≡◌, IfOk, map};
+ghost use Rattle.library65.specs.Fault.{fault_text};
+ghost use Rattle.line65.specs.Line.{archiving};
+ghost use Rattle.library65.specs.declared.fault.LibraryFault.TheVariants.{OutOfMemory};
+ghost use Rattle.ar65.specs.declared.refusal.Refusal.TheVariants.{Library};
+ghost use Rattle.ar65.specs.Refusals.{is_memory, named, refusal_message};
+
+use library65::LibraryFault;
+use line65::{ArchiveLine, file_message, join};
+use std::alloc::{AllocError, Global};
+use syntax65::Sequence;
+
+/// Why a line of the librarian is refused.
+#[derive(Debug, Drop)]
+pub enum Refusal {
+    /// The library can't be read, is none, has no such member or would be too long.
+    Library(LibraryFault),
+    /// The file at this place of the line can't be read or can't be a member.
+    File(usize, LibraryFault),
+}
+
+impl From<AllocError> for Refusal {
+    ghost from_gives = { λ _ e. e ≡ Library OutOfMemory };
+
+    fn from(_e: AllocError) -> Refusal {
+        Refusal::Library(LibraryFault::OutOfMemory)
+    }
+}
+
+impl From<LibraryFault> for Refusal {
+    ghost from_gives = { λ f e. e ≡ Library f };
+
+    fn from(fault: LibraryFault) -> Refusal {
+        Refusal::Library(fault)
+    }
+}
+
+impl Refusal {
+    /// Whether memory ran out.
+    pub fn is_memory(&self) -> bool
+        ensures { result ≡ is_memory self.now }
+    {
+        match self {
+            Refusal::Library(fault) | Refusal::File(_, fault) => {
+                matches!(fault, LibraryFault::OutOfMemory)
+            }
+        }
+    }
+}
+
+/// The words of a fault.
+fn fault_text(alloc: Global, fault: &LibraryFault) -> Result<Sequence<u8>, AllocError>
+    ensures { IfOk result (λ text. text ≡ fault_text fault.now) }
+{
+    match fault {
+        LibraryFault::NoSuchMember(name) => join(alloc, &[b"no such member: ", name.as_slice()]),
+        fault => join(alloc, &[fault.to_string(alloc)?.as_bytes()]),
+    }
+}
+
+/// The name of the file at a place.
+fn named<'a>(files: &[&'a str], place: usize) -> &'a str
+    ensures { result.now ≡ named (map (λ s. s.now) files.now) place }
+{
+    match files.get(place) {
+        Some(name) => *name,
+        None => "",
+    }
+}
+
+/// The message of a refusal, by the line that asked.
+pub fn refusal_message(
+    alloc: Global,
+    line: &ArchiveLine<'_>,
+    refusal: &Refusal,
+) -> Result<Sequence<u8>, AllocError>
+    ensures { IfOk result (λ text. text ≡ refusal_message (archiving line.now) refusal.now) }
+{
+    if refusal.is_memory() {
+        return join(
+            alloc,
+            &[line.library.as_bytes(), b": Error: out of memory\n"],
+        );
+    }
+    match refusal {
+        Refusal::Library(fault) => file_message(
+            alloc,
+            line.library.as_bytes(),
+            fault_text(alloc, fault)?.as_slice(),
+        ),
+        Refusal::File(place, fault) => file_message(
+            alloc,
+            named(line.files.as_slice(), *place).as_bytes(),
+            fault_text(alloc, fault)?.as_slice(),
+        ),
+    }
+}

@@ -1,0 +1,13 @@
+use Rattle.std.proofs.Common.{refl}
+use Rattle.line65.specs.Line.{archiving}
+use Rattle.line65.specs.Messages.{memory_line}
+use Rattle.tools65.specs.Archives.{Archives}
+use Rattle.tools65.proofs.Runs.{only_memory, archived_run}
+use Rattle.tools65.proofs.running.run_archive.Goals as goal
+
+pub returns-in-Ok-clause-done : goal.returns-in-Ok-clause-done
+returns-in-Ok-clause-done g c =
+    archived_run _ _ _ _ _ _ (archiving c.args.line.now) c.archive-archived.result c.in-Ok.outcome _ _ _ _ _ c.archive-archived.ensures.files c.perform.ensures.later c.archive-archived.ensures.count c.in-Ok.ensures c.archive-archived.ensures.archived c.perform.ensures.done
+
+pub returns-in-Err-clause-done : goal.returns-in-Err-clause-done
+returns-in-Err-clause-done g c = only_memory _ _ (Archives (archiving c.args.line.now)) _ _ _ (memory_line c.args.line.now.library.now) c.say_memory.result _ _ c.archive-archived.ensures.files refl c.say_memory.ensures

@@ -1,0 +1,36 @@
+-- What a line of the librarian does.
+use Rattle.std.specs.Prelude.{◌≡◌, ℕ, List, [], ◌∷◌, map, Result, Ok, Err}
+use Rattle.syntax65.specs.Store.{Files}
+use Rattle.line65.specs.Line.{Archiving}
+use Rattle.linkage65.specs.declared.linked.OutputFile.{OutputFile}
+use Rattle.ar65.specs.declared.archiving.Archived.{Archived}
+use Rattle.ar65.specs.declared.archiving.Archived.TheVariants.{Library, Names, Members}
+use Rattle.ar65.specs.declared.extracting.MemberFile.{MemberFile}
+use Rattle.ar65.specs.declared.refusal.Refusal.{Refusal}
+use Rattle.ar65.specs.Librarian.{archived_of}
+use Rattle.ar65.specs.Refusals.{refusal_message}
+use Rattle.tools65.specs.declared.outcome.Outcome.{Outcome}
+use Rattle.tools65.specs.declared.outcome.Status.TheVariants.{Success}
+use Rattle.tools65.specs.Outputs.{failing}
+
+-- the library's file, under its name as it stands in the line
+abbrev pub library_file : List ℕ → List ℕ → List OutputFile
+library_file name bytes = record { name = name; bytes = bytes } ∷ []
+
+abbrev pub output_of : MemberFile → OutputFile
+output_of file = record { name = file.name; bytes = file.bytes }
+
+-- it writes the library anew, prints names, or writes members to files of their names
+abbrev pub archived_outcome : Archiving → Archived → Outcome
+archived_outcome a (Library bytes) = record { out = []; err = []; outputs = library_file a.library bytes; status = Success }
+archived_outcome a (Names text) = record { out = text; err = []; outputs = []; status = Success }
+archived_outcome a (Members files) = record { out = []; err = []; outputs = map output_of files; status = Success }
+
+-- the same, or it says why it does nothing
+abbrev pub archive_outcome : Archiving → Result Archived Refusal → Outcome
+archive_outcome a (Ok x) = archived_outcome a x
+archive_outcome a (Err e) = failing (refusal_message a e)
+
+-- what an archive line does with these files
+abbrev pub Archives : Archiving → Files → Outcome → Type 0
+Archives a m o = o ≡ archive_outcome a (archived_of m a)

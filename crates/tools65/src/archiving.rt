@@ -1,0 +1,83 @@
+//! What a line of the librarian does.
+
+ghost use Rattle.std.specs.Prelude.{◌≡◌, IfOk, map};
+ghost use Rattle.line65.specs.Line.{archiving};
+ghost use Rattle.tools65.specs.Archives.{archive_outcome, archived_outcome, library_file, output_of};
+
+use crate::outcome::{Outcome, Status};
+use ar65::{Archived, MemberFile, Refusal, refusal_message};
+use ld65::OutputFile;
+use line65::ArchiveLine;
+use std::alloc::{AllocError, Global};
+use syntax65::{Sequence, Text};
+
+/// The library's file.
+fn library_file(
+    alloc: Global,
+    name: &str,
+    bytes: Sequence<u8>,
+) -> Result<Sequence<OutputFile>, AllocError>
+    ensures { IfOk result (λ outputs. outputs ≡ library_file name.now bytes) }
+{
+    let mut outputs = Sequence::new(alloc);
+    let name = Text::copy_of(alloc, name)?;
+    outputs.push(OutputFile { name, bytes })?;
+    Ok(outputs)
+}
+
+/// The files of members.
+fn member_outputs(
+    alloc: Global,
+    files: Sequence<MemberFile>,
+) -> Result<Sequence<OutputFile>, AllocError>
+    ensures { IfOk result (λ outputs. outputs ≡ map output_of files) }
+{
+    let mut outputs = Sequence::new(alloc);
+    for file in files.into_vec() {
+        let MemberFile { name, bytes } = file;
+        outputs.push(OutputFile { name, bytes })?;
+    }
+    Ok(outputs)
+}
+
+/// What a line does that isn't refused: it writes the library anew, prints names, or writes members.
+fn archived_outcome(
+    alloc: Global,
+    line: &ArchiveLine<'_>,
+    archived: Archived,
+) -> Result<Outcome, AllocError>
+    ensures { IfOk result (λ outcome. outcome ≡ archived_outcome (archiving line.now) archived) }
+{
+    let mut out = Sequence::new(alloc);
+    let mut outputs = Sequence::new(alloc);
+    match archived {
+        Archived::Library(bytes) => outputs = library_file(alloc, line.library, bytes)?,
+        Archived::Names(text) => out = text,
+        Archived::Members(files) => outputs = member_outputs(alloc, files)?,
+    }
+    Ok(Outcome {
+        out,
+        err: Sequence::new(alloc),
+        outputs,
+        status: Status::Success,
+    })
+}
+
+/// What a line does, or why it does nothing.
+pub fn archive_outcome(
+    alloc: Global,
+    line: &ArchiveLine<'_>,
+    archived: Result<Archived, Refusal>,
+) -> Result<Outcome, AllocError>
+    ensures { IfOk result (λ outcome. outcome ≡ archive_outcome (archiving line.now) archived) }
+{
+    match archived {
+        Ok(archived) => archived_outcome(alloc, line, archived),
+        Err(refusal) => Ok(Outcome {
+            out: Sequence::new(alloc),
+            err: refusal_message(alloc, line, &refusal)?,
+            outputs: Sequence::new(alloc),
+            status: Status::Failure,
+        }),
+    }
+}

@@ -1,0 +1,6 @@
+; The hexadecimal digits.
+
+        .export         digits
+
+.rodata
+digits: .byte   "0123456789ABCDEF"

@@ -1,0 +1,6 @@
+; Where the random numbers begin.
+
+        .export         seed
+
+.data
+seed:   .word   $ACE1

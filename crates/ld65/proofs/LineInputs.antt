@@ -1,98 +1,106 @@
 -- The inputs of a line, one after another.
 use Rattle.std.proofs.Common.{◌≡◌, ◌∙◌, ◌<◌, ◌≤◌, ◌+◌, ℕ, zero, suc, List, [], ◌∷◌, ◌++◌, Bor, drop, length, get_or, map, Bool, true, false, Option, Some, None, Result, Ok, Err, refl, sym, ap, subst, add-one, arith}
 use Rattle.std.specs.Prelude.{IfSome}
+use Rattle.std.specs.FinMap.{get}
+use Rattle.std.specs.Option.{option_map_or}
 use Rattle.std.proofs.lemmas.List.{drop_all}
-use Rattle.syntax65.specs.Outcome.{◌>>=◌, Refuses, Unless}
+use Rattle.syntax65.specs.Outcome.{◌>>=◌, First, Gives, Refuses, Unless}
 use Rattle.syntax65.specs.Store.{Files, HasFailed, Passes, PassesBy}
 use Rattle.object65.specs.declared.fault.ObjectFault.{ObjectFault}
 use Rattle.object65.specs.declared.fault.ObjectFault.TheVariants as object
-use Rattle.object65.specs.declared.object.Object.{Object}
+use Rattle.object65.specs.Fault.{is_outside as is_object_outside}
+use Rattle.object65.specs.Reading.{in_file}
 use Rattle.script65.specs.declared.script.Script.{Script}
 use Rattle.linkage65.specs.declared.fault.LinkFault.{LinkFault}
 use Rattle.linkage65.specs.declared.fault.LinkFault.TheVariants as link
-use Rattle.linkage65.specs.Givers.{first_again, given_names}
-use Rattle.linkage65.specs.Links.{no_name_again}
 use Rattle.linkage65.specs.Modules.{Module}
-use Rattle.linkage65.specs.Programs.{program_of}
-use Rattle.link65.specs.Standing.{Feeding, IsFed, as_link, module_of}
+use Rattle.link65.specs.Standing.{Feeding, IsFed, module_of}
 use Rattle.ld65.specs.declared.refusal.Refusal.{Refusal}
-use Rattle.ld65.specs.Feeding.{FeedsInputs, FeedsObject, added_in, is_link_outside}
-use Rattle.ld65.specs.Linkage.{given_once, module_in, modules_in, object_in, as_object, as_link as as_refusal}
+use Rattle.ld65.specs.declared.refusal.Refusal.TheVariants as refusal
+use Rattle.ld65.specs.Feeding.{FeedsFile, FeedsInput, FeedsInputs, FeedsLibrary, FeedsObject, Leads, LeadsBy}
+use Rattle.ld65.specs.Linkage.{AreInputs, ByKind, IsInput, IsLibraryInput, file_input, is_library, is_library_in, with_file}
 use Rattle.ld65.specs.Refusals.{is_failure, is_outside, refusal_at}
+use Rattle.ld65.proofs.Behind.{Counted, at_outside, done_count, fed_behind, kept_by, later_count, refused_behind}
 
 -- ---- One input.
 
-object_outside : (f : ObjectFault) (k : ℕ) → is_outside (refusal_at k (link.Malformed f)) ≡ is_link_outside (link.Malformed f)
-object_outside object.OutOfMemory k = refl
-object_outside object.FileError k = refl
-object_outside object.FailedBefore k = refl
-object_outside object.NotAnObject k = refl
-object_outside object.UnknownVersion k = refl
-object_outside object.CutShort k = refl
-object_outside object.UnknownRecord k = refl
-object_outside object.OutOfOrder k = refl
-object_outside object.IndexOutOfRange k = refl
-object_outside object.BadSize k = refl
-object_outside object.NotCanonical k = refl
-object_outside object.BytesAfterEnd k = refl
-object_outside object.FileNotFound k = refl
+-- an object that takes a whole file
+pub file_fed : (known : Option Files) (k : ℕ) (name called : List ℕ) (old new : Feeding) → called ≡ name → FeedsObject known (record { file = name; begin = 0; end = 18446744073709551615; name = called; entry = None }) old new (Ok tt) → FeedsFile known k name old new (Ok tt)
+file_fed known k name called old new same fed before stands =
+    let q = subst (λ n. FeedsObject known (record { file = name; begin = 0; end = 18446744073709551615; name = n; entry = None }) old new (Ok tt)) same fed before stands in
+    (before ++ module_of name q.0 ∷ [], fed_behind known old.script before (file_input name) (refusal_at k) q.0 q.1, q.2)
 
-same_outside : (e : LinkFault) (k : ℕ) → is_outside (refusal_at k e) ≡ is_link_outside e
-same_outside (link.Malformed f) k = object_outside f k
-same_outside (link.Place f) k = refl
-same_outside link.FailedBefore k = refl
-same_outside link.OutOfMemory k = refl
-same_outside (link.DuplicateExport n) k = refl
-same_outside (link.Unresolved ns) k = refl
-same_outside (link.Circular s) k = refl
-same_outside (link.OutOfRange s) k = refl
-same_outside (link.NoValue s) k = refl
-same_outside (link.Assertion s t) k = refl
+pub file_refused : (known : Option Files) (k : ℕ) (name called : List ℕ) (old new : Feeding) (e : LinkFault) → called ≡ name → FeedsObject known (record { file = name; begin = 0; end = 18446744073709551615; name = called; entry = None }) old new (Err e) → FeedsFile known k name old new (Err (refusal_at k e))
+file_refused known k name called old new e same fed before stands =
+    let q = subst (λ n. FeedsObject known (record { file = name; begin = 0; end = 18446744073709551615; name = n; entry = None }) old new (Err e)) same fed before stands in
+    refused_behind known old.script before (file_input name) (refusal_at k) e (at_outside k e) q
 
-module _ (s : Script) (before : List Module) (m : Files) (k : ℕ) (name : List ℕ) where
-  -- the modules behind an input
-  abbrev Behind : Result (List Module) Refusal
-  Behind = module_in m k name >>= (λ x. given_once s (before ++ x ∷ []))
+-- what the front of a file tells
+kind_of : (file : Option (List ℕ)) (b : Bool) → in_file file (λ bytes. Ok (is_library bytes)) ≡ Ok b → option_map_or is_library file false ≡ b
+kind_of None b h = absurd cc
+kind_of (Some bytes) b h = cc
 
-  abbrev with_object : Object → List Module
-  with_object o = before ++ module_of name o ∷ []
+module _ (known : Option Files) (k : ℕ) (name : List ℕ) (old new : Feeding) where
+  abbrev IsKind : Bool → Type 0
+  IsKind b = IfSome known (λ m. in_file (get m name) (λ bytes. Ok (is_library bytes)) ≡ Ok b)
 
-  -- the same of the object and of the name that is given again
-  abbrev added_by : Result Object ObjectFault → (Module → Option (List ℕ)) → Result Object LinkFault
-  added_by r again = as_link r >>= (λ o. no_name_again (again (module_of name o)) >>= (λ u. Ok o))
-
-  abbrev behind_by : Result Object ObjectFault → (Module → Option (List ℕ)) → Result (List Module) Refusal
-  behind_by r again =
-      (as_object k r >>= (λ o. Ok (module_of name o))) >>= (λ x. as_refusal (no_name_again (again x)) >>= (λ u. Ok (before ++ x ∷ [])))
-
-  abbrev again : Module → Option (List ℕ)
-  again x = first_again [] (given_names s (program_of (before ++ x ∷ [])))
-
-  named_ok : (o p : Object) (n : Option (List ℕ)) → (no_name_again n >>= (λ u. Ok p)) ≡ Ok o → (as_refusal (no_name_again n) >>= (λ u. Ok (with_object p))) ≡ Ok (with_object o)
-  named_ok o p None h = let same : p ≡ o = cc h in ap (λ q. Ok (with_object q)) same
-  named_ok o p (Some n) h = cc
-
-  pub behind_ok : (o : Object) → added_in s before m name ≡ Ok o → Behind ≡ Ok (with_object o)
-  behind_ok o h = go (object_in m name) h
+  -- the input is a library
+  pub library_input : (now : Option Files) (r : Result (Unit {0}) Refusal) → now ≡ known → IsKind true → FeedsLibrary now k name old new r → FeedsInput known k name old new r
+  library_input now r same kind fed before stands = by r (rw same at fed before stands)
     where
-      go : (r : Result Object ObjectFault) → added_by r again ≡ Ok o → behind_by r again ≡ Ok (with_object o)
-      go (Ok p) h = named_ok o p (again (module_of name p)) h
-      go (Err f) h = cc
+      as_input : (m : Files) (q : Result (List Module) Refusal) → is_library_in m name ≡ true → IsLibraryInput old.script m k before name q → IsInput old.script m k before name q
+      as_input m q is h = rw is h
 
-  named_err : (e : LinkFault) (p : Object) (n : Option (List ℕ)) → (no_name_again n >>= (λ u. Ok p)) ≡ Err e → (as_refusal (no_name_again n) >>= (λ u. Ok (with_object p))) ≡ Err (refusal_at k e)
-  named_err e p None h = cc
-  named_err e p (Some n) h = let same : link.DuplicateExport n ≡ e = cc h in ap (λ x. Err (refusal_at k x)) same
+      told : (f : Option Files) (q : Result (List Module) Refusal) → IfSome f (λ m. in_file (get m name) (λ bytes. Ok (is_library bytes)) ≡ Ok true) → IfSome f (λ m. IsLibraryInput old.script m k before name q) → IfSome f (λ m. IsInput old.script m k before name q)
+      told None q kind h = tt
+      told (Some m) q kind h = as_input m q (kind_of (get m name) true kind) h
 
-  pub behind_err : (e : LinkFault) → Refuses is_link_outside e (added_in s before m name) → Refuses is_outside (refusal_at k e) Behind
-  behind_err e h = rw (same_outside e k) (go (is_link_outside e) h)
+      refused : (f : Option Files) (b : Bool) (q : Result (List Module) Refusal) → IfSome f (λ m. in_file (get m name) (λ bytes. Ok (is_library bytes)) ≡ Ok true) → IfSome f (λ m. Unless b (IsLibraryInput old.script m k before name q)) → IfSome f (λ m. Unless b (IsInput old.script m k before name q))
+      refused None b q kind h = tt
+      refused (Some m) true q kind h = tt
+      refused (Some m) false q kind h = as_input m q (kind_of (get m name) true kind) h
+
+      by : (r : Result (Unit {0}) Refusal) → LeadsBy is_outside (λ u modules. IsFed new modules) known (λ m. IsLibraryInput old.script m k before name) r → LeadsBy is_outside (λ u modules. IsFed new modules) known (λ m. IsInput old.script m k before name) r
+      by (Ok u) h = (h.0, told known (Ok h.0) kind h.1, h.2)
+      by (Err e) h = refused known (is_outside e) (Err e) kind h
+
+  -- it is an object
+  pub object_input : (now : Option Files) (r : Result (Unit {0}) Refusal) → now ≡ known → IsKind false → FeedsFile now k name old new r → FeedsInput known k name old new r
+  object_input now r same kind fed before stands = by r (rw same at fed before stands)
     where
-      by : (r : Result Object ObjectFault) → added_by r again ≡ Err e → behind_by r again ≡ Err (refusal_at k e)
-      by (Ok p) h = named_err e p (again (module_of name p)) h
-      by (Err f) h = let same : link.Malformed f ≡ e = cc h in ap (λ x. Err (refusal_at k x)) same
+      as_input : (m : Files) (q : Result (List Module) Refusal) → is_library_in m name ≡ false → q ≡ with_file old.script m k before name → IsInput old.script m k before name q
+      as_input m q is h = rw is h
 
-      go : (b : Bool) → Unless b (added_in s before m name ≡ Err e) → Unless b (Behind ≡ Err (refusal_at k e))
-      go true h = tt
-      go false h = by (object_in m name) h
+      told : (f : Option Files) (q : Result (List Module) Refusal) → IfSome f (λ m. in_file (get m name) (λ bytes. Ok (is_library bytes)) ≡ Ok false) → IfSome f (λ m. with_file old.script m k before name ≡ q) → IfSome f (λ m. IsInput old.script m k before name q)
+      told None q kind h = tt
+      told (Some m) q kind h = as_input m q (kind_of (get m name) false kind) (sym h)
+
+      refused : (f : Option Files) (b : Bool) (q : Result (List Module) Refusal) → IfSome f (λ m. in_file (get m name) (λ bytes. Ok (is_library bytes)) ≡ Ok false) → IfSome f (λ m. Unless b (with_file old.script m k before name ≡ q)) → IfSome f (λ m. Unless b (IsInput old.script m k before name q))
+      refused None b q kind h = tt
+      refused (Some m) true q kind h = tt
+      refused (Some m) false q kind h = as_input m q (kind_of (get m name) false kind) (sym h)
+
+      by : (r : Result (Unit {0}) Refusal) → Leads is_outside (λ u modules. IsFed new modules) known (λ m. with_file old.script m k before name) r → LeadsBy is_outside (λ u modules. IsFed new modules) known (λ m. IsInput old.script m k before name) r
+      by (Ok u) h = (h.0, told known (Ok h.0) kind h.1, h.2)
+      by (Err e) h = refused known (is_outside e) (Err e) kind h
+
+  -- it can't be read
+  pub no_input : (f : ObjectFault) → IfSome known (λ m. Gives {X = Bool} is_object_outside (λ b. b) (Err f) (in_file (get m name) (λ bytes. Ok (is_library bytes)))) → FeedsInput known k name old new (Err (refusal.Object k f))
+  no_input f h before stands = go known h
+    where
+      missing : (m : Files) (file : Option (List ℕ)) → get m name ≡ file → in_file file (λ bytes. Ok (is_library bytes)) ≡ Err f → IsInput old.script m k before name (Err (refusal.Object k f))
+      missing m None is h = let found : object.FileNotFound ≡ f = cc h in rw (is, sym found) refl
+      missing m (Some bytes) is h = absurd cc
+
+      unless : (m : Files) (b : Bool) → Unless b (in_file (get m name) (λ bytes. Ok (is_library bytes)) ≡ Err f) → Unless b (IsInput old.script m k before name (Err (refusal.Object k f)))
+      unless m true h = tt
+      unless m false h = missing m (get m name) refl h
+
+      go : (g : Option Files) → IfSome g (λ m. Gives {X = Bool} is_object_outside (λ b. b) (Err f) (in_file (get m name) (λ bytes. Ok (is_library bytes)))) → IfSome g (λ m. Unless (is_outside (refusal.Object k f)) (IsInput old.script m k before name (Err (refusal.Object k f))))
+      go None h = tt
+      go (Some m) h = rw (at_outside k (link.Malformed f)) (unless m (is_object_outside f) h)
+
+-- ---- Their names.
 
 -- the rest of the names begins with the one at its place
 name_here : (inputs : List (Bor (List ℕ))) (k : ℕ) (x : Bor (List ℕ)) → k < length inputs → drop k (map (λ s. s.now) inputs) ≡ (get_or inputs k x).now ∷ drop (suc k) (map (λ s. s.now) inputs)
@@ -110,87 +118,60 @@ abbrev pub IsBehind : Option Files → List (List ℕ) → ℕ → Feeding → F
 IsBehind known names k old now =
     (before : List Module) → IsFed old before
     → (modules : List Module) × IsFed now modules
-    × IfSome known (λ m. modules_in old.script m before 0 names ≡ modules_in old.script m modules k (drop k names))
+    × IfSome known (λ m. (r : Result (List Module) Refusal) → AreInputs old.script m k modules (drop k names) r → AreInputs old.script m 0 before names r)
 
 module _ (known : Option Files) (names : List (List ℕ)) where
   pub behind_none : (old : Feeding) → IsBehind known names 0 old old
   behind_none old before stands = (before, stands, same known)
     where
-      same : (k : Option Files) → IfSome k (λ m. modules_in old.script m before 0 names ≡ modules_in old.script m before 0 (drop 0 names))
+      same : (k : Option Files) → IfSome k (λ m. (r : Result (List Module) Refusal) → AreInputs old.script m 0 before (drop 0 names) r → AreInputs old.script m 0 before names r)
       same None = tt
-      same (Some m) = refl
+      same (Some m) = λ r h. h
 
-  pub behind_more : (k : ℕ) (now : Option Files) (name : List ℕ) (old mid new : Feeding) → now ≡ known → drop k names ≡ name ∷ drop (k + 1) names → mid.script ≡ old.script → IsBehind known names k old mid → FeedsObject now name mid new (Ok tt) → IsBehind known names (k + 1) old new
+  -- what is left of the inputs, from one at its place on
+  from_here : (s : Script) (m : Files) (k : ℕ) (modules : List Module) (name : List ℕ) (q r : Result (List Module) Refusal) → drop k names ≡ name ∷ drop (k + 1) names → IsInput s m k modules name q → First q (λ ms. AreInputs s m (k + 1) ms (drop (k + 1) names)) r → AreInputs s m k modules (drop k names) r
+  from_here s m k modules name q r here is next = rw here (q, is, next)
+
+  pub behind_more : (k : ℕ) (now : Option Files) (name : List ℕ) (old mid new : Feeding) → now ≡ known → drop k names ≡ name ∷ drop (k + 1) names → mid.script ≡ old.script → IsBehind known names k old mid → FeedsInput now k name mid new (Ok tt) → IsBehind known names (k + 1) old new
   behind_more k now name old mid new same here script is fed before stands =
       let p = is before stands in
       let q = fed p.0 p.1 in
-      (p.0 ++ module_of name q.0 ∷ [], q.2, go p.0 q.0 known p.2 (rw same at q.1))
+      (q.0, q.2, go p.0 q.0 known p.2 (rw same at q.1))
     where
-      go : (modules : List Module) (o : Object) (f : Option Files) → IfSome f (λ m. modules_in old.script m before 0 names ≡ modules_in old.script m modules k (drop k names)) → IfSome f (λ m. added_in mid.script modules m name ≡ Ok o) → IfSome f (λ m. modules_in old.script m before 0 names ≡ modules_in old.script m (modules ++ module_of name o ∷ []) (k + 1) (drop (k + 1) names))
-      go modules o None h added = tt
-      go modules o (Some m) h added =
-          h ∙ ap (modules_in old.script m modules k) here
-          ∙ ap (λ r. r >>= (λ ms. modules_in old.script m ms (k + 1) (drop (k + 1) names))) (behind_ok old.script modules m k name o (rw script at added))
+      go : (modules more : List Module) (f : Option Files) → IfSome f (λ m. (r : Result (List Module) Refusal) → AreInputs old.script m k modules (drop k names) r → AreInputs old.script m 0 before names r) → IfSome f (λ m. IsInput mid.script m k modules name (Ok more)) → IfSome f (λ m. (r : Result (List Module) Refusal) → AreInputs old.script m (k + 1) more (drop (k + 1) names) r → AreInputs old.script m 0 before names r)
+      go modules more None h added = tt
+      go modules more (Some m) h added = λ r next. h r (from_here old.script m k modules name (Ok more) r here (subst (λ (s : Script). IsInput s m k modules name (Ok more)) script added) next)
 
-  pub refused_input : (k : ℕ) (now : Option Files) (name : List ℕ) (old mid new : Feeding) (e : LinkFault) → now ≡ known → drop k names ≡ name ∷ drop (k + 1) names → mid.script ≡ old.script → IsBehind known names k old mid → FeedsObject now name mid new (Err e) → FeedsInputs known names old new (Err (refusal_at k e))
+  pub refused_input : (k : ℕ) (now : Option Files) (name : List ℕ) (old mid new : Feeding) (e : Refusal) → now ≡ known → drop k names ≡ name ∷ drop (k + 1) names → mid.script ≡ old.script → IsBehind known names k old mid → FeedsInput now k name mid new (Err e) → FeedsInputs known names old new (Err e)
   refused_input k now name old mid new e same here script is fed before stands =
       let p = is before stands in
-      go p.0 known p.2 (rw same at fed p.0 p.1)
+      go p.0 known (is_outside e) p.2 (rw same at fed p.0 p.1)
     where
-      go : (modules : List Module) (f : Option Files) → IfSome f (λ m. modules_in old.script m before 0 names ≡ modules_in old.script m modules k (drop k names)) → IfSome f (λ m. Refuses is_link_outside e (added_in mid.script modules m name)) → IfSome f (λ m. Refuses is_outside (refusal_at k e) (modules_in old.script m before 0 names))
-      go modules None h refused = tt
-      go modules (Some m) h refused =
-          rw (h ∙ ap (modules_in old.script m modules k) here)
-          (then (is_outside (refusal_at k e)) (module_in m k name >>= (λ x. given_once old.script (modules ++ x ∷ []))) (behind_err old.script modules m k name e (rw script at refused)))
-        where
-          then : (b : Bool) (r : Result (List Module) Refusal) → Unless b (r ≡ Err (refusal_at k e)) → Unless b ((r >>= (λ ms. modules_in old.script m ms (k + 1) (drop (k + 1) names))) ≡ Err (refusal_at k e))
-          then true r h = tt
-          then false r h = rw h refl
+      go : (modules : List Module) (f : Option Files) (b : Bool) → IfSome f (λ m. (r : Result (List Module) Refusal) → AreInputs old.script m k modules (drop k names) r → AreInputs old.script m 0 before names r) → IfSome f (λ m. Unless b (IsInput mid.script m k modules name (Err e))) → IfSome f (λ m. Unless b (AreInputs old.script m 0 before names (Err e)))
+      go modules None b h refused = tt
+      go modules (Some m) true h refused = tt
+      go modules (Some m) false h refused = h (Err e) (from_here old.script m k modules name (Err e) (Err e) here (subst (λ (s : Script). IsInput s m k modules name (Err e)) script refused) refl)
 
   pub all_inputs : (k : ℕ) (old now : Feeding) → length names ≤ k → IsBehind known names k old now → FeedsInputs known names old now (Ok tt)
   all_inputs k old now past is before stands =
       let p = is before stands in
       (p.0, go p.0 known p.2, p.1)
     where
-      go : (modules : List Module) (f : Option Files) → IfSome f (λ m. modules_in old.script m before 0 names ≡ modules_in old.script m modules k (drop k names)) → IfSome f (λ m. modules_in old.script m before 0 names ≡ Ok modules)
+      go : (modules : List Module) (f : Option Files) → IfSome f (λ m. (r : Result (List Module) Refusal) → AreInputs old.script m k modules (drop k names) r → AreInputs old.script m 0 before names r) → IfSome f (λ m. AreInputs old.script m 0 before names (Ok modules))
       go modules None h = tt
-      go modules (Some m) h = h ∙ ap (modules_in old.script m modules k) (drop_all k names past)
+      go modules (Some m) h = h (Ok modules) (rw (drop_all k names past) refl)
 
 -- ---- The count of failures.
 
--- the count is as it was, for all modules that the linker stands for
-abbrev pub Counted : Feeding → ℕ → ℕ → Type 0
-Counted old count_old count_new = (before : List Module) → IsFed old before → count_new ≡ count_old
-
-pub counted_more : (known : Option Files) (names : List (List ℕ)) (k : ℕ) (old mid : Feeding) (a b c : ℕ) → IsBehind known names k old mid → Counted old a b → ((modules : List Module) → IsFed mid modules → Passes {T = Unit {0}} (link.Malformed object.FileError) b c (Ok tt)) → Counted old a c
-counted_more known names k old mid a b c is same passes before stands =
+pub behind_counted : (known : Option Files) (names : List (List ℕ)) (k : ℕ) (old mid : Feeding) (a b c : ℕ) → IsBehind known names k old mid → Counted old a b → ((modules : List Module) → IsFed mid modules → PassesBy {T = Unit {0}} is_failure b c (Ok tt)) → Counted old a c
+behind_counted known names k old mid a b c is same passes before stands =
     let p = is before stands in
-    let q = passes p.0 p.1 in
-    let not_later : b < c → ⊥ = λ h. cc (q.told h) in
-    let stays : c ≡ b = omega (arith, q.later, not_later) in
-    stays ∙ same before stands
+    kept_by b c tt (passes p.0 p.1) ∙ same before stands
 
-is_stored : (k : ℕ) (e : LinkFault) → is_failure (refusal_at k e) ≡ true → e ≡ link.Malformed object.FileError
-is_stored k (link.Malformed object.FileError) h = refl
-is_stored k (link.Malformed f) h = absurd cc
-is_stored k e h = absurd cc
-
-pub refused_count : (known : Option Files) (names : List (List ℕ)) (k : ℕ) (old mid : Feeding) (a b c : ℕ) (e : LinkFault) → IsBehind known names k old mid → Counted old a b → ((modules : List Module) → IsFed mid modules → Passes {T = Unit {0}} (link.Malformed object.FileError) b c (Err e)) → (before : List Module) → IsFed old before → PassesBy {T = Unit {0}} is_failure a c (Err (refusal_at k e))
-refused_count known names k old mid a b c e is same passes before stands =
+pub refused_counted : (known : Option Files) (names : List (List ℕ)) (k : ℕ) (old mid : Feeding) (a b c : ℕ) (e : Refusal) → IsBehind known names k old mid → Counted old a b → ((modules : List Module) → IsFed mid modules → PassesBy {T = Unit {0}} is_failure b c (Err e)) → (before : List Module) → IsFed old before → PassesBy {T = Unit {0}} is_failure a c (Err e)
+refused_counted known names k old mid a b c e is same passes before stands =
     let p = is before stands in
-    let q = passes p.0 p.1 in
-    let here : b ≡ a = same before stands in
-    record {
-      later = subst (λ (n : ℕ). n ≤ c) here q.later;
-      told = λ h. let stored : e ≡ link.Malformed object.FileError = cc (q.told (subst (λ (n : ℕ). n < c) (sym here) h)) in ap (λ x. is_failure (refusal_at k x)) stored;
-      cause = λ h. subst (λ (n : ℕ). HasFailed n c) here (q.cause (ap Err (is_stored k e h)));
-    }
+    later_count a b c (Err e) (same before stands) (passes p.0 p.1)
 
-pub done_count : (old : Feeding) (a b : ℕ) → Counted old a b → (before : List Module) → IsFed old before → PassesBy {T = Unit {0}} is_failure a b (Ok tt)
-done_count old a b same before stands =
-    let e = same before stands in
-    record {
-      later = omega (arith, e);
-      told = λ h. absurd (omega (arith, e));
-      cause = tt;
-    }
+pub done_counted : (old : Feeding) (a b : ℕ) → Counted old a b → (before : List Module) → IsFed old before → PassesBy {T = Unit {0}} is_failure a b (Ok tt)
+done_counted old a b same before stands = done_count a b (same before stands)

@@ -17,8 +17,10 @@ use Rattle.linkage65.specs.declared.fault.LinkFault.{LinkFault}
 use Rattle.linkage65.specs.declared.fault.LinkFault.TheVariants as link
 use Rattle.linkage65.specs.Faults.{is_memory, of_object as as_fault}
 use Rattle.linkage65.specs.Modules.{Module}
+use Rattle.library65.specs.declared.entry.Entry.{Entry as Listing}
 use Rattle.link65.specs.Standing.{Continues, Feeding, IsFeeding, as_link}
-use Rattle.ld65.specs.Feeding.{FeedsRecords, is_link_outside, no_limit, records_in}
+use Rattle.ld65.specs.Feeding.{FeedsRecords, is_link_outside, records_in}
+use Rattle.ld65.specs.Linkage.{Input}
 use Rattle.ld65.proofs.Endings.{ended_by}
 
 -- ---- Faults.
@@ -111,49 +113,49 @@ not_at n h = grind (arith, nat_tests)
 -- ---- The loop, for all modules that the linker stands for.
 
 -- what is left of a file reads as all of it, behind what the linker has taken
-abbrev pub IsAt : Option Files → List ℕ → ℕ → ℕ → Feeding → Feeding → Type 0
-IsAt known name at next old now =
-    (modules : List Module) (called : List ℕ) → IsFeeding old modules called start
-    → (s : State) × IsFeeding now modules called s × GoesIn known name no_limit at next s
+abbrev pub IsAt : Option Files → Input → ℕ → ℕ → Feeding → Feeding → Type 0
+IsAt known i at next old now =
+    (modules : List Module) (called : List ℕ) (entry : Option Listing) → IsFeeding old modules called entry start
+    → (s : State) × IsFeeding now modules called entry s × GoesIn known i.file i.end at next s
 
-module _ (known : Option Files) (name : List ℕ) (at : ℕ) where
-  pub is_at_first : (old : Feeding) → IsAt known name at at old old
-  is_at_first old modules called h = (start, h, begins_in no_limit at at known name)
+module _ (known : Option Files) (i : Input) (at : ℕ) where
+  pub is_at_first : (old : Feeding) → IsAt known i at at old old
+  is_at_first old modules called entry h = (start, h, begins_in i.end at at known i.file)
 
-  pub unread : (next : ℕ) (now : Option Files) (old mid new : Feeding) (f : ObjectFault) → now ≡ known → IsAt known name at next old mid → IfSome now (λ m. Refuses is_object_outside f (in_file (get m name) (record_at next no_limit))) → FeedsRecords known name at old new (Err (as_fault f))
-  unread next now old mid new f same is h modules called stands =
-      let p = is modules called stands in
-      of_object_in known f (λ m. records_in m name at) (reading_stops no_limit at next known now name p.0 f same p.2 h)
+  pub unread : (next : ℕ) (now : Option Files) (old mid new : Feeding) (f : ObjectFault) → now ≡ known → IsAt known i at next old mid → IfSome now (λ m. Refuses is_object_outside f (in_file (get m i.file) (record_at next i.end))) → FeedsRecords known i at old new (Err (as_fault f))
+  unread next now old mid new f same is h modules called entry stands =
+      let p = is modules called entry stands in
+      of_object_in known f (λ m. records_in m i at) (reading_stops i.end at next known now i.file p.0 f same p.2 h)
 
-  pub untaken : (next : ℕ) (now : Option Files) (old mid new : Feeding) (r : Entry × ℕ) (e : LinkFault) → now ≡ known → IsAt known name at next old mid → IfSome now (λ m. in_file (get m name) (record_at next no_limit) ≡ Ok r) → Continues r.0 mid new (Err e) → FeedsRecords known name at old new (Err e)
-  untaken next now old mid new r e same is read refused modules called stands =
-      let p = is modules called stands in
-      taking_refused no_limit at next known now name p.0 r e same p.2 read (refused modules called p.0 p.1)
+  pub untaken : (next : ℕ) (now : Option Files) (old mid new : Feeding) (r : Entry × ℕ) (e : LinkFault) → now ≡ known → IsAt known i at next old mid → IfSome now (λ m. in_file (get m i.file) (record_at next i.end) ≡ Ok r) → Continues r.0 mid new (Err e) → FeedsRecords known i at old new (Err e)
+  untaken next now old mid new r e same is read refused modules called entry stands =
+      let p = is modules called entry stands in
+      taking_refused i.end at next known now i.file p.0 r e same p.2 read (refused modules called entry p.0 p.1)
 
-  pub ends_there : (next : ℕ) (now : Option Files) (old mid new : Feeding) (r : Entry × ℕ) → now ≡ known → IsAt known name at next old mid → IfSome now (λ m. in_file (get m name) (record_at next no_limit) ≡ Ok r) → Continues r.0 mid new (Ok tt) → r.0.kind ≡ 8 → FeedsRecords known name at old new (Ok r.1)
-  ends_there next now old mid new r same is read taken end modules called stands =
-      let p = is modules called stands in
-      let q = taken modules called p.0 p.1 in
+  pub ends_there : (next : ℕ) (now : Option Files) (old mid new : Feeding) (r : Entry × ℕ) → now ≡ known → IsAt known i at next old mid → IfSome now (λ m. in_file (get m i.file) (record_at next i.end) ≡ Ok r) → Continues r.0 mid new (Ok tt) → r.0.kind ≡ 8 → FeedsRecords known i at old new (Ok r.1)
+  ends_there next now old mid new r same is read taken end modules called entry stands =
+      let p = is modules called entry stands in
+      let q = taken modules called entry p.0 p.1 in
       let step = accepted (after p.0 r.0) q.0 q.1 in
-      ((q.0, r.1), linked known (λ m. records_in m name at) (q.0, r.1) (ends_in no_limit at next known now name p.0 q.0 r same p.2 read step (ended_by p.0 q.0 r.0 step ∙ ap (λ i. i == 8) end)), (refl, q.2))
+      ((q.0, r.1), linked known (λ m. records_in m i at) (q.0, r.1) (ends_in i.end at next known now i.file p.0 q.0 r same p.2 read step (ended_by p.0 q.0 r.0 step ∙ ap (λ n. n == 8) end)), (refl, q.2))
     where
       linked : (k : Option Files) (f : Files → Result (State × ℕ) ObjectFault) (x : State × ℕ) → IfSome k (λ m. f m ≡ Ok x) → IfSome k (λ m. as_link (f m) ≡ Ok x)
       linked None f x h = tt
       linked (Some m) f x h = ap as_link h
 
-  pub goes_further : (next : ℕ) (now : Option Files) (old mid new : Feeding) (r : Entry × ℕ) → now ≡ known → IsAt known name at next old mid → IfSome now (λ m. in_file (get m name) (record_at next no_limit) ≡ Ok r) → next < r.1 → Continues r.0 mid new (Ok tt) → (r.0.kind ≡ 8 → ⊥) → IsAt known name at r.1 old new
-  goes_further next now old mid new r same is read later taken end modules called stands =
-      let p = is modules called stands in
-      let q = taken modules called p.0 p.1 in
+  pub goes_further : (next : ℕ) (now : Option Files) (old mid new : Feeding) (r : Entry × ℕ) → now ≡ known → IsAt known i at next old mid → IfSome now (λ m. in_file (get m i.file) (record_at next i.end) ≡ Ok r) → next < r.1 → Continues r.0 mid new (Ok tt) → (r.0.kind ≡ 8 → ⊥) → IsAt known i at r.1 old new
+  goes_further next now old mid new r same is read later taken end modules called entry stands =
+      let p = is modules called entry stands in
+      let q = taken modules called entry p.0 p.1 in
       let step = accepted (after p.0 r.0) q.0 q.1 in
-      (q.0, q.2, goes_on_in no_limit at next known now name p.0 q.0 r same p.2 read later step (ended_by p.0 q.0 r.0 step ∙ not_at r.0.kind end))
+      (q.0, q.2, goes_on_in i.end at next known now i.file p.0 q.0 r same p.2 read later step (ended_by p.0 q.0 r.0 step ∙ not_at r.0.kind end))
 
   -- a record that the linker refuses is no failure of the store
-  pub none_passed : {T : Type 0} (next : ℕ) (old mid new : Feeding) (x : Entry) (e : LinkFault) (count_old count_new : ℕ) → count_new ≡ count_old → IsAt known name at next old mid → Continues x mid new (Err e) → (modules : List Module) (called : List ℕ) → IsFeeding old modules called start → Passes {T = T} (link.Malformed object.FileError) count_old count_new (Err e)
-  none_passed next old mid new x e count_old count_new same is refused modules called stands = record {
+  pub none_passed : {T : Type 0} (next : ℕ) (old mid new : Feeding) (x : Entry) (e : LinkFault) (count_old count_new : ℕ) → count_new ≡ count_old → IsAt known i at next old mid → Continues x mid new (Err e) → (modules : List Module) (called : List ℕ) (entry : Option Listing) → IsFeeding old modules called entry start → Passes {T = T} (link.Malformed object.FileError) count_old count_new (Err e)
+  none_passed next old mid new x e count_old count_new same is refused modules called entry stands = record {
     later = omega (arith, same);
     told = λ h. absurd (omega (arith, same));
     cause = λ h.
-        let p = is modules called stands in
-        absurd (not_stored p.0 x e (refused modules called p.0 p.1) (let f : e ≡ link.Malformed object.FileError = cc h in f));
+        let p = is modules called entry stands in
+        absurd (not_stored p.0 x e (refused modules called entry p.0 p.1) (let f : e ≡ link.Malformed object.FileError = cc h in f));
   }

@@ -1,6 +1,8 @@
 pub mod Endings
 pub mod Fed
 pub mod Objects
-pub mod Inputs
+pub mod Behind
+pub mod Chosen
+pub mod LineInputs
 pub mod ScriptLemmas
 pub mod LinkLemmas

@@ -1,9 +1,9 @@
 -- From the parts of an object's file to the module that it is.
-use Rattle.std.proofs.Common.{◌≡◌, ◌∙◌, ◌<◌, ℕ, List, [], ◌∷◌, ◌++◌, length, Bool, true, false, Option, Some, None, if◌then◌else◌, Result, Ok, Err, refl, sym, ap, arith}
+use Rattle.std.proofs.Common.{◌≡◌, ◌∙◌, ◌<◌, ◌≤◌, ℕ, List, [], ◌∷◌, ◌++◌, length, Bool, true, false, Option, Some, None, if◌then◌else◌, Result, Ok, Err, refl, sym, ap, subst, arith}
 use Rattle.std.specs.Prelude.{IfSome}
 use Rattle.std.specs.FinMap.{get}
 use Rattle.syntax65.specs.Outcome.{◌>>=◌, Refuses, Unless}
-use Rattle.syntax65.specs.Store.{Files, Passes}
+use Rattle.syntax65.specs.Store.{Files, HasFailed, Passes}
 use Rattle.syntax65.proofs.Outcome.{refused-then}
 use Rattle.object65.specs.declared.fault.ObjectFault.{ObjectFault}
 use Rattle.object65.specs.declared.fault.ObjectFault.TheVariants as object
@@ -15,34 +15,18 @@ use Rattle.object65.specs.Whole.{object_at, records_at}
 use Rattle.linkage65.specs.declared.fault.LinkFault.{LinkFault}
 use Rattle.linkage65.specs.declared.fault.LinkFault.TheVariants as link
 use Rattle.linkage65.specs.Faults.{is_memory, of_object as as_fault}
+use Rattle.library65.specs.declared.entry.Entry.{Entry as Listing}
 use Rattle.linkage65.specs.Givers.{first_again, given_names}
 use Rattle.linkage65.specs.Links.{names_once, no_name_again}
 use Rattle.linkage65.specs.Modules.{Module}
 use Rattle.linkage65.specs.Programs.{Program, program_of}
 use Rattle.script65.specs.declared.script.Script.{Script}
-use Rattle.link65.specs.Standing.{Begins, Ends, Feeding, IsFed, Leads, as_link, module_of, whole}
-use Rattle.ld65.specs.Feeding.{FeedsObject, FeedsRecords, Leads as LeadsIn, added_in, is_link_outside, no_limit, records_in}
-use Rattle.ld65.specs.Linkage.{object_in}
+use Rattle.link65.specs.Standing.{Begins, Ends, Feeding, IsFed, Leads, agreed, agrees_with, as_link, joined, module_of, whole}
+use Rattle.ld65.specs.Feeding.{FeedsObject, FeedsRecords, Leads as LeadsIn, is_link_outside, records_in}
+use Rattle.ld65.specs.Linkage.{Input, added_in, object_in}
 use Rattle.ld65.proofs.Fed.{accepted, by_memory, memory_outside, of_object, unless}
 
 -- ---- What the parts of a file say of the object in it.
-
-abbrev head_of : Option (List ℕ) → Result ℕ ObjectFault
-head_of file = in_file file (head_at 0 no_limit)
-
-abbrev records_of : ℕ → Option (List ℕ) → Result (State × ℕ) ObjectFault
-records_of first file = in_file file (λ bytes. records_at (length bytes) start first no_limit bytes)
-
-abbrev end_of : ℕ → Option (List ℕ) → Result (Unit {0}) ObjectFault
-end_of end file = in_file file (end_at end no_limit)
-
-abbrev object_of : Option (List ℕ) → Result Object ObjectFault
-object_of file = in_file file (object_at 0 no_limit)
-
-head_stops : (file : Option (List ℕ)) (f : ObjectFault) → Refuses is_object_outside f (head_of file) → Refuses is_object_outside f (object_of file)
-unfolding object_at
-head_stops None f h = unless (is_object_outside f) (λ e. let is : object.FileNotFound ≡ f = cc e in ap Err is) h
-head_stops (Some bytes) f h = refused-then is_object_outside f (head_at 0 no_limit bytes) _ h
 
 -- a fault of a part, as one of the link, is one of the whole
 linked_then : {A B : Type 0} (e : LinkFault) (r : Result A ObjectFault) (f : A → Result B ObjectFault) → Refuses is_link_outside e (as_link r) → Refuses is_link_outside e (as_link (r >>= f))
@@ -53,84 +37,104 @@ linked_then {A} {B} e r f h = go (is_link_outside e) r h
     go false (Ok x) h = cc
     go false (Err g) h = let same : link.Malformed g ≡ e = cc in ap Err same
 
-records_stop : (file : Option (List ℕ)) (first : ℕ) (e : LinkFault) → head_of file ≡ Ok first → Refuses is_link_outside e (as_link (records_of first file)) → Refuses is_link_outside e (as_link (object_of file))
-unfolding object_at
-records_stop None first e head h = cc
-records_stop (Some bytes) first e head h = rw head (linked_then e (records_at (length bytes) start first no_limit bytes) _ h)
+module _ (i : Input) where
+  abbrev head_of : Option (List ℕ) → Result ℕ ObjectFault
+  head_of file = in_file file (head_at i.begin i.end)
 
-end_stops : (file : Option (List ℕ)) (first : ℕ) (t : State) (end : ℕ) (f : ObjectFault) → head_of file ≡ Ok first → records_of first file ≡ Ok (t, end) → Refuses is_object_outside f (end_of end file) → Refuses is_object_outside f (object_of file)
-unfolding object_at
-end_stops None first t end f head records h = cc
-end_stops (Some bytes) first t end f head records h = rw (head, records) (refused-then is_object_outside f (end_at end no_limit bytes) (λ u. finished t) h)
+  abbrev records_of : ℕ → Option (List ℕ) → Result (State × ℕ) ObjectFault
+  records_of first file = in_file file (λ bytes. records_at (length bytes) start first i.end bytes)
 
-object_is : (file : Option (List ℕ)) (first : ℕ) (t : State) (end : ℕ) → head_of file ≡ Ok first → records_of first file ≡ Ok (t, end) → end_of end file ≡ Ok tt → object_of file ≡ finished t
-unfolding object_at
-object_is None first t end head records h = cc
-object_is (Some bytes) first t end head records h = rw (head, records, h) refl
+  abbrev end_of : ℕ → Option (List ℕ) → Result (Unit {0}) ObjectFault
+  end_of end file = in_file file (end_at end i.end)
+
+  abbrev object_of : Option (List ℕ) → Result Object ObjectFault
+  object_of file = in_file file (object_at i.begin i.end)
+
+  head_stops : (file : Option (List ℕ)) (f : ObjectFault) → Refuses is_object_outside f (head_of file) → Refuses is_object_outside f (object_of file)
+  unfolding object_at
+  head_stops None f h = unless (is_object_outside f) (λ e. let is : object.FileNotFound ≡ f = cc e in ap Err is) h
+  head_stops (Some bytes) f h = refused-then is_object_outside f (head_at i.begin i.end bytes) _ h
+
+  records_stop : (file : Option (List ℕ)) (first : ℕ) (e : LinkFault) → head_of file ≡ Ok first → Refuses is_link_outside e (as_link (records_of first file)) → Refuses is_link_outside e (as_link (object_of file))
+  unfolding object_at
+  records_stop None first e head h = cc
+  records_stop (Some bytes) first e head h = rw head (linked_then e (records_at (length bytes) start first i.end bytes) _ h)
+
+  end_stops : (file : Option (List ℕ)) (first : ℕ) (t : State) (end : ℕ) (f : ObjectFault) → head_of file ≡ Ok first → records_of first file ≡ Ok (t, end) → Refuses is_object_outside f (end_of end file) → Refuses is_object_outside f (object_of file)
+  unfolding object_at
+  end_stops None first t end f head records h = cc
+  end_stops (Some bytes) first t end f head records h = rw (head, records) (refused-then is_object_outside f (end_at end i.end bytes) (λ u. finished t) h)
+
+  object_is : (file : Option (List ℕ)) (first : ℕ) (t : State) (end : ℕ) → head_of file ≡ Ok first → records_of first file ≡ Ok (t, end) → end_of end file ≡ Ok tt → object_of file ≡ finished t
+  unfolding object_at
+  object_is None first t end head records h = cc
+  object_is (Some bytes) first t end head records h = rw (head, records, h) refl
 
 -- ---- The module behind others.
 
 -- what is refused as an object is refused as a module
-as_module : (s : Script) (before : List Module) (m : Files) (name : List ℕ) (e : LinkFault) → Refuses is_link_outside e (as_link (object_in m name)) → Refuses is_link_outside e (added_in s before m name)
-as_module s before m name e h = refused-then is_link_outside e (as_link (object_in m name)) _ h
+as_module : (s : Script) (before : List Module) (m : Files) (i : Input) (e : LinkFault) → Refuses is_link_outside e (as_link (object_in m i)) → Refuses is_link_outside e (added_in s before m i)
+as_module s before m i e h =
+    refused-then is_link_outside e (as_link (object_in m i) >>= agreed i.entry) (joined s before i.name)
+    (refused-then is_link_outside e (as_link (object_in m i)) (agreed i.entry) h)
 
-module _ (known : Option Files) (name : List ℕ) (old : Feeding) where
+module _ (known : Option Files) (i : Input) (old : Feeding) where
   -- the head that was read
   abbrev pub HasHead : ℕ → Type 0
-  HasHead first = IfSome known (λ m. head_of (get m name) ≡ Ok first)
+  HasHead first = IfSome known (λ m. head_of i (get m i.file) ≡ Ok first)
 
-  pub no_head : (new : Feeding) (f : ObjectFault) → IfSome known (λ m. Refuses is_object_outside f (head_of (get m name))) → FeedsObject known name old new (Err (as_fault f))
+  pub no_head : (new : Feeding) (f : ObjectFault) → IfSome known (λ m. Refuses is_object_outside f (head_of i (get m i.file))) → FeedsObject known i old new (Err (as_fault f))
   no_head new f h modules stands = go known h
     where
-      go : (k : Option Files) → IfSome k (λ m. Refuses is_object_outside f (head_of (get m name))) → IfSome k (λ m. Refuses is_link_outside (as_fault f) (added_in old.script modules m name))
+      go : (k : Option Files) → IfSome k (λ m. Refuses is_object_outside f (head_of i (get m i.file))) → IfSome k (λ m. Refuses is_link_outside (as_fault f) (added_in old.script modules m i))
       go None h = tt
-      go (Some m) h = as_module old.script modules m name (as_fault f) (of_object f (object_in m name) (head_stops (get m name) f h))
+      go (Some m) h = as_module old.script modules m i (as_fault f) (of_object f (object_in m i) (head_stops i (get m i.file) f h))
 
-  pub not_begun : (new : Feeding) (e : LinkFault) → (old.failed ≡ false → is_memory e ≡ true) → FeedsObject known name old new (Err e)
-  not_begun new e h modules stands = by_memory known e (λ m. added_in old.script modules m name) (h stands.failed)
+  pub not_begun : (new : Feeding) (e : LinkFault) → (old.failed ≡ false → is_memory e ≡ true) → FeedsObject known i old new (Err e)
+  not_begun new e h modules stands = by_memory known e (λ m. added_in old.script modules m i) (h stands.failed)
 
-  pub no_records : (now : Option Files) (first : ℕ) (mid new : Feeding) (e : LinkFault) → now ≡ known → HasHead first → Begins name old mid (Ok tt) → FeedsRecords now name first mid new (Err e) → FeedsObject known name old new (Err e)
-  no_records now first mid new e same head begun fed modules stands = go known head (rw same at fed modules name (begun modules stands))
+  pub no_records : (now : Option Files) (first : ℕ) (mid new : Feeding) (e : LinkFault) → now ≡ known → HasHead first → Begins i.name i.entry old mid (Ok tt) → FeedsRecords now i first mid new (Err e) → FeedsObject known i old new (Err e)
+  no_records now first mid new e same head begun fed modules stands = go known head (rw same at fed modules i.name i.entry (begun modules stands))
     where
-      go : (k : Option Files) → IfSome k (λ m. head_of (get m name) ≡ Ok first) → IfSome k (λ m. Refuses is_link_outside e (as_link (records_in m name first))) → IfSome k (λ m. Refuses is_link_outside e (added_in old.script modules m name))
+      go : (k : Option Files) → IfSome k (λ m. head_of i (get m i.file) ≡ Ok first) → IfSome k (λ m. Refuses is_link_outside e (as_link (records_in m i first))) → IfSome k (λ m. Refuses is_link_outside e (added_in old.script modules m i))
       go None head h = tt
-      go (Some m) head h = as_module old.script modules m name e (records_stop (get m name) first e head h)
+      go (Some m) head h = as_module old.script modules m i e (records_stop i (get m i.file) first e head h)
 
-  pub more_behind : (now later : Option Files) (first end : ℕ) (mid new : Feeding) (f : ObjectFault) → now ≡ known → later ≡ known → HasHead first → Begins name old mid (Ok tt) → FeedsRecords now name first mid new (Ok end) → IfSome later (λ m. Refuses is_object_outside f (end_of end (get m name))) → FeedsObject known name old new (Err (as_fault f))
+  pub more_behind : (now later : Option Files) (first end : ℕ) (mid new : Feeding) (f : ObjectFault) → now ≡ known → later ≡ known → HasHead first → Begins i.name i.entry old mid (Ok tt) → FeedsRecords now i first mid new (Ok end) → IfSome later (λ m. Refuses is_object_outside f (end_of i end (get m i.file))) → FeedsObject known i old new (Err (as_fault f))
   more_behind now later first end mid new f same same_later head begun fed behind modules stands =
-      let x = fed modules name (begun modules stands) in
+      let x = fed modules i.name i.entry (begun modules stands) in
       go known x.0.0 x.0.1 x.2.0 head (rw same at x.1) (rw same_later at behind)
     where
-      go : (k : Option Files) (t : State) (n : ℕ) → n ≡ end → IfSome k (λ m. head_of (get m name) ≡ Ok first) → IfSome k (λ m. as_link (records_in m name first) ≡ Ok (t, n)) → IfSome k (λ m. Refuses is_object_outside f (end_of end (get m name))) → IfSome k (λ m. Refuses is_link_outside (as_fault f) (added_in old.script modules m name))
+      go : (k : Option Files) (t : State) (n : ℕ) → n ≡ end → IfSome k (λ m. head_of i (get m i.file) ≡ Ok first) → IfSome k (λ m. as_link (records_in m i first) ≡ Ok (t, n)) → IfSome k (λ m. Refuses is_object_outside f (end_of i end (get m i.file))) → IfSome k (λ m. Refuses is_link_outside (as_fault f) (added_in old.script modules m i))
       go None t n at head records h = tt
       go (Some m) t n at head records h =
-          as_module old.script modules m name (as_fault f)
-          (of_object f (object_in m name) (end_stops (get m name) first t end f head (accepted (records_in m name first) (t, end) (records ∙ ap (λ i. Ok (t, i)) at)) h))
+          as_module old.script modules m i (as_fault f)
+          (of_object f (object_in m i) (end_stops i (get m i.file) first t end f head (accepted (records_in m i first) (t, end) (records ∙ ap (λ j. Ok (t, j)) at)) h))
 
   -- the module is whole
-  pub whole_module : (now later : Option Files) (first end : ℕ) (mid fed new : Feeding) (r : Result (Unit {0}) LinkFault) → now ≡ known → later ≡ known → HasHead first → Begins name old mid (Ok tt) → FeedsRecords now name first mid fed (Ok end) → IfSome later (λ m. end_of end (get m name) ≡ Ok tt) → fed.script ≡ old.script → Ends fed new r → FeedsObject known name old new r
+  pub whole_module : (now later : Option Files) (first end : ℕ) (mid fed new : Feeding) (r : Result (Unit {0}) LinkFault) → now ≡ known → later ≡ known → HasHead first → Begins i.name i.entry old mid (Ok tt) → FeedsRecords now i first mid fed (Ok end) → IfSome later (λ m. end_of i end (get m i.file) ≡ Ok tt) → fed.script ≡ old.script → Ends fed new r → FeedsObject known i old new r
   whole_module now later first end mid fed new r same same_later head begun feeds behind script ends modules stands =
-      let x = feeds modules name (begun modules stands) in
-      closes x.0.0 r (ends modules name x.0.0 x.2.1) (is_whole x.0.0 x.0.1 x.2.0 known head (rw same at x.1) (rw same_later at behind))
+      let x = feeds modules i.name i.entry (begun modules stands) in
+      closes x.0.0 r (ends modules i.name i.entry x.0.0 x.2.1) (is_whole x.0.0 x.0.1 x.2.0 known head (rw same at x.1) (rw same_later at behind))
     where
-      is_whole : (t : State) (n : ℕ) → n ≡ end → (k : Option Files) → IfSome k (λ m. head_of (get m name) ≡ Ok first) → IfSome k (λ m. as_link (records_in m name first) ≡ Ok (t, n)) → IfSome k (λ m. end_of end (get m name) ≡ Ok tt) → IfSome k (λ m. added_in old.script modules m name ≡ whole fed.script modules name t)
+      is_whole : (t : State) (n : ℕ) → n ≡ end → (k : Option Files) → IfSome k (λ m. head_of i (get m i.file) ≡ Ok first) → IfSome k (λ m. as_link (records_in m i first) ≡ Ok (t, n)) → IfSome k (λ m. end_of i end (get m i.file) ≡ Ok tt) → IfSome k (λ m. added_in old.script modules m i ≡ whole fed.script modules i.name i.entry t)
       is_whole t n at None head records h = tt
       is_whole t n at (Some m) head records h =
-          let is : object_in m name ≡ finished t = object_is (get m name) first t end head (accepted (records_in m name first) (t, end) (records ∙ ap (λ i. Ok (t, i)) at)) h in
-          ap (λ o. as_link o >>= (λ o. names_once old.script (program_of (modules ++ module_of name o ∷ [])) >>= (λ u. Ok o))) is
-          ∙ ap (λ s. whole s modules name t) (sym script)
+          let is : object_in m i ≡ finished t = object_is i (get m i.file) first t end head (accepted (records_in m i first) (t, end) (records ∙ ap (λ j. Ok (t, j)) at)) h in
+          ap (λ o. as_link o >>= agreed i.entry >>= joined old.script modules i.name) is
+          ∙ ap (λ s. whole s modules i.name i.entry t) (sym script)
 
-      closes : (t : State) (r : Result (Unit {0}) LinkFault) → Leads (λ o. IsFed new (modules ++ module_of name o ∷ [])) r (whole fed.script modules name t) → IfSome known (λ m. added_in old.script modules m name ≡ whole fed.script modules name t) → LeadsIn is_link_outside (λ u o. IsFed new (modules ++ module_of name o ∷ [])) known (λ m. added_in old.script modules m name) r
+      closes : (t : State) (r : Result (Unit {0}) LinkFault) → Leads (λ o. IsFed new (modules ++ module_of i.name o ∷ [])) r (whole fed.script modules i.name i.entry t) → IfSome known (λ m. added_in old.script modules m i ≡ whole fed.script modules i.name i.entry t) → LeadsIn is_link_outside (λ u o. IsFed new (modules ++ module_of i.name o ∷ [])) known (λ m. added_in old.script modules m i) r
       closes t (Ok u) h is = (h.0, given known is, h.2)
         where
-          given : (k : Option Files) → IfSome k (λ m. added_in old.script modules m name ≡ whole fed.script modules name t) → IfSome k (λ m. added_in old.script modules m name ≡ Ok h.0)
+          given : (k : Option Files) → IfSome k (λ m. added_in old.script modules m i ≡ whole fed.script modules i.name i.entry t) → IfSome k (λ m. added_in old.script modules m i ≡ Ok h.0)
           given None e = tt
           given (Some m) e = e ∙ h.1
       closes t (Err e) h is = refused known is
         where
-          refused : (k : Option Files) → IfSome k (λ m. added_in old.script modules m name ≡ whole fed.script modules name t) → IfSome k (λ m. Refuses is_link_outside e (added_in old.script modules m name))
+          refused : (k : Option Files) → IfSome k (λ m. added_in old.script modules m i ≡ whole fed.script modules i.name i.entry t) → IfSome k (λ m. Refuses is_link_outside e (added_in old.script modules m i))
           refused None same = tt
-          refused (Some m) same = rw same (memory_outside e (whole fed.script modules name t) h)
+          refused (Some m) same = rw same (memory_outside e (whole fed.script modules i.name i.entry t) h)
 
 -- ---- The count of failures.
 
@@ -166,37 +170,60 @@ names_free s p h = go (first_again [] (given_names s p)) h
     go None h = cc
     go (Some n) h = cc
 
-whole_free : (s : Script) (modules : List Module) (name : List ℕ) (t : State) → whole s modules name t ≡ Err (link.Malformed object.FileError) → ⊥
-whole_free s modules name t h = go (as_link (finished t)) (finished_free t) h
+abbrev file_failed : LinkFault
+file_failed = link.Malformed object.FileError
+
+free_then : (r : Result Object LinkFault) (f : Object → Result Object LinkFault) → (r ≡ Err file_failed → ⊥) → ((o : Object) → f o ≡ Err file_failed → ⊥) → (r >>= f) ≡ Err file_failed → ⊥
+free_then (Ok o) f free next h = next o h
+free_then (Err e) f free next h = free (let same : e ≡ file_failed = cc in ap Err same)
+
+agreed_free : (entry : Option Listing) (o : Object) → agreed entry o ≡ Err file_failed → ⊥
+agreed_free entry o h = go (agrees_with entry o) h
   where
-    names : (o : Object) (r : Result (Unit {0}) LinkFault) → (r ≡ Err (link.Malformed object.FileError) → ⊥) → (r >>= (λ u. Ok o)) ≡ Err (link.Malformed object.FileError) → ⊥
-    names o (Ok u) free h = cc
-    names o (Err e) free h = free (let same : e ≡ link.Malformed object.FileError = cc in ap Err same)
+    go : (b : Bool) → (if b then Ok o else Err link.IndexDisagrees) ≡ Err file_failed → ⊥
+    go true h = cc
+    go false h = cc
 
-    go : (r : Result Object LinkFault) → (r ≡ Err (link.Malformed object.FileError) → ⊥) → (r >>= (λ o. names_once s (program_of (modules ++ module_of name o ∷ [])) >>= (λ u. Ok o))) ≡ Err (link.Malformed object.FileError) → ⊥
-    go (Ok o) free h = names o (names_once s (program_of (modules ++ module_of name o ∷ []))) (names_free s (program_of (modules ++ module_of name o ∷ []))) h
-    go (Err e) free h = free (let same : e ≡ link.Malformed object.FileError = cc in ap Err same)
+joined_free : (s : Script) (modules : List Module) (name : List ℕ) (o : Object) → joined s modules name o ≡ Err file_failed → ⊥
+joined_free s modules name o h =
+    let p = program_of (modules ++ module_of name o ∷ []) in
+    go (names_once s p) (names_free s p) h
+  where
+    go : (r : Result (Unit {0}) LinkFault) → (r ≡ Err file_failed → ⊥) → (r >>= (λ u. Ok o)) ≡ Err file_failed → ⊥
+    go (Ok u) free h = cc
+    go (Err e) free h = free (let same : e ≡ file_failed = cc in ap Err same)
 
-pub ends_count : (first end_at : ℕ) (now : Option Files) (name : List ℕ) (old mid fed new : Feeding) (count_old count_new : ℕ) (r : Result (Unit {0}) LinkFault) → count_new ≡ count_old → Begins name old mid (Ok tt) → FeedsRecords now name first mid fed (Ok end_at) → Ends fed new r → (modules : List Module) → IsFed old modules → Passed count_old count_new r
-ends_count first end_at now name old mid fed new count_old count_new (Ok u) same begun feeds ends modules stands = record {
+whole_free : (s : Script) (modules : List Module) (name : List ℕ) (entry : Option Listing) (t : State) → whole s modules name entry t ≡ Err file_failed → ⊥
+whole_free s modules name entry t h =
+    free_then (as_link (finished t) >>= agreed entry) (joined s modules name)
+    (free_then (as_link (finished t)) (agreed entry) (finished_free t) (agreed_free entry))
+    (joined_free s modules name) h
+
+pub ends_count : (first end_at : ℕ) (now : Option Files) (i : Input) (old mid fed new : Feeding) (count_old count_new : ℕ) (r : Result (Unit {0}) LinkFault) → count_new ≡ count_old → Begins i.name i.entry old mid (Ok tt) → FeedsRecords now i first mid fed (Ok end_at) → Ends fed new r → (modules : List Module) → IsFed old modules → Passed count_old count_new r
+ends_count first end_at now i old mid fed new count_old count_new (Ok u) same begun feeds ends modules stands = record {
   later = omega (arith, same);
   told = λ h. absurd (omega (arith, same));
   cause = λ h. absurd cc;
 }
-ends_count first end_at now name old mid fed new count_old count_new (Err e) same begun feeds ends modules stands =
-    let x = feeds modules name (begun modules stands) in
-    unpassed count_old count_new e same (other x.0.0 (ends modules name x.0.0 x.2.1))
+ends_count first end_at now i old mid fed new count_old count_new (Err e) same begun feeds ends modules stands =
+    let x = feeds modules i.name i.entry (begun modules stands) in
+    unpassed count_old count_new e same (other x.0.0 (ends modules i.name i.entry x.0.0 x.2.1))
   where
-    other : (t : State) → Refuses is_memory e (whole fed.script modules name t) → e ≡ link.Malformed object.FileError → ⊥
-    other t h is = whole_free fed.script modules name t (rw is at h)
+    other : (t : State) → Refuses is_memory e (whole fed.script modules i.name i.entry t) → e ≡ link.Malformed object.FileError → ⊥
+    other t h is = whole_free fed.script modules i.name i.entry t (rw is at h)
 
 -- ---- Calls as they answered.
-
-pub begun_as : (name given : List ℕ) (old new : Feeding) → given ≡ name → Begins given old new (Ok tt) → Begins name old new (Ok tt)
-begun_as name given old new same h = rw same at h
 
 pub kept_link_count : {T : Type 0} (old now : ℕ) (x : T) → Passed old now (Ok x) → now ≡ old
 kept_link_count old now x passes = let not_later : old < now → ⊥ = λ h. no_error x (passes.told h) in omega (arith, passes.later, not_later)
   where
     no_error : {T : Type 0} (x : T) → ◌≡◌ {A = Result T LinkFault} (Ok x) (Err (link.Malformed object.FileError)) → ⊥
     no_error x e = cc
+
+-- a refusal behind a call that didn't fail the store
+pub err_count : {A B : Type 0} (a b c : ℕ) (e : LinkFault) → b ≡ a → Passed {T = A} b c (Err e) → Passed {T = B} a c (Err e)
+err_count a b c e same passes = record {
+  later = subst (λ (n : ℕ). n ≤ c) same passes.later;
+  told = λ h. ap Err (let f : e ≡ link.Malformed object.FileError = cc (passes.told (subst (λ (n : ℕ). n < c) (sym same) h)) in f);
+  cause = λ h. subst (λ (n : ℕ). HasFailed n c) same (passes.cause (ap Err (let f : e ≡ link.Malformed object.FileError = cc h in f)));
+}

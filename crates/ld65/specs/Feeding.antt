@@ -1,23 +1,25 @@
--- What feeding a linker comes to: the records of an object, an object, and the inputs of a line.
-use Rattle.std.specs.Prelude.{◌≡◌, ℕ, ◌-◌, ◌^◌, List, [], ◌∷◌, ◌++◌, length, Option, Result, Ok, Err, IfSome, Bool, true, false}
+-- What feeding a linker comes to: the records of an object, an object, a library's members, and the inputs of a line.
+use Rattle.std.specs.Prelude.{◌≡◌, ℕ, List, [], ◌∷◌, ◌++◌, length, option_map, Option, Result, Ok, Err, IfSome, Bool, true, false}
 use Rattle.std.specs.FinMap.{get}
-use Rattle.syntax65.specs.Outcome.{◌>>=◌, Refuses}
+use Rattle.syntax65.specs.Outcome.{◌>>=◌, Refuses, Unless}
 use Rattle.syntax65.specs.Store.{Files}
 use Rattle.object65.specs.declared.fault.ObjectFault.{ObjectFault}
-use Rattle.object65.specs.declared.object.Object.{Object}
 use Rattle.object65.specs.Fault.{is_outside as is_object_outside}
 use Rattle.object65.specs.Reading.{in_file}
 use Rattle.object65.specs.Taking.{State, start}
 use Rattle.object65.specs.Whole.{records_at}
-use Rattle.script65.specs.declared.script.Script.{Script}
+use Rattle.library65.specs.declared.entry.Entry.{Entry}
+use Rattle.library65.specs.Selection.{IsSelection}
 use Rattle.linkage65.specs.declared.fault.LinkFault.{LinkFault}
 use Rattle.linkage65.specs.declared.fault.LinkFault.TheVariants as link
-use Rattle.linkage65.specs.Links.{names_once}
+use Rattle.linkage65.specs.Givers.{given_names, open_names}
 use Rattle.linkage65.specs.Modules.{Module}
 use Rattle.linkage65.specs.Programs.{program_of}
 use Rattle.link65.specs.Standing.{Feeding, IsFed, IsFeeding, as_link, module_of}
-use Rattle.ld65.specs.Linkage.{modules_in, object_in}
+use Rattle.ld65.specs.Linkage.{AreInputs, Input, IsInput, IsLibraryInput, added_in, as_library, index_in, with_file, with_members}
 use Rattle.ld65.specs.Refusals.{is_outside}
+use Rattle.ld65.specs.declared.choosing.Choice.{Choice}
+use Rattle.ld65.specs.declared.feeding.ObjectInput.{ObjectInput}
 use Rattle.ld65.specs.declared.refusal.Refusal.{Refusal}
 
 -- the faults that the bytes don't decide
@@ -32,33 +34,68 @@ abbrev pub Leads : {E A R : Type 0} → (E → Bool) → (R → A → Type 0) �
 Leads {E} {A} is_out Next known read (Ok r) = (x : A) × IfSome known (λ m. read m ≡ Ok x) × Next r x
 Leads is_out Next known read (Err e) = IfSome known (λ m. Refuses is_out e (read m))
 
--- no file has more bytes
-abbrev pub no_limit : ℕ
-no_limit = 2 ^ 64 - 1
+-- the same where what the files give is said by a relation
+abbrev pub LeadsBy : {E A R : Type 0} → (E → Bool) → (R → A → Type 0) → Option Files → (Files → Result A E → Type 0) → Result R E → Type 0
+LeadsBy {E} {A} is_out Next known Reads (Ok r) = (x : A) × IfSome known (λ m. Reads m (Ok x)) × Next r x
+LeadsBy is_out Next known Reads (Err e) = IfSome known (λ m. Unless (is_out e) (Reads m (Err e)))
 
--- the records of a file from a place on, up to the END
-abbrev pub records_in : Files → List ℕ → ℕ → Result (State × ℕ) ObjectFault
-records_in m name at = in_file (get m name) (λ bytes. records_at (length bytes) start at no_limit bytes)
+-- an object as the code names it
+abbrev pub input_of : ObjectInput → Input
+input_of i = record { file = i.file.now; begin = i.begin; end = i.end; name = i.name.now; entry = option_map (λ e. e.now) i.entry }
 
--- the object of a file as one more module, where no name is given twice
-abbrev pub added_in : Script → List Module → Files → List ℕ → Result Object LinkFault
-added_in s before m name =
-    as_link (object_in m name) >>= (λ o. names_once s (program_of (before ++ module_of name o ∷ [])) >>= (λ u. Ok o))
+-- the records of an object from a place of its file on, up to the END
+abbrev pub records_in : Files → Input → ℕ → Result (State × ℕ) ObjectFault
+records_in m i at = in_file (get m i.file) (λ bytes. records_at (length bytes) start at i.end bytes)
 
 -- the records of the open module were fed, up to its END
-abbrev pub FeedsRecords : Option Files → List ℕ → ℕ → Feeding → Feeding → Result ℕ LinkFault → Type 0
-FeedsRecords known name at old new r =
-    (modules : List Module) (called : List ℕ) → IsFeeding old modules called start
-    → Leads is_link_outside (λ end x. (x.1 ≡ end) × IsFeeding new modules called x.0) known (λ m. as_link (records_in m name at)) r
+abbrev pub FeedsRecords : Option Files → Input → ℕ → Feeding → Feeding → Result ℕ LinkFault → Type 0
+FeedsRecords known i at old new r =
+    (modules : List Module) (called : List ℕ) (entry : Option Entry) → IsFeeding old modules called entry start
+    → Leads is_link_outside (λ end x. (x.1 ≡ end) × IsFeeding new modules called entry x.0) known (λ m. as_link (records_in m i at)) r
 
--- the object of a file was fed as a module of the file's name
-abbrev pub FeedsObject : Option Files → List ℕ → Feeding → Feeding → Result (Unit {0}) LinkFault → Type 0
-FeedsObject known name old new r =
+-- an object was fed
+abbrev pub FeedsObject : Option Files → Input → Feeding → Feeding → Result (Unit {0}) LinkFault → Type 0
+FeedsObject known i old new r =
     (modules : List Module) → IsFed old modules
-    → Leads is_link_outside (λ u o. IsFed new (modules ++ module_of name o ∷ [])) known (λ m. added_in old.script modules m name) r
+    → Leads is_link_outside (λ u o. IsFed new (modules ++ module_of i.name o ∷ [])) known (λ m. added_in old.script modules m i) r
 
--- the objects of inputs were fed, in order
-abbrev pub FeedsInputs : Option Files → List (List ℕ) → Feeding → Feeding → Result (Unit {0}) Refusal → Type 0
-FeedsInputs known inputs old new r =
+-- the object that takes a whole file was fed, the input at a place of the line
+abbrev pub FeedsFile : Option Files → ℕ → List ℕ → Feeding → Feeding → Result (Unit {0}) Refusal → Type 0
+FeedsFile known k name old new r =
     (before : List Module) → IsFed old before
-    → Leads is_outside (λ u modules. IsFed new modules) known (λ m. modules_in old.script m before 0 inputs) r
+    → Leads is_outside (λ u modules. IsFed new modules) known (λ m. with_file old.script m k before name) r
+
+-- members of a library were fed, in order
+abbrev pub FeedsMembers : Option Files → List ℕ → List Entry → Feeding → Feeding → Result (Unit {0}) Refusal → Type 0
+FeedsMembers known library es old new r =
+    (before : List Module) → IsFed old before
+    → Leads is_outside (λ u modules. IsFed new modules) known (λ m. with_members old.script m library before es) r
+
+-- the places of an index at which the members stand that are needed
+abbrev pub AreChosen : List Entry → List ℕ → Feeding → Type 0
+AreChosen es places f =
+    (before : List Module) → IsFed f before → IsSelection es (open_names f.script (program_of before)) (given_names f.script (program_of before)) places
+
+-- the members of a library that are needed were chosen
+abbrev pub Chooses : Option Files → ℕ → List ℕ → Feeding → Result Choice Refusal → Type 0
+Chooses known k library f (Ok c) = IfSome known (λ m. index_in m library ≡ Ok c.index.entries) × AreChosen c.index.entries c.places.items f
+Chooses known k library f (Err e) =
+    (before : List Module) → IsFed f before → IfSome known (λ m. Refuses is_outside e (as_library k (index_in m library)))
+
+-- the needed members of a library were fed
+abbrev pub FeedsLibrary : Option Files → ℕ → List ℕ → Feeding → Feeding → Result (Unit {0}) Refusal → Type 0
+FeedsLibrary known k library old new r =
+    (before : List Module) → IsFed old before
+    → LeadsBy is_outside (λ u modules. IsFed new modules) known (λ m. IsLibraryInput old.script m k before library) r
+
+-- an input was fed
+abbrev pub FeedsInput : Option Files → ℕ → List ℕ → Feeding → Feeding → Result (Unit {0}) Refusal → Type 0
+FeedsInput known k name old new r =
+    (before : List Module) → IsFed old before
+    → LeadsBy is_outside (λ u modules. IsFed new modules) known (λ m. IsInput old.script m k before name) r
+
+-- inputs were fed, in order
+abbrev pub FeedsInputs : Option Files → List (List ℕ) → Feeding → Feeding → Result (Unit {0}) Refusal → Type 0
+FeedsInputs known names old new r =
+    (before : List Module) → IsFed old before
+    → LeadsBy is_outside (λ u modules. IsFed new modules) known (λ m. AreInputs old.script m 0 before names) r

@@ -1,6 +1,9 @@
--- What the command makes of a script and objects.
-use Rattle.std.specs.Prelude.{◌≡◌, ℕ, ◌+◌, ◌-◌, ◌^◌, List, [], ◌∷◌, ◌++◌, Option, Some, None, unwrap_or, Result, Ok, Err, codes}
+-- What the command makes of a script, objects and libraries.
+use Rattle.std.specs.Prelude.{◌≡◌, ℕ, ◌+◌, ◌-◌, ◌^◌, List, [], ◌∷◌, ◌++◌, take, slice_get, Bool, true, false, Option, Some, None, unwrap_or, Result, Ok, Err, codes}
 use Rattle.std.specs.FinMap.{get}
+use Rattle.std.specs.List.{flat_map}
+use Rattle.std.specs.Option.{option_map_or}
+use Rattle.std.specs.Str.{bytes_eq}
 use Rattle.syntax65.specs.Outcome.{◌>>=◌, First}
 use Rattle.syntax65.specs.Store.{Files}
 use Rattle.syntax65.specs.declared.store.StoreFault.TheVariants.{FileNotFound}
@@ -8,30 +11,38 @@ use Rattle.object65.specs.declared.object.Object.{Object}
 use Rattle.object65.specs.declared.fault.ObjectFault.{ObjectFault}
 use Rattle.object65.specs.Reading.{in_file}
 use Rattle.object65.specs.Whole.{object_at}
+use Rattle.library65.specs.declared.entry.Entry.{Entry}
+use Rattle.library65.specs.declared.fault.LibraryFault.{LibraryFault}
+use Rattle.library65.specs.Reading.{index_at, in_file as in_library}
+use Rattle.library65.specs.Selection.{IsSelection}
 use Rattle.script65.specs.Scripts.{IsScript}
 use Rattle.script65.specs.declared.fault.ScriptFault.{ScriptFault}
 use Rattle.script65.specs.declared.script.Script.{Script}
 use Rattle.linkage65.specs.declared.fault.LinkFault.{LinkFault}
 use Rattle.linkage65.specs.declared.linked.Linked.{Linked}
+use Rattle.linkage65.specs.Givers.{given_names, open_names}
 use Rattle.linkage65.specs.Links.{LinkOf, names_once}
 use Rattle.linkage65.specs.Modules.{Module}
 use Rattle.linkage65.specs.Programs.{program_of}
+use Rattle.link65.specs.Standing.{agreed, as_link, joined as joined_to, module_of}
 use Rattle.line65.specs.Line.{Linking}
+use Rattle.line65.specs.Messages.{joined}
 use Rattle.ld65.specs.declared.refusal.Refusal.{Refusal}
 use Rattle.ld65.specs.declared.refusal.Refusal.TheVariants as refusal
+use Rattle.ld65.specs.Refusals.{refusal_at, refusal_in}
 
 -- the faults of the parts as the command's; an input is named by its place in the line
 abbrev pub as_script : Result Script ScriptFault → Result Script Refusal
 as_script (Ok s) = Ok s
 as_script (Err e) = Err (refusal.Script e)
 
-abbrev pub as_object : ℕ → Result Object ObjectFault → Result Object Refusal
-as_object k (Ok o) = Ok o
-as_object k (Err e) = Err (refusal.Object k e)
+abbrev pub as_library : {A : Type 0} → ℕ → Result A LibraryFault → Result A Refusal
+as_library k (Ok x) = Ok x
+as_library k (Err e) = Err (refusal.Library k e)
 
-abbrev pub as_link : {A : Type 0} → Result A LinkFault → Result A Refusal
-as_link (Ok x) = Ok x
-as_link (Err e) = Err (refusal.Link e)
+abbrev pub as_refusal : {A : Type 0} → Result A LinkFault → Result A Refusal
+as_refusal (Ok x) = Ok x
+as_refusal (Err e) = Err (refusal.Link e)
 
 -- the bytes of a script's file
 abbrev pub text_of : Option (List ℕ) → Result (List ℕ) Refusal
@@ -42,35 +53,120 @@ text_of (Some bytes) = Ok bytes
 abbrev pub output_of : Linking → List ℕ
 output_of l = unwrap_or l.output (codes "a.out")
 
+-- ---- One object more behind other modules.
+
+-- An object that is linked: where it stands, the name of its module, and its entry in a library's index, if it is a
+-- library's member.
+pub record Input : Type 0 where
+  pub file : List ℕ
+  pub begin : ℕ
+  pub end : ℕ
+  pub name : List ℕ
+  pub entry : Option Entry
+
+-- no file has more bytes
+abbrev pub no_limit : ℕ
+no_limit = 2 ^ 64 - 1
+
+-- the object that takes a whole file
+abbrev pub file_input : List ℕ → Input
+file_input name = record { file = name; begin = 0; end = no_limit; name = name; entry = None }
+
+-- the module of a library's member: `library(member)`
+abbrev pub member_module : List ℕ → List ℕ → List ℕ
+member_module library name = joined (library ∷ codes "(" ∷ name ∷ codes ")" ∷ [])
+
+abbrev pub member_input : List ℕ → Entry → Input
+member_input library e =
+    record { file = library; begin = e.place; end = e.place + e.size; name = member_module library e.name; entry = Some e }
+
+abbrev pub object_in : Files → Input → Result Object ObjectFault
+object_in m i = in_file (get m i.file) (object_at i.begin i.end)
+
+-- The object behind other modules: first its own faults count, then an entry that disagrees with it, then a name that
+-- is given again.
+abbrev pub added_in : Script → List Module → Files → Input → Result Object LinkFault
+added_in s before m i = as_link (object_in m i) >>= agreed i.entry >>= joined_to s before i.name
+
+-- the modules with that of the object, or what its fault is
+abbrev pub behind : (LinkFault → Refusal) → List Module → List ℕ → Result Object LinkFault → Result (List Module) Refusal
+behind named before name (Ok o) = Ok (before ++ module_of name o ∷ [])
+behind named before name (Err e) = Err (named e)
+
+abbrev pub with_file : Script → Files → ℕ → List Module → List ℕ → Result (List Module) Refusal
+with_file s m k before name = behind (refusal_at k) before name (added_in s before m (file_input name))
+
+abbrev pub with_member : Script → Files → List ℕ → List Module → Entry → Result (List Module) Refusal
+with_member s m library before e =
+    behind (refusal_in (member_module library e.name)) before (member_module library e.name) (added_in s before m (member_input library e))
+
 -- ---- The modules of the inputs.
 
--- the object of a file, which takes the whole file
-abbrev pub object_in : Files → List ℕ → Result Object ObjectFault
-object_in m input = in_file (get m input) (object_at 0 (2 ^ 64 - 1))
+abbrev pub with_members : Script → Files → List ℕ → List Module → List Entry → Result (List Module) Refusal
+with_members s m library before [] = Ok before
+with_members s m library before (e ∷ es) = with_member s m library before e >>= (λ ms. with_members s m library ms es)
 
-abbrev pub module_in : Files → ℕ → List ℕ → Result Module Refusal
-module_in m k input = as_object k (object_in m input) >>= (λ o. Ok (record { name = input; object = o }))
+-- the entry at a place of an index, if there is one
+abbrev pub chosen_at : List Entry → ℕ → List Entry
+chosen_at es place = option_map_or (λ e. e ∷ []) (slice_get es place) []
 
--- modules and the script give no name twice
-abbrev pub given_once : Script → List Module → Result (List Module) Refusal
-given_once s ms = as_link (names_once s (program_of ms)) >>= (λ u. Ok ms)
+abbrev pub chosen : List Entry → List ℕ → List Entry
+chosen es places = flat_map (chosen_at es) places
 
--- The modules of inputs behind others, the first of them at a place of the line. Of each input in turn, first the
--- faults of its own, then a name that is given again.
-abbrev pub modules_in : Script → Files → List Module → ℕ → List (List ℕ) → Result (List Module) Refusal
-modules_in s m before k [] = Ok before
-modules_in s m before k (input ∷ inputs) =
-    module_in m k input >>= (λ x. given_once s (before ++ x ∷ [])) >>= (λ ms. modules_in s m ms (k + 1) inputs)
+-- The members of an index that the modules before the library need, in the order in which they stand: the first exporters
+-- of the least set of names that has what these leave open, and with each name what its first exporter imports and
+-- they don't define.
+abbrev pub AreNeeded : Script → Files → List ℕ → List Module → List Entry → Result (List Module) Refusal → Type 0
+AreNeeded s m library before es r =
+    (places : List ℕ) × IsSelection es (open_names s (program_of before)) (given_names s (program_of before)) places
+    × (r ≡ with_members s m library before (chosen es places))
+
+abbrev pub index_in : Files → List ℕ → Result (List Entry) LibraryFault
+index_in m library = in_library (get m library) index_at
+
+-- the needed members of a library at a place of the line, behind other modules
+abbrev pub IsLibraryInput : Script → Files → ℕ → List Module → List ℕ → Result (List Module) Refusal → Type 0
+IsLibraryInput s m k before library r = First (as_library k (index_in m library)) (AreNeeded s m library before) r
+
+-- a file that begins with these bytes is a library, any other an object
+abbrev pub library_mark : List ℕ
+library_mark = 0x52 ∷ 0x36 ∷ 0x35 ∷ 0x6c ∷ []
+
+abbrev pub is_library : List ℕ → Bool
+is_library bytes = bytes_eq (take 4 bytes) library_mark
+
+abbrev pub is_library_in : Files → List ℕ → Bool
+is_library_in m name = option_map_or is_library (get m name) false
+
+abbrev pub ByKind : Bool → Type 0 → Type 0 → Type 0
+ByKind true Library Object = Library
+ByKind false Library Object = Object
+
+-- the modules behind an input at a place of the line
+abbrev pub IsInput : Script → Files → ℕ → List Module → List ℕ → Result (List Module) Refusal → Type 0
+IsInput s m k before name r =
+    ByKind (is_library_in m name) (IsLibraryInput s m k before name r) (r ≡ with_file s m k before name)
+
+-- The modules of inputs behind others, the first of them at a place of the line; or the first fault of the first input
+-- that has one.
+abbrev pub AreInputs : Script → Files → ℕ → List Module → List (List ℕ) → Result (List Module) Refusal → Type 0
+AreInputs s m k before [] r = r ≡ Ok before
+AreInputs s m k before (name ∷ names) r =
+    (q : Result (List Module) Refusal) × IsInput s m k before name q × First q (λ ms. AreInputs s m (k + 1) ms names) r
 
 -- ---- The link.
 
 -- what modules come to
 abbrev pub LinksTo : Linking → Script → List Module → Result Linked Refusal → Type 0
-LinksTo l s ms r = (q : Result Linked LinkFault) × LinkOf (output_of l) s ms q × (r ≡ as_link q)
+LinksTo l s ms r = (q : Result Linked LinkFault) × LinkOf (output_of l) s ms q × (r ≡ as_refusal q)
+
+-- the modules of a line's inputs, and what they come to
+abbrev pub IsInputLink : Files → Linking → Script → Result Linked Refusal → Type 0
+IsInputLink m l s r = (q : Result (List Module) Refusal) × AreInputs s m 0 [] l.inputs q × First q (LinksTo l s) r
 
 -- the script's own names, then the inputs in order, then the link
 abbrev pub IsLinkedBy : Files → Linking → Script → Result Linked Refusal → Type 0
-IsLinkedBy m l s r = First (given_once s [] >>= (λ ms. modules_in s m ms 0 l.inputs)) (LinksTo l s) r
+IsLinkedBy m l s r = First (as_refusal (names_once s (program_of []))) (λ u. IsInputLink m l s) r
 
 -- What a line asks for, or why it isn't linked: first the script, then the inputs, then what they are linked to.
 abbrev pub IsLinked : Files → Linking → Result Linked Refusal → Type 0

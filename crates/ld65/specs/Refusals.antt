@@ -6,6 +6,9 @@ use Rattle.syntax65.specs.StoreFaults.{store_words}
 use Rattle.object65.specs.declared.fault.ObjectFault.{ObjectFault}
 use Rattle.object65.specs.declared.fault.ObjectFault.TheVariants as object
 use Rattle.object65.specs.Fault.{fault_text, is_memory as is_object_memory}
+use Rattle.library65.specs.declared.fault.LibraryFault.{LibraryFault}
+use Rattle.library65.specs.declared.fault.LibraryFault.TheVariants as library
+use Rattle.library65.specs.Fault.{displayed as library_words, is_memory as is_library_memory}
 use Rattle.script65.specs.Faults.{fault_text as script_words, is_memory_fault}
 use Rattle.linkage65.specs.declared.fault.LinkFault.{LinkFault}
 use Rattle.linkage65.specs.declared.fault.LinkFault.TheVariants as link
@@ -14,7 +17,7 @@ use Rattle.linkage65.specs.Faults.{fault_text as link_words, is_memory as is_lin
 use Rattle.line65.specs.Line.{Linking}
 use Rattle.line65.specs.Messages.{file_message, line_message}
 use Rattle.ld65.specs.declared.refusal.Refusal.{Refusal}
-use Rattle.ld65.specs.declared.refusal.Refusal.TheVariants.{OutOfMemory, ScriptFile, Script, Object, Link}
+use Rattle.ld65.specs.declared.refusal.Refusal.TheVariants.{OutOfMemory, ScriptFile, Script, Object, Library, Member, Disagrees, Link}
 
 abbrev store_memory : StoreFault → Bool
 store_memory store.OutOfMemory = true
@@ -26,21 +29,32 @@ is_memory OutOfMemory = true
 is_memory (ScriptFile f) = store_memory f
 is_memory (Script f) = is_memory_fault f.fault
 is_memory (Object k f) = is_object_memory f
+is_memory (Library k f) = is_library_memory f
+is_memory (Member name f) = is_object_memory f
+is_memory (Disagrees name) = false
 is_memory (Link f) = is_link_memory f
 
 -- the store failed
 abbrev pub is_failure : Refusal → Bool
 is_failure (ScriptFile store.FileError) = true
 is_failure (Object k object.FileError) = true
+is_failure (Library k library.FileError) = true
+is_failure (Member name object.FileError) = true
 is_failure _ = false
 
 abbrev pub is_outside : Refusal → Bool
 is_outside e = is_memory e || is_failure e
 
--- what a fault is that is met at the input at a place of the line: one of the input's own is named by the place
+-- what a fault is that is met at the object at a place of the line: one of the object's own is named by the place
 abbrev pub refusal_at : ℕ → LinkFault → Refusal
 refusal_at k (link.Malformed f) = Object k f
 refusal_at k f = Link f
+
+-- what a fault is that is met at a library's member: one of its own is named by its module
+abbrev pub refusal_in : List ℕ → LinkFault → Refusal
+refusal_in name (link.Malformed f) = Member name f
+refusal_in name link.IndexDisagrees = Disagrees name
+refusal_in name f = Link f
 
 -- ---- In words.
 
@@ -60,11 +74,14 @@ abbrev pub named : List (List ℕ) → ℕ → List ℕ
 named inputs k = get_or inputs k []
 
 -- why nothing is linked, where memory didn't run out
-abbrev cause_message : Linking → Refusal → List ℕ
+abbrev pub cause_message : Linking → Refusal → List ℕ
 cause_message l OutOfMemory = memory_message
 cause_message l (ScriptFile f) = file_message l.script (store_words f)
 cause_message l (Script f) = line_message l.script f.line (script_words f.fault)
 cause_message l (Object k f) = file_message (named l.inputs k) (fault_text f)
+cause_message l (Library k f) = file_message (named l.inputs k) (library_words f)
+cause_message l (Member name f) = file_message name (fault_text f)
+cause_message l (Disagrees name) = file_message name (link_words link.IndexDisagrees)
 cause_message l (Link f) = link_message f
 
 -- the message of a refusal, by the names in the line

@@ -1,43 +1,55 @@
-//! The objects of a line, fed to a linker record by record.
+//! Objects, fed to a linker record by record.
 
-ghost use Rattle.std.specs.Prelude.{◌≡◌, List, ℕ, OnOk, map, true, false};
-ghost use Rattle.syntax65.specs.Store.{Passes, PassesBy};
+ghost use Rattle.std.specs.Prelude.{◌≡◌, List, ℕ, OnOk, Option, true, false};
+ghost use Rattle.syntax65.specs.Store.{Passes};
 ghost use Rattle.object65.specs.declared.fault.ObjectFault.TheVariants.{FileError};
 ghost use Rattle.object65.specs.Taking.{start};
+ghost use Rattle.library65.specs.declared.entry.Entry as index;
 ghost use Rattle.linkage65.specs.declared.fault.LinkFault.TheVariants.{Malformed};
 ghost use Rattle.linkage65.specs.Modules.{Module};
 ghost use Rattle.link65.specs.Standing.{IsFed, IsFeeding, Keeps, is_open};
-ghost use Rattle.ld65.specs.Feeding.{FeedsInputs, FeedsObject, FeedsRecords};
-ghost use Rattle.ld65.specs.Refusals.{is_failure};
+ghost use Rattle.ld65.specs.Feeding.{FeedsObject, FeedsRecords, input_of};
 
-use crate::refusal::Refusal;
+use library65::Entry;
 use link65::{LinkFault, Linker};
 use object65::{RecordReader, check_end, read_head};
 use syntax65::Store;
 
+/// An object that is fed: where it stands in a file, the name of its module, and its entry in a library's index, if it
+/// is a member of one.
+#[derive(Clone, Copy)]
+pub struct ObjectInput<'a> {
+    pub file: &'a str,
+    pub begin: u64,
+    /// The end of its room: it ends there at the latest.
+    pub end: u64,
+    pub name: &'a [u8],
+    pub entry: Option<&'a Entry>,
+}
+
 /// The kind of the record that ends an object.
 const END: u8 = 8;
 
-/// Feeds the records of the module that was opened, which stand in a file from a place on, up to its END, and
+/// Feeds the records of the module that was opened, which stand in its file from a place on, up to its END, and
 /// answers where the END ends.
 fn feed_records<S: Store>(
     store: &mut S,
     linker: &mut Linker,
     reader: &mut RecordReader,
-    name: &str,
+    object: &ObjectInput<'_>,
     at: u64,
 ) -> Result<u64, LinkFault>
     requires { is_open linker.old ≡ true }
-    ensures fed { FeedsRecords (S.files store.old) name.now at linker.old linker.new result }
+    ensures fed { FeedsRecords (S.files store.old) (input_of object.now) at linker.old linker.new result }
     ensures opened { is_open linker.new ≡ true }
     ensures keeps { Keeps linker.old linker.new }
     ensures files { S.files store.new ≡ S.files store.old }
-    ensures count { (modules : List Module) (called : List ℕ) → IsFeeding linker.old modules called start →
+    ensures count { (modules : List Module) (called : List ℕ) (entry : Option index.Entry) → IsFeeding linker.old modules called entry start →
         Passes (Malformed FileError) (S.failures store.old) (S.failures store.new) result }
 {
     let mut next = at;
     'records: loop {
-        next = reader.read(store, name, next, u64::MAX)?;
+        next = reader.read(store, object.file, next, object.end)?;
         let record = reader.record();
         linker.record(record)?;
         if record.kind == END {
@@ -46,48 +58,24 @@ fn feed_records<S: Store>(
     }
 }
 
-/// Feeds the object that takes a whole file, as a module of the file's name.
-fn feed_object<S: Store>(
+/// Feeds an object as a module, where none is open.
+pub fn feed_object<S: Store>(
     store: &mut S,
     linker: &mut Linker,
     reader: &mut RecordReader,
-    name: &str,
+    object: &ObjectInput<'_>,
 ) -> Result<(), LinkFault>
     requires { is_open linker.old ≡ false }
-    ensures fed { FeedsObject (S.files store.old) name.now linker.old linker.new result }
+    ensures fed { FeedsObject (S.files store.old) (input_of object.now) linker.old linker.new result }
     ensures opened { OnOk result (is_open linker.new ≡ false) }
     ensures keeps { Keeps linker.old linker.new }
     ensures files { S.files store.new ≡ S.files store.old }
     ensures count { (modules : List Module) → IsFed linker.old modules →
         Passes (Malformed FileError) (S.failures store.old) (S.failures store.new) result }
 {
-    let first = read_head(store, name, 0, u64::MAX)?;
-    linker.begin_module(name.as_bytes())?;
-    let end = feed_records(store, linker, reader, name, first)?;
-    check_end(store, name, end, u64::MAX)?;
+    let first = read_head(store, object.file, object.begin, object.end)?;
+    linker.begin_module(object.name, object.entry)?;
+    let end = feed_records(store, linker, reader, object, first)?;
+    check_end(store, object.file, end, object.end)?;
     linker.end_module()
-}
-
-/// Feeds the objects of inputs, in order. The first fault is that of the first input that has one.
-pub fn feed_inputs<S: Store>(
-    store: &mut S,
-    linker: &mut Linker,
-    inputs: &[&str],
-) -> Result<(), Refusal>
-    requires { is_open linker.old ≡ false }
-    ensures fed { FeedsInputs (S.files store.old) (map (λ s. s.now) inputs.now) linker.old linker.new result }
-    ensures opened { OnOk result (is_open linker.new ≡ false) }
-    ensures keeps { Keeps linker.old linker.new }
-    ensures files { S.files store.new ≡ S.files store.old }
-    ensures count { (modules : List Module) → IsFed linker.old modules →
-        PassesBy is_failure (S.failures store.old) (S.failures store.new) result }
-{
-    let mut reader = RecordReader::new();
-    for (place, input) in inputs.iter().enumerate() {
-        match feed_object(store, linker, &mut reader, input) {
-            Ok(()) => {}
-            Err(fault) => return Err(Refusal::of_input(place, fault)),
-        }
-    }
-    Ok(())
 }

@@ -1,8 +1,11 @@
 //! The command ld65: what a line of it comes to.
 #![tactic(auto)]
 
+mod choosing;
 mod feeding;
+mod inputs;
 mod linking;
+mod members;
 mod refusal;
 
 pub use link65::{LinkFault, Linked, OutputFile};

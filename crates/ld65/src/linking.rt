@@ -8,7 +8,7 @@ ghost use Rattle.ld65.specs.Refusals.{is_outside, is_failure};
 ghost use Rattle.ld65.specs.Linkage.{output_of, IsLinkedBy, IsLinked};
 ghost use Rattle.ld65.specs.Texts.{script_text};
 
-use crate::feeding::feed_inputs;
+use crate::inputs::feed_inputs;
 use crate::refusal::Refusal;
 use line65::LinkLine;
 use link65::{Linked, Linker};
@@ -38,7 +38,7 @@ fn link_inputs<S: Store>(
     ensures count { PassesBy is_failure (S.failures store.old) (S.failures store.new) result }
 {
     let mut linker = Linker::new(alloc, script, output_of(line))?;
-    feed_inputs(store, &mut linker, line.inputs.as_slice())?;
+    feed_inputs(alloc, store, &mut linker, line.inputs.as_slice())?;
     Ok(linker.finish()?)
 }
 
@@ -53,7 +53,7 @@ fn read_text<S: Store>(alloc: Global, store: &mut S, name: &str) -> Result<Seque
 
 /// What the script and the inputs of a line are linked to: the files of areas, what is warned of, and the map. No
 /// file is written. First the script is read, then the inputs in order, and then they are linked; the first fault
-/// in this order is the refusal.
+/// in this order is the refusal. Of a library only the members are linked that are needed where it stands.
 pub fn link_files<S: Store>(
     alloc: Global,
     store: &mut S,

@@ -3,9 +3,11 @@
 ghost use Rattle.std.specs.Prelude.{◌≡◌, IfOk, map};
 ghost use Rattle.linkage65.specs.declared.fault.LinkFault.{LinkFault};
 ghost use Rattle.line65.specs.Line.{linking};
+ghost use Rattle.line65.specs.Messages.{file_message};
 ghost use Rattle.ld65.specs.declared.refusal.Refusal.TheVariants.{OutOfMemory, ScriptFile, Script, Link};
-ghost use Rattle.ld65.specs.Refusals.{is_memory, link_message, named, refusal_at, refusal_message};
+ghost use Rattle.ld65.specs.Refusals.{cause_message, is_memory, link_message, named, refusal_at, refusal_in, refusal_message};
 
+use library65::LibraryFault;
 use line65::{LinkLine, file_message, join, line_message};
 use link65::{LinkFault, fault_text};
 use object65::ObjectFault;
@@ -23,6 +25,12 @@ pub enum Refusal {
     Script(ScriptFault),
     /// The input at this place of the line can't be read or is no object.
     Object(usize, ObjectFault),
+    /// The library at this place of the line can't be read or is none.
+    Library(usize, LibraryFault),
+    /// The library's member of this module's name can't be read or is no object.
+    Member(Sequence<u8>, ObjectFault),
+    /// The index of a library disagrees with the member of this module's name.
+    Disagrees(Sequence<u8>),
     /// The objects aren't linked.
     Link(LinkFault),
 }
@@ -69,16 +77,30 @@ impl Refusal {
             Refusal::ScriptFile(fault) => matches!(fault, StoreFault::OutOfMemory),
             Refusal::Script(fault) => matches!(fault.fault, Fault::OutOfMemory),
             Refusal::Object(_, fault) => matches!(fault, ObjectFault::OutOfMemory),
+            Refusal::Library(_, fault) => matches!(fault, LibraryFault::OutOfMemory),
+            Refusal::Member(_, fault) => matches!(fault, ObjectFault::OutOfMemory),
+            Refusal::Disagrees(_) => false,
             Refusal::Link(fault) => matches!(fault, LinkFault::OutOfMemory),
         }
     }
 
-    /// The refusal of the input at a place of the line: a fault of its own is named by the place.
+    /// The refusal of the object at a place of the line: a fault of its own is named by the place.
     pub fn of_input(place: usize, fault: LinkFault) -> Refusal
         ensures { result ≡ refusal_at place fault }
     {
         match fault {
             LinkFault::Malformed(fault) => Refusal::Object(place, fault),
+            fault => Refusal::Link(fault),
+        }
+    }
+
+    /// The refusal of a library's member: a fault of its own is named by its module.
+    pub fn of_member(name: Sequence<u8>, fault: LinkFault) -> Refusal
+        ensures { result ≡ refusal_in name fault }
+    {
+        match fault {
+            LinkFault::Malformed(fault) => Refusal::Member(name, fault),
+            LinkFault::IndexDisagrees => Refusal::Disagrees(name),
             fault => Refusal::Link(fault),
         }
     }
@@ -113,6 +135,53 @@ fn named<'a>(inputs: &[&'a str], place: usize) -> &'a str
     }
 }
 
+/// The message of a fault of the input at a place of the line.
+fn input_message(
+    alloc: Global,
+    line: &LinkLine<'_>,
+    place: usize,
+    words: &str,
+) -> Result<Sequence<u8>, AllocError>
+    ensures { IfOk result (λ text. text ≡ file_message (named (linking line.now).inputs place) words.now) }
+{
+    let name = named(line.inputs.as_slice(), place);
+    file_message(alloc, name.as_bytes(), words.as_bytes())
+}
+
+/// The message of a refusal, where memory didn't run out.
+fn cause_message(
+    alloc: Global,
+    line: &LinkLine<'_>,
+    refusal: &Refusal,
+) -> Result<Sequence<u8>, AllocError>
+    ensures { IfOk result (λ text. text ≡ cause_message (linking line.now) refusal.now) }
+{
+    let script = line.script.as_bytes();
+    match refusal {
+        Refusal::OutOfMemory => join(alloc, &[b"ld65: Error: out of memory\n"]),
+        Refusal::ScriptFile(fault) => {
+            file_message(alloc, script, fault.to_string(alloc)?.as_bytes())
+        }
+        Refusal::Script(fault) => {
+            line_message(alloc, script, fault.line, fault.to_string(alloc)?.as_bytes())
+        }
+        Refusal::Object(place, fault) => {
+            input_message(alloc, line, *place, fault.to_string(alloc)?.as_str())
+        }
+        Refusal::Library(place, fault) => {
+            input_message(alloc, line, *place, fault.to_string(alloc)?.as_str())
+        }
+        Refusal::Member(name, fault) => {
+            file_message(alloc, name.as_slice(), fault.to_string(alloc)?.as_bytes())
+        }
+        Refusal::Disagrees(name) => {
+            let words = fault_text(alloc, &LinkFault::IndexDisagrees)?;
+            file_message(alloc, name.as_slice(), words.as_slice())
+        }
+        Refusal::Link(fault) => link_message(alloc, fault),
+    }
+}
+
 /// The message of a refusal, by the line that asked.
 pub fn refusal_message(
     alloc: Global,
@@ -124,24 +193,5 @@ pub fn refusal_message(
     if refusal.is_memory() {
         return join(alloc, &[b"ld65: Error: out of memory\n"]);
     }
-    match refusal {
-        Refusal::OutOfMemory => join(alloc, &[b"ld65: Error: out of memory\n"]),
-        Refusal::ScriptFile(fault) => file_message(
-            alloc,
-            line.script.as_bytes(),
-            fault.to_string(alloc)?.as_bytes(),
-        ),
-        Refusal::Script(fault) => line_message(
-            alloc,
-            line.script.as_bytes(),
-            fault.line,
-            fault.to_string(alloc)?.as_bytes(),
-        ),
-        Refusal::Object(place, fault) => file_message(
-            alloc,
-            named(line.inputs.as_slice(), *place).as_bytes(),
-            fault.to_string(alloc)?.as_bytes(),
-        ),
-        Refusal::Link(fault) => link_message(alloc, fault),
-    }
+    cause_message(alloc, line, refusal)
 }

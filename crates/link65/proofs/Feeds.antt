@@ -1,5 +1,7 @@
 -- What calls lead a linker to.
-use Rattle.std.proofs.Common.{◌≡◌, ◌∙◌, ℕ, List, [], ◌∷◌, ◌++◌, length, map, Some, None, Bool, true, false, Result, Ok, Err, if◌then◌else◌, refl, sym, ap, subst}
+use Rattle.std.proofs.Common.{◌≡◌, ◌∙◌, ℕ, List, [], ◌∷◌, ◌++◌, length, map, Option, Some, None, Bool, true, false, Result, Ok, Err, if◌then◌else◌, refl, sym, ap, subst}
+use Rattle.std.specs.Option.{option_map}
+use Rattle.library65.specs.declared.entry.Entry.{Entry as Listing}
 use Rattle.object65.specs.declared.fault.ObjectFault.{ObjectFault}
 use Rattle.object65.specs.declared.item.Item.{Item}
 use Rattle.object65.specs.declared.object.Object.{Object}
@@ -31,8 +33,9 @@ use Rattle.linkage65.proofs.GrowingLaw.{growth_law}
 use Rattle.linkage65.specs.Grounds.{IsSmall}
 use Rattle.linkage65.specs.Modules.{Module}
 use Rattle.linkage65.specs.Programs.{Program, exported, program_of, with_module, with_modules}
-use Rattle.link65.specs.Fields.{Comes, exports_from}
-use Rattle.link65.specs.Standing.{Feeding, IsFed, IsFeeding, Leads, Opened, as_link, module_of, opening, whole}
+use Rattle.link65.specs.Fields.{Comes, are_listed, exports_from, matched}
+use Rattle.link65.specs.Standing.{Feeding, IsFed, IsFeeding, Leads, Opened, agreed, agrees_with, as_link, joined, listed_of, module_of, opening, whole}
+use Rattle.link65.specs.declared.listed.Listed.{Listed}
 
 -- ---- Items.
 
@@ -105,34 +108,49 @@ finishes s b runs e =
     ap (λ c. if c then Err object.FailedBefore else (if s.ended then Ok (Taking.object_from s) else Err object.CutShort)) runs
     ∙ ap (λ c. if c then Ok (Taking.object_from s) else Err object.CutShort) e
 
--- the object of a module, where its names may be given
-abbrev admitted : List (List ℕ) → List (List ℕ) → Result Object ObjectFault → Result Object LinkFault
-admitted before names r = as_link r >>= (λ object. all_once before names >>= (λ u. Ok object))
-
 ends_whole : (p : Program) (s : Taking.State) (old : Growth) (o : Outline) → Comes p s old o → o.ended ≡ true → Taking.finished s ≡ Ok (Taking.object_from s)
 ends_whole p s old o h end = finishes s true (reached_runs s h.reached) (ap (λ (q : Outline). q.ended) (sym h.scan) ∙ end)
-
--- a module whose END has come stands behind the others
-pub closed_whole : (p : Program) (s : Taking.State) (old new : Growth) (o : Outline) (name : List ℕ) (before given names : List (List ℕ)) (r : Result (Unit {0}) LinkFault) → Comes p s old o → o.ended ≡ true → all_once before names ≡ Ok given → OnOk r (new ≡ at_rest (ended old name)) → IfErr r (λ f. is_memory f ≡ true) → Leads (λ object. (new ≡ at_rest (with_module p (module_of name object))) × (all_once before names ≡ Ok given)) r (admitted before names (Taking.finished s))
-closed_whole p s old new o name before given names (Ok u) h end once grown memory =
-    let object = Taking.object_from s in
-    (object, ap (admitted before names) (ends_whole p s old o h end) ∙ ap (λ q. q >>= (λ v. Ok object)) once, (grown ∙ ap (λ g. at_rest (ended g name)) h.growth ∙ ap at_rest (growth_law.2 p name s), once))
-closed_whole p s old new o name before given names (Err f) h end once grown memory = out_of_memory f _ memory
 
 passed : {A B : Type 0} (b : Bool) (f : LinkFault) (read : Result A LinkFault) (k : A → Result B LinkFault) → Unless b (read ≡ Err f) → Unless b ((read >>= k) ≡ Err f)
 passed true f read k h = tt
 passed false f read k h = ap (λ r. r >>= k) h
 
--- one that gives a name twice is refused
-pub given_twice : (p : Program) (s : Taking.State) (old : Growth) (o : Outline) (before names : List (List ℕ)) (f : LinkFault) → Comes p s old o → o.ended ≡ true → Refuses is_memory f (all_once before names) → Refuses is_memory f (admitted before names (Taking.finished s))
-given_twice p s old o before names f h end refused =
-    subst (λ r. Refuses is_memory f (admitted before names r)) (sym (ends_whole p s old o h end)) (passed (is_memory f) f (all_once before names) (λ u. Ok (Taking.object_from s)) refused)
+-- the names listed of a module, if any are, and those that it exports and imports, behind those that were given before
+module _ (listed : Option Listed) (imports before names : List (List ℕ)) where
+  abbrev given_whole : Object → Result Object LinkFault
+  given_whole object = all_once before names >>= (λ u. Ok object)
 
--- one whose END hasn't come is cut short
-pub cut_short : (p : Program) (s : Taking.State) (old : Growth) (o : Outline) (before names : List (List ℕ)) (f : LinkFault) → Comes p s old o → o.ended ≡ false → f ≡ fault.Malformed object.CutShort → Refuses is_memory f (admitted before names (Taking.finished s))
-cut_short p s old o before names f h going is =
-    let cut = finishes s false (reached_runs s h.reached) (ap (λ (q : Outline). q.ended) (sym h.scan) ∙ going) in
-    subst (λ g. Refuses is_memory g (admitted before names (Taking.finished s))) (sym is) (ap (admitted before names) cut)
+  -- the object of a module, where its names are those listed and may be given
+  abbrev admitted : Result Object ObjectFault → Result Object LinkFault
+  admitted r = as_link r >>= matched listed names imports >>= given_whole
+
+  module _ (p : Program) (s : Taking.State) (old : Growth) (o : Outline) (h : Comes p s old o) where
+    -- an object that has come to its end
+    by_names : (b : Bool) → o.ended ≡ true → are_listed listed names imports ≡ b → admitted (Taking.finished s) ≡ ((if b then Ok (Taking.object_from s) else Err fault.IndexDisagrees) >>= given_whole)
+    by_names b end e =
+        let object = Taking.object_from s in
+        ap admitted (ends_whole p s old o h end) ∙ ap (λ c. (if c then Ok object else Err fault.IndexDisagrees) >>= given_whole) e
+
+    -- a module whose END has come stands behind the others
+    pub closed_whole : (new : Growth) (name : List ℕ) (given : List (List ℕ)) (r : Result (Unit {0}) LinkFault) → o.ended ≡ true → are_listed listed names imports ≡ true → all_once before names ≡ Ok given → OnOk r (new ≡ at_rest (ended old name)) → IfErr r (λ f. is_memory f ≡ true) → Leads (λ object. (new ≡ at_rest (with_module p (module_of name object))) × (all_once before names ≡ Ok given)) r (admitted (Taking.finished s))
+    closed_whole new name given (Ok u) end is once grown memory =
+        let object = Taking.object_from s in
+        (object, by_names true end is ∙ ap (λ q. q >>= (λ v. Ok object)) once, (grown ∙ ap (λ g. at_rest (ended g name)) h.growth ∙ ap at_rest (growth_law.2 p name s), once))
+    closed_whole new name given (Err f) end is once grown memory = out_of_memory f _ memory
+
+    -- one whose names aren't those listed is refused
+    pub disagrees : (f : LinkFault) → o.ended ≡ true → are_listed listed names imports ≡ false → f ≡ fault.IndexDisagrees → Refuses is_memory f (admitted (Taking.finished s))
+    disagrees f end differ is = subst (λ g. Refuses is_memory g (admitted (Taking.finished s))) (sym is) (by_names false end differ)
+
+    -- one that gives a name twice is refused
+    pub given_twice : (f : LinkFault) → o.ended ≡ true → are_listed listed names imports ≡ true → Refuses is_memory f (all_once before names) → Refuses is_memory f (admitted (Taking.finished s))
+    given_twice f end is refused = subst (λ r. Refuses is_memory f r) (sym (by_names true end is)) (passed (is_memory f) f (all_once before names) (λ u. Ok (Taking.object_from s)) refused)
+
+    -- one whose END hasn't come is cut short
+    pub cut_short : (f : LinkFault) → o.ended ≡ false → f ≡ fault.Malformed object.CutShort → Refuses is_memory f (admitted (Taking.finished s))
+    cut_short f going is =
+        let cut = finishes s false (reached_runs s h.reached) (ap (λ (q : Outline). q.ended) (sym h.scan) ∙ going) in
+        subst (λ g. Refuses is_memory g (admitted (Taking.finished s))) (sym is) (ap admitted cut)
 
 -- ---- The module that ends.
 
@@ -155,66 +173,103 @@ with_names (Ok u) all x = refl
 with_names (Err e) all x = refl
 
 -- what follows an object counts at that object alone
-at_object : (r : Result Object ObjectFault) (b : Bool) (o : Object) (f g : Object → Result Object LinkFault) → r ≡ (if b then Ok o else Err object.CutShort) → f o ≡ g o → (as_link r >>= f) ≡ (as_link r >>= g)
-at_object r true o f g is same = subst (λ (q : Result Object ObjectFault). (as_link q >>= f) ≡ (as_link q >>= g)) (sym is) same
-at_object r false o f g is same = subst (λ (q : Result Object ObjectFault). (as_link q >>= f) ≡ (as_link q >>= g)) (sym is) refl
+at_object : (r : Result Object ObjectFault) (b : Bool) (o : Object) (f g : Result Object LinkFault → Result Object LinkFault) → r ≡ (if b then Ok o else Err object.CutShort) → f (Ok o) ≡ g (Ok o) → f (Err (fault.Malformed object.CutShort)) ≡ g (Err (fault.Malformed object.CutShort)) → f (as_link r) ≡ g (as_link r)
+at_object r true o f g is same cut = subst (λ (q : Result Object ObjectFault). f (as_link q) ≡ g (as_link q)) (sym is) same
+at_object r false o f g is same cut = subst (λ (q : Result Object ObjectFault). f (as_link q) ≡ g (as_link q)) (sym is) cut
 
 abbrev made_from : Taking.State → Bool → Type 0
 made_from s b = Taking.finished s ≡ (if b then Ok (Taking.object_from s) else Err object.CutShort)
 
+-- an entry agrees with an object where the names that are kept of it do
+listed_so : (entry : Option Listing) (o : Object) → agrees_with entry o ≡ are_listed (option_map listed_of entry) (map (λ e. e.name) o.exports) o.imports
+listed_so None o = refl
+listed_so (Some e) o = refl
+
+agreeing : (b c : Bool) (o : Object) (f g : Object → Result Object LinkFault) → b ≡ c → f o ≡ g o → ((if b then Ok o else Err fault.IndexDisagrees) >>= f) ≡ ((if c then Ok o else Err fault.IndexDisagrees) >>= g)
+agreeing b c o f g e same = subst (λ (d : Bool). ((if b then Ok o else Err fault.IndexDisagrees) >>= f) ≡ ((if d then Ok o else Err fault.IndexDisagrees) >>= g)) e (go b)
+  where
+    go : (b : Bool) → ((if b then Ok o else Err fault.IndexDisagrees) >>= f) ≡ ((if b then Ok o else Err fault.IndexDisagrees) >>= g)
+    go true = same
+    go false = refl
+
 -- a module is whole where its names may be given behind those before it
-whole_admits : (script : Script) (modules : List Module) (name : List ℕ) (s : Taking.State) (given : List (List ℕ)) (b : Bool) → made_from s b → all_once [] (given_names script (program_of modules)) ≡ Ok given → whole script modules name s ≡ admitted given (map (λ e. e.name) s.exports) (Taking.finished s)
-whole_admits script modules name s given b is h =
+whole_admits : (script : Script) (modules : List Module) (name : List ℕ) (entry : Option Listing) (s : Taking.State) (given : List (List ℕ)) (b : Bool) → made_from s b → all_once [] (given_names script (program_of modules)) ≡ Ok given → whole script modules name entry s ≡ admitted (option_map listed_of entry) s.imports given (map (λ e. e.name) s.exports) (Taking.finished s)
+whole_admits script modules name entry s given b is h =
     let object = Taking.object_from s in
+    let exports = map (λ e. e.name) s.exports in
     let all = given_names script (program_of (modules ++ module_of name object ∷ [])) in
+    let behind = with_names (no_name_again (first_again [] all)) all object ∙ ap (λ r. r >>= (λ u. Ok object)) (given_behind script modules name object given h) in
     at_object (Taking.finished s) b object
-    (λ o. names_once script (program_of (modules ++ module_of name o ∷ [])) >>= (λ u. Ok o))
-    (λ o. all_once given (map (λ e. e.name) s.exports) >>= (λ u. Ok o))
+    (λ r. r >>= agreed entry >>= joined script modules name)
+    (λ r. r >>= matched (option_map listed_of entry) exports s.imports >>= given_whole (option_map listed_of entry) s.imports given exports)
     is
-    (with_names (no_name_again (first_again [] all)) all object ∙ ap (λ r. r >>= (λ u. Ok object)) (given_behind script modules name object given h))
+    (agreeing (agrees_with entry object) _ object (joined script modules name) (given_whole (option_map listed_of entry) s.imports given exports) (listed_so entry object) behind)
+    refl
 
 kept_whole : {A : Type 0} (q : Result A LinkFault) (o x : Object) → (q >>= (λ u. Ok o)) ≡ Ok x → x ≡ o
 kept_whole (Ok u) o x h = cc
 kept_whole (Err e) o x h = absurd cc
 
 -- the object that is admitted is the module's
-admits : (r : Result Object ObjectFault) (b : Bool) (o x : Object) (before names : List (List ℕ)) → r ≡ (if b then Ok o else Err object.CutShort) → admitted before names r ≡ Ok x → x ≡ o
-admits r true o x before names is h = kept_whole (all_once before names) o x (ap (admitted before names) (sym is) ∙ h)
-admits r false o x before names is h = let k : admitted before names (Err object.CutShort) ≡ Ok x = ap (admitted before names) (sym is) ∙ h in absurd cc
+admits : (r : Result Object ObjectFault) (b : Bool) (o x : Object) (listed : Option Listed) (imports before names : List (List ℕ)) → r ≡ (if b then Ok o else Err object.CutShort) → admitted listed imports before names r ≡ Ok x → x ≡ o
+admits r true o x listed imports before names is h = go (are_listed listed names imports) (ap (admitted listed imports before names) (sym is) ∙ h)
+  where
+    go : (c : Bool) → ((if c then Ok o else Err fault.IndexDisagrees) >>= given_whole listed imports before names) ≡ Ok x → x ≡ o
+    go true h = kept_whole (all_once before names) o x h
+    go false h = absurd cc
+admits r false o x listed imports before names is h = let k : admitted listed imports before names (Err object.CutShort) ≡ Ok x = ap (admitted listed imports before names) (sym is) ∙ h in absurd cc
 
 -- what a linker stands for has come of the open module
-coming : (f : Feeding) (modules : List Module) (name : List ℕ) (s : Taking.State) (g : Growth) (o : Opened) → f.growth ≡ g → f.opened ≡ Some o → IsFeeding f modules name s → Comes (program_of modules) s g o.scan × ((o.name ≡ name) × (o.first_export ≡ length (program_of modules).exports))
-coming f modules name s g o grown there h =
-    let same : o ≡ opening (program_of modules) name s = let k = h.opened in cc in
-    (record { growth = sym grown ∙ h.growth; scan = ap (λ (m : Opened). m.scan) same; reached = h.reached }, (ap (λ (m : Opened). m.name) same, ap (λ (m : Opened). m.first_export) same))
+record Coming (p : Program) (name : List ℕ) (entry : Option Listing) (s : Taking.State) (g : Growth) (o : Opened) : Type 0 where
+  pub comes : Comes p s g o.scan
+  pub called : o.name ≡ name
+  pub first : o.first_export ≡ length p.exports
+  pub names : o.listed ≡ option_map listed_of entry
+
+coming : (f : Feeding) (modules : List Module) (name : List ℕ) (entry : Option Listing) (s : Taking.State) (g : Growth) (o : Opened) → f.growth ≡ g → f.opened ≡ Some o → IsFeeding f modules name entry s → Coming (program_of modules) name entry s g o
+coming f modules name entry s g o grown there h =
+    let same : o ≡ opening (program_of modules) name entry s = let k = h.opened in cc in
+    record {
+      comes = record { growth = sym grown ∙ h.growth; scan = ap (λ (m : Opened). m.scan) same; reached = h.reached };
+      called = ap (λ (m : Opened). m.name) same;
+      first = ap (λ (m : Opened). m.first_export) same;
+      names = ap (λ (m : Opened). m.listed) same;
+    }
 
 -- what the open module comes to, as the linker keeps it
-module _ (old : Feeding) (modules : List Module) (name : List ℕ) (s : Taking.State) (g : Growth) (o : Opened) (before : List (List ℕ)) (grown : old.growth ≡ g) (there : old.opened ≡ Some o) (gave : old.given ≡ before) (h : IsFeeding old modules name s) where
-  come : Comes (program_of modules) s g o.scan × ((o.name ≡ name) × (o.first_export ≡ length (program_of modules).exports))
-  come = coming old modules name s g o grown there h
+module _ (old : Feeding) (modules : List Module) (name : List ℕ) (entry : Option Listing) (s : Taking.State) (g : Growth) (o : Opened) (before : List (List ℕ)) (grown : old.growth ≡ g) (there : old.opened ≡ Some o) (gave : old.given ≡ before) (h : IsFeeding old modules name entry s) where
+  come : Coming (program_of modules) name entry s g o
+  come = coming old modules name entry s g o grown there h
 
   made : made_from s s.ended
   made = finishes s s.ended (reached_runs s h.reached) refl
 
   names : exports_from o.first_export g ≡ map (λ e. e.name) s.exports
-  names = ap (λ k. exports_from k g) come.1.1 ∙ own_exports (program_of modules) s g o.scan come.0
+  names = ap (λ k. exports_from k g) come.first ∙ own_exports (program_of modules) s g o.scan come.comes
+
+  imports : g.imports ≡ s.imports
+  imports = ap (λ (q : Growth). q.imports) come.comes.growth
 
   all : all_once [] (given_names old.script (program_of modules)) ≡ Ok before
   all = h.given ∙ ap (λ ns. let given : Result (List (List ℕ)) LinkFault = Ok ns in given) gave
 
-  kept : whole old.script modules name s ≡ admitted before (exports_from o.first_export g) (Taking.finished s)
-  kept = whole_admits old.script modules name s before s.ended made all ∙ ap (λ ns. admitted before ns (Taking.finished s)) (sym names)
+  kept : whole old.script modules name entry s ≡ admitted o.listed g.imports before (exports_from o.first_export g) (Taking.finished s)
+  kept =
+      whole_admits old.script modules name entry s before s.ended made all
+      ∙ ap (λ ns. admitted (option_map listed_of entry) s.imports before ns (Taking.finished s)) (sym names)
+      ∙ ap (λ ns. admitted (option_map listed_of entry) ns before (exports_from o.first_export g) (Taking.finished s)) (sym imports)
+      ∙ ap (λ l. admitted l g.imports before (exports_from o.first_export g) (Taking.finished s)) (sym come.names)
 
   -- the module that ends stands behind the others
   pub ended_next : (new : Feeding) → new.opened ≡ None → new.failed ≡ false → new.script ≡ old.script
-      → ((p : Program) (t : Taking.State) → Comes p t g o.scan → (x : Object) × (admitted before (exports_from o.first_export g) (Taking.finished t) ≡ Ok x) × ((new.growth ≡ at_rest (with_module p (module_of o.name x))) × (all_once before (exports_from o.first_export g) ≡ Ok new.given)))
-      → (x : Object) × (whole old.script modules name s ≡ Ok x) × IsFed new (modules ++ module_of name x ∷ [])
+      → ((p : Program) (t : Taking.State) → Comes p t g o.scan → (x : Object) × (admitted o.listed g.imports before (exports_from o.first_export g) (Taking.finished t) ≡ Ok x) × ((new.growth ≡ at_rest (with_module p (module_of o.name x))) × (all_once before (exports_from o.first_export g) ≡ Ok new.given)))
+      → (x : Object) × (whole old.script modules name entry s ≡ Ok x) × IsFed new (modules ++ module_of name x ∷ [])
   ended_next new none runs script ends =
-      let end = ends (program_of modules) s come.0 in
+      let end = ends (program_of modules) s come.comes in
       let x = end.0 in
-      let is : x ≡ Taking.object_from s = admits (Taking.finished s) s.ended (Taking.object_from s) x before (exports_from o.first_export g) made end.1 in
+      let is : x ≡ Taking.object_from s = admits (Taking.finished s) s.ended (Taking.object_from s) x o.listed g.imports before (exports_from o.first_export g) made end.1 in
       let exports = ap (λ (y : Object). map (λ e. e.name) y.exports) is ∙ sym names in
-      let behind = ap (λ n. at_rest (with_module (program_of modules) (module_of n x))) come.1.0 ∙ ap at_rest (sym (one_more modules (module_of name x))) in
+      let behind = ap (λ n. at_rest (with_module (program_of modules) (module_of n x))) come.called ∙ ap at_rest (sym (one_more modules (module_of name x))) in
       let given = given_behind old.script modules name x before all ∙ ap (all_once before) exports ∙ end.2.1 in (
         x,
         kept ∙ end.1,
@@ -227,8 +282,8 @@ module _ (old : Feeding) (modules : List Module) (name : List ℕ) (s : Taking.S
       )
 
   -- one that is refused isn't whole
-  pub ended_refused : (e : LinkFault) → ((p : Program) (t : Taking.State) → Comes p t g o.scan → Refuses is_memory e (admitted before (exports_from o.first_export g) (Taking.finished t))) → Refuses is_memory e (whole old.script modules name s)
-  ended_refused e ends = subst (λ (r : Result Object LinkFault). Refuses is_memory e r) (sym kept) (ends (program_of modules) s come.0)
+  pub ended_refused : (e : LinkFault) → ((p : Program) (t : Taking.State) → Comes p t g o.scan → Refuses is_memory e (admitted o.listed g.imports before (exports_from o.first_export g) (Taking.finished t))) → Refuses is_memory e (whole old.script modules name entry s)
+  ended_refused e ends = subst (λ (r : Result Object LinkFault). Refuses is_memory e r) (sym kept) (ends (program_of modules) s come.comes)
 
 -- ---- The link.
 

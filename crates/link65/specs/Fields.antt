@@ -1,19 +1,23 @@
 -- What a linker's fields stand for.
-use Rattle.std.specs.Prelude.{◌≡◌, ℕ, List, drop, map, Ok, Option, Result}
+use Rattle.std.specs.Prelude.{◌≡◌, ℕ, List, drop, map, Bool, true, ◌&&◌, Ok, Err, Option, Some, None, Result, if◌then◌else◌}
 use Rattle.std.specs.Option.{option_map}
+use Rattle.object65.specs.declared.object.Object.{Object}
 use Rattle.object65.specs.Record.{Entry}
 use Rattle.object65.specs.Scanning.{Outline, outline_of}
 use Rattle.object65.specs.Taking.{IsReached, State, after, finished}
+use Rattle.library65.specs.Libraries.{are_same}
 use Rattle.linkage65.specs.declared.fault.LinkFault.{LinkFault}
+use Rattle.linkage65.specs.declared.fault.LinkFault.TheVariants.{IndexDisagrees}
 use Rattle.syntax65.specs.Outcome.{◌>>=◌}
 use Rattle.linkage65.specs.GivenTwice.{all_once}
 use Rattle.linkage65.specs.Growing.{Growth, at_rest, growth_of}
 use Rattle.linkage65.specs.Programs.{Program, with_module}
+use Rattle.link65.specs.declared.listed.Listed.{Listed}
 use Rattle.link65.specs.declared.open.Open.{Open}
 use Rattle.link65.specs.Standing.{Leads, Opened, as_link, module_of}
 
 abbrev pub opened_in : Option Open → Option Opened
-opened_in o = option_map (λ m. record { name = m.name; scan = m.scan; first_export = m.first_export }) o
+opened_in o = option_map (λ m. record { name = m.name; scan = m.scan; first_export = m.first_export; listed = m.listed }) o
 
 -- so much of a module has come behind a program
 pub record Comes (p : Program) (s : State) (g : Growth) (o : Outline) : Type 0 where
@@ -30,9 +34,18 @@ Grows e old new o n r =
 abbrev pub exports_from : ℕ → Growth → List (List ℕ)
 exports_from first g = map (λ e. e.name) (drop first g.program.exports)
 
--- the module, which has this name, comes behind the program, if none of its exports is given twice
+-- the names of exports and imports are those listed, if any are
+abbrev pub are_listed : Option Listed → List (List ℕ) → List (List ℕ) → Bool
+are_listed None exports imports = true
+are_listed (Some l) exports imports = are_same l.exports exports && are_same l.imports imports
+
+abbrev pub matched : Option Listed → List (List ℕ) → List (List ℕ) → Object → Result Object LinkFault
+matched l exports imports object = if are_listed l exports imports then Ok object else Err IndexDisagrees
+
+-- the module, which has this name, comes behind the program, if its names are those listed and none of its exports is
+-- given twice
 abbrev pub Closes : Growth → Growth → List (List ℕ) → List (List ℕ) → Open → Result (Unit {0}) LinkFault → Type 0
 Closes old new before given m r =
     (p : Program) (s : State) → Comes p s old m.scan
     → Leads (λ object. (new ≡ at_rest (with_module p (module_of m.name object))) × (all_once before (exports_from m.first_export old) ≡ Ok given)) r
-    (as_link (finished s) >>= (λ object. all_once before (exports_from m.first_export old) >>= (λ u. Ok object)))
+    (as_link (finished s) >>= matched m.listed (exports_from m.first_export old) old.imports >>= (λ object. all_once before (exports_from m.first_export old) >>= (λ u. Ok object)))

@@ -1,11 +1,14 @@
 -- What a linker stands for: the modules that it was fed, and the records so far of the one that is open.
 use Rattle.std.specs.Prelude.{◌≡◌, ◌++◌, ◌∷◌, [], ℕ, List, length, Option, Some, None, is_some, Bool, true, false, Result, Ok, Err, OnOk, ◌==◌, if◌then◌else◌}
+use Rattle.std.specs.Option.{option_map}
 use Rattle.syntax65.specs.Outcome.{◌>>=◌, Finds, Gives, Refuses}
 use Rattle.object65.specs.declared.fault.ObjectFault.{ObjectFault}
 use Rattle.object65.specs.declared.object.Object.{Object}
 use Rattle.object65.specs.Record.{Entry}
 use Rattle.object65.specs.Scanning.{Outline, outline_of}
 use Rattle.object65.specs.Taking.{IsReached, State, after, finished, start}
+use Rattle.library65.specs.declared.entry.Entry.{Entry as Listing}
+use Rattle.library65.specs.Libraries.{agrees, contents_from}
 use Rattle.script65.specs.declared.script.Script.{Script}
 use Rattle.linkage65.specs.declared.fault.LinkFault.{LinkFault}
 use Rattle.linkage65.specs.declared.fault.LinkFault.TheVariants as fault
@@ -17,6 +20,7 @@ use Rattle.linkage65.specs.GivenTwice.{all_once}
 use Rattle.linkage65.specs.Givers.{given_names}
 use Rattle.linkage65.specs.declared.linked.Linked.{Linked}
 use Rattle.linkage65.specs.Links.{LinkOf, names_once}
+use Rattle.link65.specs.declared.listed.Listed.{Listed}
 
 -- a module that is open: its name, and what is kept of its records beside what grows
 pub record Opened : Type 0 where
@@ -24,6 +28,8 @@ pub record Opened : Type 0 where
   pub scan : Outline
   -- the place of its first export among all
   pub first_export : ℕ
+  -- the names that a library's index has of it, if it is a member of one
+  pub listed : Option Listed
 
 -- What a linker is seen as.
 pub record Feeding : Type 0 where
@@ -43,9 +49,13 @@ is_open f = is_some f.opened
 
 -- ---- What it stands for.
 
+-- the names that an entry has
+abbrev pub listed_of : Listing → Listed
+listed_of e = record { exports = e.exports; imports = e.imports }
+
 -- a module behind a program, of which this has come
-abbrev pub opening : Program → List ℕ → State → Opened
-opening p name s = record { name = name; scan = outline_of s; first_export = length p.exports }
+abbrev pub opening : Program → List ℕ → Option Listing → State → Opened
+opening p name entry s = record { name = name; scan = outline_of s; first_export = length p.exports; listed = option_map listed_of entry }
 
 -- these modules were fed, and none is open
 pub record IsFed (f : Feeding) (modules : List Module) : Type 0 where
@@ -54,11 +64,12 @@ pub record IsFed (f : Feeding) (modules : List Module) : Type 0 where
   pub opened : f.opened ≡ None
   pub failed : f.failed ≡ false
 
--- these modules were fed, and one of this name is open, of which this has come
-pub record IsFeeding (f : Feeding) (modules : List Module) (name : List ℕ) (s : State) : Type 0 where
+-- these modules were fed, and one of this name is open, of which this has come; if it is a library's member, its
+-- index has this entry of it
+pub record IsFeeding (f : Feeding) (modules : List Module) (name : List ℕ) (entry : Option Listing) (s : State) : Type 0 where
   pub growth : f.growth ≡ growth_of (program_of modules) s
   pub given : all_once [] (given_names f.script (program_of modules)) ≡ Ok f.given
-  pub opened : f.opened ≡ Some (opening (program_of modules) name s)
+  pub opened : f.opened ≡ Some (opening (program_of modules) name entry s)
   pub reached : IsReached s
   pub failed : f.failed ≡ false
 
@@ -94,26 +105,38 @@ pub record Keeps (old new : Feeding) : Type 0 where
 
 -- ---- Calls, for all modules and records that the linker stands for.
 
--- a module of this name begins
-abbrev pub Begins : List ℕ → Feeding → Feeding → Result (Unit {0}) LinkFault → Type 0
-Begins name old new r = (modules : List Module) → IsFed old modules → OnOk r (IsFeeding new modules name start)
+-- a module of this name begins, a library's member where there is an entry of it
+abbrev pub Begins : List ℕ → Option Listing → Feeding → Feeding → Result (Unit {0}) LinkFault → Type 0
+Begins name entry old new r = (modules : List Module) → IsFed old modules → OnOk r (IsFeeding new modules name entry start)
 
 -- a record comes behind those of the open module
 abbrev pub Continues : Entry → Feeding → Feeding → Result (Unit {0}) LinkFault → Type 0
 Continues e old new r =
-    (modules : List Module) (name : List ℕ) (s : State) → IsFeeding old modules name s
-    → Leads (IsFeeding new modules name) r (as_link (after s e))
+    (modules : List Module) (name : List ℕ) (entry : Option Listing) (s : State) → IsFeeding old modules name entry s
+    → Leads (IsFeeding new modules name entry) r (as_link (after s e))
 
--- the object of a module, where its END came and no name is given twice
-abbrev pub whole : Script → List Module → List ℕ → State → Result Object LinkFault
-whole script modules name s =
-    as_link (finished s) >>= (λ object. names_once script (program_of (modules ++ module_of name object ∷ [])) >>= (λ u. Ok object))
+-- the index of a library has the names that the object exports and imports
+abbrev pub agrees_with : Option Listing → Object → Bool
+agrees_with None object = true
+agrees_with (Some e) object = agrees e (contents_from object)
+
+abbrev pub agreed : Option Listing → Object → Result Object LinkFault
+agreed entry object = if agrees_with entry object then Ok object else Err fault.IndexDisagrees
+
+-- the object behind other modules, where no name is given twice
+abbrev pub joined : Script → List Module → List ℕ → Object → Result Object LinkFault
+joined script modules name object = names_once script (program_of (modules ++ module_of name object ∷ [])) >>= (λ u. Ok object)
+
+-- The object of a module, where its END came, its entry agrees with it and no name is given twice. The first of these
+-- that fails is the fault.
+abbrev pub whole : Script → List Module → List ℕ → Option Listing → State → Result Object LinkFault
+whole script modules name entry s = as_link (finished s) >>= agreed entry >>= joined script modules name
 
 -- the open module comes behind the others
 abbrev pub Ends : Feeding → Feeding → Result (Unit {0}) LinkFault → Type 0
 Ends old new r =
-    (modules : List Module) (name : List ℕ) (s : State) → IsFeeding old modules name s
-    → Leads (λ object. IsFed new (modules ++ module_of name object ∷ [])) r (whole old.script modules name s)
+    (modules : List Module) (name : List ℕ) (entry : Option Listing) (s : State) → IsFeeding old modules name entry s
+    → Leads (λ object. IsFed new (modules ++ module_of name object ∷ [])) r (whole old.script modules name entry s)
 
 -- what the modules come to by the script
 abbrev pub Links : Feeding → Result Linked LinkFault → Type 0

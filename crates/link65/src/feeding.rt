@@ -1,6 +1,7 @@
 //! The records of the module that is open.
 
 ghost use Rattle.std.specs.Prelude.{◌≡◌, ◌+◌, drop, Ok, OnErr, OnOk, IfErr, IfOk, true};
+ghost use Rattle.std.specs.Option.{option_map};
 ghost use Rattle.object65.specs.Record.{entry_of};
 ghost use Rattle.object65.specs.Scanning.{outline_of};
 ghost use Rattle.object65.specs.Taking.{start};
@@ -9,26 +10,32 @@ ghost use Rattle.linkage65.specs.Faults.{is_memory};
 ghost use Rattle.linkage65.specs.GivenTwice.{names_in};
 ghost use Rattle.linkage65.specs.Grounds.{AreNamed, growth_in};
 ghost use Rattle.link65.specs.Fields.{Closes, Grows};
-ghost use Rattle.link65.specs.Standing.{values_in};
+ghost use Rattle.link65.specs.Standing.{listed_of, values_in};
 
+use crate::listed::{are_listed, copy_of, listed_of};
 use crate::open::Open;
+use library65::Entry;
 use linkage65::{Exported, Given, Growing, LinkFault, end_module, take_item};
 use object65::{ObjectFault, Record, Scan};
 use std::alloc::Global;
 use std::mem;
 use syntax65::Sequence;
 
-/// Opens a module of this name.
-pub fn open_module(alloc: Global, name: &[u8], first_export: usize) -> Result<Open, LinkFault>
-    ensures opened { IfOk result (λ o. o ≡ record { name = name.now; scan = outline_of start; first_export = first_export }) }
+/// Opens a module of this name, a library's member where there is an entry of it.
+pub fn open_module(
+    alloc: Global,
+    name: &[u8],
+    entry: Option<&Entry>,
+    first_export: usize,
+) -> Result<Open, LinkFault>
+    ensures opened { IfOk result (λ o. o ≡ record { name = name.now; scan = outline_of start; first_export = first_export; listed = option_map (λ e. listed_of e.now) entry.entry }) }
     ensures memory { IfErr result (λ e. is_memory e ≡ true) }
 {
-    let mut copy = Sequence::new(alloc);
-    copy.extend_from_slice(name)?;
     Ok(Open {
-        name: copy,
+        name: copy_of(alloc, name)?,
         scan: Scan::new(alloc),
         first_export,
+        listed: listed_of(alloc, entry)?,
     })
 }
 
@@ -59,6 +66,7 @@ pub fn take_record(
     ensures taken { Grows (entry_of next.now) (growth_in growing.old) (growth_in growing.new) opened.old.scan opened.new.scan result }
     ensures name { opened.new.name ≡ opened.old.name }
     ensures first { opened.new.first_export ≡ opened.old.first_export }
+    ensures listed { opened.new.listed ≡ opened.old.listed }
     ensures counted { OnOk result (pending.new ≡ pending.old + values_in (entry_of next.now)) }
     ensures uncounted { OnErr result (pending.new ≡ pending.old) }
     ensures named { OnOk result (AreNamed growing.new) }
@@ -94,6 +102,10 @@ pub fn close_module(
         return Err(LinkFault::from(ObjectFault::CutShort));
     }
     let exports = from_place(growing.exports.as_slice(), opened.first_export);
+    let imports = growing.imports.as_slice();
+    if !are_listed(&opened.listed, exports, imports) {
+        return Err(LinkFault::IndexDisagrees);
+    }
     match given.add_exports(exports) {
         Ok(()) => {
             let name = mem::replace(&mut opened.name, Sequence::new(growing.alloc));

@@ -4,6 +4,7 @@
 mod feeding;
 mod keeping;
 mod linker;
+mod listed;
 mod open;
 
 pub use linkage65::{LinkFault, Linked, OutputFile, Site, fault_text};

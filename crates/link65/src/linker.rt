@@ -1,6 +1,7 @@
 //! The linker.
 
 ghost use Rattle.std.specs.Prelude.{◌≡◌, ◌+◌, [], Err, IfErr, IfOk, OnErr, OnOk, map, true, false};
+ghost use Rattle.std.specs.Option.{option_map};
 ghost use Rattle.object65.specs.Record.{entry_of};
 ghost use Rattle.syntax65.specs.Outcome.{Gives};
 ghost use Rattle.linkage65.specs.Faults.{is_memory};
@@ -12,7 +13,7 @@ ghost use Rattle.link65.specs.Standing.{AreNames, Begins, Continues, Ends, IsFed
 use crate::feeding::{close_module, open_module, take_record};
 use crate::keeping::{given_names, kept_of};
 use crate::open::Open;
-use indexmap::IndexSet;
+use library65::{Entry, Names};
 use linkage65::{Given, Growing, LinkFault, Linked, link, no_module, open_names};
 use object65::Record;
 use script65::Script;
@@ -104,7 +105,7 @@ impl Linker {
 
     /// The names that the script or a module needs and neither gives so far, in order of first reference; weak names
     /// give nothing here.
-    pub fn open_names(&self) -> Result<IndexSet<Vec<u8>>, LinkFault>
+    pub fn open_names(&self) -> Result<Names, LinkFault>
         ensures open { AreNames (λ names. map (λ n. n.items) names.keys) open_names self.now result }
         ensures again { self.now.failed ≡ true → result ≡ Err LinkFault.FailedBefore }
     {
@@ -122,7 +123,7 @@ impl Linker {
     }
 
     /// The names that the script and the modules give so far, but for weak ones.
-    pub fn defined_names(&self) -> Result<IndexSet<Vec<u8>>, LinkFault>
+    pub fn defined_names(&self) -> Result<Names, LinkFault>
         ensures defined { AreNames (λ names. map (λ n. n.items) names.keys) given_names self.now result }
         ensures again { self.now.failed ≡ true → result ≡ Err LinkFault.FailedBefore }
     {
@@ -136,10 +137,11 @@ impl Linker {
         )
     }
 
-    /// Opens a module of this name, where none is open. After a refusal each call answers that it failed before.
-    pub fn begin_module(&mut self, name: &[u8]) -> Result<(), LinkFault>
+    /// Opens a module of this name, where none is open; a member of a library comes with the entry of its index, whose
+    /// names are compared with the member's where it ends. After a refusal each call answers that it failed before.
+    pub fn begin_module(&mut self, name: &[u8], entry: Option<&Entry>) -> Result<(), LinkFault>
         requires { is_open self.old ≡ false }
-        ensures begun { Begins name.now self.old self.new result }
+        ensures begun { Begins name.now (option_map (λ e. e.now) entry.entry) self.old self.new result }
         ensures memory { self.old.failed ≡ false → IfErr result (λ e. is_memory e ≡ true) }
         ensures opened { OnOk result (is_open self.new ≡ true) }
         ensures pending { OnOk result (self.new.pending ≡ self.old.pending) }
@@ -150,7 +152,12 @@ impl Linker {
         if self.failed {
             return Err(LinkFault::FailedBefore);
         }
-        match open_module(self.growing.alloc, name, self.growing.exports.len()) {
+        match open_module(
+            self.growing.alloc,
+            name,
+            entry,
+            self.growing.exports.len(),
+        ) {
             Ok(opened) => {
                 self.opened = Some(opened);
                 Ok(())
@@ -190,8 +197,9 @@ impl Linker {
         }
     }
 
-    /// Ends the module that is open, which has to be one: it is cut short where its END did not come. After a refusal
-    /// each call answers that it failed before.
+    /// Ends the module that is open, which has to be one. The first of these is the refusal: it is cut short where its
+    /// END did not come, a library's index disagrees with it, or it exports a name that is given already. After a
+    /// refusal each call answers that it failed before.
     pub fn end_module(&mut self) -> Result<(), LinkFault>
         requires { is_open self.old ≡ true }
         ensures ended { Ends self.old self.new result }

@@ -1,5 +1,6 @@
 //! A module that is open.
 
+use crate::listed::Listed;
 use object65::Scan;
 use syntax65::Sequence;
 
@@ -10,4 +11,6 @@ pub struct Open {
     pub scan: Scan,
     /// The place of its first export among all.
     pub first_export: usize,
+    /// The names that a library's index has of it, if it is a member of one.
+    pub listed: Option<Listed>,
 }

@@ -5,7 +5,7 @@ use Rattle.script65.specs.declared.placement.PlaceFault.{PlaceFault}
 use Rattle.object65.specs.Fault.{fault_text as object_words, is_memory as is_object_memory}
 use Rattle.script65.specs.Faults.{is_place_outside, place_fault_text}
 use Rattle.linkage65.specs.declared.fault.LinkFault.{LinkFault}
-use Rattle.linkage65.specs.declared.fault.LinkFault.TheVariants.{FailedBefore, OutOfMemory, Malformed, DuplicateExport, Unresolved, Place, Circular, OutOfRange, NoValue, Assertion}
+use Rattle.linkage65.specs.declared.fault.LinkFault.TheVariants.{FailedBefore, OutOfMemory, Malformed, DuplicateExport, Unresolved, Place, Circular, OutOfRange, NoValue, Assertion, IndexDisagrees}
 
 abbrev pub is_memory : LinkFault → Bool
 is_memory OutOfMemory = true
@@ -35,6 +35,7 @@ fault_text (Circular s) = codes "circular definition"
 fault_text (OutOfRange s) = codes "out of range"
 fault_text (NoValue s) = codes "zero divisor or bad shift count"
 fault_text (Assertion s text) = text
+fault_text IndexDisagrees = codes "index disagrees with member"
 
 -- the same as characters: each byte of a name or of an assertion's text is the character of its code
 abbrev pub displayed : LinkFault → List ℕ
@@ -48,6 +49,7 @@ displayed (Place f) = place_fault_text f
 displayed (Circular s) = codes "circular definition"
 displayed (OutOfRange s) = codes "out of range"
 displayed (NoValue s) = codes "zero divisor or bad shift count"
+displayed IndexDisagrees = codes "index disagrees with member"
 
 -- what stands between names and one behind them
 abbrev pub separator_behind : List (List ℕ) → List ℕ

@@ -39,6 +39,8 @@ pub enum LinkFault {
     NoValue(Site),
     /// An assertion that fails, and its text.
     Assertion(Site, Sequence<u8>),
+    /// A member of a library whose names aren't those that the index has.
+    IndexDisagrees,
 }
 
 impl fmt::Display for LinkFault {
@@ -67,6 +69,7 @@ impl fmt::Display for LinkFault {
                 let text = Shown(text.as_slice());
                 write!(f, "{text}")
             }
+            LinkFault::IndexDisagrees => f.write_str("index disagrees with member"),
         }
     }
 }

@@ -39,6 +39,7 @@ pub fn fault_text(alloc: Global, fault: &LinkFault) -> Result<Sequence<u8>, Allo
         | LinkFault::Place(_)
         | LinkFault::Circular(_)
         | LinkFault::OutOfRange(_)
-        | LinkFault::NoValue(_) => copy_of(alloc, fault.to_string(alloc)?.as_bytes()),
+        | LinkFault::NoValue(_)
+        | LinkFault::IndexDisagrees => copy_of(alloc, fault.to_string(alloc)?.as_bytes()),
     }
 }

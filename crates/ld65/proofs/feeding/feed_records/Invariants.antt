@@ -1,5 +1,6 @@
 use Rattle.std.proofs.Common.{◌≡◌, ◌-◌, true}
 use Rattle.link65.specs.Standing.{Keeps, is_open}
+use Rattle.ld65.specs.Feeding.{input_of}
 use Rattle.ld65.proofs.Fed.{IsAt}
 use Rattle.ld65.proofs.feeding.feed_records.Given as goal
 
@@ -9,7 +10,7 @@ invariant-records g l = record {
   count : g.S.Store.failures l.store ≡ g.S.Store.failures l.fn.store;
   opened : is_open l.linker ≡ true;
   keeps : Keeps l.fn.linker l.linker;
-  stands : IsAt (g.S.Store.files l.fn.store) l.name l.at l.next l.fn.linker l.linker;
+  stands : IsAt (g.S.Store.files l.fn.store) (input_of l.object) l.at l.next l.fn.linker l.linker;
 }
 
 abbrev pub decreases-records : goal.decreases-records

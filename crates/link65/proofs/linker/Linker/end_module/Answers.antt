@@ -7,20 +7,20 @@ use Rattle.link65.proofs.Feeds.{ended_next, ended_refused}
 use Rattle.link65.proofs.linker.Linker.end_module.Goals as goal
 
 pub returns-in-Ok-clause-ended : goal.returns-in-Ok-clause-ended
-returns-in-Ok-clause-ended c = λ modules name s feeding.
+returns-in-Ok-clause-ended c = λ modules name entry s feeding.
     let l = c.self.inside in
     let o = c.in-Some.opened in
-    ended_next c.args.self.now modules name s (growth_in l.growing) (record { name = o.name; scan = o.scan; first_export = o.first_export }) (names_in l.given)
+    ended_next c.args.self.now modules name entry s (growth_in l.growing) (record { name = o.name; scan = o.scan; first_export = o.first_export; listed = o.listed }) (names_in l.given)
     (ap (λ (f : Feeding). f.growth) (sym c.self.view_is))
     (ap (λ (f : Feeding). f.opened) (sym c.self.view_is) ∙ ap opened_in c.in-Some.is)
     (ap (λ (f : Feeding). f.given) (sym c.self.view_is))
     feeding _ refl c.if-self.false (ap (λ (f : Feeding). f.script) c.self.view_is) c.in-Ok.ensures.ended
 
 pub returns-in-Err-clause-ended : goal.returns-in-Err-clause-ended
-returns-in-Err-clause-ended c = λ modules name s feeding.
+returns-in-Err-clause-ended c = λ modules name entry s feeding.
     let l = c.self.inside in
     let o = c.in-Some.opened in
-    ended_refused c.args.self.now modules name s (growth_in l.growing) (record { name = o.name; scan = o.scan; first_export = o.first_export }) (names_in l.given)
+    ended_refused c.args.self.now modules name entry s (growth_in l.growing) (record { name = o.name; scan = o.scan; first_export = o.first_export; listed = o.listed }) (names_in l.given)
     (ap (λ (f : Feeding). f.growth) (sym c.self.view_is))
     (ap (λ (f : Feeding). f.opened) (sym c.self.view_is) ∙ ap opened_in c.in-Some.is)
     (ap (λ (f : Feeding). f.given) (sym c.self.view_is))

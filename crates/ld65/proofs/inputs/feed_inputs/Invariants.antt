@@ -1,7 +1,8 @@
 use Rattle.std.proofs.Common.{◌≡◌, map, false}
 use Rattle.link65.specs.Standing.{Keeps, is_open}
-use Rattle.ld65.proofs.Inputs.{Counted, IsBehind}
-use Rattle.ld65.proofs.feeding.feed_inputs.Given as goal
+use Rattle.ld65.proofs.Behind.{Counted}
+use Rattle.ld65.proofs.LineInputs.{IsBehind}
+use Rattle.ld65.proofs.inputs.feed_inputs.Given as goal
 
 abbrev pub invariant-loop-place : goal.invariant-loop-place
 invariant-loop-place g l = record {

@@ -1,0 +1,206 @@
+-- The members of a library that are needed, one after another.
+use Rattle.std.proofs.Common.{◌≡◌, ◌∙◌, ◌<◌, ◌≤◌, ◌+◌, ℕ, zero, suc, List, [], ◌∷◌, ◌++◌, drop, get_or, length, Bool, true, false, slice_get, Option, Some, None, Result, Ok, Err, refl, sym, ap, subst, add-one, arith}
+use Rattle.std.specs.Prelude.{IfSome, option_map}
+use Rattle.std.specs.Option.{option_map_or}
+use Rattle.script65.proofs.NeedLemmas.{drop_item}
+use Rattle.syntax65.specs.Outcome.{◌>>=◌, Refuses, Unless}
+use Rattle.syntax65.specs.Store.{Files, PassesBy}
+use Rattle.syntax65.proofs.Outcome.{refused-then}
+use Rattle.library65.specs.declared.entry.Entry.{Entry}
+use Rattle.script65.specs.declared.script.Script.{Script}
+use Rattle.linkage65.specs.declared.fault.LinkFault.{LinkFault}
+use Rattle.linkage65.specs.Modules.{Module}
+use Rattle.link65.specs.Standing.{Feeding, IsFed, module_of}
+use Rattle.ld65.specs.declared.choosing.Choice.{Choice}
+use Rattle.ld65.specs.declared.refusal.Refusal.{Refusal}
+use Rattle.ld65.specs.declared.refusal.Refusal.TheVariants as refusal
+use Rattle.ld65.specs.Feeding.{Chooses, FeedsLibrary, FeedsMembers, FeedsObject, Leads, LeadsBy}
+use Rattle.ld65.specs.Linkage.{AreNeeded, Input, IsLibraryInput, as_library, chosen, chosen_at, index_in, member_input, member_module, with_member, with_members}
+use Rattle.ld65.specs.Refusals.{is_failure, is_outside, refusal_in}
+use Rattle.ld65.proofs.Behind.{Counted, fed_behind, in_outside, kept_by, later_count, refused_behind}
+
+-- ---- One member.
+
+module _ (known : Option Files) (library : List ℕ) (e : Entry) (old new : Feeding) where
+  abbrev with_one : Script → List Module → Files → Result (List Module) Refusal
+  with_one s before m = with_member s m library before e >>= (λ ms. Ok ms)
+
+  -- the member as it was fed, by a name that is its module's
+  abbrev fed_as : List ℕ → Input
+  fed_as called = record { file = library; begin = e.place; end = e.place + e.size; name = called; entry = Some e }
+
+  pub member_fed : (called : List ℕ) → called ≡ member_module library e.name → FeedsObject known (fed_as called) old new (Ok tt) → FeedsMembers known library (e ∷ []) old new (Ok tt)
+  member_fed called same fed before stands =
+      let q = subst (λ n. FeedsObject known (fed_as n) old new (Ok tt)) same fed before stands in
+      let name = member_module library e.name in
+      let ms = before ++ module_of name q.0 ∷ [] in
+      (ms, go known ms (fed_behind known old.script before (member_input library e) (refusal_in name) q.0 q.1), q.2)
+    where
+      go : (f : Option Files) (ms : List Module) → IfSome f (λ m. with_member old.script m library before e ≡ Ok ms) → IfSome f (λ m. with_one old.script before m ≡ Ok ms)
+      go None ms h = tt
+      go (Some m) ms h = ap (λ r. r >>= (λ ms. Ok ms)) h
+
+  pub member_refused : (called : List ℕ) (f : LinkFault) → called ≡ member_module library e.name → FeedsObject known (fed_as called) old new (Err f) → FeedsMembers known library (e ∷ []) old new (Err (refusal_in called f))
+  member_refused called f same fed =
+      subst (λ n. FeedsMembers known library (e ∷ []) old new (Err (refusal_in n f))) (sym same)
+      (by_module (subst (λ n. FeedsObject known (fed_as n) old new (Err f)) same fed))
+    where
+      by_module : FeedsObject known (member_input library e) old new (Err f) → FeedsMembers known library (e ∷ []) old new (Err (refusal_in (member_module library e.name) f))
+      by_module fed before stands =
+          let name = member_module library e.name in
+          go known (refusal_in name f) (refused_behind known old.script before (member_input library e) (refusal_in name) f (in_outside name f) (fed before stands))
+        where
+          go : (k : Option Files) (x : Refusal) → IfSome k (λ m. Refuses is_outside x (with_member old.script m library before e)) → IfSome k (λ m. Refuses is_outside x (with_one old.script before m))
+          go None x h = tt
+          go (Some m) x h = refused-then is_outside x (with_member old.script m library before e) (λ ms. Ok ms) h
+
+  -- memory ran out
+  pub member_unnamed : FeedsMembers known library (e ∷ []) old new (Err refusal.OutOfMemory)
+  member_unnamed before stands = go known
+    where
+      go : (k : Option Files) → IfSome k (λ m. Refuses is_outside refusal.OutOfMemory (with_one old.script before m))
+      go None = tt
+      go (Some m) = tt
+
+-- ---- The loop, for all modules that the linker stands for.
+
+-- what is left of the members comes to the same as all of them, behind what the linker stands for
+abbrev pub IsAfter : Option Files → List ℕ → List Entry → List Entry → Feeding → Feeding → Type 0
+IsAfter known library all left old now =
+    (before : List Module) → IsFed old before
+    → (modules : List Module) × IsFed now modules
+    × IfSome known (λ m. with_members old.script m library before all ≡ with_members old.script m library modules left)
+
+module _ (known : Option Files) (library : List ℕ) (all : List Entry) where
+  pub after_none : (old : Feeding) → IsAfter known library all all old old
+  after_none old before stands = (before, stands, same known)
+    where
+      same : (k : Option Files) → IfSome k (λ m. with_members old.script m library before all ≡ with_members old.script m library before all)
+      same None = tt
+      same (Some m) = refl
+
+  -- some members, and then others
+  in_turn : (s : Script) (m : Files) (before : List Module) (some left : List Entry) → with_members s m library before (some ++ left) ≡ (with_members s m library before some >>= (λ ms. with_members s m library ms left))
+  in_turn s m before [] left = refl
+  in_turn s m before (e ∷ es) left = go (with_member s m library before e) (λ ms. in_turn s m ms es left)
+    where
+      go : (r : Result (List Module) Refusal) → ((ms : List Module) → with_members s m library ms (es ++ left) ≡ (with_members s m library ms es >>= (λ ms. with_members s m library ms left))) → (r >>= (λ ms. with_members s m library ms (es ++ left))) ≡ ((r >>= (λ ms. with_members s m library ms es)) >>= (λ ms. with_members s m library ms left))
+      go (Ok ms) next = next ms
+      go (Err x) next = refl
+
+  pub after_more : (some left : List Entry) (now : Option Files) (old mid new : Feeding) → now ≡ known → mid.script ≡ old.script → IsAfter known library all (some ++ left) old mid → FeedsMembers now library some mid new (Ok tt) → IsAfter known library all left old new
+  after_more some left now old mid new same script is fed before stands =
+      let p = is before stands in
+      let q = fed p.0 p.1 in
+      (q.0, q.2, go p.0 q.0 known p.2 (rw same at q.1))
+    where
+      go : (modules more : List Module) (f : Option Files) → IfSome f (λ m. with_members old.script m library before all ≡ with_members old.script m library modules (some ++ left)) → IfSome f (λ m. with_members mid.script m library modules some ≡ Ok more) → IfSome f (λ m. with_members old.script m library before all ≡ with_members old.script m library more left)
+      go modules more None h added = tt
+      go modules more (Some m) h added =
+          h ∙ in_turn old.script m modules some left
+          ∙ ap (λ r. r >>= (λ ms. with_members old.script m library ms left)) (subst (λ (s : Script). with_members s m library modules some ≡ Ok more) script added)
+
+  pub after_refused : (some left : List Entry) (now : Option Files) (old mid new : Feeding) (x : Refusal) → now ≡ known → mid.script ≡ old.script → IsAfter known library all (some ++ left) old mid → FeedsMembers now library some mid new (Err x) → FeedsMembers known library all old new (Err x)
+  after_refused some left now old mid new x same script is fed before stands =
+      let p = is before stands in
+      go p.0 known p.2 (rw same at fed p.0 p.1)
+    where
+      unless : (b : Bool) (r : Result (List Module) Refusal) (f : List Module → Result (List Module) Refusal) (whole : Result (List Module) Refusal) → whole ≡ (r >>= f) → Unless b (r ≡ Err x) → Unless b (whole ≡ Err x)
+      unless true r f whole h refused = tt
+      unless false r f whole h refused = h ∙ ap (λ q. q >>= f) refused
+
+      go : (modules : List Module) (f : Option Files) → IfSome f (λ m. with_members old.script m library before all ≡ with_members old.script m library modules (some ++ left)) → IfSome f (λ m. Refuses is_outside x (with_members mid.script m library modules some)) → IfSome f (λ m. Refuses is_outside x (with_members old.script m library before all))
+      go modules None h refused = tt
+      go modules (Some m) h refused =
+          unless (is_outside x) (with_members old.script m library modules some) (λ ms. with_members old.script m library ms left) _
+          (h ∙ in_turn old.script m modules some left)
+          (subst (λ (s : Script). Refuses is_outside x (with_members s m library modules some)) script refused)
+
+  pub after_all : (old now : Feeding) → IsAfter known library all [] old now → FeedsMembers known library all old now (Ok tt)
+  after_all old now is before stands = let p = is before stands in (p.0, p.2, p.1)
+
+-- ---- Places of an index.
+
+any_default : (xs : List ℕ) (k d e : ℕ) → k < length xs → get_or xs k d ≡ get_or xs k e
+any_default [] k d e h = absurd (omega (arith, h))
+any_default (x ∷ xs) zero d e h = refl
+any_default (x ∷ xs) (suc k) d e h = any_default xs k d e (omega (arith, h))
+
+-- what is left of the places begins with the one at its turn
+place_at : (known : Option Files) (library : List ℕ) (es : List Entry) (places : List ℕ) (k d : ℕ) (old mid : Feeding) → k < length places → IsAfter known library (chosen es places) (chosen es (drop k places)) old mid → IsAfter known library (chosen es places) (chosen_at es (get_or places k d) ++ chosen es (drop (k + 1) places)) old mid
+place_at known library es places k d old mid lt is =
+    let place = get_or places k d in
+    subst (λ (left : List Entry). IsAfter known library (chosen es places) left old mid) (ap (chosen es) (drop_item places k place lt (any_default places k d place lt))) is
+
+-- an index and places of it as they are borrowed
+module _ (known now : Option Files) (library : List ℕ) (es entries : List Entry) (places ps : List ℕ) (k d : ℕ) (old mid new : Feeding) (same_es : entries ≡ es) (same_places : ps ≡ places) (lt : k < length ps) (same : now ≡ known) (script : mid.script ≡ old.script) (is : IsAfter known library (chosen es places) (chosen es (drop k places)) old mid) where
+  at_turn : (r : Result (Unit {0}) Refusal) → FeedsMembers now library (chosen_at entries (get_or ps k d)) mid new r → FeedsMembers now library (chosen_at es (get_or places k d)) mid new r
+  at_turn r fed = subst (λ (left : List Entry). FeedsMembers now library left mid new r) (ap (λ xs. chosen_at xs (get_or ps k d)) same_es ∙ ap (λ xs. chosen_at es (get_or xs k d)) same_places) fed
+
+  is_next : IsAfter known library (chosen es places) (chosen_at es (get_or places k d) ++ chosen es (drop (k + 1) places)) old mid
+  is_next = place_at known library es places k d old mid (subst (λ (xs : List ℕ). k < length xs) same_places lt) is
+
+  pub turn_refused : (x : Refusal) → FeedsMembers now library (chosen_at entries (get_or ps k d)) mid new (Err x) → FeedsMembers known library (chosen es places) old new (Err x)
+  turn_refused x fed = after_refused known library (chosen es places) (chosen_at es (get_or places k d)) (chosen es (drop (k + 1) places)) now old mid new x same script is_next (at_turn (Err x) fed)
+
+  pub turn_fed : FeedsMembers now library (chosen_at entries (get_or ps k d)) mid new (Ok tt) → IsAfter known library (chosen es places) (chosen es (drop (k + 1) places)) old new
+  turn_fed fed = after_more known library (chosen es places) (chosen_at es (get_or places k d)) (chosen es (drop (k + 1) places)) now old mid new same script is_next (at_turn (Ok tt) fed)
+
+pub entry_there : (known : Option Files) (library : List ℕ) (es : List Entry) (place : ℕ) (e : Entry) (old new : Feeding) (r : Result (Unit {0}) Refusal) → Some e ≡ slice_get es place → FeedsMembers known library (e ∷ []) old new r → FeedsMembers known library (chosen_at es place) old new r
+entry_there known library es place e old new r there fed =
+    subst (λ (o : Option Entry). FeedsMembers known library (option_map_or (λ e. e ∷ []) o []) old new r) there fed
+
+pub none_there : (known : Option Files) (library : List ℕ) (es : List Entry) (place : ℕ) (old : Feeding) → None ≡ slice_get es place → FeedsMembers known library (chosen_at es place) old old (Ok tt)
+none_there known library es place old there =
+    subst (λ (o : Option Entry). FeedsMembers known library (option_map_or (λ e. e ∷ []) o []) old old (Ok tt)) there nothing
+  where
+    nothing : FeedsMembers known library [] old old (Ok tt)
+    nothing before stands = (before, go known, stands)
+      where
+        go : (f : Option Files) → IfSome f (λ m. ◌≡◌ {A = Result (List Module) Refusal} (Ok before) (Ok before))
+        go None = tt
+        go (Some m) = refl
+
+-- ---- A library.
+
+pub choice_refused : (known : Option Files) (k : ℕ) (library : List ℕ) (old new : Feeding) (e : Refusal) → Chooses known k library old (Err e) → FeedsLibrary known k library old new (Err e)
+choice_refused known k library old new e chooses before stands = go known (is_outside e) (chooses before stands)
+  where
+    go : (f : Option Files) (b : Bool) → IfSome f (λ m. Unless b (as_library k (index_in m library) ≡ Err e)) → IfSome f (λ m. Unless b (IsLibraryInput old.script m k before library (Err e)))
+    go None b h = tt
+    go (Some m) true h = tt
+    go (Some m) false h = rw h refl
+
+pub library_fed : (known now : Option Files) (k : ℕ) (library : List ℕ) (c : Choice) (old new : Feeding) (r : Result (Unit {0}) Refusal) → now ≡ known → Chooses known k library old (Ok c) → FeedsMembers now library (chosen c.index.entries c.places.items) old new r → FeedsLibrary known k library old new r
+library_fed known now k library c old new r same chooses fed before stands = by r (rw same at fed before stands)
+  where
+    all_in : Files → Result (List Module) Refusal
+    all_in m = with_members old.script m library before (chosen c.index.entries c.places.items)
+
+    as_input : (m : Files) (q : Result (List Module) Refusal) → index_in m library ≡ Ok c.index.entries → all_in m ≡ q → IsLibraryInput old.script m k before library q
+    as_input m q index h = rw index (c.places.items, chooses.1 before stands, sym h)
+
+    told : (f : Option Files) (q : Result (List Module) Refusal) → IfSome f (λ m. index_in m library ≡ Ok c.index.entries) → IfSome f (λ m. all_in m ≡ q) → IfSome f (λ m. IsLibraryInput old.script m k before library q)
+    told None q index h = tt
+    told (Some m) q index h = as_input m q index h
+
+    refused : (f : Option Files) (b : Bool) (q : Result (List Module) Refusal) → IfSome f (λ m. index_in m library ≡ Ok c.index.entries) → IfSome f (λ m. Unless b (all_in m ≡ q)) → IfSome f (λ m. Unless b (IsLibraryInput old.script m k before library q))
+    refused None b q index h = tt
+    refused (Some m) true q index h = tt
+    refused (Some m) false q index h = as_input m q index h
+
+    by : (r : Result (Unit {0}) Refusal) → Leads is_outside (λ u modules. IsFed new modules) known all_in r → LeadsBy is_outside (λ u modules. IsFed new modules) known (λ m. IsLibraryInput old.script m k before library) r
+    by (Ok u) h = (h.0, told known (Ok h.0) chooses.0 h.1, h.2)
+    by (Err e) h = refused known (is_outside e) (Err e) chooses.0 h
+
+-- ---- The count of failures.
+
+pub after_counted : (known : Option Files) (library : List ℕ) (all left : List Entry) (old mid : Feeding) (a b c : ℕ) → IsAfter known library all left old mid → Counted old a b → ((modules : List Module) → IsFed mid modules → PassesBy {T = Unit {0}} is_failure b c (Ok tt)) → Counted old a c
+after_counted known library all left old mid a b c is same passes before stands =
+    let p = is before stands in
+    kept_by b c tt (passes p.0 p.1) ∙ same before stands
+
+pub refused_counted : (known : Option Files) (library : List ℕ) (all left : List Entry) (old mid : Feeding) (a b c : ℕ) (e : Refusal) → IsAfter known library all left old mid → Counted old a b → ((modules : List Module) → IsFed mid modules → PassesBy {T = Unit {0}} is_failure b c (Err e)) → (before : List Module) → IsFed old before → PassesBy {T = Unit {0}} is_failure a c (Err e)
+refused_counted known library all left old mid a b c e is same passes before stands =
+    let p = is before stands in
+    later_count a b c (Err e) (same before stands) (passes p.0 p.1)

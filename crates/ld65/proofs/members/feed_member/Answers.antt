@@ -1,0 +1,26 @@
+use Rattle.std.proofs.Common.{◌∙◌}
+use Rattle.std.proofs.lemmas.Result.{err_from_is_err_and}
+use Rattle.ld65.proofs.Behind.{fed_count, in_count}
+use Rattle.ld65.proofs.Chosen.{member_fed, member_refused, member_unnamed}
+use Rattle.ld65.proofs.members.feed_member.Goals as goal
+
+pub returns-in_err-name-clause-fed : goal.returns-in_err-name-clause-fed
+returns-in_err-name-clause-fed g c =
+    let p = err_from_is_err_and c.from_residual.result c.from_residual.ensures.1 in
+    rw (p.1, p.2) (member_unnamed _ c.args.member.now.library.now c.args.member.now.entry.now c.args.linker.now c.args.linker.now)
+
+pub returns-in-Ok-clause-fed : goal.returns-in-Ok-clause-fed
+returns-in-Ok-clause-fed g c =
+    member_fed _ c.args.member.now.library.now c.args.member.now.entry.now c.args.linker.now c.feed_object.new.linker _ (c.as_slice.ensures ∙ c.in_ok-name.ensures) c.in-Ok.ensures.fed
+
+pub returns-in-Ok-clause-count : goal.returns-in-Ok-clause-count
+returns-in-Ok-clause-count g c modules stands = fed_count _ _ (c.in-Ok.ensures.count modules stands)
+
+pub returns-in-Err-clause-fed : goal.returns-in-Err-clause-fed
+returns-in-Err-clause-fed g c =
+    let called = c.as_slice.ensures in
+    rw c.of_member.ensures (member_refused _ c.args.member.now.library.now c.args.member.now.entry.now c.args.linker.now c.feed_object.new.linker _ c.in-Err.fault (c.in_ok-name.ensures) (rw called at c.in-Err.ensures.fed))
+
+pub returns-in-Err-clause-count : goal.returns-in-Err-clause-count
+returns-in-Err-clause-count g c modules stands =
+    rw c.of_member.ensures (in_count c.in_ok-name.name _ _ c.in-Err.fault (c.in-Err.ensures.count modules stands))

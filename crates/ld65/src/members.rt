@@ -1,0 +1,163 @@
+//! The members of a library, fed to a linker.
+
+ghost use Rattle.std.specs.Prelude.{◌≡◌, ◌+◌, ◌≤◌, ◌∷◌, [], List, IfOk, OnOk, false, option_map, slice_get};
+ghost use Rattle.std.specs.List.{AllByRecursion};
+ghost use Rattle.syntax65.specs.Store.{PassesBy};
+ghost use Rattle.object65.specs.Reading.{file_limit};
+ghost use Rattle.linkage65.specs.Modules.{Module};
+ghost use Rattle.link65.specs.Standing.{IsFed, Keeps, is_open};
+ghost use Rattle.ld65.specs.Feeding.{FeedsLibrary, FeedsMembers};
+ghost use Rattle.ld65.specs.Linkage.{chosen, chosen_at, member_module};
+ghost use Rattle.ld65.specs.Refusals.{is_failure};
+
+use crate::choosing::{Choice, Named, choose_members};
+use crate::feeding::{ObjectInput, feed_object};
+use crate::refusal::Refusal;
+use library65::Entry;
+use line65::join;
+use link65::Linker;
+use object65::RecordReader;
+use std::alloc::{AllocError, Global};
+use syntax65::{Sequence, Store};
+
+/// A member of a library: the library's file, and the member's entry in its index.
+#[derive(Clone, Copy)]
+struct Member<'a> {
+    library: &'a str,
+    entry: &'a Entry,
+}
+
+/// The name of a member's module.
+fn module_name(alloc: Global, member: &Member<'_>) -> Result<Sequence<u8>, AllocError>
+    ensures { IfOk result (λ name. name ≡ member_module member.now.library.now member.now.entry.now.name) }
+{
+    join(
+        alloc,
+        &[
+            member.library.as_bytes(),
+            b"(",
+            member.entry.name.as_slice(),
+            b")",
+        ],
+    )
+}
+
+/// Feeds a member of a library, record by record from the library's file.
+fn feed_member<S: Store>(
+    alloc: Global,
+    store: &mut S,
+    linker: &mut Linker,
+    reader: &mut RecordReader,
+    member: &Member<'_>,
+) -> Result<(), Refusal>
+    requires opened { is_open linker.old ≡ false }
+    requires within { member.now.entry.now.place + member.now.entry.now.size ≤ file_limit }
+    ensures fed { FeedsMembers (S.files store.old) member.now.library.now (member.now.entry.now ∷ []) linker.old linker.new result }
+    ensures opened { OnOk result (is_open linker.new ≡ false) }
+    ensures keeps { Keeps linker.old linker.new }
+    ensures files { S.files store.new ≡ S.files store.old }
+    ensures count { (modules : List Module) → IsFed linker.old modules →
+        PassesBy is_failure (S.failures store.old) (S.failures store.new) result }
+{
+    let name = module_name(alloc, member)?;
+    let object = ObjectInput {
+        file: member.library,
+        begin: member.entry.place,
+        end: member.entry.place + member.entry.size as u64,
+        name: name.as_slice(),
+        entry: Some(member.entry),
+    };
+    match feed_object(store, linker, reader, &object) {
+        Ok(()) => Ok(()),
+        Err(fault) => Err(Refusal::of_member(name, fault)),
+    }
+}
+
+/// The place of a member in a library's index.
+#[derive(Clone, Copy)]
+struct Chosen<'a> {
+    library: &'a str,
+    entries: &'a [Entry],
+    place: usize,
+}
+
+fn entry_at(entries: &[Entry], place: usize) -> Option<&Entry>
+    ensures { option_map (λ e. e.now) result ≡ slice_get entries.now place }
+{
+    entries.get(place)
+}
+
+/// Feeds the member at a place of a library's index, if there is one.
+fn feed_chosen<S: Store>(
+    alloc: Global,
+    store: &mut S,
+    linker: &mut Linker,
+    reader: &mut RecordReader,
+    chosen: &Chosen<'_>,
+) -> Result<(), Refusal>
+    requires opened { is_open linker.old ≡ false }
+    requires within { AllByRecursion (λ e. e.place + e.size ≤ file_limit) chosen.now.entries.now }
+    ensures fed { FeedsMembers (S.files store.old) chosen.now.library.now (chosen_at chosen.now.entries.now chosen.now.place) linker.old linker.new result }
+    ensures opened { OnOk result (is_open linker.new ≡ false) }
+    ensures keeps { Keeps linker.old linker.new }
+    ensures files { S.files store.new ≡ S.files store.old }
+    ensures count { (modules : List Module) → IsFed linker.old modules →
+        PassesBy is_failure (S.failures store.old) (S.failures store.new) result }
+{
+    let library = chosen.library;
+    match entry_at(chosen.entries, chosen.place) {
+        Some(entry) => feed_member(alloc, store, linker, reader, &Member { library, entry }),
+        None => Ok(()),
+    }
+}
+
+/// Feeds the chosen members of a library, in the order in which they stand.
+fn feed_members<S: Store>(
+    alloc: Global,
+    store: &mut S,
+    linker: &mut Linker,
+    library: &str,
+    choice: &Choice,
+) -> Result<(), Refusal>
+    requires opened { is_open linker.old ≡ false }
+    requires within { AllByRecursion (λ e. e.place + e.size ≤ file_limit) choice.now.index.entries }
+    ensures fed { FeedsMembers (S.files store.old) library.now (chosen choice.now.index.entries choice.now.places.items) linker.old linker.new result }
+    ensures opened { OnOk result (is_open linker.new ≡ false) }
+    ensures keeps { Keeps linker.old linker.new }
+    ensures files { S.files store.new ≡ S.files store.old }
+    ensures count { (modules : List Module) → IsFed linker.old modules →
+        PassesBy is_failure (S.failures store.old) (S.failures store.new) result }
+{
+    let entries = choice.index.entries.as_slice();
+    let places = choice.places.as_slice();
+    let mut reader = RecordReader::new();
+    for turn in 0..places.len() {
+        let chosen = Chosen {
+            library,
+            entries,
+            place: places[turn],
+        };
+        feed_chosen(alloc, store, linker, &mut reader, &chosen)?;
+    }
+    Ok(())
+}
+
+/// Feeds the members of a library that the script and the modules fed so far need. Of the library only its index and
+/// these members are read, and never more than a record at once.
+pub fn feed_library<S: Store>(
+    alloc: Global,
+    store: &mut S,
+    linker: &mut Linker,
+    input: &Named<'_>,
+) -> Result<(), Refusal>
+    requires { is_open linker.old ≡ false }
+    ensures fed { FeedsLibrary (S.files store.old) input.now.place input.now.name.now linker.old linker.new result }
+    ensures opened { OnOk result (is_open linker.new ≡ false) }
+    ensures keeps { Keeps linker.old linker.new }
+    ensures files { S.files store.new ≡ S.files store.old }
+    ensures count { (modules : List Module) → IsFed linker.old modules →
+        PassesBy is_failure (S.failures store.old) (S.failures store.new) result }
+{
+    let choice = choose_members(alloc, store, linker, input)?;
+    feed_members(alloc, store, linker, input.name, &choice)
+}

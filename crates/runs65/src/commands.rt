@@ -3,6 +3,7 @@
 
 mod assembling;
 mod devices;
+mod libraries;
 mod lines;
 mod linking;
 

@@ -1,6 +1,6 @@
 -- The members of a library that are needed, one after another.
-use Rattle.std.proofs.Common.{◌≡◌, ◌∙◌, ◌<◌, ◌≤◌, ◌+◌, ℕ, zero, suc, List, [], ◌∷◌, ◌++◌, drop, get_or, length, Bool, true, false, slice_get, Option, Some, None, Result, Ok, Err, refl, sym, ap, subst, add-one, arith}
-use Rattle.std.specs.Prelude.{IfSome, option_map}
+use Rattle.std.proofs.Common.{◌≡◌, ◌∙◌, ◌<◌, ◌+◌, ℕ, zero, suc, List, [], ◌∷◌, ◌++◌, drop, get_or, length, Bool, true, false, slice_get, Option, Some, None, Result, Ok, Err, refl, sym, ap, subst, arith}
+use Rattle.std.specs.Prelude.{IfSome}
 use Rattle.std.specs.Option.{option_map_or}
 use Rattle.script65.proofs.NeedLemmas.{drop_item}
 use Rattle.syntax65.specs.Outcome.{◌>>=◌, Refuses, Unless}
@@ -15,7 +15,7 @@ use Rattle.ld65.specs.declared.choosing.Choice.{Choice}
 use Rattle.ld65.specs.declared.refusal.Refusal.{Refusal}
 use Rattle.ld65.specs.declared.refusal.Refusal.TheVariants as refusal
 use Rattle.ld65.specs.Feeding.{Chooses, FeedsLibrary, FeedsMembers, FeedsObject, Leads, LeadsBy}
-use Rattle.ld65.specs.Linkage.{AreNeeded, Input, IsLibraryInput, as_library, chosen, chosen_at, index_in, member_input, member_module, with_member, with_members}
+use Rattle.ld65.specs.Linkage.{Input, IsLibraryInput, as_library, chosen, chosen_at, index_in, member_input, member_module, with_member, with_members}
 use Rattle.ld65.specs.Refusals.{is_failure, is_outside, refusal_in}
 use Rattle.ld65.proofs.Behind.{Counted, fed_behind, in_outside, kept_by, later_count, refused_behind}
 

@@ -1,11 +1,11 @@
 -- The inputs of a line, one after another.
-use Rattle.std.proofs.Common.{◌≡◌, ◌∙◌, ◌<◌, ◌≤◌, ◌+◌, ℕ, zero, suc, List, [], ◌∷◌, ◌++◌, Bor, drop, length, get_or, map, Bool, true, false, Option, Some, None, Result, Ok, Err, refl, sym, ap, subst, add-one, arith}
+use Rattle.std.proofs.Common.{◌≡◌, ◌∙◌, ◌<◌, ◌≤◌, ◌+◌, ℕ, zero, suc, List, [], ◌∷◌, ◌++◌, Bor, drop, length, get_or, map, Bool, true, false, Option, Some, None, Result, Ok, Err, refl, sym, subst, add-one, arith}
 use Rattle.std.specs.Prelude.{IfSome}
 use Rattle.std.specs.FinMap.{get}
 use Rattle.std.specs.Option.{option_map_or}
 use Rattle.std.proofs.lemmas.List.{drop_all}
-use Rattle.syntax65.specs.Outcome.{◌>>=◌, First, Gives, Refuses, Unless}
-use Rattle.syntax65.specs.Store.{Files, HasFailed, Passes, PassesBy}
+use Rattle.syntax65.specs.Outcome.{First, Gives, Unless}
+use Rattle.syntax65.specs.Store.{Files, PassesBy}
 use Rattle.object65.specs.declared.fault.ObjectFault.{ObjectFault}
 use Rattle.object65.specs.declared.fault.ObjectFault.TheVariants as object
 use Rattle.object65.specs.Fault.{is_outside as is_object_outside}
@@ -18,7 +18,7 @@ use Rattle.link65.specs.Standing.{Feeding, IsFed, module_of}
 use Rattle.ld65.specs.declared.refusal.Refusal.{Refusal}
 use Rattle.ld65.specs.declared.refusal.Refusal.TheVariants as refusal
 use Rattle.ld65.specs.Feeding.{FeedsFile, FeedsInput, FeedsInputs, FeedsLibrary, FeedsObject, Leads, LeadsBy}
-use Rattle.ld65.specs.Linkage.{AreInputs, ByKind, IsInput, IsLibraryInput, file_input, is_library, is_library_in, with_file}
+use Rattle.ld65.specs.Linkage.{AreInputs, IsInput, IsLibraryInput, file_input, is_library, is_library_in, with_file}
 use Rattle.ld65.specs.Refusals.{is_failure, is_outside, refusal_at}
 use Rattle.ld65.proofs.Behind.{Counted, at_outside, done_count, fed_behind, kept_by, later_count, refused_behind}
 

@@ -3,16 +3,13 @@ use Rattle.std.specs.Prelude.{ℕ, List, [], Bool, true, false, codes, ◌||◌,
 use Rattle.syntax65.specs.declared.store.StoreFault.{StoreFault}
 use Rattle.syntax65.specs.declared.store.StoreFault.TheVariants as store
 use Rattle.syntax65.specs.StoreFaults.{store_words}
-use Rattle.object65.specs.declared.fault.ObjectFault.{ObjectFault}
 use Rattle.object65.specs.declared.fault.ObjectFault.TheVariants as object
 use Rattle.object65.specs.Fault.{fault_text, is_memory as is_object_memory}
-use Rattle.library65.specs.declared.fault.LibraryFault.{LibraryFault}
 use Rattle.library65.specs.declared.fault.LibraryFault.TheVariants as library
 use Rattle.library65.specs.Fault.{displayed as library_words, is_memory as is_library_memory}
 use Rattle.script65.specs.Faults.{fault_text as script_words, is_memory_fault}
 use Rattle.linkage65.specs.declared.fault.LinkFault.{LinkFault}
 use Rattle.linkage65.specs.declared.fault.LinkFault.TheVariants as link
-use Rattle.linkage65.specs.declared.fault.Site.{Site}
 use Rattle.linkage65.specs.Faults.{fault_text as link_words, is_memory as is_link_memory}
 use Rattle.line65.specs.Line.{Linking}
 use Rattle.line65.specs.Messages.{file_message, line_message}

@@ -163,7 +163,12 @@ fn cause_message(
             file_message(alloc, script, fault.to_string(alloc)?.as_bytes())
         }
         Refusal::Script(fault) => {
-            line_message(alloc, script, fault.line, fault.to_string(alloc)?.as_bytes())
+            line_message(
+                alloc,
+                script,
+                fault.line,
+                fault.to_string(alloc)?.as_bytes(),
+            )
         }
         Refusal::Object(place, fault) => {
             input_message(alloc, line, *place, fault.to_string(alloc)?.as_str())

@@ -11,7 +11,7 @@ use Rattle.syntax65.specs.Outcome.{◌>>=◌, Finds, First, Refuses, Unless}
 use Rattle.linkage65.specs.GivenTwice.{all_once}
 use Rattle.linkage65.specs.Givers.{first_again, given_names}
 use Rattle.linkage65.specs.declared.linked.Linked.{Linked}
-use Rattle.linkage65.specs.Links.{IsProgramLink, LinkOf, names_once, no_name_again}
+use Rattle.linkage65.specs.Links.{IsProgramLink, LinkOf, no_name_again}
 use Rattle.linkage65.specs.declared.parts.Exported.{Exported}
 use Rattle.script65.specs.declared.script.Script.{Script}
 use Rattle.std.proofs.Math.Seq.{drop-append_seam}

@@ -152,12 +152,7 @@ impl Linker {
         if self.failed {
             return Err(LinkFault::FailedBefore);
         }
-        match open_module(
-            self.growing.alloc,
-            name,
-            entry,
-            self.growing.exports.len(),
-        ) {
+        match open_module(self.growing.alloc, name, entry, self.growing.exports.len()) {
             Ok(opened) => {
                 self.opened = Some(opened);
                 Ok(())

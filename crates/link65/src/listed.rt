@@ -79,11 +79,7 @@ fn same_exports(names: &[Sequence<u8>], exports: &[Exported]) -> bool
 }
 
 /// Whether these are the names listed, if any are.
-pub fn are_listed(
-    listed: &Option<Listed>,
-    exports: &[Exported],
-    imports: &[Sequence<u8>],
-) -> bool
+pub fn are_listed(listed: &Option<Listed>, exports: &[Exported], imports: &[Sequence<u8>]) -> bool
     ensures { result ≡ are_listed listed.now (map (λ e. e.name) exports.now) imports.now }
 {
     match listed {

@@ -4,6 +4,7 @@
 mod archiving;
 mod assembling;
 mod devices;
+mod libraries;
 mod lines;
 mod linking;
 

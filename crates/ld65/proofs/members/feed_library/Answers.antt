@@ -1,4 +1,3 @@
-use Rattle.std.proofs.Common.{◌∙◌}
 use Rattle.ld65.proofs.Chosen.{library_fed}
 use Rattle.ld65.proofs.members.feed_library.Goals as goal
 

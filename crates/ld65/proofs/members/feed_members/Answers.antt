@@ -1,6 +1,6 @@
 use Rattle.std.proofs.Common.{◌∙◌, arith}
 use Rattle.std.proofs.lemmas.Result.{err_from_is_err_and}
-use Rattle.ld65.proofs.Chosen.{after_counted, refused_counted, turn_fed, turn_refused}
+use Rattle.ld65.proofs.Chosen.{after_counted, turn_fed, turn_refused}
 use Rattle.ld65.proofs.members.feed_members.Goals as goal
 
 pub returns-in_err-feed_chosen-clause-fed : goal.returns-in_err-feed_chosen-clause-fed

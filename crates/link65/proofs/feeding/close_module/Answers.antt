@@ -1,4 +1,4 @@
-use Rattle.std.proofs.Common.{◌≡◌, ◌∙◌, ap, drop, map, refl, sym, subst, OnOk, Ok, List, ℕ}
+use Rattle.std.proofs.Common.{◌≡◌, ◌∙◌, ap, drop, map, refl, sym, subst, OnOk, Ok}
 use Rattle.linkage65.specs.declared.parts.Exported.{Exported}
 use Rattle.linkage65.specs.Faults.{is_memory}
 use Rattle.syntax65.specs.Outcome.{Refuses}

@@ -1,4 +1,4 @@
-use Rattle.std.proofs.Common.{◌∙◌, ℕ, List, ap, subst, sym}
+use Rattle.std.proofs.Common.{◌∙◌, ℕ, List, ap, subst}
 use Rattle.script65.specs.declared.script.Script.{Script}
 use Rattle.syntax65.specs.Outcome.{Finds}
 use Rattle.linkage65.specs.Faults.{is_memory}

@@ -38,7 +38,8 @@ fn replace<S: Store>(
     store: &mut S,
     line: &ArchiveLine<'_>,
 ) -> Result<Archived, Refusal>
-    ensures archived { IfSome (S.files store.old) (λ m. Gives is_outside (λ a. a) result (replaced_by m (archiving line.now))) }
+    ensures archived { IfSome (S.files store.old) (λ m.
+        Gives is_outside (λ a. a) result (replaced_by m (archiving line.now))) }
     ensures files { S.files store.new ≡ S.files store.old }
     ensures count { PassesBy is_failure (S.failures store.old) (S.failures store.new) result }
 {
@@ -54,7 +55,8 @@ fn delete<S: Store>(
     store: &mut S,
     line: &ArchiveLine<'_>,
 ) -> Result<Archived, Refusal>
-    ensures archived { IfSome (S.files store.old) (λ m. Gives is_outside (λ a. a) result (deleted_by m (archiving line.now))) }
+    ensures archived { IfSome (S.files store.old) (λ m.
+        Gives is_outside (λ a. a) result (deleted_by m (archiving line.now))) }
     ensures files { S.files store.new ≡ S.files store.old }
     ensures count { PassesBy is_failure (S.failures store.old) (S.failures store.new) result }
 {
@@ -66,7 +68,8 @@ fn delete<S: Store>(
 /// The names of the library's members.
 #[tactic(auto, unfolding(crate::specs::Librarian::listed_by))]
 fn list<S: Store>(alloc: Global, store: &mut S, line: &ArchiveLine<'_>) -> Result<Archived, Refusal>
-    ensures archived { IfSome (S.files store.old) (λ m. Gives is_outside (λ a. a) result (listed_by m (archiving line.now))) }
+    ensures archived { IfSome (S.files store.old) (λ m.
+        Gives is_outside (λ a. a) result (listed_by m (archiving line.now))) }
     ensures files { S.files store.new ≡ S.files store.old }
     ensures count { PassesBy is_failure (S.failures store.old) (S.failures store.new) result }
 {
@@ -81,7 +84,8 @@ fn extract<S: Store>(
     store: &mut S,
     line: &ArchiveLine<'_>,
 ) -> Result<Archived, Refusal>
-    ensures archived { IfSome (S.files store.old) (λ m. Gives is_outside (λ a. a) result (extracted_by m (archiving line.now))) }
+    ensures archived { IfSome (S.files store.old) (λ m.
+        Gives is_outside (λ a. a) result (extracted_by m (archiving line.now))) }
     ensures files { S.files store.new ≡ S.files store.old }
     ensures count { PassesBy is_failure (S.failures store.old) (S.failures store.new) result }
 {
@@ -89,14 +93,16 @@ fn extract<S: Store>(
     Ok(Archived::Members(extract_files(alloc, &library, line.files.as_slice())?))
 }
 
-/// What a line comes to: the library anew, the names of its members, or members as files. No file is written. First the
-/// library is read, then the line's files are taken in order; the first fault in this order is the refusal.
+/// What a line comes to: the library anew, the names of its members, or members as files. No file
+/// is written. First the library is read, then the line's files are taken in order; the first fault
+/// in this order is the refusal.
 pub fn archive<S: Store>(
     alloc: Global,
     store: &mut S,
     line: &ArchiveLine<'_>,
 ) -> Result<Archived, Refusal>
-    ensures archived { IfSome (S.files store.old) (λ m. Gives is_outside (λ a. a) result (archived_of m (archiving line.now))) }
+    ensures archived { IfSome (S.files store.old) (λ m.
+        Gives is_outside (λ a. a) result (archived_of m (archiving line.now))) }
     ensures files { S.files store.new ≡ S.files store.old }
     ensures count { PassesBy is_failure (S.failures store.old) (S.failures store.new) result }
 {

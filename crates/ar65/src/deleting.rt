@@ -10,7 +10,8 @@ use library65::{Library, LibraryFault};
 
 /// Takes the members of files' names out, in order.
 pub fn delete_files(library: &mut Library, files: &[&str]) -> Result<(), LibraryFault>
-    ensures deleted { Gives is_memory (λ _. library.new) result (without_files library.old (map (λ s. s.now) files.now)) }
+    ensures deleted { Gives is_memory (λ _. library.new)
+        result (without_files library.old (map (λ s. s.now) files.now)) }
     ensures cause { IsErrOf result LibraryFault.FileError → ⊥ }
 {
     for file in files {

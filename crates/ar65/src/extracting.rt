@@ -42,7 +42,8 @@ fn named_files(
     library: &Library,
     files: &[&str],
 ) -> Result<Sequence<MemberFile>, LibraryFault>
-    ensures found { Gives is_memory (λ found. found) result (files_of library.now (map member_name (map (λ s. s.now) files.now))) }
+    ensures found { Gives is_memory (λ found. found)
+        result (files_of library.now (map member_name (map (λ s. s.now) files.now))) }
     ensures cause { IsErrOf result LibraryFault.FileError → ⊥ }
 {
     let mut found = Sequence::new(alloc);
@@ -75,8 +76,8 @@ fn all_files(alloc: Global, library: &Library) -> Result<Sequence<MemberFile>, L
     Ok(found)
 }
 
-/// The files of the members of files' names, in order; those of all members where no file is named. The names of a library
-/// that was read are text.
+/// The files of the members of files' names, in order; those of all members where no file is named.
+/// The names of a library that was read are text.
 pub fn extract_files(
     alloc: Global,
     library: &Library,

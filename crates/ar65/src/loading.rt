@@ -17,7 +17,8 @@ pub fn load_or_begin<S: Store>(
     store: &mut S,
     file: &str,
 ) -> Result<Library, LibraryFault>
-    ensures read { IfSome (S.files store.old) (λ m. Gives is_outside (λ l. l) result (begun (map.get m file.now))) }
+    ensures read { IfSome (S.files store.old) (λ m.
+        Gives is_outside (λ l. l) result (begun (map.get m file.now))) }
     ensures files { S.files store.new ≡ S.files store.old }
     ensures count { Passes LibraryFault.FileError (S.failures store.old) (S.failures store.new) result }
 {

@@ -16,15 +16,16 @@ use syntax65::{Store, read_front};
 /// An object's file has at most so many bytes.
 const FILE_LIMIT: usize = 1_073_741_824;
 
-/// Puts the object of a file in, under the name of the file: its own faults come first, then that of the name, then
-/// those of the object. No more is read than tells that the file is too long.
+/// Puts the object of a file in, under the name of the file: its own faults come first, then that
+/// of the name, then those of the object. No more is read than tells that the file is too long.
 fn put_file<S: Store>(
     alloc: Global,
     store: &mut S,
     library: &mut Library,
     file: &str,
 ) -> Result<(), LibraryFault>
-    ensures put { IfSome (S.files store.old) (λ m. Gives is_library_outside (λ _. library.new) result (with_file m library.old file.now)) }
+    ensures put { IfSome (S.files store.old) (λ m.
+        Gives is_library_outside (λ _. library.new) result (with_file m library.old file.now)) }
     ensures files { S.files store.new ≡ S.files store.old }
     ensures count { Passes LibraryFault.FileError (S.failures store.old) (S.failures store.new) result }
 {
@@ -39,7 +40,8 @@ pub fn put_files<S: Store>(
     library: &mut Library,
     files: &[&str],
 ) -> Result<(), Refusal>
-    ensures put { IfSome (S.files store.old) (λ m. Gives is_outside (λ _. library.new) result (with_files m library.old 0 (map (λ s. s.now) files.now))) }
+    ensures put { IfSome (S.files store.old) (λ m.
+        Gives is_outside (λ _. library.new) result (with_files m library.old 0 (map (λ s. s.now) files.now))) }
     ensures files { S.files store.new ≡ S.files store.old }
     ensures count { PassesBy is_failure (S.failures store.old) (S.failures store.new) result }
 {

@@ -40,7 +40,8 @@ fn member_outputs(
     Ok(outputs)
 }
 
-/// What a line does that isn't refused: it writes the library anew, prints names, or writes members.
+/// What a line does that isn't refused: it writes the library anew, prints names, or writes
+/// members.
 fn archived_outcome(
     alloc: Global,
     line: &ArchiveLine<'_>,

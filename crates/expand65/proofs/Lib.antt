@@ -1,0 +1,13 @@
+pub mod Blocking
+pub mod Filling
+pub mod Gathering
+pub mod Lists
+pub mod Marks
+pub mod Naming
+pub mod Nexts
+pub mod Opening
+pub mod Parting
+pub mod Splitting
+pub mod Turning
+pub mod Unique
+pub mod Wholes

@@ -5,7 +5,7 @@ use Rattle.std.proofs.lemmas.Bool.Decides.{nat_tests}
 use Rattle.std.proofs.lemmas.List.{append-nil}
 use Rattle.syntax65.specs.Store.{Files}
 use Rattle.syntax65.specs.Tokens.{Lexeme}
-use Rattle.expand65.specs.Entering.{closed, pushed}
+use Rattle.expand65.specs.Entering.{pushed}
 use Rattle.expand65.specs.Includes.{numbered}
 use Rattle.expand65.specs.Inside.{left_in, mark_of, own, outside, left_of}
 use Rattle.expand65.specs.Kept.{tokens_in}
@@ -68,7 +68,7 @@ innermost_lines (labelled ts ∷ is) js k h = absurd h
 innermost_lines (branch ts ∷ is) js k h = absurd h
 innermost_lines (mark x ∷ is) js k h = absurd h
 
-own_split : (m : Files) (i : Input) (js : List Item) → own m i ++ js ≡ left_in m i.source ++ mark (mark_of i) ∷ js
+pub own_split : (m : Files) (i : Input) (js : List Item) → own m i ++ js ≡ left_in m i.source ++ mark (mark_of i) ∷ js
 own_split m i js = append_assoc (left_in m i.source) (mark (mark_of i) ∷ []) js
 
 -- the innermost of the inputs outside comes first
@@ -114,19 +114,3 @@ pub entered_none : (m : Files) (old : Reader) (i : Input) → 256 ≤ length old
 entered_none m old i h =
     let many : nat_le (marks (left_of m old).items) 256 ≡ false = grind (arith, nat_tests, marks_all m old) in
     rw many refl
-
-pub left_one : (m : Files) (old new : Reader) (n : ℕ) (g : Input) → left_in m old.top.source ≡ [] → old.top.conditions ≡ n → old.outer.items ≡ new.outer.items ++ g ∷ [] → new.top ≡ g → new.place ≡ come_back old.place old.top.back → Ok (true, (left_of m new).items, new.place) ≡ closed n old.place (left_of m old).items
-left_one m old new n g e h u t p =
-    let tail : outside m old.outer.items ≡ own m g ++ outside m new.outer.items = ap (outside m) u ∙ outside_push m new.outer.items g in
-    let all : (left_of m old).items ≡ mark (mark_of old.top) ∷ (own m g ++ outside m new.outer.items) =
-    own_split m old.top (outside m old.outer.items) ∙ ap (λ l. l ++ mark (mark_of old.top) ∷ outside m old.outer.items) e ∙ ap (λ l. mark (mark_of old.top) ∷ l) tail in
-    let items : own m g ++ outside m new.outer.items ≡ (left_of m new).items = ap (λ x. own m x ++ outside m new.outer.items) (sym t) in
-    let P : List Item → Type 0 = λ l. Ok (true, (left_of m new).items, new.place) ≡ closed n old.place l in
-    subst P (sym all) (go (own m g ++ outside m new.outer.items) (marks_own m g (outside m new.outer.items)) items)
-  where
-    same : (a b : ℕ) → a ≡ b → a == b ≡ true
-    same a b e = grind (arith, nat_tests)
-
-    go : (js : List Item) → marks js ≡ marks (outside m new.outer.items) + 1 → js ≡ (left_of m new).items → Ok (true, (left_of m new).items, new.place) ≡ closed n old.place (mark (mark_of old.top) ∷ js)
-    go [] z f = absurd (omega arith)
-    go (i ∷ js) z f = rw (same old.top.conditions n h) (ap (λ l. Ok (true, l, new.place)) (sym f) ∙ ap (λ q. Ok (true, i ∷ js, q)) p)

@@ -6,7 +6,7 @@ use Rattle.syntax65.specs.Store.{Files}
 use Rattle.expand65.specs.Includes.{bytes_in, numbered}
 use Rattle.expand65.specs.Lines.{lines_of, line_limit}
 use Rattle.expand65.specs.Meaning.{Meaning}
-use Rattle.expand65.specs.State.{mark, Mark, left, Stop, State, Stated, goes, gives, ends, stops}
+use Rattle.expand65.specs.State.{mark, Mark, Left, left, Stop, State, Stated, goes, gives, ends, stops}
 use Rattle.expand65.specs.Step.{IsStep}
 use Rattle.expand65.specs.declared.fault.ExpandFault.{ExpandFault}
 
@@ -26,10 +26,14 @@ pub data Reaches (m : Files) (k : Meaning) : State → Next → Type 0 where
 abbrev pub source_mark : Mark
 source_mark = record { is_macro = false; conditions = 0; back = None }
 
+-- all the lines of a source
+abbrev pub first_left : List ℕ → List ℕ → Left
+first_left file bytes = left (numbered 0 (lines_of bytes) ++ mark source_mark ∷ []) line_limit (record { file = file; line = 0 })
+
 -- the state before the first line of a source
 abbrev pub first_state : List ℕ → List (List ℕ) → List ℕ → State
 first_state file folders bytes = record {
-  left = left (numbered 0 (lines_of bytes) ++ mark source_mark ∷ []) line_limit (record { file = file; line = 0 });
+  left = first_left file bytes;
   macros = [];
   conditions = [];
   expansions = 0;

@@ -15,11 +15,15 @@ pub mod Laws
 pub mod Lines
 pub mod Macros
 pub mod Meaning
+pub mod Parting
 pub mod Parts
 pub mod Playing
 pub mod Reading
 pub mod Repeats
 pub mod Replacing
+pub mod Rewriting
+pub mod Seeking
+pub mod Standing
 pub mod State
 pub mod Step
 pub mod Taking

@@ -29,15 +29,23 @@ abbrev pub are_distinct : List (List ℕ) → Bool
 are_distinct [] = true
 are_distinct (name ∷ names) = if list_any (bytes_eq name) names then false else are_distinct names
 
+-- names of which no two are alike
+abbrev pub distinct_of : List (List ℕ) → Option (List (List ℕ))
+distinct_of names = if are_distinct names then Some names else None
+
 -- no parameters, or names with commas between them, no two alike
 abbrev pub params_of : List Lexeme → Option (List (List ℕ))
 params_of [] = Some []
-params_of ts = names_of ts >=> (λ names. if are_distinct names then Some names else None)
+params_of ts = names_of ts >=> distinct_of
+
+-- a name with the parameters that stand behind it
+abbrev pub header_with : List ℕ → List Lexeme → Option (List ℕ × List (List ℕ))
+header_with name ts = params_of ts >=> (λ params. Some (name, params))
 
 -- a macro's name and its parameters
 abbrev pub header_of : List Lexeme → Option (List ℕ × List (List ℕ))
 header_of [] = None
-header_of (t ∷ ts) = name_in t >=> (λ name. params_of ts >=> (λ params. Some (name, params)))
+header_of (t ∷ ts) = name_in t >=> (λ name. header_with name ts)
 
 -- the macro of a name
 abbrev pub macro_of : List (List ℕ × Definition) → List ℕ → Option Definition
@@ -119,8 +127,12 @@ localised names (i ∷ is) = i ∷ localised names is
 abbrev pub is_made : List ℕ → Bool
 is_made name = list_any (λ b. b == 63) name
 
+-- names of which none was made
+abbrev pub unmade : List (List ℕ) → Option (List (List ℕ))
+unmade names = if list_any is_made names then None else Some names
+
 abbrev pub new_names : List Lexeme → Option (List (List ℕ))
-new_names ts = names_of ts >=> (λ names. if list_any is_made names then None else Some names)
+new_names ts = names_of ts >=> unmade
 
 abbrev pub in_macro : Option Mark → Bool
 in_macro None = false

@@ -13,7 +13,7 @@ use std::alloc::{AllocError, Global};
 use syntax65::{Sequence, Token};
 
 /// The name at a place, if one stands there.
-fn name_at<'a>(tokens: &[Token<'a>], at: usize) -> Option<&'a [u8]>
+pub fn name_at<'a>(tokens: &[Token<'a>], at: usize) -> Option<&'a [u8]>
     ensures name { option_map (λ s. s.now) result ≡ name_at (lexemes tokens.now) at }
     ensures inside { IsSome result → at < length tokens.now }
 {
@@ -24,7 +24,7 @@ fn name_at<'a>(tokens: &[Token<'a>], at: usize) -> Option<&'a [u8]>
 }
 
 /// Whether a comma stands at a place.
-fn is_comma_at(tokens: &[Token<'_>], at: usize) -> bool
+pub fn is_comma_at(tokens: &[Token<'_>], at: usize) -> bool
     ensures comma { result ≡ is_comma_at (lexemes tokens.now) at }
     ensures inside { IsTrue result → at < length tokens.now }
 {

@@ -3,10 +3,11 @@
 ghost use Rattle.std.specs.Prelude.{◌≡◌, ◌<◌, ◌≤◌, ◌+◌, ◌-◌, ◌++◌, [], not, min, length, take, drop, true, false, IsTrue, IfErr, IfOk, IfSome, List, OnOk, ℕ, map};
 ghost use Rattle.std.specs.FinMap as fmap;
 ghost use Rattle.std.specs.List.{prefix_len};
-ghost use Rattle.syntax65.specs.Store.{Fills, Passes};
+ghost use Rattle.syntax65.specs.Store.{Files, Fills, Passes};
 ghost use Rattle.expand65.specs.Faults.{is_failure, is_outside};
+ghost use Rattle.expand65.specs.Includes.{numbered};
 ghost use Rattle.expand65.specs.Lines.{lines_of};
-ghost use Rattle.expand65.specs.Reading.{IsPiece, ReadsLine, TakesPiece, bytes_of, ends_in_return, is_inside, rest_of, without_return};
+ghost use Rattle.expand65.specs.Reading.{IsPiece, ReadsLine, TakesPiece, bytes_of, ends_in_return, is_inside, left_in_file, rest_of, without_return};
 
 use crate::fault::ExpandFault;
 use std::alloc::Global;
@@ -80,6 +81,19 @@ fn wanted(at: u64) -> usize
 }
 
 impl OpenFile {
+    /// A file that is there, before its first line.
+    pub fn new(alloc: Global, name: Text) -> Self
+        ensures { (m : Files) → length (bytes_of m name) ≤ 16777216 → left_in_file m result ≡ numbered 0 (lines_of (bytes_of m name)) }
+    {
+        OpenFile {
+            name,
+            buffer: Vec::new(alloc),
+            at: 0,
+            next: 0,
+            line: 0,
+        }
+    }
+
     /// Reads on where nothing is at hand.
     fn read_on<S: Store>(&mut self, store: &mut S) -> Result<(), ExpandFault>
         requires { length self.old.buffer.items ≤ self.old.at }

@@ -119,7 +119,8 @@ pub fn label_len(tokens: &[Token<'_>]) -> usize
     }
 }
 
-fn directive_in(token: &Token<'_>) -> Option<Directive>
+/// The directive of expansion that a token is.
+pub fn directive_in(token: &Token<'_>) -> Option<Directive>
     ensures { result ≡ directive_in (lexeme_of token.now) }
 {
     match token.kind {

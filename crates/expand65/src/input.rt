@@ -190,6 +190,13 @@ fn take_in_turn(
 }
 
 impl Source {
+    /// Whether it is an expansion.
+    pub fn is_call(&self) -> bool
+        ensures { result ≡ is_call self.now }
+    {
+        matches!(self, Source::Call(_))
+    }
+
     /// What comes next, which is then at hand.
     pub fn begin_line<S: Store>(
         &mut self,

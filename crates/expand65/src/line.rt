@@ -1,9 +1,15 @@
 //! Lines that are kept.
 
-ghost use Rattle.std.specs.Prelude.{◌≡◌, ◌++◌, IfOk, OnOk};
-ghost use Rattle.syntax65.specs.Tokens.{lexemes};
+ghost use Rattle.std.specs.Prelude.{◌≡◌, ◌++◌, false, slice_get, option_map, IfErr, IfOk, OnOk};
+ghost use Rattle.syntax65.specs.Tokens.{lexeme_of, lexemes};
+ghost use Rattle.expand65.specs.Faults.{is_failure};
+ghost use Rattle.expand65.specs.Fronts.{front_directive};
 ghost use Rattle.expand65.specs.Kept.{tokens_in};
+ghost use Rattle.expand65.specs.Parting.{IsParted};
 
+use crate::directives::Directive;
+use crate::fault::ExpandFault;
+use crate::fronts::{directive_in, is_mislabelled, label_len};
 use std::alloc::{AllocError, Global};
 use syntax65::{Sequence, Token, TokenKind};
 
@@ -57,6 +63,38 @@ impl Line {
         Ok(())
     }
 
+    /// The first token.
+    pub fn first(&self) -> Option<Token<'_>>
+        ensures { option_map lexeme_of result ≡ slice_get (tokens_in self.now) 0 }
+    {
+        let word = self.words.as_slice().first()?;
+        let bytes = self.bytes.as_slice();
+        let (text, _) = bytes.split_at(word.len.min(bytes.len()));
+        Some(Token {
+            kind: word.kind,
+            text,
+        })
+    }
+
+    /// The directive of expansion at the front.
+    pub fn directive(&self) -> Option<Directive>
+        ensures { result ≡ front_directive (tokens_in self.now) }
+    {
+        match self.first() {
+            Some(token) => directive_in(&token),
+            None => None,
+        }
+    }
+
+    /// The label at the front and what stands behind it, if there is a label.
+    pub fn parted(&self, alloc: Global) -> Result<Option<(Line, Line)>, ExpandFault>
+        ensures parts { IsParted (tokens_in self.now) result }
+        ensures inside { IfErr result (λ e. is_failure e ≡ false) }
+    {
+        let tokens = self.tokens(alloc)?;
+        parted(alloc, tokens.as_slice())
+    }
+
     /// The line's tokens.
     pub fn tokens(&self, alloc: Global) -> Result<Vec<Token<'_>>, AllocError>
         ensures { IfOk result (λ tokens. lexemes tokens.items ≡ tokens_in self.now) }
@@ -65,4 +103,22 @@ impl Line {
         self.add_to(&mut tokens)?;
         Ok(tokens)
     }
+}
+
+/// The label at the front of tokens and what stands behind it, if there is a label.
+fn parted(alloc: Global, tokens: &[Token<'_>]) -> Result<Option<(Line, Line)>, ExpandFault>
+    ensures parts { IsParted (lexemes tokens.now) result }
+    ensures inside { IfErr result (λ e. is_failure e ≡ false) }
+{
+    let len = label_len(tokens);
+    if len == 0 {
+        return Ok(None);
+    }
+    if is_mislabelled(tokens) {
+        return Err(ExpandFault::NotUnderstood);
+    }
+    let (label, rest) = tokens.split_at(len);
+    let label = Line::copy_of(alloc, label)?;
+    let rest = Line::copy_of(alloc, rest)?;
+    Ok(Some((label, rest)))
 }

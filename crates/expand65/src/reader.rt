@@ -3,10 +3,11 @@
 ghost use Rattle.std.specs.Prelude.{◌≡◌, ◌<◌, ◌≤◌, ◌-◌, ◌+◌, length, IfErr, IfNone, IfOk, IfSome, IsTrue, OnOk, [], false, option_map};
 ghost use Rattle.syntax65.specs.Store.{Passes};
 ghost use Rattle.expand65.specs.Faults.{is_failure, is_outside};
-ghost use Rattle.expand65.specs.Inside.{Answers, is_call, left_in, left_of, mark_of, moved_by};
+ghost use Rattle.expand65.specs.Inside.{Answers, left_in, left_of, mark_of, moved_by, outside};
 ghost use Rattle.expand65.specs.Kept.{tokens_in};
 ghost use Rattle.syntax65.specs.Store.{Files};
-ghost use Rattle.expand65.specs.Entering.{closed, pushed};
+ghost use Rattle.expand65.specs.Entering.{closed, end_of, exit_of, if_more, pushed};
+ghost use Rattle.expand65.specs.Macros.{outside_macro};
 ghost use Rattle.expand65.specs.State.{come_back};
 ghost use Rattle.expand65.specs.Taking.{Takes};
 ghost use Rattle.expand65.specs.BlockLines.{TakesInBlock};
@@ -37,6 +38,13 @@ pub struct Reader {
     pub outer: Vec<Input>,
     pub room: u32,
     pub place: Place,
+}
+
+/// The end of an expansion: so many conditions stay open, and whether anything is left behind it.
+#[derive(Clone, Copy, Debug)]
+pub struct MacroEnd {
+    pub conditions: usize,
+    pub more: bool,
 }
 
 impl Place {
@@ -113,22 +121,64 @@ impl Reader {
         Ok(())
     }
 
-    /// Leaves the innermost input, at whose end so many conditions are open, unless it is the source.
+    /// Takes the innermost input away, unless it is the source, with the place that it goes back to; whether anything
+    /// is left.
+    fn drop_top(&mut self, back: &mut Option<Place>) -> bool
+        ensures left { (m : Files) → if_more result (left_of m self.new).items ≡ outside m self.old.outer.items }
+        ensures back { (p : Place) → come_back p back.new ≡ come_back (come_back p back.old) self.old.top.back }
+        ensures place { self.new.place ≡ self.old.place }
+        ensures room { self.new.room ≡ self.old.room }
+        ensures outer { IsTrue result → length self.new.outer.items < length self.old.outer.items }
+        ensures fewer { length self.new.outer.items ≤ length self.old.outer.items }
+    {
+        match self.outer.pop() {
+            None => {
+                keep_last(back, self.top.back.take());
+                false
+            }
+            Some(outer) => {
+                let inner = mem::replace(&mut self.top, outer);
+                keep_last(back, inner.back);
+                true
+            }
+        }
+    }
+
+    /// Leaves the innermost input, at whose end so many conditions are open; whether anything is left.
     pub fn leave(&mut self, conditions: usize) -> Result<bool, ExpandFault>
-        ensures left { (m : Files) → left_in m self.old.top.source ≡ [] → Answers (λ more. (more, (left_of m self.new).items, self.new.place)) self.new.place result (λ r. r ≡ closed conditions self.old.place (left_of m self.old).items) }
+        ensures left { (m : Files) → left_in m self.old.top.source ≡ [] → Answers (λ more. (if_more more (left_of m self.new).items, self.new.place)) self.new.place result (λ r. r ≡ closed conditions self.old.place (left_of m self.old).items) }
         ensures room { self.new.room ≡ self.old.room }
         ensures outer { IfOk result (λ more. IsTrue more → length self.new.outer.items < length self.old.outer.items) }
+        ensures fewer { OnOk result (length self.new.outer.items ≤ length self.old.outer.items) }
         ensures inside { IfErr result (λ e. is_outside e ≡ false) }
     {
         if self.top.conditions != conditions {
             return Err(ExpandFault::NotClosed);
         }
-        match self.outer.pop() {
-            None => Ok(false),
-            Some(outer) => {
-                let inner = mem::replace(&mut self.top, outer);
-                self.go_back(inner.back);
-                Ok(true)
+        let mut back = None;
+        let more = self.drop_top(&mut back);
+        self.go_back(back);
+        Ok(more)
+    }
+
+    /// Leaves the innermost expansion with all that is open in it.
+    pub fn leave_macro(&mut self) -> Option<MacroEnd>
+        ensures left { (m : Files) → exit_of (outside_macro (left_of m self.old).items self.old.place) ≡ end_of result (left_of m self.new).items self.new.place }
+        ensures none { IfNone result (self.new.place ≡ self.old.place) }
+        ensures room { self.new.room ≡ self.old.room }
+        ensures fewer { length self.new.outer.items ≤ length self.old.outer.items }
+    {
+        let mut back = None;
+        'inputs: loop {
+            let is_call = self.top.source.is_call();
+            let conditions = self.top.conditions;
+            let more = self.drop_top(&mut back);
+            if is_call {
+                self.go_back(back);
+                return Some(MacroEnd { conditions, more });
+            }
+            if !more {
+                return None;
             }
         }
     }
@@ -143,5 +193,14 @@ impl Reader {
         if let Some(place) = back {
             self.place = place;
         }
+    }
+}
+
+/// Of two places that are gone back to one after another, the last.
+fn keep_last(back: &mut Option<Place>, next: Option<Place>)
+    ensures { (p : Place) → come_back p back.new ≡ come_back (come_back p back.old) next }
+{
+    if next.is_some() {
+        *back = next;
     }
 }

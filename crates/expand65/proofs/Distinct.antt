@@ -83,6 +83,7 @@ names_more names i d value keys more is_new l v k a f h e =
     let ns = map (λ s. s.now) names in
     let absent : list_any (same_name value) keys ≡ false = opposite is_new (list_any (same_name value) keys) true a f in
     let further : take (i + 1) ns ≡ take i ns ++ value.items ∷ [] = take_seen (λ s. s.now) names i d l ∙ ap (λ n. take i ns ++ n ∷ []) (sym v) in
-    let added : more ≡ keys ++ value ∷ [] = e ∙ rw absent refl in
-    (ap (map (λ k. k.items)) added ∙ map-append (λ k. k.items) keys (value ∷ []) ∙ ap (λ l. l ++ value.items ∷ []) k ∙ sym further,
-        ap are_distinct further ∙ one_more (take i ns) value.items h (known value keys (take i ns) false k absent))
+    let added : more ≡ keys ++ value ∷ [] = e ∙ rw absent refl in (
+      ap (map (λ k. k.items)) added ∙ map-append (λ k. k.items) keys (value ∷ []) ∙ ap (λ l. l ++ value.items ∷ []) k ∙ sym further,
+      ap are_distinct further ∙ one_more (take i ns) value.items h (known value keys (take i ns) false k absent),
+    )

@@ -68,12 +68,15 @@ a_header ts behind e n v h b r =
 
 pub parts : (toks : List Token) (ts : List Lexeme) (len : ℕ) (a b : Line) → lexemes toks ≡ ts → len ≡ label_len (lexemes toks) → len ≢ 0 → is_mislabelled (lexemes toks) ≡ false → tokens_in a ≡ lexemes (take len toks) → tokens_in b ≡ lexemes (drop len toks) → (n : ℕ) × AreParts ts n a b
 parts toks ts zero a b e l z w p q = absurd (z refl)
-parts toks ts (suc n) a b e l z w p q = (n, record {
-  some = sym (l ∙ ap label_len e);
-  right = sym (ap is_mislabelled e) ∙ w;
-  label = p ∙ sym (take-map lexeme_of (suc n) toks) ∙ ap (take (suc n)) e;
-  rest = q ∙ sym (drop-map lexeme_of (suc n) toks) ∙ ap (drop (suc n)) e;
-})
+parts toks ts (suc n) a b e l z w p q = (
+  n,
+  record {
+    some = sym (l ∙ ap label_len e);
+    right = sym (ap is_mislabelled e) ∙ w;
+    label = p ∙ sym (take-map lexeme_of (suc n) toks) ∙ ap (take (suc n)) e;
+    rest = q ∙ sym (drop-map lexeme_of (suc n) toks) ∙ ap (drop (suc n)) e;
+  },
+)
 
 -- what isn't there isn't there with more
 pub refused_on : {A B : Type 0} (o : Option A) (f : A → Option B) (e : ExpandFault) → Unless (is_outside e) (understood o ≡ Err e) → Unless (is_outside e) (understood (o >=> f) ≡ Err e)

@@ -43,11 +43,7 @@ fn truth(value: Option<i64>) -> Result<bool, ExpandFault>
 }
 
 /// Whether an expression of all the tokens isn't 0.
-fn holds<K: Knows>(
-    alloc: Global,
-    knows: &K,
-    tokens: &[Token<'_>],
-) -> Result<bool, ExpandFault>
+fn holds<K: Knows>(alloc: Global, knows: &K, tokens: &[Token<'_>]) -> Result<bool, ExpandFault>
     ensures value { Answers is_outside (λ b. b) result (IsCondition (K.meaning knows.now) Test.True (lexemes tokens.now)) }
     ensures inside { IfErr result (λ e. is_failure e ≡ false) }
 {
@@ -75,11 +71,7 @@ fn is_defined_name<K: Knows>(knows: &K, expr: &Expr) -> Result<bool, ExpandFault
 }
 
 /// Whether a name, which all the tokens are, is that of a label or constant.
-fn is_defined<K: Knows>(
-    alloc: Global,
-    knows: &K,
-    tokens: &[Token<'_>],
-) -> Result<bool, ExpandFault>
+fn is_defined<K: Knows>(alloc: Global, knows: &K, tokens: &[Token<'_>]) -> Result<bool, ExpandFault>
     ensures value { Answers is_outside (λ b. b) result (IsCondition (K.meaning knows.now) Test.Defined (lexemes tokens.now)) }
     ensures inside { IfErr result (λ e. is_failure e ≡ false) }
 {

@@ -91,11 +91,7 @@ fn text_of(bytes: &[u8]) -> Option<&str>
 }
 
 /// The file of a name, if it is there.
-fn look_up<S: Store>(
-    alloc: Global,
-    store: &mut S,
-    name: &[u8],
-) -> Result<Option<Text>, ExpandFault>
+fn look_up<S: Store>(alloc: Global, store: &mut S, name: &[u8]) -> Result<Option<Text>, ExpandFault>
     ensures tries { IfSome (S.files store.old) (λ m. (others : Result (List ℕ × List ℕ) ExpandFault) → Tries m result others (found_or name.now (file_named m name.now) others)) }
     ensures files { S.files store.new ≡ S.files store.old }
     ensures count { Passes ExpandFault.FileError (S.failures store.old) (S.failures store.new) result }

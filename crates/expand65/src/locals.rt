@@ -123,7 +123,10 @@ impl Rewriter {
             return Err(ExpandFault::NotUnderstood);
         }
         let names = new_names(self.alloc, tokens)?;
-        self.reader.top.source.add_locals(self.alloc, names.as_slice())?;
+        self.reader
+            .top
+            .source
+            .add_locals(self.alloc, names.as_slice())?;
         Ok(Turn::Goes)
     }
 

@@ -146,7 +146,11 @@ impl Rewriter {
     }
 
     /// `.include` and what stands behind it.
-    fn include<S: Store>(&mut self, store: &mut S, tokens: &[Token<'_>]) -> Result<Turn, ExpandFault>
+    fn include<S: Store>(
+        &mut self,
+        store: &mut S,
+        tokens: &[Token<'_>],
+    ) -> Result<Turn, ExpandFault>
         ensures turns { IfSome (S.files store.old) (λ m. Turns result (state_of m self.new) (λ r. r ≡ include_line m (state_of m self.old) (lexemes tokens.now))) }
         ensures size { IfOk result (λ t. size_of self.new + weight_of t ≤ size_of self.old + 2) }
         ensures files { S.files store.new ≡ S.files store.old }

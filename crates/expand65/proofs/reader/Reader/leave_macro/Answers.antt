@@ -11,7 +11,7 @@ returns-then-not-more-clause-left c =
     let old = c.inputs.self in
     let new = c.drop_top-more.new.self in
     λ m. let P : Bool → Type 0 = λ b. if_more b (left_of m new).items ≡ outside m old.outer.items in
-      none_out m old (come_back old.place c.inputs.back) (outside_macro (left_of m c.args.self.now).items c.args.self.now.place) (sym c.is_call-is_call.ensures ∙ c.if-is_call.false) (subst P c.if-not-more.true (c.drop_top-more.ensures.left m)) (c.inputs.invariant.so_far m)
+    none_out m old (come_back old.place c.inputs.back) (outside_macro (left_of m c.args.self.now).items c.args.self.now.place) (sym c.is_call-is_call.ensures ∙ c.if-is_call.false) (subst P c.if-not-more.true (c.drop_top-more.ensures.left m)) (c.inputs.invariant.so_far m)
 
 pub inputs-preserved : goal.inputs-preserved
 inputs-preserved c =
@@ -20,7 +20,7 @@ inputs-preserved c =
     let back = c.drop_top-more.new.back in
     record {
       so_far = λ m. let P : Bool → Type 0 = λ b. if_more b (left_of m new).items ≡ outside m old.outer.items in
-        goes_out m old new (come_back old.place c.inputs.back) (come_back new.place back) (outside_macro (left_of m c.args.self.now).items c.args.self.now.place) (sym c.is_call-is_call.ensures ∙ c.if-is_call.false) (subst P c.if-not-more.false (c.drop_top-more.ensures.left m)) (ap (λ p. come_back p back) c.drop_top-more.ensures.place ∙ c.drop_top-more.ensures.back old.place) (c.inputs.invariant.so_far m);
+          goes_out m old new (come_back old.place c.inputs.back) (come_back new.place back) (outside_macro (left_of m c.args.self.now).items c.args.self.now.place) (sym c.is_call-is_call.ensures ∙ c.if-is_call.false) (subst P c.if-not-more.false (c.drop_top-more.ensures.left m)) (ap (λ p. come_back p back) c.drop_top-more.ensures.place ∙ c.drop_top-more.ensures.back old.place) (c.inputs.invariant.so_far m);
       place = c.drop_top-more.ensures.place ∙ c.inputs.invariant.place;
       room = c.drop_top-more.ensures.room ∙ c.inputs.invariant.room;
       fewer = omega (arith, c.drop_top-more.ensures.fewer, c.inputs.invariant.fewer);

@@ -88,6 +88,10 @@ fn expanded(alloc: Global, source: &[u8]) -> Result<Vec<u8>, Fail> {
     Ok(expanded_in(alloc, &mut store, &[], &Constants { all: false })?)
 }
 
+fn same(found: &[u8], wanted: &[u8]) -> bool {
+    found == wanted
+}
+
 /// Whether a source expands to these statements.
 fn expands_to(alloc: Global, source: &[u8], wanted: &[u8]) -> Result<bool, Fail> {
     let found = expanded(alloc, source)?;

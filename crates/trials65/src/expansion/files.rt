@@ -1,12 +1,9 @@
-//! Files that are included, and stores that fail, lack a file or never end.
+//! Files that are included.
 
-ghost use Rattle.std.specs.Prelude.{None};
-
-use super::expanded_in;
 use super::values::Constants;
-use expand65::{Expander, Options};
+use super::{expanded_in, same};
 use std::test::Fail;
-use syntax65::{MemStore, Sequence, Store, StoreFault};
+use syntax65::MemStore;
 
 #[test]
 fn a_file_in_a_folder(rt: HostRuntime) -> Result<(), Fail> {
@@ -15,12 +12,12 @@ fn a_file_in_a_folder(rt: HostRuntime) -> Result<(), Fail> {
     store.put("b.s", b".include \"i.inc\"")?;
     store.put("d/i.inc", b".error \"no\"\n")?;
     let found = expanded_in(alloc, &mut store, &["c", "d"], &Constants { all: false })?;
-    assert!(rt; found.as_slice() == b"d/i.inc:1: no");
+    assert!(rt; same(found.as_slice(), b"d/i.inc:1: no"));
     let missing = expanded_in(alloc, &mut store, &["c"], &Constants { all: false })?;
-    assert!(rt; missing.as_slice() == b"b.s:1: file not found");
+    assert!(rt; same(missing.as_slice(), b"b.s:1: file not found"));
     // A folder that ends in a slash gets another one.
     let slash = expanded_in(alloc, &mut store, &["d/"], &Constants { all: false })?;
-    assert!(rt; slash.as_slice() == b"b.s:1: file not found");
+    assert!(rt; same(slash.as_slice(), b"b.s:1: file not found"));
     Ok(())
 }
 
@@ -34,7 +31,7 @@ fn a_file_beside_a_file(rt: HostRuntime) -> Result<(), Fail> {
     store.put("j.inc", b"clc")?;
     store.put("/j.inc", b"sec")?;
     let found = expanded_in(alloc, &mut store, &["d"], &Constants { all: false })?;
-    assert!(rt; found.as_slice() == b"nop ;sec ;");
+    assert!(rt; same(found.as_slice(), b"nop ;sec ;"));
     Ok(())
 }
 
@@ -47,7 +44,7 @@ fn the_folder_of_a_call(rt: HostRuntime) -> Result<(), Fail> {
     store.put("i", b"nop")?;
     store.put("d/i", b"clc")?;
     let found = expanded_in(alloc, &mut store, &[], &Constants { all: false })?;
-    assert!(rt; found.as_slice() == b"nop ;.byte 1 ;");
+    assert!(rt; same(found.as_slice(), b"nop ;.byte 1 ;"));
     Ok(())
 }
 
@@ -59,14 +56,14 @@ fn ends_of_files(rt: HostRuntime) -> Result<(), Fail> {
     store.put("b.s", b".include \"i\"")?;
     store.put("i", b"nop\r\n.if 1\nnop\n")?;
     let open = expanded_in(alloc, &mut store, &[], &Constants { all: false })?;
-    assert!(rt; open.as_slice() == b"nop ;nop ;i:3: block not closed");
+    assert!(rt; same(open.as_slice(), b"nop ;nop ;i:3: block not closed"));
     store.put("b.s", b".macro m\n.include \"i\"\n.endmacro\nm")?;
     store.put("i", b".local l\n")?;
     let local = expanded_in(alloc, &mut store, &[], &Constants { all: false })?;
-    assert!(rt; local.as_slice() == b"i:1: directive not understood");
+    assert!(rt; same(local.as_slice(), b"i:1: directive not understood"));
     store.put("b.s", b".include \"i\"\nclc")?;
     store.put("i", b"nop\n.end\n")?;
     let end = expanded_in(alloc, &mut store, &[], &Constants { all: false })?;
-    assert!(rt; end.as_slice() == b"nop ;");
+    assert!(rt; same(end.as_slice(), b"nop ;"));
     Ok(())
 }

@@ -3,7 +3,7 @@
 ghost use Rattle.std.specs.Prelude.{None};
 
 use super::values::Constants;
-use super::{expanded_in, expands_to};
+use super::{expanded_in, expands_to, same};
 use expand65::{Expander, Options};
 use std::alloc::{AllocError, Global};
 use std::test::Fail;
@@ -49,16 +49,25 @@ fn no_options(alloc: Global) -> Options {
     }
 }
 
+/// The line of the first statement, if there is one.
+fn first_line(alloc: Global, store: &mut Lines) -> Option<u32> {
+    let Ok(mut expander) = Expander::open(alloc, store, "b.s", &no_options(alloc)) else {
+        return None;
+    };
+    match expander.next(store, &Constants { all: false }) {
+        Ok(Some(_statement)) => Some(expander.place().1),
+        Ok(None) => None,
+        Err(_fault) => None,
+    }
+}
+
 #[test]
 fn little_is_read_at_first(rt: HostRuntime) -> Result<(), Fail> {
-    let alloc = rt.alloc();
-    let mut store = Lines { len: 400_000, given: 0 };
-    let opened = Expander::open(alloc, &mut store, "b.s", &no_options(alloc));
-    assert!(rt; opened.is_ok());
-    if let Ok(mut expander) = opened {
-        assert!(rt; expander.next(&mut store, &Constants { all: false }).is_ok());
-        assert_eq!(rt; expander.place().1, 1);
-    }
+    let mut store = Lines {
+        len: 400_000,
+        given: 0,
+    };
+    assert_eq!(rt; first_line(rt.alloc(), &mut store), Some(1));
     assert!(rt; store.given <= 8_192);
     Ok(())
 }
@@ -66,47 +75,47 @@ fn little_is_read_at_first(rt: HostRuntime) -> Result<(), Fail> {
 #[test]
 fn the_size_of_a_source(rt: HostRuntime) -> Result<(), Fail> {
     let alloc = rt.alloc();
-    let mut most = Lines { len: 16_777_216, given: 0 };
+    let mut most = Lines {
+        len: 16_777_216,
+        given: 0,
+    };
     assert!(rt; Expander::open(alloc, &mut most, "b.s", &no_options(alloc)).is_ok());
-    let mut more = Lines { len: 16_777_217, given: 0 };
+    let mut more = Lines {
+        len: 16_777_217,
+        given: 0,
+    };
     let found = expanded_in(alloc, &mut more, &[], &Constants { all: false })?;
-    assert!(rt; found.as_slice() == b"file too long");
+    assert!(rt; same(found.as_slice(), b"file too long"));
     let mut none = MemStore::new(alloc);
     let found = expanded_in(alloc, &mut none, &[], &Constants { all: false })?;
-    assert!(rt; found.as_slice() == b"file not found");
+    assert!(rt; same(found.as_slice(), b"file not found"));
     Ok(())
 }
 
-/// How many statements a source has before the fault of too many lines, if it has that fault.
-fn count_lines(alloc: Global, source: &[u8]) -> Result<Option<u32>, Fail> {
-    let mut store = MemStore::new(alloc);
-    store.put("b.s", source)?;
-    let Ok(mut expander) = Expander::open(alloc, &mut store, "b.s", &no_options(alloc)) else {
-        return Ok(None);
-    };
-    for count in 0..1_100_000u32 {
-        match expander.next(&mut store, &Constants { all: false }) {
-            Ok(Some(_)) => {}
-            Ok(None) => return Ok(None),
-            Err(fault) => {
-                let is_it = fault.words() == &b"too many lines"[..];
-                return Ok(if is_it { Some(count) } else { None });
-            }
-        }
+/// A repeat of sixteen blank lines, and so many blank lines behind it: eighteen lines are read of the repeat, and
+/// 16 * 65,534 are replayed.
+fn blank_lines(alloc: Global, behind: u32) -> Result<Vec<u8>, AllocError> {
+    let mut text = Vec::from_slice(alloc, b".repeat 65534\n")?;
+    for _ in 0..16 {
+        text.push(b'\n')?;
     }
-    Ok(None)
+    text.extend_from_slice(b".endrepeat\n")?;
+    for _ in 0..behind {
+        text.push(b'\n')?;
+    }
+    Ok(text)
 }
 
 #[test]
 fn the_number_of_lines(rt: HostRuntime) -> Result<(), Fail> {
     let alloc = rt.alloc();
-    // Five lines are read; each turn outside takes three lines and 65,536 inside: fifteen whole turns, and one with
-    // 1,048,576 - 5 - 15 * 65,539 - 3 lines `nop`.
-    let source = b".repeat 65536\n.repeat 65536\nnop\n.endrepeat\n.endrepeat\n";
-    assert_eq!(rt; count_lines(alloc, source)?, Some(15 * 65_536 + 65_483));
-    // Three lines are read, and 16 * 65,536 more are the last that may be.
-    let most = b".repeat 65535\nnop\n.endrepeat\n";
-    assert_eq!(rt; count_lines(alloc, most)?, None);
+    // 18 + 16 * 65,534 + 14 = 1,048,576
+    let most = blank_lines(alloc, 14)?;
+    assert!(rt; expands_to(alloc, most.as_slice(), b"")?);
+    let more = blank_lines(alloc, 15)?;
+    assert!(rt; expands_to(alloc, more.as_slice(), b"b.s:33: too many lines")?);
+    let nested = b".repeat 65536\n.repeat 65536\n\n.endrepeat\n.endrepeat\n";
+    assert!(rt; expands_to(alloc, nested, b"b.s:5: too many lines")?);
     Ok(())
 }
 

@@ -1,13 +1,15 @@
 //! Macros: their bodies, arguments, own names and ends.
 
-use super::{expanded, expands_to};
+use super::{expanded, expands_to, same};
 use std::test::Fail;
 
 #[test]
 fn a_macro_and_a_repeat(rt: HostRuntime) -> Result<(), Fail> {
     let alloc = rt.alloc();
-    let source = b".macro w n\n.local l\nldx #n\nl: dex\nbne l\n.endmacro\nw 3\nw 4\n.repeat 3,i\n.byte i*2\n.endrepeat\n";
-    let wanted = b"ldx # 3 ;l?1 : |dex ;bne l?1 ;ldx # 4 ;l?2 : |dex ;bne l?2 ;.byte 0 * 2 ;.byte 1 * 2 ;.byte 2 * 2 ;";
+    let source =
+        b".macro w n\n.local l\nldx #n\nl: dex\nbne l\n.endmacro\nw 3\nw 4\n.repeat 3,i\n.byte i*2\n.endrepeat\n";
+    let wanted =
+        b"ldx # 3 ;l?1 : |dex ;bne l?1 ;ldx # 4 ;l?2 : |dex ;bne l?2 ;.byte 0 * 2 ;.byte 1 * 2 ;.byte 2 * 2 ;";
     assert!(rt; expands_to(alloc, source, wanted)?);
     Ok(())
 }
@@ -16,8 +18,10 @@ fn a_macro_and_a_repeat(rt: HostRuntime) -> Result<(), Fail> {
 fn arguments(rt: HostRuntime) -> Result<(), Fail> {
     let alloc = rt.alloc();
     // Commas within braces don't part, and one pair of braces round an argument is dropped.
-    let source = b".macro m p,q0\n.byte p, .paramcount\n.ifblank q0\nnop\n.endif\n.endmacro\nm\nm {1,2}\nm {{1,2}}\nm {1,2}+3,{4}\n";
-    let wanted = b".byte , 0 ;nop ;.byte 1 , 2 , 1 ;nop ;.byte { 1 , 2 } , 1 ;nop ;.byte { 1 , 2 } + 3 , 2 ;";
+    let source =
+        b".macro m p,q0\n.byte p, .paramcount\n.ifblank q0\nnop\n.endif\n.endmacro\nm\nm {1,2}\nm {{1,2}}\nm {1,2}+3,{4}\n";
+    let wanted =
+        b".byte , 0 ;nop ;.byte 1 , 2 , 1 ;nop ;.byte { 1 , 2 } , 1 ;nop ;.byte { 1 , 2 } + 3 , 2 ;";
     assert!(rt; expands_to(alloc, source, wanted)?);
     // A brace that isn't closed stays, and commas behind it don't part; one that closes none is a token like others.
     let open = b".macro m p,q0\n.ifnblank q0\nnop\n.endif\n.endmacro\nm {1,2\n";
@@ -66,13 +70,14 @@ fn names_of_an_expansion(rt: HostRuntime) -> Result<(), Fail> {
 fn the_end_of_an_expansion(rt: HostRuntime) -> Result<(), Fail> {
     let alloc = rt.alloc();
     // The conditions and repeats that are open in it go with it.
-    let source = b".macro m\n.if 1\n.repeat 2\n.if 1\nnop\n.exitmacro\n.endif\n.endrepeat\n.endif\nclc\n.endmacro\nm\nsec\n";
+    let source =
+        b".macro m\n.if 1\n.repeat 2\n.if 1\nnop\n.exitmacro\n.endif\n.endrepeat\n.endif\nclc\n.endmacro\nm\nsec\n";
     assert!(rt; expands_to(alloc, source, b"nop ;sec ;")?);
     // A condition outside stays open.
     let outside = b".macro m\n.exitmacro\n.endmacro\n.if 1\nm\n.else\nclc\n.endif\nsec\n";
     assert!(rt; expands_to(alloc, outside, b"sec ;")?);
     let none = expanded(alloc, b"\n.exitmacro\n")?;
-    assert!(rt; none.as_slice() == b"b.s:2: block end without begin");
+    assert!(rt; same(none.as_slice(), b"b.s:2: block end without begin"));
     assert!(rt; expands_to(alloc, b".exitmacro x\n", b"b.s:1: directive not understood")?);
     Ok(())
 }
@@ -88,9 +93,21 @@ fn definitions(rt: HostRuntime) -> Result<(), Fail> {
     assert!(rt; expands_to(alloc, labelled, b"b.s:2: directive not understood")?);
     let alike = b".macro m p,q0,p\n.endmacro\n";
     assert!(rt; expands_to(alloc, alike, b"b.s:1: directive not understood")?);
-    assert!(rt; expands_to(alloc, b".macro a\n.endmacro\n", b"b.s:1: directive not understood")?);
+    assert!(rt;
+        expands_to(
+            alloc,
+            b".macro a\n.endmacro\n",
+            b"b.s:1: directive not understood"
+        )?
+    );
     assert!(rt; expands_to(alloc, b".macro m\nnop\n", b"b.s:2: block not closed")?);
-    assert!(rt; expands_to(alloc, b"nop\n.endmacro\n", b"nop ;b.s:2: block end without begin")?);
+    assert!(rt;
+        expands_to(
+            alloc,
+            b"nop\n.endmacro\n",
+            b"nop ;b.s:2: block end without begin"
+        )?
+    );
     // A label before a colon is no call, and a name before `=` is one.
     let label = b".macro m\nnop\n.endmacro\nm: clc\n";
     assert!(rt; expands_to(alloc, label, b"m : |clc ;")?);

@@ -2,6 +2,8 @@
 #![tactic(auto)]
 
 #[cfg(test)]
+mod expansion;
+#[cfg(test)]
 mod libraries;
 #[cfg(test)]
 mod linkers;

@@ -1,0 +1,146 @@
+-- What the first line that is left leads to, from what the calls for its parts answer.
+use Rattle.std.proofs.Common.{◌≡◌, ℕ, zero, suc, Bool, true, false, List, [], ◌∷◌, ◌++◌, take, drop, Option, Some, None, IfSome, Result, Ok, Err, ap, refl, sym, subst, ◌∙◌, Global}
+use Rattle.std.specs.declared.rc.Rc.{Rc}
+use Rattle.syntax65.specs.Outcome.{Unless}
+use Rattle.syntax65.specs.Store.{Files}
+use Rattle.syntax65.specs.Tokens.{Lexeme}
+use Rattle.expand65.specs.Arguments.{arguments_of}
+use Rattle.expand65.specs.Faults.{is_outside}
+use Rattle.expand65.specs.Fronts.{front_directive, is_mislabelled, label_len, line_directive, string_of}
+use Rattle.expand65.specs.Includes.{first_file, include_line, included, included_by, tried}
+use Rattle.expand65.specs.Inside.{left_in, left_of, mark_of, outside, own}
+use Rattle.expand65.specs.Kept.{tokens_in}
+use Rattle.expand65.specs.Macros.{called, called_or_given, macro_at, ordinary}
+use Rattle.expand65.specs.Meaning.{Meaning}
+use Rattle.expand65.specs.Parting.{AreParts}
+use Rattle.expand65.specs.Playing.{definition_of}
+use Rattle.expand65.specs.Rewriting.{Opens, Turns, macros_of, state_of, turned}
+use Rattle.expand65.specs.Seeking.{file_of}
+use Rattle.expand65.specs.State.{Item, written, played, labelled, branch, mark, State, plain, label, Stepped, goes, gives, stops, with_items}
+use Rattle.expand65.specs.Step.{IsActed, IsDirected, IsLabelled, IsSplit, IsStep, IsStepBehind, IsStepFrom}
+use Rattle.expand65.specs.Taking.{Taken, Takes}
+use Rattle.expand65.specs.declared.directives.Directive.{Directive}
+use Rattle.expand65.specs.declared.fault.ExpandFault.{ExpandFault}
+use Rattle.expand65.specs.declared.fault.ExpandFault.TheVariants.{NotUnderstood}
+use Rattle.expand65.specs.declared.line.Line.{Line}
+use Rattle.expand65.specs.declared.macros.Opening.TheVariants as opening
+use Rattle.expand65.specs.declared.place.Place.{Place}
+use Rattle.expand65.specs.declared.playing.Body.{Body}
+use Rattle.expand65.specs.declared.rewriter.Rewriter.{Rewriter}
+use Rattle.expand65.specs.declared.rewriter.Turn.{Turn}
+use Rattle.expand65.specs.declared.rewriter.Turn.TheVariants.{Parts}
+use Rattle.expand65.proofs.Marks.{AreLines, lines_left, own_split}
+
+-- ---- What a call answers leads to a step of another word for it.
+
+pub turns_so : (r : Result Turn ExpandFault) (s : State) (P Q : Stepped → Type 0) → ((x : Stepped) → P x → Q x) → Turns r s P → Turns r s Q
+turns_so (Ok t) s P Q f h = f (turned s t) h
+turns_so (Err e) s P Q f h = by (is_outside e) h
+  where
+    by : (b : Bool) → Unless b (P (stops (e, s.left.place))) → Unless b (Q (stops (e, s.left.place)))
+    by true h = tt
+    by false h = f (stops (e, s.left.place)) h
+
+pub where_known : (o : Option Files) (P Q : Files → Type 0) → ((m : Files) → P m → Q m) → IfSome o P → IfSome o Q
+where_known None P Q f h = tt
+where_known (Some m) P Q f h = f m h
+
+pub where_so : (o : Option Files) (Q : Files → Type 0) → ((m : Files) → Q m) → IfSome o Q
+where_so None Q f = tt
+where_so (Some m) Q f = f m
+
+-- ---- A line without a directive.
+
+pub nothing_there : (r : Rewriter) (s : State) (ts : List Lexeme) → Opens opening.Nothing r ts → goes s ≡ ordinary s ts
+nothing_there r s [] h = refl
+nothing_there r s (t ∷ ts) h = absurd h
+
+pub no_call : (m : Files) (r : Rewriter) (ts : List Lexeme) → Opens opening.Other r ts → gives (plain ts) (state_of m r) ≡ ordinary (state_of m r) ts
+no_call m r [] h = absurd h
+no_call m r (t ∷ ts) h = sym (ap (called_or_given (state_of m r) t ts) h)
+
+pub a_call : (m : Files) (r : Rewriter) (ts : List Lexeme) (body : Rc Body Global) (x : Stepped) → Opens (opening.Call body) r ts → x ≡ called (state_of m r) (definition_of body.value) (arguments_of (drop 1 ts)) → x ≡ ordinary (state_of m r) ts
+a_call m r [] body x h e = absurd h
+a_call m r (t ∷ ts) body x h e = e ∙ sym (ap (called_or_given (state_of m r) t ts) h)
+
+-- ---- A line that may begin with a label.
+
+pub unlabelled : (m : Files) (k : Meaning) (s : State) (ts : List Lexeme) (x : Stepped) → label_len ts ≡ 0 → IsActed m k s ts (front_directive ts) x → IsLabelled m k s ts (is_mislabelled ts) x
+unlabelled m k s ts x e h =
+    let right : is_mislabelled ts ≡ false = rw e refl in
+    let directive : line_directive ts ≡ front_directive ts = ap (λ n. front_directive (drop n ts)) e in
+    let P : Bool → Type 0 = λ b. IsLabelled m k s ts b x in
+    let Q : ℕ → Type 0 = λ n. IsSplit m k s ts (line_directive ts) n x in
+    let R : Option Directive → Type 0 = λ d. IsActed m k s ts d x in
+    subst P (sym right) (subst Q (sym e) (subst R (sym directive) h))
+
+pub split : (m : Files) (k : Meaning) (s : State) (ts : List Lexeme) (n : ℕ) (front behind : Line) → AreParts ts n front behind → IsLabelled m k s ts (is_mislabelled ts) (turned s (Parts front behind))
+split m k s ts n front behind p =
+    let x = turned s (Parts front behind) in
+    let P : Bool → Type 0 = λ b. IsLabelled m k s ts b x in
+    let Q : ℕ → Type 0 = λ n. IsSplit m k s ts (line_directive ts) n x in
+    let same : x ≡ gives (label (take (suc n) ts)) (with_items s (labelled (drop (suc n) ts) ∷ s.left.items)) =
+    ap (λ l. gives (label l) (with_items s (labelled (tokens_in behind) ∷ s.left.items))) p.label ∙ ap (λ l. gives (label (take (suc n) ts)) (with_items s (labelled l ∷ s.left.items))) p.rest in
+    subst P (sym p.right) (subst Q (sym p.some) same)
+
+pub mislabelled : (m : Files) (k : Meaning) (s : State) (ts : List Lexeme) (f : ExpandFault) → Unless (is_outside f) ((f ≡ NotUnderstood) × (is_mislabelled ts ≡ true)) → Unless (is_outside f) (IsLabelled m k s ts (is_mislabelled ts) (stops (f, s.left.place)))
+mislabelled m k s ts f h = by (is_outside f) h
+  where
+    by : (b : Bool) → Unless b ((f ≡ NotUnderstood) × (is_mislabelled ts ≡ true)) → Unless b (IsLabelled m k s ts (is_mislabelled ts) (stops (f, s.left.place)))
+    by true h = tt
+    by false (e, w) = let P : Bool → Type 0 = λ b. IsLabelled m k s ts b (stops (f, s.left.place)) in subst P (sym w) (ap (λ g. stops (g, s.left.place)) e)
+
+-- ---- The first line that is left of the inputs.
+
+abbrev BeginsPlain : List Item → Type 0
+BeginsPlain (labelled ts ∷ is) = ⊥
+BeginsPlain (branch ts ∷ is) = ⊥
+BeginsPlain _ = Unit {0}
+
+begins_plain : (is js : List Item) → AreLines is → BeginsPlain js → BeginsPlain (is ++ js)
+begins_plain [] js h k = k
+begins_plain (written n b ∷ is) js h k = tt
+begins_plain (played e ts ∷ is) js h k = tt
+begins_plain (labelled ts ∷ is) js h k = absurd h
+begins_plain (branch ts ∷ is) js h k = absurd h
+begins_plain (mark x ∷ is) js h k = absurd h
+
+step_from : (m : Files) (k : Meaning) (s : State) (is : List Item) (x : Stepped) → BeginsPlain is → ((t : Taken) × Takes s.left t × IsStepBehind m k s t x) → IsStepFrom m k s is x
+step_from m k s [] x b h = h
+step_from m k s (written n bytes ∷ is) x b h = h
+step_from m k s (played e ts ∷ is) x b h = h
+step_from m k s (mark y ∷ is) x b h = h
+step_from m k s (labelled ts ∷ is) x b h = absurd b
+step_from m k s (branch ts ∷ is) x b h = absurd b
+
+-- the step of a state in which a line or an end mark comes first
+pub step_taken : (m : Files) (k : Meaning) (r : Rewriter) (t : Taken) (x : Stepped) → Takes (left_of m r.reader) t → IsStepBehind m k (state_of m r) t x → IsStep m k (state_of m r) x
+unfolding IsStep
+step_taken m k r t x h b =
+    let js = mark (mark_of r.reader.top) ∷ outside m r.reader.outer.items in
+    let begins : BeginsPlain (own m r.reader.top ++ outside m r.reader.outer.items) = subst BeginsPlain (sym (own_split m r.reader.top (outside m r.reader.outer.items))) (begins_plain (left_in m r.reader.top.source) js (lines_left m r.reader.top.source) tt) in
+    step_from m k (state_of m r) (left_of m r.reader).items x begins (t, h, b)
+
+-- a line that begins with a directive
+pub acted_by : (m : Files) (k : Meaning) (s : State) (ts us : List Lexeme) (d : Directive) (x : Stepped) → front_directive ts ≡ Some d → us ≡ drop 1 ts → IsDirected m k s d us x → IsActed m k s ts (front_directive ts) x
+acted_by m k s ts us d x e u h =
+    let P : Option Directive → Type 0 = λ o. IsActed m k s ts o x in
+    let Q : List Lexeme → Type 0 = λ l. IsDirected m k s d l x in
+    subst P (sym e) (subst Q u h)
+
+pub refused_step : (m : Files) (k : Meaning) (r : Rewriter) (f : ExpandFault) (p : Place) → Unless (is_outside f) (Takes (left_of m r.reader) (Err (f, p))) → Unless (is_outside f) (IsStep m k (state_of m r) (stops (f, p)))
+refused_step m k r f p h = by (is_outside f) h
+  where
+    by : (b : Bool) → Unless b (Takes (left_of m r.reader) (Err (f, p))) → Unless b (IsStep m k (state_of m r) (stops (f, p)))
+    by true h = tt
+    by false h = step_taken m k r (Err (f, p)) (stops (f, p)) h refl
+
+pub where_both : (o : Option Files) (P Q R : Files → Type 0) → ((m : Files) → P m → Q m → R m) → IfSome o P → IfSome o Q → IfSome o R
+where_both None P Q R f h k = tt
+where_both (Some m) P Q R f h k = f m h k
+
+-- a file that was found is included
+pub include_found : (m : Files) (s : State) (ts : List Lexeme) (name beside file : List ℕ) (folders : List (List ℕ)) → string_of ts ≡ Some name → beside ≡ s.left.place.file → folders ≡ s.folders → first_file m (tried beside folders name) ≡ Ok (file_of m file) → included s (Ok (file_of m file)) ≡ include_line m s ts
+include_found m s ts name beside file folders e b f h =
+    let found : first_file m (tried s.left.place.file s.folders name) ≡ Ok (file_of m file) = ap (λ x. first_file m (tried x s.folders name)) (sym b) ∙ ap (λ x. first_file m (tried beside x name)) (sym f) ∙ h in
+    sym (ap (included_by m s) e ∙ ap (included s) found)

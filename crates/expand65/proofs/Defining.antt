@@ -1,0 +1,118 @@
+-- Macros that are defined, and repeats.
+use Rattle.std.proofs.Common.{◌≡◌, ℕ, ◌-◌, Bool, true, false, List, [], ◌∷◌, ◌++◌, length, map, drop, Option, Some, None, IfSome, Result, Ok, Err, ap, refl, sym, subst, ◌∙◌, arith, Vec, Global}
+use Rattle.std.specs.Map.{lookup}
+use Rattle.std.specs.Option.{option_map}
+use Rattle.std.specs.Prelude.{is_some, nat_le, if◌then◌else◌}
+use Rattle.std.specs.Str.{bytes_eq}
+use Rattle.std.specs.declared.rc.Rc.{Rc}
+use Rattle.std.proofs.lemmas.List.{map-append, drop_all, length-map}
+use Rattle.indexmap.specs.IndexMap.{IndexMap, insert_entry, get}
+use Rattle.indexmap.proofs.CallerLemmas.{insert_entry-new}
+use Rattle.syntax65.specs.Outcome.{Unless}
+use Rattle.syntax65.specs.Store.{Files}
+use Rattle.syntax65.specs.Tokens.{Lexeme}
+use Rattle.expand65.specs.Blocks.{Block, collects, gathers}
+use Rattle.expand65.specs.Entering.{pushed}
+use Rattle.expand65.specs.Faults.{is_outside}
+use Rattle.expand65.specs.Inside.{left_of, turns_left}
+use Rattle.expand65.specs.Kept.{tokens_in}
+use Rattle.expand65.specs.Lines.{nesting_limit}
+use Rattle.expand65.specs.Macros.{IsKept, entered, kept, macro_of}
+use Rattle.expand65.specs.Playing.{definition_of, replacing_of}
+use Rattle.expand65.specs.Repeats.{IsRepeated, repeat_mark, repeated, repeating, turns}
+use Rattle.expand65.specs.Rewriting.{macros_of, state_of}
+use Rattle.expand65.specs.State.{Item, played, Mark, mark, Left, left, Stop, Definition, State, Stepped, goes, stops, marks, with_left}
+use Rattle.expand65.specs.declared.fault.ExpandFault.{ExpandFault}
+use Rattle.expand65.specs.declared.fault.ExpandFault.TheVariants.{MacroTwice, Nested}
+use Rattle.expand65.specs.declared.place.Place.{Place}
+use Rattle.expand65.specs.declared.playing.Body.{Body}
+use Rattle.expand65.specs.declared.playing.Replay.{Replay}
+use Rattle.expand65.specs.declared.reader.Reader.{Reader}
+use Rattle.expand65.specs.declared.rewriter.Rewriter.{Rewriter}
+use Rattle.expand65.proofs.Lists.{lookup_mapped}
+use Rattle.expand65.proofs.Tables.{same_name}
+
+-- ---- The table of macros.
+
+abbrev pub shared : Rc Body Global → Definition
+shared b = definition_of b.value
+
+-- a macro by its name, with its definition
+abbrev pub entry_of : Vec ℕ Global × Rc Body Global → List ℕ × Definition
+entry_of e = (e.0.items, definition_of e.1.value)
+
+pub named : (es : List (Vec ℕ Global × Rc Body Global)) (name : List ℕ) → macro_of (map entry_of es) name ≡ option_map shared (lookup (λ k. bytes_eq name k.items) es)
+named es name = lookup_mapped (bytes_eq name) (λ k. k.items) shared es
+
+pub more_macros : {S : Type 0} (t : IndexMap (Vec ℕ Global) (Rc Body Global) S) (k : Vec ℕ Global) (v : Rc Body Global) (es : List (Vec ℕ Global × Rc Body Global)) → macro_of (map entry_of t.entries) k.items ≡ None → es ≡ insert_entry same_name t.entries k v → map entry_of es ≡ map entry_of t.entries ++ entry_of (k, v) ∷ []
+more_macros t k v es h e =
+    let gone : lookup (λ x. bytes_eq k.items x.items) t.entries ≡ None = none_of (lookup (λ x. bytes_eq k.items x.items) t.entries) (sym (named t.entries k.items) ∙ h) in
+    ap (map entry_of) (e ∙ insert_entry-new same_name t k v gone) ∙ map-append entry_of t.entries ((k, v) ∷ [])
+  where
+    none_of : (o : Option (Rc Body Global)) → option_map shared o ≡ None → o ≡ None
+    none_of None h = refl
+    none_of (Some b) h = absurd (cc)
+
+pub twice : (s : State) (name : List ℕ) (params : List (List ℕ)) → is_some (macro_of s.macros name) ≡ true → IsKept s name params (macro_of s.macros name) (stops (MacroTwice, s.left.place))
+twice s name params h = by (macro_of s.macros name) h
+  where
+    by : (o : Option Definition) → is_some o ≡ true → IsKept s name params o (stops (MacroTwice, s.left.place))
+    by None h = absurd (cc)
+    by (Some d) h = refl
+
+pub is_none : {A : Type 0} (o : Option A) → is_some o ≡ false → o ≡ None
+is_none None h = refl
+is_none (Some x) h = absurd (cc)
+
+pub once : (s : State) (name : List ℕ) (params : List (List ℕ)) (q : Result (List (List Lexeme) × Left) Stop) (x : Stepped) → macro_of s.macros name ≡ None → Block collects [] s.left q → x ≡ kept s name params q → IsKept s name params (macro_of s.macros name) x
+once s name params q x h b e = let P : Option Definition → Type 0 = λ o. IsKept s name params o x in subst P (sym h) (q, b, e)
+
+pub once_refused : (s : State) (name : List ℕ) (params : List (List ℕ)) (f : ExpandFault) (p : Place) → macro_of s.macros name ≡ None → Unless (is_outside f) (Block collects [] s.left (Err (f, p))) → Unless (is_outside f) (IsKept s name params (macro_of s.macros name) (stops (f, p)))
+once_refused s name params f p h b = by (is_outside f) b
+  where
+    by : (o : Bool) → Unless o (Block collects [] s.left (Err (f, p))) → Unless o (IsKept s name params (macro_of s.macros name) (stops (f, p)))
+    by true b = tt
+    by false b = once s name params (Err (f, p)) (stops (f, p)) h b refl
+
+-- ---- An input put in front of the lines.
+
+pub entered_at : (s : State) (is : List Item) (k : Mark) (p : Place) (l : Left) → Ok l ≡ pushed is k s.left → goes (with_left s (left l.items l.room p)) ≡ entered s is k p
+entered_at s is k p l e = by (nat_le (marks s.left.items) nesting_limit) e
+  where
+    by : (b : Bool) → ◌≡◌ {A = Result Left Stop} (Ok l) (if b then Ok (left (is ++ mark k ∷ s.left.items) s.left.room s.left.place) else Err (Nested, s.left.place)) → goes (with_left s (left l.items l.room p)) ≡ (if b then goes (with_left s (left (is ++ mark k ∷ s.left.items) s.left.room p)) else stops (Nested, s.left.place))
+    by true e = let same : l ≡ left (is ++ mark k ∷ s.left.items) s.left.room s.left.place = cc in ap (λ (x : Left). goes (with_left s (left x.items x.room p))) same
+    by false e = absurd (cc)
+
+-- an input of the lines' own place
+pub entered_same : (s : State) (is : List Item) (k : Mark) (l : Left) → Ok l ≡ pushed is k s.left → goes (with_left s l) ≡ entered s is k s.left.place
+entered_same s is k l e = by (nat_le (marks s.left.items) nesting_limit) e
+  where
+    by : (b : Bool) → ◌≡◌ {A = Result Left Stop} (Ok l) (if b then Ok (left (is ++ mark k ∷ s.left.items) s.left.room s.left.place) else Err (Nested, s.left.place)) → goes (with_left s l) ≡ (if b then goes (with_left s (left (is ++ mark k ∷ s.left.items) s.left.room s.left.place)) else stops (Nested, s.left.place))
+    by true e = let same : l ≡ left (is ++ mark k ∷ s.left.items) s.left.room s.left.place = cc in ap (λ (x : Left). goes (with_left s x)) same
+    by false e = absurd (cc)
+
+-- ---- A macro is kept.
+
+-- the state with other lines left and other macros
+abbrev pub rewritten : Files → Rewriter → Reader → List (List ℕ × Definition) → State
+rewritten m r rd ms = record { left = left_of m rd; macros = ms; conditions = r.conditions; expansions = r.expansions; folders = r.folders }
+
+pub kept_one : (m : Files) (old : Rewriter) (rd : Reader) (name : Vec ℕ Global) (body : Rc Body Global) (b : Body) (es : List (Vec ℕ Global × Rc Body Global)) → macro_of (macros_of old) name.items ≡ None → es ≡ insert_entry same_name old.macros.entries name body → body.value ≡ b → Block collects [] (left_of m old.reader) (Ok (map tokens_in b.lines, left_of m rd)) → IsKept (state_of m old) name.items (map (λ k. k.items) b.params.keys) (macro_of (macros_of old) name.items) (goes (rewritten m old rd (map entry_of es)))
+kept_one m old rd name body b es h e v block =
+    let ms : map entry_of es ≡ macros_of old ++ (name.items, definition_of b) ∷ [] = more_macros old.macros name body es h e ∙ ap (λ (x : Body). macros_of old ++ (name.items, definition_of x) ∷ []) v in
+    once (state_of m old) name.items (map (λ k. k.items) b.params.keys) (Ok (map tokens_in b.lines, left_of m rd)) (goes (rewritten m old rd (map entry_of es))) h block (ap (λ x. goes (rewritten m old rd x)) ms)
+
+-- ---- A repeat begins.
+
+pub turns_ready : (r : Replay) (b : Body) (n : ℕ) → r.body.value ≡ b → r.at ≡ length b.lines → r.arguments ≡ [] → r.count ≡ None → r.locals.entries ≡ [] → r.number ≡ 0 → turns_left r 0 n ≡ turns (repeating (map (λ k. k.items) b.params.keys)) (map tokens_in b.lines) 0 n
+turns_ready r b n v a g c l k =
+    let all : drop r.at (map tokens_in r.body.value.lines) ≡ [] = ap (λ (x : Body). drop r.at (map tokens_in x.lines)) v ∙ drop_all r.at (map tokens_in b.lines) (omega (arith, a, length-map b.lines tokens_in)) in
+    let same : replacing_of r ≡ repeating (map (λ k. k.items) b.params.keys) = rw (v, g, c, l, k) refl in
+    let count : n - 0 ≡ n = omega arith in
+    ap (λ ls. map (played (replacing_of r)) ls ++ turns (replacing_of r) (map tokens_in r.body.value.lines) 0 (n - 0)) all ∙ ap (λ e. turns e (map tokens_in r.body.value.lines) 0 (n - 0)) same ∙ ap (λ (x : Body). turns (repeating (map (λ k. k.items) b.params.keys)) (map tokens_in x.lines) 0 (n - 0)) v ∙ ap (turns (repeating (map (λ k. k.items) b.params.keys)) (map tokens_in b.lines) 0) count
+
+pub repeated_one : (m : Files) (old : Rewriter) (rd new : Reader) (replay : Replay) (b : Body) (n : ℕ) → Block gathers (0, []) (left_of m old.reader) (Ok (map tokens_in b.lines, left_of m rd)) → turns_left replay 0 n ≡ turns (repeating (map (λ k. k.items) b.params.keys)) (map tokens_in b.lines) 0 n → Ok (left_of m new) ≡ pushed (turns_left replay 0 n) (repeat_mark (state_of m old)) (left_of m rd) → IsRepeated (state_of m old) (Ok (n, map (λ k. k.items) b.params.keys)) (goes (rewritten m old new (macros_of old)))
+repeated_one m old rd new replay b n block ts e =
+    let k = repeat_mark (state_of m old) in
+    let lines = turns (repeating (map (λ k. k.items) b.params.keys)) (map tokens_in b.lines) 0 n in
+    (Ok (map tokens_in b.lines, left_of m rd), block, entered_same (with_left (state_of m old) (left_of m rd)) lines k (left_of m new) (e ∙ ap (λ is. pushed is k (left_of m rd)) ts))

@@ -1,0 +1,89 @@
+-- Names of which no two are alike, found one after another; and tables that take one more name.
+use Rattle.std.proofs.Common.{◌≡◌, ℕ, ◌+◌, ◌<◌, Bool, true, false, not, ◌&&◌, ◌||◌, cond, nat_eq, List, [], ◌∷◌, ◌++◌, map, take, drop, length, get_or, refl, sym, ap, ◌∙◌, arith, Vec, Global, Bor, Option, Some, None, slice_get}
+use Rattle.std.specs.List.{list_any}
+use Rattle.std.specs.Prelude.{if◌then◌else◌}
+use Rattle.std.specs.Str.{bytes_eq}
+use Rattle.std.proofs.lemmas.Bool.Decides.{nat_tests}
+use Rattle.std.proofs.lemmas.List.{map-append, take-append-drop}
+use Rattle.std.proofs.lemmas.List.Folds.{list_any-append}
+use Rattle.indexmap.specs.IndexSet.{insert_key}
+use Rattle.expand65.specs.Macros.{are_distinct, distinct_of}
+use Rattle.expand65.proofs.Lists.{any_seen, drop_seen, take_seen}
+use Rattle.expand65.proofs.Tables.{same_name}
+
+number_sym : (a b : ℕ) → nat_eq a b ≡ nat_eq b a
+number_sym a b = grind (arith, nat_tests)
+
+bytes_sym : (a b : List ℕ) → bytes_eq a b ≡ bytes_eq b a
+bytes_sym [] [] = refl
+bytes_sym [] (y ∷ ys) = refl
+bytes_sym (x ∷ xs) [] = refl
+bytes_sym (x ∷ xs) (y ∷ ys) = rw (number_sym x y, bytes_sym xs ys) refl
+
+-- one more name at the end, unlike those before
+pub one_more : (xs : List (List ℕ)) (y : List ℕ) → are_distinct xs ≡ true → list_any (bytes_eq y) xs ≡ false → are_distinct (xs ++ y ∷ []) ≡ true
+one_more [] y d n = refl
+one_more (x ∷ xs) y d n = by (list_any (bytes_eq x) xs) refl (bytes_eq y x) refl (λ a b. one_more xs y a b)
+  where
+    by : (b : Bool) → list_any (bytes_eq x) xs ≡ b → (c : Bool) → bytes_eq y x ≡ c → (are_distinct xs ≡ true → list_any (bytes_eq y) xs ≡ false → are_distinct (xs ++ y ∷ []) ≡ true) → are_distinct ((x ∷ xs) ++ y ∷ []) ≡ true
+    by true e c f ih = absurd (let h : (if list_any (bytes_eq x) xs then false else are_distinct xs) ≡ true = d in let k : false ≡ true = sym (rw e refl) ∙ h in cc)
+    by false e true f ih = absurd (let h : (bytes_eq y x || list_any (bytes_eq y) xs) ≡ false = n in let k : true ≡ false = sym (rw f refl) ∙ h in cc)
+    by false e false f ih =
+        let rest : are_distinct xs ≡ true = sym (rw e refl) ∙ d in
+        let others : list_any (bytes_eq y) xs ≡ false = sym (rw f refl) ∙ n in
+        let unlike : list_any (bytes_eq x) (xs ++ y ∷ []) ≡ false = list_any-append (bytes_eq x) xs (y ∷ []) ∙ rw (e, bytes_sym x y, f) refl in
+        rw unlike (ih rest others)
+
+-- a name that is like one before it
+again : (xs ys : List (List ℕ)) (y : List ℕ) → list_any (bytes_eq y) xs ≡ true → are_distinct (xs ++ y ∷ ys) ≡ false
+again [] ys y h = absurd (cc)
+again (x ∷ xs) ys y h = by (list_any (bytes_eq x) (xs ++ y ∷ ys)) refl (bytes_eq y x) refl (λ k. again xs ys y k)
+  where
+    or_true : (b : Bool) → (b || true) ≡ true
+    or_true true = refl
+    or_true false = refl
+
+    by : (b : Bool) → list_any (bytes_eq x) (xs ++ y ∷ ys) ≡ b → (c : Bool) → bytes_eq y x ≡ c → (list_any (bytes_eq y) xs ≡ true → are_distinct (xs ++ y ∷ ys) ≡ false) → are_distinct ((x ∷ xs) ++ y ∷ ys) ≡ false
+    by true e c f ih = rw e refl
+    by false e true f ih =
+        let here : list_any (bytes_eq x) (xs ++ y ∷ ys) ≡ (list_any (bytes_eq x) xs || true) = list_any-append (bytes_eq x) xs (y ∷ ys) ∙ rw (bytes_sym x y, f) refl in
+        let no : true ≡ false = sym (here ∙ or_true (list_any (bytes_eq x) xs)) ∙ e in
+        absurd (cc)
+    by false e false f ih =
+        let rest : list_any (bytes_eq y) xs ≡ true = sym (rw f refl) ∙ h in
+        rw e (ih rest)
+
+pub not_distinct : (ns : List (List ℕ)) (i : ℕ) (y : List ℕ) → drop i ns ≡ y ∷ drop (i + 1) ns → list_any (bytes_eq y) (take i ns) ≡ true → distinct_of ns ≡ None
+not_distinct ns i y e h =
+    let whole : take i ns ++ y ∷ drop (i + 1) ns ≡ ns = ap (λ l. take i ns ++ l) (sym e) ∙ take-append-drop i ns in
+    let no : are_distinct ns ≡ false = ap are_distinct (sym whole) ∙ again (take i ns) (drop (i + 1) ns) y h in
+    rw no refl
+
+-- ---- The names of a list, put into a set one after another.
+
+abbrev Named : Type 0
+Named = Bor (List ℕ)
+
+known : (value : Vec ℕ Global) (keys : List (Vec ℕ Global)) (ns : List (List ℕ)) (b : Bool) → map (λ k. k.items) keys ≡ ns → list_any (same_name value) keys ≡ b → list_any (bytes_eq value.items) ns ≡ b
+known value keys ns b k h = ap (list_any (bytes_eq value.items)) (sym k) ∙ any_seen (bytes_eq value.items) (λ k. k.items) keys ∙ h
+
+opposite : (a b c : Bool) → a ≡ not b → a ≡ c → b ≡ not c
+opposite a true c e h = sym (ap not e) ∙ ap not h
+opposite a false c e h = sym (ap not e) ∙ ap not h
+
+pub names_again : (names : List Named) (i : ℕ) (d : Named) (value : Vec ℕ Global) (keys : List (Vec ℕ Global)) (is_new : Bool) → i < length names → value.items ≡ (get_or names i d).now → map (λ k. k.items) keys ≡ take i (map (λ s. s.now) names) → is_new ≡ not (list_any (same_name value) keys) → is_new ≡ false → distinct_of (map (λ s. s.now) names) ≡ None
+names_again names i d value keys is_new l v k a f =
+    let ns = map (λ s. s.now) names in
+    let here : list_any (bytes_eq value.items) (take i ns) ≡ true = known value keys (take i ns) true k (opposite is_new (list_any (same_name value) keys) false a f) in
+    let there : drop i ns ≡ value.items ∷ drop (i + 1) ns = drop_seen (λ s. s.now) names i d l ∙ ap (λ n. n ∷ drop (i + 1) ns) (sym v) in
+    not_distinct ns i value.items there here
+
+pub names_more : (names : List Named) (i : ℕ) (d : Named) (value : Vec ℕ Global) (keys more : List (Vec ℕ Global)) (is_new : Bool) → i < length names → value.items ≡ (get_or names i d).now → map (λ k. k.items) keys ≡ take i (map (λ s. s.now) names) → is_new ≡ not (list_any (same_name value) keys) → is_new ≡ true → are_distinct (take i (map (λ s. s.now) names)) ≡ true → more ≡ insert_key same_name keys value → (map (λ k. k.items) more ≡ take (i + 1) (map (λ s. s.now) names)) × (are_distinct (take (i + 1) (map (λ s. s.now) names)) ≡ true)
+names_more names i d value keys more is_new l v k a f h e =
+    let ns = map (λ s. s.now) names in
+    let absent : list_any (same_name value) keys ≡ false = opposite is_new (list_any (same_name value) keys) true a f in
+    let further : take (i + 1) ns ≡ take i ns ++ value.items ∷ [] = take_seen (λ s. s.now) names i d l ∙ ap (λ n. take i ns ++ n ∷ []) (sym v) in
+    let added : more ≡ keys ++ value ∷ [] = e ∙ rw absent refl in (
+      ap (map (λ k. k.items)) added ∙ map-append (λ k. k.items) keys (value ∷ []) ∙ ap (λ l. l ++ value.items ∷ []) k ∙ sym further,
+      ap are_distinct further ∙ one_more (take i ns) value.items h (known value keys (take i ns) false k absent),
+    )

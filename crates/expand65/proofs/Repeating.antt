@@ -1,0 +1,91 @@
+-- Headers of repeats, lines that are parted, an expansion's own names.
+use Rattle.std.proofs.Common.{◌≡◌, ◌≢◌, ℕ, zero, suc, ◌-◌, Bool, true, false, List, [], ◌∷◌, length, map, take, drop, Option, Some, None, Result, Ok, Err, ap, refl, sym, subst, ◌∙◌, arith}
+use Rattle.std.proofs.lemmas.List.{take-map, drop-map}
+use Rattle.syntax65.specs.Expressions.{IsParsed}
+use Rattle.syntax65.specs.Faults.{is_expr_outside}
+use Rattle.syntax65.specs.Outcome.{Unless, ◌>>=◌}
+use Rattle.syntax65.specs.Tokens.{Lexeme, lexeme_of, lexemes}
+use Rattle.syntax65.specs.Trees.{Tree}
+use Rattle.syntax65.specs.declared.expressions.fault.ExprFault.{ExprFault}
+use Rattle.syntax65.specs.declared.expressions.fault.ExprFault.TheVariants.{OutOfMemory, OperandExpected, ParenthesisExpected, TooDeep}
+use Rattle.syntax65.specs.declared.lexing.tokens.Token.{Token}
+use Rattle.expand65.specs.Faults.{fault_of_parsing, is_outside}
+use Rattle.expand65.specs.Fronts.{is_comma, name_in, is_mislabelled, label_len, understood, ◌>=>◌}
+use Rattle.expand65.specs.Kept.{tokens_in}
+use Rattle.expand65.specs.Parting.{AreParts}
+use Rattle.expand65.specs.Parts.{is_comma_at, name_at}
+use Rattle.expand65.specs.Repeats.{repeat_header, variable_of}
+use Rattle.expand65.specs.declared.fault.ExpandFault.{ExpandFault}
+use Rattle.expand65.specs.declared.fault.ExpandFault.TheVariants.{NotUnderstood}
+use Rattle.expand65.specs.declared.line.Line.{Line}
+
+-- ---- The variable.
+
+pub no_comma : (ts : List Lexeme) → length ts ≢ 0 → is_comma_at ts 0 ≡ false → understood (variable_of ts) ≡ understood None
+no_comma [] n h = absurd (n refl)
+no_comma (c ∷ []) n h = refl
+no_comma (c ∷ t ∷ []) n h = rw h refl
+no_comma (c ∷ t ∷ u ∷ ts) n h = refl
+
+pub other_count : (ts : List Lexeme) → length ts ≢ 0 → length ts ≢ 2 → understood (variable_of ts) ≡ understood None
+other_count [] n h = absurd (n refl)
+other_count (c ∷ []) n h = refl
+other_count (c ∷ t ∷ []) n h = absurd (h refl)
+other_count (c ∷ t ∷ u ∷ ts) n h = refl
+
+pub a_name : (ts : List Lexeme) (o : Option (List ℕ)) → length ts ≡ 2 → is_comma_at ts 0 ≡ true → name_at ts 1 ≡ o → variable_of ts ≡ (o >=> (λ name. Some (name ∷ [])))
+a_name [] o n h e = absurd (omega arith)
+a_name (c ∷ []) o n h e = absurd (omega arith)
+a_name (c ∷ t ∷ []) o n h e = rw h (ap (λ (x : Option (List ℕ)). x >=> (λ name. Some (name ∷ []))) e)
+a_name (c ∷ t ∷ u ∷ ts) o n h e = absurd (omega arith)
+
+-- ---- The header.
+
+abbrev pub IsHeader : List Lexeme → Result (Tree × List (List ℕ)) ExpandFault → Type 0
+IsHeader ts r = (q : Result (Tree × ℕ) ExprFault) × IsParsed ts q × (r ≡ repeat_header ts q)
+
+pub no_expression : (ts : List Lexeme) (f : ExprFault) → Unless (is_expr_outside f) (IsParsed ts (Err f)) → Unless (is_outside (fault_of_parsing f)) (IsHeader ts (Err (fault_of_parsing f)))
+no_expression ts OutOfMemory h = tt
+no_expression ts OperandExpected h = (Err OperandExpected, h, refl)
+no_expression ts ParenthesisExpected h = (Err ParenthesisExpected, h, refl)
+no_expression ts TooDeep h = (Err TooDeep, h, refl)
+
+pub no_variable : (ts : List Token) (behind : List Token) (e : Tree) (n : ℕ) (f : ExpandFault) → IsParsed (lexemes ts) (Ok (e, n)) → behind ≡ drop n ts → Unless (is_outside f) (understood (variable_of (lexemes behind)) ≡ Err f) → Unless (is_outside f) (IsHeader (lexemes ts) (Err f))
+no_variable ts behind e n f h b v = by (is_outside f) v
+  where
+    by : (o : Bool) → Unless o (understood (variable_of (lexemes behind)) ≡ Err f) → Unless o (IsHeader (lexemes ts) (Err f))
+    by true v = tt
+    by false v =
+        let same : understood (variable_of (drop n (lexemes ts))) ≡ Err f = ap (λ l. understood (variable_of l)) (sym (ap lexemes b ∙ sym (drop-map lexeme_of n ts))) ∙ v in
+        (Ok (e, n), h, sym (ap (λ (r : Result (List (List ℕ)) ExpandFault). r >>= (λ v. Ok (e, v))) same))
+
+pub a_header : (ts : List Token) (behind : List Token) (e : Tree) (n : ℕ) (v : List (List ℕ)) → IsParsed (lexemes ts) (Ok (e, n)) → behind ≡ drop n ts → understood (variable_of (lexemes behind)) ≡ Ok v → IsHeader (lexemes ts) (Ok (e, v))
+a_header ts behind e n v h b r =
+    let same : understood (variable_of (drop n (lexemes ts))) ≡ Ok v = ap (λ l. understood (variable_of l)) (sym (ap lexemes b ∙ sym (drop-map lexeme_of n ts))) ∙ r in
+    (Ok (e, n), h, sym (ap (λ (r : Result (List (List ℕ)) ExpandFault). r >>= (λ v. Ok (e, v))) same))
+
+-- ---- A line with a label.
+
+pub parts : (toks : List Token) (ts : List Lexeme) (len : ℕ) (a b : Line) → lexemes toks ≡ ts → len ≡ label_len (lexemes toks) → len ≢ 0 → is_mislabelled (lexemes toks) ≡ false → tokens_in a ≡ lexemes (take len toks) → tokens_in b ≡ lexemes (drop len toks) → (n : ℕ) × AreParts ts n a b
+parts toks ts zero a b e l z w p q = absurd (z refl)
+parts toks ts (suc n) a b e l z w p q = (
+  n,
+  record {
+    some = sym (l ∙ ap label_len e);
+    right = sym (ap is_mislabelled e) ∙ w;
+    label = p ∙ sym (take-map lexeme_of (suc n) toks) ∙ ap (take (suc n)) e;
+    rest = q ∙ sym (drop-map lexeme_of (suc n) toks) ∙ ap (drop (suc n)) e;
+  },
+)
+
+-- what isn't there isn't there with more
+pub refused_on : {A B : Type 0} (o : Option A) (f : A → Option B) (e : ExpandFault) → Unless (is_outside e) (understood o ≡ Err e) → Unless (is_outside e) (understood (o >=> f) ≡ Err e)
+refused_on {A} {B} o f e h = by (is_outside e) h
+  where
+    none : (x : Option A) → understood x ≡ Err e → understood (x >=> f) ≡ Err e
+    none None h = let same : NotUnderstood ≡ e = cc in ap (λ (g : ExpandFault). Err g) same
+    none (Some y) h = absurd (cc)
+
+    by : (b : Bool) → Unless b (understood o ≡ Err e) → Unless b (understood (o >=> f) ≡ Err e)
+    by true h = tt
+    by false h = none o h

@@ -1,0 +1,149 @@
+-- Files that are looked for.
+use Rattle.std.proofs.Common.{◌≡◌, ◌≢◌, ◌<◌, ◌≤◌, ℕ, zero, suc, ◌+◌, ◌-◌, Bool, true, false, List, [], ◌∷◌, ◌++◌, length, map, take, drop, get_or, Option, Some, None, Result, Ok, Err, IfSome, ap, refl, sym, subst, ◌∙◌, arith}
+use Rattle.std.specs.FinMap as fmap
+use Rattle.std.specs.List.{list_any}
+use Rattle.std.specs.Str.{IsUtf8, is_utf8}
+use Rattle.std.specs.Prelude.{nat_le, nat_eq, unwrap_or, ◌||◌, if◌then◌else◌}
+use Rattle.std.proofs.lemmas.Bool.Decides.{nat_tests}
+use Rattle.std.proofs.lemmas.List.{length-drop, take_all, take_more}
+use Rattle.std.proofs.lemmas.List.Folds.{list_any-append}
+use Rattle.std.proofs.lemmas.Str.{IsUtf8-from_is_utf8}
+use Rattle.syntax65.specs.Outcome.{Unless}
+use Rattle.syntax65.specs.Store.{Files, Fills, ReadsAt}
+use Rattle.expand65.specs.Faults.{is_outside}
+use Rattle.expand65.specs.Includes.{file_named, first_file, folder_of, found_or, is_slash, numbered}
+use Rattle.expand65.specs.Lines.{lines_of}
+use Rattle.expand65.specs.Reading.{bytes_of, content, left_in_file}
+use Rattle.expand65.specs.Seeking.{file_of, is_there}
+use Rattle.expand65.specs.declared.fault.ExpandFault.{ExpandFault}
+use Rattle.expand65.specs.declared.fault.ExpandFault.TheVariants.{FileTooLong}
+use Rattle.expand65.specs.declared.file.OpenFile.{OpenFile}
+
+-- ---- A file's length by a read at its limit.
+
+pub fits : (o : Option (List ℕ)) (buf : List ℕ) (n : ℕ) → ReadsAt o 16777216 buf (Ok n) → n ≡ 0 → 0 < length buf → is_there o ≡ Ok true
+fits None buf n h e b = absurd h
+fits (Some bytes) buf n h e b =
+    let none : drop 16777216 bytes ≡ [] = h.ends e b in
+    let count : length bytes - 16777216 ≡ 0 = sym (length-drop 16777216 bytes) ∙ ap length none in
+    let few : nat_le (length bytes) 16777216 ≡ true = grind (arith, nat_tests) in
+    rw few refl
+
+pub too_long : (o : Option (List ℕ)) (buf : List ℕ) (n : ℕ) → ReadsAt o 16777216 buf (Ok n) → n ≢ 0 → is_there o ≡ Err FileTooLong
+too_long None buf n h e = absurd h
+too_long (Some bytes) buf n h e =
+    let count : n ≤ length bytes - 16777216 = subst (λ k. n ≤ k) (length-drop 16777216 bytes) h.within in
+    let many : nat_le (length bytes) 16777216 ≡ false = grind (arith, nat_tests) in
+    rw many refl
+
+-- ---- The folder of a file's name.
+
+pub folder_push : (xs : List ℕ) (b : ℕ) (c : Bool) → is_slash b ≡ c → folder_of (xs ++ b ∷ []) ≡ (if c then xs ++ b ∷ [] else folder_of xs)
+folder_push [] b true e = rw e refl
+folder_push [] b false e = rw e refl
+folder_push (x ∷ xs) b true e =
+    let some : list_any is_slash (x ∷ xs ++ b ∷ []) ≡ true = list_any-append is_slash (x ∷ xs) (b ∷ []) ∙ rw e (or_true (is_slash x || list_any is_slash xs)) in
+    rw some (ap (λ l. x ∷ l) (folder_push xs b true e))
+  where
+    or_true : (y : Bool) → (y || true) ≡ true
+    or_true true = refl
+    or_true false = refl
+folder_push (x ∷ xs) b false e =
+    let same : list_any is_slash (x ∷ xs ++ b ∷ []) ≡ list_any is_slash (x ∷ xs) = list_any-append is_slash (x ∷ xs) (b ∷ []) ∙ rw e (or_false (is_slash x || list_any is_slash xs)) in
+    rw (same, folder_push xs b false e) refl
+  where
+    or_false : (y : Bool) → (y || false) ≡ y
+    or_false true = refl
+    or_false false = refl
+
+pub folder_next : (file : List ℕ) (i len n d : ℕ) → i < length file → folder_of (take i file) ≡ take len file → len ≤ i → n ≡ (if is_slash (get_or file i d) then i + 1 else len) → (folder_of (take (i + 1) file) ≡ take n file) × (n ≤ i + 1)
+folder_next file i len n d l h w e = by (is_slash (get_or file i d)) refl
+  where
+    by : (c : Bool) → is_slash (get_or file i d) ≡ c → (folder_of (take (i + 1) file) ≡ take n file) × (n ≤ i + 1)
+    by true c =
+        let count : n ≡ i + 1 = e ∙ rw c refl in
+        let more : take (i + 1) file ≡ take i file ++ get_or file i d ∷ [] = take_more file i d l in
+        (ap folder_of more ∙ folder_push (take i file) (get_or file i d) true c ∙ sym more ∙ ap (λ k. take k file) (sym count), omega (arith, count))
+    by false c =
+        let count : n ≡ len = e ∙ rw c refl in
+        (ap folder_of (take_more file i d l) ∙ folder_push (take i file) (get_or file i d) false c ∙ h ∙ ap (λ k. take k file) (sym count), omega (arith, count, w))
+
+-- ---- A file before its first line.
+
+pub opens : (m : Files) (name buffer : List ℕ) → buffer ≡ [] → length (bytes_of m name) ≤ 16777216 → numbered 0 (lines_of (buffer ++ content m name)) ≡ numbered 0 (lines_of (bytes_of m name))
+opens m name buffer b h = ap (λ x. numbered 0 (lines_of (x ++ content m name))) b ∙ ap (λ l. numbered 0 (lines_of l)) (take_all 16777216 (bytes_of m name) h)
+
+-- ---- A file that was found isn't too long.
+
+ok_is : {a b : List ℕ × List ℕ} → ◌≡◌ {A = Result (List ℕ × List ℕ) ExpandFault} (Ok a) (Ok b) → a ≡ b
+ok_is e = cc
+
+err_is_not : {a : ExpandFault} {b : List ℕ × List ℕ} → ◌≡◌ {A = Result (List ℕ × List ℕ) ExpandFault} (Err a) (Ok b) → ⊥
+err_is_not e = absurd (cc)
+
+few_found : (m : Files) (x bytes name : List ℕ) (b : Bool) → nat_le (length bytes) 16777216 ≡ b → (if b then Ok (x, bytes) else Err FileTooLong) ≡ Ok (file_of m name) → length (bytes_of m name) ≤ 16777216
+few_found m x bytes name true h e =
+    let pairs : (x, bytes) ≡ file_of m name = ok_is e in
+    let within : length bytes ≤ 16777216 = grind (arith, nat_tests) in
+    subst (λ (l : List ℕ). length l ≤ 16777216) (ap (λ (p : List ℕ × List ℕ). p.1) pairs) within
+few_found m x bytes name false h e = absurd (err_is_not e)
+
+pub found_fits : (m : Files) (names : List (List ℕ)) (name : List ℕ) → first_file m names ≡ Ok (file_of m name) → length (bytes_of m name) ≤ 16777216
+found_fits m [] name e = absurd (err_is_not e)
+found_fits m (x ∷ names) name e = by (file_named m x) e (λ h. found_fits m names name h)
+  where
+    by : (o : Option (List ℕ)) → found_or x o (first_file m names) ≡ Ok (file_of m name) → (first_file m names ≡ Ok (file_of m name) → length (bytes_of m name) ≤ 16777216) → length (bytes_of m name) ≤ 16777216
+    by None e ih = ih e
+    by (Some bytes) e ih = few_found m x bytes name (nat_le (length bytes) 16777216) refl e
+
+-- ---- What stands under one name.
+
+pub not_utf8 : (bytes : List ℕ) → (IsUtf8 bytes → ⊥) → is_utf8 bytes ≡ false
+not_utf8 bytes h = by (is_utf8 bytes) refl
+  where
+    by : (b : Bool) → is_utf8 bytes ≡ b → b ≡ false
+    by true e = absurd (h (IsUtf8-from_is_utf8 bytes e))
+    by false e = refl
+
+pub no_text : (m : Files) (name : List ℕ) (others : Result (List ℕ × List ℕ) ExpandFault) → is_utf8 name ≡ false → found_or name (file_named m name) others ≡ others
+no_text m name others h = rw h refl
+
+named : (m : Files) (name : List ℕ) → is_utf8 name ≡ true → file_named m name ≡ fmap.get m name
+named m name h = rw h refl
+
+pub is_found : (m : Files) (name found : List ℕ) (others : Result (List ℕ × List ℕ) ExpandFault) → is_utf8 name ≡ true → is_there (fmap.get m name) ≡ Ok true → found ≡ name → found_or name (file_named m name) others ≡ Ok (file_of m found)
+is_found m name found others u h e = ap (λ o. found_or name o others) (named m name u) ∙ by (fmap.get m name) refl h ∙ ap (λ n. Ok (file_of m n)) (sym e)
+  where
+    by : (o : Option (List ℕ)) → fmap.get m name ≡ o → is_there o ≡ Ok true → found_or name o others ≡ Ok (file_of m name)
+    by None g h = absurd (cc)
+    by (Some bytes) g h = few (nat_le (length bytes) 16777216) refl h
+      where
+        few : (b : Bool) → nat_le (length bytes) 16777216 ≡ b → (if b then Ok true else Err FileTooLong) ≡ Ok true → found_or name (Some bytes) others ≡ Ok (file_of m name)
+        few true k h = rw k (ap (λ (o : Option (List ℕ)). Ok (name, unwrap_or o [])) (sym g))
+        few false k h = absurd (cc)
+
+pub is_missing : (m : Files) (name : List ℕ) (others : Result (List ℕ × List ℕ) ExpandFault) → is_utf8 name ≡ true → is_there (fmap.get m name) ≡ Ok false → found_or name (file_named m name) others ≡ others
+is_missing m name others u h = ap (λ o. found_or name o others) (named m name u) ∙ by (fmap.get m name) h
+  where
+    by : (o : Option (List ℕ)) → is_there o ≡ Ok false → found_or name o others ≡ others
+    by None h = refl
+    by (Some bytes) h = few (nat_le (length bytes) 16777216) h
+      where
+        few : (b : Bool) → (if b then Ok true else Err FileTooLong) ≡ Ok false → found_or name (Some bytes) others ≡ others
+        few true h = absurd (cc)
+        few false h = absurd (cc)
+
+pub is_refused : (m : Files) (name : List ℕ) (others : Result (List ℕ × List ℕ) ExpandFault) (f : ExpandFault) → is_utf8 name ≡ true → Unless (is_outside f) (is_there (fmap.get m name) ≡ Err f) → Unless (is_outside f) (found_or name (file_named m name) others ≡ Err f)
+is_refused m name others f u h = out (is_outside f) h
+  where
+    out : (b : Bool) → Unless b (is_there (fmap.get m name) ≡ Err f) → Unless b (found_or name (file_named m name) others ≡ Err f)
+    out true h = tt
+    out false h = ap (λ o. found_or name o others) (named m name u) ∙ by (fmap.get m name) h
+      where
+        by : (o : Option (List ℕ)) → is_there o ≡ Err f → found_or name o others ≡ Err f
+        by None h = absurd (cc)
+        by (Some bytes) h = few (nat_le (length bytes) 16777216) refl h
+          where
+            few : (b : Bool) → nat_le (length bytes) 16777216 ≡ b → (if b then Ok true else Err FileTooLong) ≡ Err f → found_or name (Some bytes) others ≡ Err f
+            few true k h = absurd (cc)
+            few false k h = let same : FileTooLong ≡ f = cc in rw k (ap (λ (x : ExpandFault). Err x) same)

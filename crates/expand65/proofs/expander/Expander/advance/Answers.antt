@@ -1,0 +1,49 @@
+use Rattle.std.proofs.Common.{◌≡◌, ◌∙◌, ap, sym, rules}
+use Rattle.std.proofs.lemmas.Result.{err_from_is_err_and}
+use Rattle.syntax65.specs.Outcome.{Unless}
+use Rattle.expand65.specs.Faults.{is_outside}
+use Rattle.expand65.specs.Rewriting.{state_of, turned}
+use Rattle.expand65.specs.Standing.{led, place_of, state_in}
+use Rattle.expand65.specs.State.{stops}
+use Rattle.expand65.specs.Step.{IsStep}
+use Rattle.expand65.proofs.Gathering.{moved_to}
+use Rattle.expand65.proofs.Going.{came_to_end, came_to_fault, gave, goes_on}
+use Rattle.expand65.proofs.expander.Expander.advance.Goals as goal
+
+pub returns-then-is_end-clause-comes : goal.returns-then-is_end-clause-comes
+returns-then-is_end-clause-comes g c =
+    came_to_end (g.S.Store.files c.args.store.now) (g.K.Knows.meaning c.args.knows.now) c.args.self.now c.steps.self c.steps.invariant.so_far (sym c.is_end.ensures ∙ c.if-is_end.true)
+
+pub returns-in_err-turn-clause-comes : goal.returns-in_err-turn-clause-comes
+returns-in_err-turn-clause-comes g c =
+    let p = err_from_is_err_and c.from_residual.result c.from_residual.ensures.1 in
+    let o = g.S.Store.files c.args.store.now in
+    let k = g.K.Knows.meaning c.args.knows.now in
+    let f = c.in_err-turn.field-0.0 in
+    let new = c.turn.new.self in
+    let step = moved_to (λ m. Unless (is_outside f) (IsStep m k (state_in m c.steps.self) (stops (f, place_of new)))) o (g.S.Store.files c.steps.store) c.steps.invariant.files c.in_err-turn.ensures.turns in
+    rw (p.1, p.2) (came_to_fault o k c.args.self.now c.steps.self new f c.steps.invariant.so_far step)
+
+pub returns-in-Some-clause-comes : goal.returns-in-Some-clause-comes
+returns-in-Some-clause-comes g c =
+    let o = g.S.Store.files c.args.store.now in
+    let k = g.K.Knows.meaning c.args.knows.now in
+    let mid = c.turn.new.self in
+    let new = c.follow.new.self in
+    let t = c.in_ok-turn.turn in
+    let step = moved_to (λ m. IsStep m k (state_in m c.steps.self) (turned (state_of m mid.rewriter) t)) o (g.S.Store.files c.steps.store) c.steps.invariant.files c.in_ok-turn.ensures.turns in
+    gave o k c.args.self.now c.steps.self mid new t c.in-Some.statement c.steps.invariant.so_far step (λ m. c.follow.ensures.led m ∙ ap (led (state_in m new)) c.in-Some.is)
+
+pub steps-preserved : goal.steps-preserved
+steps-preserved g c =
+    let o = g.S.Store.files c.args.store.now in
+    let k = g.K.Knows.meaning c.args.knows.now in
+    let mid = c.turn.new.self in
+    let new = c.follow.new.self in
+    let t = c.in_ok-turn.turn in
+    let step = moved_to (λ m. IsStep m k (state_in m c.steps.self) (turned (state_of m mid.rewriter) t)) o (g.S.Store.files c.steps.store) c.steps.invariant.files c.in_ok-turn.ensures.turns in
+    record {
+      files = c.in_ok-turn.ensures.files ∙ c.steps.invariant.files;
+      count = search rules;
+      so_far = goes_on o k c.args.self.now c.steps.self mid new t c.steps.invariant.so_far step (λ m. c.follow.ensures.led m ∙ ap (led (state_in m new)) c.in_default.is);
+    }

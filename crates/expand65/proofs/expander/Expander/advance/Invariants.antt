@@ -1,0 +1,15 @@
+use Rattle.std.proofs.Common.{◌≡◌}
+use Rattle.std.specs.Prelude.{IfSome}
+use Rattle.expand65.specs.Standing.{measure_of}
+use Rattle.expand65.proofs.Going.{Leads}
+use Rattle.expand65.proofs.expander.Expander.advance.Given as goal
+
+abbrev pub invariant-steps : goal.invariant-steps
+invariant-steps g l = record {
+  files : g.S.Store.files l.store ≡ g.S.Store.files l.fn.store;
+  count : g.S.Store.failures l.store ≡ g.S.Store.failures l.fn.store;
+  so_far : IfSome (g.S.Store.files l.fn.store) (Leads (g.K.Knows.meaning l.knows) l.fn.self l.self);
+}
+
+abbrev pub decreases-steps : goal.decreases-steps
+decreases-steps g l = measure_of l.self

@@ -1,0 +1,29 @@
+use Rattle.std.proofs.Common.{◌∙◌, sym}
+use Rattle.expand65.specs.Conditions.{IsIf}
+use Rattle.expand65.specs.Fronts.{front_directive}
+use Rattle.expand65.specs.Kept.{tokens_in}
+use Rattle.expand65.specs.Rewriting.{Turns, state_of}
+use Rattle.expand65.specs.Standing.{state_in}
+use Rattle.expand65.specs.Step.{IsActed, IsStep}
+use Rattle.expand65.specs.declared.directives.Test.TheVariants.{True}
+use Rattle.expand65.proofs.Acting.{turns_so, where_known}
+use Rattle.expand65.proofs.Going.{step_branch, step_rest}
+use Rattle.expand65.proofs.expander.Expander.turn.Goals as goal
+
+pub returns-in-Rest-clause-turns : goal.returns-in-Rest-clause-turns
+returns-in-Rest-clause-turns g c =
+    let old = c.args.self.now in
+    let k = g.K.Knows.meaning c.args.knows.now in
+    let line = c.in-Rest.line in
+    let ts = tokens_in line in
+    let new = c.act.new.self in
+    where_known (g.S.Store.files c.args.store.now) (λ m. Turns c.act.result (state_of m new) (IsActed m k (state_of m old.rewriter) ts (front_directive ts))) (λ m. Turns c.act.result (state_of m new) (IsStep m k (state_in m old))) (λ m h. turns_so c.act.result (state_of m new) (IsActed m k (state_of m old.rewriter) ts (front_directive ts)) (IsStep m k (state_in m old)) (λ x s. step_rest m k old line x (sym c.replace.ensures.value ∙ c.in-Rest.is) s) h) c.act.ensures.turns
+
+pub returns-in-Branch-clause-turns : goal.returns-in-Branch-clause-turns
+returns-in-Branch-clause-turns g c =
+    let old = c.args.self.now in
+    let k = g.K.Knows.meaning c.args.knows.now in
+    let line = c.in-Branch.line in
+    let ts = tokens_in line in
+    let new = c.begin_branch.new.self in
+    where_known (g.S.Store.files c.args.store.now) (λ m. Turns c.begin_branch.result (state_of m new) (IsIf k (state_of m old.rewriter) True ts)) (λ m. Turns c.begin_branch.result (state_of m new) (IsStep m k (state_in m old))) (λ m h. turns_so c.begin_branch.result (state_of m new) (IsIf k (state_of m old.rewriter) True ts) (IsStep m k (state_in m old)) (λ x s. step_branch m k old line x (sym c.replace.ensures.value ∙ c.in-Branch.is) s) h) c.begin_branch.ensures.turns

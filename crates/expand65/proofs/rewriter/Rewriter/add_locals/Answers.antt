@@ -1,0 +1,19 @@
+use Rattle.std.proofs.Common.{◌≡◌, ◌∙◌, ◌++◌, ◌∷◌, ℕ, Bor, List, map, subst, sym}
+use Rattle.std.proofs.lemmas.Result.{err_from_is_err_and}
+use Rattle.syntax65.specs.Tokens.{lexemes}
+use Rattle.expand65.specs.Inside.{left_in}
+use Rattle.expand65.specs.Macros.{localised}
+use Rattle.expand65.specs.State.{mark}
+use Rattle.expand65.proofs.Innermost.{bad_names, names_added, no_macro}
+use Rattle.expand65.proofs.rewriter.Rewriter.add_locals.Goals as goal
+
+pub returns-then-not-is_call-clause-turns : goal.returns-then-not-is_call-clause-turns
+returns-then-not-is_call-clause-turns c = λ m. no_macro m c.args.self.now (lexemes c.args.tokens.now) (sym c.is_call.ensures ∙ c.if-not-is_call.true)
+
+pub returns-in_err-names-clause-turns : goal.returns-in_err-names-clause-turns
+returns-in_err-names-clause-turns c =
+    let p = err_from_is_err_and c.from_residual.result c.from_residual.ensures.1 in
+    λ m. rw (p.1, p.2) (bad_names m c.args.self.now (lexemes c.args.tokens.now) c.in_err-names.field-0.0 (sym c.is_call.ensures ∙ c.if-not-is_call.false) c.in_err-names.ensures.names)
+
+pub returns-clause-turns : goal.returns-clause-turns
+returns-clause-turns c = λ m. names_added m c.args.self.now c.add_locals.new.self (lexemes c.args.tokens.now) (map (λ s. s.now) c.in_ok-names.names.items) (sym c.is_call.ensures ∙ c.if-not-is_call.false) c.in_ok-names.ensures.names c.add_locals.ensures.call (λ k is. let P : List (Bor (List ℕ)) → Type 0 = λ ns. left_in m c.add_locals.new.self ++ mark k ∷ is ≡ localised (map (λ s. s.now) ns) (left_in m c.args.self.now.reader.top.source ++ mark k ∷ is) in subst P c.as_slice.ensures.value (c.in_ok-add_locals.ensures.added m k is))

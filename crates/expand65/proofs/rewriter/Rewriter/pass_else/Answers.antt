@@ -1,0 +1,22 @@
+use Rattle.std.proofs.lemmas.Result.{err_from_is_err_and}
+use Rattle.expand65.proofs.Innermost.{else_passed, else_refused, else_none, else_twice}
+use Rattle.expand65.proofs.rewriter.Rewriter.pass_else.Goals as goal
+
+pub returns-in_err-pass-in-Some-false-clause-turns : goal.returns-in_err-pass-in-Some-false-clause-turns
+returns-in_err-pass-in-Some-false-clause-turns g c =
+    let p = err_from_is_err_and c.from_residual.result c.from_residual.ensures.1 in
+    let popped = rw c.in-Some-false.field-0-test at c.in-Some-false.ensures.pops in
+    rw (p.1, p.2) (else_refused (g.S.Store.files c.args.store.now) c.args.self.now c.pass.new.self.place c.pop_above.new.self c.in_err-pass-in-Some-false.field-0.0 popped c.in_err-pass-in-Some-false.ensures.read)
+
+pub returns-in_ok-pass-in-Some-false-clause-turns : goal.returns-in_ok-pass-in-Some-false-clause-turns
+returns-in_ok-pass-in-Some-false-clause-turns g c =
+    let popped = rw c.in-Some-false.field-0-test at c.in-Some-false.ensures.pops in
+    else_passed (g.S.Store.files c.args.store.now) c.args.self.now c.pass.new.self c.pop_above.new.self popped c.in_ok-pass-in-Some-false.ensures.read
+
+pub returns-in-None-clause-turns : goal.returns-in-None-clause-turns
+returns-in-None-clause-turns g c = else_none (g.S.Store.files c.args.store.now) c.args.self.now c.in-None.ensures.pops
+
+pub returns-in-Some-true-clause-turns : goal.returns-in-Some-true-clause-turns
+returns-in-Some-true-clause-turns g c =
+    let popped = rw c.in-Some-true.field-0-test at c.in-Some-true.ensures.pops in
+    else_twice (g.S.Store.files c.args.store.now) c.args.self.now c.pop_above.new.self popped

@@ -1,0 +1,57 @@
+use Rattle.std.proofs.Common.{◌≡◌, [], Option, None, Some, IfSome, Ok, Err, subst}
+use Rattle.std.specs.Option.{option_map}
+use Rattle.std.specs.Prelude.{IfNone}
+use Rattle.std.proofs.lemmas.Result.{err_from_is_err_and}
+use Rattle.syntax65.specs.Outcome.{Unless}
+use Rattle.expand65.specs.Faults.{is_outside}
+use Rattle.expand65.specs.Inside.{left_in, left_of}
+use Rattle.expand65.specs.Fronts.{is_mislabelled}
+use Rattle.expand65.specs.Kept.{tokens_in}
+use Rattle.expand65.specs.Rewriting.{Turns, state_of}
+use Rattle.expand65.specs.Step.{IsLabelled, IsStep, at_mark}
+use Rattle.expand65.specs.State.{stops}
+use Rattle.expand65.specs.Taking.{Takes}
+use Rattle.expand65.specs.declared.line.Line.{Line}
+use Rattle.expand65.specs.declared.rewriter.Rewriter.{Rewriter}
+use Rattle.expand65.proofs.Acting.{refused_step, step_taken, turns_so, where_both, where_known}
+use Rattle.expand65.proofs.Gathering.{moved_to}
+use Rattle.expand65.proofs.rewriter.Rewriter.take.Goals as goal
+
+pub returns-in_err-next_line-clause-turns : goal.returns-in_err-next_line-clause-turns
+returns-in_err-next_line-clause-turns g c =
+    let p = err_from_is_err_and c.from_residual.result c.from_residual.ensures.1 in
+    let old = c.args.self.now in
+    let k = g.K.Knows.meaning c.args.knows.now in
+    let f = c.in_err-next_line.field-0.0 in
+    let place = c.next_line.new.self.place in
+    rw (p.1, p.2) (where_known (g.S.Store.files c.args.store.now) (λ m. Unless (is_outside f) (Takes (left_of m old.reader) (Err (f, place)))) (λ m. Unless (is_outside f) (IsStep m k (state_of m old) (stops (f, place)))) (λ m h. refused_step m k old f place h) c.in_err-next_line.ensures.read)
+
+pub returns-in-None-clause-turns : goal.returns-in-None-clause-turns
+returns-in-None-clause-turns g c =
+    let old = c.args.self.now in
+    let new = c.next_line.new.self in
+    let o = g.S.Store.files c.args.store.now in
+    let k = g.K.Knows.meaning c.args.knows.now in
+    let mid : Rewriter = record { alloc = old.alloc; reader = new; macros = old.macros; conditions = old.conditions; expansions = old.expansions; folders = old.folders } in
+    let r = c.end_input.result in
+    let end = c.end_input.new.self in
+    let P : Option Line → Type 0 = λ l. IfSome o (λ m. Takes (left_of m old.reader) (Ok (option_map tokens_in l, left_of m new))) in
+    let Q : Option Line → Type 0 = λ l. IfSome o (λ m. IfNone l (left_in m new.top.source ≡ [])) in
+    let taken = subst P c.in-None.is c.in_ok-next_line.ensures.read in
+    let spent = subst Q c.in-None.is c.in_ok-next_line.ensures.spent in
+    where_both o (λ m. Takes (left_of m old.reader) (Ok (None, left_of m new))) (λ m. left_in m new.top.source ≡ []) (λ m. Turns r (state_of m end) (IsStep m k (state_of m old))) (λ m h e. turns_so r (state_of m end) (λ x. x ≡ at_mark (state_of m mid) (left_of m new).items) (IsStep m k (state_of m old)) (λ x y. step_taken m k old (Ok (None, left_of m new)) x h y) (c.end_input.ensures.turns m e)) taken spent
+
+pub returns-in-Some-clause-turns : goal.returns-in-Some-clause-turns
+returns-in-Some-clause-turns g c =
+    let old = c.args.self.now in
+    let new = c.next_line.new.self in
+    let o = g.S.Store.files c.args.store.now in
+    let k = g.K.Knows.meaning c.args.knows.now in
+    let mid : Rewriter = record { alloc = old.alloc; reader = new; macros = old.macros; conditions = old.conditions; expansions = old.expansions; folders = old.folders } in
+    let ts = tokens_in c.in-Some.line in
+    let r = c.begin.result in
+    let end = c.begin.new.self in
+    let P : Option Line → Type 0 = λ l. IfSome o (λ m. Takes (left_of m old.reader) (Ok (option_map tokens_in l, left_of m new))) in
+    let taken = subst P c.in-Some.is c.in_ok-next_line.ensures.read in
+    let begun = moved_to (λ m. Turns r (state_of m end) (IsLabelled m k (state_of m mid) ts (is_mislabelled ts))) o (g.S.Store.files c.next_line.new.store) c.in_ok-next_line.ensures.files c.begin.ensures.turns in
+    where_both o (λ m. Takes (left_of m old.reader) (Ok (Some ts, left_of m new))) (λ m. Turns r (state_of m end) (IsLabelled m k (state_of m mid) ts (is_mislabelled ts))) (λ m. Turns r (state_of m end) (IsStep m k (state_of m old))) (λ m h e. turns_so r (state_of m end) (IsLabelled m k (state_of m mid) ts (is_mislabelled ts)) (IsStep m k (state_of m old)) (λ x y. step_taken m k old (Ok (Some ts, left_of m new)) x h y) e) taken begun

@@ -1,0 +1,14 @@
+-- Lines as they are kept.
+use Rattle.std.specs.Prelude.{ℕ, List, [], ◌∷◌, take, drop}
+use Rattle.syntax65.specs.Tokens.{Lexeme}
+use Rattle.expand65.specs.declared.line.Word.{Word}
+use Rattle.expand65.specs.declared.line.Line.{Line}
+
+-- words cut off the bytes one after another
+abbrev pub cut : List Word → List ℕ → List Lexeme
+cut [] bytes = []
+cut (w ∷ ws) bytes = (w.kind, take w.len bytes) ∷ cut ws (drop w.len bytes)
+
+-- the tokens of a line
+abbrev pub tokens_in : Line → List Lexeme
+tokens_in line = cut line.words line.bytes

@@ -1,0 +1,169 @@
+//! Conditions, and expressions in directives.
+
+ghost use Rattle.std.specs.Prelude.{◌≡◌, ◌∷◌, [], false, length, IfErr, IfNone, List, OnOk, ℕ, Result};
+ghost use Rattle.syntax65.specs.Expressions.{IsParsed};
+ghost use Rattle.syntax65.specs.Relations.{Answers};
+ghost use Rattle.syntax65.specs.Tokens.{lexemes};
+ghost use Rattle.syntax65.specs.Trees.{Tree, tree_of};
+ghost use Rattle.syntax65.specs.declared.expressions.fault.ExprFault.{ExprFault};
+ghost use Rattle.expand65.specs.Conditions.{IsCondition, begins_enclosed, defined_tree, popped, truth, whole};
+ghost use Rattle.expand65.specs.Faults.{is_failure, is_outside};
+ghost use Rattle.expand65.specs.Macros.{outermost};
+ghost use Rattle.expand65.specs.Rewriting.{PopsTo};
+
+use crate::directives::Test;
+use crate::fault::ExpandFault;
+use crate::fronts::opens_parenthesis;
+use crate::knows::Knows;
+use std::alloc::{AllocError, Global};
+use std::marker::Model;
+use syntax65::{Expr, Token, read_expr};
+
+/// An expression of all the tokens.
+pub fn expression(alloc: Global, tokens: &[Token<'_>]) -> Result<Expr, ExpandFault>
+    ensures value { Answers is_outside tree_of result (λ r. (q : Result (Tree × ℕ) ExprFault) × IsParsed (lexemes tokens.now) q × (r ≡ whole (length (lexemes tokens.now)) q)) }
+    ensures inside { IfErr result (λ e. is_failure e ≡ false) }
+{
+    let (value, count) = read_expr(alloc, tokens)?;
+    if count != tokens.len() {
+        return Err(ExpandFault::NotUnderstood);
+    }
+    Ok(value)
+}
+
+/// A value's truth.
+fn truth(value: Option<i64>) -> Result<bool, ExpandFault>
+    ensures { result ≡ truth value }
+{
+    match value {
+        None => Err(ExpandFault::NotConstant),
+        Some(0) => Ok(false),
+        Some(_) => Ok(true),
+    }
+}
+
+/// Whether an expression of all the tokens isn't 0.
+fn holds<K: Knows>(alloc: Global, knows: &K, tokens: &[Token<'_>]) -> Result<bool, ExpandFault>
+    ensures value { Answers is_outside (λ b. b) result (IsCondition (K.meaning knows.now) Test.True (lexemes tokens.now)) }
+    ensures inside { IfErr result (λ e. is_failure e ≡ false) }
+{
+    let value = expression(alloc, tokens)?;
+    truth(knows.value(alloc, &value)?)
+}
+
+fn begins_enclosed(tokens: &[Token<'_>]) -> bool
+    ensures { result ≡ begins_enclosed (lexemes tokens.now) }
+{
+    match tokens.split_first() {
+        Some((first, _)) => opens_parenthesis(first),
+        None => false,
+    }
+}
+
+/// Whether an expression that is a name is that of a label or constant.
+fn is_defined_name<K: Knows>(knows: &K, expr: &Expr) -> Result<bool, ExpandFault>
+    ensures { result ≡ defined_tree (K.meaning knows.now) (tree_of expr.now) }
+{
+    match expr {
+        Expr::Name(name) => Ok(knows.defined(name)),
+        _ => Err(ExpandFault::NotUnderstood),
+    }
+}
+
+/// Whether a name, which all the tokens are, is that of a label or constant.
+fn is_defined<K: Knows>(alloc: Global, knows: &K, tokens: &[Token<'_>]) -> Result<bool, ExpandFault>
+    ensures value { Answers is_outside (λ b. b) result (IsCondition (K.meaning knows.now) Test.Defined (lexemes tokens.now)) }
+    ensures inside { IfErr result (λ e. is_failure e ≡ false) }
+{
+    let name = expression(alloc, tokens)?;
+    if begins_enclosed(tokens) {
+        return Err(ExpandFault::NotUnderstood);
+    }
+    is_defined_name(knows, &name)
+}
+
+/// The opposite of whether a name is that of a label or constant.
+fn is_not_defined<K: Knows>(
+    alloc: Global,
+    knows: &K,
+    tokens: &[Token<'_>],
+) -> Result<bool, ExpandFault>
+    ensures value { Answers is_outside (λ b. b) result (IsCondition (K.meaning knows.now) Test.NotDefined (lexemes tokens.now)) }
+    ensures inside { IfErr result (λ e. is_failure e ≡ false) }
+{
+    let defined = is_defined(alloc, knows, tokens)?;
+    Ok(!defined)
+}
+
+/// What a condition of these tokens comes to.
+pub fn condition<K: Knows>(
+    alloc: Global,
+    knows: &K,
+    test: Test,
+    tokens: &[Token<'_>],
+) -> Result<bool, ExpandFault>
+    ensures value { Answers is_outside (λ b. b) result (IsCondition (K.meaning knows.now) test (lexemes tokens.now)) }
+    ensures inside { IfErr result (λ e. is_failure e ≡ false) }
+{
+    match test {
+        Test::True => holds(alloc, knows, tokens),
+        Test::Defined => is_defined(alloc, knows, tokens),
+        Test::NotDefined => is_not_defined(alloc, knows, tokens),
+        Test::Blank => Ok(tokens.is_empty()),
+        Test::NotBlank => Ok(!tokens.is_empty()),
+    }
+}
+
+/// For each open condition whether an `.else` added it. Contracts see the innermost first.
+#[derive(Drop)]
+pub struct Conditions {
+    flags: Vec<bool>,
+}
+
+impl Model for Conditions {
+    ghost use Rattle.std.specs.Prelude.{List, Bool, reverse};
+
+    ghost Value = { List Bool };
+
+    ghost view = { λ c. reverse c.flags.items };
+}
+
+impl Conditions {
+    pub fn new(alloc: Global) -> Self
+        ensures { result ≡ [] }
+    {
+        Conditions {
+            flags: Vec::new(alloc),
+        }
+    }
+
+    pub fn len(&self) -> usize
+        ensures { result ≡ length self.now }
+    {
+        self.flags.len()
+    }
+
+    pub fn push(&mut self, flag: bool) -> Result<(), AllocError>
+        ensures { OnOk result (self.new ≡ flag ∷ self.old) }
+    {
+        Ok(self.flags.push(flag)?)
+    }
+
+    /// Takes the innermost away where more than so many are open.
+    pub fn pop_above(&mut self, bound: usize) -> Option<bool>
+        ensures pops { PopsTo result self.new (popped self.old bound) }
+        ensures same { IfNone result (self.new ≡ self.old) }
+    {
+        if self.flags.len() <= bound {
+            return None;
+        }
+        self.flags.pop()
+    }
+
+    /// Leaves only so many of the outermost.
+    pub fn truncate(&mut self, count: usize)
+        ensures { self.new ≡ outermost count self.old }
+    {
+        self.flags.truncate(count);
+    }
+}

@@ -1,0 +1,230 @@
+//! The statements of a source, one after another.
+
+ghost use Rattle.std.specs.Prelude.{◌≡◌, ◌<◌, ◌≤◌, ◌+◌, true, false, length, Err, IfNone, IfOk, IfSome, OnErr};
+ghost use Rattle.syntax65.specs.Store.{Files, Passes};
+ghost use Rattle.expand65.specs.Standing.{Comes, FollowsFrom, Opens, StandsFor, is_end, led, measure_of, place_of, state_in};
+ghost use Rattle.expand65.specs.Expansion.{first_left, opened_in};
+ghost use Rattle.expand65.specs.Inside.{left_of};
+ghost use Rattle.expand65.specs.Reading.{bytes_of};
+ghost use Rattle.expand65.specs.Rewriting.{Turns, size_of, state_of, turned, weight_of};
+ghost use Rattle.expand65.specs.State.{State};
+ghost use Rattle.expand65.specs.Step.{IsStep};
+
+use crate::conditions::Conditions;
+use crate::fault::ExpandFault;
+use crate::file::OpenFile;
+use crate::includes::is_there;
+use crate::input::Source;
+use crate::knows::Knows;
+use crate::line::Line;
+use crate::place::Place;
+use crate::reader::{Input, Reader};
+use crate::rewriter::{Rewriter, Turn};
+use indexmap::IndexMap;
+use std::alloc::{AllocError, Global};
+use std::mem;
+use syntax65::{Sequence, Store, Text};
+
+/// How many lines are read, skipped, collected and replayed at most, all together.
+const MAX_LINES: u32 = 1_048_576;
+
+/// Where files are looked for.
+#[derive(Debug, Drop)]
+pub struct Options {
+    /// The folders in which an included file is looked for behind that of the file that includes it.
+    pub include: Sequence<Text>,
+}
+
+/// A statement of a source.
+#[derive(Debug, Drop)]
+pub enum Statement {
+    /// A label with its colon. It comes before the rest of its line.
+    Label(Line),
+    /// Anything else. It begins with no label.
+    Plain(Line),
+}
+
+/// What stands in front of the lines that are left.
+#[derive(Drop)]
+pub enum Front {
+    Nothing,
+    /// What stands behind a label.
+    Rest(Line),
+    /// What stands behind an `.elseif` that has to be decided.
+    Branch(Line),
+    /// The end, whatever is left.
+    End,
+}
+
+impl Front {
+    fn is_end(&self) -> bool
+        ensures { result ≡ is_end self.now }
+    {
+        matches!(self, Front::End)
+    }
+}
+
+/// The statements of a source that are left.
+#[derive(Drop)]
+pub struct Expander {
+    pub rewriter: Rewriter,
+    pub front: Front,
+    pub failed: bool,
+}
+
+impl Expander {
+    /// Opens a source. The statements that it gives are those of its lines, with macros, repeats, conditions and
+    /// included files rewritten.
+    ///
+    /// # Errors
+    /// The source isn't found or has more than 16,777,216 bytes, the store fails, or memory runs out.
+    pub fn open<S: Store>(
+        alloc: Global,
+        store: &mut S,
+        file: &str,
+        options: &Options,
+    ) -> Result<Expander, ExpandFault>
+        ensures opened { IfSome (S.files store.old) (λ m. Opens m result (opened_in m file.now options.now.include)) }
+        ensures files { S.files store.new ≡ S.files store.old }
+        ensures count { Passes ExpandFault.FileError (S.failures store.old) (S.failures store.new) result }
+    {
+        if !is_there(store, file)? {
+            return Err(ExpandFault::FileNotFound);
+        }
+        let folders = copy_of(alloc, options.include.as_slice())?;
+        let reader = reader_of(alloc, file)?;
+        Ok(Expander {
+            rewriter: Rewriter {
+                alloc,
+                reader,
+                macros: IndexMap::new(alloc),
+                conditions: Conditions::new(alloc),
+                expansions: 0,
+                folders,
+            },
+            front: Front::Nothing,
+            failed: false,
+        })
+    }
+
+    /// The next statement, or none where no line is left. Behind a refusal every call answers that an earlier call was
+    /// refused.
+    ///
+    /// # Errors
+    /// The first fault of the lines up to the next statement, which is that of the place behind the call; the store
+    /// fails, or memory runs out.
+    pub fn next<S: Store, K: Knows>(
+        &mut self,
+        store: &mut S,
+        knows: &K,
+    ) -> Result<Option<Statement>, ExpandFault>
+        ensures next { IfSome (S.files store.old) (λ m. FollowsFrom m (K.meaning knows.now) self.old result self.new) }
+        ensures failed { OnErr result (self.new.failed ≡ true) }
+        ensures before { self.old.failed ≡ true → result ≡ Err ExpandFault.FailedBefore }
+        ensures files { S.files store.new ≡ S.files store.old }
+        ensures count { Passes ExpandFault.FileError (S.failures store.old) (S.failures store.new) result }
+    {
+        if self.failed {
+            return Err(ExpandFault::FailedBefore);
+        }
+        let result = self.advance(store, knows);
+        self.failed = result.is_err();
+        result
+    }
+
+    /// The innermost open file and the number of its line that was read last, 0 before the first. Behind a statement it
+    /// is the statement's place, and behind a refusal the fault's.
+    pub fn place(&self) -> (&str, u32)
+        ensures place { (result.0.now ≡ (place_of self.now).file) × (result.1 ≡ (place_of self.now).line) }
+        ensures stands { (m : Files) (s : State) → StandsFor m self.now s → (result.0.now ≡ s.left.place.file) × (result.1 ≡ s.left.place.line) }
+    {
+        let place = &self.rewriter.reader.place;
+        (place.file.as_str(), place.line)
+    }
+
+    /// Steps up to the next statement or the end.
+    fn advance<S: Store, K: Knows>(
+        &mut self,
+        store: &mut S,
+        knows: &K,
+    ) -> Result<Option<Statement>, ExpandFault>
+        ensures comes { IfSome (S.files store.old) (λ m. Comes m (K.meaning knows.now) (state_in m self.old) result (state_in m self.new)) }
+        ensures files { S.files store.new ≡ S.files store.old }
+        ensures count { Passes ExpandFault.FileError (S.failures store.old) (S.failures store.new) result }
+    {
+        'steps: loop {
+            if self.front.is_end() {
+                return Ok(None);
+            }
+            let turn = self.turn(store, knows)?;
+            if let Some(statement) = self.follow(turn) {
+                return Ok(Some(statement));
+            }
+        }
+    }
+
+    /// Rewrites what comes first.
+    fn turn<S: Store, K: Knows>(&mut self, store: &mut S, knows: &K) -> Result<Turn, ExpandFault>
+        requires { is_end self.old.front ≡ false }
+        ensures turns { IfSome (S.files store.old) (λ m. Turns result (state_of m self.new.rewriter) (IsStep m (K.meaning knows.now) (state_in m self.old))) }
+        ensures size { IfOk result (λ t. size_of self.new.rewriter + weight_of t < measure_of self.old) }
+        ensures front { OnErr result (self.new.front ≡ Front.Nothing) }
+        ensures files { S.files store.new ≡ S.files store.old }
+        ensures count { Passes ExpandFault.FileError (S.failures store.old) (S.failures store.new) result }
+    {
+        match mem::replace(&mut self.front, Front::Nothing) {
+            Front::Nothing => self.rewriter.take(store, knows),
+            Front::Rest(line) => self.rewriter.act(store, knows, line),
+            Front::Branch(line) => self.rewriter.begin_branch(store, knows, &line),
+            Front::End => unreachable!(),
+        }
+    }
+
+    /// Puts what a turn leads to in front of the lines; the statement that it gives, if it gives one.
+    fn follow(&mut self, turn: Turn) -> Option<Statement>
+        ensures led { (m : Files) → turned (state_of m self.old.rewriter) turn ≡ led (state_in m self.new) result }
+        ensures size { IfNone result (measure_of self.new ≡ size_of self.old.rewriter + weight_of turn) }
+    {
+        let (front, statement) = match turn {
+            Turn::Goes => (Front::Nothing, None),
+            Turn::Gives(line) => (Front::Nothing, Some(Statement::Plain(line))),
+            Turn::Parts(label, rest) => (Front::Rest(rest), Some(Statement::Label(label))),
+            Turn::Decides(line) => (Front::Branch(line), None),
+            Turn::Ends => (Front::End, None),
+        };
+        self.front = front;
+        statement
+    }
+}
+
+/// The lines of a source, before the first.
+fn reader_of(alloc: Global, file: &str) -> Result<Reader, AllocError>
+    ensures { IfOk result (λ r. (m : Files) → length (bytes_of m file.now) ≤ 16777216 → left_of m r ≡ first_left file.now (bytes_of m file.now)) }
+{
+    let top = Input {
+        source: Source::File(OpenFile::new(alloc, Text::copy_of(alloc, file)?)),
+        conditions: 0,
+        back: None,
+    };
+    let place = Place {
+        file: Text::copy_of(alloc, file)?,
+        line: 0,
+    };
+    Ok(Reader {
+        top,
+        outer: Vec::new(alloc),
+        room: MAX_LINES,
+        place,
+    })
+}
+
+/// A copy of texts.
+fn copy_of(alloc: Global, texts: &[Text]) -> Result<Sequence<Text>, AllocError>
+    ensures { IfOk result (λ copy. copy ≡ texts.now) }
+{
+    let mut copy = Sequence::new(alloc);
+    for text in texts {
+        copy.push(Text::copy_of(alloc, text.as_str())?)?;
+    }
+    Ok(copy)
+}

@@ -1,0 +1,162 @@
+//! Files that are included, and where they are looked for.
+
+ghost use Rattle.std.specs.Prelude.{◌≡◌, ◌<◌, ◌+◌, ◌^◌, ◌++◌, ◌∷◌, [], if◌then◌else◌, true, false, map, IfNone, IfOk, IfSome, List, ℕ, Result};
+ghost use Rattle.std.specs.FinMap as fmap;
+ghost use Rattle.std.specs.Str.{is_utf8};
+ghost use Rattle.syntax65.specs.Outcome.{Gives};
+ghost use Rattle.syntax65.specs.Store.{Passes};
+ghost use Rattle.expand65.specs.Faults.{is_outside};
+ghost use Rattle.expand65.specs.Includes.{begins_with_slash, file_named, first_file, folder_of, found_or, is_slash, tried, within};
+ghost use Rattle.expand65.specs.Seeking.{Tries, file_of, is_there};
+
+use crate::fault::ExpandFault;
+use crate::file::MAX_FILE;
+use std::alloc::{AllocError, Global};
+use syntax65::{Store, StoreFault, Text};
+
+/// A file's name up to and with its last `/`, nothing where it has none.
+fn folder_of(file: &[u8]) -> &[u8]
+    ensures { result.now ≡ folder_of file.now }
+{
+    let mut len = 0;
+    for (place, byte) in file.iter().enumerate() {
+        len = folder_len(len, place, *byte);
+    }
+    let (folder, _) = file.split_at(len);
+    folder
+}
+
+/// How many bytes the folder has through the byte at a place, from those that it has before it.
+fn folder_len(before: usize, place: usize, byte: u8) -> usize
+    requires { place < 2 ^ 63 }
+    ensures { result ≡ (if is_slash byte then place + 1 else before) }
+{
+    if byte == b'/' { place + 1 } else { before }
+}
+
+fn begins_with_slash(name: &[u8]) -> bool
+    ensures { result ≡ begins_with_slash name.now }
+{
+    match name.split_first() {
+        Some((first, _)) => *first == b'/',
+        None => false,
+    }
+}
+
+/// A name behind a folder's that ends in `/`, or behind nothing.
+fn joined(alloc: Global, folder: &[u8], name: &[u8]) -> Result<Vec<u8>, AllocError>
+    ensures { IfOk result (λ v. v.items ≡ folder.now ++ name.now) }
+{
+    let mut whole = Vec::new(alloc);
+    whole.extend_from_slice(folder)?;
+    whole.extend_from_slice(name)?;
+    Ok(whole)
+}
+
+/// A name in a folder.
+fn within(alloc: Global, name: &[u8], folder: &[u8]) -> Result<Vec<u8>, AllocError>
+    ensures { IfOk result (λ v. v.items ≡ within name.now folder.now) }
+{
+    let mut whole = Vec::new(alloc);
+    whole.extend_from_slice(folder)?;
+    whole.push(b'/')?;
+    whole.extend_from_slice(name)?;
+    Ok(whole)
+}
+
+/// Whether a file is there; one with too many bytes is refused.
+pub fn is_there<S: Store>(store: &mut S, name: &str) -> Result<bool, ExpandFault>
+    ensures there { IfSome (S.files store.old) (λ m. Gives is_outside (λ b. b) result (is_there (fmap.get m name.now))) }
+    ensures files { S.files store.new ≡ S.files store.old }
+    ensures count { Passes ExpandFault.FileError (S.failures store.old) (S.failures store.new) result }
+{
+    let mut byte = [0u8; 1];
+    match store.read_at(name, MAX_FILE, &mut byte) {
+        Ok(0) => Ok(true),
+        Ok(_) => Err(ExpandFault::FileTooLong),
+        Err(StoreFault::FileNotFound) => Ok(false),
+        Err(fault) => Err(ExpandFault::from(fault)),
+    }
+}
+
+/// Bytes as text, if they are text.
+fn text_of(bytes: &[u8]) -> Option<&str>
+    ensures text { IfSome result (λ text. (text.now ≡ bytes.now) × (is_utf8 bytes.now ≡ true)) }
+    ensures other { IfNone result (is_utf8 bytes.now ≡ false) }
+{
+    match std::str::from_utf8(bytes) {
+        Ok(text) => Some(text),
+        Err(_) => None,
+    }
+}
+
+/// The file of a name, if it is there.
+fn look_up<S: Store>(alloc: Global, store: &mut S, name: &[u8]) -> Result<Option<Text>, ExpandFault>
+    ensures tries { IfSome (S.files store.old) (λ m. (others : Result (List ℕ × List ℕ) ExpandFault) → Tries m result others (found_or name.now (file_named m name.now) others)) }
+    ensures files { S.files store.new ≡ S.files store.old }
+    ensures count { Passes ExpandFault.FileError (S.failures store.old) (S.failures store.new) result }
+{
+    let Some(text) = text_of(name) else {
+        return Ok(None);
+    };
+    let there = is_there(store, text)?;
+    if there {
+        Ok(Some(Text::copy_of(alloc, text)?))
+    } else {
+        Ok(None)
+    }
+}
+
+/// The first of the folders' files of a name.
+fn find_in_folders<S: Store>(
+    alloc: Global,
+    store: &mut S,
+    folders: &[Text],
+    name: &[u8],
+) -> Result<Text, ExpandFault>
+    ensures found { IfSome (S.files store.old) (λ m. Gives is_outside (file_of m) result (first_file m (map (within name.now) folders.now))) }
+    ensures files { S.files store.new ≡ S.files store.old }
+    ensures count { Passes ExpandFault.FileError (S.failures store.old) (S.failures store.new) result }
+{
+    for folder in folders {
+        let whole = within(alloc, name, folder.as_str().as_bytes())?;
+        if let Some(found) = look_up(alloc, store, whole.as_slice())? {
+            return Ok(found);
+        }
+    }
+    Err(ExpandFault::FileNotFound)
+}
+
+/// The first file of a name that is there, looked for beside a file and then in the folders.
+pub fn find_file<S: Store>(
+    alloc: Global,
+    store: &mut S,
+    file: &str,
+    folders: &[Text],
+    name: &[u8],
+) -> Result<Text, ExpandFault>
+    ensures found { IfSome (S.files store.old) (λ m. Gives is_outside (file_of m) result (first_file m (tried file.now folders.now name.now))) }
+    ensures files { S.files store.new ≡ S.files store.old }
+    ensures count { Passes ExpandFault.FileError (S.failures store.old) (S.failures store.new) result }
+{
+    if begins_with_slash(name) {
+        return find_as_given(alloc, store, name);
+    }
+    let beside = joined(alloc, folder_of(file.as_bytes()), name)?;
+    match look_up(alloc, store, beside.as_slice())? {
+        Some(found) => Ok(found),
+        None => find_in_folders(alloc, store, folders, name),
+    }
+}
+
+/// The file of a name, which has to be there.
+fn find_as_given<S: Store>(alloc: Global, store: &mut S, name: &[u8]) -> Result<Text, ExpandFault>
+    ensures found { IfSome (S.files store.old) (λ m. Gives is_outside (file_of m) result (first_file m (name.now ∷ []))) }
+    ensures files { S.files store.new ≡ S.files store.old }
+    ensures count { Passes ExpandFault.FileError (S.failures store.old) (S.failures store.new) result }
+{
+    match look_up(alloc, store, name)? {
+        Some(found) => Ok(found),
+        None => Err(ExpandFault::FileNotFound),
+    }
+}

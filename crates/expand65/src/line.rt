@@ -1,0 +1,124 @@
+//! Lines that are kept.
+
+ghost use Rattle.std.specs.Prelude.{◌≡◌, ◌++◌, false, slice_get, option_map, IfErr, IfOk, OnOk};
+ghost use Rattle.syntax65.specs.Tokens.{lexeme_of, lexemes};
+ghost use Rattle.expand65.specs.Faults.{is_failure};
+ghost use Rattle.expand65.specs.Fronts.{front_directive};
+ghost use Rattle.expand65.specs.Kept.{tokens_in};
+ghost use Rattle.expand65.specs.Parting.{IsParted};
+
+use crate::directives::Directive;
+use crate::fault::ExpandFault;
+use crate::fronts::{directive_in, is_mislabelled, label_len};
+use std::alloc::{AllocError, Global};
+use syntax65::{Sequence, Token, TokenKind};
+
+/// What a token of a line is, and how many of the line's bytes are its own.
+#[derive(Clone, Copy, Debug)]
+pub struct Word {
+    pub kind: TokenKind,
+    pub len: usize,
+}
+
+/// The tokens of a line, with their bytes one behind the other.
+#[derive(Debug, Drop)]
+pub struct Line {
+    pub words: Sequence<Word>,
+    pub bytes: Sequence<u8>,
+}
+
+impl Line {
+    /// A line of these tokens.
+    pub fn copy_of(alloc: Global, tokens: &[Token<'_>]) -> Result<Line, AllocError>
+        ensures { IfOk result (λ line. tokens_in line ≡ lexemes tokens.now) }
+    {
+        let mut words = Vec::new(alloc);
+        let mut bytes = Vec::new(alloc);
+        for token in tokens {
+            words.push(Word {
+                kind: token.kind,
+                len: token.text.len(),
+            })?;
+            bytes.extend_from_slice(token.text)?;
+        }
+        Ok(Line {
+            words: Sequence::from_vec(words),
+            bytes: Sequence::from_vec(bytes),
+        })
+    }
+
+    /// Puts the line's tokens behind others.
+    pub fn add_to<'a>(&'a self, tokens: &mut Vec<Token<'a>>) -> Result<(), AllocError>
+        ensures { OnOk result (lexemes tokens.new.items ≡ lexemes tokens.old.items ++ tokens_in self.now) }
+    {
+        let mut rest = self.bytes.as_slice();
+        for word in self.words.as_slice() {
+            let (text, behind) = rest.split_at(word.len.min(rest.len()));
+            tokens.push(Token {
+                kind: word.kind,
+                text,
+            })?;
+            rest = behind;
+        }
+        Ok(())
+    }
+
+    /// The first token.
+    pub fn first(&self) -> Option<Token<'_>>
+        ensures { option_map lexeme_of result ≡ slice_get (tokens_in self.now) 0 }
+    {
+        let word = self.words.as_slice().first()?;
+        let bytes = self.bytes.as_slice();
+        let (text, _) = bytes.split_at(word.len.min(bytes.len()));
+        Some(Token {
+            kind: word.kind,
+            text,
+        })
+    }
+
+    /// The directive of expansion at the front.
+    pub fn directive(&self) -> Option<Directive>
+        ensures { result ≡ front_directive (tokens_in self.now) }
+    {
+        match self.first() {
+            Some(token) => directive_in(&token),
+            None => None,
+        }
+    }
+
+    /// The label at the front and what stands behind it, if there is a label.
+    pub fn parted(&self, alloc: Global) -> Result<Option<(Line, Line)>, ExpandFault>
+        ensures parts { IsParted (tokens_in self.now) result }
+        ensures inside { IfErr result (λ e. is_failure e ≡ false) }
+    {
+        let tokens = self.tokens(alloc)?;
+        parted(alloc, tokens.as_slice())
+    }
+
+    /// The line's tokens.
+    pub fn tokens(&self, alloc: Global) -> Result<Vec<Token<'_>>, AllocError>
+        ensures { IfOk result (λ tokens. lexemes tokens.items ≡ tokens_in self.now) }
+    {
+        let mut tokens = Vec::with_capacity(alloc, self.words.len())?;
+        self.add_to(&mut tokens)?;
+        Ok(tokens)
+    }
+}
+
+/// The label at the front of tokens and what stands behind it, if there is a label.
+fn parted(alloc: Global, tokens: &[Token<'_>]) -> Result<Option<(Line, Line)>, ExpandFault>
+    ensures parts { IsParted (lexemes tokens.now) result }
+    ensures inside { IfErr result (λ e. is_failure e ≡ false) }
+{
+    let len = label_len(tokens);
+    if len == 0 {
+        return Ok(None);
+    }
+    if is_mislabelled(tokens) {
+        return Err(ExpandFault::NotUnderstood);
+    }
+    let (label, rest) = tokens.split_at(len);
+    let label = Line::copy_of(alloc, label)?;
+    let rest = Line::copy_of(alloc, rest)?;
+    Ok(Some((label, rest)))
+}

@@ -1,0 +1,149 @@
+//! The names of an expansion's own, and leaving an expansion.
+
+ghost use Rattle.std.specs.Prelude.{◌≡◌, ◌≤◌, ◌+◌, ◌++◌, ◌∷◌, [], List, true, false, length, map, IfErr, IfOk, OnOk, Some};
+ghost use Rattle.std.specs.List.{list_any};
+ghost use Rattle.syntax65.specs.Outcome.{Gives};
+ghost use Rattle.syntax65.specs.Store.{Files};
+ghost use Rattle.syntax65.specs.Tokens.{lexemes};
+ghost use Rattle.expand65.specs.Faults.{is_failure, is_outside};
+ghost use Rattle.expand65.specs.Fronts.{understood};
+ghost use Rattle.expand65.specs.Inside.{is_call, left_in};
+ghost use Rattle.expand65.specs.Kept.{tokens_in};
+ghost use Rattle.expand65.specs.Macros.{exit_macro, is_made, local_line, localised, new_names, with_locals};
+ghost use Rattle.expand65.specs.Playing.{replacing_of};
+ghost use Rattle.expand65.specs.Replacing.{own_token};
+ghost use Rattle.expand65.specs.State.{Item, Mark, mark};
+ghost use Rattle.expand65.specs.Rewriting.{Turns, size_of, state_of, weight_of};
+
+use crate::arguments::names_of;
+use crate::fault::ExpandFault;
+use crate::input::Source;
+use crate::line::Line;
+use crate::playing::Replay;
+use crate::rewriter::{Rewriter, Turn};
+use std::alloc::{AllocError, Global};
+use syntax65::{Token, TokenKind};
+
+/// Whether a name was made of one of an expansion's own.
+fn is_made(name: &[u8]) -> bool
+    ensures { result ≡ is_made name.now }
+{
+    name.iter().any(|b| *b == b'?')
+}
+
+/// Whether one of the names was made.
+fn is_one_made(names: &[&[u8]]) -> bool
+    ensures { result ≡ list_any is_made (map (λ s. s.now) names.now) }
+{
+    for name in names {
+        if is_made(name) {
+            return true;
+        }
+    }
+    false
+}
+
+/// Names with commas between them, none of which was made.
+fn new_names<'a>(alloc: Global, tokens: &[Token<'a>]) -> Result<Vec<&'a [u8]>, ExpandFault>
+    ensures names { Gives is_outside (λ v. map (λ s. s.now) v.items) result (understood (new_names (lexemes tokens.now))) }
+    ensures inside { IfErr result (λ e. is_failure e ≡ false) }
+{
+    let Some(names) = names_of(alloc, tokens)? else {
+        return Err(ExpandFault::NotUnderstood);
+    };
+    if is_one_made(names.as_slice()) {
+        return Err(ExpandFault::NotUnderstood);
+    }
+    Ok(names)
+}
+
+/// What stands for a name of an expansion's own.
+fn own_line(alloc: Global, number: u64, name: &[u8]) -> Result<Line, AllocError>
+    ensures { IfOk result (λ line. tokens_in line ≡ own_token number name.now ∷ []) }
+{
+    let digits = format!(in alloc; "{number}")?;
+    let mut text = Vec::from_slice(alloc, name)?;
+    text.push(b'?')?;
+    text.extend_from_slice(digits.as_bytes())?;
+    let token = Token {
+        kind: TokenKind::Identifier,
+        text: text.as_slice(),
+    };
+    Line::copy_of(alloc, &[token])
+}
+
+impl Replay {
+    /// One more name of the expansion's own.
+    fn add_local(&mut self, alloc: Global, name: &[u8]) -> Result<(), AllocError>
+        ensures added { OnOk result (replacing_of self.new ≡ with_locals (name.now ∷ []) (replacing_of self.old)) }
+        ensures body { self.new.body ≡ self.old.body }
+        ensures at { self.new.at ≡ self.old.at }
+    {
+        let line = own_line(alloc, self.number, name)?;
+        let name = Vec::from_slice(alloc, name)?;
+        self.locals.insert(name, line)?;
+        Ok(())
+    }
+
+    /// More names of the expansion's own.
+    fn add_locals(&mut self, alloc: Global, names: &[&[u8]]) -> Result<(), AllocError>
+        ensures added { OnOk result (replacing_of self.new ≡ with_locals (map (λ s. s.now) names.now) (replacing_of self.old)) }
+        ensures body { self.new.body ≡ self.old.body }
+        ensures at { self.new.at ≡ self.old.at }
+    {
+        for name in names {
+            self.add_local(alloc, name)?;
+        }
+        Ok(())
+    }
+}
+
+impl Source {
+    /// More names of an expansion's own.
+    fn add_locals(&mut self, alloc: Global, names: &[&[u8]]) -> Result<(), AllocError>
+        requires { is_call self.old ≡ true }
+        ensures added { (m : Files) (k : Mark) (is : List Item) → OnOk result (left_in m self.new ++ mark k ∷ is ≡ localised (map (λ s. s.now) names.now) (left_in m self.old ++ mark k ∷ is)) }
+        ensures call { is_call self.new ≡ is_call self.old }
+    {
+        match self {
+            Source::Call(replay) => replay.add_locals(alloc, names),
+            _ => Ok(()),
+        }
+    }
+}
+
+impl Rewriter {
+    /// `.local` and what stands behind it.
+    pub fn add_locals(&mut self, tokens: &[Token<'_>]) -> Result<Turn, ExpandFault>
+        ensures turns { (m : Files) → Turns result (state_of m self.new) (λ r. r ≡ local_line (state_of m self.old) (lexemes tokens.now)) }
+        ensures size { IfOk result (λ t. size_of self.new + weight_of t ≤ size_of self.old + 2) }
+        ensures inside { IfErr result (λ e. is_failure e ≡ false) }
+    {
+        if !self.reader.top.source.is_call() {
+            return Err(ExpandFault::NotUnderstood);
+        }
+        let names = new_names(self.alloc, tokens)?;
+        self.reader
+            .top
+            .source
+            .add_locals(self.alloc, names.as_slice())?;
+        Ok(Turn::Goes)
+    }
+
+    /// Leaves the innermost expansion.
+    pub fn exit_macro(&mut self) -> Result<Turn, ExpandFault>
+        ensures turns { (m : Files) → Turns result (state_of m self.new) (λ r. r ≡ exit_macro (state_of m self.old)) }
+        ensures size { IfOk result (λ t. size_of self.new + weight_of t ≤ size_of self.old + 2) }
+        ensures inside { IfErr result (λ e. is_failure e ≡ false) }
+    {
+        let Some(end) = self.reader.leave_macro() else {
+            return Err(ExpandFault::NotOpened);
+        };
+        self.conditions.truncate(end.conditions);
+        if end.more {
+            Ok(Turn::Goes)
+        } else {
+            Ok(Turn::Ends)
+        }
+    }
+}

@@ -1,0 +1,245 @@
+//! Macros: their definitions and their calls.
+
+ghost use Rattle.std.specs.Prelude.{◌≡◌, ◌≤◌, ◌+◌, ◌∷◌, [], false, is_some, drop, length, map, IfErr, IfOk, IfSome, Ok, Some};
+ghost use Rattle.syntax65.specs.Outcome.{Gives};
+ghost use Rattle.syntax65.specs.Store.{Files, Passes};
+ghost use Rattle.syntax65.specs.Tokens.{lexeme_of, lexemes};
+ghost use Rattle.expand65.specs.Faults.{is_failure, is_outside};
+ghost use Rattle.expand65.specs.Fronts.{understood};
+ghost use Rattle.expand65.specs.Arguments.{arguments_of};
+ghost use Rattle.expand65.specs.Kept.{tokens_in};
+ghost use Rattle.expand65.specs.Macros.{IsDefined, IsMacro, called, distinct_of, header_of, header_with, macro_of, ordinary, params_of};
+ghost use Rattle.expand65.specs.Playing.{definition_of};
+ghost use Rattle.expand65.specs.Replacing.{number_token};
+ghost use Rattle.expand65.specs.Rewriting.{MacroFound, Opens, Turns, macros_of, size_of, state_of, weight_of};
+
+use crate::arguments::{arguments_of, names_of};
+use crate::fault::ExpandFault;
+use crate::fronts::name_in;
+use crate::input::{Source, number_line};
+use crate::line::Line;
+use crate::playing::{Body, Replay};
+use crate::reader::Input;
+use crate::rewriter::{Rewriter, Turn};
+use indexmap::{IndexMap, IndexSet};
+use std::alloc::{AllocError, Global};
+use std::rc::Rc;
+use syntax65::{Sequence, Store, Token, TokenKind};
+
+/// A macro's name and its parameters.
+#[derive(Drop)]
+pub struct Header {
+    pub name: Vec<u8>,
+    pub params: IndexSet<Vec<u8>>,
+}
+
+/// Names of which no two are alike.
+fn distinct(alloc: Global, names: &[&[u8]]) -> Result<IndexSet<Vec<u8>>, ExpandFault>
+    ensures set { Gives is_outside (λ s. map (λ k. k.items) s.keys) result (understood (distinct_of (map (λ s. s.now) names.now))) }
+    ensures inside { IfErr result (λ e. is_failure e ≡ false) }
+{
+    let mut set = IndexSet::new(alloc);
+    for name in names {
+        let is_new = set.insert(Vec::from_slice(alloc, name)?)?;
+        if !is_new {
+            return Err(ExpandFault::NotUnderstood);
+        }
+    }
+    Ok(set)
+}
+
+/// No parameters, or names with commas between them.
+fn params_of(alloc: Global, tokens: &[Token<'_>]) -> Result<IndexSet<Vec<u8>>, ExpandFault>
+    ensures params { Gives is_outside (λ s. map (λ k. k.items) s.keys) result (understood (params_of (lexemes tokens.now))) }
+    ensures inside { IfErr result (λ e. is_failure e ≡ false) }
+{
+    if tokens.is_empty() {
+        return Ok(IndexSet::new(alloc));
+    }
+    match names_of(alloc, tokens)? {
+        Some(names) => distinct(alloc, names.as_slice()),
+        None => Err(ExpandFault::NotUnderstood),
+    }
+}
+
+/// A macro's name and its parameters.
+fn header_of(alloc: Global, tokens: &[Token<'_>]) -> Result<Header, ExpandFault>
+    ensures header { Gives is_outside (λ h. (h.name.items, map (λ k. k.items) h.params.keys)) result (understood (header_of (lexemes tokens.now))) }
+    ensures inside { IfErr result (λ e. is_failure e ≡ false) }
+{
+    let Some((first, behind)) = tokens.split_first() else {
+        return Err(ExpandFault::NotUnderstood);
+    };
+    let Some(name) = name_in(first) else {
+        return Err(ExpandFault::NotUnderstood);
+    };
+    header_with(alloc, name, behind)
+}
+
+/// A macro's name, and its parameters.
+fn header_with(alloc: Global, name: &[u8], tokens: &[Token<'_>]) -> Result<Header, ExpandFault>
+    ensures header { Gives is_outside (λ h. (h.name.items, map (λ k. k.items) h.params.keys)) result (understood (header_with name.now (lexemes tokens.now))) }
+    ensures inside { IfErr result (λ e. is_failure e ≡ false) }
+{
+    let params = params_of(alloc, tokens)?;
+    let name = Vec::from_slice(alloc, name)?;
+    Ok(Header { name, params })
+}
+
+impl Rewriter {
+    /// `.macro` and what stands behind it.
+    pub fn begin_macro<S: Store>(
+        &mut self,
+        store: &mut S,
+        tokens: &[Token<'_>],
+    ) -> Result<Turn, ExpandFault>
+        ensures turns { IfSome (S.files store.old) (λ m. Turns result (state_of m self.new) (IsMacro (state_of m self.old) (lexemes tokens.now))) }
+        ensures size { IfOk result (λ t. size_of self.new + weight_of t ≤ size_of self.old + 2) }
+        ensures files { S.files store.new ≡ S.files store.old }
+        ensures count { Passes ExpandFault.FileError (S.failures store.old) (S.failures store.new) result }
+    {
+        let header = header_of(self.alloc, tokens)?;
+        self.keep_macro(store, header.name, header.params)
+    }
+
+    /// A macro that isn't there yet, with the lines that follow.
+    fn keep_macro<S: Store>(
+        &mut self,
+        store: &mut S,
+        name: Vec<u8>,
+        params: IndexSet<Vec<u8>>,
+    ) -> Result<Turn, ExpandFault>
+        ensures turns { IfSome (S.files store.old) (λ m. Turns result (state_of m self.new) (IsDefined (state_of m self.old) (Some (name.items, map (λ k. k.items) params.keys)))) }
+        ensures size { IfOk result (λ t. size_of self.new + weight_of t ≤ size_of self.old + 2) }
+        ensures files { S.files store.new ≡ S.files store.old }
+        ensures count { Passes ExpandFault.FileError (S.failures store.old) (S.failures store.new) result }
+    {
+        if self.has_macro(name.as_slice()) {
+            return Err(ExpandFault::MacroTwice);
+        }
+        let lines = self.reader.collect(self.alloc, store)?;
+        let body = Rc::new(self.alloc, Body { params, lines })?;
+        self.macros.insert(name, body)?;
+        Ok(Turn::Goes)
+    }
+
+    /// Whether a macro has a name.
+    fn has_macro(&self, name: &[u8]) -> bool
+        ensures { result ≡ is_some (macro_of (macros_of self.now) name.now) }
+    {
+        self.macros.get(name).is_some()
+    }
+
+    /// The macro that a token names.
+    fn macro_at(&self, token: &Token<'_>) -> Result<Option<Rc<Body>>, AllocError>
+        ensures { IfOk result (λ found. MacroFound found self.now (lexeme_of token.now)) }
+    {
+        match token.kind {
+            TokenKind::Identifier => match self.macros.get(token.text) {
+                Some(body) => Ok(Some(body.clone()?)),
+                None => Ok(None),
+            },
+            _ => Ok(None),
+        }
+    }
+
+    /// A call of a macro with what stands behind its name.
+    fn call(&mut self, body: Rc<Body>, tokens: &[Token<'_>]) -> Result<Turn, ExpandFault>
+        ensures turns { (m : Files) → Turns result (state_of m self.new) (λ r. r ≡ called (state_of m self.old) (definition_of body.value) (arguments_of (lexemes tokens.now))) }
+        ensures size { IfOk result (λ t. size_of self.new + weight_of t ≤ size_of self.old + 2) }
+        ensures inside { IfErr result (λ e. is_failure e ≡ false) }
+    {
+        let arguments = arguments_of(self.alloc, tokens)?;
+        if arguments.len() > body.params.len() {
+            return Err(ExpandFault::TooManyArguments);
+        }
+        self.replay(body, arguments)
+    }
+
+    /// The macro's lines with these arguments in them.
+    fn replay(&mut self, body: Rc<Body>, arguments: Sequence<Line>) -> Result<Turn, ExpandFault>
+        requires { length arguments ≤ length body.value.params.keys }
+        ensures turns { (m : Files) → Turns result (state_of m self.new) (λ r. r ≡ called (state_of m self.old) (definition_of body.value) (map tokens_in arguments)) }
+        ensures size { IfOk result (λ t. size_of self.new + weight_of t ≤ size_of self.old + 2) }
+        ensures inside { IfErr result (λ e. is_failure e ≡ false) }
+    {
+        let Some(number) = self.expansions.checked_add(1) else {
+            return Err(ExpandFault::OutOfMemory);
+        };
+        let count = count_line(self.alloc, arguments.len())?;
+        let replay = Replay {
+            body,
+            at: 0,
+            arguments,
+            count: Some(count),
+            locals: IndexMap::new(self.alloc),
+            number,
+        };
+        self.reader.enter(Input {
+            source: Source::Call(replay),
+            conditions: self.conditions.len(),
+            back: None,
+        })?;
+        self.expansions = number;
+        Ok(Turn::Goes)
+    }
+
+    /// A line without a directive of expansion: nothing, a call or a statement.
+    pub fn call_or_give(&mut self, line: Line) -> Result<Turn, ExpandFault>
+        ensures turns { (m : Files) → Turns result (state_of m self.new) (λ r. r ≡ ordinary (state_of m self.old) (tokens_in line)) }
+        ensures size { IfOk result (λ t. size_of self.new + weight_of t ≤ size_of self.old + 2) }
+        ensures inside { IfErr result (λ e. is_failure e ≡ false) }
+    {
+        match self.macro_in(&line)? {
+            Opening::Nothing => Ok(Turn::Goes),
+            Opening::Other => Ok(Turn::Gives(line)),
+            Opening::Call(body) => {
+                let tokens = line.tokens(self.alloc)?;
+                self.call(body, behind_first(tokens.as_slice()))
+            }
+        }
+    }
+
+    /// How a line begins.
+    fn macro_in(&self, line: &Line) -> Result<Opening, AllocError>
+        ensures { IfOk result (λ o. Opens o self.now (tokens_in line.now)) }
+    {
+        let Some(first) = line.first() else {
+            return Ok(Opening::Nothing);
+        };
+        match self.macro_at(&first)? {
+            Some(body) => Ok(Opening::Call(body)),
+            None => Ok(Opening::Other),
+        }
+    }
+}
+
+/// How a line begins that has no directive of expansion.
+#[derive(Drop)]
+pub enum Opening {
+    /// It has no token.
+    Nothing,
+    Call(Rc<Body>),
+    Other,
+}
+
+/// What stands behind the first token.
+pub fn behind_first<'a, 'b>(tokens: &'b [Token<'a>]) -> &'b [Token<'a>]
+    ensures { lexemes result.now ≡ drop 1 (lexemes tokens.now) }
+{
+    match tokens {
+        [] => tokens,
+        [_, behind @ ..] => behind,
+    }
+}
+
+/// How many arguments there are, as a line.
+fn count_line(alloc: Global, count: usize) -> Result<Line, ExpandFault>
+    ensures line { Gives is_outside tokens_in result (Ok (number_token count ∷ [])) }
+    ensures inside { IfErr result (λ e. is_failure e ≡ false) }
+{
+    match u32::try_from(count) {
+        Ok(count) => Ok(number_line(alloc, count)?),
+        Err(_) => Err(ExpandFault::OutOfMemory),
+    }
+}

@@ -1,0 +1,25 @@
+//! Places in a source.
+
+ghost use Rattle.std.specs.Prelude.{◌≡◌, IfOk};
+
+use std::alloc::{AllocError, Global};
+use syntax65::Text;
+
+/// A file and the number of the line of it that was read last, 0 where none was.
+#[derive(Debug, Drop)]
+pub struct Place {
+    pub file: Text,
+    pub line: u32,
+}
+
+impl Place {
+    /// A copy of the place.
+    pub fn copy(&self, alloc: Global) -> Result<Place, AllocError>
+        ensures { IfOk result (λ place. place ≡ self.now) }
+    {
+        Ok(Place {
+            file: Text::copy_of(alloc, self.file.as_str())?,
+            line: self.line,
+        })
+    }
+}

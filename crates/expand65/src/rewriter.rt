@@ -1,0 +1,321 @@
+//! Lines rewritten one after another.
+
+ghost use Rattle.std.specs.Prelude.{◌≡◌, ◌≤◌, ◌<◌, ◌+◌, [], true, false, length, IfErr, IfOk, IfSome, Ok};
+ghost use Rattle.syntax65.specs.Store.{Files, Passes};
+ghost use Rattle.syntax65.specs.Tokens.{lexemes};
+ghost use Rattle.expand65.specs.Conditions.{IsDecided, IsElse, IsIf, ended_if};
+ghost use Rattle.expand65.specs.Faults.{is_failure};
+ghost use Rattle.expand65.specs.Fronts.{front_directive, is_mislabelled, string_of};
+ghost use Rattle.expand65.specs.Includes.{include_line, included};
+ghost use Rattle.expand65.specs.Inside.{left_in, left_of};
+ghost use Rattle.expand65.specs.Kept.{tokens_in};
+ghost use Rattle.expand65.specs.Meaning.{Meaning};
+ghost use Rattle.expand65.specs.Reading.{bytes_of};
+ghost use Rattle.expand65.specs.Rewriting.{Turns, size_of, stands_alone, state_of, weight_of};
+ghost use Rattle.expand65.specs.Seeking.{file_of};
+ghost use Rattle.expand65.specs.Step.{IsActed, IsDirected, IsLabelled, IsStep, at_mark, error_by, last_condition};
+
+use crate::blocks::BranchLine;
+use crate::conditions::{Conditions, condition};
+use crate::directives::{Directive, Test};
+use crate::fault::ExpandFault;
+use crate::file::OpenFile;
+use crate::fronts::string_of;
+use crate::includes::find_file;
+use crate::input::Source;
+use crate::knows::Knows;
+use crate::line::Line;
+use crate::macros::behind_first;
+use crate::place::Place;
+use crate::playing::Body;
+use crate::reader::{Input, Reader};
+use indexmap::IndexMap;
+use std::alloc::Global;
+use std::rc::Rc;
+use syntax65::{Sequence, Store, Text, Token};
+
+/// Where a line or an end mark leads to.
+#[derive(Drop)]
+pub enum Turn {
+    /// On to the next line.
+    Goes,
+    Gives(Line),
+    /// A label, and what stands behind it.
+    Parts(Line, Line),
+    /// What stands behind an `.elseif` that has to be decided next.
+    Decides(Line),
+    /// No line is left.
+    Ends,
+}
+
+/// What the lines that are left are rewritten with.
+#[derive(Drop)]
+pub struct Rewriter {
+    pub alloc: Global,
+    pub reader: Reader,
+    pub macros: IndexMap<Vec<u8>, Rc<Body>>,
+    pub conditions: Conditions,
+    /// How many macros were called.
+    pub expansions: u64,
+    /// The folders that files are also looked for in.
+    pub folders: Sequence<Text>,
+}
+
+impl Rewriter {
+    /// A condition that is true, or false.
+    fn decide<S: Store>(&mut self, store: &mut S, holds: bool) -> Result<Turn, ExpandFault>
+        ensures turns { IfSome (S.files store.old) (λ m. Turns result (state_of m self.new) (IsDecided (state_of m self.old) (Ok holds))) }
+        ensures size { IfOk result (λ t. size_of self.new + weight_of t ≤ size_of self.old + 2) }
+        ensures files { S.files store.new ≡ S.files store.old }
+        ensures count { Passes ExpandFault.FileError (S.failures store.old) (S.failures store.new) result }
+    {
+        if holds {
+            self.conditions.push(false)?;
+            return Ok(Turn::Goes);
+        }
+        match self.reader.skip(self.alloc, store)? {
+            BranchLine::EndIf => Ok(Turn::Goes),
+            BranchLine::Else => {
+                self.conditions.push(true)?;
+                Ok(Turn::Goes)
+            }
+            BranchLine::ElseIf(line) => Ok(Turn::Decides(line)),
+        }
+    }
+
+    /// An `.if` of some kind, or an `.elseif` that has to be decided.
+    pub fn begin_if<S: Store, K: Knows>(
+        &mut self,
+        store: &mut S,
+        knows: &K,
+        test: Test,
+        tokens: &[Token<'_>],
+    ) -> Result<Turn, ExpandFault>
+        ensures turns { IfSome (S.files store.old) (λ m. Turns result (state_of m self.new) (IsIf (K.meaning knows.now) (state_of m self.old) test (lexemes tokens.now))) }
+        ensures size { IfOk result (λ t. size_of self.new + weight_of t ≤ size_of self.old + 2) }
+        ensures files { S.files store.new ≡ S.files store.old }
+        ensures count { Passes ExpandFault.FileError (S.failures store.old) (S.failures store.new) result }
+    {
+        let holds = condition(self.alloc, knows, test, tokens)?;
+        self.decide(store, holds)
+    }
+
+    /// An `.endif` of an open condition.
+    pub fn end_if(&mut self) -> Result<Turn, ExpandFault>
+        ensures turns { (m : Files) → Turns result (state_of m self.new) (λ r. r ≡ ended_if (state_of m self.old) (last_condition (state_of m self.old))) }
+        ensures size { IfOk result (λ t. size_of self.new + weight_of t ≤ size_of self.old + 2) }
+        ensures inside { IfErr result (λ e. is_failure e ≡ false) }
+    {
+        match self.conditions.pop_above(self.reader.top.conditions) {
+            None => Err(ExpandFault::NotOpened),
+            Some(_) => Ok(Turn::Goes),
+        }
+    }
+
+    /// An `.elseif` or `.else` behind a condition that was true.
+    pub fn pass_else<S: Store>(&mut self, store: &mut S) -> Result<Turn, ExpandFault>
+        ensures turns { IfSome (S.files store.old) (λ m. Turns result (state_of m self.new) (IsElse (state_of m self.old) (last_condition (state_of m self.old)))) }
+        ensures size { IfOk result (λ t. size_of self.new + weight_of t ≤ size_of self.old + 2) }
+        ensures files { S.files store.new ≡ S.files store.old }
+        ensures count { Passes ExpandFault.FileError (S.failures store.old) (S.failures store.new) result }
+    {
+        match self.conditions.pop_above(self.reader.top.conditions) {
+            None => Err(ExpandFault::NotOpened),
+            Some(true) => Err(ExpandFault::NotOpened),
+            Some(false) => {
+                self.reader.pass(self.alloc, store)?;
+                Ok(Turn::Goes)
+            }
+        }
+    }
+
+    /// What stands behind an `.elseif` that has to be decided.
+    pub fn begin_branch<S: Store, K: Knows>(
+        &mut self,
+        store: &mut S,
+        knows: &K,
+        line: &Line,
+    ) -> Result<Turn, ExpandFault>
+        ensures turns { IfSome (S.files store.old) (λ m. Turns result (state_of m self.new) (IsIf (K.meaning knows.now) (state_of m self.old) Test.True (tokens_in line.now))) }
+        ensures size { IfOk result (λ t. size_of self.new + weight_of t ≤ size_of self.old + 2) }
+        ensures files { S.files store.new ≡ S.files store.old }
+        ensures count { Passes ExpandFault.FileError (S.failures store.old) (S.failures store.new) result }
+    {
+        let tokens = line.tokens(self.alloc)?;
+        self.begin_if(store, knows, Test::True, tokens.as_slice())
+    }
+
+    /// `.include` and what stands behind it.
+    fn include<S: Store>(
+        &mut self,
+        store: &mut S,
+        tokens: &[Token<'_>],
+    ) -> Result<Turn, ExpandFault>
+        ensures turns { IfSome (S.files store.old) (λ m. Turns result (state_of m self.new) (λ r. r ≡ include_line m (state_of m self.old) (lexemes tokens.now))) }
+        ensures size { IfOk result (λ t. size_of self.new + weight_of t ≤ size_of self.old + 2) }
+        ensures files { S.files store.new ≡ S.files store.old }
+        ensures count { Passes ExpandFault.FileError (S.failures store.old) (S.failures store.new) result }
+    {
+        let Some(name) = string_of(tokens) else {
+            return Err(ExpandFault::NotUnderstood);
+        };
+        let beside = self.reader.place.file.as_str();
+        let file = find_file(self.alloc, store, beside, self.folders.as_slice(), name)?;
+        self.enter_file(file)
+    }
+
+    /// The lines of a file that is there.
+    fn enter_file(&mut self, file: Text) -> Result<Turn, ExpandFault>
+        ensures turns { (m : Files) → length (bytes_of m file) ≤ 16777216 → Turns result (state_of m self.new) (λ r. r ≡ included (state_of m self.old) (Ok (file_of m file))) }
+        ensures size { IfOk result (λ t. size_of self.new + weight_of t ≤ size_of self.old + 2) }
+        ensures inside { IfErr result (λ e. is_failure e ≡ false) }
+    {
+        let place = Place {
+            file: Text::copy_of(self.alloc, file.as_str())?,
+            line: 0,
+        };
+        let back = self.reader.place.copy(self.alloc)?;
+        self.reader.enter(Input {
+            source: Source::File(OpenFile::new(self.alloc, file)),
+            conditions: self.conditions.len(),
+            back: Some(back),
+        })?;
+        self.reader.place = place;
+        Ok(Turn::Goes)
+    }
+
+    /// `.error` and what stands behind it.
+    fn refuse(&mut self, tokens: &[Token<'_>]) -> Result<Turn, ExpandFault>
+        ensures turns { (m : Files) → Turns result (state_of m self.new) (λ r. r ≡ error_by (state_of m self.old) (string_of (lexemes tokens.now))) }
+        ensures size { IfOk result (λ t. size_of self.new + weight_of t ≤ size_of self.old + 2) }
+        ensures inside { IfErr result (λ e. is_failure e ≡ false) }
+    {
+        let Some(text) = string_of(tokens) else {
+            return Err(ExpandFault::NotUnderstood);
+        };
+        let text = Vec::from_slice(self.alloc, text)?;
+        Err(ExpandFault::Error(Sequence::from_vec(text)))
+    }
+
+    /// A directive that nothing stands behind.
+    fn act_alone<S: Store>(
+        &mut self,
+        store: &mut S,
+        directive: Directive,
+        tokens: &[Token<'_>],
+    ) -> Result<Turn, ExpandFault>
+        requires { stands_alone directive ≡ true }
+        ensures turns { IfSome (S.files store.old) (λ m. (k : Meaning) → Turns result (state_of m self.new) (IsDirected m k (state_of m self.old) directive (lexemes tokens.now))) }
+        ensures size { IfOk result (λ t. size_of self.new + weight_of t ≤ size_of self.old + 2) }
+        ensures files { S.files store.new ≡ S.files store.old }
+        ensures count { Passes ExpandFault.FileError (S.failures store.old) (S.failures store.new) result }
+    {
+        if !tokens.is_empty() {
+            return Err(ExpandFault::NotUnderstood);
+        }
+        match directive {
+            Directive::Else => self.pass_else(store),
+            Directive::EndIf => self.end_if(),
+            Directive::ExitMacro => self.exit_macro(),
+            Directive::EndMacro | Directive::EndRepeat => Err(ExpandFault::NotOpened),
+            Directive::End => Ok(Turn::Ends),
+            _ => unreachable!(),
+        }
+    }
+
+    /// A directive and what stands behind it.
+    fn act_by<S: Store, K: Knows>(
+        &mut self,
+        store: &mut S,
+        knows: &K,
+        directive: Directive,
+        tokens: &[Token<'_>],
+    ) -> Result<Turn, ExpandFault>
+        ensures turns { IfSome (S.files store.old) (λ m. Turns result (state_of m self.new) (IsDirected m (K.meaning knows.now) (state_of m self.old) directive (lexemes tokens.now))) }
+        ensures size { IfOk result (λ t. size_of self.new + weight_of t ≤ size_of self.old + 2) }
+        ensures files { S.files store.new ≡ S.files store.old }
+        ensures count { Passes ExpandFault.FileError (S.failures store.old) (S.failures store.new) result }
+    {
+        match directive {
+            Directive::Macro => self.begin_macro(store, tokens),
+            Directive::Local => self.add_locals(tokens),
+            Directive::Repeat => self.begin_repeat(store, knows, tokens),
+            Directive::If(test) => self.begin_if(store, knows, test, tokens),
+            Directive::ElseIf => self.pass_else(store),
+            Directive::Include => self.include(store, tokens),
+            Directive::Error => self.refuse(tokens),
+            Directive::Else | Directive::EndIf => self.act_alone(store, directive, tokens),
+            Directive::EndMacro | Directive::EndRepeat => self.act_alone(store, directive, tokens),
+            Directive::ExitMacro | Directive::End => self.act_alone(store, directive, tokens),
+        }
+    }
+
+    /// A line without a label.
+    pub fn act<S: Store, K: Knows>(
+        &mut self,
+        store: &mut S,
+        knows: &K,
+        line: Line,
+    ) -> Result<Turn, ExpandFault>
+        ensures turns { IfSome (S.files store.old) (λ m. Turns result (state_of m self.new) (IsActed m (K.meaning knows.now) (state_of m self.old) (tokens_in line) (front_directive (tokens_in line)))) }
+        ensures size { IfOk result (λ t. size_of self.new + weight_of t ≤ size_of self.old + 2) }
+        ensures files { S.files store.new ≡ S.files store.old }
+        ensures count { Passes ExpandFault.FileError (S.failures store.old) (S.failures store.new) result }
+    {
+        match line.directive() {
+            Some(directive) => {
+                let tokens = line.tokens(self.alloc)?;
+                self.act_by(store, knows, directive, behind_first(tokens.as_slice()))
+            }
+            None => self.call_or_give(line),
+        }
+    }
+
+    /// A line that may begin with a label.
+    fn begin<S: Store, K: Knows>(
+        &mut self,
+        store: &mut S,
+        knows: &K,
+        line: Line,
+    ) -> Result<Turn, ExpandFault>
+        ensures turns { IfSome (S.files store.old) (λ m. Turns result (state_of m self.new) (IsLabelled m (K.meaning knows.now) (state_of m self.old) (tokens_in line) (is_mislabelled (tokens_in line)))) }
+        ensures size { IfOk result (λ t. size_of self.new + weight_of t ≤ size_of self.old + 2) }
+        ensures files { S.files store.new ≡ S.files store.old }
+        ensures count { Passes ExpandFault.FileError (S.failures store.old) (S.failures store.new) result }
+    {
+        match line.parted(self.alloc)? {
+            Some((label, rest)) => Ok(Turn::Parts(label, rest)),
+            None => self.act(store, knows, line),
+        }
+    }
+
+    /// The end mark of the innermost input.
+    fn end_input(&mut self) -> Result<Turn, ExpandFault>
+        ensures turns { (m : Files) → left_in m self.old.reader.top.source ≡ [] → Turns result (state_of m self.new) (λ r. r ≡ at_mark (state_of m self.old) (left_of m self.old.reader).items) }
+        ensures size { IfOk result (λ t. size_of self.new + weight_of t < size_of self.old + 1) }
+        ensures inside { IfErr result (λ e. is_failure e ≡ false) }
+    {
+        if self.reader.leave(self.conditions.len())? {
+            Ok(Turn::Goes)
+        } else {
+            Ok(Turn::Ends)
+        }
+    }
+
+    /// The next line, or the end mark of the innermost input.
+    pub fn take<S: Store, K: Knows>(
+        &mut self,
+        store: &mut S,
+        knows: &K,
+    ) -> Result<Turn, ExpandFault>
+        ensures turns { IfSome (S.files store.old) (λ m. Turns result (state_of m self.new) (IsStep m (K.meaning knows.now) (state_of m self.old))) }
+        ensures size { IfOk result (λ t. size_of self.new + weight_of t < size_of self.old + 1) }
+        ensures files { S.files store.new ≡ S.files store.old }
+        ensures count { Passes ExpandFault.FileError (S.failures store.old) (S.failures store.new) result }
+    {
+        match self.reader.next_line(self.alloc, store)? {
+            None => self.end_input(),
+            Some(line) => self.begin(store, knows, line),
+        }
+    }
+}

@@ -12,6 +12,7 @@ program:
 example: program
 	@sh example/first.sh $(abspath $(PROGRAM))
 	@sh example/programs.sh $(abspath $(PROGRAM))
+	@sh example/library.sh $(abspath $(PROGRAM))
 
 test:
 	@bash tests/all.sh

@@ -43,6 +43,7 @@ part 'the disk' python3 tests/disk.py "$program"
 part 'large sizes' python3 tests/large.py "$program"
 part 'a first link' one sh example/first.sh "$program"
 part 'two programs' one sh example/programs.sh "$program"
+part 'a library' one sh example/library.sh "$program"
 
 printf '\nThe parts:\n%s' "$took"
 echo "$passed passed, $failed failed"

@@ -310,7 +310,8 @@ fn answers_for_each_changed_bit(rt: HostRuntime) -> Result<(), Fail> {
         }
         bytes[place] = old;
     }
-    assert!(rt; 8 < linked && linked < bytes.len());
+    // All bits of the member's byte, and of its export's value and line, may be others.
+    assert!(rt; 8 + 64 + 32 <= linked && linked < 8 * bytes.len());
     Ok(())
 }
 

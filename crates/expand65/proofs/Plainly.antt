@@ -43,3 +43,10 @@ plain_skipped (suc d) ts p = plain_on ts (skipping (suc d) ts) (suc d) p refl
 pub plain_passed : (d : ℕ) (ts : List Lexeme) → IsPlain ts → passes d ts ≡ on d
 plain_passed zero ts p = plain_on ts (passing zero) zero p refl
 plain_passed (suc d) ts p = plain_on ts (passing (suc d)) (suc d) p refl
+
+pub plain_collected : (body : List (List Lexeme)) (ts : List Lexeme) → IsPlain ts → collects body ts ≡ on (body ++ ts ∷ [])
+plain_collected body ts p = plain_on ts (collecting body ts) (body ++ ts ∷ []) p refl
+
+pub plain_gathered : (d : ℕ) (body : List (List Lexeme)) (ts : List Lexeme) → IsPlain ts → gathers (d, body) ts ≡ on (d, body ++ ts ∷ [])
+plain_gathered zero body ts p = plain_on ts (gathering zero body ts) (zero, body ++ ts ∷ []) p refl
+plain_gathered (suc d) body ts p = plain_on ts (gathering (suc d) body ts) (suc d, body ++ ts ∷ []) p refl

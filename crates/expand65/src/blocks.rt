@@ -142,6 +142,9 @@ fn collected(alloc: Global, line: &Line) -> Result<BlockStep, ExpandFault>
         (collects body (tokens_in line.now)) }
     ensures inside { IfErr result (λ e. is_failure e ≡ false) }
 {
+    if line.is_plain() {
+        return Ok(BlockStep::On(0));
+    }
     let tokens = line.tokens(alloc)?;
     collect_step(tokens.as_slice())
 }
@@ -153,6 +156,9 @@ fn gathered(alloc: Global, line: &Line, depth: u32) -> Result<BlockStep, ExpandF
         (gathers (depth, body) (tokens_in line.now)) }
     ensures inside { IfErr result (λ e. is_failure e ≡ false) }
 {
+    if line.is_plain() {
+        return Ok(BlockStep::On(depth));
+    }
     let tokens = line.tokens(alloc)?;
     gather_step(tokens.as_slice(), depth)
 }

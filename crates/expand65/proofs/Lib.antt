@@ -13,6 +13,7 @@ pub mod Naming
 pub mod Nexts
 pub mod Opening
 pub mod Parting
+pub mod Plainly
 pub mod Repeating
 pub mod Seeking
 pub mod Splitting

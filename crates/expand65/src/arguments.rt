@@ -39,7 +39,9 @@ pub fn names_of<'a>(
     alloc: Global,
     tokens: &[Token<'a>],
 ) -> Result<Option<Vec<&'a [u8]>>, AllocError>
-    ensures { IfOk result (λ names. option_map (λ v. map (λ s. s.now) v.items) names ≡ names_of (lexemes tokens.now)) }
+    ensures { IfOk result
+        (λ names. option_map (λ v. map (λ s. s.now) v.items) names ≡ names_of
+        (lexemes tokens.now)) }
 {
     let mut names = Vec::new(alloc);
     let mut at = 0;

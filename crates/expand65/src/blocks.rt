@@ -73,7 +73,9 @@ fn deeper(depth: u32) -> Result<BlockStep, ExpandFault>
 
 /// What a line does to the body of a macro.
 fn collect_step(tokens: &[Token<'_>]) -> Result<BlockStep, ExpandFault>
-    ensures step { (body : List (List Lexeme)) → Judges (λ d. body ++ lexemes tokens.now ∷ []) body result (collects body (lexemes tokens.now)) }
+    ensures step { (body : List (List Lexeme)) →
+        Judges (λ d. body ++ lexemes tokens.now ∷ []) body result
+        (collects body (lexemes tokens.now)) }
     ensures inside { IfErr result (λ e. is_failure e ≡ false) }
 {
     if is_mislabelled(tokens) {
@@ -91,7 +93,9 @@ fn collect_step(tokens: &[Token<'_>]) -> Result<BlockStep, ExpandFault>
 
 /// What a line does to the body of a repeat with so many others open in it.
 fn gather_step(tokens: &[Token<'_>], depth: u32) -> Result<BlockStep, ExpandFault>
-    ensures step { (body : List (List Lexeme)) → Judges (λ d. (d, body ++ lexemes tokens.now ∷ [])) body result (gathers (depth, body) (lexemes tokens.now)) }
+    ensures step { (body : List (List Lexeme)) →
+        Judges (λ d. (d, body ++ lexemes tokens.now ∷ [])) body result
+        (gathers (depth, body) (lexemes tokens.now)) }
     ensures inside { IfErr result (λ e. is_failure e ≡ false) }
 {
     if is_mislabelled(tokens) {
@@ -133,18 +137,28 @@ fn pass_step(tokens: &[Token<'_>], depth: u32) -> Result<BlockStep, ExpandFault>
 
 /// What a kept line does to the body of a macro.
 fn collected(alloc: Global, line: &Line) -> Result<BlockStep, ExpandFault>
-    ensures step { (body : List (List Lexeme)) → Judges (λ d. body ++ tokens_in line.now ∷ []) body result (collects body (tokens_in line.now)) }
+    ensures step { (body : List (List Lexeme)) →
+        Judges (λ d. body ++ tokens_in line.now ∷ []) body result
+        (collects body (tokens_in line.now)) }
     ensures inside { IfErr result (λ e. is_failure e ≡ false) }
 {
+    if line.is_plain() {
+        return Ok(BlockStep::On(0));
+    }
     let tokens = line.tokens(alloc)?;
     collect_step(tokens.as_slice())
 }
 
 /// What a kept line does to the body of a repeat with so many others open in it.
 fn gathered(alloc: Global, line: &Line, depth: u32) -> Result<BlockStep, ExpandFault>
-    ensures step { (body : List (List Lexeme)) → Judges (λ d. (d, body ++ tokens_in line.now ∷ [])) body result (gathers (depth, body) (tokens_in line.now)) }
+    ensures step { (body : List (List Lexeme)) →
+        Judges (λ d. (d, body ++ tokens_in line.now ∷ [])) body result
+        (gathers (depth, body) (tokens_in line.now)) }
     ensures inside { IfErr result (λ e. is_failure e ≡ false) }
 {
+    if line.is_plain() {
+        return Ok(BlockStep::On(depth));
+    }
     let tokens = line.tokens(alloc)?;
     gather_step(tokens.as_slice(), depth)
 }
@@ -154,6 +168,9 @@ fn passed(alloc: Global, line: &Line, depth: u32) -> Result<BlockStep, ExpandFau
     ensures step { Judges (λ d. d) tt result (passes depth (tokens_in line.now)) }
     ensures inside { IfErr result (λ e. is_failure e ≡ false) }
 {
+    if line.is_plain() {
+        return Ok(BlockStep::On(depth));
+    }
     let tokens = line.tokens(alloc)?;
     pass_step(tokens.as_slice(), depth)
 }
@@ -165,7 +182,9 @@ impl Reader {
         alloc: Global,
         store: &mut S,
     ) -> Result<Sequence<Line>, ExpandFault>
-        ensures read { IfSome (S.files store.old) (λ m. Answers (λ b. (map tokens_in b, left_of m self.new)) self.new.place result (Block collects [] (left_of m self.old))) }
+        ensures read { IfSome (S.files store.old) (λ m.
+            Answers (λ b. (map tokens_in b, left_of m self.new)) self.new.place result
+            (Block collects [] (left_of m self.old))) }
         ensures room { OnOk result (self.new.room < self.old.room) }
         ensures mark { mark_of self.new.top ≡ mark_of self.old.top }
         ensures outer { self.new.outer ≡ self.old.outer }
@@ -189,7 +208,9 @@ impl Reader {
         alloc: Global,
         store: &mut S,
     ) -> Result<Sequence<Line>, ExpandFault>
-        ensures read { IfSome (S.files store.old) (λ m. Answers (λ b. (map tokens_in b, left_of m self.new)) self.new.place result (Block gathers (0, []) (left_of m self.old))) }
+        ensures read { IfSome (S.files store.old) (λ m.
+            Answers (λ b. (map tokens_in b, left_of m self.new)) self.new.place result
+            (Block gathers (0, []) (left_of m self.old))) }
         ensures room { OnOk result (self.new.room < self.old.room) }
         ensures mark { mark_of self.new.top ≡ mark_of self.old.top }
         ensures outer { self.new.outer ≡ self.old.outer }
@@ -212,7 +233,9 @@ impl Reader {
 
     /// Passes over the lines through the `.endif` of a condition.
     pub fn pass<S: Store>(&mut self, alloc: Global, store: &mut S) -> Result<(), ExpandFault>
-        ensures read { IfSome (S.files store.old) (λ m. Answers (λ u. (u, left_of m self.new)) self.new.place result (Block passes 0 (left_of m self.old))) }
+        ensures read { IfSome (S.files store.old) (λ m.
+            Answers (λ u. (u, left_of m self.new)) self.new.place result
+            (Block passes 0 (left_of m self.old))) }
         ensures room { OnOk result (self.new.room < self.old.room) }
         ensures mark { mark_of self.new.top ≡ mark_of self.old.top }
         ensures outer { self.new.outer ≡ self.old.outer }
@@ -235,7 +258,9 @@ impl Reader {
         alloc: Global,
         store: &mut S,
     ) -> Result<BranchLine, ExpandFault>
-        ensures read { IfSome (S.files store.old) (λ m. Answers (λ b. (branch_of b, left_of m self.new)) self.new.place result (Block skips 0 (left_of m self.old))) }
+        ensures read { IfSome (S.files store.old) (λ m.
+            Answers (λ b. (branch_of b, left_of m self.new)) self.new.place result
+            (Block skips 0 (left_of m self.old))) }
         ensures room { OnOk result (self.new.room < self.old.room) }
         ensures mark { mark_of self.new.top ≡ mark_of self.old.top }
         ensures outer { self.new.outer ≡ self.old.outer }
@@ -322,6 +347,9 @@ fn skipped(alloc: Global, line: &Line, depth: u32) -> Result<SkipStep, ExpandFau
     ensures step { JudgesSkip result (skips depth (tokens_in line.now)) }
     ensures inside { IfErr result (λ e. is_failure e ≡ false) }
 {
+    if line.is_plain() {
+        return Ok(SkipStep::On(depth));
+    }
     let tokens = line.tokens(alloc)?;
     skip_step(alloc, tokens.as_slice(), depth)
 }

@@ -21,7 +21,9 @@ use syntax65::{Expr, Token, read_expr};
 
 /// An expression of all the tokens.
 pub fn expression(alloc: Global, tokens: &[Token<'_>]) -> Result<Expr, ExpandFault>
-    ensures value { Answers is_outside tree_of result (λ r. (q : Result (Tree × ℕ) ExprFault) × IsParsed (lexemes tokens.now) q × (r ≡ whole (length (lexemes tokens.now)) q)) }
+    ensures value { Answers is_outside tree_of result
+        (λ r. (q : Result (Tree × ℕ) ExprFault) × IsParsed (lexemes tokens.now) q ×
+        (r ≡ whole (length (lexemes tokens.now)) q)) }
     ensures inside { IfErr result (λ e. is_failure e ≡ false) }
 {
     let (value, count) = read_expr(alloc, tokens)?;
@@ -44,7 +46,8 @@ fn truth(value: Option<i64>) -> Result<bool, ExpandFault>
 
 /// Whether an expression of all the tokens isn't 0.
 fn holds<K: Knows>(alloc: Global, knows: &K, tokens: &[Token<'_>]) -> Result<bool, ExpandFault>
-    ensures value { Answers is_outside (λ b. b) result (IsCondition (K.meaning knows.now) Test.True (lexemes tokens.now)) }
+    ensures value { Answers is_outside (λ b. b) result
+        (IsCondition (K.meaning knows.now) Test.True (lexemes tokens.now)) }
     ensures inside { IfErr result (λ e. is_failure e ≡ false) }
 {
     let value = expression(alloc, tokens)?;
@@ -72,7 +75,8 @@ fn is_defined_name<K: Knows>(knows: &K, expr: &Expr) -> Result<bool, ExpandFault
 
 /// Whether a name, which all the tokens are, is that of a label or constant.
 fn is_defined<K: Knows>(alloc: Global, knows: &K, tokens: &[Token<'_>]) -> Result<bool, ExpandFault>
-    ensures value { Answers is_outside (λ b. b) result (IsCondition (K.meaning knows.now) Test.Defined (lexemes tokens.now)) }
+    ensures value { Answers is_outside (λ b. b) result
+        (IsCondition (K.meaning knows.now) Test.Defined (lexemes tokens.now)) }
     ensures inside { IfErr result (λ e. is_failure e ≡ false) }
 {
     let name = expression(alloc, tokens)?;
@@ -88,7 +92,8 @@ fn is_not_defined<K: Knows>(
     knows: &K,
     tokens: &[Token<'_>],
 ) -> Result<bool, ExpandFault>
-    ensures value { Answers is_outside (λ b. b) result (IsCondition (K.meaning knows.now) Test.NotDefined (lexemes tokens.now)) }
+    ensures value { Answers is_outside (λ b. b) result
+        (IsCondition (K.meaning knows.now) Test.NotDefined (lexemes tokens.now)) }
     ensures inside { IfErr result (λ e. is_failure e ≡ false) }
 {
     let defined = is_defined(alloc, knows, tokens)?;
@@ -102,7 +107,8 @@ pub fn condition<K: Knows>(
     test: Test,
     tokens: &[Token<'_>],
 ) -> Result<bool, ExpandFault>
-    ensures value { Answers is_outside (λ b. b) result (IsCondition (K.meaning knows.now) test (lexemes tokens.now)) }
+    ensures value { Answers is_outside (λ b. b) result
+        (IsCondition (K.meaning knows.now) test (lexemes tokens.now)) }
     ensures inside { IfErr result (λ e. is_failure e ≡ false) }
 {
     match test {

@@ -84,7 +84,8 @@ impl Expander {
         file: &str,
         options: &Options,
     ) -> Result<Expander, ExpandFault>
-        ensures opened { IfSome (S.files store.old) (λ m. Opens m result (opened_in m file.now options.now.include)) }
+        ensures opened { IfSome (S.files store.old) (λ m.
+            Opens m result (opened_in m file.now options.now.include)) }
         ensures files { S.files store.new ≡ S.files store.old }
         ensures count { Passes ExpandFault.FileError (S.failures store.old) (S.failures store.new) result }
     {
@@ -118,7 +119,8 @@ impl Expander {
         store: &mut S,
         knows: &K,
     ) -> Result<Option<Statement>, ExpandFault>
-        ensures next { IfSome (S.files store.old) (λ m. FollowsFrom m (K.meaning knows.now) self.old result self.new) }
+        ensures next { IfSome (S.files store.old) (λ m.
+            FollowsFrom m (K.meaning knows.now) self.old result self.new) }
         ensures failed { OnErr result (self.new.failed ≡ true) }
         ensures before { self.old.failed ≡ true → result ≡ Err ExpandFault.FailedBefore }
         ensures files { S.files store.new ≡ S.files store.old }
@@ -136,7 +138,9 @@ impl Expander {
     /// is the statement's place, and behind a refusal the fault's.
     pub fn place(&self) -> (&str, u32)
         ensures place { (result.0.now ≡ (place_of self.now).file) × (result.1 ≡ (place_of self.now).line) }
-        ensures stands { (m : Files) (s : State) → StandsFor m self.now s → (result.0.now ≡ s.left.place.file) × (result.1 ≡ s.left.place.line) }
+        ensures stands { (m : Files) (s : State) →
+            StandsFor m self.now s → (result.0.now ≡ s.left.place.file) ×
+            (result.1 ≡ s.left.place.line) }
     {
         let place = &self.rewriter.reader.place;
         (place.file.as_str(), place.line)
@@ -148,7 +152,8 @@ impl Expander {
         store: &mut S,
         knows: &K,
     ) -> Result<Option<Statement>, ExpandFault>
-        ensures comes { IfSome (S.files store.old) (λ m. Comes m (K.meaning knows.now) (state_in m self.old) result (state_in m self.new)) }
+        ensures comes { IfSome (S.files store.old) (λ m.
+            Comes m (K.meaning knows.now) (state_in m self.old) result (state_in m self.new)) }
         ensures files { S.files store.new ≡ S.files store.old }
         ensures count { Passes ExpandFault.FileError (S.failures store.old) (S.failures store.new) result }
     {
@@ -166,7 +171,9 @@ impl Expander {
     /// Rewrites what comes first.
     fn turn<S: Store, K: Knows>(&mut self, store: &mut S, knows: &K) -> Result<Turn, ExpandFault>
         requires { is_end self.old.front ≡ false }
-        ensures turns { IfSome (S.files store.old) (λ m. Turns result (state_of m self.new.rewriter) (IsStep m (K.meaning knows.now) (state_in m self.old))) }
+        ensures turns { IfSome (S.files store.old) (λ m.
+            Turns result (state_of m self.new.rewriter)
+            (IsStep m (K.meaning knows.now) (state_in m self.old))) }
         ensures size { IfOk result (λ t. size_of self.new.rewriter + weight_of t < measure_of self.old) }
         ensures front { OnErr result (self.new.front ≡ Front.Nothing) }
         ensures files { S.files store.new ≡ S.files store.old }
@@ -182,7 +189,8 @@ impl Expander {
 
     /// Puts what a turn leads to in front of the lines; the statement that it gives, if it gives one.
     fn follow(&mut self, turn: Turn) -> Option<Statement>
-        ensures led { (m : Files) → turned (state_of m self.old.rewriter) turn ≡ led (state_in m self.new) result }
+        ensures led { (m : Files) →
+            turned (state_of m self.old.rewriter) turn ≡ led (state_in m self.new) result }
         ensures size { IfNone result (measure_of self.new ≡ size_of self.old.rewriter + weight_of turn) }
     {
         let (front, statement) = match turn {
@@ -199,7 +207,9 @@ impl Expander {
 
 /// The lines of a source, before the first.
 fn reader_of(alloc: Global, file: &str) -> Result<Reader, AllocError>
-    ensures { IfOk result (λ r. (m : Files) → length (bytes_of m file.now) ≤ 16777216 → left_of m r ≡ first_left file.now (bytes_of m file.now)) }
+    ensures { IfOk result (λ r. (m : Files) →
+        length (bytes_of m file.now) ≤ 16777216 → left_of m r ≡ first_left file.now
+        (bytes_of m file.now)) }
 {
     let top = Input {
         source: Source::File(OpenFile::new(alloc, Text::copy_of(alloc, file)?)),

@@ -39,7 +39,8 @@ fn read_some<S: Store>(
     buffer: &mut [u8],
 ) -> Result<usize, ExpandFault>
     ensures bound { IfOk result (λ n. n ≤ length buffer.new) }
-    ensures read { IfSome (S.files store.old) (λ m. IfOk result (λ n. Fills (drop at (bytes_of m name.now)) n buffer.new)) }
+    ensures read { IfSome (S.files store.old) (λ m.
+        IfOk result (λ n. Fills (drop at (bytes_of m name.now)) n buffer.new)) }
     ensures outside { IfErr result (λ e. is_outside e ≡ true) }
     ensures files { S.files store.new ≡ S.files store.old }
     ensures count { Passes ExpandFault.FileError (S.failures store.old) (S.failures store.new) result }
@@ -60,7 +61,8 @@ fn read_piece<S: Store>(
     bytes: &mut Vec<u8>,
 ) -> Result<usize, ExpandFault>
     requires { want ≤ 4096 }
-    ensures read { IfSome (S.files store.old) (λ m. IfOk result (λ n. IsPiece (drop at (bytes_of m name.now)) want n bytes.new.items)) }
+    ensures read { IfSome (S.files store.old) (λ m.
+        IfOk result (λ n. IsPiece (drop at (bytes_of m name.now)) want n bytes.new.items)) }
     ensures few { IfOk result (λ n. (n ≤ want) × (length bytes.new.items ≡ n)) }
     ensures outside { IfErr result (λ e. is_outside e ≡ true) }
     ensures files { S.files store.new ≡ S.files store.old }
@@ -83,7 +85,9 @@ fn wanted(at: u64) -> usize
 impl OpenFile {
     /// A file that is there, before its first line.
     pub fn new(alloc: Global, name: Text) -> Self
-        ensures { (m : Files) → length (bytes_of m name) ≤ 16777216 → left_in_file m result ≡ numbered 0 (lines_of (bytes_of m name)) }
+        ensures { (m : Files) →
+            length (bytes_of m name) ≤ 16777216 → left_in_file m result ≡ numbered 0
+            (lines_of (bytes_of m name)) }
     {
         OpenFile {
             name,
@@ -99,7 +103,8 @@ impl OpenFile {
         requires { length self.old.buffer.items ≤ self.old.at }
         ensures kept { IfSome (S.files store.old) (λ m. OnOk result (rest_of m self.new ≡ rest_of m self.old)) }
         ensures front { OnOk result (self.new.at ≡ 0) }
-        ensures none { IfSome (S.files store.old) (λ m. OnOk result (self.new.buffer.items ≡ [] → rest_of m self.new ≡ [])) }
+        ensures none { IfSome (S.files store.old) (λ m.
+            OnOk result (self.new.buffer.items ≡ [] → rest_of m self.new ≡ [])) }
         ensures outside { IfErr result (λ e. is_outside e ≡ true) }
         ensures line { self.new.line ≡ self.old.line }
         ensures name { self.new.name ≡ self.old.name }
@@ -117,7 +122,8 @@ impl OpenFile {
     pub fn has_more<S: Store>(&mut self, store: &mut S) -> Result<bool, ExpandFault>
         ensures kept { IfSome (S.files store.old) (λ m. OnOk result (rest_of m self.new ≡ rest_of m self.old)) }
         ensures more { IfOk result (λ b. IsTrue b → self.new.at < length self.new.buffer.items) }
-        ensures none { IfSome (S.files store.old) (λ m. IfOk result (λ b. b ≡ false → rest_of m self.new ≡ [])) }
+        ensures none { IfSome (S.files store.old) (λ m.
+            IfOk result (λ b. b ≡ false → rest_of m self.new ≡ [])) }
         ensures outside { IfErr result (λ e. is_outside e ≡ true) }
         ensures line { self.new.line ≡ self.old.line }
         ensures name { self.new.name ≡ self.old.name }
@@ -136,12 +142,15 @@ impl OpenFile {
         requires more { self.old.at < length self.old.buffer.items }
         requires part { prefix_len is_inside line.old.items ≡ length line.old.items }
         requires few { length line.old.items ≤ 4097 }
-        ensures read { (behind : List ℕ) → TakesPiece line.old.items (drop self.old.at self.old.buffer.items) behind result line.new.items (drop self.new.at self.new.buffer.items) }
+        ensures read { (behind : List ℕ) →
+            TakesPiece line.old.items (drop self.old.at self.old.buffer.items) behind result
+            line.new.items (drop self.new.at self.new.buffer.items) }
         ensures part { OnOk result (prefix_len is_inside line.new.items ≡ length line.new.items) }
         ensures few { OnOk result (length line.new.items ≤ 4097) }
         ensures inside { IfErr result (λ e. is_failure e ≡ false) }
         ensures more { IfOk result (λ ended. ended ≡ false → length line.old.items < length line.new.items) }
-        ensures same { (self.new.name ≡ self.old.name) × (self.new.next ≡ self.old.next) × (self.new.line ≡ self.old.line) }
+        ensures same { (self.new.name ≡ self.old.name) × (self.new.next ≡ self.old.next) ×
+            (self.new.line ≡ self.old.line) }
     {
         let (_, rest) = self.buffer.split_at(self.at);
         let len = line_len(rest);
@@ -165,7 +174,8 @@ impl OpenFile {
         store: &mut S,
     ) -> Result<Sequence<u8>, ExpandFault>
         requires { self.old.at < length self.old.buffer.items }
-        ensures read { IfSome (S.files store.old) (λ m. ReadsLine (lines_of (rest_of m self.old)) result (lines_of (rest_of m self.new))) }
+        ensures read { IfSome (S.files store.old) (λ m.
+            ReadsLine (lines_of (rest_of m self.old)) result (lines_of (rest_of m self.new))) }
         ensures line { self.new.line ≡ self.old.line }
         ensures name { self.new.name ≡ self.old.name }
         ensures files { S.files store.new ≡ S.files store.old }

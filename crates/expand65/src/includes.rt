@@ -66,7 +66,8 @@ fn within(alloc: Global, name: &[u8], folder: &[u8]) -> Result<Vec<u8>, AllocErr
 
 /// Whether a file is there; one with too many bytes is refused.
 pub fn is_there<S: Store>(store: &mut S, name: &str) -> Result<bool, ExpandFault>
-    ensures there { IfSome (S.files store.old) (λ m. Gives is_outside (λ b. b) result (is_there (fmap.get m name.now))) }
+    ensures there { IfSome (S.files store.old) (λ m.
+        Gives is_outside (λ b. b) result (is_there (fmap.get m name.now))) }
     ensures files { S.files store.new ≡ S.files store.old }
     ensures count { Passes ExpandFault.FileError (S.failures store.old) (S.failures store.new) result }
 {
@@ -92,7 +93,9 @@ fn text_of(bytes: &[u8]) -> Option<&str>
 
 /// The file of a name, if it is there.
 fn look_up<S: Store>(alloc: Global, store: &mut S, name: &[u8]) -> Result<Option<Text>, ExpandFault>
-    ensures tries { IfSome (S.files store.old) (λ m. (others : Result (List ℕ × List ℕ) ExpandFault) → Tries m result others (found_or name.now (file_named m name.now) others)) }
+    ensures tries { IfSome (S.files store.old) (λ m.
+        (others : Result (List ℕ × List ℕ) ExpandFault) → Tries m result others
+        (found_or name.now (file_named m name.now) others)) }
     ensures files { S.files store.new ≡ S.files store.old }
     ensures count { Passes ExpandFault.FileError (S.failures store.old) (S.failures store.new) result }
 {
@@ -114,7 +117,8 @@ fn find_in_folders<S: Store>(
     folders: &[Text],
     name: &[u8],
 ) -> Result<Text, ExpandFault>
-    ensures found { IfSome (S.files store.old) (λ m. Gives is_outside (file_of m) result (first_file m (map (within name.now) folders.now))) }
+    ensures found { IfSome (S.files store.old) (λ m.
+        Gives is_outside (file_of m) result (first_file m (map (within name.now) folders.now))) }
     ensures files { S.files store.new ≡ S.files store.old }
     ensures count { Passes ExpandFault.FileError (S.failures store.old) (S.failures store.new) result }
 {
@@ -135,7 +139,8 @@ pub fn find_file<S: Store>(
     folders: &[Text],
     name: &[u8],
 ) -> Result<Text, ExpandFault>
-    ensures found { IfSome (S.files store.old) (λ m. Gives is_outside (file_of m) result (first_file m (tried file.now folders.now name.now))) }
+    ensures found { IfSome (S.files store.old) (λ m.
+        Gives is_outside (file_of m) result (first_file m (tried file.now folders.now name.now))) }
     ensures files { S.files store.new ≡ S.files store.old }
     ensures count { Passes ExpandFault.FileError (S.failures store.old) (S.failures store.new) result }
 {
@@ -151,7 +156,8 @@ pub fn find_file<S: Store>(
 
 /// The file of a name, which has to be there.
 fn find_as_given<S: Store>(alloc: Global, store: &mut S, name: &[u8]) -> Result<Text, ExpandFault>
-    ensures found { IfSome (S.files store.old) (λ m. Gives is_outside (file_of m) result (first_file m (name.now ∷ []))) }
+    ensures found { IfSome (S.files store.old) (λ m.
+        Gives is_outside (file_of m) result (first_file m (name.now ∷ []))) }
     ensures files { S.files store.new ≡ S.files store.old }
     ensures count { Passes ExpandFault.FileError (S.failures store.old) (S.failures store.new) result }
 {

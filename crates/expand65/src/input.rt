@@ -64,7 +64,8 @@ pub fn number_line(alloc: Global, number: u32) -> Result<Line, AllocError>
 
 /// The tokens of a line, kept.
 fn line_of(alloc: Global, bytes: &[u8]) -> Result<Line, ExpandFault>
-    ensures tokens { Answers is_outside tokens_in result (λ r. (q : Result (List Lexeme) LexFault) × IsRead bytes.now q × (r ≡ lexed q)) }
+    ensures tokens { Answers is_outside tokens_in result
+        (λ r. (q : Result (List Lexeme) LexFault) × IsRead bytes.now q × (r ≡ lexed q)) }
     ensures inside { IfErr result (λ e. is_failure e ≡ false) }
 {
     let tokens = line_tokens(alloc, bytes)?;
@@ -74,9 +75,12 @@ fn line_of(alloc: Global, bytes: &[u8]) -> Result<Line, ExpandFault>
 impl OpenFile {
     /// Whether the file has a line more, and its number.
     fn begin_line<S: Store>(&mut self, store: &mut S) -> Result<NextLine, ExpandFault>
-        ensures comes { IfSome (S.files store.old) (λ m. IfOk result (λ n. ComesNext (left_in_file m self.new) n)) }
-        ensures same { IfSome (S.files store.old) (λ m. OnOk result (left_in_file m self.new ≡ left_in_file m self.old)) }
-        ensures more { IfOk result (λ n. (n ≡ NextLine.AtEnd → ⊥) → self.new.at < length self.new.buffer.items) }
+        ensures comes { IfSome (S.files store.old) (λ m.
+            IfOk result (λ n. ComesNext (left_in_file m self.new) n)) }
+        ensures same { IfSome (S.files store.old) (λ m.
+            OnOk result (left_in_file m self.new ≡ left_in_file m self.old)) }
+        ensures more { IfOk result (λ n. (n ≡ NextLine.AtEnd →
+            ⊥) → self.new.at < length self.new.buffer.items) }
         ensures outside { IfErr result (λ e. is_outside e ≡ true) }
         ensures files { S.files store.new ≡ S.files store.old }
         ensures count { Passes ExpandFault.FileError (S.failures store.old) (S.failures store.new) result }
@@ -93,7 +97,8 @@ impl OpenFile {
     /// Takes the next line.
     fn take_line<S: Store>(&mut self, alloc: Global, store: &mut S) -> Result<Line, ExpandFault>
         requires { self.old.at < length self.old.buffer.items }
-        ensures taken { IfSome (S.files store.old) (λ m. TakesLine (left_in_file m self.old) result (left_in_file m self.new)) }
+        ensures taken { IfSome (S.files store.old) (λ m.
+            TakesLine (left_in_file m self.old) result (left_in_file m self.new)) }
         ensures files { S.files store.new ≡ S.files store.old }
         ensures count { Passes ExpandFault.FileError (S.failures store.old) (S.failures store.new) result }
     {
@@ -153,7 +158,8 @@ fn begin_turn(
 ) -> Result<NextLine, ExpandFault>
     ensures same { OnOk result (turns_left replay.new next.new count ≡ turns_left replay.old next.old count) }
     ensures comes { IfOk result (λ n. ComesNext (turns_left replay.new next.new count) n) }
-    ensures ready { IfOk result (λ n. (n ≡ NextLine.AtEnd → ⊥) → replay.new.at < length replay.new.body.value.lines) }
+    ensures ready { IfOk result (λ n. (n ≡ NextLine.AtEnd →
+        ⊥) → replay.new.at < length replay.new.body.value.lines) }
     ensures inside { IfErr result (λ e. is_failure e ≡ false) }
     ensures outside { IfErr result (λ e. is_outside e ≡ true) }
 {
@@ -221,7 +227,8 @@ impl Source {
     /// Takes the next line.
     pub fn take_line<S: Store>(&mut self, alloc: Global, store: &mut S) -> Result<Line, ExpandFault>
         requires { IsReady self.old }
-        ensures taken { IfSome (S.files store.old) (λ m. TakesLine (left_in m self.old) result (left_in m self.new)) }
+        ensures taken { IfSome (S.files store.old) (λ m.
+            TakesLine (left_in m self.old) result (left_in m self.new)) }
         ensures call { is_call self.new ≡ is_call self.old }
         ensures files { S.files store.new ≡ S.files store.old }
         ensures count { Passes ExpandFault.FileError (S.failures store.old) (S.failures store.new) result }

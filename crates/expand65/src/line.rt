@@ -1,17 +1,18 @@
 //! Lines that are kept.
 
-ghost use Rattle.std.specs.Prelude.{◌≡◌, ◌++◌, false, slice_get, option_map, IfErr, IfOk, OnOk};
+ghost use Rattle.std.specs.Prelude.{◌≡◌, ◌++◌, false, slice_get, option_map, IsTrue, IfErr, IfOk, OnOk};
 ghost use Rattle.syntax65.specs.Tokens.{lexeme_of, lexemes};
 ghost use Rattle.expand65.specs.Faults.{is_failure};
-ghost use Rattle.expand65.specs.Fronts.{front_directive};
+ghost use Rattle.expand65.specs.Fronts.{front_directive, label_len};
 ghost use Rattle.expand65.specs.Kept.{tokens_in};
+ghost use Rattle.expand65.specs.Plain.{IsColon, IsColonAt, IsPlain};
 ghost use Rattle.expand65.specs.Parting.{IsParted};
 
 use crate::directives::Directive;
 use crate::fault::ExpandFault;
 use crate::fronts::{directive_in, is_mislabelled, label_len};
 use std::alloc::{AllocError, Global};
-use syntax65::{Sequence, Token, TokenKind};
+use syntax65::{Mark, Sequence, Token, TokenKind};
 
 /// What a token of a line is, and how many of the line's bytes are its own.
 #[derive(Clone, Copy, Debug)]
@@ -27,12 +28,20 @@ pub struct Line {
     pub bytes: Sequence<u8>,
 }
 
+impl Word {
+    fn is_colon(&self) -> bool
+        ensures { IsColon self.now result }
+    {
+        matches!(self.kind, TokenKind::Symbol(Mark::Colon))
+    }
+}
+
 impl Line {
     /// A line of these tokens.
     pub fn copy_of(alloc: Global, tokens: &[Token<'_>]) -> Result<Line, AllocError>
         ensures { IfOk result (λ line. tokens_in line ≡ lexemes tokens.now) }
     {
-        let mut words = Vec::new(alloc);
+        let mut words = Vec::with_capacity(alloc, tokens.len())?;
         let mut bytes = Vec::new(alloc);
         for token in tokens {
             words.push(Word {
@@ -86,11 +95,43 @@ impl Line {
         }
     }
 
+    /// Whether a word is there at a place, and is a colon.
+    fn is_colon_at(&self, at: usize) -> bool
+        ensures { IsColonAt self.now.words at result }
+    {
+        match self.words.as_slice().get(at) {
+            Some(word) => word.is_colon(),
+            None => false,
+        }
+    }
+
+    /// Whether neither of the first two words is a colon, so that the line has no label.
+    fn has_no_colon(&self) -> bool
+        ensures { IsTrue result → label_len (tokens_in self.now) ≡ 0 }
+    {
+        let first = self.is_colon_at(0);
+        if first {
+            return false;
+        }
+        let second = self.is_colon_at(1);
+        !second
+    }
+
+    /// Whether the line has no label, and no directive of expansion.
+    pub fn is_plain(&self) -> bool
+        ensures { IsTrue result → IsPlain (tokens_in self.now) }
+    {
+        self.has_no_colon() && self.directive().is_none()
+    }
+
     /// The label at the front and what stands behind it, if there is a label.
     pub fn parted(&self, alloc: Global) -> Result<Option<(Line, Line)>, ExpandFault>
         ensures parts { IsParted (tokens_in self.now) result }
         ensures inside { IfErr result (λ e. is_failure e ≡ false) }
     {
+        if self.has_no_colon() {
+            return Ok(None);
+        }
         let tokens = self.tokens(alloc)?;
         parted(alloc, tokens.as_slice())
     }

@@ -45,7 +45,8 @@ fn is_one_made(names: &[&[u8]]) -> bool
 
 /// Names with commas between them, none of which was made.
 fn new_names<'a>(alloc: Global, tokens: &[Token<'a>]) -> Result<Vec<&'a [u8]>, ExpandFault>
-    ensures names { Gives is_outside (λ v. map (λ s. s.now) v.items) result (understood (new_names (lexemes tokens.now))) }
+    ensures names { Gives is_outside (λ v. map (λ s. s.now) v.items) result
+        (understood (new_names (lexemes tokens.now))) }
     ensures inside { IfErr result (λ e. is_failure e ≡ false) }
 {
     let Some(names) = names_of(alloc, tokens)? else {
@@ -75,7 +76,8 @@ fn own_line(alloc: Global, number: u64, name: &[u8]) -> Result<Line, AllocError>
 impl Replay {
     /// One more name of the expansion's own.
     fn add_local(&mut self, alloc: Global, name: &[u8]) -> Result<(), AllocError>
-        ensures added { OnOk result (replacing_of self.new ≡ with_locals (name.now ∷ []) (replacing_of self.old)) }
+        ensures added { OnOk result
+            (replacing_of self.new ≡ with_locals (name.now ∷ []) (replacing_of self.old)) }
         ensures body { self.new.body ≡ self.old.body }
         ensures at { self.new.at ≡ self.old.at }
     {
@@ -87,7 +89,9 @@ impl Replay {
 
     /// More names of the expansion's own.
     fn add_locals(&mut self, alloc: Global, names: &[&[u8]]) -> Result<(), AllocError>
-        ensures added { OnOk result (replacing_of self.new ≡ with_locals (map (λ s. s.now) names.now) (replacing_of self.old)) }
+        ensures added { OnOk result
+            (replacing_of self.new ≡ with_locals (map (λ s. s.now) names.now)
+            (replacing_of self.old)) }
         ensures body { self.new.body ≡ self.old.body }
         ensures at { self.new.at ≡ self.old.at }
     {
@@ -102,7 +106,9 @@ impl Source {
     /// More names of an expansion's own.
     fn add_locals(&mut self, alloc: Global, names: &[&[u8]]) -> Result<(), AllocError>
         requires { is_call self.old ≡ true }
-        ensures added { (m : Files) (k : Mark) (is : List Item) → OnOk result (left_in m self.new ++ mark k ∷ is ≡ localised (map (λ s. s.now) names.now) (left_in m self.old ++ mark k ∷ is)) }
+        ensures added { (m : Files) (k : Mark) (is : List Item) →
+            OnOk result (left_in m self.new ++ mark k ∷ is ≡ localised (map (λ s. s.now) names.now)
+            (left_in m self.old ++ mark k ∷ is)) }
         ensures call { is_call self.new ≡ is_call self.old }
     {
         match self {
@@ -115,7 +121,9 @@ impl Source {
 impl Rewriter {
     /// `.local` and what stands behind it.
     pub fn add_locals(&mut self, tokens: &[Token<'_>]) -> Result<Turn, ExpandFault>
-        ensures turns { (m : Files) → Turns result (state_of m self.new) (λ r. r ≡ local_line (state_of m self.old) (lexemes tokens.now)) }
+        ensures turns { (m : Files) →
+            Turns result (state_of m self.new)
+            (λ r. r ≡ local_line (state_of m self.old) (lexemes tokens.now)) }
         ensures size { IfOk result (λ t. size_of self.new + weight_of t ≤ size_of self.old + 2) }
         ensures inside { IfErr result (λ e. is_failure e ≡ false) }
     {
@@ -132,7 +140,8 @@ impl Rewriter {
 
     /// Leaves the innermost expansion.
     pub fn exit_macro(&mut self) -> Result<Turn, ExpandFault>
-        ensures turns { (m : Files) → Turns result (state_of m self.new) (λ r. r ≡ exit_macro (state_of m self.old)) }
+        ensures turns { (m : Files) →
+            Turns result (state_of m self.new) (λ r. r ≡ exit_macro (state_of m self.old)) }
         ensures size { IfOk result (λ t. size_of self.new + weight_of t ≤ size_of self.old + 2) }
         ensures inside { IfErr result (λ e. is_failure e ≡ false) }
     {

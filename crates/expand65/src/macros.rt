@@ -35,7 +35,8 @@ pub struct Header {
 
 /// Names of which no two are alike.
 fn distinct(alloc: Global, names: &[&[u8]]) -> Result<IndexSet<Vec<u8>>, ExpandFault>
-    ensures set { Gives is_outside (λ s. map (λ k. k.items) s.keys) result (understood (distinct_of (map (λ s. s.now) names.now))) }
+    ensures set { Gives is_outside (λ s. map (λ k. k.items) s.keys) result
+        (understood (distinct_of (map (λ s. s.now) names.now))) }
     ensures inside { IfErr result (λ e. is_failure e ≡ false) }
 {
     let mut set = IndexSet::new(alloc);
@@ -50,7 +51,8 @@ fn distinct(alloc: Global, names: &[&[u8]]) -> Result<IndexSet<Vec<u8>>, ExpandF
 
 /// No parameters, or names with commas between them.
 fn params_of(alloc: Global, tokens: &[Token<'_>]) -> Result<IndexSet<Vec<u8>>, ExpandFault>
-    ensures params { Gives is_outside (λ s. map (λ k. k.items) s.keys) result (understood (params_of (lexemes tokens.now))) }
+    ensures params { Gives is_outside (λ s. map (λ k. k.items) s.keys) result
+        (understood (params_of (lexemes tokens.now))) }
     ensures inside { IfErr result (λ e. is_failure e ≡ false) }
 {
     if tokens.is_empty() {
@@ -64,7 +66,8 @@ fn params_of(alloc: Global, tokens: &[Token<'_>]) -> Result<IndexSet<Vec<u8>>, E
 
 /// A macro's name and its parameters.
 fn header_of(alloc: Global, tokens: &[Token<'_>]) -> Result<Header, ExpandFault>
-    ensures header { Gives is_outside (λ h. (h.name.items, map (λ k. k.items) h.params.keys)) result (understood (header_of (lexemes tokens.now))) }
+    ensures header { Gives is_outside (λ h. (h.name.items, map (λ k. k.items) h.params.keys)) result
+        (understood (header_of (lexemes tokens.now))) }
     ensures inside { IfErr result (λ e. is_failure e ≡ false) }
 {
     let Some((first, behind)) = tokens.split_first() else {
@@ -78,7 +81,8 @@ fn header_of(alloc: Global, tokens: &[Token<'_>]) -> Result<Header, ExpandFault>
 
 /// A macro's name, and its parameters.
 fn header_with(alloc: Global, name: &[u8], tokens: &[Token<'_>]) -> Result<Header, ExpandFault>
-    ensures header { Gives is_outside (λ h. (h.name.items, map (λ k. k.items) h.params.keys)) result (understood (header_with name.now (lexemes tokens.now))) }
+    ensures header { Gives is_outside (λ h. (h.name.items, map (λ k. k.items) h.params.keys)) result
+        (understood (header_with name.now (lexemes tokens.now))) }
     ensures inside { IfErr result (λ e. is_failure e ≡ false) }
 {
     let params = params_of(alloc, tokens)?;
@@ -93,7 +97,9 @@ impl Rewriter {
         store: &mut S,
         tokens: &[Token<'_>],
     ) -> Result<Turn, ExpandFault>
-        ensures turns { IfSome (S.files store.old) (λ m. Turns result (state_of m self.new) (IsMacro (state_of m self.old) (lexemes tokens.now))) }
+        ensures turns { IfSome (S.files store.old) (λ m.
+            Turns result (state_of m self.new)
+            (IsMacro (state_of m self.old) (lexemes tokens.now))) }
         ensures size { IfOk result (λ t. size_of self.new + weight_of t ≤ size_of self.old + 2) }
         ensures files { S.files store.new ≡ S.files store.old }
         ensures count { Passes ExpandFault.FileError (S.failures store.old) (S.failures store.new) result }
@@ -109,7 +115,9 @@ impl Rewriter {
         name: Vec<u8>,
         params: IndexSet<Vec<u8>>,
     ) -> Result<Turn, ExpandFault>
-        ensures turns { IfSome (S.files store.old) (λ m. Turns result (state_of m self.new) (IsDefined (state_of m self.old) (Some (name.items, map (λ k. k.items) params.keys)))) }
+        ensures turns { IfSome (S.files store.old) (λ m.
+            Turns result (state_of m self.new)
+            (IsDefined (state_of m self.old) (Some (name.items, map (λ k. k.items) params.keys)))) }
         ensures size { IfOk result (λ t. size_of self.new + weight_of t ≤ size_of self.old + 2) }
         ensures files { S.files store.new ≡ S.files store.old }
         ensures count { Passes ExpandFault.FileError (S.failures store.old) (S.failures store.new) result }
@@ -145,7 +153,10 @@ impl Rewriter {
 
     /// A call of a macro with what stands behind its name.
     fn call(&mut self, body: Rc<Body>, tokens: &[Token<'_>]) -> Result<Turn, ExpandFault>
-        ensures turns { (m : Files) → Turns result (state_of m self.new) (λ r. r ≡ called (state_of m self.old) (definition_of body.value) (arguments_of (lexemes tokens.now))) }
+        ensures turns { (m : Files) →
+            Turns result (state_of m self.new)
+            (λ r. r ≡ called (state_of m self.old) (definition_of body.value)
+            (arguments_of (lexemes tokens.now))) }
         ensures size { IfOk result (λ t. size_of self.new + weight_of t ≤ size_of self.old + 2) }
         ensures inside { IfErr result (λ e. is_failure e ≡ false) }
     {
@@ -159,7 +170,10 @@ impl Rewriter {
     /// The macro's lines with these arguments in them.
     fn replay(&mut self, body: Rc<Body>, arguments: Sequence<Line>) -> Result<Turn, ExpandFault>
         requires { length arguments ≤ length body.value.params.keys }
-        ensures turns { (m : Files) → Turns result (state_of m self.new) (λ r. r ≡ called (state_of m self.old) (definition_of body.value) (map tokens_in arguments)) }
+        ensures turns { (m : Files) →
+            Turns result (state_of m self.new)
+            (λ r. r ≡ called (state_of m self.old) (definition_of body.value)
+            (map tokens_in arguments)) }
         ensures size { IfOk result (λ t. size_of self.new + weight_of t ≤ size_of self.old + 2) }
         ensures inside { IfErr result (λ e. is_failure e ≡ false) }
     {
@@ -186,7 +200,9 @@ impl Rewriter {
 
     /// A line without a directive of expansion: nothing, a call or a statement.
     pub fn call_or_give(&mut self, line: Line) -> Result<Turn, ExpandFault>
-        ensures turns { (m : Files) → Turns result (state_of m self.new) (λ r. r ≡ ordinary (state_of m self.old) (tokens_in line)) }
+        ensures turns { (m : Files) →
+            Turns result (state_of m self.new)
+            (λ r. r ≡ ordinary (state_of m self.old) (tokens_in line)) }
         ensures size { IfOk result (λ t. size_of self.new + weight_of t ≤ size_of self.old + 2) }
         ensures inside { IfErr result (λ e. is_failure e ≡ false) }
     {

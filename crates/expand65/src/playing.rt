@@ -67,7 +67,8 @@ impl Replay {
 
     /// What is given for a parameter, if a name is one.
     fn argument(&self, name: &[u8]) -> StandIn<'_>
-        ensures { tokens_for result ≡ argument_at (replacing_of self.now).arguments (position (bytes_eq name.now) (replacing_of self.now).params) }
+        ensures { tokens_for result ≡ argument_at (replacing_of self.now).arguments
+            (position (bytes_eq name.now) (replacing_of self.now).params) }
     {
         match self.body.params.get_index_of(name) {
             Some(place) => self.argument_at(place),
@@ -118,7 +119,10 @@ impl Replay {
 
     /// Puts what stands for a token behind others.
     fn put<'a>(&'a self, token: Token<'a>, out: &mut Vec<Token<'a>>) -> Result<(), AllocError>
-        ensures { OnOk result (lexemes out.new.items ≡ lexemes out.old.items ++ unwrap_or (stand_in (replacing_of self.now) (lexeme_of token.entry)) (lexeme_of token.entry ∷ [])) }
+        ensures { OnOk result
+            (lexemes out.new.items ≡ lexemes out.old.items ++ unwrap_or
+            (stand_in (replacing_of self.now) (lexeme_of token.entry))
+            (lexeme_of token.entry ∷ [])) }
     {
         match self.stand_in(&token) {
             StandIn::Itself => Ok(out.push(token)?),
@@ -129,7 +133,8 @@ impl Replay {
 
     /// A line with what stands for its tokens.
     pub fn replaced(&self, alloc: Global, line: &Line) -> Result<Line, ExpandFault>
-        ensures value { Gives is_outside tokens_in result (fitted (replaced (replacing_of self.now) (tokens_in line.now))) }
+        ensures value { Gives is_outside tokens_in result
+            (fitted (replaced (replacing_of self.now) (tokens_in line.now))) }
         ensures inside { IfErr result (λ e. is_failure e ≡ false) }
     {
         let tokens = line.tokens(alloc)?;

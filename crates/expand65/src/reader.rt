@@ -65,8 +65,11 @@ impl Reader {
         alloc: Global,
         store: &mut S,
     ) -> Result<Option<Line>, ExpandFault>
-        ensures read { IfSome (S.files store.old) (λ m. Answers (λ l. (option_map tokens_in l, left_of m self.new)) self.new.place result (Takes (left_of m self.old))) }
-        ensures spent { IfSome (S.files store.old) (λ m. IfOk result (λ l. IfNone l (left_in m self.new.top.source ≡ []))) }
+        ensures read { IfSome (S.files store.old) (λ m.
+            Answers (λ l. (option_map tokens_in l, left_of m self.new)) self.new.place result
+            (Takes (left_of m self.old))) }
+        ensures spent { IfSome (S.files store.old) (λ m.
+            IfOk result (λ l. IfNone l (left_in m self.new.top.source ≡ []))) }
         ensures room { IfOk result (λ l. IfSome l (λ _. self.new.room < self.old.room)) }
         ensures less { OnOk result (self.new.room ≤ self.old.room) }
         ensures mark { mark_of self.new.top ≡ mark_of self.old.top }
@@ -93,7 +96,9 @@ impl Reader {
         alloc: Global,
         store: &mut S,
     ) -> Result<Line, ExpandFault>
-        ensures read { IfSome (S.files store.old) (λ m. Answers (λ l. (tokens_in l, left_of m self.new)) self.new.place result (TakesInBlock (left_of m self.old))) }
+        ensures read { IfSome (S.files store.old) (λ m.
+            Answers (λ l. (tokens_in l, left_of m self.new)) self.new.place result
+            (TakesInBlock (left_of m self.old))) }
         ensures room { OnOk result (self.new.room < self.old.room) }
         ensures mark { mark_of self.new.top ≡ mark_of self.old.top }
         ensures outer { self.new.outer ≡ self.old.outer }
@@ -108,7 +113,9 @@ impl Reader {
 
     /// Puts an input inside the innermost one.
     pub fn enter(&mut self, input: Input) -> Result<(), ExpandFault>
-        ensures entered { (m : Files) → Answers (λ _. left_of m self.new) self.new.place result (λ r. r ≡ pushed (left_in m input.source) (mark_of input) (left_of m self.old)) }
+        ensures entered { (m : Files) →
+            Answers (λ _. left_of m self.new) self.new.place result
+            (λ r. r ≡ pushed (left_in m input.source) (mark_of input) (left_of m self.old)) }
         ensures room { self.new.room ≡ self.old.room }
         ensures outer { OnOk result (length self.new.outer.items ≡ length self.old.outer.items + 1) }
         ensures inside { IfErr result (λ e. is_failure e ≡ false) }
@@ -124,7 +131,8 @@ impl Reader {
     /// Takes the innermost input away, unless it is the source, with the place that it goes back to; whether anything
     /// is left.
     fn drop_top(&mut self, back: &mut Option<Place>) -> bool
-        ensures left { (m : Files) → if_more result (left_of m self.new).items ≡ outside m self.old.outer.items }
+        ensures left { (m : Files) →
+            if_more result (left_of m self.new).items ≡ outside m self.old.outer.items }
         ensures back { (p : Place) → come_back p back.new ≡ come_back (come_back p back.old) self.old.top.back }
         ensures place { self.new.place ≡ self.old.place }
         ensures room { self.new.room ≡ self.old.room }
@@ -146,9 +154,13 @@ impl Reader {
 
     /// Leaves the innermost input, at whose end so many conditions are open; whether anything is left.
     pub fn leave(&mut self, conditions: usize) -> Result<bool, ExpandFault>
-        ensures left { (m : Files) → left_in m self.old.top.source ≡ [] → Answers (λ more. (if_more more (left_of m self.new).items, self.new.place)) self.new.place result (λ r. r ≡ closed conditions self.old.place (left_of m self.old).items) }
+        ensures left { (m : Files) →
+            left_in m self.old.top.source ≡ [] → Answers
+            (λ more. (if_more more (left_of m self.new).items, self.new.place)) self.new.place
+            result (λ r. r ≡ closed conditions self.old.place (left_of m self.old).items) }
         ensures room { self.new.room ≡ self.old.room }
-        ensures outer { IfOk result (λ more. IsTrue more → length self.new.outer.items < length self.old.outer.items) }
+        ensures outer { IfOk result (λ more. IsTrue more →
+            length self.new.outer.items < length self.old.outer.items) }
         ensures fewer { OnOk result (length self.new.outer.items ≤ length self.old.outer.items) }
         ensures inside { IfErr result (λ e. is_outside e ≡ false) }
     {
@@ -163,7 +175,9 @@ impl Reader {
 
     /// Leaves the innermost expansion with all that is open in it.
     pub fn leave_macro(&mut self) -> Option<MacroEnd>
-        ensures left { (m : Files) → exit_of (outside_macro (left_of m self.old).items self.old.place) ≡ end_of result (left_of m self.new).items self.new.place }
+        ensures left { (m : Files) →
+            exit_of (outside_macro (left_of m self.old).items self.old.place) ≡ end_of result
+            (left_of m self.new).items self.new.place }
         ensures none { IfNone result (self.new.place ≡ self.old.place) }
         ensures room { self.new.room ≡ self.old.room }
         ensures fewer { length self.new.outer.items ≤ length self.old.outer.items }

@@ -37,7 +37,8 @@ pub struct Header {
 
 /// Nothing, or a comma and a name.
 fn variable_of(alloc: Global, tokens: &[Token<'_>]) -> Result<IndexSet<Vec<u8>>, ExpandFault>
-    ensures variable { Gives is_outside (λ s. map (λ k. k.items) s.keys) result (understood (variable_of (lexemes tokens.now))) }
+    ensures variable { Gives is_outside (λ s. map (λ k. k.items) s.keys) result
+        (understood (variable_of (lexemes tokens.now))) }
     ensures inside { IfErr result (λ e. is_failure e ≡ false) }
 {
     let mut variable = IndexSet::new(alloc);
@@ -59,7 +60,9 @@ fn variable_of(alloc: Global, tokens: &[Token<'_>]) -> Result<IndexSet<Vec<u8>>,
 
 /// The expression of a count, and the variable, if there is one.
 fn header_of(alloc: Global, tokens: &[Token<'_>]) -> Result<Header, ExpandFault>
-    ensures header { Answers is_outside (λ h. (tree_of h.count, map (λ k. k.items) h.variable.keys)) result (λ r. (q : Result (Tree × ℕ) ExprFault) × IsParsed (lexemes tokens.now) q × (r ≡ repeat_header (lexemes tokens.now) q)) }
+    ensures header { Answers is_outside (λ h. (tree_of h.count, map (λ k. k.items) h.variable.keys))
+        result (λ r. (q : Result (Tree × ℕ) ExprFault) × IsParsed (lexemes tokens.now) q ×
+        (r ≡ repeat_header (lexemes tokens.now) q)) }
     ensures inside { IfErr result (λ e. is_failure e ≡ false) }
 {
     let (count, len) = read_expr(alloc, tokens)?;
@@ -90,7 +93,9 @@ impl Rewriter {
         knows: &K,
         tokens: &[Token<'_>],
     ) -> Result<Turn, ExpandFault>
-        ensures turns { IfSome (S.files store.old) (λ m. Turns result (state_of m self.new) (IsRepeat (K.meaning knows.now) (state_of m self.old) (lexemes tokens.now))) }
+        ensures turns { IfSome (S.files store.old) (λ m.
+            Turns result (state_of m self.new)
+            (IsRepeat (K.meaning knows.now) (state_of m self.old) (lexemes tokens.now))) }
         ensures size { IfOk result (λ t. size_of self.new + weight_of t ≤ size_of self.old + 2) }
         ensures files { S.files store.new ≡ S.files store.old }
         ensures count { Passes ExpandFault.FileError (S.failures store.old) (S.failures store.new) result }
@@ -107,7 +112,9 @@ impl Rewriter {
         count: u32,
         variable: IndexSet<Vec<u8>>,
     ) -> Result<Turn, ExpandFault>
-        ensures turns { IfSome (S.files store.old) (λ m. Turns result (state_of m self.new) (IsRepeated (state_of m self.old) (Ok (count, map (λ k. k.items) variable.keys)))) }
+        ensures turns { IfSome (S.files store.old) (λ m.
+            Turns result (state_of m self.new)
+            (IsRepeated (state_of m self.old) (Ok (count, map (λ k. k.items) variable.keys)))) }
         ensures size { IfOk result (λ t. size_of self.new + weight_of t ≤ size_of self.old + 2) }
         ensures files { S.files store.new ≡ S.files store.old }
         ensures count { Passes ExpandFault.FileError (S.failures store.old) (S.failures store.new) result }

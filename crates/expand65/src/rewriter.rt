@@ -64,7 +64,8 @@ pub struct Rewriter {
 impl Rewriter {
     /// A condition that is true, or false.
     fn decide<S: Store>(&mut self, store: &mut S, holds: bool) -> Result<Turn, ExpandFault>
-        ensures turns { IfSome (S.files store.old) (λ m. Turns result (state_of m self.new) (IsDecided (state_of m self.old) (Ok holds))) }
+        ensures turns { IfSome (S.files store.old) (λ m.
+            Turns result (state_of m self.new) (IsDecided (state_of m self.old) (Ok holds))) }
         ensures size { IfOk result (λ t. size_of self.new + weight_of t ≤ size_of self.old + 2) }
         ensures files { S.files store.new ≡ S.files store.old }
         ensures count { Passes ExpandFault.FileError (S.failures store.old) (S.failures store.new) result }
@@ -91,7 +92,9 @@ impl Rewriter {
         test: Test,
         tokens: &[Token<'_>],
     ) -> Result<Turn, ExpandFault>
-        ensures turns { IfSome (S.files store.old) (λ m. Turns result (state_of m self.new) (IsIf (K.meaning knows.now) (state_of m self.old) test (lexemes tokens.now))) }
+        ensures turns { IfSome (S.files store.old) (λ m.
+            Turns result (state_of m self.new)
+            (IsIf (K.meaning knows.now) (state_of m self.old) test (lexemes tokens.now))) }
         ensures size { IfOk result (λ t. size_of self.new + weight_of t ≤ size_of self.old + 2) }
         ensures files { S.files store.new ≡ S.files store.old }
         ensures count { Passes ExpandFault.FileError (S.failures store.old) (S.failures store.new) result }
@@ -102,7 +105,9 @@ impl Rewriter {
 
     /// An `.endif` of an open condition.
     pub fn end_if(&mut self) -> Result<Turn, ExpandFault>
-        ensures turns { (m : Files) → Turns result (state_of m self.new) (λ r. r ≡ ended_if (state_of m self.old) (last_condition (state_of m self.old))) }
+        ensures turns { (m : Files) →
+            Turns result (state_of m self.new)
+            (λ r. r ≡ ended_if (state_of m self.old) (last_condition (state_of m self.old))) }
         ensures size { IfOk result (λ t. size_of self.new + weight_of t ≤ size_of self.old + 2) }
         ensures inside { IfErr result (λ e. is_failure e ≡ false) }
     {
@@ -114,7 +119,9 @@ impl Rewriter {
 
     /// An `.elseif` or `.else` behind a condition that was true.
     pub fn pass_else<S: Store>(&mut self, store: &mut S) -> Result<Turn, ExpandFault>
-        ensures turns { IfSome (S.files store.old) (λ m. Turns result (state_of m self.new) (IsElse (state_of m self.old) (last_condition (state_of m self.old)))) }
+        ensures turns { IfSome (S.files store.old) (λ m.
+            Turns result (state_of m self.new)
+            (IsElse (state_of m self.old) (last_condition (state_of m self.old)))) }
         ensures size { IfOk result (λ t. size_of self.new + weight_of t ≤ size_of self.old + 2) }
         ensures files { S.files store.new ≡ S.files store.old }
         ensures count { Passes ExpandFault.FileError (S.failures store.old) (S.failures store.new) result }
@@ -136,7 +143,9 @@ impl Rewriter {
         knows: &K,
         line: &Line,
     ) -> Result<Turn, ExpandFault>
-        ensures turns { IfSome (S.files store.old) (λ m. Turns result (state_of m self.new) (IsIf (K.meaning knows.now) (state_of m self.old) Test.True (tokens_in line.now))) }
+        ensures turns { IfSome (S.files store.old) (λ m.
+            Turns result (state_of m self.new)
+            (IsIf (K.meaning knows.now) (state_of m self.old) Test.True (tokens_in line.now))) }
         ensures size { IfOk result (λ t. size_of self.new + weight_of t ≤ size_of self.old + 2) }
         ensures files { S.files store.new ≡ S.files store.old }
         ensures count { Passes ExpandFault.FileError (S.failures store.old) (S.failures store.new) result }
@@ -151,7 +160,9 @@ impl Rewriter {
         store: &mut S,
         tokens: &[Token<'_>],
     ) -> Result<Turn, ExpandFault>
-        ensures turns { IfSome (S.files store.old) (λ m. Turns result (state_of m self.new) (λ r. r ≡ include_line m (state_of m self.old) (lexemes tokens.now))) }
+        ensures turns { IfSome (S.files store.old) (λ m.
+            Turns result (state_of m self.new)
+            (λ r. r ≡ include_line m (state_of m self.old) (lexemes tokens.now))) }
         ensures size { IfOk result (λ t. size_of self.new + weight_of t ≤ size_of self.old + 2) }
         ensures files { S.files store.new ≡ S.files store.old }
         ensures count { Passes ExpandFault.FileError (S.failures store.old) (S.failures store.new) result }
@@ -166,7 +177,9 @@ impl Rewriter {
 
     /// The lines of a file that is there.
     fn enter_file(&mut self, file: Text) -> Result<Turn, ExpandFault>
-        ensures turns { (m : Files) → length (bytes_of m file) ≤ 16777216 → Turns result (state_of m self.new) (λ r. r ≡ included (state_of m self.old) (Ok (file_of m file))) }
+        ensures turns { (m : Files) →
+            length (bytes_of m file) ≤ 16777216 → Turns result (state_of m self.new)
+            (λ r. r ≡ included (state_of m self.old) (Ok (file_of m file))) }
         ensures size { IfOk result (λ t. size_of self.new + weight_of t ≤ size_of self.old + 2) }
         ensures inside { IfErr result (λ e. is_failure e ≡ false) }
     {
@@ -186,7 +199,9 @@ impl Rewriter {
 
     /// `.error` and what stands behind it.
     fn refuse(&mut self, tokens: &[Token<'_>]) -> Result<Turn, ExpandFault>
-        ensures turns { (m : Files) → Turns result (state_of m self.new) (λ r. r ≡ error_by (state_of m self.old) (string_of (lexemes tokens.now))) }
+        ensures turns { (m : Files) →
+            Turns result (state_of m self.new)
+            (λ r. r ≡ error_by (state_of m self.old) (string_of (lexemes tokens.now))) }
         ensures size { IfOk result (λ t. size_of self.new + weight_of t ≤ size_of self.old + 2) }
         ensures inside { IfErr result (λ e. is_failure e ≡ false) }
     {
@@ -205,7 +220,9 @@ impl Rewriter {
         tokens: &[Token<'_>],
     ) -> Result<Turn, ExpandFault>
         requires { stands_alone directive ≡ true }
-        ensures turns { IfSome (S.files store.old) (λ m. (k : Meaning) → Turns result (state_of m self.new) (IsDirected m k (state_of m self.old) directive (lexemes tokens.now))) }
+        ensures turns { IfSome (S.files store.old) (λ m.
+            (k : Meaning) → Turns result (state_of m self.new)
+            (IsDirected m k (state_of m self.old) directive (lexemes tokens.now))) }
         ensures size { IfOk result (λ t. size_of self.new + weight_of t ≤ size_of self.old + 2) }
         ensures files { S.files store.new ≡ S.files store.old }
         ensures count { Passes ExpandFault.FileError (S.failures store.old) (S.failures store.new) result }
@@ -231,7 +248,10 @@ impl Rewriter {
         directive: Directive,
         tokens: &[Token<'_>],
     ) -> Result<Turn, ExpandFault>
-        ensures turns { IfSome (S.files store.old) (λ m. Turns result (state_of m self.new) (IsDirected m (K.meaning knows.now) (state_of m self.old) directive (lexemes tokens.now))) }
+        ensures turns { IfSome (S.files store.old) (λ m.
+            Turns result (state_of m self.new)
+            (IsDirected m (K.meaning knows.now) (state_of m self.old) directive
+            (lexemes tokens.now))) }
         ensures size { IfOk result (λ t. size_of self.new + weight_of t ≤ size_of self.old + 2) }
         ensures files { S.files store.new ≡ S.files store.old }
         ensures count { Passes ExpandFault.FileError (S.failures store.old) (S.failures store.new) result }
@@ -257,7 +277,10 @@ impl Rewriter {
         knows: &K,
         line: Line,
     ) -> Result<Turn, ExpandFault>
-        ensures turns { IfSome (S.files store.old) (λ m. Turns result (state_of m self.new) (IsActed m (K.meaning knows.now) (state_of m self.old) (tokens_in line) (front_directive (tokens_in line)))) }
+        ensures turns { IfSome (S.files store.old) (λ m.
+            Turns result (state_of m self.new)
+            (IsActed m (K.meaning knows.now) (state_of m self.old) (tokens_in line)
+            (front_directive (tokens_in line)))) }
         ensures size { IfOk result (λ t. size_of self.new + weight_of t ≤ size_of self.old + 2) }
         ensures files { S.files store.new ≡ S.files store.old }
         ensures count { Passes ExpandFault.FileError (S.failures store.old) (S.failures store.new) result }
@@ -278,7 +301,10 @@ impl Rewriter {
         knows: &K,
         line: Line,
     ) -> Result<Turn, ExpandFault>
-        ensures turns { IfSome (S.files store.old) (λ m. Turns result (state_of m self.new) (IsLabelled m (K.meaning knows.now) (state_of m self.old) (tokens_in line) (is_mislabelled (tokens_in line)))) }
+        ensures turns { IfSome (S.files store.old) (λ m.
+            Turns result (state_of m self.new)
+            (IsLabelled m (K.meaning knows.now) (state_of m self.old) (tokens_in line)
+            (is_mislabelled (tokens_in line)))) }
         ensures size { IfOk result (λ t. size_of self.new + weight_of t ≤ size_of self.old + 2) }
         ensures files { S.files store.new ≡ S.files store.old }
         ensures count { Passes ExpandFault.FileError (S.failures store.old) (S.failures store.new) result }
@@ -291,7 +317,9 @@ impl Rewriter {
 
     /// The end mark of the innermost input.
     fn end_input(&mut self) -> Result<Turn, ExpandFault>
-        ensures turns { (m : Files) → left_in m self.old.reader.top.source ≡ [] → Turns result (state_of m self.new) (λ r. r ≡ at_mark (state_of m self.old) (left_of m self.old.reader).items) }
+        ensures turns { (m : Files) →
+            left_in m self.old.reader.top.source ≡ [] → Turns result (state_of m self.new)
+            (λ r. r ≡ at_mark (state_of m self.old) (left_of m self.old.reader).items) }
         ensures size { IfOk result (λ t. size_of self.new + weight_of t < size_of self.old + 1) }
         ensures inside { IfErr result (λ e. is_failure e ≡ false) }
     {
@@ -308,7 +336,9 @@ impl Rewriter {
         store: &mut S,
         knows: &K,
     ) -> Result<Turn, ExpandFault>
-        ensures turns { IfSome (S.files store.old) (λ m. Turns result (state_of m self.new) (IsStep m (K.meaning knows.now) (state_of m self.old))) }
+        ensures turns { IfSome (S.files store.old) (λ m.
+            Turns result (state_of m self.new)
+            (IsStep m (K.meaning knows.now) (state_of m self.old))) }
         ensures size { IfOk result (λ t. size_of self.new + weight_of t < size_of self.old + 1) }
         ensures files { S.files store.new ≡ S.files store.old }
         ensures count { Passes ExpandFault.FileError (S.failures store.old) (S.failures store.new) result }

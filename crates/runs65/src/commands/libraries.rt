@@ -295,23 +295,23 @@ fn answers_for_each_changed_bit(rt: HostRuntime) -> Result<(), Fail> {
     let mut members = Vec::new(alloc);
     members.push(honest_member(alloc, b'a', b"", b"f")?)?;
     let (mut bytes, _) = library(alloc, members.as_slice())?;
-    let mut linked = 0;
+    let mut linked: usize = 0;
     for place in 0..bytes.len() {
         let old = bytes[place];
-        for bit in 0..8 {
-            bytes[place] = old ^ 1 << bit;
+        for bit in [1, 2, 4, 8, 16, 32, 64, 128] {
+            bytes[place] = old ^ bit;
             let mut store = files(alloc, b"f", &[])?;
             store.put("l", bytes.as_slice())?;
             let ran = run_on(alloc, &mut store, &LINK);
             let is_linked = ran.status == Status::Success;
             assert!(rt; store.get("out").is_some() == is_linked);
             assert!(rt; is_linked || ran.err.as_slice().ends_with(b"\n"));
-            linked += is_linked as usize;
+            linked = linked.saturating_add(is_linked as usize);
         }
         bytes[place] = old;
     }
     // All bits of the member's byte, and of its export's value and line, may be others.
-    assert!(rt; 8 + 64 + 32 <= linked && linked < 8 * bytes.len());
+    assert!(rt; 8 + 64 + 32 <= linked && linked < bytes.len().saturating_mul(8));
     Ok(())
 }
 
@@ -359,11 +359,12 @@ fn reads_only_what_is_needed(rt: HostRuntime) -> Result<(), Fail> {
             read: 0,
         };
         run_on(alloc, &mut store, &LINK);
-        let needed: usize = members.as_slice()[..taken]
-            .iter()
-            .map(|m| m.bytes.len())
-            .sum();
-        assert_eq!(rt; store.read, 4 + index + 1 + needed);
+        assert!(rt; taken <= members.len());
+        let mut needed = index.saturating_add(4 + 1);
+        for member in &members.as_slice()[..taken] {
+            needed = needed.saturating_add(member.bytes.len());
+        }
+        assert_eq!(rt; store.read, needed);
     }
     Ok(())
 }

@@ -1,6 +1,7 @@
 pub mod Faults
 pub mod Language
 pub mod Laid
+pub mod Symbols
 pub mod Names
 pub mod Norms
 pub mod Sizes

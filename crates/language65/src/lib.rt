@@ -9,5 +9,5 @@ mod language;
 
 pub use contents::{Content, Part, Said, Segment};
 pub use fault::{AsmFault, SourceFault};
-pub use laid::{Laid, Settled, Spot};
+pub use laid::Spot;
 pub use language::{Index, Item, Operand, Statement};

@@ -1,0 +1,14 @@
+pub mod Aheads
+pub mod Contents
+pub mod Finishes
+pub mod Holding
+pub mod OneLayouts
+pub mod Passes
+pub mod Segments
+pub mod Simulations
+pub mod SoundContents
+pub mod SoundForms
+pub mod SoundLayouts
+pub mod SoundParts
+pub mod SoundSayings
+pub mod Tables

@@ -1,0 +1,199 @@
+-- One pass over the lines, and then over what waits, comes to the contents of all statements.
+use Rattle.std.proofs.Common.{◌≡◌, ◌∙◌, ℕ, ◌+◌, List, [], ◌∷◌, ◌++◌, length, map, Option, Some, None, refl, sym, ap, subst, arith}
+use Rattle.std.specs.Prelude.{Result, Ok, Err}
+use Rattle.std.proofs.lemmas.List.{append-nil, length-append}
+use Rattle.syntax65.specs.Outcome.{◌>>=◌}
+use Rattle.language65.specs.declared.fault.AsmFault.{AsmFault}
+use Rattle.language65.specs.Language.{Stated}
+use Rattle.language65.specs.Laid.{Laid, Place, Spot, asks_section}
+use Rattle.language65.specs.Layout.{Layout, laid, layout_behind, nothing_laid, standing_behind}
+use Rattle.language65.specs.LineFaults.{line_fault}
+use Rattle.language65.specs.Symbols.{Symbols, symbols_of}
+use Rattle.module65.specs.Laws.{OnePass, StandsFor}
+use Rattle.module65.specs.Laying.{IsLaid, unless_fault}
+use Rattle.module65.specs.Machine.{Extends, Finished, Puts, at_once, later, PutsAll, Slot, awaited, holds, State, Steps, Takes, UnlessFault, Waiting, asked, begun, filled, known, symbols_behind, before_it}
+use Rattle.module65.specs.Module.{out_of, printed, warned, warning_of}
+use Rattle.module65.specs.Pieces.{Entry, Made, Piece, asked_by, made_of, pieces_of}
+use Rattle.module65.proofs.Contents.{all_append, all_made, made_of_pieces, piece_made, pieces_made}
+use Rattle.module65.proofs.Finishes.{after, after_after, after_nothing, awaited_in, come, come_append, nothing, placed}
+use Rattle.module65.proofs.Simulations.{Matches, Simulates, taken_matches}
+use Rattle.module65.proofs.Tables.{extends_behind, extends_same, extends_then, flat_push, symbols_push}
+
+-- ---- Pieces that are put.
+
+awaited_append : (olds news : List Slot) → awaited_in (olds ++ news) ≡ awaited_in olds + awaited_in news
+awaited_append [] news = omega arith
+awaited_append (holds e ∷ olds) news = awaited_append olds news
+awaited_append (awaited ∷ olds) news = let more = awaited_append olds news in omega (arith, more)
+
+none_awaited : (es : List Entry) → awaited_in (map holds es) ≡ 0
+none_awaited [] = refl
+none_awaited (e ∷ es) = none_awaited es
+
+filled_held : (es : List Entry) → filled (map holds es) [] ≡ es
+filled_held [] = refl
+filled_held (e ∷ es) = ap (λ fs. e ∷ fs) (filled_held es)
+
+come_held : (z : Symbols) (es : List Entry) → come z (map holds es) [] ≡ record { found = Ok es; warned = [] }
+come_held z es = ap (λ (fs : List Entry). record { found = Ok fs; warned = [] }) (filled_held es)
+
+-- one awaited slot with what was found
+abbrev one_filled : Finished (List Entry) → Finished Entry
+one_filled r = record { found = r.found >>= (λ ess. Ok (filled (awaited ∷ []) ess)); warned = r.warned }
+
+abbrev ended : List Entry → List ℕ → Finished Entry
+ended es said = record { found = Ok es; warned = said }
+
+come_waiting : (z : Symbols) (w : Waiting) → come z (awaited ∷ []) (w ∷ []) ≡ piece_made z w.place w.spot w.piece
+come_waiting z w = by (made_of z w.place w.spot w.piece)
+  where
+    by : (r : Result Made AsmFault) → one_filled (before_it w.place r nothing) ≡ placed w.place (λ m. m.entries) r
+    by (Ok m) = ap (λ es. ended es (m.warning ++ [])) (append-nil m.entries) ∙ ap (ended m.entries) (append-nil m.warning)
+    by (Err e) = refl
+
+-- slots and what waits, whose count is the same, come to this behind others, by each table that extends this one
+record Comes (y : Symbols) (slots : List Slot) (ws : List Waiting) (made : Symbols → Finished Entry) : Type 0 where
+  count : awaited_in slots ≡ length ws
+  found : (z : Symbols) → Extends y z → come z slots ws ≡ made z
+
+comes_entered : (y : Symbols) (slots : List Slot) (ws : List Waiting) (made : Symbols → Finished Entry) (es : List Entry) → Comes y slots ws made → Comes y (slots ++ map holds es) ws (λ z. after (made z) (record { found = Ok es; warned = [] }))
+comes_entered y slots ws made es c = record {
+  count = awaited_append slots (map holds es) ∙ (let none = none_awaited es in let count = c.count in omega (arith, none, count));
+  found = λ z e.
+      ap (come z (slots ++ map holds es)) (sym (append-nil ws))
+      ∙ come_append z slots (map holds es) ws [] c.count
+      ∙ ap (after (come z slots ws)) (come_held z es)
+      ∙ ap (λ a. after a (record { found = Ok es; warned = [] })) (c.found z e);
+}
+
+comes_waiting : (y : Symbols) (slots : List Slot) (ws : List Waiting) (made : Symbols → Finished Entry) (w : Waiting) → Comes y slots ws made → Comes y (slots ++ awaited ∷ []) (ws ++ w ∷ []) (λ z. after (made z) (piece_made z w.place w.spot w.piece))
+comes_waiting y slots ws made w c = record {
+  count = awaited_append slots (awaited ∷ []) ∙ (let count = c.count in let long : length (ws ++ w ∷ []) ≡ length ws + 1 = length-append ws (w ∷ []) in omega (arith, count, long));
+  found = λ z e.
+      come_append z slots (awaited ∷ []) ws (w ∷ []) c.count
+      ∙ ap (after (come z slots ws)) (come_waiting z w)
+      ∙ ap (λ a. after a (piece_made z w.place w.spot w.piece)) (c.found z e);
+}
+
+comes_same : (y : Symbols) (slots : List Slot) (ws : List Waiting) (made more : Symbols → Finished Entry) → ((z : Symbols) → Extends y z → made z ≡ more z) → Comes y slots ws made → Comes y slots ws more
+comes_same y slots ws made more same c = record { count = c.count; found = λ z e. c.found z e ∙ same z e }
+
+-- a state in which statements' table, standing and texts are these
+abbrev holding : State → List Slot → List Waiting → State
+holding t slots ws = record t { slots = slots; waiting = ws }
+
+-- what a step adds to a state: slots and what waits, nothing else
+record Adds (t u : State) (old new : Symbols → Finished Entry) : Type 0 where
+  slots : List Slot
+  waiting : List Waiting
+  same : u ≡ holding t slots waiting
+  comes : Comes t.symbols slots waiting new
+
+put_one : (place : Place) (s : Spot) (t u : State) (p : Piece) (made : Symbols → Finished Entry) → Comes t.symbols t.slots t.waiting made → Puts place s t p u → Adds t u made (λ z. after (made z) (piece_made z place s p))
+put_one place s t _ p made c (at_once es settled) = record {
+  slots = t.slots ++ map holds es;
+  waiting = t.waiting;
+  same = refl;
+  comes = comes_same t.symbols (t.slots ++ map holds es) t.waiting (λ z. after (made z) (record { found = Ok es; warned = [] })) (λ z. after (made z) (piece_made z place s p)) (λ z e. ap (λ r. after (made z) (placed place (λ (m : Made). m.entries) r)) (sym (settled z e))) (comes_entered t.symbols t.slots t.waiting made es c);
+}
+put_one place s t _ p made c later = record {
+  slots = t.slots ++ awaited ∷ [];
+  waiting = t.waiting ++ record { place = place; spot = s; piece = p } ∷ [];
+  same = refl;
+  comes = comes_waiting t.symbols t.slots t.waiting made (record { place = place; spot = s; piece = p }) c;
+}
+
+put_all : (place : Place) (s : Spot) (t u : State) (ps : List Piece) (made : Symbols → Finished Entry) → Comes t.symbols t.slots t.waiting made → PutsAll place s t ps u → Adds t u made (λ z. after (made z) (pieces_made z place s ps))
+put_all place s t u [] made c h = record {
+  slots = t.slots;
+  waiting = t.waiting;
+  same = h;
+  comes = comes_same t.symbols t.slots t.waiting made (λ z. after (made z) nothing) (λ z e. sym (after_nothing (made z))) c;
+}
+put_all place s t u (p ∷ ps) made c h =
+    let one = put_one place s t h.0 p made c h.1 in
+    let v = holding t one.slots one.waiting in
+    let puts : PutsAll place s v ps u = subst (λ w. PutsAll place s w ps u) one.same h.2 in
+    let all = put_all place s v u ps (λ z. after (made z) (piece_made z place s p)) one.comes puts in
+    record {
+      slots = all.slots;
+      waiting = all.waiting;
+      same = all.same;
+      comes = comes_same t.symbols all.slots all.waiting (λ z. after (after (made z) (piece_made z place s p)) (pieces_made z place s ps)) (λ z. after (made z) (pieces_made z place s (p ∷ ps))) (λ z e. after_after (made z) (piece_made z place s p) (pieces_made z place s ps)) all.comes;
+    }
+
+-- ---- Statements.
+
+-- a state with the table, the standing and the texts of laid statements
+abbrev state_for : Layout → List Slot → List Waiting → State
+state_for y slots ws = record { symbols = symbols_of y.laid; standing = y.standing; slots = slots; waiting = ws; out = printed y.laid; err = warned y.laid }
+
+record Follows (y : Layout) (t : State) : Type 0 where
+  slots : List Slot
+  waiting : List Waiting
+  same : t ≡ state_for y slots waiting
+  comes : Comes (symbols_of y.laid) slots waiting (λ z. all_made z y.laid)
+
+-- what is known behind a statement is what is known of it and those before it
+known_for : (y : Layout) (place : Place) (x : Stated) (slots : List Slot) (ws : List Waiting) → known (state_for y slots ws) (laid (symbols_of y.laid) y.standing place x) ≡ state_for (layout_behind y place x) slots ws
+known_for y place x slots ws =
+    let l = laid (symbols_of y.laid) y.standing place x in
+    let z = symbols_behind (symbols_of y.laid) l in
+    let w = standing_behind (symbols_of y.laid) y.standing x in
+    ap (λ (symbols : Symbols). record { symbols = symbols; standing = w; slots = slots; waiting = ws; out = printed y.laid ++ out_of x; err = warned y.laid ++ warning_of place x }) (sym (symbols_push y.laid l))
+    ∙ ap (λ (said : List ℕ). record { symbols = symbols_of (y.laid ++ l ∷ []); standing = w; slots = slots; waiting = ws; out = said; err = warned y.laid ++ warning_of place x }) (sym (flat_push (λ (m : Laid). out_of m.stated) y.laid l))
+    ∙ ap (λ (said : List ℕ). record { symbols = symbols_of (y.laid ++ l ∷ []); standing = w; slots = slots; waiting = ws; out = printed (y.laid ++ l ∷ []); err = said }) (sym (flat_push (λ (m : Laid). warning_of m.place m.stated) y.laid l))
+
+statement_follows : (y : Layout) (slots : List Slot) (ws : List Waiting) (place : Place) (x : Stated) (u : State) → Comes (symbols_of y.laid) slots ws (λ z. all_made z y.laid) → (let l : Laid = laid (symbols_of y.laid) y.standing place x in PutsAll place l.spot (asked (state_for y slots ws) l) (pieces_of l.length l.settled x) u → Follows (layout_behind y place x) (known u l))
+statement_follows y slots ws place x u c puts =
+    let l = laid (symbols_of y.laid) y.standing place x in
+    let es : List Entry = asked_by l.spot.segment (asks_section x) in
+    let asks : Finished Entry = record { found = Ok es; warned = [] } in
+    let all = put_all place l.spot (asked (state_for y slots ws) l) u (pieces_of l.length l.settled x) (λ z. after (all_made z y.laid) asks) (comes_entered (symbols_of y.laid) slots ws (λ z. all_made z y.laid) es c) puts in
+    let whole = comes_same (symbols_of y.laid) all.slots all.waiting (λ z. after (after (all_made z y.laid) asks) (pieces_made z place l.spot (pieces_of l.length l.settled x))) (λ z. all_made z (y.laid ++ l ∷ [])) (λ z e. after_after (all_made z y.laid) asks (pieces_made z place l.spot (pieces_of l.length l.settled x)) ∙ ap (after (all_made z y.laid)) (sym (made_of_pieces z l)) ∙ sym (all_append z y.laid l)) all.comes in
+    record {
+      slots = all.slots;
+      waiting = all.waiting;
+      same = ap (λ v. known v l) all.same ∙ known_for y place x all.slots all.waiting;
+      comes = record {
+        count = whole.count;
+        found = λ z e. whole.found z (extends_then (symbols_of y.laid) (symbols_of (y.laid ++ l ∷ [])) z (subst (Extends (symbols_of y.laid)) (sym (symbols_push y.laid l)) (extends_behind (symbols_of y.laid) l)) e);
+      };
+    }
+
+step_follows : (y : Layout) (slots : List Slot) (ws : List Waiting) (place : Place) (x : Stated) (r : Result State AsmFault) → Comes (symbols_of y.laid) slots ws (λ z. all_made z y.laid) → (o : Option AsmFault) → UnlessFault o (Steps (state_for y slots ws) (laid (symbols_of y.laid) y.standing place x)) r → Matches Follows (λ q. q ≡ unless_fault o (layout_behind y place x)) r
+step_follows y slots ws place x r c (Some e) is = subst (Matches Follows (λ q. q ≡ Err e)) (sym is) refl
+step_follows y slots ws place x r c None is =
+    let l = laid (symbols_of y.laid) y.standing place x in
+    subst (Matches Follows (λ q. q ≡ Ok (layout_behind y place x))) (sym is.2) (layout_behind y place x, refl, statement_follows y slots ws place x is.0 c is.1)
+
+takes_follows : Simulates Follows IsLaid Takes
+takes_follows y t place x r follows takes =
+    let takes' : Takes (state_for y follows.slots follows.waiting) place x r = subst (λ v. Takes v place x r) follows.same takes in
+    step_follows y follows.slots follows.waiting place x r follows.comes (line_fault (symbols_of y.laid) y.standing x) takes'
+
+-- ---- All lines.
+
+begun_follows : Follows nothing_laid begun
+begun_follows = record { slots = []; waiting = []; same = refl; comes = record { count = refl; found = λ z e. refl } }
+
+same_scope : (y : Layout) (t : State) → Follows y t → y.standing.scope ≡ t.standing.scope
+same_scope y t follows = ap (λ (v : State). v.standing.scope) (sym follows.same)
+
+stands_for : (y : Layout) (slots : List Slot) (ws : List Waiting) → Comes (symbols_of y.laid) slots ws (λ z. all_made z y.laid) → StandsFor y (state_for y slots ws)
+stands_for y slots ws c =
+    let all = c.found (symbols_of y.laid) (extends_same (symbols_of y.laid)) in
+    record {
+      symbols = refl;
+      standing = refl;
+      out = refl;
+      err = refl;
+      found = ap (λ (f : Finished Entry). f.found) all;
+      asserted = ap (λ (f : Finished Entry). f.warned) all;
+    }
+
+pub one_pass : OnePass
+one_pass file texts r runs =
+    let all = taken_matches Follows IsLaid Takes (λ (y : Layout). y.standing.scope) (λ (t : State). t.standing.scope) takes_follows same_scope file nothing_laid begun 0 texts r begun_follows runs in
+    let follows : Follows all.0 r.behind = all.2 in
+    (all.0, all.1, subst (StandsFor all.0) (sym follows.same) (stands_for all.0 follows.slots follows.waiting follows.comes))

@@ -1,0 +1,23 @@
+//! What holds of the definitions, each as the contract of a function that does nothing.
+
+ghost use Rattle.module65.specs.Laws.{OneLayout, OnePass, SoundContents, SoundLayoutLaw};
+
+/// A source is laid in one way at most.
+pub fn one_layout()
+    ensures { OneLayout }
+{}
+
+/// What lines lay is sound: names are names, and each section has room.
+pub fn sound_layout()
+    ensures { SoundLayoutLaw }
+{}
+
+/// The contents of a sound layout are sound.
+pub fn sound_contents()
+    ensures { SoundContents }
+{}
+
+/// One pass over the lines, and then over what waits, comes to the contents of all statements.
+pub fn one_pass()
+    ensures { OnePass }
+{}

@@ -1,5 +1,6 @@
 pub mod Aheads
 pub mod Contents
+pub mod Entries
 pub mod Finishes
 pub mod Holding
 pub mod OneLayouts

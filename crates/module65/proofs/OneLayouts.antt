@@ -1,7 +1,6 @@
 -- A source is laid in one way at most.
 use Rattle.std.proofs.Common.{◌∙◌, ℕ, ◌+◌, List, [], ◌∷◌, sym, subst}
 use Rattle.std.specs.Prelude.{Option, Some, None, Result, Ok, Err}
-use Rattle.syntax65.specs.Outcome.{First}
 use Rattle.syntax65.specs.Tokens.{Lexeme, IsRead}
 use Rattle.syntax65.proofs.Readings.{one_reading}
 use Rattle.language65.specs.declared.fault.AsmFault.{AsmFault}
@@ -13,7 +12,7 @@ use Rattle.statements65.proofs.OneStatements.{One, first_one, followed_one, same
 use Rattle.module65.specs.Laws.{OneLayout}
 use Rattle.module65.specs.Laying.{IsLaid, with_statement}
 use Rattle.module65.specs.Lines.{counted, tokens_in}
-use Rattle.module65.specs.Reading.{AreTaken, Behind, IsLabelled, IsLine, IsRest, IsText, Reached, line_of}
+use Rattle.module65.specs.Reading.{AreTaken, Behind, IsLabelled, IsLine, IsReading, IsRest, IsText, Reached, line_of}
 
 label_one : (y : Layout) (place : Place) (o : Option Stated) → One (IsLabelled IsLaid y place o)
 label_one y place None = same_one (Ok y)
@@ -28,7 +27,7 @@ line_one y place ts = followed_one (IsLabelled IsLaid y place (label_of ts).0) (
 
 text_one : (y : Layout) (place : Place) (text : List ℕ) → One (IsText IsLaid y place text)
 text_one y place text =
-    first_one (counted place.line) (λ u. λ s. (tokens : _) × IsRead text tokens × First (tokens_in tokens) (IsLine IsLaid y place) s)
+    first_one (counted place.line) (λ u. IsReading IsLaid y place text)
     (λ u. followed_one (IsRead text) tokens_in (IsLine IsLaid y place) (one_reading text) (line_one y place))
 
 abbrev inner : Layout → ℕ

@@ -3,18 +3,24 @@ use Rattle.std.proofs.Common.{◌≡◌, ◌∙◌, ℕ, ◌+◌, List, [], ◌�
 use Rattle.std.specs.Prelude.{Result, Ok, Err}
 use Rattle.std.proofs.lemmas.List.{append-nil, length-append}
 use Rattle.syntax65.specs.Outcome.{◌>>=◌}
+use Rattle.object65.specs.declared.object.Object.{Object}
+use Rattle.language65.specs.declared.contents.Content.{Content}
+use Rattle.language65.specs.declared.contents.Segment.{Segment}
 use Rattle.language65.specs.declared.fault.AsmFault.{AsmFault}
 use Rattle.language65.specs.Language.{Stated}
 use Rattle.language65.specs.Laid.{Laid, Place, Spot, asks_section}
-use Rattle.language65.specs.Layout.{Layout, laid, layout_behind, nothing_laid, standing_behind}
+use Rattle.language65.specs.Layout.{Layout, Standing, laid, layout_behind, nothing_laid, standing_behind}
 use Rattle.language65.specs.LineFaults.{line_fault}
+use Rattle.language65.specs.Numbering.{object_with}
 use Rattle.language65.specs.Symbols.{Symbols, symbols_of}
-use Rattle.module65.specs.Laws.{OnePass, StandsFor}
+use Rattle.module65.specs.Laws.{LaidRuns, OnePass, RunsLaid, StandsFor, all_entries}
 use Rattle.module65.specs.Laying.{IsLaid, unless_fault}
-use Rattle.module65.specs.Machine.{Extends, Finished, Puts, at_once, later, PutsAll, Slot, awaited, holds, State, Steps, Takes, UnlessFault, Waiting, asked, begun, filled, known, symbols_behind, before_it}
-use Rattle.module65.specs.Module.{out_of, printed, warned, warning_of}
+use Rattle.module65.specs.Machine.{Extends, Finished, Puts, at_once, later, PutsAll, Slot, awaited, holds, State, Steps, Takes, UnlessFault, Waiting, asked, awaiting, before_it, begun, concluded, filled, finished, known, object_from, symbols_behind}
+use Rattle.module65.specs.Lines.{PlacedFault}
+use Rattle.module65.specs.Module.{Assembled, asserted, contents_from, out_of, outcome_of, printed, warned, warning_of}
 use Rattle.module65.specs.Pieces.{Entry, Made, Piece, asked_by, made_of, pieces_of}
 use Rattle.module65.proofs.Contents.{all_append, all_made, made_of_pieces, piece_made, pieces_made}
+use Rattle.module65.proofs.Entries.{same_object}
 use Rattle.module65.proofs.Finishes.{after, after_after, after_nothing, awaited_in, come, come_append, nothing, placed}
 use Rattle.module65.proofs.Simulations.{Matches, Simulates, taken_matches}
 use Rattle.module65.proofs.Tables.{extends_behind, extends_same, extends_then, flat_push, symbols_push}
@@ -192,8 +198,67 @@ stands_for y slots ws c =
       asserted = ap (λ (f : Finished Entry). f.warned) all;
     }
 
-pub one_pass : OnePass
-one_pass file texts r runs =
+pub runs_laid : RunsLaid
+runs_laid file texts r runs =
     let all = taken_matches Follows IsLaid Takes (λ (y : Layout). y.standing.scope) (λ (t : State). t.standing.scope) takes_follows same_scope file nothing_laid begun 0 texts r begun_follows runs in
     let follows : Follows all.0 r.behind = all.2 in
     (all.0, all.1, subst (StandsFor all.0) (sym follows.same) (stands_for all.0 follows.slots follows.waiting follows.comes))
+
+-- ---- What is answered.
+
+-- the object of what was found is that of the contents
+found_object : (segments : List Segment) (names : List (List ℕ)) (r : Result (List Content) PlacedFault) → ((r >>= (λ cs. Ok (all_entries cs))) >>= (λ es. Ok (object_from segments names es))) ≡ (r >>= (λ cs. Ok (object_with segments names cs)))
+found_object segments names (Ok cs) = ap Ok (same_object segments names cs)
+found_object segments names (Err e) = refl
+
+-- what is answered, by what stands behind the last line
+abbrev answered : Symbols → Standing → Result (List Entry) PlacedFault → (out err : List ℕ) → Assembled
+answered z w r out err = record { result = r >>= (λ es. Ok (object_from w.segments z.imports es)); out = out; err = err }
+
+concluded_for : (y : Layout) (t : State) (fault : Option PlacedFault) → StandsFor y t → concluded t fault ≡ outcome_of y fault
+concluded_for y t None for =
+    let z = symbols_of y.laid in
+    ap (λ r. answered t.symbols t.standing r t.out (t.err ++ (finished t).warned)) for.found
+    ∙ ap (λ w. answered t.symbols t.standing (contents_from t.symbols y.laid >>= (λ cs. Ok (all_entries cs))) t.out (t.err ++ w)) for.asserted
+    ∙ ap (λ (v : Symbols). answered v t.standing (contents_from v y.laid >>= (λ cs. Ok (all_entries cs))) t.out (t.err ++ asserted v y.laid)) for.symbols
+    ∙ ap (λ (w : Standing). answered z w (contents_from z y.laid >>= (λ cs. Ok (all_entries cs))) t.out (t.err ++ asserted z y.laid)) for.standing
+    ∙ ap (λ out. answered z y.standing (contents_from z y.laid >>= (λ cs. Ok (all_entries cs))) out (t.err ++ asserted z y.laid)) for.out
+    ∙ ap (λ err. answered z y.standing (contents_from z y.laid >>= (λ cs. Ok (all_entries cs))) (printed y.laid) (err ++ asserted z y.laid)) for.err
+    ∙ ap (λ (r : Result Object PlacedFault). record { result = r; out = printed y.laid; err = warned y.laid ++ asserted z y.laid }) (found_object y.standing.segments z.imports (contents_from z y.laid))
+concluded_for y t (Some e) for =
+    ap (λ (out : List ℕ). record { result = Err e; out = out; err = t.err }) for.out
+    ∙ ap (λ (err : List ℕ). record { result = Err e; out = printed y.laid; err = err }) for.err
+
+pub one_pass : OnePass
+one_pass file texts r runs =
+    let laid = runs_laid file texts r runs in
+    (record { behind = laid.0; fault = r.fault }, laid.1, concluded_for laid.0 r.behind r.fault laid.2)
+
+-- ---- Whatever is laid can be reached.
+
+-- every piece may wait
+all_wait : (place : Place) (s : Spot) (t : State) (ps : List Piece) → (u : State) × PutsAll place s t ps u
+all_wait place s t [] = (t, refl)
+all_wait place s t (p ∷ ps) =
+    let v = awaiting t (record { place = place; spot = s; piece = p }) in
+    let rest = all_wait place s v ps in
+    (rest.0, (v, later, rest.1))
+
+laid_steps : (y : Layout) (slots : List Slot) (ws : List Waiting) (place : Place) (x : Stated) → Comes (symbols_of y.laid) slots ws (λ z. all_made z y.laid) → (o : Option AsmFault) → Matches (λ t z. Follows z t) (λ q. UnlessFault o (Steps (state_for y slots ws) (laid (symbols_of y.laid) y.standing place x)) q) (unless_fault o (layout_behind y place x))
+laid_steps y slots ws place x c (Some e) = refl
+laid_steps y slots ws place x c None =
+    let l = laid (symbols_of y.laid) y.standing place x in
+    let put = all_wait place l.spot (asked (state_for y slots ws) l) (pieces_of l.length l.settled x) in
+    (known put.0 l, (put.0, put.1, refl), statement_follows y slots ws place x put.0 c put.1)
+
+laid_takes : Simulates (λ t z. Follows z t) Takes IsLaid
+laid_takes t y place x r follows is =
+    let o = line_fault (symbols_of y.laid) y.standing x in
+    let m = laid_steps y follows.slots follows.waiting place x follows.comes o in
+    let there : Matches (λ t z. Follows z t) (Takes t place x) (unless_fault o (layout_behind y place x)) = subst (λ v. Matches (λ t z. Follows z t) (Takes v place x) (unless_fault o (layout_behind y place x))) (sym follows.same) m in
+    subst (Matches (λ t z. Follows z t) (Takes t place x)) (sym is) there
+
+pub laid_runs : LaidRuns
+laid_runs file texts r laid =
+    let all = taken_matches (λ t z. Follows z t) Takes IsLaid (λ (t : State). t.standing.scope) (λ (y : Layout). y.standing.scope) laid_takes (λ t y follows. sym (same_scope y t follows)) file begun nothing_laid 0 texts r begun_follows laid in
+    (all.0, all.1)

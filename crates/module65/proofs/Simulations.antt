@@ -11,7 +11,7 @@ use Rattle.language65.specs.Language.{Stated}
 use Rattle.language65.specs.Laid.{Place}
 use Rattle.statements65.specs.Parsing.{IsStatement, label_of}
 use Rattle.module65.specs.Lines.{counted, tokens_in}
-use Rattle.module65.specs.Reading.{AreTaken, Behind, IsLabelled, IsLine, IsRest, IsText, Reached, Taking, line_of, open_fault}
+use Rattle.module65.specs.Reading.{AreTaken, Behind, IsLabelled, IsLine, IsReading, IsRest, IsText, Reached, Taking, line_of, open_fault}
 
 -- what stands behind the one stands for what stands behind the other, and faults are the same
 abbrev pub Matches : {A B : Type 0} → (A → B → Type 0) → (Result A AsmFault → Type 0) → Result B AsmFault → Type 0
@@ -51,20 +51,17 @@ line_matches R TakesA TakesB sim y t place ts r stands is = by is.0 is.2 (label_
     by (Ok u) rest m = matches_then R (IsRest TakesA m.0 place (label_of ts).1) (IsLine TakesA y place ts) (λ s h. (Ok m.0, m.1, h)) r (rest_matches R TakesA TakesB sim m.0 u place (label_of ts).1 r m.2 rest)
     by (Err e) same m = matches_same R (IsLine TakesA y place ts) r (Err e) (sym same) (Err e, m, refl)
 
-abbrev Read : {S : Type 0} → Taking S → S → Place → List ℕ → Result S AsmFault → Type 0
-Read Takes y place text s = (tokens : Result (List Lexeme) LexFault) × IsRead text tokens × First (tokens_in tokens) (IsLine Takes y place) s
-
-read_matches : {A B : Type 0} (R : A → B → Type 0) (TakesA : Taking A) (TakesB : Taking B) → Simulates R TakesA TakesB → (y : A) (t : B) (place : Place) (text : List ℕ) (r : Result B AsmFault) → R y t → Read TakesB t place text r → Matches R (Read TakesA y place text) r
+read_matches : {A B : Type 0} (R : A → B → Type 0) (TakesA : Taking A) (TakesB : Taking B) → Simulates R TakesA TakesB → (y : A) (t : B) (place : Place) (text : List ℕ) (r : Result B AsmFault) → R y t → IsReading TakesB t place text r → Matches R (IsReading TakesA y place text) r
 read_matches R TakesA TakesB sim y t place text r stands is = by is.0 is.1 is.2
   where
-    by : (tokens : Result (List Lexeme) LexFault) → IsRead text tokens → First (tokens_in tokens) (IsLine TakesB t place) r → Matches R (Read TakesA y place text) r
-    by (Ok ts) reads line = matches_then R (IsLine TakesA y place ts) (Read TakesA y place text) (λ s h. (Ok ts, reads, h)) r (line_matches R TakesA TakesB sim y t place ts r stands line)
-    by (Err e) reads same = matches_same R (Read TakesA y place text) r (Err (Source (Lex e))) (sym same) (Err e, reads, refl)
+    by : (tokens : Result (List Lexeme) LexFault) → IsRead text tokens → First (tokens_in tokens) (IsLine TakesB t place) r → Matches R (IsReading TakesA y place text) r
+    by (Ok ts) reads line = matches_then R (IsLine TakesA y place ts) (IsReading TakesA y place text) (λ s h. (Ok ts, reads, h)) r (line_matches R TakesA TakesB sim y t place ts r stands line)
+    by (Err e) reads same = matches_same R (IsReading TakesA y place text) r (Err (Source (Lex e))) (sym same) (Err e, reads, refl)
 
 text_matches : {A B : Type 0} (R : A → B → Type 0) (TakesA : Taking A) (TakesB : Taking B) → Simulates R TakesA TakesB → (y : A) (t : B) (place : Place) (text : List ℕ) (r : Result B AsmFault) → R y t → IsText TakesB t place text r → Matches R (IsText TakesA y place text) r
 text_matches R TakesA TakesB sim y t place text r stands is = by (counted place.line) is
   where
-    by : (c : Result (Unit {0}) AsmFault) → First c (λ u s. Read TakesB t place text s) r → Matches R (λ q. First c (λ u s. Read TakesA y place text s) q) r
+    by : (c : Result (Unit {0}) AsmFault) → First c (λ u. IsReading TakesB t place text) r → Matches R (λ q. First c (λ u. IsReading TakesA y place text) q) r
     by (Err e) same = matches_same R (λ q. q ≡ Err e) r (Err e) (sym same) refl
     by (Ok u) read = read_matches R TakesA TakesB sim y t place text r stands read
 

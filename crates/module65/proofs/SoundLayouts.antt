@@ -26,7 +26,7 @@ use Rattle.language65.specs.Language.{Stated, label, cheap_label, unnamed_label,
 use Rattle.language65.specs.Layout.{Layout, Standing, current_behind, first_size, grown_at, kept_behind, laid, last_kept, layout_behind, multiple_of, named_segments, new_segment, nothing_laid, or_last, own_size, place_of, rest_kept, segment_at, segments_behind, size_stated, spot_of}
 use Rattle.language65.specs.LineFaults.{alignment_fault, block_fault, defined_twice, first_fault, form_fault, is_open, line_fault, lost_scopes, missing_file, opened_twice, operand_fault, part_fault, pop_fault, scope_name, size_fault, stands_outside, trees_of, when}
 use Rattle.module65.specs.Laying.{IsLaid, unless_fault}
-use Rattle.module65.specs.Reading.{AreTaken, Behind, IsLabelled, IsLine, IsRest, IsText, Reached, line_of}
+use Rattle.module65.specs.Reading.{AreTaken, Behind, IsLabelled, IsLine, IsReading, IsRest, IsText, Reached, line_of}
 use Rattle.statements65.specs.Parsing.{IsStatement, is_colon, label_before, label_of, named_label, or_all, with_rest}
 use Rattle.module65.specs.Laws.{SoundLayoutLaw}
 use Rattle.language65.specs.Sizes.{length_of, settled_of}
@@ -360,7 +360,7 @@ good_text y z place text good h = by (counted place.line) h
     read (Ok ts) is e = good_line y z place ts good (λ x. line_sound text ts x is) e
     read (Err f) is e = absurd cc
 
-    by : (c : Result (Unit {0}) AsmFault) → First c (λ u s. (tokens : Result (List Lexeme) LexFault) × IsRead text tokens × First (tokens_in tokens) (IsLine IsLaid y place) s) (Ok z) → IsGood z
+    by : (c : Result (Unit {0}) AsmFault) → First c (λ u. IsReading IsLaid y place text) (Ok z) → IsGood z
     by (Ok u) e = read e.0 e.1 e.2
     by (Err f) e = absurd cc
 

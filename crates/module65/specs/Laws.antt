@@ -7,34 +7,60 @@ use Rattle.language65.specs.Layout.{Layout}
 use Rattle.language65.specs.Sound.{AreSound, IsSoundLayout}
 use Rattle.language65.specs.Symbols.{symbols_of}
 use Rattle.module65.specs.Laying.{AreLaid}
-use Rattle.module65.specs.Machine.{Runs, State, finished}
-use Rattle.module65.specs.Module.{asserted, contents_from, printed, warned}
-use Rattle.module65.specs.Pieces.{entries_of}
+use Rattle.module65.specs.Machine.{Runs, State, concluded, finished}
+use Rattle.module65.specs.Module.{IsAssembled, asserted, contents_from, printed, warned}
+use Rattle.module65.specs.Pieces.{Entry, entries_of}
 use Rattle.module65.specs.Reading.{Reached}
 
 -- a source is laid in one way at most
 abbrev pub OneLayout : Type 0
-OneLayout = (file : List ℕ) (texts : List (List ℕ)) (a b : Reached Layout) → AreLaid file texts a → AreLaid file texts b → a ≡ b
+OneLayout =
+    (file : List ℕ) (texts : List (List ℕ)) (a b : Reached Layout) →
+    AreLaid file texts a → AreLaid file texts b → a ≡ b
 
 -- what lines lay is sound
 abbrev pub SoundLayoutLaw : Type 0
-SoundLayoutLaw = (file : List ℕ) (texts : List (List ℕ)) (r : Reached Layout) → AreLaid file texts r → IsSoundLayout r.behind
+SoundLayoutLaw =
+    (file : List ℕ) (texts : List (List ℕ)) (r : Reached Layout) →
+    AreLaid file texts r → IsSoundLayout r.behind
 
 -- what the object of a sound layout's contents rests on holds
 abbrev pub SoundContents : Type 0
-SoundContents = (y : Layout) (cs : List Content) → IsSoundLayout y → contents_from (symbols_of y.laid) y.laid ≡ Ok cs → AreSound y.standing.segments (symbols_of y.laid).imports cs
+SoundContents =
+    (y : Layout) (cs : List Content) →
+    IsSoundLayout y → contents_from (symbols_of y.laid) y.laid ≡ Ok cs →
+    AreSound y.standing.segments (symbols_of y.laid).imports cs
 
--- a state stands for laid statements
+-- ---- The machine of one pass.
+
+-- contents as entries
+abbrev pub all_entries : List Content → List Entry
+all_entries cs = flat_map entries_of cs
+
+-- a state stands for laid statements: it has their symbol table, what stands behind them and what
+-- they print, and what waits comes to their contents and to the warnings of their assertions
 pub record StandsFor (y : Layout) (t : State) : Type 0 where
   pub symbols : t.symbols ≡ symbols_of y.laid
   pub standing : t.standing ≡ y.standing
   pub out : t.out ≡ printed y.laid
   pub err : t.err ≡ warned y.laid
-  pub found : (finished t).found ≡ (contents_from (symbols_of y.laid) y.laid >>= (λ cs. Ok (flat_map entries_of cs)))
-  pub asserted : (finished t).warned ≡ asserted (symbols_of y.laid) y.laid
+  pub found : (finished t).found ≡ (contents_from t.symbols y.laid >>= (λ cs. Ok (all_entries cs)))
+  pub asserted : (finished t).warned ≡ asserted t.symbols y.laid
 
--- what the machine reaches is what is laid: the same fault of a line, the same texts, and behind the last line the same
--- contents, or their first fault
-abbrev pub OnePass : Type 0
-OnePass = (file : List ℕ) (texts : List (List ℕ)) (r : Reached State) → Runs file texts r →
+-- what the machine reaches stands for what is laid, with the same fault of a line
+abbrev pub RunsLaid : Type 0
+RunsLaid =
+    (file : List ℕ) (texts : List (List ℕ)) (r : Reached State) → Runs file texts r →
     (y : Layout) × AreLaid file texts (record { behind = y; fault = r.fault }) × StandsFor y r.behind
+
+-- one pass over the lines, and then over what waits, assembles them
+abbrev pub OnePass : Type 0
+OnePass =
+    (file : List ℕ) (texts : List (List ℕ)) (r : Reached State) → Runs file texts r →
+    IsAssembled file texts (concluded r.behind r.fault)
+
+-- whatever is laid can be reached: no line stops the machine but by its fault
+abbrev pub LaidRuns : Type 0
+LaidRuns =
+    (file : List ℕ) (texts : List (List ℕ)) (r : Reached Layout) → AreLaid file texts r →
+    (t : State) × Runs file texts (record { behind = t; fault = r.fault })

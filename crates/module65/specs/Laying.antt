@@ -14,11 +14,12 @@ unless_fault (Some e) x = Err e
 
 -- a statement behind those before it, or its first fault there
 abbrev pub with_statement : Layout → Place → Stated → Result Layout AsmFault
-with_statement y place x = unless_fault (line_fault (symbols_of y.laid) y.standing x) (layout_behind y place x)
+with_statement y place x =
+    unless_fault (line_fault (symbols_of y.laid) y.standing x) (layout_behind y place x)
 
 abbrev pub IsLaid : Layout → Place → Stated → Result Layout AsmFault → Type 0
 IsLaid y place x r = r ≡ with_statement y place x
 
--- the lines of a source: the statements up to the first fault of a line, and that fault, if there is one
+-- the lines of a source: the statements up to the first fault of a line, and that fault, if any
 abbrev pub AreLaid : List ℕ → List (List ℕ) → Reached Layout → Type 0
 AreLaid file texts r = AreTaken IsLaid (λ y. y.standing.scope) file nothing_laid 0 texts r

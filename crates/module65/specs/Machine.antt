@@ -1,18 +1,22 @@
--- The assembler in one pass: what it holds between lines, what a statement adds at its line, and what waits to the end.
-use Rattle.std.specs.Prelude.{◌≡◌, ℕ, List, [], ◌∷◌, ◌++◌, map, Option, Some, None, Result, Ok, Err}
+-- The assembler in one pass: what it holds between lines, what a statement adds, what waits to the end.
+use Rattle.std.specs.Prelude.{◌≡◌, ℕ, true, false, List, [], ◌∷◌, ◌++◌, map, Option, Some, None, Result, Ok, Err}
 use Rattle.syntax65.specs.Outcome.{◌>>=◌}
 use Rattle.syntax65.specs.Trees.{Tree}
 use Rattle.object65.specs.Form.{Form}
+use Rattle.object65.specs.declared.object.Object.{Object}
+use Rattle.language65.specs.declared.contents.Content.{Content}
+use Rattle.language65.specs.declared.contents.Segment.{Segment}
 use Rattle.language65.specs.declared.fault.AsmFault.{AsmFault}
 use Rattle.language65.specs.Language.{Stated}
 use Rattle.language65.specs.Laid.{Laid, Place, Spot, asks_section}
 use Rattle.language65.specs.Layout.{Standing, laid, standing_behind, start}
 use Rattle.language65.specs.LineFaults.{line_fault}
 use Rattle.language65.specs.Norms.{norm_of}
+use Rattle.language65.specs.Numbering.{object_with}
 use Rattle.language65.specs.Symbols.{Symbols, definitions_of, imports_of, scope_opened, symbols_of, with_new, zero_page_names}
 use Rattle.module65.specs.Lines.{PlacedFault}
-use Rattle.module65.specs.Module.{out_of, warning_of}
-use Rattle.module65.specs.Pieces.{Entry, Made, Piece, asked_by, made_of, pieces_of, quietly}
+use Rattle.module65.specs.Module.{Assembled, out_of, warning_of}
+use Rattle.module65.specs.Pieces.{Entry, asks, part, tells, Made, Piece, asked_by, made_of, pieces_of, quietly}
 use Rattle.module65.specs.Reading.{AreTaken, Reached}
 
 -- ---- Symbol tables that grow.
@@ -60,9 +64,13 @@ pub record State : Type 0 where
   pub err : List ℕ
 
 abbrev pub begun : State
-begun = record { symbols = symbols_of []; standing = start; slots = []; waiting = []; out = []; err = [] }
+begun =
+    record { symbols = symbols_of []; standing = start; slots = []; waiting = []; out = []; err = [] }
 
 -- ---- A statement.
+
+abbrev pub awaiting : State → Waiting → State
+awaiting t w = record t { slots = t.slots ++ awaited ∷ []; waiting = t.waiting ++ w ∷ [] }
 
 abbrev pub entered : State → List Entry → State
 entered t es = record t { slots = t.slots ++ map holds es }
@@ -78,7 +86,7 @@ IsSettled y place s p es = (z : Symbols) → Extends y z → made_of z place s p
 -- a piece is entered at its line where it is settled there, or it waits
 pub data Puts (place : Place) (s : Spot) (t : State) (p : Piece) : State → Type 0 where
   at_once : (es : List Entry) → IsSettled t.symbols place s p es → Puts place s t p (entered t es)
-  later : Puts place s t p (record t { slots = t.slots ++ awaited ∷ []; waiting = t.waiting ++ record { place = place; spot = s; piece = p } ∷ [] })
+  later : Puts place s t p (awaiting t (record { place = place; spot = s; piece = p }))
 
 -- one behind the other
 abbrev pub PutsAll : Place → Spot → State → List Piece → State → Type 0
@@ -95,7 +103,9 @@ known t l = record t {
 }
 
 abbrev pub Steps : State → Laid → Result State AsmFault → Type 0
-Steps t l r = (u : State) × PutsAll l.place l.spot (asked t l) (pieces_of l.length l.settled l.stated) u × (r ≡ Ok (known u l))
+Steps t l r =
+    (u : State) × PutsAll l.place l.spot (asked t l) (pieces_of l.length l.settled l.stated) u
+    × (r ≡ Ok (known u l))
 
 abbrev pub UnlessFault : {A : Type 0} → Option AsmFault → (Result A AsmFault → Type 0) → Result A AsmFault → Type 0
 UnlessFault None Next r = Next r
@@ -103,7 +113,8 @@ UnlessFault (Some e) Next r = r ≡ Err e
 
 -- a statement's first fault at its line, or what stands behind it
 abbrev pub Takes : State → Place → Stated → Result State AsmFault → Type 0
-Takes t place x r = UnlessFault (line_fault t.symbols t.standing x) (Steps t (laid t.symbols t.standing place x)) r
+Takes t place x r =
+    UnlessFault (line_fault t.symbols t.standing x) (Steps t (laid t.symbols t.standing place x)) r
 
 -- the lines of a source
 abbrev pub Runs : List ℕ → List (List ℕ) → Reached State → Type 0
@@ -117,8 +128,10 @@ pub record Finished (A : Type 0) : Type 0 where
   pub warned : List ℕ
 
 abbrev pub before_it : Place → Result Made AsmFault → Finished (List Entry) → Finished (List Entry)
-before_it place (Ok m) r = record { found = r.found >>= (λ ess. Ok (m.entries ∷ ess)); warned = m.warning ++ r.warned }
-before_it place (Err e) r = record { found = Err (record { place = place; fault = e }); warned = [] }
+before_it place (Ok m) r =
+    record { found = r.found >>= (λ ess. Ok (m.entries ∷ ess)); warned = m.warning ++ r.warned }
+before_it place (Err e) r =
+    record { found = Err (record { place = place; fault = e }); warned = [] }
 
 -- what waits is gone through once, by the symbol table of all statements
 abbrev pub resolved : Symbols → List Waiting → Finished (List Entry)
@@ -137,3 +150,25 @@ abbrev pub finished : State → Finished Entry
 finished t =
     let r : Finished (List Entry) = resolved t.symbols t.waiting in
     record { found = r.found >>= (λ ess. Ok (filled t.slots ess)); warned = r.warned }
+
+-- ---- The object of what was found.
+
+-- an entry as a content of its own
+abbrev pub entry_content : Entry → Content
+entry_content (asks g) = record { segment = g; asks = true; parts = []; said = [] }
+entry_content (part g p) = record { segment = g; asks = false; parts = p ∷ []; said = [] }
+entry_content (tells s) = record { segment = 0; asks = false; parts = []; said = s ∷ [] }
+
+abbrev pub object_from : List Segment → List (List ℕ) → List Entry → Object
+object_from segments names es = object_with segments names (map entry_content es)
+
+-- what is answered behind the last line, or at a line's fault
+abbrev pub concluded : State → Option PlacedFault → Assembled
+concluded t None =
+    let object : List Entry → Object = object_from t.standing.segments t.symbols.imports in
+    record {
+      result = (finished t).found >>= (λ es. Ok (object es));
+      out = t.out;
+      err = t.err ++ (finished t).warned;
+    }
+concluded t (Some e) = record { result = Err e; out = t.out; err = t.err }

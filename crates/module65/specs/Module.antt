@@ -1,5 +1,5 @@
 -- A module: the object of its statements or the first fault, and what is said up to there.
-use Rattle.std.specs.Prelude.{ℕ, zero, pos, Bool, true, false, List, [], ◌∷◌, ◌++◌, codes, decimal, Result, Ok, Err, if◌then◌else◌}
+use Rattle.std.specs.Prelude.{◌≡◌, ℕ, zero, pos, Option, Some, None, Bool, true, false, List, [], ◌∷◌, ◌++◌, codes, decimal, Result, Ok, Err, if◌then◌else◌}
 use Rattle.std.specs.List.{flat_map}
 use Rattle.syntax65.specs.Outcome.{◌>>=◌, each}
 use Rattle.object65.specs.Form.{Form, lit}
@@ -15,7 +15,9 @@ use Rattle.language65.specs.Layout.{Layout}
 use Rattle.language65.specs.Norms.{norm_of}
 use Rattle.language65.specs.Numbering.{object_with}
 use Rattle.language65.specs.Symbols.{Symbols, symbols_of}
+use Rattle.module65.specs.Laying.{AreLaid}
 use Rattle.module65.specs.Lines.{PlacedFault, at_place}
+use Rattle.module65.specs.Reading.{Reached}
 
 -- ---- Contents.
 
@@ -25,7 +27,9 @@ contents_from y ls = each (λ l. at_place l.place (content_of y l)) ls
 
 -- the object of laid statements
 abbrev pub object_of : Layout → Result Object PlacedFault
-object_of y = contents_from (symbols_of y.laid) y.laid >>= (λ cs. Ok (object_with y.standing.segments (symbols_of y.laid).imports cs))
+object_of y =
+    let z : Symbols = symbols_of y.laid in
+    contents_from z y.laid >>= (λ cs. Ok (object_with y.standing.segments z.imports cs))
 
 abbrev pub has_content : Result Content AsmFault → Bool
 has_content (Ok c) = true
@@ -40,7 +44,8 @@ sound_from y (l ∷ ls) = if has_content (content_of y l) then l ∷ sound_from 
 
 -- `file:line: Warning: text`
 abbrev pub warning_at : Place → List ℕ → List ℕ
-warning_at place words = place.file ++ codes ":" ++ decimal place.line ++ codes ": Warning: " ++ words ++ codes "\n"
+warning_at place words =
+    place.file ++ codes ":" ++ decimal place.line ++ codes ": Warning: " ++ words ++ codes "\n"
 
 abbrev pub out_of : Stated → List ℕ
 out_of (says words) = words ++ codes "\n"
@@ -76,3 +81,21 @@ warned ls = flat_map (λ l. warning_of l.place l.stated) ls
 -- the warnings of a module whose lines have no fault: those of assertions stand behind the others
 abbrev pub all_warned : List Laid → List ℕ
 all_warned ls = warned ls ++ asserted (symbols_of ls) ls
+
+-- ---- What a module comes to.
+
+-- the object or the first fault, and what is said up to there
+pub record Assembled : Type 0 where
+  pub result : Result Object PlacedFault
+  pub out : List ℕ
+  pub err : List ℕ
+
+-- a fault of a line stands before all others, and before the warnings of assertions
+abbrev pub outcome_of : Layout → Option PlacedFault → Assembled
+outcome_of y None = record { result = object_of y; out = printed y.laid; err = all_warned y.laid }
+outcome_of y (Some e) = record { result = Err e; out = printed y.laid; err = warned y.laid }
+
+-- what the lines of a source come to
+abbrev pub IsAssembled : List ℕ → List (List ℕ) → Assembled → Type 0
+IsAssembled file texts a =
+    (r : Reached Layout) × AreLaid file texts r × (a ≡ outcome_of r.behind r.fault)

@@ -1,4 +1,4 @@
--- The pieces of which a statement's content is made: what is there at once, and what a value or a definition decides.
+-- The pieces of which a statement's content is made, and what each comes to.
 use Rattle.std.specs.Prelude.{ℕ, Bool, true, false, List, [], ◌∷◌, ◌++◌, map, Option, Some, Result, Ok, Err}
 use Rattle.syntax65.specs.Opcodes.{opcode_of}
 use Rattle.syntax65.specs.Outcome.{◌>>=◌}
@@ -63,7 +63,8 @@ operand_pieces (Some width) (Some e) = operand width e ∷ []
 operand_pieces width e = []
 
 abbrev pub instruction_pieces : Mnemonic → Operand → Settled → List Piece
-instruction_pieces m o (in_mode mode) = given (opcode_part (opcode_of m mode)) ∷ operand_pieces (width_of mode) (operand_tree o)
+instruction_pieces m o (in_mode mode) =
+    given (opcode_part (opcode_of m mode)) ∷ operand_pieces (width_of mode) (operand_tree o)
 instruction_pieces m o _ = []
 
 -- the pieces of a statement of so many bytes, of which this is settled
@@ -106,10 +107,13 @@ absent_of false n = Ok []
 abbrev pub made_of : Symbols → Place → Spot → Piece → Result Made AsmFault
 made_of y place s (given p) = as_part s.segment p
 made_of y place s (datum width e) = norm_of y s e >>= stored width place.line >>= as_part s.segment
-made_of y place s (operand width e) = norm_of y s e >>= operand_form width s >>= stored width place.line >>= as_part s.segment
+made_of y place s (operand width e) =
+    norm_of y s e >>= operand_form width s >>= stored width place.line >>= as_part s.segment
 made_of y place s (equated e) = norm_of y s e >>= (λ f. Ok (quietly []))
 made_of y place s (imported n) = import_fault y n >>= as_said
 made_of y place s (demanded n) = as_said (Demanded n ∷ [])
-made_of y place s (exported must n) = export_said y place.line n (absent_of must n) (defined y (named 0 n)) >>= as_said
+made_of y place s (exported must n) =
+    export_said y place.line n (absent_of must n) (defined y (named 0 n)) >>= as_said
 made_of y place s (asserted e act words) =
-    norm_of y s e >>= decided act place.line words >>= (λ ss. Ok (record { entries = map tells ss; warning = failed place act words (norm_of y s e) }))
+    norm_of y s e >>= decided act place.line words
+    >>= (λ ss. Ok (record { entries = map tells ss; warning = failed place act words (norm_of y s e) }))

@@ -1,6 +1,6 @@
 //! What holds of the definitions, each as the contract of a function that does nothing.
 
-ghost use Rattle.module65.specs.Laws.{OneLayout, OnePass, SoundContents, SoundLayoutLaw};
+ghost use Rattle.module65.specs.Laws.{LaidRuns, OneLayout, OnePass, RunsLaid, SoundContents, SoundLayoutLaw};
 
 /// A source is laid in one way at most.
 pub fn one_layout()
@@ -17,7 +17,17 @@ pub fn sound_contents()
     ensures { SoundContents }
 {}
 
-/// One pass over the lines, and then over what waits, comes to the contents of all statements.
+/// What the machine of one pass reaches stands for what is laid.
+pub fn runs_laid()
+    ensures { RunsLaid }
+{}
+
+/// One pass over the lines, and then over what waits, assembles them.
 pub fn one_pass()
     ensures { OnePass }
+{}
+
+/// Whatever is laid can be reached in one pass.
+pub fn laid_runs()
+    ensures { LaidRuns }
 {}

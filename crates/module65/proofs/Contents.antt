@@ -10,6 +10,7 @@ use Rattle.syntax65.specs.declared.lexing.tokens.AddressSize.{AddressSize}
 use Rattle.syntax65.specs.declared.instructions.names.Mnemonic.{Mnemonic}
 use Rattle.object65.specs.Form.{Form}
 use Rattle.object65.specs.declared.object.Width.{Width}
+use Rattle.object65.specs.declared.object.Action.{Action}
 use Rattle.language65.specs.declared.contents.Content.{Content}
 use Rattle.language65.specs.declared.contents.Part.{Part}
 use Rattle.language65.specs.declared.contents.Said.{Said}
@@ -25,7 +26,7 @@ use Rattle.module65.specs.Lines.{PlacedFault, at_place}
 use Rattle.module65.specs.Machine.{Finished}
 use Rattle.module65.specs.Module.{asserted, asserted_by, contents_from, failed, has_content, sound_from}
 use Rattle.module65.specs.Pieces as p
-use Rattle.module65.specs.Pieces.{Entry, Made, Piece, absent_of, as_part, as_said, asked_by, datum, demanded, entries_of, equated, exported, given, imported, instruction_pieces, item_piece, made_of, operand, operand_pieces, part, pieces_of, quietly, tells}
+use Rattle.module65.specs.Pieces.{Entry, Made, Piece, absent_of, as_part, as_said, asked_by, demanded, entries_of, equated, exported, given, imported, instruction_pieces, item_piece, made_of, operand, operand_pieces, part, pieces_of, quietly, tells, used, valued}
 use Rattle.module65.proofs.Finishes.{after, after_after, after_nothing, nothing, nothing_after, placed}
 
 -- ---- Pieces one behind the other.
@@ -81,8 +82,13 @@ part_made : (place : Place) (g : ℕ) (r : Result Part AsmFault) → placed plac
 part_made place g (Ok p) = refl
 part_made place g (Err e) = refl
 
+-- a value that is found in two steps may be used in the second
+part_told : {A : Type 0} (place : Place) (g : ℕ) (r : Result A AsmFault) (f : A → Result Part AsmFault) → placed place (λ m. m.entries) (r >>= (λ x. f x >>= as_part g)) ≡ told place [] (λ p. part g p ∷ []) (r >>= f)
+part_told place g (Ok x) f = part_made place g (f x)
+part_told place g (Err e) f = refl
+
 item_made : (y : Symbols) (l : Laid) (width : Width) (it : Item) → piece_made y l.place l.spot (item_piece width it) ≡ told l.place [] (λ p. part l.spot.segment p ∷ []) (item_part y l width it)
-item_made y l width (value e) = part_made l.place l.spot.segment (norm_of y l.spot e >>= stored width l.place.line)
+item_made y l width (value e) = part_told l.place l.spot.segment (norm_of y l.spot e) (stored width l.place.line)
 item_made y l width (text bytes) = refl
 
 cons_told : (place : Place) (g : ℕ) (r : Result Part AsmFault) (s : Result (List Part) AsmFault) → after (told place [] (λ p. part g p ∷ []) r) (told place [] (parts_entries g) s) ≡ told place [] (parts_entries g) (r >>= (λ p. s >>= (λ ps. Ok (p ∷ ps))))
@@ -97,18 +103,11 @@ items_made y l width (it ∷ its) =
     ∙ ap (after (told l.place [] (λ p. part l.spot.segment p ∷ []) (item_part y l width it))) (items_made y l width its)
     ∙ cons_told l.place l.spot.segment (item_part y l width it) (each (item_part y l width) its)
 
--- the second of three steps may be taken with the third
-regrouped : {A B C E : Type 0} (r : Result A E) (f : A → Result B E) (g : B → Result C E) → ((r >>= f) >>= g) ≡ (r >>= (λ x. f x >>= g))
-regrouped (Ok x) f g = refl
-regrouped (Err e) f g = refl
-
-operand_made : (y : Symbols) (l : Laid) (width : Width) (e : Tree) → piece_made y l.place l.spot (operand width e) ≡ told l.place [] (λ p. part l.spot.segment p ∷ []) (operand_part y l width e)
-operand_made y l width e =
-    ap (λ r. placed l.place (λ (m : Made). m.entries) (r >>= as_part l.spot.segment)) (regrouped (norm_of y l.spot e) (operand_form width l.spot) (stored width l.place.line))
-    ∙ part_made l.place l.spot.segment (operand_part y l width e)
+operand_made : (y : Symbols) (l : Laid) (width : Width) (e : Tree) → piece_made y l.place l.spot (valued (operand width) e) ≡ told l.place [] (λ p. part l.spot.segment p ∷ []) (operand_part y l width e)
+operand_made y l width e = part_told l.place l.spot.segment (norm_of y l.spot e) (λ f. operand_form width l.spot f >>= stored width l.place.line)
 
 operands_made : (y : Symbols) (l : Laid) (w : Option Width) (t : Option Tree) → pieces_made y l.place l.spot (operand_pieces w t) ≡ told l.place [] (parts_entries l.spot.segment) (operand_parts y l w t)
-operands_made y l (Some width) (Some e) = one_piece y l.place l.spot (operand width e) ∙ operand_made y l width e ∙ single (operand_part y l width e)
+operands_made y l (Some width) (Some e) = one_piece y l.place l.spot (valued (operand width) e) ∙ operand_made y l width e ∙ single (operand_part y l width e)
   where
     single : (r : Result Part AsmFault) → told l.place [] (λ p. part l.spot.segment p ∷ []) r ≡ told l.place [] (parts_entries l.spot.segment) (r >>= (λ p. Ok (p ∷ [])))
     single (Ok p) = refl
@@ -194,9 +193,13 @@ equated_made : (place : Place) (r : Result Form AsmFault) → placed place (λ m
 equated_made place (Ok f) = refl
 equated_made place (Err e) = refl
 
-asserted_made : (place : Place) (warning : List ℕ) (r : Result (List Said) AsmFault) → placed place (λ m. m.entries) (r >>= (λ ss. Ok (record { entries = map tells ss; warning = warning }))) ≡ told place warning said_entries r
-asserted_made place warning (Ok ss) = refl
-asserted_made place warning (Err e) = refl
+asserted_made : (place : Place) (s : Spot) (act : Action) (words : List ℕ) (r : Result Form AsmFault) → placed place (λ m. m.entries) (r >>= used place s (p.asserted act words)) ≡ told place (failed place act words r) said_entries (r >>= decided act place.line words)
+asserted_made place s act words (Ok f) = by (decided act place.line words f)
+  where
+    by : (d : Result (List Said) AsmFault) → placed place (λ m. m.entries) (d >>= (λ ss. Ok (record { entries = map tells ss; warning = failed place act words (Ok f) }))) ≡ told place (failed place act words (Ok f)) said_entries d
+    by (Ok ss) = refl
+    by (Err e) = refl
+asserted_made place s act words (Err e) = refl
 
 -- ---- Statements.
 
@@ -221,7 +224,7 @@ made_with y (values width its) place s len own settled =
     let l = laid_with (values width its) place s len own settled in
     by_parts y l s.segment true (each (item_part y l width) its) (pieces_made y place s (map (item_piece width) its)) (items_made y l width its)
 made_with y (constant n e) place s len own settled =
-    by_said place s.segment (asks_section (constant n e)) [] (norm_of y s e >>= (λ f. Ok [])) (pieces_made y place s (equated e ∷ [])) (one_piece y place s (equated e) ∙ equated_made place (norm_of y s e))
+    by_said place s.segment (asks_section (constant n e)) [] (norm_of y s e >>= (λ f. Ok [])) (pieces_made y place s (valued equated e ∷ [])) (one_piece y place s (valued equated e) ∙ equated_made place (norm_of y s e))
 made_with y (imports size names) place s len own settled =
     by_said place s.segment false [] (each_of (import_fault y) names) (pieces_made y place s (map imported names)) (names_made y place s imported (import_fault y) (λ n. refl) names)
 made_with y (exports names) place s len own settled =
@@ -235,7 +238,7 @@ made_with y (forced names) place s len own settled =
 made_with y (assertion e act words) place s len own settled =
     let r : Result (List Said) AsmFault = norm_of y s e >>= decided act place.line words in
     let said : List ℕ = failed place act words (norm_of y s e) in
-    by_said place s.segment (asks_section (assertion e act words)) said r (pieces_made y place s (p.asserted e act words ∷ [])) (one_piece y place s (p.asserted e act words) ∙ asserted_made place said r)
+    by_said place s.segment (asks_section (assertion e act words)) said r (pieces_made y place s (valued (p.asserted act words) e ∷ [])) (one_piece y place s (valued (p.asserted act words) e) ∙ asserted_made place s act words (norm_of y s e))
 made_with y _ place s len own settled = refl
 
 pub made_of_pieces : (y : Symbols) (l : Laid) → IsMadeOfPieces y l

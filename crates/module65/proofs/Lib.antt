@@ -1,6 +1,7 @@
 pub mod Aheads
 pub mod Contents
 pub mod Entries
+pub mod Finals
 pub mod Finishes
 pub mod Holding
 pub mod OneLayouts

@@ -2,14 +2,17 @@
 use Rattle.std.specs.Prelude.{◌≡◌, ℕ, List, Ok}
 use Rattle.std.specs.List.{flat_map}
 use Rattle.syntax65.specs.Outcome.{◌>>=◌}
+use Rattle.syntax65.specs.Trees.{Tree}
+use Rattle.object65.specs.Form.{Form}
 use Rattle.language65.specs.declared.contents.Content.{Content}
+use Rattle.language65.specs.Laid.{Place, Spot}
 use Rattle.language65.specs.Layout.{Layout}
 use Rattle.language65.specs.Sound.{AreSound, IsSoundLayout}
-use Rattle.language65.specs.Symbols.{symbols_of}
+use Rattle.language65.specs.Symbols.{Symbols, symbols_of}
 use Rattle.module65.specs.Laying.{AreLaid}
-use Rattle.module65.specs.Machine.{Runs, State, concluded, finished}
+use Rattle.module65.specs.Machine.{IsFinal, IsSettled, Runs, State, concluded, finished}
 use Rattle.module65.specs.Module.{IsAssembled, asserted, contents_from, printed, warned}
-use Rattle.module65.specs.Pieces.{Entry, entries_of}
+use Rattle.module65.specs.Pieces.{Entry, Purpose, entries_of, quietly, used, valued}
 use Rattle.module65.specs.Reading.{Reached}
 
 -- a source is laid in one way at most
@@ -52,6 +55,13 @@ abbrev pub RunsLaid : Type 0
 RunsLaid =
     (file : List ℕ) (texts : List (List ℕ)) (r : Reached State) → Runs file texts r →
     (y : Layout) × AreLaid file texts (record { behind = y; fault = r.fault }) × StandsFor y r.behind
+
+-- a value whose form is final is settled with what that form comes to, where it has no fault and no
+-- warning
+abbrev pub FinalSettles : Type 0
+FinalSettles =
+    (y : Symbols) (place : Place) (s : Spot) (why : Purpose) (e : Tree) (f : Form) (es : List Entry) →
+    IsFinal y s e f → used place s why f ≡ Ok (quietly es) → IsSettled y place s (valued why e) es
 
 -- one pass over the lines, and then over what waits, assembles them
 abbrev pub OnePass : Type 0

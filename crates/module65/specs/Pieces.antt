@@ -4,6 +4,7 @@ use Rattle.syntax65.specs.Opcodes.{opcode_of}
 use Rattle.syntax65.specs.Outcome.{◌>>=◌}
 use Rattle.syntax65.specs.Trees.{Tree}
 use Rattle.syntax65.specs.declared.instructions.names.Mnemonic.{Mnemonic}
+use Rattle.object65.specs.Form.{Form}
 use Rattle.object65.specs.declared.object.Action.{Action}
 use Rattle.object65.specs.declared.object.Width.{Width}
 use Rattle.language65.specs.declared.contents.Content.{Content}
@@ -39,27 +40,31 @@ entries_of c = asked_by c.segment c.asks ++ map (part c.segment) c.parts ++ map 
 
 -- ---- Pieces.
 
+-- what the value of an expression is for
+pub data Purpose : Type 0 where
+  -- an element of a list, an operand of an instruction
+  datum : Width → Purpose
+  operand : Width → Purpose
+  -- a constant, which puts nothing anywhere but has the fault of its expression
+  equated : Purpose
+  asserted : Action → List ℕ → Purpose
+
 pub data Piece : Type 0 where
   -- what needs no value
   given : Part → Piece
-  -- an element of a list, an operand of an instruction
-  datum : Width → Tree → Piece
-  operand : Width → Tree → Piece
-  -- the expression of a constant, which puts nothing anywhere but has its fault
-  equated : Tree → Piece
+  valued : Purpose → Tree → Piece
   -- a name that the module doesn't define, and one that is written regardless
   imported : List ℕ → Piece
   demanded : List ℕ → Piece
   -- a name that is exported where it is defined, or has to be defined
   exported : (must : Bool) → List ℕ → Piece
-  asserted : Tree → Action → List ℕ → Piece
 
 abbrev pub item_piece : Width → Item → Piece
-item_piece width (value e) = datum width e
+item_piece width (value e) = valued (datum width) e
 item_piece width (text bytes) = given (Known bytes)
 
 abbrev pub operand_pieces : Option Width → Option Tree → List Piece
-operand_pieces (Some width) (Some e) = operand width e ∷ []
+operand_pieces (Some width) (Some e) = valued (operand width) e ∷ []
 operand_pieces width e = []
 
 abbrev pub instruction_pieces : Mnemonic → Operand → Settled → List Piece
@@ -74,12 +79,12 @@ pieces_of count s (values width items) = map (item_piece width) items
 pieces_of count s (reserve n v) = given (room_part count s) ∷ []
 pieces_of count s (align n v) = given (room_part count s) ∷ []
 pieces_of count s (file_part bytes start len) = given (Known (file_bytes count bytes s)) ∷ []
-pieces_of count s (constant n e) = equated e ∷ []
+pieces_of count s (constant n e) = valued equated e ∷ []
 pieces_of count s (imports own names) = map imported names
 pieces_of count s (exports names) = map (exported true) names
 pieces_of count s (globals own names) = map (exported false) names
 pieces_of count s (forced names) = map imported names ++ map demanded names
-pieces_of count s (assertion e act words) = asserted e act words ∷ []
+pieces_of count s (assertion e act words) = valued (asserted act words) e ∷ []
 pieces_of count s _ = []
 
 -- ---- What a piece comes to.
@@ -103,17 +108,21 @@ abbrev pub absent_of : (must : Bool) → List ℕ → Result (List Said) AsmFaul
 absent_of true n = Err (NotDefined n)
 absent_of false n = Ok []
 
+-- what a form comes to, of an expression that stands here
+abbrev pub used : Place → Spot → Purpose → Form → Result Made AsmFault
+used place s (datum width) f = stored width place.line f >>= as_part s.segment
+used place s (operand width) f =
+    operand_form width s f >>= stored width place.line >>= as_part s.segment
+used place s equated f = Ok (quietly [])
+used place s (asserted act words) f =
+    decided act place.line words f
+    >>= (λ ss. Ok (record { entries = map tells ss; warning = failed place act words (Ok f) }))
+
 -- what a piece of a statement that stands here comes to by a symbol table, or its fault
 abbrev pub made_of : Symbols → Place → Spot → Piece → Result Made AsmFault
 made_of y place s (given p) = as_part s.segment p
-made_of y place s (datum width e) = norm_of y s e >>= stored width place.line >>= as_part s.segment
-made_of y place s (operand width e) =
-    norm_of y s e >>= operand_form width s >>= stored width place.line >>= as_part s.segment
-made_of y place s (equated e) = norm_of y s e >>= (λ f. Ok (quietly []))
+made_of y place s (valued why e) = norm_of y s e >>= used place s why
 made_of y place s (imported n) = import_fault y n >>= as_said
 made_of y place s (demanded n) = as_said (Demanded n ∷ [])
 made_of y place s (exported must n) =
     export_said y place.line n (absent_of must n) (defined y (named 0 n)) >>= as_said
-made_of y place s (asserted e act words) =
-    norm_of y s e >>= decided act place.line words
-    >>= (λ ss. Ok (record { entries = map tells ss; warning = failed place act words (norm_of y s e) }))

@@ -1,6 +1,6 @@
 //! What holds of the definitions, each as the contract of a function that does nothing.
 
-ghost use Rattle.module65.specs.Laws.{LaidRuns, OneLayout, OnePass, RunsLaid, SoundContents, SoundLayoutLaw};
+ghost use Rattle.module65.specs.Laws.{FinalSettles, LaidRuns, OneLayout, OnePass, RunsLaid, SoundContents, SoundLayoutLaw};
 
 /// A source is laid in one way at most.
 pub fn one_layout()
@@ -20,6 +20,11 @@ pub fn sound_contents()
 /// What the machine of one pass reaches stands for what is laid.
 pub fn runs_laid()
     ensures { RunsLaid }
+{}
+
+/// A value whose form is final is settled at its line.
+pub fn final_settles()
+    ensures { FinalSettles }
 {}
 
 /// One pass over the lines, and then over what waits, assembles them.

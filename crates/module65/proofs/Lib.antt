@@ -14,3 +14,4 @@ pub mod SoundLayouts
 pub mod SoundParts
 pub mod SoundSayings
 pub mod Tables
+pub mod TakenLines

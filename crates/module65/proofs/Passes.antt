@@ -17,7 +17,7 @@ use Rattle.module65.specs.Laws.{LaidRuns, OnePass, RunsLaid, StandsFor, all_entr
 use Rattle.module65.specs.Laying.{IsLaid, unless_fault}
 use Rattle.module65.specs.Machine.{Extends, Finished, Puts, at_once, later, PutsAll, Slot, awaited, holds, State, Steps, Takes, UnlessFault, Waiting, asked, awaiting, before_it, begun, concluded, filled, finished, known, object_from, symbols_behind}
 use Rattle.module65.specs.Lines.{PlacedFault}
-use Rattle.module65.specs.Module.{Assembled, asserted, contents_from, out_of, outcome_of, printed, warned, warning_of}
+use Rattle.module65.specs.Module.{Outcome, asserted, contents_from, out_of, outcome_of, printed, warned, warning_of}
 use Rattle.module65.specs.Pieces.{Entry, Made, Piece, asked_by, made_of, pieces_of}
 use Rattle.module65.proofs.Contents.{all_append, all_made, made_of_pieces, piece_made, pieces_made}
 use Rattle.module65.proofs.Entries.{same_object}
@@ -212,7 +212,7 @@ found_object segments names (Ok cs) = ap Ok (same_object segments names cs)
 found_object segments names (Err e) = refl
 
 -- what is answered, by what stands behind the last line
-abbrev answered : Symbols → Standing → Result (List Entry) PlacedFault → (out err : List ℕ) → Assembled
+abbrev answered : Symbols → Standing → Result (List Entry) PlacedFault → (out err : List ℕ) → Outcome
 answered z w r out err = record { result = r >>= (λ es. Ok (object_from w.segments z.imports es)); out = out; err = err }
 
 concluded_for : (y : Layout) (t : State) (fault : Option PlacedFault) → StandsFor y t → concluded t fault ≡ outcome_of y fault

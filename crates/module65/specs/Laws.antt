@@ -11,7 +11,7 @@ use Rattle.language65.specs.Sound.{AreSound, IsSoundLayout}
 use Rattle.language65.specs.Symbols.{Symbols, symbols_of}
 use Rattle.module65.specs.Laying.{AreLaid}
 use Rattle.module65.specs.Machine.{IsFinal, IsSettled, Runs, State, concluded, finished}
-use Rattle.module65.specs.Module.{IsAssembled, asserted, contents_from, printed, warned}
+use Rattle.module65.specs.Module.{IsOutcome, asserted, contents_from, printed, warned}
 use Rattle.module65.specs.Pieces.{Entry, Purpose, entries_of, quietly, used, valued}
 use Rattle.module65.specs.Reading.{Reached}
 
@@ -67,7 +67,7 @@ FinalSettles =
 abbrev pub OnePass : Type 0
 OnePass =
     (file : List ℕ) (texts : List (List ℕ)) (r : Reached State) → Runs file texts r →
-    IsAssembled file texts (concluded r.behind r.fault)
+    IsOutcome file texts (concluded r.behind r.fault)
 
 -- whatever is laid can be reached: no line stops the machine but by its fault
 abbrev pub LaidRuns : Type 0

@@ -15,7 +15,7 @@ use Rattle.language65.specs.Norms.{norm_of}
 use Rattle.language65.specs.Numbering.{object_with}
 use Rattle.language65.specs.Symbols.{Symbols, definitions_of, imports_of, scope_opened, symbols_of, with_new, zero_page_names}
 use Rattle.module65.specs.Lines.{PlacedFault}
-use Rattle.module65.specs.Module.{Assembled, out_of, warning_of}
+use Rattle.module65.specs.Module.{Outcome, out_of, warning_of}
 use Rattle.module65.specs.Pieces.{Entry, asks, part, tells, Made, Piece, asked_by, made_of, pieces_of, quietly}
 use Rattle.module65.specs.Reading.{AreTaken, Reached}
 
@@ -163,7 +163,7 @@ abbrev pub object_from : List Segment → List (List ℕ) → List Entry → Obj
 object_from segments names es = object_with segments names (map entry_content es)
 
 -- what is answered behind the last line, or at a line's fault
-abbrev pub concluded : State → Option PlacedFault → Assembled
+abbrev pub concluded : State → Option PlacedFault → Outcome
 concluded t None =
     let object : List Entry → Object = object_from t.standing.segments t.symbols.imports in
     record {

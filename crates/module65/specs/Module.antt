@@ -85,17 +85,17 @@ all_warned ls = warned ls ++ asserted (symbols_of ls) ls
 -- ---- What a module comes to.
 
 -- the object or the first fault, and what is said up to there
-pub record Assembled : Type 0 where
+pub record Outcome : Type 0 where
   pub result : Result Object PlacedFault
   pub out : List ℕ
   pub err : List ℕ
 
 -- a fault of a line stands before all others, and before the warnings of assertions
-abbrev pub outcome_of : Layout → Option PlacedFault → Assembled
+abbrev pub outcome_of : Layout → Option PlacedFault → Outcome
 outcome_of y None = record { result = object_of y; out = printed y.laid; err = all_warned y.laid }
 outcome_of y (Some e) = record { result = Err e; out = printed y.laid; err = warned y.laid }
 
 -- what the lines of a source come to
-abbrev pub IsAssembled : List ℕ → List (List ℕ) → Assembled → Type 0
-IsAssembled file texts a =
+abbrev pub IsOutcome : List ℕ → List (List ℕ) → Outcome → Type 0
+IsOutcome file texts a =
     (r : Reached Layout) × AreLaid file texts r × (a ≡ outcome_of r.behind r.fault)

@@ -26,13 +26,14 @@ use Rattle.module65.specs.Lines.{PlacedFault, at_place}
 use Rattle.module65.specs.Machine.{Finished}
 use Rattle.module65.specs.Module.{asserted, asserted_by, contents_from, failed, has_content, sound_from}
 use Rattle.module65.specs.Pieces as p
-use Rattle.module65.specs.Pieces.{Entry, Made, Piece, absent_of, as_part, as_said, asked_by, demanded, entries_of, equated, exported, given, imported, instruction_pieces, item_piece, made_of, operand, operand_pieces, part, pieces_of, quietly, tells, used, valued}
+use Rattle.module65.specs.Pieces.{Made, Piece, absent_of, as_part, as_said, demanded, equated, exported, given, imported, instruction_pieces, item_piece, made_of, operand, operand_pieces, pieces_of, put, telling, used, valued}
+use Rattle.module65.proofs.Entries.{Entry, all_entries, asked_by, entries_of, part, tells}
 use Rattle.module65.proofs.Finishes.{after, after_after, after_nothing, nothing, nothing_after, placed}
 
 -- ---- Pieces one behind the other.
 
 abbrev pub piece_made : Symbols → Place → Spot → Piece → Finished Entry
-piece_made y place s p = placed place (λ m. m.entries) (made_of y place s p)
+piece_made y place s p = placed place (λ m. entries_of m.content) (made_of y place s p)
 
 abbrev pub pieces_made : Symbols → Place → Spot → List Piece → Finished Entry
 pieces_made y place s [] = nothing
@@ -78,12 +79,12 @@ only_said place g asks said (Err e) = refl
 
 -- ---- Parts.
 
-part_made : (place : Place) (g : ℕ) (r : Result Part AsmFault) → placed place (λ m. m.entries) (r >>= as_part g) ≡ told place [] (λ p. part g p ∷ []) r
+part_made : (place : Place) (g : ℕ) (r : Result Part AsmFault) → placed place (λ m. entries_of m.content) (r >>= as_part g) ≡ told place [] (λ p. part g p ∷ []) r
 part_made place g (Ok p) = refl
 part_made place g (Err e) = refl
 
 -- a value that is found in two steps may be used in the second
-part_told : {A : Type 0} (place : Place) (g : ℕ) (r : Result A AsmFault) (f : A → Result Part AsmFault) → placed place (λ m. m.entries) (r >>= (λ x. f x >>= as_part g)) ≡ told place [] (λ p. part g p ∷ []) (r >>= f)
+part_told : {A : Type 0} (place : Place) (g : ℕ) (r : Result A AsmFault) (f : A → Result Part AsmFault) → placed place (λ m. entries_of m.content) (r >>= (λ x. f x >>= as_part g)) ≡ told place [] (λ p. part g p ∷ []) (r >>= f)
 part_told place g (Ok x) f = part_made place g (f x)
 part_told place g (Err e) f = refl
 
@@ -129,7 +130,7 @@ instruction_made y l m o (from_byte b) = refl
 
 -- ---- What is said.
 
-said_made : (place : Place) (r : Result (List Said) AsmFault) → placed place (λ m. m.entries) (r >>= as_said) ≡ told place [] said_entries r
+said_made : (place : Place) (r : Result (List Said) AsmFault) → placed place (λ m. entries_of m.content) (r >>= as_said) ≡ told place [] said_entries r
 said_made place (Ok ss) = refl
 said_made place (Err e) = refl
 
@@ -137,7 +138,7 @@ said_made place (Err e) = refl
 names_made : (y : Symbols) (place : Place) (s : Spot) (make : List ℕ → Piece) (says : List ℕ → Result (List Said) AsmFault) → ((n : List ℕ) → made_of y place s (make n) ≡ (says n >>= as_said)) → (names : List (List ℕ)) → pieces_made y place s (map make names) ≡ told place [] said_entries (each_of says names)
 names_made y place s make says is [] = refl
 names_made y place s make says is (n ∷ names) =
-    ap (λ r. after (placed place (λ (m : Made). m.entries) r) (pieces_made y place s (map make names))) (is n)
+    ap (λ r. after (placed place (λ (m : Made). entries_of m.content) r) (pieces_made y place s (map make names))) (is n)
     ∙ ap (λ a. after a (pieces_made y place s (map make names))) (said_made place (says n))
     ∙ ap (after (told place [] said_entries (says n))) (names_made y place s make says is names)
     ∙ by (says n) (each says names)
@@ -189,14 +190,14 @@ forced_made y place s names =
     ∙ ap (λ a. after a (record { found = Ok (said_entries (map Demanded names)); warned = [] })) (imports_made y place s names)
     ∙ then_demanded place names (each_of (import_fault y) names)
 
-equated_made : (place : Place) (r : Result Form AsmFault) → placed place (λ m. m.entries) (r >>= (λ f. Ok (quietly []))) ≡ told place [] said_entries (r >>= (λ f. Ok []))
+equated_made : (place : Place) (r : Result Form AsmFault) → placed place (λ m. entries_of m.content) (r >>= (λ f. as_said [])) ≡ told place [] said_entries (r >>= (λ f. Ok []))
 equated_made place (Ok f) = refl
 equated_made place (Err e) = refl
 
-asserted_made : (place : Place) (s : Spot) (act : Action) (words : List ℕ) (r : Result Form AsmFault) → placed place (λ m. m.entries) (r >>= used place s (p.asserted act words)) ≡ told place (failed place act words r) said_entries (r >>= decided act place.line words)
+asserted_made : (place : Place) (s : Spot) (act : Action) (words : List ℕ) (r : Result Form AsmFault) → placed place (λ m. entries_of m.content) (r >>= used place s (p.asserted act words)) ≡ told place (failed place act words r) said_entries (r >>= decided act place.line words)
 asserted_made place s act words (Ok f) = by (decided act place.line words f)
   where
-    by : (d : Result (List Said) AsmFault) → placed place (λ m. m.entries) (d >>= (λ ss. Ok (record { entries = map tells ss; warning = failed place act words (Ok f) }))) ≡ told place (failed place act words (Ok f)) said_entries d
+    by : (d : Result (List Said) AsmFault) → placed place (λ m. entries_of m.content) (d >>= (λ ss. Ok (record { content = telling ss; warning = failed place act words (Ok f) }))) ≡ told place (failed place act words (Ok f)) said_entries d
     by (Ok ss) = refl
     by (Err e) = refl
 asserted_made place s act words (Err e) = refl
@@ -247,16 +248,16 @@ made_of_pieces y l = made_with y l.stated l.place l.spot l.length l.size l.settl
 -- ---- All statements.
 
 abbrev pub all_made : Symbols → List Laid → Finished Entry
-all_made y ls = record { found = contents_from y ls >>= (λ cs. Ok (flat_map entries_of cs)); warned = asserted y ls }
+all_made y ls = record { found = contents_from y ls >>= (λ cs. Ok (all_entries cs)); warned = asserted y ls }
 
 all_cons : (y : Symbols) (l : Laid) (ls : List Laid) → all_made y (l ∷ ls) ≡ after (content_made y l) (all_made y ls)
 all_cons y l ls = by (content_of y l)
   where
-    more : (c : Content) (r : Result (List Content) PlacedFault) → ((r >>= (λ cs. Ok (c ∷ cs))) >>= (λ cs. Ok (flat_map entries_of cs))) ≡ ((r >>= (λ cs. Ok (flat_map entries_of cs))) >>= (λ es. Ok (entries_of c ++ es)))
+    more : (c : Content) (r : Result (List Content) PlacedFault) → ((r >>= (λ cs. Ok (c ∷ cs))) >>= (λ cs. Ok (all_entries cs))) ≡ ((r >>= (λ cs. Ok (all_entries cs))) >>= (λ es. Ok (entries_of c ++ es)))
     more c (Ok cs) = refl
     more c (Err e) = refl
 
-    by : (r : Result Content AsmFault) → record { found = (at_place l.place r >>= (λ c. contents_from y ls >>= (λ cs. Ok (c ∷ cs)))) >>= (λ cs. Ok (flat_map entries_of cs)); warned = flat_map (asserted_by y) (if has_content r then l ∷ sound_from y ls else []) } ≡ after (told l.place (asserted_by y l) entries_of r) (all_made y ls)
+    by : (r : Result Content AsmFault) → record { found = (at_place l.place r >>= (λ c. contents_from y ls >>= (λ cs. Ok (c ∷ cs)))) >>= (λ cs. Ok (all_entries cs)); warned = flat_map (asserted_by y) (if has_content r then l ∷ sound_from y ls else []) } ≡ after (told l.place (asserted_by y l) entries_of r) (all_made y ls)
     by (Ok c) = ap (λ (r : Result (List Entry) PlacedFault). record { found = r; warned = asserted_by y l ++ asserted y ls }) (more c (contents_from y ls))
     by (Err e) = refl
 

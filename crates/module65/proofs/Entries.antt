@@ -1,6 +1,6 @@
--- The object of contents is that of their entries.
+-- Contents by their entries: what decides their object.
 use Rattle.std.proofs.Common.{◌≡◌, ◌∙◌, ℕ, Bool, true, false, cond, nat_eq, List, [], ◌∷◌, ◌++◌, map, refl, sym, ap}
-use Rattle.std.specs.Prelude.{slice_get}
+use Rattle.std.specs.Prelude.{filter_map, slice_get}
 use Rattle.std.specs.List.{filter, flat_map}
 use Rattle.std.proofs.lemmas.Grind.{flat_map-append}
 use Rattle.std.proofs.lemmas.List.{append-nil, map-append}
@@ -12,10 +12,31 @@ use Rattle.language65.specs.declared.contents.Part.{Part}
 use Rattle.language65.specs.declared.contents.Said.{Said}
 use Rattle.language65.specs.declared.contents.Segment.{Segment}
 use Rattle.language65.specs.Numbering.{all_joined, all_said, assert_of, content_imports, exports_among, fragments_of, import_keys, name_of, object_with, once, part_imports, parts_in, said_imports, section_keys, section_of, segment_name, segment_power, segments_asked}
-use Rattle.module65.specs.Laws.{all_entries}
-use Rattle.module65.specs.Machine.{entry_content, object_from}
-use Rattle.module65.specs.Pieces.{Entry, asked_by, entries_of, part, tells}
-use Rattle.std.specs.Prelude.{filter_map}
+use Rattle.module65.specs.Laws.{AreAlike}
+use Rattle.module65.specs.Pieces.{asking, put, telling}
+
+-- one thing that is asked for, put or said
+pub data Entry : Type 0 where
+  asks : (segment : ℕ) → Entry
+  part : (segment : ℕ) → Part → Entry
+  tells : Said → Entry
+
+abbrev pub asked_by : ℕ → Bool → List Entry
+asked_by segment true = asks segment ∷ []
+asked_by segment false = []
+
+-- a content as entries
+abbrev pub entries_of : Content → List Entry
+entries_of c = asked_by c.segment c.asks ++ map (part c.segment) c.parts ++ map tells c.said
+
+abbrev pub all_entries : List Content → List Entry
+all_entries cs = flat_map entries_of cs
+
+-- an entry as a content of its own
+abbrev entry_content : Entry → Content
+entry_content (asks g) = asking g
+entry_content (part g p) = put g p
+entry_content (tells s) = telling (s ∷ [])
 
 -- contents, each of one entry
 abbrev split : List Entry → List Content
@@ -205,6 +226,10 @@ object_by segments names sections imports made said = record {
   asserts = filter_map (assert_of sections imports) said;
 }
 
+-- the object of entries
+abbrev pub object_from : List Segment → List (List ℕ) → List Entry → Object
+object_from segments names es = object_with segments names (split es)
+
 pub same_object : (segments : List Segment) (names : List (List ℕ)) (cs : List Content) → object_from segments names (all_entries cs) ≡ object_with segments names cs
 same_object segments names cs =
     let ds : List Content = split (all_entries cs) in
@@ -218,3 +243,15 @@ same_object segments names cs =
   where
     section_same : (h : ℕ) → section_of segments (section_keys cs) (import_keys names cs) (split (all_entries cs)) h ≡ section_of segments (section_keys cs) (import_keys names cs) cs h
     section_same h = ap (λ ps. record { name = segment_name (slice_get segments h); align = segment_power (slice_get segments h); fragments = all_joined (fragments_of (section_keys cs) (import_keys names cs) ps) }) (gathered (parts_of_segment h) (parts_gather h) cs)
+
+-- contents of the same entries are alike
+pub alike_by : (cs ds : List Content) → all_entries cs ≡ all_entries ds → AreAlike cs ds
+alike_by cs ds e = record {
+  asked = same segments_asked asked_gathers;
+  imports = λ names. same (all_imports names) (imports_gather names);
+  parts = λ g. same (parts_of_segment g) (parts_gather g);
+  said = same all_said said_gathers;
+}
+  where
+    same : {X : Type 0} (F : List Content → List X) → Gathers F → F cs ≡ F ds
+    same F g = sym (gathered F g cs) ∙ ap (λ es. F (split es)) e ∙ gathered F g ds

@@ -1,14 +1,17 @@
 -- What is found one behind the other, up to the first fault.
 use Rattle.std.proofs.Common.{◌≡◌, ◌∙◌, ℕ, suc, List, [], ◌∷◌, ◌++◌, length, refl, sym, ap, arith, append_assoc}
 use Rattle.std.specs.Prelude.{Result, Ok, Err}
+use Rattle.std.proofs.lemmas.Grind.{flat_map-append}
 use Rattle.std.proofs.lemmas.List.{append-nil}
 use Rattle.syntax65.specs.Outcome.{◌>>=◌}
+use Rattle.language65.specs.declared.contents.Content.{Content}
 use Rattle.language65.specs.Laid.{Place}
 use Rattle.language65.specs.declared.fault.AsmFault.{AsmFault}
 use Rattle.language65.specs.Symbols.{Symbols}
 use Rattle.module65.specs.Lines.{PlacedFault}
 use Rattle.module65.specs.Machine.{Finished, Slot, Waiting, awaited, before_it, filled, holds, resolved}
-use Rattle.module65.specs.Pieces.{Entry, Made, made_of}
+use Rattle.module65.specs.Pieces.{Made, made_of}
+use Rattle.module65.proofs.Entries.{Entry, all_entries, entries_of}
 
 abbrev pub nothing : {A : Type 0} → Finished A
 nothing = record { found = Ok []; warned = [] }
@@ -54,10 +57,10 @@ abbrev pub placed : {A : Type 0} → Place → (Made → List A) → Result Made
 placed place f (Ok m) = record { found = Ok (f m); warned = m.warning }
 placed place f (Err e) = record { found = Err (record { place = place; fault = e }); warned = [] }
 
-abbrev pub one_resolved : Symbols → Waiting → Finished (List Entry)
-one_resolved y w = placed w.place (λ m. m.entries ∷ []) (made_of y w.place w.spot w.piece)
+abbrev pub one_resolved : Symbols → Waiting → Finished Content
+one_resolved y w = placed w.place (λ m. m.content ∷ []) (made_of y w.place w.spot w.piece)
 
-before_after : (place : Place) (r : Result Made AsmFault) (b : Finished (List Entry)) → before_it place r b ≡ after (placed place (λ m. m.entries ∷ []) r) b
+before_after : (place : Place) (r : Result Made AsmFault) (b : Finished Content) → before_it place r b ≡ after (placed place (λ m. m.content ∷ []) r) b
 before_after place (Ok m) b = refl
 before_after place (Err e) b = refl
 
@@ -70,12 +73,12 @@ resolved_append y (w ∷ ws) vs =
     ∙ sym (after_after (one_resolved y w) (resolved y ws) (resolved y vs))
     ∙ ap (λ b. after b (resolved y vs)) (sym (before_after w.place r (resolved y ws)))
 
-resolved_length : (y : Symbols) (ws : List Waiting) (ess : List (List Entry)) → (resolved y ws).found ≡ Ok ess → length ess ≡ length ws
-resolved_length y [] ess h = (let same : [] ≡ ess = cc in ap length (sym same))
-resolved_length y (w ∷ ws) ess h = by (made_of y w.place w.spot w.piece) (resolved y ws).found refl (resolved_length y ws) h
+resolved_length : (y : Symbols) (ws : List Waiting) (cs : List Content) → (resolved y ws).found ≡ Ok cs → length cs ≡ length ws
+resolved_length y [] cs h = (let same : [] ≡ cs = cc in ap length (sym same))
+resolved_length y (w ∷ ws) cs h = by (made_of y w.place w.spot w.piece) (resolved y ws).found refl (resolved_length y ws) h
   where
-    by : (r : Result Made AsmFault) (s : Result (List (List Entry)) PlacedFault) → (resolved y ws).found ≡ s → ((fss : List (List Entry)) → (resolved y ws).found ≡ Ok fss → length fss ≡ length ws) → (before_it w.place r (record { found = s; warned = (resolved y ws).warned })).found ≡ Ok ess → length ess ≡ length (w ∷ ws)
-    by (Ok m) (Ok fss) e more k = (let same : m.entries ∷ fss ≡ ess = cc in ap length (sym same) ∙ ap suc (more fss e))
+    by : (r : Result Made AsmFault) (s : Result (List Content) PlacedFault) → (resolved y ws).found ≡ s → ((ds : List Content) → (resolved y ws).found ≡ Ok ds → length ds ≡ length ws) → (before_it w.place r (record { found = s; warned = (resolved y ws).warned })).found ≡ Ok cs → length cs ≡ length (w ∷ ws)
+    by (Ok m) (Ok ds) e more k = (let same : m.content ∷ ds ≡ cs = cc in ap length (sym same) ∙ ap suc (more ds e))
     by (Ok m) (Err f) e more k = absurd cc
     by (Err f) s e more k = absurd cc
 
@@ -83,29 +86,39 @@ resolved_length y (w ∷ ws) ess h = by (made_of y w.place w.spot w.piece) (reso
 
 abbrev pub awaited_in : List Slot → ℕ
 awaited_in [] = 0
-awaited_in (holds e ∷ slots) = awaited_in slots
+awaited_in (holds c ∷ slots) = awaited_in slots
 awaited_in (awaited ∷ slots) = suc (awaited_in slots)
 
-filled_append : (olds news : List Slot) (ess fss : List (List Entry)) → awaited_in olds ≡ length ess → filled (olds ++ news) (ess ++ fss) ≡ filled olds ess ++ filled news fss
-filled_append [] news [] fss h = refl
-filled_append [] news (es ∷ ess) fss h = absurd cc
-filled_append (holds e ∷ olds) news ess fss h = ap (λ es. e ∷ es) (filled_append olds news ess fss h)
-filled_append (awaited ∷ olds) news [] fss h = absurd cc
-filled_append (awaited ∷ olds) news (es ∷ ess) fss h = ap (λ fs. es ++ fs) (filled_append olds news ess fss (omega (arith, h))) ∙ sym (append_assoc es (filled olds ess) (filled news fss))
+filled_append : (olds news : List Slot) (cs ds : List Content) → awaited_in olds ≡ length cs → filled (olds ++ news) (cs ++ ds) ≡ filled olds cs ++ filled news ds
+filled_append [] news [] ds h = refl
+filled_append [] news (c ∷ cs) ds h = absurd cc
+filled_append (holds b ∷ olds) news cs ds h = ap (λ bs. b ∷ bs) (filled_append olds news cs ds h)
+filled_append (awaited ∷ olds) news [] ds h = absurd cc
+filled_append (awaited ∷ olds) news (c ∷ cs) ds h = ap (λ bs. c ∷ bs) (filled_append olds news cs ds (omega (arith, h)))
+
+entries_filled : (olds news : List Slot) (cs ds : List Content) → awaited_in olds ≡ length cs → all_entries (filled (olds ++ news) (cs ++ ds)) ≡ all_entries (filled olds cs) ++ all_entries (filled news ds)
+entries_filled olds news cs ds h = ap all_entries (filled_append olds news cs ds h) ∙ flat_map-append entries_of (filled olds cs) (filled news ds)
+
+-- contents that were found, as entries
+abbrev pub as_entries : Finished Content → Finished Entry
+as_entries r = record { found = r.found >>= (λ cs. Ok (all_entries cs)); warned = r.warned }
 
 -- what slots come to
+abbrev pub slots_filled : List Slot → Finished Content → Finished Content
+slots_filled slots r = record { found = r.found >>= (λ cs. Ok (filled slots cs)); warned = r.warned }
+
 abbrev pub come : Symbols → List Slot → List Waiting → Finished Entry
-come y slots ws = record { found = (resolved y ws).found >>= (λ ess. Ok (filled slots ess)); warned = (resolved y ws).warned }
+come y slots ws = as_entries (slots_filled slots (resolved y ws))
 
 pub come_append : (y : Symbols) (olds news : List Slot) (ws vs : List Waiting) → awaited_in olds ≡ length ws → come y (olds ++ news) (ws ++ vs) ≡ after (come y olds ws) (come y news vs)
 come_append y olds news ws vs count =
-    ap (λ (r : Finished (List Entry)). record { found = r.found >>= (λ ess. Ok (filled (olds ++ news) ess)); warned = r.warned }) (resolved_append y ws vs)
-    ∙ by (resolved y ws).found (resolved y vs).found (λ ess e. count ∙ sym (resolved_length y ws ess e))
+    ap (λ r. as_entries (slots_filled (olds ++ news) r)) (resolved_append y ws vs)
+    ∙ by (resolved y ws).found (resolved y vs).found (λ cs e. count ∙ sym (resolved_length y ws cs e))
   where
-    second : (ess : List (List Entry)) → awaited_in olds ≡ length ess → (s : Result (List (List Entry)) PlacedFault) → ((s >>= (λ fss. Ok (ess ++ fss))) >>= (λ zss. Ok (filled (olds ++ news) zss))) ≡ ((s >>= (λ fss. Ok (filled news fss))) >>= (λ fs. Ok (filled olds ess ++ fs)))
-    second ess h (Ok fss) = ap Ok (filled_append olds news ess fss h)
-    second ess h (Err e) = refl
+    second : (cs : List Content) → awaited_in olds ≡ length cs → (s : Result (List Content) PlacedFault) → (((s >>= (λ ds. Ok (cs ++ ds))) >>= (λ bs. Ok (filled (olds ++ news) bs))) >>= (λ bs. Ok (all_entries bs))) ≡ (((s >>= (λ ds. Ok (filled news ds))) >>= (λ ds. Ok (all_entries ds))) >>= (λ es. Ok (all_entries (filled olds cs) ++ es)))
+    second cs h (Ok ds) = ap Ok (entries_filled olds news cs ds h)
+    second cs h (Err e) = refl
 
-    by : (r s : Result (List (List Entry)) PlacedFault) → ((ess : List (List Entry)) → r ≡ Ok ess → awaited_in olds ≡ length ess) → (let b : Finished (List Entry) = record { found = s; warned = (resolved y vs).warned } in record { found = (after_found r (resolved y ws).warned b).found >>= (λ zss. Ok (filled (olds ++ news) zss)); warned = (after_found r (resolved y ws).warned b).warned }) ≡ after_found (r >>= (λ ess. Ok (filled olds ess))) (resolved y ws).warned (record { found = s >>= (λ fss. Ok (filled news fss)); warned = (resolved y vs).warned })
-    by (Ok ess) s h = ap (λ (q : Result (List Entry) PlacedFault). record { found = q; warned = (resolved y ws).warned ++ (resolved y vs).warned }) (second ess (h ess refl) s)
+    by : (r s : Result (List Content) PlacedFault) → ((cs : List Content) → r ≡ Ok cs → awaited_in olds ≡ length cs) → as_entries (slots_filled (olds ++ news) (after_found r (resolved y ws).warned (record { found = s; warned = (resolved y vs).warned }))) ≡ after (as_entries (slots_filled olds (record { found = r; warned = (resolved y ws).warned }))) (as_entries (slots_filled news (record { found = s; warned = (resolved y vs).warned })))
+    by (Ok cs) s h = ap (λ (q : Result (List Entry) PlacedFault). record { found = q; warned = (resolved y ws).warned ++ (resolved y vs).warned }) (second cs (h cs refl) s)
     by (Err e) s h = refl

@@ -1,6 +1,6 @@
 -- One pass over the lines, and then over what waits, comes to the contents of all statements.
-use Rattle.std.proofs.Common.{◌≡◌, ◌∙◌, ℕ, ◌+◌, List, [], ◌∷◌, ◌++◌, length, map, Option, Some, None, refl, sym, ap, subst, arith}
-use Rattle.std.specs.Prelude.{Result, Ok, Err}
+use Rattle.std.proofs.Common.{◌≡◌, ◌∙◌, ℕ, ◌+◌, List, [], ◌∷◌, ◌++◌, length, Option, Some, None, refl, sym, ap, subst, arith}
+use Rattle.std.specs.Prelude.{Bool, true, false, Result, Ok, Err, if◌then◌else◌}
 use Rattle.std.proofs.lemmas.List.{append-nil, length-append}
 use Rattle.syntax65.specs.Outcome.{◌>>=◌}
 use Rattle.object65.specs.declared.object.Object.{Object}
@@ -13,15 +13,16 @@ use Rattle.language65.specs.Layout.{Layout, Standing, laid, layout_behind, nothi
 use Rattle.language65.specs.LineFaults.{line_fault}
 use Rattle.language65.specs.Numbering.{object_with}
 use Rattle.language65.specs.Symbols.{Symbols, symbols_of}
-use Rattle.module65.specs.Laws.{LaidRuns, OnePass, RunsLaid, StandsFor, all_entries}
-use Rattle.module65.specs.Laying.{IsLaid, unless_fault}
-use Rattle.module65.specs.Machine.{Extends, Finished, Puts, at_once, later, PutsAll, Slot, awaited, holds, State, Steps, Takes, UnlessFault, Waiting, asked, awaiting, before_it, begun, concluded, filled, finished, known, object_from, symbols_behind}
+use Rattle.module65.specs.Laws.{AreFoundAlike, LaidRuns, OnePass, RunsLaid, StandsFor}
+use Rattle.module65.specs.Laying.{AreLaid, IsLaid, unless_fault}
+use Rattle.module65.specs.Machine.{Extends, Finished, Puts, Runs, at_once, later, PutsAll, Slot, awaited, holds, State, Steps, Takes, UnlessFault, Waiting, asked, awaiting, before_it, begun, concluded, entered, finished, known, symbols_behind}
 use Rattle.module65.specs.Lines.{PlacedFault}
 use Rattle.module65.specs.Module.{Outcome, asserted, contents_from, out_of, outcome_of, printed, warned, warning_of}
-use Rattle.module65.specs.Pieces.{Entry, Made, Piece, asked_by, made_of, pieces_of}
+use Rattle.module65.specs.Pieces.{Made, Piece, asking, made_of, pieces_of}
+use Rattle.module65.specs.Reading.{Reached}
 use Rattle.module65.proofs.Contents.{all_append, all_made, made_of_pieces, piece_made, pieces_made}
-use Rattle.module65.proofs.Entries.{same_object}
-use Rattle.module65.proofs.Finishes.{after, after_after, after_nothing, awaited_in, come, come_append, nothing, placed}
+use Rattle.module65.proofs.Entries.{Entry, alike_by, all_entries, asked_by, entries_of, object_from, same_object}
+use Rattle.module65.proofs.Finishes.{after, after_after, after_nothing, as_entries, awaited_in, come, come_append, nothing, placed, slots_filled}
 use Rattle.module65.proofs.Simulations.{Matches, Simulates, taken_matches}
 use Rattle.module65.proofs.Tables.{extends_behind, extends_same, extends_then, flat_push, symbols_push}
 
@@ -32,20 +33,8 @@ awaited_append [] news = omega arith
 awaited_append (holds e ∷ olds) news = awaited_append olds news
 awaited_append (awaited ∷ olds) news = let more = awaited_append olds news in omega (arith, more)
 
-none_awaited : (es : List Entry) → awaited_in (map holds es) ≡ 0
-none_awaited [] = refl
-none_awaited (e ∷ es) = none_awaited es
-
-filled_held : (es : List Entry) → filled (map holds es) [] ≡ es
-filled_held [] = refl
-filled_held (e ∷ es) = ap (λ fs. e ∷ fs) (filled_held es)
-
-come_held : (z : Symbols) (es : List Entry) → come z (map holds es) [] ≡ record { found = Ok es; warned = [] }
-come_held z es = ap (λ (fs : List Entry). record { found = Ok fs; warned = [] }) (filled_held es)
-
--- one awaited slot with what was found
-abbrev one_filled : Finished (List Entry) → Finished Entry
-one_filled r = record { found = r.found >>= (λ ess. Ok (filled (awaited ∷ []) ess)); warned = r.warned }
+come_held : (z : Symbols) (c : Content) → come z (holds c ∷ []) [] ≡ record { found = Ok (entries_of c); warned = [] }
+come_held z c = ap (λ (es : List Entry). record { found = Ok es; warned = [] }) (append-nil (entries_of c))
 
 abbrev ended : List Entry → List ℕ → Finished Entry
 ended es said = record { found = Ok es; warned = said }
@@ -53,8 +42,8 @@ ended es said = record { found = Ok es; warned = said }
 come_waiting : (z : Symbols) (w : Waiting) → come z (awaited ∷ []) (w ∷ []) ≡ piece_made z w.place w.spot w.piece
 come_waiting z w = by (made_of z w.place w.spot w.piece)
   where
-    by : (r : Result Made AsmFault) → one_filled (before_it w.place r nothing) ≡ placed w.place (λ m. m.entries) r
-    by (Ok m) = ap (λ es. ended es (m.warning ++ [])) (append-nil m.entries) ∙ ap (ended m.entries) (append-nil m.warning)
+    by : (r : Result Made AsmFault) → as_entries (slots_filled (awaited ∷ []) (before_it w.place r nothing)) ≡ placed w.place (λ m. entries_of m.content) r
+    by (Ok m) = ap (λ es. ended es (m.warning ++ [])) (append-nil (entries_of m.content)) ∙ ap (ended (entries_of m.content)) (append-nil m.warning)
     by (Err e) = refl
 
 -- slots and what waits, whose count is the same, come to this behind others, by each table that extends this one
@@ -62,14 +51,14 @@ record Comes (y : Symbols) (slots : List Slot) (ws : List Waiting) (made : Symbo
   count : awaited_in slots ≡ length ws
   found : (z : Symbols) → Extends y z → come z slots ws ≡ made z
 
-comes_entered : (y : Symbols) (slots : List Slot) (ws : List Waiting) (made : Symbols → Finished Entry) (es : List Entry) → Comes y slots ws made → Comes y (slots ++ map holds es) ws (λ z. after (made z) (record { found = Ok es; warned = [] }))
-comes_entered y slots ws made es c = record {
-  count = awaited_append slots (map holds es) ∙ (let none = none_awaited es in let count = c.count in omega (arith, none, count));
+comes_entered : (y : Symbols) (slots : List Slot) (ws : List Waiting) (made : Symbols → Finished Entry) (c : Content) → Comes y slots ws made → Comes y (slots ++ holds c ∷ []) ws (λ z. after (made z) (record { found = Ok (entries_of c); warned = [] }))
+comes_entered y slots ws made c comes = record {
+  count = awaited_append slots (holds c ∷ []) ∙ (let count = comes.count in omega (arith, count));
   found = λ z e.
-      ap (come z (slots ++ map holds es)) (sym (append-nil ws))
-      ∙ come_append z slots (map holds es) ws [] c.count
-      ∙ ap (after (come z slots ws)) (come_held z es)
-      ∙ ap (λ a. after a (record { found = Ok es; warned = [] })) (c.found z e);
+      ap (come z (slots ++ holds c ∷ [])) (sym (append-nil ws))
+      ∙ come_append z slots (holds c ∷ []) ws [] comes.count
+      ∙ ap (after (come z slots ws)) (come_held z c)
+      ∙ ap (λ a. after a (record { found = Ok (entries_of c); warned = [] })) (comes.found z e);
 }
 
 comes_waiting : (y : Symbols) (slots : List Slot) (ws : List Waiting) (made : Symbols → Finished Entry) (w : Waiting) → Comes y slots ws made → Comes y (slots ++ awaited ∷ []) (ws ++ w ∷ []) (λ z. after (made z) (piece_made z w.place w.spot w.piece))
@@ -96,11 +85,11 @@ record Adds (t u : State) (old new : Symbols → Finished Entry) : Type 0 where
   comes : Comes t.symbols slots waiting new
 
 put_one : (place : Place) (s : Spot) (t u : State) (p : Piece) (made : Symbols → Finished Entry) → Comes t.symbols t.slots t.waiting made → Puts place s t p u → Adds t u made (λ z. after (made z) (piece_made z place s p))
-put_one place s t _ p made c (at_once es settled) = record {
-  slots = t.slots ++ map holds es;
+put_one place s t _ p made c (at_once content settled) = record {
+  slots = t.slots ++ holds content ∷ [];
   waiting = t.waiting;
   same = refl;
-  comes = comes_same t.symbols (t.slots ++ map holds es) t.waiting (λ z. after (made z) (record { found = Ok es; warned = [] })) (λ z. after (made z) (piece_made z place s p)) (λ z e. ap (λ r. after (made z) (placed place (λ (m : Made). m.entries) r)) (sym (settled z e))) (comes_entered t.symbols t.slots t.waiting made es c);
+  comes = comes_same t.symbols (t.slots ++ holds content ∷ []) t.waiting (λ z. after (made z) (record { found = Ok (entries_of content); warned = [] })) (λ z. after (made z) (piece_made z place s p)) (λ z e. ap (λ r. after (made z) (placed place (λ (m : Made). entries_of m.content) r)) (sym (settled z e))) (comes_entered t.symbols t.slots t.waiting made content c);
 }
 put_one place s t _ p made c later = record {
   slots = t.slots ++ awaited ∷ [];
@@ -150,13 +139,37 @@ known_for y place x slots ws =
     ∙ ap (λ (said : List ℕ). record { symbols = symbols_of (y.laid ++ l ∷ []); standing = w; slots = slots; waiting = ws; out = said; err = warned y.laid ++ warning_of place x }) (sym (flat_push (λ (m : Laid). out_of m.stated) y.laid l))
     ∙ ap (λ (said : List ℕ). record { symbols = symbols_of (y.laid ++ l ∷ []); standing = w; slots = slots; waiting = ws; out = printed (y.laid ++ l ∷ []); err = said }) (sym (flat_push (λ (m : Laid). warning_of m.place m.stated) y.laid l))
 
+-- a statement asks for its section, or doesn't
+record Asked (y : Layout) (slots : List Slot) (ws : List Waiting) (l : Laid) : Type 0 where
+  more : List Slot
+  same : asked (state_for y slots ws) l ≡ state_for y more ws
+  comes : Comes (symbols_of y.laid) more ws (λ z. after (all_made z y.laid) (record { found = Ok (asked_by l.spot.segment (asks_section l.stated)); warned = [] }))
+
+asked_follows : (y : Layout) (slots : List Slot) (ws : List Waiting) (l : Laid) → Comes (symbols_of y.laid) slots ws (λ z. all_made z y.laid) → Asked y slots ws l
+asked_follows y slots ws l c = by (asks_section l.stated) refl
+  where
+    by : (b : Bool) → asks_section l.stated ≡ b → Asked y slots ws l
+    by true e = record {
+      more = slots ++ holds (asking l.spot.segment) ∷ [];
+      same = ap (λ b. if b then entered (state_for y slots ws) (asking l.spot.segment) else state_for y slots ws) e;
+      comes = subst (λ b. Comes (symbols_of y.laid) (slots ++ holds (asking l.spot.segment) ∷ []) ws (λ z. after (all_made z y.laid) (record { found = Ok (asked_by l.spot.segment b); warned = [] }))) (sym e) (comes_entered (symbols_of y.laid) slots ws (λ z. all_made z y.laid) (asking l.spot.segment) c);
+    }
+    by false e = record {
+      more = slots;
+      same = ap (λ b. if b then entered (state_for y slots ws) (asking l.spot.segment) else state_for y slots ws) e;
+      comes = subst (λ b. Comes (symbols_of y.laid) slots ws (λ z. after (all_made z y.laid) (record { found = Ok (asked_by l.spot.segment b); warned = [] }))) (sym e) (comes_same (symbols_of y.laid) slots ws (λ z. all_made z y.laid) (λ z. after (all_made z y.laid) nothing) (λ z h. sym (after_nothing (all_made z y.laid))) c);
+    }
+
 statement_follows : (y : Layout) (slots : List Slot) (ws : List Waiting) (place : Place) (x : Stated) (u : State) → Comes (symbols_of y.laid) slots ws (λ z. all_made z y.laid) → (let l : Laid = laid (symbols_of y.laid) y.standing place x in PutsAll place l.spot (asked (state_for y slots ws) l) (pieces_of l.length l.settled x) u → Follows (layout_behind y place x) (known u l))
 statement_follows y slots ws place x u c puts =
     let l = laid (symbols_of y.laid) y.standing place x in
-    let es : List Entry = asked_by l.spot.segment (asks_section x) in
-    let asks : Finished Entry = record { found = Ok es; warned = [] } in
-    let all = put_all place l.spot (asked (state_for y slots ws) l) u (pieces_of l.length l.settled x) (λ z. after (all_made z y.laid) asks) (comes_entered (symbols_of y.laid) slots ws (λ z. all_made z y.laid) es c) puts in
-    let whole = comes_same (symbols_of y.laid) all.slots all.waiting (λ z. after (after (all_made z y.laid) asks) (pieces_made z place l.spot (pieces_of l.length l.settled x))) (λ z. all_made z (y.laid ++ l ∷ [])) (λ z e. after_after (all_made z y.laid) asks (pieces_made z place l.spot (pieces_of l.length l.settled x)) ∙ ap (after (all_made z y.laid)) (sym (made_of_pieces z l)) ∙ sym (all_append z y.laid l)) all.comes in
+    let ps = pieces_of l.length l.settled x in
+    let first = asked_follows y slots ws l c in
+    let t = state_for y first.more ws in
+    let asks : Finished Entry = record { found = Ok (asked_by l.spot.segment (asks_section x)); warned = [] } in
+    let puts' : PutsAll place l.spot t ps u = subst (λ v. PutsAll place l.spot v ps u) first.same puts in
+    let all = put_all place l.spot t u ps (λ z. after (all_made z y.laid) asks) first.comes puts' in
+    let whole = comes_same (symbols_of y.laid) all.slots all.waiting (λ z. after (after (all_made z y.laid) asks) (pieces_made z place l.spot ps)) (λ z. all_made z (y.laid ++ l ∷ [])) (λ z e. after_after (all_made z y.laid) asks (pieces_made z place l.spot ps) ∙ ap (after (all_made z y.laid)) (sym (made_of_pieces z l)) ∙ sym (all_append z y.laid l)) all.comes in
     record {
       slots = all.slots;
       waiting = all.waiting;
@@ -186,53 +199,82 @@ begun_follows = record { slots = []; waiting = []; same = refl; comes = record {
 same_scope : (y : Layout) (t : State) → Follows y t → y.standing.scope ≡ t.standing.scope
 same_scope y t follows = ap (λ (v : State). v.standing.scope) (sym follows.same)
 
-stands_for : (y : Layout) (slots : List Slot) (ws : List Waiting) → Comes (symbols_of y.laid) slots ws (λ z. all_made z y.laid) → StandsFor y (state_for y slots ws)
-stands_for y slots ws c =
-    let all = c.found (symbols_of y.laid) (extends_same (symbols_of y.laid)) in
+-- what has the same entries is alike
+found_alike : (r q : Result (List Content) PlacedFault) → (r >>= (λ cs. Ok (all_entries cs))) ≡ (q >>= (λ cs. Ok (all_entries cs))) → AreFoundAlike r q
+found_alike (Ok cs) (Ok ds) e = (let same : all_entries cs ≡ all_entries ds = cc in alike_by cs ds same)
+found_alike (Ok cs) (Err f) e = absurd cc
+found_alike (Err f) (Ok ds) e = absurd cc
+found_alike (Err f) (Err g) e = (let same : f ≡ g = cc in ap Err (sym same))
+
+abbrev SameEntries : Layout → State → Type 0
+SameEntries y t = as_entries (finished t) ≡ all_made t.symbols y.laid
+
+stands_for : (y : Layout) (slots : List Slot) (ws : List Waiting) → SameEntries y (state_for y slots ws) → StandsFor y (state_for y slots ws)
+stands_for y slots ws all = record {
+  symbols = refl;
+  standing = refl;
+  out = refl;
+  err = refl;
+  found = found_alike (finished (state_for y slots ws)).found (contents_from (symbols_of y.laid) y.laid) (ap (λ (f : Finished Entry). f.found) all);
+  asserted = ap (λ (f : Finished Entry). f.warned) all;
+}
+
+-- the entries of what was found are those of the contents
+record RunsTo (file : List ℕ) (texts : List (List ℕ)) (r : Reached State) : Type 0 where
+  layout : Layout
+  laid : AreLaid file texts (record { behind = layout; fault = r.fault })
+  stands : StandsFor layout r.behind
+  entries : SameEntries layout r.behind
+
+runs_to : (file : List ℕ) (texts : List (List ℕ)) (r : Reached State) → Runs file texts r → RunsTo file texts r
+runs_to file texts r runs =
+    let all = taken_matches Follows IsLaid Takes (λ (y : Layout). y.standing.scope) (λ (t : State). t.standing.scope) takes_follows same_scope file nothing_laid begun 0 texts r begun_follows runs in
+    let follows : Follows all.0 r.behind = all.2 in
+    let same : SameEntries all.0 (state_for all.0 follows.slots follows.waiting) = follows.comes.found (symbols_of (all.0).laid) (extends_same (symbols_of (all.0).laid)) in
     record {
-      symbols = refl;
-      standing = refl;
-      out = refl;
-      err = refl;
-      found = ap (λ (f : Finished Entry). f.found) all;
-      asserted = ap (λ (f : Finished Entry). f.warned) all;
+      layout = all.0;
+      laid = all.1;
+      stands = subst (StandsFor all.0) (sym follows.same) (stands_for all.0 follows.slots follows.waiting same);
+      entries = subst (SameEntries all.0) (sym follows.same) same;
     }
 
 pub runs_laid : RunsLaid
-runs_laid file texts r runs =
-    let all = taken_matches Follows IsLaid Takes (λ (y : Layout). y.standing.scope) (λ (t : State). t.standing.scope) takes_follows same_scope file nothing_laid begun 0 texts r begun_follows runs in
-    let follows : Follows all.0 r.behind = all.2 in
-    (all.0, all.1, subst (StandsFor all.0) (sym follows.same) (stands_for all.0 follows.slots follows.waiting follows.comes))
+runs_laid file texts r runs = let to = runs_to file texts r runs in (to.layout, to.laid, to.stands)
 
 -- ---- What is answered.
 
--- the object of what was found is that of the contents
-found_object : (segments : List Segment) (names : List (List ℕ)) (r : Result (List Content) PlacedFault) → ((r >>= (λ cs. Ok (all_entries cs))) >>= (λ es. Ok (object_from segments names es))) ≡ (r >>= (λ cs. Ok (object_with segments names cs)))
-found_object segments names (Ok cs) = ap Ok (same_object segments names cs)
-found_object segments names (Err e) = refl
+abbrev with_object : List Segment → List (List ℕ) → Result (List Content) PlacedFault → Result Object PlacedFault
+with_object segments names r = r >>= (λ cs. Ok (object_with segments names cs))
+
+-- an object is that of the entries
+object_found : (segments : List Segment) (names : List (List ℕ)) (r : Result (List Content) PlacedFault) → with_object segments names r ≡ ((r >>= (λ cs. Ok (all_entries cs))) >>= (λ es. Ok (object_from segments names es)))
+object_found segments names (Ok cs) = ap Ok (sym (same_object segments names cs))
+object_found segments names (Err e) = refl
+
+same_objects : (segments : List Segment) (names : List (List ℕ)) (r q : Result (List Content) PlacedFault) → (r >>= (λ cs. Ok (all_entries cs))) ≡ (q >>= (λ cs. Ok (all_entries cs))) → with_object segments names r ≡ with_object segments names q
+same_objects segments names r q e = object_found segments names r ∙ ap (λ s. s >>= (λ es. Ok (object_from segments names es))) e ∙ sym (object_found segments names q)
 
 -- what is answered, by what stands behind the last line
-abbrev answered : Symbols → Standing → Result (List Entry) PlacedFault → (out err : List ℕ) → Outcome
-answered z w r out err = record { result = r >>= (λ es. Ok (object_from w.segments z.imports es)); out = out; err = err }
+abbrev answered : Symbols → Standing → Result (List Content) PlacedFault → (out err : List ℕ) → Outcome
+answered z w r out err = record { result = with_object w.segments z.imports r; out = out; err = err }
 
-concluded_for : (y : Layout) (t : State) (fault : Option PlacedFault) → StandsFor y t → concluded t fault ≡ outcome_of y fault
-concluded_for y t None for =
+concluded_for : (y : Layout) (t : State) (fault : Option PlacedFault) → StandsFor y t → SameEntries y t → concluded t fault ≡ outcome_of y fault
+concluded_for y t None for same =
     let z = symbols_of y.laid in
-    ap (λ r. answered t.symbols t.standing r t.out (t.err ++ (finished t).warned)) for.found
-    ∙ ap (λ w. answered t.symbols t.standing (contents_from t.symbols y.laid >>= (λ cs. Ok (all_entries cs))) t.out (t.err ++ w)) for.asserted
-    ∙ ap (λ (v : Symbols). answered v t.standing (contents_from v y.laid >>= (λ cs. Ok (all_entries cs))) t.out (t.err ++ asserted v y.laid)) for.symbols
-    ∙ ap (λ (w : Standing). answered z w (contents_from z y.laid >>= (λ cs. Ok (all_entries cs))) t.out (t.err ++ asserted z y.laid)) for.standing
-    ∙ ap (λ out. answered z y.standing (contents_from z y.laid >>= (λ cs. Ok (all_entries cs))) out (t.err ++ asserted z y.laid)) for.out
-    ∙ ap (λ err. answered z y.standing (contents_from z y.laid >>= (λ cs. Ok (all_entries cs))) (printed y.laid) (err ++ asserted z y.laid)) for.err
-    ∙ ap (λ (r : Result Object PlacedFault). record { result = r; out = printed y.laid; err = warned y.laid ++ asserted z y.laid }) (found_object y.standing.segments z.imports (contents_from z y.laid))
-concluded_for y t (Some e) for =
+    ap (λ (r : Result Object PlacedFault). record { result = r; out = t.out; err = t.err ++ (finished t).warned }) (same_objects t.standing.segments t.symbols.imports (finished t).found (contents_from t.symbols y.laid) (ap (λ (f : Finished Entry). f.found) same))
+    ∙ ap (λ w. answered t.symbols t.standing (contents_from t.symbols y.laid) t.out (t.err ++ w)) for.asserted
+    ∙ ap (λ (v : Symbols). answered v t.standing (contents_from v y.laid) t.out (t.err ++ asserted v y.laid)) for.symbols
+    ∙ ap (λ (w : Standing). answered z w (contents_from z y.laid) t.out (t.err ++ asserted z y.laid)) for.standing
+    ∙ ap (λ out. answered z y.standing (contents_from z y.laid) out (t.err ++ asserted z y.laid)) for.out
+    ∙ ap (λ err. answered z y.standing (contents_from z y.laid) (printed y.laid) (err ++ asserted z y.laid)) for.err
+concluded_for y t (Some e) for same =
     ap (λ (out : List ℕ). record { result = Err e; out = out; err = t.err }) for.out
     ∙ ap (λ (err : List ℕ). record { result = Err e; out = printed y.laid; err = err }) for.err
 
 pub one_pass : OnePass
 one_pass file texts r runs =
-    let laid = runs_laid file texts r runs in
-    (record { behind = laid.0; fault = r.fault }, laid.1, concluded_for laid.0 r.behind r.fault laid.2)
+    let to = runs_to file texts r runs in
+    (record { behind = to.layout; fault = r.fault }, to.laid, concluded_for to.layout r.behind r.fault to.stands to.entries)
 
 -- ---- Whatever is laid can be reached.
 

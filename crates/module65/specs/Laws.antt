@@ -1,18 +1,19 @@
 -- What is proved of the definitions.
-use Rattle.std.specs.Prelude.{◌≡◌, ℕ, List, Ok}
+use Rattle.std.specs.Prelude.{◌≡◌, ℕ, List, Result, Ok, Err}
 use Rattle.std.specs.List.{flat_map}
-use Rattle.syntax65.specs.Outcome.{◌>>=◌}
 use Rattle.syntax65.specs.Trees.{Tree}
 use Rattle.object65.specs.Form.{Form}
 use Rattle.language65.specs.declared.contents.Content.{Content}
 use Rattle.language65.specs.Laid.{Place, Spot}
 use Rattle.language65.specs.Layout.{Layout}
+use Rattle.language65.specs.Numbering.{all_said, content_imports, parts_in, segments_asked}
 use Rattle.language65.specs.Sound.{AreSound, IsSoundLayout}
 use Rattle.language65.specs.Symbols.{Symbols, symbols_of}
 use Rattle.module65.specs.Laying.{AreLaid}
+use Rattle.module65.specs.Lines.{PlacedFault}
 use Rattle.module65.specs.Machine.{IsFinal, IsSettled, Runs, State, concluded, finished}
 use Rattle.module65.specs.Module.{IsOutcome, asserted, contents_from, printed, warned}
-use Rattle.module65.specs.Pieces.{Entry, Purpose, entries_of, quietly, used, valued}
+use Rattle.module65.specs.Pieces.{Purpose, quietly, used, valued}
 use Rattle.module65.specs.Reading.{Reached}
 
 -- a source is laid in one way at most
@@ -36,18 +37,29 @@ SoundContents =
 
 -- ---- The machine of one pass.
 
--- contents as entries
-abbrev pub all_entries : List Content → List Entry
-all_entries cs = flat_map entries_of cs
+-- Contents that ask for the same sections, bring the same imports, put the same parts into each
+-- segment and say the same, all in the same order: so they have the same object.
+pub record AreAlike (cs ds : List Content) : Type 0 where
+  pub asked : segments_asked cs ≡ segments_asked ds
+  pub imports :
+      (names : List (List ℕ)) → flat_map (content_imports names) cs ≡ flat_map (content_imports names) ds
+  pub parts : (g : ℕ) → parts_in cs g ≡ parts_in ds g
+  pub said : all_said cs ≡ all_said ds
 
--- a state stands for laid statements: it has their symbol table, what stands behind them and what
--- they print, and what waits comes to their contents and to the warnings of their assertions
+-- alike contents, or the same fault
+abbrev pub AreFoundAlike : (a b : Result (List Content) PlacedFault) → Type 0
+AreFoundAlike (Ok cs) (Ok ds) = AreAlike cs ds
+AreFoundAlike (Ok cs) (Err e) = ⊥
+AreFoundAlike (Err e) b = b ≡ Err e
+
+-- A state stands for laid statements: it has their symbol table, what stands behind them and what
+-- they print; and what waits comes to contents like theirs and to the warnings of their assertions.
 pub record StandsFor (y : Layout) (t : State) : Type 0 where
   pub symbols : t.symbols ≡ symbols_of y.laid
   pub standing : t.standing ≡ y.standing
   pub out : t.out ≡ printed y.laid
   pub err : t.err ≡ warned y.laid
-  pub found : (finished t).found ≡ (contents_from t.symbols y.laid >>= (λ cs. Ok (all_entries cs)))
+  pub found : AreFoundAlike (finished t).found (contents_from t.symbols y.laid)
   pub asserted : (finished t).warned ≡ asserted t.symbols y.laid
 
 -- what the machine reaches stands for what is laid, with the same fault of a line
@@ -60,8 +72,8 @@ RunsLaid =
 -- warning
 abbrev pub FinalSettles : Type 0
 FinalSettles =
-    (y : Symbols) (place : Place) (s : Spot) (why : Purpose) (e : Tree) (f : Form) (es : List Entry) →
-    IsFinal y s e f → used place s why f ≡ Ok (quietly es) → IsSettled y place s (valued why e) es
+    (y : Symbols) (place : Place) (s : Spot) (why : Purpose) (e : Tree) (f : Form) (c : Content) →
+    IsFinal y s e f → used place s why f ≡ Ok (quietly c) → IsSettled y place s (valued why e) c
 
 -- one pass over the lines, and then over what waits, assembles them
 abbrev pub OnePass : Type 0

@@ -1,11 +1,10 @@
 -- The assembler in one pass: what it holds between lines, what a statement adds, what waits to the end.
-use Rattle.std.specs.Prelude.{◌≡◌, ℕ, true, false, List, [], ◌∷◌, ◌++◌, map, Option, Some, None, Result, Ok, Err}
+use Rattle.std.specs.Prelude.{◌≡◌, ℕ, List, [], ◌∷◌, ◌++◌, Option, Some, None, Result, Ok, Err, if◌then◌else◌}
 use Rattle.syntax65.specs.Outcome.{◌>>=◌}
 use Rattle.syntax65.specs.Trees.{Tree}
 use Rattle.object65.specs.Form.{Form}
 use Rattle.object65.specs.declared.object.Object.{Object}
 use Rattle.language65.specs.declared.contents.Content.{Content}
-use Rattle.language65.specs.declared.contents.Segment.{Segment}
 use Rattle.language65.specs.declared.fault.AsmFault.{AsmFault}
 use Rattle.language65.specs.Language.{Stated}
 use Rattle.language65.specs.Laid.{Laid, Place, Spot, asks_section}
@@ -16,7 +15,7 @@ use Rattle.language65.specs.Numbering.{object_with}
 use Rattle.language65.specs.Symbols.{Symbols, definitions_of, imports_of, scope_opened, symbols_of, with_new, zero_page_names}
 use Rattle.module65.specs.Lines.{PlacedFault}
 use Rattle.module65.specs.Module.{Outcome, out_of, warning_of}
-use Rattle.module65.specs.Pieces.{Entry, asks, part, tells, Made, Piece, asked_by, made_of, pieces_of, quietly}
+use Rattle.module65.specs.Pieces.{Made, Piece, asking, made_of, pieces_of, quietly}
 use Rattle.module65.specs.Reading.{AreTaken, Reached}
 
 -- ---- Symbol tables that grow.
@@ -47,9 +46,9 @@ pub record Waiting : Type 0 where
   pub spot : Spot
   pub piece : Piece
 
--- an entry, or room for what is decided behind the last line
+-- a content, or room for one that is decided behind the last line
 pub data Slot : Type 0 where
-  holds : Entry → Slot
+  holds : Content → Slot
   awaited : Slot
 
 pub record State : Type 0 where
@@ -57,7 +56,7 @@ pub record State : Type 0 where
   pub standing : Standing
   -- what was put into the sections and said to the linker, in the order of the source
   pub slots : List Slot
-  -- for each slot that awaits its entries, the piece that they come from
+  -- for each slot that awaits its content, the piece that it comes from
   pub waiting : List Waiting
   -- what was printed, and the warnings
   pub out : List ℕ
@@ -72,20 +71,20 @@ begun =
 abbrev pub awaiting : State → Waiting → State
 awaiting t w = record t { slots = t.slots ++ awaited ∷ []; waiting = t.waiting ++ w ∷ [] }
 
-abbrev pub entered : State → List Entry → State
-entered t es = record t { slots = t.slots ++ map holds es }
+abbrev pub entered : State → Content → State
+entered t c = record t { slots = t.slots ++ holds c ∷ [] }
 
--- it asks for its section
+-- it asks for its section, where it does
 abbrev pub asked : State → Laid → State
-asked t l = entered t (asked_by l.spot.segment (asks_section l.stated))
+asked t l = if asks_section l.stated then entered t (asking l.spot.segment) else t
 
--- whatever statements follow, the piece comes to these entries, and to no warning
-abbrev pub IsSettled : Symbols → Place → Spot → Piece → List Entry → Type 0
-IsSettled y place s p es = (z : Symbols) → Extends y z → made_of z place s p ≡ Ok (quietly es)
+-- whatever statements follow, the piece comes to this content, and to no warning
+abbrev pub IsSettled : Symbols → Place → Spot → Piece → Content → Type 0
+IsSettled y place s p c = (z : Symbols) → Extends y z → made_of z place s p ≡ Ok (quietly c)
 
 -- a piece is entered at its line where it is settled there, or it waits
 pub data Puts (place : Place) (s : Spot) (t : State) (p : Piece) : State → Type 0 where
-  at_once : (es : List Entry) → IsSettled t.symbols place s p es → Puts place s t p (entered t es)
+  at_once : (c : Content) → IsSettled t.symbols place s p c → Puts place s t p (entered t c)
   later : Puts place s t p (awaiting t (record { place = place; spot = s; piece = p }))
 
 -- one behind the other
@@ -127,47 +126,36 @@ pub record Finished (A : Type 0) : Type 0 where
   pub found : Result (List A) PlacedFault
   pub warned : List ℕ
 
-abbrev pub before_it : Place → Result Made AsmFault → Finished (List Entry) → Finished (List Entry)
+abbrev pub before_it : Place → Result Made AsmFault → Finished Content → Finished Content
 before_it place (Ok m) r =
-    record { found = r.found >>= (λ ess. Ok (m.entries ∷ ess)); warned = m.warning ++ r.warned }
+    record { found = r.found >>= (λ cs. Ok (m.content ∷ cs)); warned = m.warning ++ r.warned }
 before_it place (Err e) r =
     record { found = Err (record { place = place; fault = e }); warned = [] }
 
 -- what waits is gone through once, by the symbol table of all statements
-abbrev pub resolved : Symbols → List Waiting → Finished (List Entry)
+abbrev pub resolved : Symbols → List Waiting → Finished Content
 resolved y [] = record { found = Ok []; warned = [] }
 resolved y (w ∷ ws) = before_it w.place (made_of y w.place w.spot w.piece) (resolved y ws)
 
--- each slot that awaits its entries has them
-abbrev pub filled : List Slot → List (List Entry) → List Entry
-filled [] ess = []
-filled (holds e ∷ slots) ess = e ∷ filled slots ess
+-- each slot that awaits its content has it
+abbrev pub filled : List Slot → List Content → List Content
+filled [] cs = []
+filled (holds c ∷ slots) cs = c ∷ filled slots cs
 filled (awaited ∷ slots) [] = filled slots []
-filled (awaited ∷ slots) (es ∷ ess) = es ++ filled slots ess
+filled (awaited ∷ slots) (c ∷ cs) = c ∷ filled slots cs
 
 -- what a state comes to behind the last line
-abbrev pub finished : State → Finished Entry
+abbrev pub finished : State → Finished Content
 finished t =
-    let r : Finished (List Entry) = resolved t.symbols t.waiting in
-    record { found = r.found >>= (λ ess. Ok (filled t.slots ess)); warned = r.warned }
-
--- ---- The object of what was found.
-
--- an entry as a content of its own
-abbrev pub entry_content : Entry → Content
-entry_content (asks g) = record { segment = g; asks = true; parts = []; said = [] }
-entry_content (part g p) = record { segment = g; asks = false; parts = p ∷ []; said = [] }
-entry_content (tells s) = record { segment = 0; asks = false; parts = []; said = s ∷ [] }
-
-abbrev pub object_from : List Segment → List (List ℕ) → List Entry → Object
-object_from segments names es = object_with segments names (map entry_content es)
+    let r : Finished Content = resolved t.symbols t.waiting in
+    record { found = r.found >>= (λ cs. Ok (filled t.slots cs)); warned = r.warned }
 
 -- what is answered behind the last line, or at a line's fault
 abbrev pub concluded : State → Option PlacedFault → Outcome
 concluded t None =
-    let object : List Entry → Object = object_from t.standing.segments t.symbols.imports in
+    let object : List Content → Object = object_with t.standing.segments t.symbols.imports in
     record {
-      result = (finished t).found >>= (λ es. Ok (object es));
+      result = (finished t).found >>= (λ cs. Ok (object cs));
       out = t.out;
       err = t.err ++ (finished t).warned;
     }

@@ -22,21 +22,19 @@ use Rattle.language65.specs.Sizes.{width_of}
 use Rattle.language65.specs.Symbols.{Symbols, defined, named}
 use Rattle.module65.specs.Module.{failed}
 
--- ---- What is put into the sections and said, in the order of the source.
+-- ---- Contents of one kind.
 
-pub data Entry : Type 0 where
-  -- a statement asks for a section of this segment
-  asks : (segment : ℕ) → Entry
-  part : (segment : ℕ) → Part → Entry
-  tells : Said → Entry
+-- the section of a segment is asked for
+abbrev pub asking : ℕ → Content
+asking g = record { segment = g; asks = true; parts = []; said = [] }
 
-abbrev pub asked_by : ℕ → Bool → List Entry
-asked_by segment true = asks segment ∷ []
-asked_by segment false = []
+-- a part of a section
+abbrev pub put : ℕ → Part → Content
+put g p = record { segment = g; asks = false; parts = p ∷ []; said = [] }
 
--- a statement's content as entries
-abbrev pub entries_of : Content → List Entry
-entries_of c = asked_by c.segment c.asks ++ map (part c.segment) c.parts ++ map tells c.said
+-- what is said
+abbrev pub telling : List Said → Content
+telling ss = record { segment = 0; asks = false; parts = []; said = ss }
 
 -- ---- Pieces.
 
@@ -89,19 +87,19 @@ pieces_of count s _ = []
 
 -- ---- What a piece comes to.
 
--- entries, and the warning of an assertion that isn't so
+-- a content, and the warning of an assertion that isn't so
 pub record Made : Type 0 where
-  pub entries : List Entry
+  pub content : Content
   pub warning : List ℕ
 
-abbrev pub quietly : List Entry → Made
-quietly es = record { entries = es; warning = [] }
+abbrev pub quietly : Content → Made
+quietly c = record { content = c; warning = [] }
 
 abbrev pub as_part : ℕ → Part → Result Made AsmFault
-as_part segment p = Ok (quietly (part segment p ∷ []))
+as_part segment p = Ok (quietly (put segment p))
 
 abbrev pub as_said : List Said → Result Made AsmFault
-as_said ss = Ok (quietly (map tells ss))
+as_said ss = Ok (quietly (telling ss))
 
 -- what an export says that isn't defined
 abbrev pub absent_of : (must : Bool) → List ℕ → Result (List Said) AsmFault
@@ -113,10 +111,10 @@ abbrev pub used : Place → Spot → Purpose → Form → Result Made AsmFault
 used place s (datum width) f = stored width place.line f >>= as_part s.segment
 used place s (operand width) f =
     operand_form width s f >>= stored width place.line >>= as_part s.segment
-used place s equated f = Ok (quietly [])
+used place s equated f = as_said []
 used place s (asserted act words) f =
     decided act place.line words f
-    >>= (λ ss. Ok (record { entries = map tells ss; warning = failed place act words (Ok f) }))
+    >>= (λ ss. Ok (record { content = telling ss; warning = failed place act words (Ok f) }))
 
 -- what a piece of a statement that stands here comes to by a symbol table, or its fault
 abbrev pub made_of : Symbols → Place → Spot → Piece → Result Made AsmFault

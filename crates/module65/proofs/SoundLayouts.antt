@@ -1,11 +1,9 @@
 -- What lines lay is sound: names of segments, statements, their lengths, and the room in each section.
 use Rattle.std.proofs.Common.{◌≡◌, ◌∙◌, ℕ, zero, suc, ◌+◌, ◌<◌, ◌≤◌, Bool, true, false, nat_eq, nat_lt, cond, List, [], ◌∷◌, ◌++◌, length, map, take, slice_get, Option, Some, None, Result, Ok, Err, refl, sym, ap, subst, arith}
-use Rattle.std.specs.Prelude.{◌&&◌, ◌||◌, sum_by, if◌then◌else◌}
-use Rattle.std.specs.List.{AllByRecursion, position_from}
-use Rattle.std.specs.Str.{bytes_eq}
+use Rattle.std.specs.Prelude.{◌&&◌, sum_by, if◌then◌else◌}
+use Rattle.std.specs.List.{AllByRecursion}
 use Rattle.std.proofs.lemmas.Bool.Decides.{nat_tests}
-use Rattle.std.proofs.lemmas.Iterator.Adapters.{position_from-zero}
-use Rattle.std.proofs.lemmas.List.{length-append, map-append}
+use Rattle.std.proofs.lemmas.List.{map-append}
 use Rattle.std.proofs.lemmas.List.Elements.{filter-append}
 use Rattle.std.proofs.lemmas.List.Sums.{sum_by-append}
 use Rattle.syntax65.specs.Outcome.{First}
@@ -15,7 +13,7 @@ use Rattle.syntax65.specs.declared.lexing.tokens.AddressSize.{AddressSize}
 use Rattle.syntax65.specs.declared.lexing.tokens.TokenKind.{TokenKind}
 use Rattle.syntax65.specs.declared.lexing.tokens.TokenKind.TheVariants as token
 use Rattle.syntax65.specs.Words.{is_reserved}
-use Rattle.object65.specs.Objects.{are_names, is_among, is_name, section_limit}
+use Rattle.object65.specs.Objects.{are_names, is_name, section_limit}
 use Rattle.object65.proofs.Reached.{names_push}
 use Rattle.language65.specs.declared.contents.Segment.{Segment}
 use Rattle.language65.specs.declared.fault.AsmFault.{AsmFault}
@@ -32,8 +30,7 @@ use Rattle.module65.specs.Laws.{SoundLayoutLaw}
 use Rattle.language65.specs.Sizes.{length_of, settled_of}
 use Rattle.language65.specs.Symbols.{Symbols, key_defined, symbols_of}
 use Rattle.language65.specs.Sound.{IsMeasured, IsSound, IsSoundLayout, statements_in}
-use Rattle.language65.proofs.Lists.{bytes_swap}
-use Rattle.module65.proofs.Segments.{all_more, all_same, found_below, grown_end, grown_length, grown_names}
+use Rattle.module65.proofs.Segments.{Grows, all_more, all_same, end_behind, grows, grows_none, named_there, not_among, one_longer}
 use Rattle.statements65.proofs.Sounding.{line_sound}
 
 -- ---- Faults that there aren't.
@@ -86,33 +83,6 @@ same_length y s own x = refl
 same_settled : (y : Symbols) (s : Spot) (own : AddressSize) (x : Stated) → settled_of y s own x ≡ settled_of y s (size_stated y s own x) x
 same_settled y s own (constant n e) = refl
 same_settled y s own x = refl
-
--- ---- A segment that grows.
-
-grown_other : (gs : List Segment) (i h count multiple : ℕ) → nat_eq i h ≡ false → segment_at (grown_at gs i count multiple) h ≡ segment_at gs h
-grown_other [] i h count multiple apart = refl
-grown_other (g ∷ gs) zero zero count multiple apart = absurd cc
-grown_other (g ∷ gs) zero (suc h) count multiple apart = refl
-grown_other (g ∷ gs) (suc i) zero count multiple apart = refl
-grown_other (g ∷ gs) (suc i) (suc h) count multiple apart = grown_other gs i h count multiple (grind (arith, nat_tests))
-
--- the segment in which a statement stands has so many bytes more, and the others stay as they were
-record Grows (gs hs : List Segment) (current count : ℕ) : Type 0 where
-  names : map (λ (g : Segment). g.name) hs ≡ map (λ (g : Segment). g.name) gs
-  size : length hs ≡ length gs
-  here : (segment_at hs current).end ≡ (segment_at gs current).end + count
-  others : (g : ℕ) → nat_eq current g ≡ false → (segment_at hs g).end ≡ (segment_at gs g).end
-
-grows : (gs : List Segment) (current count multiple : ℕ) → current < length gs → Grows gs (grown_at gs current count multiple) current count
-grows gs current count multiple lt = record {
-  names = grown_names gs current count multiple;
-  size = grown_length gs current count multiple;
-  here = grown_end gs current count multiple lt;
-  others = λ g e. ap (λ (h : Segment). h.end) (grown_other gs current g count multiple e);
-}
-
-grows_none : (gs : List Segment) (current : ℕ) → Grows gs gs current 0
-grows_none gs current = record { names = refl; size = refl; here = omega arith; others = λ g e. refl }
 
 -- ---- What holds behind each statement.
 
@@ -192,27 +162,6 @@ good_push ls gs hs current kept l good more at sound measured room = record {
 
 -- ---- One more segment.
 
--- a name without a place is none of theirs
-not_among : (n : List ℕ) (gs : List Segment) → place_of gs n ≡ None → is_among (map (λ (g : Segment). g.name) gs) n ≡ false
-not_among n gs e = from 0 gs (sym (position_from-zero (λ (g : Segment). bytes_eq g.name n) gs) ∙ e)
-  where
-    from : (i : ℕ) (hs : List Segment) → position_from (λ (g : Segment). bytes_eq g.name n) i hs ≡ None → is_among (map (λ (g : Segment). g.name) hs) n ≡ false
-    from i [] h = refl
-    from i (g ∷ hs) h = by (bytes_eq g.name n) refl h (from (i + 1) hs)
-      where
-        by : (b : Bool) → bytes_eq g.name n ≡ b → cond b (Some i) (position_from (λ (k : Segment). bytes_eq k.name n) (i + 1) hs) ≡ None → (position_from (λ (k : Segment). bytes_eq k.name n) (i + 1) hs ≡ None → is_among (map (λ (k : Segment). k.name) hs) n ≡ false) → is_among (map (λ (k : Segment). k.name) (g ∷ hs)) n ≡ false
-        by true same k more = absurd cc
-        by false apart k more = ap (λ b. b || is_among (map (λ (m : Segment). m.name) hs) n) (bytes_swap n g.name ∙ apart) ∙ more k
-
-end_behind : (gs : List Segment) (n : List ℕ) (own : AddressSize) (g : ℕ) → (segment_at (gs ++ new_segment n own ∷ []) g).end ≡ (segment_at gs g).end
-end_behind [] n own zero = refl
-end_behind [] n own (suc g) = refl
-end_behind (x ∷ gs) n own zero = refl
-end_behind (x ∷ gs) n own (suc g) = end_behind gs n own g
-
-one_longer : (gs : List Segment) (g : Segment) → length (gs ++ g ∷ []) ≡ length gs + 1
-one_longer gs g = length-append gs (g ∷ [])
-
 good_named : (ls : List Laid) (gs : List Segment) (current : ℕ) (kept : List ℕ) (n : List ℕ) (own : Option AddressSize) (place : Option ℕ) → Good ls gs current kept → is_name n ≡ true → place_of gs n ≡ place → Good ls (named_segments gs n own place) current kept
 good_named ls gs current kept n own (Some i) good fine e = good
 good_named ls gs current kept n own None good fine e =
@@ -229,10 +178,6 @@ good_named ls gs current kept n own None good fine e =
       ends = λ g. good.ends g ∙ sym (end_behind gs n (first_size n own) g);
       limit = λ g. subst (λ m. m ≤ section_limit) (sym (end_behind gs n (first_size n own) g)) (good.limit g);
     }
-
-named_there : (gs : List Segment) (n : List ℕ) (own : Option AddressSize) (place : Option ℕ) → place_of gs n ≡ place → or_last gs place < length (named_segments gs n own place)
-named_there gs n own None e = let longer : length (gs ++ new_segment n (first_size n own) ∷ []) ≡ length gs + 1 = one_longer gs (new_segment n (first_size n own)) in omega (arith, longer)
-named_there gs n own (Some i) e = found_below gs n i e
 
 -- ---- One statement.
 

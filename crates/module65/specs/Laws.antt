@@ -42,7 +42,8 @@ SoundContents =
 pub record AreAlike (cs ds : List Content) : Type 0 where
   pub asked : segments_asked cs ≡ segments_asked ds
   pub imports :
-      (names : List (List ℕ)) → flat_map (content_imports names) cs ≡ flat_map (content_imports names) ds
+      (names : List (List ℕ)) →
+      flat_map (content_imports names) cs ≡ flat_map (content_imports names) ds
   pub parts : (g : ℕ) → parts_in cs g ≡ parts_in ds g
   pub said : all_said cs ≡ all_said ds
 
@@ -66,7 +67,8 @@ pub record StandsFor (y : Layout) (t : State) : Type 0 where
 abbrev pub RunsLaid : Type 0
 RunsLaid =
     (file : List ℕ) (texts : List (List ℕ)) (r : Reached State) → Runs file texts r →
-    (y : Layout) × AreLaid file texts (record { behind = y; fault = r.fault }) × StandsFor y r.behind
+    (y : Layout) × AreLaid file texts (record { behind = y; fault = r.fault })
+    × StandsFor y r.behind
 
 -- a value whose form is final is settled with what that form comes to, where it has no fault and no
 -- warning

@@ -24,8 +24,8 @@ abbrev pub put_before : ℕ → List (List ℕ) → List (List ℕ)
 put_before b [] = (b ∷ []) ∷ []
 put_before b (line ∷ lines) = (b ∷ line) ∷ lines
 
--- The lines of a file's bytes. An LF ends a line, and behind the last one no line begins. A CR before
--- an LF is dropped.
+-- The lines of a file's bytes. An LF ends a line, and behind the last one no line begins. A CR
+-- before an LF is dropped.
 abbrev pub lines_of : List ℕ → List (List ℕ)
 lines_of [] = []
 lines_of (b ∷ bs) =

@@ -1,4 +1,4 @@
--- The assembler in one pass: what it holds between lines, what a statement adds, what waits to the end.
+-- The assembler in one pass: what it holds between statements, what one adds, what waits.
 use Rattle.std.specs.Prelude.{◌≡◌, ℕ, List, [], ◌∷◌, ◌++◌, Option, Some, None, Result, Ok, Err, if◌then◌else◌}
 use Rattle.syntax65.specs.Outcome.{◌>>=◌}
 use Rattle.syntax65.specs.Trees.{Tree}
@@ -63,8 +63,14 @@ pub record State : Type 0 where
   pub err : List ℕ
 
 abbrev pub begun : State
-begun =
-    record { symbols = symbols_of []; standing = start; slots = []; waiting = []; out = []; err = [] }
+begun = record {
+  symbols = symbols_of [];
+  standing = start;
+  slots = [];
+  waiting = [];
+  out = [];
+  err = [];
+}
 
 -- ---- A statement.
 
@@ -106,7 +112,8 @@ Steps t l r =
     (u : State) × PutsAll l.place l.spot (asked t l) (pieces_of l.length l.settled l.stated) u
     × (r ≡ Ok (known u l))
 
-abbrev pub UnlessFault : {A : Type 0} → Option AsmFault → (Result A AsmFault → Type 0) → Result A AsmFault → Type 0
+abbrev pub UnlessFault :
+    {A : Type 0} → Option AsmFault → (Result A AsmFault → Type 0) → Result A AsmFault → Type 0
 UnlessFault None Next r = Next r
 UnlessFault (Some e) Next r = r ≡ Err e
 

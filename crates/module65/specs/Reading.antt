@@ -16,7 +16,8 @@ abbrev pub Taking : Type 0 → Type 1
 Taking S = S → Place → Stated → Result S AsmFault → Type 0
 
 -- a line's label, if it has one
-abbrev pub IsLabelled : {S : Type 0} → Taking S → S → Place → Option Stated → Result S AsmFault → Type 0
+abbrev pub IsLabelled :
+    {S : Type 0} → Taking S → S → Place → Option Stated → Result S AsmFault → Type 0
 IsLabelled Takes y place None r = r ≡ Ok y
 IsLabelled Takes y place (Some x) r = Takes y place x r
 
@@ -56,7 +57,9 @@ abbrev pub stopped : {S : Type 0} → S → Place → AsmFault → Reached S
 stopped y place e = record { behind = y; fault = Some (record { place = place; fault = e }) }
 
 -- behind a line at this place, before which this stands
-abbrev pub Behind : {S : Type 0} → S → Place → (S → Reached S → Type 0) → Result S AsmFault → Reached S → Type 0
+abbrev pub Behind :
+    {S : Type 0} → S → Place → (S → Reached S → Type 0) →
+    Result S AsmFault → Reached S → Type 0
 Behind y place Next (Ok z) r = Next z r
 Behind y place Next (Err e) r = r ≡ stopped y place e
 
@@ -65,7 +68,8 @@ line_of file line = record { file = file; line = line }
 
 -- Lines of a file, the last one before them having this number. What stands between statements says
 -- which scope is the innermost open one.
-abbrev pub AreTaken : {S : Type 0} → Taking S → (S → ℕ) → List ℕ → S → ℕ → List (List ℕ) → Reached S → Type 0
+abbrev pub AreTaken :
+    {S : Type 0} → Taking S → (S → ℕ) → List ℕ → S → ℕ → List (List ℕ) → Reached S → Type 0
 AreTaken Takes scope file y last [] r =
     r ≡ record { behind = y; fault = open_fault (line_of file last) (scope y) }
 AreTaken Takes scope file y last (text ∷ texts) r =

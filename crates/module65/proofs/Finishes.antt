@@ -89,7 +89,7 @@ awaited_in [] = 0
 awaited_in (holds c ∷ slots) = awaited_in slots
 awaited_in (awaited ∷ slots) = suc (awaited_in slots)
 
-filled_append : (olds news : List Slot) (cs ds : List Content) → awaited_in olds ≡ length cs → filled (olds ++ news) (cs ++ ds) ≡ filled olds cs ++ filled news ds
+pub filled_append : (olds news : List Slot) (cs ds : List Content) → awaited_in olds ≡ length cs → filled (olds ++ news) (cs ++ ds) ≡ filled olds cs ++ filled news ds
 filled_append [] news [] ds h = refl
 filled_append [] news (c ∷ cs) ds h = absurd cc
 filled_append (holds b ∷ olds) news cs ds h = ap (λ bs. b ∷ bs) (filled_append olds news cs ds h)

@@ -6,6 +6,7 @@ pub mod Finishes
 pub mod Holding
 pub mod OneLayouts
 pub mod Passes
+pub mod Resolving
 pub mod Segments
 pub mod Simulations
 pub mod SoundContents

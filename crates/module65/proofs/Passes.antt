@@ -23,15 +23,11 @@ use Rattle.module65.specs.Reading.{Reached}
 use Rattle.module65.proofs.Contents.{all_append, all_made, made_of_pieces, piece_made, pieces_made}
 use Rattle.module65.proofs.Entries.{Entry, alike_by, all_entries, asked_by, entries_of, object_from, same_object}
 use Rattle.module65.proofs.Finishes.{after, after_after, after_nothing, as_entries, awaited_in, come, come_append, nothing, placed, slots_filled}
+use Rattle.module65.proofs.Resolving.{awaited_append}
 use Rattle.module65.proofs.Simulations.{Matches, Simulates, taken_matches}
 use Rattle.module65.proofs.Tables.{extends_behind, extends_same, extends_then, flat_push, symbols_push}
 
 -- ---- Pieces that are put.
-
-awaited_append : (olds news : List Slot) → awaited_in (olds ++ news) ≡ awaited_in olds + awaited_in news
-awaited_append [] news = omega arith
-awaited_append (holds e ∷ olds) news = awaited_append olds news
-awaited_append (awaited ∷ olds) news = let more = awaited_append olds news in omega (arith, more)
 
 come_held : (z : Symbols) (c : Content) → come z (holds c ∷ []) [] ≡ record { found = Ok (entries_of c); warned = [] }
 come_held z c = ap (λ (es : List Entry). record { found = Ok es; warned = [] }) (append-nil (entries_of c))

@@ -12,7 +12,7 @@ use Rattle.language65.specs.Layout.{Standing, laid, standing_behind, start}
 use Rattle.language65.specs.LineFaults.{line_fault}
 use Rattle.language65.specs.Norms.{norm_of}
 use Rattle.language65.specs.Numbering.{object_with}
-use Rattle.language65.specs.Symbols.{Symbols, definitions_of, imports_of, scope_opened, symbols_of, with_new, zero_page_names}
+use Rattle.language65.specs.Symbols.{Symbols, Definition, Scope, definitions_of, imports_of, scope_opened, symbols_of, with_new, zero_page_names}
 use Rattle.module65.specs.Lines.{PlacedFault}
 use Rattle.module65.specs.Module.{Outcome, out_of, warning_of}
 use Rattle.module65.specs.Pieces.{Made, Piece, asking, made_of, pieces_of, quietly}
@@ -20,10 +20,12 @@ use Rattle.module65.specs.Reading.{AreTaken, Reached}
 
 -- ---- Symbol tables that grow.
 
--- more definitions and scopes stand behind those of a table; its imports are free
+-- the definitions and scopes of the second begin with those of the first; imports are free
 pub record Extends (y z : Symbols) : Type 0 where
-  pub definitions : (more : List _) × (z.definitions ≡ y.definitions ++ more)
-  pub scopes : (more : List _) × (z.scopes ≡ y.scopes ++ more)
+  pub later_definitions : List Definition
+  pub definitions : z.definitions ≡ y.definitions ++ later_definitions
+  pub later_scopes : List Scope
+  pub scopes : z.scopes ≡ y.scopes ++ later_scopes
 
 -- the form that an expression keeps, whatever statements follow
 abbrev pub IsFinal : Symbols → Spot → Tree → Form → Type 0

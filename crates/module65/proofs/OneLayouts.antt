@@ -1,4 +1,4 @@
--- A source is laid in one way at most.
+-- A source is laid in one way at most, and comes to one answer.
 use Rattle.std.proofs.Common.{◌∙◌, ℕ, ◌+◌, List, [], ◌∷◌, sym, subst}
 use Rattle.std.specs.Prelude.{Option, Some, None, Result, Ok, Err}
 use Rattle.syntax65.specs.Tokens.{Lexeme, IsRead}
@@ -8,10 +8,11 @@ use Rattle.language65.specs.Laid.{Place}
 use Rattle.language65.specs.Language.{Stated}
 use Rattle.language65.specs.Layout.{Layout, nothing_laid}
 use Rattle.statements65.specs.Parsing.{IsStatement, label_of}
-use Rattle.statements65.proofs.OneStatements.{One, first_one, followed_one, same_one, statement_one}
-use Rattle.module65.specs.Laws.{OneLayout}
-use Rattle.module65.specs.Laying.{IsLaid, with_statement}
+use Rattle.statements65.proofs.OneStatements.{One, first_one, followed_one, made_one, same_one, statement_one}
+use Rattle.module65.specs.Laws.{OneAnswer, OneLayout}
+use Rattle.module65.specs.Laying.{AreLaid, IsLaid, with_statement}
 use Rattle.module65.specs.Lines.{counted, tokens_in}
+use Rattle.module65.specs.Module.{outcome_of}
 use Rattle.module65.specs.Reading.{AreTaken, Behind, IsLabelled, IsLine, IsReading, IsRest, IsText, Reached, line_of}
 
 label_one : (y : Layout) (place : Place) (o : Option Stated) → One (IsLabelled IsLaid y place o)
@@ -47,3 +48,6 @@ taken_one file y last (text ∷ texts) r s h k =
 
 pub one_layout : OneLayout
 one_layout file texts = taken_one file nothing_laid 0 texts
+
+pub one_answer : OneAnswer
+one_answer file texts = made_one (AreLaid file texts) (λ r. outcome_of r.behind r.fault) (one_layout file texts)

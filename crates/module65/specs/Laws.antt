@@ -12,7 +12,7 @@ use Rattle.language65.specs.Symbols.{Symbols, symbols_of}
 use Rattle.module65.specs.Laying.{AreLaid}
 use Rattle.module65.specs.Lines.{PlacedFault}
 use Rattle.module65.specs.Machine.{IsFinal, IsSettled, Runs, State, concluded, finished}
-use Rattle.module65.specs.Module.{IsOutcome, asserted, contents_from, printed, warned}
+use Rattle.module65.specs.Module.{IsOutcome, Outcome, asserted, contents_from, printed, warned}
 use Rattle.module65.specs.Pieces.{Purpose, quietly, used, valued}
 use Rattle.module65.specs.Reading.{Reached}
 
@@ -21,6 +21,13 @@ abbrev pub OneLayout : Type 0
 OneLayout =
     (file : List ℕ) (texts : List (List ℕ)) (a b : Reached Layout) →
     AreLaid file texts a → AreLaid file texts b → a ≡ b
+
+-- a source comes to one answer at most: one object or one fault with its place, and one text on each
+-- stream
+abbrev pub OneAnswer : Type 0
+OneAnswer =
+    (file : List ℕ) (texts : List (List ℕ)) (a b : Outcome) →
+    IsOutcome file texts a → IsOutcome file texts b → a ≡ b
 
 -- what lines lay is sound
 abbrev pub SoundLayoutLaw : Type 0

@@ -1,10 +1,15 @@
 //! What holds of the definitions, each as the contract of a function that does nothing.
 
-ghost use Rattle.module65.specs.Laws.{FinalSettles, LaidRuns, OneLayout, OnePass, RunsLaid, SoundContents, SoundLayoutLaw};
+ghost use Rattle.module65.specs.Laws.{FinalSettles, LaidRuns, OneAnswer, OneLayout, OnePass, RunsLaid, SoundContents, SoundLayoutLaw};
 
 /// A source is laid in one way at most.
 pub fn one_layout()
     ensures { OneLayout }
+{}
+
+/// A source comes to one answer at most.
+pub fn one_answer()
+    ensures { OneAnswer }
 {}
 
 /// What lines lay is sound: names are names, and each section has room.

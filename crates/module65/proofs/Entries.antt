@@ -226,23 +226,19 @@ object_by segments names sections imports made said = record {
   asserts = filter_map (assert_of sections imports) said;
 }
 
--- the object of entries
-abbrev pub object_from : List Segment → List (List ℕ) → List Entry → Object
-object_from segments names es = object_with segments names (split es)
-
-pub same_object : (segments : List Segment) (names : List (List ℕ)) (cs : List Content) → object_from segments names (all_entries cs) ≡ object_with segments names cs
-same_object segments names cs =
-    let ds : List Content = split (all_entries cs) in
-    let sections : List ℕ = section_keys cs in
-    let imports : List ℕ = import_keys names cs in
-    let made : List ℕ → List ℕ → List Section = λ ks js. map (section_of segments ks js ds) ks in
-    ap (λ ks. object_by segments names ks (import_keys names ds) (made ks (import_keys names ds)) (all_said ds)) (ap (once []) (gathered segments_asked asked_gathers cs))
-    ∙ ap (λ js. object_by segments names sections js (made sections js) (all_said ds)) (ap (once []) (gathered (all_imports names) (imports_gather names) cs))
-    ∙ ap (λ ss. object_by segments names sections imports (made sections imports) ss) (gathered all_said said_gathers cs)
-    ∙ ap (λ ms. object_by segments names sections imports ms (all_said cs)) (map_same (section_of segments sections imports ds) (section_of segments sections imports cs) (λ h. section_same h) sections)
+-- alike contents have the same object
+pub object_alike : (segments : List Segment) (names : List (List ℕ)) (cs ds : List Content) → AreAlike cs ds → object_with segments names cs ≡ object_with segments names ds
+object_alike segments names cs ds a =
+    let sections : List ℕ = section_keys ds in
+    let imports : List ℕ = import_keys names ds in
+    let made : List ℕ → List ℕ → List Section = λ ks js. map (section_of segments ks js cs) ks in
+    ap (λ ks. object_by segments names ks (import_keys names cs) (made ks (import_keys names cs)) (all_said cs)) (ap (once []) a.asked)
+    ∙ ap (λ js. object_by segments names sections js (made sections js) (all_said cs)) (ap (once []) (a.imports names))
+    ∙ ap (λ ss. object_by segments names sections imports (made sections imports) ss) a.said
+    ∙ ap (λ ms. object_by segments names sections imports ms (all_said ds)) (map_same (section_of segments sections imports cs) (section_of segments sections imports ds) (λ h. section_same h) sections)
   where
-    section_same : (h : ℕ) → section_of segments (section_keys cs) (import_keys names cs) (split (all_entries cs)) h ≡ section_of segments (section_keys cs) (import_keys names cs) cs h
-    section_same h = ap (λ ps. record { name = segment_name (slice_get segments h); align = segment_power (slice_get segments h); fragments = all_joined (fragments_of (section_keys cs) (import_keys names cs) ps) }) (gathered (parts_of_segment h) (parts_gather h) cs)
+    section_same : (h : ℕ) → section_of segments (section_keys ds) (import_keys names ds) cs h ≡ section_of segments (section_keys ds) (import_keys names ds) ds h
+    section_same h = ap (λ ps. record { name = segment_name (slice_get segments h); align = segment_power (slice_get segments h); fragments = all_joined (fragments_of (section_keys ds) (import_keys names ds) ps) }) (a.parts h)
 
 -- contents of the same entries are alike
 pub alike_by : (cs ds : List Content) → all_entries cs ≡ all_entries ds → AreAlike cs ds

@@ -14,14 +14,13 @@ use Rattle.language65.specs.LineFaults.{line_fault}
 use Rattle.language65.specs.Numbering.{object_with}
 use Rattle.language65.specs.Symbols.{Symbols, symbols_of}
 use Rattle.module65.specs.Laws.{AreFoundAlike, LaidRuns, OnePass, RunsLaid, StandsFor}
-use Rattle.module65.specs.Laying.{AreLaid, IsLaid, unless_fault}
-use Rattle.module65.specs.Machine.{Extends, Finished, Puts, Runs, at_once, later, PutsAll, Slot, awaited, holds, State, Steps, Takes, UnlessFault, Waiting, asked, awaiting, before_it, begun, concluded, entered, finished, known, symbols_behind}
+use Rattle.module65.specs.Laying.{IsLaid, unless_fault}
+use Rattle.module65.specs.Machine.{Extends, Finished, Puts, at_once, later, PutsAll, Slot, awaited, holds, State, Steps, Takes, UnlessFault, Waiting, asked, awaiting, before_it, begun, concluded, entered, finished, known, symbols_behind}
 use Rattle.module65.specs.Lines.{PlacedFault}
 use Rattle.module65.specs.Module.{Outcome, asserted, contents_from, out_of, outcome_of, printed, warned, warning_of}
 use Rattle.module65.specs.Pieces.{Made, Piece, asking, made_of, pieces_of}
-use Rattle.module65.specs.Reading.{Reached}
 use Rattle.module65.proofs.Contents.{all_append, all_made, made_of_pieces, piece_made, pieces_made}
-use Rattle.module65.proofs.Entries.{Entry, alike_by, all_entries, asked_by, entries_of, object_from, same_object}
+use Rattle.module65.proofs.Entries.{Entry, alike_by, all_entries, asked_by, entries_of, object_alike}
 use Rattle.module65.proofs.Finishes.{after, after_after, after_nothing, as_entries, awaited_in, come, come_append, nothing, placed, slots_filled}
 use Rattle.module65.proofs.Resolving.{awaited_append}
 use Rattle.module65.proofs.Simulations.{Matches, Simulates, taken_matches}
@@ -202,75 +201,56 @@ found_alike (Ok cs) (Err f) e = absurd cc
 found_alike (Err f) (Ok ds) e = absurd cc
 found_alike (Err f) (Err g) e = (let same : f ≡ g = cc in ap Err (sym same))
 
-abbrev SameEntries : Layout → State → Type 0
-SameEntries y t = as_entries (finished t) ≡ all_made t.symbols y.laid
-
-stands_for : (y : Layout) (slots : List Slot) (ws : List Waiting) → SameEntries y (state_for y slots ws) → StandsFor y (state_for y slots ws)
-stands_for y slots ws all = record {
-  symbols = refl;
-  standing = refl;
-  out = refl;
-  err = refl;
-  found = found_alike (finished (state_for y slots ws)).found (contents_from (symbols_of y.laid) y.laid) (ap (λ (f : Finished Entry). f.found) all);
-  asserted = ap (λ (f : Finished Entry). f.warned) all;
-}
-
--- the entries of what was found are those of the contents
-record RunsTo (file : List ℕ) (texts : List (List ℕ)) (r : Reached State) : Type 0 where
-  layout : Layout
-  laid : AreLaid file texts (record { behind = layout; fault = r.fault })
-  stands : StandsFor layout r.behind
-  entries : SameEntries layout r.behind
-
-runs_to : (file : List ℕ) (texts : List (List ℕ)) (r : Reached State) → Runs file texts r → RunsTo file texts r
-runs_to file texts r runs =
-    let all = taken_matches Follows IsLaid Takes (λ (y : Layout). y.standing.scope) (λ (t : State). t.standing.scope) takes_follows same_scope file nothing_laid begun 0 texts r begun_follows runs in
-    let follows : Follows all.0 r.behind = all.2 in
-    let same : SameEntries all.0 (state_for all.0 follows.slots follows.waiting) = follows.comes.found (symbols_of (all.0).laid) (extends_same (symbols_of (all.0).laid)) in
+stands_for : (y : Layout) (slots : List Slot) (ws : List Waiting) → Comes (symbols_of y.laid) slots ws (λ z. all_made z y.laid) → StandsFor y (state_for y slots ws)
+stands_for y slots ws c =
+    let z = symbols_of y.laid in
+    let all = c.found z (extends_same z) in
     record {
-      layout = all.0;
-      laid = all.1;
-      stands = subst (StandsFor all.0) (sym follows.same) (stands_for all.0 follows.slots follows.waiting same);
-      entries = subst (SameEntries all.0) (sym follows.same) same;
+      symbols = refl;
+      standing = refl;
+      out = refl;
+      err = refl;
+      found = found_alike (finished (state_for y slots ws)).found (contents_from z y.laid) (ap (λ (f : Finished Entry). f.found) all);
+      asserted = ap (λ (f : Finished Entry). f.warned) all;
     }
 
 pub runs_laid : RunsLaid
-runs_laid file texts r runs = let to = runs_to file texts r runs in (to.layout, to.laid, to.stands)
+runs_laid file texts r runs =
+    let all = taken_matches Follows IsLaid Takes (λ (y : Layout). y.standing.scope) (λ (t : State). t.standing.scope) takes_follows same_scope file nothing_laid begun 0 texts r begun_follows runs in
+    let follows : Follows all.0 r.behind = all.2 in
+    (all.0, all.1, subst (StandsFor all.0) (sym follows.same) (stands_for all.0 follows.slots follows.waiting follows.comes))
 
 -- ---- What is answered.
 
 abbrev with_object : List Segment → List (List ℕ) → Result (List Content) PlacedFault → Result Object PlacedFault
 with_object segments names r = r >>= (λ cs. Ok (object_with segments names cs))
 
--- an object is that of the entries
-object_found : (segments : List Segment) (names : List (List ℕ)) (r : Result (List Content) PlacedFault) → with_object segments names r ≡ ((r >>= (λ cs. Ok (all_entries cs))) >>= (λ es. Ok (object_from segments names es)))
-object_found segments names (Ok cs) = ap Ok (sym (same_object segments names cs))
-object_found segments names (Err e) = refl
-
-same_objects : (segments : List Segment) (names : List (List ℕ)) (r q : Result (List Content) PlacedFault) → (r >>= (λ cs. Ok (all_entries cs))) ≡ (q >>= (λ cs. Ok (all_entries cs))) → with_object segments names r ≡ with_object segments names q
-same_objects segments names r q e = object_found segments names r ∙ ap (λ s. s >>= (λ es. Ok (object_from segments names es))) e ∙ sym (object_found segments names q)
+same_object : (segments : List Segment) (names : List (List ℕ)) (r q : Result (List Content) PlacedFault) → AreFoundAlike r q → with_object segments names r ≡ with_object segments names q
+same_object segments names (Ok cs) (Ok ds) alike = ap Ok (object_alike segments names cs ds alike)
+same_object segments names (Ok cs) (Err f) alike = absurd alike
+same_object segments names (Err e) q alike = ap (with_object segments names) (sym alike)
 
 -- what is answered, by what stands behind the last line
 abbrev answered : Symbols → Standing → Result (List Content) PlacedFault → (out err : List ℕ) → Outcome
 answered z w r out err = record { result = with_object w.segments z.imports r; out = out; err = err }
 
-concluded_for : (y : Layout) (t : State) (fault : Option PlacedFault) → StandsFor y t → SameEntries y t → concluded t fault ≡ outcome_of y fault
-concluded_for y t None for same =
+concluded_for : (y : Layout) (t : State) (fault : Option PlacedFault) → StandsFor y t → concluded t fault ≡ outcome_of y fault
+concluded_for y t None for =
     let z = symbols_of y.laid in
-    ap (λ (r : Result Object PlacedFault). record { result = r; out = t.out; err = t.err ++ (finished t).warned }) (same_objects t.standing.segments t.symbols.imports (finished t).found (contents_from t.symbols y.laid) (ap (λ (f : Finished Entry). f.found) same))
+    ap (λ (r : Result Object PlacedFault). record { result = r; out = t.out; err = t.err ++ (finished t).warned }) (same_object t.standing.segments t.symbols.imports (finished t).found (contents_from t.symbols y.laid) for.found)
     ∙ ap (λ w. answered t.symbols t.standing (contents_from t.symbols y.laid) t.out (t.err ++ w)) for.asserted
     ∙ ap (λ (v : Symbols). answered v t.standing (contents_from v y.laid) t.out (t.err ++ asserted v y.laid)) for.symbols
     ∙ ap (λ (w : Standing). answered z w (contents_from z y.laid) t.out (t.err ++ asserted z y.laid)) for.standing
     ∙ ap (λ out. answered z y.standing (contents_from z y.laid) out (t.err ++ asserted z y.laid)) for.out
     ∙ ap (λ err. answered z y.standing (contents_from z y.laid) (printed y.laid) (err ++ asserted z y.laid)) for.err
-concluded_for y t (Some e) for same =
+concluded_for y t (Some e) for =
     ap (λ (out : List ℕ). record { result = Err e; out = out; err = t.err }) for.out
     ∙ ap (λ (err : List ℕ). record { result = Err e; out = printed y.laid; err = err }) for.err
 
 pub one_pass : OnePass
 one_pass file texts r runs =
-    let to = runs_to file texts r runs in
-    (record { behind = to.layout; fault = r.fault }, to.laid, concluded_for to.layout r.behind r.fault to.stands to.entries)
+    let laid = runs_laid file texts r runs in
+    (record { behind = laid.0; fault = r.fault }, laid.1, concluded_for laid.0 r.behind r.fault laid.2)
 
 -- ---- Whatever is laid can be reached.
 

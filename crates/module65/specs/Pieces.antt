@@ -96,7 +96,7 @@ abbrev pub quietly : Content → Made
 quietly c = record { content = c; warning = [] }
 
 abbrev pub as_part : ℕ → Part → Result Made AsmFault
-as_part segment p = Ok (quietly (put segment p))
+as_part g p = Ok (quietly (put g p))
 
 abbrev pub as_said : List Said → Result Made AsmFault
 as_said ss = Ok (quietly (telling ss))

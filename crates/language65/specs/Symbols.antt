@@ -38,7 +38,7 @@ pub record Symbols : Type 0 where
   pub scopes : List Scope
   -- the names of the imports, in the order in which they were first named
   pub imports : List (List ℕ)
-  -- the names that were imported for the zero page
+  -- those that were imported for the zero page, in the order in which they were
   pub zero_page : List (List ℕ)
 
 -- ---- What a statement adds.
@@ -90,7 +90,7 @@ symbols_of ls = record {
   definitions = flat_map definitions_of ls;
   scopes = flat_map (λ l. scope_opened l.spot.scope l.stated) ls;
   imports = with_new [] (flat_map (λ l. imports_of l.stated) ls);
-  zero_page = flat_map (λ l. zero_page_names l.stated) ls;
+  zero_page = with_new [] (flat_map (λ l. zero_page_names l.stated) ls);
 }
 
 -- ---- What is found there.

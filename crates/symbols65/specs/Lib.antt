@@ -1,5 +1,3 @@
-pub mod Settling
-pub mod Growing
-pub mod Roots
-pub mod Resolving
-pub mod Knowns
+pub mod Finals
+pub mod Tables
+pub mod Views

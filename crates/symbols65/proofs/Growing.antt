@@ -22,7 +22,7 @@ use Rattle.symbols65.specs.declared.table.entries.Opening.TheVariants as opening
 use Rattle.symbols65.specs.declared.table.definition.Definition.{Definition}
 use Rattle.language65.specs.Norms.{form_of_value, norm}
 use Rattle.symbols65.specs.Finals.{Extends, formed}
-use Rattle.symbols65.specs.Tables.{AreDistinct, AreFinal, AreNumbered, Begins, HasNumber, IsOpening, KeepsFinal, definition_in, entry_of, first_number, key_in, place_of_opening, same_opening, scope_by, scope_opened, table_without_imports, word_at, word_of, word_opened}
+use Rattle.symbols65.specs.Tables.{AreCounted, AreDistinct, AreFinal, AreNumbered, Begins, HasNumber, IsCounted, IsOpening, KeepsFinal, definition_in, entry_of, first_number, key_in, place_of_opening, same_opening, scope_by, scope_opened, table_without_imports, word_at, word_of, word_opened}
 use Rattle.symbols65.proofs.Places.{position_none, first_within, first_passes, get_more, get_mapped, map_appended, map_same, position_same, position_stays}
 use Rattle.symbols65.proofs.Words.{finds_opened, get_word, keys_get}
 use Rattle.language65.proofs.Lists.{same_bytes}
@@ -109,6 +109,13 @@ numbered_pushed {K} word ws es k v h own = λ i q at. by i q (get_more (keys_of 
     by : (i : ℕ) (q : K) → (slice_get (keys_of es) i ≡ Some q) ⊎ ((i ≡ length (keys_of es)) × (k ≡ q)) → first_number ws (word q) ≡ word q
     by i q (inl at) = h i q at
     by i q (inr e) = subst (λ x. first_number ws (word x) ≡ word x) e.1 own
+
+pub counted_pushed : {V : Type 0} (es : List (Entry × V)) (k : Entry) (v : V) → AreCounted (keys_of es) → IsCounted k → AreCounted (keys_of (es ++ (k, v) ∷ []))
+counted_pushed es k v h own = λ i q at. by i q (get_more (keys_of es) k q i (ap (λ l. slice_get l i) (sym (keys_pushed es k v)) ∙ at))
+  where
+    by : (i : ℕ) (q : Entry) → (slice_get (keys_of es) i ≡ Some q) ⊎ ((i ≡ length (keys_of es)) × (k ≡ q)) → IsCounted q
+    by i q (inl at) = h i q at
+    by i q (inr e) = subst IsCounted e.1 own
 
 pub distinct_pushed : (ss : List (Opening × Bool)) (k : Opening) (v : Bool) → AreDistinct (keys_of ss) → HasNumber (length ss) k → AreDistinct (keys_of (ss ++ (k, v) ∷ []))
 distinct_pushed ss k v h own = λ i within number at. by i within number (get_more (keys_of ss) k (opening.Nameless within number) i (ap (λ l. slice_get l i) (sym (keys_pushed ss k v)) ∙ at))

@@ -1,4 +1,14 @@
+pub mod Beginnings
+pub mod GivenUp
 pub mod Growing
+pub mod Knowns
+pub mod Lasts
+pub mod NameParts
 pub mod NameTables
 pub mod Places
+pub mod Pursuits
+pub mod Scopes
+pub mod Sizing
+pub mod Tries
+pub mod Turns
 pub mod Words

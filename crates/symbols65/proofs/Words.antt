@@ -1,5 +1,5 @@
 -- Names by their numbers, and what is found by them.
-use Rattle.std.proofs.Common.{◌≡◌, ℕ, zero, suc, ◌+◌, ◌<◌, ◌≤◌, Bool, true, false, List, [], ◌∷◌, ◌++◌, length, map, get_or, position, Option, Some, None, option_map, ◌⊎◌, inl, inr, refl, sym, ap, ◌∙◌, subst, arith}
+use Rattle.std.proofs.Common.{◌≡◌, ℕ, zero, suc, ◌+◌, ◌<◌, ◌≤◌, ◌^◌, Bool, true, false, List, [], ◌∷◌, ◌++◌, length, map, get_or, position, Option, Some, None, option_map, ◌⊎◌, inl, inr, refl, sym, ap, ◌∙◌, subst, arith}
 use Rattle.std.specs.Prelude.{slice_get, ◌==◌, ◌&&◌, ◌||◌}
 use Rattle.std.specs.List.{list_any}
 use Rattle.std.specs.Map.{keys_of}
@@ -15,7 +15,7 @@ use Rattle.symbols65.specs.declared.table.entries.Entry.TheVariants as entry
 use Rattle.symbols65.specs.declared.table.entries.Opening.{Opening}
 use Rattle.symbols65.specs.declared.table.entries.Opening.TheVariants as opening
 use Rattle.symbols65.specs.declared.table.definition.Definition.{Definition}
-use Rattle.symbols65.specs.Tables.{AreNumbered, definition_in, entry_of, first_number, key_in, place_of_entry, place_of_opening, same_entry, same_opening, scope_by, scope_opened, word_at, word_of, word_opened}
+use Rattle.symbols65.specs.Tables.{AreCounted, AreNumbered, IsCounted, definition_in, entry_of, first_number, key_in, place_of_entry, place_of_opening, same_entry, same_opening, scope_by, scope_opened, word_at, word_of, word_opened}
 use Rattle.symbols65.proofs.Places.{first_passes, position_none, position_same, same_test, swapped}
 
 pub itself : (n : List ℕ) → bytes_eq n n ≡ true
@@ -108,6 +108,15 @@ module _ (ws : List (List ℕ)) where
       by : (o : Option Entry) → entry_of ws q ≡ o → place_of_entry es o ≡ position (λ e. same_key (key_in ws e.0) q) es
       by None is = sym (position_none (λ e. same_key (key_in ws e.0) q) es (λ i e at. sym (entry_test q e.0 (h i e.0 (keys_get es i e at))) ∙ ap (λ o. tests o e.0) is))
       by (Some k) is = keys_position (same_entry k) es ∙ position_same (λ e. same_entry k e.0) (λ e. same_key (key_in ws e.0) q) es (λ i e at. sym (ap (λ o. tests o e.0) is) ∙ entry_test q e.0 (h i e.0 (keys_get es i e at)))
+
+  -- no unnamed label has a count that is no machine's number
+  pub never_counted : (es : List (Entry × Definition)) (count : ℕ) → AreNumbered word_of ws (keys_of es) → AreCounted (keys_of es) → 2 ^ 64 ≤ count → position (λ d. same_key d.key (unnamed_at count)) (map (definition_in ws) es) ≡ None
+  never_counted es count h counted le = sym (finds es (unnamed_at count) h) ∙ position_none (same_entry (entry.Unnamed count)) (keys_of es) (λ i k at. differs k (counted i k at))
+    where
+      differs : (k : Entry) → IsCounted k → same_entry (entry.Unnamed count) k ≡ false
+      differs (entry.Named t v) own = refl
+      differs (entry.Cheap t v) own = refl
+      differs (entry.Unnamed d) own = (let lt = own d refl in grind (arith, nat_tests, lt, le))
 
   -- ---- Scopes.
 

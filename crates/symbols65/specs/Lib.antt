@@ -1,3 +1,6 @@
 pub mod Finals
+pub mod Knowns
+pub mod Resolving
+pub mod Sources
 pub mod Tables
 pub mod Views

@@ -1,5 +1,5 @@
 -- What the parts of a table in memory stand for.
-use Rattle.std.specs.Prelude.{◌≡◌, ℕ, List, [], ◌++◌, map, get_or, slice_get, Bool, false, Option, Some, None, option_map, position, ◌==◌, ◌&&◌}
+use Rattle.std.specs.Prelude.{◌≡◌, ◌<◌, ◌^◌, ℕ, List, [], ◌++◌, map, get_or, slice_get, Bool, false, Option, Some, None, option_map, position, ◌==◌, ◌&&◌}
 use Rattle.std.specs.Coded.{Coded-set, coded_option}
 use Rattle.std.specs.Map.{keys_of}
 use Rattle.std.specs.Str.{bytes_eq}
@@ -48,6 +48,13 @@ AreNumbered {K} word ws ks = (i : ℕ) (k : K) → slice_get ks i ≡ Some k →
 -- a scope without a name has its place as its number
 abbrev pub AreDistinct : List Opening → Type 0
 AreDistinct ks = (i within number : ℕ) → slice_get ks i ≡ Some (opening.Nameless within number) → number ≡ i
+
+-- the count of an unnamed label is a machine's number
+abbrev pub IsCounted : Entry → Type 0
+IsCounted k = (count : ℕ) → k ≡ entry.Unnamed count → count < 2 ^ 64
+
+abbrev pub AreCounted : List Entry → Type 0
+AreCounted ks = (i : ℕ) (k : Entry) → slice_get ks i ≡ Some k → IsCounted k
 
 -- the opening has this number if it has no name
 abbrev pub HasNumber : ℕ → Opening → Type 0

@@ -7,6 +7,10 @@ use Rattle.symbols65.specs.declared.table.definition.Definition as code
 use Rattle.symbols65.specs.declared.table.entries.Entry.{Entry}
 use Rattle.symbols65.specs.declared.table.symbols.Symbols.{Symbols}
 
+-- the language's, where the code's has the name
+abbrev pub Table : Type 0
+Table = l.Symbols
+
 -- each name once
 abbrev pub words_of : Symbols → List (List ℕ)
 words_of t = map (λ k. k.items) t.words.keys

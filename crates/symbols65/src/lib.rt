@@ -2,6 +2,8 @@
 //! and which forms are final, whatever statements follow.
 #![tactic(auto)]
 
+mod resolving;
 mod table;
 
+pub use resolving::{Meaning, meaning_of, scope_of, shown};
 pub use table::{Definition, Entry, Key, Opening, Symbols};

@@ -8,7 +8,7 @@ ghost use Rattle.syntax65.specs.Trees.{tree_of};
 ghost use Rattle.language65.specs.LineFaults.{opened_twice};
 ghost use Rattle.language65.specs.Symbols.{defined, with_new};
 ghost use Rattle.language65.specs.Views.{spot_of};
-ghost use Rattle.symbols65.specs.Tables.{Begins, HasNumber, IsOpening, KeepsFinal, definition_in, entry_of, first_number, key_of, same_entry, same_opening, scope_by, word_of, word_opened};
+ghost use Rattle.symbols65.specs.Tables.{Begins, HasNumber, IsCounted, IsOpening, KeepsFinal, definition_in, entry_of, first_number, key_of, same_entry, same_opening, scope_by, word_of, word_opened};
 ghost use Rattle.symbols65.specs.Views.{table_of, with_definition, with_names, with_scope, words_of};
 
 use super::definition::Definition;
@@ -98,6 +98,7 @@ impl Symbols {
         ensures table { table_of self.new ≡ table_of self.old }
         ensures definitions { self.new.definitions ≡ self.old.definitions }
         ensures entry { IfOk result (λ e. entry_of (words_of self.new) (key_of key.entry) ≡ Some e) }
+        ensures counted { IfOk result IsCounted }
     {
         match key {
             Key::Named { scope, name } => {
@@ -115,6 +116,7 @@ impl Symbols {
     /// Adds a definition behind all others, where its key has none.
     fn put(&mut self, entry: Entry, definition: Definition) -> Result<(), AllocError>
         requires number { first_number (words_of self.old) (word_of entry) ≡ word_of entry }
+        requires counted { IsCounted entry }
         requires form { KeepsFinal (table_of self.old) (length self.old.definitions.entries) (definition_in (words_of self.old) (entry, definition)) definition.form }
         ensures { OnOk result (position (same_entry entry) (keys self.old.definitions) ≡ None → table_of self.new ≡ with_definition (table_of self.old) (definition_in (words_of self.old) (entry, definition))) }
     {

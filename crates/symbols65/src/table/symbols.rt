@@ -2,7 +2,7 @@
 
 ghost use Rattle.std.specs.Prelude.{map};
 ghost use Rattle.indexmap.specs.IndexMap.{keys};
-ghost use Rattle.symbols65.specs.Tables.{AreDistinct, AreFinal, AreFinal-prop, AreNumbered, word_of, word_opened};
+ghost use Rattle.symbols65.specs.Tables.{AreCounted, AreDistinct, AreFinal, AreFinal-prop, AreNumbered, word_of, word_opened};
 
 use super::definition::Definition;
 use super::entries::{Entry, Opening};
@@ -24,6 +24,7 @@ pub struct Symbols {
     /// Those that were imported for the zero page.
     pub zero_page: IndexSet<Vec<u8>>,
     ghost entries_numbered: { AreNumbered word_of (map (λ k. k.items) words.keys) (keys definitions) },
+    ghost counts_fit: { AreCounted (keys definitions) },
     ghost openings_numbered: { AreNumbered word_opened (map (λ k. k.items) words.keys) (keys scopes) },
     ghost openings_distinct: { AreDistinct (keys scopes) },
     ghost forms_final: { AreFinal (map (λ k. k.items) words.keys) definitions.entries scopes.entries } by { AreFinal-prop (map (λ k. k.items) words.keys) definitions.entries scopes.entries },

@@ -1,0 +1,69 @@
+-- A table in which constants wait is one again where they wait no more.
+use Rattle.std.proofs.Common.{◌≡◌, ◌≢◌, ℕ, ◌+◌, ◌<◌, ◌≤◌, refl, sym, ap, ◌∙◌, arith, List, [], ◌∷◌, length, Some, slice_get, Bool, true, false, nat_eq, inl, inr}
+use Rattle.std.specs.Prelude.{slice_set}
+use Rattle.std.proofs.lemmas.Bool.Decides.{nat_tests}
+use Rattle.std.proofs.lemmas.Grind.{common_steps}
+use Rattle.std.proofs.lemmas.List.Sums.{sum_by-set}
+use Rattle.std.proofs.lemmas.Option.{slice_get_within}
+use Rattle.symbols65.specs.declared.resolving.attempt.State.{State}
+use Rattle.symbols65.specs.declared.resolving.attempt.State.TheVariants.{Unknown, Waiting, Found}
+use Rattle.symbols65.specs.Knowns.{without}
+use Rattle.language65.specs.Symbols.{Symbols}
+use Rattle.symbols65.specs.Resolving.{IsTable, is_open, unknown}
+use Rattle.symbols65.proofs.Knowns.{get_other, get_same}
+use Rattle.symbols65.proofs.Turns.{Course}
+use Rattle.symbols65.proofs.Pursuits.{Among, IsPursuit}
+
+set_length : (states : List State) (w : ℕ) → length (slice_set states w Unknown) ≡ length states
+set_length states w = grind (arith, common_steps)
+
+-- what is known now was known before, at another place
+set_before : (states : List State) (w j : ℕ) (x : State) → (x ≡ Unknown → ⊥) → slice_get (slice_set states w Unknown) j ≡ Some x → (slice_get states j ≡ Some x) × (j ≡ w → ⊥)
+set_before states w j x differs e = by (nat_eq j w) refl
+  where
+    by : (b : Bool) → nat_eq j w ≡ b → (slice_get states j ≡ Some x) × (j ≡ w → ⊥)
+    by true b =
+        let one : j ≡ w = grind (arith, nat_tests) in
+        let in_set : j < length (slice_set states w Unknown) = slice_get_within (slice_set states w Unknown) j x e in
+        let long = set_length states w in
+        let now : slice_get (slice_set states w Unknown) w ≡ Some Unknown = get_same states w Unknown (omega (arith, in_set, long, one)) in
+        let same : x ≡ Unknown = (let both : Some x ≡ Some Unknown = sym e ∙ ap (slice_get (slice_set states w Unknown)) one ∙ now in cc) in
+        absurd (differs same)
+    by false b = let other : j ≢ w = grind (arith, nat_tests) in (sym (get_other states j w Unknown other) ∙ e, λ same. other same)
+
+without_length : (states : List State) (ws : List ℕ) → length (without states ws) ≡ length states
+without_length states [] = refl
+without_length states (w ∷ ws) = without_length (slice_set states w Unknown) ws ∙ set_length states w
+
+without_before : (states : List State) (ws : List ℕ) (j : ℕ) (x : State) → (x ≡ Unknown → ⊥) → slice_get (without states ws) j ≡ Some x → (slice_get states j ≡ Some x) × (Among j ws → ⊥)
+without_before states [] j x differs e = (e, λ h. h)
+without_before states (w ∷ ws) j x differs e = by (without_before (slice_set states w Unknown) ws j x differs e)
+  where
+    by : (slice_get (slice_set states w Unknown) j ≡ Some x) × (Among j ws → ⊥) → (slice_get states j ≡ Some x) × (Among j (w ∷ ws) → ⊥)
+    by (now, rest) = at (set_before states w j x differs now)
+      where
+        neither : (j ≡ w → ⊥) → Among j (w ∷ ws) → ⊥
+        neither other (inl same) = other same
+        neither other (inr h) = rest h
+
+        at : (slice_get states j ≡ Some x) × (j ≡ w → ⊥) → (slice_get states j ≡ Some x) × (Among j (w ∷ ws) → ⊥)
+        at (before, other) = (before, neither other)
+
+without_unknown : (states : List State) (ws : List ℕ) → ((j : ℕ) → Among j ws → j < length states) → unknown (without states ws) ≤ unknown states + length ws
+without_unknown states [] inside = omega arith
+without_unknown states (w ∷ ws) inside =
+    let lt : w < length states = inside w (inl refl) in
+    let change = sum_by-set is_open states w Unknown Unknown lt in
+    let long = set_length states w in
+    let rest = without_unknown (slice_set states w Unknown) ws (λ j h. (let before = inside j (inr h) in omega (arith, before, long))) in
+    omega (arith, change, rest)
+
+-- what waits is forgotten, and what is found stays
+pub pursuit_lost : (table : Symbols) (states : List State) (v : Course) (ws : List ℕ) → IsPursuit table states v ws → IsTable table (without states ws)
+pursuit_lost table states v ws p = record {
+  long = without_length states ws ∙ p.long;
+  turns = p.turns;
+  room = (let room = p.room in let more = without_unknown states ws p.inside in omega (arith, room, more));
+  found = λ j f e. p.found j f (without_before states ws j (Found f) (λ q. cc) e).0;
+  idle = λ j e. (let before = without_before states ws j Waiting (λ q. cc) e in before.1 (p.marked j before.0));
+}

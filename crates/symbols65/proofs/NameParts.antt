@@ -1,0 +1,34 @@
+-- The parts of names.
+use Rattle.std.proofs.Common.{◌≡◌, ℕ, Bool, true, false, List, [], ◌∷◌, ◌++◌, refl, sym, ap, ◌∙◌}
+use Rattle.std.specs.Prelude.{codes}
+use Rattle.std.proofs.lemmas.List.{append_assoc}
+use Rattle.syntax65.specs.Trees.{name}
+use Rattle.language65.specs.Laid.{Spot}
+use Rattle.language65.specs.Symbols.{Symbols}
+use Rattle.language65.specs.Names.{joined, last_of, meaning_of, scopes_of}
+use Rattle.symbols65.specs.Resolving.{joined_behind, name_meaning}
+
+pub scopes_before : (rest : List (List ℕ)) (n : List ℕ) → scopes_of (rest ++ n ∷ []) ≡ rest
+scopes_before [] n = refl
+scopes_before (m ∷ []) n = refl
+scopes_before (m ∷ k ∷ rest) n = ap (λ l. m ∷ l) (scopes_before (k ∷ rest) n)
+
+pub last_behind : (rest : List (List ℕ)) (n : List ℕ) → last_of (rest ++ n ∷ []) ≡ n
+last_behind [] n = refl
+last_behind (m ∷ []) n = refl
+last_behind (m ∷ k ∷ rest) n = last_behind (k ∷ rest) n
+
+pub joined_first : (n : List ℕ) (names : List (List ℕ)) → joined (n ∷ names) ≡ n ++ joined_behind names
+joined_first n [] = sym (append_nil n)
+  where
+    append_nil : (l : List ℕ) → l ++ [] ≡ l
+    append_nil [] = refl
+    append_nil (x ∷ l) = ap (λ m. x ∷ m) (append_nil l)
+joined_first n (m ∷ names) = append_assoc n (codes "::") (joined (m ∷ names)) ∙ ap (λ l. n ++ l) (ap (λ l. codes "::" ++ l) (joined_first m names) ∙ sym (append_assoc (codes "::") m (joined_behind names)))
+
+pub name_is : (y : Symbols) (s : Spot) (global : Bool) (parts : List (List ℕ)) → meaning_of y s (name global parts) ≡ name_meaning y s global parts
+name_is y s false [] = refl
+name_is y s false (n ∷ []) = refl
+name_is y s false (n ∷ m ∷ names) = refl
+name_is y s true [] = refl
+name_is y s true (n ∷ names) = refl

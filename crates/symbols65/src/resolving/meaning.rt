@@ -1,0 +1,244 @@
+//! What operands mean.
+
+ghost use Rattle.std.specs.Prelude.{◌≡◌, ◌+◌, ◌-◌, ◌^◌, ◌≤◌, IfNone, IfSome, Some};
+ghost use Rattle.std.specs.Option.{option_map};
+ghost use Rattle.syntax65.specs.Outcome.{Gives};
+ghost use Rattle.syntax65.specs.Trees.{tree_of};
+ghost use Rattle.language65.specs.declared.fault.AsmFault.{AsmFault};
+ghost use Rattle.language65.specs.declared.fault.AsmFault.TheVariants.{NoSuchLabel, Undefined};
+ghost use Rattle.language65.specs.Faults.{is_memory};
+ghost use Rattle.language65.specs.Names.{backward_meaning, cheap_meaning, last_of, meaning_of, member_meaning, or_fault, plain_meaning, scoped_meaning, scopes_of, unnamed_meaning};
+ghost use Rattle.language65.specs.Symbols.{imported};
+ghost use Rattle.language65.specs.Views.{spot_of};
+ghost use Rattle.symbols65.specs.Resolving.{meaning_in, name_meaning, or_absent, plain_part};
+ghost use Rattle.symbols65.specs.Views.{table_of};
+
+use super::scopes::{defined_outward, scope_of};
+use super::showing::shown;
+use crate::table::{Key, Symbols};
+use language65::{AsmFault, Spot};
+use std::alloc::Global;
+use syntax65::{Expr, Name, Sequence};
+
+/// What a name means.
+#[derive(Clone, Copy, Debug, PartialEq, Eq)]
+pub enum Meaning {
+    /// The definition at this place.
+    Defined(usize),
+    /// An import, by its place among the imports in the order in which they were first named.
+    Imported(usize),
+}
+
+/// What is defined at a place, or imported by a name where nothing is.
+fn defined_or_imported(symbols: &Symbols, defined: Option<usize>, name: &[u8]) -> Option<Meaning>
+    ensures { (fault : AsmFault) → or_fault fault defined (imported (table_of symbols.now) name.now) ≡ or_absent fault result }
+{
+    if let Some(place) = defined {
+        return Some(Meaning::Defined(place));
+    }
+    match symbols.imported(name) {
+        Some(key) => Some(Meaning::Imported(key)),
+        None => None,
+    }
+}
+
+/// What a name means in one scope.
+fn member(symbols: &Symbols, scope: usize, name: &[u8]) -> Option<Meaning>
+    ensures { (absent lost : AsmFault) → member_meaning (table_of symbols.now) name.now absent lost (Some scope) ≡ or_absent absent result }
+{
+    let defined = symbols.defined(Key::Named { scope, name });
+    if scope == 0 {
+        return defined_or_imported(symbols, defined, name);
+    }
+    match defined {
+        Some(place) => Some(Meaning::Defined(place)),
+        None => None,
+    }
+}
+
+/// A meaning that was looked for, or the fault that it has none.
+fn known(meaning: Option<Meaning>, fault: AsmFault) -> Result<Meaning, AsmFault>
+    ensures { Gives is_memory meaning_in result (or_absent fault meaning) }
+{
+    match meaning {
+        Some(meaning) => Ok(meaning),
+        None => Err(fault),
+    }
+}
+
+/// A meaning of a name that was looked for.
+fn named(alloc: Global, meaning: Option<Meaning>, name: &[u8]) -> Result<Meaning, AsmFault>
+    ensures { Gives is_memory meaning_in result (or_absent (Undefined name.now) meaning) }
+{
+    match meaning {
+        Some(meaning) => Ok(meaning),
+        None => {
+            let name = Vec::from_slice(alloc, name)?;
+            Err(AsmFault::Undefined(Sequence::from_vec(name)))
+        }
+    }
+}
+
+/// What a plain name means: what the innermost scope that defines it says, from the use outward.
+fn plain_meaning(
+    alloc: Global,
+    symbols: &Symbols,
+    scope: usize,
+    name: &[u8],
+) -> Result<Meaning, AsmFault>
+    ensures { Gives is_memory meaning_in result (plain_meaning (table_of symbols.now) scope name.now) }
+{
+    let defined = defined_outward(symbols, scope, name);
+    named(alloc, defined_or_imported(symbols, defined, name), name)
+}
+
+/// What a name with `::` means, the scopes being those that were opened before its place.
+fn scoped_meaning(
+    alloc: Global,
+    symbols: &Symbols,
+    spot: Spot,
+    name: &Name,
+) -> Result<Meaning, AsmFault>
+    ensures { Gives is_memory meaning_in result (scoped_meaning (table_of symbols.now) (spot_of spot) name.now.is_global name.now.parts) }
+{
+    let parts = name.parts.as_slice();
+    let opened = spot.opened as usize;
+    let scope = spot.scope as usize;
+    match scope_of(symbols, opened, scope, name.is_global, scopes_in(parts)) {
+        None => {
+            let name = shown(alloc, name.is_global, parts)?;
+            Err(AsmFault::NoSuchScope(name))
+        }
+        Some(inner) => match member(symbols, inner, last_in(parts)) {
+            Some(meaning) => Ok(meaning),
+            None => {
+                let name = shown(alloc, name.is_global, parts)?;
+                Err(AsmFault::Undefined(name))
+            }
+        },
+    }
+}
+
+/// The parts that name scopes: all but the last.
+pub fn scopes_in(parts: &[Sequence<u8>]) -> &[Sequence<u8>]
+    ensures { result.now ≡ scopes_of parts.now }
+{
+    match parts.split_last() {
+        Some((_, scopes)) => scopes,
+        None => &[],
+    }
+}
+
+pub fn last_in(parts: &[Sequence<u8>]) -> &[u8]
+    ensures { result.now ≡ last_of parts.now }
+{
+    match parts.split_last() {
+        Some((last, _)) => last.as_slice(),
+        None => &[],
+    }
+}
+
+/// The one part of a plain name.
+pub fn plain_part(name: &Name) -> Option<&[u8]>
+    ensures { option_map (λ n. n.now) result ≡ plain_part name.now.is_global name.now.parts }
+{
+    match name.parts.as_slice() {
+        [part] if !name.is_global => Some(part.as_slice()),
+        _ => None,
+    }
+}
+
+fn name_meaning(
+    alloc: Global,
+    symbols: &Symbols,
+    spot: Spot,
+    name: &Name,
+) -> Result<Meaning, AsmFault>
+    ensures { Gives is_memory meaning_in result (name_meaning (table_of symbols.now) (spot_of spot) name.now.is_global name.now.parts) }
+{
+    match plain_part(name) {
+        Some(part) => plain_meaning(alloc, symbols, spot.scope as usize, part),
+        None => scoped_meaning(alloc, symbols, spot, name),
+    }
+}
+
+/// What a cheap name means: a cheap label of its region.
+fn cheap_meaning(
+    alloc: Global,
+    symbols: &Symbols,
+    region: usize,
+    name: &[u8],
+) -> Result<Meaning, AsmFault>
+    ensures { Gives is_memory meaning_in result (cheap_meaning (table_of symbols.now) region name.now) }
+{
+    match symbols.defined(Key::Cheap { region, name }) {
+        Some(place) => Ok(Meaning::Defined(place)),
+        None => named(alloc, None, name),
+    }
+}
+
+/// The unnamed label before which so many stand.
+fn unnamed_label(symbols: &Symbols, count: usize) -> Option<Meaning>
+    ensures { unnamed_meaning (table_of symbols.now) count ≡ or_absent NoSuchLabel result }
+{
+    match symbols.defined(Key::Unnamed(count)) {
+        Some(place) => Some(Meaning::Defined(place)),
+        None => None,
+    }
+}
+
+/// How many unnamed labels stand before one behind a use before which so many stand. No table has one that no number of
+/// the machine counts.
+fn count_behind(before: u32, steps: usize) -> Option<usize>
+    ensures some { IfSome result (λ count. count ≡ before + steps - 1) }
+    ensures none { IfNone result (2 ^ 64 ≤ before + steps - 1) }
+{
+    match steps.checked_sub(1) {
+        Some(more) => (before as usize).checked_add(more),
+        None => Some((before as usize).saturating_sub(1)),
+    }
+}
+
+/// An unnamed label behind a use before which so many stand.
+fn label_behind(symbols: &Symbols, before: u32, steps: usize) -> Option<Meaning>
+    ensures { unnamed_meaning (table_of symbols.now) (before + steps - 1) ≡ or_absent NoSuchLabel result }
+{
+    match count_behind(before, steps) {
+        Some(count) => unnamed_label(symbols, count),
+        None => None,
+    }
+}
+
+/// An unnamed label before a use before which so many stand.
+fn label_before(symbols: &Symbols, before: u32, steps: usize) -> Option<Meaning>
+    ensures { backward_meaning (table_of symbols.now) before steps ≡ or_absent NoSuchLabel result }
+{
+    match (before as usize).checked_sub(steps) {
+        Some(count) => unnamed_label(symbols, count),
+        None => None,
+    }
+}
+
+/// What an operand means where it stands. No memory is taken where it means something.
+pub fn meaning_of(
+    alloc: Global,
+    symbols: &Symbols,
+    spot: Spot,
+    operand: &Expr,
+) -> Result<Meaning, AsmFault>
+    ensures { Gives is_memory meaning_in result (meaning_of (table_of symbols.now) (spot_of spot) (tree_of operand.now)) }
+{
+    match operand {
+        Expr::Name(name) => name_meaning(alloc, symbols, spot, name),
+        Expr::Cheap(name) => cheap_meaning(alloc, symbols, spot.region as usize, name.as_slice()),
+        Expr::Forward(steps) => known(
+            label_behind(symbols, spot.unnamed, *steps),
+            AsmFault::NoSuchLabel,
+        ),
+        Expr::Backward(steps) => known(
+            label_before(symbols, spot.unnamed, *steps),
+            AsmFault::NoSuchLabel,
+        ),
+        _ => Err(AsmFault::NoSuchLabel),
+    }
+}

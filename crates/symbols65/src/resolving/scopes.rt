@@ -1,0 +1,112 @@
+//! Scopes, and what is found in them.
+
+ghost use Rattle.std.specs.Prelude.{◌≡◌, Some, take};
+ghost use Rattle.language65.specs.Names.{enclosing, first_found, inside, scope_from, scope_in, scopes_from};
+ghost use Rattle.language65.specs.Symbols.{defined, named};
+ghost use Rattle.symbols65.specs.Views.{table_of};
+
+use crate::table::{Key, Symbols};
+use syntax65::Sequence;
+
+/// The number of the global scope.
+const GLOBAL: usize = 0;
+
+/// The place of what a name means that is defined: in the innermost scope that defines it, from one outward.
+pub fn defined_outward(symbols: &Symbols, scope: usize, name: &[u8]) -> Option<usize>
+    ensures { result ≡ first_found (λ s. defined (table_of symbols.now) (named s name.now)) (scopes_from (table_of symbols.now).scopes scope) }
+{
+    let mut scope = scope;
+    // A scope stands in scopes that were opened before it, so there are no more of them than its number.
+    let mut left = scope;
+    loop {
+        if let Some(place) = symbols.defined(Key::Named { scope, name }) {
+            return Some(place);
+        }
+        if scope == GLOBAL {
+            return None;
+        }
+        if left == 0 {
+            return None;
+        }
+        left -= 1;
+        scope = symbols.enclosing(scope);
+    }
+}
+
+/// The scope of a name that was opened directly in a scope, among those that were opened first.
+fn scope_in(symbols: &Symbols, opened: usize, within: usize, name: &[u8]) -> Option<usize>
+    ensures { result ≡ scope_in (take opened (table_of symbols.now).scopes) within name.now }
+{
+    match symbols.scope_in(within, name) {
+        Some(scope) if scope <= opened => Some(scope),
+        _ => None,
+    }
+}
+
+/// The scope in which a scope was opened, among those that were opened first.
+fn enclosing(symbols: &Symbols, opened: usize, scope: usize) -> usize
+    ensures { result ≡ enclosing (take opened (table_of symbols.now).scopes) scope }
+{
+    if scope <= opened {
+        symbols.enclosing(scope)
+    } else {
+        GLOBAL
+    }
+}
+
+/// The innermost scope of a name among those that were opened first, from a scope outward.
+fn scope_outward(symbols: &Symbols, opened: usize, scope: usize, name: &[u8]) -> Option<usize>
+    ensures { result ≡ first_found (λ s. scope_in (take opened (table_of symbols.now).scopes) s name.now) (scopes_from (take opened (table_of symbols.now).scopes) scope) }
+{
+    let mut scope = scope;
+    let mut left = scope;
+    loop {
+        if let Some(inner) = scope_in(symbols, opened, scope, name) {
+            return Some(inner);
+        }
+        if scope == GLOBAL {
+            return None;
+        }
+        if left == 0 {
+            return None;
+        }
+        left -= 1;
+        scope = enclosing(symbols, opened, scope);
+    }
+}
+
+/// The scope to which names lead, one inside the other, from a scope.
+fn inner_scope(
+    symbols: &Symbols,
+    opened: usize,
+    scope: usize,
+    names: &[Sequence<u8>],
+) -> Option<usize>
+    ensures { result ≡ inside (take opened (table_of symbols.now).scopes) names.now (Some scope) }
+{
+    let mut scope = scope;
+    for name in names {
+        scope = scope_in(symbols, opened, scope, name.as_slice())?;
+    }
+    Some(scope)
+}
+
+/// The scope that the parts of a name before its last lead to, among those that were opened first.
+pub fn scope_of(
+    symbols: &Symbols,
+    opened: usize,
+    scope: usize,
+    is_global: bool,
+    names: &[Sequence<u8>],
+) -> Option<usize>
+    ensures { result ≡ scope_from (take opened (table_of symbols.now).scopes) scope is_global names.now }
+{
+    if is_global {
+        return inner_scope(symbols, opened, GLOBAL, names);
+    }
+    let (first, names) = names.split_first()?;
+    match scope_outward(symbols, opened, scope, first.as_slice()) {
+        Some(outer) => inner_scope(symbols, opened, outer, names),
+        None => None,
+    }
+}

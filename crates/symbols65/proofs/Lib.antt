@@ -8,6 +8,7 @@ pub mod NameTables
 pub mod Places
 pub mod Pursuits
 pub mod Scopes
+pub mod Settling
 pub mod Sizing
 pub mod Tries
 pub mod Turns

@@ -34,8 +34,8 @@ near_circular : (r : Result Form AsmFault) → Near ⊤ r (Err Circular) → r �
 near_circular r (inl h) = h.1
 near_circular r (inr e) = e
 
-pub leads_from : (c : ℕ) (table : Symbols) (states : List State) (v : Course) (a : Result Form Stop) (j : ℕ) → IsAttempt c table (slice_get states) v a → a ≡ Err (Needs j) → Leads table c v j
-leads_from c table states v a j t e = record {
+pub leads_from : (c : ℕ) (table : Symbols) (known : ℕ → Option State) (v : Course) (a : Result Form Stop) (j : ℕ) → IsAttempt c table known v a → a ≡ Err (Needs j) → Leads table c v j
+leads_from c table known v a j t e = record {
   later = λ k z le h. (let P : Result Form Stop → Type 0 = λ x. Agrees ⊥ (at_turn table k) x (v (suc k)) in near_so (v (suc k)) (Err z) (subst P e (t.later k le) z h));
   circular = λ k h. (let P : Result Form Stop → Type 0 = λ x. Agrees ⊤ (at_turn table k) x (v (suc k)) in near_circular (v (suc k)) (subst P e (t.ever k) Circular h));
   starts = (t.lacks j e).starts;
@@ -48,11 +48,11 @@ leads_later table c v j h = record {
   starts = h.starts;
 }
 
-pub fault_from : (c : ℕ) (table : Symbols) (states : List State) (v : Course) (a : Result Form Stop) (z : AsmFault) → IsAttempt c table (slice_get states) v a → a ≡ Err (Fault z) → (k : ℕ) → c ≤ k → v (suc k) ≡ Err z
-fault_from c table states v a z t e k le = (let P : Result Form Stop → Type 0 = λ x. Agrees ⊥ (at_turn table k) x (v (suc k)) in near_so (v (suc k)) (Err z) (subst P e (t.later k le)))
+pub fault_from : (c : ℕ) (table : Symbols) (known : ℕ → Option State) (v : Course) (a : Result Form Stop) (z : AsmFault) → IsAttempt c table known v a → a ≡ Err (Fault z) → (k : ℕ) → c ≤ k → v (suc k) ≡ Err z
+fault_from c table known v a z t e k le = (let P : Result Form Stop → Type 0 = λ x. Agrees ⊥ (at_turn table k) x (v (suc k)) in near_so (v (suc k)) (Err z) (subst P e (t.later k le)))
 
-pub form_from : (c : ℕ) (table : Symbols) (states : List State) (v : Course) (a : Result Form Stop) (f : Form) → IsAttempt c table (slice_get states) v a → a ≡ Ok f → (k : ℕ) → c ≤ k → v (suc k) ≡ Ok f
-form_from c table states v a f t e k le = (let P : Result Form Stop → Type 0 = λ x. Agrees ⊥ (at_turn table k) x (v (suc k)) in near_so (v (suc k)) (Ok f) (subst P e (t.later k le)))
+pub form_from : (c : ℕ) (table : Symbols) (known : ℕ → Option State) (v : Course) (a : Result Form Stop) (f : Form) → IsAttempt c table known v a → a ≡ Ok f → (k : ℕ) → c ≤ k → v (suc k) ≡ Ok f
+form_from c table known v a f t e k le = (let P : Result Form Stop → Type 0 = λ x. Agrees ⊥ (at_turn table k) x (v (suc k)) in near_so (v (suc k)) (Ok f) (subst P e (t.later k le)))
 
 -- ---- Chains.
 
@@ -265,7 +265,7 @@ pursuit_faults table states v ws a z p t e =
     let k : ℕ = length table.definitions - length ws in
     let enough : p.turns ≤ k = omega (arith, room) in
     let whole : length ws + suc k ≡ suc (length table.definitions) = omega (arith, room) in
-    sym (ap v whole) ∙ chain_fault table p.turns v ws (suc k) z p.chain (omega (arith, enough)) (fault_from p.turns table states (last_course table v ws) a z t e k enough)
+    sym (ap v whole) ∙ chain_fault table p.turns v ws (suc k) z p.chain (omega (arith, enough)) (fault_from p.turns table (slice_get states) (last_course table v ws) a z t e k enough)
 
 -- a constant that is needed and neither unknown nor found waits
 pub pursuit_meets : (table : Symbols) (states : List State) (v : Course) → IsCourse v → (ws : List ℕ) (a : Result Form Stop) (j : ℕ) (p : IsPursuit table states v ws) → IsAttempt p.turns table (slice_get states) (last_course table v ws) a → a ≡ Err (Needs j) → (o : Option State) → slice_get states j ≡ o → is_unknown o ≡ false → v (suc (length table.definitions)) ≡ Err Circular
@@ -274,7 +274,7 @@ pursuit_meets table states v s ws a j p t e None q known =
     let long = p.long in
     absurd ((t.lacks j e).inside (slice_get_past table.definitions j (omega (arith, past, long))))
 pursuit_meets table states v s ws a j p t e (Some Unknown) q known = absurd cc
-pursuit_meets table states v s ws a j p t e (Some Waiting) q known = met_again table p.turns v s ws j p.chain (leads_from p.turns table states (last_course table v ws) a j t e) (p.marked j q) (length table.definitions)
+pursuit_meets table states v s ws a j p t e (Some Waiting) q known = met_again table p.turns v s ws j p.chain (leads_from p.turns table (slice_get states) (last_course table v ws) a j t e) (p.marked j q) (length table.definitions)
 pursuit_meets table states v s ws a j p t e (Some (Found f)) q known = absurd ((t.lacks j e).unfound f q)
 
 pub unknown_is : (o : Option State) → is_unknown o ≡ true → o ≡ Some Unknown
@@ -285,14 +285,14 @@ unknown_is (Some (Found f)) e = absurd cc
 
 pub pursuit_needs : (table : Symbols) (states : List State) (v : Course) (ws more : List ℕ) (a : Result Form Stop) (j : ℕ) (p : IsPursuit table states v ws) → IsAttempt p.turns table (slice_get states) (last_course table v ws) a → a ≡ Err (Needs j) → slice_get states j ≡ Some Unknown → more ≡ ws ++ j ∷ [] → IsPursuit table (slice_set states j Waiting) v more
 pursuit_needs table states v ws more a j p t e q pushed =
-    subst (IsPursuit table (slice_set states j Waiting) v) (sym pushed) (pursuit_down table states v ws j p (leads_from p.turns table states (last_course table v ws) a j t e) q)
+    subst (IsPursuit table (slice_set states j Waiting) v) (sym pushed) (pursuit_down table states v ws j p (leads_from p.turns table (slice_get states) (last_course table v ws) a j t e) q)
 
 -- the expression's form is found
 pub pursuit_done : (table : Symbols) (states : List State) (v : Course) (ws : List ℕ) (a : Result Form Stop) (f : Form) (p : IsPursuit table states v ws) → IsAttempt p.turns table (slice_get states) (last_course table v ws) a → a ≡ Ok f → ws ≡ [] → v (suc (length table.definitions)) ≡ Ok f
 pursuit_done table states v ws a f p t e q =
     let room = p.room in
     let P : List ℕ → Type 0 = λ z. last_course table v z (suc (length table.definitions)) ≡ Ok f in
-    subst P q (form_from p.turns table states (last_course table v ws) a f t e (length table.definitions) (omega (arith, room)))
+    subst P q (form_from p.turns table (slice_get states) (last_course table v ws) a f t e (length table.definitions) (omega (arith, room)))
 
 pub pursuit_table : (table : Symbols) (states : List State) (v : Course) (ws : List ℕ) → IsPursuit table states v ws → ws ≡ [] → IsTable table states
 pursuit_table table states v ws p q = pursuit_ends table states v (subst (IsPursuit table states v) q p)
@@ -306,7 +306,7 @@ pursuit_pops table states v ws others a j f p t e q =
     subst P (sym q) (λ p t. base p t) p t
   where
     base : (p : IsPursuit table states v (others ++ j ∷ [])) → IsAttempt p.turns table (slice_get states) (last_course table v (others ++ j ∷ [])) a → IsPursuit table (slice_set states j (Found f)) v others
-    base p t = pursuit_up table states v others j f p (sym (ap (λ u. u (suc p.turns)) (last_of_more table v others j)) ∙ form_from p.turns table states (last_course table v (others ++ j ∷ [])) a f t e p.turns (omega arith))
+    base p t = pursuit_up table states v others j f p (sym (ap (λ u. u (suc p.turns)) (last_of_more table v others j)) ∙ form_from p.turns table (slice_get states) (last_course table v (others ++ j ∷ [])) a f t e p.turns (omega arith))
 
 pub unless_more : {P Q : Type 0} (b : Bool) → (P → Q) → Unless b P → Unless b Q
 unless_more true f h = tt

@@ -1,6 +1,7 @@
 pub mod Finals
 pub mod Knowns
 pub mod Resolving
+pub mod Settling
 pub mod Sources
 pub mod Tables
 pub mod Views

@@ -2,8 +2,9 @@
 //! and which forms are final, whatever statements follow.
 #![tactic(auto)]
 
+pub mod knowing;
 mod resolving;
 mod table;
 
-pub use resolving::{Meaning, meaning_of, scope_of, shown};
+pub use resolving::{Known, Meaning, State, defined_norm, meaning_of, norm, scope_of, shown};
 pub use table::{Definition, Entry, Key, Opening, Symbols};

@@ -4,10 +4,12 @@ mod attempt;
 mod known;
 mod meaning;
 mod scopes;
+mod settling;
 mod showing;
 
-pub use attempt::{Source, State, Stop, address, try_norm};
+pub use attempt::State;
 pub use known::Known;
 pub use meaning::{Meaning, meaning_of};
 pub use scopes::scope_of;
+pub use settling::{defined_norm, norm, settled};
 pub use showing::shown;

@@ -1,0 +1,10 @@
+//! What is known of expressions at a line: their values where they are constant there, their sizes, and the addressing
+//! forms of instructions.
+
+mod constants;
+mod modes;
+mod sizes;
+
+pub use constants::constant;
+pub use modes::mode;
+pub use sizes::size;

@@ -2,13 +2,10 @@
 use Rattle.std.proofs.Common.{◌≡◌, ℕ, zero, suc, ◌+◌, refl, sym, ap, ◌∙◌, arith, List, [], ◌∷◌, ◌++◌, length, Some, slice_get}
 use Rattle.std.specs.Prelude.{⊤}
 use Rattle.std.proofs.lemmas.List.Sums.{sum_by-cons}
-use Rattle.language65.specs.declared.laid.Laid.{Laid}
-use Rattle.language65.specs.Laid as laid
+use Rattle.language65.specs.Symbols.{Symbols}
 use Rattle.symbols65.specs.declared.resolving.attempt.State.{State}
 use Rattle.symbols65.specs.declared.resolving.attempt.State.TheVariants.{Unknown, Waiting, Found}
 use Rattle.symbols65.specs.Resolving.{IsTable, is_open, unknown}
-use Rattle.language65.specs.Views.{all_of, laid_of}
-use Rattle.language65.proofs.Lists.{map_length}
 
 abbrev pub AreUnknown : List State → Type 0
 AreUnknown [] = ⊤
@@ -33,14 +30,11 @@ unknown_at (y ∷ xs) zero x (u, h) e = let same : y ≡ x = cc in sym same ∙ 
 unknown_at (y ∷ xs) (suc j) x (u, h) e = unknown_at xs j x h e
 
 -- it is one for any statements
-pub blank_table : (all : List laid.Laid) (xs : List State) → AreUnknown xs → length xs ≡ length all → IsTable all xs
-blank_table all xs h e = record {
+pub blank_table : (table : Symbols) (xs : List State) → AreUnknown xs → length xs ≡ length table.definitions → IsTable table xs
+blank_table table xs h e = record {
   long = e;
   turns = 0;
   room = (let whole = unknown_all xs h in omega (arith, whole, e));
   found = λ j f q. (let never : Found f ≡ Unknown = unknown_at xs j (Found f) h q in absurd cc);
   idle = λ j q. (let never : Waiting ≡ Unknown = unknown_at xs j Waiting h q in absurd cc);
 }
-
-pub unknown_table : (all : List Laid) (xs : List State) → AreUnknown xs → length xs ≡ length all → IsTable (all_of all) xs
-unknown_table all xs h e = blank_table (all_of all) xs h (e ∙ sym (map_length laid_of all))

@@ -1,11 +1,11 @@
 -- The parts of names.
-use Rattle.std.proofs.Common.{◌≡◌, ℕ, Bool, true, false, List, [], ◌∷◌, ◌++◌, length, take, refl, sym, ap, ◌∙◌}
+use Rattle.std.proofs.Common.{◌≡◌, ℕ, Bool, true, false, List, [], ◌∷◌, ◌++◌, refl, sym, ap, ◌∙◌}
 use Rattle.std.specs.Prelude.{codes}
 use Rattle.std.proofs.lemmas.List.{append_assoc}
-use Rattle.std.proofs.Math.Seq.{take-length}
 use Rattle.syntax65.specs.Trees.{name}
-use Rattle.language65.specs.Laid.{Laid, Spot}
-use Rattle.language65.specs.Names.{joined, last_of, meaning_of, plain_meaning, scoped_meaning, scopes_of}
+use Rattle.language65.specs.Laid.{Spot}
+use Rattle.language65.specs.Symbols.{Symbols}
+use Rattle.language65.specs.Names.{joined, last_of, meaning_of, scopes_of}
 use Rattle.symbols65.specs.Resolving.{joined_behind, name_meaning}
 
 pub scopes_before : (rest : List (List ℕ)) (n : List ℕ) → scopes_of (rest ++ n ∷ []) ≡ rest
@@ -26,9 +26,9 @@ joined_first n [] = sym (append_nil n)
     append_nil (x ∷ l) = ap (λ m. x ∷ m) (append_nil l)
 joined_first n (m ∷ names) = append_assoc n (codes "::") (joined (m ∷ names)) ∙ ap (λ l. n ++ l) (ap (λ l. codes "::" ++ l) (joined_first m names) ∙ sym (append_assoc (codes "::") m (joined_behind names)))
 
-pub name_is : (all : List Laid) (i : ℕ) (s : Spot) (global : Bool) (parts : List (List ℕ)) → meaning_of all (length all) i s (name global parts) ≡ name_meaning all i s.scope global parts
-name_is all i s false [] = ap (λ ls. scoped_meaning ls (take i all) s.scope false []) (take-length all)
-name_is all i s false (n ∷ []) = ap (λ ls. plain_meaning ls s.scope n) (take-length all)
-name_is all i s false (n ∷ m ∷ names) = ap (λ ls. scoped_meaning ls (take i all) s.scope false (n ∷ m ∷ names)) (take-length all)
-name_is all i s true [] = ap (λ ls. scoped_meaning ls (take i all) s.scope true []) (take-length all)
-name_is all i s true (n ∷ names) = ap (λ ls. scoped_meaning ls (take i all) s.scope true (n ∷ names)) (take-length all)
+pub name_is : (y : Symbols) (s : Spot) (global : Bool) (parts : List (List ℕ)) → meaning_of y s (name global parts) ≡ name_meaning y s global parts
+name_is y s false [] = refl
+name_is y s false (n ∷ []) = refl
+name_is y s false (n ∷ m ∷ names) = refl
+name_is y s true [] = refl
+name_is y s true (n ∷ names) = refl

@@ -1,14 +1,15 @@
 //! The exports of an object, each once, and its assertions.
 
-ghost use Rattle.std.specs.Prelude.{◌≡◌, ◌++◌, ◌∷◌, [], filter_map, IfOk, OnOk};
+ghost use Rattle.std.specs.Prelude.{◌≡◌, ◌++◌, ◌∷◌, [], filter_map, map, IfOk, OnOk};
 ghost use Rattle.std.specs.List.{AllByRecursion};
 ghost use Rattle.sections65.specs.Drafts.{AreNamed, AssertFits, ExportFits};
+ghost use Rattle.sections65.specs.Fed.{content_of};
 ghost use Rattle.language65.specs.Numbering.{all_said, assert_of, exports_among};
 
-use super::drafts::copy_of;
 use super::numbers::{Numbers, numbered};
+use crate::entries::{Entry, copy_of};
 use indexmap::IndexSet;
-use language65::{Content, Said};
+use language65::Said;
 use object65::{Assert, Export};
 use std::alloc::{AllocError, Global};
 use syntax65::Sequence;
@@ -63,18 +64,29 @@ fn add_asserts(
     Ok(())
 }
 
+/// What an entry says.
+fn said_in<'a>(entry: &'a Entry) -> &'a [Said]
+    ensures { result.now ≡ (content_of entry.entry.now).said }
+{
+    match entry {
+        Entry::Told(said) => said.as_slice(),
+        Entry::Put { .. } | Entry::Open => &[],
+    }
+}
+
 /// The assertions of a module.
 pub fn asserts_of(
     alloc: Global,
     numbers: &Numbers,
-    contents: &[Content],
+    entries: &[Entry],
 ) -> Result<Sequence<Assert>, AllocError>
-    ensures asserts { IfOk result (λ asserts. asserts ≡ filter_map (assert_of numbers.now.sections.keys numbers.now.imports.keys) (all_said contents.now)) }
+    ensures asserts { IfOk result (λ asserts. asserts ≡ filter_map (assert_of numbers.now.sections.keys
+        numbers.now.imports.keys) (all_said (map content_of entries.now))) }
     ensures fits { IfOk result (λ asserts. AllByRecursion AssertFits asserts) }
 {
     let mut asserts = Sequence::new(alloc);
-    for content in contents {
-        add_asserts(alloc, numbers, &mut asserts, content.said.as_slice())?;
+    for entry in entries {
+        add_asserts(alloc, numbers, &mut asserts, said_in(entry))?;
     }
     Ok(asserts)
 }
@@ -125,17 +137,18 @@ fn add_exports<'a>(
 pub fn exports_of(
     alloc: Global,
     numbers: &Numbers,
-    contents: &[Content],
+    entries: &[Entry],
 ) -> Result<Sequence<Export>, AllocError>
-    ensures exports { IfOk result (λ exports. exports ≡ exports_among numbers.now.sections.keys numbers.now.imports.keys [] (all_said contents.now)) }
+    ensures exports { IfOk result (λ exports. exports ≡ exports_among numbers.now.sections.keys
+        numbers.now.imports.keys [] (all_said (map content_of entries.now))) }
     ensures fits { IfOk result (λ exports. AllByRecursion ExportFits exports) }
 {
     let mut exports = Exports {
         all: Sequence::new(alloc),
         names: IndexSet::new(alloc),
     };
-    for content in contents {
-        add_exports(alloc, numbers, &mut exports, content.said.as_slice())?;
+    for entry in entries {
+        add_exports(alloc, numbers, &mut exports, said_in(entry))?;
     }
     let Exports { all, names: _ } = exports;
     Ok(all)

@@ -58,3 +58,20 @@ pub record Stands (cs waiting : List Content) (s : Sections) : Type 0 where
   pub alike : AreAlike cs (contents_in waiting s.entries)
   pub waits : open_count s.entries.done.items ≡ length waiting
   pub settled : IsSettled s.entries
+
+-- ---- What calls do.
+
+-- They stand for one content more.
+abbrev pub Feeds : Sections → Sections → Content → Type 0
+Feeds old new c =
+    (cs waiting : List Content) → Stands cs waiting old → Stands (cs ++ c ∷ []) waiting new
+
+-- They stand for one content more, whatever it will be, if only it asks for no section.
+abbrev pub Awaits : Sections → Sections → Type 0
+Awaits old new =
+    (cs waiting : List Content) (w : Content) → w.asks ≡ false → Stands cs waiting old →
+    Stands (cs ++ w ∷ []) (waiting ++ w ∷ []) new
+
+-- The first content that waited is this one now.
+abbrev pub Receives : Sections → Sections → Content → Type 0
+Receives old new c = (cs waiting : List Content) → Stands cs (c ∷ waiting) old → Stands cs waiting new

@@ -1,13 +1,13 @@
 //! Sections in the making.
 
-ghost use Rattle.std.specs.Prelude.{◌≡◌, ◌++◌, ◌∷◌, [], List, replicate, false, true, IfOk, OnOk};
+ghost use Rattle.std.specs.Prelude.{◌≡◌, [], List, replicate, true, IfOk, OnOk};
 ghost use Rattle.object65.specs.Objects.{is_good_object, ObjectFits};
 ghost use Rattle.language65.specs.declared.contents.Content.{Content};
 ghost use Rattle.language65.specs.declared.contents.Part.TheVariants.{Filled, Known, Waiting};
 ghost use Rattle.language65.specs.Numbering.{object_with};
 ghost use Rattle.language65.specs.Sound.{AreSound};
 ghost use Rattle.sections65.specs.Fed.{asking, put, telling};
-ghost use Rattle.sections65.specs.Standing.{Stands};
+ghost use Rattle.sections65.specs.Standing.{Awaits, Feeds, Receives, Stands};
 
 use crate::entries::{Entries, Entry};
 use crate::numbering::object_of;
@@ -51,8 +51,7 @@ impl Sections {
 
     /// Asks for a section of a segment. Sections have the order in which they are first asked for.
     pub fn ask(&mut self, segment: u32) -> Result<(), AllocError>
-        ensures { OnOk result ((cs ws : List Content) →
-            Stands cs ws self.old → Stands (cs ++ asking segment ∷ []) ws self.new) }
+        ensures { OnOk result (Feeds self.old self.new (asking segment)) }
     {
         if let Some(latest) = self.latest {
             if latest == segment {
@@ -66,8 +65,7 @@ impl Sections {
 
     /// Puts bytes into the section of a segment.
     pub fn append(&mut self, segment: u32, bytes: &[u8]) -> Result<(), AllocError>
-        ensures { OnOk result ((cs ws : List Content) → Stands cs ws self.old →
-            Stands (cs ++ put segment (Known bytes.now) ∷ []) ws self.new) }
+        ensures { OnOk result (Feeds self.old self.new (put segment (Known bytes.now))) }
     {
         self.entries.add_bytes(segment, bytes)?;
         Ok(())
@@ -75,8 +73,7 @@ impl Sections {
 
     /// Puts so many bytes of one value into the section of a segment.
     pub fn fill(&mut self, segment: u32, count: u32, byte: u8) -> Result<(), AllocError>
-        ensures { OnOk result ((cs ws : List Content) → Stands cs ws self.old →
-            Stands (cs ++ put segment (Known (replicate count byte)) ∷ []) ws self.new) }
+        ensures { OnOk result (Feeds self.old self.new (put segment (Known (replicate count byte)))) }
     {
         let bytes = repeated(self.entries.alloc, count, byte)?;
         self.entries.add_bytes(segment, bytes.as_slice())?;
@@ -85,8 +82,7 @@ impl Sections {
 
     /// Puts room of so many bytes into the section of a segment, which the linker fills.
     pub fn room(&mut self, segment: u32, count: u32) -> Result<(), AllocError>
-        ensures { OnOk result ((cs ws : List Content) → Stands cs ws self.old →
-            Stands (cs ++ put segment (Filled count) ∷ []) ws self.new) }
+        ensures { OnOk result (Feeds self.old self.new (put segment (Filled count))) }
     {
         self.entries.add_room(segment, count)?;
         Ok(())
@@ -100,8 +96,7 @@ impl Sections {
         line: u32,
         form: Norm,
     ) -> Result<(), AllocError>
-        ensures { OnOk result ((cs ws : List Content) → Stands cs ws self.old →
-            Stands (cs ++ put segment (Waiting width line form) ∷ []) ws self.new) }
+        ensures { OnOk result (Feeds self.old self.new (put segment (Waiting width line form))) }
     {
         let part = Part::Waiting { width, line, form };
         self.entries.push(Entry::Put { segment, part })?;
@@ -111,8 +106,7 @@ impl Sections {
     /// Defers what comes here: a part of a section, or what a statement says. What is deferred is settled in the same
     /// order.
     pub fn defer(&mut self) -> Result<(), AllocError>
-        ensures { OnOk result ((cs ws : List Content) (w : Content) → w.asks ≡ false →
-            Stands cs ws self.old → Stands (cs ++ w ∷ []) (ws ++ w ∷ []) self.new) }
+        ensures { OnOk result (Awaits self.old self.new) }
     {
         self.entries.defer()?;
         Ok(())
@@ -120,15 +114,14 @@ impl Sections {
 
     /// Settles the first that is still deferred, as a part of the section of a segment.
     pub fn settle(&mut self, segment: u32, part: Part)
-        ensures { (cs ws : List Content) →
-            Stands cs (put segment part ∷ ws) self.old → Stands cs ws self.new }
+        ensures { Receives self.old self.new (put segment part) }
     {
         self.entries.settle(Entry::Put { segment, part })
     }
 
     /// Settles the first that is still deferred, as what a statement says.
     pub fn settle_said(&mut self, said: Sequence<Said>)
-        ensures { (cs ws : List Content) → Stands cs (telling said ∷ ws) self.old → Stands cs ws self.new }
+        ensures { Receives self.old self.new (telling said) }
     {
         self.entries.settle(Entry::Told(said))
     }

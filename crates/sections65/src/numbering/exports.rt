@@ -28,8 +28,10 @@ fn add_assert(
     asserts: &mut Sequence<Assert>,
     said: &Said,
 ) -> Result<(), AllocError>
-    ensures added { OnOk result (asserts.new ≡ asserts.old ++ filter_map (assert_of numbers.now.sections.keys numbers.now.imports.keys) (said.now ∷ [])) }
-    ensures fits { OnOk result (AllByRecursion AssertFits asserts.old → AllByRecursion AssertFits asserts.new) }
+    ensures added { OnOk result (asserts.new ≡ asserts.old ++ filter_map
+        (assert_of numbers.now.sections.keys numbers.now.imports.keys) (said.now ∷ [])) }
+    ensures fits { OnOk result (AllByRecursion AssertFits asserts.old →
+        AllByRecursion AssertFits asserts.new) }
 {
     if let Said::Checked {
         action,
@@ -55,8 +57,10 @@ fn add_asserts(
     asserts: &mut Sequence<Assert>,
     said: &[Said],
 ) -> Result<(), AllocError>
-    ensures added { OnOk result (asserts.new ≡ asserts.old ++ filter_map (assert_of numbers.now.sections.keys numbers.now.imports.keys) said.now) }
-    ensures fits { OnOk result (AllByRecursion AssertFits asserts.old → AllByRecursion AssertFits asserts.new) }
+    ensures added { OnOk result (asserts.new ≡ asserts.old ++ filter_map
+        (assert_of numbers.now.sections.keys numbers.now.imports.keys) said.now) }
+    ensures fits { OnOk result (AllByRecursion AssertFits asserts.old →
+        AllByRecursion AssertFits asserts.new) }
 {
     for saying in said {
         add_assert(alloc, numbers, asserts, saying)?;
@@ -99,8 +103,10 @@ fn add_export<'a>(
     said: &'a Said,
 ) -> Result<(), AllocError>
     requires { AreNamed exports.old }
-    ensures added { OnOk result (exports.new.all ≡ exports_among numbers.now.sections.keys numbers.now.imports.keys exports.old.all (said.entry.now ∷ [])) }
-    ensures fits { OnOk result (AllByRecursion ExportFits exports.old.all → AllByRecursion ExportFits exports.new.all) }
+    ensures added { OnOk result (exports.new.all ≡ exports_among numbers.now.sections.keys
+        numbers.now.imports.keys exports.old.all (said.entry.now ∷ [])) }
+    ensures fits { OnOk result (AllByRecursion ExportFits exports.old.all →
+        AllByRecursion ExportFits exports.new.all) }
     ensures named { OnOk result (AreNamed exports.new) }
 {
     if let Said::Exported { name, line, form } = said {
@@ -123,8 +129,10 @@ fn add_exports<'a>(
     said: &'a [Said],
 ) -> Result<(), AllocError>
     requires { AreNamed exports.old }
-    ensures added { OnOk result (exports.new.all ≡ exports_among numbers.now.sections.keys numbers.now.imports.keys exports.old.all said.entry.now) }
-    ensures fits { OnOk result (AllByRecursion ExportFits exports.old.all → AllByRecursion ExportFits exports.new.all) }
+    ensures added { OnOk result (exports.new.all ≡ exports_among numbers.now.sections.keys
+        numbers.now.imports.keys exports.old.all said.entry.now) }
+    ensures fits { OnOk result (AllByRecursion ExportFits exports.old.all →
+        AllByRecursion ExportFits exports.new.all) }
     ensures named { OnOk result (AreNamed exports.new) }
 {
     for saying in said {

@@ -10,6 +10,8 @@ mod objects;
 #[cfg(test)]
 mod scripts;
 #[cfg(test)]
+mod sections;
+#[cfg(test)]
 mod sources;
 #[cfg(test)]
 mod syntax;

@@ -11,6 +11,7 @@ use arrayvec::ArrayVec;
 use object65::{
     Builder, Fragment, Object, ObjectFault, Record, read_object, read_record, write_object,
 };
+pub use records::object_bytes;
 use std::alloc::Global;
 use std::test::Fail;
 use syntax65::{MemStore, Store, StoreFault};

@@ -71,7 +71,7 @@ fn digit(byte: u8) -> Option<u8> {
 }
 
 /// The head of an object, and the bytes that are written here.
-fn object_bytes(alloc: Global, text: &str) -> Result<Vec<u8>, Fail> {
+pub fn object_bytes(alloc: Global, text: &str) -> Result<Vec<u8>, Fail> {
     let mut bytes = Vec::from_slice(alloc, &[0x52, 0x36, 0x35, 0x6f, 0x01])?;
     let mut high: Option<u8> = None;
     for byte in text.as_bytes() {

@@ -9,6 +9,7 @@ use Rattle.language65.specs.Laid.{Place}
 use Rattle.language65.specs.declared.fault.AsmFault.{AsmFault}
 use Rattle.language65.specs.Symbols.{Symbols}
 use Rattle.module65.specs.Lines.{PlacedFault}
+use Rattle.module65.specs.Holding.{awaited_in}
 use Rattle.module65.specs.Machine.{Finished, Slot, Waiting, awaited, before_it, filled, holds, resolved}
 use Rattle.module65.specs.Pieces.{Made, made_of}
 use Rattle.module65.proofs.Entries.{Entry, all_entries, entries_of}
@@ -83,11 +84,6 @@ resolved_length y (w ∷ ws) cs h = by (made_of y w.place w.spot w.piece) (resol
     by (Err f) s e more k = absurd cc
 
 -- ---- Slots that are filled.
-
-abbrev pub awaited_in : List Slot → ℕ
-awaited_in [] = 0
-awaited_in (holds c ∷ slots) = awaited_in slots
-awaited_in (awaited ∷ slots) = suc (awaited_in slots)
 
 pub filled_append : (olds news : List Slot) (cs ds : List Content) → awaited_in olds ≡ length cs → filled (olds ++ news) (cs ++ ds) ≡ filled olds cs ++ filled news ds
 filled_append [] news [] ds h = refl

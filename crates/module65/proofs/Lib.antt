@@ -4,6 +4,7 @@ pub mod Entries
 pub mod Finals
 pub mod Finishes
 pub mod Holding
+pub mod Holdings
 pub mod OneLayouts
 pub mod Passes
 pub mod Resolving

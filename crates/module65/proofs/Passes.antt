@@ -15,13 +15,14 @@ use Rattle.language65.specs.Numbering.{object_with}
 use Rattle.language65.specs.Symbols.{Symbols, symbols_of}
 use Rattle.module65.specs.Laws.{AreFoundAlike, LaidRuns, OnePass, RunsLaid, StandsFor}
 use Rattle.module65.specs.Laying.{IsLaid, unless_fault}
+use Rattle.module65.specs.Holding.{awaited_in}
 use Rattle.module65.specs.Machine.{Extends, Finished, Puts, at_once, later, PutsAll, Slot, awaited, holds, State, Steps, Takes, UnlessFault, Waiting, asked, awaiting, before_it, begun, concluded, entered, finished, known, symbols_behind}
 use Rattle.module65.specs.Lines.{PlacedFault}
 use Rattle.module65.specs.Module.{Outcome, asserted, contents_from, out_of, outcome_of, printed, warned, warning_of}
 use Rattle.module65.specs.Pieces.{Made, Piece, asking, made_of, pieces_of}
 use Rattle.module65.proofs.Contents.{all_append, all_made, made_of_pieces, piece_made, pieces_made}
 use Rattle.module65.proofs.Entries.{Entry, alike_by, all_entries, asked_by, entries_of, object_alike}
-use Rattle.module65.proofs.Finishes.{after, after_after, after_nothing, as_entries, awaited_in, come, come_append, nothing, placed, slots_filled}
+use Rattle.module65.proofs.Finishes.{after, after_after, after_nothing, as_entries, come, come_append, nothing, placed, slots_filled}
 use Rattle.module65.proofs.Resolving.{awaited_append}
 use Rattle.module65.proofs.Simulations.{Matches, Simulates, taken_matches}
 use Rattle.module65.proofs.Tables.{extends_behind, extends_same, extends_then, flat_push, symbols_push}

@@ -12,10 +12,11 @@ use Rattle.language65.specs.Contents.{decided, export_said, import_fault, operan
 use Rattle.language65.specs.Laid.{Place, Spot}
 use Rattle.language65.specs.Norms.{norm_of}
 use Rattle.language65.specs.Symbols.{Symbols, defined, named}
+use Rattle.module65.specs.Holding.{awaited_in}
 use Rattle.module65.specs.Machine.{Finished, Slot, Waiting, awaited, before_it, filled, holds, resolved}
 use Rattle.module65.specs.Module.{failed}
 use Rattle.module65.specs.Pieces.{Made, Piece, Purpose, absent_of, as_part, as_said, asserted, datum, demanded, equated, exported, given, imported, made_of, operand, telling, used, valued}
-use Rattle.module65.proofs.Finishes.{after, awaited_in, filled_append, resolved_append}
+use Rattle.module65.proofs.Finishes.{after, filled_append, resolved_append}
 
 -- ---- Slots.
 

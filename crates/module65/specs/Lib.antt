@@ -4,4 +4,5 @@ pub mod Laying
 pub mod Module
 pub mod Pieces
 pub mod Machine
+pub mod Holding
 pub mod Laws

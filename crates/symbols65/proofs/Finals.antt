@@ -1,6 +1,6 @@
 -- What stays whatever statements follow.
 use Rattle.std.proofs.Common.{◌≡◌, ℕ, zero, suc, ◌+◌, ◌-◌, ◌<◌, ◌≤◌, Bool, true, false, List, [], ◌∷◌, ◌++◌, length, take, position, is_some, Option, Some, None, option_map, slice_get, Result, Ok, Err, refl, sym, ap, ◌∙◌, subst, arith}
-use Rattle.std.specs.Prelude.{nat_le, if◌then◌else◌}
+use Rattle.std.specs.Prelude.{nat_le, IfOk, if◌then◌else◌}
 use Rattle.std.proofs.lemmas.Bool.Decides.{nat_tests}
 use Rattle.std.proofs.lemmas.List.{length-append, take-append-le}
 use Rattle.std.proofs.lemmas.Option.{slice_get_within}
@@ -20,10 +20,11 @@ use Rattle.symbols65.specs.declared.resolving.attempt.State.TheVariants.{Unknown
 use Rattle.symbols65.specs.declared.resolving.attempt.Stop.{Stop}
 use Rattle.symbols65.specs.declared.resolving.attempt.Stop.TheVariants.{Needs, Fault}
 use Rattle.symbols65.specs.declared.table.symbols.Symbols as code
-use Rattle.symbols65.specs.Finals.{Extends, IsFinalWithin}
+use Rattle.symbols65.specs.Finals.{Extends, IsFinalWithin, formed}
 use Rattle.symbols65.specs.Resolving.{attempt_definition, attempt_value, known_form, operand_form, plain_part, stopped, tried, tried_by, meaning_form}
 use Rattle.symbols65.specs.Settling.{MeansFinally, Operands}
 use Rattle.symbols65.specs.Sources.{known_by}
+use Rattle.symbols65.specs.Tables.{KeepsFinal}
 use Rattle.symbols65.specs.Views.{table_of}
 use Rattle.symbols65.proofs.NameParts.{name_is}
 use Rattle.symbols65.proofs.Places.{first_within, get_stays, position_stays}
@@ -137,3 +138,11 @@ pub within_final : (y : Symbols) (s : Spot) (e : Tree) (f : Form) → IsFinalWit
 within_final y s e f h z more =
     let long : length z.definitions ≡ length y.definitions + length more.later_definitions = ap length more.definitions ∙ length-append y.definitions more.later_definitions in
     ok_later (expression_course z s e) (expression_is z s e) (suc (length y.definitions)) (suc (length z.definitions)) f (omega (arith, long)) (h z more)
+
+-- a form that is final is kept with the definition
+pub keeps_value : (y : Symbols) (s : Spot) (e : Tree) (d : Definition) (o : Option Form) → d.spot ≡ s → d.value ≡ Some e → ((f : Form) → o ≡ Some f → IsFinalWithin (length y.definitions) y s e f) → KeepsFinal y (length y.definitions) d o
+keeps_value y s e d o a b h = λ f is z more. ap formed (ap (form_of_value (norm (suc (length y.definitions)) z) d.spot) b ∙ ap (λ q. norm (suc (length y.definitions)) z q e) a ∙ h f is z more)
+
+pub if_ok : {A E : Type 0} {P Q : A → Type 0} (r : Result A E) → ((x : A) → P x → Q x) → IfOk r P → IfOk r Q
+if_ok (Ok x) f h = f x h
+if_ok (Err e) f h = tt

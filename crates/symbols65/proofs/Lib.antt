@@ -4,6 +4,7 @@ pub mod GivenUp
 pub mod Growing
 pub mod Knowns
 pub mod Lasts
+pub mod Laws
 pub mod NameParts
 pub mod NameTables
 pub mod Places

@@ -3,6 +3,7 @@
 #![tactic(auto)]
 
 pub mod knowing;
+pub mod laws;
 mod resolving;
 mod table;
 

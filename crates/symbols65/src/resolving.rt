@@ -1,6 +1,7 @@
 //! What names mean, and what forms expressions have, by a symbol table.
 
 mod attempt;
+mod defining;
 mod finals;
 mod known;
 mod meaning;

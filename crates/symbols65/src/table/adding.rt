@@ -94,7 +94,7 @@ impl Symbols {
     }
 
     /// The entry of a key, whose name is put in where it is new.
-    fn enter(&mut self, alloc: Global, key: Key<'_>) -> Result<Entry, AllocError>
+    pub fn enter(&mut self, alloc: Global, key: Key<'_>) -> Result<Entry, AllocError>
         ensures table { table_of self.new ≡ table_of self.old }
         ensures definitions { self.new.definitions ≡ self.old.definitions }
         ensures entry { IfOk result (λ e. entry_of (words_of self.new) (key_of key.entry) ≡ Some e) }
@@ -114,7 +114,7 @@ impl Symbols {
     }
 
     /// Adds a definition behind all others, where its key has none.
-    fn put(&mut self, entry: Entry, definition: Definition) -> Result<(), AllocError>
+    pub fn put(&mut self, entry: Entry, definition: Definition) -> Result<(), AllocError>
         requires number { first_number (words_of self.old) (word_of entry) ≡ word_of entry }
         requires counted { IsCounted entry }
         requires form { KeepsFinal (table_of self.old) (length self.old.definitions.entries) (definition_in (words_of self.old) (entry, definition)) definition.form }

@@ -1,10 +1,10 @@
 pub mod Beginnings
 pub mod Finals
+pub mod Following
 pub mod GivenUp
 pub mod Growing
 pub mod Knowns
 pub mod Lasts
-pub mod Laws
 pub mod NameParts
 pub mod NameTables
 pub mod Places

@@ -1,4 +1,4 @@
-use Rattle.symbols65.proofs.Laws.{extends_behind}
+use Rattle.symbols65.proofs.Following.{extends_behind}
 use Rattle.symbols65.proofs.laws.tables_extend_those_before.Goals as goal
 
 pub returns : goal.returns

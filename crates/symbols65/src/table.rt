@@ -7,5 +7,5 @@ mod searching;
 mod symbols;
 
 pub use definition::Definition;
-pub use entries::{Entry, Key, Opening};
+pub use entries::{Entry, Key, Opening, Word};
 pub use symbols::Symbols;

@@ -1,18 +1,18 @@
 //! Looking things up in a symbol table, without taking memory.
 
-ghost use Rattle.std.specs.Prelude.{◌≡◌, ◌<◌, IfSome, length, map, position, slice_get};
+ghost use Rattle.std.specs.Prelude.{◌≡◌, ◌<◌, IfNone, IfSome, None, Some, length, map, position, slice_get};
 ghost use Rattle.std.specs.List.{list_any};
 ghost use Rattle.std.specs.Option.{option_map};
 ghost use Rattle.std.specs.Str.{bytes_eq};
 ghost use Rattle.indexmap.specs.IndexMap.{index_map_len, keys};
 ghost use Rattle.language65.specs.Names.{enclosing, scope_in, within};
 ghost use Rattle.language65.specs.Sizes.{is_zero_page_name};
-ghost use Rattle.language65.specs.Symbols.{defined, imported};
-ghost use Rattle.symbols65.specs.Tables.{KeepsFinal, definition_seen, entry_of, key_of, place_of_entry, place_of_opening, same_entry, same_opening};
+ghost use Rattle.language65.specs.Symbols.{defined, imported, named};
+ghost use Rattle.symbols65.specs.Tables.{IsWord, KeepsFinal, definition_seen, entry_of, key_of, place_of_entry, place_of_opening, same_entry, same_opening};
 ghost use Rattle.symbols65.specs.Views.{key_at, table_of, words_of};
 
 use super::definition::Definition;
-use super::entries::{Entry, Key, Opening};
+use super::entries::{Entry, Key, Opening, Word};
 use super::symbols::Symbols;
 
 impl Symbols {
@@ -21,6 +21,26 @@ impl Symbols {
         ensures { result ≡ position (bytes_eq name.now) (words_of self.now) }
     {
         self.words.get_index_of(name)
+    }
+
+    /// A name with its number, where the table has it.
+    pub fn find_word<'a>(&self, name: &'a [u8]) -> Option<Word<'a>>
+        ensures some { IfSome result (λ w. IsWord (words_of self.now) name.now w) }
+        ensures none { IfNone result (position (bytes_eq name.now) (words_of self.now) ≡ None) }
+    {
+        match self.word(name) {
+            Some(number) => Some(Word { name, number }),
+            None => None,
+        }
+    }
+
+    /// The place of the definition of a name that the table has, directly in a scope.
+    pub fn defined_word(&self, scope: usize, word: Word<'_>) -> Option<usize>
+        requires { position (bytes_eq word.name.now) (words_of self.now) ≡ Some word.number }
+        ensures { result ≡ defined (table_of self.now) (named scope word.entry.name.now) }
+    {
+        let word = word.number;
+        self.place_of(Entry::Named { scope, word })
     }
 
     fn entry(&self, key: Key<'_>) -> Option<Entry>

@@ -1,24 +1,22 @@
 -- What stays whatever statements follow.
-use Rattle.std.proofs.Common.{◌≡◌, ℕ, zero, suc, ◌+◌, ◌-◌, ◌<◌, ◌≤◌, Bool, true, false, List, [], ◌∷◌, ◌++◌, length, take, position, is_some, Option, Some, None, option_map, slice_get, Result, Ok, Err, refl, sym, ap, ◌∙◌, subst, arith}
+use Rattle.std.proofs.Common.{◌≡◌, ℕ, zero, suc, ◌+◌, ◌-◌, ◌≤◌, Bool, true, false, List, [], ◌∷◌, length, take, position, is_some, Option, Some, None, slice_get, Result, Ok, Err, refl, sym, ap, ◌∙◌, arith}
 use Rattle.std.specs.Prelude.{nat_le, IfOk, if◌then◌else◌}
 use Rattle.std.proofs.lemmas.Bool.Decides.{nat_tests}
 use Rattle.std.proofs.lemmas.List.{length-append, take-append-le}
-use Rattle.std.proofs.lemmas.Option.{slice_get_within}
 use Rattle.syntax65.specs.Outcome.{◌>>=◌}
-use Rattle.syntax65.specs.Trees.{Tree, number, here, name, cheap, forward, backward, unary, binary, tree_of}
+use Rattle.syntax65.specs.Trees.{Tree, number, here, name, cheap, forward, backward, unary, binary}
 use Rattle.object65.specs.Form.{Form}
 use Rattle.object65.specs.Folding.{fold1, fold2}
 use Rattle.language65.specs.declared.fault.AsmFault.{AsmFault}
 use Rattle.language65.specs.declared.fault.AsmFault.TheVariants.{NoSuchLabel, NoSuchScope, Undefined}
 use Rattle.language65.specs.Laid.{Spot}
-use Rattle.language65.specs.Names.{Meaning, defined_at, imported_as, backward_meaning, enclosing, first_found, last_of, meaning_of, member_meaning, or_else, or_fault, outward_from, plain_meaning, scope_from, scoped_meaning, scopes_from, scopes_of, shown, unnamed_meaning}
+use Rattle.language65.specs.Names.{Meaning, defined_at, enclosing, first_found, last_of, meaning_of, member_meaning, or_else, or_fault, outward_from, plain_meaning, scope_from, scoped_meaning, scopes_of, shown, unnamed_meaning}
 use Rattle.language65.specs.Norms.{address_of, folded, form_by, form_of_definition, form_of_meaning, form_of_value, norm, norm_of}
 use Rattle.language65.specs.Symbols.{Definition, Key, Symbols, cheap_in, defined, imported, named, same_key, unnamed_at}
 use Rattle.symbols65.specs.declared.resolving.attempt.Source.TheVariants.{Finals}
 use Rattle.symbols65.specs.declared.resolving.attempt.State.{State}
 use Rattle.symbols65.specs.declared.resolving.attempt.State.TheVariants.{Unknown, Waiting, Found}
 use Rattle.symbols65.specs.declared.resolving.attempt.Stop.{Stop}
-use Rattle.symbols65.specs.declared.resolving.attempt.Stop.TheVariants.{Needs, Fault}
 use Rattle.symbols65.specs.declared.table.symbols.Symbols as code
 use Rattle.symbols65.specs.Finals.{Extends, IsFinalWithin, formed}
 use Rattle.symbols65.specs.Resolving.{attempt_definition, attempt_value, known_form, operand_form, plain_part, stopped, tried, tried_by, meaning_form}

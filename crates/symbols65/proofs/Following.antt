@@ -1,13 +1,9 @@
 -- Symbol tables as statements follow.
-use Rattle.std.proofs.Common.{◌≡◌, ◌∙◌, ℕ, ◌≤◌, Bool, List, [], ◌∷◌, ◌++◌, refl, sym, ap, append-nil}
-use Rattle.std.specs.Prelude.{if◌then◌else◌, Ok}
+use Rattle.std.proofs.Common.{◌≡◌, ◌∙◌, ℕ, List, [], ◌∷◌, ◌++◌, refl, sym, ap, append-nil}
+use Rattle.std.specs.Prelude.{if◌then◌else◌}
 use Rattle.std.specs.List.{flat_map, list_any}
 use Rattle.std.specs.Str.{bytes_eq}
 use Rattle.std.proofs.lemmas.List.{append_assoc}
-use Rattle.syntax65.specs.Trees.{Tree}
-use Rattle.object65.specs.Form.{Form}
-use Rattle.language65.specs.Laid.{Laid, Spot}
-use Rattle.language65.specs.Norms.{norm}
 use Rattle.language65.specs.Symbols.{Symbols, definitions_of, imports_of, scope_opened, symbols_of, with_new, zero_page_names}
 use Rattle.symbols65.specs.Finals.{Extends}
 use Rattle.symbols65.specs.Laws.{ExtensionLaw, FinalLaw, GrowthLaw, TurnsLaw, table_behind}

@@ -6,7 +6,7 @@ ghost use Rattle.syntax65.specs.Trees.{tree_of};
 ghost use Rattle.language65.specs.Symbols.{defined, Definition as LanguageDefinition};
 ghost use Rattle.language65.specs.Views.{spot_of};
 ghost use Rattle.symbols65.specs.Tables.{KeepsFinal, key_of};
-ghost use Rattle.symbols65.specs.Views.{table_of, with_definition};
+ghost use Rattle.symbols65.specs.Views.{definition_as, table_of, with_definition};
 
 use super::finals::final_form;
 use crate::table::{Definition, Key, Symbols};
@@ -22,7 +22,9 @@ fn form_of(
     spot: Spot,
     value: &Option<Expr>,
 ) -> Result<Option<Norm>, AllocError>
-    ensures { IfOk result (λ o. (d : LanguageDefinition) → d.spot ≡ spot_of spot → d.value ≡ option_map tree_of value.now → KeepsFinal (table_of symbols.now) (length (table_of symbols.now).definitions) d o) }
+    ensures { IfOk result (λ o. (d : LanguageDefinition) → d.spot ≡ spot_of spot
+        → d.value ≡ option_map tree_of value.now
+        → KeepsFinal (table_of symbols.now) (length (table_of symbols.now).definitions) d o) }
 {
     match value {
         Some(value) => final_form(alloc, symbols, spot, value),
@@ -40,7 +42,9 @@ impl Symbols {
         spot: Spot,
         size: AddressSize,
     ) -> Result<(), AllocError>
-        ensures { OnOk result (defined (table_of self.old) (key_of key.entry) ≡ None → table_of self.new ≡ with_definition (table_of self.old) (record { key = key_of key.entry; value = option_map tree_of value; spot = spot_of spot; size = size })) }
+        ensures { OnOk result (defined (table_of self.old) (key_of key.entry) ≡ None
+            → table_of self.new
+            ≡ with_definition (table_of self.old) (definition_as (key_of key.entry) value spot size)) }
     {
         let form = form_of(alloc, self, spot, &value)?;
         let entry = self.enter(alloc, key)?;

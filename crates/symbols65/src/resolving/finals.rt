@@ -20,7 +20,8 @@ use syntax65::{Expr, Name};
 
 /// Whether a plain name means the same whatever follows: the very scope of the use defines it.
 fn is_own_name(symbols: &Symbols, spot: Spot, name: &[u8]) -> bool
-    ensures { result ≡ true → MeansFinally (table_of symbols.now) (spot_of spot) (name_tree false (name.now ∷ [])) }
+    ensures { result ≡ true
+        → MeansFinally (table_of symbols.now) (spot_of spot) (name_tree false (name.now ∷ [])) }
 {
     let scope = spot.scope as usize;
     symbols.defined(Key::Named { scope, name }).is_some()
@@ -28,7 +29,9 @@ fn is_own_name(symbols: &Symbols, spot: Spot, name: &[u8]) -> bool
 
 /// Whether a name with `::` means the same whatever follows: its scope was opened before the use and defines it.
 fn is_member(symbols: &Symbols, spot: Spot, name: &Name) -> bool
-    ensures { plain_part name.now.is_global name.now.parts ≡ None → result ≡ true → MeansFinally (table_of symbols.now) (spot_of spot) (name_tree name.now.is_global name.now.parts) }
+    ensures { plain_part name.now.is_global name.now.parts ≡ None → result ≡ true
+        → MeansFinally (table_of symbols.now) (spot_of spot)
+        (name_tree name.now.is_global name.now.parts) }
 {
     let parts = name.parts.as_slice();
     let opened = spot.opened as usize;
@@ -48,7 +51,8 @@ fn is_member(symbols: &Symbols, spot: Spot, name: &Name) -> bool
 
 /// Whether a cheap name means the same whatever follows: its region has defined it.
 fn is_own_label(symbols: &Symbols, spot: Spot, name: &[u8]) -> bool
-    ensures { result ≡ true → MeansFinally (table_of symbols.now) (spot_of spot) (cheap_tree name.now) }
+    ensures { result ≡ true
+        → MeansFinally (table_of symbols.now) (spot_of spot) (cheap_tree name.now) }
 {
     let region = spot.region as usize;
     symbols.defined(Key::Cheap { region, name }).is_some()
@@ -56,7 +60,8 @@ fn is_own_label(symbols: &Symbols, spot: Spot, name: &[u8]) -> bool
 
 /// Whether an unnamed label before a use is there.
 fn is_before(symbols: &Symbols, spot: Spot, steps: usize) -> bool
-    ensures { result ≡ true → MeansFinally (table_of symbols.now) (spot_of spot) (backward_tree steps) }
+    ensures { result ≡ true
+        → MeansFinally (table_of symbols.now) (spot_of spot) (backward_tree steps) }
 {
     match (spot.unnamed as usize).checked_sub(steps) {
         Some(count) => symbols.defined(Key::Unnamed(count)).is_some(),
@@ -66,7 +71,8 @@ fn is_before(symbols: &Symbols, spot: Spot, steps: usize) -> bool
 
 /// Whether each operand of an expression means the same whatever statements follow.
 fn are_final(symbols: &Symbols, spot: Spot, value: &Expr) -> bool
-    ensures { result ≡ true → Operands (MeansFinally (table_of symbols.now) (spot_of spot)) (tree_of value.now) }
+    ensures { result ≡ true
+        → Operands (MeansFinally (table_of symbols.now) (spot_of spot)) (tree_of value.now) }
 {
     match value {
         Expr::Number(_) | Expr::Here => true,
@@ -92,8 +98,13 @@ pub fn final_form(
     spot: Spot,
     value: &Expr,
 ) -> Result<Option<Norm>, AllocError>
-    ensures stays { IfOk result (λ o. (f : Form) → o ≡ Some f → IsFinal (table_of symbols.now) (spot_of spot) (tree_of value.now) f) }
-    ensures within { IfOk result (λ o. (f : Form) → o ≡ Some f → IsFinalWithin (length (table_of symbols.now).definitions) (table_of symbols.now) (spot_of spot) (tree_of value.now) f) }
+    ensures stays { IfOk result
+        (λ o. (f : Form) → o ≡ Some f
+        → IsFinal (table_of symbols.now) (spot_of spot) (tree_of value.now) f) }
+    ensures within { IfOk result
+        (λ o. (f : Form) → o ≡ Some f
+        → IsFinalWithin (length (table_of symbols.now).definitions) (table_of symbols.now)
+        (spot_of spot) (tree_of value.now) f) }
 {
     if !are_final(symbols, spot, value) {
         return Ok(None);

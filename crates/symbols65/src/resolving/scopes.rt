@@ -14,7 +14,8 @@ const GLOBAL: usize = 0;
 
 /// The place of what a name means that is defined: in the innermost scope that defines it, from one outward.
 pub fn defined_outward(symbols: &Symbols, scope: usize, name: &[u8]) -> Option<usize>
-    ensures { result ≡ first_found (λ s. defined (table_of symbols.now) (named s name.now)) (scopes_from (table_of symbols.now).scopes scope) }
+    ensures { result ≡ first_found (λ s. defined (table_of symbols.now) (named s name.now))
+        (scopes_from (table_of symbols.now).scopes scope) }
 {
     // A name that is nowhere a word is defined nowhere.
     match symbols.find_word(name) {
@@ -26,7 +27,9 @@ pub fn defined_outward(symbols: &Symbols, scope: usize, name: &[u8]) -> Option<u
 /// The same of a name that the table has.
 fn word_outward(symbols: &Symbols, scope: usize, word: Word<'_>) -> Option<usize>
     requires { position (bytes_eq word.name.now) (words_of symbols.now) ≡ Some word.number }
-    ensures { result ≡ first_found (λ s. defined (table_of symbols.now) (named s word.entry.name.now)) (scopes_from (table_of symbols.now).scopes scope) }
+    ensures { result ≡ first_found
+        (λ s. defined (table_of symbols.now) (named s word.entry.name.now))
+        (scopes_from (table_of symbols.now).scopes scope) }
 {
     let mut scope = scope;
     // A scope stands in scopes that were opened before it, so there are no more of them than its number.
@@ -69,7 +72,9 @@ fn enclosing(symbols: &Symbols, opened: usize, scope: usize) -> usize
 
 /// The innermost scope of a name among those that were opened first, from a scope outward.
 fn scope_outward(symbols: &Symbols, opened: usize, scope: usize, name: &[u8]) -> Option<usize>
-    ensures { result ≡ first_found (λ s. scope_in (take opened (table_of symbols.now).scopes) s name.now) (scopes_from (take opened (table_of symbols.now).scopes) scope) }
+    ensures { result ≡ first_found
+        (λ s. scope_in (take opened (table_of symbols.now).scopes) s name.now)
+        (scopes_from (take opened (table_of symbols.now).scopes) scope) }
 {
     let mut scope = scope;
     let mut left = scope;
@@ -112,7 +117,8 @@ pub fn scope_of(
     is_global: bool,
     names: &[Sequence<u8>],
 ) -> Option<usize>
-    ensures { result ≡ scope_from (take opened (table_of symbols.now).scopes) scope is_global names.now }
+    ensures { result ≡ scope_from
+        (take opened (table_of symbols.now).scopes) scope is_global names.now }
 {
     if is_global {
         return inner_scope(symbols, opened, GLOBAL, names);

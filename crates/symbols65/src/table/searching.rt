@@ -125,9 +125,13 @@ impl Symbols {
 
     /// The definition at a place.
     pub fn definition(&self, place: usize) -> Option<&Definition>
-        ensures definition { slice_get (table_of self.now).definitions place ≡ option_map (λ d. definition_seen (key_at self.now place) d.now) result }
-        ensures entry { option_map (λ d. d.now) result ≡ option_map (λ e. e.1) (slice_get self.now.definitions.entries place) }
-        ensures forms { IfSome result (λ d. KeepsFinal (table_of self.now) place (definition_seen (key_at self.now place) d.now) d.now.form) }
+        ensures definition { slice_get (table_of self.now).definitions place
+            ≡ option_map (λ d. definition_seen (key_at self.now place) d.now) result }
+        ensures entry { option_map (λ d. d.now) result
+            ≡ option_map (λ e. e.1) (slice_get self.now.definitions.entries place) }
+        ensures forms { IfSome result
+            (λ d. KeepsFinal (table_of self.now) place
+            (definition_seen (key_at self.now place) d.now) d.now.form) }
     {
         match self.definitions.get_index(place) {
             Some((_, definition)) => Some(definition),

@@ -1,4 +1,4 @@
-use Rattle.std.proofs.Common.{Option, option_map, ap, ◌∙◌}
+use Rattle.std.proofs.Common.{option_map, ap, ◌∙◌}
 use Rattle.syntax65.specs.Trees.{tree_of}
 use Rattle.language65.specs.Views.{spot_of}
 use Rattle.symbols65.specs.Views.{table_of}

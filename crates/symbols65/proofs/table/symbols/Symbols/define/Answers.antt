@@ -1,4 +1,4 @@
-use Rattle.std.proofs.Common.{◌≡◌, ℕ, length, None, option_map, sym, ap, subst, ◌∙◌, refl}
+use Rattle.std.proofs.Common.{ℕ, length, option_map, sym, ap, subst, ◌∙◌, refl}
 use Rattle.syntax65.specs.Trees.{tree_of}
 use Rattle.language65.specs.Symbols.{Symbols, defined}
 use Rattle.language65.specs.Views.{spot_of}

@@ -3,6 +3,7 @@
 mod adding;
 mod definition;
 mod entries;
+mod imports;
 mod searching;
 mod symbols;
 

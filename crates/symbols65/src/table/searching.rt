@@ -5,6 +5,7 @@ ghost use Rattle.std.specs.List.{list_any};
 ghost use Rattle.std.specs.Option.{option_map};
 ghost use Rattle.std.specs.Str.{bytes_eq};
 ghost use Rattle.indexmap.specs.IndexMap.{index_map_len, keys};
+ghost use Rattle.language65.specs.LineFaults.{opened_as};
 ghost use Rattle.language65.specs.Names.{enclosing, scope_in, within};
 ghost use Rattle.language65.specs.Sizes.{is_zero_page_name};
 ghost use Rattle.language65.specs.Symbols.{defined, imported, named};
@@ -109,6 +110,25 @@ impl Symbols {
         match scope.checked_sub(1) {
             Some(place) => self.within(place),
             None => 0,
+        }
+    }
+
+    /// Whether a scope was opened by `.proc`, where it is one that was opened.
+    pub fn is_proc(&self, scope: usize) -> Option<bool>
+        ensures { result ≡ option_map (λ c. c.is_proc) (opened_as (table_of self.now).scopes scope) }
+    {
+        match scope.checked_sub(1) {
+            Some(place) => self.kind_at(place),
+            None => None,
+        }
+    }
+
+    fn kind_at(&self, place: usize) -> Option<bool>
+        ensures { result ≡ option_map (λ c. c.is_proc) (slice_get (table_of self.now).scopes place) }
+    {
+        match self.scopes.get_index(place) {
+            Some((_, is_proc)) => Some(*is_proc),
+            None => None,
         }
     }
 

@@ -1,4 +1,6 @@
 pub mod Beginnings
+pub mod Finals
+pub mod Following
 pub mod GivenUp
 pub mod Growing
 pub mod Knowns

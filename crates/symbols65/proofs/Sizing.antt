@@ -1,11 +1,11 @@
 -- The sizes of expressions that are constant.
-use Rattle.std.proofs.Common.{◌≡◌, ℤ, pos, List, length, Some, ap}
+use Rattle.std.proofs.Common.{◌≡◌, ℤ, pos, Some, ap}
 use Rattle.std.specs.Prelude.{if◌then◌else◌}
 use Rattle.syntax65.specs.Trees.{Tree, number, here, name, cheap, forward, backward, unary, binary}
 use Rattle.syntax65.specs.declared.lexing.tokens.AddressSize.{AddressSize}
 use Rattle.syntax65.specs.declared.lexing.tokens.AddressSize.TheVariants as size
 use Rattle.language65.specs.Laid.{Spot}
-use Rattle.language65.specs.Symbols.{Symbols, Definition}
+use Rattle.language65.specs.Symbols.{Symbols}
 use Rattle.language65.specs.Names.{meaning_of}
 use Rattle.language65.specs.Norms.{constant_in}
 use Rattle.language65.specs.Sizes.{larger, size_by, size_of, size_of_meaning, size_of_value, takes_byte}

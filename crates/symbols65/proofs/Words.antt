@@ -1,14 +1,13 @@
 -- Names by their numbers, and what is found by them.
-use Rattle.std.proofs.Common.{◌≡◌, ℕ, zero, suc, ◌+◌, ◌<◌, ◌≤◌, ◌^◌, Bool, true, false, List, [], ◌∷◌, ◌++◌, length, map, get_or, position, Option, Some, None, option_map, ◌⊎◌, inl, inr, refl, sym, ap, ◌∙◌, subst, arith}
+use Rattle.std.proofs.Common.{◌≡◌, ℕ, zero, suc, ◌≤◌, ◌^◌, Bool, true, false, List, [], ◌∷◌, map, position, Option, Some, None, option_map, refl, sym, ap, ◌∙◌, arith}
 use Rattle.std.specs.Prelude.{slice_get, ◌==◌, ◌&&◌, ◌||◌}
 use Rattle.std.specs.List.{list_any}
 use Rattle.std.specs.Map.{keys_of}
 use Rattle.std.specs.Str.{bytes_eq}
 use Rattle.std.proofs.lemmas.Bool.Decides.{nat_tests}
 use Rattle.std.proofs.lemmas.Slice.Eq.{bytes_eq-Decides}
-use Rattle.language65.specs.Symbols as l
 use Rattle.language65.specs.Symbols.{Key, Scope, named, cheap_in, unnamed_at, same_key}
-use Rattle.language65.specs.Names.{is_named}
+use Rattle.language65.specs.Names.{first_found, is_named, or_else}
 use Rattle.language65.proofs.Lists.{bytes_swap, position_mapped, same_bytes}
 use Rattle.symbols65.specs.declared.table.entries.Entry.{Entry}
 use Rattle.symbols65.specs.declared.table.entries.Entry.TheVariants as entry
@@ -108,6 +107,11 @@ module _ (ws : List (List ℕ)) where
       by : (o : Option Entry) → entry_of ws q ≡ o → place_of_entry es o ≡ position (λ e. same_key (key_in ws e.0) q) es
       by None is = sym (position_none (λ e. same_key (key_in ws e.0) q) es (λ i e at. sym (entry_test q e.0 (h i e.0 (keys_get es i e at))) ∙ ap (λ o. tests o e.0) is))
       by (Some k) is = keys_position (same_entry k) es ∙ position_same (λ e. same_entry k e.0) (λ e. same_key (key_in ws e.0) q) es (λ i e at. sym (ap (λ o. tests o e.0) is) ∙ entry_test q e.0 (h i e.0 (keys_get es i e at)))
+
+  -- a name that is no word is defined nowhere
+  pub no_word : (es : List (Entry × Definition)) (n : List ℕ) → AreNumbered word_of ws (keys_of es) → position (bytes_eq n) ws ≡ None → (ss : List ℕ) → first_found (λ s. position (λ d. same_key d.key (named s n)) (map (definition_in ws) es)) ss ≡ None
+  no_word es n h none [] = refl
+  no_word es n h none (s ∷ ss) = ap (λ o. or_else o (first_found (λ q. position (λ d. same_key d.key (named q n)) (map (definition_in ws) es)) ss)) (sym (finds es (named s n) h) ∙ ap (λ o. place_of_entry es (option_map (entry.Named s) o)) none) ∙ no_word es n h none ss
 
   -- no unnamed label has a count that is no machine's number
   pub never_counted : (es : List (Entry × Definition)) (count : ℕ) → AreNumbered word_of ws (keys_of es) → AreCounted (keys_of es) → 2 ^ 64 ≤ count → position (λ d. same_key d.key (unnamed_at count)) (map (definition_in ws) es) ≡ None

@@ -1,5 +1,6 @@
 pub mod Finals
 pub mod Knowns
+pub mod Laws
 pub mod Resolving
 pub mod Settling
 pub mod Sources

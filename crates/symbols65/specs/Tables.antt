@@ -14,6 +14,7 @@ use Rattle.symbols65.specs.declared.table.entries.Entry.{Entry}
 use Rattle.symbols65.specs.declared.table.entries.Entry.TheVariants as entry
 use Rattle.symbols65.specs.declared.table.entries.Opening.{Opening}
 use Rattle.symbols65.specs.declared.table.entries.Opening.TheVariants as opening
+use Rattle.symbols65.specs.declared.table.entries.Word.{Word}
 use Rattle.symbols65.specs.declared.table.definition.Definition.{Definition}
 use Rattle.symbols65.specs.Finals.{DefinesFinally}
 
@@ -48,6 +49,10 @@ AreNumbered {K} word ws ks = (i : ℕ) (k : K) → slice_get ks i ≡ Some k →
 -- a scope without a name has its place as its number
 abbrev pub AreDistinct : List Opening → Type 0
 AreDistinct ks = (i within number : ℕ) → slice_get ks i ≡ Some (opening.Nameless within number) → number ≡ i
+
+-- a word of this name, with its number
+abbrev pub IsWord : List (List ℕ) → List ℕ → Word → Type 0
+IsWord ws n w = (w.name.now ≡ n) × (position (bytes_eq w.name.now) ws ≡ Some w.number)
 
 -- the count of an unnamed label is a machine's number
 abbrev pub IsCounted : Entry → Type 0

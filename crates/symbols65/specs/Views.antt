@@ -1,5 +1,10 @@
 -- The language's symbol table for which one in memory stands.
-use Rattle.std.specs.Prelude.{ℕ, List, [], ◌∷◌, ◌++◌, map, slice_get, Bool, Option, Some, None, if◌then◌else◌}
+use Rattle.std.specs.Prelude.{ℕ, List, [], ◌∷◌, ◌++◌, map, slice_get, Bool, Option, Some, None, option_map, if◌then◌else◌}
+use Rattle.syntax65.specs.Trees.{tree_of}
+use Rattle.syntax65.specs.declared.expressions.trees.Expr.{Expr}
+use Rattle.syntax65.specs.declared.lexing.tokens.AddressSize.{AddressSize}
+use Rattle.language65.specs.declared.laid.Spot as code_spot
+use Rattle.language65.specs.Views.{spot_of}
 use Rattle.language65.specs.Symbols as l
 use Rattle.language65.specs.Symbols.{Definition, Scope, unnamed_at, with_new}
 use Rattle.symbols65.specs.Tables.{definition_in, key_in, scope_opened}
@@ -32,6 +37,12 @@ key_at t place = by (slice_get t.definitions.entries place)
     by None = unnamed_at 0
 
 -- ---- What a statement adds.
+
+abbrev pub definition_as : l.Key → Option Expr → code_spot.Spot → AddressSize → Definition
+definition_as k value s own = record { key = k; value = option_map tree_of value; spot = spot_of s; size = own }
+
+abbrev pub scope_as : ℕ → Option (List ℕ) → Bool → Scope
+scope_as within name is_proc = record { within = within; name = name; is_proc = is_proc }
 
 abbrev pub with_definition : l.Symbols → Definition → l.Symbols
 with_definition y d = record { definitions = y.definitions ++ d ∷ []; scopes = y.scopes; imports = y.imports; zero_page = y.zero_page }

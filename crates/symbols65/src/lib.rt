@@ -3,8 +3,11 @@
 #![tactic(auto)]
 
 pub mod knowing;
+pub mod laws;
 mod resolving;
 mod table;
 
-pub use resolving::{Known, Meaning, State, defined_norm, meaning_of, norm, scope_of, shown};
+pub use resolving::{
+    Known, Meaning, State, defined_norm, final_form, meaning_of, norm, scope_of, shown,
+};
 pub use table::{Definition, Entry, Key, Opening, Symbols};

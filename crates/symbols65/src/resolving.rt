@@ -1,6 +1,8 @@
 //! What names mean, and what forms expressions have, by a symbol table.
 
 mod attempt;
+mod defining;
+mod finals;
 mod known;
 mod meaning;
 mod scopes;
@@ -8,6 +10,7 @@ mod settling;
 mod showing;
 
 pub use attempt::State;
+pub use finals::final_form;
 pub use known::Known;
 pub use meaning::{Meaning, meaning_of};
 pub use scopes::scope_of;

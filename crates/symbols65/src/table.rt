@@ -3,9 +3,10 @@
 mod adding;
 mod definition;
 mod entries;
+mod imports;
 mod searching;
 mod symbols;
 
 pub use definition::Definition;
-pub use entries::{Entry, Key, Opening};
+pub use entries::{Entry, Key, Opening, Word};
 pub use symbols::Symbols;

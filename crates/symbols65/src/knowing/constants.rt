@@ -33,7 +33,8 @@ pub fn constant(
     value: &Expr,
 ) -> Result<Option<i64>, AllocError>
     requires { IsTable (table_of symbols.now) known.old.states.items }
-    ensures value { IfOk result (λ v. v ≡ constant_in (table_of symbols.now) (spot_of spot) (tree_of value.now)) }
+    ensures value { IfOk result
+        (λ v. v ≡ constant_in (table_of symbols.now) (spot_of spot) (tree_of value.now)) }
     ensures table { OnOk result (IsTable (table_of symbols.now) known.new.states.items) }
 {
     match norm(alloc, symbols, known, spot, value) {

@@ -84,7 +84,9 @@ pub fn mode(
     operand: &Operand,
 ) -> Result<Option<Mode>, AllocError>
     requires { IsTable (table_of symbols.now) known.old.states.items }
-    ensures mode { IfOk result (λ m. m ≡ mode_of (table_of symbols.now) (spot_of spot) own mnemonic (operand_of operand.now)) }
+    ensures mode { IfOk result
+        (λ m. m ≡ mode_of (table_of symbols.now) (spot_of spot) own mnemonic
+        (operand_of operand.now)) }
     ensures table { OnOk result (IsTable (table_of symbols.now) known.new.states.items) }
 {
     match operand {

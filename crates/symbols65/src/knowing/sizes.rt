@@ -60,7 +60,8 @@ fn size_at(symbols: &Symbols, place: usize) -> AddressSize
 
 /// The size of an import, by its place among the imports.
 fn size_of_import(symbols: &Symbols, key: usize) -> AddressSize
-    ensures { result ≡ size_of_import (table_of symbols.now) (slice_get (table_of symbols.now).imports key) }
+    ensures { result ≡ size_of_import (table_of symbols.now)
+        (slice_get (table_of symbols.now).imports key) }
 {
     match symbols.import_at(key) {
         Some(name) if symbols.is_zero_page(name) => AddressSize::ZeroPage,
@@ -84,7 +85,9 @@ fn size_of_operand(
     spot: Spot,
     operand: &Expr,
 ) -> Result<AddressSize, AllocError>
-    ensures { IfOk result (λ s. s ≡ size_of_meaning (table_of symbols.now) (meaning_of (table_of symbols.now) (spot_of spot) (tree_of operand.now))) }
+    ensures { IfOk result
+        (λ s. s ≡ size_of_meaning (table_of symbols.now)
+        (meaning_of (table_of symbols.now) (spot_of spot) (tree_of operand.now))) }
 {
     match meaning_of(alloc, symbols, spot, operand) {
         Ok(meaning) => Ok(size_of_meaning(symbols, meaning)),
@@ -108,7 +111,8 @@ pub fn size(
     value: &Expr,
 ) -> Result<AddressSize, AllocError>
     requires { IsTable (table_of symbols.now) known.old.states.items }
-    ensures size { IfOk result (λ s. s ≡ size_of (table_of symbols.now) (spot_of spot) own (tree_of value.now)) }
+    ensures size { IfOk result
+        (λ s. s ≡ size_of (table_of symbols.now) (spot_of spot) own (tree_of value.now)) }
     ensures table { OnOk result (IsTable (table_of symbols.now) known.new.states.items) }
 {
     if let Some(value) = constant(alloc, symbols, known, spot, value)? {

@@ -115,13 +115,10 @@ fn kept_form(alloc: Global, place: usize, kept: &Option<Norm>) -> Result<Norm, S
 }
 
 /// The form of what is defined at a place.
-fn defined(
-    alloc: Global,
-    symbols: &Symbols,
-    source: Source<'_>,
-    place: usize,
-) -> Result<Norm, Stop>
-    ensures { Gives lacks_memory (λ f. f) result (attempt_definition (λ s e. known_form place (known_by symbols.now source.entry place)) (slice_get (table_of symbols.now).definitions place)) }
+fn defined(alloc: Global, symbols: &Symbols, source: Source<'_>, place: usize) -> Result<Norm, Stop>
+    ensures { Gives lacks_memory (λ f. f) result
+        (attempt_definition (λ s e. known_form place (known_by symbols.now source.entry place))
+        (slice_get (table_of symbols.now).definitions place)) }
 {
     match symbols.definition(place) {
         None => Err(Stop::Fault(AsmFault::NoSuchLabel)),
@@ -142,7 +139,9 @@ fn meant(
     source: Source<'_>,
     meaning: Meaning,
 ) -> Result<Norm, Stop>
-    ensures { Gives lacks_memory (λ f. f) result (meaning_form (known_by symbols.now source.entry) (table_of symbols.now) (meaning_in meaning)) }
+    ensures { Gives lacks_memory (λ f. f) result
+        (meaning_form (known_by symbols.now source.entry) (table_of symbols.now)
+        (meaning_in meaning)) }
 {
     match meaning {
         Meaning::Defined(place) => defined(alloc, symbols, source, place),
@@ -162,7 +161,9 @@ fn operand_norm(
     spot: Spot,
     operand: &Expr,
 ) -> Result<Norm, Stop>
-    ensures { Gives lacks_memory (λ f. f) result (operand_form (known_by symbols.now source.entry) (table_of symbols.now) (spot_of spot) (tree_of operand.now)) }
+    ensures { Gives lacks_memory (λ f. f) result
+        (operand_form (known_by symbols.now source.entry) (table_of symbols.now) (spot_of spot)
+        (tree_of operand.now)) }
 {
     let meaning = meaning_of(alloc, symbols, spot, operand)?;
     meant(alloc, symbols, source, meaning)
@@ -176,7 +177,9 @@ pub fn try_norm(
     spot: Spot,
     value: &Expr,
 ) -> Result<Norm, Stop>
-    ensures { Gives lacks_memory (λ f. f) result (tried (known_by symbols.now source.entry) (table_of symbols.now) (spot_of spot) (tree_of value.now)) }
+    ensures { Gives lacks_memory (λ f. f) result
+        (tried (known_by symbols.now source.entry) (table_of symbols.now) (spot_of spot)
+        (tree_of value.now)) }
 {
     match value {
         Expr::Number(number) => Ok(Norm::new(Node::Lit(i64::from(*number)))),
@@ -197,13 +200,9 @@ pub fn try_norm(
 }
 
 /// The form of what is defined at a place, by its own expression.
-fn try_at(
-    alloc: Global,
-    symbols: &Symbols,
-    source: Source<'_>,
-    place: usize,
-) -> Result<Norm, Stop>
-    ensures { Gives lacks_memory (λ f. f) result (tried_at (known_by symbols.now source.entry) (table_of symbols.now) place) }
+fn try_at(alloc: Global, symbols: &Symbols, source: Source<'_>, place: usize) -> Result<Norm, Stop>
+    ensures { Gives lacks_memory (λ f. f) result
+        (tried_at (known_by symbols.now source.entry) (table_of symbols.now) place) }
 {
     match symbols.definition(place) {
         None => Err(Stop::Fault(AsmFault::NoSuchLabel)),
@@ -223,7 +222,10 @@ pub fn try_last(
     value: &Expr,
     waiting: &[usize],
 ) -> Result<Norm, Stop>
-    ensures { Gives lacks_memory (λ f. f) result (tried_last (slice_get states.now) (table_of symbols.now) (tried (slice_get states.now) (table_of symbols.now) (spot_of spot) (tree_of value.now)) waiting.now) }
+    ensures { Gives lacks_memory (λ f. f) result
+        (tried_last (slice_get states.now) (table_of symbols.now)
+        (tried (slice_get states.now) (table_of symbols.now) (spot_of spot) (tree_of value.now))
+        waiting.now) }
 {
     let source = Source::Table(states);
     match waiting.last() {

@@ -40,7 +40,9 @@ impl Known {
     /// The table for one more definition, of which nothing is known. What is known of the others is forgotten.
     pub fn grow(&mut self) -> Result<(), AllocError>
         requires { (j : ℕ) → slice_get self.old.states.items j ≡ Some Waiting → ⊥ }
-        ensures { OnOk result ((y : Table) → length y.definitions ≡ length self.old.states.items + 1 → IsTable y self.new.states.items) }
+        ensures { OnOk result
+            ((y : Table) → length y.definitions ≡ length self.old.states.items + 1
+            → IsTable y self.new.states.items) }
     {
         self.states.push(State::Unknown)?;
         self.forget();
@@ -51,7 +53,8 @@ impl Known {
     pub fn forget(&mut self)
         requires { (j : ℕ) → slice_get self.old.states.items j ≡ Some Waiting → ⊥ }
         ensures long { length self.new.states.items ≡ length self.old.states.items }
-        ensures table { (y : Table) → length self.old.states.items ≡ length y.definitions → IsTable y self.new.states.items }
+        ensures table { (y : Table) → length self.old.states.items ≡ length y.definitions
+            → IsTable y self.new.states.items }
     {
         forget_noted(&mut self.states, &mut self.noted);
     }
@@ -67,7 +70,8 @@ impl Known {
     /// The form of the constant at a place is found.
     fn settle(&mut self, place: usize, form: Norm) -> Result<(), AllocError>
         requires { place < length self.old.states.items }
-        ensures { OnOk result (self.new.states.items ≡ slice_set self.old.states.items place (Found form)) }
+        ensures { OnOk result
+            (self.new.states.items ≡ slice_set self.old.states.items place (Found form)) }
     {
         self.noted.push(place)?;
         self.states[place] = State::Found(form);
@@ -91,8 +95,10 @@ impl Known {
         value: &Expr,
     ) -> Result<Norm, AsmFault>
         requires table { IsTable (table_of symbols.now) self.old.states.items }
-        ensures form { Gives is_memory (λ f. f) result (norm_of (table_of symbols.now) (spot_of spot) (tree_of value.now)) }
-        ensures table { Finds is_memory (λ _. IsTable (table_of symbols.now) self.new.states.items) result }
+        ensures form { Gives is_memory (λ f. f) result
+            (norm_of (table_of symbols.now) (spot_of spot) (tree_of value.now)) }
+        ensures table { Finds is_memory
+            (λ _. IsTable (table_of symbols.now) self.new.states.items) result }
     {
         let mut waiting: Vec<usize> = Vec::new(alloc);
         'find: loop {

@@ -31,7 +31,9 @@ pub enum Meaning {
 
 /// What is defined at a place, or imported by a name where nothing is.
 fn defined_or_imported(symbols: &Symbols, defined: Option<usize>, name: &[u8]) -> Option<Meaning>
-    ensures { (fault : AsmFault) → or_fault fault defined (imported (table_of symbols.now) name.now) ≡ or_absent fault result }
+    ensures { (fault : AsmFault)
+        → or_fault fault defined (imported (table_of symbols.now) name.now)
+        ≡ or_absent fault result }
 {
     if let Some(place) = defined {
         return Some(Meaning::Defined(place));
@@ -44,7 +46,9 @@ fn defined_or_imported(symbols: &Symbols, defined: Option<usize>, name: &[u8]) -
 
 /// What a name means in one scope.
 fn member(symbols: &Symbols, scope: usize, name: &[u8]) -> Option<Meaning>
-    ensures { (absent lost : AsmFault) → member_meaning (table_of symbols.now) name.now absent lost (Some scope) ≡ or_absent absent result }
+    ensures { (absent lost : AsmFault)
+        → member_meaning (table_of symbols.now) name.now absent lost (Some scope)
+        ≡ or_absent absent result }
 {
     let defined = symbols.defined(Key::Named { scope, name });
     if scope == 0 {
@@ -86,7 +90,8 @@ fn plain_meaning(
     scope: usize,
     name: &[u8],
 ) -> Result<Meaning, AsmFault>
-    ensures { Gives is_memory meaning_in result (plain_meaning (table_of symbols.now) scope name.now) }
+    ensures { Gives is_memory meaning_in result
+        (plain_meaning (table_of symbols.now) scope name.now) }
 {
     let defined = defined_outward(symbols, scope, name);
     named(alloc, defined_or_imported(symbols, defined, name), name)
@@ -99,7 +104,8 @@ fn scoped_meaning(
     spot: Spot,
     name: &Name,
 ) -> Result<Meaning, AsmFault>
-    ensures { Gives is_memory meaning_in result (scoped_meaning (table_of symbols.now) (spot_of spot) name.now.is_global name.now.parts) }
+    ensures { Gives is_memory meaning_in result
+        (scoped_meaning (table_of symbols.now) (spot_of spot) name.now.is_global name.now.parts) }
 {
     let parts = name.parts.as_slice();
     let opened = spot.opened as usize;
@@ -154,7 +160,8 @@ fn name_meaning(
     spot: Spot,
     name: &Name,
 ) -> Result<Meaning, AsmFault>
-    ensures { Gives is_memory meaning_in result (name_meaning (table_of symbols.now) (spot_of spot) name.now.is_global name.now.parts) }
+    ensures { Gives is_memory meaning_in result
+        (name_meaning (table_of symbols.now) (spot_of spot) name.now.is_global name.now.parts) }
 {
     match plain_part(name) {
         Some(part) => plain_meaning(alloc, symbols, spot.scope as usize, part),
@@ -169,7 +176,8 @@ fn cheap_meaning(
     region: usize,
     name: &[u8],
 ) -> Result<Meaning, AsmFault>
-    ensures { Gives is_memory meaning_in result (cheap_meaning (table_of symbols.now) region name.now) }
+    ensures { Gives is_memory meaning_in result
+        (cheap_meaning (table_of symbols.now) region name.now) }
 {
     match symbols.defined(Key::Cheap { region, name }) {
         Some(place) => Ok(Meaning::Defined(place)),
@@ -201,7 +209,8 @@ fn count_behind(before: u32, steps: usize) -> Option<usize>
 
 /// An unnamed label behind a use before which so many stand.
 fn label_behind(symbols: &Symbols, before: u32, steps: usize) -> Option<Meaning>
-    ensures { unnamed_meaning (table_of symbols.now) (before + steps - 1) ≡ or_absent NoSuchLabel result }
+    ensures { unnamed_meaning (table_of symbols.now) (before + steps - 1)
+        ≡ or_absent NoSuchLabel result }
 {
     match count_behind(before, steps) {
         Some(count) => unnamed_label(symbols, count),
@@ -226,7 +235,8 @@ pub fn meaning_of(
     spot: Spot,
     operand: &Expr,
 ) -> Result<Meaning, AsmFault>
-    ensures { Gives is_memory meaning_in result (meaning_of (table_of symbols.now) (spot_of spot) (tree_of operand.now)) }
+    ensures { Gives is_memory meaning_in result
+        (meaning_of (table_of symbols.now) (spot_of spot) (tree_of operand.now)) }
 {
     match operand {
         Expr::Name(name) => name_meaning(alloc, symbols, spot, name),

@@ -1,11 +1,12 @@
 //! Scopes, and what is found in them.
 
-ghost use Rattle.std.specs.Prelude.{◌≡◌, Some, take};
+ghost use Rattle.std.specs.Prelude.{◌≡◌, Some, position, take};
+ghost use Rattle.std.specs.Str.{bytes_eq};
 ghost use Rattle.language65.specs.Names.{enclosing, first_found, inside, scope_from, scope_in, scopes_from};
 ghost use Rattle.language65.specs.Symbols.{defined, named};
-ghost use Rattle.symbols65.specs.Views.{table_of};
+ghost use Rattle.symbols65.specs.Views.{table_of, words_of};
 
-use crate::table::{Key, Symbols};
+use crate::table::{Symbols, Word};
 use syntax65::Sequence;
 
 /// The number of the global scope.
@@ -13,13 +14,28 @@ const GLOBAL: usize = 0;
 
 /// The place of what a name means that is defined: in the innermost scope that defines it, from one outward.
 pub fn defined_outward(symbols: &Symbols, scope: usize, name: &[u8]) -> Option<usize>
-    ensures { result ≡ first_found (λ s. defined (table_of symbols.now) (named s name.now)) (scopes_from (table_of symbols.now).scopes scope) }
+    ensures { result ≡ first_found (λ s. defined (table_of symbols.now) (named s name.now))
+        (scopes_from (table_of symbols.now).scopes scope) }
+{
+    // A name that is nowhere a word is defined nowhere.
+    match symbols.find_word(name) {
+        Some(word) => word_outward(symbols, scope, word),
+        None => None,
+    }
+}
+
+/// The same of a name that the table has.
+fn word_outward(symbols: &Symbols, scope: usize, word: Word<'_>) -> Option<usize>
+    requires { position (bytes_eq word.name.now) (words_of symbols.now) ≡ Some word.number }
+    ensures { result ≡ first_found
+        (λ s. defined (table_of symbols.now) (named s word.entry.name.now))
+        (scopes_from (table_of symbols.now).scopes scope) }
 {
     let mut scope = scope;
     // A scope stands in scopes that were opened before it, so there are no more of them than its number.
     let mut left = scope;
     loop {
-        if let Some(place) = symbols.defined(Key::Named { scope, name }) {
+        if let Some(place) = symbols.defined_word(scope, word) {
             return Some(place);
         }
         if scope == GLOBAL {
@@ -56,7 +72,9 @@ fn enclosing(symbols: &Symbols, opened: usize, scope: usize) -> usize
 
 /// The innermost scope of a name among those that were opened first, from a scope outward.
 fn scope_outward(symbols: &Symbols, opened: usize, scope: usize, name: &[u8]) -> Option<usize>
-    ensures { result ≡ first_found (λ s. scope_in (take opened (table_of symbols.now).scopes) s name.now) (scopes_from (take opened (table_of symbols.now).scopes) scope) }
+    ensures { result ≡ first_found
+        (λ s. scope_in (take opened (table_of symbols.now).scopes) s name.now)
+        (scopes_from (take opened (table_of symbols.now).scopes) scope) }
 {
     let mut scope = scope;
     let mut left = scope;
@@ -99,7 +117,8 @@ pub fn scope_of(
     is_global: bool,
     names: &[Sequence<u8>],
 ) -> Option<usize>
-    ensures { result ≡ scope_from (take opened (table_of symbols.now).scopes) scope is_global names.now }
+    ensures { result ≡ scope_from
+        (take opened (table_of symbols.now).scopes) scope is_global names.now }
 {
     if is_global {
         return inner_scope(symbols, opened, GLOBAL, names);

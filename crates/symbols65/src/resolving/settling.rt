@@ -19,12 +19,7 @@ use std::alloc::Global;
 use syntax65::Expr;
 
 /// The normal form of an expression where the forms of what its operands mean now are final.
-pub fn settled(
-    alloc: Global,
-    symbols: &Symbols,
-    spot: Spot,
-    value: &Expr,
-) -> Result<Norm, Stop>
+pub fn settled(alloc: Global, symbols: &Symbols, spot: Spot, value: &Expr) -> Result<Norm, Stop>
     ensures { Settles (norm_of (table_of symbols.now) (spot_of spot) (tree_of value.now)) result }
 {
     try_norm(alloc, symbols, Source::Finals, spot, value)
@@ -39,8 +34,10 @@ pub fn norm(
     value: &Expr,
 ) -> Result<Norm, AsmFault>
     requires { IsTable (table_of symbols.now) known.old.states.items }
-    ensures form { Gives is_memory (λ f. f) result (norm_of (table_of symbols.now) (spot_of spot) (tree_of value.now)) }
-    ensures table { Finds is_memory (λ _. IsTable (table_of symbols.now) known.new.states.items) result }
+    ensures form { Gives is_memory (λ f. f) result
+        (norm_of (table_of symbols.now) (spot_of spot) (tree_of value.now)) }
+    ensures table { Finds is_memory
+        (λ _. IsTable (table_of symbols.now) known.new.states.items) result }
 {
     match settled(alloc, symbols, spot, value) {
         Ok(form) => Ok(form),
@@ -58,7 +55,8 @@ pub fn defined_norm(
 ) -> Result<Norm, AsmFault>
     requires { IsTable (table_of symbols.now) known.old.states.items }
     ensures form { Gives is_memory (λ f. f) result (defined_form (table_of symbols.now) place) }
-    ensures table { Finds is_memory (λ _. IsTable (table_of symbols.now) known.new.states.items) result }
+    ensures table { Finds is_memory
+        (λ _. IsTable (table_of symbols.now) known.new.states.items) result }
 {
     match symbols.definition(place) {
         None => Err(AsmFault::NoSuchLabel),

@@ -9,7 +9,7 @@ ghost use Rattle.language65.specs.LineFaults.{opened_twice};
 ghost use Rattle.language65.specs.Symbols.{defined, with_new};
 ghost use Rattle.language65.specs.Views.{spot_of};
 ghost use Rattle.symbols65.specs.Tables.{Begins, HasNumber, IsCounted, IsOpening, KeepsFinal, definition_in, entry_of, first_number, key_of, same_entry, same_opening, scope_by, word_of, word_opened};
-ghost use Rattle.symbols65.specs.Views.{table_of, with_definition, with_names, with_scope, words_of};
+ghost use Rattle.symbols65.specs.Views.{scope_as, table_of, with_definition, with_names, with_scope, words_of};
 
 use super::definition::Definition;
 use super::entries::{Entry, Key, Opening};
@@ -19,13 +19,10 @@ use std::alloc::{AllocError, Global};
 use syntax65::Sequence;
 
 /// The number of a name, which is put in where it is new.
-fn intern(
-    alloc: Global,
-    words: &mut IndexSet<Vec<u8>>,
-    name: &[u8],
-) -> Result<usize, AllocError>
+fn intern(alloc: Global, words: &mut IndexSet<Vec<u8>>, name: &[u8]) -> Result<usize, AllocError>
     ensures more { Begins (map (λ k. k.items) words.old.keys) (map (λ k. k.items) words.new.keys) }
-    ensures number { IfOk result (λ w. position (bytes_eq name.now) (map (λ k. k.items) words.new.keys) ≡ Some w) }
+    ensures number { IfOk result
+        (λ w. position (bytes_eq name.now) (map (λ k. k.items) words.new.keys) ≡ Some w) }
 {
     match words.get_index_of(name) {
         Some(word) => Ok(word),
@@ -43,7 +40,8 @@ fn push_definition(
     definition: Definition,
 ) -> Result<(), AllocError>
     requires { position (same_entry entry) (keys definitions.old) ≡ None }
-    ensures pushed { OnOk result (definitions.new.entries ≡ definitions.old.entries ++ (entry, definition) ∷ []) }
+    ensures pushed { OnOk result
+        (definitions.new.entries ≡ definitions.old.entries ++ (entry, definition) ∷ []) }
     ensures unchanged { OnErr result (definitions.new.entries ≡ definitions.old.entries) }
 {
     match definitions.insert(entry, definition) {
@@ -59,7 +57,8 @@ fn push_scope(
     is_proc: bool,
 ) -> Result<(), AllocError>
     requires { position (same_opening opening) (keys scopes.old) ≡ None }
-    ensures pushed { OnOk result (scopes.new.entries ≡ scopes.old.entries ++ (opening, is_proc) ∷ []) }
+    ensures pushed { OnOk result
+        (scopes.new.entries ≡ scopes.old.entries ++ (opening, is_proc) ∷ []) }
     ensures unchanged { OnErr result (scopes.new.entries ≡ scopes.old.entries) }
 {
     match scopes.insert(opening, is_proc) {
@@ -74,7 +73,9 @@ fn add_names(
     known: &mut IndexSet<Vec<u8>>,
     names: &[Sequence<u8>],
 ) -> Result<(), AllocError>
-    ensures { OnOk result (map (λ k. k.items) known.new.keys ≡ with_new (map (λ k. k.items) known.old.keys) names.now) }
+    ensures { OnOk result
+        (map (λ k. k.items) known.new.keys
+        ≡ with_new (map (λ k. k.items) known.old.keys) names.now) }
 {
     for name in names {
         known.insert(Vec::from_slice(alloc, name.as_slice())?)?;
@@ -88,16 +89,18 @@ impl Symbols {
         ensures table { table_of self.new ≡ table_of self.old }
         ensures definitions { self.new.definitions ≡ self.old.definitions }
         ensures scopes { self.new.scopes ≡ self.old.scopes }
-        ensures number { IfOk result (λ w. position (bytes_eq name.now) (words_of self.new) ≡ Some w) }
+        ensures number { IfOk result
+            (λ w. position (bytes_eq name.now) (words_of self.new) ≡ Some w) }
     {
         intern(alloc, &mut self.words, name)
     }
 
     /// The entry of a key, whose name is put in where it is new.
-    fn enter(&mut self, alloc: Global, key: Key<'_>) -> Result<Entry, AllocError>
+    pub fn enter(&mut self, alloc: Global, key: Key<'_>) -> Result<Entry, AllocError>
         ensures table { table_of self.new ≡ table_of self.old }
         ensures definitions { self.new.definitions ≡ self.old.definitions }
-        ensures entry { IfOk result (λ e. entry_of (words_of self.new) (key_of key.entry) ≡ Some e) }
+        ensures entry { IfOk result
+            (λ e. entry_of (words_of self.new) (key_of key.entry) ≡ Some e) }
         ensures counted { IfOk result IsCounted }
     {
         match key {
@@ -114,11 +117,16 @@ impl Symbols {
     }
 
     /// Adds a definition behind all others, where its key has none.
-    fn put(&mut self, entry: Entry, definition: Definition) -> Result<(), AllocError>
+    pub fn put(&mut self, entry: Entry, definition: Definition) -> Result<(), AllocError>
         requires number { first_number (words_of self.old) (word_of entry) ≡ word_of entry }
         requires counted { IsCounted entry }
-        requires form { KeepsFinal (table_of self.old) (length self.old.definitions.entries) (definition_in (words_of self.old) (entry, definition)) definition.form }
-        ensures { OnOk result (position (same_entry entry) (keys self.old.definitions) ≡ None → table_of self.new ≡ with_definition (table_of self.old) (definition_in (words_of self.old) (entry, definition))) }
+        requires form { KeepsFinal (table_of self.old) (length self.old.definitions.entries)
+            (definition_in (words_of self.old) (entry, definition)) definition.form }
+        ensures { OnOk result
+            (position (same_entry entry) (keys self.old.definitions) ≡ None
+            → table_of self.new
+            ≡ with_definition (table_of self.old)
+            (definition_in (words_of self.old) (entry, definition))) }
     {
         match self.place_of(entry) {
             Some(_) => Ok(()),
@@ -135,7 +143,9 @@ impl Symbols {
     ) -> Result<Opening, AllocError>
         ensures table { table_of self.new ≡ table_of self.old }
         ensures scopes { self.new.scopes ≡ self.old.scopes }
-        ensures opening { IfOk result (λ k. IsOpening (words_of self.new) (length self.new.scopes.entries) within (option_map (λ n. n.now) name.entry) k) }
+        ensures opening { IfOk result
+            (λ k. IsOpening (words_of self.new) (length self.new.scopes.entries) within
+            (option_map (λ n. n.now) name.entry) k) }
     {
         match name {
             Some(name) => {
@@ -151,9 +161,13 @@ impl Symbols {
 
     /// Adds a scope behind all others, where there is none by this opening.
     fn put_scope(&mut self, opening: Opening, is_proc: bool) -> Result<(), AllocError>
-        requires number { first_number (words_of self.old) (word_opened opening) ≡ word_opened opening }
+        requires number { first_number (words_of self.old) (word_opened opening)
+            ≡ word_opened opening }
         requires distinct { HasNumber (length self.old.scopes.entries) opening }
-        ensures { OnOk result (position (same_opening opening) (keys self.old.scopes) ≡ None → table_of self.new ≡ with_scope (table_of self.old) (scope_by (words_of self.old) opening is_proc)) }
+        ensures { OnOk result
+            (position (same_opening opening) (keys self.old.scopes) ≡ None
+            → table_of self.new
+            ≡ with_scope (table_of self.old) (scope_by (words_of self.old) opening is_proc)) }
     {
         match self.place_opened(opening) {
             Some(_) => Ok(()),
@@ -169,7 +183,10 @@ impl Symbols {
         name: Option<&[u8]>,
         is_proc: bool,
     ) -> Result<(), AllocError>
-        ensures { OnOk result (opened_twice (table_of self.old).scopes within (option_map (λ n. n.now) name.entry) ≡ None → table_of self.new ≡ with_scope (table_of self.old) (record { within = within; name = option_map (λ n. n.now) name.entry; is_proc = is_proc })) }
+        ensures { OnOk result
+            (opened_twice (table_of self.old).scopes within (option_map (λ n. n.now) name.entry) ≡ None
+            → table_of self.new
+            ≡ with_scope (table_of self.old) (scope_as within (option_map (λ n. n.now) name.entry) is_proc)) }
     {
         let opening = self.enter_opening(alloc, within, name)?;
         self.put_scope(opening, is_proc)
@@ -182,7 +199,8 @@ impl Symbols {
         names: &[Sequence<u8>],
         is_zero_page: bool,
     ) -> Result<(), AllocError>
-        ensures { OnOk result (table_of self.new ≡ with_names (table_of self.old) is_zero_page names.now) }
+        ensures { OnOk result
+            (table_of self.new ≡ with_names (table_of self.old) is_zero_page names.now) }
     {
         add_names(alloc, &mut self.imports, names)?;
         if is_zero_page {

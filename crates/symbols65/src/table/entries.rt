@@ -11,6 +11,13 @@ pub enum Key<'a> {
     Unnamed(usize),
 }
 
+/// A name that a table has, with its number there.
+#[derive(Clone, Copy, Debug, Drop)]
+pub struct Word<'a> {
+    pub name: &'a [u8],
+    pub number: usize,
+}
+
 /// A key, with its name by its number among the words of a table.
 #[derive(Clone, Copy, Debug, PartialEq, Eq, Hash)]
 pub enum Entry {

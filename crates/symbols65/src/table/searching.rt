@@ -1,18 +1,19 @@
 //! Looking things up in a symbol table, without taking memory.
 
-ghost use Rattle.std.specs.Prelude.{◌≡◌, ◌<◌, IfSome, map, position, slice_get};
+ghost use Rattle.std.specs.Prelude.{◌≡◌, ◌<◌, IfNone, IfSome, None, Some, length, map, position, slice_get};
 ghost use Rattle.std.specs.List.{list_any};
 ghost use Rattle.std.specs.Option.{option_map};
 ghost use Rattle.std.specs.Str.{bytes_eq};
 ghost use Rattle.indexmap.specs.IndexMap.{index_map_len, keys};
+ghost use Rattle.language65.specs.LineFaults.{opened_as};
 ghost use Rattle.language65.specs.Names.{enclosing, scope_in, within};
 ghost use Rattle.language65.specs.Sizes.{is_zero_page_name};
-ghost use Rattle.language65.specs.Symbols.{defined, imported};
-ghost use Rattle.symbols65.specs.Tables.{KeepsFinal, definition_seen, entry_of, key_of, place_of_entry, place_of_opening, same_entry, same_opening};
+ghost use Rattle.language65.specs.Symbols.{defined, imported, named};
+ghost use Rattle.symbols65.specs.Tables.{IsWord, KeepsFinal, definition_seen, entry_of, key_of, place_of_entry, place_of_opening, same_entry, same_opening};
 ghost use Rattle.symbols65.specs.Views.{key_at, table_of, words_of};
 
 use super::definition::Definition;
-use super::entries::{Entry, Key, Opening};
+use super::entries::{Entry, Key, Opening, Word};
 use super::symbols::Symbols;
 
 impl Symbols {
@@ -21,6 +22,26 @@ impl Symbols {
         ensures { result ≡ position (bytes_eq name.now) (words_of self.now) }
     {
         self.words.get_index_of(name)
+    }
+
+    /// A name with its number, where the table has it.
+    pub fn find_word<'a>(&self, name: &'a [u8]) -> Option<Word<'a>>
+        ensures some { IfSome result (λ w. IsWord (words_of self.now) name.now w) }
+        ensures none { IfNone result (position (bytes_eq name.now) (words_of self.now) ≡ None) }
+    {
+        match self.word(name) {
+            Some(number) => Some(Word { name, number }),
+            None => None,
+        }
+    }
+
+    /// The place of the definition of a name that the table has, directly in a scope.
+    pub fn defined_word(&self, scope: usize, word: Word<'_>) -> Option<usize>
+        requires { position (bytes_eq word.name.now) (words_of self.now) ≡ Some word.number }
+        ensures { result ≡ defined (table_of self.now) (named scope word.entry.name.now) }
+    {
+        let word = word.number;
+        self.place_of(Entry::Named { scope, word })
     }
 
     fn entry(&self, key: Key<'_>) -> Option<Entry>
@@ -75,6 +96,13 @@ impl Symbols {
         }
     }
 
+    /// How many scopes were opened.
+    pub fn scope_count(&self) -> usize
+        ensures { result ≡ length (table_of self.now).scopes }
+    {
+        self.scopes.len()
+    }
+
     /// The scope in which a scope was opened; the global one stands in no other.
     pub fn enclosing(&self, scope: usize) -> usize
         ensures { result ≡ enclosing (table_of self.now).scopes scope }
@@ -82,6 +110,25 @@ impl Symbols {
         match scope.checked_sub(1) {
             Some(place) => self.within(place),
             None => 0,
+        }
+    }
+
+    /// Whether a scope was opened by `.proc`, where it is one that was opened.
+    pub fn is_proc(&self, scope: usize) -> Option<bool>
+        ensures { result ≡ option_map (λ c. c.is_proc) (opened_as (table_of self.now).scopes scope) }
+    {
+        match scope.checked_sub(1) {
+            Some(place) => self.kind_at(place),
+            None => None,
+        }
+    }
+
+    fn kind_at(&self, place: usize) -> Option<bool>
+        ensures { result ≡ option_map (λ c. c.is_proc) (slice_get (table_of self.now).scopes place) }
+    {
+        match self.scopes.get_index(place) {
+            Some((_, is_proc)) => Some(*is_proc),
+            None => None,
         }
     }
 
@@ -98,9 +145,13 @@ impl Symbols {
 
     /// The definition at a place.
     pub fn definition(&self, place: usize) -> Option<&Definition>
-        ensures definition { slice_get (table_of self.now).definitions place ≡ option_map (λ d. definition_seen (key_at self.now place) d.now) result }
-        ensures entry { option_map (λ d. d.now) result ≡ option_map (λ e. e.1) (slice_get self.now.definitions.entries place) }
-        ensures forms { IfSome result (λ d. KeepsFinal (table_of self.now) place (definition_seen (key_at self.now place) d.now) d.now.form) }
+        ensures definition { slice_get (table_of self.now).definitions place
+            ≡ option_map (λ d. definition_seen (key_at self.now place) d.now) result }
+        ensures entry { option_map (λ d. d.now) result
+            ≡ option_map (λ e. e.1) (slice_get self.now.definitions.entries place) }
+        ensures forms { IfSome result
+            (λ d. KeepsFinal (table_of self.now) place
+            (definition_seen (key_at self.now place) d.now) d.now.form) }
     {
         match self.definitions.get_index(place) {
             Some((_, definition)) => Some(definition),

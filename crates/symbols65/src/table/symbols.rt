@@ -27,7 +27,8 @@ pub struct Symbols {
     ghost counts_fit: { AreCounted (keys definitions) },
     ghost openings_numbered: { AreNumbered word_opened (map (λ k. k.items) words.keys) (keys scopes) },
     ghost openings_distinct: { AreDistinct (keys scopes) },
-    ghost forms_final: { AreFinal (map (λ k. k.items) words.keys) definitions.entries scopes.entries } by { AreFinal-prop (map (λ k. k.items) words.keys) definitions.entries scopes.entries },
+    ghost forms_final: { AreFinal
+        (map (λ k. k.items) words.keys) definitions.entries scopes.entries } by { AreFinal-prop (map (λ k. k.items) words.keys) definitions.entries scopes.entries },
 }
 
 impl Symbols {

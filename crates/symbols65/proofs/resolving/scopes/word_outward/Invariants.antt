@@ -2,12 +2,12 @@ use Rattle.std.proofs.Common.{◌≡◌}
 use Rattle.language65.specs.Names.{first_found, outward_from, scopes_from}
 use Rattle.language65.specs.Symbols.{defined, named}
 use Rattle.symbols65.specs.Views.{table_of}
-use Rattle.symbols65.proofs.resolving.scopes.defined_outward.Given as goal
+use Rattle.symbols65.proofs.resolving.scopes.word_outward.Given as goal
 
 abbrev pub invariant-loop-place : goal.invariant-loop-place
 invariant-loop-place l =
-    first_found (λ s. defined (table_of l.symbols) (named s l.name)) (outward_from (table_of l.symbols).scopes l.left l.scope)
-    ≡ first_found (λ s. defined (table_of l.symbols) (named s l.name)) (scopes_from (table_of l.symbols).scopes l.fn.scope)
+    first_found (λ s. defined (table_of l.symbols) (named s l.word.name.now)) (outward_from (table_of l.symbols).scopes l.left l.scope)
+    ≡ first_found (λ s. defined (table_of l.symbols) (named s l.word.name.now)) (scopes_from (table_of l.symbols).scopes l.fn.scope)
 
 abbrev pub decreases-loop-place : goal.decreases-loop-place
 decreases-loop-place l = l.left

@@ -21,7 +21,7 @@ asking g = record { segment = g; asks = true; parts = []; said = [] }
 abbrev pub put : ℕ → Part → Content
 put g p = record { segment = g; asks = false; parts = p ∷ []; said = [] }
 
--- what a statement says
+-- what a statement says; it puts nothing into a section, so its segment is of no account
 abbrev pub telling : List Said → Content
 telling ss = record { segment = 0; asks = false; parts = []; said = ss }
 

@@ -29,7 +29,7 @@ const TWO_LITERALS: [u8; 29] = [
 ];
 
 /// Reads these bytes as a file.
-fn read(alloc: Global, bytes: &[u8]) -> Result<Object, ObjectFault>
+pub fn read(alloc: Global, bytes: &[u8]) -> Result<Object, ObjectFault>
     ensures { IfOk result (λ o. is_good_object o ≡ true) }
 {
     let mut store = MemStore::new(alloc);

@@ -1,8 +1,8 @@
 //! Sections in the making: the objects that they come to, worked out by hand.
 
-use crate::objects::object_bytes;
+use crate::objects::{object_bytes, read};
 use language65::{Part, Said, Segment};
-use object65::{Action, Node, Norm, Width, write_object};
+use object65::{Action, Node, Norm, Width};
 use sections65::Sections;
 use std::alloc::{AllocError, Global};
 use std::test::Fail;
@@ -38,14 +38,14 @@ fn import(key: u32) -> Norm {
     Norm::new(Node::Imp(key))
 }
 
-/// Whether an object is written as these bytes. It has the imports `v` and `u`.
-fn is_written_as(alloc: Global, sections: Sections, wanted: &str) -> Result<bool, Fail> {
+/// Whether the sections come to the object that is read from these records. It has the imports `v` and `u`.
+fn comes_to(alloc: Global, sections: Sections, wanted: &str) -> Result<bool, Fail> {
     let segments = segments(alloc)?;
     let names = Vec::from_array(alloc, [text(alloc, "v")?, text(alloc, "u")?])?;
     let object = sections.finish(alloc, &segments, &names)?;
-    let mut out = Vec::new(alloc);
-    write_object(alloc, &object, &mut out)?;
-    Ok(out.as_slice() == object_bytes(alloc, wanted)?.as_slice())
+    let wanted = read(alloc, &object_bytes(alloc, wanted)?)?;
+    let shown = format!(in alloc; "{object:?}")?;
+    Ok(shown.as_str() == format!(in alloc; "{wanted:?}")?.as_str())
 }
 
 /// The value that waits comes first, so its import is the first one.
@@ -69,7 +69,7 @@ fn what_waits_keeps_its_place(rt: HostRuntime) -> Result<(), Fail> {
     sections.append(0, &[0x61])?;
     sections.room(1, 3)?;
     sections.settle(0, word(1, import(1)));
-    assert!(rt; is_written_as(alloc, sections, IMPORTS)?);
+    assert!(rt; comes_to(alloc, sections, IMPORTS)?);
     Ok(())
 }
 
@@ -92,7 +92,7 @@ fn bytes_that_waited_join_their_neighbours(rt: HostRuntime) -> Result<(), Fail> 
         Part::Known(Sequence::from_vec(Vec::from_slice(alloc, &[1])?)),
     );
     let wanted = "02 0900 05000000 00 434F4445  03 0500 F003D001EA  08 0000";
-    assert!(rt; is_written_as(alloc, sections, wanted)?);
+    assert!(rt; comes_to(alloc, sections, wanted)?);
     Ok(())
 }
 
@@ -111,7 +111,7 @@ fn sections_stand_as_they_were_first_asked_for(rt: HostRuntime) -> Result<(), Fa
     sections.ask(0)?;
     let wanted =
         "02 0900 00000000 01 44415441  02 0900 04000000 00 434F4445  03 0400 EAEAEA60  08 0000";
-    assert!(rt; is_written_as(alloc, sections, wanted)?);
+    assert!(rt; comes_to(alloc, sections, wanted)?);
     Ok(())
 }
 
@@ -148,6 +148,6 @@ fn what_is_said_keeps_its_place(rt: HostRuntime) -> Result<(), Fail> {
         form: import(0),
     })?;
     sections.settle_said(checks);
-    assert!(rt; is_written_as(alloc, sections, SAID)?);
+    assert!(rt; comes_to(alloc, sections, SAID)?);
     Ok(())
 }

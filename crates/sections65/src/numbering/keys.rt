@@ -55,7 +55,8 @@ fn add_name(
     name: &[u8],
 ) -> Result<(), AllocError>
     requires { IsTable names.now }
-    ensures { OnOk result (keys.new.keys ≡ once keys.old.keys (optional_key (key_of names.now.all.now name.now))) }
+    ensures { OnOk result (keys.new.keys
+        ≡ once keys.old.keys (optional_key (key_of names.now.all.now name.now))) }
 {
     if let Some(key) = names.get(name) {
         keys.insert(key)?;
@@ -70,7 +71,8 @@ fn add_saying(
     said: &Said,
 ) -> Result<(), AllocError>
     requires { IsTable names.now }
-    ensures { OnOk result (keys.new.keys ≡ once keys.old.keys (said_imports names.now.all.now said.now)) }
+    ensures { OnOk result (keys.new.keys
+        ≡ once keys.old.keys (said_imports names.now.all.now said.now)) }
 {
     match said {
         Said::Exported {
@@ -95,7 +97,8 @@ fn add_said(
     said: &[Said],
 ) -> Result<(), AllocError>
     requires { IsTable names.now }
-    ensures { OnOk result (keys.new.keys ≡ once keys.old.keys (flat_map (said_imports names.now.all.now) said.now)) }
+    ensures { OnOk result (keys.new.keys
+        ≡ once keys.old.keys (flat_map (said_imports names.now.all.now) said.now)) }
 {
     for saying in said {
         add_saying(keys, names, saying)?;

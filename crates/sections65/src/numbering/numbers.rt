@@ -37,7 +37,8 @@ fn number_of(keys: &IndexSet<u32>, key: u32) -> Result<u32, AllocError>
 
 /// The form with the numbers of its sections and imports.
 pub fn numbered(alloc: Global, numbers: &Numbers, form: &Norm) -> Result<Norm, AllocError>
-    ensures form { IfOk result (λ f. f ≡ numbered numbers.now.sections.keys numbers.now.imports.keys form.now) }
+    ensures form { IfOk result (λ f. f
+        ≡ numbered numbers.now.sections.keys numbers.now.imports.keys form.now) }
     ensures bits { IfOk result FitsBits }
 {
     let node = match form.node() {

@@ -27,7 +27,7 @@ SYMBOLS {
     limit: type = export, value = 9;
 }
 """
-PAIR = re.compile(r"^### (.*?)\n(?:(?!^###).*\n)*?```cc65\n(.*?)```\n```asm\n(.*?)```\nBoth place (.*?)\.$", re.M | re.S)
+PAIR = re.compile(r"```cc65\n(.*?)```\n```asm\n(.*?)```\nBoth place (.*?)\.\n", re.S)
 
 
 def image(assembler, linker, text):
@@ -54,7 +54,8 @@ def is_said(found, said):
 def main():
     program = os.path.abspath(sys.argv[1])
     with open(f"{ROOT}/docs/MIGRATING.md") as it:
-        pairs = PAIR.findall(it.read())
+        parts = it.read().split("\n### ")[1:]
+    pairs = [(part.splitlines()[0], *pair.groups()) for part in parts for pair in PAIR.finditer(part)]
     passed = failed = 0
     for title, before, after, said in pairs:
         found = image([program, "ca65"], [program, "ld65"], after)

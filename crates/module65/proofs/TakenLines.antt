@@ -4,7 +4,6 @@ use Rattle.std.specs.Prelude.{Result, Ok, Err, length, if◌then◌else◌}
 use Rattle.std.proofs.lemmas.Bool.Decides.{nat_tests}
 use Rattle.syntax65.specs.Faults.{is_lex_outside}
 use Rattle.syntax65.specs.Outcome.{First, Unless}
-use Rattle.syntax65.specs.Relations.{Answers}
 use Rattle.syntax65.specs.Tokens.{Lexeme, IsRead, lexemes}
 use Rattle.syntax65.specs.Words.{is_reserved}
 use Rattle.syntax65.specs.declared.lexing.fault.LexFault.{LexFault}
@@ -21,7 +20,7 @@ use Rattle.language65.specs.Laid.{Place}
 use Rattle.statements65.specs.Parsing.{IsStatement, is_colon, label_before, label_of, named_label, or_all, with_rest}
 use Rattle.module65.specs.Lines.{line_limit, lines_of}
 use Rattle.module65.specs.Module.{out_of, warning_of}
-use Rattle.module65.specs.Reading.{AreTaken, IsLabelled, IsLine, IsReading, IsRest, IsText, Reached, Taking, line_of, open_fault, stopped}
+use Rattle.module65.specs.Reading.{AreTaken, IsLabelled, IsLine, IsReading, IsRest, IsText, Reached, Reaches, Taking, line_of, open_fault, stopped}
 
 abbrev Made : Type 0
 Made = Result (Unit {0}) AsmFault
@@ -30,10 +29,10 @@ unless_then : {P Q : Type 0} (b : Bool) → (P → Q) → Unless b P → Unless 
 unless_then true f h = tt
 unless_then false f h = f h
 
--- an answer to one question is one to another that it decides
-answers_then : {S : Type 0} (P Q : Result S AsmFault → Type 0) (z : S) (r : Made) → ((q : Result S AsmFault) → P q → Q q) → Answers is_outside (λ _. z) r P → Answers is_outside (λ _. z) r Q
-answers_then P Q z (Ok u) f h = f (Ok z) h
-answers_then P Q z (Err e) f h = unless_then (is_outside e) (f (Err e)) h
+-- what an answer to one question reaches, one to another that it decides reaches
+reaches_then : {S : Type 0} (P Q : Result S AsmFault → Type 0) (Holds : S → Type 0) (r : Made) → ((q : Result S AsmFault) → P q → Q q) → Reaches P Holds r → Reaches Q Holds r
+reaches_then P Q Holds (Ok u) f h = (h.0, f (Ok h.0) h.1, h.2)
+reaches_then P Q Holds (Err e) f h = unless_then (is_outside e) (f (Err e)) h
 
 -- ---- A label prints nothing.
 
@@ -77,16 +76,16 @@ label_quiet (t ∷ ts) = by (is_colon t)
 
 -- ---- What stands behind it.
 
-pub rest_none : {S : Type 0} (Takes : Taking S) (y : S) (place : Place) (ts : List Lexeme) → ts ≡ [] → IsRest Takes y place ts (Ok y)
-rest_none Takes y place ts e = subst (λ ks. IsRest Takes y place ks (Ok y)) (sym e) refl
+pub rest_none : {S : Type 0} (Takes : Taking S) (Holds : S → Type 0) (y : S) (place : Place) (ts : List Lexeme) → ts ≡ [] → Holds y → Reaches {X = Unit {0}} (IsRest Takes y place ts) Holds (Ok tt)
+rest_none Takes Holds y place ts e h = (y, subst (λ ks. IsRest Takes y place ks (Ok y)) (sym e) refl, h)
 
 pub rest_fault : {S : Type 0} (Takes : Taking S) (y : S) (place : Place) (ts : List Lexeme) (e : AsmFault) → (ts ≡ [] → ⊥) → Unless (is_outside e) (IsStatement ts (Err e)) → Unless (is_outside e) (IsRest Takes y place ts (Err e))
 rest_fault Takes y place [] e some h = absurd (some refl)
 rest_fault Takes y place (t ∷ ts) e some h = unless_then (is_outside e) (λ g. (Err e, g, refl)) h
 
-pub rest_then : {S : Type 0} (Takes : Taking S) (y z : S) (place : Place) (ts : List Lexeme) (x : Stated) (r : Made) → (ts ≡ [] → ⊥) → IsStatement ts (Ok x) → Answers is_outside (λ _. z) r (Takes y place x) → Answers is_outside (λ _. z) r (IsRest Takes y place ts)
-rest_then Takes y z place [] x r some is h = absurd (some refl)
-rest_then Takes y z place (t ∷ ts) x r some is h = answers_then (Takes y place x) (IsRest Takes y place (t ∷ ts)) z r (λ q g. (Ok x, is, g)) h
+pub rest_then : {S : Type 0} (Takes : Taking S) (Holds : S → Type 0) (y : S) (place : Place) (ts : List Lexeme) (x : Stated) (r : Made) → (ts ≡ [] → ⊥) → IsStatement ts (Ok x) → Reaches (Takes y place x) Holds r → Reaches (IsRest Takes y place ts) Holds r
+rest_then Takes Holds y place [] x r some is h = absurd (some refl)
+rest_then Takes Holds y place (t ∷ ts) x r some is h = reaches_then (Takes y place x) (IsRest Takes y place (t ∷ ts)) Holds r (λ q g. (Ok x, is, g)) h
 
 pub no_tokens : (tokens : List Token) → length tokens ≡ 0 → lexemes tokens ≡ []
 no_tokens [] e = refl
@@ -101,11 +100,14 @@ some_tokens (t ∷ ts) some e = cc
 abbrev LineOf : {S : Type 0} → Taking S → S → Place → (Option Stated × List Lexeme) → Result S AsmFault → Type 0
 LineOf Takes y place p r = (q : Result _ AsmFault) × IsLabelled Takes y place p.0 q × First q (λ z. IsRest Takes z place p.1) r
 
+pub label_none : {S : Type 0} (Takes : Taking S) (Holds : S → Type 0) (y : S) (place : Place) → Holds y → Reaches {X = Unit {0}} (IsLabelled Takes y place None) Holds (Ok tt)
+label_none Takes Holds y place h = (y, refl, h)
+
 pub line_faulty : {S : Type 0} (Takes : Taking S) (y : S) (place : Place) (ts rest : List Lexeme) (l : Option Stated) (e : AsmFault) → label_of ts ≡ (l, rest) → Unless (is_outside e) (IsLabelled Takes y place l (Err e)) → Unless (is_outside e) (IsLine Takes y place ts (Err e))
 line_faulty Takes y place ts rest l e is h = unless_then (is_outside e) (λ g. subst (λ p. LineOf Takes y place p (Err e)) (sym is) (Err e, g, refl)) h
 
-pub line_then : {S : Type 0} (Takes : Taking S) (y z u : S) (place : Place) (ts rest : List Lexeme) (l : Option Stated) (r : Made) → label_of ts ≡ (l, rest) → IsLabelled Takes y place l (Ok z) → Answers is_outside (λ _. u) r (IsRest Takes z place rest) → Answers is_outside (λ _. u) r (IsLine Takes y place ts)
-line_then Takes y z u place ts rest l r is e h = answers_then (IsRest Takes z place rest) (IsLine Takes y place ts) u r (λ q g. subst (λ p. LineOf Takes y place p q) (sym is) (Ok z, e, g)) h
+pub line_then : {S : Type 0} (Takes : Taking S) (Holds : S → Type 0) (y z : S) (place : Place) (ts rest : List Lexeme) (l : Option Stated) (r : Made) → label_of ts ≡ (l, rest) → IsLabelled Takes y place l (Ok z) → Reaches (IsRest Takes z place rest) Holds r → Reaches (IsLine Takes y place ts) Holds r
+line_then Takes Holds y z place ts rest l r is e h = reaches_then (IsRest Takes z place rest) (IsLine Takes y place ts) Holds r (λ q g. subst (λ p. LineOf Takes y place p q) (sym is) (Ok z, e, g)) h
 
 -- ---- Its tokens and its number.
 
@@ -117,16 +119,16 @@ reading_fault Takes y place text StringNotClosed h = (Err StringNotClosed, h, re
 reading_fault Takes y place text LineTooLong h = (Err LineTooLong, h, refl)
 reading_fault Takes y place text NameTooLong h = (Err NameTooLong, h, refl)
 
-pub reading_then : {S : Type 0} (Takes : Taking S) (y z : S) (place : Place) (text : List ℕ) (ts : List Lexeme) (r : Made) → IsRead text (Ok ts) → Answers is_outside (λ _. z) r (IsLine Takes y place ts) → Answers is_outside (λ _. z) r (IsReading Takes y place text)
-reading_then Takes y z place text ts r read h = answers_then (IsLine Takes y place ts) (IsReading Takes y place text) z r (λ q g. (Ok ts, read, g)) h
+pub reading_then : {S : Type 0} (Takes : Taking S) (Holds : S → Type 0) (y : S) (place : Place) (text : List ℕ) (ts : List Lexeme) (r : Made) → IsRead text (Ok ts) → Reaches (IsLine Takes y place ts) Holds r → Reaches (IsReading Takes y place text) Holds r
+reading_then Takes Holds y place text ts r read h = reaches_then (IsLine Takes y place ts) (IsReading Takes y place text) Holds r (λ q g. (Ok ts, read, g)) h
 
 pub too_many : {S : Type 0} (Takes : Taking S) (y : S) (place : Place) (text : List ℕ) → line_limit < place.line → IsText Takes y place text (Err (Source TooManyLines))
 too_many Takes y place text lt = let e : nat_le place.line line_limit ≡ false = grind (arith, nat_tests) in rw e refl
 
-pub text_then : {S : Type 0} (Takes : Taking S) (y z : S) (place : Place) (text : List ℕ) (r : Made) → place.line ≤ line_limit → Answers is_outside (λ _. z) r (IsReading Takes y place text) → Answers is_outside (λ _. z) r (IsText Takes y place text)
-text_then Takes y z place text r le h =
+pub text_then : {S : Type 0} (Takes : Taking S) (Holds : S → Type 0) (y : S) (place : Place) (text : List ℕ) (r : Made) → place.line ≤ line_limit → Reaches (IsReading Takes y place text) Holds r → Reaches (IsText Takes y place text) Holds r
+text_then Takes Holds y place text r le h =
     let e : nat_le place.line line_limit ≡ true = grind (arith, nat_tests) in
-    answers_then (IsReading Takes y place text) (IsText Takes y place text) z r (λ q g. rw e g) h
+    reaches_then (IsReading Takes y place text) (IsText Takes y place text) Holds r (λ q g. rw e g) h
 
 -- ---- All lines.
 

@@ -1,10 +1,11 @@
 -- How the lines of a source are taken one behind the other, over what stands between statements.
 use Rattle.std.specs.Prelude.{◌≡◌, ℕ, ◌+◌, List, [], ◌∷◌, Option, Some, None, Result, Ok, Err, if◌then◌else◌}
-use Rattle.syntax65.specs.Outcome.{First}
+use Rattle.syntax65.specs.Outcome.{First, Unless}
 use Rattle.syntax65.specs.Tokens.{Lexeme, IsRead}
 use Rattle.syntax65.specs.declared.lexing.fault.LexFault.{LexFault}
 use Rattle.language65.specs.declared.fault.AsmFault.{AsmFault}
 use Rattle.language65.specs.declared.fault.AsmFault.TheVariants.{BadScope}
+use Rattle.language65.specs.Faults.{is_outside}
 use Rattle.language65.specs.Language.{Stated}
 use Rattle.language65.specs.Laid.{Place}
 use Rattle.language65.specs.LineFaults.{is_open}
@@ -75,3 +76,11 @@ AreTaken Takes scope file y last [] r =
 AreTaken Takes scope file y last (text ∷ texts) r =
     (q : Result _ AsmFault) × IsText Takes y (line_of file (last + 1)) text q
     × Behind y (line_of file (last + 1)) (λ z. AreTaken Takes scope file z (last + 1) texts) q r
+
+-- ---- What a call that takes statements answers.
+
+-- it holds what such an answer says, or refuses as one does, unless it was refused from outside
+abbrev pub Reaches :
+    {S X : Type 0} → (Result S AsmFault → Type 0) → (S → Type 0) → Result X AsmFault → Type 0
+Reaches IsAnswer Holds (Ok x) = (z : _) × IsAnswer (Ok z) × Holds z
+Reaches IsAnswer Holds (Err e) = Unless (is_outside e) (IsAnswer (Err e))

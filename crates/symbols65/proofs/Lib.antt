@@ -1,4 +1,5 @@
 pub mod Beginnings
+pub mod Finals
 pub mod GivenUp
 pub mod Growing
 pub mod Knowns

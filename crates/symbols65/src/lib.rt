@@ -6,5 +6,5 @@ pub mod knowing;
 mod resolving;
 mod table;
 
-pub use resolving::{Known, Meaning, State, defined_norm, meaning_of, norm, scope_of, shown};
+pub use resolving::{Known, Meaning, State, defined_norm, final_form, meaning_of, norm, scope_of, shown};
 pub use table::{Definition, Entry, Key, Opening, Symbols};

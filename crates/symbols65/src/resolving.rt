@@ -1,6 +1,7 @@
 //! What names mean, and what forms expressions have, by a symbol table.
 
 mod attempt;
+mod finals;
 mod known;
 mod meaning;
 mod scopes;
@@ -8,6 +9,7 @@ mod settling;
 mod showing;
 
 pub use attempt::State;
+pub use finals::final_form;
 pub use known::Known;
 pub use meaning::{Meaning, meaning_of};
 pub use scopes::scope_of;

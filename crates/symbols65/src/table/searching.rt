@@ -1,6 +1,6 @@
 //! Looking things up in a symbol table, without taking memory.
 
-ghost use Rattle.std.specs.Prelude.{◌≡◌, ◌<◌, IfSome, map, position, slice_get};
+ghost use Rattle.std.specs.Prelude.{◌≡◌, ◌<◌, IfSome, length, map, position, slice_get};
 ghost use Rattle.std.specs.List.{list_any};
 ghost use Rattle.std.specs.Option.{option_map};
 ghost use Rattle.std.specs.Str.{bytes_eq};
@@ -73,6 +73,13 @@ impl Symbols {
             },
             None => None,
         }
+    }
+
+    /// How many scopes were opened.
+    pub fn scope_count(&self) -> usize
+        ensures { result ≡ length (table_of self.now).scopes }
+    {
+        self.scopes.len()
     }
 
     /// The scope in which a scope was opened; the global one stands in no other.

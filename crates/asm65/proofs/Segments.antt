@@ -9,7 +9,7 @@ use Rattle.language65.specs.declared.contents.Segment.{Segment}
 use Rattle.std.specs.List.{AllByRecursion}
 use Rattle.std.specs.Str.{bytes_eq}
 use Rattle.object65.specs.Objects.{section_limit}
-use Rattle.asm65.specs.declared.laying.standing.Standing.{Standing}
+use Rattle.asm65.specs.declared.standing.Standing.{Standing}
 use Rattle.language65.specs.Layout.{grown, grown_at, place_of, segment_at}
 use Rattle.asm65.specs.Sounds.{AreWithin, IsSoundStanding}
 use Rattle.language65.proofs.Lists.{bytes_swap, position_mapped}

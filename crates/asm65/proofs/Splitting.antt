@@ -3,7 +3,7 @@ use Rattle.std.proofs.Common.{◌≡◌, ℕ, suc, ◌+◌, ◌<◌, Bool, true,
 use Rattle.std.specs.List.{prefix_len}
 use Rattle.std.proofs.lemmas.List.{take_all, drop_all}
 use Rattle.std.specs.Prelude.{unwrap_or, option_map, if◌then◌else◌, ◌-◌}
-use Rattle.asm65.specs.Lines.{is_line_end, is_return, begins_with_end, put_before, lines_of, ends_in_return, without_return}
+use Rattle.module65.specs.Lines.{is_line_end, is_return, begins_with_end, put_before, lines_of, ends_in_return, without_return}
 
 abbrev pub is_inside : ℕ → Bool
 is_inside b = not (is_line_end b)

@@ -1,10 +1,6 @@
 pub mod Refusals
-pub mod Lines
 pub mod Assembly
-pub mod Laws
-pub mod Laying
-pub mod Module
-pub mod Evaluating
+pub mod Views
 pub mod Sounds
-pub mod LayoutViews
 pub mod Measuring
+pub mod Advancing

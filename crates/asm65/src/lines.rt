@@ -2,7 +2,7 @@
 
 ghost use Rattle.std.specs.Prelude.{◌≡◌, ◌<◌, ◌≤◌, ◌∷◌, [], not, length, IsTrue};
 ghost use Rattle.std.specs.List.{prefix_len};
-ghost use Rattle.asm65.specs.Lines.{ends_in_return, is_line_end, lines_of, without_return};
+ghost use Rattle.module65.specs.Lines.{ends_in_return, is_line_end, lines_of, without_return};
 
 /// How many bytes stand before the first LF.
 fn line_len(bytes: &[u8]) -> usize

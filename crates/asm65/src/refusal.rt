@@ -2,7 +2,7 @@
 
 ghost use Rattle.std.specs.Prelude.{◌≡◌, None};
 ghost use Rattle.language65.specs.declared.fault.AsmFault.TheVariants.{OutOfMemory};
-ghost use Rattle.asm65.specs.Lines.{at_line};
+ghost use Rattle.asm65.specs.Views.{at_line};
 
 use language65::AsmFault;
 use std::alloc::{AllocError, AllocFailed};

@@ -1,7 +1,8 @@
 //! What is said while a source is assembled.
 
 ghost use Rattle.std.specs.Prelude.{◌≡◌, ◌++◌, OnOk};
-ghost use Rattle.asm65.specs.Module.{warning_at};
+ghost use Rattle.asm65.specs.Views.{place_in};
+ghost use Rattle.module65.specs.Module.{warning_at};
 
 use itoa::Buffer;
 use std::alloc::AllocError;
@@ -16,7 +17,7 @@ pub struct Texts {
 
 /// Adds a warning at a line of a file.
 pub fn warn(err: &mut Sequence<u8>, file: &str, line: u32, words: &[u8]) -> Result<(), AllocError>
-    ensures { OnOk result (err.new ≡ err.old ++ warning_at file.now line words.now) }
+    ensures { OnOk result (err.new ≡ err.old ++ warning_at (place_in file.now line) words.now) }
 {
     let mut buffer = Buffer::new();
     err.extend_from_slice(file.as_bytes())?;

@@ -130,14 +130,20 @@ pub aligned_as : (y : Symbols) (w : Standing) (n : Tree) (v : Option Tree) (k : 
 aligned_as y w n v k e = ap (aligned w (is_byte_value (optional_value y (spot_of w) v (pos 0))) (fill_settled y (spot_of w) v)) e
 
 -- a multiple that is refused, where the values aren't
-refused_third : {A : Type 0} (a b : Bool) (st ts : Settled) (f r : Option AsmFault) (x : A) (m : ℕ) (e : AsmFault) → unless_fault {A = Unit {0}} (when (not a) BadOperand) tt ≡ Ok tt → unless_fault (when (not b) BadOperand) st ≡ Ok ts → Unless (is_memory e) (unless_fault f m ≡ Err e) → Unless (is_memory e) (unless_fault (first_fault (None ∷ when (not (a && b)) BadOperand ∷ f ∷ None ∷ None ∷ None ∷ None ∷ None ∷ r ∷ [])) x ≡ Err e)
-refused_third false b st ts f r x m e t h g = absurd cc
-refused_third true false st ts f r x m e t h g = absurd cc
-refused_third true true st ts None r x m e t h g = unless_then (is_memory e) (λ p. absurd cc) g
-refused_third true true st ts (Some d) r x m e t h g = unless_then (is_memory e) (λ p. let same : d ≡ e = cc in ap (λ k. Err k) same) g
+refused_third : {A : Type 0} (a b : Bool) (f r : Option AsmFault) (x : A) (m : ℕ) (e : AsmFault) → unless_fault {A = Unit {0}} (when (not a) BadOperand) tt ≡ Ok tt → unless_fault {A = Unit {0}} (when (not b) BadOperand) tt ≡ Ok tt → Unless (is_memory e) (unless_fault f m ≡ Err e) → Unless (is_memory e) (unless_fault (first_fault (None ∷ when (not (a && b)) BadOperand ∷ f ∷ None ∷ None ∷ None ∷ None ∷ None ∷ r ∷ [])) x ≡ Err e)
+refused_third false b f r x m e t h g = absurd cc
+refused_third true false f r x m e t h g = absurd cc
+refused_third true true None r x m e t h g = unless_then (is_memory e) (λ p. absurd cc) g
+refused_third true true (Some d) r x m e t h g = unless_then (is_memory e) (λ p. let same : d ≡ e = cc in ap (λ k. Err k) same) g
 
-pub bad_multiple : (w : Standing) (b : Bool) (st ts : Settled) (k : Option ℤ) (e : AsmFault) → unless_fault {A = Unit {0}} (when (not (is_there k)) BadOperand) tt ≡ Ok tt → unless_fault (when (not b) BadOperand) st ≡ Ok ts → Unless (is_memory e) (unless_fault (multiple_fault k) (counted k) ≡ Err e) → Unless (is_memory e) (aligned w b st k ≡ Err e)
-bad_multiple w b st ts k e t h g = refused_third (is_there k) b st ts (multiple_fault k) _ _ (counted k) e t h g
+pub bad_multiple : (w : Standing) (b : Bool) (st : Settled) (k : Option ℤ) (e : AsmFault) → unless_fault {A = Unit {0}} (when (not (is_there k)) BadOperand) tt ≡ Ok tt → unless_fault {A = Unit {0}} (when (not b) BadOperand) tt ≡ Ok tt → Unless (is_memory e) (unless_fault (multiple_fault k) (counted k) ≡ Err e) → Unless (is_memory e) (aligned w b st k ≡ Err e)
+bad_multiple w b st k e t h g = refused_third (is_there k) b (multiple_fault k) _ _ (counted k) e t h g
+
+-- a byte that is refused, where the multiple is constant
+pub bad_byte : (w : Standing) (b : Bool) (st : Settled) (k : Option ℤ) (e : AsmFault) → unless_fault {A = Unit {0}} (when (not (is_there k)) BadOperand) tt ≡ Ok tt → Unless (is_memory e) (unless_fault {A = Unit {0}} (when (not b) BadOperand) tt ≡ Err e) → Unless (is_memory e) (aligned w b st k ≡ Err e)
+bad_byte w b st None e t h = absurd cc
+bad_byte w true st (Some v) e t h = unless_then (is_memory e) (λ p. absurd cc) h
+bad_byte w false st (Some v) e t h = unless_then (is_memory e) (λ p. let same : BadOperand ≡ e = cc in ap (λ k. Err k) same) h
 
 all_well : {A : Type 0} (f r : Option AsmFault) (x : A) → f ≡ None → r ≡ None → unless_fault (first_fault (None ∷ None ∷ f ∷ None ∷ None ∷ None ∷ None ∷ None ∷ r ∷ [])) x ≡ Ok x
 all_well None None x p q = refl
@@ -147,19 +153,17 @@ all_well None (Some e) x p q = absurd cc
 abbrev pub as_ok : ℕ → AddressSize → ℕ → Settled → Result Measured AsmFault
 as_ok len own multiple st = Ok (record { length = len; size = own; multiple = multiple; settled = st })
 
-pub aligned_well : (w : Standing) (b : Bool) (st ts : Settled) (k : Option ℤ) (m g len : ℕ) → unless_fault (when (not b) BadOperand) st ≡ Ok ts → unless_fault (multiple_fault k) (counted k) ≡ Ok m → g ≡ gap (spot_of w).offset (Some (pos m)) → fitted w g ≡ Ok len → aligned w b st k ≡ as_ok len (own_size w) m ts
-aligned_well w false st ts k m g len h hm hg hf = absurd cc
-aligned_well w true st ts None m g len h hm hg hf = absurd cc
-aligned_well w true st ts (Some (negsuc j)) m g len h hm hg hf = absurd cc
-aligned_well w true st ts (Some (pos j)) m g len h hm hg hf =
+pub aligned_well : (w : Standing) (b : Bool) (st : Settled) (k : Option ℤ) (m g len : ℕ) → unless_fault {A = Unit {0}} (when (not b) BadOperand) tt ≡ Ok tt → unless_fault (multiple_fault k) (counted k) ≡ Ok m → g ≡ gap (spot_of w).offset (Some (pos m)) → fitted w g ≡ Ok len → aligned w b st k ≡ as_ok len (own_size w) m st
+aligned_well w false st k m g len h hm hg hf = absurd cc
+aligned_well w true st None m g len h hm hg hf = absurd cc
+aligned_well w true st (Some (negsuc j)) m g len h hm hg hf = absurd cc
+aligned_well w true st (Some (pos j)) m g len h hm hg hf =
     let p = no_fault (multiple_fault (Some (pos j))) j m hm in
     let q = no_fault (when (nat_lt section_limit ((spot_of w).offset + g)) SectionTooLarge) g len hf in
     let same : gap (spot_of w).offset (Some (pos j)) ≡ g = ap (λ i. gap (spot_of w).offset (Some (pos i))) p.1 ∙ sym hg in
-    let filled : st ≡ ts = cc in
     all_well (multiple_fault (Some (pos j))) _ _ p.0 (ap (λ n. when (nat_lt section_limit ((spot_of w).offset + n)) SectionTooLarge) same ∙ q.0)
     ∙ ap (λ n. as_ok n (own_size w) j st) (same ∙ q.1)
     ∙ ap (λ i. as_ok len (own_size w) i st) p.1
-    ∙ ap (as_ok len (own_size w) m) filled
 
 -- ---- All faults.
 

@@ -13,6 +13,7 @@ use Rattle.language65.specs.Sizes.{length_of, settled_of}
 use Rattle.language65.specs.Symbols.{Scope, Symbols, key_defined}
 use Rattle.module65.specs.Laying.{unless_fault}
 use Rattle.asm65.specs.declared.measuring.Measured as code
+use Rattle.asm65.specs.declared.measuring.Settled as held
 use Rattle.asm65.specs.Views.{settled_in}
 
 -- what a statement places and defines, and what is settled of it
@@ -89,3 +90,7 @@ is_bare (reserve n v) = false
 is_bare (align n v) = false
 is_bare (file_part bytes start len) = false
 is_bare _ = true
+
+-- what is settled stands apart from its faults
+abbrev pub any_settled : held.Settled → Unit {0}
+any_settled x = tt

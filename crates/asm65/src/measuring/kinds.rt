@@ -93,7 +93,7 @@ fn close_proc(before: Before<'_>) -> Result<Measured, AsmFault>
 fn without_bytes(before: Before<'_>, statement: &Statement) -> Result<Measured, AsmFault>
     requires standing { IsSoundStanding before.standing.now }
     requires bare { is_bare (stated_of statement.now) ≡ true }
-    ensures placed { Gives is_memory measured_of result (placed
+    ensures { Gives is_memory measured_of result (placed
         (table_of before.entry.symbols.now) (standing_of before.entry.standing.now)
         (stated_of statement.now)) }
 {

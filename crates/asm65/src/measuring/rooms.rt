@@ -14,7 +14,7 @@ ghost use Rattle.language65.specs.Views.{spot_of};
 ghost use Rattle.module65.specs.Laying.{unless_fault};
 ghost use Rattle.symbols65.specs.Resolving.{IsTable};
 ghost use Rattle.symbols65.specs.Views.{table_of};
-ghost use Rattle.asm65.specs.Measuring.{measured_of, placed};
+ghost use Rattle.asm65.specs.Measuring.{any_settled, measured_of, placed};
 ghost use Rattle.asm65.specs.Sounds.{IsSoundStanding};
 ghost use Rattle.asm65.specs.Views.{settled_in, standing_of};
 
@@ -45,10 +45,11 @@ fn fill(
     value: &Option<Expr>,
 ) -> Result<Settled, AsmFault>
     requires { IsTable (table_of symbols.now) known.old.states.items }
-    ensures settled { Gives is_memory settled_in result (unless_fault
+    ensures byte { Gives is_memory any_settled result (unless_fault
         (when (not (is_byte_value (optional_value (table_of symbols.now) (spot_of spot)
-            (option_map tree_of value.now) (pos 0)))) BadOperand)
-        (fill_settled (table_of symbols.now) (spot_of spot) (option_map tree_of value.now))) }
+            (option_map tree_of value.now) (pos 0)))) BadOperand) tt) }
+    ensures settled { IfOk result (λ s. settled_in s
+        ≡ fill_settled (table_of symbols.now) (spot_of spot) (option_map tree_of value.now)) }
     ensures table { OnOk result (IsTable (table_of symbols.now) known.new.states.items) }
 {
     let Some(value) = value else {

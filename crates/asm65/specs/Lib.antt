@@ -4,3 +4,4 @@ pub mod Views
 pub mod Sounds
 pub mod Measuring
 pub mod Advancing
+pub mod Putting

@@ -1,0 +1,50 @@
+//! Which statements ask for a section.
+
+ghost use Rattle.std.specs.Prelude.{◌≡◌};
+ghost use Rattle.syntax65.specs.Trees.{tree_of};
+ghost use Rattle.language65.specs.Laid.{asks_section, has_here};
+ghost use Rattle.language65.specs.Views.{stated_of};
+
+use language65::Statement;
+use syntax65::Expr;
+
+/// Whether an expression has a `*`.
+fn has_here(value: &Expr) -> bool
+    ensures { result ≡ has_here (tree_of value.now) }
+{
+    match value {
+        Expr::Here => true,
+        Expr::Prefix(_, part) => has_here(part),
+        Expr::Binary(_, left, right) => has_here(left) || has_here(right),
+        _ => false,
+    }
+}
+
+/// Whether a statement asks for a section of the segment in which it stands.
+pub fn asks_section(statement: &Statement) -> bool
+    ensures { result ≡ asks_section (stated_of statement.now) }
+{
+    match statement {
+        Statement::Label(_)
+        | Statement::CheapLabel(_)
+        | Statement::UnnamedLabel
+        | Statement::OpenProc(_)
+        | Statement::Instruction {
+            mnemonic: _,
+            operand: _,
+        }
+        | Statement::Values { width: _, items: _ }
+        | Statement::Reserve { count: _, value: _ }
+        | Statement::Align {
+            multiple: _,
+            value: _,
+        } => true,
+        Statement::Constant { name: _, value } => has_here(value),
+        Statement::Assert {
+            value,
+            action: _,
+            text: _,
+        } => has_here(value),
+        _ => false,
+    }
+}

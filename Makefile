@@ -1,4 +1,4 @@
-# bin65: make example proves and builds the program, and assembles and links a first source and two programs with it;
+# bin65: make example proves and builds the program, and assembles and links a first source and three programs with it;
 # make test is the merge gate.
 PREFIX ?= /usr/local
 PROGRAM := crates/bin65/out/bin65

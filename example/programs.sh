@@ -1,5 +1,6 @@
 #!/bin/sh
-# Assembles and links two programs of several modules, an NES cartridge and a C64 program, and compares the images and
+# Assembles and links three programs of several modules, an NES cartridge and two C64 programs, one of them with
+# macros, conditions, repeats and included files and built in three ways, and compares the images and
 # the sizes of each module's sections with what cc65 makes of the same sources and scripts; without cc65 the image is
 # compared with the checksum of the one that cc65 made.
 # usage: programs.sh BIN65
@@ -12,13 +13,16 @@ shown() { echo "\$ $*"; "$@"; }
 fail() { echo "programs.sh: $*" >&2; exit 1; }
 have() { for tool; do command -v "$tool" > /dev/null || return 1; done; }
 
+# options for both assemblers
+options=
+
 # build FOLDER IMAGE CHECKSUM MODULE..: CHECKSUM is what cksum says of cc65's image
 build() {
     folder=$1 image=$2 checksum=$3; shift 3
     rm -rf "$here/out/$folder" && mkdir -p "$here/out/$folder/cc65" && cd "$here/out/$folder"
     objects=
     for module; do
-        shown bin65 ca65 -o "$module.o" "../../$folder/$module.s"
+        shown bin65 ca65 $options -o "$module.o" "../../$folder/$module.s"
         objects="$objects $module.o"
     done
     shown bin65 ld65 -C "../../$folder.cfg" -o "$image" -m "$folder.map" $objects
@@ -44,7 +48,7 @@ sizes_of() {
 compare_with_cc65() {
     real=
     for module; do
-        ca65 -o "cc65/$module.o" "../../$folder/$module.s"
+        ca65 $options -o "cc65/$module.o" "../../$folder/$module.s"
         real="$real cc65/$module.o"
         od65 --dump-segsize "cc65/$module.o" | awk '$2 ~ /^[1-9]/ { sub(":", "", $1); print $1, $2 }' | sort \
             > "cc65/$module.sizes"
@@ -61,3 +65,8 @@ compare_with_cc65() {
 
 build nes game.nes '3915879728 40976' main controller player pictures
 build c64 game.prg '108397790 762' main print numbers
+build balls balls.prg '2020342428 705' main screen
+options='-D NTSC'
+build balls balls.prg '2050229044 705' main screen
+options='-D SILENT=1'
+build balls balls.prg '1851934032 705' main screen

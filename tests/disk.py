@@ -12,7 +12,7 @@ import sys
 import tempfile
 
 # So many bytes of a file are read ahead.
-BUFFER = 65536
+BUFFER = 16384
 ONE_ROW = b"MEMORY { ROM: start = 0, size = $100000; } SEGMENTS { A: load = ROM; B: load = ROM, optional = yes; }"
 NOBODY = 65534
 
@@ -94,7 +94,7 @@ def buffers(tests):
     tests.put("s.cfg", ONE_ROW)
     for beside in range(-5, 6):
         # The literal of B begins so many bytes behind the buffer's end.
-        first = pattern(15 * 4096 + 4025 + beside)
+        first = pattern(3 * 4096 + 4061 + beside)
         file = object_of((b"A", first), (b"B", b"\x11\x22\x33"))
         assert file.index(b"\x03\x03\0\x11\x22\x33") == BUFFER + beside
         tests.put("a.o", file)

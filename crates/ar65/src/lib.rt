@@ -8,6 +8,7 @@ pub mod laws;
 mod listing;
 mod loading;
 mod naming;
+mod reading;
 mod refusal;
 mod replacing;
 mod writing;

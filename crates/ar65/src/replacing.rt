@@ -8,10 +8,11 @@ ghost use Rattle.ar65.specs.Librarian.{with_file, with_files};
 ghost use Rattle.ar65.specs.Refusals.{is_failure, is_outside};
 
 use crate::naming::member_name;
+use crate::reading::{CHUNK, read_front};
 use crate::refusal::Refusal;
 use library65::{Library, LibraryFault};
 use std::alloc::Global;
-use syntax65::{Store, read_front};
+use syntax65::Store;
 
 /// An object's file has at most so many bytes.
 const FILE_LIMIT: usize = 1_073_741_824;
@@ -23,13 +24,14 @@ fn put_file<S: Store>(
     store: &mut S,
     library: &mut Library,
     file: &str,
+    chunk: &mut [u8; CHUNK],
 ) -> Result<(), LibraryFault>
     ensures put { IfSome (S.files store.old) (λ m.
         Gives is_library_outside (λ _. library.new) result (with_file m library.old file.now)) }
     ensures files { S.files store.new ≡ S.files store.old }
     ensures count { Passes LibraryFault.FileError (S.failures store.old) (S.failures store.new) result }
 {
-    let bytes = read_front(alloc, store, file, FILE_LIMIT + 1)?;
+    let bytes = read_front(alloc, store, file, FILE_LIMIT + 1, chunk)?;
     library.replace(member_name(file).as_bytes(), &bytes)
 }
 
@@ -45,8 +47,9 @@ pub fn put_files<S: Store>(
     ensures files { S.files store.new ≡ S.files store.old }
     ensures count { PassesBy is_failure (S.failures store.old) (S.failures store.new) result }
 {
+    let mut chunk = [0u8; CHUNK];
     for (place, file) in files.iter().enumerate() {
-        match put_file(alloc, store, library, file) {
+        match put_file(alloc, store, library, file, &mut chunk) {
             Ok(()) => {}
             Err(fault) => return Err(Refusal::File(place, fault)),
         }

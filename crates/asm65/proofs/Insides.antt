@@ -1,28 +1,53 @@
--- No form fails by a store.
-use Rattle.std.proofs.Common.{◌≡◌, ℕ, zero, suc, Bool, true, false, refl, List, [], ◌∷◌, ◌+◌, length, take, position, Option, Some, None, slice_get, Result, Ok, Err}
-use Rattle.std.specs.Prelude.{IfErr, ◌==◌, ◌&&◌, ◌-◌, nat_le, if◌then◌else◌}
+-- No fault of a statement is a store's.
+use Rattle.std.proofs.Common.{◌≡◌, ℕ, zero, suc, ℤ, pos, Bool, true, false, refl, List, [], ◌∷◌, ◌+◌, length, take, Option, Some, None, slice_get}
+use Rattle.std.specs.Prelude.{Result, Ok, Err, IfErr, ◌-◌, nat_le, nat_lt, not, ◌==◌, ◌&&◌, if◌then◌else◌}
+use Rattle.std.specs.List.{list_any}
 use Rattle.syntax65.specs.Outcome.{◌>>=◌, Gives, Unless}
-use Rattle.syntax65.specs.Trees.{Tree, number, here, name, cheap, forward, backward, unary, binary}
-use Rattle.object65.specs.Form.{Form}
+use Rattle.syntax65.specs.Trees.{Tree, number, here, name, cheap, forward, backward, unary, binary, tree_of}
+use Rattle.syntax65.specs.declared.lexing.tokens.AddressSize.{AddressSize}
+use Rattle.expand65.specs.declared.place.Place.{Place}
+use Rattle.expand65.specs.declared.fault.ExpandFault.TheVariants as expand
+use Rattle.object65.specs.Form.{Form, lit, sec, imp, prefix as prefix_form, binary as binary_form}
 use Rattle.object65.specs.Folding.{fold1, fold2}
+use Rattle.object65.specs.Objects.{fits_width, section_limit, value_bytes}
 use Rattle.object65.specs.declared.folding.FormFault.{FormFault}
 use Rattle.object65.specs.declared.folding.FormFault.TheVariants as form
+use Rattle.object65.specs.declared.object.Action.{Action}
+use Rattle.object65.specs.declared.object.Action.TheVariants as action
+use Rattle.object65.specs.declared.object.Width.{Width}
+use Rattle.object65.specs.declared.object.Width.TheVariants as width
+use Rattle.language65.specs.declared.contents.Part.{Part}
+use Rattle.language65.specs.declared.contents.Part.TheVariants.{Known}
+use Rattle.language65.specs.declared.contents.Said.{Said}
+use Rattle.language65.specs.declared.contents.Segment.{Segment}
 use Rattle.language65.specs.declared.fault.AsmFault.{AsmFault}
-use Rattle.language65.specs.declared.fault.AsmFault.TheVariants.{Source, FileError, Undefined, NoSuchScope, NoSuchLabel}
-use Rattle.language65.specs.declared.fault.SourceFault.TheVariants as source
-use Rattle.language65.specs.Contents.{export_form}
+use Rattle.language65.specs.declared.fault.AsmFault.TheVariants.{Expansion, FileError, NotUnderstood, OutOfRange, SectionTooLarge, Undefined, NoSuchScope, NoSuchLabel}
+use Rattle.language65.specs.Contents.{decided, export_said, import_fault, operand_form, stored}
 use Rattle.language65.specs.Faults.{is_failure, is_memory}
-use Rattle.language65.specs.Language.{Stated, constant}
-use Rattle.language65.specs.Laid.{Laid, Spot, is_unnamed}
-use Rattle.language65.specs.Names.{Meaning, defined_at, imported_as, defined_in, first_found, import_key, is_cheap, last_of, meaning_of, member_meaning, or_fault, scope_from, scopes_from, scopes_of, shown, unnamed_meaning}
-use Rattle.language65.specs.Norms.{folded, form_by, form_of_stated, form_of_laid, form_of_meaning, norm, norm_of}
+use Rattle.language65.specs.Laid.{Spot}
+use Rattle.language65.specs.Language.{Stated, instruction, reserve, align, file_part, segment, close_scope, close_proc, pop_segment}
+use Rattle.language65.specs.Layout.{Standing, own_size, place_of, segment_at, spot_of}
+use Rattle.language65.specs.LineFaults as faults
+use Rattle.language65.specs.Names.{Meaning, defined_at, imported_as, first_found, last_of, meaning_of, member_meaning, or_fault, scope_from, scopes_from, scopes_of, shown, unnamed_meaning}
+use Rattle.language65.specs.Norms.{constant_in, defined_form, folded, form_by, form_of_definition, form_of_meaning, form_of_value, norm, norm_of}
+use Rattle.language65.specs.Sizes.{length_of}
+use Rattle.language65.specs.Symbols.{Definition, Key, Scope, Symbols, cheap_in, defined, imported, key_defined, named, unnamed_at}
+use Rattle.module65.specs.Pieces as piece
+use Rattle.module65.specs.Pieces.{Made, Purpose, absent_of, as_part, as_said, made_of, used}
+use Rattle.module65.specs.Laying.{unless_fault}
+use Rattle.layout65.specs.Measuring.{Measured, measure_of, measured}
+use Rattle.asm65.specs.declared.waiting.Piece.{Piece}
+use Rattle.asm65.specs.declared.waiting.Piece.TheVariants.{Datum, Operand, Constant, Assertion, Import, Demand, Export}
+use Rattle.asm65.specs.Resolving.{coming, lost}
 
 abbrev pub IsInside : {A : Type 0} → Result A AsmFault → Type 0
 IsInside r = IfErr r (λ e. is_failure e ≡ false)
 
-pub inside_then : {A B : Type 0} (r : Result A AsmFault) (f : A → Result B AsmFault) → IsInside r → ((x : A) → IsInside (f x)) → IsInside (r >>= f)
+inside_then : {A B : Type 0} (r : Result A AsmFault) (f : A → Result B AsmFault) → IsInside r → ((x : A) → IsInside (f x)) → IsInside (r >>= f)
 inside_then (Ok x) f h k = k x
 inside_then (Err e) f h k = h
+
+-- ---- Forms.
 
 inside_folded : (r : Result Form FormFault) → IsInside (folded r)
 inside_folded (Ok f) = tt
@@ -42,75 +67,334 @@ inside_form operand s h (binary op e g) =
     inside_then (form_by operand s e) (λ f. form_by operand s g >>= (λ k. folded (fold2 op f k))) (inside_form operand s h e)
     (λ f. inside_then (form_by operand s g) (λ k. folded (fold2 op f k)) (inside_form operand s h g) (λ k. inside_folded (fold2 op f k)))
 
-inside_stated : (a : Spot → Tree → Result Form AsmFault) → ((s : Spot) (e : Tree) → IsInside (a s e)) → (s : Spot) (x : Stated) → IsInside (form_of_stated a s x)
-inside_stated a h s (constant n e) = h s e
-inside_stated a h s _ = tt
+inside_value : (a : Spot → Tree → Result Form AsmFault) → ((s : Spot) (e : Tree) → IsInside (a s e)) → (s : Spot) (v : Option Tree) → IsInside (form_of_value a s v)
+inside_value a h s None = tt
+inside_value a h s (Some e) = h s e
 
-inside_laid : (a : Spot → Tree → Result Form AsmFault) → ((s : Spot) (e : Tree) → IsInside (a s e)) → (o : Option Laid) → IsInside (form_of_laid a o)
-inside_laid a h None = refl
-inside_laid a h (Some l) = inside_stated a h l.spot l.stated
+inside_definition : (a : Spot → Tree → Result Form AsmFault) → ((s : Spot) (e : Tree) → IsInside (a s e)) → (o : Option Definition) → IsInside (form_of_definition a o)
+inside_definition a h None = refl
+inside_definition a h (Some d) = inside_value a h d.spot d.value
 
-inside_meaning : (a : ℕ → Spot → Tree → Result Form AsmFault) (all : List Laid) → ((j : ℕ) (s : Spot) (e : Tree) → IsInside (a j s e)) → (m : Meaning) → IsInside (form_of_meaning a all m)
-inside_meaning a all h (imported_as k) = tt
-inside_meaning a all h (defined_at j) = inside_laid (a j) (h j) (slice_get all j)
+inside_meaning : (a : Spot → Tree → Result Form AsmFault) (y : Symbols) → ((s : Spot) (e : Tree) → IsInside (a s e)) → (m : Meaning) → IsInside (form_of_meaning a y m)
+inside_meaning a y h (imported_as k) = tt
+inside_meaning a y h (defined_at j) = inside_definition a h (slice_get y.definitions j)
+
+-- ---- Names.
 
 inside_found : (z : AsmFault) → is_failure z ≡ false → (o p : Option ℕ) → IsInside (or_fault z o p)
 inside_found z h (Some i) p = tt
 inside_found z h None (Some k) = tt
 inside_found z h None None = h
 
-inside_member : (ls : List Laid) (n : List ℕ) (absent lost : AsmFault) → is_failure absent ≡ false → is_failure lost ≡ false → (scope : Option ℕ) → IsInside (member_meaning ls n absent lost scope)
-inside_member ls n absent lost a b None = b
-inside_member ls n absent lost a b (Some zero) = inside_found absent a (defined_in ls zero n) (import_key ls n)
-inside_member ls n absent lost a b (Some (suc i)) = inside_found absent a (defined_in ls (suc i) n) None
+inside_member : (y : Symbols) (n : List ℕ) (absent lost : AsmFault) → is_failure absent ≡ false → is_failure lost ≡ false → (scope : Option ℕ) → IsInside (member_meaning y n absent lost scope)
+inside_member y n absent lost a b None = b
+inside_member y n absent lost a b (Some zero) = inside_found absent a (defined y (named zero n)) (imported y n)
+inside_member y n absent lost a b (Some (suc i)) = inside_found absent a (defined y (named (suc i) n)) None
 
-inside_back : (ls : List Laid) (k n : ℕ) (b : Bool) → IsInside (if b then unnamed_meaning ls (k - n) else Err NoSuchLabel)
-inside_back ls k n true = inside_found NoSuchLabel refl (position (λ l. l.spot.unnamed == k - n && is_unnamed l.stated) ls) None
-inside_back ls k n false = refl
+inside_back : (y : Symbols) (k n : ℕ) (b : Bool) → IsInside (if b then unnamed_meaning y (k - n) else Err NoSuchLabel)
+inside_back y k n true = inside_found NoSuchLabel refl (defined y (unnamed_at (k - n))) None
+inside_back y k n false = refl
 
-inside_operand : (all : List Laid) (p i : ℕ) (s : Spot) (e : Tree) → IsInside (meaning_of all p i s e)
-inside_operand all p i s (name false (n ∷ [])) = inside_found (Undefined n) refl (first_found (λ q. defined_in (take p all) q n) (scopes_from (take p all) s.scope)) (import_key (take p all) n)
-inside_operand all p i s (name false []) = inside_member (take p all) (last_of []) (Undefined (shown false [])) (NoSuchScope (shown false [])) refl refl (scope_from (take i all) s.scope false (scopes_of []))
-inside_operand all p i s (name false (n ∷ m ∷ parts)) = inside_member (take p all) (last_of (n ∷ m ∷ parts)) (Undefined (shown false (n ∷ m ∷ parts))) (NoSuchScope (shown false (n ∷ m ∷ parts))) refl refl (scope_from (take i all) s.scope false (scopes_of (n ∷ m ∷ parts)))
-inside_operand all p i s (name true parts) = inside_member (take p all) (last_of parts) (Undefined (shown true parts)) (NoSuchScope (shown true parts)) refl refl (scope_from (take i all) s.scope true (scopes_of parts))
-inside_operand all p i s (cheap n) = inside_found (Undefined n) refl (position (λ l. l.spot.region == s.region && is_cheap n l.stated) (take p all)) None
-inside_operand all p i s (forward n) = inside_found NoSuchLabel refl (position (λ l. l.spot.unnamed == s.unnamed + n - 1 && is_unnamed l.stated) (take p all)) None
-inside_operand all p i s (backward n) = inside_back (take p all) s.unnamed n (nat_le n s.unnamed)
-inside_operand all p i s _ = refl
+inside_operand : (y : Symbols) (s : Spot) (e : Tree) → IsInside (meaning_of y s e)
+inside_operand y s (name false (n ∷ [])) = inside_found (Undefined n) refl (first_found (λ q. defined y (named q n)) (scopes_from y.scopes s.scope)) (imported y n)
+inside_operand y s (name false []) = inside_member y (last_of []) (Undefined (shown false [])) (NoSuchScope (shown false [])) refl refl (scope_from (take s.opened y.scopes) s.scope false (scopes_of []))
+inside_operand y s (name false (n ∷ m ∷ parts)) = inside_member y (last_of (n ∷ m ∷ parts)) (Undefined (shown false (n ∷ m ∷ parts))) (NoSuchScope (shown false (n ∷ m ∷ parts))) refl refl (scope_from (take s.opened y.scopes) s.scope false (scopes_of (n ∷ m ∷ parts)))
+inside_operand y s (name true parts) = inside_member y (last_of parts) (Undefined (shown true parts)) (NoSuchScope (shown true parts)) refl refl (scope_from (take s.opened y.scopes) s.scope true (scopes_of parts))
+inside_operand y s (cheap n) = inside_found (Undefined n) refl (defined y (cheap_in s.region n)) None
+inside_operand y s (forward n) = inside_found NoSuchLabel refl (defined y (unnamed_at (s.unnamed + n - 1))) None
+inside_operand y s (backward n) = inside_back y s.unnamed n (nat_le n s.unnamed)
+inside_operand y s _ = refl
 
-inside_norm : (n : ℕ) (all : List Laid) (p i : ℕ) (s : Spot) (e : Tree) → IsInside (norm n all p i s e)
-inside_norm zero all p i s e = refl
-inside_norm (suc n) all p i s e =
-    inside_form (λ t. meaning_of all p i s t >>= form_of_meaning (norm n all p) all) s
-    (λ t. inside_then (meaning_of all p i s t) (form_of_meaning (norm n all p) all) (inside_operand all p i s t) (inside_meaning (norm n all p) all (inside_norm n all p))) e
+inside_norm : (n : ℕ) (y : Symbols) (s : Spot) (e : Tree) → IsInside (norm n y s e)
+inside_norm zero y s e = refl
+inside_norm (suc n) y s e =
+    inside_form (λ t. meaning_of y s t >>= form_of_meaning (norm n y) y) s
+    (λ t. inside_then (meaning_of y s t) (form_of_meaning (norm n y) y) (inside_operand y s t) (inside_meaning (norm n y) y (inside_norm n y))) e
 
-inside_norm_of : (all : List Laid) (i : ℕ) (s : Spot) (e : Tree) → IsInside (norm_of all i s e)
-inside_norm_of all i s e = inside_norm (suc (length all)) all (length all) i s e
+inside_norm_of : (y : Symbols) (s : Spot) (e : Tree) → IsInside (norm_of y s e)
+inside_norm_of y s e = inside_norm (suc (length y.definitions)) y s e
 
-inside_export : (all : List Laid) (j : ℕ) → IsInside (export_form all j)
-inside_export all j = inside_meaning (norm_of all) all (inside_norm_of all) (defined_at j)
+inside_defined : (y : Symbols) (j : ℕ) → IsInside (defined_form y j)
+inside_defined y j = inside_meaning (norm_of y) y (inside_norm_of y) (defined_at j)
 
--- ---- Faults of memory are no faults of the store.
+-- ---- What waits.
+
+inside_stored : (w : Width) (line : ℕ) (f : Form) → IsInside (stored w line f)
+inside_stored w line (lit v) = by (fits_width w v)
+  where
+    by : (b : Bool) → IsInside (if b then Ok (Known (value_bytes w v)) else Err OutOfRange)
+    by true = tt
+    by false = refl
+inside_stored w line (sec k v) = tt
+inside_stored w line (imp k) = tt
+inside_stored w line (prefix_form op f) = tt
+inside_stored w line (binary_form op f g) = tt
+
+inside_branch : (w : Width) (s : Spot) (f : Form) → IsInside (operand_form w s f)
+inside_branch width.Branch s f = inside_folded _
+inside_branch width.Byte s f = tt
+inside_branch width.Word s f = tt
+inside_branch width.HighFirst s f = tt
+inside_branch width.Dword s f = tt
+
+inside_part : (g : ℕ) (r : Result Part AsmFault) → IsInside r → IsInside (r >>= as_part g)
+inside_part g (Ok p) h = tt
+inside_part g (Err e) h = h
+
+inside_said : (r : Result (List Said) AsmFault) → IsInside r → IsInside (r >>= as_said)
+inside_said (Ok ss) h = tt
+inside_said (Err e) h = h
+
+inside_decided : (act : Action) (line : ℕ) (words : List ℕ) (f : Form) → IsInside (decided act line words f)
+inside_decided action.Error line words (lit (pos zero)) = refl
+inside_decided action.Error line words (lit (pos (suc n))) = tt
+inside_decided action.Error line words (lit _) = tt
+inside_decided action.Warning line words (lit v) = tt
+inside_decided action.Error line words (sec k v) = tt
+inside_decided action.Error line words (imp k) = tt
+inside_decided action.Error line words (prefix_form op f) = tt
+inside_decided action.Error line words (binary_form op f g) = tt
+inside_decided action.Warning line words (sec k v) = tt
+inside_decided action.Warning line words (imp k) = tt
+inside_decided action.Warning line words (prefix_form op f) = tt
+inside_decided action.Warning line words (binary_form op f g) = tt
+
+inside_used : (place : Place) (s : Spot) (why : Purpose) (f : Form) → IsInside (used place s why f)
+inside_used place s (piece.datum w) f = inside_part s.segment (stored w place.line f) (inside_stored w place.line f)
+inside_used place s (piece.operand w) f =
+    inside_part s.segment (operand_form w s f >>= stored w place.line)
+    (inside_then (operand_form w s f) (stored w place.line) (inside_branch w s f) (inside_stored w place.line))
+inside_used place s piece.equated f = tt
+inside_used place s (piece.asserted act words) f = inside_then (decided act place.line words f) _ (inside_decided act place.line words f) (λ ss. tt)
+
+inside_import : (y : Symbols) (n : List ℕ) → IsInside (import_fault y n)
+inside_import y n = by (defined y (named 0 n)) refl
+  where
+    by : (o : Option ℕ) → defined y (named 0 n) ≡ o → IsInside (import_fault y n)
+    by None e = rw e tt
+    by (Some j) e = rw e refl
+
+inside_absent : (must : Bool) (n : List ℕ) → IsInside (absent_of must n)
+inside_absent true n = refl
+inside_absent false n = tt
+
+inside_export : (y : Symbols) (line : ℕ) (n : List ℕ) (must : Bool) (o : Option ℕ) → IsInside (export_said y line n (absent_of must n) o)
+inside_export y line n must None = inside_absent must n
+inside_export y line n must (Some j) = inside_then (defined_form y j) _ (inside_defined y j) (λ f. tt)
+
+inside_valued : (y : Symbols) (place : Place) (s : Spot) (why : Purpose) (e : Tree) → IsInside (made_of y place s (piece.valued why e))
+inside_valued y place s why e = inside_then (norm_of y s e) (used place s why) (inside_norm_of y s e) (inside_used place s why)
+
+inside_coming : (y : Symbols) (place : Place) (s : Spot) (p : Piece) → IsInside (coming y place s p)
+inside_coming y place s (Datum w e) = inside_valued y place s (piece.datum w) (tree_of e)
+inside_coming y place s (Operand w e) = inside_valued y place s (piece.operand w) (tree_of e)
+inside_coming y place s (Constant at) = inside_then (defined_form y at) (used place s piece.equated) (inside_defined y at) (inside_used place s piece.equated)
+inside_coming y place s (Assertion act words e) = inside_valued y place s (piece.asserted act words) (tree_of e)
+inside_coming y place s (Import n) = inside_said (import_fault y n) (inside_import y n)
+inside_coming y place s (Demand n) = tt
+inside_coming y place s (Export must n) = inside_said (export_said y place.line n (absent_of must n) (defined y (named 0 n))) (inside_export y place.line n must (defined y (named 0 n)))
+
+-- ---- What a call answers.
 
 memory_inside : (e : AsmFault) → is_memory e ≡ true → is_failure e ≡ false
-memory_inside (Source source.FileError) h = absurd cc
+memory_inside (Expansion expand.FileError) h = absurd cc
 memory_inside FileError h = absurd cc
 memory_inside _ h = refl
 
-inside_from : {X : Type 0} (r : Result X AsmFault) (view : X → Form) (read : Result Form AsmFault) → IsInside read → Gives is_memory view r read → IsInside r
-inside_from (Ok x) view read h k = tt
-inside_from (Err e) view read h k = go (is_memory e) refl k
+-- where a fault is memory's, or one that is no store's
+pub inside_from : {X Y : Type 0} (r : Result X AsmFault) (view : X → Y) (read : Result Y AsmFault) → IsInside read → Gives is_memory view r read → IsInside r
+inside_from {X} {Y} (Ok x) view read h k = tt
+inside_from {X} {Y} (Err e) view read h k = go (is_memory e) refl k
   where
     go : (b : Bool) → is_memory e ≡ b → Unless b (read ≡ Err e) → is_failure e ≡ false
     go true m u = memory_inside e m
     go false m u = by read u h
       where
-        by : (r : Result Form AsmFault) → r ≡ Err e → IsInside r → is_failure e ≡ false
+        by : (r : Result Y AsmFault) → r ≡ Err e → IsInside r → is_failure e ≡ false
         by (Ok x) same i = absurd cc
         by (Err f) same i = (let e' : f ≡ e = cc in rw e' at i)
 
-pub norm_inside : {X : Type 0} (r : Result X AsmFault) (view : X → Form) (all : List Laid) (i : ℕ) (s : Spot) (e : Tree) → Gives is_memory view r (norm_of all i s e) → IsInside r
-norm_inside r view all i s e h = inside_from r view (norm_of all i s e) (inside_norm_of all i s e) h
+-- what waits comes to its content, or to a fault that is no store's
+pub resolved_inside : {X : Type 0} (r : Result X AsmFault) (view : X → Made) (y : Symbols) (place : Place) (s : Spot) (p : Piece) → Gives is_memory view r (coming y place s p) → IsInside r
+resolved_inside r view y place s p h = inside_from r view (coming y place s p) (inside_coming y place s p) h
 
-pub export_inside : {X : Type 0} (r : Result X AsmFault) (view : X → Form) (all : List Laid) (j : ℕ) → Gives is_memory view r (export_form all j) → IsInside r
-export_inside r view all j h = inside_from r view (export_form all j) (inside_export all j) h
+-- ---- A line.
+
+abbrev AreInsideFaults : Option AsmFault → Type 0
+AreInsideFaults o = (e : AsmFault) → o ≡ Some e → is_failure e ≡ false
+
+inside_first : (o : Option AsmFault) (os : List (Option AsmFault)) → AreInsideFaults o → AreInsideFaults (faults.first_fault os) → AreInsideFaults (faults.first_fault (o ∷ os))
+inside_first None os h k = k
+inside_first (Some e) os h k = h
+
+no_fault : AreInsideFaults None
+no_fault e h = absurd cc
+
+one_fault : (e : AsmFault) → is_failure e ≡ false → AreInsideFaults (Some e)
+one_fault e h d same = let e' : e ≡ d = cc in rw e' at h
+
+inside_when : (b : Bool) (e : AsmFault) → is_failure e ≡ false → AreInsideFaults (faults.when b e)
+inside_when true e h = one_fault e h
+inside_when false e h = no_fault
+
+inside_unless : {A : Type 0} (o : Option A) (e : AsmFault) → is_failure e ≡ false → AreInsideFaults (faults.unless_there o e)
+inside_unless None e h = one_fault e h
+inside_unless (Some x) e h = no_fault
+
+inside_where : {A : Type 0} (o : Option A) (e : AsmFault) → is_failure e ≡ false → AreInsideFaults (faults.where_there o e)
+inside_where None e h = no_fault
+inside_where (Some x) e h = one_fault e h
+
+inside_either : (o p : Option AsmFault) → AreInsideFaults o → AreInsideFaults p → AreInsideFaults (faults.or_then o p)
+inside_either None p h k = k
+inside_either (Some e) p h k = h
+
+inside_lost : (cs : List Scope) (scope : ℕ) (e : Tree) → AreInsideFaults (faults.lost_scope cs scope e)
+inside_lost cs scope (name false (n ∷ [])) = no_fault
+inside_lost cs scope (name false []) = inside_unless (scope_from cs scope false (scopes_of [])) _ refl
+inside_lost cs scope (name false (n ∷ m ∷ parts)) = inside_unless (scope_from cs scope false (scopes_of (n ∷ m ∷ parts))) _ refl
+inside_lost cs scope (name true parts) = inside_unless (scope_from cs scope true (scopes_of parts)) _ refl
+inside_lost cs scope (unary op e) = inside_lost cs scope e
+inside_lost cs scope (binary op e f) = inside_either (faults.lost_scope cs scope e) (faults.lost_scope cs scope f) (inside_lost cs scope e) (inside_lost cs scope f)
+inside_lost cs scope (number v) = no_fault
+inside_lost cs scope here = no_fault
+inside_lost cs scope (cheap n) = no_fault
+inside_lost cs scope (forward n) = no_fault
+inside_lost cs scope (backward n) = no_fault
+
+inside_lost_all : (cs : List Scope) (scope : ℕ) (es : List Tree) → AreInsideFaults (faults.lost_scopes cs scope es)
+inside_lost_all cs scope [] = no_fault
+inside_lost_all cs scope (e ∷ es) = inside_either (faults.lost_scope cs scope e) (faults.lost_scopes cs scope es) (inside_lost cs scope e) (inside_lost_all cs scope es)
+
+inside_opened : (cs : List Scope) (scope : ℕ) (o : Option (List ℕ)) → AreInsideFaults (faults.opened_twice cs scope o)
+inside_opened cs scope None = no_fault
+inside_opened cs scope (Some n) = inside_where _ _ refl
+
+inside_twice : (y : Symbols) (k : Option Key) → AreInsideFaults (faults.defined_twice y k)
+inside_twice y None = no_fault
+inside_twice y (Some (named scope n)) = inside_where _ _ refl
+inside_twice y (Some (cheap_in region n)) = inside_where _ _ refl
+inside_twice y (Some (unnamed_at k)) = no_fault
+
+inside_multiple : (v : Option ℤ) → AreInsideFaults (faults.multiple_fault v)
+inside_multiple None = one_fault _ refl
+inside_multiple (Some (pos n)) = inside_when _ _ refl
+inside_multiple _ = one_fault _ refl
+
+inside_changed : (gs : List Segment) (own : Option AddressSize) (place : Option ℕ) → AreInsideFaults (faults.changed_size gs own place)
+inside_changed gs (Some own) (Some i) = inside_when _ _ refl
+inside_changed gs None place = no_fault
+inside_changed gs (Some own) None = no_fault
+
+inside_form_fault : (y : Symbols) (s : Spot) (own : AddressSize) (x : Stated) → AreInsideFaults (faults.form_fault y s own x)
+inside_form_fault y s own (instruction m o) = inside_unless _ _ refl
+inside_form_fault y s own _ = no_fault
+
+inside_operand_fault : (y : Symbols) (s : Spot) (x : Stated) → AreInsideFaults (faults.operand_fault y s x)
+inside_operand_fault y s (reserve n v) = inside_when _ _ refl
+inside_operand_fault y s (align n v) = inside_when _ _ refl
+inside_operand_fault y s (file_part bytes start len) = inside_when _ _ refl
+inside_operand_fault y s _ = no_fault
+
+inside_alignment : (y : Symbols) (s : Spot) (x : Stated) → AreInsideFaults (faults.alignment_fault y s x)
+inside_alignment y s (align n v) = inside_multiple (constant_in y s n)
+inside_alignment y s _ = no_fault
+
+inside_missing : (x : Stated) → AreInsideFaults (faults.missing_file x)
+inside_missing (file_part bytes start len) = inside_unless bytes _ refl
+inside_missing _ = no_fault
+
+inside_part_fault : (y : Symbols) (s : Spot) (x : Stated) → AreInsideFaults (faults.part_fault y s x)
+inside_part_fault y s (file_part (Some bytes) start len) = inside_when _ _ refl
+inside_part_fault y s (file_part None start len) = no_fault
+inside_part_fault y s _ = no_fault
+
+inside_size : (gs : List Segment) (x : Stated) → AreInsideFaults (faults.size_fault gs x)
+inside_size gs (segment n own) = inside_changed gs own (place_of gs n)
+inside_size gs _ = no_fault
+
+inside_block : (cs : List Scope) (scope : ℕ) (x : Stated) → AreInsideFaults (faults.block_fault cs scope x)
+inside_block cs scope close_scope = inside_when _ _ refl
+inside_block cs scope close_proc = inside_when _ _ refl
+inside_block cs scope _ = no_fault
+
+inside_pop : (kept : List ℕ) (x : Stated) → AreInsideFaults (faults.pop_fault kept x)
+inside_pop kept pop_segment = inside_when _ _ refl
+inside_pop kept _ = no_fault
+
+abbrev AllInside : List (Option AsmFault) → Type 0
+AllInside [] = Unit {0}
+AllInside (o ∷ os) = AreInsideFaults o × AllInside os
+
+first_inside : (os : List (Option AsmFault)) → AllInside os → AreInsideFaults (faults.first_fault os)
+first_inside [] h = no_fault
+first_inside (o ∷ os) h = inside_first o os h.0 (first_inside os h.1)
+
+-- a line's fault is no store's
+pub line_inside : (y : Symbols) (w : Standing) (x : Stated) → AreInsideFaults (faults.line_fault y w x)
+line_inside y w x =
+    let s : Spot = spot_of w in
+    let outside : Bool = faults.stands_outside x && faults.is_open s.scope in
+    let full : Bool = nat_lt section_limit (s.offset + length_of y s (own_size w) x) in
+    first_inside (
+    faults.when outside NotUnderstood
+    ∷ faults.lost_scopes y.scopes s.scope (faults.trees_of x)
+    ∷ faults.opened_twice y.scopes s.scope (faults.scope_name x)
+    ∷ faults.defined_twice y (key_defined s x)
+    ∷ faults.form_fault y s (own_size w) x
+    ∷ faults.operand_fault y s x
+    ∷ faults.alignment_fault y s x
+    ∷ faults.missing_file x
+    ∷ faults.part_fault y s x
+    ∷ faults.size_fault w.segments x
+    ∷ faults.block_fault y.scopes s.scope x
+    ∷ faults.pop_fault w.kept x
+    ∷ faults.when full SectionTooLarge
+    ∷ []) (
+      inside_when outside NotUnderstood refl,
+      (
+        inside_lost_all y.scopes s.scope (faults.trees_of x),
+        (
+          inside_opened y.scopes s.scope (faults.scope_name x),
+          (
+            inside_twice y (key_defined s x),
+            (
+              inside_form_fault y s (own_size w) x,
+              (
+                inside_operand_fault y s x,
+                (
+                  inside_alignment y s x,
+                  (
+                    inside_missing x,
+                    (
+                      inside_part_fault y s x,
+                      (
+                        inside_size w.segments x,
+                        (
+                          inside_block y.scopes s.scope x,
+                          (
+                            inside_pop w.kept x,
+                            (
+                              inside_when full SectionTooLarge refl,
+                              tt,
+                            ),
+                          ),
+                        ),
+                      ),
+                    ),
+                  ),
+                ),
+              ),
+            ),
+          ),
+        ),
+      ),
+    )
+
+inside_unless_fault : {A : Type 0} (o : Option AsmFault) (x : A) → AreInsideFaults o → IsInside (unless_fault o x)
+inside_unless_fault None x h = tt
+inside_unless_fault (Some e) x h = h e refl
+
+-- what a statement comes to at its line is found, or a fault that is no store's
+pub measured_inside : {X : Type 0} (r : Result X AsmFault) (view : X → Measured) (y : Symbols) (w : Standing) (x : Stated) → Gives is_memory view r (measured y w x) → IsInside r
+measured_inside r view y w x h = inside_from r view (measured y w x) (inside_unless_fault (faults.line_fault y w x) (measure_of y w x) (line_inside y w x)) h

@@ -1,39 +1,226 @@
--- What laid lines without a fault come to.
-use Rattle.std.proofs.Common.{◌≡◌, ◌∙◌, ℕ, List, ◌++◌, take, Bool, true, false, sym, ap, None, Result, Ok, Err}
-use Rattle.syntax65.specs.Outcome.{Gives, Unless}
+-- What is answered, from what the statements of a source come to.
+use Rattle.std.proofs.Common.{◌≡◌, ◌∙◌, ℕ, ◌+◌, ◌*◌, ◌≤◌, ◌<◌, arith, nat_lt, Bool, true, false, List, [], Option, Some, None, refl, sym, ap, subst}
+use Rattle.std.specs.Prelude.{Result, Ok, Err, IfOk, IfErr, IfSome, ⊤}
+use Rattle.syntax65.specs.Outcome.{Finds, Unless, ◌>>=◌}
+use Rattle.syntax65.specs.Store.{Files, Passes, PassesBy}
+use Rattle.std.proofs.lemmas.Bool.Decides.{nat_tests}
+use Rattle.expand65.specs.declared.fault.ExpandFault.TheVariants.{FileError}
+use Rattle.expand65.specs.declared.expander.Expander.{Expander}
+use Rattle.expand65.specs.declared.fault.ExpandFault.{ExpandFault}
+use Rattle.expand65.specs.Expansion.{opened_in}
 use Rattle.object65.specs.declared.object.Object.{Object}
+use Rattle.object65.specs.Objects.{is_good_object}
+use Rattle.expand65.specs.declared.place.Place.{Place}
+use Rattle.expand65.specs.Standing.{Opens, measure_of, place_of}
+use Rattle.language65.specs.declared.fault.AsmFault.TheVariants.{Expansion}
+use Rattle.language65.specs.declared.contents.Content.{Content}
+use Rattle.language65.specs.declared.contents.Segment.{Segment}
+use Rattle.language65.specs.declared.fault.AsmFault.{AsmFault}
+use Rattle.language65.specs.Faults.{is_failure, is_outside}
+use Rattle.language65.specs.Layout.{Layout, Standing, nothing_laid}
+use Rattle.language65.specs.Numbering.{object_with}
+use Rattle.language65.specs.Sound.{AreSound}
+use Rattle.language65.specs.Symbols.{Symbols, symbols_of}
+use Rattle.module65.specs.Laws.{AreFoundAlike, StandsFor}
+use Rattle.module65.specs.Laying.{IsLaid}
+use Rattle.module65.specs.Machine.{Runs, State, Takes, begun, concluded, finished, running}
+use Rattle.module65.specs.Module.{IsOutcome, Outcome, contents_from}
+use Rattle.module65.specs.Places.{PlacedFault}
+use Rattle.module65.specs.Reading.{AreDefined, Job, Reached, no_line, stopped}
+use Rattle.module65.proofs.Continued.{constants_refused, open_refused}
+use Rattle.module65.proofs.Entries.{object_alike}
+use Rattle.module65.proofs.Passes.{Follows, begun_follows, one_pass, stands_for, takes_follows}
+use Rattle.module65.proofs.SoundContents.{sound_contents}
+use Rattle.module65.proofs.SoundLayouts as layouts
+use Rattle.module65.proofs.SoundLayouts.{IsGood, good_statement, nothing_good}
+use Rattle.sections65.proofs.GoodObjects.{good_object}
+use Rattle.asm65.specs.declared.assembler.Assembler.{Assembler}
+use Rattle.asm65.specs.declared.assembly.Assembly.{Assembly}
 use Rattle.asm65.specs.declared.refusal.AsmRefusal.{AsmRefusal}
-use Rattle.asm65.specs.declared.refusal.LineFault.{LineFault}
-use Rattle.asm65.specs.Assembly.{Assembled, in_file, outcome_of}
-use Rattle.asm65.specs.Evaluating.{Within}
-use Rattle.asm65.specs.Refusals.{is_outside_line}
-use Rattle.asm65.specs.Laying.{AreLaid, Reached}
-use Rattle.language65.specs.Layout.{Layout}
-use Rattle.asm65.specs.Module.{asserted_from, object_of, printed, sound_from, warned}
+use Rattle.asm65.specs.declared.running.Run.{Run}
+use Rattle.asm65.specs.Assembly.{Concludes, IsAssembled, answer_of, has_failed, is_from_outside, is_outside_refusal}
+use Rattle.asm65.specs.Holding.{Holds}
+use Rattle.asm65.specs.Running.{HoldsSome, HoldsWithin, IsHeldBy, IsReached, at_first, behind, IsReachedBy, IsRunning, Leaves, Ran, SaysAs, running_limit}
+use Rattle.asm65.proofs.Sources.{RanAll, some_both, some_then}
+use Rattle.asm65.specs.Views.{place_in}
+use Rattle.asm65.proofs.Runs.{Answer}
 
-abbrev told : Result Object AsmRefusal → List ℕ → List ℕ → Assembled
-told r out err = record { result = r; out = out; err = err }
+-- ---- What statements lead to comes to objects of the grammar.
 
-abbrev asserted : List ℕ → Layout → List ℕ
-asserted file y = asserted_from file y.laid 0 (take (sound_from y.laid 0 y.laid) y.laid)
+record Laid (t : State) : Type 0 where
+  layout : Layout
+  follows : Follows layout t
+  good : IsGood layout
 
-abbrev IsToldFrom : List ℕ → List (List ℕ) → Assembled → Type 0
-IsToldFrom file lines a = (x : Reached) × AreLaid lines x × (a ≡ outcome_of file x.layout x.fault)
+laid_reached : (t : State) → IsReached t → Laid t
+laid_reached _ at_first = record { layout = nothing_laid; follows = begun_follows; good = nothing_good }
+laid_reached _ (behind t u place x reached sound takes) =
+    let before = laid_reached t reached in
+    let more = takes_follows before.layout t place x (Ok u) before.follows takes in
+    record { layout = more.0; follows = more.2; good = good_statement before.layout more.0 place x before.good sound more.1 }
 
-reached : (file : List ℕ) (lines : List (List ℕ)) (y : Layout) (r : Result Object LineFault) (out old new : List ℕ) → AreLaid lines (record { layout = y; fault = None }) → out ≡ printed y.laid → old ≡ warned file y.laid → object_of y ≡ r → new ≡ old ++ asserted file y → IsToldFrom file lines (told (in_file file r) out new)
-reached file lines y r out old new laid said heard object more = (
-  record { layout = y; fault = None },
-  laid,
-  ap (λ z. told (in_file file z) out new) (sym object)
-      ∙ ap (λ z. told (in_file file (object_of y)) z new) said
-      ∙ ap (λ z. told (in_file file (object_of y)) (printed y.laid) z) (more ∙ ap (λ ws. ws ++ asserted file y) heard),
-)
+stands_reached : (t : State) (l : Laid t) → StandsFor l.layout t
+stands_reached t l = subst (StandsFor l.layout) (sym l.follows.same) (stands_for l.layout l.follows.slots l.follows.waiting l.follows.comes)
 
-unless_two : {P Q R : Type 0} (b : Bool) → (P → Q → R) → Unless b P → Unless b Q → Unless b R
-unless_two true f h k = tt
-unless_two false f h k = f h k
+pub good_concluded : (t : State) (o : Object) → IsReached t → (concluded t None).result ≡ Ok o → is_good_object o ≡ true
+good_concluded t o reached is = by (finished t).found (contents_from t.symbols l.layout.laid) refl stands.found is
+  where
+    l : Laid t
+    l = laid_reached t reached
 
-pub assembled : (file : List ℕ) (lines : List (List ℕ)) (y : Layout) (r : Result Object LineFault) (out old new : List ℕ) → AreLaid lines (record { layout = y; fault = None }) → out ≡ printed y.laid → old ≡ warned file y.laid → Gives is_outside_line (λ o. o) r (object_of y) → Within is_outside_line r (new ≡ old ++ asserted file y) → Within is_outside_line r (IsToldFrom file lines (told (in_file file r) out new))
-assembled file lines y (Ok o) out old new laid said heard object more = reached file lines y (Ok o) out old new laid said heard object more
-assembled file lines y (Err e) out old new laid said heard object more =
-    unless_two (is_outside_line e) (λ p q. reached file lines y (Err e) out old new laid said heard p q) object more
+    stands : StandsFor (laid_reached t reached).layout t
+    stands = stands_reached t (laid_reached t reached)
+
+    segments : List Segment
+    segments = t.standing.segments
+
+    by : (r q : Result (List Content) PlacedFault) → contents_from t.symbols (laid_reached t reached).layout.laid ≡ q → AreFoundAlike r q → (r >>= (λ cs. Ok (object_with t.standing.segments t.symbols.imports cs))) ≡ Ok o → is_good_object o ≡ true
+    by (Err e) q found alike made = absurd cc
+    by (Ok cs) (Err e) found alike made = absurd alike
+    by (Ok cs) (Ok ds) found alike made =
+        let y = (laid_reached t reached).layout in
+        let for = stands_reached t (laid_reached t reached) in
+        let same : object_with t.standing.segments t.symbols.imports cs ≡ o = cc in
+        let whole : contents_from (symbols_of y.laid) y.laid ≡ Ok ds = subst (λ (z : Symbols). contents_from z y.laid ≡ Ok ds) for.symbols found in
+        let sound : AreSound y.standing.segments (symbols_of y.laid).imports ds = sound_contents y ds (layouts.sound_from y (laid_reached t reached).good) whole in
+        let sound' : AreSound y.standing.segments t.symbols.imports ds = subst (λ (z : Symbols). AreSound y.standing.segments z.imports ds) (sym for.symbols) sound in
+        let sound'' : AreSound t.standing.segments t.symbols.imports ds = subst (λ (w : Standing). AreSound w.segments t.symbols.imports ds) (sym for.standing) sound' in
+        ap is_good_object (sym same ∙ object_alike t.standing.segments t.symbols.imports cs ds alike) ∙ good_object t.standing.segments t.symbols.imports ds sound''
+
+-- ---- Answers.
+
+abbrev Found : Type 0
+Found = Result Object AsmRefusal
+
+good_found : (a : Assembly) (t : State) (r : Found) → IsReached t → Finds is_outside_refusal (λ q. answer_of a q ≡ concluded t None) r → IfOk r (λ o. is_good_object o ≡ true)
+good_found a t (Ok o) reached h = good_concluded t o reached (sym (ap (λ (x : Outcome). x.result) h))
+good_found a t (Err e) reached h = tt
+
+pub good_answer : (a : Assembly) (b : Assembler) → IsReachedBy b → ((count : ℕ) (t : State) → Holds count t b → Concludes (concluded t None) a) → IfOk a.result (λ o. is_good_object o ≡ true)
+good_answer a b reached h = good_found a reached.0 a.result reached.1 (h reached.2.0 reached.0 reached.2.1)
+
+outcome_found : (a : Assembly) (o : Outcome) (m : Files) (job : Job) (r : Found) → IsOutcome m job o → Finds is_outside_refusal (λ q. answer_of a q ≡ o) r → Finds is_outside_refusal (λ q. IsAssembled m job (answer_of a q)) r
+outcome_found a o m job (Ok x) is h = subst (IsOutcome m job) (sym h) is
+outcome_found a o m job (Err e) is h = by (is_outside_refusal e) h
+  where
+    by : (b : Bool) → Unless b (answer_of a (Err e) ≡ o) → Unless b (IsAssembled m job (answer_of a (Err e)))
+    by true h = tt
+    by false h = subst (IsOutcome m job) (sym h) is
+
+pub outcome_answer : (a : Assembly) (o : Outcome) (m : Files) (job : Job) → IsOutcome m job o → Concludes o a → Finds is_outside_refusal (λ q. IsAssembled m job (answer_of a q)) a.result
+outcome_answer a o m job is h = outcome_found a o m job a.result is h
+
+pub outside_found : (P : Found → Type 0) (r : Found) → is_from_outside r ≡ true → Finds is_outside_refusal P r
+outside_found P (Ok o) h = absurd cc
+outside_found P (Err e) h = by (is_outside_refusal e) h
+  where
+    by : (b : Bool) → b ≡ true → Unless b (P (Err e))
+    by true h = tt
+    by false h = absurd cc
+
+abbrev pub RefusedBy : Assembler → Place → AsmFault → Assembly → Type 0
+RefusedBy b place e a = is_outside e ≡ false → (t : State) → SaysAs t b → Concludes (concluded t (Some (record { place = place; fault = e }))) a
+
+-- a fault of a source, at its place
+pub refused_answer : (a : Assembly) (b : Assembler) (m : Files) (job : Job) (place : Place) (e : AsmFault) → Unless (is_outside e) ((u : State) × Runs m job (stopped u place e) × SaysAs u b) → (is_outside e ≡ true → is_from_outside a.result ≡ true) → RefusedBy b place e a → Finds is_outside_refusal (λ q. IsAssembled m job (answer_of a q)) a.result
+refused_answer a b m job place e ran outside refused = by (is_outside e) refl ran
+  where
+    by : (c : Bool) → is_outside e ≡ c → Unless c ((u : State) × Runs m job (stopped u place e) × SaysAs u b) → Finds is_outside_refusal (λ q. IsAssembled m job (answer_of a q)) a.result
+    by true is h = outside_found (λ q. IsAssembled m job (answer_of a q)) a.result (outside is)
+    by false is h = outcome_answer a (concluded h.0 (Some (record { place = place; fault = e }))) m job (one_pass m job (stopped h.0 place e) h.1) (refused is h.0 h.2)
+
+-- a source without a fault of a line
+pub concluded_answer : (a : Assembly) (m : Files) (job : Job) (run : Run) (v : Unit {0}) → Ran m job run (Ok v) → ((count : ℕ) (t : State) → Holds count t run.assembler → Concludes (concluded t None) a) → Finds is_outside_refusal (λ q. IsAssembled m job (answer_of a q)) a.result
+concluded_answer a m job run v ran h =
+    outcome_answer a (concluded ran.0 None) m job (one_pass m job (record { behind = ran.0; fault = None }) ran.1) (h ran.2.0 ran.0 ran.2.1)
+
+-- ---- What callers are told.
+
+abbrev pub AnswersAs : Files → Job → Assembly → Type 0
+AnswersAs m job a = Finds is_outside_refusal (λ r. IsAssembled m job (answer_of a r)) a.result
+
+abbrev pub AnswersAll : Files → Run → Assembly → Type 0
+AnswersAll m first a =
+    (job : Job) (t : State) → Opens m (Ok first.expander) (opened_in m job.source job.include) →
+    AreDefined Takes begun (no_line job.source) job.defines (Ok t) → IsHeldBy t first → AnswersAs m job a
+
+pub all_concluded : (o : Option Files) (first now : Run) (v : Unit {0}) (a : Assembly) → ((count : ℕ) (t : State) → Holds count t now.assembler → Concludes (concluded t None) a) → IfSome o (λ m. RanAll m first now (Ok v)) → IfSome o (λ m. AnswersAll m first a)
+all_concluded o first now v a h ran = some_then (λ m. RanAll m first now (Ok v)) (λ m. AnswersAll m first a) o (λ m r job t opens defined held. concluded_answer a m job now v (r job t opens defined held) h) ran
+
+pub all_refused : (o : Option Files) (first now : Run) (e : AsmFault) (place : Place) (a : Assembly) → place ≡ place_of now.expander → (is_outside e ≡ true → is_from_outside a.result ≡ true) → RefusedBy now.assembler place e a → IfSome o (λ m. RanAll m first now (Err e)) → IfSome o (λ m. AnswersAll m first a)
+all_refused o first now e place a at outside refused ran =
+    some_then (λ m. RanAll m first now (Err e)) (λ m. AnswersAll m first a) o (λ m r job t opens defined held. refused_answer a now.assembler m job (place_of now.expander) e (r job t opens defined held) outside (subst (λ p. RefusedBy now.assembler p e a) at refused)) ran
+
+says_begun : (b : Assembler) → Holds 0 begun b → SaysAs begun b
+says_begun b h = (h.out, h.err)
+
+and_says : (P Q : Type 0) (c : Bool) → Q → Unless c P → Unless c (P × Q)
+and_says P Q true q h = tt
+and_says P Q false q h = (h, q)
+
+unless_state : (m : Files) (job : Job) (place : Place) (e : AsmFault) (b : Assembler) (c : Bool) → SaysAs begun b → Unless c (Runs m job (stopped begun place e)) → Unless c ((u : State) × Runs m job (stopped u place e) × SaysAs u b)
+unless_state m job place e b true says h = tt
+unless_state m job place e b false says h = (begun, h, says)
+
+pub open_answer : (o : Option Files) (job : Job) (e : ExpandFault) (a : Assembly) (b : Assembler) → Holds 0 begun b → (is_outside (Expansion e) ≡ true → is_from_outside a.result ≡ true) → RefusedBy b (no_line job.source) (Expansion e) a → IfSome o (λ m. Opens m (Err e) (opened_in m job.source job.include)) → IfSome o (λ m. AnswersAs m job a)
+open_answer o job e a b h outside refused opens =
+    some_then (λ m. Opens m (Err e) (opened_in m job.source job.include)) (λ m. AnswersAs m job a) o (λ m q. refused_answer a b m job (no_line job.source) (Expansion e) (unless_state m job (no_line job.source) (Expansion e) b (is_outside (Expansion e)) (says_begun b h) (open_refused m running job begun e q)) outside refused) opens
+
+pub define_answer : (o : Option Files) (job : Job) (x : Expander) (e : AsmFault) (a : Assembly) (b : Assembler) → Leaves ⊤ (AreDefined Takes begun (no_line job.source) job.defines) 0 begun b (Err e) → (is_outside e ≡ true → is_from_outside a.result ≡ true) → RefusedBy b (no_line job.source) e a → IfSome o (λ m. Opens m (Ok x) (opened_in m job.source job.include)) → IfSome o (λ m. AnswersAs m job a)
+define_answer o job x e a b left outside refused opens =
+    some_then (λ m. Opens m (Ok x) (opened_in m job.source job.include)) (λ m. AnswersAs m job a) o (λ m q. refused_answer a b m job (no_line job.source) e (by m q (is_outside e) left) outside refused) opens
+  where
+    by : (m : Files) → Opens m (Ok x) (opened_in m job.source job.include) → (c : Bool) → Unless c ((⊤ → AreDefined Takes begun (no_line job.source) job.defines (Err e)) × SaysAs begun b) → Unless c ((u : State) × Runs m job (stopped u (no_line job.source) e) × SaysAs u b)
+    by m q true h = tt
+    by m q false h = (begun, constants_refused m running job x begun e q (h.0 tt), h.1)
+
+-- an opened source behind its constants
+pub first_held : (x : Expander) (b : Assembler) (u : State) (run : Run) → run ≡ record { expander = x; assembler = b } → measure_of x ≤ 3145729 → HoldsWithin 0 u b → IsHeldBy u run
+first_held x b u run is size held = subst (IsHeldBy u) (sym is) (record {
+  count = held.0;
+  room = first_room held.0 (measure_of x) held.1 size;
+  holds = held.2;
+})
+  where
+    first_room : (count size : ℕ) → count ≤ 0 → size ≤ 3145729 → count + 2 * size ≤ running_limit
+    first_room count size none few = omega arith
+
+abbrev AreLeft : Job → Assembler → Unit {0} → Type 0
+AreLeft job b v = Leaves ⊤ (AreDefined Takes begun (no_line job.source) job.defines) 0 begun b (Ok v)
+
+pub first_running : (job : Job) (x : Expander) (b : Assembler) (v : Unit {0}) → AreLeft job b v → measure_of x ≤ 3145729 → IsRunning (record { expander = x; assembler = b })
+first_running job x b v left size = (left.0, left.2 at_first, first_held x b left.0 (record { expander = x; assembler = b }) refl size left.3)
+
+pub run_answer : (o : Option Files) (job : Job) (x : Expander) (b : Assembler) (v : Unit {0}) (a : Assembly) → AreLeft job b v → measure_of x ≤ 3145729 → IfSome o (λ m. Opens m (Ok x) (opened_in m job.source job.include)) → IfSome o (λ m. AnswersAll m (record { expander = x; assembler = b }) a) → IfSome o (λ m. AnswersAs m job a)
+run_answer o job x b v a left size opens all =
+    some_both (λ m. Opens m (Ok x) (opened_in m job.source job.include)) (λ m. AnswersAll m (record { expander = x; assembler = b }) a) (λ m. AnswersAs m job a) o (λ m q r. r job left.0 q left.1 (first_held x b left.0 (record { expander = x; assembler = b }) refl size left.3)) opens all
+
+-- ---- Failures of the store.
+
+pub passed_on : (old new : ℕ) (v : Unit {0}) (r : Found) → PassesBy {T = Unit {0}} {E = AsmFault} is_failure old new (Ok v) → IfErr r (λ e. has_failed e ≡ false) → PassesBy has_failed old new r
+passed_on old new v (Ok o) p h = record { later = p.later; told = λ lt. absurd (p.told lt); cause = tt }
+passed_on old new v (Err e) p h = record { later = p.later; told = λ lt. absurd (p.told lt); cause = λ yes. (let no : true ≡ false = sym yes ∙ h in absurd cc) }
+
+pub passed_as : (old new : ℕ) (e : AsmFault) (r : Found) → PassesBy {T = Unit {0}} {E = AsmFault} is_failure old new (Err e) → IfOk r (λ o. ⊥) → IfErr r (λ x. has_failed x ≡ is_failure e) → PassesBy has_failed old new r
+passed_as old new e (Ok o) p none h = absurd none
+passed_as old new e (Err x) p none h = record { later = p.later; told = λ lt. h ∙ p.told lt; cause = λ yes. p.cause (sym h ∙ yes) }
+
+pub not_answered : (P : Object → Type 0) (r : Found) → IfOk r (λ o. ⊥) → IfOk r P
+not_answered P (Ok o) h = absurd h
+not_answered P (Err e) h = tt
+
+same_count : (old mid : ℕ) → old ≤ mid → (old < mid → ⊥) → mid ≡ old
+same_count old mid le never = by (nat_lt old mid) refl
+  where
+    by : (b : Bool) → nat_lt old mid ≡ b → mid ≡ old
+    by true e = (let lt : old < mid = grind (arith, nat_tests) in absurd (never lt))
+    by false e = grind (arith, nat_tests)
+
+pub passed_through : (old mid new : ℕ) (x : Expander) (r : Found) → Passes {T = Expander} {E = ExpandFault} FileError old mid (Ok x) → PassesBy has_failed mid new r → PassesBy has_failed old new r
+passed_through old mid new x r p q =
+    let same : mid ≡ old = same_count old mid p.later (λ lt. let told = p.told lt in cc) in
+    subst (λ n. PassesBy has_failed n new r) same q
+
+pub none_passed : (old new : ℕ) (x : Expander) (e : AsmFault) (r : Found) → Passes {T = Expander} {E = ExpandFault} FileError old new (Ok x) → is_failure e ≡ false → IfOk r (λ o. ⊥) → IfErr r (λ y. has_failed y ≡ is_failure e) → PassesBy has_failed old new r
+none_passed old new x e (Ok o) p inside none h = absurd none
+none_passed old new x e (Err y) p inside none h = record { later = p.later; told = λ lt. (let told = p.told lt in absurd cc); cause = λ yes. (let no : true ≡ false = sym yes ∙ h ∙ inside in absurd cc) }

@@ -1,43 +1,234 @@
--- The bytes of a source, of which no more are read than tell that it is too long.
-use Rattle.std.proofs.Common.{◌≡◌, ℕ, ◌+◌, ◌≤◌, ◌<◌, Bool, true, false, nat_le, List, length, take, Option, Some, None, Ok, Err, min, refl, sym, ap, ◌∙◌, arith}
-use Rattle.std.specs.Prelude.{IfSome}
-use Rattle.std.specs.FinMap as map
-use Rattle.std.proofs.lemmas.Bool.Decides.{nat_tests}
-use Rattle.std.proofs.lemmas.List.{length-take, take_all}
+-- The statements of a source as an expander gives them and an assembler takes them.
+use Rattle.std.proofs.Common.{◌≡◌, ◌∙◌, ℕ, ◌+◌, ◌*◌, ◌≤◌, ◌<◌, Bool, true, false, Option, Some, None, refl, sym, ap, subst, arith}
+use Rattle.std.specs.Prelude.{Result, Ok, Err, IfSome, if◌then◌else◌}
+use Rattle.syntax65.specs.Outcome.{Unless}
 use Rattle.syntax65.specs.Store.{Files}
-use Rattle.syntax65.specs.Reading.{front_in}
-use Rattle.language65.specs.declared.fault.AsmFault.TheVariants.{Source}
-use Rattle.language65.specs.declared.fault.SourceFault.TheVariants.{TooLong}
-use Rattle.asm65.specs.Assembly.{source_in, source_limit, without_place}
+use Rattle.expand65.specs.declared.expander.Expander.{Expander}
+use Rattle.expand65.specs.declared.expander.Statement.{Statement}
+use Rattle.expand65.specs.declared.expander.Statement.TheVariants.{Label, Plain}
+use Rattle.expand65.specs.declared.fault.ExpandFault.{ExpandFault}
+use Rattle.expand65.specs.declared.place.Place.{Place}
+use Rattle.expand65.specs.Expansion.{Reaches, statement, nothing, fault, opened_in}
+use Rattle.expand65.specs.Faults as expansion
+use Rattle.expand65.specs.Standing.{FollowsFrom, Opens, StandsFor, measure_of, place_of, stated}
+use Rattle.expand65.specs.State as expand
+use Rattle.language65.specs.declared.fault.AsmFault.{AsmFault}
+use Rattle.language65.specs.declared.fault.AsmFault.TheVariants.{BadScope, Expansion}
+use Rattle.language65.specs.Faults.{is_outside}
+use Rattle.language65.specs.LineFaults.{is_open}
+use Rattle.language65.specs.Layout.{Standing}
+use Rattle.language65.specs.Sound.{AreNamed}
+use Rattle.module65.specs.Continuing.{GoesOn}
+use Rattle.module65.specs.Knowing.{known_at}
+use Rattle.module65.specs.Machine.{Runs, State, Takes, begun, running}
+use Rattle.module65.specs.Places.{PlacedFault}
+use Rattle.module65.specs.Reading.{AreDefined, IsGiven, IsSource, Job, Reached, no_line, open_fault, stopped}
+use Rattle.module65.proofs.Continued.{same_outside, same_place}
+use Rattle.module65.proofs.NamedSteps as named
+use Rattle.module65.proofs.NamedSteps.{IsStateFit, next_fit}
+use Rattle.module65.proofs.NamedTokens.{AreFit, are_named}
+use Rattle.module65.proofs.SoundSources.{opened_fit}
+use Rattle.module65.proofs.TakenAll.{begins, ends, goes_on, is_refused, stops}
+use Rattle.asm65.specs.declared.assembler.Assembler.{Assembler}
+use Rattle.asm65.specs.declared.running.Run.{Run}
+use Rattle.layout65.specs.Counting.{opening_limit}
+use Rattle.asm65.specs.Holding.{Holds}
+use Rattle.asm65.specs.Running.{HoldsSome, HoldsWithin, IsHeldBy, IsReached, IsReachedBy, IsRoomy, IsRunning, Ran, SaysAs, TakesBy, running_limit, tokens_of}
+use Rattle.asm65.proofs.Runs.{Answer}
 
-long : (t : Bool) (file text : List ℕ) → nat_le (length file) source_limit ≡ t → take (source_limit + 1) file ≡ text → source_limit < length text → source_in (Some file) ≡ Err (without_place (Source TooLong))
-long true file text test e lt =
-    let k : length file ≤ source_limit = grind (arith, nat_tests) in
-    let l : length text ≡ min (source_limit + 1) (length file) = ap length (sym e) ∙ length-take (source_limit + 1) file in
-    absurd (omega arith)
-long false file text test e lt = rw test refl
+pub some_then : (P Q : Files → Type 0) (o : Option Files) → ((m : Files) → P m → Q m) → IfSome o P → IfSome o Q
+some_then P Q None f h = tt
+some_then P Q (Some m) f h = f m h
 
-short : (t : Bool) (file text : List ℕ) → nat_le (length file) source_limit ≡ t → take (source_limit + 1) file ≡ text → length text ≤ source_limit → source_in (Some file) ≡ Ok text
-short true file text test e le =
-    let k : length file ≤ source_limit = grind (arith, nat_tests) in
-    rw test (ap Ok (sym (take_all (source_limit + 1) file (omega arith)) ∙ e))
-short false file text test e le =
-    let k : source_limit < length file = grind (arith, nat_tests) in
-    let l : length text ≡ min (source_limit + 1) (length file) = ap length (sym e) ∙ length-take (source_limit + 1) file in
-    absurd (omega arith)
+pub some_both : (P Q R : Files → Type 0) (o : Option Files) → ((m : Files) → P m → Q m → R m) → IfSome o P → IfSome o Q → IfSome o R
+some_both P Q R None f h k = tt
+some_both P Q R (Some m) f h k = f m h k
 
-pub long_source : (known : Option Files) (name text : List ℕ) → IfSome known (λ m. front_in (map.get m name) (source_limit + 1) ≡ Ok text) → source_limit < length text → IfSome known (λ m. source_in (map.get m name) ≡ Err (without_place (Source TooLong)))
-long_source None name text h lt = tt
-long_source (Some m) name text h lt = go (map.get m name) h
-  where
-    go : (file : Option (List ℕ)) → front_in file (source_limit + 1) ≡ Ok text → source_in file ≡ Err (without_place (Source TooLong))
-    go None h = absurd cc
-    go (Some file) h = long (nat_le (length file) source_limit) file text refl (cc) lt
+-- ---- Room for what statements open.
 
-pub short_source : (known : Option Files) (name text : List ℕ) → IfSome known (λ m. front_in (map.get m name) (source_limit + 1) ≡ Ok text) → length text ≤ source_limit → IfSome known (λ m. source_in (map.get m name) ≡ Ok text)
-short_source None name text h le = tt
-short_source (Some m) name text h le = go (map.get m name) h
-  where
-    go : (file : Option (List ℕ)) → front_in file (source_limit + 1) ≡ Ok text → source_in file ≡ Ok text
-    go None h = absurd cc
-    go (Some file) h = short (nat_le (length file) source_limit) file text refl (cc) le
+few_opened : (count left : ℕ) → count + 2 * left ≤ running_limit → 0 < left → count + 2 ≤ opening_limit
+few_opened count left room some = omega arith
+
+room_behind : (count more old mid new limit : ℕ) → count + 2 * old ≤ limit → more ≤ count + 2 → mid < old → new ≡ mid → more + 2 * new ≤ limit
+room_behind count more old mid new limit room few less same = omega arith
+
+some_left : (old mid : ℕ) → mid < old → 0 < old
+some_left old mid less = omega arith
+
+holds_same : (count : ℕ) (t : State) (a b : Assembler) → b ≡ a → Holds count t a → Holds count t b
+holds_same count t a b e h = subst (Holds count t) (sym e) h
+
+says_held : (count : ℕ) (t : State) (a b : Assembler) → b ≡ a → Holds count t a → SaysAs t b
+says_held count t a b e h = (ap (λ (x : Assembler). x.texts.out) e ∙ h.out, ap (λ (x : Assembler). x.texts.err) e ∙ h.err)
+
+held_behind : (t u : State) (old mid new : Run) → (h : IsHeldBy t old) → HoldsWithin (h.count + 2) u new.assembler → measure_of mid.expander < measure_of old.expander → new.expander ≡ mid.expander → IsHeldBy u new
+held_behind t u old mid new h b less same = record {
+  count = b.0;
+  room = room_behind h.count b.0 (measure_of old.expander) (measure_of mid.expander) (measure_of new.expander) running_limit h.room b.1 less (ap measure_of same);
+  holds = b.2;
+}
+
+-- ---- One statement more, whatever the store tells.
+
+module _ (old mid : Run) (same : mid.assembler ≡ old.assembler) (less : measure_of mid.expander < measure_of old.expander) where
+  pub still_roomy : IsRunning old → IsRoomy 2 mid.assembler
+  still_roomy held =
+      let h = held.2 in
+      (h.count, held.0, few_opened h.count (measure_of old.expander) h.room (some_left (measure_of old.expander) (measure_of mid.expander) less), holds_same h.count held.0 old.assembler mid.assembler same h.holds)
+
+  abbrev Takes2 : Statement → Run → Answer → Type 0
+  Takes2 x new r = TakesBy (AreNamed (tokens_of (stated x))) (λ t. IsGiven Takes t (place_of mid.expander) (stated x)) 2 mid.assembler new.assembler r
+
+  pub still_running : (x : Statement) (new : Run) (v : Unit {0}) → Takes2 x new (Ok v) → new.expander ≡ mid.expander → IsRunning old → IsRunning new
+  still_running x new v taken stays held =
+      let h = held.2 in
+      let room = few_opened h.count (measure_of old.expander) h.room (some_left (measure_of old.expander) (measure_of mid.expander) less) in
+      let b = taken h.count held.0 room (holds_same h.count held.0 old.assembler mid.assembler same h.holds) in
+      (b.0, b.2 held.1, held_behind held.0 b.0 old mid new h b.3 less stays)
+
+pub reached_by : (old mid : Run) → mid.assembler ≡ old.assembler → IsRunning old → IsReachedBy mid.assembler
+reached_by old mid same held =
+    let h = held.2 in
+    (held.0, held.1, (h.count, holds_same h.count held.0 old.assembler mid.assembler same h.holds))
+
+-- ---- Where files are told.
+
+-- what is left comes, behind a state that is held, to what all comes to
+pub record Stays (m : Files) (job : Job) (run : Run) (u : State) : Type 0 where
+  pub left : expand.State
+  pub stands : StandsFor m run.expander left
+  pub fit : IsStateFit 0 left
+  pub goes : GoesOn m running (IsSource m running job begun) left u
+  pub held : IsHeldBy u run
+
+abbrev pub Goes : Files → Run → Run → Type 0
+Goes m first now =
+    (job : Job) (t : State) → Opens m (Ok first.expander) (opened_in m job.source job.include) →
+    AreDefined Takes begun (no_line job.source) job.defines (Ok t) → IsHeldBy t first → (u : State) × Stays m job now u
+
+abbrev pub RanAll : Files → Run → Run → Answer → Type 0
+RanAll m first now r =
+    (job : Job) (t : State) → Opens m (Ok first.expander) (opened_in m job.source job.include) →
+    AreDefined Takes begun (no_line job.source) job.defines (Ok t) → IsHeldBy t first → Ran m job now r
+
+abbrev pub NextBy : Files → Run → Result (Option Statement) ExpandFault → Run → Type 0
+NextBy m old r mid = (t : State) → IsHeldBy t old → FollowsFrom m (known_at t.symbols t.standing) old.expander r mid.expander
+
+pub goes_first : (m : Files) (run : Run) → Goes m run run
+goes_first m run job t opens defined held = (
+  t,
+  record {
+    left = opens.0;
+    stands = opens.2;
+    fit = opened_fit m job.source job.include opens.0 opens.1;
+    goes = begins m running job opens.0 begun t opens.1 defined;
+    held = held;
+  },
+)
+
+same_tokens : (x : Statement) → AreFit (named.tokens_of (stated x)) → AreNamed (tokens_of (stated x))
+same_tokens (Label line) h = are_named _ h
+same_tokens (Plain line) h = are_named _ h
+
+module _ (m : Files) (first old mid : Run) (same : mid.assembler ≡ old.assembler) where
+  -- a statement that is taken
+  pub goes_further : (x : Statement) (new : Run) (v : Unit {0}) → measure_of mid.expander < measure_of old.expander → NextBy m old (Ok (Some x)) mid → TakesBy (AreNamed (tokens_of (stated x))) (λ t. IsGiven Takes t (place_of mid.expander) (stated x)) 2 mid.assembler new.assembler (Ok v) → new.expander ≡ mid.expander → Goes m first old → Goes m first new
+  goes_further x new v less next taken stays so_far job t opens defined begun_held =
+      let now = so_far job t opens defined begun_held in
+      let u = now.0 in
+      let s = now.1 in
+      let h = s.held in
+      let a = next u h s.left s.stands in
+      let fits = next_fit m (known_at u.symbols u.standing) s.left (statement (stated x) a.0) s.fit a.1 in
+      let room = few_opened h.count (measure_of old.expander) h.room (some_left (measure_of old.expander) (measure_of mid.expander) less) in
+      let b = taken h.count u room (holds_same h.count u old.assembler mid.assembler same h.holds) in
+      let place = same_place m mid.expander a.0 a.2 in (
+        b.0,
+        record {
+          left = a.0;
+          stands = subst (λ e. StandsFor m e a.0) (sym stays) a.2;
+          fit = fits.1;
+          goes = goes_on m running (IsSource m running job begun) s.left a.0 (stated x) u b.0 s.goes a.1 (subst (λ p. IsGiven Takes u p (stated x) (Ok b.0)) (sym place) b.1);
+          held = held_behind u b.0 old mid new h b.3 less stays;
+        },
+      )
+
+  -- a statement with a fault
+  pub goes_wrong : (x : Statement) (new : Run) (e : AsmFault) (r : Answer) → r ≡ Err e → measure_of mid.expander < measure_of old.expander → NextBy m old (Ok (Some x)) mid → TakesBy (AreNamed (tokens_of (stated x))) (λ t. IsGiven Takes t (place_of mid.expander) (stated x)) 2 mid.assembler new.assembler (Err e) → new.expander ≡ mid.expander → Goes m first old → RanAll m first new r
+  goes_wrong x new e r fails less next taken stays so_far job t opens defined begun_held =
+      let now = so_far job t opens defined begun_held in
+      let u = now.0 in
+      let s = now.1 in
+      let h = s.held in
+      let a = next u h s.left s.stands in
+      let fits = next_fit m (known_at u.symbols u.standing) s.left (statement (stated x) a.0) s.fit a.1 in
+      let room = few_opened h.count (measure_of old.expander) h.room (some_left (measure_of old.expander) (measure_of mid.expander) less) in
+      let b = taken h.count u room (holds_same h.count u old.assembler mid.assembler same h.holds) in
+      let at_mid = same_place m mid.expander a.0 a.2 in
+      let at_new : place_of new.expander ≡ a.0.left.place = ap place_of stays ∙ sym at_mid in
+      subst (Ran m job new) (sym fails) (by u s a.0 a.1 fits.0 at_mid at_new (is_outside e) b)
+    where
+      by : (u : State) (s : Stays m job old u) (t' : expand.State) → Reaches m (known_at u.symbols u.standing) s.left (statement (stated x) t') → AreFit (named.tokens_of (stated x)) → t'.left.place ≡ place_of mid.expander → place_of new.expander ≡ t'.left.place → (b : Bool) → Unless b ((AreNamed (tokens_of (stated x)) → IsGiven Takes u (place_of mid.expander) (stated x) (Err e)) × SaysAs u new.assembler) → Unless b ((w : State) × Runs m job (stopped w (place_of new.expander) e) × SaysAs w new.assembler)
+      by u s t' reaches fit at_mid at_new true h = tt
+      by u s t' reaches fit at_mid at_new false h =
+          (u, subst (λ p. Runs m job (stopped u p e)) (sym at_new) (stops m running (IsSource m running job begun) s.left t' (stated x) u e s.goes reaches (subst (λ p. IsGiven Takes u p (stated x) (Err e)) (sym at_mid) (h.0 (same_tokens x fit)))), h.1)
+
+  -- a fault of expansion
+  pub goes_out : (e : ExpandFault) (r : Answer) → r ≡ Err (Expansion e) → NextBy m old (Err e) mid → Goes m first old → RanAll m first mid r
+  goes_out e r fails next so_far job t opens defined begun_held =
+      let now = so_far job t opens defined begun_held in
+      let u = now.0 in
+      let s = now.1 in
+      subst (Ran m job mid) (sym fails) (by u s (expansion.is_outside e) (is_outside (Expansion e)) (same_outside e) (next u s.held s.left s.stands))
+    where
+      by : (u : State) (s : Stays m job old u) (a b : Bool) → a ≡ b → Unless a (Reaches m (known_at u.symbols u.standing) s.left (fault (e, place_of mid.expander))) → Unless b ((w : State) × Runs m job (stopped w (place_of mid.expander) (Expansion e)) × SaysAs w mid.assembler)
+      by u s a true eq h = tt
+      by u s true false eq h = absurd cc
+      by u s false false eq h = (u, is_refused m running (IsSource m running job begun) s.left u e (place_of mid.expander) s.goes h, says_held s.held.count u old.assembler mid.assembler same s.held.holds)
+
+  -- the end
+  pub goes_to_end : (r : Answer) → r ≡ (if is_open mid.assembler.standing.scope then Err BadScope else Ok tt) → NextBy m old (Ok None) mid → Goes m first old → RanAll m first mid r
+  goes_to_end r is next so_far job t opens defined begun_held =
+      let now = so_far job t opens defined begun_held in
+      let u = now.0 in
+      let s = now.1 in
+      let h = s.held in
+      let a = next u h s.left s.stands in
+      let holds = holds_same h.count u old.assembler mid.assembler same h.holds in
+      let scope : mid.assembler.standing.scope ≡ u.standing.scope = ap (λ (w : Standing). w.scope) holds.standing in
+      let place = same_place m mid.expander a.0 a.2 in
+      let all = ends m running (IsSource m running job begun) s.left a.0 u s.goes a.1 in
+      let all' : Runs m job (record { behind = u; fault = open_fault (place_of mid.expander) mid.assembler.standing.scope }) = subst (λ n. Runs m job (record { behind = u; fault = open_fault (place_of mid.expander) n })) (sym scope) (subst (λ p. Runs m job (record { behind = u; fault = open_fault p u.standing.scope })) place all) in
+      subst (Ran m job mid) (sym is) (by u h.count holds (is_open mid.assembler.standing.scope) all')
+    where
+      by : (u : State) (count : ℕ) → Holds count u mid.assembler → (b : Bool) → Runs m job (record { behind = u; fault = if b then Some (record { place = place_of mid.expander; fault = BadScope }) else None }) → Ran m job mid (if b then Err BadScope else Ok tt)
+      by u count holds true runs = (u, runs, (holds.out, holds.err))
+      by u count holds false runs = (u, runs, (count, holds))
+
+-- ---- The same by what a store tells of its files.
+
+pub some_all : (P : Files → Type 0) (o : Option Files) → ((m : Files) → P m) → IfSome o P
+some_all P None f = tt
+some_all P (Some m) f = f m
+
+module _ (o p : Option Files) (told : p ≡ o) (first old mid : Run) (same : mid.assembler ≡ old.assembler) (so_far : IfSome o (λ m. Goes m first old)) where
+  pub all_out : (e : ExpandFault) (r : Answer) → r ≡ Err (Expansion e) → IfSome p (λ m. NextBy m old (Err e) mid) → IfSome o (λ m. RanAll m first mid r)
+  all_out e r fails next =
+      some_both (λ m. Goes m first old) (λ m. NextBy m old (Err e) mid) (λ m. RanAll m first mid r) o (λ m so n. goes_out m first old mid same e r fails n so) so_far (subst (λ q. IfSome q (λ m. NextBy m old (Err e) mid)) told next)
+
+  module _ (q : Option Statement) (next : IfSome p (λ m. NextBy m old (Ok q) mid)) where
+    given : (x : Option Statement) → q ≡ x → IfSome o (λ m. NextBy m old (Ok x) mid)
+    given x is = subst (λ z. IfSome o (λ m. NextBy m old (Ok z) mid)) is (subst (λ z. IfSome z (λ m. NextBy m old (Ok q) mid)) told next)
+
+    pub all_end : q ≡ None → (r : Answer) → r ≡ (if is_open mid.assembler.standing.scope then Err BadScope else Ok tt) → IfSome o (λ m. RanAll m first mid r)
+    all_end is r ends = some_both (λ m. Goes m first old) (λ m. NextBy m old (Ok None) mid) (λ m. RanAll m first mid r) o (λ m so n. goes_to_end m first old mid same r ends n so) so_far (given None is)
+
+    module _ (x : Statement) (is : q ≡ Some x) (less : measure_of mid.expander < measure_of old.expander) (new : Run) (stays : new.expander ≡ mid.expander) where
+      pub all_further : (v : Unit {0}) → Takes2 old mid same less x new (Ok v) → IfSome o (λ m. Goes m first new)
+      all_further v taken = some_both (λ m. Goes m first old) (λ m. NextBy m old (Ok (Some x)) mid) (λ m. Goes m first new) o (λ m so n. goes_further m first old mid same x new v less n taken stays so) so_far (given (Some x) is)
+
+      pub all_wrong : (e : AsmFault) (r : Answer) → r ≡ Err e → Takes2 old mid same less x new (Err e) → IfSome o (λ m. RanAll m first new r)
+      all_wrong e r fails taken = some_both (λ m. Goes m first old) (λ m. NextBy m old (Ok (Some x)) mid) (λ m. RanAll m first new r) o (λ m so n. goes_wrong m first old mid same x new e r fails less n taken stays so) so_far (given (Some x) is)
+
+pub less_given : (q : Option Statement) (x : Statement) (a b : ℕ) → q ≡ Some x → IfSome q (λ y. a < b) → a < b
+less_given q x a b is h = subst (λ z. IfSome z (λ y. a < b)) is h

@@ -1,10 +1,8 @@
-pub mod Refusals
-pub mod Lines
 pub mod Assembly
-pub mod Laws
-pub mod Laying
-pub mod Module
-pub mod Evaluating
-pub mod Sounds
-pub mod LayoutViews
-pub mod Measuring
+pub mod Views
+pub mod Holding
+pub mod Knowing
+pub mod Putting
+pub mod Taking
+pub mod Resolving
+pub mod Running

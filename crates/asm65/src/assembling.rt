@@ -1,179 +1,167 @@
-//! From a source file to an object.
+//! From a source to its object.
 
-ghost use Rattle.std.specs.Prelude.{◌≡◌, ◌++◌, false, true, IfErr, IfOk, IfSome, take, [], Err, Ok};
-ghost use Rattle.std.specs.FinMap as map;
-ghost use Rattle.syntax65.specs.Outcome.{Finds, Gives, Unless};
-ghost use Rattle.syntax65.specs.Store.{PassesBy};
-ghost use Rattle.object65.specs.Objects.{is_good_object, ObjectFits};
-ghost use Rattle.asm65.specs.Assembly.{IsAssembled, IsAssembledFrom, assembled_of, in_line_of, is_from_outside, job_of, outcome_with, silent, source_in};
-ghost use Rattle.asm65.specs.Evaluating.{Within};
-ghost use Rattle.language65.specs.Faults.{is_failure};
-ghost use Rattle.asm65.specs.Refusals.{has_failed, is_outside_line, is_outside_refusal};
-ghost use Rattle.asm65.specs.Module.{asserted_from, object_of, sound_from};
-ghost use Rattle.language65.specs.Sound.{IsSoundLayout};
-ghost use Rattle.asm65.specs.Sounds.{AreSaid, IsSound};
-ghost use Rattle.asm65.specs.LayoutViews.{layout_of};
-ghost use Rattle.language65.specs.Views.{all_of};
+ghost use Rattle.std.specs.Prelude.{◌≡◌, ◌≤◌, false, true, IfErr, IfOk, IfSome, Ok, Some, []};
+ghost use Rattle.syntax65.specs.Outcome.{Finds};
+ghost use Rattle.syntax65.specs.Store.{Passes, PassesBy};
+ghost use Rattle.object65.specs.Objects.{ObjectFits, is_good_object};
+ghost use Rattle.expand65.specs.Expansion.{opened_in};
+ghost use Rattle.expand65.specs.Standing.{Opens, measure_of};
+ghost use Rattle.language65.specs.Faults.{is_failure, is_outside};
+ghost use Rattle.module65.specs.Machine.{State, Takes, begun, concluded};
+ghost use Rattle.module65.specs.Reading.{AreDefined, Job, no_line};
+ghost use Rattle.asm65.specs.Assembly.{Concludes, IsAssembled, answer_of, has_failed, is_from_outside, is_outside_refusal, job_of};
+ghost use Rattle.asm65.specs.Holding.{Holds};
+ghost use Rattle.asm65.specs.Running.{IsHeldBy, IsRunning, SaysAs};
+ghost use Rattle.asm65.specs.Views.{place_in};
 
-use crate::evaluating::evaluate;
-use crate::laying::{Layout, lay};
-use crate::refusal::LineFault;
-use crate::texts::Texts;
-use crate::{AsmJob, AsmRefusal, Assembly, Place};
-use language65::{AsmFault, SourceFault};
-use object65::Object;
-use sections65::object_of;
+use crate::assembler::{Assembler, At};
+use crate::assembly::{AsmJob, Assembly};
+use crate::defining::define_all;
+use crate::refusal::AsmRefusal;
+use crate::running::{Run, take_all};
+use expand65::{ExpandFault, Expander, Options};
+use language65::AsmFault;
 use std::alloc::Global;
-use symbols65::{Module, no_forms};
-use syntax65::{Sequence, Store, Text, read_front};
+use syntax65::{Sequence, Store, Text};
 
-/// How many bytes a source has at most.
-const MAX_SOURCE: usize = 16_777_216;
-
-/// The bytes of a source. No more of them are read than tell that it is too long.
-fn read_source<S: Store>(alloc: Global, store: &mut S, name: &str) -> Result<Vec<u8>, AsmRefusal>
-    ensures read { IfSome (S.files store.old) (λ m. Gives is_outside_refusal (λ v. v.items) result (source_in (map.get m name.now))) }
-    ensures files { S.files store.new ≡ S.files store.old }
-    ensures count { PassesBy has_failed (S.failures store.old) (S.failures store.new) result }
+/// Whether memory ran out, or the store failed.
+fn is_outside(fault: &AsmFault) -> bool
+    ensures { result ≡ is_outside fault.now }
 {
-    let text = read_front(alloc, store, name, MAX_SOURCE + 1)?;
-    if text.len() > MAX_SOURCE {
-        return Err(AsmRefusal {
-            place: None,
-            fault: AsmFault::Source(SourceFault::TooLong),
-        });
-    }
-    Ok(text)
+    let is_failure = matches!(
+        fault,
+        AsmFault::FileError | AsmFault::Expansion(ExpandFault::FileError)
+    );
+    fault.is_memory() || is_failure
 }
 
-/// The object of laid statements, or the first fault. The warnings of assertions are added.
-#[tactic(auto, using(crate::proofs::SoundContents::sound_contents))]
-fn object_of_layout(
-    alloc: Global,
-    file: &str,
-    layout: &Layout,
-    err: &mut Sequence<u8>,
-) -> Result<Object, LineFault>
-    requires laid { IsSoundLayout (layout_of layout.now) }
-    requires sound { IsSound layout.now }
-    ensures object { Gives is_outside_line (λ o. o) result (object_of (layout_of layout.now)) }
-    ensures warned { Within is_outside_line result (err.new ≡ err.old ++ asserted_from file.now (all_of layout.now.statements) 0 (take (sound_from (all_of layout.now.statements) 0 (all_of layout.now.statements)) (all_of layout.now.statements))) }
-    ensures inside { IfErr result (λ e. is_failure e.fault ≡ false) }
-    ensures good { IfOk result (λ o. is_good_object o ≡ true) }
-    ensures numbers { IfOk result ObjectFits }
-{
-    let whole = Module {
-        statements: layout.statements.as_slice(),
-        names: &layout.names,
-    };
-    let mut states = no_forms(alloc, whole.statements)?;
-    let contents = evaluate(alloc, file, &whole, &mut states, err)?;
-    let names = layout.names.import_names(alloc)?;
-    let segments = layout.standing.segments.as_slice();
-    Ok(object_of(alloc, segments, names.as_slice(), contents.as_slice())?)
-}
-
-/// The object of a text's statements, or the first fault; and what is said up to there.
-#[tactic(auto, using(crate::proofs::SoundLayouts::sound_layout))]
-fn object_of_text(
-    alloc: Global,
-    file: &str,
-    text: &[u8],
-    texts: &mut Texts,
-) -> Result<Object, LineFault>
-    requires { AreSaid file.now [] texts.old }
-    ensures assembled { Within is_outside_line result (IsAssembledFrom file.now (Ok text.now) (outcome_with file.now result texts.new)) }
-    ensures inside { IfErr result (λ e. is_failure e.fault ≡ false) }
-    ensures good { IfOk result (λ o. is_good_object o ≡ true) }
-    ensures numbers { IfOk result ObjectFits }
-{
-    let layout = lay(alloc, file, text, texts)?;
-    object_of_layout(alloc, file, &layout, &mut texts.err)
-}
-
-/// A fault at a line of a file; without its place where there is no memory for that.
-fn refusal_in(alloc: Global, file: &str, fault: LineFault) -> AsmRefusal
-    requires { is_failure fault.fault ≡ false }
-    ensures placed { Unless (is_outside_refusal result) (result ≡ in_line_of file.now fault) }
-    ensures inside { has_failed result ≡ false }
-{
-    if fault.fault.is_memory() {
-        return AsmRefusal {
-            place: None,
-            fault: fault.fault,
-        };
-    }
-    match Text::copy_of(alloc, file) {
-        Ok(file) => AsmRefusal {
-            place: Some(Place {
-                file,
-                line: fault.line,
-            }),
-            fault: fault.fault,
-        },
-        Err(_) => AsmRefusal {
-            place: None,
-            fault: AsmFault::OutOfMemory,
-        },
-    }
-}
-
-/// A refusal of which nothing else is said.
-fn without_texts(alloc: Global, refusal: AsmRefusal) -> Assembly
-    ensures { assembled_of result ≡ silent refusal }
+/// A refusal from outside, with which nothing is said.
+fn refused_outside(alloc: Global, fault: AsmFault) -> Assembly
+    ensures fault { IfErr result.result (λ e. e.fault ≡ fault) }
+    ensures none { IfOk result.result (λ _. ⊥) }
+    ensures silent { (result.out ≡ []) × (result.err ≡ []) }
 {
     Assembly {
-        result: Err(refusal),
+        result: Err(AsmRefusal {
+            file: String::new(alloc),
+            line: 0,
+            fault,
+        }),
         out: Sequence::new(alloc),
         err: Sequence::new(alloc),
     }
 }
 
-/// A fault of a line, behind what was said; where memory runs out nothing else is said.
-fn refused(alloc: Global, file: &str, fault: LineFault, texts: Texts) -> Assembly
-    requires { is_failure fault.fault ≡ false }
-    ensures refused { IfErr result.result (λ e. Unless (is_outside_refusal e) (assembled_of result ≡ outcome_with file.now (Err fault) texts)) }
-    ensures outside { is_outside_line fault ≡ true → is_from_outside result.result ≡ true }
-    ensures inside { IfErr result.result (λ e. has_failed e ≡ false) }
-    ensures silent { is_from_outside result.result ≡ true → (result.out ≡ []) × (result.err ≡ []) }
+/// A fault at a place, behind what was said.
+fn refused(alloc: Global, assembler: Assembler, at: At<'_>, fault: AsmFault) -> Assembly
+    ensures refused { is_outside fault ≡ false → (t : State) → SaysAs t assembler →
+        Concludes (concluded t (Some (record {
+          place = place_in at.entry.file.now at.entry.line;
+          fault = fault;
+        }))) result }
+    ensures outside { is_outside fault ≡ true → is_from_outside result.result ≡ true }
     ensures none { IfOk result.result (λ _. ⊥) }
+    ensures failed { IfErr result.result (λ e. has_failed e ≡ is_failure fault) }
+    ensures silent { is_from_outside result.result ≡ true → (result.out ≡ []) × (result.err ≡ []) }
 {
-    let refusal = refusal_in(alloc, file, fault);
-    if refusal.fault.is_memory() {
-        return without_texts(alloc, refusal);
+    if is_outside(&fault) {
+        return refused_outside(alloc, fault);
     }
-    Assembly {
-        result: Err(refusal),
-        out: texts.out,
-        err: texts.err,
-    }
+    assembler.refuse(alloc, at, fault)
 }
 
-/// What the bytes of a source come to.
-fn assembly_of(alloc: Global, file: &str, text: &[u8]) -> Assembly
-    ensures assembled { Finds is_outside_refusal (λ r. IsAssembledFrom file.now (Ok text.now) (record { result = r; out = result.out; err = result.err })) result.result }
-    ensures inside { IfErr result.result (λ e. has_failed e ≡ false) }
+/// A copy of the folders of a job.
+fn folders_of(alloc: Global, job: &AsmJob<'_>) -> Result<Options, ExpandFault>
+    ensures folders { IfOk result (λ options. options.include ≡ job.now.include.now) }
+    ensures inside { IfErr result (λ e. e ≡ ExpandFault.OutOfMemory) }
+{
+    let mut include = Sequence::new(alloc);
+    for folder in job.include {
+        include.push(Text::copy_of(alloc, folder.as_str())?)?;
+    }
+    Ok(Options { include })
+}
+
+/// Opens the source of a job.
+fn opened<S: Store>(alloc: Global, store: &mut S, job: &AsmJob<'_>) -> Result<Expander, ExpandFault>
+    ensures opened { IfSome (S.files store.old) (λ m.
+        Opens m result (opened_in m (job_of job.now).source (job_of job.now).include)) }
+    ensures files { S.files store.new ≡ S.files store.old }
+    ensures size { IfOk result (λ e. measure_of e ≤ 3145729) }
+    ensures count { Passes ExpandFault.FileError (S.failures store.old) (S.failures store.new) result }
+{
+    let options = folders_of(alloc, job)?;
+    Expander::open(alloc, store, job.source, &options)
+}
+
+/// What the statements of an opened source come to.
+fn finished<S: Store>(alloc: Global, store: &mut S, run: Run) -> Assembly
+    requires { IsRunning run }
+    ensures assembled { IfSome (S.files store.old) (λ m. (job : Job) (t : State) →
+        Opens m (Ok run.expander) (opened_in m job.source job.include) →
+        AreDefined Takes begun (no_line job.source) job.defines (Ok t) → IsHeldBy t run →
+        Finds is_outside_refusal (λ r. IsAssembled m job (answer_of result r)) result.result) }
+    ensures files { S.files store.new ≡ S.files store.old }
+    ensures count { PassesBy has_failed (S.failures store.old) (S.failures store.new) result.result }
     ensures good { IfOk result.result (λ o. is_good_object o ≡ true) }
     ensures numbers { IfOk result.result ObjectFits }
     ensures silent { is_from_outside result.result ≡ true → (result.out ≡ []) × (result.err ≡ []) }
 {
-    let mut texts = Texts {
-        out: Sequence::new(alloc),
-        err: Sequence::new(alloc),
+    let mut run = run;
+    let ran = take_all(alloc, store, &mut run);
+    let Run {
+        expander,
+        assembler,
+    } = run;
+    match ran {
+        Ok(()) => assembler.conclude(alloc),
+        Err(fault) => {
+            let (file, line) = expander.place();
+            refused(alloc, assembler, At { file, line }, fault)
+        }
+    }
+}
+
+/// What a job comes to, behind an assembler that has taken nothing.
+fn assembled<S: Store>(
+    alloc: Global,
+    store: &mut S,
+    job: &AsmJob<'_>,
+    assembler: Assembler,
+) -> Assembly
+    requires { Holds 0 begun assembler }
+    ensures assembled { IfSome (S.files store.old) (λ m. Finds is_outside_refusal
+        (λ r. IsAssembled m (job_of job.now) (answer_of result r)) result.result) }
+    ensures files { S.files store.new ≡ S.files store.old }
+    ensures count { PassesBy has_failed (S.failures store.old) (S.failures store.new) result.result }
+    ensures good { IfOk result.result (λ o. is_good_object o ≡ true) }
+    ensures numbers { IfOk result.result ObjectFits }
+    ensures silent { is_from_outside result.result ≡ true → (result.out ≡ []) × (result.err ≡ []) }
+{
+    let mut assembler = assembler;
+    let at = At {
+        file: job.source,
+        line: 0,
     };
-    match object_of_text(alloc, file, text, &mut texts) {
-        Ok(object) => Assembly {
-            result: Ok(object),
-            out: texts.out,
-            err: texts.err,
+    match opened(alloc, store, job) {
+        Err(fault) => refused(alloc, assembler, at, AsmFault::Expansion(fault)),
+        Ok(expander) => match define_all(alloc, &mut assembler, job) {
+            Err(fault) => refused(alloc, assembler, at, fault),
+            Ok(()) => {
+                let run = Run {
+                    expander,
+                    assembler,
+                };
+                finished(alloc, store, run)
+            }
         },
-        Err(fault) => refused(alloc, file, fault, texts),
     }
 }
 
 /// Assembles a source: its object, or the first fault and its place; and what is said up to there.
 pub fn assemble<S: Store>(alloc: Global, store: &mut S, job: &AsmJob<'_>) -> Assembly
-    ensures assembled { IfSome (S.files store.old) (λ m. Finds is_outside_refusal (λ r. IsAssembled m (job_of job.now) (record { result = r; out = result.out; err = result.err })) result.result) }
+    ensures assembled { IfSome (S.files store.old) (λ m. Finds is_outside_refusal
+        (λ r. IsAssembled m (job_of job.now) (answer_of result r)) result.result) }
     ensures files { S.files store.new ≡ S.files store.old }
     ensures count { PassesBy has_failed (S.failures store.old) (S.failures store.new) result.result }
     // An object can be written.
@@ -182,8 +170,8 @@ pub fn assemble<S: Store>(alloc: Global, store: &mut S, job: &AsmJob<'_>) -> Ass
     // Where memory runs out or the store fails nothing is said.
     ensures silent { is_from_outside result.result ≡ true → (result.out ≡ []) × (result.err ≡ []) }
 {
-    match read_source(alloc, store, job.source) {
-        Ok(text) => assembly_of(alloc, job.source, &text),
-        Err(refusal) => without_texts(alloc, refusal),
+    match Assembler::new(alloc) {
+        Ok(assembler) => assembled(alloc, store, job, assembler),
+        Err(_) => refused_outside(alloc, AsmFault::OutOfMemory),
     }
 }

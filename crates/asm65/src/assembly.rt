@@ -2,13 +2,24 @@
 
 use crate::AsmRefusal;
 use object65::Object;
-use syntax65::Sequence;
+use syntax65::{Sequence, Text};
+
+/// A constant of the command line.
+#[derive(Clone, Copy, Debug)]
+pub struct Define<'a> {
+    pub name: &'a [u8],
+    pub value: u32,
+}
 
 /// What is assembled.
 #[derive(Clone, Copy, Debug)]
 pub struct AsmJob<'a> {
     /// The source's file.
     pub source: &'a str,
+    /// The folders in which included files are looked for, behind that of the file that includes them.
+    pub include: &'a [Text],
+    /// Constants of the global scope, which stand before the first line.
+    pub defines: &'a [Define<'a>],
 }
 
 /// What assembling gives.

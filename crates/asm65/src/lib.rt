@@ -1,15 +1,24 @@
 //! The assembler: a source file becomes a relocatable object.
 #![tactic(auto)]
 
+mod assembler;
 mod assembling;
 mod assembly;
-mod evaluating;
-pub mod laws;
-mod laying;
-mod lines;
+mod concluding;
+mod defining;
+mod forms;
+mod given;
+mod knowing;
+mod naming;
+mod putting;
 mod refusal;
+mod resolving;
+mod running;
+mod sound;
+mod taking;
 mod texts;
+mod waiting;
 
 pub use assembling::assemble;
-pub use assembly::{AsmJob, Assembly};
-pub use refusal::{AsmRefusal, Place};
+pub use assembly::{AsmJob, Assembly, Define};
+pub use refusal::AsmRefusal;

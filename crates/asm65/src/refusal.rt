@@ -1,76 +1,63 @@
 //! Why a source has no object, and where.
 
-ghost use Rattle.std.specs.Prelude.{◌≡◌, None};
-ghost use Rattle.language65.specs.declared.fault.AsmFault.TheVariants.{OutOfMemory};
-ghost use Rattle.asm65.specs.Lines.{at_line};
+ghost use Rattle.std.specs.Prelude.{◌≡◌, false, true};
+ghost use Rattle.language65.specs.Faults.{is_failure, is_outside};
+ghost use Rattle.asm65.specs.Assembly.{has_failed, is_outside_refusal, placed_of};
+ghost use Rattle.asm65.specs.Views.{place_in};
 
+use crate::assembler::At;
+use expand65::ExpandFault;
 use language65::AsmFault;
-use std::alloc::{AllocError, AllocFailed};
-use syntax65::{StoreFault, Text};
+use std::alloc::Global;
 
-/// Where a fault stands: a file and the number of a line in it, from 1.
-#[derive(Debug, Drop)]
-pub struct Place {
-    pub file: Text,
-    pub line: u32,
-}
-
-/// Why a source has no object, and where; no place where no line was read.
+/// Why a source has no object, and where: the line is 0 where none was read.
 #[derive(Debug, Drop)]
 pub struct AsmRefusal {
-    pub place: Option<Place>,
-    pub fault: AsmFault,
-}
-
-impl From<StoreFault> for AsmRefusal {
-    ghost use Rattle.asm65.specs.Assembly.{without_place};
-    ghost use Rattle.language65.specs.Faults.{of_store};
-
-    ghost from_gives = { λ f e. e ≡ without_place (of_store f) };
-
-    fn from(fault: StoreFault) -> AsmRefusal {
-        AsmRefusal {
-            place: None,
-            fault: AsmFault::from(fault),
-        }
-    }
-}
-
-/// A fault, and the number of the line at which it is found.
-#[derive(Debug, Drop)]
-pub struct LineFault {
+    /// The file; no name where memory ran out.
+    pub file: String,
     pub line: u32,
     pub fault: AsmFault,
 }
 
-impl From<AllocError> for LineFault {
-    ghost from_gives = { λ _ e. e.fault ≡ OutOfMemory };
-
-    fn from(_e: AllocError) -> LineFault {
-        LineFault {
+impl AsmRefusal {
+    /// Memory ran out, perhaps for the name of a file.
+    pub fn without_memory(alloc: Global) -> Self
+        ensures outside { is_outside_refusal result ≡ true }
+        ensures inside { has_failed result ≡ false }
+    {
+        AsmRefusal {
+            file: String::new(alloc),
             line: 0,
             fault: AsmFault::OutOfMemory,
         }
     }
-}
 
-impl<T: Drop> From<AllocFailed<T>> for LineFault {
-    ghost from_gives = { λ _ e. e.fault ≡ OutOfMemory };
-
-    fn from(_e: AllocFailed<T>) -> LineFault {
-        LineFault {
-            line: 0,
-            fault: AsmFault::OutOfMemory,
+    /// The refusal of a fault at a line.
+    pub fn of_fault(alloc: Global, at: At<'_>, fault: AsmFault) -> Self
+        ensures placed { is_outside_refusal result ≡ false → placed_of result ≡
+            record { place = place_in at.entry.file.now at.entry.line; fault = fault } }
+        ensures outside { is_outside fault ≡ true → is_outside_refusal result ≡ true }
+        ensures inside { is_failure fault ≡ false → has_failed result ≡ false }
+        ensures kept { is_outside fault ≡ false → has_failed result ≡ false }
+    {
+        match String::from_str(alloc, at.file) {
+            Ok(file) => AsmRefusal {
+                file,
+                line: at.line,
+                fault,
+            },
+            Err(_) => AsmRefusal::without_memory(alloc),
         }
     }
-}
 
-/// A fault is found at a line.
-pub fn at_line<T>(line: u32, outcome: Result<T, AsmFault>) -> Result<T, LineFault>
-    ensures { result ≡ at_line line outcome }
-{
-    match outcome {
-        Ok(value) => Ok(value),
-        Err(fault) => Err(LineFault { line, fault }),
+    /// Whether memory ran out, or the store failed.
+    pub fn is_outside(&self) -> bool
+        ensures { result ≡ is_outside_refusal self.now }
+    {
+        let is_failure = matches!(
+            self.fault,
+            AsmFault::FileError | AsmFault::Expansion(ExpandFault::FileError)
+        );
+        self.fault.is_memory() || is_failure
     }
 }

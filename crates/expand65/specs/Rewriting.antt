@@ -1,5 +1,5 @@
 -- The state that a rewriter stands for, and what its calls lead to.
-use Rattle.std.specs.Prelude.{◌≡◌, ℕ, ◌+◌, Bool, true, false, List, [], ◌∷◌, length, map, Option, Some, None, Result, Ok, Err}
+use Rattle.std.specs.Prelude.{◌≡◌, ℕ, ◌+◌, ◌*◌, Bool, true, false, List, [], ◌∷◌, length, map, Option, Some, None, Result, Ok, Err}
 use Rattle.std.specs.declared.rc.Rc.{Rc}
 use Rattle.std.specs.Global.{Global}
 use Rattle.syntax65.specs.Outcome.{Unless}
@@ -63,13 +63,13 @@ Turns (Err f) s IsSo = Unless (is_outside f) (IsSo (stops (f, s.left.place)))
 
 -- What may follow a rewriter at most: lines, and ends of inputs. A line may open an input.
 abbrev pub size_of : Rewriter → ℕ
-size_of r = r.reader.room + r.reader.room + length r.reader.outer.items
+size_of r = 3 * r.reader.room + length r.reader.outer.items
 
 -- what stands in front of the lines behind a turn that goes on
 abbrev pub weight_of : Turn → ℕ
 weight_of Goes = 1
 weight_of (Gives line) = 1
-weight_of (Parts line rest) = 1
+weight_of (Parts line rest) = 3
 weight_of (Decides line) = 3
 weight_of Ends = 0
 

@@ -78,7 +78,7 @@ abbrev pub led : State → Option Statement → Stepped
 led s None = goes s
 led s (Some x) = gives (stated x) s
 
--- lines and inputs that may follow at most, and what stands in front of them
+-- what may follow at most: each line counts three times, so that each statement makes it less
 abbrev pub weight_in : Front → ℕ
 weight_in Nothing = 1
 weight_in (Rest line) = 3

@@ -1,6 +1,6 @@
 //! The statements of a source, one after another.
 
-ghost use Rattle.std.specs.Prelude.{◌≡◌, ◌<◌, ◌≤◌, ◌+◌, true, false, length, Err, IfNone, IfOk, IfSome, OnErr};
+ghost use Rattle.std.specs.Prelude.{◌≡◌, ◌<◌, ◌≤◌, ◌+◌, ◌*◌, true, false, length, Err, IfNone, IfOk, IfSome, OnErr};
 ghost use Rattle.syntax65.specs.Store.{Files, Passes};
 ghost use Rattle.expand65.specs.Standing.{Comes, FollowsFrom, Opens, StandsFor, is_end, led, measure_of, place_of, state_in};
 ghost use Rattle.expand65.specs.Expansion.{first_left, opened_in};
@@ -87,6 +87,7 @@ impl Expander {
         ensures opened { IfSome (S.files store.old) (λ m.
             Opens m result (opened_in m file.now options.now.include)) }
         ensures files { S.files store.new ≡ S.files store.old }
+        ensures size { IfOk result (λ e. measure_of e ≤ 3145729) }
         ensures count { Passes ExpandFault.FileError (S.failures store.old) (S.failures store.new) result }
     {
         if !is_there(store, file)? {
@@ -123,6 +124,8 @@ impl Expander {
             FollowsFrom m (K.meaning knows.now) self.old result self.new) }
         ensures failed { OnErr result (self.new.failed ≡ true) }
         ensures before { self.old.failed ≡ true → result ≡ Err ExpandFault.FailedBefore }
+        // Statements end.
+        ensures size { IfOk result (λ o. IfSome o (λ _. measure_of self.new < measure_of self.old)) }
         ensures files { S.files store.new ≡ S.files store.old }
         ensures count { Passes ExpandFault.FileError (S.failures store.old) (S.failures store.new) result }
     {
@@ -154,6 +157,7 @@ impl Expander {
     ) -> Result<Option<Statement>, ExpandFault>
         ensures comes { IfSome (S.files store.old) (λ m.
             Comes m (K.meaning knows.now) (state_in m self.old) result (state_in m self.new)) }
+        ensures size { IfOk result (λ o. IfSome o (λ _. measure_of self.new < measure_of self.old)) }
         ensures files { S.files store.new ≡ S.files store.old }
         ensures count { Passes ExpandFault.FileError (S.failures store.old) (S.failures store.new) result }
     {
@@ -191,7 +195,7 @@ impl Expander {
     fn follow(&mut self, turn: Turn) -> Option<Statement>
         ensures led { (m : Files) →
             turned (state_of m self.old.rewriter) turn ≡ led (state_in m self.new) result }
-        ensures size { IfNone result (measure_of self.new ≡ size_of self.old.rewriter + weight_of turn) }
+        ensures size { measure_of self.new ≡ size_of self.old.rewriter + weight_of turn }
     {
         let (front, statement) = match turn {
             Turn::Goes => (Front::Nothing, None),
@@ -207,9 +211,10 @@ impl Expander {
 
 /// The lines of a source, before the first.
 fn reader_of(alloc: Global, file: &str) -> Result<Reader, AllocError>
-    ensures { IfOk result (λ r. (m : Files) →
+    ensures lines { IfOk result (λ r. (m : Files) →
         length (bytes_of m file.now) ≤ 16777216 → left_of m r ≡ first_left file.now
         (bytes_of m file.now)) }
+    ensures size { IfOk result (λ r. 3 * r.room + length r.outer.items ≤ 3145728) }
 {
     let top = Input {
         source: Source::File(OpenFile::new(alloc, Text::copy_of(alloc, file)?)),

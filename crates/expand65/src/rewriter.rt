@@ -305,7 +305,7 @@ impl Rewriter {
             Turns result (state_of m self.new)
             (IsLabelled m (K.meaning knows.now) (state_of m self.old) (tokens_in line)
             (is_mislabelled (tokens_in line)))) }
-        ensures size { IfOk result (λ t. size_of self.new + weight_of t ≤ size_of self.old + 2) }
+        ensures size { IfOk result (λ t. size_of self.new + weight_of t ≤ size_of self.old + 3) }
         ensures files { S.files store.new ≡ S.files store.old }
         ensures count { Passes ExpandFault.FileError (S.failures store.old) (S.failures store.new) result }
     {

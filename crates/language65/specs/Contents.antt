@@ -1,5 +1,5 @@
 -- What a module's statements put into its object: the parts of sections, exports, assertions; and their first fault.
-use Rattle.std.specs.Prelude.{ℕ, zero, ◌+◌, pos, List, [], ◌∷◌, map, replicate, take, Option, Some, None, Result, Ok, Err, if◌then◌else◌}
+use Rattle.std.specs.Prelude.{ℕ, zero, ◌+◌, pos, true, false, List, [], ◌∷◌, map, replicate, take, drop, Option, Some, None, Result, Ok, Err, if◌then◌else◌}
 use Rattle.std.specs.List.{flat_map}
 use Rattle.syntax65.specs.Outcome.{◌>>=◌, each}
 use Rattle.syntax65.specs.Opcodes.{opcode_of}
@@ -22,10 +22,10 @@ use Rattle.language65.specs.declared.contents.Said.TheVariants.{Exported, Demand
 use Rattle.language65.specs.declared.fault.AsmFault.{AsmFault}
 use Rattle.language65.specs.declared.fault.AsmFault.TheVariants.{OutOfRange, ImportedAndDefined, NotDefined, Assertion}
 use Rattle.language65.specs.Language.{Item, value, text, Operand, immediate, address, indirect, indirect_x, indirect_y, Stated, constant, instruction, values, reserve, align, file_part, imports, exports, globals, forced, assertion}
-use Rattle.language65.specs.Laid.{Laid, Spot, asks_section}
-use Rattle.language65.specs.Names.{defined_at, defined_in}
-use Rattle.language65.specs.Norms.{constant_behind, folded, form_of_meaning, norm_of}
-use Rattle.language65.specs.Sizes.{counted, mode_of, part_of, width_of}
+use Rattle.language65.specs.Laid.{Laid, Spot, Settled, nothing_settled, in_mode, filled_with, from_byte, asks_section}
+use Rattle.language65.specs.Symbols.{Symbols, named, defined}
+use Rattle.language65.specs.Norms.{defined_form, folded, norm_of}
+use Rattle.language65.specs.Sizes.{width_of}
 
 -- ---- Parts of sections.
 
@@ -39,9 +39,9 @@ abbrev pub operand_form : Width → Spot → Form → Result Form AsmFault
 operand_form Branch s f = folded (fold2 Subtract f (sec s.segment (pos (s.offset + 2))))
 operand_form width s f = Ok f
 
-abbrev pub item_part : List Laid → ℕ → Laid → Width → Item → Result Part AsmFault
-item_part all i l width (value e) = norm_of all i l.spot e >>= stored width l.line
-item_part all i l width (text bytes) = Ok (Known bytes)
+abbrev pub item_part : Symbols → Laid → Width → Item → Result Part AsmFault
+item_part y l width (value e) = norm_of y l.spot e >>= stored width l.place.line
+item_part y l width (text bytes) = Ok (Known bytes)
 
 abbrev pub operand_tree : Operand → Option Tree
 operand_tree (immediate e) = Some e
@@ -51,53 +51,58 @@ operand_tree (indirect_x e) = Some e
 operand_tree (indirect_y e) = Some e
 operand_tree _ = None
 
-abbrev pub operand_parts : List Laid → ℕ → Laid → Option Width → Option Tree → Result (List Part) AsmFault
-operand_parts all i l (Some width) (Some e) =
-    norm_of all i l.spot e >>= (λ f. operand_form width l.spot f >>= (λ g. stored width l.line g >>= (λ p. Ok (p ∷ []))))
-operand_parts all i l width e = Ok []
+-- the value of an operand of this width
+abbrev pub operand_part : Symbols → Laid → Width → Tree → Result Part AsmFault
+operand_part y l width e = norm_of y l.spot e >>= (λ f. operand_form width l.spot f >>= stored width l.place.line)
+
+abbrev pub operand_parts : Symbols → Laid → Option Width → Option Tree → Result (List Part) AsmFault
+operand_parts y l (Some width) (Some e) = operand_part y l width e >>= (λ p. Ok (p ∷ []))
+operand_parts y l width e = Ok []
 
 abbrev pub opcode_part : Option ℕ → Part
 opcode_part None = Known []
 opcode_part (Some code) = Known (code ∷ [])
 
-abbrev pub instruction_parts : List Laid → ℕ → Laid → Mnemonic → Operand → Option Mode → Result (List Part) AsmFault
-instruction_parts all i l m _ None = Ok []
-instruction_parts all i l m operand (Some mode) =
-    operand_parts all i l (width_of mode) (operand_tree operand) >>= (λ ps. Ok (opcode_part (opcode_of m mode) ∷ ps))
+abbrev pub instruction_parts : Symbols → Laid → Mnemonic → Operand → Settled → Result (List Part) AsmFault
+instruction_parts y l m operand (in_mode mode) =
+    operand_parts y l (width_of mode) (operand_tree operand) >>= (λ ps. Ok (opcode_part (opcode_of m mode) ∷ ps))
+instruction_parts y l m operand _ = Ok []
 
 -- so many bytes, of the linker's fill value where no value is given
-abbrev pub room_part : List Laid → Spot → ℕ → Option Tree → Part
-room_part before s count None = Filled count
-room_part before s count (Some v) = Known (replicate count (counted (constant_behind before s v)))
+abbrev pub room_part : ℕ → Settled → Part
+room_part count (filled_with byte) = Known (replicate count byte)
+room_part count _ = Filled count
 
--- The parts that a statement at place i puts into its section.
-abbrev pub parts_of : List Laid → ℕ → Laid → Result (List Part) AsmFault
-parts_of all i l = go l.stated
+-- so many bytes of a file from one on
+abbrev pub file_bytes : ℕ → Option (List ℕ) → Settled → List ℕ
+file_bytes count (Some bytes) (from_byte start) = take count (drop start bytes)
+file_bytes count bytes _ = []
+
+-- The parts that a statement puts into its section.
+abbrev pub parts_of : Symbols → Laid → Result (List Part) AsmFault
+parts_of y l = go l.stated
   where
     go : Stated → Result (List Part) AsmFault
-    go (instruction m operand) = instruction_parts all i l m operand (mode_of (take i all) l.spot l.size m operand)
-    go (values width items) = each (item_part all i l width) items
-    go (reserve n v) = Ok (room_part (take i all) l.spot l.length v ∷ [])
-    go (align n v) = Ok (room_part (take i all) l.spot l.length v ∷ [])
-    go (file_part bytes start len) = Ok (Known (part_of (take i all) l.spot bytes start len) ∷ [])
+    go (instruction m operand) = instruction_parts y l m operand l.settled
+    go (values width items) = each (item_part y l width) items
+    go (reserve n v) = Ok (room_part l.length l.settled ∷ [])
+    go (align n v) = Ok (room_part l.length l.settled ∷ [])
+    go (file_part bytes start len) = Ok (Known (file_bytes l.length bytes l.settled) ∷ [])
     go _ = Ok []
 
 -- ---- What a statement says to other modules and to the linker.
 
 -- an import that the module defines
-abbrev pub import_fault : List Laid → List ℕ → Result (List Said) AsmFault
-import_fault all n = go (defined_in all zero n)
+abbrev pub import_fault : Symbols → List ℕ → Result (List Said) AsmFault
+import_fault y n = go (defined y (named 0 n))
   where
     go : Option ℕ → Result (List Said) AsmFault
     go None = Ok []
     go (Some j) = Err (ImportedAndDefined n)
 
-abbrev pub export_form : List Laid → ℕ → Result Form AsmFault
-export_form all j = form_of_meaning (norm_of all) all (defined_at j)
-
-abbrev pub export_said : List Laid → ℕ → List ℕ → Result (List Said) AsmFault → Option ℕ → Result (List Said) AsmFault
-export_said all line n absent None = absent
-export_said all line n absent (Some j) = export_form all j >>= (λ f. Ok (Exported n line f ∷ []))
+abbrev pub export_said : Symbols → ℕ → List ℕ → Result (List Said) AsmFault → Option ℕ → Result (List Said) AsmFault
+export_said y line n absent None = absent
+export_said y line n absent (Some j) = defined_form y j >>= (λ f. Ok (Exported n line f ∷ []))
 
 abbrev pub each_of : {A : Type 0} → (A → Result (List Said) AsmFault) → List A → Result (List Said) AsmFault
 each_of f xs = each f xs >>= (λ yss. Ok (flat_map (λ ys. ys) yss))
@@ -108,22 +113,36 @@ decided action.Error line words (lit (pos zero)) = Err (Assertion words)
 decided act line words (lit v) = Ok []
 decided act line words f = Ok (Checked act line words f ∷ [])
 
--- what a statement at place i says, and the fault of a constant's expression
-abbrev pub said_of : List Laid → ℕ → Laid → Result (List Said) AsmFault
-said_of all i l = go l.stated
+-- what a statement says, and the fault of a constant's expression
+abbrev pub said_of : Symbols → Laid → Result (List Said) AsmFault
+said_of y l = go l.stated
   where
     go : Stated → Result (List Said) AsmFault
-    go (constant n e) = norm_of all i l.spot e >>= (λ f. Ok [])
-    go (imports size names) = each_of (import_fault all) names
-    go (exports names) = each_of (λ n. export_said all l.line n (Err (NotDefined n)) (defined_in all zero n)) names
-    go (globals size names) = each_of (λ n. export_said all l.line n (Ok []) (defined_in all zero n)) names
-    go (forced names) = each_of (import_fault all) names >>= (λ none. Ok (map Demanded names))
-    go (assertion e act words) = norm_of all i l.spot e >>= decided act l.line words
+    go (constant n e) = norm_of y l.spot e >>= (λ f. Ok [])
+    go (imports size names) = each_of (import_fault y) names
+    go (exports names) = each_of (λ n. export_said y l.place.line n (Err (NotDefined n)) (defined y (named 0 n))) names
+    go (globals size names) = each_of (λ n. export_said y l.place.line n (Ok []) (defined y (named 0 n))) names
+    go (forced names) = each_of (import_fault y) names >>= (λ none. Ok (map Demanded names))
+    go (assertion e act words) = norm_of y l.spot e >>= decided act l.place.line words
     go _ = Ok []
 
 -- ---- A statement as the object has it.
 
-abbrev pub content_of : List Laid → ℕ → Laid → Result Content AsmFault
-content_of all i l =
-    parts_of all i l >>= (λ ps. said_of all i l >>= (λ ss.
+abbrev pub content_of : Symbols → Laid → Result Content AsmFault
+content_of y l =
+    parts_of y l >>= (λ ps. said_of y l >>= (λ ss.
     Ok (record { segment = l.spot.segment; asks = asks_section l.stated; parts = ps; said = ss })))
+
+-- ---- Contents of one kind.
+
+-- the section of a segment is asked for
+abbrev pub asking : ℕ → Content
+asking g = record { segment = g; asks = true; parts = []; said = [] }
+
+-- a part of a section
+abbrev pub put : ℕ → Part → Content
+put g p = record { segment = g; asks = false; parts = p ∷ []; said = [] }
+
+-- what is said
+abbrev pub telling : List Said → Content
+telling ss = record { segment = 0; asks = false; parts = []; said = ss }

@@ -1,27 +1,19 @@
 -- The faults of assembling: in words, and whether the cause lies outside the source.
 use Rattle.std.specs.Prelude.{ℕ, List, [], ◌++◌, Bool, true, false, codes, ◌||◌, encode_utf8_all}
-use Rattle.syntax65.specs.Faults.{lex_fault_words, is_lex_outside}
+use Rattle.expand65.specs.Faults.{expand_words}
+use Rattle.expand65.specs.declared.fault.ExpandFault.{ExpandFault}
+use Rattle.expand65.specs.declared.fault.ExpandFault.TheVariants as expand
 use Rattle.syntax65.specs.declared.expressions.fault.ExprFault.{ExprFault}
 use Rattle.syntax65.specs.declared.expressions.fault.ExprFault.TheVariants as expr
 use Rattle.syntax65.specs.declared.store.StoreFault.{StoreFault}
 use Rattle.syntax65.specs.declared.store.StoreFault.TheVariants as store
-use Rattle.language65.specs.declared.fault.SourceFault.{SourceFault}
-use Rattle.language65.specs.declared.fault.SourceFault.TheVariants as source
 use Rattle.language65.specs.declared.fault.AsmFault.{AsmFault}
-use Rattle.language65.specs.declared.fault.AsmFault.TheVariants.{OutOfMemory, Source, NotUnderstood, NoSuchForm, DefinedTwice, Undefined, Circular, OutOfRange, NoValue, TooLarge, SectionTooLarge, NoSuchScope, ScopeTwice, NoSuchLabel, ImportedAndDefined, NotDefined, BadAlignment, PopWithoutPush, BadOperand, BadPart, Assertion, SizeChanged, BadScope, FileNotFound, FileError}
+use Rattle.language65.specs.declared.fault.AsmFault.TheVariants.{OutOfMemory, Expansion, NotUnderstood, NoSuchForm, DefinedTwice, Undefined, Circular, OutOfRange, NoValue, TooLarge, SectionTooLarge, NoSuchScope, ScopeTwice, NoSuchLabel, ImportedAndDefined, NotDefined, BadAlignment, PopWithoutPush, BadOperand, BadPart, Assertion, SizeChanged, BadScope, FileNotFound, FileError}
 
-abbrev pub source_words : SourceFault → List ℕ
-source_words source.OutOfMemory = codes "out of memory"
-source_words (source.Lex f) = lex_fault_words f
-source_words source.FileNotFound = codes "file not found"
-source_words source.FileError = codes "file error"
-source_words source.TooManyLines = codes "too many lines"
-source_words source.TooLong = codes "file too long"
-
--- the words of a message, before the name that it ends in, if it has one
+-- the words of a message, before the name or the text that it ends in, if it has one
 abbrev pub words_of : AsmFault → List ℕ
 words_of OutOfMemory = codes "out of memory"
-words_of (Source f) = source_words f
+words_of (Expansion f) = []
 words_of NotUnderstood = codes "statement not understood"
 words_of NoSuchForm = codes "no such addressing form"
 words_of (DefinedTwice name) = codes "defined twice: "
@@ -46,8 +38,9 @@ words_of BadScope = codes "scope not open or not closed"
 words_of FileNotFound = codes "file not found"
 words_of FileError = codes "file error"
 
--- the name that a message ends in
+-- the name or the text that a message ends in
 abbrev pub name_in : AsmFault → List ℕ
+name_in (Expansion f) = expand_words f
 name_in (DefinedTwice name) = name
 name_in (Undefined name) = name
 name_in (NoSuchScope name) = name
@@ -65,31 +58,26 @@ fault_text e = words_of e ++ name_in e
 abbrev pub displayed : AsmFault → List ℕ
 displayed e = words_of e ++ encode_utf8_all (name_in e)
 
-abbrev pub is_source_memory : SourceFault → Bool
-is_source_memory source.OutOfMemory = true
-is_source_memory (source.Lex f) = is_lex_outside f
-is_source_memory _ = false
-
 -- memory ran out
 abbrev pub is_memory : AsmFault → Bool
 is_memory OutOfMemory = true
-is_memory (Source f) = is_source_memory f
+is_memory (Expansion expand.OutOfMemory) = true
 is_memory _ = false
 
 -- the store failed
 abbrev pub is_failure : AsmFault → Bool
-is_failure (Source source.FileError) = true
+is_failure (Expansion expand.FileError) = true
 is_failure FileError = true
 is_failure _ = false
 
 abbrev pub is_outside : AsmFault → Bool
 is_outside e = is_memory e || is_failure e
 
--- a store's fault as one of reading the source
+-- a store's fault where a part of a file is taken
 abbrev pub of_store : StoreFault → AsmFault
 of_store store.OutOfMemory = OutOfMemory
-of_store store.FileNotFound = Source source.FileNotFound
-of_store store.FileError = Source source.FileError
+of_store store.FileNotFound = FileNotFound
+of_store store.FileError = FileError
 
 -- a statement without its expression isn't understood
 abbrev pub of_expr : ExprFault → AsmFault

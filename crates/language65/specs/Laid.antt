@@ -1,13 +1,17 @@
--- What statements lie by: lines, scopes, regions, segments, offsets. What a name means is found among laid statements.
+-- What statements lie by: places, scopes, regions, segments, offsets.
 use Rattle.std.specs.Prelude.{ℕ, Bool, true, false, List, Option, Some, None, ◌||◌}
+use Rattle.expand65.specs.declared.place.Place.{Place}
+use Rattle.syntax65.specs.declared.instructions.codes.Mode.{Mode}
 use Rattle.syntax65.specs.declared.lexing.tokens.AddressSize.{AddressSize}
 use Rattle.syntax65.specs.Trees.{Tree, here, unary, binary}
-use Rattle.language65.specs.Language.{Stated, label, cheap_label, unnamed_label, constant, instruction, values, reserve, align, file_part, open_scope, close_scope, open_proc, close_proc, assertion}
+use Rattle.language65.specs.Language.{Stated, label, cheap_label, unnamed_label, constant, instruction, values, reserve, align, file_part, open_proc, assertion}
 
 -- where a statement stands
 pub record Spot : Type 0 where
-  -- the innermost open scope: 0 is the global one, any other one more than the place of the statement that opened it
+  -- the innermost open scope: 0 is the global one, the others have their numbers in the order in which they are opened
   pub scope : ℕ
+  -- how many scopes were opened before
+  pub opened : ℕ
   -- how many regions of cheap labels were opened before
   pub region : ℕ
   -- how many unnamed labels stand before
@@ -17,41 +21,26 @@ pub record Spot : Type 0 where
   -- the offset in the segment's section
   pub offset : ℕ
 
+-- what is settled of a statement at its line, by what is known there
+pub data Settled : Type 0 where
+  nothing_settled : Settled
+  -- the addressing form of an instruction
+  in_mode : Mode → Settled
+  -- the byte that fills room, where one is named
+  filled_with : ℕ → Settled
+  -- the byte of a file at which the part that is taken begins
+  from_byte : ℕ → Settled
+
 -- a statement with what it lies by
 pub record Laid : Type 0 where
   pub stated : Stated
-  -- the number of its line
-  pub line : ℕ
+  pub place : Place
   pub spot : Spot
   -- how many bytes it places in its section
   pub length : ℕ
   -- the address size of what it defines: that of a constant's expression at its line, or of the segment
   pub size : AddressSize
-
--- ---- What statements define and open.
-
--- the name that a statement defines in the scope in which it stands
-abbrev pub defined_name : Stated → Option (List ℕ)
-defined_name (label n) = Some n
-defined_name (constant n e) = Some n
-defined_name (open_proc n) = Some n
-defined_name _ = None
-
-abbrev pub opens_scope : Stated → Bool
-opens_scope (open_scope n) = true
-opens_scope (open_proc n) = true
-opens_scope _ = false
-
--- the name of the scope that a statement opens
-abbrev pub scope_name : Stated → Option (List ℕ)
-scope_name (open_scope n) = n
-scope_name (open_proc n) = Some n
-scope_name _ = None
-
-abbrev pub closes_scope : Stated → Bool
-closes_scope close_scope = true
-closes_scope close_proc = true
-closes_scope _ = false
+  pub settled : Settled
 
 -- a name before a colon and that of a proc open a new region of cheap labels
 abbrev pub opens_region : Stated → Bool
@@ -71,10 +60,6 @@ has_here here = true
 has_here (unary op e) = has_here e
 has_here (binary op e f) = has_here e || has_here f
 has_here _ = false
-
-abbrev pub some_here : Option Tree → Bool
-some_here None = false
-some_here (Some e) = has_here e
 
 -- a statement that asks for a section of the segment in which it stands
 abbrev pub asks_section : Stated → Bool

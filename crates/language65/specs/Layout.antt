@@ -1,15 +1,17 @@
 -- How statements are laid one behind the other.
-use Rattle.std.specs.Prelude.{ℕ, zero, suc, ◌+◌, max, List, [], ◌∷◌, ◌++◌, length, Option, Some, None, codes, if◌then◌else◌}
+use Rattle.std.specs.Prelude.{ℕ, zero, suc, ◌+◌, max, Bool, true, false, List, [], ◌∷◌, ◌++◌, length, Option, Some, None, codes, if◌then◌else◌}
 use Rattle.std.specs.List.{position}
 use Rattle.std.specs.Str.{bytes_eq}
 use Rattle.syntax65.specs.declared.lexing.tokens.AddressSize.{AddressSize}
 use Rattle.syntax65.specs.declared.lexing.tokens.AddressSize.TheVariants as size
 use Rattle.language65.specs.declared.contents.Segment.{Segment}
-use Rattle.language65.specs.Language.{Stated, constant, align, segment, push_segment, pop_segment}
-use Rattle.language65.specs.Laid.{Laid, Spot, opens_scope, closes_scope, opens_region, is_unnamed}
+use Rattle.language65.specs.Language.{Stated, constant, align, segment, push_segment, pop_segment, open_scope, open_proc, close_scope, close_proc}
+use Rattle.expand65.specs.declared.place.Place.{Place}
+use Rattle.language65.specs.Laid.{Laid, Spot, opens_region, is_unnamed}
+use Rattle.language65.specs.Symbols.{Symbols, symbols_of}
 use Rattle.language65.specs.Names.{enclosing}
-use Rattle.language65.specs.Norms.{constant_behind}
-use Rattle.language65.specs.Sizes.{counted, length_of, size_of}
+use Rattle.language65.specs.Norms.{constant_in}
+use Rattle.language65.specs.Sizes.{counted, length_of, settled_of, size_of}
 
 -- the multiples to which a section can be aligned
 abbrev pub powers : List ℕ
@@ -18,6 +20,7 @@ powers = 1 ∷ 2 ∷ 4 ∷ 8 ∷ 16 ∷ 32 ∷ 64 ∷ 128 ∷ 256 ∷ 512 ∷ 10
 -- what stands behind statements
 pub record Standing : Type 0 where
   pub scope : ℕ
+  pub opened : ℕ
   pub region : ℕ
   pub unnamed : ℕ
   pub segments : List Segment
@@ -30,7 +33,7 @@ new_segment n own = record { name = n; size = own; end = 0; align = 1 }
 
 -- assembly begins in CODE
 abbrev pub start : Standing
-start = record { scope = 0; region = 0; unnamed = 0; segments = new_segment (codes "CODE") size.Absolute ∷ []; current = 0; kept = [] }
+start = record { scope = 0; opened = 0; region = 0; unnamed = 0; segments = new_segment (codes "CODE") size.Absolute ∷ []; current = 0; kept = [] }
 
 -- ---- Segments.
 
@@ -89,47 +92,65 @@ kept_behind w _ = w.kept
 -- ---- One statement.
 
 abbrev pub spot_of : Standing → Spot
-spot_of w = record { scope = w.scope; region = w.region; unnamed = w.unnamed; segment = w.current; offset = (segment_at w.segments w.current).end }
+spot_of w = record { scope = w.scope; opened = w.opened; region = w.region; unnamed = w.unnamed; segment = w.current; offset = (segment_at w.segments w.current).end }
 
 abbrev pub own_size : Standing → AddressSize
 own_size w = (segment_at w.segments w.current).size
 
 -- the address size of what a statement defines
-abbrev pub size_defined : List Laid → Spot → AddressSize → Stated → AddressSize
-size_defined before s own (constant n e) = size_of before s own e
-size_defined before s own _ = own
+abbrev pub size_stated : Symbols → Spot → AddressSize → Stated → AddressSize
+size_stated y s own (constant n e) = size_of y s own e
+size_stated y s own _ = own
 
-abbrev pub laid : List Laid → Standing → ℕ → Stated → Laid
-laid before w line x =
-    record { stated = x; line = line; spot = spot_of w; length = length_of before (spot_of w) (own_size w) x; size = size_defined before (spot_of w) (own_size w) x }
+-- a statement behind those of a symbol table
+abbrev pub laid : Symbols → Standing → Place → Stated → Laid
+laid y w place x = record {
+  stated = x;
+  place = place;
+  spot = spot_of w;
+  length = length_of y (spot_of w) (own_size w) x;
+  size = size_stated y (spot_of w) (own_size w) x;
+  settled = settled_of y (spot_of w) (own_size w) x;
+}
+
+abbrev pub opens_scope : Stated → Bool
+opens_scope (open_scope n) = true
+opens_scope (open_proc n) = true
+opens_scope _ = false
+
+abbrev pub closes_scope : Stated → Bool
+closes_scope close_scope = true
+closes_scope close_proc = true
+closes_scope _ = false
 
 -- the scope that is open behind a statement
-abbrev pub scope_behind : List Laid → ℕ → Stated → ℕ
-scope_behind before scope x = if opens_scope x then suc (length before) else if closes_scope x then enclosing before scope else scope
+abbrev pub scope_behind : Symbols → Standing → Stated → ℕ
+scope_behind y w x = if opens_scope x then suc w.opened else if closes_scope x then enclosing y.scopes w.scope else w.scope
 
 -- the multiple to which a statement aligns its section
-abbrev pub multiple_of : List Laid → Spot → Stated → ℕ
-multiple_of before s (align n v) = counted (constant_behind before s n)
-multiple_of before s _ = 1
+abbrev pub multiple_of : Symbols → Spot → Stated → ℕ
+multiple_of y s (align n v) = counted (constant_in y s n)
+multiple_of y s _ = 1
 
-abbrev pub standing_behind : List Laid → Standing → Stated → Standing
-standing_behind before w x = record {
-  scope = scope_behind before w.scope x;
+abbrev pub standing_behind : Symbols → Standing → Stated → Standing
+standing_behind y w x = record {
+  scope = scope_behind y w x;
+  opened = if opens_scope x then w.opened + 1 else w.opened;
   region = if opens_region x then w.region + 1 else w.region;
   unnamed = if is_unnamed x then w.unnamed + 1 else w.unnamed;
-  segments = segments_behind w.segments w.current (length_of before (spot_of w) (own_size w) x) (multiple_of before (spot_of w) x) x;
+  segments = segments_behind w.segments w.current (length_of y (spot_of w) (own_size w) x) (multiple_of y (spot_of w) x) x;
   current = current_behind w x;
   kept = kept_behind w x;
 }
 
--- ---- All statements, each with the number of its line.
+-- ---- All statements, each with its place.
 
 pub record Layout : Type 0 where
   pub laid : List Laid
   pub standing : Standing
 
-abbrev pub layout_behind : Layout → ℕ → Stated → Layout
-layout_behind y line x = record { laid = y.laid ++ laid y.laid y.standing line x ∷ []; standing = standing_behind y.laid y.standing x }
+abbrev pub layout_behind : Layout → Place → Stated → Layout
+layout_behind y place x = record { laid = y.laid ++ laid (symbols_of y.laid) y.standing place x ∷ []; standing = standing_behind (symbols_of y.laid) y.standing x }
 
 abbrev pub nothing_laid : Layout
 nothing_laid = record { laid = []; standing = start }

@@ -1,8 +1,10 @@
 pub mod Faults
 pub mod Language
 pub mod Laid
+pub mod Symbols
 pub mod Names
 pub mod Norms
+pub mod Extending
 pub mod Sizes
 pub mod Layout
 pub mod LineFaults

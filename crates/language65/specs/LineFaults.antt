@@ -8,10 +8,11 @@ use Rattle.object65.specs.Objects.{section_limit}
 use Rattle.language65.specs.declared.contents.Segment.{Segment}
 use Rattle.language65.specs.declared.fault.AsmFault.{AsmFault}
 use Rattle.language65.specs.declared.fault.AsmFault.TheVariants.{NotUnderstood, NoSuchForm, DefinedTwice, SectionTooLarge, NoSuchScope, ScopeTwice, BadAlignment, PopWithoutPush, BadOperand, BadPart, SizeChanged, BadScope, FileNotFound}
-use Rattle.language65.specs.Language.{Item, value, text, Operand, no_operand, accumulator, immediate, address, indirect, indirect_x, indirect_y, Stated, cheap_label, constant, instruction, values, reserve, align, file_part, segment, pop_segment, open_scope, close_scope, close_proc, imports, exports, globals, forced, assertion}
-use Rattle.language65.specs.Laid.{Laid, Spot, defined_name, scope_name}
-use Rattle.language65.specs.Names.{defined_in, scope_in, scope_from, scopes_of, shown, is_cheap}
-use Rattle.language65.specs.Norms.{constant_behind}
+use Rattle.language65.specs.Language.{Item, value, text, Operand, no_operand, accumulator, immediate, address, indirect, indirect_x, indirect_y, Stated, cheap_label, constant, instruction, values, reserve, align, file_part, segment, pop_segment, open_scope, open_proc, close_scope, close_proc, imports, exports, globals, forced, assertion}
+use Rattle.language65.specs.Laid.{Spot}
+use Rattle.language65.specs.Symbols.{Symbols, Scope, Key, named, cheap_in, unnamed_at, defined, key_defined}
+use Rattle.language65.specs.Names.{scope_in, scope_from, scopes_of, shown}
+use Rattle.language65.specs.Norms.{constant_in}
 use Rattle.language65.specs.Sizes.{is_byte, mode_of, optional_value, length_of}
 use Rattle.language65.specs.Layout.{Standing, powers, segment_at, place_of, spot_of, own_size}
 
@@ -83,39 +84,40 @@ or_then (Some e) other = Some e
 or_then None other = other
 
 -- the first name with `::` whose scope isn't open or closed before
-abbrev pub lost_scope : List Laid → ℕ → Tree → Option AsmFault
-lost_scope before scope (name false (n ∷ [])) = None
-lost_scope before scope (name global parts) = unless_there (scope_from before scope global (scopes_of parts)) (NoSuchScope (shown global parts))
-lost_scope before scope (unary op e) = lost_scope before scope e
-lost_scope before scope (binary op e f) = or_then (lost_scope before scope e) (lost_scope before scope f)
-lost_scope before scope _ = None
+abbrev pub lost_scope : List Scope → ℕ → Tree → Option AsmFault
+lost_scope cs scope (name false (n ∷ [])) = None
+lost_scope cs scope (name global parts) = unless_there (scope_from cs scope global (scopes_of parts)) (NoSuchScope (shown global parts))
+lost_scope cs scope (unary op e) = lost_scope cs scope e
+lost_scope cs scope (binary op e f) = or_then (lost_scope cs scope e) (lost_scope cs scope f)
+lost_scope cs scope _ = None
 
-abbrev pub lost_scopes : List Laid → ℕ → List Tree → Option AsmFault
-lost_scopes before scope [] = None
-lost_scopes before scope (e ∷ es) = or_then (lost_scope before scope e) (lost_scopes before scope es)
+abbrev pub lost_scopes : List Scope → ℕ → List Tree → Option AsmFault
+lost_scopes cs scope [] = None
+lost_scopes cs scope (e ∷ es) = or_then (lost_scope cs scope e) (lost_scopes cs scope es)
 
 -- ---- Names and scopes that are there already.
 
-abbrev pub opened_twice : List Laid → ℕ → Option (List ℕ) → Option AsmFault
-opened_twice before scope None = None
-opened_twice before scope (Some n) = where_there (scope_in before scope n) (ScopeTwice n)
+-- the name of the scope that a statement opens
+abbrev pub scope_name : Stated → Option (List ℕ)
+scope_name (open_scope n) = n
+scope_name (open_proc n) = Some n
+scope_name _ = None
 
-abbrev pub named_twice : List Laid → ℕ → Option (List ℕ) → Option AsmFault
-named_twice before scope None = None
-named_twice before scope (Some n) = where_there (defined_in before scope n) (DefinedTwice n)
+abbrev pub opened_twice : List Scope → ℕ → Option (List ℕ) → Option AsmFault
+opened_twice cs scope None = None
+opened_twice cs scope (Some n) = where_there (scope_in cs scope n) (ScopeTwice n)
 
-abbrev pub cheap_twice : List Laid → ℕ → Stated → Option AsmFault
-cheap_twice before region (cheap_label n) = when (list_any (λ l. l.spot.region == region && is_cheap n l.stated) before) (DefinedTwice n)
-cheap_twice before region _ = None
-
-abbrev pub defined_twice : List Laid → Spot → Stated → Option AsmFault
-defined_twice before s x = or_then (named_twice before s.scope (defined_name x)) (cheap_twice before s.region x)
+abbrev pub defined_twice : Symbols → Option Key → Option AsmFault
+defined_twice y (Some (named scope n)) = where_there (defined y (named scope n)) (DefinedTwice n)
+defined_twice y (Some (cheap_in region n)) = where_there (defined y (cheap_in region n)) (DefinedTwice n)
+defined_twice y (Some (unnamed_at k)) = None
+defined_twice y None = None
 
 -- ---- Operands.
 
-abbrev pub form_fault : List Laid → Spot → AddressSize → Stated → Option AsmFault
-form_fault before s own (instruction m operand) = unless_there (mode_of before s own m operand) NoSuchForm
-form_fault before s own _ = None
+abbrev pub form_fault : Symbols → Spot → AddressSize → Stated → Option AsmFault
+form_fault y s own (instruction m operand) = unless_there (mode_of y s own m operand) NoSuchForm
+form_fault y s own _ = None
 
 abbrev pub is_count : Option ℤ → Bool
 is_count (Some (pos n)) = true
@@ -130,19 +132,19 @@ is_there None = false
 is_there (Some x) = true
 
 -- what has to be constant is, and lies in its range
-abbrev pub operand_fault : List Laid → Spot → Stated → Option AsmFault
-operand_fault before s (reserve n v) = when (not (is_count (constant_behind before s n) && is_byte_value (optional_value before s v (pos 0)))) BadOperand
-operand_fault before s (align n v) = when (not (is_there (constant_behind before s n) && is_byte_value (optional_value before s v (pos 0)))) BadOperand
-operand_fault before s (file_part bytes start len) = when (not (is_there (optional_value before s start (pos 0)) && is_there (optional_value before s len (pos 0)))) BadOperand
-operand_fault before s _ = None
+abbrev pub operand_fault : Symbols → Spot → Stated → Option AsmFault
+operand_fault y s (reserve n v) = when (not (is_count (constant_in y s n) && is_byte_value (optional_value y s v (pos 0)))) BadOperand
+operand_fault y s (align n v) = when (not (is_there (constant_in y s n) && is_byte_value (optional_value y s v (pos 0)))) BadOperand
+operand_fault y s (file_part bytes start len) = when (not (is_there (optional_value y s start (pos 0)) && is_there (optional_value y s len (pos 0)))) BadOperand
+operand_fault y s _ = None
 
 abbrev pub multiple_fault : Option ℤ → Option AsmFault
 multiple_fault (Some (pos n)) = when (not (list_any (λ m. m == n) powers)) BadAlignment
 multiple_fault _ = Some BadAlignment
 
-abbrev pub alignment_fault : List Laid → Spot → Stated → Option AsmFault
-alignment_fault before s (align n v) = multiple_fault (constant_behind before s n)
-alignment_fault before s _ = None
+abbrev pub alignment_fault : Symbols → Spot → Stated → Option AsmFault
+alignment_fault y s (align n v) = multiple_fault (constant_in y s n)
+alignment_fault y s _ = None
 
 -- ---- Files.
 
@@ -162,11 +164,11 @@ abbrev pub left_from : ℕ → Option ℤ → ℤ
 left_from count (Some (pos start)) = pos (count - start)
 left_from count _ = pos 0
 
-abbrev pub part_fault : List Laid → Spot → Stated → Option AsmFault
-part_fault before s (file_part (Some bytes) start len) =
-    let from : Option ℤ = optional_value before s start (pos 0) in
-    when (not (nat_le (length bytes) file_limit && is_part (length bytes) from (optional_value before s len (left_from (length bytes) from)))) BadPart
-part_fault before s _ = None
+abbrev pub part_fault : Symbols → Spot → Stated → Option AsmFault
+part_fault y s (file_part (Some bytes) start len) =
+    let from : Option ℤ = optional_value y s start (pos 0) in
+    when (not (nat_le (length bytes) file_limit && is_part (length bytes) from (optional_value y s len (left_from (length bytes) from)))) BadPart
+part_fault y s _ = None
 
 -- ---- Segments and blocks.
 
@@ -183,24 +185,20 @@ abbrev pub size_fault : List Segment → Stated → Option AsmFault
 size_fault gs (segment n own) = changed_size gs own (place_of gs n)
 size_fault gs _ = None
 
-abbrev pub is_scope : Option Laid → Bool
+abbrev pub is_scope : Option Scope → Bool
 is_scope None = false
-is_scope (Some l) = go l.stated
-  where
-    go : Stated → Bool
-    go (open_scope n) = true
-    go _ = false
+is_scope (Some c) = not c.is_proc
 
--- the statement that opened a scope
-abbrev pub opener : List Laid → ℕ → Option Laid
-opener before zero = None
-opener before (suc i) = slice_get before i
+-- what is said of an open scope
+abbrev pub opened_as : List Scope → ℕ → Option Scope
+opened_as cs zero = None
+opened_as cs (suc i) = slice_get cs i
 
 -- a scope or a proc is closed by its own kind
-abbrev pub block_fault : List Laid → ℕ → Stated → Option AsmFault
-block_fault before scope close_scope = when (not (is_open scope && is_scope (opener before scope))) BadScope
-block_fault before scope close_proc = when (not (is_open scope && not (is_scope (opener before scope)))) BadScope
-block_fault before scope _ = None
+abbrev pub block_fault : List Scope → ℕ → Stated → Option AsmFault
+block_fault cs scope close_scope = when (not (is_open scope && is_scope (opened_as cs scope))) BadScope
+block_fault cs scope close_proc = when (not (is_open scope && not (is_scope (opened_as cs scope)))) BadScope
+block_fault cs scope _ = None
 
 abbrev pub is_kept : List ℕ → Bool
 is_kept [] = false
@@ -210,22 +208,22 @@ abbrev pub pop_fault : List ℕ → Stated → Option AsmFault
 pop_fault kept pop_segment = when (not (is_kept kept)) PopWithoutPush
 pop_fault kept _ = None
 
--- ---- The first fault of a statement that is understood, behind others.
-abbrev pub line_fault : List Laid → Standing → Stated → Option AsmFault
-line_fault before w x =
+-- ---- The first fault of a statement that is understood, behind those of a symbol table.
+abbrev pub line_fault : Symbols → Standing → Stated → Option AsmFault
+line_fault y w x =
     let s : Spot = spot_of w in
     first_fault (
     when (stands_outside x && is_open s.scope) NotUnderstood
-    ∷ lost_scopes before s.scope (trees_of x)
-    ∷ opened_twice before s.scope (scope_name x)
-    ∷ defined_twice before s x
-    ∷ form_fault before s (own_size w) x
-    ∷ operand_fault before s x
-    ∷ alignment_fault before s x
+    ∷ lost_scopes y.scopes s.scope (trees_of x)
+    ∷ opened_twice y.scopes s.scope (scope_name x)
+    ∷ defined_twice y (key_defined s x)
+    ∷ form_fault y s (own_size w) x
+    ∷ operand_fault y s x
+    ∷ alignment_fault y s x
     ∷ missing_file x
-    ∷ part_fault before s x
+    ∷ part_fault y s x
     ∷ size_fault w.segments x
-    ∷ block_fault before s.scope x
+    ∷ block_fault y.scopes s.scope x
     ∷ pop_fault w.kept x
-    ∷ when (nat_lt section_limit (s.offset + length_of before s (own_size w) x)) SectionTooLarge
+    ∷ when (nat_lt section_limit (s.offset + length_of y s (own_size w) x)) SectionTooLarge
     ∷ [])

@@ -1,18 +1,18 @@
--- What names mean at a place among laid statements.
+-- What names mean by a symbol table.
 use Rattle.std.specs.Prelude.{ℕ, zero, suc, slice_get, ◌+◌, ◌-◌, nat_le, Bool, true, false, List, [], ◌∷◌, ◌++◌, take, Option, Some, None, Result, Ok, Err, ◌==◌, ◌&&◌, if◌then◌else◌, codes}
-use Rattle.std.specs.List.{position, list_any}
+use Rattle.std.specs.List.{position}
 use Rattle.std.specs.Str.{bytes_eq}
 use Rattle.syntax65.specs.Trees.{Tree, name, cheap, forward, backward}
 use Rattle.language65.specs.declared.fault.AsmFault.{AsmFault}
 use Rattle.language65.specs.declared.fault.AsmFault.TheVariants.{Undefined, NoSuchScope, NoSuchLabel}
-use Rattle.language65.specs.Language.{Stated, cheap_label, imports, globals, forced}
-use Rattle.language65.specs.Laid.{Laid, Spot, defined_name, scope_name, is_unnamed}
+use Rattle.language65.specs.Laid.{Spot}
+use Rattle.language65.specs.Symbols.{Symbols, Scope, Key, named, cheap_in, unnamed_at, defined, imported}
 
 -- what a name means
 pub data Meaning : Type 0 where
-  -- what the statement at this place defines
+  -- the definition at this place
   defined_at : ℕ → Meaning
-  -- an import, by its place among the imports in the order in which they were first named
+  -- the import at this place
   imported_as : ℕ → Meaning
 
 abbrev pub or_else : {A : Type 0} → Option A → Option A → Option A
@@ -25,68 +25,44 @@ is_named n (Some m) = bytes_eq m n
 
 -- ---- Scopes.
 
-abbrev pub scope_at : Option Laid → ℕ
-scope_at None = zero
-scope_at (Some l) = l.spot.scope
+abbrev pub within : Option Scope → ℕ
+within None = zero
+within (Some c) = c.within
 
 -- the scope in which a scope was opened; the global one stands in no other
-abbrev pub enclosing : List Laid → ℕ → ℕ
-enclosing ls zero = zero
-enclosing ls (suc i) = scope_at (slice_get ls i)
+abbrev pub enclosing : List Scope → ℕ → ℕ
+enclosing cs zero = zero
+enclosing cs (suc i) = within (slice_get cs i)
 
 -- a scope and those around it, so many at most
-abbrev pub outward_from : List Laid → ℕ → ℕ → List ℕ
-outward_from ls n zero = zero ∷ []
-outward_from ls zero (suc i) = suc i ∷ []
-outward_from ls (suc n) (suc i) = suc i ∷ outward_from ls n (enclosing ls (suc i))
+abbrev pub outward_from : List Scope → ℕ → ℕ → List ℕ
+outward_from cs n zero = zero ∷ []
+outward_from cs zero (suc i) = suc i ∷ []
+outward_from cs (suc n) (suc i) = suc i ∷ outward_from cs n (enclosing cs (suc i))
 
 -- A scope and those around it, innermost first. A scope stands in scopes that were opened before it, so there are no more
 -- of them than its own number.
-abbrev pub scopes_from : List Laid → ℕ → List ℕ
-scopes_from ls s = outward_from ls s s
+abbrev pub scopes_from : List Scope → ℕ → List ℕ
+scopes_from cs s = outward_from cs s s
 
 -- what is found in the first of some scopes that has it
 abbrev pub first_found : {A : Type 0} → (ℕ → Option A) → List ℕ → Option A
 first_found find [] = None
 first_found find (s ∷ ss) = or_else (find s) (first_found find ss)
 
--- the place of the statement that defines a name directly in a scope
-abbrev pub defined_in : List Laid → ℕ → List ℕ → Option ℕ
-defined_in ls scope n = position (λ l. l.spot.scope == scope && is_named n (defined_name l.stated)) ls
-
-abbrev pub opened_at : Option ℕ → Option ℕ
-opened_at None = None
-opened_at (Some i) = Some (suc i)
+abbrev pub numbered : Option ℕ → Option ℕ
+numbered None = None
+numbered (Some i) = Some (suc i)
 
 -- the scope of a name that was opened directly in a scope
-abbrev pub scope_in : List Laid → ℕ → List ℕ → Option ℕ
-scope_in ls scope n = opened_at (position (λ l. l.spot.scope == scope && is_named n (scope_name l.stated)) ls)
+abbrev pub scope_in : List Scope → ℕ → List ℕ → Option ℕ
+scope_in cs scope n = numbered (position (λ c. c.within == scope && is_named n c.name) cs)
 
 -- the scope that the names lead to, one inside the other
-abbrev pub inside : List Laid → List (List ℕ) → Option ℕ → Option ℕ
-inside ls names None = None
-inside ls [] (Some scope) = Some scope
-inside ls (n ∷ names) (Some scope) = inside ls names (scope_in ls scope n)
-
--- ---- Imports.
-
-abbrev pub imports_of : Stated → List (List ℕ)
-imports_of (imports size names) = names
-imports_of (globals size names) = names
-imports_of (forced names) = names
-imports_of _ = []
-
--- names, each once, in the order in which they were first named
-abbrev pub with_new : List (List ℕ) → List (List ℕ) → List (List ℕ)
-with_new known [] = known
-with_new known (n ∷ names) = with_new (if list_any (λ k. bytes_eq n k) known then known else known ++ n ∷ []) names
-
-abbrev pub imported_names : List (List ℕ) → List Laid → List (List ℕ)
-imported_names known [] = known
-imported_names known (l ∷ ls) = imported_names (with_new known (imports_of l.stated)) ls
-
-abbrev pub import_key : List Laid → List ℕ → Option ℕ
-import_key ls n = position (λ k. bytes_eq n k) (imported_names [] ls)
+abbrev pub inside : List Scope → List (List ℕ) → Option ℕ → Option ℕ
+inside cs names None = None
+inside cs [] (Some scope) = Some scope
+inside cs (n ∷ names) (Some scope) = inside cs names (scope_in cs scope n)
 
 -- ---- Names.
 
@@ -105,26 +81,22 @@ or_fault e (Some i) other = Ok (defined_at i)
 or_fault e None (Some k) = Ok (imported_as k)
 or_fault e None None = Err e
 
--- a name in the global scope, where imports stand
-abbrev pub global_meaning : List Laid → List ℕ → AsmFault → Result Meaning AsmFault
-global_meaning ls n e = or_fault e (defined_in ls zero n) (import_key ls n)
+-- a plain name: that of the innermost scope, from the use outward, which defines it; else an import
+abbrev pub plain_meaning : Symbols → ℕ → List ℕ → Result Meaning AsmFault
+plain_meaning y scope n = or_fault (Undefined n) (first_found (λ s. defined y (named s n)) (scopes_from y.scopes scope)) (imported y n)
 
--- a plain name: that of the innermost scope, from the use outward, which defines it
-abbrev pub plain_meaning : List Laid → ℕ → List ℕ → Result Meaning AsmFault
-plain_meaning ls scope n = or_fault (Undefined n) (first_found (λ s. defined_in ls s n) (scopes_from ls scope)) (import_key ls n)
+-- a name behind `::`: that of the scope itself; imports stand in the global scope
+abbrev pub member_meaning : Symbols → List ℕ → AsmFault → AsmFault → Option ℕ → Result Meaning AsmFault
+member_meaning y n absent lost None = Err lost
+member_meaning y n absent lost (Some zero) = or_fault absent (defined y (named zero n)) (imported y n)
+member_meaning y n absent lost (Some (suc i)) = or_fault absent (defined y (named (suc i) n)) None
 
--- a name behind `::`: that of the scope itself
-abbrev pub member_meaning : List Laid → List ℕ → AsmFault → AsmFault → Option ℕ → Result Meaning AsmFault
-member_meaning ls n absent lost None = Err lost
-member_meaning ls n absent lost (Some zero) = global_meaning ls n absent
-member_meaning ls n absent lost (Some (suc i)) = or_fault absent (defined_in ls (suc i) n) None
-
--- The scope of a name with `::`, from a use that these statements precede. The first of its scopes was opened before
--- the use, and is searched from the innermost scope outward, or in the global scope behind a leading `::`.
-abbrev pub scope_from : List Laid → ℕ → Bool → List (List ℕ) → Option ℕ
-scope_from before scope true scopes = inside before scopes (Some zero)
-scope_from before scope false [] = None
-scope_from before scope false (n ∷ scopes) = inside before scopes (first_found (λ s. scope_in before s n) (scopes_from before scope))
+-- The scope of a name with `::`, of these scopes, which were opened before the use. The first is searched from the
+-- innermost scope outward, or in the global scope behind a leading `::`.
+abbrev pub scope_from : List Scope → ℕ → Bool → List (List ℕ) → Option ℕ
+scope_from cs scope true scopes = inside cs scopes (Some zero)
+scope_from cs scope false [] = None
+scope_from cs scope false (n ∷ scopes) = inside cs scopes (first_found (λ s. scope_in cs s n) (scopes_from cs scope))
 
 -- all parts but the last, and the last
 abbrev pub scopes_of : List (List ℕ) → List (List ℕ)
@@ -137,32 +109,28 @@ last_of [] = []
 last_of (n ∷ []) = n
 last_of (n ∷ m ∷ parts) = last_of (m ∷ parts)
 
-abbrev pub scoped_meaning : List Laid → List Laid → ℕ → Bool → List (List ℕ) → Result Meaning AsmFault
-scoped_meaning ls before scope global parts =
-    member_meaning ls (last_of parts) (Undefined (shown global parts)) (NoSuchScope (shown global parts)) (scope_from before scope global (scopes_of parts))
+abbrev pub scoped_meaning : Symbols → Spot → Bool → List (List ℕ) → Result Meaning AsmFault
+scoped_meaning y s global parts =
+    member_meaning y (last_of parts) (Undefined (shown global parts)) (NoSuchScope (shown global parts)) (scope_from (take s.opened y.scopes) s.scope global (scopes_of parts))
 
 -- ---- Labels.
 
-abbrev pub is_cheap : List ℕ → Stated → Bool
-is_cheap n (cheap_label m) = bytes_eq n m
-is_cheap n _ = false
-
 -- a cheap label of the same region
-abbrev pub cheap_meaning : List Laid → ℕ → List ℕ → Result Meaning AsmFault
-cheap_meaning ls region n = or_fault (Undefined n) (position (λ l. l.spot.region == region && is_cheap n l.stated) ls) None
+abbrev pub cheap_meaning : Symbols → ℕ → List ℕ → Result Meaning AsmFault
+cheap_meaning y region n = or_fault (Undefined n) (defined y (cheap_in region n)) None
 
 -- the unnamed label before which so many stand
-abbrev pub unnamed_meaning : List Laid → ℕ → Result Meaning AsmFault
-unnamed_meaning ls k = or_fault NoSuchLabel (position (λ l. l.spot.unnamed == k && is_unnamed l.stated) ls) None
+abbrev pub unnamed_meaning : Symbols → ℕ → Result Meaning AsmFault
+unnamed_meaning y k = or_fault NoSuchLabel (defined y (unnamed_at k)) None
 
-abbrev pub backward_meaning : List Laid → ℕ → ℕ → Result Meaning AsmFault
-backward_meaning ls k n = if nat_le n k then unnamed_meaning ls (k - n) else Err NoSuchLabel
+abbrev pub backward_meaning : Symbols → ℕ → ℕ → Result Meaning AsmFault
+backward_meaning y k n = if nat_le n k then unnamed_meaning y (k - n) else Err NoSuchLabel
 
--- ---- What an operand means at place i and where it stands there, among the first p of all statements.
-abbrev pub meaning_of : List Laid → (p i : ℕ) → Spot → Tree → Result Meaning AsmFault
-meaning_of all p i s (name false (n ∷ [])) = plain_meaning (take p all) s.scope n
-meaning_of all p i s (name global parts) = scoped_meaning (take p all) (take i all) s.scope global parts
-meaning_of all p i s (cheap n) = cheap_meaning (take p all) s.region n
-meaning_of all p i s (forward n) = unnamed_meaning (take p all) (s.unnamed + n - 1)
-meaning_of all p i s (backward n) = backward_meaning (take p all) s.unnamed n
-meaning_of all p i s _ = Err NoSuchLabel
+-- ---- What an operand means where it stands.
+abbrev pub meaning_of : Symbols → Spot → Tree → Result Meaning AsmFault
+meaning_of y s (name false (n ∷ [])) = plain_meaning y s.scope n
+meaning_of y s (name global parts) = scoped_meaning y s global parts
+meaning_of y s (cheap n) = cheap_meaning y s.region n
+meaning_of y s (forward n) = unnamed_meaning y (s.unnamed + n - 1)
+meaning_of y s (backward n) = backward_meaning y s.unnamed n
+meaning_of y s _ = Err NoSuchLabel

@@ -1,4 +1,4 @@
--- Normal forms of expressions among laid statements, and what is constant there.
+-- Normal forms of expressions by a symbol table, and what is constant there.
 use Rattle.std.specs.Prelude.{ℕ, zero, suc, ℤ, pos, List, length, Option, Some, None, slice_get, Result, Ok, Err}
 use Rattle.syntax65.specs.Outcome.{◌>>=◌}
 use Rattle.syntax65.specs.Trees.{Tree, number, here, unary, binary}
@@ -8,8 +8,8 @@ use Rattle.object65.specs.declared.folding.FormFault.{FormFault}
 use Rattle.object65.specs.declared.folding.FormFault.TheVariants as form
 use Rattle.language65.specs.declared.fault.AsmFault.{AsmFault}
 use Rattle.language65.specs.declared.fault.AsmFault.TheVariants.{OutOfMemory, Circular, NoValue, TooLarge, NoSuchLabel}
-use Rattle.language65.specs.Language.{Stated, constant}
-use Rattle.language65.specs.Laid.{Laid, Spot}
+use Rattle.language65.specs.Laid.{Spot}
+use Rattle.language65.specs.Symbols.{Symbols, Definition}
 use Rattle.language65.specs.Names.{Meaning, defined_at, imported_as, meaning_of}
 
 abbrev pub folded : Result Form FormFault → Result Form AsmFault
@@ -31,37 +31,37 @@ form_by operand s (binary op e g) = form_by operand s e >>= (λ f. form_by opera
 form_by operand s e = operand e
 
 -- a constant has the form of its expression at its own place, and a label its address
-abbrev pub form_of_stated : (Spot → Tree → Result Form AsmFault) → Spot → Stated → Result Form AsmFault
-form_of_stated constant_form s (constant n e) = constant_form s e
-form_of_stated constant_form s _ = Ok (address_of s)
+abbrev pub form_of_value : (Spot → Tree → Result Form AsmFault) → Spot → Option Tree → Result Form AsmFault
+form_of_value constant_form s None = Ok (address_of s)
+form_of_value constant_form s (Some e) = constant_form s e
 
-abbrev pub form_of_laid : (Spot → Tree → Result Form AsmFault) → Option Laid → Result Form AsmFault
-form_of_laid constant_form None = Err NoSuchLabel
-form_of_laid constant_form (Some l) = form_of_stated constant_form l.spot l.stated
+abbrev pub form_of_definition : (Spot → Tree → Result Form AsmFault) → Option Definition → Result Form AsmFault
+form_of_definition constant_form None = Err NoSuchLabel
+form_of_definition constant_form (Some d) = form_of_value constant_form d.spot d.value
 
-abbrev pub form_of_meaning : (ℕ → Spot → Tree → Result Form AsmFault) → List Laid → Meaning → Result Form AsmFault
-form_of_meaning constant_form all (imported_as k) = Ok (imp k)
-form_of_meaning constant_form all (defined_at j) = form_of_laid (constant_form j) (slice_get all j)
+abbrev pub form_of_meaning : (Spot → Tree → Result Form AsmFault) → Symbols → Meaning → Result Form AsmFault
+form_of_meaning constant_form y (imported_as k) = Ok (imp k)
+form_of_meaning constant_form y (defined_at j) = form_of_definition constant_form (slice_get y.definitions j)
 
--- The normal form of an expression at place i, names meaning what they do among the first p statements, where at most so
--- many expressions stand one inside the other, each but the first as a constant of the one before.
-abbrev pub norm : ℕ → List Laid → (p i : ℕ) → Spot → Tree → Result Form AsmFault
-norm zero all p i s e = Err Circular
-norm (suc n) all p i s e = form_by (λ operand. meaning_of all p i s operand >>= form_of_meaning (norm n all p) all) s e
+-- The normal form of an expression, where at most so many expressions stand one inside the other, each but the first as
+-- a constant of the one before.
+abbrev pub norm : ℕ → Symbols → Spot → Tree → Result Form AsmFault
+norm zero y s e = Err Circular
+norm (suc n) y s e = form_by (λ operand. meaning_of y s operand >>= form_of_meaning (norm n y) y) s e
 
--- The normal form of an expression of a module. With it there are at most as many expressions as statements and one, so
--- a constant that needs more of them one inside the other leads back to itself.
-abbrev pub norm_of : List Laid → ℕ → Spot → Tree → Result Form AsmFault
-norm_of all i s e = norm (suc (length all)) all (length all) i s e
+-- The normal form of an expression. With it there are at most as many expressions as definitions and one, so a constant
+-- that needs more of them one inside the other leads back to itself.
+abbrev pub norm_of : Symbols → Spot → Tree → Result Form AsmFault
+norm_of y s e = norm (suc (length y.definitions)) y s e
 
--- The same behind the statements before, and with no more known than they say.
-abbrev pub norm_behind : List Laid → Spot → Tree → Result Form AsmFault
-norm_behind before s e = norm (suc (length before)) before (length before) (length before) s e
+-- the form of what is defined at a place
+abbrev pub defined_form : Symbols → ℕ → Result Form AsmFault
+defined_form y j = form_of_meaning (norm_of y) y (defined_at j)
 
 abbrev pub literal_in : Result Form AsmFault → Option ℤ
 literal_in (Ok (lit v)) = Some v
 literal_in _ = None
 
--- the value of an expression that is constant behind these statements
-abbrev pub constant_behind : List Laid → Spot → Tree → Option ℤ
-constant_behind before s e = literal_in (norm_behind before s e)
+-- the value of an expression that is constant by a symbol table
+abbrev pub constant_in : Symbols → Spot → Tree → Option ℤ
+constant_in y s e = literal_in (norm_of y s e)

@@ -18,10 +18,11 @@ use Rattle.object65.specs.Objects.{width_len}
 use Rattle.language65.specs.declared.fault.AsmFault.{AsmFault}
 use Rattle.language65.specs.declared.language.Index.{Index}
 use Rattle.language65.specs.declared.language.Index.TheVariants as index
-use Rattle.language65.specs.Language.{Item, value, text, Operand, no_operand, accumulator, immediate, address, indirect, indirect_x, indirect_y, Stated, instruction, values, reserve, align, file_part, imports, globals}
-use Rattle.language65.specs.Laid.{Laid, Spot}
-use Rattle.language65.specs.Names.{Meaning, defined_at, imported_as, imported_names, meaning_of}
-use Rattle.language65.specs.Norms.{constant_behind}
+use Rattle.language65.specs.Language.{Item, value, text, Operand, no_operand, accumulator, immediate, address, indirect, indirect_x, indirect_y, Stated, instruction, values, reserve, align, file_part}
+use Rattle.language65.specs.Laid.{Spot, Settled, nothing_settled, in_mode, filled_with, from_byte}
+use Rattle.language65.specs.Symbols.{Symbols, Definition}
+use Rattle.language65.specs.Names.{Meaning, defined_at, imported_as, meaning_of}
+use Rattle.language65.specs.Norms.{constant_in}
 
 -- ---- Address sizes.
 
@@ -43,40 +44,34 @@ takes_byte HighByte = true
 takes_byte BankByte = true
 takes_byte _ = false
 
--- the names that were imported for the zero page
-abbrev pub zero_page_names : Stated → List (List ℕ)
-zero_page_names (imports size.ZeroPage names) = names
-zero_page_names (globals size.ZeroPage names) = names
-zero_page_names _ = []
+abbrev pub size_defined : Option Definition → AddressSize
+size_defined None = size.Absolute
+size_defined (Some d) = d.size
 
-abbrev pub is_zero_page_name : List Laid → List ℕ → Bool
-is_zero_page_name before n = list_any (λ l. list_any (λ m. bytes_eq m n) (zero_page_names l.stated)) before
+abbrev pub is_zero_page_name : Symbols → List ℕ → Bool
+is_zero_page_name y n = list_any (λ m. bytes_eq m n) y.zero_page
 
-abbrev pub size_of_laid : Option Laid → AddressSize
-size_of_laid None = size.Absolute
-size_of_laid (Some l) = l.size
+abbrev pub size_of_import : Symbols → Option (List ℕ) → AddressSize
+size_of_import y None = size.Absolute
+size_of_import y (Some n) = if is_zero_page_name y n then size.ZeroPage else size.Absolute
 
-abbrev pub size_of_import : List Laid → Option (List ℕ) → AddressSize
-size_of_import before None = size.Absolute
-size_of_import before (Some n) = if is_zero_page_name before n then size.ZeroPage else size.Absolute
-
-abbrev pub size_of_meaning : List Laid → Result Meaning AsmFault → AddressSize
-size_of_meaning before (Ok (defined_at j)) = size_of_laid (slice_get before j)
-size_of_meaning before (Ok (imported_as k)) = size_of_import before (slice_get (imported_names [] before) k)
-size_of_meaning before (Err e) = size.Absolute
+abbrev pub size_of_meaning : Symbols → Result Meaning AsmFault → AddressSize
+size_of_meaning y (Ok (defined_at j)) = size_defined (slice_get y.definitions j)
+size_of_meaning y (Ok (imported_as k)) = size_of_import y (slice_get y.imports k)
+size_of_meaning y (Err e) = size.Absolute
 
 abbrev pub size_by : AddressSize → Option ℤ → AddressSize
 size_by other None = other
 size_by other (Some v) = size_of_value v
 
--- The size of an expression behind these statements, where the segment has this size: that of its value where it is
+-- The size of an expression by what is known at its line, where the segment has this size: that of its value where it is
 -- constant; a byte behind `<`, `>` and `^`; else that of what it names, and the largest of its parts.
-abbrev pub size_of : List Laid → Spot → AddressSize → Tree → AddressSize
-size_of before s own (unary op e) = size_by (if takes_byte op then size.ZeroPage else size_of before s own e) (constant_behind before s (unary op e))
-size_of before s own (binary op e f) = size_by (larger (size_of before s own e) (size_of before s own f)) (constant_behind before s (binary op e f))
-size_of before s own here = own
-size_of before s own (number v) = size_of_value (pos v)
-size_of before s own e = size_by (size_of_meaning before (meaning_of before (length before) (length before) s e)) (constant_behind before s e)
+abbrev pub size_of : Symbols → Spot → AddressSize → Tree → AddressSize
+size_of y s own (unary op e) = size_by (if takes_byte op then size.ZeroPage else size_of y s own e) (constant_in y s (unary op e))
+size_of y s own (binary op e f) = size_by (larger (size_of y s own e) (size_of y s own f)) (constant_in y s (binary op e f))
+size_of y s own here = own
+size_of y s own (number v) = size_of_value (pos v)
+size_of y s own e = size_by (size_of_meaning y (meaning_of y s e)) (constant_in y s e)
 
 -- ---- Instructions.
 
@@ -116,14 +111,14 @@ branch_mode None None = Some Relative
 branch_mode forced r = None
 
 -- the addressing form of an operand, if the instruction has it
-abbrev pub mode_of : List Laid → Spot → AddressSize → Mnemonic → Operand → Option Mode
-mode_of before s own m no_operand = first_of m Implied Accumulator
-mode_of before s own m accumulator = first_of m Accumulator Accumulator
-mode_of before s own m (immediate e) = first_of m Immediate Immediate
-mode_of before s own m (address forced e r) = if is_branch m then branch_mode forced r else address_mode m forced (size_of before s own e) r
-mode_of before s own m (indirect e) = first_of m Indirect Indirect
-mode_of before s own m (indirect_x e) = first_of m IndirectX IndirectX
-mode_of before s own m (indirect_y e) = first_of m IndirectY IndirectY
+abbrev pub mode_of : Symbols → Spot → AddressSize → Mnemonic → Operand → Option Mode
+mode_of y s own m no_operand = first_of m Implied Accumulator
+mode_of y s own m accumulator = first_of m Accumulator Accumulator
+mode_of y s own m (immediate e) = first_of m Immediate Immediate
+mode_of y s own m (address forced e r) = if is_branch m then branch_mode forced r else address_mode m forced (size_of y s own e) r
+mode_of y s own m (indirect e) = first_of m Indirect Indirect
+mode_of y s own m (indirect_x e) = first_of m IndirectX IndirectX
+mode_of y s own m (indirect_y e) = first_of m IndirectY IndirectY
 
 -- how the operand of a form is stored
 abbrev pub width_of : Mode → Option Width
@@ -155,9 +150,9 @@ abbrev pub counted : Option ℤ → ℕ
 counted (Some (pos n)) = n
 counted _ = 0
 
-abbrev pub optional_value : List Laid → Spot → Option Tree → ℤ → Option ℤ
-optional_value before s None default = Some default
-optional_value before s (Some e) default = constant_behind before s e
+abbrev pub optional_value : Symbols → Spot → Option Tree → ℤ → Option ℤ
+optional_value y s None default = Some default
+optional_value y s (Some e) default = constant_in y s e
 
 -- how far the end of the section moves up to a multiple
 abbrev pub gap : ℕ → Option ℤ → ℕ
@@ -169,17 +164,38 @@ abbrev pub bytes_between : List ℕ → ℕ → Option ℤ → List ℕ
 bytes_between bytes start None = []
 bytes_between bytes start (Some len) = take (counted (Some len)) (drop start bytes)
 
-abbrev pub part_of : List Laid → Spot → Option (List ℕ) → Option Tree → Option Tree → List ℕ
-part_of before s None start len = []
-part_of before s (Some bytes) start len =
-    let from : ℕ = counted (optional_value before s start (pos 0)) in
-    bytes_between bytes from (optional_value before s len (pos (length bytes - from)))
+-- the byte of a file at which the part that is taken begins, and how long the part is
+abbrev pub part_start : Symbols → Spot → Option Tree → ℕ
+part_start y s start = counted (optional_value y s start (pos 0))
 
--- How many bytes a statement places, behind these statements and where the segment has this size.
-abbrev pub length_of : List Laid → Spot → AddressSize → Stated → ℕ
-length_of before s own (instruction m operand) = mode_len (mode_of before s own m operand)
-length_of before s own (values width items) = sum_by (item_len width) items
-length_of before s own (reserve n v) = counted (constant_behind before s n)
-length_of before s own (align n v) = gap s.offset (constant_behind before s n)
-length_of before s own (file_part bytes start len) = length (part_of before s bytes start len)
-length_of before s own _ = 0
+abbrev pub part_len : Symbols → Spot → Option (List ℕ) → Option Tree → Option Tree → ℕ
+part_len y s None start len = 0
+part_len y s (Some bytes) start len =
+    length (bytes_between bytes (part_start y s start) (optional_value y s len (pos (length bytes - part_start y s start))))
+
+-- How many bytes a statement places, by what is known at its line, where the segment has this size.
+abbrev pub length_of : Symbols → Spot → AddressSize → Stated → ℕ
+length_of y s own (instruction m operand) = mode_len (mode_of y s own m operand)
+length_of y s own (values width items) = sum_by (item_len width) items
+length_of y s own (reserve n v) = counted (constant_in y s n)
+length_of y s own (align n v) = gap s.offset (constant_in y s n)
+length_of y s own (file_part bytes start len) = part_len y s bytes start len
+length_of y s own _ = 0
+
+-- ---- What is settled.
+
+abbrev pub mode_settled : Option Mode → Settled
+mode_settled None = nothing_settled
+mode_settled (Some mode) = in_mode mode
+
+abbrev pub fill_settled : Symbols → Spot → Option Tree → Settled
+fill_settled y s None = nothing_settled
+fill_settled y s (Some v) = filled_with (counted (constant_in y s v))
+
+-- what is settled of a statement at its line, where the segment has this size
+abbrev pub settled_of : Symbols → Spot → AddressSize → Stated → Settled
+settled_of y s own (instruction m operand) = mode_settled (mode_of y s own m operand)
+settled_of y s own (reserve n v) = fill_settled y s v
+settled_of y s own (align n v) = fill_settled y s v
+settled_of y s own (file_part bytes start len) = from_byte (part_start y s start)
+settled_of y s own _ = nothing_settled

@@ -1,5 +1,5 @@
 -- Statements without where they lie in memory.
-use Rattle.std.specs.Prelude.{List, map}
+use Rattle.std.specs.Prelude.{map}
 use Rattle.syntax65.specs.Trees.{tree_of}
 use Rattle.std.specs.Prelude.{option_map}
 use Rattle.language65.specs.declared.language.Item.{Item}
@@ -8,7 +8,6 @@ use Rattle.language65.specs.declared.language.Operand.{Operand}
 use Rattle.language65.specs.declared.language.Operand.TheVariants as operand
 use Rattle.language65.specs.declared.language.Statement.{Statement}
 use Rattle.language65.specs.declared.language.Statement.TheVariants as statement
-use Rattle.language65.specs.declared.laid.Laid.{Laid}
 use Rattle.language65.specs.declared.laid.Spot.{Spot}
 use Rattle.language65.specs.Language as l
 use Rattle.language65.specs.Laid as laid
@@ -52,10 +51,4 @@ stated_of (statement.Warning words) = l.warns words
 stated_of statement.Nothing = l.nothing
 
 abbrev pub spot_of : Spot → laid.Spot
-spot_of s = record { scope = s.scope; region = s.region; unnamed = s.unnamed; segment = s.segment; offset = s.offset }
-
-abbrev pub laid_of : Laid → laid.Laid
-laid_of x = record { stated = stated_of x.statement; line = x.line; spot = spot_of x.spot; length = x.length; size = x.size }
-
-abbrev pub all_of : List Laid → List laid.Laid
-all_of xs = map laid_of xs
+spot_of s = record { scope = s.scope; opened = s.opened; region = s.region; unnamed = s.unnamed; segment = s.segment; offset = s.offset }

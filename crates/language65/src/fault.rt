@@ -1,74 +1,20 @@
 //! Why a source has no object.
 
 ghost use Rattle.std.specs.Prelude.{◌≡◌, Some};
-ghost use Rattle.language65.specs.declared.fault.AsmFault.TheVariants.{OutOfMemory, Source};
-ghost use Rattle.language65.specs.declared.fault.SourceFault.TheVariants.{Lex};
+ghost use Rattle.language65.specs.declared.fault.AsmFault.TheVariants.{Expansion, OutOfMemory};
 
+use expand65::ExpandFault;
 use std::alloc::{AllocError, AllocFailed};
 use std::error::Error;
 use std::fmt;
-use syntax65::{ExprFault, LexFault, Sequence, StoreFault};
-
-/// Why a source's lines can't be read.
-#[derive(Clone, Copy, Debug, PartialEq, Eq)]
-pub enum SourceFault {
-    OutOfMemory,
-    /// A line has no tokens.
-    Lex(LexFault),
-    FileNotFound,
-    FileError,
-    /// A file has more lines than are read.
-    TooManyLines,
-    /// A file has more bytes than are read.
-    TooLong,
-}
-
-impl SourceFault {
-    ghost use Rattle.language65.specs.Faults.{source_words, is_source_memory};
-
-    /// The words of a message.
-    pub fn words(self) -> &'static str
-        ensures { result.now ≡ source_words self }
-    {
-        match self {
-            SourceFault::OutOfMemory => "out of memory",
-            SourceFault::Lex(fault) => fault.words(),
-            SourceFault::FileNotFound => "file not found",
-            SourceFault::FileError => "file error",
-            SourceFault::TooManyLines => "too many lines",
-            SourceFault::TooLong => "file too long",
-        }
-    }
-
-    /// Whether memory ran out.
-    pub fn is_memory(self) -> bool
-        ensures { result ≡ is_source_memory self }
-    {
-        matches!(
-            self,
-            SourceFault::OutOfMemory | SourceFault::Lex(LexFault::OutOfMemory)
-        )
-    }
-}
-
-impl fmt::Display for SourceFault {
-    ghost use Rattle.language65.specs.Faults.{source_words};
-
-    ghost output = { λ e. Some (source_words e) };
-
-    fn fmt<W: fmt::Write>(&self, f: &mut fmt::Formatter<W>) -> fmt::Result {
-        f.write_str(self.words())
-    }
-}
-
-impl Error for SourceFault {}
+use syntax65::{ExprFault, Sequence, StoreFault};
 
 /// Why a source has no object. Where a name is concerned, it is the name as it is written.
 #[derive(Debug, Drop)]
 pub enum AsmFault {
     OutOfMemory,
-    /// The source's lines can't be read.
-    Source(SourceFault),
+    /// The source's statements can't be given.
+    Expansion(ExpandFault),
     NotUnderstood,
     /// The instruction has no such addressing form.
     NoSuchForm,
@@ -107,13 +53,13 @@ pub enum AsmFault {
 impl AsmFault {
     ghost use Rattle.language65.specs.Faults.{words_of, name_in, is_memory};
 
-    /// The words of a message, before the name that it ends in.
+    /// The words of a message, before the name or the text that it ends in.
     pub fn words(&self) -> &'static str
         ensures { result.now ≡ words_of self.now }
     {
         match self {
             AsmFault::OutOfMemory => "out of memory",
-            AsmFault::Source(fault) => fault.words(),
+            AsmFault::Expansion(_) => "",
             AsmFault::NotUnderstood => "statement not understood",
             AsmFault::NoSuchForm => "no such addressing form",
             AsmFault::DefinedTwice(_) => "defined twice: ",
@@ -140,11 +86,13 @@ impl AsmFault {
         }
     }
 
-    /// The name that the message ends in, or an assertion's text; empty where there is none.
+    /// The name that the message ends in, an assertion's text, or the words of expansion's fault; empty where there is
+    /// none.
     pub fn name(&self) -> &[u8]
         ensures { result.now ≡ name_in self.now }
     {
         match self {
+            AsmFault::Expansion(fault) => fault.words(),
             AsmFault::DefinedTwice(name) => name.as_slice(),
             AsmFault::Undefined(name) => name.as_slice(),
             AsmFault::NoSuchScope(name) => name.as_slice(),
@@ -160,11 +108,10 @@ impl AsmFault {
     pub fn is_memory(&self) -> bool
         ensures { result ≡ is_memory self.now }
     {
-        match self {
-            AsmFault::OutOfMemory => true,
-            AsmFault::Source(fault) => fault.is_memory(),
-            _ => false,
-        }
+        matches!(
+            self,
+            AsmFault::OutOfMemory | AsmFault::Expansion(ExpandFault::OutOfMemory)
+        )
     }
 }
 
@@ -215,11 +162,11 @@ impl<T: Drop> From<AllocFailed<T>> for AsmFault {
     }
 }
 
-impl From<LexFault> for AsmFault {
-    ghost from_gives = { λ f e. e ≡ Source (Lex f) };
+impl From<ExpandFault> for AsmFault {
+    ghost from_gives = { λ fault e. e ≡ Expansion fault };
 
-    fn from(fault: LexFault) -> AsmFault {
-        AsmFault::Source(SourceFault::Lex(fault))
+    fn from(fault: ExpandFault) -> AsmFault {
+        AsmFault::Expansion(fault)
     }
 }
 
@@ -246,8 +193,8 @@ impl From<StoreFault> for AsmFault {
     fn from(fault: StoreFault) -> AsmFault {
         match fault {
             StoreFault::OutOfMemory => AsmFault::OutOfMemory,
-            StoreFault::FileNotFound => AsmFault::Source(SourceFault::FileNotFound),
-            StoreFault::FileError => AsmFault::Source(SourceFault::FileError),
+            StoreFault::FileNotFound => AsmFault::FileNotFound,
+            StoreFault::FileError => AsmFault::FileError,
         }
     }
 }

@@ -8,6 +8,6 @@ mod laid;
 mod language;
 
 pub use contents::{Content, Part, Said, Segment};
-pub use fault::{AsmFault, SourceFault};
-pub use laid::{Laid, Settled, Spot};
+pub use fault::AsmFault;
+pub use laid::Spot;
 pub use language::{Index, Item, Operand, Statement};

@@ -1,3 +1,4 @@
+pub mod Scans
 pub mod Shown
 pub mod Leads
 pub mod Steps

@@ -8,7 +8,7 @@ use Rattle.object65.specs.Objects.{are_names, is_among, is_good_object, is_name,
 use Rattle.library65.specs.Writing.{AreSymbols}
 use Rattle.library65.proofs.Edits.{and, left, right}
 
-all_names : (names : List (List ℕ)) → are_names names ≡ true → list_all is_name names ≡ true
+pub all_names : (names : List (List ℕ)) → are_names names ≡ true → list_all is_name names ≡ true
 all_names [] e = refl
 all_names (n ∷ ns) e =
     let front = left (is_name n && not (is_among ns n)) (are_names ns) e in

@@ -1,3 +1,4 @@
+pub mod Contents
 pub mod Fault
 pub mod Names
 pub mod Spelling

@@ -8,35 +8,17 @@ ghost use Rattle.library65.specs.Libraries.{agrees, are_same, checked, contents_
 ghost use Rattle.library65.specs.Writing.{AreSymbols};
 
 use crate::naming::is_file_name;
+use crate::objects::read_contents;
 use crate::{Entry, LibraryFault};
-use object65::{Export, Object, ObjectFault, read_object};
+use object65::{Export, Object, ObjectFault, Record};
 use std::alloc::Global;
-use syntax65::{MemStore, Sequence};
+use syntax65::Sequence;
 
 /// What an object exports and imports, in its order.
 #[derive(Debug, Drop)]
 pub struct Contents {
     pub exports: Sequence<Sequence<u8>>,
     pub imports: Sequence<Sequence<u8>>,
-}
-
-/// The names of exports.
-fn names_of(
-    alloc: Global,
-    exports: Sequence<Export>,
-) -> Result<Sequence<Sequence<u8>>, LibraryFault>
-    ensures { Gives is_memory (λ names. names) result (Ok (map (λ e. e.name) exports)) }
-{
-    let mut names = Sequence::new(alloc);
-    for export in exports.into_vec() {
-        let Export {
-            name,
-            line: _,
-            form: _,
-        } = export;
-        names.push(name)?;
-    }
-    Ok(names)
 }
 
 /// What an object's fault is of a member.
@@ -49,46 +31,33 @@ fn member_fault(fault: ObjectFault) -> LibraryFault
     }
 }
 
-/// The object that the bytes are.
-fn object_of(alloc: Global, bytes: &[u8]) -> Result<Object, LibraryFault>
-    ensures object { Gives is_memory (λ o. o) result (object_in bytes.now) }
-    ensures good { IfOk result (λ o. is_good_object o ≡ true) }
+/// What the object that the bytes are exports and imports.
+#[tactic(auto, unfolding(crate::specs::Libraries::contents_in))]
+fn contents_of(alloc: Global, space: &mut Record, bytes: &[u8]) -> Result<Contents, LibraryFault>
+    ensures contents { Gives is_memory (λ c. c) result (contents_in bytes.now) }
+    ensures symbols { IfOk result AreSymbols }
 {
-    let mut store = MemStore::new(alloc);
-    store.put("", bytes)?;
-    match read_object(alloc, &mut store, "", 0, bytes.len() as u64) {
-        Ok(object) => Ok(object),
+    match read_contents(alloc, space, bytes) {
+        Ok(contents) => Ok(contents),
         Err(fault) => Err(member_fault(fault)),
     }
 }
 
-/// What the object that the bytes are exports and imports.
-#[tactic(auto, unfolding(crate::specs::Libraries::contents_in))]
-fn contents_of(alloc: Global, bytes: &[u8]) -> Result<Contents, LibraryFault>
-    ensures contents { Gives is_memory (λ c. c) result (contents_in bytes.now) }
-    ensures symbols { IfOk result AreSymbols }
-{
-    let object = object_of(alloc, bytes)?;
-    let Object {
-        imports,
-        sections: _,
-        exports,
-        asserts: _,
-    } = object;
-    let exports = names_of(alloc, exports)?;
-    Ok(Contents { exports, imports })
-}
-
-/// What a member of this name and these bytes exports and imports.
+/// What a member of this name and these bytes exports and imports. The space takes the object's records in turn.
 #[tactic(auto, unfolding(crate::specs::Libraries::checked))]
-pub fn check_member(alloc: Global, name: &[u8], bytes: &[u8]) -> Result<Contents, LibraryFault>
+pub fn check_member(
+    alloc: Global,
+    space: &mut Record,
+    name: &[u8],
+    bytes: &[u8],
+) -> Result<Contents, LibraryFault>
     ensures checked { Gives is_memory (λ c. c) result (checked name.now bytes.now) }
     ensures symbols { IfOk result AreSymbols }
 {
     if !is_file_name(name) {
         return Err(LibraryFault::BadMemberName);
     }
-    contents_of(alloc, bytes)
+    contents_of(alloc, space, bytes)
 }
 
 fn are_same(names: &[Sequence<u8>], others: &[Sequence<u8>]) -> bool

@@ -11,6 +11,7 @@ pub mod laws;
 mod library;
 mod loading;
 mod naming;
+mod objects;
 mod placing;
 mod searching;
 mod selecting;

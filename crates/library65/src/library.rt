@@ -18,9 +18,11 @@ use crate::contents::{Contents, check_member};
 use crate::fields::FILE_LIMIT;
 use crate::loading::read_members;
 use crate::naming::copy_of;
+use crate::objects::empty_record;
 use crate::writing::put_library;
 use indexmap::IndexMap;
 use indexmap::map::Keys;
+use object65::Record;
 use std::alloc::{AllocError, Global};
 use std::marker::Model;
 use syntax65::Store;
@@ -37,6 +39,8 @@ pub struct Stored {
 pub struct Library {
     alloc: Global,
     members: IndexMap<Vec<u8>, Stored>,
+    /// It takes the records of each member that is put in, one after another.
+    space: Record,
 }
 
 impl Model for Library {
@@ -60,6 +64,7 @@ impl Drop for Library {
         let Library {
             alloc: _,
             members: _,
+            space: _,
         } = self;
     }
 }
@@ -165,6 +170,7 @@ impl Library {
         Library {
             alloc,
             members: IndexMap::new(alloc),
+            space: empty_record(),
         }
     }
 
@@ -175,7 +181,11 @@ impl Library {
         ensures count { Passes LibraryFault.FileError (S.failures store.old) (S.failures store.new) result }
     {
         let members = read_members(alloc, store, file)?;
-        Ok(Library { alloc, members })
+        Ok(Library {
+            alloc,
+            members,
+            space: empty_record(),
+        })
     }
 
     /// Puts an object in, in the place of the member of its name, or else last. A refusal changes nothing.
@@ -184,7 +194,7 @@ impl Library {
         ensures replaced { Gives is_memory (λ _. self.new) result (replaced self.old name.now bytes.now) }
         ensures unchanged { OnErr result (self.new ≡ self.old) }
     {
-        let contents = check_member(self.alloc, name, bytes)?;
+        let contents = check_member(self.alloc, &mut self.space, name, bytes)?;
         put_copy(self.alloc, &mut self.members, name, bytes, contents)
     }
 

@@ -15,30 +15,40 @@ ghost use Rattle.library65.specs.Writing.{AreSymbols};
 
 use crate::contents::{Contents, agrees, check_member};
 use crate::library::{Stored, put_member};
+use crate::objects::empty_record;
 use crate::{Entry, LibraryFault, read_index};
 use indexmap::IndexMap;
+use object65::Record;
 use std::alloc::Global;
 use syntax65::{Store, StoreFault, read_full};
 
 const CHUNK: usize = 4096;
 
-/// Adds what a file has from a place on, so many bytes at most, and answers how many there were.
+/// The members that were read so far, and the rooms that the bytes and the records of each are read into.
+#[derive(Drop)]
+struct Loading {
+    alloc: Global,
+    members: IndexMap<Vec<u8>, Stored>,
+    space: Record,
+    chunk: [u8; CHUNK],
+}
+
+/// Adds what a file has from a place on, at most as many bytes as the chunk takes, and answers how many there were.
 fn read_chunk<S: Store>(
     store: &mut S,
     file: &str,
     at: u64,
-    want: usize,
+    chunk: &mut [u8],
     bytes: &mut Vec<u8>,
 ) -> Result<usize, StoreFault>
-    requires want { want ≤ 4096 }
+    requires short { length chunk.old ≤ 4096 }
     requires limit { at ≤ file_limit }
-    ensures read { IfSome (S.files store.old) (λ m. ReadsChunk (map.get m file.now) at want bytes.old.items bytes.new.items result) }
-    ensures grown { IfOk result (λ n. (n ≤ want) × (length bytes.new.items ≡ length bytes.old.items + n)) }
+    ensures read { IfSome (S.files store.old) (λ m. ReadsChunk (map.get m file.now) at (length chunk.old) bytes.old.items bytes.new.items result) }
+    ensures grown { IfOk result (λ n. (n ≤ length chunk.old) × (length bytes.new.items ≡ length bytes.old.items + n)) }
     ensures files { S.files store.new ≡ S.files store.old }
     ensures count { Passes StoreFault.FileError (S.failures store.old) (S.failures store.new) result }
 {
-    let mut chunk = [0u8; CHUNK];
-    let n = read_full(store, file, at, &mut chunk[..want])?;
+    let n = read_full(store, file, at, chunk)?;
     bytes.extend_from_slice(&chunk[..n])?;
     Ok(n)
 }
@@ -48,20 +58,26 @@ fn read_piece<S: Store>(
     alloc: Global,
     store: &mut S,
     file: &str,
-    at: u64,
-    size: u32,
+    entry: &Entry,
+    chunk: &mut [u8; CHUNK],
 ) -> Result<Vec<u8>, LibraryFault>
-    requires { at + size ≤ file_limit }
-    ensures read { IfSome (S.files store.old) (λ m. Gives is_outside (λ v. v.items) result (in_file (map.get m file.now) (piece_at size at))) }
+    requires { entry.now.place + entry.now.size ≤ file_limit }
+    ensures read { IfSome (S.files store.old) (λ m. Gives is_outside (λ v. v.items) result (in_file (map.get m file.now) (piece_at entry.now.size entry.now.place))) }
     ensures files { S.files store.new ≡ S.files store.old }
     ensures count { Passes LibraryFault.FileError (S.failures store.old) (S.failures store.new) result }
 {
-    let size = size as usize;
+    let size = entry.size as usize;
     let mut bytes = Vec::new(alloc);
     'reading: loop {
         let len = bytes.len();
         let want = CHUNK.min(size - len);
-        let n = read_chunk(store, file, at + len as u64, want, &mut bytes)?;
+        let n = read_chunk(
+            store,
+            file,
+            entry.place + len as u64,
+            &mut chunk[..want],
+            &mut bytes,
+        )?;
         if n < CHUNK {
             break;
         }
@@ -74,13 +90,18 @@ fn read_piece<S: Store>(
 
 /// What is kept of a member with these bytes, where the entry has the names that its object has.
 #[tactic(auto, unfolding(crate::specs::Libraries::agreed))]
-fn check_entry(alloc: Global, entry: &Entry, bytes: &[u8]) -> Result<Contents, LibraryFault>
+fn check_entry(
+    alloc: Global,
+    space: &mut Record,
+    entry: &Entry,
+    bytes: &[u8],
+) -> Result<Contents, LibraryFault>
     ensures agreed { Gives is_memory (λ c. c) result (agreed entry.now bytes.now) }
     ensures checked { IfOk result (λ c. checked entry.now.name bytes.now ≡ Ok c) }
     ensures symbols { IfOk result AreSymbols }
     ensures cause { IsErrOf result LibraryFault.FileError → ⊥ }
 {
-    let contents = check_member(alloc, entry.name.as_slice(), bytes)?;
+    let contents = check_member(alloc, space, entry.name.as_slice(), bytes)?;
     if !agrees(entry, &contents) {
         return Err(LibraryFault::IndexDisagrees);
     }
@@ -88,41 +109,35 @@ fn check_entry(alloc: Global, entry: &Entry, bytes: &[u8]) -> Result<Contents, L
 }
 
 /// Puts the member of an entry in.
-fn add_member(
-    alloc: Global,
-    members: &mut IndexMap<Vec<u8>, Stored>,
-    entry: &Entry,
-    bytes: Vec<u8>,
-) -> Result<(), LibraryFault>
-    requires { IsSound members.old }
-    ensures added { Gives is_memory (λ _. members_of members.new) result (added (members_of members.old) entry.now bytes.items) }
-    ensures sound { OnOk result (IsSound members.new) }
+fn add_member(loading: &mut Loading, entry: &Entry, bytes: Vec<u8>) -> Result<(), LibraryFault>
+    requires { IsSound loading.old.members }
+    ensures added { Gives is_memory (λ _. members_of loading.new.members) result (added (members_of loading.old.members) entry.now bytes.items) }
+    ensures sound { OnOk result (IsSound loading.new.members) }
     ensures cause { IsErrOf result LibraryFault.FileError → ⊥ }
 {
-    let contents = check_entry(alloc, entry, bytes.as_slice())?;
-    let name = Vec::from_slice(alloc, entry.name.as_slice())?;
-    put_member(members, name, Stored { bytes, contents })?;
+    let contents = check_entry(loading.alloc, &mut loading.space, entry, bytes.as_slice())?;
+    let name = Vec::from_slice(loading.alloc, entry.name.as_slice())?;
+    put_member(&mut loading.members, name, Stored { bytes, contents })?;
     Ok(())
 }
 
 /// Reads the member of an entry and puts it in.
 #[tactic(auto, unfolding(crate::specs::Libraries::joined))]
 fn join_member<S: Store>(
-    alloc: Global,
     store: &mut S,
     file: &str,
-    members: &mut IndexMap<Vec<u8>, Stored>,
+    loading: &mut Loading,
     entry: &Entry,
 ) -> Result<(), LibraryFault>
-    requires sound { IsSound members.old }
+    requires sound { IsSound loading.old.members }
     requires within { entry.now.place + entry.now.size ≤ file_limit }
-    ensures read { IfSome (S.files store.old) (λ m. Gives is_outside (λ _. members_of members.new) result (in_file (map.get m file.now) (joined (members_of members.old) entry.now))) }
+    ensures read { IfSome (S.files store.old) (λ m. Gives is_outside (λ _. members_of loading.new.members) result (in_file (map.get m file.now) (joined (members_of loading.old.members) entry.now))) }
     ensures files { S.files store.new ≡ S.files store.old }
     ensures count { Passes LibraryFault.FileError (S.failures store.old) (S.failures store.new) result }
-    ensures sound { OnOk result (IsSound members.new) }
+    ensures sound { OnOk result (IsSound loading.new.members) }
 {
-    let bytes = read_piece(alloc, store, file, entry.place, entry.size)?;
-    add_member(alloc, members, entry, bytes)
+    let bytes = read_piece(loading.alloc, store, file, entry, &mut loading.chunk)?;
+    add_member(loading, entry, bytes)
 }
 
 /// Reads all members of a library, one by one in the order in which they stand.
@@ -137,9 +152,20 @@ pub fn read_members<S: Store>(
     ensures sound { IfOk result (λ ms. IsSound ms) }
 {
     let index = read_index(alloc, store, file)?;
-    let mut members = IndexMap::new(alloc);
+    let mut loading = Loading {
+        alloc,
+        members: IndexMap::new(alloc),
+        space: empty_record(),
+        chunk: [0u8; CHUNK],
+    };
     for entry in index.entries.as_slice() {
-        join_member(alloc, store, file, &mut members, entry)?;
+        join_member(store, file, &mut loading, entry)?;
     }
+    let Loading {
+        alloc: _,
+        members,
+        space: _,
+        chunk: _,
+    } = loading;
     Ok(members)
 }

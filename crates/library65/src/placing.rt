@@ -48,7 +48,7 @@ fn place_members(
     ensures later { IfOk result (λ x. at ≤ x.1) }
     ensures cause { IsErrOf result LibraryFault.FileError → ⊥ }
 {
-    let mut entries = Vec::new(alloc);
+    let mut entries = Vec::with_capacity(alloc, members.len())?;
     let mut end = at;
     for member in members {
         let next = end + u64::from(member.size);

@@ -2,7 +2,7 @@
 use Rattle.std.specs.Prelude.{◌≡◌, ℕ, Some, true, false, codes}
 use Rattle.clap.specs.Words.{App, Rule, Text, app_of, new_rule, new_app, with_rule, with_subcommand}
 use Rattle.clap.specs.Simple.{new_shape}
-use Rattle.clap.specs.declared.builder.action.ArgAction.TheVariants.{Append}
+use Rattle.clap.specs.declared.builder.action.ArgAction.TheVariants.{Append, SetTrue}
 use Rattle.clap.specs.declared.builder.command.Command.{Command}
 use Rattle.clap.specs.declared.builder.command.Command.TheViews.{out-Command}
 
@@ -12,6 +12,14 @@ option_rule id short = record (new_rule id) { short = Some short }
 
 abbrev pub required_option_rule : Text → ℕ → Rule
 required_option_rule id short = record (new_rule id) { short = Some short; required = true }
+
+-- an option with one value, which may be repeated
+abbrev pub repeated_option_rule : Text → ℕ → Rule
+repeated_option_rule id short = record (new_rule id) { short = Some short; action = Some Append }
+
+-- an option without a value
+abbrev pub flag_rule : Text → ℕ → Rule
+flag_rule id short = record (new_rule id) { short = Some short; action = Some SetTrue }
 
 -- one word that has to be there
 abbrev pub word_rule : Text → Rule
@@ -25,10 +33,13 @@ any_words_rule id = record (new_rule id) { action = Some Append }
 abbrev pub words_rule : Text → Rule
 words_rule id = record (new_rule id) { action = Some Append; required = true }
 
--- `ca65 [-o FILE] SOURCE`
+-- `ca65 [-o FILE] [-I DIR].. [-D NAME[=NUMBER]].. [-g] SOURCE`
 abbrev pub ca65 : App
-ca65 = with_rule (with_rule (new_app (codes "ca65"))
+ca65 = with_rule (with_rule (with_rule (with_rule (with_rule (new_app (codes "ca65"))
     (option_rule (codes "output") 111))
+    (repeated_option_rule (codes "include") 73))
+    (repeated_option_rule (codes "define") 68))
+    (flag_rule (codes "debug") 103))
     (word_rule (codes "source"))
 
 -- `ld65 -C SCRIPT [-o FILE] [-m MAP] INPUT..`

@@ -1,4 +1,5 @@
 pub mod CommandLine
+pub mod Defining
 pub mod Line
 pub mod LineFaults
 pub mod Messages

@@ -2,8 +2,9 @@
 use Rattle.std.specs.Prelude.{ℕ, List, [], ◌∷◌, Option, Some, None, Result, Ok, Err, codes, unwrap_or, option_map, map, if◌then◌else◌}
 use Rattle.std.specs.Str.{bytes_eq}
 use Rattle.clap.specs.Words.{Kinds, Row, Text, all_of, first_of, fault_of, subcommand_of}
-use Rattle.syntax65.specs.Outcome.{◌>>=◌}
+use Rattle.syntax65.specs.Outcome.{◌>>=◌, each}
 use Rattle.line65.specs.CommandLine.{bin65}
+use Rattle.line65.specs.Defining.{Defining, define_of, defining}
 use Rattle.line65.specs.declared.fault.LineFault.{LineFault}
 use Rattle.line65.specs.declared.fault.LineFault.TheVariants.{BadArguments}
 use Rattle.line65.specs.declared.line.ArchiveLine.{ArchiveLine}
@@ -33,6 +34,10 @@ pub record Linking : Type 0 where
 -- what a ca65 line says
 pub record Assembling : Type 0 where
   pub output : Option Text
+  -- the folders in which includes are looked for, in order
+  pub include : List Text
+  -- the constants defined for the source, in order
+  pub defines : List Defining
   pub source : Text
 
 -- what an ar65 line says
@@ -64,12 +69,16 @@ linking_of rows = record {
   inputs = all_given (codes "input") rows;
 }
 
--- `ca65 [-o FILE] SOURCE`
-unfoldable pub assembling_of : List Row → Assembling
-assembling_of rows = record {
-  output = first_of (codes "output") rows;
-  source = given (codes "source") rows;
-}
+-- `ca65 [-o FILE] [-I DIR].. [-D NAME[=NUMBER]].. [-g] SOURCE`
+unfoldable pub assembling_of : List Row → Result Assembling LineFault
+assembling_of rows = do
+  defines ← each define_of (all_given (codes "define") rows)
+  Ok (record {
+    output = first_of (codes "output") rows;
+    include = all_given (codes "include") rows;
+    defines = defines;
+    source = given (codes "source") rows;
+  })
 
 -- the operation of a word: `r`, `d`, `t` or `x`
 unfoldable pub operation_of : Text → Result Operation LineFault
@@ -90,6 +99,10 @@ archiving_of rows = do
     files = all_given (codes "file") rows;
   })
 
+abbrev pub as_assemble : Result Assembling LineFault → Result Says LineFault
+as_assemble (Ok a) = Ok (assemble a)
+as_assemble (Err e) = Err e
+
 abbrev pub as_archive : Result Archiving LineFault → Result Says LineFault
 as_archive (Ok a) = Ok (archive a)
 as_archive (Err e) = Err e
@@ -97,7 +110,7 @@ as_archive (Err e) = Err e
 -- the line of a subcommand's name and matches
 unfoldable pub said_by : Text → List Row → Result Says LineFault
 said_by name rows =
-    if bytes_eq name (codes "ca65") then Ok (assemble (assembling_of rows))
+    if bytes_eq name (codes "ca65") then as_assemble (assembling_of rows)
     else if bytes_eq name (codes "ld65") then Ok (link (linking_of rows))
     else if bytes_eq name (codes "ar65") then as_archive (archiving_of rows)
     else Err BadArguments
@@ -115,7 +128,7 @@ abbrev pub linking : LinkLine → Linking
 linking l = record { script = l.script.now; output = option_map (λ s. s.now) l.output; map = option_map (λ s. s.now) l.map; inputs = map (λ s. s.now) l.inputs }
 
 abbrev pub assembling : AssembleLine → Assembling
-assembling l = record { output = option_map (λ s. s.now) l.output; source = l.source.now }
+assembling l = record { output = option_map (λ s. s.now) l.output; include = map (λ s. s.now) l.include; defines = map defining l.defines; source = l.source.now }
 
 abbrev pub archiving : ArchiveLine → Archiving
 archiving l = record { operation = l.operation; library = l.library.now; files = map (λ s. s.now) l.files }

@@ -3,7 +3,7 @@
 ghost use Rattle.std.specs.Prelude.{◌≡◌, IfOk, false};
 ghost use Rattle.clap.specs.Words.{app_of, rule_of};
 ghost use Rattle.line65.specs.CommandLine.{Adds, IsMade, named, bin65, ar65, ca65, ld65};
-ghost use Rattle.line65.specs.CommandLine.{any_words_rule, option_rule, required_option_rule, word_rule, words_rule};
+ghost use Rattle.line65.specs.CommandLine.{any_words_rule, flag_rule, option_rule, repeated_option_rule, required_option_rule, word_rule, words_rule};
 
 use clap::{Arg, ArgAction, Command};
 use std::alloc::{AllocError, Global};
@@ -38,6 +38,36 @@ fn with_required_option<'a>(
     ensures { IfOk result (λ c. Adds command.entry (required_option_rule id.entry.now short) c) }
 {
     with(command, Arg::new(alloc, id).short(short).required(true))
+}
+
+/// The command with an option that may be repeated.
+fn with_repeated_option<'a>(
+    alloc: Global,
+    command: Command<'a>,
+    id: &'a str,
+    short: char,
+) -> Result<Command<'a>, AllocError>
+    ensures { IfOk result (λ c. Adds command.entry (repeated_option_rule id.entry.now short) c) }
+{
+    with(
+        command,
+        Arg::new(alloc, id).short(short).action(ArgAction::Append),
+    )
+}
+
+/// The command with an option without a value.
+fn with_flag<'a>(
+    alloc: Global,
+    command: Command<'a>,
+    id: &'a str,
+    short: char,
+) -> Result<Command<'a>, AllocError>
+    ensures { IfOk result (λ c. Adds command.entry (flag_rule id.entry.now short) c) }
+{
+    with(
+        command,
+        Arg::new(alloc, id).short(short).action(ArgAction::SetTrue),
+    )
 }
 
 /// The command with a word that has to be there.
@@ -76,11 +106,14 @@ fn with_words<'a>(
     )
 }
 
-/// `ca65 [-o FILE] SOURCE`
+/// `ca65 [-o FILE] [-I DIR].. [-D NAME[=NUMBER]].. [-g] SOURCE`
 fn ca65<'a>(alloc: Global) -> Result<Command<'a>, AllocError>
     ensures { IfOk result (λ c. IsMade ca65 c) }
 {
     let command = with_option(alloc, Command::new(alloc, "ca65"), "output", 'o')?;
+    let command = with_repeated_option(alloc, command, "include", 'I')?;
+    let command = with_repeated_option(alloc, command, "define", 'D')?;
+    let command = with_flag(alloc, command, "debug", 'g')?;
     with_word(alloc, command, "source")
 }
 

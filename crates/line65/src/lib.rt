@@ -3,13 +3,15 @@
 #![tactic(auto)]
 
 mod commands;
+mod defining;
 mod fault;
 mod line;
 mod messages;
+mod numbers;
 mod parsing;
 mod reading;
 
 pub use fault::LineFault;
-pub use line::{ArchiveLine, AssembleLine, Line, LinkLine, Operation};
+pub use line::{ArchiveLine, AssembleLine, Define, Line, LinkLine, Operation};
 pub use messages::{fault_message, file_message, join, line_message};
 pub use reading::read_line;

@@ -15,11 +15,22 @@ pub struct LinkLine<'a> {
     pub inputs: Sequence<&'a str>,
 }
 
-/// `ca65 [-o FILE] SOURCE`
+/// A constant that a line defines for the source.
+#[derive(Clone, Copy, Debug, Drop)]
+pub struct Define<'a> {
+    pub name: &'a [u8],
+    pub value: u32,
+}
+
+/// `ca65 [-o FILE] [-I DIR].. [-D NAME[=NUMBER]].. [-g] SOURCE`
 #[derive(Debug, Drop)]
 pub struct AssembleLine<'a> {
     /// The output, where one is named.
     pub output: Option<&'a str>,
+    /// The folders in which includes are looked for, in order.
+    pub include: Sequence<&'a str>,
+    /// The constants that are defined, in order.
+    pub defines: Sequence<Define<'a>>,
     /// The source's file.
     pub source: &'a str,
 }

@@ -6,6 +6,7 @@ ghost use Rattle.syntax65.specs.Outcome.{Gives};
 ghost use Rattle.line65.specs.LineFaults.{is_outside};
 ghost use Rattle.line65.specs.Line.{view, all_given, archiving, assembling, linking, line_of, operation_of, said_by, archiving_of, assembling_of, linking_of};
 
+use crate::defining::defines;
 use crate::fault::LineFault;
 use crate::line::{ArchiveLine, AssembleLine, Line, LinkLine, Operation};
 use crate::parsing::parse;
@@ -32,7 +33,7 @@ fn line_by<'a>(alloc: Global, name: &str, own: &ArgMatches<'a>) -> Result<Line<'
     ensures { Gives is_outside view result (said_by name.now (rows_of (found_of own.now))) }
 {
     match name {
-        "ca65" => Ok(Line::Assemble(assemble_line(own))),
+        "ca65" => Ok(Line::Assemble(assemble_line(alloc, own)?)),
         "ld65" => Ok(Line::Link(link_line(alloc, own)?)),
         "ar65" => Ok(Line::Archive(archive_line(alloc, own)?)),
         _ => Err(LineFault::BadArguments),
@@ -40,13 +41,17 @@ fn line_by<'a>(alloc: Global, name: &str, own: &ArgMatches<'a>) -> Result<Line<'
 }
 
 #[tactic(auto, unfolding(crate::specs::Line::assembling_of))]
-fn assemble_line<'a>(own: &ArgMatches<'a>) -> AssembleLine<'a>
-    ensures { assembling result ≡ assembling_of (rows_of (found_of own.now)) }
+fn assemble_line<'a>(alloc: Global, own: &ArgMatches<'a>) -> Result<AssembleLine<'a>, LineFault>
+    ensures { Gives is_outside assembling result (assembling_of (rows_of (found_of own.now))) }
 {
-    AssembleLine {
+    let texts = all(alloc, own, "define")?;
+    let defines = defines(alloc, texts.as_slice())?;
+    Ok(AssembleLine {
         output: one(own, "output"),
+        include: all(alloc, own, "include")?,
+        defines,
         source: one(own, "source").unwrap_or(""),
-    }
+    })
 }
 
 #[tactic(auto, unfolding(crate::specs::Line::linking_of))]

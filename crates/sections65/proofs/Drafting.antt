@@ -91,6 +91,18 @@ module _ (s i : List ℕ) where
   segments_begin [] = refl
   segments_begin (k ∷ keys) = ap (λ ks. k ∷ ks) (segments_begin keys)
 
+  -- what is said and what waits put nothing into a section
+  pub nothing_put : (c : Content) (ds : List Draft) → c.parts ≡ [] → ds ≡ map (with_content s i c) ds
+  nothing_put c [] none = refl
+  nothing_put c (d ∷ ds) none = λ n. same n ∷ nothing_put c ds none n
+    where
+      by : (b : Bool) → d ≡ (if b then with_parts s i d [] else d)
+      by true = refl
+      by false = refl
+
+      same : d ≡ with_content s i c d
+      same = by (nat_eq c.segment d.segment) ∙ ap (λ ps. if nat_eq c.segment d.segment then with_parts s i d ps else d) (sym none)
+
   -- ---- Its fragments.
 
   abbrev behind : Option Fragment → List Fragment → List Fragment

@@ -1,6 +1,9 @@
-//! From the contents of statements to the object.
+//! Sections in the making, and the object that they come to.
 #![tactic(auto)]
 
+mod entries;
+pub mod laws;
 mod numbering;
+mod sections;
 
-pub use numbering::object_of;
+pub use sections::Sections;

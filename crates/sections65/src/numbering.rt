@@ -1,12 +1,12 @@
-//! From the contents of statements to the object.
+//! From entries to the object.
 
-ghost use Rattle.std.specs.Prelude.{◌≡◌, map, nat_eq, slice_get, option_copied, true, IfOk};
+ghost use Rattle.std.specs.Prelude.{◌≡◌, map, nat_eq, slice_get, option_copied, IfOk};
 ghost use Rattle.std.specs.List.{IsDistinct};
-ghost use Rattle.object65.specs.Objects.{is_good_object, ObjectFits};
+ghost use Rattle.object65.specs.Objects.{ObjectFits};
 ghost use Rattle.sections65.specs.Drafts.{all_of_draft, section_from};
+ghost use Rattle.sections65.specs.Fed.{content_of, object_by, object_over};
 ghost use Rattle.language65.specs.Layout.{powers};
-ghost use Rattle.language65.specs.Numbering.{name_of, number_of, object_with, section_of, segment_name, segment_power};
-ghost use Rattle.language65.specs.Sound.{AreSound};
+ghost use Rattle.language65.specs.Numbering.{name_of, number_of, segment_name, segment_power};
 
 mod drafts;
 mod exports;
@@ -14,10 +14,12 @@ mod keys;
 mod names;
 mod numbers;
 
-use drafts::{Draft, copy_of, filled};
+use crate::entries::{Entry, copy_of};
+use drafts::{Draft, filled};
 use exports::{asserts_of, exports_of};
-use keys::{import_keys, section_keys};
-use language65::{Content, Segment};
+use indexmap::IndexSet;
+use keys::import_keys;
+use language65::Segment;
 use numbers::Numbers;
 use object65::{Fragment, Object, Section};
 use std::alloc::{AllocError, Global};
@@ -135,27 +137,47 @@ fn import_names(
     Ok(found)
 }
 
-/// The object of a module: of its segments, the names of its imports in the order of their keys, and the contents of its
-/// statements.
+/// The object of entries, where sections and imports have these numbers.
+fn numbered_object(
+    alloc: Global,
+    segments: &[Segment],
+    names: &[Sequence<u8>],
+    numbers: &Numbers,
+    entries: Vec<Entry>,
+) -> Result<Object, AllocError>
+    requires { IsDistinct nat_eq numbers.now.sections.keys }
+    ensures object { IfOk result (λ o. o ≡ object_by segments.now names.now numbers.now.sections.keys
+        numbers.now.imports.keys (map content_of entries.items)) }
+    ensures fits { IfOk result ObjectFits }
+{
+    let exports = exports_of(alloc, numbers, entries.as_slice())?;
+    let asserts = asserts_of(alloc, numbers, entries.as_slice())?;
+    let drafts = filled(alloc, numbers, entries)?;
+    Ok(Object {
+        imports: import_names(alloc, names, numbers.imports.as_slice())?,
+        sections: finish_sections(alloc, segments, drafts)?,
+        exports,
+        asserts,
+    })
+}
+
+/// The object of a module: of its segments, the names of its imports in the order of their keys, the segments of which
+/// a section was asked for, and the entries.
 pub fn object_of(
     alloc: Global,
     segments: &[Segment],
     names: &[Sequence<u8>],
-    contents: &[Content],
+    asked: IndexSet<u32>,
+    entries: Vec<Entry>,
 ) -> Result<Object, AllocError>
-    ensures object { IfOk result (λ o. o ≡ object_with segments.now names.now contents.now) }
+    ensures object { IfOk result (λ o. o ≡ object_over segments.now names.now asked.keys
+        (map content_of entries.items)) }
     ensures fits { IfOk result ObjectFits }
-    ensures good { IfOk result (λ o. AreSound segments.now names.now contents.now → is_good_object o ≡ true) }
 {
+    let imports = import_keys(alloc, names, entries.as_slice())?;
     let numbers = Numbers {
-        sections: section_keys(alloc, contents)?,
-        imports: import_keys(alloc, names, contents)?,
+        sections: asked,
+        imports,
     };
-    let drafts = filled(alloc, &numbers, contents)?;
-    Ok(Object {
-        imports: import_names(alloc, names, numbers.imports.as_slice())?,
-        sections: finish_sections(alloc, segments, drafts)?,
-        exports: exports_of(alloc, &numbers, contents)?,
-        asserts: asserts_of(alloc, &numbers, contents)?,
-    })
+    numbered_object(alloc, segments, names, &numbers, entries)
 }

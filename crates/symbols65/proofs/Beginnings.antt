@@ -1,14 +1,12 @@
 -- A table in which nothing is known.
-use Rattle.std.proofs.Common.{◌≡◌, ℕ, zero, suc, ◌+◌, refl, sym, ap, ◌∙◌, arith, List, [], ◌∷◌, ◌++◌, length, Some, slice_get}
-use Rattle.std.specs.Prelude.{⊤}
+use Rattle.std.proofs.Common.{◌≡◌, ℕ, zero, suc, ◌+◌, refl, sym, ap, subst, ◌∙◌, arith, List, [], ◌∷◌, ◌++◌, length, Some, slice_get}
+use Rattle.std.specs.Prelude.{⊤, replicate}
+use Rattle.std.proofs.lemmas.List.{length-replicate}
 use Rattle.std.proofs.lemmas.List.Sums.{sum_by-cons}
-use Rattle.language65.specs.declared.laid.Laid.{Laid}
-use Rattle.language65.specs.Laid as laid
+use Rattle.language65.specs.Symbols.{Symbols}
 use Rattle.symbols65.specs.declared.resolving.attempt.State.{State}
 use Rattle.symbols65.specs.declared.resolving.attempt.State.TheVariants.{Unknown, Waiting, Found}
 use Rattle.symbols65.specs.Resolving.{IsTable, is_open, unknown}
-use Rattle.language65.specs.Views.{all_of, laid_of}
-use Rattle.language65.proofs.Lists.{map_length}
 
 abbrev pub AreUnknown : List State → Type 0
 AreUnknown [] = ⊤
@@ -33,8 +31,8 @@ unknown_at (y ∷ xs) zero x (u, h) e = let same : y ≡ x = cc in sym same ∙ 
 unknown_at (y ∷ xs) (suc j) x (u, h) e = unknown_at xs j x h e
 
 -- it is one for any statements
-pub blank_table : (all : List laid.Laid) (xs : List State) → AreUnknown xs → length xs ≡ length all → IsTable all xs
-blank_table all xs h e = record {
+pub blank_table : (table : Symbols) (xs : List State) → AreUnknown xs → length xs ≡ length table.definitions → IsTable table xs
+blank_table table xs h e = record {
   long = e;
   turns = 0;
   room = (let whole = unknown_all xs h in omega (arith, whole, e));
@@ -42,5 +40,12 @@ blank_table all xs h e = record {
   idle = λ j q. (let never : Waiting ≡ Unknown = unknown_at xs j Waiting h q in absurd cc);
 }
 
-pub unknown_table : (all : List Laid) (xs : List State) → AreUnknown xs → length xs ≡ length all → IsTable (all_of all) xs
-unknown_table all xs h e = blank_table (all_of all) xs h (e ∙ sym (map_length laid_of all))
+unknown_replicated : (n : ℕ) → AreUnknown (replicate n Unknown)
+unknown_replicated zero = tt
+unknown_replicated (suc n) = (refl, unknown_replicated n)
+
+-- as many of which nothing is known
+pub blank_replicated : (table : Symbols) (xs : List State) → xs ≡ replicate (length table.definitions) Unknown → IsTable table xs
+blank_replicated table xs e =
+    let count = length table.definitions in
+    subst (IsTable table) (sym e) (blank_table table (replicate count Unknown) (unknown_replicated count) (length-replicate count Unknown))

@@ -8,7 +8,7 @@ use Rattle.std.proofs.lemmas.Option.{slice_get_within}
 use Rattle.symbols65.specs.declared.resolving.attempt.State.{State}
 use Rattle.symbols65.specs.declared.resolving.attempt.State.TheVariants.{Unknown, Waiting, Found}
 use Rattle.symbols65.specs.Knowns.{without}
-use Rattle.language65.specs.Laid.{Laid}
+use Rattle.language65.specs.Symbols.{Symbols}
 use Rattle.symbols65.specs.Resolving.{IsTable, is_open, unknown}
 use Rattle.symbols65.proofs.Knowns.{get_other, get_same}
 use Rattle.symbols65.proofs.Turns.{Course}
@@ -59,8 +59,8 @@ without_unknown states (w ∷ ws) inside =
     omega (arith, change, rest)
 
 -- what waits is forgotten, and what is found stays
-pub pursuit_lost : (all : List Laid) (states : List State) (v : Course) (ws : List ℕ) → IsPursuit all states v ws → IsTable all (without states ws)
-pursuit_lost all states v ws p = record {
+pub pursuit_lost : (table : Symbols) (states : List State) (v : Course) (ws : List ℕ) → IsPursuit table states v ws → IsTable table (without states ws)
+pursuit_lost table states v ws p = record {
   long = without_length states ws ∙ p.long;
   turns = p.turns;
   room = (let room = p.room in let more = without_unknown states ws p.inside in omega (arith, room, more));

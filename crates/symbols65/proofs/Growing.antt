@@ -1,265 +1,236 @@
--- What names mean stays so behind one more statement, unless that statement hides what its name meant there.
-use Rattle.std.proofs.Common.{◌≡◌, ◌∙◌, ℕ, zero, suc, ◌+◌, ◌<◌, ◌≤◌, Bool, true, false, List, [], ◌∷◌, ◌++◌, length, take, position, Option, Some, None, Result, Ok, Err, ◌⊎◌, inl, inr, refl, sym, ap, subst, arith}
-use Rattle.std.specs.Prelude.{slice_get, nat_le, ◌-◌, ◌==◌, ◌&&◌, if◌then◌else◌}
-use Rattle.std.specs.List.{list_any}
+-- Tables with one word, one definition or one scope more.
+use Rattle.std.proofs.Common.{◌≡◌, ℕ, zero, suc, ◌+◌, ◌<◌, Bool, true, false, cond, List, [], ◌∷◌, ◌++◌, length, map, get_or, position, Option, Some, None, option_map, ◌⊎◌, inl, inr, refl, sym, ap, ◌∙◌, subst, arith, append-nil}
+use Rattle.std.specs.Prelude.{slice_get, ◌==◌, ◌&&◌, OnOk, OnErr, Result, Ok, Err, if◌then◌else◌}
+use Rattle.std.specs.List.{position_from}
+use Rattle.std.specs.Map.{keys_of}
 use Rattle.std.specs.Str.{bytes_eq}
+use Rattle.std.proofs.lemmas.Iterator.Adapters.{position_from-zero}
 use Rattle.std.proofs.lemmas.Bool.Decides.{nat_tests}
-use Rattle.std.proofs.lemmas.List.{take-append-le, length-append, take_all}
-use Rattle.syntax65.specs.Trees.{Tree, name, cheap, forward, backward, number, here, unary, binary}
-use Rattle.language65.specs.declared.fault.AsmFault.{AsmFault}
-use Rattle.language65.specs.declared.fault.AsmFault.TheVariants.{Undefined, NoSuchScope, NoSuchLabel}
-use Rattle.language65.specs.Laid.{Laid, Spot, defined_name, is_unnamed}
-use Rattle.language65.specs.Names.{Meaning, cheap_meaning, defined_in, enclosing, first_found, global_meaning, import_key, imported_names, imports_of, is_cheap, is_named, last_of, meaning_of, member_meaning, or_else, or_fault, outward_from, plain_meaning, scope_at, scope_from, scoped_meaning, scopes_from, scopes_of, shown, unnamed_meaning, with_new}
-use Rattle.symbols65.specs.Growing.{AreNested, HidesNothing, MeansNothing, hides, hides_at, is_meant}
-use Rattle.symbols65.specs.Resolving.{or_here}
+use Rattle.std.proofs.lemmas.List.{append_assoc}
+use Rattle.std.proofs.lemmas.Option.{slice_get_within}
+use Rattle.indexmap.specs.IndexMap.{insert_entry}
+use Rattle.object65.specs.Form.{Form}
+use Rattle.language65.specs.Symbols as l
+use Rattle.language65.specs.Symbols.{Key, named, cheap_in, unnamed_at}
+use Rattle.language65.specs.declared.fault.AsmFault.TheVariants.{ScopeTwice}
+use Rattle.language65.specs.LineFaults.{opened_twice, where_there}
+use Rattle.language65.specs.Names.{is_named, numbered}
+use Rattle.symbols65.specs.declared.table.entries.Entry.{Entry}
+use Rattle.symbols65.specs.declared.table.entries.Entry.TheVariants as entry
+use Rattle.symbols65.specs.declared.table.entries.Opening.{Opening}
+use Rattle.symbols65.specs.declared.table.entries.Opening.TheVariants as opening
+use Rattle.symbols65.specs.declared.table.definition.Definition.{Definition}
+use Rattle.language65.specs.Norms.{form_of_value, norm}
+use Rattle.language65.specs.Extending.{Extends}
+use Rattle.symbols65.specs.Finals.{formed}
+use Rattle.symbols65.specs.Tables.{AreCounted, AreDistinct, AreFinal, AreNumbered, Begins, HasNumber, IsCounted, IsOpening, KeepsFinal, definition_in, entry_of, first_number, key_in, place_of_opening, same_opening, scope_by, scope_opened, table_without_imports, word_at, word_of, word_opened}
+use Rattle.symbols65.proofs.Places.{position_none, first_within, first_passes, get_more, get_mapped, map_appended, map_same, position_same, position_stays}
+use Rattle.symbols65.proofs.Words.{finds_opened, get_word, keys_get}
 use Rattle.language65.proofs.Lists.{same_bytes}
-use Rattle.symbols65.proofs.NameTables.{imported_more, position_more}
 
--- ---- Lists.
+-- ---- Maps.
 
-stays : {A : Type 0} (p : A → Bool) (xs : List A) (x : A) (i : ℕ) → position p xs ≡ Some i → position p (xs ++ x ∷ []) ≡ Some i
-stays p xs x i h = position_more p xs x ∙ ap (λ o. or_here o (p x) (length xs)) h
-
-absent : {A : Type 0} (p : A → Bool) (xs : List A) (x : A) → position p xs ≡ None → p x ≡ false → position p (xs ++ x ∷ []) ≡ None
-absent p xs x none is = position_more p xs x ∙ ap (λ o. or_here o (p x) (length xs)) none ∙ ap (λ b. or_here None b (length xs)) is
-
--- what means the statement at its place stays so
-position_stays : {A : Type 0} (p : A → Bool) (xs : List A) (x : A) (z : AsmFault) (m : Meaning) → or_fault z (position p xs) None ≡ Ok m → or_fault z (position p (xs ++ x ∷ [])) None ≡ Ok m
-position_stays p xs x z m h = by (position p xs) refl h
+-- a new key goes last
+pub inserted_last : {K V : Type 0} (eq : K → K → Bool) (es : List (K × V)) (k : K) (v : V) → position (eq k) (keys_of es) ≡ None → insert_entry eq es k v ≡ es ++ (k, v) ∷ []
+inserted_last {K} {V} eq es k v h = go 0 es (sym (position_from-zero (eq k) (keys_of es)) ∙ h)
   where
-    by : (o : Option ℕ) → position p xs ≡ o → or_fault z o None ≡ Ok m → or_fault z (position p (xs ++ x ∷ [])) None ≡ Ok m
-    by (Some i) is e = ap (λ (q : Option ℕ). or_fault z q None) (stays p xs x i is) ∙ e
+    go : (i : ℕ) (xs : List (K × V)) → position_from (eq k) i (keys_of xs) ≡ None → insert_entry eq xs k v ≡ xs ++ (k, v) ∷ []
+    go i [] e = refl
+    go i (x ∷ xs) e = step (eq k x.0) e (go (i + 1) xs)
+      where
+        step : (b : Bool) → cond b (Some i) (position_from (eq k) (i + 1) (keys_of xs)) ≡ None → (position_from (eq k) (i + 1) (keys_of xs) ≡ None → insert_entry eq xs k v ≡ xs ++ (k, v) ∷ []) → (if b then (x.0, v) ∷ xs else x ∷ insert_entry eq xs k v) ≡ x ∷ (xs ++ (k, v) ∷ [])
+        step true e rest = absurd cc
+        step false e rest = ap (λ l. x ∷ l) (rest e)
+
+pub inserted_by : {K V : Type 0} (eq same : K → K → Bool) → ((x y : K) → eq x y ≡ same x y) → (es : List (K × V)) (k : K) (v : V) → position (same k) (keys_of es) ≡ None → insert_entry eq es k v ≡ es ++ (k, v) ∷ []
+inserted_by eq same agree es k v h = inserted_last eq es k v (position_same (eq k) (same k) (keys_of es) (λ i x at. agree k x) ∙ h)
+
+pub keys_pushed : {K V : Type 0} (es : List (K × V)) (k : K) (v : V) → keys_of (es ++ (k, v) ∷ []) ≡ keys_of es ++ k ∷ []
+keys_pushed [] k v = refl
+keys_pushed (e ∷ es) k v = ap (λ l. e.0 ∷ l) (keys_pushed es k v)
+
+pub keys_length : {K V : Type 0} (es : List (K × V)) → length (keys_of es) ≡ length es
+keys_length [] = refl
+keys_length (e ∷ es) = ap suc (keys_length es)
+
+-- ---- One word more.
+
+get_or_stays : (ws more : List (List ℕ)) (w : ℕ) → w < length ws → get_or (ws ++ more) w [] ≡ get_or ws w []
+get_or_stays [] more w lt = absurd (omega arith)
+get_or_stays (n ∷ ws) more zero lt = refl
+get_or_stays (n ∷ ws) more (suc w) lt = get_or_stays ws more w (omega arith)
+
+module _ (ws more : List (List ℕ)) where
+  word_stays : (w : ℕ) → position (bytes_eq (word_at ws w)) ws ≡ Some w → word_at (ws ++ more) w ≡ word_at ws w
+  word_stays w h = get_or_stays ws more w (first_within (bytes_eq (word_at ws w)) ws w h)
+
+  number_stays : (o : Option ℕ) → first_number ws o ≡ o → first_number (ws ++ more) o ≡ o
+  number_stays None h = refl
+  number_stays (Some w) h = ap (λ n. position (bytes_eq n) (ws ++ more)) (word_stays w h) ∙ position_stays (bytes_eq (word_at ws w)) ws more w h
+
+  key_stays : (k : Entry) → first_number ws (word_of k) ≡ word_of k → key_in (ws ++ more) k ≡ key_in ws k
+  key_stays (entry.Named s w) h = ap (named s) (word_stays w h)
+  key_stays (entry.Cheap r w) h = ap (cheap_in r) (word_stays w h)
+  key_stays (entry.Unnamed c) h = refl
+
+  scope_stays : (k : Opening) (is_proc : Bool) → first_number ws (word_opened k) ≡ word_opened k → scope_by (ws ++ more) k is_proc ≡ scope_by ws k is_proc
+  scope_stays (opening.Named s w) is_proc h = ap (λ n. record { within = s; name = Some n; is_proc = is_proc }) (word_stays w h)
+  scope_stays (opening.Nameless s w) is_proc h = refl
+
+  definition_stays : (e : Entry × Definition) → first_number ws (word_of e.0) ≡ word_of e.0 → definition_in (ws ++ more) e ≡ definition_in ws e
+  definition_stays e h = ap (λ k. record { key = k; value = (definition_in ws e).value; spot = (definition_in ws e).spot; size = (definition_in ws e).size }) (key_stays e.0 h)
+
+  pub numbered_more : {K : Type 0} (word : K → Option ℕ) (ks : List K) → AreNumbered word ws ks → AreNumbered word (ws ++ more) ks
+  numbered_more word ks h = λ i k at. number_stays (word k) (h i k at)
+
+  pub definitions_stay : (es : List (Entry × Definition)) → AreNumbered word_of ws (keys_of es) → map (definition_in (ws ++ more)) es ≡ map (definition_in ws) es
+  definitions_stay es h = map_same (definition_in (ws ++ more)) (definition_in ws) es (λ i e at. definition_stays e (h i e.0 (keys_get ws es i e at)))
+
+  pub scopes_stay : (ss : List (Opening × Bool)) → AreNumbered word_opened ws (keys_of ss) → map (scope_opened (ws ++ more)) ss ≡ map (scope_opened ws) ss
+  scopes_stay ss h = map_same (scope_opened (ws ++ more)) (scope_opened ws) ss (λ i e at. scope_stays e.0 e.1 (h i e.0 (keys_get ws ss i e at)))
+
+  pub final_more : (es : List (Entry × Definition)) (ss : List (Opening × Bool)) → AreNumbered word_of ws (keys_of es) → AreNumbered word_opened ws (keys_of ss) → AreFinal ws es ss → AreFinal (ws ++ more) es ss
+  final_more es ss entered scoped h = λ j e at f is z extends.
+      (let was = h j e at f is z (record {
+        later_definitions = extends.later_definitions;
+        definitions = extends.definitions ∙ ap (λ ds. ds ++ extends.later_definitions) (definitions_stay es entered);
+        later_scopes = extends.later_scopes;
+        scopes = extends.scopes ∙ ap (λ cs. cs ++ extends.later_scopes) (scopes_stay ss scoped);
+      }) in was)
+
+-- what a new table of words gives
+pub begun : (P : List (List ℕ) → Type 0) (ws new : List (List ℕ)) → Begins ws new → ((more : List (List ℕ)) → P (ws ++ more)) → P new
+begun P ws new h k = subst P (sym h.1) (k h.0)
+
+-- ---- One definition or scope more.
+
+pub numbered_pushed : {K V : Type 0} (word : K → Option ℕ) (ws : List (List ℕ)) (es : List (K × V)) (k : K) (v : V) → AreNumbered word ws (keys_of es) → first_number ws (word k) ≡ word k → AreNumbered word ws (keys_of (es ++ (k, v) ∷ []))
+numbered_pushed {K} word ws es k v h own = λ i q at. by i q (get_more (keys_of es) k q i (ap (λ l. slice_get l i) (sym (keys_pushed es k v)) ∙ at))
+  where
+    by : (i : ℕ) (q : K) → (slice_get (keys_of es) i ≡ Some q) ⊎ ((i ≡ length (keys_of es)) × (k ≡ q)) → first_number ws (word q) ≡ word q
+    by i q (inl at) = h i q at
+    by i q (inr e) = subst (λ x. first_number ws (word x) ≡ word x) e.1 own
+
+pub counted_pushed : {V : Type 0} (es : List (Entry × V)) (k : Entry) (v : V) → AreCounted (keys_of es) → IsCounted k → AreCounted (keys_of (es ++ (k, v) ∷ []))
+counted_pushed es k v h own = λ i q at. by i q (get_more (keys_of es) k q i (ap (λ l. slice_get l i) (sym (keys_pushed es k v)) ∙ at))
+  where
+    by : (i : ℕ) (q : Entry) → (slice_get (keys_of es) i ≡ Some q) ⊎ ((i ≡ length (keys_of es)) × (k ≡ q)) → IsCounted q
+    by i q (inl at) = h i q at
+    by i q (inr e) = subst IsCounted e.1 own
+
+pub distinct_pushed : (ss : List (Opening × Bool)) (k : Opening) (v : Bool) → AreDistinct (keys_of ss) → HasNumber (length ss) k → AreDistinct (keys_of (ss ++ (k, v) ∷ []))
+distinct_pushed ss k v h own = λ i within number at. by i within number (get_more (keys_of ss) k (opening.Nameless within number) i (ap (λ l. slice_get l i) (sym (keys_pushed ss k v)) ∙ at))
+  where
+    by : (i within number : ℕ) → (slice_get (keys_of ss) i ≡ Some (opening.Nameless within number)) ⊎ ((i ≡ length (keys_of ss)) × (k ≡ opening.Nameless within number)) → number ≡ i
+    by i within number (inl at) = h i within number at
+    by i within number (inr e) = own within number e.1 ∙ sym (keys_length ss) ∙ sym e.0
+
+module _ (ws : List (List ℕ)) (es : List (Entry × Definition)) (ss : List (Opening × Bool)) where
+  -- what extends a table with one definition more extends the table
+  less_definition : (e : Entry × Definition) (z : l.Symbols) → Extends (table_without_imports ws (es ++ e ∷ []) ss) z → Extends (table_without_imports ws es ss) z
+  less_definition e z h = record {
+    later_definitions = definition_in ws e ∷ h.later_definitions;
+    definitions = h.definitions ∙ ap (λ ds. ds ++ h.later_definitions) (map_appended (definition_in ws) es e) ∙ append_assoc (map (definition_in ws) es) (definition_in ws e ∷ []) h.later_definitions;
+    later_scopes = h.later_scopes;
+    scopes = h.scopes;
+  }
+
+  less_scope : (s : Opening × Bool) (z : l.Symbols) → Extends (table_without_imports ws es (ss ++ s ∷ [])) z → Extends (table_without_imports ws es ss) z
+  less_scope s z h = record {
+    later_definitions = h.later_definitions;
+    definitions = h.definitions;
+    later_scopes = scope_opened ws s ∷ h.later_scopes;
+    scopes = h.scopes ∙ ap (λ cs. cs ++ h.later_scopes) (map_appended (scope_opened ws) ss s) ∙ append_assoc (map (scope_opened ws) ss) (scope_opened ws s ∷ []) h.later_scopes;
+  }
+
+  pub final_pushed : (e : Entry × Definition) → AreFinal ws es ss → KeepsFinal (table_without_imports ws es ss) (length es) (definition_in ws e) e.1.form → AreFinal ws (es ++ e ∷ []) ss
+  final_pushed e h own = λ j d at f is z extends. by j d f is z (less_definition e z extends) (get_more es e d j at)
+    where
+      by : (j : ℕ) (d : Entry × Definition) (f : Form) → d.1.form ≡ Some f → (z : l.Symbols) → Extends (table_without_imports ws es ss) z → (slice_get es j ≡ Some d) ⊎ ((j ≡ length es) × (e ≡ d)) → formed (form_of_value (norm (suc j) z) (definition_in ws d).spot (definition_in ws d).value) ≡ Some f
+      by j d f is z extends (inl at) = h j d at f is z extends
+      by j d f is z extends (inr same) = subst (λ x. KeepsFinal (table_without_imports ws es ss) x (definition_in ws d) d.1.form) (sym same.0) (subst (λ x. KeepsFinal (table_without_imports ws es ss) (length es) (definition_in ws x) x.1.form) same.1 own) f is z extends
+
+  pub final_scoped : (s : Opening × Bool) → AreFinal ws es ss → AreFinal ws es (ss ++ s ∷ [])
+  final_scoped s h = λ j d at f is z extends. h j d at f is z (less_scope s z extends)
+
+-- ---- The entry of a key.
+
+-- it has the first number of its name, and stands for the key
+pub entry_is : (ws : List (List ℕ)) (q : Key) (k : Entry) → entry_of ws q ≡ Some k → (first_number ws (word_of k) ≡ word_of k) × (key_in ws k ≡ q)
+entry_is ws (named s n) k e = by (position (bytes_eq n) ws) refl e
+  where
+    by : (o : Option ℕ) → position (bytes_eq n) ws ≡ o → option_map (entry.Named s) o ≡ Some k → (first_number ws (word_of k) ≡ word_of k) × (key_in ws k ≡ named s n)
     by None is e = absurd cc
-
--- names that are known keep their places among more
-new_names : (p : List ℕ → Bool) (names known : List (List ℕ)) (k : ℕ) → position p known ≡ Some k → position p (with_new known names) ≡ Some k
-new_names p [] known k h = h
-new_names p (n ∷ names) known k h = new_names p names (if list_any (λ q. bytes_eq n q) known then known else known ++ n ∷ []) k (by (list_any (λ q. bytes_eq n q) known))
+    by (Some w) is e =
+        let same : entry.Named s w ≡ k = cc in
+        let (m, at, passes) = first_passes (bytes_eq n) ws w is in
+        let word : word_at ws w ≡ n = get_word ws w m at ∙ sym (same_bytes n m passes) in
+        subst (λ x. (first_number ws (word_of x) ≡ word_of x) × (key_in ws x ≡ named s n)) same (ap (λ m. position (bytes_eq m) ws) word ∙ is, ap (named s) word)
+entry_is ws (cheap_in s n) k e = by (position (bytes_eq n) ws) refl e
   where
-    by : (b : Bool) → position p (if b then known else known ++ n ∷ []) ≡ Some k
-    by true = h
-    by false = stays p known n k h
+    by : (o : Option ℕ) → position (bytes_eq n) ws ≡ o → option_map (entry.Cheap s) o ≡ Some k → (first_number ws (word_of k) ≡ word_of k) × (key_in ws k ≡ cheap_in s n)
+    by None is e = absurd cc
+    by (Some w) is e =
+        let same : entry.Cheap s w ≡ k = cc in
+        let (m, at, passes) = first_passes (bytes_eq n) ws w is in
+        let word : word_at ws w ≡ n = get_word ws w m at ∙ sym (same_bytes n m passes) in
+        subst (λ x. (first_number ws (word_of x) ≡ word_of x) × (key_in ws x ≡ cheap_in s n)) same (ap (λ m. position (bytes_eq m) ws) word ∙ is, ap (cheap_in s) word)
+entry_is ws (unnamed_at c) k e = (let same : entry.Unnamed c ≡ k = cc in subst (λ x. (first_number ws (word_of x) ≡ word_of x) × (key_in ws x ≡ unnamed_at c)) same (refl, refl))
 
-pub get_stays : {A : Type 0} (xs : List A) (x : A) (i : ℕ) → i < length xs → slice_get (xs ++ x ∷ []) i ≡ slice_get xs i
-get_stays [] x i lt = absurd (omega arith)
-get_stays (y ∷ xs) x zero lt = refl
-get_stays (y ∷ xs) x (suc i) lt = get_stays xs x i (omega arith)
-
--- ---- Scopes.
-
-enclosing_stays : (ls : List Laid) (l : Laid) (s : ℕ) → s ≤ length ls → enclosing (ls ++ l ∷ []) s ≡ enclosing ls s
-enclosing_stays ls l zero le = refl
-enclosing_stays ls l (suc i) le = ap scope_at (get_stays ls l i (omega arith))
-
-outward_stays : (ls : List Laid) (l : Laid) (n s : ℕ) → AreNested ls → s ≤ length ls → outward_from (ls ++ l ∷ []) n s ≡ outward_from ls n s
-outward_stays ls l zero zero nested le = refl
-outward_stays ls l (suc n) zero nested le = refl
-outward_stays ls l zero (suc i) nested le = refl
-outward_stays ls l (suc n) (suc i) nested le =
-    let inner : enclosing ls (suc i) ≤ i = nested i in
-    let within : enclosing ls (suc i) ≤ length ls = omega (arith, inner, le) in
-    ap (λ e. suc i ∷ outward_from (ls ++ l ∷ []) n e) (enclosing_stays ls l (suc i) le) ∙ ap (λ ss. suc i ∷ ss) (outward_stays ls l n (enclosing ls (suc i)) nested within)
-
--- more room changes no way outward
-enough : (ls : List Laid) (n m s : ℕ) → AreNested ls → s ≤ n → s ≤ m → outward_from ls n s ≡ outward_from ls m s
-enough ls zero zero zero nested a b = refl
-enough ls zero (suc m) zero nested a b = refl
-enough ls (suc n) zero zero nested a b = refl
-enough ls (suc n) (suc m) zero nested a b = refl
-enough ls zero m (suc i) nested a b = absurd (omega arith)
-enough ls (suc n) zero (suc i) nested a b = absurd (omega arith)
-enough ls (suc n) (suc m) (suc i) nested a b =
-    let inner : enclosing ls (suc i) ≤ i = nested i in
-    ap (λ ss. suc i ∷ ss) (enough ls n m (enclosing ls (suc i)) nested (omega (arith, inner, a)) (omega (arith, inner, b)))
-
--- ---- Plain names.
-
--- whether a statement defines a name directly in a scope
-abbrev defines_in : ℕ → List ℕ → Laid → Bool
-defines_in q n l = l.spot.scope == q && is_named n (defined_name l.stated)
-
-module _ (all : List Laid) (l : Laid) (nested : AreNested all) (hides : HidesNothing all l) (n : List ℕ) where
-  -- it defines the name where it meant nothing
-  nothing_there : (q : ℕ) → defines_in q n l ≡ true → MeansNothing all q n
-  nothing_there q h = by (l.spot.scope == q) (is_named n (defined_name l.stated)) refl refl h
-    where
-      by : (a b : Bool) → (l.spot.scope == q) ≡ a → is_named n (defined_name l.stated) ≡ b → (a && b) ≡ true → MeansNothing all q n
-      by true true same named e = let scope : l.spot.scope ≡ q = grind (arith, nat_tests) in subst (λ (s : ℕ). MeansNothing all s n) scope (hides n named)
-      by true false same named e = absurd cc
-      by false b same named e = absurd cc
-
-  -- where nothing was found in a scope on the way to what was found, nothing is found now
-  still_absent : (m q j : ℕ) → q ≤ m → first_found (λ s. defined_in all s n) (outward_from all m q) ≡ Some j → defined_in all q n ≡ None → defined_in (all ++ l ∷ []) q n ≡ None
-  still_absent m q j le found none = by (defines_in q n l) refl
-    where
-      by : (b : Bool) → defines_in q n l ≡ b → defined_in (all ++ l ∷ []) q n ≡ None
-      by false is = absent (defines_in q n) all l none is
-      by true is =
-          let nothing = nothing_there q is in
-          let same : outward_from all m q ≡ scopes_from all q = enough all m q q nested le (omega arith) in
-          let gone : first_found (λ s. defined_in all s n) (outward_from all m q) ≡ None = ap (first_found (λ s. defined_in all s n)) same ∙ nothing.0 in
-          absurd (let no : Some j ≡ None = sym found ∙ gone in cc)
-
-  found_stays : (m q j : ℕ) → q ≤ m → first_found (λ s. defined_in all s n) (outward_from all m q) ≡ Some j → first_found (λ s. defined_in (all ++ l ∷ []) s n) (outward_from all m q) ≡ Some j
-  found_stays m zero j le h = last m h
-    where
-      at_zero : (o : Option ℕ) → defined_in all zero n ≡ o → or_else o None ≡ Some j → or_else (defined_in (all ++ l ∷ []) zero n) None ≡ Some j
-      at_zero (Some i) is e = ap (λ (p : Option ℕ). or_else p None) (stays (defines_in zero n) all l i is) ∙ e
-      at_zero None is e = absurd cc
-
-      last : (k : ℕ) → first_found (λ s. defined_in all s n) (outward_from all k zero) ≡ Some j → first_found (λ s. defined_in (all ++ l ∷ []) s n) (outward_from all k zero) ≡ Some j
-      last zero e = at_zero (defined_in all zero n) refl e
-      last (suc k) e = at_zero (defined_in all zero n) refl e
-  found_stays zero (suc i) j le h = absurd (omega arith)
-  found_stays (suc m) (suc i) j le h = by (defined_in all (suc i) n) refl h (found_stays m (enclosing all (suc i)) j (omega (arith, nested i, le)))
-    where
-      rest : List ℕ
-      rest = outward_from all m (enclosing all (suc i))
-
-      by : (o : Option ℕ) → defined_in all (suc i) n ≡ o → or_else o (first_found (λ s. defined_in all s n) rest) ≡ Some j → (first_found (λ s. defined_in all s n) rest ≡ Some j → first_found (λ s. defined_in (all ++ l ∷ []) s n) rest ≡ Some j) → or_else (defined_in (all ++ l ∷ []) (suc i) n) (first_found (λ s. defined_in (all ++ l ∷ []) s n) rest) ≡ Some j
-      by (Some k) is e outer = ap (λ (p : Option ℕ). or_else p (first_found (λ s. defined_in (all ++ l ∷ []) s n) rest)) (stays (defines_in (suc i) n) all l k is) ∙ e
-      by None is e outer = ap (λ (p : Option ℕ). or_else p (first_found (λ s. defined_in (all ++ l ∷ []) s n) rest)) (still_absent (suc m) (suc i) j le h is) ∙ outer e
-
-  -- a name that means an import is defined nowhere by it
-  import_absent : (k q : ℕ) → import_key all n ≡ Some k → defined_in all q n ≡ None → defined_in (all ++ l ∷ []) q n ≡ None
-  import_absent k q imported none = by (defines_in q n l) refl
-    where
-      by : (b : Bool) → defines_in q n l ≡ b → defined_in (all ++ l ∷ []) q n ≡ None
-      by false is = absent (defines_in q n) all l none is
-      by true is =
-          let nothing = nothing_there q is in
-          absurd (let no : Some k ≡ None = sym imported ∙ nothing.1 in cc)
-
-  -- where nothing was found but an import, nothing is found now
-  none_stays : (k : ℕ) → import_key all n ≡ Some k → (ss : List ℕ) → first_found (λ s. defined_in all s n) ss ≡ None → first_found (λ s. defined_in (all ++ l ∷ []) s n) ss ≡ None
-  none_stays k imported [] h = refl
-  none_stays k imported (s ∷ ss) h = by (defined_in all s n) refl h (none_stays k imported ss)
-    where
-      by : (o : Option ℕ) → defined_in all s n ≡ o → or_else o (first_found (λ q. defined_in all q n) ss) ≡ None → (first_found (λ q. defined_in all q n) ss ≡ None → first_found (λ q. defined_in (all ++ l ∷ []) q n) ss ≡ None) → or_else (defined_in (all ++ l ∷ []) s n) (first_found (λ q. defined_in (all ++ l ∷ []) q n) ss) ≡ None
-      by (Some j) is e rest = absurd cc
-      by None is e rest = ap (λ (p : Option ℕ). or_else p (first_found (λ q. defined_in (all ++ l ∷ []) q n) ss)) (import_absent k s imported is) ∙ rest e
-
-  import_stays : (k : ℕ) → import_key all n ≡ Some k → import_key (all ++ l ∷ []) n ≡ Some k
-  import_stays k h = ap (position (λ k. bytes_eq n k)) (imported_more [] all l) ∙ new_names (λ k. bytes_eq n k) (imports_of l.stated) (imported_names [] all) k h
-
-  plain_stays : (s : ℕ) (m : Meaning) → s ≤ length all → plain_meaning all s n ≡ Ok m → plain_meaning (all ++ l ∷ []) s n ≡ Ok m
-  plain_stays s m le h = ap (λ ss. or_fault (Undefined n) (first_found (λ q. defined_in (all ++ l ∷ []) q n) ss) (import_key (all ++ l ∷ []) n)) (outward_stays all l s s nested le) ∙ by (first_found (λ q. defined_in all q n) (scopes_from all s)) (import_key all n) refl refl h
-    where
-      by : (o p : Option ℕ) → first_found (λ q. defined_in all q n) (scopes_from all s) ≡ o → import_key all n ≡ p → or_fault (Undefined n) o p ≡ Ok m → or_fault (Undefined n) (first_found (λ q. defined_in (all ++ l ∷ []) q n) (scopes_from all s)) (import_key (all ++ l ∷ []) n) ≡ Ok m
-      by (Some j) p is key e = ap (λ (o : Option ℕ). or_fault (Undefined n) o (import_key (all ++ l ∷ []) n)) (found_stays s s j (omega arith) is) ∙ e
-      by None (Some k) is key e = ap (λ (o : Option ℕ). or_fault (Undefined n) o (import_key (all ++ l ∷ []) n)) (none_stays k key (scopes_from all s) is) ∙ ap (or_fault (Undefined n) None) (import_stays k key) ∙ e
-      by None None is key e = absurd cc
-
-  global_stays : (z : AsmFault) (m : Meaning) → global_meaning all n z ≡ Ok m → global_meaning (all ++ l ∷ []) n z ≡ Ok m
-  global_stays z m h = by (defined_in all zero n) (import_key all n) refl refl h
-    where
-      by : (o p : Option ℕ) → defined_in all zero n ≡ o → import_key all n ≡ p → or_fault z o p ≡ Ok m → or_fault z (defined_in (all ++ l ∷ []) zero n) (import_key (all ++ l ∷ []) n) ≡ Ok m
-      by (Some j) p is key e = ap (λ (o : Option ℕ). or_fault z o (import_key (all ++ l ∷ []) n)) (stays (defines_in zero n) all l j is) ∙ e
-      by None (Some k) is key e = ap (λ (o : Option ℕ). or_fault z o (import_key (all ++ l ∷ []) n)) (import_absent k zero key is) ∙ ap (or_fault z None) (import_stays k key) ∙ e
-      by None None is key e = absurd cc
-
-  member_stays : (absent lost : AsmFault) (o : Option ℕ) (m : Meaning) → member_meaning all n absent lost o ≡ Ok m → member_meaning (all ++ l ∷ []) n absent lost o ≡ Ok m
-  member_stays absent lost None m h = absurd cc
-  member_stays absent lost (Some zero) m h = global_stays absent m h
-  member_stays absent lost (Some (suc q)) m h = position_stays (defines_in (suc q) n) all l absent m h
-
--- ---- What is tested.
-
--- a plain name with no meaning means nothing
-pub meant_nothing : (all : List Laid) (s : ℕ) (n : List ℕ) (z : AsmFault) → plain_meaning all s n ≡ Err z → MeansNothing all s n
-meant_nothing all s n z h = by (first_found (λ q. defined_in all q n) (scopes_from all s)) (import_key all n) h
+-- the same of the opening of a scope of a name
+pub opening_is : (ws : List (List ℕ)) (s : ℕ) (n : List ℕ) (k : Opening) (is_proc : Bool) → option_map (opening.Named s) (position (bytes_eq n) ws) ≡ Some k →
+    (first_number ws (word_opened k) ≡ word_opened k) × (scope_by ws k is_proc ≡ record { within = s; name = Some n; is_proc = is_proc }) × ((i : ℕ) → HasNumber i k)
+opening_is ws s n k is_proc e = by (position (bytes_eq n) ws) refl e
   where
-    by : (o p : Option ℕ) → or_fault (Undefined n) o p ≡ Err z → (o ≡ None) × (p ≡ None)
-    by (Some j) p e = absurd cc
-    by None (Some k) e = absurd cc
-    by None None e = (refl, refl)
+    by : (o : Option ℕ) → position (bytes_eq n) ws ≡ o → option_map (opening.Named s) o ≡ Some k →
+        (first_number ws (word_opened k) ≡ word_opened k) × (scope_by ws k is_proc ≡ record { within = s; name = Some n; is_proc = is_proc }) × ((i : ℕ) → HasNumber i k)
+    by None is e = absurd cc
+    by (Some w) is e =
+        let same : opening.Named s w ≡ k = cc in
+        let (m, at, passes) = first_passes (bytes_eq n) ws w is in
+        let word : word_at ws w ≡ n = get_word ws w m at ∙ sym (same_bytes n m passes) in
+        subst (λ x. (first_number ws (word_opened x) ≡ word_opened x) × (scope_by ws x is_proc ≡ record { within = s; name = Some n; is_proc = is_proc }) × ((i : ℕ) → HasNumber i x)) same
+        (ap (λ m. position (bytes_eq m) ws) word ∙ is, ap (λ m. record { within = s; name = Some m; is_proc = is_proc }) word, λ i within number no. absurd cc)
 
--- where the test says no, nothing is hidden
-pub hides_nothing : (all : List Laid) (l : Laid) → hides all l ≡ false → HidesNothing all l
-hides_nothing all l h = λ n named. by n (defined_name l.stated) h named
-  where
-    meant : (n : List ℕ) (r : Result Meaning AsmFault) → plain_meaning all l.spot.scope n ≡ r → is_meant r ≡ false → MeansNothing all l.spot.scope n
-    meant n (Ok m) is e = absurd cc
-    meant n (Err z) is e = meant_nothing all l.spot.scope n z is
+-- ---- The opening of a scope.
 
-    by : (n : List ℕ) (o : Option (List ℕ)) → hides_at all l.spot.scope o ≡ false → is_named n o ≡ true → MeansNothing all l.spot.scope n
-    by n None e named = absurd cc
-    by n (Some k) e named = subst (MeansNothing all l.spot.scope) (same_bytes k n named) (meant k (plain_meaning all l.spot.scope k) refl e)
+module _ (ws : List (List ℕ)) (s : ℕ) (k : Opening) where
+  pub opening_numbered : (count : ℕ) (name : Option (List ℕ)) → IsOpening ws count s name k → first_number ws (word_opened k) ≡ word_opened k
+  opening_numbered count None h = subst (λ x. first_number ws (word_opened x) ≡ word_opened x) (sym h) refl
+  opening_numbered count (Some n) h = (opening_is ws s n k false h).0
 
--- a statement that defines no name hides none
-pub defines_nothing : (all : List Laid) (l : Laid) → defined_name l.stated ≡ None → HidesNothing all l
-defines_nothing all l h = hides_nothing all l (ap (hides_at all l.spot.scope) h)
+  pub opening_distinct : (count : ℕ) (name : Option (List ℕ)) → IsOpening ws count s name k → HasNumber count k
+  opening_distinct count None h = λ within number e. (let same : opening.Nameless within number ≡ opening.Nameless s count = sym e ∙ h in cc)
+  opening_distinct count (Some n) h = (opening_is ws s n k false h).2 count
 
-pub nested_starts : AreNested []
-nested_starts = λ i. by i
-  where
-    by : (i : ℕ) → scope_at (slice_get [] i) ≤ i
-    by zero = omega arith
-    by (suc i) = omega arith
+  pub opening_scope : (count : ℕ) (name : Option (List ℕ)) (is_proc : Bool) → IsOpening ws count s name k → scope_by ws k is_proc ≡ record { within = s; name = name; is_proc = is_proc }
+  opening_scope count None is_proc h = ap (λ x. scope_by ws x is_proc) h
+  opening_scope count (Some n) is_proc h = (opening_is ws s n k is_proc h).1
 
--- a statement in a scope that is opened keeps what is nested
-pub nested_more : (all : List Laid) (l : Laid) → AreNested all → l.spot.scope ≤ length all → AreNested (all ++ l ∷ [])
-nested_more all l nested le = λ i. by i (slice_get (all ++ l ∷ []) i) refl
-  where
-    last : (xs : List Laid) (x : Laid) (i : ℕ) (o : Option Laid) → slice_get (xs ++ x ∷ []) i ≡ o → (i < length xs) ⊎ (scope_at o ≤ zero) ⊎ ((o ≡ Some x) × (length xs ≤ i))
-    last [] x zero o e = inr (inr (sym e, omega arith))
-    last [] x (suc i) o e = inr (inl (let gone : o ≡ None = sym e in let at_none : scope_at o ≡ zero = ap scope_at gone in omega (arith, at_none)))
-    last (y ∷ xs) x zero o e = inl (omega arith)
-    last (y ∷ xs) x (suc i) o e = later (last xs x i o e)
-      where
-        later : ((i < length xs) ⊎ (scope_at o ≤ zero) ⊎ ((o ≡ Some x) × (length xs ≤ i))) → (suc i < length (y ∷ xs)) ⊎ (scope_at o ≤ zero) ⊎ ((o ≡ Some x) × (length (y ∷ xs) ≤ suc i))
-        later (inl lt) = inl (omega (arith, lt))
-        later (inr (inl none)) = inr (inl none)
-        later (inr (inr (is, past))) = inr (inr (is, omega (arith, past)))
+  -- a scope is opened once by its opening
+  pub opened_once : (ss : List (Opening × Bool)) (name : Option (List ℕ)) → AreNumbered word_opened ws (keys_of ss) → AreDistinct (keys_of ss) → IsOpening ws (length ss) s name k →
+      opened_twice (map (scope_opened ws) ss) s name ≡ None → position (same_opening k) (keys_of ss) ≡ None
+  opened_once ss None numbers distinct h e = position_none (same_opening k) (keys_of ss) (λ i x at. subst (λ y. same_opening y x ≡ false) (sym h) (differs i x at))
+    where
+      differs : (i : ℕ) (x : Opening) → slice_get (keys_of ss) i ≡ Some x → same_opening (opening.Nameless s (length ss)) x ≡ false
+      differs i (opening.Named within w) at = refl
+      differs i (opening.Nameless within number) at =
+          let place : number ≡ i = distinct i within number at in
+          let inside : i < length (keys_of ss) = slice_get_within (keys_of ss) i (opening.Nameless within number) at in
+          let long = keys_length ss in
+          let other : (length ss == number) ≡ false = grind (arith, nat_tests, place, inside, long) in
+          ap (λ b. s == within && b) other ∙ none (s == within)
+        where
+          none : (b : Bool) → (b && false) ≡ false
+          none true = refl
+          none false = refl
+  opened_once ss (Some n) numbers distinct h e = by (position (λ c. c.within == s && is_named n c.name) (map (scope_opened ws) ss)) refl
+    where
+      by : (o : Option ℕ) → position (λ c. c.within == s && is_named n c.name) (map (scope_opened ws) ss) ≡ o → position (same_opening k) (keys_of ss) ≡ None
+      by None is = sym (ap (place_of_opening ss) h) ∙ finds_opened ws ss s n numbers ∙ is
+      by (Some j) is = absurd (let there : Some (ScopeTwice n) ≡ None = sym (ap (λ o. where_there (numbered o) (ScopeTwice n)) is) ∙ e in cc)
 
-    by : (i : ℕ) (o : Option Laid) → slice_get (all ++ l ∷ []) i ≡ o → scope_at (slice_get (all ++ l ∷ []) i) ≤ i
-    by i o e = at (last all l i o e)
-      where
-        at : ((i < length all) ⊎ (scope_at o ≤ zero) ⊎ ((o ≡ Some l) × (length all ≤ i))) → scope_at (slice_get (all ++ l ∷ []) i) ≤ i
-        at (inl lt) = let inner : scope_at (slice_get all i) ≤ i = nested i in let same : scope_at (slice_get (all ++ l ∷ []) i) ≡ scope_at (slice_get all i) = ap scope_at (get_stays all l i lt) in omega (arith, inner, same)
-        at (inr (inl none)) = let same : scope_at (slice_get (all ++ l ∷ []) i) ≡ scope_at o = ap scope_at e in omega (arith, none, same)
-        at (inr (inr (is, past))) = let same : scope_at (slice_get (all ++ l ∷ []) i) ≡ l.spot.scope = ap scope_at (e ∙ is) in omega (arith, le, past, same)
-
--- ---- Meanings.
-
--- what an operand means stays so
-pub meaning_stays : (all : List Laid) (l : Laid) → AreNested all → HidesNothing all l → (i : ℕ) (s : Spot) (e : Tree) (m : Meaning) → i ≤ length all → s.scope ≤ length all → meaning_of all (length all) i s e ≡ Ok m → meaning_of (all ++ l ∷ []) (length all + 1) i s e ≡ Ok m
-meaning_stays all l nested hides i s e m le within h = by e h
-  where
-    whole : take (length all) all ≡ all
-    whole = take_all (length all) all (omega arith)
-
-    grown : take (length all + 1) (all ++ l ∷ []) ≡ all ++ l ∷ []
-    grown = let long : length (all ++ l ∷ []) ≡ length all + 1 = length-append all (l ∷ []) in take_all (length all + 1) (all ++ l ∷ []) (omega (arith, long))
-
-    before : take i (all ++ l ∷ []) ≡ take i all
-    before = take-append-le i all (l ∷ []) le
-
-    -- the same of what is asked of the lists themselves
-    of_lists : (f : List Laid → Result Meaning AsmFault) → (f all ≡ Ok m → f (all ++ l ∷ []) ≡ Ok m) → f (take (length all) all) ≡ Ok m → f (take (length all + 1) (all ++ l ∷ [])) ≡ Ok m
-    of_lists f k h = ap f grown ∙ k (sym (ap f whole) ∙ h)
-
-    scoped : (global : Bool) (parts : List (List ℕ)) → scoped_meaning (take (length all) all) (take i all) s.scope global parts ≡ Ok m → scoped_meaning (take (length all + 1) (all ++ l ∷ [])) (take i (all ++ l ∷ [])) s.scope global parts ≡ Ok m
-    scoped global parts h =
-        ap (λ b. scoped_meaning (take (length all + 1) (all ++ l ∷ [])) b s.scope global parts) before
-        ∙ of_lists (λ ls. scoped_meaning ls (take i all) s.scope global parts) (member_stays all l nested hides (last_of parts) (Undefined (shown global parts)) (NoSuchScope (shown global parts)) (scope_from (take i all) s.scope global (scopes_of parts)) m) h
-
-    unnamed : (k : ℕ) → unnamed_meaning (take (length all) all) k ≡ Ok m → unnamed_meaning (take (length all + 1) (all ++ l ∷ [])) k ≡ Ok m
-    unnamed k h = of_lists (λ ls. unnamed_meaning ls k) (position_stays (λ x. x.spot.unnamed == k && is_unnamed x.stated) all l NoSuchLabel m) h
-
-    back : (b : Bool) (k : ℕ) → (if b then unnamed_meaning (take (length all) all) k else Err NoSuchLabel) ≡ Ok m → (if b then unnamed_meaning (take (length all + 1) (all ++ l ∷ [])) k else Err NoSuchLabel) ≡ Ok m
-    back true k h = unnamed k h
-    back false k h = absurd cc
-
-    by : (t : Tree) → meaning_of all (length all) i s t ≡ Ok m → meaning_of (all ++ l ∷ []) (length all + 1) i s t ≡ Ok m
-    by (name false (n ∷ [])) h = of_lists (λ ls. plain_meaning ls s.scope n) (plain_stays all l nested hides n s.scope m within) h
-    by (name false []) h = scoped false [] h
-    by (name false (n ∷ k ∷ parts)) h = scoped false (n ∷ k ∷ parts) h
-    by (name true parts) h = scoped true parts h
-    by (cheap n) h = of_lists (λ ls. cheap_meaning ls s.region n) (position_stays (λ x. x.spot.region == s.region && is_cheap n x.stated) all l (Undefined n) m) h
-    by (forward n) h = unnamed (s.unnamed + n - 1) h
-    by (backward n) h = back (nat_le n s.unnamed) (s.unnamed - n) h
-    by (number v) h = absurd cc
-    by here h = absurd cc
-    by (unary op a) h = absurd cc
-    by (binary op a b) h = absurd cc
+-- what follows after a call, whether it succeeded or not
+pub after : {A E P Q R : Type 0} (r : Result A E) → (P → R) → (Q → R) → OnOk r P → OnErr r Q → R
+after (Ok x) f g p q = f p
+after (Err e) f g p q = g q

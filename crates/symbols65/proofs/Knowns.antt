@@ -10,10 +10,10 @@ use Rattle.std.proofs.lemmas.Option.{gets, slice_get_within}
 use Rattle.symbols65.specs.declared.resolving.attempt.State.{State}
 use Rattle.symbols65.specs.declared.resolving.attempt.State.TheVariants.{Unknown, Waiting, Found}
 use Rattle.symbols65.specs.Knowns.{AreNoted, is_found, without}
-use Rattle.language65.specs.Laid.{Laid}
+use Rattle.language65.specs.Symbols.{Symbols}
 use Rattle.symbols65.specs.Resolving.{IsTable}
 use Rattle.symbols65.proofs.Beginnings.{AreUnknown, blank_table}
-use Rattle.symbols65.proofs.GrowingForms.{get_more}
+use Rattle.symbols65.proofs.Places.{get_more}
 
 -- nothing is found at one more place
 pub noted_more : (states : List State) (noted : List ℕ) → AreNoted states noted → AreNoted (states ++ Unknown ∷ []) noted
@@ -23,9 +23,9 @@ noted_more states noted h = λ j e. by j (slice_get (states ++ Unknown ∷ []) j
     by j None is e = absurd cc
     by j (Some x) is e = at (get_more states Unknown x j is)
       where
-        at : (slice_get states j ≡ Some x) ⊎ (x ≡ Unknown) → list_any (λ i. i == j) noted ≡ true
+        at : (slice_get states j ≡ Some x) ⊎ ((j ≡ length states) × (Unknown ≡ x)) → list_any (λ i. i == j) noted ≡ true
         at (inl same) = h j (ap is_found same ∙ e)
-        at (inr new) = let no : true ≡ false = sym e ∙ ap (λ y. is_found (Some y)) new in absurd cc
+        at (inr new) = let no : true ≡ false = sym e ∙ ap (λ y. is_found (Some y)) (sym new.1) in absurd cc
 
 -- a place more that is noted
 pub noted_one_more : (states : List State) (noted : List ℕ) (place : ℕ) → AreNoted states noted → AreNoted states (noted ++ place ∷ [])
@@ -114,8 +114,8 @@ none_noted (x ∷ states) h idle = (at x (h zero) (idle zero), none_noted states
     at Waiting k w = absurd (w refl)
     at (Found f) k w = let never = k refl in absurd cc
 
-pub none_known : (all : List Laid) (states : List State) → AreNoted states [] → ((j : ℕ) → slice_get states j ≡ Some Waiting → ⊥) → length states ≡ length all → IsTable all states
-none_known all states h idle e = blank_table all states (none_noted states h idle) e
+pub none_known : (table : Symbols) (states : List State) → AreNoted states [] → ((j : ℕ) → slice_get states j ≡ Some Waiting → ⊥) → length states ≡ length table.definitions → IsTable table states
+none_known table states h idle e = blank_table table states (none_noted states h idle) e
 
 -- nothing more waits where nothing is known of one more place
 pub idle_set : (states : List State) (place : ℕ) → ((j : ℕ) → slice_get states j ≡ Some Waiting → ⊥) → (j : ℕ) → slice_get (slice_set states place Unknown) j ≡ Some Waiting → ⊥

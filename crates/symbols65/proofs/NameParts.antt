@@ -1,12 +1,14 @@
 -- The parts of names.
-use Rattle.std.proofs.Common.{◌≡◌, ℕ, Bool, true, false, List, [], ◌∷◌, ◌++◌, length, take, refl, sym, ap, ◌∙◌}
+use Rattle.std.proofs.Common.{◌≡◌, ℕ, Bool, true, false, List, [], ◌∷◌, ◌++◌, Option, Some, None, refl, sym, ap, ◌∙◌}
 use Rattle.std.specs.Prelude.{codes}
 use Rattle.std.proofs.lemmas.List.{append_assoc}
-use Rattle.std.proofs.Math.Seq.{take-length}
 use Rattle.syntax65.specs.Trees.{name}
-use Rattle.language65.specs.Laid.{Laid, Spot}
-use Rattle.language65.specs.Names.{joined, last_of, meaning_of, plain_meaning, scoped_meaning, scopes_of}
-use Rattle.symbols65.specs.Resolving.{joined_behind, name_meaning}
+use Rattle.language65.specs.Laid.{Spot}
+use Rattle.language65.specs.declared.fault.AsmFault.{AsmFault}
+use Rattle.language65.specs.declared.fault.AsmFault.TheVariants.{Undefined}
+use Rattle.language65.specs.Symbols.{Symbols, defined, imported, named}
+use Rattle.language65.specs.Names.{first_found, joined, last_of, meaning_of, or_fault, plain_meaning, scopes_from, scopes_of}
+use Rattle.symbols65.specs.Resolving.{defined_place, joined_behind, name_meaning, plain_part}
 
 pub scopes_before : (rest : List (List ℕ)) (n : List ℕ) → scopes_of (rest ++ n ∷ []) ≡ rest
 scopes_before [] n = refl
@@ -26,9 +28,23 @@ joined_first n [] = sym (append_nil n)
     append_nil (x ∷ l) = ap (λ m. x ∷ m) (append_nil l)
 joined_first n (m ∷ names) = append_assoc n (codes "::") (joined (m ∷ names)) ∙ ap (λ l. n ++ l) (ap (λ l. codes "::" ++ l) (joined_first m names) ∙ sym (append_assoc (codes "::") m (joined_behind names)))
 
-pub name_is : (all : List Laid) (i : ℕ) (s : Spot) (global : Bool) (parts : List (List ℕ)) → meaning_of all (length all) i s (name global parts) ≡ name_meaning all i s.scope global parts
-name_is all i s false [] = ap (λ ls. scoped_meaning ls (take i all) s.scope false []) (take-length all)
-name_is all i s false (n ∷ []) = ap (λ ls. plain_meaning ls s.scope n) (take-length all)
-name_is all i s false (n ∷ m ∷ names) = ap (λ ls. scoped_meaning ls (take i all) s.scope false (n ∷ m ∷ names)) (take-length all)
-name_is all i s true [] = ap (λ ls. scoped_meaning ls (take i all) s.scope true []) (take-length all)
-name_is all i s true (n ∷ names) = ap (λ ls. scoped_meaning ls (take i all) s.scope true (n ∷ names)) (take-length all)
+pub name_is : (y : Symbols) (s : Spot) (global : Bool) (parts : List (List ℕ)) → meaning_of y s (name global parts) ≡ name_meaning y s global parts
+name_is y s false [] = refl
+name_is y s false (n ∷ []) = refl
+name_is y s false (n ∷ m ∷ names) = refl
+name_is y s true [] = refl
+name_is y s true (n ∷ names) = refl
+
+defined_first : (e : AsmFault) (o other : Option ℕ) → o ≡ defined_place (or_fault e o other)
+defined_first e (Some i) other = refl
+defined_first e None (Some k) = refl
+defined_first e None None = refl
+
+-- what a plain name means is defined where a scope from its own outward defines it
+pub defined_outward_at : (y : Symbols) (s : Spot) (global : Bool) (parts : List (List ℕ)) (n : List ℕ) → plain_part global parts ≡ Some n → first_found (λ c. defined y (named c n)) (scopes_from y.scopes s.scope) ≡ defined_place (meaning_of y s (name global parts))
+defined_outward_at y s false [] n e = absurd cc
+defined_outward_at y s false (m ∷ []) n e =
+    let same : m ≡ n = cc in
+    defined_first (Undefined n) (first_found (λ c. defined y (named c n)) (scopes_from y.scopes s.scope)) (imported y n) ∙ ap (λ k. defined_place (plain_meaning y s.scope k)) (sym same)
+defined_outward_at y s false (m ∷ k ∷ parts) n e = absurd cc
+defined_outward_at y s true parts n e = absurd cc

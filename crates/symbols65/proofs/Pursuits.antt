@@ -12,7 +12,7 @@ use Rattle.symbols65.specs.declared.resolving.attempt.State.{State}
 use Rattle.symbols65.specs.declared.resolving.attempt.State.TheVariants.{Unknown, Waiting, Found}
 use Rattle.symbols65.specs.declared.resolving.attempt.Stop.{Stop}
 use Rattle.symbols65.specs.declared.resolving.attempt.Stop.TheVariants.{Needs, Fault}
-use Rattle.language65.specs.Laid.{Laid}
+use Rattle.language65.specs.Symbols.{Symbols}
 use Rattle.symbols65.specs.Resolving.{FoundBy, IsTable, is_open, is_unknown, unknown}
 use Rattle.syntax65.specs.Outcome.{Unless}
 use Rattle.symbols65.proofs.Turns.{Course, IsCourse, constant_course, constant_is, ok_later, circular_before}
@@ -21,10 +21,10 @@ use Rattle.symbols65.proofs.Tries.{Near, Agrees, IsAttempt, at_turn, last_course
 -- ---- One constant needs another.
 
 -- what has this course comes to a fault where the constant j does, one turn later
-pub record Leads (all : List Laid) (c : ℕ) (v : Course) (j : ℕ) : Type 0 where
-  pub later : (k : ℕ) (z : AsmFault) → c ≤ k → constant_course all j k ≡ Err z → v (suc k) ≡ Err z
-  pub circular : (k : ℕ) → constant_course all j k ≡ Err Circular → v (suc k) ≡ Err Circular
-  pub starts : constant_course all j 0 ≡ Err Circular
+pub record Leads (table : Symbols) (c : ℕ) (v : Course) (j : ℕ) : Type 0 where
+  pub later : (k : ℕ) (z : AsmFault) → c ≤ k → constant_course table j k ≡ Err z → v (suc k) ≡ Err z
+  pub circular : (k : ℕ) → constant_course table j k ≡ Err Circular → v (suc k) ≡ Err Circular
+  pub starts : constant_course table j 0 ≡ Err Circular
 
 near_so : (r s : Result Form AsmFault) → Near ⊥ r s → r ≡ s
 near_so r s (inl h) = absurd h.0
@@ -34,60 +34,60 @@ near_circular : (r : Result Form AsmFault) → Near ⊤ r (Err Circular) → r �
 near_circular r (inl h) = h.1
 near_circular r (inr e) = e
 
-pub leads_from : (c : ℕ) (all : List Laid) (states : List State) (v : Course) (a : Result Form Stop) (j : ℕ) → IsAttempt c all states v a → a ≡ Err (Needs j) → Leads all c v j
-leads_from c all states v a j t e = record {
-  later = λ k z le h. (let P : Result Form Stop → Type 0 = λ x. Agrees ⊥ (at_turn all k) x (v (suc k)) in near_so (v (suc k)) (Err z) (subst P e (t.later k le) z h));
-  circular = λ k h. (let P : Result Form Stop → Type 0 = λ x. Agrees ⊤ (at_turn all k) x (v (suc k)) in near_circular (v (suc k)) (subst P e (t.ever k) Circular h));
+pub leads_from : (c : ℕ) (table : Symbols) (known : ℕ → Option State) (v : Course) (a : Result Form Stop) (j : ℕ) → IsAttempt c table known v a → a ≡ Err (Needs j) → Leads table c v j
+leads_from c table known v a j t e = record {
+  later = λ k z le h. (let P : Result Form Stop → Type 0 = λ x. Agrees ⊥ (at_turn table k) x (v (suc k)) in near_so (v (suc k)) (Err z) (subst P e (t.later k le) z h));
+  circular = λ k h. (let P : Result Form Stop → Type 0 = λ x. Agrees ⊤ (at_turn table k) x (v (suc k)) in near_circular (v (suc k)) (subst P e (t.ever k) Circular h));
   starts = (t.lacks j e).starts;
 }
 
-leads_later : (all : List Laid) (c : ℕ) (v : Course) (j : ℕ) → Leads all c v j → Leads all (suc c) v j
-leads_later all c v j h = record {
+leads_later : (table : Symbols) (c : ℕ) (v : Course) (j : ℕ) → Leads table c v j → Leads table (suc c) v j
+leads_later table c v j h = record {
   later = λ k z le e. h.later k z (omega (arith, le)) e;
   circular = h.circular;
   starts = h.starts;
 }
 
-pub fault_from : (c : ℕ) (all : List Laid) (states : List State) (v : Course) (a : Result Form Stop) (z : AsmFault) → IsAttempt c all states v a → a ≡ Err (Fault z) → (k : ℕ) → c ≤ k → v (suc k) ≡ Err z
-fault_from c all states v a z t e k le = (let P : Result Form Stop → Type 0 = λ x. Agrees ⊥ (at_turn all k) x (v (suc k)) in near_so (v (suc k)) (Err z) (subst P e (t.later k le)))
+pub fault_from : (c : ℕ) (table : Symbols) (known : ℕ → Option State) (v : Course) (a : Result Form Stop) (z : AsmFault) → IsAttempt c table known v a → a ≡ Err (Fault z) → (k : ℕ) → c ≤ k → v (suc k) ≡ Err z
+fault_from c table known v a z t e k le = (let P : Result Form Stop → Type 0 = λ x. Agrees ⊥ (at_turn table k) x (v (suc k)) in near_so (v (suc k)) (Err z) (subst P e (t.later k le)))
 
-pub form_from : (c : ℕ) (all : List Laid) (states : List State) (v : Course) (a : Result Form Stop) (f : Form) → IsAttempt c all states v a → a ≡ Ok f → (k : ℕ) → c ≤ k → v (suc k) ≡ Ok f
-form_from c all states v a f t e k le = (let P : Result Form Stop → Type 0 = λ x. Agrees ⊥ (at_turn all k) x (v (suc k)) in near_so (v (suc k)) (Ok f) (subst P e (t.later k le)))
+pub form_from : (c : ℕ) (table : Symbols) (known : ℕ → Option State) (v : Course) (a : Result Form Stop) (f : Form) → IsAttempt c table known v a → a ≡ Ok f → (k : ℕ) → c ≤ k → v (suc k) ≡ Ok f
+form_from c table known v a f t e k le = (let P : Result Form Stop → Type 0 = λ x. Agrees ⊥ (at_turn table k) x (v (suc k)) in near_so (v (suc k)) (Ok f) (subst P e (t.later k le)))
 
 -- ---- Chains.
 
 -- the expression waits for the first, and so on
-abbrev pub IsChain : List Laid → ℕ → Course → List ℕ → Type 0
-IsChain all c v [] = ⊤
-IsChain all c v (w ∷ ws) = Leads all c v w × IsChain all c (constant_course all w) ws
+abbrev pub IsChain : Symbols → ℕ → Course → List ℕ → Type 0
+IsChain table c v [] = ⊤
+IsChain table c v (w ∷ ws) = Leads table c v w × IsChain table c (constant_course table w) ws
 
-chain_later : (all : List Laid) (c : ℕ) (v : Course) (ws : List ℕ) → IsChain all c v ws → IsChain all (suc c) v ws
-chain_later all c v [] h = tt
-chain_later all c v (w ∷ ws) (l, h) = (leads_later all c v w l, chain_later all c (constant_course all w) ws h)
+chain_later : (table : Symbols) (c : ℕ) (v : Course) (ws : List ℕ) → IsChain table c v ws → IsChain table (suc c) v ws
+chain_later table c v [] h = tt
+chain_later table c v (w ∷ ws) (l, h) = (leads_later table c v w l, chain_later table c (constant_course table w) ws h)
 
-chain_more : (all : List Laid) (c : ℕ) (v : Course) (ws : List ℕ) (j : ℕ) → IsChain all c v ws → Leads all c (last_course all v ws) j → IsChain all c v (ws ++ j ∷ [])
-chain_more all c v [] j h l = (l, tt)
-chain_more all c v (w ∷ ws) j (m, h) l = (m, chain_more all c (constant_course all w) ws j h l)
+chain_more : (table : Symbols) (c : ℕ) (v : Course) (ws : List ℕ) (j : ℕ) → IsChain table c v ws → Leads table c (last_course table v ws) j → IsChain table c v (ws ++ j ∷ [])
+chain_more table c v [] j h l = (l, tt)
+chain_more table c v (w ∷ ws) j (m, h) l = (m, chain_more table c (constant_course table w) ws j h l)
 
-chain_less : (all : List Laid) (c : ℕ) (v : Course) (ws : List ℕ) (j : ℕ) → IsChain all c v (ws ++ j ∷ []) → IsChain all c v ws
-chain_less all c v [] j h = tt
-chain_less all c v (w ∷ ws) j (m, h) = (m, chain_less all c (constant_course all w) ws j h)
+chain_less : (table : Symbols) (c : ℕ) (v : Course) (ws : List ℕ) (j : ℕ) → IsChain table c v (ws ++ j ∷ []) → IsChain table c v ws
+chain_less table c v [] j h = tt
+chain_less table c v (w ∷ ws) j (m, h) = (m, chain_less table c (constant_course table w) ws j h)
 
-last_of_more : (all : List Laid) (v : Course) (ws : List ℕ) (j : ℕ) → last_course all v (ws ++ j ∷ []) ≡ constant_course all j
-last_of_more all v [] j = refl
-last_of_more all v (w ∷ ws) j = last_of_more all (constant_course all w) ws j
+last_of_more : (table : Symbols) (v : Course) (ws : List ℕ) (j : ℕ) → last_course table v (ws ++ j ∷ []) ≡ constant_course table j
+last_of_more table v [] j = refl
+last_of_more table v (w ∷ ws) j = last_of_more table (constant_course table w) ws j
 
-chain_fault : (all : List Laid) (c : ℕ) (v : Course) (ws : List ℕ) (k : ℕ) (z : AsmFault) → IsChain all c v ws → c ≤ k → last_course all v ws k ≡ Err z → v (length ws + k) ≡ Err z
-chain_fault all c v [] k z h le e = let same : 0 + k ≡ k = omega arith in ap v same ∙ e
-chain_fault all c v (w ∷ ws) k z (l, h) le e =
+chain_fault : (table : Symbols) (c : ℕ) (v : Course) (ws : List ℕ) (k : ℕ) (z : AsmFault) → IsChain table c v ws → c ≤ k → last_course table v ws k ≡ Err z → v (length ws + k) ≡ Err z
+chain_fault table c v [] k z h le e = let same : 0 + k ≡ k = omega arith in ap v same ∙ e
+chain_fault table c v (w ∷ ws) k z (l, h) le e =
     let same : suc (length ws) + k ≡ suc (length ws + k) = omega arith in
-    ap v same ∙ l.later (length ws + k) z (omega (arith, le)) (chain_fault all c (constant_course all w) ws k z h le e)
+    ap v same ∙ l.later (length ws + k) z (omega (arith, le)) (chain_fault table c (constant_course table w) ws k z h le e)
 
-chain_circular : (all : List Laid) (c : ℕ) (v : Course) (ws : List ℕ) (k : ℕ) → IsChain all c v ws → last_course all v ws k ≡ Err Circular → v (length ws + k) ≡ Err Circular
-chain_circular all c v [] k h e = let same : 0 + k ≡ k = omega arith in ap v same ∙ e
-chain_circular all c v (w ∷ ws) k (l, h) e =
+chain_circular : (table : Symbols) (c : ℕ) (v : Course) (ws : List ℕ) (k : ℕ) → IsChain table c v ws → last_course table v ws k ≡ Err Circular → v (length ws + k) ≡ Err Circular
+chain_circular table c v [] k h e = let same : 0 + k ≡ k = omega arith in ap v same ∙ e
+chain_circular table c v (w ∷ ws) k (l, h) e =
     let same : suc (length ws) + k ≡ suc (length ws + k) = omega arith in
-    ap v same ∙ l.circular (length ws + k) (chain_circular all c (constant_course all w) ws k h e)
+    ap v same ∙ l.circular (length ws + k) (chain_circular table c (constant_course table w) ws k h e)
 
 -- ---- A constant that is met again.
 
@@ -115,23 +115,23 @@ among_cases x w (v ∷ ws) (inr h) = go (among_cases x w ws h)
     go (inr e) = inr e
 
 -- the constant j is circular d turns after the last that waits
-abbrev pub After : List Laid → ℕ → ℕ → Course → Type 0
-After all d j v = (k : ℕ) → v k ≡ Err Circular → constant_course all j (d + k) ≡ Err Circular
+abbrev pub After : Symbols → ℕ → ℕ → Course → Type 0
+After table d j v = (k : ℕ) → v k ≡ Err Circular → constant_course table j (d + k) ≡ Err Circular
 
-among_after : (all : List Laid) (c : ℕ) (v : Course) (ws : List ℕ) (j : ℕ) → IsChain all c v ws → Among j ws → (d : ℕ) × After all d j (last_course all v ws)
-among_after all c v [] j h m = absurd m
-among_after all c v (w ∷ ws) j (l, h) (inl e) = (length ws, λ k q. ap (λ x. constant_course all x (length ws + k)) e ∙ chain_circular all c (constant_course all w) ws k h q)
-among_after all c v (w ∷ ws) j (l, h) (inr m) = among_after all c (constant_course all w) ws j h m
+among_after : (table : Symbols) (c : ℕ) (v : Course) (ws : List ℕ) (j : ℕ) → IsChain table c v ws → Among j ws → (d : ℕ) × After table d j (last_course table v ws)
+among_after table c v [] j h m = absurd m
+among_after table c v (w ∷ ws) j (l, h) (inl e) = (length ws, λ k q. ap (λ x. constant_course table x (length ws + k)) e ∙ chain_circular table c (constant_course table w) ws k h q)
+among_after table c v (w ∷ ws) j (l, h) (inr m) = among_after table c (constant_course table w) ws j h m
 
-always : (all : List Laid) (j d : ℕ) → constant_course all j 0 ≡ Err Circular → ((k : ℕ) → constant_course all j k ≡ Err Circular → constant_course all j (d + suc k) ≡ Err Circular) → (k : ℕ) → constant_course all j k ≡ Err Circular
-always all j d s h zero = s
-always all j d s h (suc k) = circular_before (constant_course all j) (constant_is all j) (suc k) (d + suc k) (omega arith) (h k (always all j d s h k))
+always : (table : Symbols) (j d : ℕ) → constant_course table j 0 ≡ Err Circular → ((k : ℕ) → constant_course table j k ≡ Err Circular → constant_course table j (d + suc k) ≡ Err Circular) → (k : ℕ) → constant_course table j k ≡ Err Circular
+always table j d s h zero = s
+always table j d s h (suc k) = circular_before (constant_course table j) (constant_is table j) (suc k) (d + suc k) (omega arith) (h k (always table j d s h k))
 
-pub met_again : (all : List Laid) (c : ℕ) (v : Course) → IsCourse v → (ws : List ℕ) (j : ℕ) → IsChain all c v ws → Leads all c (last_course all v ws) j → Among j ws → (n : ℕ) → v (suc n) ≡ Err Circular
-met_again all c v s ws j h l m n =
-    let (d, after) = among_after all c v ws j h m in
-    let ever = always all j d l.starts (λ k e. after (suc k) (l.circular k e)) in
-    circular_before v s (suc n) (length ws + suc n) (omega arith) (chain_circular all c v ws (suc n) h (l.circular n (ever n)))
+pub met_again : (table : Symbols) (c : ℕ) (v : Course) → IsCourse v → (ws : List ℕ) (j : ℕ) → IsChain table c v ws → Leads table c (last_course table v ws) j → Among j ws → (n : ℕ) → v (suc n) ≡ Err Circular
+met_again table c v s ws j h l m n =
+    let (d, after) = among_after table c v ws j h m in
+    let ever = always table j d l.starts (λ k e. after (suc k) (l.circular k e)) in
+    circular_before v s (suc n) (length ws + suc n) (omega arith) (chain_circular table c v ws (suc n) h (l.circular n (ever n)))
 
 -- ---- The table.
 
@@ -141,17 +141,17 @@ get_same states j x lt = grind (arith, common_steps, gets)
 get_other : (states : List State) (i j : ℕ) (x : State) → i ≢ j → slice_get (slice_set states j x) i ≡ slice_get states i
 get_other states i j x other = grind (arith, common_steps, gets)
 
-pub record IsPursuit (all : List Laid) (states : List State) (v : Course) (ws : List ℕ) : Type 0 where
+pub record IsPursuit (table : Symbols) (states : List State) (v : Course) (ws : List ℕ) : Type 0 where
   pub turns : ℕ
-  pub long : length states ≡ length all
-  pub room : turns + length ws + unknown states ≤ length all
-  pub found : FoundBy turns all states
-  pub chain : IsChain all turns v ws
+  pub long : length states ≡ length table.definitions
+  pub room : turns + length ws + unknown states ≤ length table.definitions
+  pub found : FoundBy turns table (slice_get states)
+  pub chain : IsChain table turns v ws
   pub marked : (j : ℕ) → slice_get states j ≡ Some Waiting → Among j ws
   pub inside : (j : ℕ) → Among j ws → j < length states
 
-pub pursuit_starts : (all : List Laid) (states : List State) (v : Course) → IsTable all states → IsPursuit all states v []
-pursuit_starts all states v t = record {
+pub pursuit_starts : (table : Symbols) (states : List State) (v : Course) → IsTable table states → IsPursuit table states v []
+pursuit_starts table states v t = record {
   turns = t.turns;
   long = t.long;
   room = (let room = t.room in omega (arith, room));
@@ -161,8 +161,8 @@ pursuit_starts all states v t = record {
   inside = λ j h. absurd h;
 }
 
-pub pursuit_ends : (all : List Laid) (states : List State) (v : Course) → IsPursuit all states v [] → IsTable all states
-pursuit_ends all states v p = record {
+pub pursuit_ends : (table : Symbols) (states : List State) (v : Course) → IsPursuit table states v [] → IsTable table states
+pursuit_ends table states v p = record {
   long = p.long;
   turns = p.turns;
   room = (let room = p.room in omega (arith, room));
@@ -183,13 +183,13 @@ no_more states j f lt =
     omega (arith, change)
 
 -- a constant is needed that is unknown
-pub pursuit_down : (all : List Laid) (states : List State) (v : Course) (ws : List ℕ) (j : ℕ) (p : IsPursuit all states v ws) → Leads all p.turns (last_course all v ws) j → slice_get states j ≡ Some Unknown → IsPursuit all (slice_set states j Waiting) v (ws ++ j ∷ [])
-pursuit_down all states v ws j p l e = record {
+pub pursuit_down : (table : Symbols) (states : List State) (v : Course) (ws : List ℕ) (j : ℕ) (p : IsPursuit table states v ws) → Leads table p.turns (last_course table v ws) j → slice_get states j ≡ Some Unknown → IsPursuit table (slice_set states j Waiting) v (ws ++ j ∷ [])
+pursuit_down table states v ws j p l e = record {
   turns = p.turns;
   long = (let long = p.long in grind (arith, common_steps));
   room = (let room = p.room in let less = fewer states j e lt in simp length-append (omega (arith, room, less)));
   found = λ i f q. p.found i f (before i (Found f) (λ w. cc) q);
-  chain = chain_more all p.turns v ws j p.chain l;
+  chain = chain_more table p.turns v ws j p.chain l;
   marked = λ i q. marks i q (nat_eq i j) refl;
   inside = λ i q. (let same : length (slice_set states j Waiting) ≡ length states = grind (arith, common_steps) in rw same (inner i (among_cases i j ws q)));
 }
@@ -221,13 +221,13 @@ pursuit_down all states v ws j p l e = record {
     inner i (inr e) = rw e lt
 
 -- the form of the last that waits is found
-pub pursuit_up : (all : List Laid) (states : List State) (v : Course) (ws : List ℕ) (j : ℕ) (f : Form) (p : IsPursuit all states v (ws ++ j ∷ [])) → constant_course all j (suc p.turns) ≡ Ok f → IsPursuit all (slice_set states j (Found f)) v ws
-pursuit_up all states v ws j f p e = record {
+pub pursuit_up : (table : Symbols) (states : List State) (v : Course) (ws : List ℕ) (j : ℕ) (f : Form) (p : IsPursuit table states v (ws ++ j ∷ [])) → constant_course table j (suc p.turns) ≡ Ok f → IsPursuit table (slice_set states j (Found f)) v ws
+pursuit_up table states v ws j f p e = record {
   turns = suc p.turns;
   long = (let long = p.long in grind (arith, common_steps));
-  room = (let room : p.turns + length (ws ++ j ∷ []) + unknown states ≤ length all = p.room in let more = no_more states j f lt in let grown : length (ws ++ j ∷ []) ≡ length ws + 1 = length-append ws (j ∷ []) in omega (arith, room, more, grown));
+  room = (let room : p.turns + length (ws ++ j ∷ []) + unknown states ≤ length table.definitions = p.room in let more = no_more states j f lt in let grown : length (ws ++ j ∷ []) ≡ length ws + 1 = length-append ws (j ∷ []) in omega (arith, room, more, grown));
   found = λ i g q. founds i g q (nat_eq i j) refl;
-  chain = chain_later all p.turns v ws (chain_less all p.turns v ws j p.chain);
+  chain = chain_later table p.turns v ws (chain_less table p.turns v ws j p.chain);
   marked = λ i q. marks i q (nat_eq i j) refl;
   inside = λ i q. (let same : length (slice_set states j (Found f)) ≡ length states = grind (arith, common_steps) in rw same (p.inside i (among_more i j ws q)));
 }
@@ -235,15 +235,15 @@ pursuit_up all states v ws j f p e = record {
     lt : j < length states
     lt = p.inside j (among_last j j ws refl)
 
-    founds : (i : ℕ) (g : Form) → slice_get (slice_set states j (Found f)) i ≡ Some (Found g) → (b : Bool) → nat_eq i j ≡ b → constant_course all i (suc p.turns) ≡ Ok g
+    founds : (i : ℕ) (g : Form) → slice_get (slice_set states j (Found f)) i ≡ Some (Found g) → (b : Bool) → nat_eq i j ≡ b → constant_course table i (suc p.turns) ≡ Ok g
     founds i g q true b =
         let one : i ≡ j = grind (arith, nat_tests) in
         let now : slice_get (slice_set states j (Found f)) i ≡ Some (Found f) = ap (slice_get (slice_set states j (Found f))) one ∙ get_same states j (Found f) lt in
         let same : f ≡ g = cc in
-        ap (λ x. constant_course all x (suc p.turns)) one ∙ e ∙ ap Ok same
+        ap (λ x. constant_course table x (suc p.turns)) one ∙ e ∙ ap Ok same
     founds i g q false b =
         let other : i ≢ j = grind (arith, nat_tests) in
-        ok_later (constant_course all i) (constant_is all i) p.turns (suc p.turns) g (omega arith) (p.found i g (sym (get_other states i j (Found f) other) ∙ q))
+        ok_later (constant_course table i) (constant_is table i) p.turns (suc p.turns) g (omega arith) (p.found i g (sym (get_other states i j (Found f) other) ∙ q))
 
     marks : (i : ℕ) → slice_get (slice_set states j (Found f)) i ≡ Some Waiting → (b : Bool) → nat_eq i j ≡ b → Among i ws
     marks i q true b =
@@ -259,23 +259,23 @@ pursuit_up all states v ws j f p e = record {
         rest (inr same) = let other : i ≢ j = grind (arith, nat_tests) in absurd (other same)
 
 -- a fault of the last that waits is the expression's
-pub pursuit_faults : (all : List Laid) (states : List State) (v : Course) (ws : List ℕ) (a : Result Form Stop) (z : AsmFault) (p : IsPursuit all states v ws) → IsAttempt p.turns all states (last_course all v ws) a → a ≡ Err (Fault z) → v (suc (length all)) ≡ Err z
-pursuit_faults all states v ws a z p t e =
+pub pursuit_faults : (table : Symbols) (states : List State) (v : Course) (ws : List ℕ) (a : Result Form Stop) (z : AsmFault) (p : IsPursuit table states v ws) → IsAttempt p.turns table (slice_get states) (last_course table v ws) a → a ≡ Err (Fault z) → v (suc (length table.definitions)) ≡ Err z
+pursuit_faults table states v ws a z p t e =
     let room = p.room in
-    let k : ℕ = length all - length ws in
+    let k : ℕ = length table.definitions - length ws in
     let enough : p.turns ≤ k = omega (arith, room) in
-    let whole : length ws + suc k ≡ suc (length all) = omega (arith, room) in
-    sym (ap v whole) ∙ chain_fault all p.turns v ws (suc k) z p.chain (omega (arith, enough)) (fault_from p.turns all states (last_course all v ws) a z t e k enough)
+    let whole : length ws + suc k ≡ suc (length table.definitions) = omega (arith, room) in
+    sym (ap v whole) ∙ chain_fault table p.turns v ws (suc k) z p.chain (omega (arith, enough)) (fault_from p.turns table (slice_get states) (last_course table v ws) a z t e k enough)
 
 -- a constant that is needed and neither unknown nor found waits
-pub pursuit_meets : (all : List Laid) (states : List State) (v : Course) → IsCourse v → (ws : List ℕ) (a : Result Form Stop) (j : ℕ) (p : IsPursuit all states v ws) → IsAttempt p.turns all states (last_course all v ws) a → a ≡ Err (Needs j) → (o : Option State) → slice_get states j ≡ o → is_unknown o ≡ false → v (suc (length all)) ≡ Err Circular
-pursuit_meets all states v s ws a j p t e None q known =
+pub pursuit_meets : (table : Symbols) (states : List State) (v : Course) → IsCourse v → (ws : List ℕ) (a : Result Form Stop) (j : ℕ) (p : IsPursuit table states v ws) → IsAttempt p.turns table (slice_get states) (last_course table v ws) a → a ≡ Err (Needs j) → (o : Option State) → slice_get states j ≡ o → is_unknown o ≡ false → v (suc (length table.definitions)) ≡ Err Circular
+pursuit_meets table states v s ws a j p t e None q known =
     let past : length states ≤ j = grind (arith, common_steps, gets) in
     let long = p.long in
-    absurd ((t.lacks j e).inside (slice_get_past all j (omega (arith, past, long))))
-pursuit_meets all states v s ws a j p t e (Some Unknown) q known = absurd cc
-pursuit_meets all states v s ws a j p t e (Some Waiting) q known = met_again all p.turns v s ws j p.chain (leads_from p.turns all states (last_course all v ws) a j t e) (p.marked j q) (length all)
-pursuit_meets all states v s ws a j p t e (Some (Found f)) q known = absurd ((t.lacks j e).unfound f q)
+    absurd ((t.lacks j e).inside (slice_get_past table.definitions j (omega (arith, past, long))))
+pursuit_meets table states v s ws a j p t e (Some Unknown) q known = absurd cc
+pursuit_meets table states v s ws a j p t e (Some Waiting) q known = met_again table p.turns v s ws j p.chain (leads_from p.turns table (slice_get states) (last_course table v ws) a j t e) (p.marked j q) (length table.definitions)
+pursuit_meets table states v s ws a j p t e (Some (Found f)) q known = absurd ((t.lacks j e).unfound f q)
 
 pub unknown_is : (o : Option State) → is_unknown o ≡ true → o ≡ Some Unknown
 unknown_is None e = absurd cc
@@ -283,30 +283,30 @@ unknown_is (Some Unknown) e = refl
 unknown_is (Some Waiting) e = absurd cc
 unknown_is (Some (Found f)) e = absurd cc
 
-pub pursuit_needs : (all : List Laid) (states : List State) (v : Course) (ws more : List ℕ) (a : Result Form Stop) (j : ℕ) (p : IsPursuit all states v ws) → IsAttempt p.turns all states (last_course all v ws) a → a ≡ Err (Needs j) → slice_get states j ≡ Some Unknown → more ≡ ws ++ j ∷ [] → IsPursuit all (slice_set states j Waiting) v more
-pursuit_needs all states v ws more a j p t e q pushed =
-    subst (IsPursuit all (slice_set states j Waiting) v) (sym pushed) (pursuit_down all states v ws j p (leads_from p.turns all states (last_course all v ws) a j t e) q)
+pub pursuit_needs : (table : Symbols) (states : List State) (v : Course) (ws more : List ℕ) (a : Result Form Stop) (j : ℕ) (p : IsPursuit table states v ws) → IsAttempt p.turns table (slice_get states) (last_course table v ws) a → a ≡ Err (Needs j) → slice_get states j ≡ Some Unknown → more ≡ ws ++ j ∷ [] → IsPursuit table (slice_set states j Waiting) v more
+pursuit_needs table states v ws more a j p t e q pushed =
+    subst (IsPursuit table (slice_set states j Waiting) v) (sym pushed) (pursuit_down table states v ws j p (leads_from p.turns table (slice_get states) (last_course table v ws) a j t e) q)
 
 -- the expression's form is found
-pub pursuit_done : (all : List Laid) (states : List State) (v : Course) (ws : List ℕ) (a : Result Form Stop) (f : Form) (p : IsPursuit all states v ws) → IsAttempt p.turns all states (last_course all v ws) a → a ≡ Ok f → ws ≡ [] → v (suc (length all)) ≡ Ok f
-pursuit_done all states v ws a f p t e q =
+pub pursuit_done : (table : Symbols) (states : List State) (v : Course) (ws : List ℕ) (a : Result Form Stop) (f : Form) (p : IsPursuit table states v ws) → IsAttempt p.turns table (slice_get states) (last_course table v ws) a → a ≡ Ok f → ws ≡ [] → v (suc (length table.definitions)) ≡ Ok f
+pursuit_done table states v ws a f p t e q =
     let room = p.room in
-    let P : List ℕ → Type 0 = λ z. last_course all v z (suc (length all)) ≡ Ok f in
-    subst P q (form_from p.turns all states (last_course all v ws) a f t e (length all) (omega (arith, room)))
+    let P : List ℕ → Type 0 = λ z. last_course table v z (suc (length table.definitions)) ≡ Ok f in
+    subst P q (form_from p.turns table (slice_get states) (last_course table v ws) a f t e (length table.definitions) (omega (arith, room)))
 
-pub pursuit_table : (all : List Laid) (states : List State) (v : Course) (ws : List ℕ) → IsPursuit all states v ws → ws ≡ [] → IsTable all states
-pursuit_table all states v ws p q = pursuit_ends all states v (subst (IsPursuit all states v) q p)
+pub pursuit_table : (table : Symbols) (states : List State) (v : Course) (ws : List ℕ) → IsPursuit table states v ws → ws ≡ [] → IsTable table states
+pursuit_table table states v ws p q = pursuit_ends table states v (subst (IsPursuit table states v) q p)
 
-pub pursuit_inside : (all : List Laid) (states : List State) (v : Course) (ws others : List ℕ) (j : ℕ) → IsPursuit all states v ws → ws ≡ others ++ j ∷ [] → j < length states
-pursuit_inside all states v ws others j p q = p.inside j (subst (Among j) (sym q) (among_last j j others refl))
+pub pursuit_inside : (table : Symbols) (states : List State) (v : Course) (ws others : List ℕ) (j : ℕ) → IsPursuit table states v ws → ws ≡ others ++ j ∷ [] → j < length states
+pursuit_inside table states v ws others j p q = p.inside j (subst (Among j) (sym q) (among_last j j others refl))
 
-pub pursuit_pops : (all : List Laid) (states : List State) (v : Course) (ws others : List ℕ) (a : Result Form Stop) (j : ℕ) (f : Form) (p : IsPursuit all states v ws) → IsAttempt p.turns all states (last_course all v ws) a → a ≡ Ok f → ws ≡ others ++ j ∷ [] → IsPursuit all (slice_set states j (Found f)) v others
-pursuit_pops all states v ws others a j f p t e q =
-    let P : List ℕ → Type 0 = λ z. (p : IsPursuit all states v z) → IsAttempt p.turns all states (last_course all v z) a → IsPursuit all (slice_set states j (Found f)) v others in
+pub pursuit_pops : (table : Symbols) (states : List State) (v : Course) (ws others : List ℕ) (a : Result Form Stop) (j : ℕ) (f : Form) (p : IsPursuit table states v ws) → IsAttempt p.turns table (slice_get states) (last_course table v ws) a → a ≡ Ok f → ws ≡ others ++ j ∷ [] → IsPursuit table (slice_set states j (Found f)) v others
+pursuit_pops table states v ws others a j f p t e q =
+    let P : List ℕ → Type 0 = λ z. (p : IsPursuit table states v z) → IsAttempt p.turns table (slice_get states) (last_course table v z) a → IsPursuit table (slice_set states j (Found f)) v others in
     subst P (sym q) (λ p t. base p t) p t
   where
-    base : (p : IsPursuit all states v (others ++ j ∷ [])) → IsAttempt p.turns all states (last_course all v (others ++ j ∷ [])) a → IsPursuit all (slice_set states j (Found f)) v others
-    base p t = pursuit_up all states v others j f p (sym (ap (λ u. u (suc p.turns)) (last_of_more all v others j)) ∙ form_from p.turns all states (last_course all v (others ++ j ∷ [])) a f t e p.turns (omega arith))
+    base : (p : IsPursuit table states v (others ++ j ∷ [])) → IsAttempt p.turns table (slice_get states) (last_course table v (others ++ j ∷ [])) a → IsPursuit table (slice_set states j (Found f)) v others
+    base p t = pursuit_up table states v others j f p (sym (ap (λ u. u (suc p.turns)) (last_of_more table v others j)) ∙ form_from p.turns table (slice_get states) (last_course table v (others ++ j ∷ [])) a f t e p.turns (omega arith))
 
 pub unless_more : {P Q : Type 0} (b : Bool) → (P → Q) → Unless b P → Unless b Q
 unless_more true f h = tt

@@ -1,42 +1,35 @@
 -- Scopes, and names that are found in them.
-use Rattle.std.proofs.Common.{◌≡◌, ℕ, zero, suc, ◌+◌, ◌-◌, ◌<◌, ◌≤◌, Bool, true, false, cond, nat_lt, List, [], ◌∷◌, take, position, Option, Some, None, refl, sym, ap, ◌∙◌, arith}
+use Rattle.std.proofs.Common.{◌≡◌, ℕ, zero, suc, ◌+◌, ◌-◌, ◌<◌, ◌≤◌, Bool, true, false, cond, nat_lt, List, [], ◌∷◌, length, take, position, Option, Some, None, refl, sym, ap, ◌∙◌, arith}
 use Rattle.std.specs.Prelude.{slice_get}
 use Rattle.std.specs.List.{position_from}
 use Rattle.std.proofs.lemmas.Bool.Decides.{nat_tests}
 use Rattle.std.proofs.lemmas.Iterator.Adapters.{position_from-zero}
-use Rattle.language65.specs.Laid.{Laid}
-use Rattle.language65.specs.Names.{enclosing, first_found, inside, or_else, outward_from, scope_at, scope_in, opened_at}
-use Rattle.symbols65.specs.Resolving.{opener_in}
-
--- ---- The scope around a scope.
-
-pub enclosing_is : (ls : List Laid) (scope : ℕ) → (scope ≡ 0 → ⊥) → enclosing ls scope ≡ scope_at (slice_get ls (scope - 1))
-enclosing_is ls zero h = absurd (h refl)
-enclosing_is ls (suc i) h = ap (λ j. scope_at (slice_get ls j)) (let less : i ≡ suc i - 1 = omega arith in less)
+use Rattle.language65.specs.Names.{enclosing, first_found, inside, numbered, or_else, outward_from, scope_in, within}
+use Rattle.language65.specs.Symbols.{Scope}
 
 -- ---- Outward.
 
-module _ (ls : List Laid) (find : ℕ → Option ℕ) where
-  pub outward_found : (n s p : ℕ) → find s ≡ Some p → first_found find (outward_from ls n s) ≡ Some p
+module _ (cs : List Scope) (find : ℕ → Option ℕ) where
+  pub outward_found : (n s p : ℕ) → find s ≡ Some p → first_found find (outward_from cs n s) ≡ Some p
   outward_found n zero p e = ap (λ o. or_else o None) e
   outward_found zero (suc i) p e = ap (λ o. or_else o None) e
-  outward_found (suc n) (suc i) p e = ap (λ o. or_else o (first_found find (outward_from ls n (enclosing ls (suc i))))) e
+  outward_found (suc n) (suc i) p e = ap (λ o. or_else o (first_found find (outward_from cs n (enclosing cs (suc i))))) e
 
-  pub outward_global : (n s : ℕ) → find s ≡ None → s ≡ 0 → first_found find (outward_from ls n s) ≡ None
+  pub outward_global : (n s : ℕ) → find s ≡ None → s ≡ 0 → first_found find (outward_from cs n s) ≡ None
   outward_global n zero e t = ap (λ o. or_else o None) e
   outward_global n (suc i) e t = absurd (omega (arith, t))
 
-  pub outward_ends : (n s : ℕ) → find s ≡ None → n ≡ 0 → first_found find (outward_from ls n s) ≡ None
+  pub outward_ends : (n s : ℕ) → find s ≡ None → n ≡ 0 → first_found find (outward_from cs n s) ≡ None
   outward_ends n zero e t = ap (λ o. or_else o None) e
   outward_ends zero (suc i) e t = ap (λ o. or_else o None) e
   outward_ends (suc n) (suc i) e t = absurd (omega (arith, t))
 
-  pub outward_on : (n s : ℕ) → find s ≡ None → (s ≡ 0 → ⊥) → (n ≡ 0 → ⊥) → first_found find (outward_from ls n s) ≡ first_found find (outward_from ls (n - 1) (enclosing ls s))
+  pub outward_on : (n s : ℕ) → find s ≡ None → (s ≡ 0 → ⊥) → (n ≡ 0 → ⊥) → first_found find (outward_from cs n s) ≡ first_found find (outward_from cs (n - 1) (enclosing cs s))
   outward_on n zero e t u = absurd (t refl)
   outward_on zero (suc i) e t u = absurd (u refl)
   outward_on (suc n) (suc i) e t u =
-      ap (λ o. or_else o (first_found find (outward_from ls n (enclosing ls (suc i))))) e
-      ∙ ap (λ m. first_found find (outward_from ls m (enclosing ls (suc i)))) (let less : n ≡ suc n - 1 = omega arith in less)
+      ap (λ o. or_else o (first_found find (outward_from cs n (enclosing cs (suc i))))) e
+      ∙ ap (λ m. first_found find (outward_from cs m (enclosing cs (suc i)))) (let less : n ≡ suc n - 1 = omega arith in less)
 
 -- ---- What stands before a place.
 
@@ -70,18 +63,50 @@ position_before {A = A} p i xs = position_from-zero p (take i xs) ∙ go 0 i xs 
         by true h = (let under : nat_lt k (k + suc i) ≡ true = grind (arith, nat_tests) in sym (ap (λ b. cond b (Some k) None) under))
         by false h = h ∙ ap (λ n. below n (position_from p (k + 1) xs)) (let same : k + 1 + i ≡ k + suc i = omega arith in same)
 
--- ---- Scopes before a place.
+-- ---- Scopes that were opened first.
 
-pub scope_before : (all : List Laid) (place scope : ℕ) (n : List ℕ) (opener : ℕ) → opener_in all scope n ≡ Some opener → opener < place → scope_in (take place all) scope n ≡ Some (opener + 1)
-scope_before all place scope n opener e t =
-    ap opened_at (position_before _ place all ∙ ap (below place) e ∙ ap (λ b. cond b (Some opener) None) (let under : nat_lt opener place ≡ true = grind (arith, nat_tests, t) in under)) ∙ ap Some (let more : suc opener ≡ opener + 1 = omega arith in more)
+module _ (cs : List Scope) (opened s : ℕ) (n : List ℕ) where
+  pub scope_before : (i : ℕ) → scope_in cs s n ≡ Some i → i ≤ opened → scope_in (take opened cs) s n ≡ Some i
+  scope_before i e le = ap numbered (position_before _ opened cs) ∙ by (position _ cs) e
+    where
+      by : (o : Option ℕ) → numbered o ≡ Some i → numbered (below opened o) ≡ Some i
+      by None h = absurd cc
+      by (Some j) h = (let same : suc j ≡ i = cc in let under : nat_lt j opened ≡ true = grind (arith, nat_tests, same, le) in ap (λ b. numbered (cond b (Some j) None)) under ∙ h)
 
-pub scope_behind : (all : List Laid) (place scope : ℕ) (n : List ℕ) (opener : ℕ) → opener_in all scope n ≡ Some opener → place ≤ opener → scope_in (take place all) scope n ≡ None
-scope_behind all place scope n opener e t = ap opened_at (position_before _ place all ∙ ap (below place) e ∙ ap (λ b. cond b (Some opener) None) (let past : nat_lt opener place ≡ false = grind (arith, nat_tests, t) in past))
+  pub scope_behind : (i : ℕ) → scope_in cs s n ≡ Some i → opened < i → scope_in (take opened cs) s n ≡ None
+  scope_behind i e lt = ap numbered (position_before _ opened cs) ∙ by (position _ cs) e
+    where
+      by : (o : Option ℕ) → numbered o ≡ Some i → numbered (below opened o) ≡ None
+      by None h = absurd cc
+      by (Some j) h = (let same : suc j ≡ i = cc in let past : nat_lt j opened ≡ false = grind (arith, nat_tests, same, lt) in ap (λ b. numbered (cond b (Some j) None)) past)
 
-pub no_scope : (all : List Laid) (place scope : ℕ) (n : List ℕ) → opener_in all scope n ≡ None → scope_in (take place all) scope n ≡ None
-no_scope all place scope n e = ap opened_at (position_before _ place all ∙ ap (below place) e)
+  pub no_scope : scope_in cs s n ≡ None → scope_in (take opened cs) s n ≡ None
+  no_scope e = ap numbered (position_before _ opened cs) ∙ by (position _ cs) e
+    where
+      by : (o : Option ℕ) → numbered o ≡ None → numbered (below opened o) ≡ None
+      by None h = refl
+      by (Some j) h = absurd cc
 
-pub inside_none : (ls : List Laid) (names : List (List ℕ)) → inside ls names None ≡ None
-inside_none ls [] = refl
-inside_none ls (n ∷ names) = refl
+get_before : {A : Type 0} (xs : List A) (n i : ℕ) → i < n → slice_get (take n xs) i ≡ slice_get xs i
+get_before xs zero i lt = absurd (omega arith)
+get_before [] (suc n) i lt = refl
+get_before (x ∷ xs) (suc n) zero lt = refl
+get_before (x ∷ xs) (suc n) (suc i) lt = get_before xs n i (omega arith)
+
+get_behind : {A : Type 0} (xs : List A) (n i : ℕ) → n ≤ i → slice_get (take n xs) i ≡ None
+get_behind xs zero i le = refl
+get_behind [] (suc n) i le = refl
+get_behind (x ∷ xs) (suc n) zero le = absurd (omega arith)
+get_behind (x ∷ xs) (suc n) (suc i) le = get_behind xs n i (omega arith)
+
+pub enclosing_before : (cs : List Scope) (opened s : ℕ) → s ≤ opened → enclosing (take opened cs) s ≡ enclosing cs s
+enclosing_before cs opened zero le = refl
+enclosing_before cs opened (suc i) le = ap within (get_before cs opened i (omega arith))
+
+pub enclosing_behind : (cs : List Scope) (opened s : ℕ) → opened < s → enclosing (take opened cs) s ≡ zero
+enclosing_behind cs opened zero lt = absurd (omega arith)
+enclosing_behind cs opened (suc i) lt = ap within (get_behind cs opened i (omega arith))
+
+pub inside_none : (cs : List Scope) (names : List (List ℕ)) → inside cs names None ≡ None
+inside_none cs [] = refl
+inside_none cs (n ∷ names) = refl

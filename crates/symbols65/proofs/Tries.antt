@@ -14,11 +14,11 @@ use Rattle.symbols65.specs.declared.resolving.attempt.State.{State}
 use Rattle.symbols65.specs.declared.resolving.attempt.State.TheVariants.{Unknown, Waiting, Found}
 use Rattle.symbols65.specs.declared.resolving.attempt.Stop.{Stop}
 use Rattle.symbols65.specs.declared.resolving.attempt.Stop.TheVariants.{Needs, Fault}
-use Rattle.language65.specs.Language.{Stated, constant}
-use Rattle.language65.specs.Laid.{Laid, Spot}
+use Rattle.language65.specs.Laid.{Spot}
+use Rattle.language65.specs.Symbols.{Symbols, Definition}
 use Rattle.language65.specs.Names.{Meaning, defined_at, imported_as, meaning_of}
-use Rattle.language65.specs.Norms.{folded, form_by, form_of_stated, form_of_laid, form_of_meaning, norm}
-use Rattle.symbols65.specs.Resolving.{stopped, known_form, attempt_stated, attempt_laid, meaning_form, operand_form, tried_by, tried, tried_at, tried_last, FoundBy}
+use Rattle.language65.specs.Norms.{folded, form_by, form_of_value, form_of_definition, form_of_meaning, norm}
+use Rattle.symbols65.specs.Resolving.{stopped, known_form, attempt_value, attempt_definition, meaning_form, operand_form, tried_by, tried, tried_at, tried_last, FoundBy}
 use Rattle.symbols65.proofs.Turns.{Known, Course, expression_course, constant_course, constant_is, ok_later, ok_before}
 
 -- the first is the second, or, where that may be, circular
@@ -65,46 +65,46 @@ agrees_by C v a b s h (binary op e g) =
 -- ---- Constants.
 
 -- each form of the table is what its constant comes to
-abbrev pub Fits : Type 0 → (ℕ → Result Form AsmFault) → List State → Type 0
-Fits C v states = (j : ℕ) (f : Form) → slice_get states j ≡ Some (Found f) → Near C (v j) (Ok f)
+abbrev pub Fits : Type 0 → (ℕ → Result Form AsmFault) → (ℕ → Option State) → Type 0
+Fits C v known = (j : ℕ) (f : Form) → known j ≡ Some (Found f) → Near C (v j) (Ok f)
 
-known_agrees : (C : Type 0) (v : ℕ → Result Form AsmFault) (states : List State) (j : ℕ) (r : Result Form AsmFault) → Fits C v states → v j ≡ r → (o : Option State) → slice_get states j ≡ o → Agrees C v (known_form j o) r
-known_agrees C v states j r t e None q = λ z h. inr (sym e ∙ h)
-known_agrees C v states j r t e (Some Unknown) q = λ z h. inr (sym e ∙ h)
-known_agrees C v states j r t e (Some Waiting) q = λ z h. inr (sym e ∙ h)
-known_agrees C v states j r t e (Some (Found f)) q = (let P : Result Form AsmFault → Type 0 = λ x. Near C x (Ok f) in subst P e (t j f q))
+known_agrees : (C : Type 0) (v : ℕ → Result Form AsmFault) (known : ℕ → Option State) (j : ℕ) (r : Result Form AsmFault) → Fits C v known → v j ≡ r → (o : Option State) → known j ≡ o → Agrees C v (known_form j o) r
+known_agrees C v known j r t e None q = λ z h. inr (sym e ∙ h)
+known_agrees C v known j r t e (Some Unknown) q = λ z h. inr (sym e ∙ h)
+known_agrees C v known j r t e (Some Waiting) q = λ z h. inr (sym e ∙ h)
+known_agrees C v known j r t e (Some (Found f)) q = (let P : Result Form AsmFault → Type 0 = λ x. Near C x (Ok f) in subst P e (t j f q))
 
-found_stated : (C : Type 0) (v : ℕ → Result Form AsmFault) (states : List State) (j : ℕ) (g : Spot → Tree → Result Form AsmFault) (s : Spot) (x : Stated) → Fits C v states → v j ≡ form_of_stated g s x → Agrees C v (attempt_stated (λ s e. known_form j (slice_get states j)) s x) (form_of_stated g s x)
-found_stated C v states j g s (constant n e) t h = known_agrees C v states j (g s e) t h (slice_get states j) refl
-found_stated C v states j g s _ t h = inr refl
+found_value : (C : Type 0) (v : ℕ → Result Form AsmFault) (known : ℕ → Option State) (j : ℕ) (g : Spot → Tree → Result Form AsmFault) (s : Spot) (x : Option Tree) → Fits C v known → v j ≡ form_of_value g s x → Agrees C v (attempt_value (λ s e. known_form j (known j)) s x) (form_of_value g s x)
+found_value C v known j g s (Some e) t h = known_agrees C v known j (g s e) t h (known j) refl
+found_value C v known j g s _ t h = inr refl
 
-found_laid : (C : Type 0) (v : ℕ → Result Form AsmFault) (states : List State) (j : ℕ) (g : Spot → Tree → Result Form AsmFault) (o : Option Laid) → Fits C v states → v j ≡ form_of_laid g o → Agrees C v (attempt_laid (λ s e. known_form j (slice_get states j)) o) (form_of_laid g o)
-found_laid C v states j g None t h = inr refl
-found_laid C v states j g (Some l) t h = found_stated C v states j g l.spot l.stated t h
+found_definition : (C : Type 0) (v : ℕ → Result Form AsmFault) (known : ℕ → Option State) (j : ℕ) (g : Spot → Tree → Result Form AsmFault) (o : Option Definition) → Fits C v known → v j ≡ form_of_definition g o → Agrees C v (attempt_definition (λ s e. known_form j (known j)) o) (form_of_definition g o)
+found_definition C v known j g None t h = inr refl
+found_definition C v known j g (Some l) t h = found_value C v known j g l.spot l.value t h
 
-abbrev pub at_turn : List Laid → ℕ → ℕ → Result Form AsmFault
-at_turn all k j = constant_course all j k
+abbrev pub at_turn : Symbols → ℕ → ℕ → Result Form AsmFault
+at_turn table k j = constant_course table j k
 
-agrees_meaning : (C : Type 0) (all : List Laid) (states : List State) (k : ℕ) → Fits C (at_turn all k) states → (m : Result Meaning AsmFault) → Agrees C (at_turn all k) (stopped m >>= meaning_form states all) (m >>= form_of_meaning (norm k all (length all)) all)
-agrees_meaning C all states k t (Err z) = inr refl
-agrees_meaning C all states k t (Ok (imported_as i)) = inr refl
-agrees_meaning C all states k t (Ok (defined_at j)) = found_laid C (at_turn all k) states j (norm k all (length all) j) (slice_get all j) t refl
+agrees_meaning : (C : Type 0) (table : Symbols) (known : ℕ → Option State) (k : ℕ) → Fits C (at_turn table k) known → (m : Result Meaning AsmFault) → Agrees C (at_turn table k) (stopped m >>= meaning_form known table) (m >>= form_of_meaning (norm k table) table)
+agrees_meaning C table known k t (Err z) = inr refl
+agrees_meaning C table known k t (Ok (imported_as i)) = inr refl
+agrees_meaning C table known k t (Ok (defined_at j)) = found_definition C (at_turn table k) known j (norm k table) (slice_get table.definitions j) t refl
 
-agrees_tried : (C : Type 0) (all : List Laid) (states : List State) (k : ℕ) → Fits C (at_turn all k) states → (i : ℕ) (s : Spot) (e : Tree) → Agrees C (at_turn all k) (tried states all i s e) (expression_course all i s e (suc k))
-agrees_tried C all states k t i s e =
-    agrees_by C (at_turn all k) (operand_form states all i s) (λ u. meaning_of all (length all) i s u >>= form_of_meaning (norm k all (length all)) all) s
-    (λ u. agrees_meaning C all states k t (meaning_of all (length all) i s u)) e
+agrees_tried : (C : Type 0) (table : Symbols) (known : ℕ → Option State) (k : ℕ) → Fits C (at_turn table k) known → (s : Spot) (e : Tree) → Agrees C (at_turn table k) (tried known table s e) (expression_course table s e (suc k))
+agrees_tried C table known k t s e =
+    agrees_by C (at_turn table k) (operand_form known table s) (λ u. meaning_of table s u >>= form_of_meaning (norm k table) table) s
+    (λ u. agrees_meaning C table known k t (meaning_of table s u)) e
 
-agrees_stated : (C : Type 0) (v : ℕ → Result Form AsmFault) (a : Spot → Tree → Result Form Stop) (b : Spot → Tree → Result Form AsmFault) → ((s : Spot) (e : Tree) → Agrees C v (a s e) (b s e)) → (s : Spot) (x : Stated) → Agrees C v (attempt_stated a s x) (form_of_stated b s x)
-agrees_stated C v a b h s (constant n e) = h s e
-agrees_stated C v a b h s _ = inr refl
+agrees_value : (C : Type 0) (v : ℕ → Result Form AsmFault) (a : Spot → Tree → Result Form Stop) (b : Spot → Tree → Result Form AsmFault) → ((s : Spot) (e : Tree) → Agrees C v (a s e) (b s e)) → (s : Spot) (x : Option Tree) → Agrees C v (attempt_value a s x) (form_of_value b s x)
+agrees_value C v a b h s (Some e) = h s e
+agrees_value C v a b h s _ = inr refl
 
-agrees_laid : (C : Type 0) (v : ℕ → Result Form AsmFault) (a : Spot → Tree → Result Form Stop) (b : Spot → Tree → Result Form AsmFault) → ((s : Spot) (e : Tree) → Agrees C v (a s e) (b s e)) → (o : Option Laid) → Agrees C v (attempt_laid a o) (form_of_laid b o)
-agrees_laid C v a b h None = inr refl
-agrees_laid C v a b h (Some l) = agrees_stated C v a b h l.spot l.stated
+agrees_definition : (C : Type 0) (v : ℕ → Result Form AsmFault) (a : Spot → Tree → Result Form Stop) (b : Spot → Tree → Result Form AsmFault) → ((s : Spot) (e : Tree) → Agrees C v (a s e) (b s e)) → (o : Option Definition) → Agrees C v (attempt_definition a o) (form_of_definition b o)
+agrees_definition C v a b h None = inr refl
+agrees_definition C v a b h (Some l) = agrees_value C v a b h l.spot l.value
 
-agrees_at : (C : Type 0) (all : List Laid) (states : List State) (k : ℕ) → Fits C (at_turn all k) states → (j : ℕ) → Agrees C (at_turn all k) (tried_at states all j) (constant_course all j (suc k))
-agrees_at C all states k t j = agrees_laid C (at_turn all k) (tried states all j) (norm (suc k) all (length all) j) (λ s e. agrees_tried C all states k t j s e) (slice_get all j)
+agrees_at : (C : Type 0) (table : Symbols) (known : ℕ → Option State) (k : ℕ) → Fits C (at_turn table k) known → (j : ℕ) → Agrees C (at_turn table k) (tried_at known table j) (constant_course table j (suc k))
+agrees_at C table known k t j = agrees_definition C (at_turn table k) (tried known table) (norm (suc k) table) (λ s e. agrees_tried C table known k t s e) (slice_get table.definitions j)
 
 -- ---- Which constants are needed.
 
@@ -132,91 +132,91 @@ only_by P a s h (binary op e g) =
     (λ f. only_then P (tried_by a s g) (λ k. stopped (folded (fold2 op f k))) (only_by P a s h g) (λ k. only_stopped P (folded (fold2 op f k))))
 
 -- a constant whose form isn't found
-pub record Lacks (all : List Laid) (states : List State) (j : ℕ) : Type 0 where
-  pub starts : constant_course all j 0 ≡ Err Circular
-  pub inside : (slice_get all j ≡ None) → ⊥
-  pub unfound : (f : Form) → slice_get states j ≡ Some (Found f) → ⊥
+pub record Lacks (table : Symbols) (known : ℕ → Option State) (j : ℕ) : Type 0 where
+  pub starts : constant_course table j 0 ≡ Err Circular
+  pub inside : (slice_get table.definitions j ≡ None) → ⊥
+  pub unfound : (f : Form) → known j ≡ Some (Found f) → ⊥
 
-known_lacks : (states : List State) (j i : ℕ) (o : Option State) → slice_get states j ≡ o → known_form j o ≡ Err (Needs i) → (i ≡ j) × ((f : Form) → slice_get states i ≡ Some (Found f) → ⊥)
-known_lacks states j i None q e = let same : i ≡ j = cc in (same, λ f h. (let at_i : slice_get states i ≡ None = ap (slice_get states) same ∙ q in absurd cc))
-known_lacks states j i (Some Unknown) q e = let same : i ≡ j = cc in (same, λ f h. (let at_i : slice_get states i ≡ Some Unknown = ap (slice_get states) same ∙ q in absurd cc))
-known_lacks states j i (Some Waiting) q e = let same : i ≡ j = cc in (same, λ f h. (let at_i : slice_get states i ≡ Some Waiting = ap (slice_get states) same ∙ q in absurd cc))
-known_lacks states j i (Some (Found g)) q e = absurd cc
+known_lacks : (known : ℕ → Option State) (j i : ℕ) (o : Option State) → known j ≡ o → known_form j o ≡ Err (Needs i) → (i ≡ j) × ((f : Form) → known i ≡ Some (Found f) → ⊥)
+known_lacks known j i None q e = let same : i ≡ j = cc in (same, λ f h. (let at_i : known i ≡ None = ap known same ∙ q in absurd cc))
+known_lacks known j i (Some Unknown) q e = let same : i ≡ j = cc in (same, λ f h. (let at_i : known i ≡ Some Unknown = ap known same ∙ q in absurd cc))
+known_lacks known j i (Some Waiting) q e = let same : i ≡ j = cc in (same, λ f h. (let at_i : known i ≡ Some Waiting = ap known same ∙ q in absurd cc))
+known_lacks known j i (Some (Found g)) q e = absurd cc
 
-lacks_stated : (all : List Laid) (states : List State) (j : ℕ) (l : Laid) (x : Stated) → slice_get all j ≡ Some l → l.stated ≡ x → OnlyNeeds (Lacks all states) (attempt_stated (λ s e. known_form j (slice_get states j)) l.spot x)
-lacks_stated all states j l (constant n t) q w = λ i e.
-    let (same, none) = known_lacks states j i (slice_get states j) refl e in
-    let at_i : slice_get all i ≡ Some l = ap (slice_get all) same ∙ q in
+lacks_value : (table : Symbols) (known : ℕ → Option State) (j : ℕ) (l : Definition) (x : Option Tree) → slice_get table.definitions j ≡ Some l → l.value ≡ x → OnlyNeeds (Lacks table known) (attempt_value (λ s e. known_form j (known j)) l.spot x)
+lacks_value table known j l (Some t) q w = λ i e.
+    let (same, none) = known_lacks known j i (known j) refl e in
+    let at_i : slice_get table.definitions i ≡ Some l = ap (slice_get table.definitions) same ∙ q in
     record {
-      starts = ap (form_of_laid (norm 0 all (length all) i)) at_i ∙ ap (form_of_stated (norm 0 all (length all) i) l.spot) w;
+      starts = ap (form_of_definition (norm 0 table)) at_i ∙ ap (form_of_value (norm 0 table) l.spot) w;
       inside = λ h. absurd cc;
       unfound = none;
     }
-lacks_stated all states j l _ q w = λ i e. absurd cc
+lacks_value table known j l _ q w = λ i e. absurd cc
 
-lacks_laid : (all : List Laid) (states : List State) (j : ℕ) (o : Option Laid) → slice_get all j ≡ o → OnlyNeeds (Lacks all states) (attempt_laid (λ s e. known_form j (slice_get states j)) o)
-lacks_laid all states j None q = λ i e. absurd cc
-lacks_laid all states j (Some l) q = lacks_stated all states j l l.stated q refl
+lacks_definition : (table : Symbols) (known : ℕ → Option State) (j : ℕ) (o : Option Definition) → slice_get table.definitions j ≡ o → OnlyNeeds (Lacks table known) (attempt_definition (λ s e. known_form j (known j)) o)
+lacks_definition table known j None q = λ i e. absurd cc
+lacks_definition table known j (Some l) q = lacks_value table known j l l.value q refl
 
-lacks_meaning : (all : List Laid) (states : List State) (m : Result Meaning AsmFault) → OnlyNeeds (Lacks all states) (stopped m >>= meaning_form states all)
-lacks_meaning all states (Err z) = λ i e. absurd cc
-lacks_meaning all states (Ok (imported_as k)) = λ i e. absurd cc
-lacks_meaning all states (Ok (defined_at j)) = lacks_laid all states j (slice_get all j) refl
+lacks_meaning : (table : Symbols) (known : ℕ → Option State) (m : Result Meaning AsmFault) → OnlyNeeds (Lacks table known) (stopped m >>= meaning_form known table)
+lacks_meaning table known (Err z) = λ i e. absurd cc
+lacks_meaning table known (Ok (imported_as k)) = λ i e. absurd cc
+lacks_meaning table known (Ok (defined_at j)) = lacks_definition table known j (slice_get table.definitions j) refl
 
-lacks_tried : (all : List Laid) (states : List State) (i : ℕ) (s : Spot) (e : Tree) → OnlyNeeds (Lacks all states) (tried states all i s e)
-lacks_tried all states i s e = only_by (Lacks all states) (operand_form states all i s) s (λ u. lacks_meaning all states (meaning_of all (length all) i s u)) e
+lacks_tried : (table : Symbols) (known : ℕ → Option State) (s : Spot) (e : Tree) → OnlyNeeds (Lacks table known) (tried known table s e)
+lacks_tried table known s e = only_by (Lacks table known) (operand_form known table s) s (λ u. lacks_meaning table known (meaning_of table s u)) e
 
-lacks_by_stated : (P : ℕ → Type 0) (a : Spot → Tree → Result Form Stop) → ((s : Spot) (e : Tree) → OnlyNeeds P (a s e)) → (s : Spot) (x : Stated) → OnlyNeeds P (attempt_stated a s x)
-lacks_by_stated P a h s (constant n e) = h s e
-lacks_by_stated P a h s _ = λ j e. absurd cc
+lacks_by_value : (P : ℕ → Type 0) (a : Spot → Tree → Result Form Stop) → ((s : Spot) (e : Tree) → OnlyNeeds P (a s e)) → (s : Spot) (x : Option Tree) → OnlyNeeds P (attempt_value a s x)
+lacks_by_value P a h s (Some e) = h s e
+lacks_by_value P a h s _ = λ j e. absurd cc
 
-lacks_by_laid : (P : ℕ → Type 0) (a : Spot → Tree → Result Form Stop) → ((s : Spot) (e : Tree) → OnlyNeeds P (a s e)) → (o : Option Laid) → OnlyNeeds P (attempt_laid a o)
-lacks_by_laid P a h None = λ j e. absurd cc
-lacks_by_laid P a h (Some l) = lacks_by_stated P a h l.spot l.stated
+lacks_by_definition : (P : ℕ → Type 0) (a : Spot → Tree → Result Form Stop) → ((s : Spot) (e : Tree) → OnlyNeeds P (a s e)) → (o : Option Definition) → OnlyNeeds P (attempt_definition a o)
+lacks_by_definition P a h None = λ j e. absurd cc
+lacks_by_definition P a h (Some l) = lacks_by_value P a h l.spot l.value
 
-lacks_at : (all : List Laid) (states : List State) (j : ℕ) → OnlyNeeds (Lacks all states) (tried_at states all j)
-lacks_at all states j = lacks_by_laid (Lacks all states) (tried states all j) (λ s e. lacks_tried all states j s e) (slice_get all j)
+lacks_at : (table : Symbols) (known : ℕ → Option State) (j : ℕ) → OnlyNeeds (Lacks table known) (tried_at known table j)
+lacks_at table known j = lacks_by_definition (Lacks table known) (tried known table) (λ s e. lacks_tried table known s e) (slice_get table.definitions j)
 
 -- ---- Attempts with a table.
 
 -- what an attempt says of a course
-pub record IsAttempt (c : ℕ) (all : List Laid) (states : List State) (v : Course) (a : Result Form Stop) : Type 0 where
-  pub later : (k : ℕ) → c ≤ k → Agrees ⊥ (at_turn all k) a (v (suc k))
-  pub ever : (k : ℕ) → Agrees ⊤ (at_turn all k) a (v (suc k))
-  pub lacks : OnlyNeeds (Lacks all states) a
+pub record IsAttempt (c : ℕ) (table : Symbols) (known : ℕ → Option State) (v : Course) (a : Result Form Stop) : Type 0 where
+  pub later : (k : ℕ) → c ≤ k → Agrees ⊥ (at_turn table k) a (v (suc k))
+  pub ever : (k : ℕ) → Agrees ⊤ (at_turn table k) a (v (suc k))
+  pub lacks : OnlyNeeds (Lacks table known) a
 
-fits_later : (c : ℕ) (all : List Laid) (states : List State) → FoundBy c all states → (k : ℕ) → c ≤ k → Fits ⊥ (at_turn all k) states
-fits_later c all states h k le = λ j f q. inr (ok_later (constant_course all j) (constant_is all j) c k f le (h j f q))
+fits_later : (c : ℕ) (table : Symbols) (known : ℕ → Option State) → FoundBy c table known → (k : ℕ) → c ≤ k → Fits ⊥ (at_turn table k) known
+fits_later c table known h k le = λ j f q. inr (ok_later (constant_course table j) (constant_is table j) c k f le (h j f q))
 
-fits_ever : (c : ℕ) (all : List Laid) (states : List State) → FoundBy c all states → (k : ℕ) → Fits ⊤ (at_turn all k) states
-fits_ever c all states h k = λ j f q. near (ok_before (constant_course all j) (constant_is all j) k c f (h j f q))
+fits_ever : (c : ℕ) (table : Symbols) (known : ℕ → Option State) → FoundBy c table known → (k : ℕ) → Fits ⊤ (at_turn table k) known
+fits_ever c table known h k = λ j f q. near (ok_before (constant_course table j) (constant_is table j) k c f (h j f q))
   where
     near : {r s : Result Form AsmFault} → Known r s → Near ⊤ r s
     near (inl e) = inl (tt, e)
     near (inr e) = inr e
 
-pub attempt_first : (c : ℕ) (all : List Laid) (states : List State) → FoundBy c all states → (i : ℕ) (s : Spot) (e : Tree) → IsAttempt c all states (expression_course all i s e) (tried states all i s e)
-attempt_first c all states h i s e = record {
-  later = λ k le. agrees_tried ⊥ all states k (fits_later c all states h k le) i s e;
-  ever = λ k. agrees_tried ⊤ all states k (fits_ever c all states h k) i s e;
-  lacks = lacks_tried all states i s e;
+pub attempt_first : (c : ℕ) (table : Symbols) (known : ℕ → Option State) → FoundBy c table known → (s : Spot) (e : Tree) → IsAttempt c table known (expression_course table s e) (tried known table s e)
+attempt_first c table known h s e = record {
+  later = λ k le. agrees_tried ⊥ table known k (fits_later c table known h k le) s e;
+  ever = λ k. agrees_tried ⊤ table known k (fits_ever c table known h k) s e;
+  lacks = lacks_tried table known s e;
 }
 
-pub attempt_at : (c : ℕ) (all : List Laid) (states : List State) → FoundBy c all states → (j : ℕ) → IsAttempt c all states (constant_course all j) (tried_at states all j)
-attempt_at c all states h j = record {
-  later = λ k le. agrees_at ⊥ all states k (fits_later c all states h k le) j;
-  ever = λ k. agrees_at ⊤ all states k (fits_ever c all states h k) j;
-  lacks = lacks_at all states j;
+pub attempt_at : (c : ℕ) (table : Symbols) (known : ℕ → Option State) → FoundBy c table known → (j : ℕ) → IsAttempt c table known (constant_course table j) (tried_at known table j)
+attempt_at c table known h j = record {
+  later = λ k le. agrees_at ⊥ table known k (fits_later c table known h k le) j;
+  ever = λ k. agrees_at ⊤ table known k (fits_ever c table known h k) j;
+  lacks = lacks_at table known j;
 }
 
 -- the course of the last that waits
-abbrev pub last_course : List Laid → Course → List ℕ → Course
-last_course all v [] = v
-last_course all v (w ∷ ws) = last_course all (constant_course all w) ws
+abbrev pub last_course : Symbols → Course → List ℕ → Course
+last_course table v [] = v
+last_course table v (w ∷ ws) = last_course table (constant_course table w) ws
 
-pub attempt_last : (c : ℕ) (all : List Laid) (states : List State) → FoundBy c all states → (v : Course) (a : Result Form Stop) → IsAttempt c all states v a → (ws : List ℕ) → IsAttempt c all states (last_course all v ws) (tried_last states all a ws)
-attempt_last c all states h v a t [] = t
-attempt_last c all states h v a t (w ∷ ws) = attempt_last c all states h (constant_course all w) (tried_at states all w) (attempt_at c all states h w) ws
+pub attempt_last : (c : ℕ) (table : Symbols) (known : ℕ → Option State) → FoundBy c table known → (v : Course) (a : Result Form Stop) → IsAttempt c table known v a → (ws : List ℕ) → IsAttempt c table known (last_course table v ws) (tried_last known table a ws)
+attempt_last c table known h v a t [] = t
+attempt_last c table known h v a t (w ∷ ws) = attempt_last c table known h (constant_course table w) (tried_at known table w) (attempt_at c table known h w) ws
 
 -- ---- Operands.
 

@@ -6,10 +6,10 @@ use Rattle.object65.specs.Form.{Form}
 use Rattle.object65.specs.Folding.{fold1, fold2}
 use Rattle.language65.specs.declared.fault.AsmFault.{AsmFault}
 use Rattle.language65.specs.declared.fault.AsmFault.TheVariants.{Circular}
-use Rattle.language65.specs.Language.{Stated, constant}
-use Rattle.language65.specs.Laid.{Laid, Spot}
+use Rattle.language65.specs.Laid.{Spot}
+use Rattle.language65.specs.Symbols.{Symbols, Definition}
 use Rattle.language65.specs.Names.{Meaning, defined_at, imported_as, meaning_of}
-use Rattle.language65.specs.Norms.{folded, form_by, form_of_stated, form_of_laid, form_of_meaning, norm}
+use Rattle.language65.specs.Norms.{folded, form_by, form_of_value, form_of_definition, form_of_meaning, norm}
 
 -- the second is the first, unless the first is circular
 abbrev pub Known : Result Form AsmFault → Result Form AsmFault → Type 0
@@ -35,27 +35,27 @@ known_form a b s h (binary op e g) =
     known_then (form_by a s e) (form_by b s e) (λ f. form_by a s g >>= (λ k. folded (fold2 op f k))) (λ f. form_by b s g >>= (λ k. folded (fold2 op f k))) (known_form a b s h e)
     (λ f. known_then (form_by a s g) (form_by b s g) (λ k. folded (fold2 op f k)) (λ k. folded (fold2 op f k)) (known_form a b s h g) (λ x. inr refl))
 
-pub known_stated : (a b : Spot → Tree → Result Form AsmFault) → ((s : Spot) (e : Tree) → Known (a s e) (b s e)) → (s : Spot) (x : Stated) → Known (form_of_stated a s x) (form_of_stated b s x)
-known_stated a b h s (constant n e) = h s e
-known_stated a b h s _ = inr refl
+pub known_value : (a b : Spot → Tree → Result Form AsmFault) → ((s : Spot) (e : Tree) → Known (a s e) (b s e)) → (s : Spot) (x : Option Tree) → Known (form_of_value a s x) (form_of_value b s x)
+known_value a b h s (Some e) = h s e
+known_value a b h s _ = inr refl
 
-pub known_laid : (a b : Spot → Tree → Result Form AsmFault) → ((s : Spot) (e : Tree) → Known (a s e) (b s e)) → (o : Option Laid) → Known (form_of_laid a o) (form_of_laid b o)
-known_laid a b h None = inr refl
-known_laid a b h (Some l) = known_stated a b h l.spot l.stated
+pub known_definition : (a b : Spot → Tree → Result Form AsmFault) → ((s : Spot) (e : Tree) → Known (a s e) (b s e)) → (o : Option Definition) → Known (form_of_definition a o) (form_of_definition b o)
+known_definition a b h None = inr refl
+known_definition a b h (Some l) = known_value a b h l.spot l.value
 
-known_meaning : (a b : ℕ → Spot → Tree → Result Form AsmFault) (all : List Laid) → ((j : ℕ) (s : Spot) (e : Tree) → Known (a j s e) (b j s e)) → (m : Meaning) → Known (form_of_meaning a all m) (form_of_meaning b all m)
-known_meaning a b all h (imported_as k) = inr refl
-known_meaning a b all h (defined_at j) = known_laid (a j) (b j) (h j) (slice_get all j)
+known_meaning : (a b : Spot → Tree → Result Form AsmFault) (table : Symbols) → ((s : Spot) (e : Tree) → Known (a s e) (b s e)) → (m : Meaning) → Known (form_of_meaning a table m) (form_of_meaning b table m)
+known_meaning a b table h (imported_as k) = inr refl
+known_meaning a b table h (defined_at j) = known_definition a b h (slice_get table.definitions j)
 
-known_result : (a b : ℕ → Spot → Tree → Result Form AsmFault) (all : List Laid) → ((j : ℕ) (s : Spot) (e : Tree) → Known (a j s e) (b j s e)) → (m : Result Meaning AsmFault) → Known (m >>= form_of_meaning a all) (m >>= form_of_meaning b all)
-known_result a b all h (Ok m) = known_meaning a b all h m
-known_result a b all h (Err z) = inr refl
+known_result : (a b : Spot → Tree → Result Form AsmFault) (table : Symbols) → ((s : Spot) (e : Tree) → Known (a s e) (b s e)) → (m : Result Meaning AsmFault) → Known (m >>= form_of_meaning a table) (m >>= form_of_meaning b table)
+known_result a b table h (Ok m) = known_meaning a b table h m
+known_result a b table h (Err z) = inr refl
 
-pub norm_known : (n : ℕ) (all : List Laid) (p i : ℕ) (s : Spot) (e : Tree) → Known (norm n all p i s e) (norm (suc n) all p i s e)
-norm_known zero all p i s e = inl refl
-norm_known (suc n) all p i s e =
-    known_form (λ t. meaning_of all p i s t >>= form_of_meaning (norm n all p) all) (λ t. meaning_of all p i s t >>= form_of_meaning (norm (suc n) all p) all) s
-    (λ t. known_result (norm n all p) (norm (suc n) all p) all (norm_known n all p) (meaning_of all p i s t)) e
+pub norm_known : (n : ℕ) (table : Symbols) (s : Spot) (e : Tree) → Known (norm n table s e) (norm (suc n) table s e)
+norm_known zero table s e = inl refl
+norm_known (suc n) table s e =
+    known_form (λ t. meaning_of table s t >>= form_of_meaning (norm n table) table) (λ t. meaning_of table s t >>= form_of_meaning (norm (suc n) table) table) s
+    (λ t. known_result (norm n table) (norm (suc n) table) table (norm_known n table) (meaning_of table s t)) e
 
 -- ---- What is said so at more and more turns.
 
@@ -66,18 +66,18 @@ Course = ℕ → Result Form AsmFault
 abbrev pub IsCourse : Course → Type 0
 IsCourse v = (n : ℕ) → Known (v n) (v (suc n))
 
-abbrev pub expression_course : List Laid → ℕ → Spot → Tree → Course
-expression_course all i s e n = norm n all (length all) i s e
+abbrev pub expression_course : Symbols → Spot → Tree → Course
+expression_course table s e n = norm n table s e
 
 -- the course of what the statement at a place defines
-abbrev pub constant_course : List Laid → ℕ → Course
-constant_course all j n = form_of_laid (norm n all (length all) j) (slice_get all j)
+abbrev pub constant_course : Symbols → ℕ → Course
+constant_course table j n = form_of_definition (norm n table) (slice_get table.definitions j)
 
-pub expression_is : (all : List Laid) (i : ℕ) (s : Spot) (e : Tree) → IsCourse (expression_course all i s e)
-expression_is all i s e n = norm_known n all (length all) i s e
+pub expression_is : (table : Symbols) (s : Spot) (e : Tree) → IsCourse (expression_course table s e)
+expression_is table s e n = norm_known n table s e
 
-pub constant_is : (all : List Laid) (j : ℕ) → IsCourse (constant_course all j)
-constant_is all j n = known_laid (norm n all (length all) j) (norm (suc n) all (length all) j) (norm_known n all (length all) j) (slice_get all j)
+pub constant_is : (table : Symbols) (j : ℕ) → IsCourse (constant_course table j)
+constant_is table j n = known_definition (norm n table) (norm (suc n) table) (norm_known n table) (slice_get table.definitions j)
 
 pub further : (v : Course) → IsCourse v → (d k : ℕ) → Known (v k) (v (d + k))
 further v h zero k = let same : zero + k ≡ k = omega arith in rw same (inr refl)

@@ -1,5 +1,7 @@
-pub mod Settling
-pub mod Growing
-pub mod Roots
-pub mod Resolving
+pub mod Finals
 pub mod Knowns
+pub mod Resolving
+pub mod Settling
+pub mod Sources
+pub mod Tables
+pub mod Views

@@ -1,29 +1,31 @@
--- What is settled at a statement's line and kept for later: an instruction's addressing form, and the byte that fills room.
-use Rattle.std.specs.Prelude.{◌≡◌, ℕ, pos, List, take, slice_get, Option, Some, None, ⊤}
-use Rattle.syntax65.specs.Trees.{Tree}
-use Rattle.language65.specs.declared.laid.Laid as code
-use Rattle.language65.specs.declared.laid.Settled.{Settled}
-use Rattle.language65.specs.declared.laid.Settled.TheVariants.{Byte, Form}
-use Rattle.language65.specs.Laid.{Laid, Spot}
-use Rattle.language65.specs.Language.{Stated, instruction, reserve, align}
-use Rattle.language65.specs.Norms.{constant_behind}
-use Rattle.language65.specs.Sizes.{mode_of}
-use Rattle.language65.specs.Views.{all_of, laid_of}
+-- What is known of forms by those that are final.
+use Rattle.std.specs.Prelude.{◌≡◌, ℕ, ◌<◌, length, Option, Some, None, Result, Ok, Err, ⊤}
+use Rattle.syntax65.specs.Outcome.{Unless}
+use Rattle.syntax65.specs.Trees.{Tree, number, here, unary, binary}
+use Rattle.object65.specs.Form.{Form}
+use Rattle.language65.specs.declared.fault.AsmFault.{AsmFault}
+use Rattle.language65.specs.Faults.{is_memory}
+use Rattle.language65.specs.Laid.{Spot}
+use Rattle.language65.specs.Names.{defined_at, meaning_of}
+use Rattle.language65.specs.Symbols.{Symbols}
+use Rattle.symbols65.specs.declared.resolving.attempt.Stop.{Stop}
+use Rattle.symbols65.specs.declared.resolving.attempt.Stop.TheVariants.{Needs, Fault}
+use Rattle.language65.specs.Extending.{Extends}
 
--- the byte of room that has one
-abbrev pub IsFilledBy : List Laid → Spot → Option Tree → Settled → Type 0
-IsFilledBy before s None x = ⊤
-IsFilledBy before s (Some v) x = (b : ℕ) × (constant_behind before s v ≡ Some (pos b)) × (x ≡ Byte b)
+-- what a call answered is so, where it doesn't need another form and memory sufficed
+abbrev pub Settles : Result Form AsmFault → Result Form Stop → Type 0
+Settles r (Ok f) = r ≡ Ok f
+Settles r (Err (Fault z)) = Unless (is_memory z) (r ≡ Err z)
+Settles r (Err (Needs j)) = ⊤
 
-abbrev pub IsSettled : List Laid → Laid → Settled → Type 0
-IsSettled before l x = by l.stated
-  where
-    by : Stated → Type 0
-    by (instruction m operand) = (mode : _) × (mode_of before l.spot l.size m operand ≡ Some mode) × (x ≡ Form mode)
-    by (reserve n v) = IsFilledBy before l.spot v x
-    by (align n v) = IsFilledBy before l.spot v x
-    by _ = ⊤
+-- each operand is such a one
+abbrev pub Operands : (Tree → Type 0) → Tree → Type 0
+Operands P (number v) = ⊤
+Operands P here = ⊤
+Operands P (unary op e) = Operands P e
+Operands P (binary op e g) = Operands P e × Operands P g
+Operands P e = P e
 
--- each of all statements
-abbrev pub AreSettled : List code.Laid → Type 0
-AreSettled xs = (i : ℕ) (x : code.Laid) → slice_get xs i ≡ Some x → IsSettled (take i (all_of xs)) (laid_of x) x.settled
+-- an operand means this definition whatever statements follow
+abbrev pub MeansFinally : Symbols → Spot → Tree → Type 0
+MeansFinally y s e = (j : ℕ) × (j < length y.definitions) × ((z : Symbols) → Extends y z → meaning_of z s e ≡ Ok (defined_at j))

@@ -1,12 +1,13 @@
-//! What names mean and what forms expressions have among the statements of a module, and what is known of them at a
-//! line.
+//! The symbol table of an assembler: what names mean by the statements so far, what forms and sizes expressions have,
+//! and which forms are final, whatever statements follow.
 #![tactic(auto)]
 
 pub mod knowing;
 mod resolving;
+mod table;
 
 pub use resolving::{
-    Known, Meaning, Module, Names, State, cheap_name, defined_outward, find_defined, find_norm,
-    is_blocked, meaning_of, name_of, no_forms, plain_part, root_of, scope_name, scope_of,
-    scopes_in, shown,
+    Known, Meaning, State, defined_norm, definition_of, final_form, meaning_of, norm, scope_of,
+    shown,
 };
+pub use table::{Definition, Entry, Key, Opening, Symbols};

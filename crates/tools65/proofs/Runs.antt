@@ -1,5 +1,5 @@
 -- From the parts of a run to the whole.
-use Rattle.std.proofs.Common.{◌≡◌, ◌∙◌, ◌⊎◌, inl, inr, ℕ, ◌<◌, ◌≤◌, List, [], Bool, true, false, Option, Some, None, Result, Ok, Err, refl, sym, ap, arith, append-nil}
+use Rattle.std.proofs.Common.{◌≡◌, ◌∙◌, ◌⊎◌, inl, inr, ℕ, ◌<◌, ◌≤◌, List, [], Bool, true, false, Option, Some, None, Result, Ok, Err, refl, sym, ap, subst, map, arith, append-nil}
 use Rattle.std.specs.Prelude.{IfSome, IfErr, ◌||◌}
 use Rattle.syntax65.specs.Outcome.{Finds, Gives, Refuses, Unless}
 use Rattle.syntax65.specs.Store.{Files, NoneFailed, HasFailed, PassesBy, last_count}
@@ -10,10 +10,11 @@ use Rattle.tools65.specs.declared.outcome.Status.{Status}
 use Rattle.tools65.specs.declared.outcome.Status.TheVariants.{Failure}
 use Rattle.object65.specs.declared.object.Object.{Object}
 use Rattle.asm65.specs.declared.refusal.AsmRefusal.{AsmRefusal}
-use Rattle.asm65.specs.Assembly.{IsAssembled}
+use Rattle.asm65.specs.Assembly.{IsAssembled, has_failed, in_places, is_outside_refusal, placed_of}
 use Rattle.language65.specs.Faults.{is_memory as is_asm_memory}
-use Rattle.asm65.specs.Refusals.{has_failed, is_outside_refusal}
 use Rattle.tools65.specs.Outputs.{failing}
+use Rattle.module65.specs.Reading.{Define, Job}
+use Rattle.tools65.specs.Assembling.{define_in, job_in}
 use Rattle.tools65.specs.Command.{outcome_of, Assembles, AssemblesWith, Does, DoesLine, Commands, Ran, RanWords, line_memory, refused_with}
 use Rattle.tools65.specs.Leaving.{Prints, SaysBoth, Settles, Performs, StopsShort}
 use Rattle.line65.specs.Line.{Archiving, Assembling, Linking, Says, line_of}
@@ -89,10 +90,10 @@ module _ {A E : Type 0} (is_memory is_failure : E → Bool) (memory : List ℕ) 
       let between = none_before fo fm fn count.later later none in
       (o, found m r o finds (no_failure fo fm r count (did_not_fail fo fm between.0 none.before)) comes, (rw same at performs) between.1)
 
-asm_memory : (a : Assembling) (out err : List ℕ) (e : AsmRefusal) (o : Outcome) → is_asm_memory e.fault ≡ true → o ≡ refused_with a.source out err e → o ≡ failing (memory_line a.source)
+asm_memory : (a : Assembling) (out err : List ℕ) (e : AsmRefusal) (o : Outcome) → is_asm_memory e.fault ≡ true → o ≡ refused_with a.source out err (placed_of e) → o ≡ failing (memory_line a.source)
 asm_memory a out err e o h is = is ∙ by_memory
   where
-    by_memory : refused_with a.source out err e ≡ failing (memory_line a.source)
+    by_memory : refused_with a.source out err (placed_of e) ≡ failing (memory_line a.source)
     by_memory = rw h refl
 
 -- a run that does one thing does another that it is
@@ -100,19 +101,29 @@ ran_as : (does other : Files → Outcome → Type 0) → ((m : Files) (o : Outco
 ran_as does other is memory m new out_old out_new err_old err_new status (o, inl h, p) = (o, inl (is m o h), p)
 ran_as does other is memory m new out_old out_new err_old err_new status (o, inr h, p) = (o, inr h, p)
 
-with_texts : (a : Assembling) (out err : List ℕ) (m : Files) (o : Outcome) → ((r : Result Object AsmRefusal) × IsAssembled m (record { source = a.source }) (record { result = r; out = out; err = err }) × AssemblesWith a out err r o) → Assembles a m o
-with_texts a out err m o h = (record { result = h.0; out = out; err = err }, h.1, h.2)
+with_texts : (a : Assembling) (out err : List ℕ) (m : Files) (o : Outcome) → ((r : Result Object AsmRefusal) × IsAssembled m (job_in a) (record { result = in_places r; out = out; err = err }) × AssemblesWith a out err (in_places r) o) → Assembles a m o
+with_texts a out err m o h = (record { result = in_places h.0; out = out; err = err }, h.1, h.2)
 
-assembled_as : (known new : Option Files) (fo fn : ℕ) (a : Assembling) (out err : List ℕ) (out_old out_new err_old err_new : Option (List ℕ)) (status : Status) → IfSome known (λ m. NoneFailed fo fn → Ran (λ n o. (r : Result Object AsmRefusal) × IsAssembled n (record { source = a.source }) (record { result = r; out = out; err = err }) × AssemblesWith a out err r o) (memory_line a.source) m new out_old out_new err_old err_new status) → IfSome known (λ m. NoneFailed fo fn → Ran (Assembles a) (memory_line a.source) m new out_old out_new err_old err_new status)
+assembled_as : (known new : Option Files) (fo fn : ℕ) (a : Assembling) (out err : List ℕ) (out_old out_new err_old err_new : Option (List ℕ)) (status : Status) → IfSome known (λ m. NoneFailed fo fn → Ran (λ n o. (r : Result Object AsmRefusal) × IsAssembled n (job_in a) (record { result = in_places r; out = out; err = err }) × AssemblesWith a out err (in_places r) o) (memory_line a.source) m new out_old out_new err_old err_new status) → IfSome known (λ m. NoneFailed fo fn → Ran (Assembles a) (memory_line a.source) m new out_old out_new err_old err_new status)
 assembled_as None new fo fn a out err out_old out_new err_old err_new status h = tt
 assembled_as (Some m) new fo fn a out err out_old out_new err_old err_new status h = λ none.
-    ran_as (λ n o. (r : Result Object AsmRefusal) × IsAssembled n (record { source = a.source }) (record { result = r; out = out; err = err }) × AssemblesWith a out err r o) (Assembles a) (with_texts a out err) (memory_line a.source) m new out_old out_new err_old err_new status (h none)
+    ran_as (λ n o. (r : Result Object AsmRefusal) × IsAssembled n (job_in a) (record { result = in_places r; out = out; err = err }) × AssemblesWith a out err (in_places r) o) (Assembles a) (with_texts a out err) (memory_line a.source) m new out_old out_new err_old err_new status (h none)
+
+-- the same job, whose folders and constants are those of a line
+pub as_job : (known : Option Files) (j : Job) (a : Assembling) (out err : List ℕ) (r : Result Object AsmRefusal) → j ≡ job_in a → IfSome known (λ m. Finds is_outside_refusal (λ x. IsAssembled m j (record { result = in_places x; out = out; err = err })) r) → IfSome known (λ m. Finds is_outside_refusal (λ x. IsAssembled m (job_in a) (record { result = in_places x; out = out; err = err })) r)
+as_job known j a out err r same h = subst (λ (k : Job). IfSome known (λ m. Finds is_outside_refusal (λ x. IsAssembled m k (record { result = in_places x; out = out; err = err })) r)) same h
+
+pub same_job : (a : Assembling) (include : List (List ℕ)) (defines : List Define) → include ≡ a.include → defines ≡ map define_in a.defines → record { source = a.source; include = include; defines = defines } ≡ job_in a
+same_job a include defines h k = ap (λ (i : List (List ℕ)). job_with a i defines) h ∙ ap (λ (d : List Define). job_with a a.include d) k
+  where
+    job_with : Assembling → List (List ℕ) → List Define → Job
+    job_with b i d = record { source = b.source; include = i; defines = d }
 
 -- what was assembled is carried out
-pub assembled_run : (known mid new : Option Files) (fo fm fn : ℕ) (a : Assembling) (out err : List ℕ) (r : Result Object AsmRefusal) (o : Outcome) (out_old out_new err_old err_new : Option (List ℕ)) (status : Status) → mid ≡ known → fm ≤ fn → PassesBy has_failed fo fm r → AssemblesWith a out err r o → IfSome known (λ m. Finds is_outside_refusal (λ x. IsAssembled m (record { source = a.source }) (record { result = x; out = out; err = err })) r) → IfSome mid (λ m. NoneFailed fm fn → Performs o m new out_old out_new err_old err_new status ⊎ StopsShort o (memory_line a.source) m new out_old out_new err_old err_new status) → IfSome known (λ m. NoneFailed fo fn → Ran (Assembles a) (memory_line a.source) m new out_old out_new err_old err_new status)
+pub assembled_run : (known mid new : Option Files) (fo fm fn : ℕ) (a : Assembling) (out err : List ℕ) (r : Result Object AsmRefusal) (o : Outcome) (out_old out_new err_old err_new : Option (List ℕ)) (status : Status) → mid ≡ known → fm ≤ fn → PassesBy has_failed fo fm r → AssemblesWith a out err (in_places r) o → IfSome known (λ m. Finds is_outside_refusal (λ x. IsAssembled m (job_in a) (record { result = in_places x; out = out; err = err })) r) → IfSome mid (λ m. NoneFailed fm fn → Performs o m new out_old out_new err_old err_new status ⊎ StopsShort o (memory_line a.source) m new out_old out_new err_old err_new status) → IfSome known (λ m. NoneFailed fo fn → Ran (Assembles a) (memory_line a.source) m new out_old out_new err_old err_new status)
 assembled_run known mid new fo fm fn a out err r o out_old out_new err_old err_new status same later count comes finds performs =
     assembled_as known new fo fn a out err out_old out_new err_old err_new status
-    (computed_run (λ e. is_asm_memory e.fault) has_failed (memory_line a.source) (λ m x. IsAssembled m (record { source = a.source }) (record { result = x; out = out; err = err })) (AssemblesWith a out err) (asm_memory a out err) known mid new fo fm fn r o out_old out_new err_old err_new status same later count comes finds performs)
+    (computed_run (λ e. is_asm_memory e.fault) has_failed (memory_line a.source) (λ m x. IsAssembled m (job_in a) (record { result = in_places x; out = out; err = err })) (λ r o. AssemblesWith a out err (in_places r) o) (asm_memory a out err) known mid new fo fm fn r o out_old out_new err_old err_new status same later count comes finds performs)
 
 link_memory : (l : Linking) (e : Refusal) (o : Outcome) → is_memory e ≡ true → o ≡ outcome_of l (Err e) → o ≡ failing memory_message
 link_memory l e o h is = is ∙ by_memory

@@ -1,10 +1,21 @@
 -- What ca65 names and says.
-use Rattle.std.specs.Prelude.{◌≡◌, ℕ, List, Option, Some, None}
-use Rattle.asm65.specs.declared.refusal.AsmRefusal.{AsmRefusal}
-use Rattle.asm65.specs.declared.refusal.Place.{Place}
+use Rattle.std.specs.Prelude.{◌≡◌, ℕ, nat_eq, List, map, Option, Some, None, if◌then◌else◌}
+use Rattle.expand65.specs.declared.place.Place.{Place}
 use Rattle.language65.specs.Faults.{fault_text}
+use Rattle.line65.specs.Defining.{Defining}
+use Rattle.line65.specs.Line.{Assembling}
 use Rattle.line65.specs.Messages.{file_message, line_message}
+use Rattle.module65.specs.Places.{PlacedFault}
+use Rattle.module65.specs.Reading.{Define, Job}
 use Rattle.tools65.specs.Naming.{IsObjectName}
+
+-- a constant of a line, as the assembler has it
+abbrev pub define_in : Defining → Define
+define_in d = (d.name, d.value)
+
+-- what an assemble line has assembled
+abbrev pub job_in : Assembling → Job
+job_in a = record { source = a.source; include = a.include; defines = map define_in a.defines }
 
 -- the name of the object's file: the one that the line gives, or else the source's with `.o`
 abbrev pub IsOutputName : Option (List ℕ) → List ℕ → List ℕ → Type 0
@@ -12,10 +23,9 @@ IsOutputName None source name = IsObjectName source name
 IsOutputName (Some given) source name = name ≡ given
 
 -- a message at a line, or behind the source's name where no line was read
-abbrev pub said_at : List ℕ → Option Place → List ℕ → List ℕ
-said_at source None words = file_message source words
-said_at source (Some p) words = line_message p.file p.line words
+abbrev pub said_at : List ℕ → Place → List ℕ → List ℕ
+said_at source p words = if nat_eq p.line 0 then file_message source words else line_message p.file p.line words
 
 -- why a source has no object
-abbrev pub asm_message : List ℕ → AsmRefusal → List ℕ
+abbrev pub asm_message : List ℕ → PlacedFault → List ℕ
 asm_message source e = said_at source e.place (fault_text e.fault)

@@ -3,10 +3,11 @@ use Rattle.std.specs.Prelude.{◌≡◌, ℕ, ◌⊎◌, List, [], ◌++◌, Opt
 use Rattle.syntax65.specs.Store.{Files}
 use Rattle.object65.specs.declared.object.Object.{Object}
 use Rattle.object65.specs.Spelling.{object_bytes}
-use Rattle.asm65.specs.declared.refusal.AsmRefusal.{AsmRefusal}
-use Rattle.asm65.specs.Assembly.{Assembled, IsAssembled}
+use Rattle.asm65.specs.Assembly.{IsAssembled}
 use Rattle.language65.specs.Faults.{is_memory}
-use Rattle.tools65.specs.Assembling.{IsOutputName, asm_message}
+use Rattle.module65.specs.Module as asm
+use Rattle.module65.specs.Places.{PlacedFault}
+use Rattle.tools65.specs.Assembling.{IsOutputName, asm_message, job_in}
 use Rattle.line65.specs.declared.fault.LineFault.{LineFault}
 use Rattle.linkage65.specs.declared.linked.Linked.{Linked}
 use Rattle.ld65.specs.declared.refusal.Refusal.{Refusal}
@@ -31,23 +32,23 @@ abbrev pub Does : Linking → Files → Outcome → Type 0
 Does l m o = (r : Result Linked Refusal) × IsLinked m l r × (o ≡ outcome_of l r)
 
 -- what assembling comes to without an object: what was said, and why; or only that memory ran out
-abbrev pub refused_with : List ℕ → List ℕ → List ℕ → AsmRefusal → Outcome
+abbrev pub refused_with : List ℕ → List ℕ → List ℕ → PlacedFault → Outcome
 refused_with source out err e =
     if is_memory e.fault then failing (memory_line source)
     else record { out = out; err = err ++ asm_message source e; outputs = []; status = Failure }
 
 -- what assembling comes to: the object's file, or why there is none, behind what was said
-abbrev pub AssemblesWith : Assembling → List ℕ → List ℕ → Result Object AsmRefusal → Outcome → Type 0
+abbrev pub AssemblesWith : Assembling → List ℕ → List ℕ → Result Object PlacedFault → Outcome → Type 0
 AssemblesWith a out err (Ok object) o =
     (name : List ℕ) × IsOutputName a.output a.source name × (o ≡ record { out = out; err = err; outputs = outputs_of name (object_bytes object); status = Success })
 AssemblesWith a out err (Err e) o = o ≡ refused_with a.source out err e
 
-abbrev pub AssemblesTo : Assembling → Assembled → Outcome → Type 0
+abbrev pub AssemblesTo : Assembling → asm.Outcome → Outcome → Type 0
 AssemblesTo a x o = AssemblesWith a x.out x.err x.result o
 
 -- what an assemble line does with these files
 abbrev pub Assembles : Assembling → Files → Outcome → Type 0
-Assembles a m o = (x : Assembled) × IsAssembled m (record { source = a.source }) x × AssemblesTo a x o
+Assembles a m o = (x : asm.Outcome) × IsAssembled m (job_in a) x × AssemblesTo a x o
 
 -- A run has the outcome that the files give, or only says that memory ran out; it carries that out, or memory ran
 -- out while it wrote the files.

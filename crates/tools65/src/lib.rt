@@ -13,7 +13,9 @@ mod writing;
 
 pub use disk_store::DiskStore;
 pub use ld65::OutputFile;
-pub use line65::{ArchiveLine, AssembleLine, Line, LineFault, LinkLine, Operation, read_line};
+pub use line65::{
+    ArchiveLine, AssembleLine, Define, Line, LineFault, LinkLine, Operation, read_line,
+};
 pub use outcome::{Outcome, Status};
 pub use printing::print;
 pub use running::{run, run_line};

@@ -9,6 +9,7 @@ ghost use Rattle.tools65.specs.Command.{outcome_of, Ran, Assembles, Does, DoesLi
 ghost use Rattle.ld65.specs.Refusals.{memory_message};
 
 use crate::archiving::archive_outcome;
+use crate::assembling::job::{defines_of, folders_of};
 use crate::assembling::outcome::asm_outcome;
 use crate::outcome::{Outcome, Status};
 use crate::outputs::with_map;
@@ -83,13 +84,20 @@ fn run_assemble<S: Store, W: Write, E: Write>(
     ensures later { S.failures store.old ≤ S.failures store.new }
     ensures rose { S.failures store.old < S.failures store.new → result ≡ Status.Failure }
 {
-    let assembly = assemble(
-        alloc,
-        store,
-        &AsmJob {
-            source: line.source,
-        },
-    );
+    let Ok(include) = folders_of(alloc, line.include.as_slice()) else {
+        say_memory(err, line.source);
+        return Status::Failure;
+    };
+    let Ok(defines) = defines_of(alloc, line.defines.as_slice()) else {
+        say_memory(err, line.source);
+        return Status::Failure;
+    };
+    let job = AsmJob {
+        source: line.source,
+        include: include.as_slice(),
+        defines: defines.as_slice(),
+    };
+    let assembly = assemble(alloc, store, &job);
     match asm_outcome(alloc, line, assembly) {
         Ok(outcome) => perform(&outcome, store, out, err, line.source),
         Err(_) => {

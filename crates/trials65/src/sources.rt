@@ -1,9 +1,11 @@
 //! Sources and what becomes of them: the worked ones, and what no source shows. All others are cases for the real program.
 
+mod rewritten;
 mod stores;
 
 use asm65::{AsmJob, AsmRefusal, assemble};
-use language65::{AsmFault, SourceFault};
+use expand65::ExpandFault;
+use language65::AsmFault;
 use object65::write_object;
 use std::alloc::{AllocError, Global};
 use std::test::Fail;
@@ -13,13 +15,20 @@ use syntax65::{LexFault, MemStore};
 fn in_words(alloc: Global, refusal: &AsmRefusal) -> Result<String, AllocError> {
     let fault = refusal.fault.to_string(alloc)?;
     let fault = fault.as_str();
-    match &refusal.place {
-        Some(place) => {
-            let file = place.file.as_str();
-            let line = place.line;
-            format!(in alloc; "{file}:{line}: {fault}")
-        }
-        None => String::from_str(alloc, fault),
+    if refusal.line == 0 {
+        return String::from_str(alloc, fault);
+    }
+    let file = refusal.file.as_str();
+    let line = refusal.line;
+    format!(in alloc; "{file}:{line}: {fault}")
+}
+
+/// The source `b.s` alone.
+fn alone() -> AsmJob<'static> {
+    AsmJob {
+        source: "b.s",
+        include: &[],
+        defines: &[],
     }
 }
 
@@ -27,7 +36,12 @@ fn in_words(alloc: Global, refusal: &AsmRefusal) -> Result<String, AllocError> {
 fn answer(alloc: Global, source: &[u8]) -> Result<Vec<u8>, Fail> {
     let mut store = MemStore::new(alloc);
     store.put("b.s", source)?;
-    let assembled = assemble(alloc, &mut store, &AsmJob { source: "b.s" }).result;
+    answer_in(alloc, &mut store, &alone())
+}
+
+/// The bytes of the object of a source, or where it is refused and why.
+fn answer_in(alloc: Global, store: &mut MemStore, job: &AsmJob<'_>) -> Result<Vec<u8>, Fail> {
+    let assembled = assemble(alloc, store, job).result;
     match assembled {
         Ok(object) => {
             let mut out = Vec::new(alloc);
@@ -194,7 +208,7 @@ fn scopes(rt: HostRuntime) -> Result<(), Fail> {
 fn texts(rt: HostRuntime) -> Result<(), Fail> {
     let mut store = MemStore::new(rt.alloc());
     store.put("b.s", b".out \"x\"\n.warning \"w\"\nnop")?;
-    let said = assemble(rt.alloc(), &mut store, &AsmJob { source: "b.s" });
+    let said = assemble(rt.alloc(), &mut store, &alone());
     assert!(rt; said.out.as_slice() == b"x\n".as_slice());
     assert!(rt; said.err.as_slice() == b"b.s:2: Warning: w\n".as_slice());
     Ok(())
@@ -202,8 +216,8 @@ fn texts(rt: HostRuntime) -> Result<(), Fail> {
 
 #[test]
 fn words_of_faults(rt: HostRuntime) {
-    let fault = AsmFault::Source(SourceFault::Lex(LexFault::BadNumber));
-    assert!(rt; fault.words() == "bad number" && fault.name().is_empty() && !fault.is_memory());
-    assert!(rt; SourceFault::TooLong.words() == "file too long");
-    assert!(rt; SourceFault::OutOfMemory.is_memory());
+    let fault = AsmFault::Expansion(ExpandFault::Syntax(LexFault::BadNumber));
+    assert!(rt; fault.words().is_empty() && fault.name() == b"bad number".as_slice());
+    assert!(rt; !fault.is_memory());
+    assert!(rt; AsmFault::Expansion(ExpandFault::OutOfMemory).is_memory());
 }

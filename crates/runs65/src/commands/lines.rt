@@ -36,6 +36,48 @@ fn reads_lines(rt: HostRuntime) -> Result<(), Fail> {
 }
 
 #[test]
+fn reads_folders_and_constants(rt: HostRuntime) -> Result<(), Fail> {
+    let words = [
+        "bin65", "ca65", "-Ia", "-D", "one=$fF", "-I", "b/c", "-Dtwo", "-g", "-D", "one=%11", "a.s",
+    ];
+    let Ok(Line::Assemble(line)) = read_line(rt.alloc(), words.as_slice()) else {
+        return Err(Fail::from("no line of ca65"));
+    };
+    assert!(rt; line.include.as_slice() == ["a", "b/c"].as_slice());
+    let [first, second, third] = line.defines.as_slice() else {
+        return Err(Fail::from("not three constants"));
+    };
+    assert!(rt; first.name == b"one".as_slice() && first.value == 255);
+    assert!(rt; second.name == b"two".as_slice() && second.value == 0);
+    assert!(rt; third.name == b"one".as_slice() && third.value == 3);
+    Ok(())
+}
+
+#[test]
+fn refuses_what_is_no_constant(rt: HostRuntime) -> Result<(), Fail> {
+    let defines = [
+        "",
+        "=1",
+        "1a",
+        "a",
+        "LDA",
+        "n.m",
+        "n=",
+        "n=ffh",
+        "n=4294967296",
+        "n=1=2",
+        "n=-1",
+        "n= 1",
+    ];
+    for define in defines {
+        let words = ["bin65", "ca65", "-D", define, "a.s"];
+        let refused = read_line(rt.alloc(), words.as_slice());
+        assert!(rt; matches!(refused, Err(LineFault::BadArguments)));
+    }
+    Ok(())
+}
+
+#[test]
 fn refuses_a_line_without_a_script(rt: HostRuntime) -> Result<(), Fail> {
     let mut store = files(rt.alloc(), &O1, S1)?;
     let ran = run_on(rt.alloc(), &mut store, &["bin65", "ld65", "a.o"]);
@@ -52,6 +94,8 @@ fn runs_lines(rt: HostRuntime) -> Result<(), Fail> {
     let mut err = Vec::new(rt.alloc());
     let line = Line::Assemble(AssembleLine {
         output: Some("b.o"),
+        include: Sequence::new(rt.alloc()),
+        defines: Sequence::new(rt.alloc()),
         source: "a.s",
     });
     let status = run_line(rt.alloc(), &line, &mut store, &mut out, &mut err);

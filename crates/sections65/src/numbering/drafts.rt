@@ -1,14 +1,17 @@
-//! The sections of an object, filled statement by statement.
+//! The sections of an object, filled entry by entry.
 
 ghost use Rattle.std.specs.Prelude.{◌≡◌, ◌+◌, ◌++◌, ◌∷◌, [], Some, map, nat_eq, IfOk, OnOk};
 ghost use Rattle.std.specs.List.{AllByRecursion, IsDistinct};
 ghost use Rattle.object65.specs.declared.object.Fragment.TheVariants.{Fill, Literal};
-ghost use Rattle.sections65.specs.Drafts.{begun, new_draft, section_from, DraftFits, with_content, with_contents, with_fragment, with_parts};
-ghost use Rattle.language65.specs.Numbering.{fragment_of, segment_name, segment_power};
+ghost use Rattle.sections65.specs.Drafts.{begun, new_draft, DraftFits, with_content, with_contents, with_fragment};
+ghost use Rattle.language65.specs.Contents.{put};
+ghost use Rattle.sections65.specs.Fed.{content_of};
+ghost use Rattle.language65.specs.Numbering.{fragment_of};
 
 use super::numbers::{Numbers, numbered};
-use language65::{Content, Part, Segment};
-use object65::{Fragment, Section};
+use crate::entries::{Entry, sum_of};
+use language65::Part;
+use object65::Fragment;
 use std::alloc::{AllocError, Global};
 use std::mem;
 use syntax65::Sequence;
@@ -22,13 +25,6 @@ pub struct Draft {
     pub last: Option<Fragment>,
 }
 
-/// A copy of bytes.
-pub fn copy_of(alloc: Global, bytes: &[u8]) -> Result<Sequence<u8>, AllocError>
-    ensures { IfOk result (λ s. s ≡ bytes.now) }
-{
-    Ok(Sequence::from_vec(Vec::from_slice(alloc, bytes)?))
-}
-
 /// Puts a fragment behind the others.
 fn begin(draft: &mut Draft, fragment: Fragment) -> Result<(), AllocError>
     ensures { OnOk result (draft.new ≡ begun draft.old fragment) }
@@ -40,26 +36,16 @@ fn begin(draft: &mut Draft, fragment: Fragment) -> Result<(), AllocError>
 }
 
 /// Adds bytes.
-fn add_bytes(alloc: Global, draft: &mut Draft, bytes: &[u8]) -> Result<(), AllocError>
-    ensures { OnOk result (draft.new ≡ with_fragment draft.old (Literal bytes.now)) }
+fn add_bytes(draft: &mut Draft, bytes: Sequence<u8>) -> Result<(), AllocError>
+    ensures { OnOk result (draft.new ≡ with_fragment draft.old (Literal bytes)) }
 {
-    if bytes.is_empty() {
+    if bytes.len() == 0 {
         return Ok(());
     }
     if let Some(Fragment::Literal(literal)) = &mut draft.last {
-        return literal.extend_from_slice(bytes);
+        return literal.extend_from_slice(bytes.as_slice());
     }
-    begin(draft, Fragment::Literal(copy_of(alloc, bytes)?))
-}
-
-/// Two numbers of bytes as one. No section has more than 32 bits hold.
-fn sum_of(left: u32, right: u32) -> Result<u32, AllocError>
-    ensures { IfOk result (λ n. n ≡ left + right) }
-{
-    match left.checked_add(right) {
-        Some(count) => Ok(count),
-        None => Err(AllocError),
-    }
+    begin(draft, Fragment::Literal(bytes))
 }
 
 /// Adds so many bytes of the linker's fill value.
@@ -82,60 +68,62 @@ fn add_part(
     alloc: Global,
     numbers: &Numbers,
     draft: &mut Draft,
-    part: &Part,
+    part: Part,
 ) -> Result<(), AllocError>
-    ensures added { OnOk result (draft.new ≡ with_fragment draft.old (fragment_of numbers.now.sections.keys numbers.now.imports.keys part.now)) }
+    ensures added { OnOk result (draft.new ≡ with_fragment draft.old
+        (fragment_of numbers.now.sections.keys numbers.now.imports.keys part)) }
     ensures fits { OnOk result (DraftFits draft.old → DraftFits draft.new) }
 {
     match part {
-        Part::Known(bytes) => add_bytes(alloc, draft, bytes.as_slice()),
-        Part::Filled(count) => add_fill(draft, *count),
+        Part::Known(bytes) => add_bytes(draft, bytes),
+        Part::Filled(count) => add_fill(draft, count),
         Part::Waiting { width, line, form } => {
-            let form = numbered(alloc, numbers, form)?;
-            begin(
-                draft,
-                Fragment::Value {
-                    width: *width,
-                    line: *line,
-                    form,
-                },
-            )
+            let form = numbered(alloc, numbers, &form)?;
+            begin(draft, Fragment::Value { width, line, form })
         }
     }
 }
 
-/// Adds parts.
-fn add_parts(
+/// Adds a part to the section of a segment, if there is one.
+fn add_to(
     alloc: Global,
     numbers: &Numbers,
-    draft: &mut Draft,
-    parts: &[Part],
+    drafts: &mut Vec<Draft>,
+    segment: u32,
+    part: Part,
 ) -> Result<(), AllocError>
-    ensures added { OnOk result (draft.new ≡ with_parts numbers.now.sections.keys numbers.now.imports.keys draft.old parts.now) }
-    ensures fits { OnOk result (DraftFits draft.old → DraftFits draft.new) }
+    requires keys { map (λ d. d.segment) drafts.old.items ≡ numbers.now.sections.keys }
+    requires distinct { IsDistinct nat_eq numbers.now.sections.keys }
+    ensures added { OnOk result (drafts.new.items ≡ map (with_content numbers.now.sections.keys
+        numbers.now.imports.keys (put segment part)) drafts.old.items) }
+    ensures fits { OnOk result (AllByRecursion DraftFits drafts.old.items →
+        AllByRecursion DraftFits drafts.new.items) }
 {
-    for part in parts {
+    if let Some(place) = numbers.sections.get_index_of(&segment) {
+        let draft = &mut drafts[place];
         add_part(alloc, numbers, draft, part)?;
     }
     Ok(())
 }
 
-/// Adds what a statement puts into the section of its segment, if there is one.
-fn add_content(
+/// Adds what an entry puts into the section of its segment.
+fn add_entry(
     alloc: Global,
     numbers: &Numbers,
     drafts: &mut Vec<Draft>,
-    content: &Content,
+    entry: Entry,
 ) -> Result<(), AllocError>
     requires keys { map (λ d. d.segment) drafts.old.items ≡ numbers.now.sections.keys }
     requires distinct { IsDistinct nat_eq numbers.now.sections.keys }
-    ensures added { OnOk result (drafts.new.items ≡ map (with_content numbers.now.sections.keys numbers.now.imports.keys content.now) drafts.old.items) }
-    ensures fits { OnOk result (AllByRecursion DraftFits drafts.old.items → AllByRecursion DraftFits drafts.new.items) }
+    ensures added { OnOk result (drafts.new.items ≡ map (with_content numbers.now.sections.keys
+        numbers.now.imports.keys (content_of entry)) drafts.old.items) }
+    ensures fits { OnOk result (AllByRecursion DraftFits drafts.old.items →
+        AllByRecursion DraftFits drafts.new.items) }
 {
-    if let Some(place) = numbers.sections.get_index_of(&content.segment) {
-        let draft = &mut drafts[place];
-        add_parts(alloc, numbers, draft, content.parts.as_slice())?;
-    }
+    let Some((segment, part)) = entry.into_part() else {
+        return Ok(());
+    };
+    add_to(alloc, numbers, drafts, segment, part)?;
     Ok(())
 }
 
@@ -154,19 +142,21 @@ fn new_drafts(alloc: Global, keys: &[u32]) -> Result<Vec<Draft>, AllocError>
     Ok(drafts)
 }
 
-/// The sections in the making behind all statements.
+/// The sections in the making behind all entries.
 pub fn filled(
     alloc: Global,
     numbers: &Numbers,
-    contents: &[Content],
+    entries: Vec<Entry>,
 ) -> Result<Vec<Draft>, AllocError>
     requires { IsDistinct nat_eq numbers.now.sections.keys }
-    ensures filled { IfOk result (λ drafts. drafts.items ≡ with_contents numbers.now.sections.keys numbers.now.imports.keys contents.now (map new_draft numbers.now.sections.keys)) }
+    ensures filled { IfOk result (λ drafts. drafts.items ≡ with_contents numbers.now.sections.keys
+        numbers.now.imports.keys (map content_of entries.items)
+        (map new_draft numbers.now.sections.keys)) }
     ensures fits { IfOk result (λ drafts. AllByRecursion DraftFits drafts.items) }
 {
     let mut drafts = new_drafts(alloc, numbers.sections.as_slice())?;
-    for content in contents {
-        add_content(alloc, numbers, &mut drafts, content)?;
+    for entry in entries {
+        add_entry(alloc, numbers, &mut drafts, entry)?;
     }
     Ok(drafts)
 }

@@ -1,14 +1,15 @@
 //! The exports of an object, each once, and its assertions.
 
-ghost use Rattle.std.specs.Prelude.{◌≡◌, ◌++◌, ◌∷◌, [], filter_map, IfOk, OnOk};
+ghost use Rattle.std.specs.Prelude.{◌≡◌, ◌++◌, ◌∷◌, [], filter_map, map, IfOk, OnOk};
 ghost use Rattle.std.specs.List.{AllByRecursion};
 ghost use Rattle.sections65.specs.Drafts.{AreNamed, AssertFits, ExportFits};
+ghost use Rattle.sections65.specs.Fed.{content_of};
 ghost use Rattle.language65.specs.Numbering.{all_said, assert_of, exports_among};
 
-use super::drafts::copy_of;
 use super::numbers::{Numbers, numbered};
+use crate::entries::{Entry, copy_of};
 use indexmap::IndexSet;
-use language65::{Content, Said};
+use language65::Said;
 use object65::{Assert, Export};
 use std::alloc::{AllocError, Global};
 use syntax65::Sequence;
@@ -27,8 +28,10 @@ fn add_assert(
     asserts: &mut Sequence<Assert>,
     said: &Said,
 ) -> Result<(), AllocError>
-    ensures added { OnOk result (asserts.new ≡ asserts.old ++ filter_map (assert_of numbers.now.sections.keys numbers.now.imports.keys) (said.now ∷ [])) }
-    ensures fits { OnOk result (AllByRecursion AssertFits asserts.old → AllByRecursion AssertFits asserts.new) }
+    ensures added { OnOk result (asserts.new ≡ asserts.old ++ filter_map
+        (assert_of numbers.now.sections.keys numbers.now.imports.keys) (said.now ∷ [])) }
+    ensures fits { OnOk result (AllByRecursion AssertFits asserts.old →
+        AllByRecursion AssertFits asserts.new) }
 {
     if let Said::Checked {
         action,
@@ -54,8 +57,10 @@ fn add_asserts(
     asserts: &mut Sequence<Assert>,
     said: &[Said],
 ) -> Result<(), AllocError>
-    ensures added { OnOk result (asserts.new ≡ asserts.old ++ filter_map (assert_of numbers.now.sections.keys numbers.now.imports.keys) said.now) }
-    ensures fits { OnOk result (AllByRecursion AssertFits asserts.old → AllByRecursion AssertFits asserts.new) }
+    ensures added { OnOk result (asserts.new ≡ asserts.old ++ filter_map
+        (assert_of numbers.now.sections.keys numbers.now.imports.keys) said.now) }
+    ensures fits { OnOk result (AllByRecursion AssertFits asserts.old →
+        AllByRecursion AssertFits asserts.new) }
 {
     for saying in said {
         add_assert(alloc, numbers, asserts, saying)?;
@@ -63,18 +68,29 @@ fn add_asserts(
     Ok(())
 }
 
+/// What an entry says.
+fn said_in<'a>(entry: &'a Entry) -> &'a [Said]
+    ensures { result.now ≡ (content_of entry.entry.now).said }
+{
+    match entry {
+        Entry::Told(said) => said.as_slice(),
+        Entry::Put { .. } | Entry::Open => &[],
+    }
+}
+
 /// The assertions of a module.
 pub fn asserts_of(
     alloc: Global,
     numbers: &Numbers,
-    contents: &[Content],
+    entries: &[Entry],
 ) -> Result<Sequence<Assert>, AllocError>
-    ensures asserts { IfOk result (λ asserts. asserts ≡ filter_map (assert_of numbers.now.sections.keys numbers.now.imports.keys) (all_said contents.now)) }
+    ensures asserts { IfOk result (λ asserts. asserts ≡ filter_map (assert_of numbers.now.sections.keys
+        numbers.now.imports.keys) (all_said (map content_of entries.now))) }
     ensures fits { IfOk result (λ asserts. AllByRecursion AssertFits asserts) }
 {
     let mut asserts = Sequence::new(alloc);
-    for content in contents {
-        add_asserts(alloc, numbers, &mut asserts, content.said.as_slice())?;
+    for entry in entries {
+        add_asserts(alloc, numbers, &mut asserts, said_in(entry))?;
     }
     Ok(asserts)
 }
@@ -87,8 +103,10 @@ fn add_export<'a>(
     said: &'a Said,
 ) -> Result<(), AllocError>
     requires { AreNamed exports.old }
-    ensures added { OnOk result (exports.new.all ≡ exports_among numbers.now.sections.keys numbers.now.imports.keys exports.old.all (said.entry.now ∷ [])) }
-    ensures fits { OnOk result (AllByRecursion ExportFits exports.old.all → AllByRecursion ExportFits exports.new.all) }
+    ensures added { OnOk result (exports.new.all ≡ exports_among numbers.now.sections.keys
+        numbers.now.imports.keys exports.old.all (said.entry.now ∷ [])) }
+    ensures fits { OnOk result (AllByRecursion ExportFits exports.old.all →
+        AllByRecursion ExportFits exports.new.all) }
     ensures named { OnOk result (AreNamed exports.new) }
 {
     if let Said::Exported { name, line, form } = said {
@@ -111,8 +129,10 @@ fn add_exports<'a>(
     said: &'a [Said],
 ) -> Result<(), AllocError>
     requires { AreNamed exports.old }
-    ensures added { OnOk result (exports.new.all ≡ exports_among numbers.now.sections.keys numbers.now.imports.keys exports.old.all said.entry.now) }
-    ensures fits { OnOk result (AllByRecursion ExportFits exports.old.all → AllByRecursion ExportFits exports.new.all) }
+    ensures added { OnOk result (exports.new.all ≡ exports_among numbers.now.sections.keys
+        numbers.now.imports.keys exports.old.all said.entry.now) }
+    ensures fits { OnOk result (AllByRecursion ExportFits exports.old.all →
+        AllByRecursion ExportFits exports.new.all) }
     ensures named { OnOk result (AreNamed exports.new) }
 {
     for saying in said {
@@ -125,17 +145,18 @@ fn add_exports<'a>(
 pub fn exports_of(
     alloc: Global,
     numbers: &Numbers,
-    contents: &[Content],
+    entries: &[Entry],
 ) -> Result<Sequence<Export>, AllocError>
-    ensures exports { IfOk result (λ exports. exports ≡ exports_among numbers.now.sections.keys numbers.now.imports.keys [] (all_said contents.now)) }
+    ensures exports { IfOk result (λ exports. exports ≡ exports_among numbers.now.sections.keys
+        numbers.now.imports.keys [] (all_said (map content_of entries.now))) }
     ensures fits { IfOk result (λ exports. AllByRecursion ExportFits exports) }
 {
     let mut exports = Exports {
         all: Sequence::new(alloc),
         names: IndexSet::new(alloc),
     };
-    for content in contents {
-        add_exports(alloc, numbers, &mut exports, content.said.as_slice())?;
+    for entry in entries {
+        add_exports(alloc, numbers, &mut exports, said_in(entry))?;
     }
     let Exports { all, names: _ } = exports;
     Ok(all)

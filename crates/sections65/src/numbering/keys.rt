@@ -1,30 +1,19 @@
-//! The keys of the sections and imports that an object has, in the order of their numbers.
+//! The keys of the imports that an object has, in the order of their numbers.
 
-ghost use Rattle.std.specs.Prelude.{◌≡◌, nat_eq, IfOk, OnOk};
+ghost use Rattle.std.specs.Prelude.{◌≡◌, map, nat_eq, IfOk, OnOk};
 ghost use Rattle.std.specs.List.{flat_map};
 ghost use Rattle.indexmap.specs.IndexSet.{IsUnique};
 ghost use Rattle.sections65.specs.Drafts.{IsTable};
-ghost use Rattle.language65.specs.Numbering.{content_imports, import_keys, imports_in, key_of, once, optional_key, part_imports, said_imports, section_keys};
+ghost use Rattle.sections65.specs.Fed.{content_of};
+ghost use Rattle.language65.specs.Numbering.{content_imports, import_keys, imports_in, key_of, once, optional_key, part_imports, said_imports};
 
 use super::names::ImportTable;
+use crate::entries::Entry;
 use indexmap::IndexSet;
-use language65::{Content, Part, Said};
+use language65::{Part, Said};
 use object65::{Node, Norm};
 use std::alloc::{AllocError, Global};
 use syntax65::Sequence;
-
-/// The segments that have a section.
-pub fn section_keys(alloc: Global, contents: &[Content]) -> Result<IndexSet<u32>, AllocError>
-    ensures keys { IfOk result (λ s. s.keys ≡ section_keys contents.now) }
-{
-    let mut keys = IndexSet::new(alloc);
-    for content in contents {
-        if content.asks {
-            keys.insert(content.segment)?;
-        }
-    }
-    Ok(keys)
-}
 
 /// Adds the imports that a form holds.
 #[tactic(auto, using(crate::proofs::Keys::once_append))]
@@ -57,16 +46,6 @@ fn add_part(keys: &mut IndexSet<u32>, part: &Part) -> Result<(), AllocError>
             form,
         } => add_form(keys, form),
     }
-}
-
-/// Adds the imports of parts.
-fn add_parts(keys: &mut IndexSet<u32>, parts: &[Part]) -> Result<(), AllocError>
-    ensures { OnOk result (keys.new.keys ≡ once keys.old.keys (flat_map part_imports parts.now)) }
-{
-    for part in parts {
-        add_part(keys, part)?;
-    }
-    Ok(())
 }
 
 /// Adds the import of a name, if there is one.
@@ -124,32 +103,35 @@ fn add_said(
     Ok(())
 }
 
-/// Adds the imports of a statement.
-#[tactic(auto, using(crate::proofs::Keys::once_append))]
-fn add_content(
+/// Adds the imports of an entry.
+fn add_entry(
     keys: &mut IndexSet<u32>,
     names: &ImportTable<'_>,
-    content: &Content,
+    entry: &Entry,
 ) -> Result<(), AllocError>
     requires { IsTable names.now }
-    ensures { OnOk result (keys.new.keys ≡ once keys.old.keys (content_imports names.now.all.now content.now)) }
+    ensures { OnOk result (keys.new.keys
+        ≡ once keys.old.keys (content_imports names.now.all.now (content_of entry.now))) }
 {
-    add_parts(keys, content.parts.as_slice())?;
-    add_said(keys, names, content.said.as_slice())
+    match entry {
+        Entry::Put { segment: _, part } => add_part(keys, part),
+        Entry::Told(said) => add_said(keys, names, said.as_slice()),
+        Entry::Open => Ok(()),
+    }
 }
 
 /// The imports that the object has.
 pub fn import_keys(
     alloc: Global,
     names: &[Sequence<u8>],
-    contents: &[Content],
+    entries: &[Entry],
 ) -> Result<IndexSet<u32>, AllocError>
-    ensures { IfOk result (λ s. s.keys ≡ import_keys names.now contents.now) }
+    ensures { IfOk result (λ s. s.keys ≡ import_keys names.now (map content_of entries.now)) }
 {
     let table = ImportTable::of(alloc, names)?;
     let mut keys = IndexSet::new(alloc);
-    for content in contents {
-        add_content(&mut keys, &table, content)?;
+    for entry in entries {
+        add_entry(&mut keys, &table, entry)?;
     }
     Ok(keys)
 }

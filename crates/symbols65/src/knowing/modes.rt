@@ -1,12 +1,14 @@
 //! The addressing forms of instructions.
 
 ghost use Rattle.std.specs.Prelude.{◌≡◌, IfOk, OnOk};
-ghost use Rattle.symbols65.specs.Resolving.{IsModule, IsTable};
 ghost use Rattle.language65.specs.Sizes.{address_mode, branch_mode, first_of, is_branch, mode_for, mode_of};
-ghost use Rattle.language65.specs.Views.{all_of, operand_of, spot_of};
+ghost use Rattle.language65.specs.Views.{operand_of, spot_of};
+ghost use Rattle.symbols65.specs.Resolving.{IsTable};
+ghost use Rattle.symbols65.specs.Views.{table_of};
 
 use super::sizes::size;
-use crate::resolving::{Known, Module};
+use crate::resolving::Known;
+use crate::table::Symbols;
 use language65::{Index, Operand, Spot};
 use std::alloc::{AllocError, Global};
 use syntax65::{AddressSize, Mnemonic, Mode, opcode};
@@ -71,20 +73,19 @@ fn address_mode(
     }
 }
 
-/// The addressing form of an instruction behind the statements so far, if it has that form.
+/// The addressing form of an instruction by a symbol table, if it has that form.
 pub fn mode(
     alloc: Global,
-    whole: &Module<'_>,
+    symbols: &Symbols,
     known: &mut Known,
     spot: Spot,
     own: AddressSize,
     mnemonic: Mnemonic,
     operand: &Operand,
 ) -> Result<Option<Mode>, AllocError>
-    requires names { IsModule whole.now }
-    requires table { IsTable (all_of whole.now.statements.now) known.old.states.items }
-    ensures mode { IfOk result (λ m. m ≡ mode_of (all_of whole.now.statements.now) (spot_of spot) own mnemonic (operand_of operand.now)) }
-    ensures table { OnOk result (IsTable (all_of whole.now.statements.now) known.new.states.items) }
+    requires { IsTable (table_of symbols.now) known.old.states.items }
+    ensures mode { IfOk result (λ m. m ≡ mode_of (table_of symbols.now) (spot_of spot) own mnemonic (operand_of operand.now)) }
+    ensures table { OnOk result (IsTable (table_of symbols.now) known.new.states.items) }
 {
     match operand {
         Operand::Absent => Ok(first_of(mnemonic, Mode::Implied, Mode::Accumulator)),
@@ -100,7 +101,7 @@ pub fn mode(
             }
             let size = match prefix {
                 Some(forced) => *forced,
-                None => size(alloc, whole, known, spot, own, value)?,
+                None => size(alloc, symbols, known, spot, own, value)?,
             };
             Ok(address_mode(mnemonic, *prefix, size, *index))
         }

@@ -1,14 +1,16 @@
 //! The sizes of expressions.
 
-ghost use Rattle.std.specs.Prelude.{◌≡◌, IfOk, Ok, OnOk, [], length, slice_get};
+ghost use Rattle.std.specs.Prelude.{◌≡◌, IfOk, Ok, OnOk, slice_get};
 ghost use Rattle.syntax65.specs.Trees.{tree_of};
-ghost use Rattle.language65.specs.Names.{imported_names, meaning_of};
-ghost use Rattle.symbols65.specs.Resolving.{IsModule, IsTable, meaning_in};
-ghost use Rattle.language65.specs.Sizes.{is_byte, larger, size_of, size_of_import, size_of_laid, size_of_meaning, size_of_value, takes_byte};
-ghost use Rattle.language65.specs.Views.{all_of, spot_of};
+ghost use Rattle.language65.specs.Names.{meaning_of};
+ghost use Rattle.language65.specs.Sizes.{is_byte, larger, size_defined, size_of, size_of_import, size_of_meaning, size_of_value, takes_byte};
+ghost use Rattle.language65.specs.Views.{spot_of};
+ghost use Rattle.symbols65.specs.Resolving.{IsTable, meaning_in};
+ghost use Rattle.symbols65.specs.Views.{table_of};
 
 use super::constants::constant;
-use crate::resolving::{Known, Meaning, Module, meaning_of};
+use crate::resolving::{Known, Meaning, meaning_of};
+use crate::table::Symbols;
 use language65::Spot;
 use std::alloc::{AllocError, Global};
 use syntax65::{AddressSize, Expr, Op1};
@@ -46,49 +48,46 @@ fn takes_byte(op: Op1) -> bool
     matches!(op, Op1::LowByte | Op1::HighByte | Op1::BankByte)
 }
 
-/// The size of what the statement at a place defines.
-fn size_at(whole: &Module<'_>, place: usize) -> AddressSize
-    ensures { result ≡ size_of_laid (slice_get (all_of whole.now.statements.now) place) }
+/// The size of what is defined at a place.
+fn size_at(symbols: &Symbols, place: usize) -> AddressSize
+    ensures { result ≡ size_defined (slice_get (table_of symbols.now).definitions place) }
 {
-    match whole.statements.get(place) {
-        Some(laid) => laid.size,
+    match symbols.definition(place) {
+        Some(definition) => definition.size,
         None => AddressSize::Absolute,
     }
 }
 
 /// The size of an import, by its place among the imports.
-fn size_of_import(whole: &Module<'_>, key: usize) -> AddressSize
-    requires { IsModule whole.now }
-    ensures { result ≡ size_of_import (all_of whole.now.statements.now) (slice_get (imported_names [] (all_of whole.now.statements.now)) key) }
+fn size_of_import(symbols: &Symbols, key: usize) -> AddressSize
+    ensures { result ≡ size_of_import (table_of symbols.now) (slice_get (table_of symbols.now).imports key) }
 {
-    match whole.names.import_at(key) {
-        Some(name) if whole.names.is_zero_page(name) => AddressSize::ZeroPage,
+    match symbols.import_at(key) {
+        Some(name) if symbols.is_zero_page(name) => AddressSize::ZeroPage,
         _ => AddressSize::Absolute,
     }
 }
 
-fn size_of_meaning(whole: &Module<'_>, meaning: Meaning) -> AddressSize
-    requires { IsModule whole.now }
-    ensures { result ≡ size_of_meaning (all_of whole.now.statements.now) (Ok (meaning_in meaning)) }
+fn size_of_meaning(symbols: &Symbols, meaning: Meaning) -> AddressSize
+    ensures { result ≡ size_of_meaning (table_of symbols.now) (Ok (meaning_in meaning)) }
 {
     match meaning {
-        Meaning::Defined(place) => size_at(whole, place),
-        Meaning::Imported(key) => size_of_import(whole, key),
+        Meaning::Defined(place) => size_at(symbols, place),
+        Meaning::Imported(key) => size_of_import(symbols, key),
     }
 }
 
-/// The size of what an operand means behind the statements so far.
+/// The size of what an operand means by a symbol table.
 fn size_of_operand(
     alloc: Global,
-    whole: &Module<'_>,
+    symbols: &Symbols,
     spot: Spot,
     operand: &Expr,
 ) -> Result<AddressSize, AllocError>
-    requires { IsModule whole.now }
-    ensures { IfOk result (λ s. s ≡ size_of_meaning (all_of whole.now.statements.now) (meaning_of (all_of whole.now.statements.now) (length (all_of whole.now.statements.now)) (length (all_of whole.now.statements.now)) (spot_of spot) (tree_of operand.now))) }
+    ensures { IfOk result (λ s. s ≡ size_of_meaning (table_of symbols.now) (meaning_of (table_of symbols.now) (spot_of spot) (tree_of operand.now))) }
 {
-    match meaning_of(alloc, whole, whole.statements.len(), spot, operand) {
-        Ok(meaning) => Ok(size_of_meaning(whole, meaning)),
+    match meaning_of(alloc, symbols, spot, operand) {
+        Ok(meaning) => Ok(size_of_meaning(symbols, meaning)),
         Err(fault) => {
             if fault.is_memory() {
                 return Err(AllocError);
@@ -99,21 +98,20 @@ fn size_of_operand(
     }
 }
 
-/// The size of an expression behind the statements so far, where the segment has this size.
+/// The size of an expression by a symbol table, where the segment has this size.
 pub fn size(
     alloc: Global,
-    whole: &Module<'_>,
+    symbols: &Symbols,
     known: &mut Known,
     spot: Spot,
     own: AddressSize,
     value: &Expr,
 ) -> Result<AddressSize, AllocError>
-    requires names { IsModule whole.now }
-    requires table { IsTable (all_of whole.now.statements.now) known.old.states.items }
-    ensures size { IfOk result (λ s. s ≡ size_of (all_of whole.now.statements.now) (spot_of spot) own (tree_of value.now)) }
-    ensures table { OnOk result (IsTable (all_of whole.now.statements.now) known.new.states.items) }
+    requires { IsTable (table_of symbols.now) known.old.states.items }
+    ensures size { IfOk result (λ s. s ≡ size_of (table_of symbols.now) (spot_of spot) own (tree_of value.now)) }
+    ensures table { OnOk result (IsTable (table_of symbols.now) known.new.states.items) }
 {
-    if let Some(value) = constant(alloc, whole, known, spot, value)? {
+    if let Some(value) = constant(alloc, symbols, known, spot, value)? {
         return Ok(size_of_value(value));
     }
     match value {
@@ -123,16 +121,16 @@ pub fn size(
             if takes_byte(*op) {
                 Ok(AddressSize::ZeroPage)
             } else {
-                size(alloc, whole, known, spot, own, part)
+                size(alloc, symbols, known, spot, own, part)
             }
         }
         Expr::Binary(_, left, right) => {
-            let left = size(alloc, whole, known, spot, own, left)?;
-            let right = size(alloc, whole, known, spot, own, right)?;
+            let left = size(alloc, symbols, known, spot, own, left)?;
+            let right = size(alloc, symbols, known, spot, own, right)?;
             Ok(larger(left, right))
         }
         Expr::Name(_) | Expr::Cheap(_) | Expr::Forward(_) | Expr::Backward(_) => {
-            size_of_operand(alloc, whole, spot, value)
+            size_of_operand(alloc, symbols, spot, value)
         }
     }
 }

@@ -1,17 +1,22 @@
 //! Attempts at the form of an expression, with no more than the forms that are found so far.
 
-ghost use Rattle.std.specs.Prelude.{◌≡◌, IfOk, slice_get};
+ghost use Rattle.std.specs.Prelude.{◌≡◌, slice_get};
+ghost use Rattle.std.specs.Option.{option_map};
 ghost use Rattle.syntax65.specs.Outcome.{Gives};
 ghost use Rattle.syntax65.specs.Trees.{tree_of};
 ghost use Rattle.object65.specs.Folding.{fold1, fold2};
-ghost use Rattle.symbols65.specs.declared.resolving.attempt.Stop.TheVariants.{Fault};
 ghost use Rattle.language65.specs.declared.fault.AsmFault.TheVariants.{OutOfMemory};
 ghost use Rattle.language65.specs.Norms.{address_of, folded};
-ghost use Rattle.symbols65.specs.Resolving.{IsModule, attempt_laid, known_form, lacks_memory, meaning_form, meaning_in, operand_form, stopped, tried, tried_at, tried_last};
-ghost use Rattle.language65.specs.Views.{all_of, spot_of};
+ghost use Rattle.language65.specs.Views.{spot_of};
+ghost use Rattle.symbols65.specs.declared.resolving.attempt.Stop.TheVariants.{Fault};
+ghost use Rattle.symbols65.specs.declared.resolving.attempt.State.TheVariants.{Found};
+ghost use Rattle.symbols65.specs.Resolving.{attempt_definition, known_form, lacks_memory, meaning_form, meaning_in, operand_form, stopped, tried, tried_at, tried_last};
+ghost use Rattle.symbols65.specs.Sources.{known_by};
+ghost use Rattle.symbols65.specs.Views.{table_of};
 
-use super::meaning::{Meaning, Module, meaning_of};
-use language65::{AsmFault, Laid, Spot, Statement};
+use super::meaning::{Meaning, meaning_of};
+use crate::table::Symbols;
+use language65::{AsmFault, Spot};
 use object65::{FormFault, Node, Norm};
 use std::alloc::{AllocError, Global};
 use syntax65::{Expr, Op1, Op2};
@@ -25,10 +30,19 @@ pub enum State {
     Found(Norm),
 }
 
+/// By what the forms of constants are known.
+#[derive(Clone, Copy, Drop)]
+pub enum Source<'a> {
+    /// By the final forms that are kept with definitions.
+    Finals,
+    /// By a table of forms that were found.
+    Table(&'a [State]),
+}
+
 /// Why an attempt stops.
 #[derive(Debug, Drop)]
 pub enum Stop {
-    /// The form of the constant at this place isn't found yet.
+    /// The form of the constant at this place isn't known.
     Needs(usize),
     Fault(AsmFault),
 }
@@ -80,7 +94,7 @@ fn fold_binary(alloc: Global, op: Op2, left: Norm, right: Norm) -> Result<Norm, 
     }
 }
 
-/// The form of the constant at a place, if it is found.
+/// The form of the constant at a place, if a table has it.
 fn found_form(alloc: Global, states: &[State], place: usize) -> Result<Norm, Stop>
     ensures { Gives lacks_memory (λ f. f) result (known_form place (slice_get states.now place)) }
 {
@@ -90,25 +104,43 @@ fn found_form(alloc: Global, states: &[State], place: usize) -> Result<Norm, Sto
     }
 }
 
-/// The form of what the statement at a place defines.
-fn defined(alloc: Global, all: &[Laid], states: &[State], place: usize) -> Result<Norm, Stop>
-    ensures { Gives lacks_memory (λ f. f) result (attempt_laid (λ s e. known_form place (slice_get states.now place)) (slice_get (all_of all.now) place)) }
+/// The form that is kept with the definition at a place, if there is one.
+fn kept_form(alloc: Global, place: usize, kept: &Option<Norm>) -> Result<Norm, Stop>
+    ensures { Gives lacks_memory (λ f. f) result (known_form place (option_map Found kept.now)) }
 {
-    match all.get(place) {
+    match kept {
+        Some(form) => Ok(Norm::copy_of(alloc, form)?),
+        None => Err(Stop::Needs(place)),
+    }
+}
+
+/// The form of what is defined at a place.
+fn defined(alloc: Global, symbols: &Symbols, source: Source<'_>, place: usize) -> Result<Norm, Stop>
+    ensures { Gives lacks_memory (λ f. f) result (attempt_definition (λ s e. known_form place (known_by symbols.now source.entry place)) (slice_get (table_of symbols.now).definitions place)) }
+{
+    match symbols.definition(place) {
         None => Err(Stop::Fault(AsmFault::NoSuchLabel)),
-        Some(laid) => match &laid.statement {
-            Statement::Constant { name: _, value: _ } => found_form(alloc, states, place),
-            _ => Ok(address(laid.spot)),
+        Some(definition) => match &definition.value {
+            None => Ok(address(definition.spot)),
+            Some(_) => match source {
+                Source::Finals => kept_form(alloc, place, &definition.form),
+                Source::Table(states) => found_form(alloc, states, place),
+            },
         },
     }
 }
 
 /// The form of what a name means.
-fn meant(alloc: Global, all: &[Laid], states: &[State], meaning: Meaning) -> Result<Norm, Stop>
-    ensures { Gives lacks_memory (λ f. f) result (meaning_form states.now (all_of all.now) (meaning_in meaning)) }
+fn meant(
+    alloc: Global,
+    symbols: &Symbols,
+    source: Source<'_>,
+    meaning: Meaning,
+) -> Result<Norm, Stop>
+    ensures { Gives lacks_memory (λ f. f) result (meaning_form (known_by symbols.now source.entry) (table_of symbols.now) (meaning_in meaning)) }
 {
     match meaning {
-        Meaning::Defined(place) => defined(alloc, all, states, place),
+        Meaning::Defined(place) => defined(alloc, symbols, source, place),
         // No memory holds more imports than have a number.
         Meaning::Imported(key) => match u32::try_from(key) {
             Ok(key) => Ok(Norm::new(Node::Imp(key))),
@@ -120,61 +152,54 @@ fn meant(alloc: Global, all: &[Laid], states: &[State], meaning: Meaning) -> Res
 /// The form of an operand that isn't a number.
 fn operand_norm(
     alloc: Global,
-    whole: &Module<'_>,
-    states: &[State],
-    place: usize,
+    symbols: &Symbols,
+    source: Source<'_>,
     spot: Spot,
     operand: &Expr,
 ) -> Result<Norm, Stop>
-    requires { IsModule whole.now }
-    ensures { Gives lacks_memory (λ f. f) result (operand_form states.now (all_of whole.now.statements.now) place (spot_of spot) (tree_of operand.now)) }
+    ensures { Gives lacks_memory (λ f. f) result (operand_form (known_by symbols.now source.entry) (table_of symbols.now) (spot_of spot) (tree_of operand.now)) }
 {
-    let meaning = meaning_of(alloc, whole, place, spot, operand)?;
-    meant(alloc, whole.statements, states, meaning)
+    let meaning = meaning_of(alloc, symbols, spot, operand)?;
+    meant(alloc, symbols, source, meaning)
 }
 
-/// The form of an expression at a place.
+/// The form of an expression where it stands.
 pub fn try_norm(
     alloc: Global,
-    whole: &Module<'_>,
-    states: &[State],
-    place: usize,
+    symbols: &Symbols,
+    source: Source<'_>,
     spot: Spot,
     value: &Expr,
 ) -> Result<Norm, Stop>
-    requires { IsModule whole.now }
-    ensures { Gives lacks_memory (λ f. f) result (tried states.now (all_of whole.now.statements.now) place (spot_of spot) (tree_of value.now)) }
+    ensures { Gives lacks_memory (λ f. f) result (tried (known_by symbols.now source.entry) (table_of symbols.now) (spot_of spot) (tree_of value.now)) }
 {
     match value {
         Expr::Number(number) => Ok(Norm::new(Node::Lit(i64::from(*number)))),
         Expr::Here => Ok(address(spot)),
         Expr::Prefix(op, part) => {
-            let part = try_norm(alloc, whole, states, place, spot, part)?;
+            let part = try_norm(alloc, symbols, source, spot, part)?;
             fold_prefix(alloc, *op, part)
         }
         Expr::Binary(op, left, right) => {
-            let left = try_norm(alloc, whole, states, place, spot, left)?;
-            let right = try_norm(alloc, whole, states, place, spot, right)?;
+            let left = try_norm(alloc, symbols, source, spot, left)?;
+            let right = try_norm(alloc, symbols, source, spot, right)?;
             fold_binary(alloc, *op, left, right)
         }
         Expr::Name(_) | Expr::Cheap(_) | Expr::Forward(_) | Expr::Backward(_) => {
-            operand_norm(alloc, whole, states, place, spot, value)
+            operand_norm(alloc, symbols, source, spot, value)
         }
     }
 }
 
-/// The form of what the statement at a place defines.
-fn try_at(alloc: Global, whole: &Module<'_>, states: &[State], place: usize) -> Result<Norm, Stop>
-    requires { IsModule whole.now }
-    ensures { Gives lacks_memory (λ f. f) result (tried_at states.now (all_of whole.now.statements.now) place) }
+/// The form of what is defined at a place, by its own expression.
+fn try_at(alloc: Global, symbols: &Symbols, source: Source<'_>, place: usize) -> Result<Norm, Stop>
+    ensures { Gives lacks_memory (λ f. f) result (tried_at (known_by symbols.now source.entry) (table_of symbols.now) place) }
 {
-    match whole.statements.get(place) {
+    match symbols.definition(place) {
         None => Err(Stop::Fault(AsmFault::NoSuchLabel)),
-        Some(laid) => match &laid.statement {
-            Statement::Constant { name: _, value } => {
-                try_norm(alloc, whole, states, place, laid.spot, value)
-            }
-            _ => Ok(address(laid.spot)),
+        Some(definition) => match &definition.value {
+            None => Ok(address(definition.spot)),
+            Some(value) => try_norm(alloc, symbols, source, definition.spot, value),
         },
     }
 }
@@ -182,18 +207,17 @@ fn try_at(alloc: Global, whole: &Module<'_>, states: &[State], place: usize) -> 
 /// The attempt at the last of the constants that wait, or, if none does, at the expression itself.
 pub fn try_last(
     alloc: Global,
-    whole: &Module<'_>,
+    symbols: &Symbols,
     states: &[State],
-    place: usize,
     spot: Spot,
     value: &Expr,
     waiting: &[usize],
 ) -> Result<Norm, Stop>
-    requires { IsModule whole.now }
-    ensures { Gives lacks_memory (λ f. f) result (tried_last states.now (all_of whole.now.statements.now) (tried states.now (all_of whole.now.statements.now) place (spot_of spot) (tree_of value.now)) waiting.now) }
+    ensures { Gives lacks_memory (λ f. f) result (tried_last (slice_get states.now) (table_of symbols.now) (tried (slice_get states.now) (table_of symbols.now) (spot_of spot) (tree_of value.now)) waiting.now) }
 {
+    let source = Source::Table(states);
     match waiting.last() {
-        None => try_norm(alloc, whole, states, place, spot, value),
-        Some(last) => try_at(alloc, whole, states, *last),
+        None => try_norm(alloc, symbols, source, spot, value),
+        Some(last) => try_at(alloc, symbols, source, *last),
     }
 }

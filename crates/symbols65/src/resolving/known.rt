@@ -1,20 +1,18 @@
-//! Forms of constants that stay found while statements are laid.
+//! Forms of constants that were found by a symbol table.
 
-ghost use Rattle.std.specs.Prelude.{◌++◌, ◌∷◌, ◌<◌, ◌≡◌, List, OnOk, Some, [], length, ℕ, slice_get, slice_set};
+ghost use Rattle.std.specs.Prelude.{◌+◌, ◌<◌, ◌≡◌, IfOk, OnOk, replicate, Some, [], length, ℕ, slice_get, slice_set};
 ghost use Rattle.syntax65.specs.Outcome.{Finds, Gives};
 ghost use Rattle.syntax65.specs.Trees.{tree_of};
 ghost use Rattle.language65.specs.Faults.{is_memory};
 ghost use Rattle.symbols65.specs.declared.resolving.attempt.State.TheVariants.{Unknown, Waiting, Found};
-ghost use Rattle.symbols65.specs.Growing.{AreNested, HidesNothing, hides};
 ghost use Rattle.symbols65.specs.Knowns.{AreNoted, without};
-ghost use Rattle.language65.specs.Laid.{Laid};
 ghost use Rattle.language65.specs.Norms.{norm_of};
-ghost use Rattle.symbols65.specs.Resolving.{IsModule, IsTable};
-ghost use Rattle.language65.specs.Views.{all_of, spot_of};
+ghost use Rattle.symbols65.specs.Resolving.{IsTable, is_unknown};
+ghost use Rattle.language65.specs.Views.{spot_of};
+ghost use Rattle.symbols65.specs.Views.{Table, nothing_defined, table_of};
 
 use super::attempt::{State, Stop, try_last};
-use super::finding::is_unknown;
-use super::meaning::Module;
+use crate::table::Symbols;
 use language65::{AsmFault, Spot};
 use object65::Norm;
 use std::alloc::{AllocError, Global};
@@ -29,9 +27,9 @@ pub struct Known {
 }
 
 impl Known {
-    /// The table for no statement.
+    /// The table for no definition.
     pub fn new(alloc: Global) -> Self
-        ensures { IsTable [] result.states.items }
+        ensures { IsTable nothing_defined result.states.items }
     {
         Known {
             states: Vec::new(alloc),
@@ -39,44 +37,34 @@ impl Known {
         }
     }
 
-    /// The table for one more statement, behind all others, of which nothing is known. What is known stays so unless
-    /// the statement hides what a name meant.
-    pub fn push(&mut self) -> Result<(), AllocError>
-        ensures states { OnOk result (self.new.states.items ≡ self.old.states.items ++ Unknown ∷ []) }
-        ensures table { OnOk result ((all : List Laid) (l : Laid) → AreNested all → HidesNothing all l → IsTable all self.old.states.items → IsTable (all ++ l ∷ []) self.new.states.items) }
+    /// The table for the definitions of a symbol table, of which nothing is known.
+    pub fn unknown(alloc: Global, symbols: &Symbols) -> Result<Self, AllocError>
+        ensures { IfOk result (λ k. IsTable (table_of symbols.now) k.states.items) }
+    {
+        let count = symbols.definitions.len();
+        Ok(Known {
+            states: unknown_states(alloc, count)?,
+            noted: Vec::new(alloc),
+        })
+    }
+
+    /// The table for one more definition, of which nothing is known. What is known of the others is forgotten.
+    pub fn grow(&mut self) -> Result<(), AllocError>
+        requires { (j : ℕ) → slice_get self.old.states.items j ≡ Some Waiting → ⊥ }
+        ensures { OnOk result ((y : Table) → length y.definitions ≡ length self.old.states.items + 1 → IsTable y self.new.states.items) }
     {
         self.states.push(State::Unknown)?;
+        self.forget();
         Ok(())
     }
 
-    /// The table for one more statement, behind all others. It is hiding if the name that it defines means something
-    /// there already.
-    pub fn grow(&mut self, is_hiding: bool) -> Result<(), AllocError>
-        requires { (j : ℕ) → slice_get self.old.states.items j ≡ Some Waiting → ⊥ }
-        ensures { OnOk result ((all : List Laid) (l : Laid) → AreNested all → hides all l ≡ is_hiding → IsTable all self.old.states.items → IsTable (all ++ l ∷ []) self.new.states.items) }
-    {
-        self.push()?;
-        if is_hiding {
-            self.forget();
-        }
-        Ok(())
-    }
-
-    /// Forgets what is known: the table for any statements, as many as before.
+    /// Forgets what is known: the table for any definitions, as many as before.
     pub fn forget(&mut self)
         requires { (j : ℕ) → slice_get self.old.states.items j ≡ Some Waiting → ⊥ }
         ensures long { length self.new.states.items ≡ length self.old.states.items }
-        ensures table { (all : List Laid) → length self.old.states.items ≡ length all → IsTable all self.new.states.items }
+        ensures table { (y : Table) → length self.old.states.items ≡ length y.definitions → IsTable y self.new.states.items }
     {
         forget_noted(&mut self.states, &mut self.noted);
-    }
-
-    /// The table alone.
-    pub fn into_states(self) -> Vec<State>
-        ensures { result.items ≡ self.states.items }
-    {
-        let Known { states, noted: _ } = self;
-        states
     }
 
     /// The constant at a place waits for others.
@@ -104,24 +92,22 @@ impl Known {
         lose_all(&mut self.states, waiting);
     }
 
-    /// The normal form of an expression at a place among all statements. The forms of constants that are found on the
-    /// way stay, and after a fault no constant waits.
+    /// The normal form of an expression. The forms of constants that are found on the way stay, and after a fault no
+    /// constant waits.
     pub fn find(
         &mut self,
         alloc: Global,
-        whole: &Module<'_>,
-        place: usize,
+        symbols: &Symbols,
         spot: Spot,
         value: &Expr,
     ) -> Result<Norm, AsmFault>
-        requires names { IsModule whole.now }
-        requires table { IsTable (all_of whole.now.statements.now) self.old.states.items }
-        ensures form { Gives is_memory (λ f. f) result (norm_of (all_of whole.now.statements.now) place (spot_of spot) (tree_of value.now)) }
-        ensures table { Finds is_memory (λ _. IsTable (all_of whole.now.statements.now) self.new.states.items) result }
+        requires table { IsTable (table_of symbols.now) self.old.states.items }
+        ensures form { Gives is_memory (λ f. f) result (norm_of (table_of symbols.now) (spot_of spot) (tree_of value.now)) }
+        ensures table { Finds is_memory (λ _. IsTable (table_of symbols.now) self.new.states.items) result }
     {
         let mut waiting: Vec<usize> = Vec::new(alloc);
         'find: loop {
-            let attempt = try_last(alloc, whole, &self.states, place, spot, value, &waiting);
+            let attempt = try_last(alloc, symbols, &self.states, spot, value, &waiting);
             match attempt {
                 Ok(form) => match waiting.pop() {
                     None => return Ok(form),
@@ -142,6 +128,24 @@ impl Known {
             }
         }
     }
+}
+
+/// So many constants of which nothing is known.
+fn unknown_states(alloc: Global, count: usize) -> Result<Vec<State>, AllocError>
+    ensures { IfOk result (λ states. states.items ≡ replicate count Unknown) }
+{
+    let mut states = Vec::with_capacity(alloc, count)?;
+    for _ in 0..count {
+        states.push(State::Unknown)?;
+    }
+    Ok(states)
+}
+
+/// Whether nothing is known of the form of the constant at a place.
+fn is_unknown(states: &[State], place: usize) -> bool
+    ensures { result ≡ is_unknown (slice_get states.now place) }
+{
+    matches!(states.get(place), Some(State::Unknown))
 }
 
 /// Forgets what is known at a place, if there is one.

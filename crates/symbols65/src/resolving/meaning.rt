@@ -1,61 +1,54 @@
 //! What operands mean.
 
-ghost use Rattle.std.specs.Prelude.{◌≡◌, ◌+◌, ◌-◌, Some, length, take};
+ghost use Rattle.std.specs.Prelude.{◌≡◌, ◌+◌, ◌-◌, ◌^◌, ◌≤◌, IfNone, IfSome, Some};
 ghost use Rattle.std.specs.Option.{option_map};
 ghost use Rattle.syntax65.specs.Outcome.{Gives};
 ghost use Rattle.syntax65.specs.Trees.{tree_of};
 ghost use Rattle.language65.specs.declared.fault.AsmFault.{AsmFault};
 ghost use Rattle.language65.specs.declared.fault.AsmFault.TheVariants.{NoSuchLabel, Undefined};
 ghost use Rattle.language65.specs.Faults.{is_memory};
-ghost use Rattle.language65.specs.Names.{backward_meaning, cheap_meaning, import_key, last_of, meaning_of, member_meaning, or_fault, plain_meaning, scoped_meaning, scopes_of, unnamed_meaning};
-ghost use Rattle.symbols65.specs.Resolving.{IsModule, meaning_in, name_meaning, or_absent, plain_part};
-ghost use Rattle.language65.specs.Views.{all_of, spot_of};
+ghost use Rattle.language65.specs.Names.{backward_meaning, cheap_meaning, last_of, meaning_of, member_meaning, or_fault, plain_meaning, scoped_meaning, scopes_of, unnamed_meaning};
+ghost use Rattle.language65.specs.Symbols.{imported};
+ghost use Rattle.language65.specs.Views.{spot_of};
+ghost use Rattle.symbols65.specs.Resolving.{meaning_in, name_meaning, or_absent, plain_part};
+ghost use Rattle.symbols65.specs.Views.{table_of};
 
-use super::names::Names;
 use super::scopes::{defined_outward, scope_of};
 use super::showing::shown;
-use language65::{AsmFault, Laid, Spot};
+use crate::table::{Key, Symbols};
+use language65::{AsmFault, Spot};
 use std::alloc::Global;
 use syntax65::{Expr, Name, Sequence};
 
 /// What a name means.
 #[derive(Clone, Copy, Debug, PartialEq, Eq)]
 pub enum Meaning {
-    /// What the statement at this place defines.
+    /// The definition at this place.
     Defined(usize),
     /// An import, by its place among the imports in the order in which they were first named.
     Imported(usize),
 }
 
-/// All statements of a module, with their names.
-#[derive(Drop)]
-pub struct Module<'a> {
-    pub statements: &'a [Laid],
-    pub names: &'a Names,
-}
-
 /// What is defined at a place, or imported by a name where nothing is.
-fn defined_or_imported(whole: &Module<'_>, defined: Option<usize>, name: &[u8]) -> Option<Meaning>
-    requires { IsModule whole.now }
-    ensures { (fault : AsmFault) → or_fault fault defined (import_key (all_of whole.now.statements.now) name.now) ≡ or_absent fault result }
+fn defined_or_imported(symbols: &Symbols, defined: Option<usize>, name: &[u8]) -> Option<Meaning>
+    ensures { (fault : AsmFault) → or_fault fault defined (imported (table_of symbols.now) name.now) ≡ or_absent fault result }
 {
     if let Some(place) = defined {
         return Some(Meaning::Defined(place));
     }
-    match whole.names.import_of(name) {
+    match symbols.imported(name) {
         Some(key) => Some(Meaning::Imported(key)),
         None => None,
     }
 }
 
 /// What a name means in one scope.
-fn member(whole: &Module<'_>, scope: usize, name: &[u8]) -> Option<Meaning>
-    requires { IsModule whole.now }
-    ensures { (absent lost : AsmFault) → member_meaning (all_of whole.now.statements.now) name.now absent lost (Some scope) ≡ or_absent absent result }
+fn member(symbols: &Symbols, scope: usize, name: &[u8]) -> Option<Meaning>
+    ensures { (absent lost : AsmFault) → member_meaning (table_of symbols.now) name.now absent lost (Some scope) ≡ or_absent absent result }
 {
-    let defined = whole.names.definition(scope, name);
+    let defined = symbols.defined(Key::Named { scope, name });
     if scope == 0 {
-        return defined_or_imported(whole, defined, name);
+        return defined_or_imported(symbols, defined, name);
     }
     match defined {
         Some(place) => Some(Meaning::Defined(place)),
@@ -89,35 +82,34 @@ fn named(alloc: Global, meaning: Option<Meaning>, name: &[u8]) -> Result<Meaning
 /// What a plain name means: what the innermost scope that defines it says, from the use outward.
 fn plain_meaning(
     alloc: Global,
-    whole: &Module<'_>,
+    symbols: &Symbols,
     scope: usize,
     name: &[u8],
 ) -> Result<Meaning, AsmFault>
-    requires { IsModule whole.now }
-    ensures { Gives is_memory meaning_in result (plain_meaning (all_of whole.now.statements.now) scope name.now) }
+    ensures { Gives is_memory meaning_in result (plain_meaning (table_of symbols.now) scope name.now) }
 {
-    let defined = defined_outward(whole, scope, name);
-    named(alloc, defined_or_imported(whole, defined, name), name)
+    let defined = defined_outward(symbols, scope, name);
+    named(alloc, defined_or_imported(symbols, defined, name), name)
 }
 
 /// What a name with `::` means, the scopes being those that were opened before its place.
 fn scoped_meaning(
     alloc: Global,
-    whole: &Module<'_>,
-    place: usize,
-    scope: usize,
+    symbols: &Symbols,
+    spot: Spot,
     name: &Name,
 ) -> Result<Meaning, AsmFault>
-    requires { IsModule whole.now }
-    ensures { Gives is_memory meaning_in result (scoped_meaning (all_of whole.now.statements.now) (take place (all_of whole.now.statements.now)) scope name.now.is_global name.now.parts) }
+    ensures { Gives is_memory meaning_in result (scoped_meaning (table_of symbols.now) (spot_of spot) name.now.is_global name.now.parts) }
 {
     let parts = name.parts.as_slice();
-    match scope_of(whole, place, scope, name.is_global, scopes_in(parts)) {
+    let opened = spot.opened as usize;
+    let scope = spot.scope as usize;
+    match scope_of(symbols, opened, scope, name.is_global, scopes_in(parts)) {
         None => {
             let name = shown(alloc, name.is_global, parts)?;
             Err(AsmFault::NoSuchScope(name))
         }
-        Some(inner) => match member(whole, inner, last_in(parts)) {
+        Some(inner) => match member(symbols, inner, last_in(parts)) {
             Some(meaning) => Ok(meaning),
             None => {
                 let name = shown(alloc, name.is_global, parts)?;
@@ -137,7 +129,7 @@ pub fn scopes_in(parts: &[Sequence<u8>]) -> &[Sequence<u8>]
     }
 }
 
-fn last_in(parts: &[Sequence<u8>]) -> &[u8]
+pub fn last_in(parts: &[Sequence<u8>]) -> &[u8]
     ensures { result.now ≡ last_of parts.now }
 {
     match parts.split_last() {
@@ -158,90 +150,93 @@ pub fn plain_part(name: &Name) -> Option<&[u8]>
 
 fn name_meaning(
     alloc: Global,
-    whole: &Module<'_>,
-    place: usize,
-    scope: usize,
+    symbols: &Symbols,
+    spot: Spot,
     name: &Name,
 ) -> Result<Meaning, AsmFault>
-    requires { IsModule whole.now }
-    ensures { Gives is_memory meaning_in result (name_meaning (all_of whole.now.statements.now) place scope name.now.is_global name.now.parts) }
+    ensures { Gives is_memory meaning_in result (name_meaning (table_of symbols.now) (spot_of spot) name.now.is_global name.now.parts) }
 {
     match plain_part(name) {
-        Some(part) => plain_meaning(alloc, whole, scope, part),
-        None => scoped_meaning(alloc, whole, place, scope, name),
+        Some(part) => plain_meaning(alloc, symbols, spot.scope as usize, part),
+        None => scoped_meaning(alloc, symbols, spot, name),
     }
 }
 
 /// What a cheap name means: a cheap label of its region.
 fn cheap_meaning(
     alloc: Global,
-    whole: &Module<'_>,
+    symbols: &Symbols,
     region: usize,
     name: &[u8],
 ) -> Result<Meaning, AsmFault>
-    requires { IsModule whole.now }
-    ensures { Gives is_memory meaning_in result (cheap_meaning (all_of whole.now.statements.now) region name.now) }
+    ensures { Gives is_memory meaning_in result (cheap_meaning (table_of symbols.now) region name.now) }
 {
-    match whole.names.cheap_label(region, name) {
+    match symbols.defined(Key::Cheap { region, name }) {
         Some(place) => Ok(Meaning::Defined(place)),
         None => named(alloc, None, name),
     }
 }
 
 /// The unnamed label before which so many stand.
-fn unnamed_label(whole: &Module<'_>, count: usize) -> Option<Meaning>
-    requires { IsModule whole.now }
-    ensures { unnamed_meaning (all_of whole.now.statements.now) count ≡ or_absent NoSuchLabel result }
+fn unnamed_label(symbols: &Symbols, count: usize) -> Option<Meaning>
+    ensures { unnamed_meaning (table_of symbols.now) count ≡ or_absent NoSuchLabel result }
 {
-    match whole.names.unnamed_label(count) {
+    match symbols.defined(Key::Unnamed(count)) {
         Some(place) => Some(Meaning::Defined(place)),
         None => None,
     }
 }
 
-/// An unnamed label behind a use before which so many stand.
-fn label_behind(whole: &Module<'_>, before: u32, steps: usize) -> Option<Meaning>
-    requires { IsModule whole.now }
-    ensures { unnamed_meaning (all_of whole.now.statements.now) (before + steps - 1) ≡ or_absent NoSuchLabel result }
+/// How many unnamed labels stand before one behind a use before which so many stand. No table has one that no number of
+/// the machine counts.
+fn count_behind(before: u32, steps: usize) -> Option<usize>
+    ensures some { IfSome result (λ count. count ≡ before + steps - 1) }
+    ensures none { IfNone result (2 ^ 64 ≤ before + steps - 1) }
 {
-    match (before as usize).checked_add(steps) {
-        Some(count) => unnamed_label(whole, count.saturating_sub(1)),
-        // No module has so many.
+    match steps.checked_sub(1) {
+        Some(more) => (before as usize).checked_add(more),
+        None => Some((before as usize).saturating_sub(1)),
+    }
+}
+
+/// An unnamed label behind a use before which so many stand.
+fn label_behind(symbols: &Symbols, before: u32, steps: usize) -> Option<Meaning>
+    ensures { unnamed_meaning (table_of symbols.now) (before + steps - 1) ≡ or_absent NoSuchLabel result }
+{
+    match count_behind(before, steps) {
+        Some(count) => unnamed_label(symbols, count),
         None => None,
     }
 }
 
 /// An unnamed label before a use before which so many stand.
-fn label_before(whole: &Module<'_>, before: u32, steps: usize) -> Option<Meaning>
-    requires { IsModule whole.now }
-    ensures { backward_meaning (all_of whole.now.statements.now) before steps ≡ or_absent NoSuchLabel result }
+fn label_before(symbols: &Symbols, before: u32, steps: usize) -> Option<Meaning>
+    ensures { backward_meaning (table_of symbols.now) before steps ≡ or_absent NoSuchLabel result }
 {
     match (before as usize).checked_sub(steps) {
-        Some(count) => unnamed_label(whole, count),
+        Some(count) => unnamed_label(symbols, count),
         None => None,
     }
 }
 
-/// What an operand means at a place and where it stands there.
+/// What an operand means where it stands. No memory is taken where it means something.
 pub fn meaning_of(
     alloc: Global,
-    whole: &Module<'_>,
-    place: usize,
+    symbols: &Symbols,
     spot: Spot,
     operand: &Expr,
 ) -> Result<Meaning, AsmFault>
-    requires { IsModule whole.now }
-    ensures { Gives is_memory meaning_in result (meaning_of (all_of whole.now.statements.now) (length (all_of whole.now.statements.now)) place (spot_of spot) (tree_of operand.now)) }
+    ensures { Gives is_memory meaning_in result (meaning_of (table_of symbols.now) (spot_of spot) (tree_of operand.now)) }
 {
     match operand {
-        Expr::Name(name) => name_meaning(alloc, whole, place, spot.scope as usize, name),
-        Expr::Cheap(name) => cheap_meaning(alloc, whole, spot.region as usize, name.as_slice()),
+        Expr::Name(name) => name_meaning(alloc, symbols, spot, name),
+        Expr::Cheap(name) => cheap_meaning(alloc, symbols, spot.region as usize, name.as_slice()),
         Expr::Forward(steps) => known(
-            label_behind(whole, spot.unnamed, *steps),
+            label_behind(symbols, spot.unnamed, *steps),
             AsmFault::NoSuchLabel,
         ),
         Expr::Backward(steps) => known(
-            label_before(whole, spot.unnamed, *steps),
+            label_before(symbols, spot.unnamed, *steps),
             AsmFault::NoSuchLabel,
         ),
         _ => Err(AsmFault::NoSuchLabel),

@@ -4,7 +4,7 @@ ghost use Rattle.std.specs.Prelude.{◌≡◌, IfOk, true};
 ghost use Rattle.object65.specs.Objects.{is_good_object};
 ghost use Rattle.object65.specs.Spelling.{object_bytes};
 ghost use Rattle.tools65.specs.Assembling.{IsOutputName};
-ghost use Rattle.asm65.specs.Assembly.{assembled_of};
+ghost use Rattle.asm65.specs.Assembly.{answer_of, placed_of};
 ghost use Rattle.tools65.specs.Command.{AssemblesTo, refused_with};
 ghost use Rattle.line65.specs.Line.{assembling};
 
@@ -47,7 +47,7 @@ fn refused(
     texts: (Sequence<u8>, Sequence<u8>),
     refusal: &AsmRefusal,
 ) -> Result<Outcome, AllocError>
-    ensures { IfOk result (λ outcome. outcome ≡ refused_with source.now texts.0 texts.1 refusal.now) }
+    ensures { IfOk result (λ outcome. outcome ≡ refused_with source.now texts.0 texts.1 (placed_of refusal.now)) }
 {
     if refusal.fault.is_memory() {
         return Ok(Outcome {
@@ -74,7 +74,7 @@ pub fn asm_outcome(
     assembly: Assembly,
 ) -> Result<Outcome, AllocError>
     requires { IfOk assembly.result (λ object. is_good_object object ≡ true) }
-    ensures { IfOk result (λ outcome. AssemblesTo (assembling line.now) (assembled_of assembly) outcome) }
+    ensures { IfOk result (λ outcome. AssemblesTo (assembling line.now) (answer_of assembly assembly.result) outcome) }
 {
     let Assembly { result, out, err } = assembly;
     match result {

@@ -1,6 +1,7 @@
 //! Why a source has no object, as ca65 says it.
 
 ghost use Rattle.std.specs.Prelude.{◌≡◌, IfOk};
+ghost use Rattle.asm65.specs.Assembly.{placed_of};
 ghost use Rattle.tools65.specs.Assembling.{asm_message};
 
 use asm65::AsmRefusal;
@@ -14,18 +15,18 @@ pub fn asm_message(
     source: &str,
     refusal: &AsmRefusal,
 ) -> Result<Sequence<u8>, AllocError>
-    ensures { IfOk result (λ text. text ≡ asm_message source.now refusal.now) }
+    ensures { IfOk result (λ text. text ≡ asm_message source.now (placed_of refusal.now)) }
 {
     let mut words = Sequence::new(alloc);
     words.extend_from_slice(refusal.fault.words().as_bytes())?;
     words.extend_from_slice(refusal.fault.name())?;
-    match &refusal.place {
-        Some(place) => line_message(
-            alloc,
-            place.file.as_str().as_bytes(),
-            place.line as usize,
-            words.as_slice(),
-        ),
-        None => file_message(alloc, source.as_bytes(), words.as_slice()),
+    if refusal.line == 0 {
+        return file_message(alloc, source.as_bytes(), words.as_slice());
     }
+    line_message(
+        alloc,
+        refusal.file.as_bytes(),
+        refusal.line as usize,
+        words.as_slice(),
+    )
 }

@@ -7,7 +7,7 @@ use std::io;
 use std::io::{Read, Seek, SeekFrom};
 use syntax65::Text;
 
-const BUFFER: usize = 65_536;
+const BUFFER: usize = 16_384;
 
 /// An open file, with a buffer that holds what it has from a place on.
 #[derive(Drop)]

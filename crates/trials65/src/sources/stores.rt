@@ -2,8 +2,8 @@
 
 ghost use Rattle.std.specs.Prelude.{None};
 
-use super::in_words;
-use asm65::{AsmJob, AsmRefusal, assemble};
+use super::{alone, in_words};
+use asm65::{AsmRefusal, assemble};
 use object65::Object;
 use std::alloc::{AllocError, Global};
 use std::test::Fail;
@@ -54,7 +54,7 @@ impl Store for Endless {
 }
 
 fn assembled_in<S: Store>(alloc: Global, store: &mut S) -> Result<Object, AsmRefusal> {
-    assemble(alloc, store, &AsmJob { source: "b.s" }).result
+    assemble(alloc, store, &alone()).result
 }
 
 /// Where `b.s` is refused and why; empty where it isn't.

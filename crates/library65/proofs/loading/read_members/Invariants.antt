@@ -8,6 +8,6 @@ abbrev pub invariant-loop-entry : goal.invariant-loop-entry
 invariant-loop-entry g l = record {
   files : g.S.Store.files l.store ≡ g.S.Store.files l.fn.store;
   count : g.S.Store.failures l.store ≡ g.S.Store.failures l.fn.store;
-  sound : IsSound l.members;
-  read : Leads (g.S.Store.files l.fn.store) l.file (joined_all (members_of l.members) (drop l.entry-index l.entry-items)) library_at;
+  sound : IsSound l.loading.members;
+  read : Leads (g.S.Store.files l.fn.store) l.file (joined_all (members_of l.loading.members) (drop l.entry-index l.entry-items)) library_at;
 }

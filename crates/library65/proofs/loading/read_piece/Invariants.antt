@@ -9,7 +9,7 @@ invariant-reading g l = record {
   within : length l.bytes.items ≤ l.size;
   files : g.S.Store.files l.store ≡ g.S.Store.files l.fn.store;
   count : g.S.Store.failures l.store ≡ g.S.Store.failures l.fn.store;
-  read : IfSome (g.S.Store.files l.fn.store) (λ m. IsPieceFront (map.get m l.file) l.at l.bytes.items);
+  read : IfSome (g.S.Store.files l.fn.store) (λ m. IsPieceFront (map.get m l.file) l.entry.place l.bytes.items);
 }
 
 abbrev pub decreases-reading : goal.decreases-reading

@@ -1,13 +1,27 @@
-use Rattle.std.proofs.Common.{refl}
-use Rattle.line65.specs.Line.{assembling}
+use Rattle.std.proofs.Common.{◌≡◌, ◌∙◌, refl, ap, map, rules, List, ℕ}
+use Rattle.line65.specs.Line.{Assembling, assembling}
+use Rattle.module65.specs.Reading.{Job}
+use Rattle.asm65.specs.Assembly.{define_of}
+use Rattle.tools65.specs.Assembling.{define_in, job_in}
 use Rattle.tools65.specs.Command.{Assembles}
 use Rattle.line65.specs.Messages.{memory_line}
-use Rattle.tools65.proofs.Runs.{only_memory, assembled_run}
+use Rattle.tools65.proofs.Runs.{as_job, assembled_run, only_memory, same_job}
 use Rattle.tools65.proofs.running.run_assemble.Goals as goal
 
-pub returns-in-Ok-clause-done : goal.returns-in-Ok-clause-done
-returns-in-Ok-clause-done g c =
-    assembled_run _ _ _ _ _ _ (assembling c.args.line.now) c.assemble-assembly.result.out c.assemble-assembly.result.err c.assemble-assembly.result.result c.in-Ok.outcome _ _ _ _ _ c.assemble-assembly.ensures.files c.perform.ensures.later c.assemble-assembly.ensures.count c.in-Ok.ensures c.assemble-assembly.ensures.assembled c.perform.ensures.done
+pub returns-in_default-clause-done : goal.returns-in_default-clause-done
+returns-in_default-clause-done g c = only_memory _ _ (Assembles (assembling c.args.line.now)) _ _ _ (memory_line c.args.line.now.source.now) c.say_memory.result _ _ refl refl c.say_memory.ensures
 
-pub returns-in-Err-clause-done : goal.returns-in-Err-clause-done
-returns-in-Err-clause-done g c = only_memory _ _ (Assembles (assembling c.args.line.now)) _ _ _ (memory_line c.args.line.now.source.now) c.say_memory.result _ _ c.assemble-assembly.ensures.files refl c.say_memory.ensures
+pub returns-in_default-defines_of-clause-done : goal.returns-in_default-defines_of-clause-done
+returns-in_default-defines_of-clause-done g c = only_memory _ _ (Assembles (assembling c.args.line.now)) _ _ _ (memory_line c.args.line.now.source.now) c.say_memory-in_default-defines_of.result _ _ refl refl c.say_memory-in_default-defines_of.ensures
+
+pub returns-in-Ok-asm_outcome-clause-done : goal.returns-in-Ok-asm_outcome-clause-done
+returns-in-Ok-asm_outcome-clause-done g c =
+    let a : Assembling = assembling c.args.line.now in
+    let j : Job = record { source = a.source; include = c.as_slice-3.result.now; defines = map define_of c.as_slice-4.result.now } in
+    let include : c.as_slice-3.result.now ≡ a.include = search rules in
+    let defines : map define_of c.as_slice-4.result.now ≡ map define_in a.defines = search rules in
+    let assembly = c.assemble-assembly.result in
+    assembled_run _ _ _ _ _ _ a assembly.out assembly.err assembly.result c.in-Ok-asm_outcome.outcome _ _ _ _ _ c.assemble-assembly.ensures.files c.perform.ensures.later c.assemble-assembly.ensures.count c.in-Ok-asm_outcome.ensures (as_job _ j a assembly.out assembly.err assembly.result (same_job a _ _ include defines) c.assemble-assembly.ensures.assembled) c.perform.ensures.done
+
+pub returns-clause-done : goal.returns-clause-done
+returns-clause-done g c = only_memory _ _ (Assembles (assembling c.args.line.now)) _ _ _ (memory_line c.args.line.now.source.now) c.say_memory-in-Err.result _ _ c.assemble-assembly.ensures.files refl c.say_memory-in-Err.ensures

@@ -1,4 +1,4 @@
-use Rattle.std.proofs.Common.{◌≡◌, ◌∙◌, ap, sym, rules}
+use Rattle.std.proofs.Common.{◌≡◌, ◌∙◌, ap, arith, sym, rules}
 use Rattle.std.proofs.lemmas.Result.{err_from_is_err_and}
 use Rattle.syntax65.specs.Outcome.{Unless}
 use Rattle.expand65.specs.Faults.{is_outside}
@@ -34,6 +34,9 @@ returns-in-Some-clause-comes g c =
     let step = moved_to (λ m. IsStep m k (state_in m c.steps.self) (turned (state_of m mid.rewriter) t)) o (g.S.Store.files c.steps.store) c.steps.invariant.files c.in_ok-turn.ensures.turns in
     gave o k c.args.self.now c.steps.self mid new t c.in-Some.statement c.steps.invariant.so_far step (λ m. c.follow.ensures.led m ∙ ap (led (state_in m new)) c.in-Some.is)
 
+pub returns-in-Some-clause-size : goal.returns-in-Some-clause-size
+returns-in-Some-clause-size g c = omega (arith, c.steps.invariant.size, c.in_ok-turn.ensures.size, c.follow.ensures.size)
+
 pub steps-preserved : goal.steps-preserved
 steps-preserved g c =
     let o = g.S.Store.files c.args.store.now in
@@ -45,5 +48,6 @@ steps-preserved g c =
     record {
       files = c.in_ok-turn.ensures.files ∙ c.steps.invariant.files;
       count = search rules;
+      size = omega (arith, c.steps.invariant.size, c.in_ok-turn.ensures.size, c.follow.ensures.size);
       so_far = goes_on o k c.args.self.now c.steps.self mid new t c.steps.invariant.so_far step (λ m. c.follow.ensures.led m ∙ ap (led (state_in m new)) c.in_default.is);
     }

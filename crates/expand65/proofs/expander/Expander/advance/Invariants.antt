@@ -1,4 +1,4 @@
-use Rattle.std.proofs.Common.{◌≡◌}
+use Rattle.std.proofs.Common.{◌≡◌, ◌≤◌}
 use Rattle.std.specs.Prelude.{IfSome}
 use Rattle.expand65.specs.Standing.{measure_of}
 use Rattle.expand65.proofs.Going.{Leads}
@@ -8,6 +8,7 @@ abbrev pub invariant-steps : goal.invariant-steps
 invariant-steps g l = record {
   files : g.S.Store.files l.store ≡ g.S.Store.files l.fn.store;
   count : g.S.Store.failures l.store ≡ g.S.Store.failures l.fn.store;
+  size : measure_of l.self ≤ measure_of l.fn.self;
   so_far : IfSome (g.S.Store.files l.fn.store) (Leads (g.K.Knows.meaning l.knows) l.fn.self l.self);
 }
 

@@ -1,30 +1,36 @@
-use Rattle.std.proofs.Common.{◌∙◌, ◌+◌, sym, ap, map, drop, subst}
+use Rattle.std.proofs.Common.{◌≡◌, ◌∙◌, sym, ap, map, subst}
 use Rattle.std.specs.List.{AllByRecursion}
+use Rattle.std.proofs.Common.{rules}
+use Rattle.std.specs.Vec.Iter.{into_iter_items}
 use Rattle.sections65.specs.Drafts.{DraftFits, new_draft, with_contents}
+use Rattle.sections65.specs.Fed.{content_of}
 use Rattle.sections65.specs.declared.numbering.drafts.Draft.{Draft}
 use Rattle.sections65.proofs.Drafting.{segments_stay, segments_begin}
 use Rattle.sections65.proofs.Fitting.{new_fit}
-use Rattle.sections65.proofs.Keys.{drop_item}
 use Rattle.sections65.proofs.numbering.drafts.filled.Goals as goal
 
-pub loop-content-init : goal.loop-content-init
-loop-content-init c =
+pub loop-entry-init : goal.loop-entry-init
+loop-entry-init c =
     let s = c.args.numbers.now.sections.keys in
     let i = c.args.numbers.now.imports.keys in
+    let first : into_iter_items c.into_iter-entry-iterator.result ≡ c.args.entries.items = search rules in
     let begun = c.in_ok-drafts.ensures ∙ ap (map new_draft) c.as_slice.ensures.keys in
     record {
       keys = ap (map (λ (d : Draft). d.segment)) begun ∙ segments_begin s i s;
       fits = subst (AllByRecursion DraftFits) (sym begun) (new_fit s);
-      filled = ap (with_contents s i c.args.contents.now) begun;
+      filled = (λ n. with_contents s i (map content_of (first n)) (begun n));
     }
 
-pub loop-content-preserved : goal.loop-content-preserved
-loop-content-preserved c =
+pub loop-entry-preserved : goal.loop-entry-preserved
+loop-entry-preserved c =
     let s = c.args.numbers.now.sections.keys in
     let i = c.args.numbers.now.imports.keys in
-    let at = c.loop-content.content-index in
+    let rest = map content_of (into_iter_items c.next.new.self) in
     record {
-      keys = ap (map (λ (d : Draft). d.segment)) c.in_ok-add_content.ensures.added ∙ segments_stay s i c.content-item.result c.loop-content.drafts.items ∙ c.loop-content.invariant.keys;
-      fits = c.in_ok-add_content.ensures.fits c.loop-content.invariant.fits;
-      filled = ap (with_contents s i (drop (at + 1) c.args.contents.now)) c.in_ok-add_content.ensures.added ∙ sym (ap (λ cs. with_contents s i cs c.loop-content.drafts.items) (drop_item c.args.contents.now at c.content-item.result c.loop-content-test.true c.content-item.is)) ∙ c.loop-content.invariant.filled;
+      keys = ap (map (λ (d : Draft). d.segment)) c.in_ok-add_entry.ensures.added ∙ segments_stay s i (content_of c.in-Some.entry) c.loop-entry.drafts.items ∙ c.loop-entry.invariant.keys;
+      fits = c.in_ok-add_entry.ensures.fits c.loop-entry.invariant.fits;
+      filled =
+          ap (with_contents s i rest) c.in_ok-add_entry.ensures.added
+          ∙ sym (ap (λ es. with_contents s i (map content_of es) c.loop-entry.drafts.items) c.in-Some.ensures.steps.0)
+          ∙ c.loop-entry.invariant.filled;
     }

@@ -1,9 +1,11 @@
 use Rattle.std.proofs.Common.{subst, Result}
 use Rattle.object65.specs.Form.{Form}
 use Rattle.syntax65.specs.Outcome.{Gives}
+use Rattle.language65.specs.Views.{spot_of}
 use Rattle.symbols65.specs.declared.resolving.attempt.Stop.{Stop}
 use Rattle.symbols65.specs.Resolving.{lacks_memory, operand_form}
-use Rattle.language65.specs.Views.{all_of, spot_of}
+use Rattle.symbols65.specs.Sources.{known_by}
+use Rattle.symbols65.specs.Views.{table_of}
 use Rattle.symbols65.proofs.Tries.{operand_tried}
 use Rattle.symbols65.proofs.resolving.attempt.+try_norm.Goals as goal
 
@@ -11,4 +13,4 @@ pub returns-in-Name : goal.returns-in-Name
 returns-in-Name t c =
     let s = spot_of c.args.spot in
     let P : Result Form Stop → Type 0 = λ r. Gives lacks_memory (λ f. f) c.operand_norm.result r in
-    subst P (operand_tried (operand_form c.args.states.now (all_of c.args.whole.now.statements.now) c.args.place s) s c.args.value.now c.in-Name.is) c.operand_norm.ensures
+    subst P (operand_tried (operand_form (known_by c.args.symbols.now c.args.source) (table_of c.args.symbols.now) s) s c.args.value.now c.in-Name.is) c.operand_norm.ensures

@@ -1,7 +1,10 @@
 use Rattle.std.proofs.Common.{◌∙◌, sym}
-use Rattle.language65.specs.Views.{all_of}
-use Rattle.symbols65.proofs.Scopes.{enclosing_is}
+use Rattle.symbols65.specs.Views.{table_of}
+use Rattle.symbols65.proofs.Scopes.{enclosing_before, enclosing_behind}
 use Rattle.symbols65.proofs.resolving.scopes.enclosing.Goals as goal
 
-pub returns : goal.returns
-returns c = c.scope_at.ensures ∙ sym (enclosing_is (all_of c.args.statements.now) c.args.scope c.if-scope-eq-GLOBAL.false)
+pub returns-then-scope-opened : goal.returns-then-scope-opened
+returns-then-scope-opened c = c.enclosing.ensures ∙ sym (enclosing_before (table_of c.args.symbols.now).scopes c.args.opened c.args.scope c.if-scope-opened.true)
+
+pub returns-else-scope-opened : goal.returns-else-scope-opened
+returns-else-scope-opened c = sym (enclosing_behind (table_of c.args.symbols.now).scopes c.args.opened c.args.scope c.if-scope-opened.false)

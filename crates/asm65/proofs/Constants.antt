@@ -1,0 +1,31 @@
+-- What a name or an expression means at a spot.
+use Rattle.std.proofs.Common.{◌≡◌, ◌∙◌, ℕ, sym, ap}
+use Rattle.std.specs.Prelude.{Ok}
+use Rattle.syntax65.specs.Trees.{Tree}
+use Rattle.object65.specs.Form.{Form}
+use Rattle.expand65.specs.Meaning.{Meaning}
+use Rattle.language65.specs.Extending.{IsFinal}
+use Rattle.language65.specs.Laid.{Spot}
+use Rattle.language65.specs.Layout.{Standing, spot_of}
+use Rattle.language65.specs.Norms.{constant_in, literal_in}
+use Rattle.language65.specs.Symbols.{Symbols}
+use Rattle.module65.proofs.Tables.{extends_same}
+use Rattle.module65.specs.Knowing.{known_at}
+use Rattle.module65.specs.Machine.{State}
+use Rattle.symbols65.specs.Views.{table_of}
+use Rattle.layout65.specs.Views.{standing_of}
+use Rattle.asm65.specs.declared.assembler.Assembler.{Assembler}
+use Rattle.asm65.specs.Holding.{Holds}
+use Rattle.asm65.specs.Knowing.{known_where}
+
+-- a final form is the one now
+pub final_constant : (y : Symbols) (s : Spot) (e : Tree) (f : Form) → IsFinal y s e f → literal_in (Ok f) ≡ constant_in y s e
+final_constant y s e f h = ap literal_in (sym (h y (extends_same y)))
+
+-- what is known where the next statement stands is what is known behind the state that is held
+pub known_held : (count : ℕ) (t : State) (a : Assembler) (s : Spot) → Holds count t a → s ≡ spot_of (standing_of a.standing) → known_where (table_of a.symbols) s ≡ known_at t.symbols t.standing
+known_held count t a s h at =
+    let here : s ≡ spot_of t.standing = at ∙ ap spot_of h.standing in
+    let first : known_where (table_of a.symbols) s ≡ known_where t.symbols s = ap (λ y. known_where y s) h.symbols in
+    let then_ : known_where t.symbols s ≡ known_where t.symbols (spot_of t.standing) = ap (known_where t.symbols) here in
+    first ∙ then_

@@ -1,0 +1,87 @@
+-- The constants of the command line, one behind the other.
+use Rattle.std.proofs.Common.{◌≡◌, ◌∙◌, ℕ, zero, suc, ◌+◌, ◌≤◌, ◌<◌, Bool, true, false, List, [], ◌∷◌, length, drop, get_or, map, refl, sym, ap, subst, arith}
+use Rattle.std.specs.Prelude.{Result, Ok, Err, IfErr, ⊤}
+use Rattle.syntax65.specs.Outcome.{Unless}
+use Rattle.syntax65.specs.Trees.{number}
+use Rattle.expand65.specs.declared.place.Place.{Place}
+use Rattle.language65.specs.declared.fault.AsmFault.{AsmFault}
+use Rattle.language65.specs.Faults.{is_outside}
+use Rattle.language65.specs.Language.{constant}
+use Rattle.module65.specs.Continuing.{DefinesOn}
+use Rattle.module65.specs.Machine.{State, Takes, begun}
+use Rattle.module65.specs.Reading.{Answers, AreDefined, Define}
+use Rattle.module65.proofs.TakenAll.{faulty_constant, first_constant, last_constant, next_constant}
+use Rattle.asm65.specs.declared.assembler.Assembler.{Assembler}
+use Rattle.asm65.specs.declared.assembly.Define as code
+use Rattle.asm65.specs.Assembly.{define_of}
+use Rattle.layout65.specs.Counting.{opening_limit}
+use Rattle.asm65.specs.Holding.{Holds}
+use Rattle.asm65.specs.Running.{DefinesBy, HoldsWithin, IsReached, behind, at_first, IsRoomy, LeadsTo, Leaves, SaysAs}
+use Rattle.asm65.proofs.Runs.{Answer, fault_first, fault_then, says_same, takes_quiet}
+
+pub defines_by : (place : Place) (d : Define) (old new : Assembler) (r : Answer) → ((count : ℕ) (t : State) → Holds count t old → count < opening_limit → Answers (Takes t place (constant d.0 (number d.1))) (λ u. Holds (count + 0) u new) r) → IfErr r (λ e. is_outside e ≡ false → new.texts ≡ old.texts) → DefinesBy place d old new r
+defines_by place d old new (Ok v) taken same = λ count t room h.
+    (let a = taken count t h (omega (arith, room)) in
+    (a.0, a.1, λ reached. behind t a.0 place (constant d.0 (number d.1)) reached tt a.1, (count + 0, omega arith, a.2)))
+defines_by place d old new (Err e) taken same = λ count t room h.
+    fault_first ⊤ (Takes t place (constant d.0 (number d.1))) count t new e (taken count t h (omega (arith, room))) (λ inside. says_same count t old new h (same inside))
+
+-- what is defined so far, with constants that are left
+pub record SoFar (place : Place) (ds left : List Define) (a : Assembler) : Type 0 where
+  pub state : State
+  pub goes : DefinesOn Takes place (AreDefined Takes begun place ds) left state
+  pub reached : IsReached state
+  pub holds : Holds 0 state a
+  pub out : state.out ≡ begun.out
+  pub err : state.err ≡ begun.err
+
+pub none_so_far : (place : Place) (ds : List Define) (a : Assembler) → Holds 0 begun a → SoFar place ds ds a
+none_so_far place ds a h = record {
+  state = begun;
+  goes = first_constant Takes place ds begun;
+  reached = at_first;
+  holds = h;
+  out = refl;
+  err = refl;
+}
+
+pub so_far_roomy : (place : Place) (ds left : List Define) (a : Assembler) → SoFar place ds left a → IsRoomy 1 a
+so_far_roomy place ds left a s = (0, s.state, omega arith, s.holds)
+
+zero_within : (count : ℕ) (t : State) (a : Assembler) → count ≤ 0 → Holds count t a → Holds 0 t a
+zero_within count t a le h =
+    let none : count ≡ 0 = omega (arith, le) in
+    subst (λ n. Holds n t a) none h
+
+pub one_more : (place : Place) (ds left : List Define) (d : Define) (old new : Assembler) (v : Unit {0}) → SoFar place ds (d ∷ left) old → DefinesBy place d old new (Ok v) → SoFar place ds left new
+one_more place ds left d old new v s defines =
+    let a = defines 0 s.state (omega arith) s.holds in
+    let quiet = takes_quiet s.state a.0 place (constant d.0 (number d.1)) (refl, refl) a.1 in
+    record {
+      state = a.0;
+      goes = next_constant Takes place (AreDefined Takes begun place ds) d left s.state a.0 s.goes a.1;
+      reached = a.2 s.reached;
+      holds = zero_within a.3.0 a.0 new a.3.1 a.3.2;
+      out = quiet.0 ∙ s.out;
+      err = quiet.1 ∙ s.err;
+    }
+
+pub one_wrong : (place : Place) (ds left : List Define) (d : Define) (old new : Assembler) (e : AsmFault) (r : Answer) → r ≡ Err e → SoFar place ds (d ∷ left) old → DefinesBy place d old new (Err e) → Leaves ⊤ (AreDefined Takes begun place ds) 0 begun new r
+one_wrong place ds left d old new e r fails s defines =
+    let P : Answer → Type 0 = λ q. Leaves ⊤ (AreDefined Takes begun place ds) 0 begun new q in
+    subst P (sym fails) (fault_then ⊤ ⊤ (Takes s.state place (constant d.0 (number d.1))) (AreDefined Takes begun place ds) 0 0 begun s.state new e (λ x. x) (λ p. faulty_constant Takes place (AreDefined Takes begun place ds) d left s.state e s.goes p) (λ says. (says.0 ∙ s.out, says.1 ∙ s.err)) (defines 0 s.state (omega arith) s.holds))
+
+pub all_defined : (place : Place) (ds : List Define) (a : Assembler) (v : Unit {0}) → SoFar place ds [] a → Leaves ⊤ (AreDefined Takes begun place ds) 0 begun a (Ok v)
+all_defined place ds a v s = (s.state, last_constant Takes place (AreDefined Takes begun place ds) s.state s.goes, λ first. s.reached, (0, omega arith, s.holds))
+
+-- ---- Lists.
+
+dropped : (xs : List code.Define) (i : ℕ) (none : code.Define) → i < length xs → drop i xs ≡ get_or xs i none ∷ drop (suc i) xs
+dropped [] i none lt = absurd (omega (arith, lt))
+dropped (y ∷ xs) zero none lt = refl
+dropped (y ∷ xs) (suc i) none lt = dropped xs i none (omega (arith, lt))
+
+pub left_dropped : (xs : List code.Define) (i : ℕ) (none : code.Define) → i < length xs → map define_of (drop i xs) ≡ define_of (get_or xs i none) ∷ map define_of (drop (i + 1) xs)
+left_dropped xs i none lt =
+    let more : suc i ≡ i + 1 = omega arith in
+    ap (map define_of) (dropped xs i none lt) ∙ ap (λ n. define_of (get_or xs i none) ∷ map define_of (drop n xs)) more

@@ -1,0 +1,114 @@
+-- Pieces that are entered, one behind the other, and when they are put at once.
+use Rattle.std.proofs.Common.{◌≡◌, ◌∙◌, ℕ, zero, suc, List, [], ◌∷◌, ◌++◌, refl, ap, subst}
+use Rattle.std.specs.Prelude.{ℤ, pos, negsuc, Bool, true, false, Result, Ok, Err}
+use Rattle.syntax65.specs.Outcome.{◌>>=◌}
+use Rattle.syntax65.specs.Trees.{Tree}
+use Rattle.expand65.specs.declared.place.Place.{Place}
+use Rattle.object65.specs.Form.{Form, lit}
+use Rattle.object65.specs.declared.object.Action.{Action}
+use Rattle.object65.specs.declared.object.Action.TheVariants as action
+use Rattle.object65.specs.declared.object.Width.{Width}
+use Rattle.object65.specs.declared.object.Width.TheVariants.{Branch, Byte, Dword, HighFirst, Word}
+use Rattle.language65.specs.declared.contents.Content.{Content}
+use Rattle.language65.specs.declared.contents.Part.{Part}
+use Rattle.language65.specs.declared.fault.AsmFault.{AsmFault}
+use Rattle.language65.specs.Contents.{put, stored, telling}
+use Rattle.language65.specs.Extending.{IsFinal}
+use Rattle.language65.specs.Laid.{Spot}
+use Rattle.module65.specs.Machine.{IsSettled, PutsAll, State, at_once, entered}
+use Rattle.module65.specs.Pieces.{Piece, Purpose, as_part, asserted, datum, given, operand, quietly, used, valued}
+use Rattle.module65.proofs.Finals.{final_settles, settled_given}
+use Rattle.sections65.specs.declared.sections.Sections.{Sections}
+use Rattle.sections65.specs.Standing.{Feeds, contents_in}
+use Rattle.sections65.proofs.Alikes.{alike_nothing, alike_trans, empty_alike}
+use Rattle.sections65.proofs.Standings.{asked_same}
+use Rattle.symbols65.specs.Views.{table_of}
+use Rattle.asm65.specs.declared.assembler.Assembler.{Assembler}
+use Rattle.asm65.specs.declared.waiting.Piece as held
+use Rattle.asm65.specs.Holding.{Enters, IsPiece}
+use Rattle.asm65.specs.Putting.{IsPut, IsTried, Waits, operand_stored}
+use Rattle.asm65.proofs.Waitings.{holds_entered, waits_enters}
+
+-- ---- One behind the other.
+
+puts_append : (place : Place) (s : Spot) (t u v : State) (ps qs : List Piece) → PutsAll place s t ps u → PutsAll place s u qs v → PutsAll place s t (ps ++ qs) v
+puts_append place s t u v [] qs h k = subst (λ w. PutsAll place s w qs v) h k
+puts_append place s t u v (p ∷ ps) qs h k = (h.0, h.1, puts_append place s h.0 u v ps qs h.2 k)
+
+pub enters_none : (place : Place) (s : Spot) (a : Assembler) → Enters place s [] a a
+enters_none place s a count t h = (t, refl, h)
+
+pub enters_both : (place : Place) (s : Spot) (ps qs : List Piece) (old mid new : Assembler) → Enters place s ps old mid → Enters place s qs mid new → Enters place s (ps ++ qs) old new
+enters_both place s ps qs old mid new first second count t h =
+    let x = first count t h in
+    let y = second count x.0 x.2 in
+    (y.0, puts_append place s t x.0 y.0 ps qs x.1 y.1, y.2)
+
+-- ---- At once.
+
+abbrev fed : Assembler → Sections → Assembler
+fed a x = record a { sections = x }
+
+pub fed_enters : (old : Assembler) (x : Sections) (place : Place) (s : Spot) (p : Piece) (c : Content) → Feeds old.sections x c → IsSettled (table_of old.symbols) place s p c → Enters place s (p ∷ []) old (fed old x)
+fed_enters old x place s p c feeds settled count t h =
+    let there : IsSettled t.symbols place s p c = subst (λ y. IsSettled y place s p c) h.symbols settled in
+    (entered t c, (entered t c, at_once c there, refl), holds_entered count t old (fed old x) h (record { symbols = refl; known = refl; standing = refl; texts = refl }) c feeds refl refl)
+
+-- what needs no value
+pub given_enters : (old : Assembler) (x : Sections) (place : Place) (s : Spot) (p : Part) → Feeds old.sections x (put s.segment p) → Enters place s (given p ∷ []) old (fed old x)
+given_enters old x place s p feeds = fed_enters old x place s (given p) (put s.segment p) feeds (settled_given (table_of old.symbols) place s p)
+
+-- a value whose form is final and puts a part
+module _ (old : Assembler) (x : Sections) (place : Place) (s : Spot) (why : Purpose) (e : Tree) (f : Form) (final : IsFinal (table_of old.symbols) s e f) where
+  value_entered : (r : Result Part AsmFault) → used place s why f ≡ (r >>= as_part s.segment) → IsPut old.sections x s.segment r true → Enters place s (valued why e ∷ []) old (fed old x)
+  value_entered (Ok p) is feeds = fed_enters old x place s (valued why e) (put s.segment p) feeds (final_settles (table_of old.symbols) place s why e f (put s.segment p) final is)
+  value_entered (Err e) is feeds = absurd feeds
+
+  value_tried : (r : Result Part AsmFault) (b : Bool) → used place s why f ≡ (r >>= as_part s.segment) → IsPut old.sections x s.segment r b → IsTried place s (valued why e) old (fed old x) b
+  value_tried r true is h = value_entered r is h
+  value_tried r false is h = ap (fed old) h
+
+pub datum_tried : (old : Assembler) (x : Sections) (place : Place) (s : Spot) (width : Width) (e : Tree) (f : Form) (b : Bool) → IsFinal (table_of old.symbols) s e f → IsPut old.sections x s.segment (stored width place.line f) b → IsTried place s (valued (datum width) e) old (fed old x) b
+datum_tried old x place s width e f b final h = value_tried old x place s (datum width) e f final (stored width place.line f) b refl h
+
+pub operand_tried : (old : Assembler) (x : Sections) (place : Place) (s : Spot) (width : Width) (e : Tree) (f : Form) (b : Bool) → IsFinal (table_of old.symbols) s e f → IsPut old.sections x s.segment (operand_stored width s place.line f) b → IsTried place s (valued (operand width) e) old (fed old x) b
+operand_tried old x place s width e f b final h = value_tried old x place s (operand width) e f final (operand_stored width s place.line f) b refl h
+
+-- an operand other than a branch's is stored as it is
+pub stored_as_is : (width : Width) (s : Spot) (line : ℕ) (f : Form) → (width ≡ Branch → ⊥) → operand_stored width s line f ≡ stored width line f
+stored_as_is Byte s line f h = refl
+stored_as_is Word s line f h = refl
+stored_as_is HighFirst s line f h = refl
+stored_as_is Dword s line f h = refl
+stored_as_is Branch s line f h = absurd (h refl)
+
+-- ---- Assertions.
+
+-- nothing is said
+pub says_nothing : (x : Sections) → Feeds x x (telling [])
+says_nothing x cs waiting h = record {
+  asked = asked_same cs (telling []) refl ∙ h.asked;
+  latest = h.latest;
+  alike = alike_trans (cs ++ telling [] ∷ []) cs (contents_in waiting x.entries) (alike_nothing cs (telling [] ∷ []) (empty_alike 0 false)) h.alike;
+  waits = h.waits;
+  settled = h.settled;
+}
+
+so_used : (place : Place) (s : Spot) (act : Action) (words : List ℕ) (v : ℤ) → (v ≡ pos 0 → ⊥) → used place s (asserted act words) (lit v) ≡ Ok (quietly (telling []))
+so_used place s action.Error words (pos zero) h = absurd (h refl)
+so_used place s action.Warning words (pos zero) h = absurd (h refl)
+so_used place s action.Error words (pos (suc n)) h = refl
+so_used place s action.Warning words (pos (suc n)) h = refl
+so_used place s action.Error words (negsuc n) h = refl
+so_used place s action.Warning words (negsuc n) h = refl
+
+-- an assertion that is so whatever statements follow
+pub so_enters : (old : Assembler) (place : Place) (s : Spot) (act : Action) (words : List ℕ) (e : Tree) (v : ℤ) → (v ≡ pos 0 → ⊥) → IsFinal (table_of old.symbols) s e (lit v) → Enters place s (valued (asserted act words) e ∷ []) old old
+so_enters old place s act words e v h final = fed_enters old old.sections place s (valued (asserted act words) e) (telling []) (says_nothing old.sections) (final_settles (table_of old.symbols) place s (asserted act words) e (lit v) (telling []) final (so_used place s act words v h))
+
+-- ---- Later.
+
+-- what isn't put at once waits
+pub tried_waits : (old mid new : Assembler) (place : Place) (s : Spot) (p : held.Piece) (v : Piece) (b : Bool) → IsTried place s v old mid b → b ≡ false → IsPiece (table_of mid.symbols) s p v → Waits place s p mid new → Enters place s (v ∷ []) old new
+tried_waits old mid new place s p v true h e is waits = absurd cc
+tried_waits old mid new place s p v false h e is waits = subst (λ (a : Assembler). Enters place s (v ∷ []) a new) h (waits_enters mid new place s p v waits is)

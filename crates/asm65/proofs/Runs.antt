@@ -1,0 +1,221 @@
+-- What calls that take statements leave, by what their parts leave.
+use Rattle.std.proofs.Common.{◌≡◌, ◌∙◌, ℕ, zero, suc, ◌+◌, ◌≤◌, ◌<◌, Bool, true, false, List, [], ◌∷◌, ◌++◌, Option, Some, None, refl, sym, ap, subst, arith}
+use Rattle.std.specs.Prelude.{Result, Ok, Err, IfErr, ◌==◌, if◌then◌else◌}
+use Rattle.std.proofs.lemmas.List.{append-nil}
+use Rattle.syntax65.specs.Outcome.{First, Unless}
+use Rattle.syntax65.specs.Tokens.{Lexeme}
+use Rattle.expand65.specs.Kept.{tokens_in}
+use Rattle.expand65.specs.Standing.{stated}
+use Rattle.expand65.specs.declared.expander.Statement.{Statement}
+use Rattle.expand65.specs.declared.expander.Statement.TheVariants.{Label, Plain}
+use Rattle.expand65.specs.declared.line.Line.{Line}
+use Rattle.expand65.specs.declared.place.Place.{Place}
+use Rattle.language65.specs.declared.fault.AsmFault.{AsmFault}
+use Rattle.language65.specs.Faults.{is_outside}
+use Rattle.language65.specs.Laid.{Laid, Spot, asks_section}
+use Rattle.language65.specs.Language.{Stated, label, cheap_label, unnamed_label, open_scope, open_proc, segment}
+use Rattle.language65.specs.Layout.{laid}
+use Rattle.language65.specs.LineFaults.{line_fault}
+use Rattle.language65.specs.Sound.{AreNamed, IsSound}
+use Rattle.statements65.specs.Parsing.{IsStatement, label_of}
+use Rattle.statements65.proofs.Sounding.{statement_sound}
+use Rattle.module65.specs.Machine.{Puts, at_once, later, PutsAll, State, Steps, Takes, UnlessFault, asked, entered, known}
+use Rattle.module65.specs.Module.{out_of, warning_of}
+use Rattle.module65.specs.Pieces.{Piece, pieces_of}
+use Rattle.module65.specs.Reading.{Answers, IsGiven, IsLabel, IsLabelled, IsRest}
+use Rattle.language65.specs.Contents.{asking}
+use Rattle.module65.proofs.Given.{label_quiet}
+use Rattle.module65.proofs.SoundSources.{label_sound}
+use Rattle.asm65.specs.declared.assembler.Assembler.{Assembler}
+use Rattle.asm65.specs.declared.texts.Texts.{Texts}
+use Rattle.layout65.specs.Counting.{opened_by, opening_limit}
+use Rattle.asm65.specs.Holding.{Holds}
+use Rattle.asm65.specs.Running.{HoldsWithin, IsReached, behind, IsRoomy, IsSoundIf, Leaves, SaysAs, TakesBy, tokens_of}
+
+abbrev pub Answer : Type 0
+Answer = Result (Unit {0}) AsmFault
+
+-- ---- A fault of a part is the whole's.
+
+pub fault_first : (AreSo : Type 0) (Is : Result State AsmFault → Type 0) (most : ℕ) (t : State) (new : Assembler) (e : AsmFault) → Unless (is_outside e) (Is (Err e)) → (is_outside e ≡ false → SaysAs t new) → Leaves AreSo Is most t new (Err e)
+fault_first AreSo Is most t new e is says = by (is_outside e) is says
+  where
+    by : (b : Bool) → Unless b (Is (Err e)) → (b ≡ false → SaysAs t new) → Unless b ((AreSo → Is (Err e)) × SaysAs t new)
+    by true h s = tt
+    by false h s = (λ so. h, s refl)
+
+pub fault_then : (AreSo AreTo : Type 0) (Is Then : Result State AsmFault → Type 0) (most more : ℕ) (t u : State) (new : Assembler) (e : AsmFault) → (AreTo → AreSo) → (Is (Err e) → Then (Err e)) → (SaysAs u new → SaysAs t new) → Leaves AreSo Is most u new (Err e) → Leaves AreTo Then more t new (Err e)
+fault_then AreSo AreTo Is Then most more t u new e f g s h = by (is_outside e) h
+  where
+    by : (b : Bool) → Unless b ((AreSo → Is (Err e)) × SaysAs u new) → Unless b ((AreTo → Then (Err e)) × SaysAs t new)
+    by true h = tt
+    by false h = (λ so. g (h.0 (f so)), s h.1)
+
+-- ---- A statement.
+
+opened_few : (x : Stated) → opened_by x ≤ 1
+opened_few (label n) = omega arith
+opened_few (cheap_label n) = omega arith
+opened_few unnamed_label = omega arith
+opened_few (open_scope n) = omega arith
+opened_few (open_proc n) = omega arith
+opened_few (segment n size) = omega arith
+opened_few _ = omega arith
+
+pub says_same : (count : ℕ) (t : State) (old new : Assembler) → Holds count t old → new.texts ≡ old.texts → SaysAs t new
+says_same count t old new h e = (ap (λ (s : Texts). s.out) e ∙ h.out, ap (λ (s : Texts). s.err) e ∙ h.err)
+
+abbrev Taken : Place → Stated → Assembler → Assembler → Answer → Type 0
+Taken place x old new r = (count : ℕ) (t : State) → Holds count t old → count < opening_limit → Answers (Takes t place x) (λ u. Holds (count + opened_by x) u new) r
+
+pub sound_leaves : (place : Place) (x : Stated) (old new : Assembler) (r : Answer) → IsSound x → Taken place x old new r → IfErr r (λ e. is_outside e ≡ false → new.texts ≡ old.texts) → TakesBy (IsSound x) (λ t. Takes t place x) 1 old new r
+sound_leaves place x old new (Ok v) sound taken same = λ count t room h.
+    (let few = opened_few x in
+    let a = taken count t h (omega (arith, room)) in
+    (a.0, a.1, λ reached. behind t a.0 place x reached sound a.1, (count + opened_by x, omega (arith, few), a.2)))
+sound_leaves place x old new (Err e) sound taken same = λ count t room h.
+    fault_first (IsSound x) (Takes t place x) (count + 1) t new e (taken count t h (omega (arith, room))) (λ inside. says_same count t old new h (same inside))
+
+-- ---- What stands behind a label.
+
+pub rest_leaves : (place : Place) (ts : List Lexeme) (x : Stated) (old new : Assembler) (r : Answer) → (ts ≡ [] → ⊥) → IsStatement ts (Ok x) → TakesBy (IsSound x) (λ t. Takes t place x) 1 old new r → TakesBy (AreNamed ts) (λ t. IsRest Takes t place ts) 1 old new r
+rest_leaves place [] x old new r some is taken = absurd (some refl)
+rest_leaves place (k ∷ ts) x old new (Ok v) some is taken = λ count t room h.
+    (let a = taken count t room h in (a.0, (Ok x, is, a.1), a.2, a.3))
+rest_leaves place (k ∷ ts) x old new (Err e) some is taken = λ count t room h.
+    fault_then (IsSound x) (AreNamed (k ∷ ts)) (Takes t place x) (IsRest Takes t place (k ∷ ts)) (count + 1) (count + 1) t t new e (λ named. statement_sound (k ∷ ts) x named is) (λ p. (Ok x, is, p)) (λ s. s) (taken count t room h)
+
+pub some_there : (n : ℕ) → false ≡ (n == 0) → n ≡ 0 → ⊥
+some_there zero h e = absurd cc
+some_there (suc n) h e = absurd cc
+
+-- ---- A label.
+
+abbrev FrontBy : Place → Option Stated → Assembler → Assembler → Answer → Type 0
+FrontBy place o old new r = TakesBy (IsSoundIf o) (λ t. IsLabelled Takes t place o) 1 old new r
+
+pub front_leaves : (place : Place) (o : Option Stated) (x : Stated) (old new : Assembler) (r : Answer) → o ≡ Some x → TakesBy (IsSound x) (λ t. Takes t place x) 1 old new r → FrontBy place o old new r
+front_leaves place None x old new r e h = absurd cc
+front_leaves place (Some y) x old new r e h =
+    let same : y ≡ x = cc in
+    let P : Stated → Type 0 = λ z. TakesBy (IsSound z) (λ t. Takes t place z) 1 old new r in
+    subst P (sym same) h
+
+-- it prints nothing
+puts_quiet : (place : Place) (s : Spot) (t u : State) (p : Piece) → Puts place s t p u → (u.out ≡ t.out) × (u.err ≡ t.err)
+puts_quiet place s t _ p (at_once c settled) = (refl, refl)
+puts_quiet place s t _ p later = (refl, refl)
+
+all_quiet : (place : Place) (s : Spot) (t u : State) (ps : List Piece) → PutsAll place s t ps u → (u.out ≡ t.out) × (u.err ≡ t.err)
+all_quiet place s t u [] h = (ap (λ (v : State). v.out) h, ap (λ (v : State). v.err) h)
+all_quiet place s t u (p ∷ ps) h =
+    let one = puts_quiet place s t h.0 p h.1 in
+    let rest = all_quiet place s h.0 u ps h.2 in
+    (rest.0 ∙ one.0, rest.1 ∙ one.1)
+
+asked_quiet : (t : State) (l : Laid) → ((asked t l).out ≡ t.out) × ((asked t l).err ≡ t.err)
+asked_quiet t l = by (asks_section l.stated)
+  where
+    by : (b : Bool) → ((if b then entered t (asking l.spot.segment) else t).out ≡ t.out) × ((if b then entered t (asking l.spot.segment) else t).err ≡ t.err)
+    by true = (refl, refl)
+    by false = (refl, refl)
+
+pub takes_quiet : (t u : State) (place : Place) (x : Stated) → (out_of x ≡ []) × (warning_of place x ≡ []) → Takes t place x (Ok u) → (u.out ≡ t.out) × (u.err ≡ t.err)
+takes_quiet t u place x quiet takes = by (line_fault t.symbols t.standing x) takes
+  where
+    l : Laid
+    l = laid t.symbols t.standing place x
+
+    step : (v : State) → PutsAll place (laid t.symbols t.standing place x).spot (asked t (laid t.symbols t.standing place x)) (pieces_of (laid t.symbols t.standing place x).length (laid t.symbols t.standing place x).settled x) v → u ≡ known v (laid t.symbols t.standing place x) → (u.out ≡ t.out) × (u.err ≡ t.err)
+    step v puts same =
+        let m = laid t.symbols t.standing place x in
+        let a = asked_quiet t m in
+        let b = all_quiet place m.spot (asked t m) v (pieces_of m.length m.settled x) puts in
+        (ap (λ (w : State). w.out) same ∙ ap (λ said. v.out ++ said) quiet.0 ∙ append-nil v.out ∙ b.0 ∙ a.0, ap (λ (w : State). w.err) same ∙ ap (λ said. v.err ++ said) quiet.1 ∙ append-nil v.err ∙ b.1 ∙ a.1)
+
+    by : (o : Option AsmFault) → UnlessFault o (Steps t (laid t.symbols t.standing place x)) (Ok u) → (u.out ≡ t.out) × (u.err ≡ t.err)
+    by None h = (let same : u ≡ known h.0 (laid t.symbols t.standing place x) = cc in step h.0 h.1 same)
+    by (Some e) h = absurd cc
+
+abbrev AreQuiet : Option Stated → Type 0
+AreQuiet o = (place : Place) (x : Stated) → o ≡ Some x → (out_of x ≡ []) × (warning_of place x ≡ [])
+
+quiet_labelled : (t u : State) (place : Place) (o : Option Stated) → AreQuiet o → IsLabelled Takes t place o (Ok u) → (u.out ≡ t.out) × (u.err ≡ t.err)
+quiet_labelled t u place None quiet h = (let same : u ≡ t = cc in (ap (λ (v : State). v.out) same, ap (λ (v : State). v.err) same))
+quiet_labelled t u place (Some x) quiet h = takes_quiet t u place x (quiet place x refl) h
+
+abbrev LabelAt : State → Place → (Option Stated × List Lexeme) → Result State AsmFault → Type 0
+LabelAt t place p r = (q : Result State AsmFault) × IsLabelled Takes t place p.0 q × First q (λ z. IsRest Takes z place p.1) r
+
+sound_if : (o : Option Stated) → ((x : Stated) → o ≡ Some x → IsSound x) → IsSoundIf o
+sound_if None f = tt
+sound_if (Some x) f = f x refl
+
+-- they are a label and what stands behind it
+abbrev Says : List Lexeme → List Lexeme → Option Stated → Type 0
+Says ts rest o = let p : Result (Option Stated × List Lexeme) AsmFault = Ok (o, rest) in p ≡ Ok (label_of ts)
+
+parted : (ts rest : List Lexeme) (o : Option Stated) → Says ts rest o → label_of ts ≡ (o, rest)
+parted ts rest o e = cc
+
+pub label_room : (place : Place) (o : Option Stated) (old mid : Assembler) (v : Unit {0}) → IsRoomy 2 old → FrontBy place o old mid (Ok v) → IsRoomy 1 mid
+label_room place o old mid v held front =
+    let room = held.2 in
+    let a = front held.0 held.1 (omega (arith, room)) held.3 in
+    let few = a.3.1 in
+    (a.3.0, a.0, omega (arith, room, few), a.3.2)
+
+pub label_refused : (place : Place) (ts rest : List Lexeme) (o : Option Stated) (old new : Assembler) (e : AsmFault) (r : Answer) → Says ts rest o → FrontBy place o old new (Err e) → r ≡ Err e → TakesBy (AreNamed ts) (λ t. IsLabel Takes t place ts) 2 old new r
+label_refused place ts rest o old new e r says front fails =
+    subst (λ (q : Answer). TakesBy (AreNamed ts) (λ t. IsLabel Takes t place ts) 2 old new q) (sym fails) (λ count t room h. refused count t room h)
+  where
+    is : label_of ts ≡ (o, rest)
+    is = parted ts rest o says
+
+    refused : (count : ℕ) (t : State) → count + 2 ≤ opening_limit → Holds count t old → Leaves (AreNamed ts) (IsLabel Takes t place ts) (count + 2) t new (Err e)
+    refused count t room h =
+        fault_then (IsSoundIf o) (AreNamed ts) (IsLabelled Takes t place o) (IsLabel Takes t place ts) (count + 1) (count + 2) t t new e
+        (λ named. sound_if o (subst (λ (p : Option Stated × List Lexeme). (x : Stated) → p.0 ≡ Some x → IsSound x) (parted ts rest o says) (label_sound ts named).label))
+        (λ p. subst (λ q. LabelAt t place q (Err e)) (sym (parted ts rest o says)) (Err e, p, refl))
+        (λ s. s) (front count t (omega (arith, room)) h)
+
+pub label_leaves : (place : Place) (ts rest : List Lexeme) (o : Option Stated) (old mid new : Assembler) (v : Unit {0}) (r : Answer) → Says ts rest o → FrontBy place o old mid (Ok v) → TakesBy (AreNamed rest) (λ t. IsRest Takes t place rest) 1 mid new r → TakesBy (AreNamed ts) (λ t. IsLabel Takes t place ts) 2 old new r
+label_leaves place ts rest o old mid new v (Ok w) says front taken = λ count t room h.
+    (let a = front count t (omega (arith, room)) h in
+    let few = a.3.1 in
+    let b = taken a.3.0 a.0 (omega (arith, room, few)) a.3.2 in
+    let least = b.3.1 in
+    let given : IsLabel Takes t place ts (Ok b.0) = subst (λ q. LabelAt t place q (Ok b.0)) (sym (parted ts rest o says)) (Ok a.0, a.1, b.1) in
+    (b.0, given, λ reached. b.2 (a.2 reached), (b.3.0, omega (arith, few, least), b.3.2)))
+label_leaves place ts rest o old mid new v (Err e) says front taken = λ count t room h.
+    (let a = front count t (omega (arith, room)) h in
+    let few = a.3.1 in
+    let b = taken a.3.0 a.0 (omega (arith, room, few)) a.3.2 in
+    let is = parted ts rest o says in
+    let quiet : AreQuiet o = subst (λ (p : Option Stated × List Lexeme). AreQuiet p.0) is (label_quiet ts) in
+    let same = quiet_labelled t a.0 place o quiet a.1 in
+    fault_then (AreNamed rest) (AreNamed ts) (IsRest Takes a.0 place rest) (IsLabel Takes t place ts) (a.3.0 + 1) (count + 2) t a.0 new e
+    (λ named. subst (λ (p : Option Stated × List Lexeme). AreNamed p.1) is (label_sound ts named).rest)
+    (λ p. subst (λ q. LabelAt t place q (Err e)) (sym is) (Ok a.0, a.1, p))
+    (λ s. (s.0 ∙ same.0, s.1 ∙ same.1)) b)
+
+-- ---- A statement that expansion gives.
+
+pub given_label : (place : Place) (g : Statement) (line : Line) (ts : List Lexeme) (old new : Assembler) (r : Answer) → g ≡ Label line → ts ≡ tokens_in line → TakesBy (AreNamed ts) (λ t. IsLabel Takes t place ts) 2 old new r → TakesBy (AreNamed (tokens_of (stated g))) (λ t. IsGiven Takes t place (stated g)) 2 old new r
+given_label place g line ts old new r is same h =
+    let P : Statement → Type 0 = λ g. TakesBy (AreNamed (tokens_of (stated g))) (λ t. IsGiven Takes t place (stated g)) 2 old new r in
+    let Q : List Lexeme → Type 0 = λ ts. TakesBy (AreNamed ts) (λ t. IsLabel Takes t place ts) 2 old new r in
+    subst P (sym is) (subst Q same h)
+
+wider : (AreSo : Type 0) (Is : State → Result State AsmFault → Type 0) (old new : Assembler) (r : Answer) → TakesBy AreSo Is 1 old new r → TakesBy AreSo Is 2 old new r
+wider AreSo Is old new (Ok v) taken = λ count t room h.
+    (let a = taken count t (omega (arith, room)) h in
+    let few = a.3.1 in
+    (a.0, a.1, a.2, (a.3.0, omega (arith, few), a.3.2)))
+wider AreSo Is old new (Err e) taken = λ count t room h. taken count t (omega (arith, room)) h
+
+pub given_plain : (place : Place) (g : Statement) (line : Line) (ts : List Lexeme) (old new : Assembler) (r : Answer) → g ≡ Plain line → ts ≡ tokens_in line → TakesBy (AreNamed ts) (λ t. IsRest Takes t place ts) 1 old new r → TakesBy (AreNamed (tokens_of (stated g))) (λ t. IsGiven Takes t place (stated g)) 2 old new r
+given_plain place g line ts old new r is same h =
+    let P : Statement → Type 0 = λ g. TakesBy (AreNamed (tokens_of (stated g))) (λ t. IsGiven Takes t place (stated g)) 2 old new r in
+    let Q : List Lexeme → Type 0 = λ ts. TakesBy (AreNamed ts) (λ t. IsRest Takes t place ts) 2 old new r in
+    subst P (sym is) (subst Q same (wider (AreNamed ts) (λ t. IsRest Takes t place ts) old new r h))

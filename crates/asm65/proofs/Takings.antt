@@ -1,0 +1,221 @@
+-- One statement behind the others.
+use Rattle.std.proofs.Common.{◌≡◌, ◌∙◌, ℕ, zero, suc, ◌+◌, ◌≤◌, List, [], ◌∷◌, ◌++◌, refl, sym, ap, subst, append-nil, arith}
+use Rattle.std.specs.Prelude.{Bool, true, false, ◌&&◌, ◌||◌, Option, Some, None, Ok, Err, slice_get, if◌then◌else◌}
+use Rattle.std.proofs.lemmas.Bool.Decides.{nat_tests}
+use Rattle.syntax65.specs.Outcome.{Unless}
+use Rattle.expand65.specs.declared.place.Place.{Place}
+use Rattle.syntax65.specs.declared.lexing.tokens.AddressSize.{AddressSize}
+use Rattle.language65.specs.declared.fault.AsmFault.{AsmFault}
+use Rattle.language65.specs.declared.fault.AsmFault.TheVariants.{DefinedTwice, NotUnderstood}
+use Rattle.language65.specs.Contents.{asking}
+use Rattle.language65.specs.Laid.{Laid, Spot, asks_section, is_unnamed}
+use Rattle.language65.specs.Language as l
+use Rattle.language65.specs.Layout.{Standing, laid, spot_of, standing_behind}
+use Rattle.language65.specs.LineFaults.{defined_twice, first_fault, is_open, line_fault, lost_scopes, opened_twice, or_then, scope_name, stands_outside, trees_of, when, where_there}
+use Rattle.language65.specs.Symbols.{Definition, Key, Scope, Symbols, cheap_in, defined, definition_with, definitions_of, key_defined, named, same_key, scope_opened, unnamed_at, value_defined}
+use Rattle.layout65.specs.declared.standing.Standing as code
+use Rattle.layout65.specs.Counting.{AreInside, opened_by}
+use Rattle.layout65.specs.Measuring.{Measured, measure_of, naming_fault, placing_faults}
+use Rattle.layout65.specs.Sounds.{AreWithin, IsCounted, IsSoundStanding}
+use Rattle.layout65.specs.Views.{standing_of}
+use Rattle.layout65.proofs.Behind.{inside_behind}
+use Rattle.layout65.proofs.Measures.{faults_are}
+use Rattle.module65.proofs.Segments.{all_more, all_same}
+use Rattle.module65.specs.Machine.{Puts, PutsAll, State, Steps, Takes, UnlessFault, at_once, entered, known, later, symbols_behind}
+use Rattle.module65.specs.Module.{out_of, warning_of}
+use Rattle.module65.specs.Pieces.{Piece, pieces_of}
+use Rattle.symbols65.specs.declared.resolving.known.Known.{Known}
+use Rattle.symbols65.specs.Resolving.{IsTable}
+use Rattle.symbols65.specs.Views.{table_of}
+use Rattle.symbols65.proofs.Places.{position_none}
+use Rattle.asm65.specs.declared.assembler.Assembler.{Assembler}
+use Rattle.asm65.specs.declared.texts.Texts.{Texts}
+use Rattle.asm65.specs.Holding.{AreBefore, Holds, IsBefore}
+use Rattle.asm65.specs.Taking.{IsNew, IsPlaced, Turns, asked_of, laid_as, stepped, with_symbols}
+use Rattle.asm65.proofs.Namings.{IsBeside, puts_beside}
+
+-- ---- Unnamed labels.
+
+key_later : (n : ℕ) (k : Key) → IsBefore n k → IsBefore (n + 1) k
+key_later n (named s m) h = tt
+key_later n (cheap_in r m) h = tt
+key_later n (unnamed_at j) h = omega (arith, h)
+
+all_later : (n : ℕ) (ds : List Definition) → AreBefore n ds → AreBefore (n + 1) ds
+all_later n ds h = all_same (λ (d : Definition). IsBefore n d.key) (λ (d : Definition). IsBefore (n + 1) d.key) (λ d p. key_later n d.key p) ds h
+
+still_before : (x : l.Stated) (n : ℕ) (ds : List Definition) → AreBefore n ds → AreBefore (if is_unnamed x then n + 1 else n) ds
+still_before l.unnamed_label n ds h = all_later n ds h
+still_before _ n ds h = h
+
+before_behind : (x : l.Stated) (s : Spot) (own : AddressSize) (ds : List Definition) → AreBefore s.unnamed ds → AreBefore (if is_unnamed x then s.unnamed + 1 else s.unnamed) (ds ++ definition_with (key_defined s x) (value_defined x) s own)
+before_behind x s own ds h = by x
+  where
+    more : (n : ℕ) (d : Definition) → AreBefore n ds → IsBefore n d.key → AreBefore n (ds ++ d ∷ [])
+    more n d k p = all_more (λ (e : Definition). IsBefore n e.key) ds d k p
+
+    by : (x : l.Stated) → AreBefore (if is_unnamed x then s.unnamed + 1 else s.unnamed) (ds ++ definition_with (key_defined s x) (value_defined x) s own)
+    by (l.label n) = more s.unnamed (record { key = named s.scope n; value = None; spot = s; size = own }) h tt
+    by (l.constant n e) = more s.unnamed (record { key = named s.scope n; value = Some e; spot = s; size = own }) h tt
+    by (l.open_proc n) = more s.unnamed (record { key = named s.scope n; value = None; spot = s; size = own }) h tt
+    by (l.cheap_label n) = more s.unnamed (record { key = cheap_in s.region n; value = None; spot = s; size = own }) h tt
+    by l.unnamed_label = more (s.unnamed + 1) (record { key = unnamed_at s.unnamed; value = None; spot = s; size = own }) (all_later s.unnamed ds h) (omega arith)
+    by _ = subst (λ (es : List Definition). AreBefore s.unnamed es) (sym (append-nil ds)) h
+
+before_at : (n : ℕ) (ds : List Definition) (i : ℕ) (d : Definition) → AreBefore n ds → slice_get ds i ≡ Some d → IsBefore n d.key
+before_at n [] i d h e = absurd cc
+before_at n (c ∷ ds) zero d h e = let same : c ≡ d = cc in subst (λ (b : Definition). IsBefore n b.key) same h.0
+before_at n (c ∷ ds) (suc i) d h e = before_at n ds i d h.1 e
+
+other_key : (n : ℕ) (k : Key) → IsBefore n k → same_key k (unnamed_at n) ≡ false
+other_key n (named s m) h = refl
+other_key n (cheap_in r m) h = refl
+other_key n (unnamed_at j) h = grind (arith, nat_tests)
+
+next_free : (y : Symbols) (n : ℕ) → AreBefore n y.definitions → defined y (unnamed_at n) ≡ None
+next_free y n h = position_none (λ (d : Definition). same_key d.key (unnamed_at n)) y.definitions (λ i d e. other_key n d.key (before_at n y.definitions i d h e))
+
+-- ---- What is new.
+
+or_none : (f g : Option AsmFault) → or_then f g ≡ None → (f ≡ None) × (g ≡ None)
+or_none None g h = (refl, h)
+or_none (Some e) g h = absurd cc
+
+there_none : (o : Option ℕ) (e : AsmFault) → where_there o e ≡ None → o ≡ None
+there_none None e h = refl
+there_none (Some i) e h = absurd cc
+
+unnamed_is : (x : l.Stated) (s : Spot) (j : ℕ) → key_defined s x ≡ Some (unnamed_at j) → s.unnamed ≡ j
+unnamed_is l.unnamed_label s j e = cc
+unnamed_is (l.label n) s j e = absurd cc
+unnamed_is (l.constant n v) s j e = absurd cc
+unnamed_is (l.open_proc n) s j e = absurd cc
+unnamed_is (l.cheap_label n) s j e = absurd cc
+unnamed_is _ s j e = absurd cc
+
+key_free : (y : Symbols) (x : l.Stated) (s : Spot) (k : Key) → defined_twice y (Some k) ≡ None → key_defined s x ≡ Some k → AreBefore s.unnamed y.definitions → defined y k ≡ None
+key_free y x s (named scope n) h e before = there_none (defined y (named scope n)) (DefinedTwice n) h
+key_free y x s (cheap_in region n) h e before = there_none (defined y (cheap_in region n)) (DefinedTwice n) h
+key_free y x s (unnamed_at j) h e before = subst (λ n. defined y (unnamed_at n) ≡ None) (unnamed_is x s j e) (next_free y s.unnamed before)
+
+-- a statement without a fault at its line defines and opens what isn't there
+pub is_new : (y : Symbols) (w : Standing) (x : l.Stated) → line_fault y w x ≡ None → AreBefore w.unnamed y.definitions → IsNew y (spot_of w) x
+is_new y w x h before =
+    let opened = opened_twice y.scopes w.scope (scope_name x) in
+    let twice = defined_twice y (key_defined (spot_of w) x) in
+    let lost = lost_scopes y.scopes w.scope (trees_of x) in
+    let naming = (or_none (naming_fault y (spot_of w) x) (first_fault (placing_faults y w x)) (sym (faults_are y w x) ∙ h)).0 in
+    let first = (or_none (when (stands_outside x && is_open w.scope) NotUnderstood) (or_then lost (or_then opened twice)) naming).1 in
+    let second = (or_none lost (or_then opened twice) first).1 in
+    let both = or_none opened twice second in
+    record {
+      opened = both.0;
+      defined = λ k e. key_free y x (spot_of w) k (ap (defined_twice y) (sym e) ∙ both.1) e before;
+    }
+
+-- ---- Behind a statement.
+
+asked_beside : (segment : ℕ) (x : l.Stated) (t : State) → IsBeside t (asked_of segment x t)
+asked_beside segment x t = by (asks_section x)
+  where
+    by : (b : Bool) → IsBeside t (if b then entered t (asking segment) else t)
+    by true = record { symbols = refl; standing = refl; out = refl; err = refl }
+    by false = record { symbols = refl; standing = refl; out = refl; err = refl }
+
+wider : (count more : ℕ) (cs : List Scope) → AreInside count cs → AreInside (count + more) cs
+wider count more cs h = all_same (λ (c : Scope). c.within ≤ count) (λ (c : Scope). c.within ≤ count + more) (λ c le. omega (arith, le)) cs h
+
+-- another table of forms
+pub holds_known : (count : ℕ) (t : State) (a : Assembler) (k : Known) → Holds count t a → IsTable (table_of a.symbols) k.states.items → Holds count t (record a { known = k })
+holds_known count t a k h table = record {
+  symbols = h.symbols;
+  known = subst (λ (y : Symbols). IsTable y k.states.items) h.symbols table;
+  standing = h.standing;
+  sound = h.sound;
+  ends = h.ends;
+  counted = h.counted;
+  inside = h.inside;
+  unnamed = h.unnamed;
+  waiting = h.waiting;
+  sections = h.sections;
+  slots = h.slots;
+  out = h.out;
+  err = h.err;
+}
+
+pub holds_stepped : (count : ℕ) (t : State) (place : Place) (x : l.Stated) (a : Assembler) (v : code.Standing) (said : Texts) → Holds count (asked_of (spot_of t.standing).segment x t) a → standing_of v ≡ standing_behind t.symbols t.standing x → IsSoundStanding v → AreWithin v.segments.items → IsCounted (count + opened_by x) v → said.out ≡ a.texts.out ++ out_of x → said.err ≡ a.texts.err ++ warning_of place x → Holds (count + opened_by x) (stepped t place x) (record a { standing = v; texts = said })
+holds_stepped count t place x a v said h standing sound ends counted out err =
+    let u : State = asked_of (spot_of t.standing).segment x t in
+    let same : u.standing ≡ t.standing = (asked_beside (spot_of t.standing).segment x t).standing in
+    record {
+      symbols = h.symbols;
+      known = h.known;
+      standing = standing;
+      sound = sound;
+      ends = ends;
+      counted = counted;
+      inside = wider count (opened_by x) u.symbols.scopes h.inside;
+      unnamed = still_before x t.standing.unnamed u.symbols.definitions (subst (λ (w : Standing). AreBefore w.unnamed u.symbols.definitions) same h.unnamed);
+      waiting = h.waiting;
+      sections = h.sections;
+      slots = h.slots;
+      out = out ∙ ap (λ (o : List ℕ). o ++ out_of x) h.out;
+      err = err ∙ ap (λ (o : List ℕ). o ++ warning_of place x) h.err;
+    }
+
+-- ---- A statement is taken.
+
+pub unless_either : (P : Type 0) (a b : Bool) → Unless a P → Unless (a || b) P
+unless_either P true b h = tt
+unless_either P false true h = tt
+unless_either P false false h = h
+
+pub takes_refused : (t : State) (place : Place) (x : l.Stated) (e : AsmFault) → line_fault t.symbols t.standing x ≡ Some e → Takes t place x (Err e)
+takes_refused t place x e h = subst (λ (f : Option AsmFault). UnlessFault f (Steps t (laid t.symbols t.standing place x)) (Err e)) (sym h) refl
+
+abbrev aside : State → Standing → List ℕ → List ℕ → State
+aside t w o e = record t { standing = w; out = o; err = e }
+
+one_aside : (place : Place) (s : Spot) (u v : State) (w : Standing) (o e : List ℕ) (p : Piece) → Puts place s (aside u w o e) p v → Puts place s u p (aside v u.standing u.out u.err)
+one_aside place s u _ w o e p (at_once c settled) = at_once c settled
+one_aside place s u _ w o e p later = later
+
+-- pieces are put whatever stands beside them
+puts_aside : (place : Place) (s : Spot) (u v : State) (w : Standing) (o e : List ℕ) (ps : List Piece) → PutsAll place s (aside u w o e) ps v → PutsAll place s u ps (aside v u.standing u.out u.err)
+puts_aside place s u v w o e [] h = ap (λ (x : State). aside x u.standing u.out u.err) h
+puts_aside place s u v w o e (p ∷ ps) h =
+    let x : State = h.0 in
+    (aside x u.standing u.out u.err, one_aside place s u x w o e p h.1, puts_aside place s (aside x u.standing u.out u.err) v x.standing x.out x.err ps h.2)
+
+abbrev with_all : State → Symbols → Standing → List ℕ → List ℕ → State
+with_all v y w o e = record { symbols = y; standing = w; slots = v.slots; waiting = v.waiting; out = o; err = e }
+
+all_same_state : (v : State) (y z : Symbols) (w x : Standing) (o p e f : List ℕ) → y ≡ z → w ≡ x → o ≡ p → e ≡ f → with_all v y w o e ≡ with_all v z x p f
+all_same_state v y z w x o p e f a b c d =
+    ap (λ (r : Symbols). with_all v r w o e) a
+    ∙ ap (λ (r : Standing). with_all v z r o e) b
+    ∙ ap (λ (r : List ℕ). with_all v z x r e) c
+    ∙ ap (λ (r : List ℕ). with_all v z x p r) d
+
+pub takes_entered : (count : ℕ) (t : State) (place : Place) (x : l.Stated) (s : Spot) (m : Measured) (old mid new : Assembler) → Holds count t old → IsPlaced t x s m → Holds (count + opened_by x) (stepped t place x) mid → Turns place s (pieces_of m.length m.settled x) (λ y. symbols_behind y (laid_as place s m x)) mid new → (z : State) × Takes t place x (Ok z) × Holds (count + opened_by x) z new
+takes_entered count t place x s m old mid new h placed held turns =
+    let r : Laid = laid t.symbols t.standing place x in
+    let u : State = asked_of (spot_of t.standing).segment x t in
+    let beside = asked_beside (spot_of t.standing).segment x t in
+    let ps : List Piece = pieces_of r.length r.settled x in
+    let measured : Turns place s ps (λ y. symbols_behind y (laid_as place s (measure_of t.symbols t.standing x) x)) mid new = subst (λ (n : Measured). Turns place s (pieces_of n.length n.settled x) (λ y. symbols_behind y (laid_as place s n x)) mid new) placed.measured turns in
+    let here : Turns place (spot_of t.standing) ps (λ y. symbols_behind y r) mid new = subst (λ (q : Spot). Turns place q ps (λ y. symbols_behind y (laid_as place q (measure_of t.symbols t.standing x) x)) mid new) placed.spot measured in
+    let low : t.standing.scope ≤ count = subst (λ (w : Standing). w.scope ≤ count) h.standing h.counted.scope in
+    let inside : AreInside (count + opened_by x) (symbols_behind u.symbols r).scopes = subst (λ (y : Symbols). AreInside (count + opened_by x) (y.scopes ++ scope_opened t.standing.scope x)) (sym beside.symbols) (inside_behind count t.standing.scope t.symbols.scopes x low h.inside) in
+    let unnamed : AreBefore (standing_behind t.symbols t.standing x).unnamed (symbols_behind u.symbols r).definitions = subst (λ (y : Symbols). AreBefore (standing_behind t.symbols t.standing x).unnamed (y.definitions ++ definitions_of r)) (sym beside.symbols) (before_behind x (spot_of t.standing) r.size t.symbols.definitions h.unnamed) in
+    let done = here (count + opened_by x) (stepped t place x) held inside unnamed in
+    let v : State = done.0 in
+    let w : State = aside v u.standing u.out u.err in
+    let along = puts_beside place (spot_of t.standing) (stepped t place x) v ps done.1 in
+    let puts : PutsAll place (spot_of t.standing) u ps w = puts_aside place (spot_of t.standing) u v (standing_behind t.symbols t.standing x) (u.out ++ out_of x) (u.err ++ warning_of place x) ps done.1 in
+    let same : with_symbols v (symbols_behind u.symbols r) ≡ known w r =
+    all_same_state v (symbols_behind u.symbols r) (symbols_behind v.symbols r) v.standing (standing_behind v.symbols u.standing x) v.out (u.out ++ out_of x) v.err (u.err ++ warning_of place x)
+    (ap (λ (y : Symbols). symbols_behind y r) (sym along.symbols))
+    (along.standing ∙ ap (λ (y : Symbols). standing_behind y t.standing x) (sym beside.symbols ∙ sym along.symbols) ∙ ap (λ (z : Standing). standing_behind v.symbols z x) (sym beside.standing))
+    along.out along.err in
+    (known w r, subst (λ (f : Option AsmFault). UnlessFault f (Steps t r) (Ok (known w r))) (sym placed.faultless) (w, puts, refl), subst (λ (z : State). Holds (count + opened_by x) z new) same done.2)

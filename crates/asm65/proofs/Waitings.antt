@@ -1,0 +1,176 @@
+-- What waits, with one more behind it, and behind statements that follow; and what an assembler holds
+-- when one more piece waits or is put at once.
+use Rattle.std.proofs.Common.{◌≡◌, ◌∙◌, ℕ, zero, suc, ◌+◌, List, [], ◌∷◌, ◌++◌, length, map, position, refl, sym, ap, subst, length-append, arith}
+use Rattle.std.specs.Prelude.{string_bytes, false, slice_get, Some}
+use Rattle.std.specs.List.{AllByRecursion}
+use Rattle.std.specs.Str.{bytes_eq}
+use Rattle.syntax65.specs.Trees.{Tree}
+use Rattle.language65.specs.declared.contents.Content.{Content}
+use Rattle.language65.specs.Extending.{Extends}
+use Rattle.expand65.specs.declared.place.Place.{Place}
+use Rattle.language65.specs.Laid.{Spot}
+use Rattle.language65.specs.Symbols.{Symbols}
+use Rattle.language65.specs.Views.{spot_of}
+use Rattle.language65.proofs.Lists.{same_bytes}
+use Rattle.module65.specs.Machine as machine
+use Rattle.module65.specs.Machine.{State, awaited, awaited_in, awaiting, entered, filled, holds, later}
+use Rattle.module65.specs.Pieces as piece
+use Rattle.module65.proofs.Tables.{extends_same}
+use Rattle.module65.proofs.Resolving.{awaited_append, filled_later, filled_next}
+use Rattle.sections65.specs.declared.sections.Sections.{Sections}
+use Rattle.sections65.specs.Standing.{Awaits, Feeds, Stands}
+use Rattle.symbols65.specs.declared.resolving.known.Known.{Known}
+use Rattle.symbols65.specs.Resolving.{IsTable}
+use Rattle.symbols65.specs.Tables.{Begins}
+use Rattle.symbols65.specs.Views.{table_of}
+use Rattle.symbols65.proofs.Places.{first_passes}
+use Rattle.asm65.specs.declared.assembler.Assembler.{Assembler}
+use Rattle.layout65.specs.declared.standing.Standing.{Standing}
+use Rattle.asm65.specs.declared.waiting.Piece.{Piece}
+use Rattle.asm65.specs.declared.waiting.Piece.TheVariants.{Datum, Operand, Constant, Assertion, Import, Demand, Export}
+use Rattle.asm65.specs.declared.waiting.Waiting.{Waiting}
+use Rattle.asm65.specs.Holding.{AreAwaited, AreWaiting, Enters, Holds, IsConstant, IsPiece, IsWaiting}
+use Rattle.asm65.specs.Putting.{KeepsTables, Waits}
+use Rattle.layout65.specs.Sounds.{AreWithin, IsCounted, IsSoundStanding}
+use Rattle.layout65.specs.Views.{standing_of}
+use Rattle.layout65.proofs.Segments.{all_before}
+
+-- ---- What waits.
+
+-- one more
+pub waiting_more : (y : Symbols) (files : List (List ℕ)) (ws : List Waiting) (vs : List machine.Waiting) (w : Waiting) (v : machine.Waiting) → AreWaiting y files ws vs → IsWaiting y files w v → AreWaiting y files (ws ++ w ∷ []) (vs ++ v ∷ [])
+waiting_more y files [] [] w v h k = (k, refl)
+waiting_more y files [] (x ∷ vs) w v h k = absurd cc
+waiting_more y files (x ∷ ws) [] w v h k = absurd h
+waiting_more y files (x ∷ ws) (z ∷ vs) w v h k = (h.0, waiting_more y files ws vs w v h.1 k)
+
+pub there_still : {A : Type 0} (xs ys : List A) (i : ℕ) (x : A) → slice_get xs i ≡ Some x → slice_get (xs ++ ys) i ≡ Some x
+there_still [] ys i x e = absurd cc
+there_still (z ∷ xs) ys zero x e = e
+there_still (z ∷ xs) ys (suc i) x e = there_still xs ys i x e
+
+constant_stays : (y z : Symbols) (s : Spot) (place : ℕ) (e : Tree) → Extends y z → IsConstant y s place e → IsConstant z s place e
+constant_stays y z s place e more h = record {
+  definition = h.definition;
+  there = ap (λ ds. slice_get ds place) more.definitions ∙ there_still y.definitions more.later_definitions place h.definition h.there;
+  spot = h.spot;
+  value = h.value;
+}
+
+pub piece_stays : (y z : Symbols) (s : Spot) (p : Piece) (v : piece.Piece) → Extends y z → IsPiece y s p v → IsPiece z s p v
+piece_stays y z s (Datum w e) v more h = h
+piece_stays y z s (Operand w e) v more h = h
+piece_stays y z s (Constant place) v more h = (h.0, constant_stays y z s place h.0 more h.1, h.2)
+piece_stays y z s (Assertion act words e) v more h = h
+piece_stays y z s (Import n) v more h = h
+piece_stays y z s (Demand n) v more h = h
+piece_stays y z s (Export must n) v more h = h
+
+waits_still : (y z : Symbols) (files more : List (List ℕ)) (w : Waiting) (v : machine.Waiting) → Extends y z → Begins files more → IsWaiting y files w v → IsWaiting z more w v
+waits_still y z files more w v symbols names h = record {
+  file = ap (λ ns. slice_get ns w.file) names.1 ∙ there_still files names.0 w.file v.place.file h.file;
+  line = h.line;
+  spot = h.spot;
+  piece = piece_stays y z v.spot w.piece v.piece symbols h.piece;
+}
+
+-- behind more definitions and more files
+pub waiting_stays : (y z : Symbols) (files more : List (List ℕ)) (ws : List Waiting) (vs : List machine.Waiting) → Extends y z → Begins files more → AreWaiting y files ws vs → AreWaiting z more ws vs
+waiting_stays y z files more [] vs symbols names h = h
+waiting_stays y z files more (w ∷ ws) [] symbols names h = h
+waiting_stays y z files more (w ∷ ws) (v ∷ vs) symbols names h = (waits_still y z files more w v symbols names h.0, waiting_stays y z files more ws vs symbols names h.1)
+
+-- a name is where it is found
+pub named_there : (names : List (List ℕ)) (n : List ℕ) (i : ℕ) → position (bytes_eq n) names ≡ Some i → slice_get names i ≡ Some n
+named_there names n i e = let (x, at, same) = first_passes (bytes_eq n) names i e in at ∙ ap Some (sym (same_bytes n x same))
+
+-- ---- Contents for what waits.
+
+last_of : (cs : List Content) (n : ℕ) → length cs ≡ n + 1 → (front : List Content) × (c : Content) × (cs ≡ front ++ c ∷ [])
+last_of [] n e = absurd (omega arith)
+last_of (c ∷ []) n e = ([], c, refl)
+last_of (c ∷ d ∷ cs) zero e = absurd (omega arith)
+last_of (c ∷ d ∷ cs) (suc n) e = let (front, l, is) = last_of (d ∷ cs) n (omega arith) in (c ∷ front, l, ap (λ ds. c ∷ ds) is)
+
+module _ (t : State) (old new : Sections) (slots : awaited_in t.slots ≡ length t.waiting) (stands : (ws : List Content) → AreAwaited t.waiting ws → Stands (filled t.slots ws) ws old) where
+  fed : (c : Content) → Feeds old new c → (ws : List Content) → AreAwaited t.waiting ws → Stands (filled (t.slots ++ holds c ∷ []) ws) ws new
+  fed c feeds ws h =
+      subst (λ cs. Stands cs ws new) (sym (filled_next t.slots c ws (slots ∙ sym h.0)))
+      (feeds (filled t.slots ws) ws (stands ws h))
+
+  deferred : (v : machine.Waiting) → Awaits old new → (ws : List Content) → AreAwaited (t.waiting ++ v ∷ []) ws → Stands (filled (t.slots ++ awaited ∷ []) ws) ws new
+  deferred v awaits ws h =
+      let long : length ws ≡ length t.waiting + 1 = h.0 ∙ length-append t.waiting (v ∷ []) in
+      let (front, c, is) = last_of ws (length t.waiting) long in
+      let quiet = all_before (λ (c : Content). c.asks ≡ false) front c (subst (AllByRecursion (λ (c : Content). c.asks ≡ false)) is h.1) in
+      let split : length ws ≡ length front + 1 = ap length is ∙ length-append front (c ∷ []) in
+      let many : length front ≡ length t.waiting = omega (arith, long, split) in
+      subst (λ cs. Stands (filled (t.slots ++ awaited ∷ []) cs) cs new) (sym is)
+      (subst (λ cs. Stands cs (front ++ c ∷ []) new) (sym (filled_later t.slots c front (slots ∙ sym many)))
+      (awaits (filled t.slots front) front c quiet.1 (stands front (many, quiet.0))))
+
+-- ---- What is held.
+
+module _ (count : ℕ) (t : State) (old new : Assembler) (h : Holds count t old) (keeps : KeepsTables old new) where
+  -- one more piece waits
+  pub holds_awaiting : (v : machine.Waiting) → Awaits old.sections new.sections → AreWaiting t.symbols (map string_bytes new.files.keys) new.waiting.items (t.waiting ++ v ∷ []) → Holds count (awaiting t v) new
+  holds_awaiting v awaits waiting = record {
+    symbols = ap table_of keeps.symbols ∙ h.symbols;
+    known = subst (λ (k : Known). IsTable t.symbols k.states.items) (sym keeps.known) h.known;
+    standing = ap standing_of keeps.standing ∙ h.standing;
+    sound = subst IsSoundStanding (sym keeps.standing) h.sound;
+    ends = subst (λ (w : Standing). AreWithin w.segments.items) (sym keeps.standing) h.ends;
+    counted = subst (IsCounted count) (sym keeps.standing) h.counted;
+    inside = h.inside;
+    unnamed = h.unnamed;
+    waiting = waiting;
+    sections = deferred t old.sections new.sections h.slots h.sections v awaits;
+    slots =
+        (let more = awaited_append t.slots (awaited ∷ []) in
+        let long = length-append t.waiting (v ∷ []) in
+        let same = h.slots in
+        omega (arith, more, long, same));
+    out = ap (λ x. x.out) keeps.texts ∙ h.out;
+    err = ap (λ x. x.err) keeps.texts ∙ h.err;
+  }
+
+  -- a content is put at once
+  pub holds_entered : (c : Content) → Feeds old.sections new.sections c → new.waiting ≡ old.waiting → new.files ≡ old.files → Holds count (entered t c) new
+  holds_entered c feeds waiting files = record {
+    symbols = ap table_of keeps.symbols ∙ h.symbols;
+    known = subst (λ (k : Known). IsTable t.symbols k.states.items) (sym keeps.known) h.known;
+    standing = ap standing_of keeps.standing ∙ h.standing;
+    sound = subst IsSoundStanding (sym keeps.standing) h.sound;
+    ends = subst (λ (w : Standing). AreWithin w.segments.items) (sym keeps.standing) h.ends;
+    counted = subst (IsCounted count) (sym keeps.standing) h.counted;
+    inside = h.inside;
+    unnamed = h.unnamed;
+    waiting = rw (waiting, files) h.waiting;
+    sections = fed t old.sections new.sections h.slots h.sections c feeds;
+    slots =
+        (let more = awaited_append t.slots (holds c ∷ []) in
+        let same = h.slots in
+        omega (arith, more, same));
+    out = ap (λ x. x.out) keeps.texts ∙ h.out;
+    err = ap (λ x. x.err) keeps.texts ∙ h.err;
+  }
+
+-- one more piece waits behind those before it
+pub waits_behind : (old new : Assembler) (place : Place) (s : Spot) (w : Waiting) → KeepsTables old new → Awaits old.sections new.sections → Begins (map string_bytes old.files.keys) (map string_bytes new.files.keys) → new.waiting.items ≡ old.waiting.items ++ w ∷ [] → slice_get (map string_bytes new.files.keys) w.file ≡ Some place.file → place.line ≡ w.line → s ≡ spot_of w.spot → Waits place s w.piece old new
+waits_behind old new place s w keeps awaits names waiting file line spot count t v h is =
+    let now : machine.Waiting = record { place = place; spot = s; piece = v } in
+    let files = map string_bytes new.files.keys in
+    let before : AreWaiting t.symbols files old.waiting.items t.waiting = waiting_stays t.symbols t.symbols (map string_bytes old.files.keys) files old.waiting.items t.waiting (extends_same t.symbols) names h.waiting in
+    let one : IsWaiting t.symbols files w now = record {
+      file = file;
+      line = line;
+      spot = spot;
+      piece = subst (λ y. IsPiece y s w.piece v) h.symbols is;
+    } in
+    holds_awaiting count t old new h keeps now awaits
+    (subst (λ (ws : List Waiting). AreWaiting t.symbols files ws (t.waiting ++ now ∷ [])) (sym waiting)
+    (waiting_more t.symbols files old.waiting.items t.waiting w now before one))
+
+-- what waits is entered
+pub waits_enters : (old new : Assembler) (place : Place) (s : Spot) (p : Piece) (v : piece.Piece) → Waits place s p old new → IsPiece (table_of old.symbols) s p v → Enters place s (v ∷ []) old new
+waits_enters old new place s p v waits is count t h = (awaiting t (record { place = place; spot = s; piece = v }), (awaiting t (record { place = place; spot = s; piece = v }), later, refl), waits count t v h is)

@@ -1,0 +1,40 @@
+use Rattle.std.proofs.Common.{◌≡◌, ℕ, List, ap, false, map, string_bytes, subst, Global}
+use Rattle.std.specs.Prelude.{IfOk, None, Ok, Err}
+use Rattle.syntax65.specs.Outcome.{Unless}
+use Rattle.language65.specs.declared.contents.Segment.{Segment}
+use Rattle.module65.specs.Machine.{State, concluded}
+use Rattle.asm65.specs.Assembly.{is_outside_refusal}
+use Rattle.asm65.specs.Holding.{Holds}
+use Rattle.asm65.specs.Resolving.{AreFaulty, AreSettled}
+use Rattle.asm65.proofs.Comings.{certain}
+use Rattle.asm65.proofs.Conclusions.{IsGoodWhere, IsMade, all_settled, either_concluded, either_good, ending_of, fault_concluded, imports_of}
+use Rattle.asm65.proofs.assembler.Assembler.conclude.Goals as goal
+
+pub returns-in-Ok-clause-concluded : goal.returns-in-Ok-clause-concluded
+returns-in-Ok-clause-concluded c =
+    let a = c.args.self in
+    let new = c.settle_all-settled.new.ending in
+    let files = map (string_bytes {Z = Global}) c.as_slice.result.now in
+    λ (count : ℕ) (t : State).
+    λ (h : Holds count t a).
+    let k : AreSettled t.symbols t.waiting (ending_of a) new = all_settled count t a files new (Ok tt) h (ap (map (string_bytes {Z = Global})) c.as_slice.ensures.keys) c.in-Ok.ensures.settled in
+    c.answered.ensures.concluded (concluded t None) (either_concluded count t a new c.object_of-object.result h k (subst (λ (gs : List Segment). IfOk c.object_of-object.result (IsMade gs (imports_of a) new)) c.as_slice-segments.ensures.value c.object_of-object.ensures.object) c.object_of-object.ensures.inside)
+
+pub returns-in-Ok-clause-good : goal.returns-in-Ok-clause-good
+returns-in-Ok-clause-good c =
+    let a = c.args.self in
+    let new = c.settle_all-settled.new.ending in
+    let files = map (string_bytes {Z = Global}) c.as_slice.result.now in
+    either_good a new c.object_of-object.result c.answered.result.result c.answered.ensures.answer
+    (λ (count : ℕ) (t : State). λ (h : Holds count t a). all_settled count t a files new (Ok tt) h (ap (map (string_bytes {Z = Global})) c.as_slice.ensures.keys) c.in-Ok.ensures.settled)
+    (subst (λ (gs : List Segment). IfOk c.object_of-object.result (IsGoodWhere gs (imports_of a) new)) c.as_slice-segments.ensures.value c.object_of-object.ensures.good)
+
+pub returns-in-Err-clause-concluded : goal.returns-in-Err-clause-concluded
+returns-in-Err-clause-concluded c =
+    let a = c.args.self in
+    let new = c.settle_all-settled.new.ending in
+    let files = map (string_bytes {Z = Global}) c.as_slice.result.now in
+    λ (count : ℕ) (t : State).
+    λ (h : Holds count t a).
+    let k : Unless (is_outside_refusal c.in-Err.refusal) (AreFaulty t.symbols t.waiting c.in-Err.refusal (ending_of a) new) = all_settled count t a files new (Err c.in-Err.refusal) h (ap (map (string_bytes {Z = Global})) c.as_slice.ensures.keys) c.in-Err.ensures.settled in
+    c.answered-in-Err.ensures.concluded (concluded t None) (λ (e : is_outside_refusal c.in-Err.refusal ≡ false). fault_concluded count t a new c.in-Err.refusal h (certain (is_outside_refusal c.in-Err.refusal) (AreFaulty t.symbols t.waiting c.in-Err.refusal (ending_of a) new) k e))

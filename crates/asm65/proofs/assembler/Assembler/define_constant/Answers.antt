@@ -1,0 +1,70 @@
+use Rattle.std.proofs.Common.{◌≡◌, ◌∙◌, [], Option, None, Some, length, refl, sym, ap, subst}
+use Rattle.std.specs.Prelude.{is_some, slice_get, true}
+use Rattle.syntax65.specs.Trees.{Tree, tree_of}
+use Rattle.expand65.specs.declared.place.Place.{Place}
+use Rattle.object65.specs.Form.{Form}
+use Rattle.language65.specs.Contents.{telling}
+use Rattle.language65.specs.Extending.{IsFinal}
+use Rattle.language65.specs.Laid.{Spot}
+use Rattle.language65.specs.Symbols.{Definition, Symbols, named}
+use Rattle.language65.specs.Views.{spot_of}
+use Rattle.language65.proofs.Lists.{map_length}
+use Rattle.module65.specs.Machine.{State, at_once, awaiting, entered, later}
+use Rattle.module65.specs.Pieces.{equated, valued}
+use Rattle.module65.proofs.Finals.{final_settles}
+use Rattle.symbols65.specs.Finals.{formed}
+use Rattle.symbols65.specs.Tables.{definition_in}
+use Rattle.symbols65.specs.Views.{table_of, with_definition, words_of}
+use Rattle.asm65.specs.declared.assembler.Assembler.{Assembler}
+use Rattle.asm65.specs.Holding.{Holds, IsConstant}
+use Rattle.asm65.specs.Taking.{with_symbols}
+use Rattle.asm65.specs.Views.{place_in}
+use Rattle.asm65.proofs.Namings.{holds_grown, last_there, more_defined}
+use Rattle.asm65.proofs.Enterings.{says_nothing}
+use Rattle.asm65.proofs.Waitings.{holds_entered}
+use Rattle.asm65.proofs.assembler.Assembler.define_constant.Goals as goal
+
+pub define-requires-clause-form : goal.define-requires-clause-form
+define-requires-clause-form c = λ f e z more. ap formed (c.in_ok-form.ensures.within f e z more)
+
+pub returns-in_ok-wait : goal.returns-in_ok-wait
+returns-in_ok-wait c = λ count t h inside unnamed.
+    (let old : Assembler = c.args.self.now in
+    let mid : Assembler = c.define.new.self in
+    let place : Place = place_in c.args.stand.at.file.now c.args.stand.at.line in
+    let s : Spot = spot_of c.args.stand.spot in
+    let e : Tree = tree_of c.args.value in
+    let d : Definition = record { key = named c.args.stand.spot.scope c.args.name.now; value = Some e; spot = s; size = c.args.size } in
+    let y : Symbols = with_definition t.symbols d in
+    let table : table_of mid.symbols ≡ y = c.in_ok-define.ensures.table ∙ ap (λ (z : Symbols). with_definition z d) h.symbols in
+    let held = holds_grown count t old mid y h c.in_ok-define.ensures.keeps table c.in_ok-define.ensures.known (more_defined t.symbols d) inside unnamed in
+    let count_is : length old.symbols.definitions.entries ≡ length (table_of old.symbols).definitions = sym (map_length (definition_in (words_of old.symbols)) old.symbols.definitions.entries) in
+    let there : IsConstant (table_of mid.symbols) s c.len-place.result e = record {
+      definition = d;
+      there = ap (λ (z : Symbols). slice_get z.definitions c.len-place.result) c.in_ok-define.ensures.table ∙ last_there (table_of old.symbols).definitions d c.len-place.result (c.len-place.ensures.len ∙ count_is);
+      spot = refl;
+      value = refl;
+    } in
+    let u : State = awaiting t (record { place = place; spot = s; piece = valued equated e }) in
+    (u, (u, later, refl), c.in_ok-wait.ensures.waits count (with_symbols t y) (valued equated e) held (e, there, refl)))
+
+formed_there : (o : Option Form) → is_some o ≡ true → (f : Form) × (o ≡ Some f)
+formed_there None e = absurd cc
+formed_there (Some f) e = (f, refl)
+
+pub returns-else-waits : goal.returns-else-waits
+returns-else-waits c = λ count t h inside unnamed.
+    (let old : Assembler = c.args.self.now in
+    let mid : Assembler = c.define.new.self in
+    let place : Place = place_in c.args.stand.at.file.now c.args.stand.at.line in
+    let s : Spot = spot_of c.args.stand.spot in
+    let e : Tree = tree_of c.args.value in
+    let d : Definition = record { key = named c.args.stand.spot.scope c.args.name.now; value = Some e; spot = s; size = c.args.size } in
+    let y : Symbols = with_definition t.symbols d in
+    let table : table_of mid.symbols ≡ y = c.in_ok-define.ensures.table ∙ ap (λ (z : Symbols). with_definition z d) h.symbols in
+    let (f, is) = formed_there c.in_ok-form.form c.if-waits.ensures in
+    let final : IsFinal t.symbols s e f = subst (λ (z : Symbols). IsFinal z s e f) h.symbols (c.in_ok-form.ensures.stays f is) in
+    let u : State = entered t (telling []) in
+    let quiet : Holds count u old = holds_entered count t old old h (record { symbols = refl; known = refl; standing = refl; texts = refl }) (telling []) (says_nothing old.sections) refl refl in
+    let held = holds_grown count u old mid y (quiet) c.in_ok-define.ensures.keeps table c.in_ok-define.ensures.known (more_defined t.symbols d) inside unnamed in
+    (u, (u, at_once (telling []) (final_settles t.symbols place s equated e f (telling []) final refl), refl), held))

@@ -1,0 +1,20 @@
+use Rattle.std.proofs.Common.{◌∙◌, ap, map}
+use Rattle.language65.specs.Views.{spot_of}
+use Rattle.symbols65.specs.Views.{table_of, with_names}
+use Rattle.asm65.specs.Taking.{is_for_zero_page, mentioned}
+use Rattle.asm65.specs.Views.{place_in}
+use Rattle.asm65.proofs.Namings.{mentions_enter, more_imported, on_both, turns_after}
+use Rattle.asm65.proofs.assembler.Assembler.import_names.Goals as goal
+
+pub returns : goal.returns
+returns c =
+    let old = c.args.self.now in
+    let mid = c.mention.new.self in
+    let place = place_in c.args.stand.at.file.now c.args.stand.at.line in
+    let s = spot_of c.args.stand.spot in
+    let names = c.args.names.now in
+    let ps = map (mentioned c.args.mention) names in
+    let b = is_for_zero_page c.args.size in
+    on_both c.import.result (λ table known.
+    turns_after place s ps (λ y. with_names y b names) old mid c.import.new.self (mentions_enter place s ps old mid c.in_ok-mention.ensures.mentioned) c.import.ensures.keeps (table ∙ ap (λ z. with_names (table_of mid.symbols) z names) c.is_for_zero_page.ensures) known (λ y. more_imported y b names))
+    c.import.ensures.table c.import.ensures.known

@@ -1,0 +1,36 @@
+use Rattle.std.proofs.Common.{List, ℕ, map, take, sym, subst, arith}
+use Rattle.expand65.specs.declared.place.Place.{Place}
+use Rattle.language65.specs.Laid.{Spot}
+use Rattle.language65.specs.Views.{spot_of}
+use Rattle.module65.specs.Machine.{State}
+use Rattle.module65.specs.Pieces as piece
+use Rattle.symbols65.specs.Views.{table_of}
+use Rattle.asm65.specs.declared.assembler.Assembler.{Assembler}
+use Rattle.asm65.specs.Holding.{Holds, IsPiece}
+use Rattle.asm65.specs.Taking.{all_awaiting, mentioned}
+use Rattle.asm65.specs.Views.{place_in}
+use Rattle.asm65.proofs.Namings.{all_taken, keeps_both, one_more_awaiting, taken_more}
+use Rattle.asm65.proofs.assembler.Assembler.mention.Goals as goal
+
+pub loop-name-preserved : goal.loop-name-preserved
+loop-name-preserved c =
+    let place : Place = place_in c.args.stand.at.file.now c.args.stand.at.line in
+    let s : Spot = spot_of c.args.stand.spot in
+    let before : Assembler = c.loop-name.self in
+    let new : Assembler = c.wait.new.self in
+    let f : List ℕ → piece.Piece = mentioned c.args.mention in
+    let n : List ℕ = c.name-item.result in
+    let some : List piece.Piece = take c.loop-name.name-index (map f c.args.names.now) in
+    let is : IsPiece (table_of before.symbols) s c.in_ok-piece.piece (f n) = subst (λ (m : List ℕ). IsPiece (table_of before.symbols) s c.in_ok-piece.piece (f m)) c.as_slice.ensures (c.in_ok-piece.ensures (table_of before.symbols) s) in
+    record {
+      mentioned = λ count t h.
+          subst (λ (ps : List piece.Piece). Holds count (all_awaiting place s t ps) new) (taken_more f c.args.names.now c.loop-name.name-index c.name-item.result (omega arith) c.name-item.is)
+          (subst (λ (u : State). Holds count u new) (sym (one_more_awaiting place s t some (f n)))
+          (c.in_ok-wait.ensures.waits count (all_awaiting place s t some) (f n) (c.loop-name.invariant.mentioned count t h) is));
+      tables = keeps_both c.args.self.now before new c.loop-name.invariant.tables c.in_ok-wait.ensures.tables;
+    }
+
+pub returns-clause-mentioned : goal.returns-clause-mentioned
+returns-clause-mentioned c = λ count t h.
+    subst (λ (ps : List piece.Piece). Holds count (all_awaiting (place_in c.args.stand.at.file.now c.args.stand.at.line) (spot_of c.args.stand.spot) t ps) c.loop-name.self) (all_taken (mentioned c.args.mention) c.args.names.now c.loop-name.name-index (omega arith))
+    (c.loop-name.invariant.mentioned count t h)

@@ -1,0 +1,25 @@
+use Rattle.std.proofs.Common.{◌≡◌, ◌∙◌, Some, refl, ap}
+use Rattle.std.specs.Prelude.{true}
+use Rattle.language65.specs.Symbols.{Definition, Scope, Symbols, named}
+use Rattle.language65.specs.Views.{spot_of}
+use Rattle.symbols65.specs.Views.{table_of, with_definition, with_scope}
+use Rattle.asm65.specs.declared.assembler.Assembler.{Assembler}
+use Rattle.asm65.specs.Taking.{label_at, with_symbols}
+use Rattle.asm65.proofs.Namings.{holds_grown, more_defined, more_opened, on_both}
+use Rattle.asm65.proofs.assembler.Assembler.open_proc.Goals as goal
+
+pub returns : goal.returns
+returns c =
+    let old : Assembler = c.args.self.now in
+    let mid : Assembler = c.define.new.self in
+    let new : Assembler = c.open_scope.new.self in
+    let key = named c.args.spot.scope c.args.name.now in
+    let d : Definition = label_at key (spot_of c.args.spot) c.args.size in
+    let b : Scope = record { within = c.args.spot.scope; name = Some c.args.name.now; is_proc = true } in
+    let first : table_of mid.symbols ≡ with_definition (table_of old.symbols) d = c.in_ok-define.ensures.table ∙ ap (with_definition (table_of old.symbols)) (c.label.ensures.seen key) in
+    on_both c.open_scope.result (λ table known place count t h inside unnamed.
+    (let y : Symbols = with_definition t.symbols d in
+    let here : table_of mid.symbols ≡ y = first ∙ ap (λ (z : Symbols). with_definition z d) h.symbols in
+    let held = holds_grown count t old mid y h c.in_ok-define.ensures.keeps here c.in_ok-define.ensures.known (more_defined t.symbols d) h.inside unnamed in
+    (t, refl, holds_grown count (with_symbols t y) mid new (with_scope y b) held c.open_scope.ensures.keeps (table ∙ ap (λ (z : Symbols). with_scope z b) here) known (more_opened y b) inside unnamed)))
+    c.open_scope.ensures.table c.open_scope.ensures.known

@@ -1,0 +1,108 @@
+use Rattle.std.proofs.Common.{◌≡◌, ◌∙◌, ℕ, sym, ap, subst}
+use Rattle.std.specs.Prelude.{Ok, Err, Result, Some}
+use Rattle.std.proofs.lemmas.Result.{err_from_is_err_and}
+use Rattle.syntax65.specs.Outcome.{Unless}
+use Rattle.language65.specs.declared.fault.AsmFault.{AsmFault}
+use Rattle.language65.specs.Faults.{is_failure, is_memory, is_outside}
+use Rattle.layout65.proofs.Steps.{unless_then}
+use Rattle.expand65.specs.declared.place.Place.{Place}
+use Rattle.language65.specs.Laid.{Spot}
+use Rattle.language65.specs.Language.{Stated}
+use Rattle.language65.specs.Layout as layout
+use Rattle.language65.specs.Layout.{Standing}
+use Rattle.language65.specs.LineFaults.{line_fault}
+use Rattle.language65.specs.Symbols.{Symbols}
+use Rattle.language65.specs.Views.{spot_of, stated_of}
+use Rattle.layout65.specs.Advancing.{advanced}
+use Rattle.layout65.specs.Counting.{AreInside, HasNumbers}
+use Rattle.layout65.specs.Measuring.{Measured, measured, measured_of}
+use Rattle.layout65.specs.Sounds.{IsCounted}
+use Rattle.layout65.specs.Views.{standing_of}
+use Rattle.layout65.specs.declared.standing.Standing as code
+use Rattle.layout65.specs.declared.measuring.Measured as found
+use Rattle.layout65.proofs.Behind.{behind_measured, has_numbers, is_measured, with_fault, without_fault}
+use Rattle.symbols65.specs.Views.{table_of}
+use Rattle.asm65.specs.declared.assembler.Assembler.{Assembler}
+use Rattle.asm65.specs.Holding.{AreBefore, Holds}
+use Rattle.asm65.specs.Taking.{IsNew, asked_of}
+use Rattle.asm65.specs.Views.{place_in}
+use Rattle.asm65.proofs.Insides.{measured_inside}
+use Rattle.asm65.proofs.Takings.{holds_known, holds_stepped, is_new, unless_either}
+use Rattle.asm65.proofs.assembler.Assembler.place.Goals as goal
+
+pub advance-requires-clause-numbers : goal.advance-requires-clause-numbers
+advance-requires-clause-numbers c =
+    let old : Assembler = c.args.self.now in
+    let mid : Assembler = c.ask.new.self in
+    let (count, t, h, few) = c.requires in
+    let inside : AreInside count (table_of old.symbols).scopes = subst (λ (y : Symbols). AreInside count y.scopes) (sym h.symbols) h.inside in
+    subst (λ (y : Symbols). HasNumbers y mid.standing) (ap table_of (sym c.in_ok-ask.ensures.tables.symbols))
+    (subst (λ (w : code.Standing). HasNumbers (table_of old.symbols) w) (sym c.in_ok-ask.ensures.tables.standing) (has_numbers count (table_of old.symbols) old.standing h.counted inside few))
+
+pub returns-clause-placed : goal.returns-clause-placed
+returns-clause-placed c = λ count t h.
+    (let old : Assembler = c.args.self.now in
+    let x : Stated = stated_of c.args.statement.now in
+    let m : Measured = measured_of c.in_ok-measured.measured in
+    let at : measured t.symbols t.standing x ≡ Ok m = ap (λ (y : Symbols). measured y t.standing x) (sym h.symbols) ∙ ap (λ (w : Standing). measured (table_of old.symbols) w x) (sym h.standing) ∙ c.in_ok-measured.ensures.measured in
+    record {
+      faultless = without_fault t.symbols t.standing x m at;
+      spot = c.spot-spot.ensures ∙ ap layout.spot_of h.standing;
+      measured = sym (is_measured t.symbols t.standing x m at);
+    })
+
+pub returns-clause-new : goal.returns-clause-new
+returns-clause-new c =
+    let old : Assembler = c.args.self.now in
+    let mid : Assembler = c.ask.new.self in
+    let x : Stated = stated_of c.args.statement.now in
+    let y : Symbols = table_of old.symbols in
+    let w : Standing = standing_of old.standing in
+    let (count, t, h, few) = c.requires in
+    let before : AreBefore w.unnamed y.definitions = subst (λ (z : Symbols). AreBefore w.unnamed z.definitions) (sym h.symbols) (subst (λ (v : Standing). AreBefore v.unnamed t.symbols.definitions) (sym h.standing) h.unnamed) in
+    let new : IsNew y (layout.spot_of w) x = is_new y w x (without_fault y w x (measured_of c.in_ok-measured.measured) c.in_ok-measured.ensures.measured) before in
+    subst (λ (z : Symbols). IsNew z (spot_of c.spot-spot.result) x) (ap table_of (sym c.in_ok-ask.ensures.tables.symbols))
+    (subst (λ (s : Spot). IsNew y s x) (sym c.spot-spot.ensures) new)
+
+pub returns-clause-holds : goal.returns-clause-holds
+returns-clause-holds c = λ count t h.
+    (let old : Assembler = c.args.self.now in
+    let mid : Assembler = c.ask.new.self in
+    let x : Stated = stated_of c.args.statement.now in
+    let place : Place = place_in c.args.at.file.now c.args.at.line in
+    let m : Measured = measured_of c.in_ok-measured.measured in
+    let y : Symbols = table_of old.symbols in
+    let w : Standing = standing_of old.standing in
+    let same : table_of mid.symbols ≡ y = ap table_of c.in_ok-ask.ensures.tables.symbols in
+    let stand : standing_of mid.standing ≡ w = ap standing_of c.in_ok-ask.ensures.tables.standing in
+    let segment = ap (λ (s : Spot). s.segment) c.spot-spot.ensures ∙ ap (λ (v : Standing). (layout.spot_of v).segment) h.standing in
+    let knows = holds_known count t old c.measure.new.known h c.in_ok-measured.ensures.table in
+    let held : Holds count (asked_of (layout.spot_of t.standing).segment x t) mid = subst (λ (g : ℕ). Holds count (asked_of g x t) mid) segment (c.in_ok-ask.ensures.asked count t knows) in
+    let moved : standing_of c.advance.new.self ≡ layout.standing_behind t.symbols t.standing x =
+    c.in_ok-advance.ensures.moved
+    ∙ ap (λ (z : Symbols). advanced z (standing_of mid.standing) x m.length m.multiple) same
+    ∙ ap (λ (v : Standing). advanced y v x m.length m.multiple) stand
+    ∙ behind_measured y w x m c.in_ok-measured.ensures.measured
+    ∙ ap (λ (z : Symbols). layout.standing_behind z w x) h.symbols
+    ∙ ap (λ (v : Standing). layout.standing_behind t.symbols v x) h.standing in
+    let counted : IsCounted count mid.standing = subst (IsCounted count) (sym c.in_ok-ask.ensures.tables.standing) h.counted in
+    let inside : AreInside count (table_of mid.symbols).scopes = subst (λ (z : Symbols). AreInside count z.scopes) (sym (same ∙ h.symbols)) h.inside in
+    holds_stepped count t place x mid c.advance.new.self c.say.new.self held moved c.in_ok-advance.ensures.sound c.in_ok-advance.ensures.ends (c.in_ok-advance.ensures.counted count counted inside) c.in_ok-say.ensures.out c.in_ok-say.ensures.err)
+
+pub returns-in_err-measured-clause-refused : goal.returns-in_err-measured-clause-refused
+returns-in_err-measured-clause-refused c = λ count t h.
+    (let p = err_from_is_err_and c.from_residual.result c.from_residual.ensures.1 in
+    let e : AsmFault = c.in_err-measured.field-0.0 in
+    let old : Assembler = c.args.self.now in
+    let x : Stated = stated_of c.args.statement.now in
+    let there = measured (table_of old.symbols) (standing_of old.standing) x ≡ Err e in
+    let refused : Unless (is_memory e) there = c.in_err-measured.ensures.measured in
+    let same : there → line_fault t.symbols t.standing x ≡ Some e = λ (q : there). with_fault t.symbols t.standing x e (ap (λ (y : Symbols). measured y t.standing x) (sym h.symbols) ∙ ap (λ (w : Standing). measured (table_of old.symbols) w x) (sym h.standing) ∙ q) in
+    let outside : Unless (is_outside e) there = unless_either there (is_memory e) (is_failure e) refused in
+    rw (p.1, p.2) (unless_then (is_outside e) same outside))
+
+pub returns-in_err-measured-clause-inside : goal.returns-in_err-measured-clause-inside
+returns-in_err-measured-clause-inside c =
+    let p = err_from_is_err_and c.from_residual.result c.from_residual.ensures.1 in
+    let answer : Result found.Measured AsmFault = Err c.in_err-measured.field-0.0 in
+    rw (p.1, p.2) (measured_inside answer measured_of (table_of c.args.self.now.symbols) (standing_of c.args.self.now.standing) (stated_of c.args.statement.now) c.in_err-measured.ensures.measured)

@@ -1,0 +1,36 @@
+use Rattle.std.proofs.Common.{◌≡◌, true, subst}
+use Rattle.std.specs.Prelude.{IfSome, Option}
+use Rattle.syntax65.specs.Store.{Files}
+use Rattle.object65.specs.Objects.{ObjectFits, is_good_object}
+use Rattle.asm65.specs.declared.running.Run.{Run}
+use Rattle.asm65.specs.Assembly.{job_of}
+use Rattle.asm65.proofs.Outcomes.{AnswersAll, define_answer, first_running, none_passed, not_answered, open_answer, passed_through, run_answer}
+use Rattle.asm65.proofs.assembling.assembled.Goals as goal
+
+pub finished-requires : goal.finished-requires
+finished-requires g c = first_running (job_of c.args.job.now) c.in-Ok.expander c.define_all.new.assembler c.in-Ok-define_all.field-0 c.in-Ok-define_all.ensures.defined c.in-Ok.ensures.size
+
+pub returns-in-Err-clause-assembled : goal.returns-in-Err-clause-assembled
+returns-in-Err-clause-assembled g c = open_answer (g.S.Store.files c.args.store.now) (job_of c.args.job.now) c.in-Err.fault c.refused.result c.args.assembler c.requires c.refused.ensures.outside c.refused.ensures.refused c.in-Err.ensures.opened
+
+pub returns-in-Err-define_all-clause-assembled : goal.returns-in-Err-define_all-clause-assembled
+returns-in-Err-define_all-clause-assembled g c =
+    define_answer (g.S.Store.files c.args.store.now) (job_of c.args.job.now) c.in-Ok.expander c.in-Err-define_all.fault c.refused-in-Err-define_all.result c.define_all.new.assembler c.in-Err-define_all.ensures.defined c.refused-in-Err-define_all.ensures.outside c.refused-in-Err-define_all.ensures.refused c.in-Ok.ensures.opened
+
+pub returns-in-Err-define_all-clause-count : goal.returns-in-Err-define_all-clause-count
+returns-in-Err-define_all-clause-count g c = none_passed _ _ c.in-Ok.expander c.in-Err-define_all.fault c.refused-in-Err-define_all.result.result c.in-Ok.ensures.count c.in-Err-define_all.ensures.inside c.refused-in-Err-define_all.ensures.none c.refused-in-Err-define_all.ensures.failed
+
+pub returns-in-Err-define_all-clause-good : goal.returns-in-Err-define_all-clause-good
+returns-in-Err-define_all-clause-good g c = not_answered (λ o. is_good_object o ≡ true) c.refused-in-Err-define_all.result.result c.refused-in-Err-define_all.ensures.none
+
+pub returns-in-Err-define_all-clause-numbers : goal.returns-in-Err-define_all-clause-numbers
+returns-in-Err-define_all-clause-numbers g c = not_answered ObjectFits c.refused-in-Err-define_all.result.result c.refused-in-Err-define_all.ensures.none
+
+pub returns-in-Ok-define_all-clause-assembled : goal.returns-in-Ok-define_all-clause-assembled
+returns-in-Ok-define_all-clause-assembled g c =
+    let run : Run = record { expander = c.in-Ok.expander; assembler = c.define_all.new.assembler } in
+    let P : Option Files → Type 0 = λ o. IfSome o (λ m. AnswersAll m run c.finished.result) in
+    run_answer (g.S.Store.files c.args.store.now) (job_of c.args.job.now) c.in-Ok.expander c.define_all.new.assembler c.in-Ok-define_all.field-0 c.finished.result c.in-Ok-define_all.ensures.defined c.in-Ok.ensures.size c.in-Ok.ensures.opened (subst P c.in-Ok.ensures.files c.finished.ensures.assembled)
+
+pub returns-in-Ok-define_all-clause-count : goal.returns-in-Ok-define_all-clause-count
+returns-in-Ok-define_all-clause-count g c = passed_through _ _ _ c.in-Ok.expander c.finished.result.result c.in-Ok.ensures.count c.finished.ensures.count

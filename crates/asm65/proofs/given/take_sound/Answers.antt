@@ -1,0 +1,8 @@
+use Rattle.language65.specs.Views.{stated_of}
+use Rattle.asm65.specs.Views.{place_in}
+use Rattle.asm65.proofs.Runs.{sound_leaves}
+use Rattle.asm65.proofs.given.take_sound.Goals as goal
+
+pub returns-clause-taken : goal.returns-clause-taken
+returns-clause-taken c =
+    sound_leaves (place_in c.args.at.file.now c.args.at.line) (stated_of c.args.statement) c.args.assembler.now c.take.new.self c.take.result (c.is_sound.ensures.sound c.if-not-is_sound.false) c.take.ensures.taken c.take.ensures.texts

@@ -1,0 +1,18 @@
+use Rattle.std.proofs.Common.{◌≡◌, sym, subst}
+use Rattle.std.specs.Prelude.{IfSome}
+use Rattle.expand65.specs.Meaning.{Meaning}
+use Rattle.expand65.specs.Standing.{FollowsFrom}
+use Rattle.language65.specs.Views.{spot_of}
+use Rattle.module65.specs.Knowing.{known_at}
+use Rattle.symbols65.specs.Views.{table_of}
+use Rattle.asm65.specs.Knowing.{known_where}
+use Rattle.asm65.proofs.Constants.{known_held}
+use Rattle.asm65.proofs.Sources.{NextBy, some_then}
+use Rattle.asm65.proofs.running.next.Goals as goal
+
+pub returns-clause-next : goal.returns-clause-next
+returns-clause-next g c =
+    let a = c.args.run.now.assembler in
+    let here = known_where (table_of a.symbols) (spot_of c.spot.result) in
+    some_then (λ m. FollowsFrom m here c.args.run.now.expander c.next.result c.next.new.self) (λ m. NextBy m c.args.run.now c.next.result (record { expander = c.next.new.self; assembler = a })) (g.S.Store.files c.args.store.now)
+    (λ m follows t held. subst (λ k. FollowsFrom m k c.args.run.now.expander c.next.result c.next.new.self) (known_held held.count t a (spot_of c.spot.result) held.holds c.spot.ensures) follows) c.next.ensures.next

@@ -1,0 +1,96 @@
+-- The state of the machine that an assembler holds.
+use Rattle.std.specs.Prelude.{◌≡◌, ℕ, ◌<◌, ⊤, false, List, [], ◌∷◌, length, map, slice_get, string_bytes, Some}
+use Rattle.std.specs.List.{AllByRecursion}
+use Rattle.syntax65.specs.Trees.{Tree, tree_of}
+use Rattle.expand65.specs.declared.place.Place.{Place}
+use Rattle.language65.specs.declared.contents.Content.{Content}
+use Rattle.language65.specs.Laid.{Spot}
+use Rattle.language65.specs.Symbols.{Definition, Key, Symbols, unnamed_at}
+use Rattle.language65.specs.Views.{spot_of}
+use Rattle.module65.specs.Machine as machine
+use Rattle.module65.specs.Machine.{PutsAll, State, awaited_in, filled}
+use Rattle.module65.specs.Pieces as piece
+use Rattle.sections65.specs.Standing.{Stands}
+use Rattle.symbols65.specs.Resolving.{IsTable}
+use Rattle.symbols65.specs.Views.{table_of}
+use Rattle.asm65.specs.declared.assembler.Assembler.{Assembler}
+use Rattle.asm65.specs.declared.waiting.Piece.{Piece}
+use Rattle.asm65.specs.declared.waiting.Piece.TheVariants.{Datum, Operand, Constant, Assertion, Import, Demand, Export}
+use Rattle.asm65.specs.declared.waiting.Waiting.{Waiting}
+use Rattle.layout65.specs.Counting.{AreInside}
+use Rattle.layout65.specs.Sounds.{AreWithin, IsCounted, IsSoundStanding}
+use Rattle.layout65.specs.Views.{standing_of}
+
+-- ---- What waits.
+
+-- the expression of the constant that is defined at a place, where a statement stands
+pub record IsConstant (y : Symbols) (s : Spot) (place : ℕ) (e : Tree) : Type 0 where
+  pub definition : Definition
+  pub there : slice_get y.definitions place ≡ Some definition
+  pub spot : definition.spot ≡ s
+  pub value : definition.value ≡ Some e
+
+-- a piece of the machine's, of a statement that stands here
+abbrev pub IsPiece : Symbols → Spot → Piece → piece.Piece → Type 0
+IsPiece y s (Datum w e) p = p ≡ piece.valued (piece.datum w) (tree_of e)
+IsPiece y s (Operand w e) p = p ≡ piece.valued (piece.operand w) (tree_of e)
+IsPiece y s (Constant place) p =
+    (e : Tree) × IsConstant y s place e × (p ≡ piece.valued piece.equated e)
+IsPiece y s (Assertion act words e) p = p ≡ piece.valued (piece.asserted act words) (tree_of e)
+IsPiece y s (Import n) p = p ≡ piece.imported n
+IsPiece y s (Demand n) p = p ≡ piece.demanded n
+IsPiece y s (Export must n) p = p ≡ piece.exported must n
+
+-- by the names of files
+pub record IsWaiting (y : Symbols) (files : List (List ℕ)) (w : Waiting) (v : machine.Waiting) : Type 0 where
+  pub file : slice_get files w.file ≡ Some v.place.file
+  pub line : v.place.line ≡ w.line
+  pub spot : v.spot ≡ spot_of w.spot
+  pub piece : IsPiece y v.spot w.piece v.piece
+
+-- one behind the other
+abbrev pub AreWaiting : Symbols → List (List ℕ) → List Waiting → List machine.Waiting → Type 0
+AreWaiting y files [] vs = vs ≡ []
+AreWaiting y files (w ∷ ws) [] = ⊥
+AreWaiting y files (w ∷ ws) (v ∷ vs) = IsWaiting y files w v × AreWaiting y files ws vs
+
+-- ---- What is counted.
+
+-- an unnamed label has one of the numbers that are given out
+abbrev pub IsBefore : ℕ → Key → Type 0
+IsBefore next (unnamed_at k) = k < next
+IsBefore next _ = ⊤
+
+abbrev pub AreBefore : ℕ → List Definition → Type 0
+AreBefore next ds = AllByRecursion (λ d. IsBefore next d.key) ds
+
+-- ---- An assembler.
+
+-- contents for what waits, none of which asks for a section
+abbrev pub AreAwaited : List machine.Waiting → List Content → Type 0
+AreAwaited vs ws = (length ws ≡ length vs) × AllByRecursion (λ c. c.asks ≡ false) ws
+
+-- An assembler holds a state, behind statements that opened so much. Whatever will be in place of
+-- what waits, its sections stand for the state's contents.
+pub record Holds (count : ℕ) (t : State) (a : Assembler) : Type 0 where
+  pub symbols : table_of a.symbols ≡ t.symbols
+  pub known : IsTable t.symbols a.known.states.items
+  pub standing : standing_of a.standing ≡ t.standing
+  pub sound : IsSoundStanding a.standing
+  pub ends : AreWithin a.standing.segments.items
+  pub counted : IsCounted count a.standing
+  pub inside : AreInside count t.symbols.scopes
+  pub unnamed : AreBefore t.standing.unnamed t.symbols.definitions
+  pub waiting : AreWaiting t.symbols (map string_bytes a.files.keys) a.waiting.items t.waiting
+  pub sections : (ws : List Content) → AreAwaited t.waiting ws → Stands (filled t.slots ws) ws a.sections
+  pub slots : awaited_in t.slots ≡ length t.waiting
+  pub out : a.texts.out ≡ t.out
+  pub err : a.texts.err ≡ t.err
+
+-- ---- What calls do.
+
+-- Pieces of a statement that stands here are entered, one behind the other; else nothing changes.
+abbrev pub Enters : Place → Spot → List piece.Piece → Assembler → Assembler → Type 0
+Enters place s ps old new =
+    (count : ℕ) (t : State) → Holds count t old →
+    (u : State) × PutsAll place s t ps u × Holds count u new

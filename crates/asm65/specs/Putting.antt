@@ -1,0 +1,71 @@
+-- What is put into sections at a line, and what waits.
+use Rattle.std.specs.Prelude.{◌≡◌, ℕ, ℤ, Bool, true, false, [], ◌∷◌, pos, Option, Some, None, Result, Ok, Err, ⊤}
+use Rattle.syntax65.specs.Outcome.{◌>>=◌}
+use Rattle.syntax65.specs.Trees.{Tree}
+use Rattle.expand65.specs.declared.place.Place.{Place}
+use Rattle.object65.specs.Form.{Form, lit}
+use Rattle.object65.specs.declared.object.Width.{Width}
+use Rattle.language65.specs.declared.contents.Part.{Part}
+use Rattle.language65.specs.declared.fault.AsmFault.{AsmFault}
+use Rattle.language65.specs.Contents.{operand_form, put, stored}
+use Rattle.language65.specs.Extending.{IsFinal}
+use Rattle.language65.specs.Laid.{Spot}
+use Rattle.language65.specs.Symbols.{Symbols}
+use Rattle.module65.specs.Machine.{State, awaiting}
+use Rattle.module65.specs.Pieces as piece
+use Rattle.sections65.specs.Standing.{Feeds}
+use Rattle.sections65.specs.declared.sections.Sections.{Sections}
+use Rattle.symbols65.specs.Views.{table_of}
+use Rattle.asm65.specs.declared.assembler.Assembler.{Assembler}
+use Rattle.asm65.specs.declared.waiting.Piece.{Piece}
+use Rattle.asm65.specs.Holding.{Enters, Holds, IsPiece}
+
+-- ---- What waits.
+
+-- the same, but for what is put into sections and what waits
+pub record KeepsTables (old new : Assembler) : Type 0 where
+  pub symbols : new.symbols ≡ old.symbols
+  pub known : new.known ≡ old.known
+  pub standing : new.standing ≡ old.standing
+  pub texts : new.texts ≡ old.texts
+
+-- A piece of a statement that stands here waits.
+abbrev pub Waits : Place → Spot → Piece → Assembler → Assembler → Type 0
+Waits place s p old new =
+    (count : ℕ) (t : State) (v : piece.Piece) → Holds count t old →
+    IsPiece (table_of old.symbols) s p v →
+    Holds count (awaiting t (record { place = place; spot = s; piece = v })) new
+
+-- ---- Parts.
+
+abbrev pub literal_of : Form → Option ℤ
+literal_of (lit v) = Some v
+literal_of f = None
+
+-- a part is put into the section of a segment, if there is one; else the sections stay
+abbrev pub IsPut : Sections → Sections → ℕ → Result Part AsmFault → Bool → Type 0
+IsPut old new segment r false = new ≡ old
+IsPut old new segment (Ok p) true = Feeds old new (put segment p)
+IsPut old new segment (Err e) true = ⊥
+
+-- what was found without a fault
+abbrev pub IsFaultless : Result Form AsmFault → Option Form → Type 0
+IsFaultless r (Some f) = r ≡ Ok f
+IsFaultless r None = ⊤
+
+-- what is stored of an operand's form
+abbrev pub operand_stored : Width → Spot → (line : ℕ) → Form → Result Part AsmFault
+operand_stored width s line f = operand_form width s f >>= stored width line
+
+-- ---- Pieces.
+
+-- a piece of a statement that stands here is entered, or nothing changes
+abbrev pub IsTried : Place → Spot → piece.Piece → Assembler → Assembler → Bool → Type 0
+IsTried place s p old new false = new ≡ old
+IsTried place s p old new true = Enters place s (p ∷ []) old new
+
+-- an expression whose value is a number other than 0, whatever statements follow
+pub record IsSo (y : Symbols) (s : Spot) (e : Tree) : Type 0 where
+  pub value : ℤ
+  pub other : value ≡ pos 0 → ⊥
+  pub final : IsFinal y s e (lit value)

@@ -1,0 +1,112 @@
+-- What an assembler has taken of a source while it takes its statements.
+use Rattle.std.specs.Prelude.{◌≡◌, ℕ, ◌+◌, ◌*◌, ◌≤◌, List, Option, Some, None, Result, Ok, Err, ⊤}
+use Rattle.syntax65.specs.Outcome.{Unless}
+use Rattle.syntax65.specs.Store.{Files}
+use Rattle.syntax65.specs.Tokens.{Lexeme}
+use Rattle.syntax65.specs.Trees.{number}
+use Rattle.expand65.specs.State as expand
+use Rattle.expand65.specs.Standing.{measure_of, place_of}
+use Rattle.expand65.specs.declared.place.Place.{Place}
+use Rattle.language65.specs.declared.fault.AsmFault.{AsmFault}
+use Rattle.language65.specs.Faults.{is_outside}
+use Rattle.language65.specs.Language.{Stated, constant}
+use Rattle.language65.specs.Sound.{IsSound}
+use Rattle.module65.specs.Machine.{Runs, State, Takes, begun}
+use Rattle.module65.specs.Reading.{Define, Job, stopped}
+use Rattle.asm65.specs.declared.assembler.Assembler.{Assembler}
+use Rattle.asm65.specs.declared.running.Run.{Run}
+use Rattle.layout65.specs.Counting.{opening_limit}
+use Rattle.asm65.specs.Holding.{Holds}
+
+-- ---- What a call that takes statements leaves.
+
+-- a state is held, behind statements that opened at most so much
+abbrev pub HoldsWithin : ℕ → State → Assembler → Type 0
+HoldsWithin most t a = (count : ℕ) × (count ≤ most) × Holds count t a
+
+-- some state is held, behind which so much more may be opened
+abbrev pub IsRoomy : ℕ → Assembler → Type 0
+IsRoomy more a = (count : ℕ) × (t : State) × (count + more ≤ opening_limit) × Holds count t a
+
+-- nothing else was said than what a state says
+abbrev pub SaysAs : State → Assembler → Type 0
+SaysAs t a = (a.texts.out ≡ t.out) × (a.texts.err ≡ t.err)
+
+-- ---- States that statements lead to.
+
+-- behind statements whose names objects can hold, wherever they stand
+pub data IsReached : State → Type 0 where
+  at_first : IsReached begun
+  behind :
+      (t u : State) (place : Place) (x : Stated) →
+      IsReached t → IsSound x → Takes t place x (Ok u) → IsReached u
+
+-- what the first has been led to leads to the second
+abbrev pub LeadsTo : State → State → Type 0
+LeadsTo t u = IsReached t → IsReached u
+
+-- Behind a state, an answer: what it says is held; or it is refused with nothing more said, as it
+-- says where names are so, unless it is refused from outside.
+abbrev pub Leaves :
+    Type 0 → (Result State AsmFault → Type 0) → ℕ → State → Assembler →
+    Result (Unit {0}) AsmFault → Type 0
+Leaves AreSo IsAnswer most t new (Ok x) =
+    (u : State) × IsAnswer (Ok u) × LeadsTo t u × HoldsWithin most u new
+Leaves AreSo IsAnswer most t new (Err e) =
+    Unless (is_outside e) ((AreSo → IsAnswer (Err e)) × SaysAs t new)
+
+-- so for each state that is held and behind which so much may be opened
+abbrev pub TakesBy :
+    Type 0 → (State → Result State AsmFault → Type 0) → ℕ → Assembler → Assembler →
+    Result (Unit {0}) AsmFault → Type 0
+TakesBy AreSo IsAnswer more old new r =
+    (count : ℕ) (t : State) → count + more ≤ opening_limit → Holds count t old →
+    Leaves AreSo (IsAnswer t) (count + more) t new r
+
+-- what a label is, if there is one, objects can hold
+abbrev pub IsSoundIf : Option Stated → Type 0
+IsSoundIf None = ⊤
+IsSoundIf (Some x) = IsSound x
+
+-- ---- Constants of the command line.
+
+-- one opens nothing, and its name is no object's
+abbrev pub DefinesBy :
+    Place → Define → Assembler → Assembler → Result (Unit {0}) AsmFault → Type 0
+DefinesBy place d old new r =
+    (count : ℕ) (t : State) → count + 1 ≤ opening_limit → Holds count t old →
+    Leaves ⊤ (Takes t place (constant d.0 (number d.1))) count t new r
+
+-- ---- A source.
+
+-- what an expander gives is so much at most, and each of its statements opens two at most
+abbrev pub running_limit : ℕ
+running_limit = 6291458
+
+-- a run holds a state, behind which what is left may open as much as it can
+pub record IsHeldBy (t : State) (run : Run) : Type 0 where
+  pub count : ℕ
+  pub room : count + 2 * measure_of run.expander ≤ running_limit
+  pub holds : Holds count t run.assembler
+
+-- some state is held so, to which statements led
+abbrev pub IsRunning : Run → Type 0
+IsRunning run = (t : State) × IsReached t × IsHeldBy t run
+
+-- behind as many statements as there were
+abbrev pub HoldsSome : State → Assembler → Type 0
+HoldsSome t a = (count : ℕ) × Holds count t a
+
+abbrev pub IsReachedBy : Assembler → Type 0
+IsReachedBy a = (t : State) × IsReached t × HoldsSome t a
+
+-- what the statements of a source come to, or their first fault, unless it is refused from outside
+abbrev pub Ran : Files → Job → Run → Result (Unit {0}) AsmFault → Type 0
+Ran m job new (Ok x) =
+    (u : State) × Runs m job (record { behind = u; fault = None }) × HoldsSome u new.assembler
+Ran m job new (Err e) = Unless (is_outside e)
+    ((u : State) × Runs m job (stopped u (place_of new.expander) e) × SaysAs u new.assembler)
+
+abbrev pub tokens_of : expand.Stated → List Lexeme
+tokens_of (expand.label ts) = ts
+tokens_of (expand.plain ts) = ts

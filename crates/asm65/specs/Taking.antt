@@ -1,0 +1,118 @@
+-- What a statement adds to what an assembler holds.
+use Rattle.std.specs.Prelude.{◌≡◌, ℕ, ◌<◌, Bool, true, false, List, [], ◌∷◌, ◌++◌, Some, None, if◌then◌else◌}
+use Rattle.syntax65.specs.declared.lexing.tokens.AddressSize.{AddressSize}
+use Rattle.syntax65.specs.declared.lexing.tokens.AddressSize.TheVariants as size
+use Rattle.expand65.specs.declared.place.Place.{Place}
+use Rattle.language65.specs.Contents.{asking}
+use Rattle.language65.specs.Laid.{Laid, Spot, asks_section}
+use Rattle.language65.specs.Language.{Stated}
+use Rattle.language65.specs.Layout.{spot_of, standing_behind}
+use Rattle.language65.specs.LineFaults.{line_fault, opened_twice, scope_name}
+use Rattle.language65.specs.declared.fault.AsmFault.{AsmFault}
+use Rattle.language65.specs.Faults.{is_outside}
+use Rattle.module65.specs.Module.{out_of, warning_of}
+use Rattle.syntax65.specs.Outcome.{Unless}
+use Rattle.language65.specs.Symbols.{Definition, Key, Symbols, defined, key_defined}
+use Rattle.layout65.specs.Measuring.{Measured, measure_of}
+use Rattle.module65.specs.Machine.{PutsAll, State, awaiting, entered}
+use Rattle.module65.specs.Pieces as piece
+use Rattle.asm65.specs.declared.assembler.Assembler.{Assembler}
+use Rattle.asm65.specs.declared.naming.mentions.Mention.{Mention}
+use Rattle.asm65.specs.declared.naming.mentions.Mention.TheVariants.{Demanded, Exported, Imported}
+use Rattle.asm65.specs.Holding.{AreBefore, Holds}
+use Rattle.layout65.specs.Counting.{AreInside, opening_limit}
+
+-- a statement with what it lies by
+abbrev pub laid_as : Place → Spot → Measured → Stated → Laid
+laid_as place s m x = record {
+  stated = x;
+  place = place;
+  spot = s;
+  length = m.length;
+  size = m.size;
+  settled = m.settled;
+}
+
+-- what a statement here defines and opens is not there yet
+pub record IsNew (y : Symbols) (s : Spot) (x : Stated) : Type 0 where
+  pub opened : opened_twice y.scopes s.scope (scope_name x) ≡ None
+  pub defined : (k : Key) → key_defined s x ≡ Some k → defined y k ≡ None
+
+-- the same, but for names and what is known of them
+pub record KeepsPut (old new : Assembler) : Type 0 where
+  pub standing : new.standing ≡ old.standing
+  pub sections : new.sections ≡ old.sections
+  pub waiting : new.waiting ≡ old.waiting
+  pub files : new.files ≡ old.files
+  pub texts : new.texts ≡ old.texts
+
+abbrev pub with_symbols : State → Symbols → State
+with_symbols t y = record t { symbols = y }
+
+-- Pieces of a statement that stands here are entered, and then the symbol table is the one that it
+-- becomes.
+abbrev pub Turns : Place → Spot → List piece.Piece → (Symbols → Symbols) → Assembler → Assembler → Type 0
+Turns place s ps becomes old new =
+    (count : ℕ) (t : State) → Holds count t old → AreInside count (becomes t.symbols).scopes →
+    AreBefore t.standing.unnamed (becomes t.symbols).definitions →
+    (u : State) × PutsAll place s t ps u × Holds count (with_symbols u (becomes t.symbols)) new
+
+-- some state is held, behind statements that may be followed by one more
+abbrev pub IsHeld : Assembler → Type 0
+IsHeld a = (count : ℕ) × (t : State) × Holds count t a × (count < opening_limit)
+
+-- what a statement asks for, of the section of a segment
+abbrev pub asked_of : ℕ → Stated → State → State
+asked_of segment x t = if asks_section x then entered t (asking segment) else t
+
+abbrev pub Asks : ℕ → Stated → Assembler → Assembler → Type 0
+Asks segment x old new =
+    (count : ℕ) (t : State) → Holds count t old → Holds count (asked_of segment x t) new
+
+-- ---- Where a statement stands.
+
+-- a statement here has no fault at its line, and places so much
+pub record IsPlaced (t : State) (x : Stated) (s : Spot) (m : Measured) : Type 0 where
+  pub faultless : line_fault t.symbols t.standing x ≡ None
+  pub spot : s ≡ spot_of t.standing
+  pub measured : m ≡ measure_of t.symbols t.standing x
+
+-- it has this fault there, unless that came from outside
+abbrev pub IsRefused : State → Stated → AsmFault → Type 0
+IsRefused t x e = Unless (is_outside e) (line_fault t.symbols t.standing x ≡ Some e)
+
+-- the state in which a statement's pieces are entered
+abbrev pub stepped : State → Place → Stated → State
+stepped t place x =
+    let u : State = asked_of (spot_of t.standing).segment x t in
+    record u {
+      standing = standing_behind t.symbols t.standing x;
+      out = u.out ++ out_of x;
+      err = u.err ++ warning_of place x;
+    }
+
+-- ---- Names.
+
+-- a label stands for its address
+abbrev pub label_at : Key → Spot → AddressSize → Definition
+label_at k s size = record { key = k; value = None; spot = s; size = size }
+
+abbrev pub is_for_zero_page : AddressSize → Bool
+is_for_zero_page size.ZeroPage = true
+is_for_zero_page size.Absolute = false
+
+abbrev pub mentioned : Mention → List ℕ → piece.Piece
+mentioned Imported n = piece.imported n
+mentioned Demanded n = piece.demanded n
+mentioned (Exported must) n = piece.exported must n
+
+-- pieces that wait, one behind the other
+abbrev pub all_awaiting : Place → Spot → State → List piece.Piece → State
+all_awaiting place s t [] = t
+all_awaiting place s t (p ∷ ps) =
+    all_awaiting place s (awaiting t (record { place = place; spot = s; piece = p })) ps
+
+-- names that a statement here mentions wait
+abbrev pub Mentions : Place → Spot → List piece.Piece → Assembler → Assembler → Type 0
+Mentions place s ps old new =
+    (count : ℕ) (t : State) → Holds count t old → Holds count (all_awaiting place s t ps) new

@@ -1,0 +1,273 @@
+//! What stands behind the last line comes to an object, or to the first fault.
+
+ghost use Rattle.std.specs.Prelude.{◌≡◌, ◌++◌, [], List, ℕ, IfOk, IfErr, None, Ok, OnOk, Some, map, slice_get, string_bytes, true, false};
+ghost use Rattle.object65.specs.Objects.{is_good_object, ObjectFits};
+ghost use Rattle.language65.specs.declared.contents.Content.{Content};
+ghost use Rattle.language65.specs.Faults.{is_outside};
+ghost use Rattle.language65.specs.Numbering.{object_with};
+ghost use Rattle.language65.specs.Sound.{AreSound};
+ghost use Rattle.module65.specs.Machine as machine;
+ghost use Rattle.module65.specs.Machine.{State, concluded, finished};
+ghost use Rattle.module65.specs.Module.{Outcome};
+ghost use Rattle.sections65.specs.Standing.{Receives, Stands};
+ghost use Rattle.symbols65.specs.Resolving.{IsTable};
+ghost use Rattle.symbols65.specs.Views.{table_of};
+ghost use Rattle.asm65.specs.Assembly.{Concludes, has_failed, in_places, is_from_outside, is_outside_refusal};
+ghost use Rattle.asm65.specs.Holding.{AreWaiting, Holds, IsWaiting};
+ghost use Rattle.asm65.specs.Resolving.{Settles, SettlesAll, content_of, warning_in};
+ghost use Rattle.asm65.specs.Running.{SaysAs};
+ghost use Rattle.asm65.specs.Views.{place_in};
+
+use crate::assembler::{Assembler, At};
+use crate::assembly::Assembly;
+use crate::refusal::AsmRefusal;
+use crate::resolving::{Filling, Made, resolve};
+use crate::texts::{Texts, warn};
+use crate::waiting::Waiting;
+use indexmap::IndexSet;
+use language65::{AsmFault, Segment};
+use object65::Object;
+use sections65::Sections;
+use std::alloc::{AllocError, Global};
+use symbols65::{Known, Symbols};
+use syntax65::Sequence;
+
+/// What is still open behind the last line.
+#[derive(Drop)]
+pub struct Ending {
+    /// The forms of constants that were found.
+    pub known: Known,
+    pub sections: Sections,
+    /// What goes to standard error.
+    pub err: Sequence<u8>,
+}
+
+/// What is known behind the last line.
+#[derive(Clone, Copy)]
+pub struct Whole<'a> {
+    /// The symbol table of all statements.
+    pub symbols: &'a Symbols,
+    /// The names of the files in which something waits.
+    pub files: &'a [String],
+}
+
+/// The name of the file at a place among those in which something waits.
+fn file_at(files: &[String], place: usize) -> &str
+    ensures { (n : List ℕ) → slice_get (map string_bytes files.now) place ≡ Some n →
+        result.now ≡ n }
+{
+    match files.get(place) {
+        Some(file) => file.as_str(),
+        None => "",
+    }
+}
+
+/// The first that waited has its content.
+fn fill(sections: &mut Sections, filling: Filling)
+    ensures { Receives sections.old sections.new (content_of filling) }
+{
+    match filling {
+        Filling::Part { segment, part } => sections.settle(segment, part),
+        Filling::Told(said) => sections.settle_said(said),
+    }
+}
+
+/// Warns of an assertion with this text, where one failed.
+fn warn_of(err: &mut Sequence<u8>, at: At<'_>, text: Option<Sequence<u8>>) -> Result<(), AllocError>
+    ensures { OnOk result
+        (err.new ≡ err.old ++ warning_in (place_in at.entry.file.now at.entry.line) text) }
+{
+    match text {
+        Some(text) => warn(err, at.file, at.line, text.as_slice()),
+        None => Ok(()),
+    }
+}
+
+/// The first that waits comes to its content, or to its fault.
+fn settle(
+    alloc: Global,
+    whole: Whole<'_>,
+    ending: &mut Ending,
+    waiting: Waiting,
+) -> Result<(), AsmRefusal>
+    requires { IsTable (table_of whole.symbols.now) ending.old.known.states.items }
+    ensures settled { (v : machine.Waiting) → IsWaiting (table_of whole.entry.symbols.now)
+        (map string_bytes whole.entry.files.now) waiting v →
+        Settles (table_of whole.entry.symbols.now) v ending.old ending.new result }
+    ensures table { OnOk result
+        (IsTable (table_of whole.entry.symbols.now) ending.new.known.states.items) }
+    ensures inside { IfErr result (λ e. has_failed e ≡ false) }
+{
+    let at = At {
+        file: file_at(whole.files, waiting.file),
+        line: waiting.line,
+    };
+    match resolve(alloc, whole.symbols, &mut ending.known, waiting) {
+        Ok(made) => {
+            fill(&mut ending.sections, made.filling);
+            match warn_of(&mut ending.err, at, made.warning) {
+                Ok(()) => Ok(()),
+                Err(_) => Err(AsmRefusal::without_memory(alloc)),
+            }
+        }
+        Err(fault) => Err(AsmRefusal::of_fault(alloc, at, fault)),
+    }
+}
+
+/// All that waits comes to its contents, in the order of the source, or to the first fault.
+fn settle_all(
+    alloc: Global,
+    whole: Whole<'_>,
+    ending: &mut Ending,
+    waiting: Vec<Waiting>,
+) -> Result<(), AsmRefusal>
+    requires { IsTable (table_of whole.symbols.now) ending.old.known.states.items }
+    ensures settled { (vs : List machine.Waiting) → AreWaiting (table_of whole.entry.symbols.now)
+        (map string_bytes whole.entry.files.now) waiting.items vs →
+        SettlesAll (table_of whole.entry.symbols.now) vs ending.old ending.new result }
+    ensures inside { IfErr result (λ e. has_failed e ≡ false) }
+{
+    for one in waiting {
+        settle(alloc, whole, ending, one)?;
+    }
+    Ok(())
+}
+
+/// The names of imports.
+fn names_of(alloc: Global, imports: IndexSet<Vec<u8>>) -> Result<Vec<Sequence<u8>>, AllocError>
+    ensures { IfOk result (λ names. names.items ≡ map (λ k. k.items) imports.keys) }
+{
+    let mut names = Vec::new(alloc);
+    for name in imports {
+        names.push(Sequence::from_vec(name))?;
+    }
+    Ok(names)
+}
+
+/// The object of sections in which nothing waits.
+fn object_of(
+    alloc: Global,
+    segments: &[Segment],
+    imports: IndexSet<Vec<u8>>,
+    sections: Sections,
+) -> Result<Object, AsmRefusal>
+    ensures object { IfOk result (λ o. (cs : List Content) → Stands cs [] sections →
+        o ≡ object_with segments.now (map (λ k. k.items) imports.keys) cs) }
+    ensures numbers { IfOk result ObjectFits }
+    ensures good { IfOk result (λ o. (cs : List Content) → Stands cs [] sections →
+        AreSound segments.now (map (λ k. k.items) imports.keys) cs → is_good_object o ≡ true) }
+    ensures inside { IfErr result (λ e. is_outside_refusal e ≡ true) }
+    ensures failed { IfErr result (λ e. has_failed e ≡ false) }
+{
+    let Ok(names) = names_of(alloc, imports) else {
+        return Err(AsmRefusal::without_memory(alloc));
+    };
+    match sections.finish(alloc, segments, names.as_slice()) {
+        Ok(object) => Ok(object),
+        Err(_) => Err(AsmRefusal::without_memory(alloc)),
+    }
+}
+
+/// Whether memory ran out, or the store failed.
+fn is_from_outside(answer: &Result<Object, AsmRefusal>) -> bool
+    ensures { result ≡ is_from_outside answer.now }
+{
+    match answer {
+        Ok(_) => false,
+        Err(refusal) => refusal.is_outside(),
+    }
+}
+
+/// An answer, with what was said up to there. Where memory ran out or the store failed, nothing is.
+fn answered(alloc: Global, answer: Result<Object, AsmRefusal>, texts: Texts) -> Assembly
+    ensures answer { result.result ≡ answer }
+    ensures concluded { (o : Outcome) → (is_from_outside answer ≡ false →
+        record { result = in_places answer; out = texts.out; err = texts.err } ≡ o) →
+        Concludes o result }
+    ensures silent { is_from_outside result.result ≡ true →
+        (result.out ≡ []) × (result.err ≡ []) }
+{
+    if is_from_outside(&answer) {
+        return Assembly {
+            result: answer,
+            out: Sequence::new(alloc),
+            err: Sequence::new(alloc),
+        };
+    }
+    Assembly {
+        result: answer,
+        out: texts.out,
+        err: texts.err,
+    }
+}
+
+impl Assembler {
+    /// What is answered behind the last line: the object, or the first fault of what waits.
+    pub fn conclude(self, alloc: Global) -> Assembly
+        requires { IsTable (table_of self.symbols) self.known.states.items }
+        ensures concluded { (count : ℕ) (t : State) → Holds count t self →
+            Concludes (concluded t None) result }
+        ensures good { IfOk result.result (λ o. (count : ℕ) (t : State) → Holds count t self →
+            ((cs : List Content) → (finished t).found ≡ Ok cs →
+            AreSound t.standing.segments t.symbols.imports cs) → is_good_object o ≡ true) }
+        ensures numbers { IfOk result.result ObjectFits }
+        ensures inside { IfErr result.result (λ e. has_failed e ≡ false) }
+        ensures silent { is_from_outside result.result ≡ true →
+            (result.out ≡ []) × (result.err ≡ []) }
+    {
+        let Assembler {
+            symbols,
+            known,
+            standing,
+            sections,
+            waiting,
+            files,
+            texts,
+        } = self;
+        let Texts { out, err } = texts;
+        let mut ending = Ending {
+            known,
+            sections,
+            err,
+        };
+        let whole = Whole {
+            symbols: &symbols,
+            files: files.as_slice(),
+        };
+        let settled = settle_all(alloc, whole, &mut ending, waiting);
+        let Ending {
+            known: _,
+            sections,
+            err,
+        } = ending;
+        let texts = Texts { out, err };
+        match settled {
+            Ok(()) => {
+                let segments = standing.segments.as_slice();
+                let object = object_of(alloc, segments, symbols.imports, sections);
+                answered(alloc, object, texts)
+            }
+            Err(refusal) => answered(alloc, Err(refusal), texts),
+        }
+    }
+
+    /// What is answered at a line's fault.
+    pub fn refuse(self, alloc: Global, at: At<'_>, fault: AsmFault) -> Assembly
+        ensures refused { is_outside fault ≡ false → (t : State) → SaysAs t self →
+            Concludes (concluded t (Some (record {
+              place = place_in at.entry.file.now at.entry.line;
+              fault = fault;
+            }))) result }
+        ensures none { IfOk result.result (λ o. ⊥) }
+        ensures inside { is_outside fault ≡ false →
+            IfErr result.result (λ e. has_failed e ≡ false) }
+        ensures silent { is_from_outside result.result ≡ true →
+            (result.out ≡ []) × (result.err ≡ []) }
+    {
+        answered(
+            alloc,
+            Err(AsmRefusal::of_fault(alloc, at, fault)),
+            self.texts,
+        )
+    }
+}

@@ -1,0 +1,122 @@
+//! Statements that expansion gives: a label, or what begins with none.
+
+ghost use Rattle.std.specs.Prelude.{◌≡◌, false, option_map, IfErr};
+ghost use Rattle.syntax65.specs.Tokens.{lexemes};
+ghost use Rattle.expand65.specs.Standing.{stated};
+ghost use Rattle.language65.specs.Faults.{is_failure};
+ghost use Rattle.language65.specs.Sound.{AreNamed, IsSound};
+ghost use Rattle.language65.specs.Views.{stated_of};
+ghost use Rattle.module65.specs.Machine.{Takes};
+ghost use Rattle.module65.specs.Reading.{IsGiven, IsLabel, IsLabelled, IsRest};
+ghost use Rattle.asm65.specs.Running.{IsRoomy, IsSoundIf, TakesBy, tokens_of};
+ghost use Rattle.asm65.specs.Views.{place_in};
+
+use crate::assembler::{Assembler, At};
+use crate::sound::is_sound;
+use expand65::Statement as Given;
+use language65::{AsmFault, Statement};
+use statements65::{label, statement};
+use std::alloc::Global;
+use syntax65::Token;
+
+/// Takes a statement. What it hands to the object is seen to here, since a store that tells nothing of its files tells
+/// nothing of their lines.
+fn take_sound(
+    alloc: Global,
+    assembler: &mut Assembler,
+    at: At<'_>,
+    statement: Statement,
+) -> Result<(), AsmFault>
+    requires { IsRoomy 1 assembler.old }
+    ensures taken { TakesBy (IsSound (stated_of statement)) (λ t. Takes t
+        (place_in at.entry.file.now at.entry.line) (stated_of statement))
+        1 assembler.old assembler.new result }
+    ensures inside { IfErr result (λ e. is_failure e ≡ false) }
+{
+    if !is_sound(&statement) {
+        return Err(AsmFault::NotUnderstood);
+    }
+    assembler.take(alloc, at, statement)
+}
+
+/// Takes what stands behind a label.
+fn take_rest(
+    alloc: Global,
+    assembler: &mut Assembler,
+    at: At<'_>,
+    tokens: &[Token<'_>],
+) -> Result<(), AsmFault>
+    requires { IsRoomy 1 assembler.old }
+    ensures taken { TakesBy (AreNamed (lexemes tokens.now)) (λ t. IsRest Takes t
+        (place_in at.entry.file.now at.entry.line) (lexemes tokens.now))
+        1 assembler.old assembler.new result }
+    ensures inside { IfErr result (λ e. is_failure e ≡ false) }
+{
+    if tokens.is_empty() {
+        return Ok(());
+    }
+    let statement = statement(alloc, tokens)?;
+    take_sound(alloc, assembler, at, statement)
+}
+
+/// Takes a label, if there is one.
+fn take_front(
+    alloc: Global,
+    assembler: &mut Assembler,
+    at: At<'_>,
+    label: Option<Statement>,
+) -> Result<(), AsmFault>
+    requires { IsRoomy 1 assembler.old }
+    ensures taken { TakesBy (IsSoundIf (option_map stated_of label)) (λ t. IsLabelled Takes t
+        (place_in at.entry.file.now at.entry.line) (option_map stated_of label))
+        1 assembler.old assembler.new result }
+    ensures inside { IfErr result (λ e. is_failure e ≡ false) }
+{
+    match label {
+        Some(label) => take_sound(alloc, assembler, at, label),
+        None => Ok(()),
+    }
+}
+
+/// Takes a label's tokens.
+fn take_label(
+    alloc: Global,
+    assembler: &mut Assembler,
+    at: At<'_>,
+    tokens: &[Token<'_>],
+) -> Result<(), AsmFault>
+    requires { IsRoomy 2 assembler.old }
+    ensures taken { TakesBy (AreNamed (lexemes tokens.now)) (λ t. IsLabel Takes t
+        (place_in at.entry.file.now at.entry.line) (lexemes tokens.now))
+        2 assembler.old assembler.new result }
+    ensures inside { IfErr result (λ e. is_failure e ≡ false) }
+{
+    let (label, rest) = label(alloc, tokens)?;
+    take_front(alloc, assembler, at, label)?;
+    take_rest(alloc, assembler, at, rest)
+}
+
+/// Takes a statement that expansion gives.
+pub fn take_given(
+    alloc: Global,
+    assembler: &mut Assembler,
+    at: At<'_>,
+    given: &Given,
+) -> Result<(), AsmFault>
+    requires { IsRoomy 2 assembler.old }
+    ensures taken { TakesBy (AreNamed (tokens_of (stated given.now))) (λ t. IsGiven Takes t
+        (place_in at.entry.file.now at.entry.line) (stated given.now))
+        2 assembler.old assembler.new result }
+    ensures inside { IfErr result (λ e. is_failure e ≡ false) }
+{
+    match given {
+        Given::Label(line) => {
+            let tokens = line.tokens(alloc)?;
+            take_label(alloc, assembler, at, &tokens)
+        }
+        Given::Plain(line) => {
+            let tokens = line.tokens(alloc)?;
+            take_rest(alloc, assembler, at, &tokens)
+        }
+    }
+}

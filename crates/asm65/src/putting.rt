@@ -1,0 +1,16 @@
+//! What statements put into sections and what waits.
+
+mod parts;
+mod statements;
+mod values;
+mod waits;
+
+use crate::assembler::At;
+use language65::Spot;
+
+/// Where a piece of a statement stands.
+#[derive(Clone, Copy, Debug)]
+pub struct Stand<'a> {
+    pub at: At<'a>,
+    pub spot: Spot,
+}

@@ -1,0 +1,118 @@
+//! Parts of sections that are settled at their line.
+
+ghost use Rattle.std.specs.Prelude.{ℕ, IfOk, OnOk};
+ghost use Rattle.object65.specs.Form.{lit};
+ghost use Rattle.language65.specs.Contents.{opcode_part, operand_form, put, room_part, stored};
+ghost use Rattle.language65.specs.Views.{spot_of};
+ghost use Rattle.sections65.specs.Standing.{Feeds};
+ghost use Rattle.asm65.specs.Putting.{IsFaultless, IsPut, operand_stored};
+ghost use Rattle.layout65.specs.Views.{settled_in};
+
+use super::Stand;
+use crate::forms::{literal_of, operand_form};
+use language65::Spot;
+use layout65::Settled;
+use object65::{Norm, Width, fits, put};
+use sections65::Sections;
+use std::alloc::{AllocError, Global};
+
+/// Puts the bytes of a value into the section of a segment, if it lies in its range.
+pub fn put_literal(
+    sections: &mut Sections,
+    segment: u32,
+    width: Width,
+    value: i64,
+) -> Result<bool, AllocError>
+    ensures { (line : ℕ) → IfOk result
+        (IsPut sections.old sections.new segment (stored width line (lit value))) }
+{
+    if !fits(width, value) {
+        return Ok(false);
+    }
+    sections.append(segment, &put(width, value))?;
+    Ok(true)
+}
+
+/// Puts what is stored of a form into the section of a segment, if it has no fault.
+pub fn put_form(
+    sections: &mut Sections,
+    segment: u32,
+    width: Width,
+    line: u32,
+    form: Norm,
+) -> Result<bool, AllocError>
+    ensures { IfOk result (IsPut sections.old sections.new segment (stored width line form)) }
+{
+    match literal_of(&form) {
+        Some(value) => put_literal(sections, segment, width, value),
+        None => {
+            sections.value(segment, width, line, form)?;
+            Ok(true)
+        }
+    }
+}
+
+/// The form that is stored of an operand, if it has no fault.
+fn faultless_form(
+    alloc: Global,
+    width: Width,
+    spot: Spot,
+    form: Norm,
+) -> Result<Option<Norm>, AllocError>
+    ensures { IfOk result (IsFaultless (operand_form width (spot_of spot) form)) }
+{
+    match operand_form(alloc, width, spot, form) {
+        Ok(form) => Ok(Some(form)),
+        Err(fault) => {
+            if fault.is_memory() {
+                return Err(AllocError);
+            }
+            Ok(None)
+        }
+    }
+}
+
+/// Puts what is stored of an operand's form into the section in which it stands, if it has no
+/// fault.
+pub fn put_operand(
+    alloc: Global,
+    sections: &mut Sections,
+    stand: Stand<'_>,
+    width: Width,
+    form: Norm,
+) -> Result<bool, AllocError>
+    ensures { IfOk result (IsPut sections.old sections.new stand.entry.spot.segment
+        (operand_stored width (spot_of stand.entry.spot) stand.entry.at.line form)) }
+{
+    match faultless_form(alloc, width, stand.spot, form)? {
+        Some(form) => put_form(sections, stand.spot.segment, width, stand.at.line, form),
+        None => Ok(false),
+    }
+}
+
+/// Puts the code of an instruction into the section of a segment.
+pub fn put_code(sections: &mut Sections, segment: u32, code: Option<u8>) -> Result<(), AllocError>
+    ensures { OnOk result (Feeds sections.old sections.new (put segment (opcode_part code))) }
+{
+    match code {
+        Some(code) => sections.append(segment, &[code]),
+        None => sections.append(segment, &[]),
+    }
+}
+
+/// Puts room of so many bytes into the section of a segment, filled with the byte that is settled,
+/// if there is one.
+pub fn put_room(
+    sections: &mut Sections,
+    segment: u32,
+    count: u32,
+    settled: Settled,
+) -> Result<(), AllocError>
+    ensures { OnOk result (Feeds sections.old sections.new
+        (put segment (room_part count (settled_in settled)))) }
+{
+    match settled {
+        Settled::Filled(byte) => sections.fill(segment, count, byte),
+        _ => sections.room(segment, count),
+    }
+}

@@ -1,0 +1,195 @@
+//! What statements that define no name put into sections.
+
+ghost use Rattle.std.specs.Prelude.{◌≡◌, IfOk, true};
+ghost use Rattle.std.specs.Option.{option_map};
+ghost use Rattle.syntax65.specs.Trees.{tree_of};
+ghost use Rattle.language65.specs.Contents.{operand_tree};
+ghost use Rattle.language65.specs.Sizes.{width_of};
+ghost use Rattle.language65.specs.Views.{operand_of, spot_of};
+ghost use Rattle.symbols65.specs.Views.{table_of};
+ghost use Rattle.asm65.specs.Putting.{IsSo};
+
+use super::Stand;
+use super::parts::{put_code, put_room};
+use crate::assembler::Assembler;
+use crate::forms::literal_of;
+use crate::waiting::Piece;
+use language65::{Item, Operand, Spot};
+use layout65::Settled;
+use object65::{Action, Width};
+use std::alloc::{AllocError, Global};
+use symbols65::{Symbols, final_form};
+use syntax65::{Expr, Mnemonic, Mode, Sequence, opcode};
+
+/// How wide the operand of an instruction of a form is stored, if it has a value.
+fn width_of(mode: Mode) -> Option<Width>
+    ensures { result ≡ width_of mode }
+{
+    match mode {
+        Mode::Implied | Mode::Accumulator => None,
+        Mode::Absolute | Mode::AbsoluteX | Mode::AbsoluteY | Mode::Indirect => Some(Width::Word),
+        Mode::Relative => Some(Width::Branch),
+        _ => Some(Width::Byte),
+    }
+}
+
+/// The expression of an operand, if it has one.
+fn operand_value(operand: Operand) -> Option<Expr>
+    ensures { option_map tree_of result ≡ operand_tree (operand_of operand) }
+{
+    match operand {
+        Operand::Absent | Operand::Accumulator => None,
+        Operand::Immediate(value)
+        | Operand::Address {
+            prefix: _,
+            value,
+            index: _,
+        }
+        | Operand::Indirect(value)
+        | Operand::IndirectX(value)
+        | Operand::IndirectY(value) => Some(value),
+    }
+}
+
+/// Whether a value is another one than 0, whatever statements follow.
+fn is_so(alloc: Global, symbols: &Symbols, spot: Spot, value: &Expr) -> Result<bool, AllocError>
+    ensures { IfOk result (λ so. so ≡ true →
+        IsSo (table_of symbols.now) (spot_of spot) (tree_of value.now)) }
+{
+    match final_form(alloc, symbols, spot, value)? {
+        Some(form) => match literal_of(&form) {
+            Some(value) => Ok(value != 0),
+            None => Ok(false),
+        },
+        None => Ok(false),
+    }
+}
+
+impl Assembler {
+    ghost use Rattle.std.specs.Prelude.{◌∷◌, [], OnOk, map};
+    ghost use Rattle.expand65.specs.declared.place.Place.{Place};
+    ghost use Rattle.language65.specs.Contents.{room_part, opcode_part};
+    ghost use Rattle.language65.specs.Laid.{in_mode};
+    ghost use Rattle.language65.specs.Views.{item_of};
+    ghost use Rattle.syntax65.specs.Opcodes.{opcode_of};
+    ghost use Rattle.module65.specs.Pieces.{asserted, given, instruction_pieces, valued};
+    ghost use Rattle.module65.specs.Pieces.{item_piece, operand_pieces};
+    ghost use Rattle.asm65.specs.Holding.{Enters};
+    ghost use Rattle.asm65.specs.Views.{place_in};
+    ghost use Rattle.layout65.specs.Views.{settled_in};
+
+    /// Enters the code of an instruction.
+    fn enter_code(&mut self, spot: Spot, code: Option<u8>) -> Result<(), AllocError>
+        ensures { OnOk result ((place : Place) → Enters place (spot_of spot)
+            (given (opcode_part code) ∷ []) self.old self.new) }
+    {
+        put_code(&mut self.sections, spot.segment, code)
+    }
+
+    /// Enters the value of an operand, if there is one.
+    fn enter_operand_of(
+        &mut self,
+        alloc: Global,
+        stand: Stand<'_>,
+        width: Option<Width>,
+        value: Option<Expr>,
+    ) -> Result<(), AllocError>
+        ensures { OnOk result (Enters
+            (place_in stand.entry.at.file.now stand.entry.at.line) (spot_of stand.entry.spot)
+            (operand_pieces width (option_map tree_of value)) self.old self.new) }
+    {
+        match (width, value) {
+            (Some(width), Some(value)) => self.enter_operand(alloc, stand, width, value),
+            _ => Ok(()),
+        }
+    }
+
+    /// Enters an instruction of a form.
+    pub fn enter_instruction(
+        &mut self,
+        alloc: Global,
+        stand: Stand<'_>,
+        mnemonic: Mnemonic,
+        mode: Mode,
+        operand: Operand,
+    ) -> Result<(), AllocError>
+        ensures { OnOk result (Enters
+            (place_in stand.entry.at.file.now stand.entry.at.line) (spot_of stand.entry.spot)
+            (instruction_pieces mnemonic (operand_of operand) (in_mode mode))
+            self.old self.new) }
+    {
+        self.enter_code(stand.spot, opcode(mnemonic, mode))?;
+        self.enter_operand_of(alloc, stand, width_of(mode), operand_value(operand))
+    }
+
+    /// Enters an element of a list.
+    fn enter_item(
+        &mut self,
+        alloc: Global,
+        stand: Stand<'_>,
+        width: Width,
+        item: Item,
+    ) -> Result<(), AllocError>
+        ensures { OnOk result (Enters
+            (place_in stand.entry.at.file.now stand.entry.at.line) (spot_of stand.entry.spot)
+            (item_piece width (item_of item) ∷ []) self.old self.new) }
+    {
+        match item {
+            Item::Value(value) => self.enter_datum(alloc, stand, width, value),
+            Item::Text(bytes) => self.sections.append(stand.spot.segment, bytes.as_slice()),
+        }
+    }
+
+    /// Enters a list.
+    pub fn enter_values(
+        &mut self,
+        alloc: Global,
+        stand: Stand<'_>,
+        width: Width,
+        items: Sequence<Item>,
+    ) -> Result<(), AllocError>
+        ensures { OnOk result (Enters
+            (place_in stand.entry.at.file.now stand.entry.at.line) (spot_of stand.entry.spot)
+            (map (item_piece width) (map item_of items)) self.old self.new) }
+    {
+        for item in items.into_vec() {
+            self.enter_item(alloc, stand, width, item)?;
+        }
+        Ok(())
+    }
+
+    /// Enters room of so many bytes, filled with the byte that is settled, if there is one.
+    pub fn enter_room(&mut self, spot: Spot, count: u32, settled: Settled) -> Result<(), AllocError>
+        ensures { OnOk result ((place : Place) → Enters place (spot_of spot)
+            (given (room_part count (settled_in settled)) ∷ []) self.old self.new) }
+    {
+        put_room(&mut self.sections, spot.segment, count, settled)
+    }
+
+    /// Enters an assertion.
+    pub fn enter_assertion(
+        &mut self,
+        alloc: Global,
+        stand: Stand<'_>,
+        action: Action,
+        text: Sequence<u8>,
+        value: Expr,
+    ) -> Result<(), AllocError>
+        ensures { OnOk result (Enters
+            (place_in stand.entry.at.file.now stand.entry.at.line) (spot_of stand.entry.spot)
+            (valued (asserted action text) (tree_of value) ∷ []) self.old self.new) }
+    {
+        if is_so(alloc, &self.symbols, stand.spot, &value)? {
+            return Ok(());
+        }
+        self.wait(
+            alloc,
+            stand,
+            Piece::Assertion {
+                action,
+                text,
+                value,
+            },
+        )
+    }
+}

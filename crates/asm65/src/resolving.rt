@@ -1,0 +1,220 @@
+//! What waits comes to its content, by the symbol table of all statements.
+
+ghost use Rattle.std.specs.Prelude.{◌≡◌, ◌∷◌, List, ℕ, [], None, Option, OnOk, IfOk};
+ghost use Rattle.syntax65.specs.Outcome.{Gives};
+ghost use Rattle.language65.specs.declared.contents.Said.TheVariants.{Checked, Demanded, Exported};
+ghost use Rattle.language65.specs.Contents.{telling};
+ghost use Rattle.language65.specs.Faults.{is_memory};
+ghost use Rattle.language65.specs.Laid.{Spot as Stand};
+ghost use Rattle.language65.specs.Symbols.{defined, named};
+ghost use Rattle.language65.specs.Views.{spot_of};
+ghost use Rattle.module65.specs.Pieces.{asserted, datum, imported, made_of, operand, quietly, used};
+ghost use Rattle.symbols65.specs.Resolving.{IsTable};
+ghost use Rattle.symbols65.specs.Views.{table_of};
+ghost use Rattle.asm65.specs.Resolving.{coming, lost, made_in};
+ghost use Rattle.asm65.specs.Views.{place_in};
+
+use crate::forms::{literal_of, operand_form, stored};
+use crate::waiting::{Piece, Waiting};
+use language65::{AsmFault, Part, Said, Spot};
+use object65::{Action, Norm, Width};
+use std::alloc::{AllocError, Global};
+use symbols65::{Key, Known, Symbols, defined_norm, norm};
+use syntax65::Sequence;
+
+/// The number of the global scope.
+const GLOBAL: usize = 0;
+
+/// What is put where something waited.
+#[derive(Debug, Drop)]
+pub enum Filling {
+    /// A part of the section of a segment.
+    Part { segment: u32, part: Part },
+    /// What is said to other modules and to the linker.
+    Told(Sequence<Said>),
+}
+
+/// What a piece comes to.
+#[derive(Debug, Drop)]
+pub struct Made {
+    pub filling: Filling,
+    /// The text of an assertion that failed, where that is a warning.
+    pub warning: Option<Sequence<u8>>,
+}
+
+/// Nothing is put anywhere.
+fn nothing(alloc: Global) -> Made
+    ensures { (file : List ℕ) (line : ℕ) →
+        made_in (place_in file line) result ≡ quietly (telling []) }
+{
+    Made {
+        filling: Filling::Told(Sequence::new(alloc)),
+        warning: None,
+    }
+}
+
+/// One thing is said.
+fn told(alloc: Global, saying: Said) -> Result<Made, AllocError>
+    ensures { (file : List ℕ) (line : ℕ) → IfOk result (λ m.
+        made_in (place_in file line) m ≡ quietly (telling (saying ∷ []))) }
+{
+    let mut said = Sequence::new(alloc);
+    said.push(saying)?;
+    Ok(Made {
+        filling: Filling::Told(said),
+        warning: None,
+    })
+}
+
+/// What a value of a list comes to.
+fn use_datum(
+    alloc: Global,
+    width: Width,
+    line: u32,
+    spot: Spot,
+    form: Norm,
+) -> Result<Made, AsmFault>
+    ensures { (file : List ℕ) → Gives is_memory (made_in (place_in file line)) result
+        (used (place_in file line) (spot_of spot) (datum width) form) }
+{
+    let part = stored(alloc, width, line, form)?;
+    Ok(Made {
+        filling: Filling::Part {
+            segment: spot.segment,
+            part,
+        },
+        warning: None,
+    })
+}
+
+/// What an instruction's operand comes to.
+fn use_operand(
+    alloc: Global,
+    width: Width,
+    line: u32,
+    spot: Spot,
+    form: Norm,
+) -> Result<Made, AsmFault>
+    ensures { (file : List ℕ) → Gives is_memory (made_in (place_in file line)) result
+        (used (place_in file line) (spot_of spot) (operand width) form) }
+{
+    let form = operand_form(alloc, width, spot, form)?;
+    use_datum(alloc, width, line, spot, form)
+}
+
+/// What an assertion comes to.
+fn use_assertion(
+    alloc: Global,
+    action: Action,
+    line: u32,
+    text: Sequence<u8>,
+    form: Norm,
+) -> Result<Made, AsmFault>
+    ensures { (file : List ℕ) (s : Stand) → Gives is_memory (made_in (place_in file line)) result
+        (used (place_in file line) s (asserted action text) form) }
+{
+    match literal_of(&form) {
+        Some(0) => match action {
+            Action::Error => Err(AsmFault::Assertion(text)),
+            Action::Warning => Ok(Made {
+                filling: Filling::Told(Sequence::new(alloc)),
+                warning: Some(text),
+            }),
+        },
+        Some(_) => Ok(nothing(alloc)),
+        None => Ok(told(
+            alloc,
+            Said::Checked {
+                action,
+                line,
+                text,
+                form,
+            },
+        )?),
+    }
+}
+
+/// The place of the definition of a name in the global scope.
+fn defined(symbols: &Symbols, name: &[u8]) -> Option<usize>
+    ensures { result ≡ defined (table_of symbols.now) (named 0 name.now) }
+{
+    symbols.defined(Key::Named {
+        scope: GLOBAL,
+        name,
+    })
+}
+
+/// What an import comes to. The module may not define it.
+fn resolve_import(alloc: Global, symbols: &Symbols, name: Sequence<u8>) -> Result<Made, AsmFault>
+    ensures { (file : List ℕ) (line : ℕ) (s : Stand) →
+        Gives is_memory (made_in (place_in file line)) result
+        (made_of (table_of symbols.now) (place_in file line) s (imported name)) }
+{
+    if defined(symbols, name.as_slice()).is_some() {
+        return Err(AsmFault::ImportedAndDefined(name));
+    }
+    Ok(nothing(alloc))
+}
+
+/// What an export comes to that isn't defined.
+fn absent(alloc: Global, must: bool, name: Sequence<u8>) -> Result<Made, AsmFault>
+    ensures { (file : List ℕ) (line : ℕ) → Gives is_memory (made_in (place_in file line)) result
+        (lost must name) }
+{
+    if must {
+        return Err(AsmFault::NotDefined(name));
+    }
+    Ok(nothing(alloc))
+}
+
+/// What a piece that waits comes to, or its fault.
+pub fn resolve(
+    alloc: Global,
+    symbols: &Symbols,
+    known: &mut Known,
+    waiting: Waiting,
+) -> Result<Made, AsmFault>
+    requires { IsTable (table_of symbols.now) known.old.states.items }
+    ensures made { (file : List ℕ) → Gives is_memory (made_in (place_in file waiting.line)) result
+        (coming (table_of symbols.now) (place_in file waiting.line) (spot_of waiting.spot)
+        waiting.piece) }
+    ensures table { OnOk result (IsTable (table_of symbols.now) known.new.states.items) }
+{
+    let Waiting {
+        file: _,
+        line,
+        spot,
+        piece,
+    } = waiting;
+    match piece {
+        Piece::Datum { width, value } => {
+            let form = norm(alloc, symbols, known, spot, &value)?;
+            use_datum(alloc, width, line, spot, form)
+        }
+        Piece::Operand { width, value } => {
+            let form = norm(alloc, symbols, known, spot, &value)?;
+            use_operand(alloc, width, line, spot, form)
+        }
+        Piece::Constant(place) => {
+            defined_norm(alloc, symbols, known, place)?;
+            Ok(nothing(alloc))
+        }
+        Piece::Assertion {
+            action,
+            text,
+            value,
+        } => {
+            let form = norm(alloc, symbols, known, spot, &value)?;
+            use_assertion(alloc, action, line, text, form)
+        }
+        Piece::Import(name) => resolve_import(alloc, symbols, name),
+        Piece::Demand(name) => Ok(told(alloc, Said::Demanded(name))?),
+        Piece::Export { must, name } => match defined(symbols, name.as_slice()) {
+            Some(place) => {
+                let form = defined_norm(alloc, symbols, known, place)?;
+                Ok(told(alloc, Said::Exported { name, line, form })?)
+            }
+            None => absent(alloc, must, name),
+        },
+    }
+}

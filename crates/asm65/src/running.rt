@@ -1,0 +1,96 @@
+//! The statements of a source, taken one behind the other.
+
+ghost use Rattle.std.specs.Prelude.{◌≡◌, ◌+◌, ◌<◌, ◌≤◌, ℕ, false, IfErr, IfOk, IfSome, Ok, OnOk, Err, if◌then◌else◌};
+ghost use Rattle.syntax65.specs.Store.{Passes, PassesBy};
+ghost use Rattle.expand65.specs.Expansion.{opened_in};
+ghost use Rattle.expand65.specs.Standing.{FollowsFrom, Opens, measure_of, place_of, stated};
+ghost use Rattle.language65.specs.declared.fault.AsmFault.TheVariants.{BadScope};
+ghost use Rattle.language65.specs.Faults.{is_failure};
+ghost use Rattle.language65.specs.LineFaults.{is_open};
+ghost use Rattle.language65.specs.Sound.{AreNamed};
+ghost use Rattle.module65.specs.Knowing.{known_at};
+ghost use Rattle.module65.specs.Machine.{State, Takes, begun};
+ghost use Rattle.module65.specs.Reading.{AreDefined, IsGiven, Job, no_line};
+ghost use Rattle.asm65.specs.Running.{IsHeldBy, IsReachedBy, IsRoomy, IsRunning, Ran, TakesBy, tokens_of};
+
+use crate::assembler::{Assembler, At};
+use crate::given::take_given;
+use crate::knowing::Knowledge;
+use expand65::{ExpandFault, Expander, Statement};
+use language65::AsmFault;
+use std::alloc::Global;
+use syntax65::Store;
+
+/// The number of the global scope.
+const GLOBAL: u32 = 0;
+
+/// A source that is being assembled.
+#[derive(Drop)]
+pub struct Run {
+    /// The statements that are left.
+    pub expander: Expander,
+    /// What those before came to.
+    pub assembler: Assembler,
+}
+
+/// The next statement, by what is known before it.
+fn next<S: Store>(run: &mut Run, store: &mut S) -> Result<Option<Statement>, ExpandFault>
+    requires { IsRunning run.old }
+    ensures next { IfSome (S.files store.old) (λ m. (t : State) → IsHeldBy t run.old →
+        FollowsFrom m (known_at t.symbols t.standing) run.old.expander result run.new.expander) }
+    ensures same { run.new.assembler ≡ run.old.assembler }
+    ensures size { IfOk result (λ o. IfSome o (λ _.
+        measure_of run.new.expander < measure_of run.old.expander)) }
+    ensures files { S.files store.new ≡ S.files store.old }
+    ensures count { Passes ExpandFault.FileError (S.failures store.old) (S.failures store.new) result }
+{
+    let knowledge = Knowledge {
+        symbols: &run.assembler.symbols,
+        spot: run.assembler.standing.spot(),
+    };
+    run.expander.next(store, &knowledge)
+}
+
+/// Takes a statement where it stands.
+fn take_next(alloc: Global, run: &mut Run, statement: &Statement) -> Result<(), AsmFault>
+    requires { IsRoomy 2 run.old.assembler }
+    ensures taken { TakesBy (AreNamed (tokens_of (stated statement.now))) (λ t. IsGiven Takes t
+        (place_of run.old.expander) (stated statement.now))
+        2 run.old.assembler run.new.assembler result }
+    ensures same { run.new.expander ≡ run.old.expander }
+    ensures inside { IfErr result (λ e. is_failure e ≡ false) }
+{
+    let (file, line) = run.expander.place();
+    let at = At { file, line };
+    take_given(alloc, &mut run.assembler, at, statement)
+}
+
+/// Refuses a scope that is open.
+fn check_closed(run: &Run) -> Result<(), AsmFault>
+    ensures { result ≡ (if is_open run.now.assembler.standing.scope then Err BadScope else Ok tt) }
+{
+    if run.assembler.standing.scope == GLOBAL {
+        Ok(())
+    } else {
+        Err(AsmFault::BadScope)
+    }
+}
+
+/// Takes the statements that are left, behind which no scope may be open.
+pub fn take_all<S: Store>(alloc: Global, store: &mut S, run: &mut Run) -> Result<(), AsmFault>
+    requires { IsRunning run.old }
+    ensures ran { IfSome (S.files store.old) (λ m. (job : Job) (t : State) →
+        Opens m (Ok run.old.expander) (opened_in m job.source job.include) →
+        AreDefined Takes begun (no_line job.source) job.defines (Ok t) →
+        IsHeldBy t run.old → Ran m job run.new result) }
+    ensures held { OnOk result (IsReachedBy run.new.assembler) }
+    ensures files { S.files store.new ≡ S.files store.old }
+    ensures count { PassesBy is_failure (S.failures store.old) (S.failures store.new) result }
+{
+    'statements: loop {
+        match next(run, store)? {
+            Some(statement) => take_next(alloc, run, &statement)?,
+            None => return check_closed(run),
+        }
+    }
+}

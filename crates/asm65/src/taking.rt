@@ -1,0 +1,199 @@
+//! One statement of the source is taken.
+
+use crate::assembler::{Assembler, At};
+use crate::naming::Mention;
+use crate::putting::Stand;
+use language65::{AsmFault, Operand, Spot, Statement};
+use layout65::{Before, Measured, Settled, asks_section, measure};
+use std::alloc::{AllocError, Global};
+use symbols65::Key;
+use syntax65::{AddressSize, Mnemonic};
+
+/// Where a statement stands, and what it places.
+#[derive(Clone, Copy, Debug)]
+struct Placed {
+    spot: Spot,
+    measured: Measured,
+}
+
+impl Assembler {
+    ghost use Rattle.std.specs.Prelude.{◌≡◌, ◌+◌, ◌<◌, ℕ, IfErr, IfOk, OnOk, false};
+    ghost use Rattle.language65.specs.Faults.{is_failure, is_outside};
+    ghost use Rattle.language65.specs.Views.{operand_of, spot_of, stated_of};
+    ghost use Rattle.layout65.specs.Counting.{opened_by, opening_limit};
+    ghost use Rattle.layout65.specs.Measuring.{measured_of};
+    ghost use Rattle.layout65.specs.Views.{settled_in};
+    ghost use Rattle.module65.specs.Machine.{State, Takes, symbols_behind};
+    ghost use Rattle.module65.specs.Pieces.{instruction_pieces, pieces_of};
+    ghost use Rattle.module65.specs.Reading.{Answers};
+    ghost use Rattle.symbols65.specs.Resolving.{IsTable};
+    ghost use Rattle.symbols65.specs.Views.{table_of};
+    ghost use Rattle.asm65.specs.Holding.{Enters, Holds};
+    ghost use Rattle.asm65.specs.Putting.{KeepsTables};
+    ghost use Rattle.asm65.specs.Taking.{Asks, IsHeld, IsNew, IsPlaced, IsRefused, Turns, laid_as, stepped};
+    ghost use Rattle.asm65.specs.Views.{place_in};
+
+    /// A statement asks for its section, where it asks for one.
+    fn ask(&mut self, segment: u32, statement: &Statement) -> Result<(), AllocError>
+        ensures asked { OnOk result (Asks segment (stated_of statement.now) self.old self.new) }
+        ensures tables { KeepsTables self.old self.new }
+    {
+        if asks_section(statement) {
+            self.sections.ask(segment)?;
+        }
+        Ok(())
+    }
+
+    /// An instruction is entered in the form that is settled.
+    fn enter_settled(
+        &mut self,
+        alloc: Global,
+        stand: Stand<'_>,
+        settled: Settled,
+        mnemonic: Mnemonic,
+        operand: Operand,
+    ) -> Result<(), AllocError>
+        ensures { OnOk result (Enters
+            (place_in stand.entry.at.file.now stand.entry.at.line) (spot_of stand.entry.spot)
+            (instruction_pieces mnemonic (operand_of operand) (settled_in settled))
+            self.old self.new) }
+    {
+        match settled {
+            Settled::Form(mode) => self.enter_instruction(alloc, stand, mnemonic, mode, operand),
+            Settled::Nothing | Settled::Filled(_) => Ok(()),
+        }
+    }
+
+    /// The pieces of a statement are entered, and then its names are known.
+    fn enter(
+        &mut self,
+        alloc: Global,
+        stand: Stand<'_>,
+        measured: Measured,
+        statement: Statement,
+    ) -> Result<(), AllocError>
+        requires known { IsTable (table_of self.old.symbols) self.old.known.states.items }
+        requires new { IsNew (table_of self.old.symbols) (spot_of stand.spot) (stated_of statement) }
+        ensures { OnOk result (let place = place_in stand.entry.at.file.now stand.entry.at.line in
+            let s = spot_of stand.entry.spot in let m = measured_of measured in
+            Turns place s (pieces_of m.length m.settled (stated_of statement))
+            (λ y. symbols_behind y (laid_as place s m (stated_of statement)))
+            self.old self.new) }
+    {
+        let Stand { at: _, spot } = stand;
+        let scope = spot.scope as usize;
+        let size = measured.size;
+        match statement {
+            Statement::Instruction { mnemonic, operand } => {
+                self.enter_settled(alloc, stand, measured.settled, mnemonic, operand)
+            }
+            Statement::Values { width, items } => self.enter_values(alloc, stand, width, items),
+            Statement::Reserve { count: _, value: _ } => {
+                self.enter_room(spot, measured.length, measured.settled)
+            }
+            Statement::Align {
+                multiple: _,
+                value: _,
+            } => self.enter_room(spot, measured.length, measured.settled),
+            Statement::Assert {
+                value,
+                action,
+                text,
+            } => self.enter_assertion(alloc, stand, action, text, value),
+            Statement::Label(name) => {
+                let name = name.as_slice();
+                self.define_label(alloc, Key::Named { scope, name }, spot, size)
+            }
+            Statement::CheapLabel(name) => {
+                let region = spot.region as usize;
+                let name = name.as_slice();
+                self.define_label(alloc, Key::Cheap { region, name }, spot, size)
+            }
+            Statement::UnnamedLabel => {
+                self.define_label(alloc, Key::Unnamed(spot.unnamed as usize), spot, size)
+            }
+            Statement::Constant { name, value } => {
+                self.define_constant(alloc, stand, size, name.as_slice(), value)
+            }
+            Statement::OpenScope(Some(name)) => self.open_block(alloc, spot, Some(name.as_slice())),
+            Statement::OpenScope(None) => self.open_block(alloc, spot, None),
+            Statement::OpenProc(name) => self.open_proc(alloc, spot, size, name.as_slice()),
+            Statement::Import { size, names } => {
+                self.import_names(alloc, stand, Mention::Imported, size, names.as_slice())
+            }
+            Statement::Global { size, names } => {
+                let mention = Mention::Exported { must: false };
+                self.import_names(alloc, stand, mention, size, names.as_slice())
+            }
+            Statement::ForceImport(names) => self.demand_names(alloc, stand, names.as_slice()),
+            Statement::Export(names) => {
+                self.mention(
+                    alloc,
+                    stand,
+                    Mention::Exported { must: true },
+                    names.as_slice(),
+                )
+            }
+            Statement::Segment { name: _, size: _ }
+            | Statement::PushSegment
+            | Statement::PopSegment
+            | Statement::CloseScope
+            | Statement::CloseProc
+            | Statement::Out(_)
+            | Statement::Warning(_)
+            | Statement::Nothing => Ok(()),
+        }
+    }
+
+    /// Finds what a statement places and where it stands, or its first fault; asks for its section,
+    /// says what it prints, and goes on behind it.
+    fn place(
+        &mut self,
+        alloc: Global,
+        at: At<'_>,
+        statement: &Statement,
+    ) -> Result<Placed, AsmFault>
+        requires { IsHeld self.old }
+        ensures placed { (count : ℕ) (t : State) → Holds count t self.old → IfOk result (λ p.
+            IsPlaced t (stated_of statement.now) (spot_of p.spot) (measured_of p.measured)) }
+        ensures holds { (count : ℕ) (t : State) → Holds count t self.old → OnOk result
+            (Holds (count + opened_by (stated_of statement.now))
+            (stepped t (place_in at.entry.file.now at.entry.line) (stated_of statement.now))
+            self.new) }
+        ensures refused { (count : ℕ) (t : State) → Holds count t self.old → IfErr result
+            (IsRefused t (stated_of statement.now)) }
+        ensures known { OnOk result
+            (IsTable (table_of self.new.symbols) self.new.known.states.items) }
+        ensures new { IfOk result (λ p.
+            IsNew (table_of self.new.symbols) (spot_of p.spot) (stated_of statement.now)) }
+        ensures texts { IfErr result (λ e. is_outside e ≡ false → self.new.texts ≡ self.old.texts) }
+        ensures inside { IfErr result (λ e. is_failure e ≡ false) }
+    {
+        let before = Before {
+            symbols: &self.symbols,
+            standing: &self.standing,
+        };
+        let measured = measure(alloc, before, &mut self.known, statement)?;
+        let spot = self.standing.spot();
+        self.ask(spot.segment, statement)?;
+        self.texts.say(at, statement)?;
+        self.standing
+            .advance(alloc, &self.symbols, statement, measured)?;
+        Ok(Placed { spot, measured })
+    }
+
+    /// Takes one statement behind the others. A fault of the statement leaves what is said as it was.
+    pub fn take(&mut self, alloc: Global, at: At<'_>, statement: Statement) -> Result<(), AsmFault>
+        requires { IsHeld self.old }
+        ensures taken { (count : ℕ) (t : State) → Holds count t self.old → count < opening_limit →
+            Answers (Takes t (place_in at.entry.file.now at.entry.line) (stated_of statement))
+            (λ u. Holds (count + opened_by (stated_of statement)) u self.new) result }
+        ensures texts { IfErr result (λ e. is_outside e ≡ false → self.new.texts ≡ self.old.texts) }
+        ensures inside { IfErr result (λ e. is_failure e ≡ false) }
+    {
+        let Placed { spot, measured } = self.place(alloc, at, &statement)?;
+        let stand = Stand { at, spot };
+        self.enter(alloc, stand, measured, statement)?;
+        Ok(())
+    }
+}

@@ -1,0 +1,151 @@
+-- What stands behind a statement.
+use Rattle.std.proofs.Common.{◌≡◌, ◌∙◌, ℕ, zero, suc, ◌+◌, ◌<◌, ◌≤◌, nat_lt, Bool, true, false, List, [], ◌∷◌, ◌++◌, length, Option, Some, None, refl, sym, ap, arith}
+use Rattle.std.specs.Prelude.{Ok, Err, slice_get, if◌then◌else◌}
+use Rattle.std.specs.List.{AllByRecursion}
+use Rattle.std.proofs.lemmas.Bool.Decides.{nat_tests}
+use Rattle.std.proofs.lemmas.List.{length-append}
+use Rattle.object65.specs.Objects.{section_limit}
+use Rattle.language65.specs.declared.contents.Segment.{Segment}
+use Rattle.language65.specs.declared.fault.AsmFault.{AsmFault}
+use Rattle.language65.specs.declared.fault.AsmFault.TheVariants.{SectionTooLarge}
+use Rattle.language65.specs.Laid.{is_unnamed, opens_region}
+use Rattle.language65.specs.Language as l
+use Rattle.language65.specs.Layout.{Standing, first_size, named_segments, new_segment, opens_scope, own_size, place_of, scope_behind, segments_behind, spot_of, standing_behind}
+use Rattle.language65.specs.LineFaults.{first_fault, line_fault, or_then, when}
+use Rattle.language65.specs.Names.{enclosing, within}
+use Rattle.language65.specs.Sizes.{length_of}
+use Rattle.language65.specs.Symbols.{Scope, Symbols, scope_opened}
+use Rattle.module65.specs.Laying.{unless_fault}
+use Rattle.layout65.specs.declared.standing.Standing as code
+use Rattle.layout65.specs.Advancing.{advanced}
+use Rattle.layout65.specs.Counting.{AreInside, HasNumbers, opened_by, opening_limit}
+use Rattle.layout65.specs.Measuring.{Measured, measure_of, measured, naming_fault, placing_faults}
+use Rattle.layout65.specs.Sounds.{IsCounted}
+use Rattle.layout65.specs.Views.{standing_of}
+use Rattle.layout65.proofs.Measures.{faults_are, no_fault}
+use Rattle.module65.proofs.Segments.{all_more, all_same, grown_length}
+
+-- ---- What is open.
+
+within_below : (count i : ℕ) (cs : List Scope) → AreInside count cs → within (slice_get cs i) ≤ count
+within_below count i [] h = omega arith
+within_below count zero (c ∷ cs) h = h.0
+within_below count (suc i) (c ∷ cs) h = within_below count i cs h.1
+
+-- the scope around one is among those that were opened
+pub enclosing_below : (count scope : ℕ) (cs : List Scope) → AreInside count cs → enclosing cs scope ≤ count
+enclosing_below count zero cs h = omega arith
+enclosing_below count (suc i) cs h = within_below count i cs h
+
+-- a statement's scope is opened within one of so many
+pub inside_behind : (count scope : ℕ) (cs : List Scope) (x : l.Stated) → scope ≤ count → AreInside count cs → AreInside (count + opened_by x) (cs ++ scope_opened scope x)
+inside_behind count scope cs x le h = by x
+  where
+    wide : (many : ℕ) → count ≤ many → AreInside many cs
+    wide many more = all_same (λ (c : Scope). c.within ≤ count) (λ (c : Scope). c.within ≤ many) (λ c less. omega (arith, less, more)) cs h
+
+    alone : (many : ℕ) (ds : List Scope) → AreInside many ds → AreInside many (ds ++ [])
+    alone many [] g = tt
+    alone many (d ∷ ds) g = (g.0, alone many ds g.1)
+
+    by : (x : l.Stated) → AreInside (count + opened_by x) (cs ++ scope_opened scope x)
+    by (l.open_scope n) = all_more (λ (c : Scope). c.within ≤ count + 1) cs (record { within = scope; name = n; is_proc = false }) (wide (count + 1) (omega arith)) (omega (arith, le))
+    by (l.open_proc n) = all_more (λ (c : Scope). c.within ≤ count + 1) cs (record { within = scope; name = Some n; is_proc = true }) (wide (count + 1) (omega arith)) (omega (arith, le))
+    by (l.label n) = alone (count + 1) cs (wide (count + 1) (omega arith))
+    by l.unnamed_label = alone (count + 1) cs (wide (count + 1) (omega arith))
+    by (l.segment n own) = alone (count + 1) cs (wide (count + 1) (omega arith))
+    by _ = alone (count + 0) cs (wide (count + 0) (omega arith))
+
+-- ---- What is counted.
+
+scopes_behind : (x : l.Stated) (n count : ℕ) → n ≤ count → (if opens_scope x then n + 1 else n) ≤ count + opened_by x
+scopes_behind (l.open_scope m) n count le = omega (arith, le)
+scopes_behind (l.open_proc m) n count le = omega (arith, le)
+scopes_behind _ n count le = omega (arith, le)
+
+regions_behind : (x : l.Stated) (n count : ℕ) → n ≤ count → (if opens_region x then n + 1 else n) ≤ count + opened_by x
+regions_behind (l.label m) n count le = omega (arith, le)
+regions_behind (l.open_proc m) n count le = omega (arith, le)
+regions_behind _ n count le = omega (arith, le)
+
+unnamed_behind : (x : l.Stated) (n count : ℕ) → n ≤ count → (if is_unnamed x then n + 1 else n) ≤ count + opened_by x
+unnamed_behind l.unnamed_label n count le = omega (arith, le)
+unnamed_behind _ n count le = omega (arith, le)
+
+segments_counted : (x : l.Stated) (gs : List Segment) (current len multiple count : ℕ) → length gs ≤ count + 1 → length (segments_behind gs current len multiple x) ≤ count + opened_by x + 1
+segments_counted (l.segment n own) gs current len multiple count le = by (place_of gs n)
+  where
+    by : (place : Option ℕ) → length (named_segments gs n own place) ≤ count + 1 + 1
+    by (Some i) = omega (arith, le)
+    by None = rw (length-append gs (new_segment n (first_size n own) ∷ [])) (omega (arith, le))
+segments_counted _ gs current len multiple count le = rw (grown_length gs current len multiple) (omega (arith, le))
+
+open_behind : (x : l.Stated) (y : Symbols) (w : Standing) (count : ℕ) → w.scope ≤ count → w.opened ≤ count → AreInside count y.scopes → scope_behind y w x ≤ count + opened_by x
+open_behind (l.open_scope n) y w count le less h = omega (arith, less)
+open_behind (l.open_proc n) y w count le less h = omega (arith, less)
+open_behind l.close_scope y w count le less h = let around = enclosing_below count w.scope y.scopes h in omega (arith, around)
+open_behind l.close_proc y w count le less h = let around = enclosing_below count w.scope y.scopes h in omega (arith, around)
+open_behind _ y w count le less h = omega (arith, le)
+
+-- a statement opens so much at most
+pub counted_behind : (y : Symbols) (v w : code.Standing) (x : l.Stated) (len multiple count : ℕ) → IsCounted count v → AreInside count y.scopes → standing_of w ≡ advanced y (standing_of v) x len multiple → IsCounted (count + opened_by x) w
+counted_behind y v w x len multiple count counted inside e = record {
+  scope = rw (ap (λ (s : Standing). s.scope) e) (open_behind x y (standing_of v) count counted.scope counted.scopes inside);
+  scopes = rw (ap (λ (s : Standing). s.opened) e) (scopes_behind x v.opened count counted.scopes);
+  regions = rw (ap (λ (s : Standing). s.region) e) (regions_behind x v.region count counted.regions);
+  unnamed = rw (ap (λ (s : Standing). s.unnamed) e) (unnamed_behind x v.unnamed count counted.unnamed);
+  segments = rw (ap (λ (s : Standing). s.segments) e) (segments_counted x v.segments.items v.current len multiple count counted.segments);
+}
+
+-- below the limit, there are numbers for one more
+pub has_numbers : (count : ℕ) (y : Symbols) (w : code.Standing) → IsCounted count w → AreInside count y.scopes → count < opening_limit → HasNumbers y w
+has_numbers count y w counted inside less =
+    let around = enclosing_below count w.scope y.scopes inside in
+    record {
+      segments = (let many = counted.segments in omega (arith, many, less));
+      opened = (let many = counted.scopes in omega (arith, many, less));
+      region = (let many = counted.regions in omega (arith, many, less));
+      unnamed = (let many = counted.unnamed in omega (arith, many, less));
+      enclosing = omega (arith, around, less);
+    }
+
+-- ---- What is measured.
+
+all_none : (fs : List (Option AsmFault)) → first_fault fs ≡ None → AllByRecursion (λ (f : Option AsmFault). f ≡ None) fs
+all_none [] h = tt
+all_none (None ∷ fs) h = (refl, all_none fs h)
+all_none (Some e ∷ fs) h = absurd cc
+
+second_none : (f g : Option AsmFault) → or_then f g ≡ None → g ≡ None
+second_none None g h = h
+second_none (Some e) g h = absurd cc
+
+when_none : (b : Bool) (e : AsmFault) → when b e ≡ None → b ≡ false
+when_none false e h = refl
+when_none true e h = absurd cc
+
+module _ (y : Symbols) (w : Standing) (x : l.Stated) where
+  pub without_fault : (m : Measured) → measured y w x ≡ Ok m → line_fault y w x ≡ None
+  without_fault m e = (no_fault (line_fault y w x) (measure_of y w x) m e).0
+
+  pub is_measured : (m : Measured) → measured y w x ≡ Ok m → measure_of y w x ≡ m
+  is_measured m e = (no_fault (line_fault y w x) (measure_of y w x) m e).1
+
+  pub with_fault : (e : AsmFault) → measured y w x ≡ Err e → line_fault y w x ≡ Some e
+  with_fault e p = by (line_fault y w x) p
+    where
+      by : (f : Option AsmFault) → unless_fault f (measure_of y w x) ≡ Err e → f ≡ Some e
+      by None h = absurd cc
+      by (Some d) h = let same : d ≡ e = cc in ap (λ k. Some k) same
+
+  -- where the next statement stands
+  pub behind_measured : (m : Measured) → measured y w x ≡ Ok m → advanced y w x m.length m.multiple ≡ standing_behind y w x
+  behind_measured m e = ap (λ (k : Measured). advanced y w x k.length k.multiple) (sym (is_measured m e))
+
+  -- the section has room for the statement
+  pub room_measured : (m : Measured) → measured y w x ≡ Ok m → (spot_of w).offset + m.length ≤ section_limit
+  room_measured m e =
+      let none = second_none (naming_fault y (spot_of w) x) (first_fault (placing_faults y w x)) (sym (faults_are y w x) ∙ without_fault m e) in
+      let last = (all_none (placing_faults y w x) none).1.1.1.1.1.1.1.1.0 in
+      let fits = ap (λ (k : Measured). nat_lt section_limit ((spot_of w).offset + k.length)) (sym (is_measured m e)) ∙ when_none (nat_lt section_limit ((spot_of w).offset + length_of y (spot_of w) (own_size w) x)) SectionTooLarge last in
+      grind (arith, nat_tests)

@@ -1,0 +1,4 @@
+pub mod Steps
+pub mod Measures
+pub mod Segments
+pub mod Behind

@@ -1,0 +1,191 @@
+-- Faults one after the other.
+use Rattle.std.proofs.Common.{◌≡◌, ℕ, zero, suc, ◌+◌, ◌<◌, ◌≤◌, nat_lt, arith, map, drop, get_or, add-one, Bool, true, false, List, [], ◌∷◌, length, Option, Some, None, refl, sym, ap, ◌∙◌}
+use Rattle.std.specs.Prelude.{◌&&◌, Result, Ok, Err}
+use Rattle.std.proofs.lemmas.Bool.Decides.{nat_tests}
+use Rattle.std.specs.Prelude.{sum_by}
+use Rattle.std.proofs.lemmas.List.{drop_all}
+use Rattle.std.proofs.lemmas.List.Sums.{sum_by-cons}
+use Rattle.object65.specs.declared.object.Width.{Width}
+use Rattle.language65.specs.Sizes.{counted, fill_settled, gap, item_len, optional_value}
+use Rattle.language65.specs.Norms.{constant_in}
+use Rattle.std.specs.Prelude.{ℤ, pos, negsuc, not}
+use Rattle.syntax65.specs.Outcome.{◌>>=◌, Unless}
+use Rattle.syntax65.specs.Trees.{Tree}
+use Rattle.language65.specs.declared.fault.AsmFault.{AsmFault}
+use Rattle.language65.specs.Faults.{is_memory}
+use Rattle.language65.specs.declared.fault.AsmFault.TheVariants.{BadOperand, NotUnderstood, SectionTooLarge}
+use Rattle.language65.specs.declared.language.Item.{Item}
+use Rattle.language65.specs.Laid.{Settled}
+use Rattle.language65.specs.Symbols.{Scope, Symbols, key_defined}
+use Rattle.language65.specs.Language as l
+use Rattle.language65.specs.Views.{item_of}
+use Rattle.language65.proofs.Lists.{drop_mapped, map_length}
+use Rattle.module65.specs.Laying.{unless_fault}
+use Rattle.object65.specs.Objects.{section_limit}
+use Rattle.syntax65.specs.declared.lexing.tokens.AddressSize.TheVariants.{Absolute}
+use Rattle.syntax65.specs.declared.lexing.tokens.AddressSize.{AddressSize}
+use Rattle.language65.specs.declared.contents.Segment.{Segment}
+use Rattle.language65.specs.Layout.{Standing, own_size, segment_at, spot_of}
+use Rattle.language65.specs.LineFaults.{first_fault, defined_twice, is_open, line_fault, opened_twice, scope_name, stands_outside, trees_of, is_byte_value, is_count, is_there, multiple_fault, item_trees, lost_scope, lost_scopes, or_then, when}
+use Rattle.layout65.specs.Measuring.{Measured, fitted, measure_of, measured, naming_fault, placed, placing_faults}
+use Rattle.layout65.proofs.Steps.{unless_then}
+
+-- the second fault is looked for where there is no first
+pub two_faults : {A : Type 0} (f g : Option AsmFault) (x : A) → unless_fault (or_then f g) x ≡ (unless_fault {A = Unit {0}} f tt >>= λ u. unless_fault g x)
+two_faults None g x = refl
+two_faults (Some e) g x = refl
+
+-- a refusal for the first of two faults
+pub refused_first : {A : Type 0} (e : AsmFault) (f g : Option AsmFault) (x : A) → Unless (is_memory e) (unless_fault {A = Unit {0}} f tt ≡ Err e) → Unless (is_memory e) (unless_fault (or_then f g) x ≡ Err e)
+refused_first e f g x h = unless_then (is_memory e) (λ p. two_faults f g x ∙ ap (λ r. r >>= λ u. unless_fault g x) p) h
+
+-- a refusal of what is the same
+pub refused_same : {A : Type 0} (e : AsmFault) (r s : Result A AsmFault) → s ≡ r → Unless (is_memory e) (r ≡ Err e) → Unless (is_memory e) (s ≡ Err e)
+refused_same e r s q h = unless_then (is_memory e) (λ p. q ∙ p) h
+
+-- what is left where the first of two faults isn't there
+pub left_behind : {A : Type 0} (f g : Option AsmFault) (x y : A) → unless_fault f x ≡ Ok y → or_then f g ≡ g
+left_behind None g x y h = refl
+left_behind (Some e) g x y h = absurd cc
+
+-- ---- Lists of values.
+
+or_none : (a b : Option AsmFault) → or_then (or_then a None) b ≡ or_then a b
+or_none None b = refl
+or_none (Some e) b = refl
+
+first_item : (cs : List Scope) (scope : ℕ) (item : l.Item) (items : List l.Item) → lost_scopes cs scope (item_trees (item ∷ items)) ≡ or_then (lost_scopes cs scope (item_trees (item ∷ []))) (lost_scopes cs scope (item_trees items))
+first_item cs scope (l.value e) items = sym (or_none (lost_scope cs scope e) (lost_scopes cs scope (item_trees items)))
+first_item cs scope (l.text bytes) items = refl
+
+-- what the items from a place on are refused for
+pub items_lost : (cs : List Scope) (scope : ℕ) (items : List Item) (i : ℕ) (item : Item) → i < length items → item ≡ get_or items i item → lost_scopes cs scope (item_trees (drop i (map item_of items))) ≡ or_then (lost_scopes cs scope (item_trees (item_of item ∷ []))) (lost_scopes cs scope (item_trees (drop (i + 1) (map item_of items))))
+items_lost cs scope items i item lt e = rw add-one (ap (λ is. lost_scopes cs scope (item_trees is)) (drop_mapped item_of items i item lt e) ∙ first_item cs scope (item_of item) (drop (suc i) (map item_of items)))
+
+-- ---- What a section has room for.
+
+pub same_test : (offset room len : ℕ) → offset + room ≡ section_limit → nat_lt section_limit (offset + len) ≡ nat_lt room len
+same_test offset room len e = by (nat_lt section_limit (offset + len)) (nat_lt room len) refl refl
+  where
+    by : (a b : Bool) → nat_lt section_limit (offset + len) ≡ a → nat_lt room len ≡ b → a ≡ b
+    by true true p q = refl
+    by false false p q = refl
+    by true false p q = absurd (grind (arith, nat_tests))
+    by false true p q = absurd (grind (arith, nat_tests))
+
+-- ---- Segments and blocks.
+
+pub no_segment : (gs : List Segment) (i : ℕ) → length gs ≤ i → (segment_at gs i).size ≡ Absolute
+no_segment [] i h = refl
+no_segment (f ∷ gs) zero h = absurd (omega arith)
+no_segment (f ∷ gs) (suc i) h = no_segment gs i (omega arith)
+
+-- ---- Lengths of lists.
+
+-- how many bytes the items from a place on take
+pub items_left : (width : Width) (items : List Item) (i : ℕ) (item : Item) → i < length items → item ≡ get_or items i item → sum_by (item_len width) (drop i (map item_of items)) ≡ item_len width (item_of item) + sum_by (item_len width) (drop (i + 1) (map item_of items))
+items_left width items i item lt e = rw add-one (ap (sum_by (item_len width)) (drop_mapped item_of items i item lt e) ∙ sum_by-cons (item_len width) (item_of item) (drop (suc i) (map item_of items)))
+
+pub none_left : (width : Width) (items : List Item) (i : ℕ) → length items ≤ i → sum_by (item_len width) (drop i (map item_of items)) ≡ 0
+none_left width items i le = ap (sum_by (item_len width)) (drop_all i (map item_of items) (let e : length (map item_of items) ≡ length items = map_length item_of items in omega (arith, e)))
+
+-- ---- Room.
+
+-- what `.res` places, by how much, and whether its other value is a byte
+abbrev pub reserved : Standing → Bool → Settled → Option ℤ → Result Measured AsmFault
+reserved w b st k =
+    unless_fault (first_fault (
+    None
+    ∷ when (not (is_count k && b)) BadOperand
+    ∷ None ∷ None ∷ None ∷ None ∷ None ∷ None
+    ∷ when (nat_lt section_limit ((spot_of w).offset + counted k)) SectionTooLarge
+    ∷ []))
+    (record { length = counted k; size = own_size w; multiple = 1; settled = st })
+
+pub reserved_as : (y : Symbols) (w : Standing) (n : Tree) (v : Option Tree) (k : Option ℤ) → constant_in y (spot_of w) n ≡ k → placed y w (l.reserve n v) ≡ reserved w (is_byte_value (optional_value y (spot_of w) v (pos 0))) (fill_settled y (spot_of w) v) k
+reserved_as y w n v k e = ap (reserved w (is_byte_value (optional_value y (spot_of w) v (pos 0))) (fill_settled y (spot_of w) v)) e
+
+-- a byte that is refused, where the number is one
+pub bad_fill : (w : Standing) (b : Bool) (st : Settled) (k : Option ℤ) (m : ℕ) (e : AsmFault) → unless_fault (when (not (is_count k)) BadOperand) (counted k) ≡ Ok m → Unless (is_memory e) (unless_fault {A = Unit {0}} (when (not b) BadOperand) tt ≡ Err e) → Unless (is_memory e) (reserved w b st k ≡ Err e)
+bad_fill w b st None m e t h = absurd cc
+bad_fill w b st (Some (negsuc j)) m e t h = absurd cc
+bad_fill w true st (Some (pos j)) m e t h = unless_then (is_memory e) (λ p. absurd cc) h
+bad_fill w false st (Some (pos j)) m e t h = unless_then (is_memory e) (λ p. let same : BadOperand ≡ e = cc in ap (λ k. Err k) same) h
+
+-- ---- Alignment.
+
+pub no_fault : {A : Type 0} (f : Option AsmFault) (x y : A) → unless_fault f x ≡ Ok y → (f ≡ None) × (x ≡ y)
+no_fault None x y h = (refl, cc)
+no_fault (Some e) x y h = absurd cc
+
+-- what `.align` places, by the value of its multiple, and whether its other value is a byte
+abbrev pub aligned : Standing → Bool → Settled → Option ℤ → Result Measured AsmFault
+aligned w b st k =
+    unless_fault (first_fault (
+    None
+    ∷ when (not (is_there k && b)) BadOperand
+    ∷ multiple_fault k
+    ∷ None ∷ None ∷ None ∷ None ∷ None
+    ∷ when (nat_lt section_limit ((spot_of w).offset + gap (spot_of w).offset k)) SectionTooLarge
+    ∷ []))
+    (record { length = gap (spot_of w).offset k; size = own_size w; multiple = counted k; settled = st })
+
+pub aligned_as : (y : Symbols) (w : Standing) (n : Tree) (v : Option Tree) (k : Option ℤ) → constant_in y (spot_of w) n ≡ k → placed y w (l.align n v) ≡ aligned w (is_byte_value (optional_value y (spot_of w) v (pos 0))) (fill_settled y (spot_of w) v) k
+aligned_as y w n v k e = ap (aligned w (is_byte_value (optional_value y (spot_of w) v (pos 0))) (fill_settled y (spot_of w) v)) e
+
+-- a multiple that is refused, where the values aren't
+refused_third : {A : Type 0} (a b : Bool) (f r : Option AsmFault) (x : A) (m : ℕ) (e : AsmFault) → unless_fault {A = Unit {0}} (when (not a) BadOperand) tt ≡ Ok tt → unless_fault {A = Unit {0}} (when (not b) BadOperand) tt ≡ Ok tt → Unless (is_memory e) (unless_fault f m ≡ Err e) → Unless (is_memory e) (unless_fault (first_fault (None ∷ when (not (a && b)) BadOperand ∷ f ∷ None ∷ None ∷ None ∷ None ∷ None ∷ r ∷ [])) x ≡ Err e)
+refused_third false b f r x m e t h g = absurd cc
+refused_third true false f r x m e t h g = absurd cc
+refused_third true true None r x m e t h g = unless_then (is_memory e) (λ p. absurd cc) g
+refused_third true true (Some d) r x m e t h g = unless_then (is_memory e) (λ p. let same : d ≡ e = cc in ap (λ k. Err k) same) g
+
+pub bad_multiple : (w : Standing) (b : Bool) (st : Settled) (k : Option ℤ) (e : AsmFault) → unless_fault {A = Unit {0}} (when (not (is_there k)) BadOperand) tt ≡ Ok tt → unless_fault {A = Unit {0}} (when (not b) BadOperand) tt ≡ Ok tt → Unless (is_memory e) (unless_fault (multiple_fault k) (counted k) ≡ Err e) → Unless (is_memory e) (aligned w b st k ≡ Err e)
+bad_multiple w b st k e t h g = refused_third (is_there k) b (multiple_fault k) _ _ (counted k) e t h g
+
+-- a byte that is refused, where the multiple is constant
+pub bad_byte : (w : Standing) (b : Bool) (st : Settled) (k : Option ℤ) (e : AsmFault) → unless_fault {A = Unit {0}} (when (not (is_there k)) BadOperand) tt ≡ Ok tt → Unless (is_memory e) (unless_fault {A = Unit {0}} (when (not b) BadOperand) tt ≡ Err e) → Unless (is_memory e) (aligned w b st k ≡ Err e)
+bad_byte w b st None e t h = absurd cc
+bad_byte w true st (Some v) e t h = unless_then (is_memory e) (λ p. absurd cc) h
+bad_byte w false st (Some v) e t h = unless_then (is_memory e) (λ p. let same : BadOperand ≡ e = cc in ap (λ k. Err k) same) h
+
+all_well : {A : Type 0} (f r : Option AsmFault) (x : A) → f ≡ None → r ≡ None → unless_fault (first_fault (None ∷ None ∷ f ∷ None ∷ None ∷ None ∷ None ∷ None ∷ r ∷ [])) x ≡ Ok x
+all_well None None x p q = refl
+all_well (Some e) r x p q = absurd cc
+all_well None (Some e) x p q = absurd cc
+
+abbrev pub as_ok : ℕ → AddressSize → ℕ → Settled → Result Measured AsmFault
+as_ok len own multiple st = Ok (record { length = len; size = own; multiple = multiple; settled = st })
+
+pub aligned_well : (w : Standing) (b : Bool) (st : Settled) (k : Option ℤ) (m g len : ℕ) → unless_fault {A = Unit {0}} (when (not b) BadOperand) tt ≡ Ok tt → unless_fault (multiple_fault k) (counted k) ≡ Ok m → g ≡ gap (spot_of w).offset (Some (pos m)) → fitted w g ≡ Ok len → aligned w b st k ≡ as_ok len (own_size w) m st
+aligned_well w false st k m g len h hm hg hf = absurd cc
+aligned_well w true st None m g len h hm hg hf = absurd cc
+aligned_well w true st (Some (negsuc j)) m g len h hm hg hf = absurd cc
+aligned_well w true st (Some (pos j)) m g len h hm hg hf =
+    let p = no_fault (multiple_fault (Some (pos j))) j m hm in
+    let q = no_fault (when (nat_lt section_limit ((spot_of w).offset + g)) SectionTooLarge) g len hf in
+    let same : gap (spot_of w).offset (Some (pos j)) ≡ g = ap (λ i. gap (spot_of w).offset (Some (pos i))) p.1 ∙ sym hg in
+    all_well (multiple_fault (Some (pos j))) _ _ p.0 (ap (λ n. when (nat_lt section_limit ((spot_of w).offset + n)) SectionTooLarge) same ∙ q.0)
+    ∙ ap (λ n. as_ok n (own_size w) j st) (same ∙ q.1)
+    ∙ ap (λ i. as_ok len (own_size w) i st) p.1
+
+-- ---- All faults.
+
+four_first : (a b c d : Option AsmFault) (rest : List (Option AsmFault)) → first_fault (a ∷ b ∷ c ∷ d ∷ rest) ≡ or_then (or_then a (or_then b (or_then c d))) (first_fault rest)
+four_first (Some e) b c d rest = refl
+four_first None (Some e) c d rest = refl
+four_first None None (Some e) d rest = refl
+four_first None None None (Some e) rest = refl
+four_first None None None None rest = refl
+
+module _ (y : Symbols) (w : Standing) (x : l.Stated) where
+  pub faults_are : line_fault y w x ≡ or_then (naming_fault y (spot_of w) x) (first_fault (placing_faults y w x))
+  faults_are = four_first (when (stands_outside x && is_open w.scope) NotUnderstood) (lost_scopes y.scopes w.scope (trees_of x)) (opened_twice y.scopes w.scope (scope_name x)) (defined_twice y (key_defined (spot_of w) x)) (placing_faults y w x)
+
+  -- a statement that is refused for its names
+  pub measured_refused : (e : AsmFault) → Unless (is_memory e) (unless_fault {A = Unit {0}} (naming_fault y (spot_of w) x) tt ≡ Err e) → Unless (is_memory e) (measured y w x ≡ Err e)
+  measured_refused e h = refused_same e _ _ (ap (λ f. unless_fault f (measure_of y w x)) faults_are) (refused_first e (naming_fault y (spot_of w) x) (first_fault (placing_faults y w x)) (measure_of y w x) h)
+
+  -- and one that isn't
+  pub measured_named : unless_fault {A = Unit {0}} (naming_fault y (spot_of w) x) tt ≡ Ok tt → measured y w x ≡ placed y w x
+  measured_named h = ap (λ f. unless_fault f (measure_of y w x)) (faults_are ∙ left_behind (naming_fault y (spot_of w) x) (first_fault (placing_faults y w x)) tt tt h)

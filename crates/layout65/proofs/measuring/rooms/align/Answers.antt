@@ -1,0 +1,61 @@
+use Rattle.std.proofs.Common.{◌∙◌, ap, sym, Option}
+use Rattle.std.specs.Prelude.{not, pos}
+use Rattle.std.specs.Option.{option_map}
+use Rattle.std.proofs.lemmas.Result.{err_from_is_err_and}
+use Rattle.syntax65.specs.Trees.{Tree, tree_of}
+use Rattle.language65.specs.declared.fault.AsmFault.TheVariants.{BadOperand}
+use Rattle.language65.specs.Laid.{Spot}
+use Rattle.module65.specs.Laying.{unless_fault}
+use Rattle.language65.specs.Layout.{spot_of}
+use Rattle.layout65.specs.Views.{standing_of}
+use Rattle.language65.specs.LineFaults.{is_byte_value, when}
+use Rattle.language65.specs.Norms.{constant_in}
+use Rattle.language65.specs.Sizes.{fill_settled, optional_value}
+use Rattle.symbols65.specs.Views.{table_of}
+use Rattle.layout65.proofs.Measures.{aligned_as, aligned_well, as_ok, bad_byte, bad_multiple, refused_same}
+use Rattle.layout65.proofs.measuring.rooms.align.Goals as goal
+
+pub returns-in_err-multiple-2-clause-placed : goal.returns-in_err-multiple-2-clause-placed
+returns-in_err-multiple-2-clause-placed c =
+    let p = err_from_is_err_and c.from_residual-in_err-multiple-2.result c.from_residual-in_err-multiple-2.ensures.1 in
+    let e = c.in_err-multiple-2.field-0.0 in
+    let y = table_of c.args.before.symbols.now in
+    let w = standing_of c.args.before.standing.now in
+    let n : Tree = tree_of c.args.multiple.now in
+    let v : Option Tree = option_map tree_of c.args.value.now in
+    let k = ap (λ s. constant_in y s n) (sym c.spot-spot.ensures) ∙ sym c.in_ok-multiple.ensures.value in
+    let byte = ap (λ (s : Spot). unless_fault {A = Unit {0}} (when (not (is_byte_value (optional_value y s v (pos 0)))) BadOperand) tt) (sym c.spot-spot.ensures) ∙ c.in_ok-settled.ensures.byte in
+    let b = is_byte_value (optional_value y (spot_of w) v (pos 0)) in
+    let st = fill_settled y (spot_of w) v in
+    rw (p.1, p.2) (refused_same e _ _ (aligned_as y w n v c.in_ok-multiple.multiple k)
+    (bad_multiple w b st c.in_ok-multiple.multiple e c.in_ok-check_constant.ensures byte c.in_err-multiple-2.ensures.multiple))
+
+pub returns-clause-placed : goal.returns-clause-placed
+returns-clause-placed c =
+    let y = table_of c.args.before.symbols.now in
+    let w = standing_of c.args.before.standing.now in
+    let n : Tree = tree_of c.args.multiple.now in
+    let v : Option Tree = option_map tree_of c.args.value.now in
+    let k = ap (λ s. constant_in y s n) (sym c.spot-spot.ensures) ∙ sym c.in_ok-multiple.ensures.value in
+    let byte = ap (λ (s : Spot). unless_fault {A = Unit {0}} (when (not (is_byte_value (optional_value y s v (pos 0)))) BadOperand) tt) (sym c.spot-spot.ensures) ∙ c.in_ok-settled.ensures.byte in
+    let b = is_byte_value (optional_value y (spot_of w) v (pos 0)) in
+    let st = fill_settled y (spot_of w) v in
+    aligned_as y w n v c.in_ok-multiple.multiple k
+    ∙ aligned_well w b st c.in_ok-multiple.multiple c.in_ok-multiple-2.multiple c.gap.result c.in_ok-length.length byte c.in_ok-multiple-2.ensures.multiple c.gap.ensures (sym c.in_ok-length.ensures)
+    ∙ ap (λ g. as_ok c.in_ok-length.length g.size c.in_ok-multiple-2.multiple st) (sym c.segment.ensures)
+    ∙ ap (as_ok c.in_ok-length.length _ c.in_ok-multiple-2.multiple) (ap (λ (s : Spot). fill_settled y s v) (sym c.spot-spot.ensures) ∙ sym c.in_ok-settled.ensures.settled)
+
+pub returns-in_err-settled-clause-placed : goal.returns-in_err-settled-clause-placed
+returns-in_err-settled-clause-placed c =
+    let p = err_from_is_err_and c.from_residual-in_err-settled.result c.from_residual-in_err-settled.ensures.1 in
+    let e = c.in_err-settled.field-0.0 in
+    let y = table_of c.args.before.symbols.now in
+    let w = standing_of c.args.before.standing.now in
+    let n : Tree = tree_of c.args.multiple.now in
+    let v : Option Tree = option_map tree_of c.args.value.now in
+    let k = ap (λ s. constant_in y s n) (sym c.spot-spot.ensures) ∙ sym c.in_ok-multiple.ensures.value in
+    let b = is_byte_value (optional_value y (spot_of w) v (pos 0)) in
+    let st = fill_settled y (spot_of w) v in
+    let same = ap (λ (s : Spot). unless_fault {A = Unit {0}} (when (not (is_byte_value (optional_value y s v (pos 0)))) BadOperand) tt) (sym c.spot-spot.ensures) in
+    rw (p.1, p.2) (refused_same e _ _ (aligned_as y w n v c.in_ok-multiple.multiple k)
+    (bad_byte w b st c.in_ok-multiple.multiple e c.in_ok-check_constant.ensures (refused_same e _ _ same c.in_err-settled.ensures.byte)))

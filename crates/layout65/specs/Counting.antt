@@ -1,0 +1,32 @@
+-- How much statements open, and what the code's numbers have room for.
+use Rattle.std.specs.Prelude.{ℕ, ◌<◌, ◌≤◌, List, length}
+use Rattle.std.specs.List.{AllByRecursion}
+use Rattle.language65.specs.Language.{Stated, label, open_proc, open_scope, segment, unnamed_label}
+use Rattle.language65.specs.Names.{enclosing}
+use Rattle.language65.specs.Symbols.{Scope, Symbols}
+use Rattle.layout65.specs.declared.standing.Standing.{Standing}
+
+-- whether a statement opens something that is counted: a scope, a region, a segment, an unnamed label
+abbrev pub opened_by : Stated → ℕ
+opened_by (label n) = 1
+opened_by unnamed_label = 1
+opened_by (open_scope n) = 1
+opened_by (open_proc n) = 1
+opened_by (segment n size) = 1
+opened_by _ = 0
+
+-- each scope is opened within one of so many
+abbrev pub AreInside : ℕ → List Scope → Type 0
+AreInside count scopes = AllByRecursion (λ c. c.within ≤ count) scopes
+
+-- how much statements may open
+abbrev pub opening_limit : ℕ
+opening_limit = 4294967294
+
+-- the numbers in which a standing counts have room for what one more statement opens
+pub record HasNumbers (y : Symbols) (w : Standing) : Type 0 where
+  pub segments : length w.segments.items < 4294967295
+  pub opened : w.opened < 4294967295
+  pub region : w.region < 4294967295
+  pub unnamed : w.unnamed < 4294967295
+  pub enclosing : enclosing y.scopes w.scope < 4294967296

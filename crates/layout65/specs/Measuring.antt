@@ -1,0 +1,96 @@
+-- What is found of a statement at its line, in the parts in which the code finds it.
+use Rattle.std.specs.Prelude.{ℕ, ◌+◌, ◌&&◌, nat_lt, Bool, true, false, List, [], ◌∷◌, Option, Result}
+use Rattle.syntax65.specs.declared.lexing.tokens.AddressSize.{AddressSize}
+use Rattle.object65.specs.Objects.{section_limit}
+use Rattle.language65.specs.declared.fault.AsmFault.{AsmFault}
+use Rattle.language65.specs.declared.fault.AsmFault.TheVariants.{NoSuchScope, NotUnderstood, SectionTooLarge}
+use Rattle.language65.specs.Laid.{Settled, Spot}
+use Rattle.language65.specs.Language.{Stated, align, constant, file_part, instruction, reserve, values}
+use Rattle.language65.specs.Layout.{Standing, multiple_of, own_size, size_stated, spot_of}
+use Rattle.language65.specs.LineFaults.{alignment_fault, block_fault, defined_twice, first_fault, form_fault, is_open, line_fault, lost_scopes, missing_file, opened_twice, operand_fault, or_then, part_fault, pop_fault, scope_name, size_fault, stands_outside, trees_of, unless_there, when}
+use Rattle.language65.specs.Names.{scope_from, scopes_of, shown}
+use Rattle.language65.specs.Sizes.{length_of, settled_of}
+use Rattle.language65.specs.Symbols.{Scope, Symbols, key_defined}
+use Rattle.module65.specs.Laying.{unless_fault}
+use Rattle.layout65.specs.declared.measuring.Measured as code
+use Rattle.layout65.specs.declared.measuring.Settled as held
+use Rattle.layout65.specs.Views.{settled_in}
+
+-- what a statement places and defines, and what is settled of it
+pub record Measured : Type 0 where
+  pub length : ℕ
+  pub size : AddressSize
+  pub multiple : ℕ
+  pub settled : Settled
+
+abbrev pub measure_of : Symbols → Standing → Stated → Measured
+measure_of y w x = record {
+  length = length_of y (spot_of w) (own_size w) x;
+  size = size_stated y (spot_of w) (own_size w) x;
+  multiple = multiple_of y (spot_of w) x;
+  settled = settled_of y (spot_of w) (own_size w) x;
+}
+
+-- that, or the first fault of the statement
+abbrev pub measured : Symbols → Standing → Stated → Result Measured AsmFault
+measured y w x = unless_fault (line_fault y w x) (measure_of y w x)
+
+abbrev pub measured_of : code.Measured → Measured
+measured_of m = record {
+  length = m.length;
+  size = m.size;
+  multiple = m.multiple;
+  settled = settled_in m.settled;
+}
+
+-- ---- Faults in their groups.
+
+-- a name that isn't plain, and whose scope isn't there
+abbrev pub lost_parts : List Scope → ℕ → Bool → List (List ℕ) → Option AsmFault
+lost_parts cs scope global parts =
+    unless_there (scope_from cs scope global (scopes_of parts)) (NoSuchScope (shown global parts))
+
+-- what names and scopes refuse a statement for
+abbrev pub naming_fault : Symbols → Spot → Stated → Option AsmFault
+naming_fault y s x =
+    or_then (when (stands_outside x && is_open s.scope) NotUnderstood)
+    (or_then (lost_scopes y.scopes s.scope (trees_of x))
+    (or_then (opened_twice y.scopes s.scope (scope_name x)) (defined_twice y (key_defined s x))))
+
+-- all faults behind them
+abbrev pub placing_faults : Symbols → Standing → Stated → List (Option AsmFault)
+placing_faults y w x =
+    let s : Spot = spot_of w in
+    form_fault y s (own_size w) x
+    ∷ operand_fault y s x
+    ∷ alignment_fault y s x
+    ∷ missing_file x
+    ∷ part_fault y s x
+    ∷ size_fault w.segments x
+    ∷ block_fault y.scopes s.scope x
+    ∷ pop_fault w.kept x
+    ∷ when (nat_lt section_limit (s.offset + length_of y s (own_size w) x)) SectionTooLarge
+    ∷ []
+
+-- what a statement whose names are understood comes to, or its first fault of those
+abbrev pub placed : Symbols → Standing → Stated → Result Measured AsmFault
+placed y w x = unless_fault (first_fault (placing_faults y w x)) (measure_of y w x)
+
+-- so many bytes, if the section has room for them
+abbrev pub fitted : Standing → ℕ → Result ℕ AsmFault
+fitted w count =
+    unless_fault (when (nat_lt section_limit ((spot_of w).offset + count)) SectionTooLarge) count
+
+-- a statement that places no bytes and has no value that counts at its line
+abbrev pub is_bare : Stated → Bool
+is_bare (constant n e) = false
+is_bare (instruction m o) = false
+is_bare (values width items) = false
+is_bare (reserve n v) = false
+is_bare (align n v) = false
+is_bare (file_part bytes start len) = false
+is_bare _ = true
+
+-- what is settled stands apart from its faults
+abbrev pub any_settled : held.Settled → Unit {0}
+any_settled x = tt

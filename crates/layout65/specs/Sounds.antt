@@ -1,0 +1,28 @@
+-- What holds of the code's state between statements.
+use Rattle.std.specs.Prelude.{◌≡◌, ℕ, ◌+◌, ◌<◌, ◌≤◌, List, length, map}
+use Rattle.std.specs.List.{AllByRecursion}
+use Rattle.object65.specs.Objects.{section_limit}
+use Rattle.language65.specs.declared.contents.Segment.{Segment}
+use Rattle.language65.specs.Layout.{spot_of}
+use Rattle.layout65.specs.declared.standing.Standing.{Standing}
+use Rattle.layout65.specs.Views.{standing_of}
+
+-- The current segment is there, has room left, and each segment is found by its name; what is kept
+-- is there.
+pub record IsSoundStanding (w : Standing) : Type 0 where
+  pub current : w.current < length w.segments.items
+  pub end : (spot_of (standing_of w)).offset ≤ section_limit
+  pub names : map (λ k. k.items) w.names.keys ≡ map (λ g. g.name) w.segments.items
+  pub kept : AllByRecursion (λ k. k < length w.segments.items) w.kept.items
+
+-- no section is longer than sections can be
+abbrev pub AreWithin : List Segment → Type 0
+AreWithin gs = AllByRecursion (λ g. g.end ≤ section_limit) gs
+
+-- no more of anything than so many statements open
+pub record IsCounted (count : ℕ) (w : Standing) : Type 0 where
+  pub scope : w.scope ≤ count
+  pub scopes : w.opened ≤ count
+  pub regions : w.region ≤ count
+  pub unnamed : w.unnamed ≤ count
+  pub segments : length w.segments.items ≤ count + 1

@@ -1,0 +1,130 @@
+//! What a statement comes to at its line, or its first fault there.
+
+mod blocks;
+mod bytes;
+mod kinds;
+mod lost;
+mod names;
+mod rooms;
+mod trees;
+
+ghost use Rattle.std.specs.Prelude.{◌≡◌, ◌+◌, ◌≤◌, false, nat_lt, IfOk, OnOk};
+ghost use Rattle.syntax65.specs.Outcome.{Gives};
+ghost use Rattle.object65.specs.Objects.{section_limit};
+ghost use Rattle.language65.specs.Faults.{is_memory};
+ghost use Rattle.language65.specs.Laid.{nothing_settled};
+ghost use Rattle.language65.specs.Layout.{own_size, spot_of};
+ghost use Rattle.language65.specs.Views.{spot_of as laid_spot, stated_of};
+ghost use Rattle.module65.specs.Laying.{unless_fault};
+ghost use Rattle.symbols65.specs.Resolving.{IsTable};
+ghost use Rattle.symbols65.specs.Views.{table_of};
+ghost use Rattle.layout65.specs.Measuring.{fitted, measured, measured_of, naming_fault};
+ghost use Rattle.layout65.specs.Sounds.{IsSoundStanding};
+ghost use Rattle.layout65.specs.Views.{settled_in, standing_of};
+
+use self::kinds::place;
+use self::names::{check_defined, check_opened, check_outside};
+use self::trees::check_trees;
+use crate::standing::Standing;
+use language65::{AsmFault, Spot, Statement};
+use std::alloc::Global;
+use symbols65::{Known, Symbols};
+use syntax65::{AddressSize, Mode};
+
+/// What stands before a statement: the symbol table of those before it, and where it stands itself.
+#[derive(Clone, Copy)]
+pub struct Before<'a> {
+    pub symbols: &'a Symbols,
+    pub standing: &'a Standing,
+}
+
+/// What is settled of a statement at its line.
+#[derive(Clone, Copy, Debug, PartialEq, Eq)]
+pub enum Settled {
+    Nothing,
+    /// The addressing form of an instruction.
+    Form(Mode),
+    /// The byte that fills room, where one is named.
+    Filled(u8),
+}
+
+/// What a statement places and defines.
+#[derive(Clone, Copy, Debug, PartialEq, Eq)]
+pub struct Measured {
+    /// How many bytes it places.
+    pub length: u32,
+    /// The address size of what it defines.
+    pub size: AddressSize,
+    /// The multiple to which it aligns its section.
+    pub multiple: u32,
+    pub settled: Settled,
+}
+
+/// Refuses a statement for the names and scopes in it.
+fn check_naming(
+    alloc: Global,
+    symbols: &Symbols,
+    spot: Spot,
+    statement: &Statement,
+) -> Result<(), AsmFault>
+    ensures { Gives is_memory (λ u. u) result (unless_fault
+        (naming_fault (table_of symbols.now) (laid_spot spot) (stated_of statement.now)) tt) }
+{
+    let scope = spot.scope as usize;
+    check_outside(scope, statement)?;
+    check_trees(alloc, symbols, scope, statement)?;
+    check_opened(alloc, symbols, scope, statement)?;
+    check_defined(alloc, symbols, spot, statement)
+}
+
+/// So many bytes, if the section has room for them.
+#[tactic(auto, using(crate::proofs::Measures::same_test))]
+fn fit(standing: &Standing, length: usize) -> Result<u32, AsmFault>
+    requires { IsSoundStanding standing.now }
+    ensures { result ≡ fitted (standing_of standing.now) length }
+{
+    let room = standing.room();
+    if length > room as usize {
+        return Err(AsmFault::SectionTooLarge);
+    }
+    Ok(length as u32)
+}
+
+/// What a statement without bytes places.
+fn nothing(standing: &Standing) -> Measured
+    requires { IsSoundStanding standing.now }
+    ensures room { nat_lt section_limit
+        ((spot_of (standing_of standing.now)).offset + 0) ≡ false }
+    ensures length { result.length ≡ 0 }
+    ensures size { result.size ≡ own_size (standing_of standing.now) }
+    ensures multiple { result.multiple ≡ 1 }
+    ensures settled { settled_in result.settled ≡ nothing_settled }
+{
+    Measured {
+        length: 0,
+        size: standing.segment().size,
+        multiple: 1,
+        settled: Settled::Nothing,
+    }
+}
+
+/// What a statement places behind others and what it defines, or its first fault there.
+pub fn measure(
+    alloc: Global,
+    before: Before<'_>,
+    known: &mut Known,
+    statement: &Statement,
+) -> Result<Measured, AsmFault>
+    requires table { IsTable (table_of before.symbols.now) known.old.states.items }
+    requires standing { IsSoundStanding before.standing.now }
+    ensures measured { Gives is_memory measured_of result (measured
+        (table_of before.entry.symbols.now) (standing_of before.entry.standing.now)
+        (stated_of statement.now)) }
+    ensures room { IfOk result (λ m.
+        (spot_of (standing_of before.entry.standing.now)).offset + m.length ≤ section_limit) }
+    ensures table { OnOk result
+        (IsTable (table_of before.entry.symbols.now) known.new.states.items) }
+{
+    check_naming(alloc, before.symbols, before.standing.spot(), statement)?;
+    place(alloc, before, known, statement)
+}

@@ -1,0 +1,134 @@
+//! What statements place, by their kinds.
+
+ghost use Rattle.std.specs.Prelude.{◌≡◌, ℕ, List, OnOk, true};
+ghost use Rattle.syntax65.specs.Outcome.{Gives};
+ghost use Rattle.syntax65.specs.Trees.{tree_of};
+ghost use Rattle.language65.specs.Faults.{is_memory};
+ghost use Rattle.language65.specs.Language.{close_proc, close_scope, constant, pop_segment, segment};
+ghost use Rattle.language65.specs.Symbols.{Symbols as Table};
+ghost use Rattle.language65.specs.Views.{stated_of};
+ghost use Rattle.symbols65.specs.Resolving.{IsTable};
+ghost use Rattle.symbols65.specs.Views.{table_of};
+ghost use Rattle.layout65.specs.Measuring.{is_bare, measured_of, placed};
+ghost use Rattle.layout65.specs.Sounds.{IsSoundStanding};
+ghost use Rattle.layout65.specs.Views.{standing_of};
+
+use super::blocks::{check_kept, check_proc, check_scope, check_segment};
+use super::bytes::{instruction, values};
+use super::rooms::{align, reserve};
+use super::{Before, Measured, nothing};
+use crate::standing::Standing;
+use language65::{AsmFault, Statement};
+use std::alloc::Global;
+use symbols65::{Known, knowing};
+use syntax65::{AddressSize, Expr};
+
+/// What a constant places and defines.
+fn constant(
+    alloc: Global,
+    before: Before<'_>,
+    known: &mut Known,
+    value: &Expr,
+) -> Result<Measured, AsmFault>
+    requires table { IsTable (table_of before.symbols.now) known.old.states.items }
+    requires standing { IsSoundStanding before.standing.now }
+    ensures placed { (name : List ℕ) → Gives is_memory measured_of result (placed
+        (table_of before.entry.symbols.now) (standing_of before.entry.standing.now)
+        (constant name (tree_of value.now))) }
+    ensures table { OnOk result
+        (IsTable (table_of before.entry.symbols.now) known.new.states.items) }
+{
+    let measure = nothing(before.standing);
+    let spot = before.standing.spot();
+    let size = knowing::size(alloc, before.symbols, known, spot, measure.size, value)?;
+    Ok(Measured { size, ..measure })
+}
+
+/// What `.segment` and the like place.
+fn segment(
+    standing: &Standing,
+    name: &[u8],
+    size: Option<AddressSize>,
+) -> Result<Measured, AsmFault>
+    requires { IsSoundStanding standing.now }
+    ensures { (y : Table) → Gives is_memory measured_of result (placed y
+        (standing_of standing.now) (segment name.now size)) }
+{
+    check_segment(standing, name, size)?;
+    Ok(nothing(standing))
+}
+
+/// What `.popseg` places.
+fn pop_segment(standing: &Standing) -> Result<Measured, AsmFault>
+    requires { IsSoundStanding standing.now }
+    ensures { (y : Table) → Gives is_memory measured_of result (placed y
+        (standing_of standing.now) pop_segment) }
+{
+    check_kept(standing)?;
+    Ok(nothing(standing))
+}
+
+/// What `.endscope` places.
+fn close_scope(before: Before<'_>) -> Result<Measured, AsmFault>
+    requires { IsSoundStanding before.standing.now }
+    ensures { Gives is_memory measured_of result (placed (table_of before.entry.symbols.now)
+        (standing_of before.entry.standing.now) close_scope) }
+{
+    check_scope(before.symbols, before.standing.scope as usize)?;
+    Ok(nothing(before.standing))
+}
+
+/// What `.endproc` places.
+fn close_proc(before: Before<'_>) -> Result<Measured, AsmFault>
+    requires { IsSoundStanding before.standing.now }
+    ensures { Gives is_memory measured_of result (placed (table_of before.entry.symbols.now)
+        (standing_of before.entry.standing.now) close_proc) }
+{
+    check_proc(before.symbols, before.standing.scope as usize)?;
+    Ok(nothing(before.standing))
+}
+
+/// What a statement that ends a block or changes the segment places, or one that does neither and
+/// has no bytes.
+fn without_bytes(before: Before<'_>, statement: &Statement) -> Result<Measured, AsmFault>
+    requires standing { IsSoundStanding before.standing.now }
+    requires bare { is_bare (stated_of statement.now) ≡ true }
+    ensures { Gives is_memory measured_of result (placed
+        (table_of before.entry.symbols.now) (standing_of before.entry.standing.now)
+        (stated_of statement.now)) }
+{
+    match statement {
+        Statement::Segment { name, size } => segment(before.standing, name.as_slice(), *size),
+        Statement::PopSegment => pop_segment(before.standing),
+        Statement::CloseScope => close_scope(before),
+        Statement::CloseProc => close_proc(before),
+        _ => Ok(nothing(before.standing)),
+    }
+}
+
+/// What a statement whose names are understood places, or its first fault.
+pub fn place(
+    alloc: Global,
+    before: Before<'_>,
+    known: &mut Known,
+    statement: &Statement,
+) -> Result<Measured, AsmFault>
+    requires table { IsTable (table_of before.symbols.now) known.old.states.items }
+    requires standing { IsSoundStanding before.standing.now }
+    ensures placed { Gives is_memory measured_of result (placed
+        (table_of before.entry.symbols.now) (standing_of before.entry.standing.now)
+        (stated_of statement.now)) }
+    ensures table { OnOk result
+        (IsTable (table_of before.entry.symbols.now) known.new.states.items) }
+{
+    match statement {
+        Statement::Instruction { mnemonic, operand } => {
+            instruction(alloc, before, known, *mnemonic, operand)
+        }
+        Statement::Values { width, items } => values(before.standing, *width, items.as_slice()),
+        Statement::Reserve { count, value } => reserve(alloc, before, known, count, value),
+        Statement::Align { multiple, value } => align(alloc, before, known, multiple, value),
+        Statement::Constant { name: _, value } => constant(alloc, before, known, value),
+        _ => without_bytes(before, statement),
+    }
+}

@@ -1,0 +1,91 @@
+//! Names whose scope isn't there.
+
+ghost use Rattle.std.specs.Prelude.{◌≡◌};
+ghost use Rattle.std.specs.Option.{option_map};
+ghost use Rattle.syntax65.specs.Outcome.{Gives};
+ghost use Rattle.syntax65.specs.Trees.{name, tree_of};
+ghost use Rattle.language65.specs.Faults.{is_memory};
+ghost use Rattle.language65.specs.LineFaults.{lost_scope};
+ghost use Rattle.language65.specs.Names.{scopes_of};
+ghost use Rattle.module65.specs.Laying.{unless_fault};
+ghost use Rattle.symbols65.specs.Resolving.{plain_part};
+ghost use Rattle.symbols65.specs.Views.{table_of};
+ghost use Rattle.layout65.specs.Measuring.{lost_parts};
+
+use language65::AsmFault;
+use std::alloc::Global;
+use symbols65::{Symbols, scope_of, shown};
+use syntax65::{Expr, Name, Sequence};
+
+/// The parts that name scopes: all but the last.
+fn scopes_in(parts: &[Sequence<u8>]) -> &[Sequence<u8>]
+    ensures { result.now ≡ scopes_of parts.now }
+{
+    match parts.split_last() {
+        Some((_, scopes)) => scopes,
+        None => &[],
+    }
+}
+
+/// Refuses a name with `::` whose scope isn't there.
+fn check_parts(alloc: Global, symbols: &Symbols, scope: usize, name: &Name) -> Result<(), AsmFault>
+    ensures { Gives is_memory (λ u. u) result (unless_fault (lost_parts
+        (table_of symbols.now).scopes scope name.now.is_global name.now.parts) tt) }
+{
+    let parts = name.parts.as_slice();
+    let opened = symbols.scope_count();
+    match scope_of(symbols, opened, scope, name.is_global, scopes_in(parts)) {
+        Some(_) => Ok(()),
+        None => {
+            let name = shown(alloc, name.is_global, parts)?;
+            Err(AsmFault::NoSuchScope(name))
+        }
+    }
+}
+
+/// The one part of a plain name.
+fn plain_part(name: &Name) -> Option<&[u8]>
+    ensures { option_map (λ n. n.now) result ≡ plain_part name.now.is_global name.now.parts }
+{
+    match name.parts.as_slice() {
+        [part] if !name.is_global => Some(part.as_slice()),
+        _ => None,
+    }
+}
+
+fn check_name(
+    alloc: Global,
+    symbols: &Symbols,
+    scope: usize,
+    written: &Name,
+) -> Result<(), AsmFault>
+    ensures { Gives is_memory (λ u. u) result (unless_fault (lost_scope
+        (table_of symbols.now).scopes scope
+        (name written.now.is_global written.now.parts)) tt) }
+{
+    match plain_part(written) {
+        Some(_) => Ok(()),
+        None => check_parts(alloc, symbols, scope, written),
+    }
+}
+
+/// Refuses an expression with a name whose scope isn't there.
+pub fn check_scopes(
+    alloc: Global,
+    symbols: &Symbols,
+    scope: usize,
+    value: &Expr,
+) -> Result<(), AsmFault>
+    ensures { Gives is_memory (λ u. u) result (unless_fault (lost_scope
+        (table_of symbols.now).scopes scope (tree_of value.now)) tt) }
+{
+    match value {
+        Expr::Name(name) => check_name(alloc, symbols, scope, name),
+        Expr::Prefix(_, part) => check_scopes(alloc, symbols, scope, part),
+        Expr::Binary(_, left, right) => {
+            check_scopes(alloc, symbols, scope, left)?;
+            check_scopes(alloc, symbols, scope, right)
+        }
+        _ => Ok(()),
+    }
+}

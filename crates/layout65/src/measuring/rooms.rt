@@ -1,0 +1,181 @@
+//! Statements that place room.
+
+ghost use Rattle.std.specs.Prelude.{◌≡◌, ◌<◌, ◌≤◌, IfOk, not, OnOk, pos, Some};
+ghost use Rattle.std.specs.Option.{option_map};
+ghost use Rattle.syntax65.specs.Outcome.{Gives};
+ghost use Rattle.syntax65.specs.Trees.{tree_of};
+ghost use Rattle.language65.specs.declared.fault.AsmFault.TheVariants.{BadOperand};
+ghost use Rattle.language65.specs.Faults.{is_memory};
+ghost use Rattle.language65.specs.Language.{align, reserve};
+ghost use Rattle.language65.specs.Layout.{spot_of as standing_spot};
+ghost use Rattle.language65.specs.LineFaults.{is_byte_value, is_count, is_there, multiple_fault, when};
+ghost use Rattle.language65.specs.Sizes.{counted, fill_settled, gap, optional_value};
+ghost use Rattle.language65.specs.Views.{spot_of};
+ghost use Rattle.module65.specs.Laying.{unless_fault};
+ghost use Rattle.symbols65.specs.Resolving.{IsTable};
+ghost use Rattle.symbols65.specs.Views.{table_of};
+ghost use Rattle.layout65.specs.Measuring.{any_settled, measured_of, placed};
+ghost use Rattle.layout65.specs.Sounds.{IsSoundStanding};
+ghost use Rattle.layout65.specs.Views.{settled_in, standing_of};
+
+use super::{Before, Measured, Settled, fit};
+use crate::standing::Standing;
+use language65::{AsmFault, Spot};
+use std::alloc::Global;
+use symbols65::{Known, Symbols, knowing};
+use syntax65::Expr;
+
+/// A value as the byte that fills room.
+fn byte_of(value: Option<i64>) -> Result<u8, AsmFault>
+    ensures { Gives is_memory (λ b. Some (pos b)) result (unless_fault
+        (when (not (is_byte_value value)) BadOperand) value) }
+{
+    match value {
+        Some(value) if 0 <= value && value < 256 => Ok(value as u8),
+        _ => Err(AsmFault::BadOperand),
+    }
+}
+
+/// What fills room.
+fn fill(
+    alloc: Global,
+    symbols: &Symbols,
+    known: &mut Known,
+    spot: Spot,
+    value: &Option<Expr>,
+) -> Result<Settled, AsmFault>
+    requires { IsTable (table_of symbols.now) known.old.states.items }
+    ensures byte { Gives is_memory any_settled result (unless_fault
+        (when (not (is_byte_value (optional_value (table_of symbols.now) (spot_of spot)
+        (option_map tree_of value.now) (pos 0)))) BadOperand) tt) }
+    ensures settled { IfOk result (λ s. settled_in s
+        ≡ fill_settled (table_of symbols.now) (spot_of spot) (option_map tree_of value.now)) }
+    ensures table { OnOk result (IsTable (table_of symbols.now) known.new.states.items) }
+{
+    let Some(value) = value else {
+        return Ok(Settled::Nothing);
+    };
+    let byte = byte_of(knowing::constant(alloc, symbols, known, spot, value)?)?;
+    Ok(Settled::Filled(byte))
+}
+
+/// A value as a number of bytes.
+fn count_of(value: Option<i64>) -> Result<usize, AsmFault>
+    ensures { Gives is_memory (λ n. n) result (unless_fault
+        (when (not (is_count value)) BadOperand) (counted value)) }
+{
+    match value {
+        Some(value) if 0 <= value => Ok(value as usize),
+        _ => Err(AsmFault::BadOperand),
+    }
+}
+
+/// What `.res` places.
+pub fn reserve(
+    alloc: Global,
+    before: Before<'_>,
+    known: &mut Known,
+    count: &Expr,
+    value: &Option<Expr>,
+) -> Result<Measured, AsmFault>
+    requires table { IsTable (table_of before.symbols.now) known.old.states.items }
+    requires standing { IsSoundStanding before.standing.now }
+    ensures placed { Gives is_memory measured_of result (placed
+        (table_of before.entry.symbols.now) (standing_of before.entry.standing.now)
+        (reserve (tree_of count.now) (option_map tree_of value.now))) }
+    ensures table { OnOk result
+        (IsTable (table_of before.entry.symbols.now) known.new.states.items) }
+{
+    let spot = before.standing.spot();
+    let count = count_of(knowing::constant(alloc, before.symbols, known, spot, count)?)?;
+    let settled = fill(alloc, before.symbols, known, spot, value)?;
+    let length = fit(before.standing, count)?;
+    Ok(Measured {
+        length,
+        size: before.standing.segment().size,
+        multiple: 1,
+        settled,
+    })
+}
+
+/// Refuses what isn't constant.
+fn check_constant(value: Option<i64>) -> Result<(), AsmFault>
+    ensures { Gives is_memory (λ u. u) result (unless_fault
+        (when (not (is_there value)) BadOperand) tt) }
+{
+    match value {
+        Some(_) => Ok(()),
+        None => Err(AsmFault::BadOperand),
+    }
+}
+
+/// A value as a multiple to which sections are aligned.
+fn multiple_of(value: Option<i64>) -> Result<u32, AsmFault>
+    ensures multiple { Gives is_memory (λ n. n) result (unless_fault
+        (multiple_fault value) (counted value)) }
+    ensures bounds { IfOk result (λ n. n ≤ 32768) }
+    ensures positive { IfOk result (λ n. 0 < n) }
+{
+    match value {
+        Some(
+            value @ (1
+            | 2
+            | 4
+            | 8
+            | 16
+            | 32
+            | 64
+            | 128
+            | 256
+            | 512
+            | 1024
+            | 2048
+            | 4096
+            | 8192
+            | 16384
+            | 32768),
+        ) => Ok(value as u32),
+        _ => Err(AsmFault::BadAlignment),
+    }
+}
+
+/// How far the end of the section moves up to a multiple.
+fn gap(standing: &Standing, multiple: u32) -> u32
+    requires standing { IsSoundStanding standing.now }
+    requires bounds { multiple ≤ 32768 }
+    requires positive { 0 < multiple }
+    ensures { result ≡ gap (standing_spot (standing_of standing.now)).offset (Some (pos multiple)) }
+{
+    let offset = standing.spot().offset;
+    offset.next_multiple_of(multiple) - offset
+}
+
+/// What `.align` places.
+pub fn align(
+    alloc: Global,
+    before: Before<'_>,
+    known: &mut Known,
+    multiple: &Expr,
+    value: &Option<Expr>,
+) -> Result<Measured, AsmFault>
+    requires table { IsTable (table_of before.symbols.now) known.old.states.items }
+    requires standing { IsSoundStanding before.standing.now }
+    ensures placed { Gives is_memory measured_of result (placed
+        (table_of before.entry.symbols.now) (standing_of before.entry.standing.now)
+        (align (tree_of multiple.now) (option_map tree_of value.now))) }
+    ensures table { OnOk result
+        (IsTable (table_of before.entry.symbols.now) known.new.states.items) }
+{
+    let spot = before.standing.spot();
+    let multiple = knowing::constant(alloc, before.symbols, known, spot, multiple)?;
+    check_constant(multiple)?;
+    let settled = fill(alloc, before.symbols, known, spot, value)?;
+    let multiple = multiple_of(multiple)?;
+    let length = fit(before.standing, gap(before.standing, multiple) as usize)?;
+    Ok(Measured {
+        length,
+        size: before.standing.segment().size,
+        multiple,
+        settled,
+    })
+}

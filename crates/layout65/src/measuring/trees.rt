@@ -1,0 +1,123 @@
+//! The expressions of statements.
+
+ghost use Rattle.std.specs.Option.{option_map};
+ghost use Rattle.std.specs.Prelude.{[], ◌∷◌, map};
+ghost use Rattle.syntax65.specs.Outcome.{Gives};
+ghost use Rattle.syntax65.specs.Trees.{tree_of};
+ghost use Rattle.language65.specs.Faults.{is_memory};
+ghost use Rattle.language65.specs.LineFaults.{item_trees, lost_scopes, operand_trees, optional_tree, trees_of};
+ghost use Rattle.language65.specs.Views.{item_of, operand_of, stated_of};
+ghost use Rattle.module65.specs.Laying.{unless_fault};
+ghost use Rattle.symbols65.specs.Views.{table_of};
+
+use super::lost::check_scopes;
+use language65::{AsmFault, Item, Operand, Statement};
+use std::alloc::Global;
+use symbols65::Symbols;
+use syntax65::Expr;
+
+fn check_one(alloc: Global, symbols: &Symbols, scope: usize, value: &Expr) -> Result<(), AsmFault>
+    ensures { Gives is_memory (λ u. u) result (unless_fault (lost_scopes
+        (table_of symbols.now).scopes scope (tree_of value.now ∷ [])) tt) }
+{
+    check_scopes(alloc, symbols, scope, value)
+}
+
+fn check_two(
+    alloc: Global,
+    symbols: &Symbols,
+    scope: usize,
+    value: &Expr,
+    other: &Option<Expr>,
+) -> Result<(), AsmFault>
+    ensures { Gives is_memory (λ u. u) result (unless_fault (lost_scopes
+        (table_of symbols.now).scopes scope
+        (tree_of value.now ∷ optional_tree (option_map tree_of other.now))) tt) }
+{
+    check_scopes(alloc, symbols, scope, value)?;
+    match other {
+        Some(other) => check_one(alloc, symbols, scope, other),
+        None => Ok(()),
+    }
+}
+
+fn check_operand(
+    alloc: Global,
+    symbols: &Symbols,
+    scope: usize,
+    operand: &Operand,
+) -> Result<(), AsmFault>
+    ensures { Gives is_memory (λ u. u) result (unless_fault (lost_scopes
+        (table_of symbols.now).scopes scope (operand_trees (operand_of operand.now))) tt) }
+{
+    match operand {
+        Operand::Absent | Operand::Accumulator => Ok(()),
+        Operand::Immediate(value)
+        | Operand::Indirect(value)
+        | Operand::IndirectX(value)
+        | Operand::IndirectY(value) => check_one(alloc, symbols, scope, value),
+        Operand::Address {
+            prefix: _,
+            value,
+            index: _,
+        } => check_one(alloc, symbols, scope, value),
+    }
+}
+
+fn check_item(alloc: Global, symbols: &Symbols, scope: usize, item: &Item) -> Result<(), AsmFault>
+    ensures { Gives is_memory (λ u. u) result (unless_fault (lost_scopes
+        (table_of symbols.now).scopes scope (item_trees (item_of item.now ∷ []))) tt) }
+{
+    match item {
+        Item::Value(value) => check_one(alloc, symbols, scope, value),
+        Item::Text(_) => Ok(()),
+    }
+}
+
+fn check_items(
+    alloc: Global,
+    symbols: &Symbols,
+    scope: usize,
+    items: &[Item],
+) -> Result<(), AsmFault>
+    ensures { Gives is_memory (λ u. u) result (unless_fault (lost_scopes
+        (table_of symbols.now).scopes scope (item_trees (map item_of items.now))) tt) }
+{
+    for item in items {
+        check_item(alloc, symbols, scope, item)?;
+    }
+    Ok(())
+}
+
+/// Refuses a statement with a name whose scope isn't there.
+pub fn check_trees(
+    alloc: Global,
+    symbols: &Symbols,
+    scope: usize,
+    statement: &Statement,
+) -> Result<(), AsmFault>
+    ensures { Gives is_memory (λ u. u) result (unless_fault (lost_scopes
+        (table_of symbols.now).scopes scope (trees_of (stated_of statement.now))) tt) }
+{
+    match statement {
+        Statement::Constant { name: _, value } => check_one(alloc, symbols, scope, value),
+        Statement::Instruction {
+            mnemonic: _,
+            operand,
+        } => check_operand(alloc, symbols, scope, operand),
+        Statement::Values { width: _, items } => check_items(
+            alloc,
+            symbols,
+            scope,
+            items.as_slice(),
+        ),
+        Statement::Reserve { count, value } => check_two(alloc, symbols, scope, count, value),
+        Statement::Align { multiple, value } => check_two(alloc, symbols, scope, multiple, value),
+        Statement::Assert {
+            value,
+            action: _,
+            text: _,
+        } => check_one(alloc, symbols, scope, value),
+        _ => Ok(()),
+    }
+}

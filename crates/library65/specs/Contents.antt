@@ -1,0 +1,25 @@
+-- What the records of an object export and import.
+use Rattle.std.specs.Prelude.{◌≡◌, ℕ, List, length, Result, Ok, Err}
+use Rattle.object65.specs.declared.fault.ObjectFault.{ObjectFault}
+use Rattle.object65.specs.Fault.{◌>>=◌, Refuses, is_memory}
+use Rattle.object65.specs.Taking.{State, finished, object_from, start}
+use Rattle.object65.specs.Whole.{object_at, records_at}
+use Rattle.library65.specs.declared.contents.Contents.{Contents}
+use Rattle.library65.specs.Libraries.{contents_from}
+
+-- the records from a place on make an object that exports and imports these, and its END ends there
+pub record EndsWith (bytes : List ℕ) (at : ℕ) (c : Contents) (end : ℕ) : Type 0 where
+  pub state : State
+  pub read : records_at (length bytes) start at (length bytes) bytes ≡ Ok (state, end)
+  pub whole : finished state ≡ Ok (object_from state)
+  pub contents : c ≡ contents_from (object_from state)
+
+-- the same, or the records' first fault
+abbrev pub ReadsContents : List ℕ → ℕ → Result (Contents × ℕ) ObjectFault → Type 0
+ReadsContents bytes at (Ok x) = EndsWith bytes at x.0 x.1
+ReadsContents bytes at (Err e) =
+    Refuses is_memory e (records_at (length bytes) start at (length bytes) bytes)
+
+-- what the object that the bytes are exports and imports
+abbrev pub contents_at : List ℕ → Result Contents ObjectFault
+contents_at bytes = object_at 0 (length bytes) bytes >>= (λ o. Ok (contents_from o))

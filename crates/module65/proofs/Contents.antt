@@ -1,0 +1,271 @@
+-- The content of a statement is what its pieces come to.
+use Rattle.std.proofs.Common.{◌≡◌, ◌∙◌, ℕ, List, [], ◌∷◌, ◌++◌, map, Bool, true, false, Option, Some, None, refl, sym, ap}
+use Rattle.std.specs.Prelude.{Result, Ok, Err, if◌then◌else◌}
+use Rattle.std.specs.List.{flat_map}
+use Rattle.std.proofs.lemmas.List.{append-nil}
+use Rattle.syntax65.specs.Opcodes.{opcode_of}
+use Rattle.syntax65.specs.Outcome.{◌>>=◌, each}
+use Rattle.syntax65.specs.Trees.{Tree}
+use Rattle.syntax65.specs.declared.lexing.tokens.AddressSize.{AddressSize}
+use Rattle.syntax65.specs.declared.instructions.names.Mnemonic.{Mnemonic}
+use Rattle.object65.specs.Form.{Form}
+use Rattle.object65.specs.declared.object.Width.{Width}
+use Rattle.object65.specs.declared.object.Action.{Action}
+use Rattle.language65.specs.declared.contents.Content.{Content}
+use Rattle.language65.specs.declared.contents.Part.{Part}
+use Rattle.language65.specs.declared.contents.Said.{Said}
+use Rattle.language65.specs.declared.contents.Said.TheVariants.{Demanded}
+use Rattle.language65.specs.declared.fault.AsmFault.{AsmFault}
+use Rattle.language65.specs.Contents.{content_of, decided, each_of, export_said, import_fault, instruction_parts, item_part, opcode_part, operand_form, operand_part, operand_parts, operand_tree, stored, telling}
+use Rattle.language65.specs.Language.{Item, value, text, Operand, Stated, constant, instruction, values, imports, exports, globals, forced, assertion}
+use Rattle.expand65.specs.declared.place.Place.{Place}
+use Rattle.language65.specs.Laid.{Laid, Settled, nothing_settled, in_mode, filled_with, from_byte, Spot, asks_section}
+use Rattle.language65.specs.Norms.{norm_of}
+use Rattle.language65.specs.Sizes.{width_of}
+use Rattle.language65.specs.Symbols.{Symbols, defined, named}
+use Rattle.module65.specs.Places.{PlacedFault, at_place}
+use Rattle.module65.specs.Machine.{Finished}
+use Rattle.module65.specs.Module.{asserted, asserted_by, contents_from, failed, has_content, sound_from}
+use Rattle.module65.specs.Pieces as p
+use Rattle.module65.specs.Pieces.{Made, Piece, absent_of, as_part, as_said, demanded, equated, exported, given, imported, instruction_pieces, item_piece, made_of, operand, operand_pieces, pieces_of, used, valued}
+use Rattle.module65.proofs.Entries.{Entry, all_entries, asked_by, entries_of, part, tells}
+use Rattle.module65.proofs.Finishes.{after, after_after, after_nothing, nothing, nothing_after, placed}
+
+-- ---- Pieces one behind the other.
+
+abbrev pub piece_made : Symbols → Place → Spot → Piece → Finished Entry
+piece_made y place s p = placed place (λ m. entries_of m.content) (made_of y place s p)
+
+abbrev pub pieces_made : Symbols → Place → Spot → List Piece → Finished Entry
+pieces_made y place s [] = nothing
+pieces_made y place s (p ∷ ps) = after (piece_made y place s p) (pieces_made y place s ps)
+
+pieces_append : (y : Symbols) (place : Place) (s : Spot) (ps qs : List Piece) → pieces_made y place s (ps ++ qs) ≡ after (pieces_made y place s ps) (pieces_made y place s qs)
+pieces_append y place s [] qs = sym (nothing_after (pieces_made y place s qs))
+pieces_append y place s (p ∷ ps) qs = ap (after (piece_made y place s p)) (pieces_append y place s ps qs) ∙ sym (after_after (piece_made y place s p) (pieces_made y place s ps) (pieces_made y place s qs))
+
+pub one_piece : (y : Symbols) (place : Place) (s : Spot) (p : Piece) → pieces_made y place s (p ∷ []) ≡ piece_made y place s p
+one_piece y place s p = after_nothing (piece_made y place s p)
+
+-- ---- What a statement's content comes to.
+
+-- an answer as what was found at a place
+abbrev pub told : {A : Type 0} → Place → List ℕ → (A → List Entry) → Result A AsmFault → Finished Entry
+told place said f (Ok x) = record { found = Ok (f x); warned = said }
+told place said f (Err e) = record { found = Err (record { place = place; fault = e }); warned = [] }
+
+abbrev pub content_made : Symbols → Laid → Finished Entry
+content_made y l = told l.place (asserted_by y l) entries_of (content_of y l)
+
+abbrev asks_made : Laid → Finished Entry
+asks_made l = record { found = Ok (asked_by l.spot.segment (asks_section l.stated)); warned = [] }
+
+abbrev parts_entries : ℕ → List Part → List Entry
+parts_entries g ps = map (part g) ps
+
+abbrev said_entries : List Said → List Entry
+said_entries ss = map tells ss
+
+abbrev with_parts : ℕ → Bool → List Part → List Said → Content
+with_parts g asks ps ss = record { segment = g; asks = asks; parts = ps; said = ss }
+
+-- a content that is parts alone, or is said alone
+only_parts : (place : Place) (g : ℕ) (asks : Bool) (r : Result (List Part) AsmFault) → told place [] entries_of (r >>= (λ ps. Ok (with_parts g asks ps []))) ≡ after (record { found = Ok (asked_by g asks); warned = [] }) (told place [] (parts_entries g) r)
+only_parts place g asks (Ok ps) = ap (λ es. record { found = Ok es; warned = [] }) (append-nil (asked_by g asks ++ parts_entries g ps))
+only_parts place g asks (Err e) = refl
+
+only_said : (place : Place) (g : ℕ) (asks : Bool) (said : List ℕ) (r : Result (List Said) AsmFault) → told place said entries_of (r >>= (λ ss. Ok (with_parts g asks [] ss))) ≡ after (record { found = Ok (asked_by g asks); warned = [] }) (told place said said_entries r)
+only_said place g asks said (Ok ss) = ap (λ es. record { found = Ok (es ++ said_entries ss); warned = said }) (append-nil (asked_by g asks))
+only_said place g asks said (Err e) = refl
+
+-- ---- Parts.
+
+part_made : (place : Place) (g : ℕ) (r : Result Part AsmFault) → placed place (λ m. entries_of m.content) (r >>= as_part g) ≡ told place [] (λ p. part g p ∷ []) r
+part_made place g (Ok p) = refl
+part_made place g (Err e) = refl
+
+-- a value that is found in two steps may be used in the second
+part_told : {A : Type 0} (place : Place) (g : ℕ) (r : Result A AsmFault) (f : A → Result Part AsmFault) → placed place (λ m. entries_of m.content) (r >>= (λ x. f x >>= as_part g)) ≡ told place [] (λ p. part g p ∷ []) (r >>= f)
+part_told place g (Ok x) f = part_made place g (f x)
+part_told place g (Err e) f = refl
+
+item_made : (y : Symbols) (l : Laid) (width : Width) (it : Item) → piece_made y l.place l.spot (item_piece width it) ≡ told l.place [] (λ p. part l.spot.segment p ∷ []) (item_part y l width it)
+item_made y l width (value e) = part_told l.place l.spot.segment (norm_of y l.spot e) (stored width l.place.line)
+item_made y l width (text bytes) = refl
+
+cons_told : (place : Place) (g : ℕ) (r : Result Part AsmFault) (s : Result (List Part) AsmFault) → after (told place [] (λ p. part g p ∷ []) r) (told place [] (parts_entries g) s) ≡ told place [] (parts_entries g) (r >>= (λ p. s >>= (λ ps. Ok (p ∷ ps))))
+cons_told place g (Ok p) (Ok ps) = refl
+cons_told place g (Ok p) (Err e) = refl
+cons_told place g (Err e) s = refl
+
+items_made : (y : Symbols) (l : Laid) (width : Width) (its : List Item) → pieces_made y l.place l.spot (map (item_piece width) its) ≡ told l.place [] (parts_entries l.spot.segment) (each (item_part y l width) its)
+items_made y l width [] = refl
+items_made y l width (it ∷ its) =
+    ap (λ a. after a (pieces_made y l.place l.spot (map (item_piece width) its))) (item_made y l width it)
+    ∙ ap (after (told l.place [] (λ p. part l.spot.segment p ∷ []) (item_part y l width it))) (items_made y l width its)
+    ∙ cons_told l.place l.spot.segment (item_part y l width it) (each (item_part y l width) its)
+
+operand_made : (y : Symbols) (l : Laid) (width : Width) (e : Tree) → piece_made y l.place l.spot (valued (operand width) e) ≡ told l.place [] (λ p. part l.spot.segment p ∷ []) (operand_part y l width e)
+operand_made y l width e = part_told l.place l.spot.segment (norm_of y l.spot e) (λ f. operand_form width l.spot f >>= stored width l.place.line)
+
+operands_made : (y : Symbols) (l : Laid) (w : Option Width) (t : Option Tree) → pieces_made y l.place l.spot (operand_pieces w t) ≡ told l.place [] (parts_entries l.spot.segment) (operand_parts y l w t)
+operands_made y l (Some width) (Some e) = one_piece y l.place l.spot (valued (operand width) e) ∙ operand_made y l width e ∙ single (operand_part y l width e)
+  where
+    single : (r : Result Part AsmFault) → told l.place [] (λ p. part l.spot.segment p ∷ []) r ≡ told l.place [] (parts_entries l.spot.segment) (r >>= (λ p. Ok (p ∷ [])))
+    single (Ok p) = refl
+    single (Err f) = refl
+operands_made y l (Some width) None = refl
+operands_made y l None t = refl
+
+given_before : (place : Place) (g : ℕ) (p : Part) (r : Result (List Part) AsmFault) → after (record { found = Ok (part g p ∷ []); warned = [] }) (told place [] (parts_entries g) r) ≡ told place [] (parts_entries g) (r >>= (λ ps. Ok (p ∷ ps)))
+given_before place g p (Ok ps) = refl
+given_before place g p (Err e) = refl
+
+instruction_made : (y : Symbols) (l : Laid) (m : Mnemonic) (o : Operand) (s : Settled) → pieces_made y l.place l.spot (instruction_pieces m o s) ≡ told l.place [] (parts_entries l.spot.segment) (instruction_parts y l m o s)
+instruction_made y l m o (in_mode mode) =
+    ap (after (record { found = Ok (part l.spot.segment (opcode_part (opcode_of m mode)) ∷ []); warned = [] })) (operands_made y l (width_of mode) (operand_tree o))
+    ∙ given_before l.place l.spot.segment (opcode_part (opcode_of m mode)) (operand_parts y l (width_of mode) (operand_tree o))
+instruction_made y l m o nothing_settled = refl
+instruction_made y l m o (filled_with b) = refl
+instruction_made y l m o (from_byte b) = refl
+
+-- ---- What is said.
+
+said_made : (place : Place) (r : Result (List Said) AsmFault) → placed place (λ m. entries_of m.content) (r >>= as_said) ≡ told place [] said_entries r
+said_made place (Ok ss) = refl
+said_made place (Err e) = refl
+
+-- each name says something
+names_made : (y : Symbols) (place : Place) (s : Spot) (make : List ℕ → Piece) (says : List ℕ → Result (List Said) AsmFault) → ((n : List ℕ) → made_of y place s (make n) ≡ (says n >>= as_said)) → (names : List (List ℕ)) → pieces_made y place s (map make names) ≡ told place [] said_entries (each_of says names)
+names_made y place s make says is [] = refl
+names_made y place s make says is (n ∷ names) =
+    ap (λ r. after (placed place (λ (m : Made). entries_of m.content) r) (pieces_made y place s (map make names))) (is n)
+    ∙ ap (λ a. after a (pieces_made y place s (map make names))) (said_made place (says n))
+    ∙ ap (after (told place [] said_entries (says n))) (names_made y place s make says is names)
+    ∙ by (says n) (each says names)
+  where
+    more : (xs : List Said) (yss : List (List Said)) → said_entries xs ++ said_entries (flat_map (λ ys. ys) yss) ≡ said_entries (xs ++ flat_map (λ ys. ys) yss)
+    more [] yss = refl
+    more (x ∷ xs) yss = ap (λ es. tells x ∷ es) (more xs yss)
+
+    by : (r : Result (List Said) AsmFault) (q : Result (List (List Said)) AsmFault) → after (told place [] said_entries r) (told place [] said_entries (q >>= (λ yss. Ok (flat_map (λ ys. ys) yss)))) ≡ told place [] said_entries ((r >>= (λ ys. q >>= (λ yss. Ok (ys ∷ yss)))) >>= (λ yss. Ok (flat_map (λ ys. ys) yss)))
+    by (Ok xs) (Ok yss) = ap (λ es. record { found = Ok es; warned = [] }) (more xs yss)
+    by (Ok xs) (Err e) = refl
+    by (Err e) q = refl
+
+demands_made : (y : Symbols) (place : Place) (s : Spot) (names : List (List ℕ)) → pieces_made y place s (map demanded names) ≡ record { found = Ok (said_entries (map Demanded names)); warned = [] }
+demands_made y place s [] = refl
+demands_made y place s (n ∷ names) = ap (after (piece_made y place s (demanded n))) (demands_made y place s names)
+
+-- an import says nothing, but may have its fault
+abbrev silently : {A : Type 0} → A → List Entry
+silently x = []
+
+import_made : (y : Symbols) (place : Place) (s : Spot) (n : List ℕ) → piece_made y place s (imported n) ≡ told place [] silently (import_fault y n)
+import_made y place s n = by (defined y (named 0 n)) refl
+  where
+    by : (o : Option ℕ) → defined y (named 0 n) ≡ o → piece_made y place s (imported n) ≡ told place [] silently (import_fault y n)
+    by None e = rw e refl
+    by (Some j) e = rw e refl
+
+imports_made : (y : Symbols) (place : Place) (s : Spot) (names : List (List ℕ)) → pieces_made y place s (map imported names) ≡ told place [] silently (each_of (import_fault y) names)
+imports_made y place s [] = refl
+imports_made y place s (n ∷ names) =
+    ap (λ a. after a (pieces_made y place s (map imported names))) (import_made y place s n)
+    ∙ ap (after (told place [] silently (import_fault y n))) (imports_made y place s names)
+    ∙ by (import_fault y n) (each (import_fault y) names)
+  where
+    by : (r : Result (List Said) AsmFault) (q : Result (List (List Said)) AsmFault) → after (told place [] silently r) (told place [] silently (q >>= (λ yss. Ok (flat_map (λ ys. ys) yss)))) ≡ told place [] silently ((r >>= (λ ys. q >>= (λ yss. Ok (ys ∷ yss)))) >>= (λ yss. Ok (flat_map (λ ys. ys) yss)))
+    by (Ok xs) (Ok yss) = refl
+    by (Ok xs) (Err e) = refl
+    by (Err e) q = refl
+
+then_demanded : (place : Place) (names : List (List ℕ)) (r : Result (List Said) AsmFault) → after (told place [] silently r) (record { found = Ok (said_entries (map Demanded names)); warned = [] }) ≡ told place [] said_entries (r >>= (λ none. Ok (map Demanded names)))
+then_demanded place names (Ok ss) = refl
+then_demanded place names (Err e) = refl
+
+forced_made : (y : Symbols) (place : Place) (s : Spot) (names : List (List ℕ)) → pieces_made y place s (map imported names ++ map demanded names) ≡ told place [] said_entries (each_of (import_fault y) names >>= (λ none. Ok (map Demanded names)))
+forced_made y place s names =
+    pieces_append y place s (map imported names) (map demanded names)
+    ∙ ap (after (pieces_made y place s (map imported names))) (demands_made y place s names)
+    ∙ ap (λ a. after a (record { found = Ok (said_entries (map Demanded names)); warned = [] })) (imports_made y place s names)
+    ∙ then_demanded place names (each_of (import_fault y) names)
+
+equated_made : (place : Place) (r : Result Form AsmFault) → placed place (λ m. entries_of m.content) (r >>= (λ f. as_said [])) ≡ told place [] said_entries (r >>= (λ f. Ok []))
+equated_made place (Ok f) = refl
+equated_made place (Err e) = refl
+
+asserted_made : (place : Place) (s : Spot) (act : Action) (words : List ℕ) (r : Result Form AsmFault) → placed place (λ m. entries_of m.content) (r >>= used place s (p.asserted act words)) ≡ told place (failed place act words r) said_entries (r >>= decided act place.line words)
+asserted_made place s act words (Ok f) = by (decided act place.line words f)
+  where
+    by : (d : Result (List Said) AsmFault) → placed place (λ m. entries_of m.content) (d >>= (λ ss. Ok (record { content = telling ss; warning = failed place act words (Ok f) }))) ≡ told place (failed place act words (Ok f)) said_entries d
+    by (Ok ss) = refl
+    by (Err e) = refl
+asserted_made place s act words (Err e) = refl
+
+-- ---- Statements.
+
+abbrev laid_with : Stated → Place → Spot → ℕ → AddressSize → Settled → Laid
+laid_with x place s len own settled = record { stated = x; place = place; spot = s; length = len; size = own; settled = settled }
+
+abbrev IsMadeOfPieces : Symbols → Laid → Type 0
+IsMadeOfPieces y l = content_made y l ≡ after (asks_made l) (pieces_made y l.place l.spot (pieces_of l.length l.settled l.stated))
+
+-- from its parts, or from what it says
+by_parts : (y : Symbols) (l : Laid) (g : ℕ) (asks : Bool) (r : Result (List Part) AsmFault) (pieces : Finished Entry) → pieces ≡ told l.place [] (parts_entries g) r → told l.place [] entries_of (r >>= (λ ps. Ok (with_parts g asks ps []))) ≡ after (record { found = Ok (asked_by g asks); warned = [] }) pieces
+by_parts y l g asks r pieces h = only_parts l.place g asks r ∙ ap (after (record { found = Ok (asked_by g asks); warned = [] })) (sym h)
+
+by_said : (place : Place) (g : ℕ) (asks : Bool) (said : List ℕ) (r : Result (List Said) AsmFault) (pieces : Finished Entry) → pieces ≡ told place said said_entries r → told place said entries_of (r >>= (λ ss. Ok (with_parts g asks [] ss))) ≡ after (record { found = Ok (asked_by g asks); warned = [] }) pieces
+by_said place g asks said r pieces h = only_said place g asks said r ∙ ap (after (record { found = Ok (asked_by g asks); warned = [] })) (sym h)
+
+made_with : (y : Symbols) (x : Stated) (place : Place) (s : Spot) (len : ℕ) (own : AddressSize) (settled : Settled) → IsMadeOfPieces y (laid_with x place s len own settled)
+made_with y (instruction m o) place s len own settled =
+    let l = laid_with (instruction m o) place s len own settled in
+    by_parts y l s.segment true (instruction_parts y l m o settled) (pieces_made y place s (instruction_pieces m o settled)) (instruction_made y l m o settled)
+made_with y (values width its) place s len own settled =
+    let l = laid_with (values width its) place s len own settled in
+    by_parts y l s.segment true (each (item_part y l width) its) (pieces_made y place s (map (item_piece width) its)) (items_made y l width its)
+made_with y (constant n e) place s len own settled =
+    by_said place s.segment (asks_section (constant n e)) [] (norm_of y s e >>= (λ f. Ok [])) (pieces_made y place s (valued equated e ∷ [])) (one_piece y place s (valued equated e) ∙ equated_made place (norm_of y s e))
+made_with y (imports size names) place s len own settled =
+    by_said place s.segment false [] (each_of (import_fault y) names) (pieces_made y place s (map imported names)) (names_made y place s imported (import_fault y) (λ n. refl) names)
+made_with y (exports names) place s len own settled =
+    let says : List ℕ → Result (List Said) AsmFault = λ n. export_said y place.line n (absent_of true n) (defined y (named 0 n)) in
+    by_said place s.segment false [] (each_of says names) (pieces_made y place s (map (exported true) names)) (names_made y place s (exported true) says (λ n. refl) names)
+made_with y (globals size names) place s len own settled =
+    let says : List ℕ → Result (List Said) AsmFault = λ n. export_said y place.line n (absent_of false n) (defined y (named 0 n)) in
+    by_said place s.segment false [] (each_of says names) (pieces_made y place s (map (exported false) names)) (names_made y place s (exported false) says (λ n. refl) names)
+made_with y (forced names) place s len own settled =
+    by_said place s.segment false [] (each_of (import_fault y) names >>= (λ none. Ok (map Demanded names))) (pieces_made y place s (map imported names ++ map demanded names)) (forced_made y place s names)
+made_with y (assertion e act words) place s len own settled =
+    let r : Result (List Said) AsmFault = norm_of y s e >>= decided act place.line words in
+    let said : List ℕ = failed place act words (norm_of y s e) in
+    by_said place s.segment (asks_section (assertion e act words)) said r (pieces_made y place s (valued (p.asserted act words) e ∷ [])) (one_piece y place s (valued (p.asserted act words) e) ∙ asserted_made place s act words (norm_of y s e))
+made_with y _ place s len own settled = refl
+
+pub made_of_pieces : (y : Symbols) (l : Laid) → IsMadeOfPieces y l
+made_of_pieces y l = made_with y l.stated l.place l.spot l.length l.size l.settled
+
+-- ---- All statements.
+
+abbrev pub all_made : Symbols → List Laid → Finished Entry
+all_made y ls = record { found = contents_from y ls >>= (λ cs. Ok (all_entries cs)); warned = asserted y ls }
+
+all_cons : (y : Symbols) (l : Laid) (ls : List Laid) → all_made y (l ∷ ls) ≡ after (content_made y l) (all_made y ls)
+all_cons y l ls = by (content_of y l)
+  where
+    more : (c : Content) (r : Result (List Content) PlacedFault) → ((r >>= (λ cs. Ok (c ∷ cs))) >>= (λ cs. Ok (all_entries cs))) ≡ ((r >>= (λ cs. Ok (all_entries cs))) >>= (λ es. Ok (entries_of c ++ es)))
+    more c (Ok cs) = refl
+    more c (Err e) = refl
+
+    by : (r : Result Content AsmFault) → record { found = (at_place l.place r >>= (λ c. contents_from y ls >>= (λ cs. Ok (c ∷ cs)))) >>= (λ cs. Ok (all_entries cs)); warned = flat_map (asserted_by y) (if has_content r then l ∷ sound_from y ls else []) } ≡ after (told l.place (asserted_by y l) entries_of r) (all_made y ls)
+    by (Ok c) = ap (λ (r : Result (List Entry) PlacedFault). record { found = r; warned = asserted_by y l ++ asserted y ls }) (more c (contents_from y ls))
+    by (Err e) = refl
+
+pub all_append : (y : Symbols) (ls : List Laid) (l : Laid) → all_made y (ls ++ l ∷ []) ≡ after (all_made y ls) (content_made y l)
+all_append y [] l = all_cons y l [] ∙ after_nothing (content_made y l) ∙ sym (nothing_after (content_made y l))
+all_append y (k ∷ ls) l =
+    all_cons y k (ls ++ l ∷ [])
+    ∙ ap (after (content_made y k)) (all_append y ls l)
+    ∙ sym (after_after (content_made y k) (all_made y ls) (content_made y l))
+    ∙ ap (λ a. after a (content_made y l)) (sym (all_cons y k ls))

@@ -1,0 +1,253 @@
+-- Contents by their entries: what decides their object.
+use Rattle.std.proofs.Common.{◌≡◌, ◌∙◌, ℕ, Bool, true, false, cond, nat_eq, List, [], ◌∷◌, ◌++◌, map, refl, sym, ap}
+use Rattle.std.specs.Prelude.{filter_map, slice_get}
+use Rattle.std.specs.List.{filter, flat_map}
+use Rattle.std.proofs.lemmas.Grind.{flat_map-append}
+use Rattle.std.proofs.lemmas.List.{append-nil, map-append}
+use Rattle.std.proofs.lemmas.List.Elements.{filter-append}
+use Rattle.object65.specs.declared.object.Section.{Section}
+use Rattle.object65.specs.declared.object.Object.{Object}
+use Rattle.language65.specs.declared.contents.Content.{Content}
+use Rattle.language65.specs.declared.contents.Part.{Part}
+use Rattle.language65.specs.declared.contents.Said.{Said}
+use Rattle.language65.specs.declared.contents.Segment.{Segment}
+use Rattle.language65.specs.Numbering.{all_joined, all_said, assert_of, content_imports, exports_among, fragments_of, import_keys, name_of, object_with, once, part_imports, parts_in, said_imports, section_keys, section_of, segment_name, segment_power, segments_asked}
+use Rattle.module65.specs.Laws.{AreAlike}
+use Rattle.language65.specs.Contents.{asking, put, telling}
+
+-- one thing that is asked for, put or said
+pub data Entry : Type 0 where
+  asks : (segment : ℕ) → Entry
+  part : (segment : ℕ) → Part → Entry
+  tells : Said → Entry
+
+abbrev pub asked_by : ℕ → Bool → List Entry
+asked_by segment true = asks segment ∷ []
+asked_by segment false = []
+
+-- a content as entries
+abbrev pub entries_of : Content → List Entry
+entries_of c = asked_by c.segment c.asks ++ map (part c.segment) c.parts ++ map tells c.said
+
+abbrev pub all_entries : List Content → List Entry
+all_entries cs = flat_map entries_of cs
+
+-- an entry as a content of its own
+abbrev entry_content : Entry → Content
+entry_content (asks g) = asking g
+entry_content (part g p) = put g p
+entry_content (tells s) = telling (s ∷ [])
+
+-- contents, each of one entry
+abbrev split : List Entry → List Content
+split es = map entry_content es
+
+-- what is gathered from contents one behind the other
+record Gathers {X : Type 0} (F : List Content → List X) : Type 0 where
+  none : F [] ≡ []
+  append : (cs ds : List Content) → F (cs ++ ds) ≡ F cs ++ F ds
+  -- is the same from the entries of each
+  one : (c : Content) → F (split (entries_of c)) ≡ F (c ∷ [])
+
+gathered : {X : Type 0} (F : List Content → List X) → Gathers F → (cs : List Content) → F (split (all_entries cs)) ≡ F cs
+gathered F g [] = refl
+gathered F g (c ∷ cs) =
+    ap F (map-append entry_content (entries_of c) (all_entries cs))
+    ∙ g.append (split (entries_of c)) (split (all_entries cs))
+    ∙ ap (λ xs. xs ++ F (split (all_entries cs))) (g.one c)
+    ∙ ap (λ xs. F (c ∷ []) ++ xs) (gathered F g cs)
+    ∙ sym (g.append (c ∷ []) cs)
+
+-- the entries of a content in their three groups
+grouped : {X : Type 0} (F : List Content → List X) → ((cs ds : List Content) → F (cs ++ ds) ≡ F cs ++ F ds) → (c : Content) → F (split (entries_of c)) ≡ F (split (asked_by c.segment c.asks)) ++ F (split (map (part c.segment) c.parts)) ++ F (split (map tells c.said))
+grouped F append c =
+    let asks : List Entry = asked_by c.segment c.asks in
+    let ps : List Entry = map (part c.segment) c.parts in
+    let ss : List Entry = map tells c.said in
+    ap F (map-append entry_content (asks ++ ps) ss)
+    ∙ append (split (asks ++ ps)) (split ss)
+    ∙ ap (λ cs. F cs ++ F (split ss)) (map-append entry_content asks ps)
+    ∙ ap (λ xs. xs ++ F (split ss)) (append (split asks) (split ps))
+
+-- ---- Segments that are asked for.
+
+asked_parts : (g : ℕ) (ps : List Part) → segments_asked (split (map (part g) ps)) ≡ []
+asked_parts g [] = refl
+asked_parts g (p ∷ ps) = asked_parts g ps
+
+asked_said : (ss : List Said) → segments_asked (split (map tells ss)) ≡ []
+asked_said [] = refl
+asked_said (s ∷ ss) = asked_said ss
+
+asked_append : (cs ds : List Content) → segments_asked (cs ++ ds) ≡ segments_asked cs ++ segments_asked ds
+asked_append cs ds =
+    ap (map (λ (c : Content). c.segment)) (filter-append (λ (c : Content). c.asks) cs ds)
+    ∙ map-append (λ (c : Content). c.segment) (filter (λ (c : Content). c.asks) cs) (filter (λ (c : Content). c.asks) ds)
+
+asked_gathers : Gathers segments_asked
+asked_gathers = record { none = refl; append = asked_append; one = one }
+  where
+    by : (g : ℕ) (b : Bool) (c : Content) → c.segment ≡ g → segments_asked (split (asked_by g b)) ≡ map (λ (x : Content). x.segment) (cond b (c ∷ []) [])
+    by g true c e = ap (λ h. h ∷ []) (sym e)
+    by g false c e = refl
+
+    one : (c : Content) → segments_asked (split (entries_of c)) ≡ segments_asked (c ∷ [])
+    one c =
+        grouped segments_asked asked_append c
+        ∙ ap (λ xs. segments_asked (split (asked_by c.segment c.asks)) ++ xs ++ segments_asked (split (map tells c.said))) (asked_parts c.segment c.parts)
+        ∙ ap (λ xs. segments_asked (split (asked_by c.segment c.asks)) ++ [] ++ xs) (asked_said c.said)
+        ∙ append-nil (segments_asked (split (asked_by c.segment c.asks)) ++ [])
+        ∙ append-nil (segments_asked (split (asked_by c.segment c.asks)))
+        ∙ by c.segment c.asks c refl
+
+-- ---- Imports.
+
+abbrev all_imports : List (List ℕ) → List Content → List ℕ
+all_imports names cs = flat_map (content_imports names) cs
+
+imports_asked : (names : List (List ℕ)) (g : ℕ) (b : Bool) → all_imports names (split (asked_by g b)) ≡ []
+imports_asked names g true = refl
+imports_asked names g false = refl
+
+imports_parts : (names : List (List ℕ)) (g : ℕ) (ps : List Part) → all_imports names (split (map (part g) ps)) ≡ flat_map part_imports ps
+imports_parts names g [] = refl
+imports_parts names g (p ∷ ps) = ap (λ ks. ks ++ all_imports names (split (map (part g) ps))) (append-nil (part_imports p ++ []) ∙ append-nil (part_imports p)) ∙ ap (λ ks. part_imports p ++ ks) (imports_parts names g ps)
+
+imports_said : (names : List (List ℕ)) (ss : List Said) → all_imports names (split (map tells ss)) ≡ flat_map (said_imports names) ss
+imports_said names [] = refl
+imports_said names (s ∷ ss) = ap (λ ks. ks ++ all_imports names (split (map tells ss))) (append-nil (said_imports names s)) ∙ ap (λ ks. said_imports names s ++ ks) (imports_said names ss)
+
+imports_gather : (names : List (List ℕ)) → Gathers (all_imports names)
+imports_gather names = record { none = refl; append = append; one = one }
+  where
+    append : (cs ds : List Content) → all_imports names (cs ++ ds) ≡ all_imports names cs ++ all_imports names ds
+    append = flat_map-append (content_imports names)
+
+    one : (c : Content) → all_imports names (split (entries_of c)) ≡ all_imports names (c ∷ [])
+    one c =
+        grouped (all_imports names) append c
+        ∙ ap (λ ks. ks ++ all_imports names (split (map (part c.segment) c.parts)) ++ all_imports names (split (map tells c.said))) (imports_asked names c.segment c.asks)
+        ∙ ap (λ ks. ks ++ all_imports names (split (map tells c.said))) (imports_parts names c.segment c.parts)
+        ∙ ap (λ ks. flat_map part_imports c.parts ++ ks) (imports_said names c.said)
+        ∙ sym (append-nil (content_imports names c))
+
+-- ---- Parts.
+
+parts_asked : (g h : ℕ) (b : Bool) → parts_in (split (asked_by g b)) h ≡ []
+parts_asked g h true = by (nat_eq g h)
+  where
+    by : (b : Bool) → flat_map (λ (c : Content). c.parts) (cond b (split (asked_by g true)) []) ≡ []
+    by true = refl
+    by false = refl
+parts_asked g h false = refl
+
+parts_parts : (g h : ℕ) (b : Bool) → nat_eq g h ≡ b → (ps : List Part) → parts_in (split (map (part g) ps)) h ≡ cond b ps []
+parts_parts g h true e [] = refl
+parts_parts g h false e [] = refl
+parts_parts g h true e (p ∷ ps) =
+    ap (λ b. flat_map (λ (c : Content). c.parts) (cond b (entry_content (part g p) ∷ filter (λ (c : Content). nat_eq c.segment h) (split (map (part g) ps))) (filter (λ (c : Content). nat_eq c.segment h) (split (map (part g) ps))))) e
+    ∙ ap (λ qs. p ∷ qs) (parts_parts g h true e ps)
+parts_parts g h false e (p ∷ ps) =
+    ap (λ b. flat_map (λ (c : Content). c.parts) (cond b (entry_content (part g p) ∷ filter (λ (c : Content). nat_eq c.segment h) (split (map (part g) ps))) (filter (λ (c : Content). nat_eq c.segment h) (split (map (part g) ps))))) e
+    ∙ parts_parts g h false e ps
+
+parts_said : (h : ℕ) (ss : List Said) → parts_in (split (map tells ss)) h ≡ []
+parts_said h [] = refl
+parts_said h (s ∷ ss) = by (nat_eq 0 h) (parts_said h ss)
+  where
+    by : (b : Bool) → parts_in (split (map tells ss)) h ≡ [] → flat_map (λ (c : Content). c.parts) (cond b (entry_content (tells s) ∷ filter (λ (c : Content). nat_eq c.segment h) (split (map tells ss))) (filter (λ (c : Content). nat_eq c.segment h) (split (map tells ss)))) ≡ []
+    by true more = more
+    by false more = more
+
+abbrev parts_of_segment : ℕ → List Content → List Part
+parts_of_segment h cs = parts_in cs h
+
+parts_append : (h : ℕ) (cs ds : List Content) → parts_in (cs ++ ds) h ≡ parts_in cs h ++ parts_in ds h
+parts_append h cs ds =
+    ap (flat_map (λ (c : Content). c.parts)) (filter-append (λ (c : Content). nat_eq c.segment h) cs ds)
+    ∙ flat_map-append (λ (c : Content). c.parts) (filter (λ (c : Content). nat_eq c.segment h) cs) (filter (λ (c : Content). nat_eq c.segment h) ds)
+
+parts_gather : (h : ℕ) → Gathers (parts_of_segment h)
+parts_gather h = record { none = refl; append = parts_append h; one = one }
+  where
+    by : (c : Content) (b : Bool) → cond b c.parts [] ≡ flat_map (λ (x : Content). x.parts) (cond b (c ∷ []) [])
+    by c true = sym (append-nil c.parts)
+    by c false = refl
+
+    one : (c : Content) → parts_in (split (entries_of c)) h ≡ parts_in (c ∷ []) h
+    one c =
+        grouped (parts_of_segment h) (parts_append h) c
+        ∙ ap (λ ps. ps ++ parts_in (split (map (part c.segment) c.parts)) h ++ parts_in (split (map tells c.said)) h) (parts_asked c.segment h c.asks)
+        ∙ ap (λ ps. ps ++ parts_in (split (map tells c.said)) h) (parts_parts c.segment h (nat_eq c.segment h) refl c.parts)
+        ∙ ap (λ ps. cond (nat_eq c.segment h) c.parts [] ++ ps) (parts_said h c.said)
+        ∙ append-nil (cond (nat_eq c.segment h) c.parts [])
+        ∙ by c (nat_eq c.segment h)
+
+-- ---- What is said.
+
+said_asked : (g : ℕ) (b : Bool) → all_said (split (asked_by g b)) ≡ []
+said_asked g true = refl
+said_asked g false = refl
+
+said_parts : (g : ℕ) (ps : List Part) → all_said (split (map (part g) ps)) ≡ []
+said_parts g [] = refl
+said_parts g (p ∷ ps) = said_parts g ps
+
+said_said : (ss : List Said) → all_said (split (map tells ss)) ≡ ss
+said_said [] = refl
+said_said (s ∷ ss) = ap (λ ts. s ∷ ts) (said_said ss)
+
+said_gathers : Gathers all_said
+said_gathers = record { none = refl; append = append; one = one }
+  where
+    append : (cs ds : List Content) → all_said (cs ++ ds) ≡ all_said cs ++ all_said ds
+    append = flat_map-append (λ (c : Content). c.said)
+
+    one : (c : Content) → all_said (split (entries_of c)) ≡ all_said (c ∷ [])
+    one c =
+        grouped all_said append c
+        ∙ ap (λ ss. ss ++ all_said (split (map (part c.segment) c.parts)) ++ all_said (split (map tells c.said))) (said_asked c.segment c.asks)
+        ∙ ap (λ ss. ss ++ all_said (split (map tells c.said))) (said_parts c.segment c.parts)
+        ∙ said_said c.said
+        ∙ sym (append-nil c.said)
+
+-- ---- The object.
+
+map_same : {A B : Type 0} (f g : A → B) → ((x : A) → f x ≡ g x) → (xs : List A) → map f xs ≡ map g xs
+map_same f g h [] = refl
+map_same f g h (x ∷ xs) = ap (λ y. y ∷ map f xs) (h x) ∙ ap (λ ys. g x ∷ ys) (map_same f g h xs)
+
+-- with the numbers of sections and imports
+abbrev object_by : List Segment → List (List ℕ) → (sections imports : List ℕ) → List Section → List Said → Object
+object_by segments names sections imports made said = record {
+  imports = map (name_of names) imports;
+  sections = made;
+  exports = exports_among sections imports [] said;
+  asserts = filter_map (assert_of sections imports) said;
+}
+
+-- alike contents have the same object
+pub object_alike : (segments : List Segment) (names : List (List ℕ)) (cs ds : List Content) → AreAlike cs ds → object_with segments names cs ≡ object_with segments names ds
+object_alike segments names cs ds a =
+    let sections : List ℕ = section_keys ds in
+    let imports : List ℕ = import_keys names ds in
+    let made : List ℕ → List ℕ → List Section = λ ks js. map (section_of segments ks js cs) ks in
+    ap (λ ks. object_by segments names ks (import_keys names cs) (made ks (import_keys names cs)) (all_said cs)) (ap (once []) a.asked)
+    ∙ ap (λ js. object_by segments names sections js (made sections js) (all_said cs)) (ap (once []) (a.imports names))
+    ∙ ap (λ ss. object_by segments names sections imports (made sections imports) ss) a.said
+    ∙ ap (λ ms. object_by segments names sections imports ms (all_said ds)) (map_same (section_of segments sections imports cs) (section_of segments sections imports ds) (λ h. section_same h) sections)
+  where
+    section_same : (h : ℕ) → section_of segments (section_keys ds) (import_keys names ds) cs h ≡ section_of segments (section_keys ds) (import_keys names ds) ds h
+    section_same h = ap (λ ps. record { name = segment_name (slice_get segments h); align = segment_power (slice_get segments h); fragments = all_joined (fragments_of (section_keys ds) (import_keys names ds) ps) }) (a.parts h)
+
+-- contents of the same entries are alike
+pub alike_by : (cs ds : List Content) → all_entries cs ≡ all_entries ds → AreAlike cs ds
+alike_by cs ds e = record {
+  asked = same segments_asked asked_gathers;
+  imports = λ names. same (all_imports names) (imports_gather names);
+  parts = λ g. same (parts_of_segment g) (parts_gather g);
+  said = same all_said said_gathers;
+}
+  where
+    same : {X : Type 0} (F : List Content → List X) → Gathers F → F cs ≡ F ds
+    same F g = sym (gathered F g cs) ∙ ap (λ es. F (split es)) e ∙ gathered F g ds

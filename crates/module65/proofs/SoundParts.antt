@@ -1,0 +1,262 @@
+-- The parts of sound statements.
+use Rattle.std.proofs.Common.{◌≡◌, ◌∙◌, ℕ, ◌+◌, Bool, true, false, nat_eq, nat_lt, refl, sym, ap, subst, arith, pos, List, [], ◌∷◌, length, replicate, take, drop, Option, Some, None, Ok, Err}
+use Rattle.std.specs.Prelude.{⊤, ℤ, IfOk, ◌&&◌, ◌-◌, sum_by, if◌then◌else◌}
+use Rattle.std.specs.List.{AllByRecursion, list_all, list_any}
+use Rattle.std.proofs.lemmas.List.{length-replicate, length-take, length-take-le}
+use Rattle.std.proofs.lemmas.List.Sums.{sum_by-cons}
+use Rattle.std.proofs.lemmas.List.Folds.{list_all-append}
+use Rattle.syntax65.specs.Outcome.{◌>>=◌, each}
+use Rattle.syntax65.specs.Opcodes.{opcode_of}
+use Rattle.syntax65.specs.Trees.{Tree}
+use Rattle.syntax65.specs.declared.instructions.codes.Mode.{Mode}
+use Rattle.syntax65.specs.declared.instructions.codes.Mode.TheVariants.{Implied, Accumulator, Immediate, Indirect, IndirectX, IndirectY, Relative}
+use Rattle.syntax65.specs.declared.instructions.names.Mnemonic.{Mnemonic}
+use Rattle.syntax65.specs.declared.lexing.tokens.AddressSize.{AddressSize}
+use Rattle.syntax65.specs.declared.lexing.tokens.AddressSize.TheVariants as size
+use Rattle.syntax65.specs.declared.values.Op2.TheVariants.{Subtract}
+use Rattle.object65.specs.Form.{Form, lit, sec, imp, prefix, binary}
+use Rattle.object65.specs.Objects.{fits_width, value_bytes, width_len}
+use Rattle.object65.specs.declared.object.Width.{Width}
+use Rattle.object65.specs.declared.object.Width.TheVariants.{Byte, Word, HighFirst, Dword, Branch}
+use Rattle.language65.specs.declared.contents.Part.{Part}
+use Rattle.language65.specs.declared.contents.Part.TheVariants.{Known}
+use Rattle.language65.specs.declared.fault.AsmFault.TheVariants.{OutOfRange}
+use Rattle.language65.specs.Contents.{file_bytes, instruction_parts, item_part, opcode_part, operand_form, operand_part, operand_parts, operand_tree, parts_of, room_part, stored}
+use Rattle.expand65.specs.declared.place.Place.{Place}
+use Rattle.language65.specs.Laid.{Laid, Settled, nothing_settled, from_byte, Spot, asks_section, has_here}
+use Rattle.language65.specs.Language.{Item, value, text, Operand, no_operand, accumulator, immediate, address, indirect, indirect_x, indirect_y, Stated, instruction, values, reserve, align, file_part}
+use Rattle.language65.specs.declared.language.Index.{Index}
+use Rattle.language65.specs.Norms.{constant_in, norm_of}
+use Rattle.language65.specs.Numbering.{imports_in}
+use Rattle.language65.specs.Sizes.{address_mode, branch_mode, bytes_between, counted, fill_settled, first_of, is_branch, item_len, length_of, mode_for, mode_len, mode_of, mode_settled, operand_len, optional_value, part_len as file_len, part_start, settled_of, size_of, width_of}
+use Rattle.language65.specs.Symbols.{Symbols}
+use Rattle.language65.specs.Sound.{IsMeasured, IsSoundForm, IsSoundPart, part_len, sections_in}
+use Rattle.module65.proofs.Holding.{Holds, IsWell, two_well}
+use Rattle.module65.proofs.SoundForms.{Asks, Pass, norm_well, well_then}
+
+-- ---- Forms.
+
+abbrev pub asked_in : List ℕ → ℕ → Bool
+asked_in asked g = list_any (nat_eq g) asked
+
+abbrev pub below : ℕ → ℕ → Bool
+below count k = nat_lt k count
+
+both : (a b : Bool) → a ≡ true → b ≡ true → (a && b) ≡ true
+both a b h k = rw h k
+
+sections_pass : (q r : ℕ → Bool) (f : Form) → Holds q r f → list_all q (sections_in f) ≡ true
+sections_pass q r (lit v) h = refl
+sections_pass q r (sec k a) h = both (q k) true h refl
+sections_pass q r (imp k) h = refl
+sections_pass q r (prefix op f) h = sections_pass q r f h
+sections_pass q r (binary op f g) (h, i) = list_all-append q (sections_in f) (sections_in g) ∙ both (list_all q (sections_in f)) (list_all q (sections_in g)) (sections_pass q r f h) (sections_pass q r g i)
+
+imports_pass : (q r : ℕ → Bool) (f : Form) → Holds q r f → list_all r (imports_in f) ≡ true
+imports_pass q r (lit v) h = refl
+imports_pass q r (sec k a) h = refl
+imports_pass q r (imp k) h = both (r k) true h refl
+imports_pass q r (prefix op f) h = imports_pass q r f h
+imports_pass q r (binary op f g) (h, i) = list_all-append r (imports_in f) (imports_in g) ∙ both (list_all r (imports_in f)) (list_all r (imports_in g)) (imports_pass q r f h) (imports_pass q r g i)
+
+pub sound_form : (asked : List ℕ) (count : ℕ) (f : Form) → IsWell (asked_in asked) (below count) f → IsSoundForm asked count f
+sound_form asked count f w = record { folded = w.folded; sections = sections_pass (asked_in asked) (below count) f w.holds; imports = imports_pass (asked_in asked) (below count) f w.holds }
+
+-- what is known of all statements
+abbrev pub IsKnown : List ℕ → ℕ → Symbols → Type 0
+IsKnown asked count y = Pass (asked_in asked) (below count) y
+
+pub form_sound : (asked : List ℕ) (count : ℕ) (y : Symbols) → IsKnown asked count y → (s : Spot) (e : Tree) → (has_here e ≡ true → asked_in asked s.segment ≡ true) → IfOk (norm_of y s e) (IsWell (asked_in asked) (below count))
+form_sound asked count y k s e h = norm_well (asked_in asked) (below count) y k s e h
+
+-- ---- Items.
+
+value_len : (width : Width) (v : ℤ) → length (value_bytes width v) ≡ width_len width
+value_len Byte v = refl
+value_len Word v = refl
+value_len HighFirst v = refl
+value_len Dword v = refl
+value_len Branch v = refl
+
+abbrev PartOf : List ℕ → ℕ → ℕ → Part → Type 0
+PartOf asked count len p = IsSoundPart asked count p × (part_len p ≡ len)
+
+stored_sound : (asked : List ℕ) (count : ℕ) (width : Width) (line : ℕ) (f : Form) → IsWell (asked_in asked) (below count) f → IfOk (stored width line f) (PartOf asked count (width_len width))
+stored_sound asked count width line (lit v) w = go (fits_width width v)
+  where
+    go : (b : Bool) → IfOk (if b then Ok (Known (value_bytes width v)) else Err OutOfRange) (PartOf asked count (width_len width))
+    go true = (tt, value_len width v)
+    go false = tt
+stored_sound asked count width line f w = ((sound_form asked count f w, refl), refl)
+
+item_sound : (asked : List ℕ) (count : ℕ) (y : Symbols) → IsKnown asked count y → (l : Laid) → asked_in asked l.spot.segment ≡ true → (width : Width) (it : Item) → IfOk (item_part y l width it) (PartOf asked count (item_len width it))
+item_sound asked count y k l h width (value e) = well_then (IsWell (asked_in asked) (below count)) (PartOf asked count (width_len width)) (norm_of y l.spot e) (stored width l.place.line) (form_sound asked count y k l.spot e (λ a. h)) (λ f w. stored_sound asked count width l.place.line f w)
+item_sound asked count y k l h width (text bytes) = (tt, refl)
+
+abbrev pub PartsOf : List ℕ → ℕ → ℕ → List Part → Type 0
+PartsOf asked count len ps = AllByRecursion (IsSoundPart asked count) ps × (sum_by part_len ps ≡ len)
+
+items_sound : (asked : List ℕ) (count : ℕ) (y : Symbols) → IsKnown asked count y → (l : Laid) → asked_in asked l.spot.segment ≡ true → (width : Width) (its : List Item) → IfOk (each (item_part y l width) its) (PartsOf asked count (sum_by (item_len width) its))
+items_sound asked count y k l h width [] = (tt, refl)
+items_sound asked count y k l h width (it ∷ its) =
+    well_then (PartOf asked count (item_len width it)) (PartsOf asked count (sum_by (item_len width) (it ∷ its))) (item_part y l width it) (λ p. each (item_part y l width) its >>= (λ ps. Ok (p ∷ ps))) (item_sound asked count y k l h width it)
+    (λ p w. well_then (PartsOf asked count (sum_by (item_len width) its)) (PartsOf asked count (sum_by (item_len width) (it ∷ its))) (each (item_part y l width) its) (λ ps. Ok (p ∷ ps)) (items_sound asked count y k l h width its)
+    (λ ps v. ((w.0, v.0), sum_by-cons part_len p ps ∙ ap (λ n. n + sum_by part_len ps) w.1 ∙ ap (λ n. item_len width it + n) v.1 ∙ sym (sum_by-cons (item_len width) it its))))
+
+-- ---- Forms of instructions.
+
+-- the instruction has this form, and without an operand nothing is stored behind its code
+record IsForm (m : Mnemonic) (t : Option Tree) (mode : Mode) : Type 0 where
+  code : part_len (opcode_part (opcode_of m mode)) ≡ 1
+  alone : t ≡ None → width_of mode ≡ None
+
+abbrev MayForm : Mnemonic → Option Tree → Option Mode → Type 0
+MayForm m t None = ⊤
+MayForm m t (Some mode) = IsForm m t mode
+
+abbrev Alone : Option Tree → Mode → Type 0
+Alone t mode = t ≡ None → width_of mode ≡ None
+
+with_code : (m : Mnemonic) (t : Option Tree) (mode : Mode) (c : ℕ) → Alone t mode → opcode_of m mode ≡ Some c → IsForm m t mode
+with_code m t mode c a h = record { code = ap (λ o. part_len (opcode_part o)) h; alone = a }
+
+first_some : (m : Mnemonic) (a b : Mode) (c : ℕ) → opcode_of m a ≡ Some c → first_of m a b ≡ Some a
+first_some m a b c h = rw h refl
+
+first_second : (m : Mnemonic) (a b : Mode) (c : ℕ) → opcode_of m a ≡ None → opcode_of m b ≡ Some c → first_of m a b ≡ Some b
+first_second m a b c h k = rw (h, k) refl
+
+first_none : (m : Mnemonic) (a b : Mode) → opcode_of m a ≡ None → opcode_of m b ≡ None → first_of m a b ≡ None
+first_none m a b h k = rw (h, k) refl
+
+first_form : (m : Mnemonic) (t : Option Tree) (a b : Mode) → Alone t a → Alone t b → MayForm m t (first_of m a b)
+first_form m t a b v w = go (opcode_of m a) (opcode_of m b) refl refl
+  where
+    go : (x y : Option ℕ) → opcode_of m a ≡ x → opcode_of m b ≡ y → MayForm m t (first_of m a b)
+    go (Some c) y h k = subst (MayForm m t) (sym (first_some m a b c h)) (with_code m t a c v h)
+    go None (Some d) h k = subst (MayForm m t) (sym (first_second m a b d h k)) (with_code m t b d w k)
+    go None None h k = subst (MayForm m t) (sym (first_none m a b h k)) tt
+
+stored_behind : (e : Tree) (mode : Mode) → Alone (Some e) mode
+stored_behind e mode h = absurd cc
+
+address_form : (m : Mnemonic) (e : Tree) (forced : Option AddressSize) (own : AddressSize) (r : Option Index) → MayForm m (Some e) (address_mode m forced own r)
+address_form m e (Some forced) own r = first_form m (Some e) (mode_for forced r) (mode_for forced r) (stored_behind e (mode_for forced r)) (stored_behind e (mode_for forced r))
+address_form m e None size.ZeroPage r = first_form m (Some e) (mode_for size.ZeroPage r) (mode_for size.Absolute r) (stored_behind e (mode_for size.ZeroPage r)) (stored_behind e (mode_for size.Absolute r))
+address_form m e None size.Absolute r = first_form m (Some e) (mode_for size.Absolute r) (mode_for size.ZeroPage r) (stored_behind e (mode_for size.Absolute r)) (stored_behind e (mode_for size.ZeroPage r))
+
+not_branch : (m : Mnemonic) → opcode_of m Relative ≡ None → is_branch m ≡ false
+not_branch m h = rw h refl
+
+branch_code : (m : Mnemonic) → is_branch m ≡ true → part_len (opcode_part (opcode_of m Relative)) ≡ 1
+branch_code m b = go (opcode_of m Relative) refl
+  where
+    go : (o : Option ℕ) → opcode_of m Relative ≡ o → part_len (opcode_part (opcode_of m Relative)) ≡ 1
+    go (Some c) h = ap (λ o. part_len (opcode_part o)) h
+    go None h = (let other = not_branch m h in absurd cc)
+
+branch_form : (m : Mnemonic) (e : Tree) (forced : Option AddressSize) (r : Option Index) → is_branch m ≡ true → MayForm m (Some e) (branch_mode forced r)
+branch_form m e None None b = record { code = branch_code m b; alone = stored_behind e Relative }
+branch_form m e None (Some r) b = tt
+branch_form m e (Some forced) r b = tt
+
+operand_mode : (before : Symbols) (s : Spot) (own : AddressSize) (m : Mnemonic) (o : Operand) → MayForm m (operand_tree o) (mode_of before s own m o)
+operand_mode before s own m no_operand = first_form m None Implied Accumulator (λ h. refl) (λ h. refl)
+operand_mode before s own m accumulator = first_form m None Accumulator Accumulator (λ h. refl) (λ h. refl)
+operand_mode before s own m (immediate e) = first_form m (Some e) Immediate Immediate (stored_behind e Immediate) (stored_behind e Immediate)
+operand_mode before s own m (address forced e r) = by (is_branch m) refl
+  where
+    by : (b : Bool) → is_branch m ≡ b → MayForm m (Some e) (if b then branch_mode forced r else address_mode m forced (size_of before s own e) r)
+    by true h = branch_form m e forced r h
+    by false h = address_form m e forced (size_of before s own e) r
+operand_mode before s own m (indirect e) = first_form m (Some e) Indirect Indirect (stored_behind e Indirect) (stored_behind e Indirect)
+operand_mode before s own m (indirect_x e) = first_form m (Some e) IndirectX IndirectX (stored_behind e IndirectX) (stored_behind e IndirectX)
+operand_mode before s own m (indirect_y e) = first_form m (Some e) IndirectY IndirectY (stored_behind e IndirectY) (stored_behind e IndirectY)
+
+-- ---- Instructions.
+
+operand_sound : (asked : List ℕ) (count : ℕ) (s : Spot) → asked_in asked s.segment ≡ true → (width : Width) (f : Form) → IsWell (asked_in asked) (below count) f → IfOk (operand_form width s f) (IsWell (asked_in asked) (below count))
+operand_sound asked count s h Branch f w = two_well (asked_in asked) (below count) Subtract f (sec s.segment (pos (s.offset + 2))) w (record { folded = (refl, omega arith); holds = h })
+operand_sound asked count s h Byte f w = w
+operand_sound asked count s h Word f w = w
+operand_sound asked count s h HighFirst f w = w
+operand_sound asked count s h Dword f w = w
+
+behind_sound : (asked : List ℕ) (count : ℕ) (y : Symbols) → IsKnown asked count y → (l : Laid) → asked_in asked l.spot.segment ≡ true → (w : Option Width) (t : Option Tree) → (t ≡ None → w ≡ None) → IfOk (operand_parts y l w t) (PartsOf asked count (operand_len w))
+behind_sound asked count y k l h None t a = (tt, refl)
+behind_sound asked count y k l h (Some width) None a = (let none : Some width ≡ None = a refl in absurd cc)
+behind_sound asked count y k l h (Some width) (Some e) a =
+    let Well : Form → Type 0 = IsWell (asked_in asked) (below count) in
+    well_then (PartOf asked count (width_len width)) (PartsOf asked count (width_len width)) (operand_part y l width e) (λ p. Ok (p ∷ []))
+    (well_then Well (PartOf asked count (width_len width)) (norm_of y l.spot e) (λ f. operand_form width l.spot f >>= stored width l.place.line) (form_sound asked count y k l.spot e (λ z. h))
+    (λ f v. well_then Well (PartOf asked count (width_len width)) (operand_form width l.spot f) (stored width l.place.line) (operand_sound asked count l.spot h width f v)
+    (λ g w. stored_sound asked count width l.place.line g w)))
+    (λ p z. ((z.0, tt), sum_by-cons part_len p [] ∙ (let same = z.1 in omega (arith, same))))
+
+code_sound : (asked : List ℕ) (count : ℕ) (o : Option ℕ) → IsSoundPart asked count (opcode_part o)
+code_sound asked count None = tt
+code_sound asked count (Some c) = tt
+
+instruction_sound : (asked : List ℕ) (count : ℕ) (y : Symbols) → IsKnown asked count y → (l : Laid) → asked_in asked l.spot.segment ≡ true → (m : Mnemonic) (o : Operand) (mode : Option Mode) → MayForm m (operand_tree o) mode → IfOk (instruction_parts y l m o (mode_settled mode)) (PartsOf asked count (mode_len mode))
+instruction_sound asked count y k l h m o None f = (tt, refl)
+instruction_sound asked count y k l h m o (Some mode) f =
+    well_then (PartsOf asked count (operand_len (width_of mode))) (PartsOf asked count (1 + operand_len (width_of mode))) (operand_parts y l (width_of mode) (operand_tree o)) (λ ps. Ok (opcode_part (opcode_of m mode) ∷ ps)) (behind_sound asked count y k l h (width_of mode) (operand_tree o) f.alone)
+    (λ ps v. ((code_sound asked count (opcode_of m mode), v.0), sum_by-cons part_len (opcode_part (opcode_of m mode)) ps ∙ ap (λ n. n + sum_by part_len ps) f.code ∙ ap (λ n. 1 + n) v.1))
+
+-- ---- Room.
+
+replicated : (n b : ℕ) → length (replicate n b) ≡ n
+replicated n b = length-replicate n b
+
+room_sound : (asked : List ℕ) (count : ℕ) (before : Symbols) (s : Spot) (len : ℕ) (v : Option Tree) → PartOf asked count len (room_part len (fill_settled before s v))
+room_sound asked count before s len None = (tt, refl)
+room_sound asked count before s len (Some v) = (tt, replicated len (counted (constant_in before s v)))
+
+one_part : (asked : List ℕ) (count len : ℕ) (p : Part) → PartOf asked count len p → PartsOf asked count len (p ∷ [])
+one_part asked count len p h = ((h.0, tt), sum_by-cons part_len p [] ∙ (let same = h.1 in omega (arith, same)))
+
+-- ---- Parts of files.
+
+-- so many bytes of a file as were counted are there
+all_taken : (xs : List ℕ) (n : ℕ) → length (take (length (take n xs)) xs) ≡ length (take n xs)
+all_taken xs n = length-take-le (length (take n xs)) xs (let e = length-take n xs in omega (arith, e))
+
+between_taken : (bytes : List ℕ) (start : ℕ) (len : Option ℤ) → length (take (length (bytes_between bytes start len)) (drop start bytes)) ≡ length (bytes_between bytes start len)
+between_taken bytes start None = refl
+between_taken bytes start (Some v) = all_taken (drop start bytes) (counted (Some v))
+
+file_taken : (before : Symbols) (s : Spot) (bytes : Option (List ℕ)) (start len : Option Tree) → length (file_bytes (file_len before s bytes start len) bytes (from_byte (part_start before s start))) ≡ file_len before s bytes start len
+file_taken before s None start len = refl
+file_taken before s (Some bytes) start len = between_taken bytes (part_start before s start) (optional_value before s len (pos (length bytes - part_start before s start)))
+
+-- ---- Statements.
+
+abbrev pub laid_with : Stated → Place → Spot → ℕ → AddressSize → Settled → Laid
+laid_with x place s len own settled = record { stated = x; place = place; spot = s; length = len; size = own; settled = settled }
+
+abbrev PartsAre : List ℕ → ℕ → Symbols → Place → Spot → AddressSize → Stated → ℕ → Settled → Type 0
+PartsAre asked count y place s own x len settled = IfOk (parts_of y (laid_with x place s len own settled)) (PartsOf asked count len)
+
+-- with the length and what is settled as they are measured
+parts_with : (asked : List ℕ) (count : ℕ) (y before : Symbols) → IsKnown asked count y → (place : Place) (s : Spot) (own : AddressSize) (x : Stated) → (asks_section x ≡ true → asked_in asked s.segment ≡ true) → PartsAre asked count y place s own x (length_of before s own x) (settled_of before s own x)
+parts_with asked count y before k place s own (instruction m o) a =
+    let mode = mode_of before s own m o in
+    instruction_sound asked count y k (laid_with (instruction m o) place s (mode_len mode) own (mode_settled mode)) (a refl) m o mode (operand_mode before s own m o)
+parts_with asked count y before k place s own (values width its) a =
+    items_sound asked count y k (laid_with (values width its) place s (sum_by (item_len width) its) own nothing_settled) (a refl) width its
+parts_with asked count y before k place s own (reserve n v) a =
+    let len = length_of before s own (reserve n v) in
+    one_part asked count len (room_part len (fill_settled before s v)) (room_sound asked count before s len v)
+parts_with asked count y before k place s own (align n v) a =
+    let len = length_of before s own (align n v) in
+    one_part asked count len (room_part len (fill_settled before s v)) (room_sound asked count before s len v)
+parts_with asked count y before k place s own (file_part bytes start more) a =
+    let len = file_len before s bytes start more in
+    one_part asked count len (Known (file_bytes len bytes (from_byte (part_start before s start)))) (tt, file_taken before s bytes start more)
+parts_with asked count y before k place s own _ a = (tt, refl)
+
+pub parts_sound : (asked : List ℕ) (count : ℕ) (y before : Symbols) → IsKnown asked count y → (l : Laid) → Asks (asked_in asked) l → IsMeasured before l → IfOk (parts_of y l) (PartsOf asked count l.length)
+parts_sound asked count y before k l a e =
+    let P : ℕ → Type 0 = λ n. PartsAre asked count y l.place l.spot l.size l.stated n (settled_of before l.spot l.size l.stated) in
+    let Q : Settled → Type 0 = λ z. PartsAre asked count y l.place l.spot l.size l.stated l.length z in
+    subst Q (sym e.settled) (subst P (sym e.length) (parts_with asked count y before k l.place l.spot l.size l.stated a))

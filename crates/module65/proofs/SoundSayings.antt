@@ -1,0 +1,106 @@
+-- What sound statements say.
+use Rattle.std.proofs.Common.{◌≡◌, ℕ, zero, suc, ◌<◌, Bool, true, false, refl, subst, List, [], ◌∷◌, ◌++◌, length, map, pos, negsuc, Option, Some, None, Result, Ok}
+use Rattle.std.specs.Prelude.{⊤, IfOk, ◌&&◌}
+use Rattle.std.specs.List.{AllByRecursion, list_all}
+use Rattle.syntax65.specs.Outcome.{◌>>=◌}
+use Rattle.syntax65.specs.declared.lexing.tokens.AddressSize.{AddressSize}
+use Rattle.object65.specs.Form.{Form, lit}
+use Rattle.object65.specs.Objects.{is_name}
+use Rattle.object65.specs.declared.object.Action.{Action}
+use Rattle.object65.specs.declared.object.Action.TheVariants as action
+use Rattle.language65.specs.declared.contents.Said.{Said}
+use Rattle.language65.specs.declared.contents.Said.TheVariants.{Exported, Demanded}
+use Rattle.language65.specs.declared.fault.AsmFault.{AsmFault}
+use Rattle.language65.specs.Contents.{decided, each_of, export_said, import_fault, said_of}
+use Rattle.expand65.specs.declared.place.Place.{Place}
+use Rattle.language65.specs.Laid.{Laid, Settled, Spot, asks_section}
+use Rattle.language65.specs.Language.{Stated, constant, imports, exports, globals, forced, assertion}
+use Rattle.language65.specs.Norms.{defined_form, norm_of}
+use Rattle.language65.specs.Symbols.{Symbols, defined, named}
+use Rattle.module65.specs.Pieces.{absent_of}
+use Rattle.language65.specs.Sound.{IsSound, IsSoundSaid}
+use Rattle.module65.proofs.Aheads.{said_by, said_each}
+use Rattle.module65.proofs.Holding.{IsWell}
+use Rattle.module65.proofs.SoundForms.{Asks, all_append, export_well, well_then}
+use Rattle.module65.proofs.SoundParts.{IsKnown, asked_in, below, form_sound, laid_with, sound_form}
+
+abbrev pub AreSoundSaid : List ℕ → ℕ → List Said → Type 0
+AreSoundSaid asked count ss = AllByRecursion (IsSoundSaid asked count) ss
+
+pub names_all : (names : List (List ℕ)) → list_all is_name names ≡ true → AllByRecursion (λ n. is_name n ≡ true) names
+names_all [] h = tt
+names_all (n ∷ ns) h = (first (is_name n) (list_all is_name ns) h, names_all ns (rest (is_name n) (list_all is_name ns) h))
+  where
+    first : (a b : Bool) → (a && b) ≡ true → a ≡ true
+    first true b k = refl
+    first false b k = k
+
+    rest : (a b : Bool) → (a && b) ≡ true → b ≡ true
+    rest true b k = k
+    rest false b k = absurd cc
+
+-- ---- Each name.
+
+by_names : (asked : List ℕ) (count : ℕ) (f : List ℕ → Result (List Said) AsmFault) (P : List ℕ → Type 0) → ((n : List ℕ) → P n → IfOk (f n) (AreSoundSaid asked count)) → (names : List (List ℕ)) → AllByRecursion P names → IfOk (said_by f names) (AreSoundSaid asked count)
+by_names asked count f P h [] ps = tt
+by_names asked count f P h (n ∷ ns) (p, ps) =
+    well_then (AreSoundSaid asked count) (AreSoundSaid asked count) (f n) (λ ys. said_by f ns >>= (λ zs. Ok (ys ++ zs))) (h n p)
+    (λ ys a. well_then (AreSoundSaid asked count) (AreSoundSaid asked count) (said_by f ns) (λ zs. Ok (ys ++ zs)) (by_names asked count f P h ns ps) (λ zs b. all_append (IsSoundSaid asked count) ys zs a b))
+
+each_sound : (asked : List ℕ) (count : ℕ) (f : List ℕ → Result (List Said) AsmFault) (P : List ℕ → Type 0) → ((n : List ℕ) → P n → IfOk (f n) (AreSoundSaid asked count)) → (names : List (List ℕ)) → AllByRecursion P names → IfOk (each_of f names) (AreSoundSaid asked count)
+each_sound asked count f P h names ps =
+    let Q : Result (List Said) AsmFault → Type 0 = λ z. IfOk z (AreSoundSaid asked count) in
+    subst Q (said_each f names) (by_names asked count f P h names ps)
+
+import_sound : (asked : List ℕ) (count : ℕ) (y : Symbols) (n : List ℕ) → IfOk (import_fault y n) (AreSoundSaid asked count)
+import_sound asked count y n = go (defined y (named 0 n)) refl
+  where
+    go : (o : Option ℕ) → defined y (named 0 n) ≡ o → IfOk (import_fault y n) (AreSoundSaid asked count)
+    go None e = rw e tt
+    go (Some j) e = rw e tt
+
+absent_sound : (asked : List ℕ) (count : ℕ) (b : Bool) (n : List ℕ) → IfOk (absent_of b n) (AreSoundSaid asked count)
+absent_sound asked count true n = tt
+absent_sound asked count false n = tt
+
+export_sound : (asked : List ℕ) (count : ℕ) (y : Symbols) → IsKnown asked count y → (line : ℕ) (b : Bool) (n : List ℕ) → is_name n ≡ true → IfOk (export_said y line n (absent_of b n) (defined y (named 0 n))) (AreSoundSaid asked count)
+export_sound asked count y k line b n h = go (defined y (named 0 n)) refl
+  where
+    go : (o : Option ℕ) → defined y (named 0 n) ≡ o → IfOk (export_said y line n (absent_of b n) o) (AreSoundSaid asked count)
+    go None e = absent_sound asked count b n
+    go (Some j) e =
+        well_then (IsWell (asked_in asked) (below count)) (AreSoundSaid asked count) (defined_form y j) (λ f. Ok (Exported n line f ∷ [])) (export_well (asked_in asked) (below count) y k j)
+        (λ f w. ((h, sound_form asked count f w), tt))
+
+all_any : (names : List (List ℕ)) → AllByRecursion (λ n. ⊤) names
+all_any [] = tt
+all_any (n ∷ ns) = (tt, all_any ns)
+
+demanded_sound : (asked : List ℕ) (count : ℕ) (names : List (List ℕ)) → AreSoundSaid asked count (map Demanded names)
+demanded_sound asked count [] = tt
+demanded_sound asked count (n ∷ ns) = (tt, demanded_sound asked count ns)
+
+-- ---- Assertions.
+
+decided_sound : (asked : List ℕ) (count : ℕ) (act : Action) (line : ℕ) (words : List ℕ) (f : Form) → length words < 256 → IsWell (asked_in asked) (below count) f → IfOk (decided act line words f) (AreSoundSaid asked count)
+decided_sound asked count action.Error line words (lit (pos zero)) lt w = tt
+decided_sound asked count action.Error line words (lit (pos (suc n))) lt w = tt
+decided_sound asked count action.Error line words (lit (negsuc n)) lt w = tt
+decided_sound asked count action.Warning line words (lit v) lt w = tt
+decided_sound asked count act line words f lt w = ((lt, sound_form asked count f w, refl), tt)
+
+-- ---- Statements.
+
+said_with : (asked : List ℕ) (count : ℕ) (y : Symbols) → IsKnown asked count y → (place : Place) (s : Spot) (len : ℕ) (own : AddressSize) (settled : Settled) (x : Stated) → IsSound x → (asks_section x ≡ true → asked_in asked s.segment ≡ true) → IfOk (said_of y (laid_with x place s len own settled)) (AreSoundSaid asked count)
+said_with asked count y k place s len own settled (constant n e) h a = well_then (IsWell (asked_in asked) (below count)) (AreSoundSaid asked count) (norm_of y s e) (λ f. Ok []) (form_sound asked count y k s e a) (λ f w. tt)
+said_with asked count y k place s len own settled (imports size names) h a = each_sound asked count (import_fault y) (λ n. ⊤) (λ n p. import_sound asked count y n) names (all_any names)
+said_with asked count y k place s len own settled (exports names) h a = each_sound asked count (λ n. export_said y place.line n (absent_of true n) (defined y (named 0 n))) (λ n. is_name n ≡ true) (λ n p. export_sound asked count y k place.line true n p) names (names_all names h)
+said_with asked count y k place s len own settled (globals size names) h a = each_sound asked count (λ n. export_said y place.line n (absent_of false n) (defined y (named 0 n))) (λ n. is_name n ≡ true) (λ n p. export_sound asked count y k place.line false n p) names (names_all names h)
+said_with asked count y k place s len own settled (forced names) h a =
+    well_then (AreSoundSaid asked count) (AreSoundSaid asked count) (each_of (import_fault y) names) (λ none. Ok (map Demanded names)) (each_sound asked count (import_fault y) (λ n. ⊤) (λ n p. import_sound asked count y n) names (all_any names)) (λ none q. demanded_sound asked count names)
+said_with asked count y k place s len own settled (assertion e act words) h a =
+    well_then (IsWell (asked_in asked) (below count)) (AreSoundSaid asked count) (norm_of y s e) (decided act place.line words) (form_sound asked count y k s e a) (λ f w. decided_sound asked count act place.line words f h w)
+said_with asked count y k place s len own settled _ h a = tt
+
+pub said_sound : (asked : List ℕ) (count : ℕ) (y : Symbols) → IsKnown asked count y → (l : Laid) → IsSound l.stated → Asks (asked_in asked) l → IfOk (said_of y l) (AreSoundSaid asked count)
+said_sound asked count y k l h a = said_with asked count y k l.place l.spot l.length l.size l.settled l.stated h a

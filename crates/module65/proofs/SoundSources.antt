@@ -1,0 +1,136 @@
+-- What a source lays is sound: its statements are of names that objects can hold.
+use Rattle.std.proofs.Common.{◌≡◌, ℕ, Bool, true, false, List, [], ◌∷◌, Option, Some, None, refl, sym, subst}
+use Rattle.std.specs.Prelude.{Result, Ok, Err, if◌then◌else◌}
+use Rattle.std.specs.FinMap as fmap
+use Rattle.syntax65.specs.Outcome.{◌>>=◌, First}
+use Rattle.syntax65.specs.Store.{Files}
+use Rattle.syntax65.specs.Tokens.{Lexeme}
+use Rattle.syntax65.specs.Trees.{number}
+use Rattle.syntax65.specs.Words.{is_reserved}
+use Rattle.syntax65.specs.declared.lexing.tokens.TokenKind.{TokenKind}
+use Rattle.syntax65.specs.declared.lexing.tokens.TokenKind.TheVariants as token
+use Rattle.expand65.specs.declared.fault.ExpandFault.{ExpandFault}
+use Rattle.expand65.specs.declared.place.Place.{Place}
+use Rattle.expand65.specs.Expansion.{statement, first_state, opened_in}
+use Rattle.expand65.specs.Includes.{bytes_in}
+use Rattle.expand65.specs.State as expand
+use Rattle.language65.specs.declared.fault.AsmFault.{AsmFault}
+use Rattle.language65.specs.Language.{Stated, label, cheap_label, unnamed_label, constant}
+use Rattle.language65.specs.Layout.{Layout, nothing_laid}
+use Rattle.language65.specs.Sound.{AreNamed, IsSound}
+use Rattle.statements65.specs.Parsing.{IsStatement, is_colon, label_before, label_of, named_label, or_all, with_rest}
+use Rattle.statements65.proofs.Sounding.{statement_sound}
+use Rattle.module65.specs.Laws.{SoundLayoutLaw}
+use Rattle.module65.specs.Laying.{IsLaid, laying}
+use Rattle.module65.specs.Reading.{AreDefined, AreTaken, taken, faulty, refused, ended, Define, Follows, IsBegun, IsGiven, IsLabel, IsLabelled, IsRest, Job, Reached, no_line, stopped}
+use Rattle.module65.proofs.NamedSteps.{IsStateFit, first_fit, next_fit, tokens_of}
+use Rattle.module65.proofs.NamedTokens.{are_named}
+use Rattle.module65.proofs.SoundLayouts.{IsGood, good_statement, nothing_good, sound_from}
+
+-- ---- A label and what stands behind it.
+
+-- a label is sound, and what stands behind it are names
+pub record IsLabelSound (p : Option Stated × List Lexeme) : Type 0 where
+  pub label : (x : Stated) → p.0 ≡ Some x → IsSound x
+  pub rest : AreNamed p.1
+
+no_label : (ts : List Lexeme) → AreNamed ts → IsLabelSound (None, ts)
+no_label ts named = record { label = λ x e. absurd cc; rest = named }
+
+one_label : (x : Stated) (ts : List Lexeme) → IsSound x → AreNamed ts → IsLabelSound (Some x, ts)
+one_label x ts sound named = record { label = λ y e. (let same : x ≡ y = cc in subst IsSound same sound); rest = named }
+
+named_sound : (all ts : List Lexeme) (k : TokenKind) (n : List ℕ) → AreNamed all → AreNamed ts → IsLabelSound (or_all all (with_rest ts (named_label k n)))
+named_sound all ts token.Identifier n whole named = by (is_reserved n)
+  where
+    by : (b : Bool) → IsLabelSound (or_all all (with_rest ts (if b then None else Some (label n))))
+    by true = no_label all whole
+    by false = one_label (label n) ts tt named
+named_sound all ts token.CheapName n whole named = one_label (cheap_label n) ts tt named
+named_sound all ts _ n whole named = no_label all whole
+
+before_sound : (t : Lexeme) (ts : List Lexeme) → AreNamed (t ∷ ts) → IsLabelSound (or_all (t ∷ ts) (label_before t ts))
+before_sound t [] named = no_label (t ∷ []) named
+before_sound t (c ∷ ts) named = by (is_colon c)
+  where
+    by : (b : Bool) → IsLabelSound (or_all (t ∷ c ∷ ts) (if b then with_rest ts (named_label t.0 t.1) else None))
+    by true = named_sound (t ∷ c ∷ ts) ts t.0 t.1 named named.1.1
+    by false = no_label (t ∷ c ∷ ts) named
+
+pub label_sound : (ts : List Lexeme) → AreNamed ts → IsLabelSound (label_of ts)
+label_sound [] named = no_label [] tt
+label_sound (t ∷ ts) named = by (is_colon t)
+  where
+    by : (b : Bool) → IsLabelSound (or_all (t ∷ ts) (if b then Some (unnamed_label, ts) else label_before t ts))
+    by true = one_label unnamed_label ts tt named.1
+    by false = before_sound t ts named
+
+-- ---- A statement.
+
+good_labelled : (y z : Layout) (place : Place) (o : Option Stated) → IsGood y → ((x : Stated) → o ≡ Some x → IsSound x) → IsLabelled IsLaid y place o (Ok z) → IsGood z
+good_labelled y z place None good sound h = let same : y ≡ z = cc in subst IsGood same good
+good_labelled y z place (Some x) good sound h = good_statement y z place x good (sound x refl) h
+
+good_rest : (y z : Layout) (place : Place) (ts : List Lexeme) → IsGood y → AreNamed ts → IsRest IsLaid y place ts (Ok z) → IsGood z
+good_rest y z place [] good named h = let same : y ≡ z = cc in subst IsGood same good
+good_rest y z place (t ∷ ts) good named h = by h.0 h.1 h.2
+  where
+    by : (q : Result Stated AsmFault) → IsStatement (t ∷ ts) q → First q (IsLaid y place) (Ok z) → IsGood z
+    by (Ok x) is e = good_statement y z place x good (statement_sound (t ∷ ts) x named is) e
+    by (Err f) is e = absurd cc
+
+good_label : (y z : Layout) (place : Place) (ts : List Lexeme) → IsGood y → AreNamed ts → IsLabel IsLaid y place ts (Ok z) → IsGood z
+good_label y z place ts good named h = by h.0 h.1 h.2
+  where
+    sound : IsLabelSound (label_of ts)
+    sound = label_sound ts named
+
+    by : (q : Result Layout AsmFault) → IsLabelled IsLaid y place (label_of ts).0 q → First q (λ w. IsRest IsLaid w place (label_of ts).1) (Ok z) → IsGood z
+    by (Ok w) is e = good_rest w z place (label_of ts).1 (good_labelled y w place (label_of ts).0 good sound.label is) sound.rest e
+    by (Err f) is e = absurd cc
+
+good_given : (y z : Layout) (place : Place) (x : expand.Stated) → IsGood y → AreNamed (tokens_of x) → IsGiven IsLaid y place x (Ok z) → IsGood z
+good_given y z place (expand.label ts) good named h = good_label y z place ts good named h
+good_given y z place (expand.plain ts) good named h = good_rest y z place ts good named h
+
+-- ---- All statements.
+
+good_taken : (m : Files) (s : expand.State) (y : Layout) (r : Reached Layout) → IsStateFit 0 s → IsGood y → AreTaken m laying s y r → IsGood r.behind
+good_taken m s y r fit good (taken _ t x _ z _ reaches is more) =
+    let next = next_fit m (laying.meaning y) s (statement x t) fit reaches in
+    good_taken m t z r next.1 (good_given y z t.left.place x good (are_named (tokens_of x) next.0) is) more
+good_taken m s y r fit good (faulty _ t x _ e reaches is) = good
+good_taken m s y r fit good (refused _ _ e place reaches) = good
+good_taken m s y r fit good (ended _ t _ reaches) = good
+
+-- a constant of the command line has no name that an object holds
+good_defined : (y z : Layout) (place : Place) (ds : List Define) → IsGood y → AreDefined IsLaid y place ds (Ok z) → IsGood z
+good_defined y z place [] good h = let same : y ≡ z = cc in subst IsGood same good
+good_defined y z place (d ∷ ds) good h = by h.0 h.1 h.2 (λ w. good_defined w z place ds)
+  where
+    by : (q : Result Layout AsmFault) → IsLaid y place (constant d.0 (number d.1)) q → First q (λ w. AreDefined IsLaid w place ds) (Ok z) → ((w : Layout) → IsGood w → AreDefined IsLaid w place ds (Ok z) → IsGood z) → IsGood z
+    by (Ok w) is e more = more w (good_statement y w place (constant d.0 (number d.1)) good tt is) e
+    by (Err f) is e more = absurd cc
+
+-- ---- A source.
+
+pub opened_fit : (m : Files) (file : List ℕ) (folders : List (List ℕ)) (s : expand.State) → opened_in m file folders ≡ Ok s → IsStateFit 0 s
+opened_fit m file folders s h = by (bytes_in (fmap.get m file)) h
+  where
+    by : (q : Result (List ℕ) ExpandFault) → (q >>= (λ bytes. Ok (first_state file folders bytes))) ≡ Ok s → IsStateFit 0 s
+    by (Ok bytes) e = let same : first_state file folders bytes ≡ s = cc in subst (IsStateFit 0) same (first_fit file folders bytes)
+    by (Err f) e = absurd cc
+
+good_behind : (q r : Reached Layout) → r ≡ q → IsGood q.behind → IsGood r.behind
+good_behind q r e good = subst (λ (x : Reached Layout). IsGood x.behind) (sym e) good
+
+good_begun : (m : Files) (job : Job) (o : Result expand.State ExpandFault) (r : Reached Layout) → ((s : expand.State) → o ≡ Ok s → IsStateFit 0 s) → IsBegun m laying job nothing_laid o r → IsGood r.behind
+good_begun m job (Err e) r fit h = good_behind (stopped nothing_laid (no_line job.source) _) r h nothing_good
+good_begun m job (Ok s) r fit h = by h.0 h.1 h.2
+  where
+    by : (q : Result Layout AsmFault) → AreDefined IsLaid nothing_laid (no_line job.source) job.defines q → Follows m laying s (no_line job.source) nothing_laid q r → IsGood r.behind
+    by (Ok z) are next = good_taken m s z r (fit s refl) (good_defined nothing_laid z (no_line job.source) job.defines nothing_good are) next
+    by (Err f) are same = good_behind (stopped nothing_laid (no_line job.source) f) r same nothing_good
+
+pub sound_layout : SoundLayoutLaw
+sound_layout m job r h = sound_from r.behind (good_begun m job (opened_in m job.source job.include) r (opened_fit m job.source job.include) h)

@@ -1,0 +1,5 @@
+use Rattle.module65.proofs.Finals.{final_settles}
+use Rattle.module65.proofs.laws.final_settles.Goals as goal
+
+pub returns : goal.returns
+returns c = final_settles

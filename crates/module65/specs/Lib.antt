@@ -1,0 +1,9 @@
+pub mod Places
+pub mod Reading
+pub mod Knowing
+pub mod Continuing
+pub mod Laying
+pub mod Module
+pub mod Pieces
+pub mod Machine
+pub mod Laws

@@ -1,0 +1,137 @@
+-- How the statements of a source are taken one behind the other, over what stands between them.
+use Rattle.std.specs.Prelude.{◌≡◌, ℕ, List, [], ◌∷◌, Option, Some, None, Result, Ok, Err, if◌then◌else◌}
+use Rattle.syntax65.specs.Outcome.{First, Unless}
+use Rattle.syntax65.specs.Store.{Files}
+use Rattle.syntax65.specs.Tokens.{Lexeme}
+use Rattle.syntax65.specs.Trees.{number}
+use Rattle.expand65.specs.declared.fault.ExpandFault.{ExpandFault}
+use Rattle.expand65.specs.declared.place.Place.{Place}
+use Rattle.expand65.specs.Expansion.{Reaches, statement, nothing, fault, opened_in}
+use Rattle.expand65.specs.Meaning.{Meaning}
+use Rattle.expand65.specs.State as expand
+use Rattle.language65.specs.declared.fault.AsmFault.{AsmFault}
+use Rattle.language65.specs.declared.fault.AsmFault.TheVariants.{BadScope, Expansion}
+use Rattle.language65.specs.Faults.{is_outside}
+use Rattle.language65.specs.Language.{Stated, constant}
+use Rattle.language65.specs.LineFaults.{is_open}
+use Rattle.statements65.specs.Parsing.{IsStatement, label_of}
+use Rattle.module65.specs.Places.{PlacedFault}
+
+-- what a statement at a place comes to behind others: what stands behind it, or its first fault
+abbrev pub Taking : Type 0 → Type 1
+Taking S = S → Place → Stated → Result S AsmFault → Type 0
+
+-- What stands between statements: what it makes of the next one, what names and expressions mean
+-- there, and which scope is the innermost open one.
+pub record Between (S : Type 0) : Type 1 where
+  pub takes : Taking S
+  pub meaning : S → Meaning
+  pub scope : S → ℕ
+
+-- ---- A statement.
+
+-- a label, if there is one
+abbrev pub IsLabelled :
+    {S : Type 0} → Taking S → S → Place → Option Stated → Result S AsmFault → Type 0
+IsLabelled Takes y place None r = r ≡ Ok y
+IsLabelled Takes y place (Some x) r = Takes y place x r
+
+-- tokens as a statement, if there are any
+abbrev pub IsRest : {S : Type 0} → Taking S → S → Place → List Lexeme → Result S AsmFault → Type 0
+IsRest Takes y place [] r = r ≡ Ok y
+IsRest Takes y place (t ∷ ts) r =
+    (x : Result Stated AsmFault) × IsStatement (t ∷ ts) x × First x (Takes y place) r
+
+-- a label's tokens
+abbrev pub IsLabel : {S : Type 0} → Taking S → S → Place → List Lexeme → Result S AsmFault → Type 0
+IsLabel Takes y place ts r =
+    (q : Result _ AsmFault) × IsLabelled Takes y place (label_of ts).0 q
+    × First q (λ z. IsRest Takes z place (label_of ts).1) r
+
+-- a statement that expansion gives: a label, or what begins with none
+abbrev pub IsGiven :
+    {S : Type 0} → Taking S → S → Place → expand.Stated → Result S AsmFault → Type 0
+IsGiven Takes y place (expand.label ts) r = IsLabel Takes y place ts r
+IsGiven Takes y place (expand.plain ts) r = IsRest Takes y place ts r
+
+-- ---- All statements.
+
+-- what stands behind the statements up to the first fault of a line, and that fault, if any
+pub record Reached (S : Type 0) : Type 0 where
+  pub behind : S
+  pub fault : Option PlacedFault
+
+abbrev pub stopped : {S : Type 0} → S → Place → AsmFault → Reached S
+stopped y place e = record { behind = y; fault = Some (record { place = place; fault = e }) }
+
+-- a scope that is open behind the last line
+abbrev pub open_fault : Place → ℕ → Option PlacedFault
+open_fault last scope =
+    if is_open scope then Some (record { place = last; fault = BadScope }) else None
+
+-- From what is left of a source and what stands before it: expansion gives one statement after the
+-- other, by what names and expressions mean there, and each is taken.
+pub data AreTaken {S : Type 0} (m : Files) (b : Between S) : expand.State → S → Reached S → Type 0 where
+  taken :
+      (s t : expand.State) (x : expand.Stated) (y z : S) (r : Reached S) →
+      Reaches m (b.meaning y) s (statement x t) → IsGiven b.takes y t.left.place x (Ok z) →
+      AreTaken m b t z r → AreTaken m b s y r
+  faulty :
+      (s t : expand.State) (x : expand.Stated) (y : S) (e : AsmFault) →
+      Reaches m (b.meaning y) s (statement x t) → IsGiven b.takes y t.left.place x (Err e) →
+      AreTaken m b s y (stopped y t.left.place e)
+  refused :
+      (s : expand.State) (y : S) (e : ExpandFault) (place : Place) →
+      Reaches m (b.meaning y) s (fault (e, place)) →
+      AreTaken m b s y (stopped y place (Expansion e))
+  ended :
+      (s t : expand.State) (y : S) → Reaches m (b.meaning y) s (nothing t) →
+      AreTaken m b s y (record { behind = y; fault = open_fault t.left.place (b.scope y) })
+
+-- ---- A source.
+
+-- a name of the command line, and its value
+abbrev pub Define : Type 0
+Define = List ℕ × ℕ
+
+-- constants of the global scope stand before the first line
+abbrev pub AreDefined :
+    {S : Type 0} → Taking S → S → Place → List Define → Result S AsmFault → Type 0
+AreDefined Takes y place [] r = r ≡ Ok y
+AreDefined Takes y place (d ∷ ds) r =
+    (q : Result _ AsmFault) × Takes y place (constant d.0 (number d.1)) q
+    × First q (λ z. AreDefined Takes z place ds) r
+
+-- what is assembled: a file, the folders of its includes, and the command line's constants
+pub record Job : Type 0 where
+  pub source : List ℕ
+  pub include : List (List ℕ)
+  pub defines : List Define
+
+abbrev pub no_line : List ℕ → Place
+no_line file = record { file = file; line = 0 }
+
+-- the statements of an opened source, behind the constants, or a constant's fault
+abbrev pub Follows : {S : Type 0} → Files → Between S → expand.State → Place → S →
+    Result S AsmFault → Reached S → Type 0
+Follows m b s place y (Ok z) r = AreTaken m b s z r
+Follows m b s place y (Err e) r = r ≡ stopped y place e
+
+abbrev pub IsBegun : {S : Type 0} → Files → Between S → Job → S →
+    Result expand.State ExpandFault → Reached S → Type 0
+IsBegun m b job y (Err e) r = r ≡ stopped y (no_line job.source) (Expansion e)
+IsBegun m b job y (Ok s) r =
+    (q : Result _ AsmFault) × AreDefined b.takes y (no_line job.source) job.defines q
+    × Follows m b s (no_line job.source) y q r
+
+-- what a source comes to behind what stands first
+abbrev pub IsSource : {S : Type 0} → Files → Between S → Job → S → Reached S → Type 0
+IsSource m b job y r = IsBegun m b job y (opened_in m job.source job.include) r
+
+-- ---- What a call that takes statements answers.
+
+-- it holds what such an answer says, or refuses as one does, unless it was refused from outside
+abbrev pub Answers :
+    {S X : Type 0} → (Result S AsmFault → Type 0) → (S → Type 0) → Result X AsmFault → Type 0
+Answers IsAnswer Holds (Ok x) = (z : _) × IsAnswer (Ok z) × Holds z
+Answers IsAnswer Holds (Err e) = Unless (is_outside e) (IsAnswer (Err e))

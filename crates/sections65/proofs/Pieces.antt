@@ -1,0 +1,107 @@
+-- A content that is fed a call at a time.
+use Rattle.std.proofs.Common.{◌≡◌, ◌∙◌, ℕ, Bool, true, false, nat_eq, List, [], ◌∷◌, ◌++◌, map, refl, sym, ap, append-nil, append_assoc}
+use Rattle.std.specs.Prelude.{if◌then◌else◌}
+use Rattle.std.specs.List.{flat_map}
+use Rattle.std.proofs.lemmas.Grind.{flat_map-append}
+use Rattle.language65.specs.declared.contents.Content.{Content}
+use Rattle.language65.specs.declared.contents.Part.{Part}
+use Rattle.language65.specs.declared.contents.Said.{Said}
+use Rattle.language65.specs.Numbering.{all_joined, all_said, content_imports, fragments_of, once, part_imports, parts_in, said_imports, section_keys, segments_asked}
+use Rattle.sections65.specs.declared.sections.Sections.{Sections}
+use Rattle.language65.specs.Contents.{asking, put, telling}
+use Rattle.sections65.specs.Fed.{AreAlike, in_pieces}
+use Rattle.sections65.specs.Standing.{Stands}
+use Rattle.sections65.proofs.Alikes.{alike_back, alike_sym, alike_trans}
+use Rattle.sections65.proofs.Standings.{asked_more}
+
+-- contents that are alike and ask for the same sections
+pub alike_stands : (cs ds ws : List Content) (s : Sections) → AreAlike cs ds → section_keys cs ≡ section_keys ds → Stands cs ws s → Stands ds ws s
+alike_stands cs ds ws s alike keys h = record {
+  asked = sym keys ∙ h.asked;
+  latest = h.latest;
+  alike = alike_trans ds cs _ (alike_sym cs ds alike) h.alike;
+  waits = h.waits;
+  settled = h.settled;
+}
+
+-- ---- Its parts.
+
+parts_imports : (names : List (List ℕ)) (g : ℕ) (ps : List Part) → flat_map (content_imports names) (map (put g) ps) ≡ flat_map part_imports ps
+parts_imports names g [] = refl
+parts_imports names g (p ∷ ps) =
+    ap (λ ks. ks ++ flat_map (content_imports names) (map (put g) ps)) (append-nil (part_imports p ++ []) ∙ append-nil (part_imports p))
+    ∙ ap (λ ks. part_imports p ++ ks) (parts_imports names g ps)
+
+parts_here : (g h : ℕ) (ps : List Part) (ss : List Said) → nat_eq g h ≡ true → parts_in (map (put g) ps ++ telling ss ∷ []) h ≡ ps
+parts_here g h [] ss e = by (nat_eq 0 h)
+  where
+    by : (b : Bool) → flat_map (λ (c : Content). c.parts) (if b then telling ss ∷ [] else []) ≡ []
+    by true = refl
+    by false = refl
+parts_here g h (p ∷ ps) ss e = rw e (ap (λ qs. p ∷ qs) (parts_here g h ps ss e))
+
+parts_there : (g h : ℕ) (ps : List Part) (ss : List Said) → nat_eq g h ≡ false → parts_in (map (put g) ps ++ telling ss ∷ []) h ≡ []
+parts_there g h [] ss e = by (nat_eq 0 h)
+  where
+    by : (b : Bool) → flat_map (λ (c : Content). c.parts) (if b then telling ss ∷ [] else []) ≡ []
+    by true = refl
+    by false = refl
+parts_there g h (p ∷ ps) ss e = rw e (parts_there g h ps ss e)
+
+parts_said : (g : ℕ) (ps : List Part) (ss : List Said) → all_said (map (put g) ps ++ telling ss ∷ []) ≡ ss ++ []
+parts_said g [] ss = refl
+parts_said g (p ∷ ps) ss = parts_said g ps ss
+
+parts_ask : (g : ℕ) (ps : List Part) (ss : List Said) → segments_asked (map (put g) ps ++ telling ss ∷ []) ≡ []
+parts_ask g [] ss = refl
+parts_ask g (p ∷ ps) ss = parts_ask g ps ss
+
+-- ---- All of it.
+
+module _ (g : ℕ) (ps : List Part) (ss : List Said) where
+  abbrev whole : Bool → Content
+  whole b = record { segment = g; asks = b; parts = ps; said = ss }
+
+  pieces_imports : (names : List (List ℕ)) → flat_map (content_imports names) (map (put g) ps ++ telling ss ∷ []) ≡ flat_map (content_imports names) (whole true ∷ [])
+  pieces_imports names =
+      flat_map-append (content_imports names) (map (put g) ps) (telling ss ∷ [])
+      ∙ ap (λ ks. ks ++ (flat_map (said_imports names) ss ++ [])) (parts_imports names g ps)
+      ∙ sym (append_assoc (flat_map part_imports ps) (flat_map (said_imports names) ss) [])
+
+  pieces_parts : (b : Bool) (h : ℕ) → parts_in (map (put g) ps ++ telling ss ∷ []) h ≡ parts_in (whole b ∷ []) h
+  pieces_parts b h = by (nat_eq g h) refl
+    where
+      by : (t : Bool) → nat_eq g h ≡ t → parts_in (map (put g) ps ++ telling ss ∷ []) h ≡ flat_map (λ (c : Content). c.parts) (if t then whole b ∷ [] else [])
+      by true e = parts_here g h ps ss e ∙ sym (append-nil ps)
+      by false e = parts_there g h ps ss e
+
+  asking_parts : (cs : List Content) (h : ℕ) → parts_in (asking g ∷ cs) h ≡ parts_in cs h
+  asking_parts cs h = by (nat_eq g h) refl
+    where
+      by : (t : Bool) → nat_eq g h ≡ t → parts_in (asking g ∷ cs) h ≡ parts_in cs h
+      by true e = rw e refl
+      by false e = rw e refl
+
+  pieces_alike : (b : Bool) → AreAlike (in_pieces (whole b)) (whole b ∷ [])
+  pieces_alike true = record {
+    imports = λ names. pieces_imports names;
+    parts = λ s i h before behind. ap (λ qs. all_joined (before ++ (fragments_of s i qs ++ behind))) (asking_parts (map (put g) ps ++ telling ss ∷ []) h ∙ pieces_parts true h);
+    said = parts_said g ps ss;
+  }
+  pieces_alike false = record {
+    imports = λ names. pieces_imports names;
+    parts = λ s i h before behind. ap (λ qs. all_joined (before ++ (fragments_of s i qs ++ behind))) (pieces_parts false h);
+    said = parts_said g ps ss;
+  }
+
+  pieces_ask : (b : Bool) → segments_asked (in_pieces (whole b)) ≡ segments_asked (whole b ∷ [])
+  pieces_ask true = ap (λ gs. g ∷ gs) (parts_ask g ps ss)
+  pieces_ask false = parts_ask g ps ss
+
+-- a content in pieces stands for the whole
+pub pieces_stand : (cs ws : List Content) (c : Content) (s : Sections) → Stands (cs ++ in_pieces c) ws s → Stands (cs ++ c ∷ []) ws s
+pieces_stand cs ws c s h =
+    alike_stands (cs ++ in_pieces c) (cs ++ c ∷ []) ws s
+    (alike_back cs (in_pieces c) (c ∷ []) (pieces_alike c.segment c.parts c.said c.asks))
+    (asked_more cs (in_pieces c) ∙ ap (once (section_keys cs)) (pieces_ask c.segment c.parts c.said c.asks) ∙ sym (asked_more cs (c ∷ [])))
+    h

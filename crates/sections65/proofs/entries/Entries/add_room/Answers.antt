@@ -1,0 +1,8 @@
+use Rattle.std.proofs.Common.{refl}
+use Rattle.sections65.proofs.Standings.{added_room}
+use Rattle.sections65.proofs.entries.Entries.add_room.Goals as goal
+
+pub returns : goal.returns
+returns c =
+    let begun = c.in_ok-begin.ensures in
+    added_room c.args.self.now _ _ c.args.segment c.args.count begun.same begun.segment refl refl refl refl c.in_ok-self.ensures

@@ -1,0 +1,6 @@
+use Rattle.std.proofs.Common.{◌∙◌, refl}
+use Rattle.sections65.proofs.Standings.{bytes_closed}
+use Rattle.sections65.proofs.entries.Entries.close_bytes.Goals as goal
+
+pub returns-in_ok-add-clause-same : goal.returns-in_ok-add-clause-same
+returns-in_ok-add-clause-same c = bytes_closed c.args.self.now _ c.add.new.self _ c.replace-bytes.result refl c.replace-bytes.ensures.value (c.replace-bytes.ensures.after ∙ c.new.ensures) refl refl refl refl c.in_ok-add.ensures

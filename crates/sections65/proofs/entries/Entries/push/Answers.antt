@@ -1,0 +1,9 @@
+use Rattle.std.proofs.Common.{◌∷◌, []}
+use Rattle.sections65.specs.Fed.{content_of}
+use Rattle.sections65.proofs.Standings.{takes_both, takes_pushed}
+use Rattle.sections65.proofs.entries.Entries.push.Goals as goal
+
+pub returns : goal.returns
+returns c =
+    let closed = c.in_ok-close.ensures in
+    takes_both c.args.self.now _ _ [] (content_of c.args.entry ∷ []) closed.same (takes_pushed _ _ c.args.entry c.requires closed.bytes closed.room c.in_ok-add.ensures)

@@ -1,0 +1,6 @@
+use Rattle.std.proofs.Common.{refl}
+use Rattle.sections65.proofs.Standings.{stands_taken}
+use Rattle.sections65.proofs.sections.Sections.room.Goals as goal
+
+pub returns : goal.returns
+returns c = λ cs ws h. stands_taken c.args.self.now _ _ cs ws refl refl refl c.in_ok-add_room.ensures h

@@ -1,0 +1,267 @@
+//! What was fed, in the order of the source: parts of sections, what is said, and what is open.
+
+ghost use Rattle.std.specs.Prelude.{◌≡◌, ◌+◌, ◌<◌, List, [], ◌∷◌, length, false, slice_get, Some, IfSome, IfNone, OnOk, IfOk, take};
+ghost use Rattle.std.specs.List.{list_any};
+ghost use Rattle.language65.specs.declared.contents.Content.{Content};
+ghost use Rattle.language65.specs.declared.contents.Part.TheVariants.{Filled, Known};
+ghost use Rattle.sections65.specs.declared.entries.Entry.TheVariants.{Open};
+ghost use Rattle.language65.specs.Contents.{put};
+ghost use Rattle.sections65.specs.Fed.{AreAlike, content_of, filled, is_open, open_count};
+ghost use Rattle.sections65.specs.Standing.{Defers, IsAdded, IsSettled, Settles, Takes, contents_in};
+
+use language65::{Part, Said};
+use std::alloc::{AllocError, Global};
+use std::mem;
+use syntax65::Sequence;
+
+/// What one call feeds.
+#[derive(Debug, Drop)]
+pub enum Entry {
+    /// A part of the section of a segment.
+    Put { segment: u32, part: Part },
+    /// What a statement says.
+    Told(Sequence<Said>),
+    /// What waits.
+    Open,
+}
+
+/// Entries in the order of the source. Those put last, bytes and room behind them in one section, may still grow.
+#[derive(Drop)]
+pub struct Entries {
+    pub alloc: Global,
+    pub done: Vec<Entry>,
+    /// No entry in front of this place is open.
+    pub settled: usize,
+    /// The segment of what may grow.
+    pub segment: u32,
+    pub bytes: Sequence<u8>,
+    pub room: u32,
+}
+
+/// A copy of bytes.
+pub fn copy_of(alloc: Global, bytes: &[u8]) -> Result<Sequence<u8>, AllocError>
+    ensures { IfOk result (λ s. s ≡ bytes.now) }
+{
+    Ok(Sequence::from_vec(Vec::from_slice(alloc, bytes)?))
+}
+
+/// Two numbers of bytes as one. No section has more than 32 bits hold.
+pub fn sum_of(left: u32, right: u32) -> Result<u32, AllocError>
+    ensures { IfOk result (λ n. n ≡ left + right) }
+{
+    match left.checked_add(right) {
+        Some(count) => Ok(count),
+        None => Err(AllocError),
+    }
+}
+
+impl Entry {
+    /// The part that it is, and its segment.
+    pub fn into_part(self) -> Option<(u32, Part)>
+        ensures put { IfSome result (λ p. content_of self ≡ put p.0 p.1) }
+        ensures none { IfNone result ((content_of self).parts ≡ []) }
+    {
+        match self {
+            Entry::Put { segment, part } => Some((segment, part)),
+            Entry::Told(_) | Entry::Open => None,
+        }
+    }
+
+    /// Whether it waits.
+    fn is_open(&self) -> bool
+        ensures { result ≡ is_open self.now }
+    {
+        match self {
+            Entry::Put { .. } | Entry::Told(_) => false,
+            Entry::Open => true,
+        }
+    }
+}
+
+/// The place of the first open entry, where none in front of a place is open.
+fn next_open(entries: &[Entry], from: usize) -> Option<usize>
+    ensures within { IfSome result (λ i. i < length entries.now) }
+    ensures waits { IfSome result (λ i. slice_get entries.now i ≡ Some Open) }
+    ensures first { list_any is_open (take from entries.now) ≡ false →
+        IfSome result (λ i. list_any is_open (take i entries.now) ≡ false) }
+    ensures none { list_any is_open (take from entries.now) ≡ false →
+        IfNone result (list_any is_open entries.now ≡ false) }
+{
+    for i in from..entries.len() {
+        if entries[i].is_open() {
+            return Some(i);
+        }
+    }
+    None
+}
+
+impl Entries {
+    pub fn new(alloc: Global) -> Self
+        ensures none { (ws : List Content) → AreAlike [] (contents_in ws result) }
+        ensures waits { open_count result.done.items ≡ 0 }
+        ensures settled { IsSettled result }
+    {
+        Entries {
+            alloc,
+            done: Vec::new(alloc),
+            settled: 0,
+            segment: 0,
+            bytes: Sequence::new(alloc),
+            room: 0,
+        }
+    }
+
+    /// Adds an entry to those that no longer grow.
+    fn add(&mut self, entry: Entry) -> Result<(), AllocError>
+        ensures { OnOk result (IsAdded self.old self.new entry) }
+    {
+        self.done.push(entry)?;
+        Ok(())
+    }
+
+    /// Ends the bytes that might have grown.
+    fn close_bytes(&mut self) -> Result<(), AllocError>
+        ensures same { OnOk result (Takes self.old self.new []) }
+        ensures none { OnOk result (self.new.bytes ≡ []) }
+        ensures room { OnOk result (self.new.room ≡ self.old.room) }
+    {
+        if self.bytes.len() > 0 {
+            let segment = self.segment;
+            let bytes = mem::replace(&mut self.bytes, Sequence::new(self.alloc));
+            let part = Part::Known(bytes);
+            self.add(Entry::Put { segment, part })?;
+        }
+        Ok(())
+    }
+
+    /// Ends the room that might have grown, where no bytes lie in front of it.
+    fn close_room(&mut self) -> Result<(), AllocError>
+        requires { self.old.bytes ≡ [] }
+        ensures same { OnOk result (Takes self.old self.new []) }
+        ensures none { OnOk result (self.new.room ≡ 0) }
+        ensures bytes { OnOk result (self.new.bytes ≡ []) }
+    {
+        if self.room > 0 {
+            let segment = self.segment;
+            let part = Part::Filled(self.room);
+            self.room = 0;
+            self.add(Entry::Put { segment, part })?;
+        }
+        Ok(())
+    }
+
+    /// Ends what might have grown.
+    fn close(&mut self) -> Result<(), AllocError>
+        ensures same { OnOk result (Takes self.old self.new []) }
+        ensures bytes { OnOk result (self.new.bytes ≡ []) }
+        ensures room { OnOk result (self.new.room ≡ 0) }
+    {
+        self.close_bytes()?;
+        self.close_room()?;
+        Ok(())
+    }
+
+    /// Lets what grows be of a segment.
+    fn begin(&mut self, segment: u32) -> Result<(), AllocError>
+        ensures same { OnOk result (Takes self.old self.new []) }
+        ensures segment { OnOk result (self.new.segment ≡ segment) }
+        ensures room { OnOk result (self.old.room ≡ 0 → self.new.room ≡ 0) }
+    {
+        if self.segment == segment {
+            return Ok(());
+        }
+        self.close()?;
+        self.segment = segment;
+        Ok(())
+    }
+
+    /// Ends the room that might have grown, and bytes in front of it.
+    fn end_room(&mut self) -> Result<(), AllocError>
+        ensures same { OnOk result (Takes self.old self.new []) }
+        ensures room { OnOk result (self.new.room ≡ 0) }
+    {
+        if self.room == 0 {
+            return Ok(());
+        }
+        self.close()?;
+        Ok(())
+    }
+
+    /// Lets bytes grow, those of a segment.
+    fn begin_bytes(&mut self, segment: u32) -> Result<(), AllocError>
+        ensures same { OnOk result (Takes self.old self.new []) }
+        ensures segment { OnOk result (self.new.segment ≡ segment) }
+        ensures room { OnOk result (self.new.room ≡ 0) }
+    {
+        self.end_room()?;
+        self.begin(segment)?;
+        Ok(())
+    }
+
+    /// Adds bytes to the section of a segment.
+    pub fn add_bytes(&mut self, segment: u32, bytes: &[u8]) -> Result<(), AllocError>
+        ensures { OnOk result (Takes self.old self.new (put segment (Known bytes.now) ∷ [])) }
+    {
+        self.begin_bytes(segment)?;
+        self.bytes.extend_from_slice(bytes)?;
+        Ok(())
+    }
+
+    /// Adds room of so many bytes to the section of a segment.
+    pub fn add_room(&mut self, segment: u32, count: u32) -> Result<(), AllocError>
+        ensures { OnOk result (Takes self.old self.new (put segment (Filled count) ∷ [])) }
+    {
+        self.begin(segment)?;
+        self.room = sum_of(self.room, count)?;
+        Ok(())
+    }
+
+    /// Adds an entry that doesn't wait.
+    pub fn push(&mut self, entry: Entry) -> Result<(), AllocError>
+        requires { is_open entry ≡ false }
+        ensures { OnOk result (Takes self.old self.new (content_of entry ∷ [])) }
+    {
+        self.close()?;
+        self.add(entry)?;
+        Ok(())
+    }
+
+    /// Adds an entry that waits.
+    pub fn defer(&mut self) -> Result<(), AllocError>
+        ensures { OnOk result (Defers self.old self.new) }
+    {
+        self.close()?;
+        self.add(Entry::Open)?;
+        Ok(())
+    }
+
+    /// Gives the first open entry its content.
+    pub fn settle(&mut self, entry: Entry)
+        requires { is_open entry ≡ false }
+        ensures { IsSettled self.old → Settles self.old self.new (content_of entry) }
+    {
+        let Some(place) = next_open(self.done.as_slice(), self.settled) else {
+            return;
+        };
+        self.done[place] = entry;
+        self.settled = place + 1;
+    }
+
+    /// All entries.
+    pub fn into_list(self) -> Result<Vec<Entry>, AllocError>
+        ensures { IfOk result (λ list. (ws : List Content) →
+            AreAlike (contents_in ws self) (filled ws list.items)) }
+    {
+        let mut all = self;
+        all.close()?;
+        let Entries {
+            alloc: _,
+            done,
+            settled: _,
+            segment: _,
+            bytes: _,
+            room: _,
+        } = all;
+        Ok(done)
+    }
+}

@@ -1,0 +1,150 @@
+//! Sections in the making.
+
+ghost use Rattle.std.specs.Prelude.{◌≡◌, [], List, replicate, true, IfOk, OnOk};
+ghost use Rattle.object65.specs.Objects.{is_good_object, ObjectFits};
+ghost use Rattle.language65.specs.declared.contents.Content.{Content};
+ghost use Rattle.language65.specs.declared.contents.Part.TheVariants.{Filled, Known, Waiting};
+ghost use Rattle.language65.specs.Numbering.{object_with};
+ghost use Rattle.language65.specs.Sound.{AreSound};
+ghost use Rattle.language65.specs.Contents.{asking, put, telling};
+ghost use Rattle.sections65.specs.Standing.{Awaits, Feeds, Receives, Stands};
+
+use crate::entries::{Entries, Entry};
+use crate::numbering::object_of;
+use indexmap::IndexSet;
+use language65::{Part, Said, Segment};
+use object65::{Norm, Object, Width};
+use std::alloc::{AllocError, Global};
+use syntax65::Sequence;
+
+/// Sections in the making: what statements put into them and say to other modules and to the linker, in the order of
+/// the source. Neighbouring bytes of a section lie in one buffer.
+#[derive(Drop)]
+pub struct Sections {
+    /// The segments of which a section was asked for.
+    asked: IndexSet<u32>,
+    /// One of these, which was asked for last.
+    latest: Option<u32>,
+    entries: Entries,
+}
+
+/// So many bytes of one value.
+fn repeated(alloc: Global, count: u32, byte: u8) -> Result<Sequence<u8>, AllocError>
+    ensures { IfOk result (λ bytes. bytes ≡ replicate count byte) }
+{
+    let mut bytes = Vec::new(alloc);
+    bytes.resize(count as usize, byte)?;
+    Ok(Sequence::from_vec(bytes))
+}
+
+impl Sections {
+    /// No section, and nothing said.
+    pub fn new(alloc: Global) -> Self
+        ensures { Stands [] [] result }
+    {
+        Sections {
+            asked: IndexSet::new(alloc),
+            latest: None,
+            entries: Entries::new(alloc),
+        }
+    }
+
+    /// Asks for a section of a segment. Sections have the order in which they are first asked for.
+    pub fn ask(&mut self, segment: u32) -> Result<(), AllocError>
+        ensures { OnOk result (Feeds self.old self.new (asking segment)) }
+    {
+        if let Some(latest) = self.latest {
+            if latest == segment {
+                return Ok(());
+            }
+        }
+        self.asked.insert(segment)?;
+        self.latest = Some(segment);
+        Ok(())
+    }
+
+    /// Puts bytes into the section of a segment.
+    pub fn append(&mut self, segment: u32, bytes: &[u8]) -> Result<(), AllocError>
+        ensures { OnOk result (Feeds self.old self.new (put segment (Known bytes.now))) }
+    {
+        self.entries.add_bytes(segment, bytes)?;
+        Ok(())
+    }
+
+    /// Puts so many bytes of one value into the section of a segment.
+    pub fn fill(&mut self, segment: u32, count: u32, byte: u8) -> Result<(), AllocError>
+        ensures { OnOk result (Feeds self.old self.new (put segment (Known (replicate count byte)))) }
+    {
+        let bytes = repeated(self.entries.alloc, count, byte)?;
+        self.entries.add_bytes(segment, bytes.as_slice())?;
+        Ok(())
+    }
+
+    /// Puts room of so many bytes into the section of a segment, which the linker fills.
+    pub fn room(&mut self, segment: u32, count: u32) -> Result<(), AllocError>
+        ensures { OnOk result (Feeds self.old self.new (put segment (Filled count))) }
+    {
+        self.entries.add_room(segment, count)?;
+        Ok(())
+    }
+
+    /// Puts a value that the linker computes into the section of a segment.
+    pub fn value(
+        &mut self,
+        segment: u32,
+        width: Width,
+        line: u32,
+        form: Norm,
+    ) -> Result<(), AllocError>
+        ensures { OnOk result (Feeds self.old self.new (put segment (Waiting width line form))) }
+    {
+        let part = Part::Waiting { width, line, form };
+        self.entries.push(Entry::Put { segment, part })?;
+        Ok(())
+    }
+
+    /// Defers what comes here: a part of a section, or what a statement says. What is deferred is settled in the same
+    /// order.
+    pub fn defer(&mut self) -> Result<(), AllocError>
+        ensures { OnOk result (Awaits self.old self.new) }
+    {
+        self.entries.defer()?;
+        Ok(())
+    }
+
+    /// Settles the first that is still deferred, as a part of the section of a segment.
+    pub fn settle(&mut self, segment: u32, part: Part)
+        ensures { Receives self.old self.new (put segment part) }
+    {
+        self.entries.settle(Entry::Put { segment, part })
+    }
+
+    /// Settles the first that is still deferred, as what a statement says.
+    pub fn settle_said(&mut self, said: Sequence<Said>)
+        ensures { Receives self.old self.new (telling said) }
+    {
+        self.entries.settle(Entry::Told(said))
+    }
+
+    /// The object of a module: of its segments, the names of its imports in the order of their keys, and what was fed.
+    pub fn finish(
+        self,
+        alloc: Global,
+        segments: &[Segment],
+        names: &[Sequence<u8>],
+    ) -> Result<Object, AllocError>
+        ensures object { IfOk result (λ o. (cs : List Content) → Stands cs [] self →
+            o ≡ object_with segments.now names.now cs) }
+        ensures numbers { IfOk result ObjectFits }
+        ensures good { IfOk result (λ o. (cs : List Content) → Stands cs [] self →
+            AreSound segments.now names.now cs → is_good_object o ≡ true) }
+    {
+        let Sections {
+            asked,
+            latest: _,
+            entries,
+        } = self;
+        let entries = entries.into_list()?;
+        object_of(alloc, segments, names, asked, entries)
+    }
+}

@@ -1,0 +1,24 @@
+use Rattle.std.proofs.Common.{◌≡◌, ℕ, Option, Result, option_map, slice_get, sym, ap, subst, ◌∙◌}
+use Rattle.syntax65.specs.Outcome.{Gives}
+use Rattle.syntax65.specs.Trees.{Tree, tree_of}
+use Rattle.object65.specs.Form.{Form}
+use Rattle.language65.specs.Laid.{Spot}
+use Rattle.language65.specs.Views.{spot_of}
+use Rattle.symbols65.specs.declared.resolving.attempt.Stop.{Stop}
+use Rattle.symbols65.specs.Resolving.{attempt_definition, attempt_value, known_form, lacks_memory}
+use Rattle.symbols65.specs.Sources.{kept, known_by}
+use Rattle.symbols65.specs.Views.{table_of}
+use Rattle.symbols65.proofs.resolving.attempt.defined.Goals as goal
+
+pub returns-in-Finals : goal.returns-in-Finals
+returns-in-Finals c =
+    let t = c.args.symbols.now in
+    let place = c.args.place in
+    let d = c.in-Some.definition.now in
+    let P : Result Form Stop → Type 0 = λ r. Gives lacks_memory (λ f. f) c.kept_form.result r in
+    let K : Spot → Tree → Result Form Stop = λ s e. known_form place (known_by t c.args.source place) in
+    subst P
+    (sym (ap (attempt_definition K) c.in-Some.ensures.definition
+    ∙ ap (λ v. attempt_value K (spot_of d.spot) (option_map tree_of v)) c.in-Some-value.is
+    ∙ ap (known_form place) (ap (λ q. known_by t q place) c.in-Finals.is ∙ ap kept (sym c.in-Some.ensures.entry))))
+    c.kept_form.ensures

@@ -1,0 +1,36 @@
+use Rattle.std.proofs.Common.{List, ℕ, ◌≡◌, ◌∙◌, map, sym, ap, subst}
+use Rattle.language65.specs.Symbols.{Symbols}
+use Rattle.symbols65.specs.Tables.{AreFinal, AreNumbered, definition_in, scope_opened, word_of, word_opened}
+use Rattle.symbols65.specs.Views.{words_of}
+use Rattle.indexmap.specs.IndexMap.{keys}
+use Rattle.symbols65.proofs.Growing.{begun, definitions_stay, final_more, numbered_more, scopes_stay}
+use Rattle.symbols65.proofs.table.symbols.Symbols.number.Goals as goal
+
+pub invariant_of-self : goal.invariant_of-self
+invariant_of-self c =
+    let t = c.args.self.now in
+    let ws = words_of t in
+    let es = t.definitions.entries in
+    let ss = t.scopes.entries in
+    let new = map (λ k. k.items) c.intern.new.words.keys in
+    let more = c.intern.ensures.more in
+    record {
+      entries_numbered = begun (λ l. AreNumbered word_of l (keys t.definitions)) ws new more (λ m. numbered_more ws m word_of (keys t.definitions) t.entries_numbered);
+      counts_fit = t.counts_fit;
+      openings_numbered = begun (λ l. AreNumbered word_opened l (keys t.scopes)) ws new more (λ m. numbered_more ws m word_opened (keys t.scopes) t.openings_numbered);
+      openings_distinct = t.openings_distinct;
+      forms_final = begun (λ l. AreFinal l es ss) ws new more (λ m. final_more ws m es ss t.entries_numbered t.openings_numbered t.forms_final);
+    }
+
+pub returns-clause-table : goal.returns-clause-table
+returns-clause-table c =
+    let t = c.args.self.now in
+    let ws = words_of t in
+    let es = t.definitions.entries in
+    let ss = t.scopes.entries in
+    let new = map (λ k. k.items) c.intern.new.words.keys in
+    let more = c.intern.ensures.more in
+    let imports = map (λ k. k.items) t.imports.keys in
+    let zero_page = map (λ k. k.items) t.zero_page.keys in
+    ap (λ ds. record { definitions = ds; scopes = map (scope_opened new) ss; imports = imports; zero_page = zero_page }) (begun (λ l. map (definition_in l) es ≡ map (definition_in ws) es) ws new more (λ m. definitions_stay ws m es t.entries_numbered))
+    ∙ ap (λ cs. record { definitions = map (definition_in ws) es; scopes = cs; imports = imports; zero_page = zero_page }) (begun (λ l. map (scope_opened l) ss ≡ map (scope_opened ws) ss) ws new more (λ m. scopes_stay ws m ss t.openings_numbered))

@@ -1,0 +1,26 @@
+use Rattle.std.proofs.Common.{Bool, List, ◌≡◌, sym, subst}
+use Rattle.std.specs.Map.{keys_of}
+use Rattle.symbols65.specs.declared.table.entries.Opening.{Opening}
+use Rattle.symbols65.specs.Tables.{AreDistinct, AreFinal, AreNumbered, word_opened}
+use Rattle.symbols65.specs.Views.{words_of}
+use Rattle.symbols65.proofs.Growing.{after, distinct_pushed, final_scoped, numbered_pushed}
+use Rattle.symbols65.proofs.table.symbols.Symbols.put_scope.Goals as goal
+
+pub invariant_of-self : goal.invariant_of-self
+invariant_of-self c =
+    let t = c.args.self.now in
+    let ws = words_of t in
+    let es = t.definitions.entries in
+    let ss = t.scopes.entries in
+    let Numbered : List (Opening × Bool) → Type 0 = λ l. AreNumbered word_opened ws (keys_of l) in
+    let Distinct : List (Opening × Bool) → Type 0 = λ l. AreDistinct (keys_of l) in
+    let Final : List (Opening × Bool) → Type 0 = λ l. AreFinal ws es l in
+    let pushed = c.push_scope.ensures.pushed in
+    let unchanged = c.push_scope.ensures.unchanged in
+    record {
+      entries_numbered = t.entries_numbered;
+      counts_fit = t.counts_fit;
+      openings_numbered = after c.push_scope.result (λ e. subst Numbered (sym e) (numbered_pushed word_opened ws ss c.args.opening c.args.is_proc t.openings_numbered c.requires.number)) (λ e. subst Numbered (sym e) t.openings_numbered) pushed unchanged;
+      openings_distinct = after c.push_scope.result (λ e. subst Distinct (sym e) (distinct_pushed ss c.args.opening c.args.is_proc t.openings_distinct c.requires.distinct)) (λ e. subst Distinct (sym e) t.openings_distinct) pushed unchanged;
+      forms_final = after c.push_scope.result (λ e. subst Final (sym e) (final_scoped ws es ss (c.args.opening, c.args.is_proc) t.forms_final)) (λ e. subst Final (sym e) t.forms_final) pushed unchanged;
+    }

@@ -1,0 +1,132 @@
+-- What the parts of a table in memory stand for.
+use Rattle.std.specs.Prelude.{◌≡◌, ◌<◌, ◌^◌, ℕ, List, [], ◌++◌, map, get_or, slice_get, Bool, false, Option, Some, None, option_map, position, ◌==◌, ◌&&◌}
+use Rattle.std.specs.Coded.{Coded-set, coded_option}
+use Rattle.std.specs.Map.{keys_of}
+use Rattle.std.specs.Str.{bytes_eq}
+use Rattle.syntax65.specs.Trees.{tree_of}
+use Rattle.object65.specs.Form.{Form, form_code}
+use Rattle.language65.specs.Symbols as l
+use Rattle.language65.specs.Symbols.{Scope, named, cheap_in, unnamed_at}
+use Rattle.language65.specs.Views.{spot_of}
+use Rattle.symbols65.specs.declared.table.entries.Key as code
+use Rattle.symbols65.specs.declared.table.entries.Key.TheVariants as key
+use Rattle.symbols65.specs.declared.table.entries.Entry.{Entry}
+use Rattle.symbols65.specs.declared.table.entries.Entry.TheVariants as entry
+use Rattle.symbols65.specs.declared.table.entries.Opening.{Opening}
+use Rattle.symbols65.specs.declared.table.entries.Opening.TheVariants as opening
+use Rattle.symbols65.specs.declared.table.definition.Definition.{Definition}
+use Rattle.symbols65.specs.Finals.{DefinesFinally}
+
+abbrev pub key_of : code.Key → l.Key
+key_of (key.Named scope name) = named scope name.now
+key_of (key.Cheap region name) = cheap_in region name.now
+key_of (key.Unnamed count) = unnamed_at count
+
+-- ---- Words.
+
+abbrev pub word_at : List (List ℕ) → ℕ → List ℕ
+word_at ws w = get_or ws w []
+
+-- the first number of the word that has a number
+abbrev pub first_number : List (List ℕ) → Option ℕ → Option ℕ
+first_number ws None = None
+first_number ws (Some w) = position (bytes_eq (word_at ws w)) ws
+
+abbrev pub word_of : Entry → Option ℕ
+word_of (entry.Named scope w) = Some w
+word_of (entry.Cheap region w) = Some w
+word_of (entry.Unnamed count) = None
+
+abbrev pub word_opened : Opening → Option ℕ
+word_opened (opening.Named within w) = Some w
+word_opened (opening.Nameless within number) = None
+
+-- each that has a word has its first number
+abbrev pub AreNumbered : {K : Type 0} → (K → Option ℕ) → List (List ℕ) → List K → Type 0
+AreNumbered {K} word ws ks = (i : ℕ) (k : K) → slice_get ks i ≡ Some k → first_number ws (word k) ≡ word k
+
+-- a scope without a name has its place as its number
+abbrev pub AreDistinct : List Opening → Type 0
+AreDistinct ks = (i within number : ℕ) → slice_get ks i ≡ Some (opening.Nameless within number) → number ≡ i
+
+-- the count of an unnamed label is a machine's number
+abbrev pub IsCounted : Entry → Type 0
+IsCounted k = (count : ℕ) → k ≡ entry.Unnamed count → count < 2 ^ 64
+
+abbrev pub AreCounted : List Entry → Type 0
+AreCounted ks = (i : ℕ) (k : Entry) → slice_get ks i ≡ Some k → IsCounted k
+
+-- the opening has this number if it has no name
+abbrev pub HasNumber : ℕ → Opening → Type 0
+HasNumber i k = (within number : ℕ) → k ≡ opening.Nameless within number → number ≡ i
+
+-- the second list begins with the first
+abbrev pub Begins : {A : Type 0} → List A → List A → Type 0
+Begins {A} xs ys = (later : List A) × (ys ≡ xs ++ later)
+
+-- the opening of a scope, perhaps of a name
+abbrev pub IsOpening : List (List ℕ) → ℕ → ℕ → Option (List ℕ) → Opening → Type 0
+IsOpening ws count within None k = k ≡ opening.Nameless within count
+IsOpening ws count within (Some n) k = option_map (opening.Named within) (position (bytes_eq n) ws) ≡ Some k
+
+-- ---- Definitions and scopes.
+
+abbrev pub key_in : List (List ℕ) → Entry → l.Key
+key_in ws (entry.Named scope w) = named scope (word_at ws w)
+key_in ws (entry.Cheap region w) = cheap_in region (word_at ws w)
+key_in ws (entry.Unnamed count) = unnamed_at count
+
+abbrev pub definition_seen : l.Key → Definition → l.Definition
+definition_seen k d = record { key = k; value = option_map tree_of d.value; spot = spot_of d.spot; size = d.size }
+
+abbrev pub definition_in : List (List ℕ) → Entry × Definition → l.Definition
+definition_in ws e = definition_seen (key_in ws e.0) e.1
+
+abbrev pub scope_by : List (List ℕ) → Opening → Bool → Scope
+scope_by ws (opening.Named within w) is_proc = record { within = within; name = Some (word_at ws w); is_proc = is_proc }
+scope_by ws (opening.Nameless within number) is_proc = record { within = within; name = None; is_proc = is_proc }
+
+abbrev pub scope_opened : List (List ℕ) → Opening × Bool → Scope
+scope_opened ws s = scope_by ws s.0 s.1
+
+-- the table of these parts, but for imports
+abbrev pub table_without_imports : List (List ℕ) → List (Entry × Definition) → List (Opening × Bool) → l.Symbols
+table_without_imports ws es ss = record { definitions = map (definition_in ws) es; scopes = map (scope_opened ws) ss; imports = []; zero_page = [] }
+
+-- the form that is kept with what is defined at a place is final
+abbrev pub KeepsFinal : l.Symbols → ℕ → l.Definition → Option Form → Type 0
+KeepsFinal y j d kept = (f : Form) → kept ≡ Some f → DefinesFinally y j d f
+
+-- each form that is kept is final
+abbrev pub AreFinal : List (List ℕ) → List (Entry × Definition) → List (Opening × Bool) → Type 0
+AreFinal ws es ss = (j : ℕ) (e : Entry × Definition) → slice_get es j ≡ Some e → KeepsFinal (table_without_imports ws es ss) j (definition_in ws e) e.1.form
+
+pub AreFinal-prop : (ws : List (List ℕ)) (es : List (Entry × Definition)) (ss : List (Opening × Bool)) → IsProp (AreFinal ws es ss)
+AreFinal-prop ws es ss = λ p q i j e at f is z more. Coded-set (coded_option form_code) _ _ (p j e at f is z more) (q j e at f is z more) i
+
+-- ---- How keys are looked up.
+
+abbrev pub same_entry : Entry → Entry → Bool
+same_entry (entry.Named s w) (entry.Named t v) = s == t && w == v
+same_entry (entry.Cheap s w) (entry.Cheap t v) = s == t && w == v
+same_entry (entry.Unnamed c) (entry.Unnamed d) = c == d
+same_entry _ _ = false
+
+abbrev pub same_opening : Opening → Opening → Bool
+same_opening (opening.Named s w) (opening.Named t v) = s == t && w == v
+same_opening (opening.Nameless s w) (opening.Nameless t v) = s == t && w == v
+same_opening _ _ = false
+
+-- the entry of a key, where its name is a word
+abbrev pub entry_of : List (List ℕ) → l.Key → Option Entry
+entry_of ws (named scope n) = option_map (entry.Named scope) (position (bytes_eq n) ws)
+entry_of ws (cheap_in region n) = option_map (entry.Cheap region) (position (bytes_eq n) ws)
+entry_of ws (unnamed_at count) = Some (entry.Unnamed count)
+
+abbrev pub place_of_entry : List (Entry × Definition) → Option Entry → Option ℕ
+place_of_entry es None = None
+place_of_entry es (Some k) = position (same_entry k) (keys_of es)
+
+abbrev pub place_of_opening : List (Opening × Bool) → Option Opening → Option ℕ
+place_of_opening ss None = None
+place_of_opening ss (Some k) = position (same_opening k) (keys_of ss)

@@ -1,0 +1,65 @@
+//! Normal forms by those that are final, and else by a search.
+
+ghost use Rattle.std.specs.Prelude.{◌≡◌};
+ghost use Rattle.syntax65.specs.Outcome.{Finds, Gives};
+ghost use Rattle.syntax65.specs.Trees.{tree_of};
+ghost use Rattle.language65.specs.Faults.{is_memory};
+ghost use Rattle.language65.specs.Norms.{defined_form, norm_of};
+ghost use Rattle.language65.specs.Views.{spot_of};
+ghost use Rattle.symbols65.specs.Resolving.{IsTable};
+ghost use Rattle.symbols65.specs.Settling.{Settles};
+ghost use Rattle.symbols65.specs.Views.{table_of};
+
+use super::attempt::{Source, Stop, address, try_norm};
+use super::known::Known;
+use crate::table::Symbols;
+use language65::{AsmFault, Spot};
+use object65::Norm;
+use std::alloc::Global;
+use syntax65::Expr;
+
+/// The normal form of an expression where the forms of what its operands mean now are final.
+pub fn settled(alloc: Global, symbols: &Symbols, spot: Spot, value: &Expr) -> Result<Norm, Stop>
+    ensures { Settles (norm_of (table_of symbols.now) (spot_of spot) (tree_of value.now)) result }
+{
+    try_norm(alloc, symbols, Source::Finals, spot, value)
+}
+
+/// The normal form of an expression. After a fault the table of forms is one still.
+pub fn norm(
+    alloc: Global,
+    symbols: &Symbols,
+    known: &mut Known,
+    spot: Spot,
+    value: &Expr,
+) -> Result<Norm, AsmFault>
+    requires { IsTable (table_of symbols.now) known.old.states.items }
+    ensures form { Gives is_memory (λ f. f) result (norm_of (table_of symbols.now) (spot_of spot) (tree_of value.now)) }
+    ensures table { Finds is_memory (λ _. IsTable (table_of symbols.now) known.new.states.items) result }
+{
+    match settled(alloc, symbols, spot, value) {
+        Ok(form) => Ok(form),
+        Err(Stop::Fault(fault)) => Err(fault),
+        Err(Stop::Needs(_)) => known.find(alloc, symbols, spot, value),
+    }
+}
+
+/// The normal form of what is defined at a place.
+pub fn defined_norm(
+    alloc: Global,
+    symbols: &Symbols,
+    known: &mut Known,
+    place: usize,
+) -> Result<Norm, AsmFault>
+    requires { IsTable (table_of symbols.now) known.old.states.items }
+    ensures form { Gives is_memory (λ f. f) result (defined_form (table_of symbols.now) place) }
+    ensures table { Finds is_memory (λ _. IsTable (table_of symbols.now) known.new.states.items) result }
+{
+    match symbols.definition(place) {
+        None => Err(AsmFault::NoSuchLabel),
+        Some(definition) => match &definition.value {
+            None => Ok(address(definition.spot)),
+            Some(value) => norm(alloc, symbols, known, definition.spot, value),
+        },
+    }
+}

@@ -1,0 +1,16 @@
+//! What a key stands for.
+
+use language65::Spot;
+use object65::Norm;
+use syntax65::{AddressSize, Expr};
+
+/// What a key stands for.
+#[derive(Debug, Drop)]
+pub struct Definition {
+    /// The expression of a constant; what has none is the address of where it stands.
+    pub value: Option<Expr>,
+    pub spot: Spot,
+    pub size: AddressSize,
+    /// The form of a constant, where it is final: where it stays whatever statements follow.
+    pub form: Option<Norm>,
+}

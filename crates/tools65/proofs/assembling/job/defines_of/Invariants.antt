@@ -1,0 +1,8 @@
+use Rattle.std.proofs.Common.{◌≡◌, map, take}
+use Rattle.asm65.specs.Assembly.{define_of}
+use Rattle.line65.specs.Defining.{defining}
+use Rattle.tools65.specs.Assembling.{define_in}
+use Rattle.tools65.proofs.assembling.job.defines_of.Given as goal
+
+abbrev pub invariant-loop-define : goal.invariant-loop-define
+invariant-loop-define l = map define_of l.found.items ≡ map define_in (map defining (take l.define-index l.defines))

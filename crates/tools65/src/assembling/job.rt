@@ -1,0 +1,36 @@
+//! What an assemble line has assembled.
+
+ghost use Rattle.std.specs.Prelude.{◌≡◌, IfOk, map};
+ghost use Rattle.asm65.specs.Assembly.{define_of};
+ghost use Rattle.line65.specs.Defining.{defining};
+ghost use Rattle.tools65.specs.Assembling.{define_in};
+
+use asm65::Define;
+use line65::Define as Given;
+use std::alloc::{AllocError, Global};
+use syntax65::Text;
+
+/// The folders of a line.
+pub fn folders_of(alloc: Global, include: &[&str]) -> Result<Vec<Text>, AllocError>
+    ensures { IfOk result (λ folders. folders.items ≡ map (λ s. s.now) include.now) }
+{
+    let mut folders = Vec::new(alloc);
+    for folder in include {
+        folders.push(Text::copy_of(alloc, folder)?)?;
+    }
+    Ok(folders)
+}
+
+/// The constants of a line.
+pub fn defines_of<'a>(alloc: Global, defines: &[Given<'a>]) -> Result<Vec<Define<'a>>, AllocError>
+    ensures { IfOk result (λ ds. map define_of ds.items ≡ map define_in (map defining defines.now)) }
+{
+    let mut found = Vec::new(alloc);
+    for define in defines {
+        found.push(Define {
+            name: define.name,
+            value: define.value,
+        })?;
+    }
+    Ok(found)
+}

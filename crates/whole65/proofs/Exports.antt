@@ -1,0 +1,219 @@
+-- The exports of sources and of their objects.
+use Rattle.std.proofs.Common.{◌≡◌, ℕ, zero, suc, Bool, true, false, cond, List, [], ◌∷◌, ◌++◌, length, map, filter, Option, Some, None, Result, Ok, Err, refl, sym, ◌∙◌, ap, subst}
+use Rattle.std.specs.Prelude.{⊤, is_some, pos, negsuc, ◌||◌}
+use Rattle.std.specs.List.{AllByRecursion, flat_map, list_any}
+use Rattle.std.specs.Str.{bytes_eq}
+use Rattle.std.proofs.lemmas.List.{append-nil, append_assoc, map-append}
+use Rattle.std.proofs.lemmas.List.Elements.{filter-append}
+use Rattle.std.proofs.lemmas.Grind.{flat_map-append}
+use Rattle.syntax65.specs.Outcome.{◌>>=◌, each}
+use Rattle.object65.specs.Form.{Form, lit, sec, imp, prefix, binary}
+use Rattle.object65.specs.declared.object.Action.{Action}
+use Rattle.object65.specs.declared.object.Action.TheVariants as action
+use Rattle.object65.specs.declared.object.Export.{Export}
+use Rattle.object65.specs.declared.object.Object.{Object}
+use Rattle.language65.specs.declared.contents.Content.{Content}
+use Rattle.language65.specs.declared.contents.Said.{Said}
+use Rattle.language65.specs.declared.contents.Said.TheVariants.{Exported, Demanded, Checked}
+use Rattle.language65.specs.declared.fault.AsmFault.{AsmFault}
+use Rattle.language65.specs.declared.fault.AsmFault.TheVariants.{ImportedAndDefined, NotDefined}
+use Rattle.language65.specs.Contents.{content_of, decided, each_of, export_said, import_fault, said_of}
+use Rattle.language65.specs.Laid.{Laid}
+use Rattle.language65.specs.Language.{Stated, constant, imports, exports, globals, forced, assertion}
+use Rattle.language65.specs.Layout.{Layout}
+use Rattle.language65.specs.Norms.{defined_form, norm_of}
+use Rattle.language65.specs.Numbering.{all_said, exports_among, import_keys, numbered, section_keys}
+use Rattle.language65.specs.Symbols.{Symbols, defined, named, with_new}
+use Rattle.linkage65.specs.Givers.{export_names}
+use Rattle.linkage65.specs.Modules.{Module}
+use Rattle.linkage65.specs.Programs as linked
+use Rattle.linkage65.specs.Programs.{Program, no_program, program_of, with_module, with_modules}
+use Rattle.linkage65.specs.declared.parts.Exported as parts
+use Rattle.module65.proofs.SoundForms.{all_append}
+use Rattle.module65.specs.Module.{contents_from}
+use Rattle.module65.specs.Places.{PlacedFault, at_place}
+use Rattle.whole65.proofs.Later.{bind_ok}
+use Rattle.whole65.proofs.SectionBytes.{content_is, placed_ok}
+use Rattle.whole65.proofs.Sources.{contents_of}
+use Rattle.whole65.specs.Laws.{ExportNamesLaw}
+use Rattle.whole65.specs.Modules.{exported_by, exports_of, table_of}
+use Rattle.whole65.specs.Sources.{AreSources, IsSource}
+
+-- ---- What is said of names.
+
+abbrev pub exported_name : Said → List (List ℕ)
+exported_name (Exported n line f) = n ∷ []
+exported_name (Demanded n) = []
+exported_name (Checked act line words f) = []
+
+abbrev pub exported_names : List Said → List (List ℕ)
+exported_names ss = flat_map exported_name ss
+
+-- an export has the form of the definition of its name
+abbrev pub IsDefined : Symbols → Said → Type 0
+IsDefined z (Exported n line f) = (j : ℕ) × (defined z (named 0 n) ≡ Some j) × (defined_form z j ≡ Ok f)
+IsDefined z (Demanded n) = ⊤
+IsDefined z (Checked act line words f) = ⊤
+
+abbrev pub has_definition : Symbols → List ℕ → Bool
+has_definition z n = is_some (defined z (named 0 n))
+
+pub record Says (z : Symbols) (names : List (List ℕ)) (ss : List Said) : Type 0 where
+  pub exported : exported_names ss ≡ names
+  pub are_defined : AllByRecursion (IsDefined z) ss
+
+says_nothing : (z : Symbols) (ss : List Said) → ◌≡◌ {A = Result (List Said) AsmFault} (Ok []) (Ok ss) → Says z [] ss
+says_nothing z ss e = let same : [] ≡ ss = cc in subst (Says z []) same (record { exported = refl; are_defined = tt })
+
+says_both : (z : Symbols) (ns ms : List (List ℕ)) (ss rs : List Said) → Says z ns ss → Says z ms rs → Says z (ns ++ ms) (ss ++ rs)
+says_both z ns ms ss rs h k = record {
+  exported = flat_map-append exported_name ss rs ∙ ap (λ x. x ++ exported_names rs) h.exported ∙ ap (λ x. ns ++ x) k.exported;
+  are_defined = all_append (IsDefined z) ss rs h.are_defined k.are_defined;
+}
+
+each_says : (z : Symbols) (f : List ℕ → Result (List Said) AsmFault) (keep : List ℕ → List (List ℕ)) → ((n : List ℕ) (ss : List Said) → f n ≡ Ok ss → Says z (keep n) ss) → (ns : List (List ℕ)) (yss : List (List Said)) → each f ns ≡ Ok yss → Says z (flat_map keep ns) (flat_map (λ ys. ys) yss)
+each_says z f keep h [] yss e = let same : [] ≡ yss = cc in subst (λ k. Says z [] (flat_map (λ ys. ys) k)) same (record { exported = refl; are_defined = tt })
+each_says z f keep h (n ∷ ns) yss e =
+    let (ss, first, others) = bind_ok (f n) (λ y. each f ns >>= (λ ys. Ok (y ∷ ys))) yss e in
+    let (rest, more, last) = bind_ok (each f ns) (λ ys. Ok (ss ∷ ys)) yss others in
+    let same : ss ∷ rest ≡ yss = cc last in
+    subst (λ k. Says z (flat_map keep (n ∷ ns)) (flat_map (λ ys. ys) k)) same (says_both z (keep n) (flat_map keep ns) ss (flat_map (λ ys. ys) rest) (h n ss first) (each_says z f keep h ns rest more))
+
+all_says : (z : Symbols) (f : List ℕ → Result (List Said) AsmFault) (keep : List ℕ → List (List ℕ)) → ((n : List ℕ) (ss : List Said) → f n ≡ Ok ss → Says z (keep n) ss) → (ns : List (List ℕ)) (ss : List Said) → each_of f ns ≡ Ok ss → Says z (flat_map keep ns) ss
+all_says z f keep h ns ss e =
+    let (yss, first, last) = bind_ok (each f ns) (λ yss. Ok (flat_map (λ ys. ys) yss)) ss e in
+    let same : flat_map (λ ys. ys) yss ≡ ss = cc last in
+    subst (Says z (flat_map keep ns)) same (each_says z f keep h ns yss first)
+
+abbrev nothing_kept : List ℕ → List (List ℕ)
+nothing_kept n = []
+
+none_kept : (ns : List (List ℕ)) → flat_map nothing_kept ns ≡ []
+none_kept [] = refl
+none_kept (n ∷ ns) = none_kept ns
+
+kept_one : (q : List ℕ → Bool) (ns : List (List ℕ)) → flat_map (λ n. filter q (n ∷ [])) ns ≡ filter q ns
+kept_one q [] = refl
+kept_one q (n ∷ ns) = go (q n) (kept_one q ns)
+  where
+    go : (b : Bool) → flat_map (λ n. filter q (n ∷ [])) ns ≡ filter q ns → cond b (n ∷ []) [] ++ flat_map (λ n. filter q (n ∷ [])) ns ≡ cond b (n ∷ filter q ns) (filter q ns)
+    go true h = ap (λ z. n ∷ z) h
+    go false h = h
+
+import_says : (z : Symbols) (n : List ℕ) (ss : List Said) → import_fault z n ≡ Ok ss → Says z [] ss
+import_says z n ss h = by (defined z (named 0 n)) refl
+  where
+    by : (o : Option ℕ) → defined z (named 0 n) ≡ o → Says z [] ss
+    by None e = says_nothing z ss (rw e at h)
+    by (Some j) e = (let never : ◌≡◌ {A = Result (List Said) AsmFault} (Err (ImportedAndDefined n)) (Ok ss) = rw e at h in absurd cc)
+
+-- where no definition is there, nothing is said
+export_says : (z : Symbols) (line : ℕ) (n : List ℕ) (absent : Result (List Said) AsmFault) → ((ss : List Said) → absent ≡ Ok ss → ss ≡ []) → (ss : List Said) → export_said z line n absent (defined z (named 0 n)) ≡ Ok ss → Says z (filter (has_definition z) (n ∷ [])) ss
+export_says z line n absent nothing ss h = by (defined z (named 0 n)) refl h
+  where
+    kept : (b : Bool) → has_definition z n ≡ b → cond b (n ∷ []) [] ≡ filter (has_definition z) (n ∷ [])
+    kept b e = ap (λ b. cond b (n ∷ []) []) (sym e)
+
+    by : (o : Option ℕ) → defined z (named 0 n) ≡ o → export_said z line n absent o ≡ Ok ss → Says z (filter (has_definition z) (n ∷ [])) ss
+    by None e h =
+        let same : ss ≡ [] = nothing ss h in
+        subst (λ k. Says z k ss) (kept false (ap is_some e)) (subst (Says z []) (sym same) (record { exported = refl; are_defined = tt }))
+    by (Some j) e h =
+        let (f, first, last) = bind_ok (defined_form z j) (λ f. Ok (Exported n line f ∷ [])) ss h in
+        let same : Exported n line f ∷ [] ≡ ss = cc last in
+        subst (λ k. Says z k ss) (kept true (ap is_some e)) (subst (Says z (n ∷ [])) same (record { exported = refl; are_defined = ((j, e, first), tt) }))
+
+decided_says : (z : Symbols) (act : Action) (line : ℕ) (words : List ℕ) (f : Form) (ss : List Said) → decided act line words f ≡ Ok ss → Says z [] ss
+decided_says z act line words f ss h = by act f h
+  where
+    checked : (act : Action) (f : Form) → ◌≡◌ {A = Result (List Said) AsmFault} (Ok (Checked act line words f ∷ [])) (Ok ss) → Says z [] ss
+    checked act f e = let same : Checked act line words f ∷ [] ≡ ss = cc in subst (Says z []) same (record { exported = refl; are_defined = (tt, tt) })
+
+    by : (act : Action) (f : Form) → decided act line words f ≡ Ok ss → Says z [] ss
+    by action.Error (lit (pos zero)) h = absurd cc
+    by action.Error (lit (pos (suc n))) h = says_nothing z ss h
+    by action.Error (lit (negsuc n)) h = says_nothing z ss h
+    by action.Warning (lit v) h = says_nothing z ss h
+    by action.Error (sec k a) h = checked action.Error (sec k a) h
+    by action.Warning (sec k a) h = checked action.Warning (sec k a) h
+    by action.Error (imp k) h = checked action.Error (imp k) h
+    by action.Warning (imp k) h = checked action.Warning (imp k) h
+    by action.Error (prefix op f) h = checked action.Error (prefix op f) h
+    by action.Warning (prefix op f) h = checked action.Warning (prefix op f) h
+    by action.Error (binary op f g) h = checked action.Error (binary op f g) h
+    by action.Warning (binary op f g) h = checked action.Warning (binary op f g) h
+
+demanded_says : (z : Symbols) (ns : List (List ℕ)) → Says z [] (map Demanded ns)
+demanded_says z [] = record { exported = refl; are_defined = tt }
+demanded_says z (n ∷ ns) = let h = demanded_says z ns in record { exported = h.exported; are_defined = (tt, h.are_defined) }
+
+one_says : (z : Symbols) (l : Laid) (ss : List Said) → said_of z l ≡ Ok ss → Says z (filter (has_definition z) (exported_by l.stated)) ss
+one_says z l ss h = go l.stated h
+  where
+    go : (x : Stated) → said_of z (record l { stated = x }) ≡ Ok ss → Says z (filter (has_definition z) (exported_by x)) ss
+    go (constant n e) h = (let (f, first, last) = bind_ok (norm_of z l.spot e) (λ f. Ok []) ss h in says_nothing z ss last)
+    go (imports size names) h = subst (λ k. Says z k ss) (none_kept names) (all_says z (import_fault z) nothing_kept (import_says z) names ss h)
+    go (exports names) h = subst (λ k. Says z k ss) (kept_one (has_definition z) names) (all_says z (λ n. export_said z l.place.line n (Err (NotDefined n)) (defined z (named 0 n))) (λ n. filter (has_definition z) (n ∷ [])) (λ n rs e. export_says z l.place.line n (Err (NotDefined n)) (λ qs k. absurd cc) rs e) names ss h)
+    go (globals size names) h = subst (λ k. Says z k ss) (kept_one (has_definition z) names) (all_says z (λ n. export_said z l.place.line n (Ok []) (defined z (named 0 n))) (λ n. filter (has_definition z) (n ∷ [])) (λ n rs e. export_says z l.place.line n (Ok []) (λ qs k. cc) rs e) names ss h)
+    go (forced names) h =
+        let (none, first, last) = bind_ok (each_of (import_fault z) names) (λ none. Ok (map Demanded names)) ss h in
+        let same : map Demanded names ≡ ss = cc last in
+        subst (Says z []) same (demanded_says z names)
+    go (assertion e act words) h = (let (f, first, last) = bind_ok (norm_of z l.spot e) (decided act l.place.line words) ss h in decided_says z act l.place.line words f ss last)
+    go x h = says_nothing z ss h
+
+pub said_all : (z : Symbols) (ls : List Laid) (cs : List Content) → contents_from z ls ≡ Ok cs → Says z (filter (has_definition z) (flat_map (λ l. exported_by l.stated) ls)) (all_said cs)
+said_all z [] cs e = let same : [] ≡ cs = cc in subst (λ k. Says z [] (all_said k)) same (record { exported = refl; are_defined = tt })
+said_all z (l ∷ ls) cs e =
+    let found : Laid → Result Content PlacedFault = λ l. at_place l.place (content_of z l) in
+    let (c, first, others) = bind_ok (found l) (λ y. each found ls >>= (λ ys. Ok (y ∷ ys))) cs e in
+    let (ds, more, last) = bind_ok (each found ls) (λ ys. Ok (c ∷ ys)) cs others in
+    let same : c ∷ ds ≡ cs = cc last in
+    let content = content_is z l c (placed_ok l.place (content_of z l) c first) in
+    subst (λ k. Says z (filter (has_definition z) (flat_map (λ l. exported_by l.stated) (l ∷ ls))) (all_said k)) same
+    (subst (λ k. Says z k (all_said (c ∷ ds))) (sym (filter-append (has_definition z) (exported_by l.stated) (flat_map (λ l. exported_by l.stated) ls)))
+    (says_both z (filter (has_definition z) (exported_by l.stated)) (filter (has_definition z) (flat_map (λ l. exported_by l.stated) ls)) c.said (all_said ds) (one_says z l c.said content.said) (said_all z ls ds more)))
+
+-- ---- Exports, each once.
+
+among_names : (n : List ℕ) (found : List Export) → list_any (λ e. bytes_eq n e.name) found ≡ list_any (λ k. bytes_eq n k) (map (λ (e : Export). e.name) found)
+among_names n [] = refl
+among_names n (e ∷ found) = ap (λ b. bytes_eq n e.name || b) (among_names n found)
+
+names_among : (sections numbers : List ℕ) (ss : List Said) (found : List Export) → map (λ (e : Export). e.name) (exports_among sections numbers found ss) ≡ with_new (map (λ (e : Export). e.name) found) (exported_names ss)
+names_among sections numbers [] found = refl
+names_among sections numbers (Exported n line f ∷ ss) found =
+    names_among sections numbers ss (cond (list_any (λ e. bytes_eq n e.name) found) found (found ++ record { name = n; line = line; form = numbered sections numbers f } ∷ []))
+    ∙ ap (λ z. with_new z (exported_names ss)) (go (list_any (λ e. bytes_eq n e.name) found) ∙ ap (λ b. cond b (map (λ (e : Export). e.name) found) (map (λ (e : Export). e.name) found ++ n ∷ [])) (among_names n found))
+  where
+    go : (b : Bool) → map (λ (e : Export). e.name) (cond b found (found ++ record { name = n; line = line; form = numbered sections numbers f } ∷ [])) ≡ cond b (map (λ (e : Export). e.name) found) (map (λ (e : Export). e.name) found ++ n ∷ [])
+    go true = refl
+    go false = map-append (λ (e : Export). e.name) found (record { name = n; line = line; form = numbered sections numbers f } ∷ [])
+names_among sections numbers (Demanded n ∷ ss) found = names_among sections numbers ss found
+names_among sections numbers (Checked act line words f ∷ ss) found = names_among sections numbers ss found
+
+pub source_exports : (y : Layout) (m : Module) → IsSource y m → map (λ (e : Export). e.name) m.object.exports ≡ exports_of y
+source_exports y m h =
+    let c = contents_of y m h in
+    let cs : List Content = c.contents in
+    ap (λ (o : Object). map (λ (e : Export). e.name) o.exports) c.object
+    ∙ names_among (section_keys cs) (import_keys (table_of y).imports cs) (all_said cs) []
+    ∙ ap (with_new []) (said_all (table_of y) y.laid cs c.found).exported
+
+-- ---- Module by module.
+
+names_exported : (owner : ℕ) (es : List Export) → map (λ (e : parts.Exported). e.name) (map (linked.exported owner) es) ≡ map (λ (e : Export). e.name) es
+names_exported owner [] = refl
+names_exported owner (e ∷ es) = ap (λ z. e.name ∷ z) (names_exported owner es)
+
+all_exports : (p : Program) (ys : List Layout) (ms : List Module) → AreSources ys ms → export_names (with_modules p ms) ≡ export_names p ++ flat_map exports_of ys
+all_exports p [] [] h = sym (append-nil (export_names p))
+all_exports p [] (m ∷ ms) h = absurd h
+all_exports p (y ∷ ys) [] h = absurd h
+all_exports p (y ∷ ys) (m ∷ ms) h =
+    all_exports (with_module p m) ys ms h.1
+    ∙ ap (λ z. z ++ flat_map exports_of ys) (map-append (λ (e : parts.Exported). e.name) p.exports (map (linked.exported (length p.members)) m.object.exports) ∙ ap (λ z. export_names p ++ z) (names_exported (length p.members) m.object.exports ∙ source_exports y m h.0))
+    ∙ append_assoc (export_names p) (exports_of y) (flat_map exports_of ys)
+
+pub export_names_law : ExportNamesLaw
+export_names_law ys ms h = all_exports no_program ys ms h

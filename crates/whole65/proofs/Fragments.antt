@@ -1,0 +1,139 @@
+-- Fragments and the parts of which they are joined.
+use Rattle.std.proofs.Common.{◌≡◌, ℕ, zero, suc, ◌+◌, Bool, true, false, cond, List, [], ◌∷◌, ◌++◌, map, filter, Result, Ok, refl, sym, ◌∙◌, ap, subst, arith}
+use Rattle.std.specs.Prelude.{ℤ, ◌↔◌, replicate, not}
+use Rattle.std.proofs.lemmas.List.{append_assoc}
+use Rattle.syntax65.specs.Outcome.{◌>>=◌}
+use Rattle.syntax65.specs.Values.{value1, value2}
+use Rattle.object65.specs.Form.{Form, lit, sec, imp, prefix, binary}
+use Rattle.object65.specs.FormValue.{or_none, value_in}
+use Rattle.object65.specs.declared.object.Fragment.{Fragment}
+use Rattle.object65.specs.declared.object.Fragment.TheVariants.{Literal, Fill, Value}
+use Rattle.language65.specs.declared.contents.Part.{Part}
+use Rattle.language65.specs.declared.contents.Part.TheVariants.{Known, Filled, Waiting}
+use Rattle.language65.specs.Numbering.{all_joined, fragment_of, fragments_of, is_empty, joined, number_of, numbered}
+use Rattle.whole65.specs.Laws.{FragmentsLaw, NumberLaw}
+use Rattle.whole65.specs.Parts.{AreFragments, AreParts, ArePart, IsFragment, Valuing, valued_by}
+
+pub number_law : (E : Type 0) → NumberLaw E
+number_law E none bases values ss is (lit v) = refl
+number_law E none bases values ss is (sec g a) = refl
+number_law E none bases values ss is (imp k) = refl
+number_law E none bases values ss is (prefix op f) = ap (λ r. r >>= (λ a. Ok (value1 op a))) (number_law E none bases values ss is f)
+number_law E none bases values ss is (binary op f g) =
+    ap (λ r. r >>= (λ a. value_in none bases values (numbered ss is g) >>= (λ b. or_none none (value2 op a b)))) (number_law E none bases values ss is f)
+    ∙ ap (λ r. value_in none (λ k. bases (number_of ss k)) (λ k. values (number_of is k)) f >>= (λ a. r >>= (λ b. or_none none (value2 op a b)))) (number_law E none bases values ss is g)
+
+module _ (Has : Valuing) (fill : ℕ) where
+  -- ---- Without numbers.
+  same_part : (ss is : List ℕ) (p : Part) (bytes : List ℕ) → ArePart (λ f v. Has (numbered ss is f) v) fill p bytes ↔ IsFragment Has fill (fragment_of ss is p) bytes
+  same_part ss is (Known own) bytes = (λ h. h, λ h. h)
+  same_part ss is (Filled n) bytes = (λ h. h, λ h. h)
+  same_part ss is (Waiting width number f) bytes = (λ h. h, λ h. h)
+
+  pub same_parts : (ss is : List ℕ) (ps : List Part) (bytes : List ℕ) → AreParts (λ f v. Has (numbered ss is f) v) fill ps bytes ↔ AreFragments Has fill (map (fragment_of ss is) ps) bytes
+  same_parts ss is [] bytes = (λ h. h, λ h. h)
+  same_parts ss is (p ∷ ps) bytes = (
+    λ h. (h.0, h.1, (same_part ss is p h.0).0 h.2, (same_parts ss is ps h.1).0 h.3, h.4),
+    λ h. (h.0, h.1, (same_part ss is p h.0).1 h.2, (same_parts ss is ps h.1).1 h.3, h.4),
+  )
+
+  -- ---- Without the empty ones.
+  no_bytes : (f : Fragment) → is_empty f ≡ true → (IsFragment Has fill f []) × ((bytes : List ℕ) → IsFragment Has fill f bytes → bytes ≡ [])
+  no_bytes (Literal []) e = (refl, λ bytes h. h)
+  no_bytes (Literal (b ∷ bs)) e = cc
+  no_bytes (Fill zero) e = (refl, λ bytes h. h)
+  no_bytes (Fill (suc n)) e = cc
+  no_bytes (Value w n f) e = cc
+
+  abbrev kept : List Fragment → List Fragment
+  kept fs = filter (λ f. not (is_empty f)) fs
+
+  pub all_kept : (fs : List Fragment) (bytes : List ℕ) → AreFragments Has fill fs bytes ↔ AreFragments Has fill (kept fs) bytes
+  all_kept [] bytes = (λ h. h, λ h. h)
+  all_kept (f ∷ fs) bytes = go (is_empty f) refl (all_kept fs)
+    where
+      go : (b : Bool) → is_empty f ≡ b → ((bytes : List ℕ) → AreFragments Has fill fs bytes ↔ AreFragments Has fill (filter (λ g. not (is_empty g)) fs) bytes) → AreFragments Has fill (f ∷ fs) bytes ↔ AreFragments Has fill (cond (not b) (f ∷ filter (λ g. not (is_empty g)) fs) (filter (λ g. not (is_empty g)) fs)) bytes
+      go false e others = (
+        λ h. (h.0, h.1, h.2, (others h.1).0 h.3, h.4),
+        λ h. (h.0, h.1, h.2, (others h.1).1 h.3, h.4),
+      )
+      go true e others =
+          let none = no_bytes f e in (
+            λ h. (let same : bytes ≡ h.1 = h.4 ∙ ap (λ z. z ++ h.1) (none.1 h.0 h.2) in subst (AreFragments Has fill (filter (λ g. not (is_empty g)) fs)) (sym same) ((others h.1).0 h.3)),
+            λ h. ([], bytes, none.0, (others bytes).1 h, refl),
+          )
+
+  -- ---- Joined.
+  more_fill : (m n : ℕ) → replicate (m + n) fill ≡ replicate m fill ++ replicate n fill
+  more_fill zero n = (let same : zero + n ≡ n = omega arith in ap (λ k. replicate k fill) same)
+  more_fill (suc m) n = (let same : suc m + n ≡ suc (m + n) = omega arith in ap (λ k. replicate k fill) same ∙ ap (λ z. fill ∷ z) (more_fill m n))
+
+  both : (f g h : Fragment) (fs : List Fragment) (a b : List ℕ) →
+      ((own : List ℕ) → IsFragment Has fill f own ↔ (own ≡ a)) → ((own : List ℕ) → IsFragment Has fill g own ↔ (own ≡ b)) → ((own : List ℕ) → IsFragment Has fill h own ↔ (own ≡ a ++ b)) →
+      (bytes : List ℕ) → AreFragments Has fill (f ∷ g ∷ fs) bytes ↔ AreFragments Has fill (h ∷ fs) bytes
+  both f g h fs a b is_f is_g is_h bytes = (there, back)
+    where
+      there : AreFragments Has fill (f ∷ g ∷ fs) bytes → AreFragments Has fill (h ∷ fs) bytes
+      there (x, rest, p, (y, more, q, r, e), e') =
+          let first : x ≡ a = (is_f x).0 p in
+          let second : y ≡ b = (is_g y).0 q in
+          let whole : bytes ≡ (a ++ b) ++ more = e' ∙ ap (λ z. x ++ z) e ∙ ap (λ z. z ++ (y ++ more)) first ∙ ap (λ z. a ++ (z ++ more)) second ∙ sym (append_assoc a b more) in
+          (a ++ b, more, (is_h (a ++ b)).1 refl, r, whole)
+
+      back : AreFragments Has fill (h ∷ fs) bytes → AreFragments Has fill (f ∷ g ∷ fs) bytes
+      back (x, more, p, r, e) =
+          let whole : x ≡ a ++ b = (is_h x).0 p in
+          let parts : bytes ≡ a ++ (b ++ more) = e ∙ ap (λ z. z ++ more) whole ∙ append_assoc a b more in
+          (a, b ++ more, (is_f a).1 refl, (b, more, (is_g b).1 refl, r, refl), parts)
+
+  one_more : (f : Fragment) (gs hs : List Fragment) (bytes : List ℕ) → ((rest : List ℕ) → AreFragments Has fill gs rest ↔ AreFragments Has fill hs rest) → AreFragments Has fill (f ∷ gs) bytes ↔ AreFragments Has fill (f ∷ hs) bytes
+  one_more f gs hs bytes same =
+      (λ h. (h.0, h.1, h.2, (same h.1).0 h.3, h.4), λ h. (h.0, h.1, h.2, (same h.1).1 h.3, h.4))
+
+  then : {A B C : Type 0} → A ↔ B → B ↔ C → A ↔ C
+  then p q = (λ a. q.0 (p.0 a), λ c. p.1 (q.1 c))
+
+  all_in_one : (f : Fragment) (fs : List Fragment) (bytes : List ℕ) → AreFragments Has fill (f ∷ fs) bytes ↔ AreFragments Has fill (joined f fs) bytes
+  all_in_one f [] bytes = (λ h. h, λ h. h)
+  all_in_one (Literal a) (Literal b ∷ fs) bytes =
+      then (both (Literal a) (Literal b) (Literal (a ++ b)) fs a b (λ own. (λ h. h, λ h. h)) (λ own. (λ h. h, λ h. h)) (λ own. (λ h. h, λ h. h)) bytes) (all_in_one (Literal (a ++ b)) fs bytes)
+  all_in_one (Fill m) (Fill n ∷ fs) bytes =
+      then (both (Fill m) (Fill n) (Fill (m + n)) fs (replicate m fill) (replicate n fill) (λ own. (λ h. h, λ h. h)) (λ own. (λ h. h, λ h. h)) (λ own. (λ h. h ∙ more_fill m n, λ h. h ∙ sym (more_fill m n))) bytes) (all_in_one (Fill (m + n)) fs bytes)
+  all_in_one (Literal a) (Fill n ∷ fs) bytes = one_more (Literal a) (Fill n ∷ fs) (joined (Fill n) fs) bytes (all_in_one (Fill n) fs)
+  all_in_one (Literal a) (Value w n g ∷ fs) bytes = one_more (Literal a) (Value w n g ∷ fs) (joined (Value w n g) fs) bytes (all_in_one (Value w n g) fs)
+  all_in_one (Fill m) (Literal b ∷ fs) bytes = one_more (Fill m) (Literal b ∷ fs) (joined (Literal b) fs) bytes (all_in_one (Literal b) fs)
+  all_in_one (Fill m) (Value w n g ∷ fs) bytes = one_more (Fill m) (Value w n g ∷ fs) (joined (Value w n g) fs) bytes (all_in_one (Value w n g) fs)
+  all_in_one (Value w n g) (h ∷ fs) bytes = one_more (Value w n g) (h ∷ fs) (joined h fs) bytes (all_in_one h fs)
+
+  pub all_joined_are : (fs : List Fragment) (bytes : List ℕ) → AreFragments Has fill fs bytes ↔ AreFragments Has fill (all_joined fs) bytes
+  all_joined_are [] bytes = (λ h. h, λ h. h)
+  all_joined_are (f ∷ fs) bytes = all_in_one f fs bytes
+
+-- values that are the same make the same bytes
+same_valued : (Has Other : Valuing) (fill : ℕ) → ((f : Form) (v : ℤ) → Has f v ↔ Other f v) → (p : Part) (bytes : List ℕ) → ArePart Has fill p bytes ↔ ArePart Other fill p bytes
+same_valued Has Other fill h (Known own) bytes = (λ k. k, λ k. k)
+same_valued Has Other fill h (Filled n) bytes = (λ k. k, λ k. k)
+same_valued Has Other fill h (Waiting width number f) bytes = (λ k. (k.0, (h f k.0).0 k.1, k.2), λ k. (k.0, (h f k.0).1 k.1, k.2))
+
+pub all_valued : (Has Other : Valuing) (fill : ℕ) → ((f : Form) (v : ℤ) → Has f v ↔ Other f v) → (ps : List Part) (bytes : List ℕ) → AreParts Has fill ps bytes ↔ AreParts Other fill ps bytes
+all_valued Has Other fill h [] bytes = (λ k. k, λ k. k)
+all_valued Has Other fill h (p ∷ ps) bytes = (
+  λ k. (k.0, k.1, (same_valued Has Other fill h p k.0).0 k.2, (all_valued Has Other fill h ps k.1).0 k.3, k.4),
+  λ k. (k.0, k.1, (same_valued Has Other fill h p k.0).1 k.2, (all_valued Has Other fill h ps k.1).1 k.3, k.4),
+)
+
+of_numbered : {E : Type 0} (none : E) (bases : ℕ → ℤ) (values : ℕ → ℕ → Result ℤ E) (ss is : List ℕ) (f : Form) (v : ℤ) → valued_by none (λ g. bases (number_of ss g)) (λ turns k. values turns (number_of is k)) f v ↔ valued_by none bases values (numbered ss is f) v
+of_numbered {E = E} none bases values ss is f v = (
+  λ h. (h.0, number_law E none bases (values h.0) ss is f ∙ h.1),
+  λ h. (h.0, sym (number_law E none bases (values h.0) ss is f) ∙ h.1),
+)
+
+pub fragments_law : (E : Type 0) → FragmentsLaw E
+fragments_law E none bases values fill ss is ps bytes =
+    let Has : Valuing = valued_by none bases values in
+    let Own : Valuing = valued_by none (λ g. bases (number_of ss g)) (λ turns k. values turns (number_of is k)) in
+    let same = all_valued Own (λ f v. Has (numbered ss is f) v) fill (λ f v. of_numbered none bases values ss is f v) ps bytes in
+    let parts = same_parts Has fill ss is ps bytes in
+    let kept = all_kept Has fill (map (fragment_of ss is) ps) bytes in
+    let joined = all_joined_are Has fill (fragments_of ss is ps) bytes in
+    (λ h. joined.0 (kept.0 (parts.0 (same.0 h))), λ h. same.1 (parts.1 (kept.1 (joined.1 h))))

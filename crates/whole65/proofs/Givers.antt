@@ -1,0 +1,317 @@
+-- Who gives a name, in a link and in the whole program.
+use Rattle.std.proofs.Common.{◌≡◌, ℕ, zero, suc, ◌+◌, Bool, true, false, cond, List, [], ◌∷◌, ◌++◌, length, map, slice_get, Option, Some, None, Result, Ok, Err, refl, sym, ◌∙◌, ap, subst, arith}
+use Rattle.std.specs.Prelude.{ℤ, pos, find, ◌||◌}
+use Rattle.std.specs.List.{AllByRecursion, list_any, position_from}
+use Rattle.std.specs.Option.{option_map_or}
+use Rattle.std.specs.Str.{bytes_eq}
+use Rattle.std.proofs.lemmas.List.{append-nil, append_assoc, length-append}
+use Rattle.syntax65.specs.Outcome.{◌>>=◌}
+use Rattle.syntax65.specs.Trees as tree
+use Rattle.object65.specs.Form.{Form}
+use Rattle.object65.specs.declared.object.Export.{Export}
+use Rattle.object65.specs.declared.object.Object.{Object}
+use Rattle.script65.specs.declared.placement.Placement.{Placement}
+use Rattle.script65.specs.declared.script.Script.{Script}
+use Rattle.language65.proofs.Lists.{same_bytes}
+use Rattle.language65.specs.declared.contents.Content.{Content}
+use Rattle.language65.specs.declared.contents.Said.{Said}
+use Rattle.language65.specs.declared.contents.Said.TheVariants.{Exported, Demanded, Checked}
+use Rattle.language65.specs.declared.fault.AsmFault.TheVariants.{Undefined}
+use Rattle.language65.specs.Laid.{Laid}
+use Rattle.language65.specs.Layout.{Layout}
+use Rattle.language65.specs.Names.{or_else, or_fault}
+use Rattle.language65.specs.Norms.{defined_form, form_of_meaning, norm, norm_of}
+use Rattle.language65.specs.Numbering.{all_said, exports_among, import_keys, numbered, section_keys}
+use Rattle.language65.specs.Symbols.{Symbols, defined, imported, named}
+use Rattle.linkage65.specs.Givers.{by_definition, by_export, defined_at, exported_at, is_among}
+use Rattle.linkage65.specs.Givers as linked
+use Rattle.linkage65.specs.Lists.{position_in}
+use Rattle.linkage65.specs.Modules.{Module}
+use Rattle.linkage65.specs.Names.{script_definitions, weak_symbols}
+use Rattle.linkage65.specs.Places.{linkage_of}
+use Rattle.linkage65.specs.Programs.{Program, exported, no_program, program_of, with_module, with_modules, member}
+use Rattle.linkage65.specs.Values.{Linkage, export_value, exports_through, import_value, value_by}
+use Rattle.linkage65.specs.declared.parts.Definition.{Definition}
+use Rattle.linkage65.specs.declared.parts.Exported as parts
+use Rattle.linkage65.specs.declared.parts.Giver.{Giver}
+use Rattle.linkage65.specs.declared.parts.Giver.TheVariants.{ByModule, ByScript, Nobody}
+use Rattle.linkage65.specs.declared.parts.ValueFault.{ValueFault}
+use Rattle.linkage65.specs.declared.parts.ValueFault.TheVariants.{Circular, NoValue, Unresolved}
+use Rattle.module65.proofs.SoundForms.{all_append}
+use Rattle.module65.proofs.Segments.{all_more}
+use Rattle.module65.specs.Module.{contents_from}
+use Rattle.whole65.proofs.Exports.{IsDefined, said_all, source_exports}
+use Rattle.whole65.proofs.Keyed.{form_law, keyed_law}
+use Rattle.whole65.proofs.Linked.{linked_law}
+use Rattle.whole65.proofs.Positions.{all_get}
+use Rattle.whole65.proofs.Sources.{contents_of}
+use Rattle.whole65.specs.Keyed.{IsKeyed, IsKeyedContent, IsKeyedSaid, giver_named, imports_linked, linked_objects}
+use Rattle.whole65.specs.Laws.{SourcesLaw}
+use Rattle.whole65.specs.Linked.{spot_in, symbols_at}
+use Rattle.whole65.specs.Modules.{global_spot, spot_or, table_of}
+use Rattle.whole65.specs.Objects.{IsExport, IsGiven, IsGivenBy, Objects}
+use Rattle.whole65.specs.Offsets.{IsLaidOut}
+use Rattle.whole65.specs.Programs as whole
+use Rattle.whole65.specs.Programs.{definition_of, exporter_from, giver_or, length_of}
+use Rattle.whole65.specs.Sources.{AreSources}
+use Rattle.whole65.specs.Values as values
+use Rattle.whole65.specs.Values.{by_module, by_nobody, by_script}
+
+-- ---- Exports as they are written.
+
+-- an export has the form of the definition of its name, with the numbers of the object
+abbrev IsWritten : Symbols → (sections numbers : List ℕ) → ℕ → Export → Type 0
+IsWritten z sections numbers count e =
+    (f : Form) × (j : ℕ) × IsKeyed sections numbers count f × (e.form ≡ numbered sections numbers f) × (defined z (named 0 e.name) ≡ Some j) × (defined_form z j ≡ Ok f)
+
+written_among : (z : Symbols) (sections numbers : List ℕ) (count : ℕ) (ss : List Said) (found : List Export) → AllByRecursion (IsWritten z sections numbers count) found → AllByRecursion (IsDefined z) ss → AllByRecursion (IsKeyedSaid sections numbers count) ss → AllByRecursion (IsWritten z sections numbers count) (exports_among sections numbers found ss)
+written_among z sections numbers count [] found h d k = h
+written_among z sections numbers count (Exported n line f ∷ ss) found h d k =
+    written_among z sections numbers count ss (cond (list_any (λ e. bytes_eq n e.name) found) found (found ++ record { name = n; line = line; form = numbered sections numbers f } ∷ [])) (go (list_any (λ e. bytes_eq n e.name) found)) d.1 k.1
+  where
+    go : (b : Bool) → AllByRecursion (IsWritten z sections numbers count) (cond b found (found ++ record { name = n; line = line; form = numbered sections numbers f } ∷ []))
+    go true = h
+    go false = all_more (IsWritten z sections numbers count) found (record { name = n; line = line; form = numbered sections numbers f }) h (f, d.0.0, k.0, refl, d.0.1, d.0.2)
+written_among z sections numbers count (Demanded n ∷ ss) found h d k = written_among z sections numbers count ss found h d.1 k.1
+written_among z sections numbers count (Checked act line words f ∷ ss) found h d k = written_among z sections numbers count ss found h d.1 k.1
+
+pub keyed_said : (sections numbers : List ℕ) (count : ℕ) (cs : List Content) → AllByRecursion (IsKeyedContent sections numbers count) cs → AllByRecursion (IsKeyedSaid sections numbers count) (all_said cs)
+keyed_said sections numbers count [] h = tt
+keyed_said sections numbers count (c ∷ cs) h = all_append (IsKeyedSaid sections numbers count) c.said (all_said cs) h.0.said (keyed_said sections numbers count cs h.1)
+
+-- ---- Exports of all modules.
+
+abbrev pub linked_exports : ℕ → List Module → List parts.Exported
+linked_exports owner [] = []
+linked_exports owner (m ∷ ms) = map (exported owner) m.object.exports ++ linked_exports (suc owner) ms
+
+exports_behind : (p : Program) (ms : List Module) → (with_modules p ms).exports ≡ p.exports ++ linked_exports (length p.members) ms
+exports_behind p [] = sym (append-nil p.exports)
+exports_behind p (m ∷ ms) =
+    let longer : length (with_module p m).members ≡ suc (length p.members) = length-append p.members (member p m ∷ []) ∙ omega arith in
+    exports_behind (with_module p m) ms
+    ∙ ap (λ n. (with_module p m).exports ++ linked_exports n ms) longer
+    ∙ append_assoc p.exports (map (exported (length p.members)) m.object.exports) (linked_exports (suc (length p.members)) ms)
+
+pub exports_are : (ms : List Module) → (program_of ms).exports ≡ linked_exports 0 ms
+exports_are ms = exports_behind no_program ms
+
+-- an export of a module, and the form that its source has for it
+pub record IsExportOf (ys : List Layout) (ms : List Module) (e : parts.Exported) : Type 0 where
+  pub layout : Layout
+  pub object : Module
+  pub contents : List Content
+  pub at_y : slice_get ys e.owner ≡ Some layout
+  pub at_m : slice_get ms e.owner ≡ Some object
+  pub found : contents_from (table_of layout) layout.laid ≡ Ok contents
+  pub form : Form
+  pub keyed : IsKeyed (section_keys contents) (import_keys (table_of layout).imports contents) (length (table_of layout).imports) form
+  pub written : e.form ≡ numbered (section_keys contents) (import_keys (table_of layout).imports contents) form
+  pub definition : ℕ
+  pub defining : defined (table_of layout) (named 0 e.name) ≡ Some definition
+  pub its_form : defined_form (table_of layout) definition ≡ Ok form
+
+module _ (ys : List Layout) (ms : List Module) where
+  of_source : (owner : ℕ) (y : Layout) (m : Module) (cs : List Content) → slice_get ys owner ≡ Some y → slice_get ms owner ≡ Some m → contents_from (table_of y) y.laid ≡ Ok cs → (es : List Export) → AllByRecursion (IsWritten (table_of y) (section_keys cs) (import_keys (table_of y).imports cs) (length (table_of y).imports)) es → AllByRecursion (IsExportOf ys ms) (map (exported owner) es)
+  of_source owner y m cs at_y at_m e [] h = tt
+  of_source owner y m cs at_y at_m e (x ∷ es) h = (
+    record { layout = y; object = m; contents = cs; at_y = at_y; at_m = at_m; found = e; form = h.0.0; keyed = h.0.2; written = h.0.3; definition = h.0.1; defining = h.0.4; its_form = h.0.5 },
+    of_source owner y m cs at_y at_m e es h.1,
+  )
+
+  of_sources : (rest : List Layout) (ns : List Module) (owner : ℕ) → AreSources rest ns → ((i : ℕ) → slice_get rest i ≡ slice_get ys (owner + i)) → ((i : ℕ) → slice_get ns i ≡ slice_get ms (owner + i)) → AllByRecursion (IsExportOf ys ms) (linked_exports owner ns)
+  of_sources [] [] owner h up_y up_m = tt
+  of_sources [] (m ∷ ns) owner h up_y up_m = absurd h
+  of_sources (y ∷ rest) [] owner h up_y up_m = absurd h
+  of_sources (y ∷ rest) (m ∷ ns) owner h up_y up_m =
+      let here : owner + 0 ≡ owner = omega arith in
+      let at_y : slice_get ys owner ≡ Some y = ap (slice_get ys) (sym here) ∙ sym (up_y 0) in
+      let at_m : slice_get ms owner ≡ Some m = ap (slice_get ms) (sym here) ∙ sym (up_m 0) in
+      let next : (i : ℕ) → owner + suc i ≡ suc owner + i = λ i. omega arith in
+      let c = contents_of y m h.0 in
+      let cs : List Content = c.contents in
+      let z : Symbols = table_of y in
+      let sections : List ℕ = section_keys cs in
+      let numbers : List ℕ = import_keys z.imports cs in
+      let written = written_among z sections numbers (length z.imports) (all_said cs) [] tt (said_all z y.laid cs c.found).are_defined (keyed_said sections numbers (length z.imports) cs (keyed_law y cs h.0.sound c.found)) in
+      all_append (IsExportOf ys ms) (map (exported owner) m.object.exports) (linked_exports (suc owner) ns)
+      (of_source owner y m cs at_y at_m c.found m.object.exports (subst (λ (o : Object). AllByRecursion (IsWritten z sections numbers (length z.imports)) o.exports) (sym c.object) written))
+      (of_sources rest ns (suc owner) h.1 (λ i. up_y (suc i) ∙ ap (slice_get ys) (next i)) (λ i. up_m (suc i) ∙ ap (slice_get ms) (next i)))
+
+-- ---- The first of a name.
+
+pub data Located {A : Type 0} (name_of : A → List ℕ) (name : List ℕ) (xs : List A) : Type 0 where
+  absent : find (λ x. bytes_eq (name_of x) name) xs ≡ None → position_in (map name_of xs) name ≡ None → Located name_of name xs
+  there :
+      (i : ℕ) (x : A) → find (λ x. bytes_eq (name_of x) name) xs ≡ Some x → position_in (map name_of xs) name ≡ Some i →
+      slice_get xs i ≡ Some x → name_of x ≡ name → Located name_of name xs
+
+data LocatedFrom {A : Type 0} (name_of : A → List ℕ) (name : List ℕ) (from : ℕ) (xs : List A) : Type 0 where
+  absent_from : find (λ x. bytes_eq (name_of x) name) xs ≡ None → position_from (λ n. bytes_eq n name) from (map name_of xs) ≡ None → LocatedFrom name_of name from xs
+  there_from :
+      (i : ℕ) (x : A) → find (λ x. bytes_eq (name_of x) name) xs ≡ Some x → position_from (λ n. bytes_eq n name) from (map name_of xs) ≡ Some (from + i) →
+      slice_get xs i ≡ Some x → name_of x ≡ name → LocatedFrom name_of name from xs
+
+locate_from : {A : Type 0} (name_of : A → List ℕ) (name : List ℕ) (from : ℕ) (xs : List A) → LocatedFrom name_of name from xs
+locate_from name_of name from [] = absent_from refl refl
+locate_from name_of name from (x ∷ xs) = go (bytes_eq (name_of x) name) refl (locate_from name_of name (from + 1) xs)
+  where
+    here : (i : ℕ) → (from + 1) + i ≡ from + suc i
+    here i = omega arith
+
+    none_more : from ≡ from + 0
+    none_more = omega arith
+
+    go : (b : Bool) → bytes_eq (name_of x) name ≡ b → LocatedFrom name_of name (from + 1) xs → LocatedFrom name_of name from (x ∷ xs)
+    go true e more =
+        there_from 0 x (ap (λ b. cond b (Some x) (find (λ x. bytes_eq (name_of x) name) xs)) e)
+        (ap (λ b. cond b (Some from) (position_from (λ n. bytes_eq n name) (from + 1) (map name_of xs))) e ∙ ap Some none_more) refl (same_bytes (name_of x) name e)
+    go false e (absent_from f q) =
+        absent_from (ap (λ b. cond b (Some x) (find (λ x. bytes_eq (name_of x) name) xs)) e ∙ f)
+        (ap (λ b. cond b (Some from) (position_from (λ n. bytes_eq n name) (from + 1) (map name_of xs))) e ∙ q)
+    go false e (there_from i z f q at called) =
+        there_from (suc i) z (ap (λ b. cond b (Some x) (find (λ x. bytes_eq (name_of x) name) xs)) e ∙ f)
+        (ap (λ b. cond b (Some from) (position_from (λ n. bytes_eq n name) (from + 1) (map name_of xs))) e ∙ q ∙ ap Some (here i)) at called
+
+pub locate : {A : Type 0} (name_of : A → List ℕ) (name : List ℕ) (xs : List A) → Located name_of name xs
+locate name_of name xs = go (locate_from name_of name 0 xs)
+  where
+    zero_first : (i : ℕ) → 0 + i ≡ i
+    zero_first i = omega arith
+
+    go : LocatedFrom name_of name 0 xs → Located name_of name xs
+    go (absent_from f q) = absent f q
+    go (there_from i x f q at called) = there i x f (q ∙ ap Some (zero_first i)) at called
+
+-- ---- Both givers.
+
+-- who gives a name in the whole program, and in a link with these exports
+pub data Agree (exports : List parts.Exported) (name : List ℕ) : values.Giver → Giver → Type 0 where
+  of_script : (v : ℤ) → Agree exports name (by_script v) (ByScript v)
+  of_nobody : Agree exports name by_nobody Nobody
+  of_module : (i : ℕ) (e : parts.Exported) → slice_get exports i ≡ Some e → e.name ≡ name → Agree exports name (by_module e.owner) (ByModule i)
+
+abbrev by_found : Option parts.Exported → values.Giver → values.Giver
+by_found None other = other
+by_found (Some e) other = by_module e.owner
+
+agree_by : (exports : List parts.Exported) (name : List ℕ) (w w' : values.Giver) (g g' : Giver) → w' ≡ w → g' ≡ g → Agree exports name w g → Agree exports name w' g'
+agree_by exports name w w' g g' e f h = subst (λ k. Agree exports name k g') (sym e) (subst (Agree exports name w) (sym f) h)
+
+by_definitions : (exports : List parts.Exported) (name : List ℕ) (ds : List Definition) (w : values.Giver) (g : Giver) → Agree exports name w g → Agree exports name (giver_or w (definition_of ds name)) (by_definition ds (defined_at ds name) g)
+by_definitions exports name ds w g h = go (locate (λ (d : Definition). d.name) name ds)
+  where
+    go : Located (λ (d : Definition). d.name) name ds → Agree exports name (giver_or w (definition_of ds name)) (by_definition ds (defined_at ds name) g)
+    go (absent f q) = agree_by exports name w (giver_or w (definition_of ds name)) g (by_definition ds (defined_at ds name) g) (ap (giver_or w) f) (ap (λ o. by_definition ds o g) q) h
+    go (there i d f q at called) =
+        agree_by exports name (by_script d.value) (giver_or w (definition_of ds name)) (ByScript d.value) (by_definition ds (defined_at ds name) g)
+        (ap (giver_or w) f) (ap (λ o. by_definition ds o g) q ∙ ap (λ o. ByScript (option_map_or (λ (d : Definition). d.value) o (pos 0))) at) (of_script d.value)
+
+by_exports : (exports : List parts.Exported) (name : List ℕ) (w : values.Giver) (g : Giver) → Agree exports name w g → Agree exports name (by_found (find (λ e. bytes_eq e.name name) exports) w) (by_export (exported_at exports name) g)
+by_exports exports name w g h = go (locate (λ (e : parts.Exported). e.name) name exports)
+  where
+    go : Located (λ (e : parts.Exported). e.name) name exports → Agree exports name (by_found (find (λ e. bytes_eq e.name name) exports) w) (by_export (exported_at exports name) g)
+    go (absent f q) = agree_by exports name w (by_found (find (λ e. bytes_eq e.name name) exports) w) g (by_export (exported_at exports name) g) (ap (λ o. by_found o w) f) (ap (λ o. by_export o g) q) h
+    go (there i e f q at called) =
+        agree_by exports name (by_module e.owner) (by_found (find (λ e. bytes_eq e.name name) exports) w) (ByModule i) (by_export (exported_at exports name) g)
+        (ap (λ o. by_found o w) f) (ap (λ o. by_export o g) q) (of_module i e at called)
+
+one_exporter : (owner : ℕ) (name : List ℕ) (other : values.Giver) (rest : List parts.Exported) (es : List Export) → by_found (find (λ e. bytes_eq e.name name) (map (exported owner) es ++ rest)) other ≡ cond (is_among (map (λ (e : Export). e.name) es) name) (by_module owner) (by_found (find (λ e. bytes_eq e.name name) rest) other)
+one_exporter owner name other rest [] = refl
+one_exporter owner name other rest (e ∷ es) = go (bytes_eq e.name name) (one_exporter owner name other rest es)
+  where
+    go : (b : Bool) → by_found (find (λ e. bytes_eq e.name name) (map (exported owner) es ++ rest)) other ≡ cond (is_among (map (λ (e : Export). e.name) es) name) (by_module owner) (by_found (find (λ e. bytes_eq e.name name) rest) other) → by_found (cond b (Some (exported owner e)) (find (λ e. bytes_eq e.name name) (map (exported owner) es ++ rest))) other ≡ cond (b || is_among (map (λ (e : Export). e.name) es) name) (by_module owner) (by_found (find (λ e. bytes_eq e.name name) rest) other)
+    go true h = refl
+    go false h = h
+
+exporters : (owner : ℕ) (ys : List Layout) (ms : List Module) (name : List ℕ) (other : values.Giver) → AreSources ys ms → exporter_from owner ys name other ≡ by_found (find (λ e. bytes_eq e.name name) (linked_exports owner ms)) other
+exporters owner [] [] name other h = refl
+exporters owner [] (m ∷ ms) name other h = absurd h
+exporters owner (y ∷ ys) [] name other h = absurd h
+exporters owner (y ∷ ys) (m ∷ ms) name other h =
+    ap (λ ns. cond (is_among ns name) (by_module owner) (exporter_from (suc owner) ys name other)) (sym (source_exports y m h.0))
+    ∙ ap (cond (is_among (map (λ (e : Export). e.name) m.object.exports) name) (by_module owner)) (exporters (suc owner) ys ms name other h.1)
+    ∙ sym (one_exporter owner name other (linked_exports (suc owner) ms) m.object.exports)
+
+pub givers_agree : (s : Script) (placement : Placement) (ys : List Layout) (ms : List Module) (name : List ℕ) → AreSources ys ms → Agree (program_of ms).exports name (whole.giver_of s placement ys name) (linked.giver_of (script_definitions s placement) (program_of ms).exports (weak_symbols s.symbols) name)
+givers_agree s placement ys ms name h =
+    let exports : List parts.Exported = (program_of ms).exports in
+    let weak : values.Giver = giver_or by_nobody (definition_of (weak_symbols s.symbols) name) in
+    let weakly : Giver = by_definition (weak_symbols s.symbols) (defined_at (weak_symbols s.symbols) name) Nobody in
+    let found : values.Giver = by_found (find (λ e. bytes_eq e.name name) exports) weak in
+    let inner : Agree exports name found (by_export (exported_at exports name) weakly) = by_exports exports name weak weakly (by_definitions exports name (weak_symbols s.symbols) by_nobody Nobody of_nobody) in
+    let same : exporter_from 0 ys name weak ≡ found = exporters 0 ys ms name weak h ∙ ap (λ es. by_found (find (λ e. bytes_eq e.name name) es) weak) (sym (exports_are ms)) in
+    by_definitions exports name (script_definitions s placement) (exporter_from 0 ys name weak) (by_export (exported_at exports name) weakly)
+    (subst (λ k. Agree exports name k (by_export (exported_at exports name) weakly)) (sym same) inner)
+
+-- ---- What imports come to.
+
+past_all : (ls : List Laid) → slice_get ls (length ls) ≡ None
+past_all [] = refl
+past_all (l ∷ ls) = past_all ls
+
+global_form : (y : Layout) (x : List ℕ) (j : ℕ) (f : Form) → defined (table_of y) (named 0 x) ≡ Some j → defined_form (table_of y) j ≡ Ok f → norm (suc (suc (length (table_of y).definitions))) (table_of y) (global_spot y) (tree.name false (x ∷ [])) ≡ Ok f
+global_form y x j f e h =
+    let z : Symbols = table_of y in
+    ap (λ o. or_fault (Undefined x) (or_else o None) (imported z x) >>= form_of_meaning (norm_of z) z) e ∙ h
+
+all_laid_out : (ys : List Layout) (ms : List Module) → AreSources ys ms → AllByRecursion IsLaidOut ys
+all_laid_out [] [] h = tt
+all_laid_out [] (m ∷ ms) h = absurd h
+all_laid_out (y ∷ ys) [] h = absurd h
+all_laid_out (y ∷ ys) (m ∷ ms) h = (h.0.laid_out, all_laid_out ys ms h.1)
+
+pub exports_known : (ys : List Layout) (ms : List Module) → AreSources ys ms → AllByRecursion (IsExportOf ys ms) (program_of ms).exports
+exports_known ys ms h = subst (AllByRecursion (IsExportOf ys ms)) (sym (exports_are ms)) (of_sources ys ms ys ms 0 h (λ i. ap (slice_get ys) (zero_first i)) (λ i. ap (slice_get ms) (zero_first i)))
+  where
+    zero_first : (n : ℕ) → n ≡ 0 + n
+    zero_first n = omega arith
+
+module _ (s : Script) (placement : Placement) (ys : List Layout) (ms : List Module) where
+  abbrev p : values.Program
+  p = whole.program_of s placement ys
+
+  abbrev o : Objects ValueFault
+  o = linked_objects s placement ys ms
+
+  abbrev l : Linkage
+  l = linkage_of s (program_of ms) placement
+
+  -- the normal form of an export's name behind the last statement
+  pub export_normal : (e : parts.Exported) (m : IsExportOf ys ms e) → norm (suc (suc (length (table_of m.layout).definitions))) (o.symbols e.owner) (o.spots e.owner (p.global e.owner)) (tree.name false (e.name ∷ [])) ≡ Ok m.form
+  export_normal e m =
+      let z : Symbols = table_of m.layout in
+      ap (λ r. norm (suc (suc (length z.definitions))) (symbols_at r) (spot_in r (length_of r)) (tree.name false (e.name ∷ []))) m.at_y
+      ∙ ap (λ r. norm (suc (suc (length z.definitions))) z (spot_or (global_spot m.layout) r) (tree.name false (e.name ∷ []))) (past_all m.layout.laid)
+      ∙ global_form m.layout e.name m.definition m.form m.defining m.its_form
+
+  of_export : (h : AreSources ys ms) (owner k : ℕ) (x : List ℕ) (i : ℕ) (e : parts.Exported) → slice_get (program_of ms).exports i ≡ Some e → e.name ≡ x → ((turns : ℕ) → o.imports turns owner k ≡ exports_through l turns i) → IsExport p o owner k x e.owner
+  of_export h owner k x i e at called says =
+      let m = all_get (IsExportOf ys ms) (program_of ms).exports i e (exports_known ys ms h) at in
+      let y : Layout = m.layout in
+      record {
+        depth = suc (suc (length (table_of y).definitions));
+        form = m.form;
+        normal = subst (λ n. norm (suc (suc (length (table_of y).definitions))) (o.symbols e.owner) (o.spots e.owner (p.global e.owner)) (tree.name false (n ∷ [])) ≡ Ok m.form) called (export_normal e m);
+        first = λ v q. (let never : ◌≡◌ {A = Result ℤ ValueFault} (Err Circular) (Ok v) = sym (says zero) ∙ q in absurd cc);
+        later = λ turns.
+            says (suc turns)
+            ∙ ap (export_value l (exports_through l turns)) at
+            ∙ ap (value_by l (exports_through l turns) e.owner) m.written
+            ∙ sym (form_law s placement ys ms e.owner turns y m.object m.contents m.form h m.at_y m.at_m m.found m.keyed);
+      }
+
+  given_by : (h : AreSources ys ms) (owner k : ℕ) (x : List ℕ) (w : values.Giver) (g : Giver) → Agree (program_of ms).exports x w g → ((turns : ℕ) → o.imports turns owner k ≡ import_value (exports_through l turns) g) → IsGivenBy p o owner k x w
+  given_by h owner k x _ _ (of_script v) says = says
+  given_by h owner k x _ _ of_nobody says = λ turns v q. (let never : ◌≡◌ {A = Result ℤ ValueFault} (Err Unresolved) (Ok v) = sym (says turns) ∙ q in absurd cc)
+  given_by h owner k x _ _ (of_module i e at called) says = of_export h owner k x i e at called says
+
+  given : (h : AreSources ys ms) (owner k : ℕ) (r : Option (List ℕ)) → slice_get (o.symbols owner).imports k ≡ r → IsGiven p o owner k r
+  given h owner k None e = λ turns v q. (let never : ◌≡◌ {A = Result ℤ ValueFault} (Err Unresolved) (Ok v) = sym (ap (λ r. import_value (exports_through l turns) (giver_named s placement (program_of ms) r)) e) ∙ q in absurd cc)
+  given h owner k (Some x) e =
+      given_by h owner k x (whole.giver_of s placement ys x) (linked.giver_of (script_definitions s placement) (program_of ms).exports (weak_symbols s.symbols) x) (givers_agree s placement ys ms x h)
+      (λ turns. ap (λ r. import_value (exports_through l turns) (giver_named s placement (program_of ms) r)) e)
+
+pub sources_law : SourcesLaw
+sources_law s placement ys ms h =
+    linked_law ValueFault NoValue (imports_linked s placement ys ms) s placement ys (all_laid_out ys ms h) (λ owner k. given s placement ys ms h owner k _ refl)

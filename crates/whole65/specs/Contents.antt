@@ -1,0 +1,85 @@
+-- The bytes of segments: those of statements, and the fill between sections.
+use Rattle.std.specs.Prelude.{◌≡◌, ℕ, ◌-◌, ℤ, pos, ◌+ℤ◌, ◌-ℤ◌, true, List, [], ◌∷◌, ◌++◌, replicate, Option, Some, None}
+use Rattle.syntax65.specs.Opcodes.{opcode_of}
+use Rattle.syntax65.specs.Trees.{Tree}
+use Rattle.syntax65.specs.Values.{wrapped}
+use Rattle.syntax65.specs.declared.instructions.names.Mnemonic.{Mnemonic}
+use Rattle.object65.specs.Objects.{fits_width, value_bytes}
+use Rattle.object65.specs.declared.object.Width.{Width}
+use Rattle.object65.specs.declared.object.Width.TheVariants.{Branch}
+use Rattle.language65.specs.Contents.{file_bytes, operand_tree}
+use Rattle.language65.specs.Laid.{Settled, in_mode, filled_with}
+use Rattle.language65.specs.Language.{Item, value, text, Operand, Stated, instruction, values, reserve, align, file_part}
+use Rattle.language65.specs.Sizes.{width_of}
+use Rattle.whole65.specs.Segments.{Line, end_behind, line_end, line, rounding}
+use Rattle.whole65.specs.Segments as segments
+use Rattle.whole65.specs.Values.{Program, Value}
+
+-- ---- Values.
+
+-- what is stored of a value in a statement at an address: a branch counts from the address behind it
+abbrev pub counted_from : Width → ℤ → ℤ → ℤ
+counted_from Branch address v = wrapped (v -ℤ wrapped (address +ℤ pos 2))
+counted_from width address v = v
+
+-- what fits is stored as bytes
+abbrev pub AreStored : Width → ℤ → List ℕ → Type 0
+AreStored width v bytes = (fits_width width v ≡ true) × (bytes ≡ value_bytes width v)
+
+-- the bytes of an element of a list of data
+abbrev pub AreItem : Program → Line → Width → Item → List ℕ → Type 0
+AreItem p x width (value e) bytes = (v : ℤ) × Value p x.owner x.place e v × AreStored width v bytes
+AreItem p x width (text own) bytes = bytes ≡ own
+
+abbrev pub AreItems : Program → Line → Width → List Item → List ℕ → Type 0
+AreItems p x width [] bytes = bytes ≡ []
+AreItems p x width (i ∷ is) bytes =
+    (own : List ℕ) × (rest : List ℕ) × AreItem p x width i own × AreItems p x width is rest × (bytes ≡ own ++ rest)
+
+-- ---- Instructions.
+
+abbrev pub AreOperand : Program → Line → Option Width → Option Tree → List ℕ → Type 0
+AreOperand p x (Some width) (Some e) bytes =
+    (v : ℤ) × Value p x.owner x.place e v × AreStored width (counted_from width (p.address x.owner x.place) v) bytes
+AreOperand p x width e bytes = bytes ≡ []
+
+abbrev pub code_bytes : Option ℕ → List ℕ
+code_bytes None = []
+code_bytes (Some code) = code ∷ []
+
+-- the opcode and the operand
+abbrev pub AreInstruction : Program → Line → Mnemonic → Operand → Settled → List ℕ → Type 0
+AreInstruction p x m o (in_mode mode) bytes =
+    (own : List ℕ) × AreOperand p x (width_of mode) (operand_tree o) own × (bytes ≡ code_bytes (opcode_of m mode) ++ own)
+AreInstruction p x m o _ bytes = bytes ≡ []
+
+-- ---- Statements.
+
+-- the byte that fills room: the row's, where the statement names none
+abbrev pub filling : ℕ → Settled → ℕ
+filling fill (filled_with byte) = byte
+filling fill _ = fill
+
+-- the bytes of a statement at a position, where the row has this fill value
+abbrev pub AreLine : Program → ℕ → ℕ → Line → List ℕ → Type 0
+AreLine p fill at x bytes = go x.laid.stated
+  where
+    go : Stated → Type 0
+    go (instruction m o) = AreInstruction p x m o x.laid.settled bytes
+    go (values width items) = AreItems p x width items bytes
+    go (reserve n v) = bytes ≡ replicate x.laid.length (filling fill x.laid.settled)
+    go (align n v) = bytes ≡ replicate (line_end at x.multiple x.laid - at) (filling fill x.laid.settled)
+    go (file_part file start len) = bytes ≡ file_bytes x.laid.length file x.laid.settled
+    go _ = bytes ≡ []
+
+-- ---- Segments.
+
+abbrev pub ArePlaced : Program → ℕ → ℕ → segments.Item → List ℕ → Type 0
+ArePlaced p fill at (rounding multiple) bytes = bytes ≡ replicate (end_behind at (rounding multiple) - at) fill
+ArePlaced p fill at (line x) bytes = AreLine p fill at x bytes
+
+-- the bytes of a segment's list, from a position on
+abbrev pub AreBytes : Program → ℕ → ℕ → List segments.Item → List ℕ → Type 0
+AreBytes p fill at [] bytes = bytes ≡ []
+AreBytes p fill at (x ∷ xs) bytes =
+    (own : List ℕ) × (rest : List ℕ) × ArePlaced p fill at x own × AreBytes p fill (end_behind at x) xs rest × (bytes ≡ own ++ rest)

@@ -1,0 +1,15 @@
+pub mod Values
+pub mod Modules
+pub mod Segments
+pub mod Programs
+pub mod Contents
+pub mod Whole
+pub mod Objects
+pub mod Offsets
+pub mod Linked
+pub mod Parts
+pub mod Growth
+pub mod Cells
+pub mod Laws
+pub mod Sources
+pub mod Keyed

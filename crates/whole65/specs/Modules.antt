@@ -1,0 +1,91 @@
+-- What names mean in a module, which names it gives to others, and which it needs.
+use Rattle.std.specs.Prelude.{ℕ, suc, Bool, List, [], ◌∷◌, ◌++◌, map, slice_get, is_some, Option, Some, None, Result, Ok, Err, filter, length}
+use Rattle.std.specs.List.{flat_map}
+use Rattle.syntax65.specs.Trees.{Tree}
+use Rattle.language65.specs.declared.fault.AsmFault.{AsmFault}
+use Rattle.language65.specs.Laid.{Laid, Spot}
+use Rattle.language65.specs.Language.{Stated, exports, globals, forced}
+use Rattle.language65.specs.Layout.{Layout}
+use Rattle.language65.specs.Names as names
+use Rattle.language65.specs.Symbols.{Symbols, definitions_of, defined, named, symbols_of, value_defined, with_new}
+use Rattle.whole65.specs.Values.{Meaning, label_at, constant_at, import_of}
+
+-- A module is its laid statements. A statement is named by its place among them.
+abbrev pub table_of : Layout → Symbols
+table_of y = symbols_of y.laid
+
+-- ---- Where definitions stand.
+
+-- the places of the statements that make definitions, in the order of the definitions, where the first stands at a place
+abbrev pub defining_from : ℕ → List Laid → List ℕ
+defining_from place [] = []
+defining_from place (l ∷ ls) = map (λ d. place) (definitions_of l) ++ defining_from (suc place) ls
+
+-- ---- What an operand means.
+
+-- a definition by the statement at a place: a constant, or else a label
+abbrev pub definition_at : ℕ → Option Laid → Option Meaning
+definition_at place None = None
+definition_at place (Some l) = go (value_defined l.stated)
+  where
+    go : Option Tree → Option Meaning
+    go (Some e) = Some (constant_at place e)
+    go None = Some (label_at place)
+
+abbrev pub statement_at : List Laid → Option ℕ → Option Meaning
+statement_at ls None = None
+statement_at ls (Some place) = definition_at place (slice_get ls place)
+
+abbrev pub import_named : Option (List ℕ) → Option Meaning
+import_named None = None
+import_named (Some n) = Some (import_of n)
+
+abbrev pub meaning_by : Layout → Result names.Meaning AsmFault → Option Meaning
+meaning_by y (Ok (names.defined_at d)) = statement_at y.laid (slice_get (defining_from 0 y.laid) d)
+meaning_by y (Ok (names.imported_as k)) = import_named (slice_get (table_of y).imports k)
+meaning_by y (Err e) = None
+
+-- behind the last statement, in the global scope and in no segment
+abbrev pub global_spot : Layout → Spot
+global_spot y = record {
+  scope = 0;
+  opened = y.standing.opened;
+  region = y.standing.region;
+  unnamed = y.standing.unnamed;
+  segment = length y.standing.segments;
+  offset = 0;
+}
+
+abbrev pub spot_or : Spot → Option Laid → Spot
+spot_or other None = other
+spot_or other (Some l) = l.spot
+
+abbrev pub spot_at : Layout → ℕ → Spot
+spot_at y place = spot_or (global_spot y) (slice_get y.laid place)
+
+-- what an operand means at a place, among all statements of the module
+abbrev pub means_in : Layout → ℕ → Tree → Option Meaning
+means_in y place e = meaning_by y (names.meaning_of (table_of y) (spot_at y place) e)
+
+-- ---- What a module gives and needs.
+
+abbrev pub exported_by : Stated → List (List ℕ)
+exported_by (exports names) = names
+exported_by (globals own names) = names
+exported_by _ = []
+
+-- the module defines the name in its global scope
+abbrev pub is_defined : Layout → List ℕ → Bool
+is_defined y n = is_some (defined (table_of y) (named 0 n))
+
+-- the names that a module exports, each once
+abbrev pub exports_of : Layout → List (List ℕ)
+exports_of y = with_new [] (filter (is_defined y) (flat_map (λ l. exported_by l.stated) y.laid))
+
+abbrev pub forced_by : Stated → List (List ℕ)
+forced_by (forced names) = names
+forced_by _ = []
+
+-- the names that a module imports whether or not it uses them
+abbrev pub forced_of : Layout → List (List ℕ)
+forced_of y = flat_map (λ l. forced_by l.stated) y.laid

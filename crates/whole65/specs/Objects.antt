@@ -1,0 +1,92 @@
+-- Modules as linking sees them: forms in place of expressions, values by a placement and through exports.
+use Rattle.std.specs.Prelude.{◌≡◌, ◌≢◌, ℕ, zero, suc, ℤ, pos, ◌+ℤ◌, false, List, [], ◌∷◌, slice_get, Option, Some, None, Result, Ok, Err}
+use Rattle.syntax65.specs.Trees.{Tree, name}
+use Rattle.syntax65.specs.Values.{wrapped}
+use Rattle.object65.specs.Form.{Form}
+use Rattle.object65.specs.FormValue.{value_in}
+use Rattle.language65.specs.declared.fault.AsmFault.{AsmFault}
+use Rattle.language65.specs.Laid.{Spot}
+use Rattle.language65.specs.Names as names
+use Rattle.language65.specs.Names.{meaning_of}
+use Rattle.language65.specs.Norms.{norm}
+use Rattle.language65.specs.Symbols.{Definition, Symbols}
+use Rattle.whole65.specs.Values.{Giver, by_module, by_script, by_nobody, Meaning, label_at, constant_at, import_of, Program}
+
+-- Of each module, by its place: its symbol table, where its statements stand, and what its sections and imports come to.
+-- What else than a value an import may come to is left open.
+pub record Objects (E : Type 0) : Type 0 where
+  -- that an operation has no value
+  pub none : E
+  pub symbols : (owner : ℕ) → Symbols
+  pub spots : (owner place : ℕ) → Spot
+  -- the place of the statement that makes the definition of a number
+  pub places : (owner definition : ℕ) → ℕ
+  -- the address at which the section of a segment begins
+  pub bases : (owner segment : ℕ) → ℤ
+  -- what the import of a number comes to through fewer than so many exports, one inside the other
+  pub imports : (turns owner number : ℕ) → Result ℤ E
+
+-- the value of a form of a module, through so many exports
+abbrev pub form_value : {E : Type 0} → Objects E → ℕ → ℕ → Form → Result ℤ E
+form_value o turns owner f = value_in o.none (o.bases owner) (o.imports turns owner) f
+
+-- ---- What names mean.
+
+abbrev pub value_shown : ℕ → Option Tree → Option Meaning
+value_shown place None = Some (label_at place)
+value_shown place (Some e) = Some (constant_at place e)
+
+-- the definition of a statement at a place
+abbrev pub definition_shown : ℕ → Option Definition → Option Meaning
+definition_shown place None = None
+definition_shown place (Some d) = value_shown place d.value
+
+abbrev pub import_shown : Option (List ℕ) → Option Meaning
+import_shown None = None
+import_shown (Some x) = Some (import_of x)
+
+abbrev pub meaning_shown : {E : Type 0} → Objects E → ℕ → Result names.Meaning AsmFault → Option Meaning
+meaning_shown o owner (Err e) = None
+meaning_shown o owner (Ok (names.defined_at d)) = definition_shown (o.places owner d) (slice_get (o.symbols owner).definitions d)
+meaning_shown o owner (Ok (names.imported_as k)) = import_shown (slice_get (o.symbols owner).imports k)
+
+-- ---- What imports come to.
+
+-- never to a value
+abbrev pub HasNone : {E : Type 0} → Objects E → ℕ → ℕ → Type 0
+HasNone o owner k = (turns : ℕ) (v : ℤ) → o.imports turns owner k ≢ Ok v
+
+-- to what the export of a name by a module comes to, one export deeper
+pub record IsExport {E : Type 0} (p : Program) (o : Objects E) (owner k : ℕ) (x : List ℕ) (giver : ℕ) : Type 0 where
+  pub depth : ℕ
+  pub form : Form
+  pub normal : norm depth (o.symbols giver) (o.spots giver (p.global giver)) (name false (x ∷ [])) ≡ Ok form
+  pub first : (v : ℤ) → o.imports zero owner k ≢ Ok v
+  pub later : (turns : ℕ) → o.imports (suc turns) owner k ≡ form_value o turns giver form
+
+-- to what the giver of its name says
+abbrev pub IsGivenBy : {E : Type 0} → Program → Objects E → ℕ → ℕ → List ℕ → Giver → Type 0
+IsGivenBy p o owner k x (by_module giver) = IsExport p o owner k x giver
+IsGivenBy p o owner k x (by_script v) = (turns : ℕ) → o.imports turns owner k ≡ Ok v
+IsGivenBy p o owner k x by_nobody = HasNone o owner k
+
+abbrev pub IsGiven : {E : Type 0} → Program → Objects E → ℕ → ℕ → Option (List ℕ) → Type 0
+IsGiven p o owner k None = HasNone o owner k
+IsGiven p o owner k (Some x) = IsGivenBy p o owner k x (p.giver x)
+
+-- ---- Objects of the modules of a program, placed alike.
+pub record AreObjects {E : Type 0} (p : Program) (o : Objects E) : Type 0 where
+  pub means :
+      (owner place : ℕ) (e : Tree) →
+      p.means owner place e ≡ meaning_shown o owner (meaning_of (o.symbols owner) (o.spots owner place) e)
+  pub spots :
+      (owner definition : ℕ) (d : Definition) → slice_get (o.symbols owner).definitions definition ≡ Some d →
+      o.spots owner (o.places owner definition) ≡ d.spot
+  pub addresses :
+      (owner place : ℕ) →
+      p.address owner place ≡ wrapped (o.bases owner (o.spots owner place).segment +ℤ pos (o.spots owner place).offset)
+  pub given : (owner k : ℕ) → IsGiven p o owner k (slice_get (o.symbols owner).imports k)
+
+-- through some number of exports a form comes to a value
+abbrev pub HasValue : {E : Type 0} → Objects E → ℕ → Form → ℤ → Type 0
+HasValue o owner f v = (turns : ℕ) × (form_value o turns owner f ≡ Ok v)

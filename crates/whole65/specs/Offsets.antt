@@ -1,0 +1,44 @@
+-- Where the sections of modules begin in their segments, and what offsets rest on.
+use Rattle.std.specs.Prelude.{◌≡◌, ◌<◌, ℕ, zero, suc, ◌*◌, ◌^◌, List, [], ◌∷◌, filter, nat_eq, None}
+use Rattle.std.specs.Int.{next_multiple_of}
+use Rattle.std.specs.List.{AllByRecursion}
+use Rattle.expand65.specs.declared.place.Place.{Place}
+use Rattle.language65.specs.Language.{Stated}
+use Rattle.language65.specs.Layout.{Layout, layout_behind, nothing_laid}
+use Rattle.language65.specs.LineFaults.{line_fault}
+use Rattle.language65.specs.Symbols.{symbols_of}
+use Rattle.whole65.specs.Segments.{Line, end_of, largest_multiple, lines_in, part_of}
+
+pub record IsMultiple (n of : ℕ) : Type 0 where
+  pub factor : ℕ
+  pub product : n ≡ of * factor
+
+-- a power of two to which a section can be aligned
+pub record IsPower (n : ℕ) : Type 0 where
+  pub exponent : ℕ
+  pub below : exponent < 16
+  pub power : n ≡ 2 ^ exponent
+
+abbrev pub ArePowers : List Line → Type 0
+ArePowers xs = AllByRecursion (λ x. IsPower x.multiple) xs
+
+-- statements laid one behind the other, none of which has a fault at its line
+pub data IsLaidOut : Layout → Type 0 where
+  begun : IsLaidOut nothing_laid
+  behind :
+      (y : Layout) (place : Place) (x : Stated) →
+      IsLaidOut y → line_fault (symbols_of y.laid) y.standing x ≡ None → IsLaidOut (layout_behind y place x)
+
+-- the lines of a module that stand in its segment of a number
+abbrev pub lines_at : ℕ → List Line → List Line
+lines_at g xs = filter (λ x. nat_eq x.laid.spot.segment g) xs
+
+-- where the section of the module at a place begins, in a segment that has reached a position before the first module
+abbrev pub begin_from : ℕ → ℕ → List Layout → List ℕ → ℕ → ℕ
+begin_from at owner [] name count = at
+begin_from at owner (y ∷ ys) name zero = next_multiple_of at (largest_multiple (lines_in owner y name))
+begin_from at owner (y ∷ ys) name (suc count) = begin_from (end_of at (part_of owner y name)) (suc owner) ys name count
+
+-- the position at which the section of a module begins
+abbrev pub begin_of : List Layout → List ℕ → ℕ → ℕ
+begin_of ys name owner = begin_from 0 0 ys name owner

@@ -1,0 +1,70 @@
+-- The program of all modules, placed by a script.
+use Rattle.std.specs.Prelude.{ℕ, suc, ◌+◌, ℤ, pos, List, [], ◌∷◌, find, length, slice_get, Option, Some, None, if◌then◌else◌}
+use Rattle.std.specs.Str.{bytes_eq}
+use Rattle.syntax65.specs.Trees.{Tree}
+use Rattle.syntax65.specs.Values.{wrapped}
+use Rattle.script65.specs.declared.placement.Placement.{Placement}
+use Rattle.script65.specs.declared.script.Script.{Script}
+use Rattle.linkage65.specs.declared.parts.Definition.{Definition}
+use Rattle.linkage65.specs.Givers.{is_among}
+use Rattle.linkage65.specs.Names.{script_definitions, weak_symbols}
+use Rattle.linkage65.specs.Places.{run_of}
+use Rattle.language65.specs.Laid.{Laid}
+use Rattle.language65.specs.Layout.{Layout}
+use Rattle.whole65.specs.Modules.{exports_of, means_in}
+use Rattle.whole65.specs.Segments.{position_of, segment_name}
+use Rattle.whole65.specs.Values.{Giver, by_module, by_script, by_nobody, Meaning, Program}
+
+-- ---- Who gives a name.
+
+-- by the definition of that name, if there is one
+abbrev pub giver_or : Giver → Option Definition → Giver
+giver_or other None = other
+giver_or other (Some d) = by_script d.value
+
+abbrev pub definition_of : List Definition → List ℕ → Option Definition
+definition_of ds name = find (λ d. bytes_eq d.name name) ds
+
+-- the first module, from a place on, that exports a name
+abbrev pub exporter_from : ℕ → List Layout → List ℕ → Giver → Giver
+exporter_from owner [] name other = other
+exporter_from owner (y ∷ ys) name other = if is_among (exports_of y) name then by_module owner else exporter_from (suc owner) ys name other
+
+-- The names that the script defines or exports, then the exports of modules, and its weak names only where there is none
+-- of these.
+abbrev pub giver_of : Script → Placement → List Layout → List ℕ → Giver
+giver_of s p ys name =
+    giver_or (exporter_from 0 ys name (giver_or by_nobody (definition_of (weak_symbols s.symbols) name)))
+    (definition_of (script_definitions s p) name)
+
+-- ---- Where statements lie.
+
+abbrev pub means_at : Option Layout → ℕ → Tree → Option Meaning
+means_at None place e = None
+means_at (Some y) place e = means_in y place e
+
+abbrev pub length_of : Option Layout → ℕ
+length_of None = 0
+length_of (Some y) = length y.laid
+
+-- the run address of the segment's row and the position in the segment
+abbrev pub address_in : Script → Placement → List Layout → ℕ → ℕ → List ℕ → ℤ
+address_in s p ys owner place name = wrapped (pos (run_of s.rows p.rows name + position_of ys name owner place))
+
+abbrev pub statement_address : Script → Placement → List Layout → ℕ → ℕ → Option Layout → Option Laid → ℤ
+statement_address s p ys owner place (Some y) (Some l) = address_in s p ys owner place (segment_name y l.spot.segment)
+statement_address s p ys owner place _ _ = pos 0
+
+abbrev pub laid_at : Option Layout → ℕ → Option Laid
+laid_at None place = None
+laid_at (Some y) place = slice_get y.laid place
+
+-- ---- The program.
+
+abbrev pub program_of : Script → Placement → List Layout → Program
+program_of s p ys = record {
+  means = λ owner place. means_at (slice_get ys owner) place;
+  global = λ owner. length_of (slice_get ys owner);
+  giver = giver_of s p ys;
+  address = λ owner place. statement_address s p ys owner place (slice_get ys owner) (laid_at (slice_get ys owner) place);
+}

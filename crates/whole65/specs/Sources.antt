@@ -1,0 +1,19 @@
+-- Objects of sources.
+use Rattle.std.specs.Prelude.{◌≡◌, List, [], ◌∷◌, Ok, ⊤}
+use Rattle.language65.specs.Layout.{Layout}
+use Rattle.language65.specs.Sound.{IsSoundLayout}
+use Rattle.linkage65.specs.Modules.{Module}
+use Rattle.module65.specs.Module.{object_of}
+use Rattle.whole65.specs.Offsets.{IsLaidOut}
+
+-- a module's object is that of laid statements, of which no line has a fault
+pub record IsSource (y : Layout) (m : Module) : Type 0 where
+  pub laid_out : IsLaidOut y
+  pub sound : IsSoundLayout y
+  pub object : object_of y ≡ Ok m.object
+
+abbrev pub AreSources : List Layout → List Module → Type 0
+AreSources [] [] = ⊤
+AreSources (y ∷ ys) (m ∷ ms) = IsSource y m × AreSources ys ms
+AreSources [] (m ∷ ms) = ⊥
+AreSources (y ∷ ys) [] = ⊥

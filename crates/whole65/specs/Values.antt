@@ -1,0 +1,74 @@
+-- The value of an expression in a program of several modules, by derivations over the sources.
+use Rattle.std.specs.Prelude.{◌≡◌, ℕ, ℤ, pos, List, [], ◌∷◌, false, Option, Some, None}
+use Rattle.syntax65.specs.Trees.{Tree, name}
+use Rattle.syntax65.specs.Trees as tree
+use Rattle.syntax65.specs.Values.{value1, value2}
+use Rattle.syntax65.specs.declared.values.Op1.{Op1}
+use Rattle.syntax65.specs.declared.values.Op2.{Op2}
+
+-- what an operand of an expression stands for
+pub data Meaning : Type 0 where
+  -- a label: the statement at a place of the module
+  label_at : (place : ℕ) → Meaning
+  -- a constant: the expression of the statement at a place of the module
+  constant_at : (place : ℕ) → Tree → Meaning
+  -- an import of a name
+  import_of : List ℕ → Meaning
+
+-- who gives a name its value
+pub data Giver : Type 0 where
+  -- a module that exports it
+  by_module : ℕ → Giver
+  -- the script, which says its value
+  by_script : ℤ → Giver
+  by_nobody : Giver
+
+-- Modules and statements are named by their places: a module by its place in the order of linking, a statement by its
+-- place in its module.
+pub record Program : Type 0 where
+  -- what an operand means where it stands, if anything
+  pub means : (owner place : ℕ) → Tree → Option Meaning
+  -- the place behind the last statement of a module, in its global scope
+  pub global : (owner : ℕ) → ℕ
+  pub giver : List ℕ → Giver
+  -- the address of a statement
+  pub address : (owner place : ℕ) → ℤ
+
+-- what stands for a definition: numbers, `*` and operations have values of their own
+abbrev pub meaning_in : Program → (owner place : ℕ) → Tree → Option Meaning
+meaning_in p owner place (tree.number n) = None
+meaning_in p owner place tree.here = None
+meaning_in p owner place (tree.unary op e) = None
+meaning_in p owner place (tree.binary op e f) = None
+meaning_in p owner place e = p.means owner place e
+
+-- The value of an expression where it stands. A derivation is finite, so a name that is needed for its own value has none.
+pub data Value (p : Program) : (owner place : ℕ) → Tree → ℤ → Type 0 where
+  -- a number is its own value
+  number : {owner place n : ℕ} → Value p owner place (tree.number n) (pos n)
+  -- `*` is the address of the statement in which it stands
+  here : {owner place : ℕ} → Value p owner place tree.here (p.address owner place)
+  -- a label has the address of its statement
+  label :
+      {owner place at : ℕ} {e : Tree} →
+      meaning_in p owner place e ≡ Some (label_at at) → Value p owner place e (p.address owner at)
+  -- a constant has the value of its expression at its own place
+  constant :
+      {owner place at : ℕ} {e f : Tree} {v : ℤ} →
+      meaning_in p owner place e ≡ Some (constant_at at f) → Value p owner at f v → Value p owner place e v
+  -- an import has the value of the name in the global scope of the module that exports it
+  exported :
+      {owner place giver : ℕ} {e : Tree} {x : List ℕ} {v : ℤ} →
+      meaning_in p owner place e ≡ Some (import_of x) → p.giver x ≡ by_module giver →
+      Value p giver (p.global giver) (name false (x ∷ [])) v → Value p owner place e v
+  -- or that which the script says
+  scripted :
+      {owner place : ℕ} {e : Tree} {x : List ℕ} {v : ℤ} →
+      meaning_in p owner place e ≡ Some (import_of x) → p.giver x ≡ by_script v → Value p owner place e v
+  -- an operation has its value on those of its operands
+  prefixed :
+      {owner place : ℕ} {op : Op1} {e : Tree} {a : ℤ} →
+      Value p owner place e a → Value p owner place (tree.unary op e) (value1 op a)
+  joined :
+      {owner place : ℕ} {op : Op2} {e f : Tree} {a b v : ℤ} →
+      Value p owner place e a → Value p owner place f b → value2 op a b ≡ Some v → Value p owner place (tree.binary op e f) v

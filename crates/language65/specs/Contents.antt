@@ -64,9 +64,9 @@ opcode_part None = Known []
 opcode_part (Some code) = Known (code ∷ [])
 
 abbrev pub instruction_parts : Symbols → Laid → Mnemonic → Operand → Settled → Result (List Part) AsmFault
-instruction_parts y l m operand (in_mode mode) =
-    operand_parts y l (width_of mode) (operand_tree operand) >>= (λ ps. Ok (opcode_part (opcode_of m mode) ∷ ps))
-instruction_parts y l m operand _ = Ok []
+instruction_parts y l m o (in_mode mode) =
+    operand_parts y l (width_of mode) (operand_tree o) >>= (λ ps. Ok (opcode_part (opcode_of m mode) ∷ ps))
+instruction_parts y l m o _ = Ok []
 
 -- so many bytes, of the linker's fill value where no value is given
 abbrev pub room_part : ℕ → Settled → Part

@@ -30,8 +30,21 @@ def sum_of_all(rt):
     return found.hexdigest()
 
 
-def prove(crate, jobs):
-    """Builds a library, and returns whether it is proved."""
+def why_refused(rt, crate, said):
+    """What the gate would refuse in what a proof said, though all is proved; None where there is nothing."""
+    if rt.rtlib.chose_a_term(said, True):
+        return "a tactic chose a term that a contract may read"
+    if rt.rtlib.CATCHES_ALL.search(said):
+        return "a pattern matches every value where a constructor was probably meant"
+    if rt.rtlib.swallows_text(said):
+        return "a macro call may hide text that only looks like code"
+    if any(crate.says_search(*it) for it in rt.rtlib.FILLED_IN.findall(said)):
+        return f"search: {rt.rtlib.NO_TACTIC}"
+    return None
+
+
+def prove(rt, crate, jobs):
+    """Builds a library, and returns whether it is proved and the gate would take it."""
     os.makedirs(f"{crate.folder}/out", exist_ok=True)
     crate, log = copy.copy(crate), f"{crate.folder}/out/prove.log"
     ended = threading.Event()
@@ -47,15 +60,20 @@ def prove(crate, jobs):
         teller = threading.Thread(target=tell, daemon=True)
         teller.start()
         try:
-            return not crate.build_rlib(["--jobs", str(jobs)], anew=False)
+            is_proved = not crate.build_rlib(["--jobs", str(jobs)], anew=False)
         except SystemExit:
-            return False
+            is_proved = False
         finally:
             ended.set()
             teller.join()
+    why = why_refused(rt, crate, rt.rtlib.text_of(log) or "")
+    if is_proved and why:
+        kit.say(f"{crate.name}: the gate would refuse it: {why}")
+        os.remove(f"{crate.folder}/out/rlib/stamp")
+    return is_proved and not why
 
 
-def in_lanes(crates, lanes):
+def in_lanes(rt, crates, lanes):
     """Proves the crates, each once those below it are proved, and returns how long each took, or None where one isn't proved."""
     left, proved, failed, running, took = [*crates], set(), [], {}, {}
     with ThreadPoolExecutor(lanes) as pool:
@@ -70,7 +88,7 @@ def in_lanes(crates, lanes):
                     left.remove(crate)
                     jobs = max(1, idle // (len(ready) - at))
                     kit.say(f"{crate.name}: its proof begins ({len(proved)} of {len(crates)} crates are proved)")
-                    running[pool.submit(prove, crate, jobs)] = crate, time.time(), jobs
+                    running[pool.submit(prove, rt, crate, jobs)] = crate, time.time(), jobs
             for it in wait(running, return_when=FIRST_COMPLETED).done if running else ():
                 crate, begun, _ = running.pop(it)
                 if not it.result():
@@ -99,7 +117,7 @@ def main(names):
     asked = [it for it in crates if it.name in names or not names and it.is_program]
     chosen = [it for it in crates if not it.is_program and (it in asked or any(it in that.below() for that in asked))]
     held = rt.rtlib.lock(crates)
-    took = in_lanes(chosen, rt.processors())
+    took = in_lanes(rt, chosen, rt.processors())
     for it in held:
         os.close(it)
     if took is None:

@@ -79,12 +79,14 @@ def in_lanes(rt, crates, lanes):
     with ThreadPoolExecutor(lanes) as pool:
         while left or running:
             ready = [it for it in left if {*it.below()} <= proved]
+            built = [it for it in ready if it.is_built()]
+            if built:
+                left = [it for it in left if it not in built]
+                proved.update(built)
+                continue
             for at, crate in enumerate(ready):
                 idle = lanes - sum(jobs for _, _, jobs in running.values())
-                if crate.is_built():
-                    left.remove(crate)
-                    proved.add(crate)
-                elif idle > 0:
+                if idle > 0:
                     left.remove(crate)
                     jobs = max(1, idle // (len(ready) - at))
                     kit.say(f"{crate.name}: its proof begins ({len(proved)} of {len(crates)} crates are proved)")

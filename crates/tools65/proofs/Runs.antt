@@ -58,7 +58,7 @@ none_before fo fm fn a b h =
     let same : fm ≡ fo = omega (arith, h.same) in
     (same, record { same = omega (arith, h.same); before = omega (arith, h.before, same) })
 
-did_not_fail : (fo fm : ℕ) → fm ≡ fo → fo < last_count → HasFailed fo fm → ⊥
+pub did_not_fail : (fo fm : ℕ) → fm ≡ fo → fo < last_count → HasFailed fo fm → ⊥
 did_not_fail fo fm same before (inl h) = absurd (omega arith)
 did_not_fail fo fm same before (inr h) = absurd (omega arith)
 
@@ -67,11 +67,11 @@ did_not_fail fo fm same before (inr h) = absurd (omega arith)
 module _ {A E : Type 0} (is_memory is_failure : E → Bool) (memory : List ℕ) (Is : Files → Result A E → Type 0) (Comes : Result A E → Outcome → Type 0)
     (by_memory : (e : E) (o : Outcome) → is_memory e ≡ true → Comes (Err e) o → o ≡ failing memory) where
   -- what a command does with these files
-  abbrev Computes : Files → Outcome → Type 0
+  abbrev pub Computes : Files → Outcome → Type 0
   Computes m o = (r : Result A E) × Is m r × Comes r o
 
   -- what was found, where no call of the store failed
-  found : (m : Files) (r : Result A E) (o : Outcome) → Finds (λ e. is_memory e || is_failure e) (Is m) r → IfErr r (λ e. is_failure e ≡ true → ⊥) → Comes r o → Computes m o ⊎ (o ≡ failing memory)
+  pub found : (m : Files) (r : Result A E) (o : Outcome) → Finds (λ e. is_memory e || is_failure e) (Is m) r → IfErr r (λ e. is_failure e ≡ true → ⊥) → Comes r o → Computes m o ⊎ (o ≡ failing memory)
   found m (Ok x) o h none comes = inl (Ok x, h, comes)
   found m (Err e) o h none comes = by_cause (is_memory e) (is_failure e) refl refl h
     where
@@ -80,7 +80,7 @@ module _ {A E : Type 0} (is_memory is_failure : E → Bool) (memory : List ℕ) 
       by_cause false true p q u = absurd (none q)
       by_cause false false p q u = inl (Err e, u, comes)
 
-  no_failure : (fo fm : ℕ) (r : Result A E) → PassesBy is_failure fo fm r → (HasFailed fo fm → ⊥) → IfErr r (λ e. is_failure e ≡ true → ⊥)
+  pub no_failure : (fo fm : ℕ) (r : Result A E) → PassesBy is_failure fo fm r → (HasFailed fo fm → ⊥) → IfErr r (λ e. is_failure e ≡ true → ⊥)
   no_failure fo fm (Ok x) p none = tt
   no_failure fo fm (Err e) p none = λ h. none (p.cause h)
 
@@ -90,7 +90,7 @@ module _ {A E : Type 0} (is_memory is_failure : E → Bool) (memory : List ℕ) 
       let between = none_before fo fm fn count.later later none in
       (o, found m r o finds (no_failure fo fm r count (did_not_fail fo fm between.0 none.before)) comes, (rw same at performs) between.1)
 
-asm_memory : (a : Assembling) (out err : List ℕ) (e : AsmRefusal) (o : Outcome) → is_asm_memory e.fault ≡ true → o ≡ refused_with a.source out err (placed_of e) → o ≡ failing (memory_line a.source)
+pub asm_memory : (a : Assembling) (out err : List ℕ) (e : AsmRefusal) (o : Outcome) → is_asm_memory e.fault ≡ true → o ≡ refused_with a.source out err (placed_of e) → o ≡ failing (memory_line a.source)
 asm_memory a out err e o h is = is ∙ by_memory
   where
     by_memory : refused_with a.source out err (placed_of e) ≡ failing (memory_line a.source)
@@ -101,7 +101,7 @@ ran_as : (does other : Files → Outcome → Type 0) → ((m : Files) (o : Outco
 ran_as does other is memory m new out_old out_new err_old err_new status (o, inl h, p) = (o, inl (is m o h), p)
 ran_as does other is memory m new out_old out_new err_old err_new status (o, inr h, p) = (o, inr h, p)
 
-with_texts : (a : Assembling) (out err : List ℕ) (m : Files) (o : Outcome) → ((r : Result Object AsmRefusal) × IsAssembled m (job_in a) (record { result = in_places r; out = out; err = err }) × AssemblesWith a out err (in_places r) o) → Assembles a m o
+pub with_texts : (a : Assembling) (out err : List ℕ) (m : Files) (o : Outcome) → ((r : Result Object AsmRefusal) × IsAssembled m (job_in a) (record { result = in_places r; out = out; err = err }) × AssemblesWith a out err (in_places r) o) → Assembles a m o
 with_texts a out err m o h = (record { result = in_places h.0; out = out; err = err }, h.1, h.2)
 
 assembled_as : (known new : Option Files) (fo fn : ℕ) (a : Assembling) (out err : List ℕ) (out_old out_new err_old err_new : Option (List ℕ)) (status : Status) → IfSome known (λ m. NoneFailed fo fn → Ran (λ n o. (r : Result Object AsmRefusal) × IsAssembled n (job_in a) (record { result = in_places r; out = out; err = err }) × AssemblesWith a out err (in_places r) o) (memory_line a.source) m new out_old out_new err_old err_new status) → IfSome known (λ m. NoneFailed fo fn → Ran (Assembles a) (memory_line a.source) m new out_old out_new err_old err_new status)
@@ -125,7 +125,7 @@ assembled_run known mid new fo fm fn a out err r o out_old out_new err_old err_n
     assembled_as known new fo fn a out err out_old out_new err_old err_new status
     (computed_run (λ e. is_asm_memory e.fault) has_failed (memory_line a.source) (λ m x. IsAssembled m (job_in a) (record { result = in_places x; out = out; err = err })) (λ r o. AssemblesWith a out err (in_places r) o) (asm_memory a out err) known mid new fo fm fn r o out_old out_new err_old err_new status same later count comes finds performs)
 
-link_memory : (l : Linking) (e : Refusal) (o : Outcome) → is_memory e ≡ true → o ≡ outcome_of l (Err e) → o ≡ failing memory_message
+pub link_memory : (l : Linking) (e : Refusal) (o : Outcome) → is_memory e ≡ true → o ≡ outcome_of l (Err e) → o ≡ failing memory_message
 link_memory l e o h is = is ∙ by_memory
   where
     by_memory : outcome_of l (Err e) ≡ failing memory_message
@@ -135,22 +135,22 @@ link_memory l e o h is = is ∙ by_memory
 pub linked_run : (known mid new : Option Files) (fo fm fn : ℕ) (l : Linking) (r : Result Linked Refusal) (o : Outcome) (out_old out_new err_old err_new : Option (List ℕ)) (status : Status) → mid ≡ known → fm ≤ fn → PassesBy is_failure fo fm r → o ≡ outcome_of l r → IfSome known (λ m. Finds is_outside (IsLinked m l) r) → IfSome mid (λ m. NoneFailed fm fn → Performs o m new out_old out_new err_old err_new status ⊎ StopsShort o memory_message m new out_old out_new err_old err_new status) → IfSome known (λ m. NoneFailed fo fn → Ran (Does l) memory_message m new out_old out_new err_old err_new status)
 linked_run known mid new fo fm fn l r o = computed_run is_memory is_failure memory_message (λ m. IsLinked m l) (λ r o. o ≡ outcome_of l r) (link_memory l) known mid new fo fm fn r o
 
-archive_memory : (a : Archiving) (e : ArchiveRefusal) (o : Outcome) → is_archive_memory e ≡ true → o ≡ archive_outcome a (Err e) → o ≡ failing (memory_line a.library)
+pub archive_memory : (a : Archiving) (e : ArchiveRefusal) (o : Outcome) → is_archive_memory e ≡ true → o ≡ archive_outcome a (Err e) → o ≡ failing (memory_line a.library)
 archive_memory a e o h is = is ∙ by_memory
   where
     by_memory : archive_outcome a (Err e) ≡ failing (memory_line a.library)
     by_memory = rw h refl
 
 -- what a line of the librarian comes to, as the command finds it
-abbrev IsArchived : Archiving → Files → Result Archived ArchiveRefusal → Type 0
+abbrev pub IsArchived : Archiving → Files → Result Archived ArchiveRefusal → Type 0
 IsArchived a m r = archived_of m a ≡ r
 
-archived_found : (known : Option Files) (a : Archiving) (r : Result Archived ArchiveRefusal) → IfSome known (λ m. Gives is_archive_outside (λ x. x) r (archived_of m a)) → IfSome known (λ m. Finds is_archive_outside (IsArchived a m) r)
+pub archived_found : (known : Option Files) (a : Archiving) (r : Result Archived ArchiveRefusal) → IfSome known (λ m. Gives is_archive_outside (λ x. x) r (archived_of m a)) → IfSome known (λ m. Finds is_archive_outside (IsArchived a m) r)
 archived_found None a r h = tt
 archived_found (Some m) a (Ok x) h = h
 archived_found (Some m) a (Err e) h = h
 
-does_archive : (a : Archiving) (m : Files) (o : Outcome) → ((r : Result Archived ArchiveRefusal) × IsArchived a m r × (o ≡ archive_outcome a r)) → Archives a m o
+pub does_archive : (a : Archiving) (m : Files) (o : Outcome) → ((r : Result Archived ArchiveRefusal) × IsArchived a m r × (o ≡ archive_outcome a r)) → Archives a m o
 does_archive a m o h = h.2 ∙ ap (archive_outcome a) (sym h.1)
 
 archives_so : (known new : Option Files) (fo fn : ℕ) (a : Archiving) (out_old out_new err_old err_new : Option (List ℕ)) (status : Status) → IfSome known (λ m. NoneFailed fo fn → Ran (λ n o. (r : Result Archived ArchiveRefusal) × IsArchived a n r × (o ≡ archive_outcome a r)) (memory_line a.library) m new out_old out_new err_old err_new status) → IfSome known (λ m. NoneFailed fo fn → Ran (Archives a) (memory_line a.library) m new out_old out_new err_old err_new status)

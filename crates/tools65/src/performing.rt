@@ -1,9 +1,11 @@
 //! Carries an outcome out.
 
-ghost use Rattle.std.specs.Prelude.{◌≡◌, ◌<◌, ◌≤◌, ◌⊎◌, IfSome};
+ghost use Rattle.std.specs.Prelude.{◌≡◌, ◌<◌, ◌≤◌, ◌⊎◌, [], slice_get, IfSome, Some};
 ghost use Rattle.syntax65.specs.Store.{NoneFailed};
 ghost use Rattle.tools65.specs.Leaving.{Prints, SaysBoth, Performs, StopsShort};
 ghost use Rattle.line65.specs.Messages.{memory_line};
+ghost use Rattle.linkage65.specs.declared.linked.OutputFile.{OutputFile};
+ghost use Rattle.tools65.specs.Failing.{StopsWriting, file_error_line};
 
 use crate::outcome::{Outcome, Status};
 use crate::printing::{print, print_all};
@@ -38,7 +40,9 @@ fn say_unwritten<E: Write>(
     unwritten: Unwritten,
     memory_name: &str,
 ) -> bool
-    ensures { unwritten.fault ≡ StoreFault.OutOfMemory → Prints (E.contents err.old) (E.contents err.new) (memory_line memory_name.now) result }
+    ensures memory { unwritten.fault ≡ StoreFault.OutOfMemory → Prints (E.contents err.old) (E.contents err.new) (memory_line memory_name.now) result }
+    ensures failed { (file : OutputFile) → unwritten.fault ≡ StoreFault.FileError → slice_get outputs.now unwritten.place ≡ Some file →
+        Prints (E.contents err.old) (E.contents err.new) (file_error_line file.name) result }
 {
     let words: &[u8] = match unwritten.fault {
         StoreFault::OutOfMemory => return say_memory(err, memory_name),
@@ -64,6 +68,10 @@ pub fn perform<S: Store, W: Write, E: Write>(
     ensures done { IfSome (S.files store.old) (λ m. NoneFailed (S.failures store.old) (S.failures store.new) →
         Performs outcome.now m (S.files store.new) (W.contents out.old) (W.contents out.new) (E.contents err.old) (E.contents err.new) result
         ⊎ StopsShort outcome.now (memory_line memory_name.now) m (S.files store.new) (W.contents out.old) (W.contents out.new) (E.contents err.old) (E.contents err.new) result) }
+    ensures plain { outcome.now.outputs ≡ [] → IfSome (S.files store.old) (λ m.
+        Performs outcome.now m (S.files store.new) (W.contents out.old) (W.contents out.new) (E.contents err.old) (E.contents err.new) result) }
+    ensures failed { IfSome (S.files store.old) (λ m. S.failures store.old < S.failures store.new →
+        StopsWriting outcome.now m (S.files store.new) (W.contents out.old) (W.contents out.new) (E.contents err.old) (E.contents err.new) result) }
     ensures later { S.failures store.old ≤ S.failures store.new }
     ensures rose { S.failures store.old < S.failures store.new → result ≡ Status.Failure }
     ensures failing { outcome.now.status ≡ Status.Failure → result ≡ Status.Failure }

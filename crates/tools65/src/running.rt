@@ -2,10 +2,11 @@
 
 ghost use Rattle.std.specs.Prelude.{◌≡◌, ◌<◌, ◌≤◌, IfOk, IfSome, map};
 ghost use Rattle.syntax65.specs.Store.{NoneFailed};
-ghost use Rattle.line65.specs.Line.{archiving, assembling, linking, view};
+ghost use Rattle.line65.specs.Line.{archive, archiving, assemble, assembling, link, linking, view};
 ghost use Rattle.line65.specs.Messages.{memory_line};
 ghost use Rattle.tools65.specs.Archives.{Archives};
 ghost use Rattle.tools65.specs.Command.{outcome_of, Ran, Assembles, Does, DoesLine, Commands, line_memory};
+ghost use Rattle.tools65.specs.Failing.{FailsLine, FailsWords, SomeFailed};
 ghost use Rattle.ld65.specs.Refusals.{memory_message};
 
 use crate::archiving::archive_outcome;
@@ -58,6 +59,8 @@ fn run_link<S: Store, W: Write, E: Write>(
 ) -> Status
     ensures done { IfSome (S.files store.old) (λ m. NoneFailed (S.failures store.old) (S.failures store.new) →
         Ran (Does (linking line.now)) memory_message m (S.files store.new) (W.contents out.old) (W.contents out.new) (E.contents err.old) (E.contents err.new) result) }
+    ensures failed { IfSome (S.files store.old) (λ m. SomeFailed (S.failures store.old) (S.failures store.new) →
+        FailsLine (link (linking line.now)) m (S.files store.new) (W.contents out.old) (W.contents out.new) (E.contents err.old) (E.contents err.new) result) }
     ensures later { S.failures store.old ≤ S.failures store.new }
     ensures rose { S.failures store.old < S.failures store.new → result ≡ Status.Failure }
 {
@@ -81,6 +84,8 @@ fn run_assemble<S: Store, W: Write, E: Write>(
 ) -> Status
     ensures done { IfSome (S.files store.old) (λ m. NoneFailed (S.failures store.old) (S.failures store.new) →
         Ran (Assembles (assembling line.now)) (memory_line line.now.source.now) m (S.files store.new) (W.contents out.old) (W.contents out.new) (E.contents err.old) (E.contents err.new) result) }
+    ensures failed { IfSome (S.files store.old) (λ m. SomeFailed (S.failures store.old) (S.failures store.new) →
+        FailsLine (assemble (assembling line.now)) m (S.files store.new) (W.contents out.old) (W.contents out.new) (E.contents err.old) (E.contents err.new) result) }
     ensures later { S.failures store.old ≤ S.failures store.new }
     ensures rose { S.failures store.old < S.failures store.new → result ≡ Status.Failure }
 {
@@ -117,6 +122,8 @@ fn run_archive<S: Store, W: Write, E: Write>(
 ) -> Status
     ensures done { IfSome (S.files store.old) (λ m. NoneFailed (S.failures store.old) (S.failures store.new) →
         Ran (Archives (archiving line.now)) (memory_line line.now.library.now) m (S.files store.new) (W.contents out.old) (W.contents out.new) (E.contents err.old) (E.contents err.new) result) }
+    ensures failed { IfSome (S.files store.old) (λ m. SomeFailed (S.failures store.old) (S.failures store.new) →
+        FailsLine (archive (archiving line.now)) m (S.files store.new) (W.contents out.old) (W.contents out.new) (E.contents err.old) (E.contents err.new) result) }
     ensures later { S.failures store.old ≤ S.failures store.new }
     ensures rose { S.failures store.old < S.failures store.new → result ≡ Status.Failure }
 {
@@ -141,6 +148,8 @@ pub fn run_line<S: Store, W: Write, E: Write>(
 ) -> Status
     ensures done { IfSome (S.files store.old) (λ m. NoneFailed (S.failures store.old) (S.failures store.new) →
         Ran (DoesLine (view line.now)) (line_memory (view line.now)) m (S.files store.new) (W.contents out.old) (W.contents out.new) (E.contents err.old) (E.contents err.new) result) }
+    ensures failed { IfSome (S.files store.old) (λ m. SomeFailed (S.failures store.old) (S.failures store.new) →
+        FailsLine (view line.now) m (S.files store.new) (W.contents out.old) (W.contents out.new) (E.contents err.old) (E.contents err.new) result) }
     ensures later { S.failures store.old ≤ S.failures store.new }
     ensures rose { S.failures store.old < S.failures store.new → result ≡ Status.Failure }
 {
@@ -161,6 +170,8 @@ pub fn run<A: AsStr, S: Store, W: Write, E: Write>(
 ) -> Status
     ensures done { IfSome (S.files store.old) (λ m. NoneFailed (S.failures store.old) (S.failures store.new) →
         Commands (map A.text words.now) m (S.files store.new) (W.contents out.old) (W.contents out.new) (E.contents err.old) (E.contents err.new) result) }
+    ensures failed { IfSome (S.files store.old) (λ m. SomeFailed (S.failures store.old) (S.failures store.new) →
+        FailsWords (map A.text words.now) m (S.files store.new) (W.contents out.old) (W.contents out.new) (E.contents err.old) (E.contents err.new) result) }
     ensures later { S.failures store.old ≤ S.failures store.new }
     ensures rose { S.failures store.old < S.failures store.new → result ≡ Status.Failure }
 {

@@ -1,7 +1,8 @@
 use Rattle.std.proofs.Common.{refl}
-use Rattle.line65.specs.Line.{archiving}
+use Rattle.line65.specs.Line.{archive, archiving}
 use Rattle.line65.specs.Messages.{memory_line}
 use Rattle.tools65.specs.Archives.{Archives}
+use Rattle.tools65.proofs.Failing.{failed_archive, only_memory_fails}
 use Rattle.tools65.proofs.Runs.{only_memory, archived_run}
 use Rattle.tools65.proofs.running.run_archive.Goals as goal
 
@@ -11,3 +12,10 @@ returns-in-Ok-clause-done g c =
 
 pub returns-in-Err-clause-done : goal.returns-in-Err-clause-done
 returns-in-Err-clause-done g c = only_memory _ _ (Archives (archiving c.args.line.now)) _ _ _ (memory_line c.args.line.now.library.now) c.say_memory.result _ _ c.archive-archived.ensures.files refl c.say_memory.ensures
+
+pub returns-in-Ok-clause-failed : goal.returns-in-Ok-clause-failed
+returns-in-Ok-clause-failed g c =
+    failed_archive _ _ _ _ _ _ (archiving c.args.line.now) c.archive-archived.result c.in-Ok.outcome _ _ _ _ _ c.archive-archived.ensures.files c.archive-archived.ensures.count c.in-Ok.ensures c.archive-archived.ensures.archived c.perform.ensures.plain c.perform.ensures.failed
+
+pub returns-in-Err-clause-failed : goal.returns-in-Err-clause-failed
+returns-in-Err-clause-failed g c = only_memory_fails _ _ (archive (archiving c.args.line.now)) _ _ _ c.say_memory.result _ _ c.archive-archived.ensures.files refl c.say_memory.ensures

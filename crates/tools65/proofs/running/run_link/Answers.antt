@@ -1,7 +1,8 @@
 use Rattle.std.proofs.Common.{refl}
-use Rattle.line65.specs.Line.{linking}
+use Rattle.line65.specs.Line.{link, linking}
 use Rattle.tools65.specs.Command.{Does}
 use Rattle.ld65.specs.Refusals.{memory_message}
+use Rattle.tools65.proofs.Failing.{failed_link, only_memory_fails}
 use Rattle.tools65.proofs.Runs.{only_memory, linked_run}
 use Rattle.tools65.proofs.running.run_link.Goals as goal
 
@@ -11,3 +12,10 @@ returns-in-Ok-clause-done g c =
 
 pub returns-in-Err-clause-done : goal.returns-in-Err-clause-done
 returns-in-Err-clause-done g c = only_memory _ _ (Does (linking c.args.line.now)) _ _ _ memory_message c.say_memory.result _ _ c.link_files-linked.ensures.files refl c.say_memory.ensures
+
+pub returns-in-Ok-clause-failed : goal.returns-in-Ok-clause-failed
+returns-in-Ok-clause-failed g c =
+    failed_link _ _ _ _ _ _ (linking c.args.line.now) c.link_files-linked.result c.in-Ok.outcome _ _ _ _ _ c.link_files-linked.ensures.files c.link_files-linked.ensures.count c.in-Ok.ensures c.link_files-linked.ensures.linked c.perform.ensures.plain c.perform.ensures.failed
+
+pub returns-in-Err-clause-failed : goal.returns-in-Err-clause-failed
+returns-in-Err-clause-failed g c = only_memory_fails _ _ (link (linking c.args.line.now)) _ _ _ c.say_memory.result _ _ c.link_files-linked.ensures.files refl c.say_memory.ensures

@@ -1,0 +1,72 @@
+-- What a run leaves where a call of the store fails while it runs.
+use Rattle.std.specs.Prelude.{◌≡◌, ℕ, ◌<◌, ◌⊎◌, true, List, ◌∷◌, [], codes, take, slice_get, Option, Some, Result, Ok, Bool}
+use Rattle.syntax65.specs.Store.{Files, Tells, last_count}
+use Rattle.ar65.specs.declared.refusal.Refusal.{Refusal as ArchiveRefusal}
+use Rattle.ar65.specs.Refusals as archives
+use Rattle.ld65.specs.declared.refusal.Refusal.{Refusal}
+use Rattle.ld65.specs.Refusals.{is_failure, refusal_message}
+use Rattle.language65.specs.Faults as asm
+use Rattle.line65.specs.Line.{Says, assemble, link, archive, line_of}
+use Rattle.line65.specs.Messages.{joined}
+use Rattle.linkage65.specs.declared.linked.OutputFile.{OutputFile}
+use Rattle.module65.specs.Places.{PlacedFault}
+use Rattle.tools65.specs.Assembling.{asm_message}
+use Rattle.tools65.specs.Command.{DoesLine, line_memory}
+use Rattle.tools65.specs.Leaving.{Performs, Prints, SaysBoth, StopsAt}
+use Rattle.tools65.specs.Outputs.{failing}
+use Rattle.tools65.specs.declared.outcome.Outcome.{Outcome}
+use Rattle.tools65.specs.declared.outcome.Status.{Status}
+use Rattle.tools65.specs.declared.outcome.Status.TheVariants.{Failure}
+
+-- a call failed that came after one that could still be counted
+pub record SomeFailed (old new : ℕ) : Type 0 where
+  pub before : old < last_count
+  pub rose : old < new
+
+-- What befell a file: `name: Error: file error`.
+abbrev pub file_error_line : List ℕ → List ℕ
+file_error_line name = joined (name ∷ codes ": Error: file error\n" ∷ [])
+
+-- A call failed while files were read: nothing is written, and one of these texts alone says why.
+pub record StopsReading (Why : List ℕ → Type 0) (old : Files) (new : Option Files) (out_old out_new err_old err_new : Option (List ℕ)) (status : Status) : Type 0 where
+  pub text : List ℕ
+  pub why : Why text
+  pub said : Performs (failing text) old new out_old out_new err_old err_new status
+
+-- A call failed while an outcome's files were written: its texts were taken whole; the outputs before one are written, that
+-- one in part or not at all, and no later one; and what befell that file is said behind the texts, or a first part of that.
+pub record StopsWriting (o : Outcome) (old : Files) (new : Option Files) (out_old out_new err_old err_new : Option (List ℕ)) (status : Status) : Type 0 where
+  -- standard error behind the outcome's text
+  pub err_mid : Option (List ℕ)
+  pub said : SaysBoth out_old out_new o.out err_old err_mid o.err true
+  pub place : ℕ
+  pub left : Tells (StopsAt o.outputs place) (Some old) new
+  pub output : OutputFile
+  pub at : slice_get o.outputs place ≡ Some output
+  pub whole : Bool
+  pub behind : Prints err_mid err_new (file_error_line output.name) whole
+  pub failed : status ≡ Failure
+
+-- A run in which a call failed: while it read files, or while it wrote those of the outcome that they give.
+abbrev pub Fails : (Files → Outcome → Type 0) → (List ℕ → Type 0) → Files → Option Files → Option (List ℕ) → Option (List ℕ) → Option (List ℕ) → Option (List ℕ) → Status → Type 0
+Fails does Why m new out_old out_new err_old err_new status =
+    StopsReading Why m new out_old out_new err_old err_new status
+    ⊎ ((o : Outcome) × does m o × StopsWriting o m new out_old out_new err_old err_new status)
+
+-- what a line says of a call that failed while it read files
+abbrev pub SaysFailure : Says → List ℕ → Type 0
+SaysFailure (assemble a) text = (e : PlacedFault) × (asm.is_failure e.fault ≡ true) × (text ≡ asm_message a.source e)
+SaysFailure (link l) text = (e : Refusal) × (is_failure e ≡ true) × (text ≡ refusal_message l e)
+SaysFailure (archive a) text = (e : ArchiveRefusal) × (archives.is_failure e ≡ true) × (text ≡ archives.refusal_message a e)
+
+-- that, or that memory ran out as well
+abbrev pub SaysWhy : Says → List ℕ → Type 0
+SaysWhy line text = SaysFailure line text ⊎ (text ≡ line_memory line)
+
+abbrev pub FailsLine : Says → Files → Option Files → Option (List ℕ) → Option (List ℕ) → Option (List ℕ) → Option (List ℕ) → Status → Type 0
+FailsLine line = Fails (DoesLine line) (SaysWhy line)
+
+-- Words that are no line ask nothing of the store.
+abbrev pub FailsWords : List (List ℕ) → Files → Option Files → Option (List ℕ) → Option (List ℕ) → Option (List ℕ) → Option (List ℕ) → Status → Type 0
+FailsWords words m new out_old out_new err_old err_new status =
+    (line : Says) × (line_of words ≡ Ok line) × FailsLine line m new out_old out_new err_old err_new status

@@ -32,7 +32,7 @@ use Rattle.script65.specs.declared.placement.RowPlace.{RowPlace}
 use Rattle.script65.specs.declared.script.Row.{Row}
 use Rattle.syntax65.specs.Values.{wrapped}
 use Rattle.language65.specs.Sound.{IsSoundLayout, sections_in}
-use Rattle.linkage65.specs.Checks.{check_export, check_waiting, each_passes, waiting_by_row, waiting_in}
+use Rattle.linkage65.specs.Checks.{check_asserts, check_export, check_waiting, each_passes, waiting_by_row, waiting_in}
 use Rattle.linkage65.specs.Files.{RowBytes, cell_bytes, row_bytes}
 use Rattle.linkage65.specs.declared.parts.Exported.{Exported}
 use Rattle.linkage65.specs.declared.linked.OutputFile.{OutputFile}
@@ -54,7 +54,7 @@ use Rattle.std.specs.Int.{next_multiple_of}
 use Rattle.std.specs.List.{AllByRecursion, flat_map, list_any}
 use Rattle.script65.specs.Placing.{place_of, rounded_up}
 use Rattle.whole65.specs.Values.{Program, Value}
-use Rattle.whole65.specs.Whole.{AreExported, AreRow, HasImage, given_names}
+use Rattle.whole65.specs.Whole.{AreAsserted, AreExported, AreRow, HasImage, given_names}
 
 -- an expression has one value at most
 abbrev pub OneValueLaw : Type 0
@@ -316,6 +316,17 @@ ExportsLaw =
     AreSources ys ms → AreExports l table →
     (each_passes (check_export l (linked.program_of ms).members (in_table table)) (linked.program_of ms).exports ≡ Ok tt)
     ↔ AreExported (program_of s placement ys) 0 ys
+
+-- All assertions pass in a link, with some text of warnings, exactly where those that modules make pass in the whole
+-- program.
+abbrev pub AssertionsLaw : Type 0
+AssertionsLaw =
+    (s : Script) (placement : Placement) (ys : List Layout) (ms : List Module) (table : List (Result ℤ ValueFault)) →
+    let q : linked.Program = linked.program_of ms in
+    let l : Linkage = linkage_of s q placement in
+    AreSources ys ms → AreExports l table →
+    ((warnings : List ℕ) × (check_asserts l q.members (in_table table) q.asserts ≡ Ok warnings))
+    ↔ AreAsserted (program_of s placement ys) 0 ys
 
 -- The rows of a placed program have bytes and make these files exactly where each value that waits in a link passes its
 -- check, and the link makes them.

@@ -42,3 +42,5 @@ pub mod Images
 pub mod Files
 pub mod Tables
 pub mod Given
+pub mod Links
+pub mod Equality

@@ -1,6 +1,7 @@
 //! What holds of whole programs. Each function's contract is a law.
 
-ghost use Rattle.whole65.specs.Laws.{AlignmentLaw, BaseLaw, CellsLaw, CheckedLaw, ExportNamesLaw, ExportTableLaw, ExportValueLaw, ExportsLaw, FilesLaw, FormLaw, FragmentsLaw, GivenLaw, KeyedLaw, LaidOutLaw, LengthLaw, LinkedBytesLaw, LinkedLaw, ModuleLaw, NamesLaw, NumberLaw, OffsetLaw, OneValueLaw, OwnPartsLaw, PartsLaw, PlacementLaw, PositionLaw, ResolvedLaw, RoundingLaw, RowsLaw, SameValuesLaw, SectionBaseLaw, SectionLaw, SegmentLaw, ShiftLaw, SizeLaw, SourcesLaw, TableLaw, ValuedImportsLaw};
+ghost use Rattle.whole65.specs.Equality.{EqualityLaw};
+ghost use Rattle.whole65.specs.Laws.{AlignmentLaw, AssertionsLaw, BaseLaw, CellsLaw, CheckedLaw, ExportNamesLaw, ExportTableLaw, ExportValueLaw, ExportsLaw, FilesLaw, FormLaw, FragmentsLaw, GivenLaw, KeyedLaw, LaidOutLaw, LengthLaw, LinkedBytesLaw, LinkedLaw, ModuleLaw, NamesLaw, NumberLaw, OffsetLaw, OneValueLaw, OwnPartsLaw, PartsLaw, PlacementLaw, PositionLaw, ResolvedLaw, RoundingLaw, RowsLaw, SameValuesLaw, SectionBaseLaw, SectionLaw, SegmentLaw, ShiftLaw, SizeLaw, SourcesLaw, TableLaw, ValuedImportsLaw};
 
 /// An expression has at most one value.
 pub fn one_value()
@@ -193,4 +194,9 @@ pub fn names_given()
 /// A link leaves no name open where the whole program has all its names and values.
 pub fn none_unresolved()
     ensures { ResolvedLaw }
+{}
+
+/// Linking the objects of sources gives files exactly where their whole program has an image, and that image.
+pub fn equality()
+    ensures { AssertionsLaw → GivenLaw → ResolvedLaw → EqualityLaw }
 {}

@@ -1,2 +1,6 @@
 pub mod Texts
 pub mod Runs
+pub mod OneLinks
+pub mod Selected
+pub mod Wholes
+pub mod WholeRuns

@@ -4,3 +4,4 @@ pub mod Outputs
 pub mod Assembling
 pub mod Archives
 pub mod Command
+pub mod OneProgram

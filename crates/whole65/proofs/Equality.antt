@@ -11,6 +11,7 @@ use Rattle.whole65.proofs.Given.{names_law}
 use Rattle.whole65.proofs.Links.{HasLink, link_by, link_has, linked_by}
 use Rattle.whole65.proofs.Needs.{placement_law}
 use Rattle.whole65.proofs.Tables.{export_table_law}
+use Rattle.whole65.proofs.Unresolved.{given_law, resolved_law}
 use Rattle.whole65.specs.Equality.{EqualityLaw, IsLinkedTo}
 use Rattle.whole65.specs.Laws.{AssertionsLaw, GivenLaw, ResolvedLaw}
 use Rattle.whole65.specs.Programs.{program_of}
@@ -76,6 +77,6 @@ module _ (asserts : AssertionsLaw) (given : GivenLaw) (resolved : ResolvedLaw) (
     λ k. is_whole (link_has output s (linked.program_of ms) files k.linked k.link k.same),
   )
 
--- by the laws of assertions and of names that have to be given
-pub equality_by : AssertionsLaw → GivenLaw → ResolvedLaw → EqualityLaw
-equality_by asserts given resolved output s ys ms files h = either asserts given resolved output s ys ms files h
+-- by the law of assertions
+pub equality_by : AssertionsLaw → EqualityLaw
+equality_by asserts output s ys ms files h = either asserts given_law resolved_law output s ys ms files h

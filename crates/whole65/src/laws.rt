@@ -198,5 +198,5 @@ pub fn none_unresolved()
 
 /// Linking the objects of sources gives files exactly where their whole program has an image, and that image.
 pub fn equality()
-    ensures { AssertionsLaw → GivenLaw → ResolvedLaw → EqualityLaw }
+    ensures { AssertionsLaw → EqualityLaw }
 {}

@@ -6,6 +6,7 @@ use Rattle.language65.specs.Layout.{Layout}
 use Rattle.linkage65.specs.Modules.{Module}
 use Rattle.linkage65.specs.Programs as linked
 use Rattle.linkage65.specs.declared.linked.OutputFile.{OutputFile}
+use Rattle.whole65.proofs.Asserted.{assertions_law}
 use Rattle.whole65.proofs.Files.{exports_law, files_law}
 use Rattle.whole65.proofs.Given.{names_law}
 use Rattle.whole65.proofs.Links.{HasLink, link_by, link_has, linked_by}
@@ -13,7 +14,6 @@ use Rattle.whole65.proofs.Needs.{placement_law}
 use Rattle.whole65.proofs.Tables.{export_table_law}
 use Rattle.whole65.proofs.Unresolved.{given_law, resolved_law}
 use Rattle.whole65.specs.Equality.{EqualityLaw, IsLinkedTo}
-use Rattle.whole65.specs.Laws.{AssertionsLaw, GivenLaw, ResolvedLaw}
 use Rattle.whole65.specs.Programs.{program_of}
 use Rattle.whole65.specs.Sources.{AreSources}
 use Rattle.whole65.specs.Values.{Program}
@@ -28,17 +28,17 @@ said_parts p owner (y ∷ ys) =
       λ k. (record { forced = k.0.0; exports = k.1.0; assertions = k.2.0 }, more.1 (k.0.1, k.1.1, k.2.1)),
     )
 
-module _ (asserts : AssertionsLaw) (given : GivenLaw) (resolved : ResolvedLaw) (output : List ℕ) (s : Script) (ys : List Layout) (ms : List Module) (files : List OutputFile) (h : AreSources ys ms) where
+module _ (output : List ℕ) (s : Script) (ys : List Layout) (ms : List Module) (files : List OutputFile) (h : AreSources ys ms) where
   has_link : Whole output s ys files → HasLink output s (linked.program_of ms) files
   has_link w =
       let p : Program = program_of s w.placement ys in
       let said = (said_parts p 0 ys).0 w.image.said in
       let found = export_table_law s w.placement ys ms h said.1 in
       let made = (files_law output s w.placement ys ms found.0 files h found.1).0 (record { bytes = w.image.bytes; rows = w.image.rows; image = w.image.image }) in
-      let warned = (asserts s w.placement ys ms found.0 h found.1).1 said.2 in
+      let warned = (assertions_law s w.placement ys ms found.0 h found.1).1 said.2 in
       record {
         once = (names_law s ys ms h).1 w.once;
-        none = resolved s w.placement ys ms w.image.bytes h w.placed w.image.imports said.0 said.1 said.2 w.image.rows;
+        none = resolved_law s w.placement ys ms w.image.bytes h w.placed w.image.imports said.0 said.1 said.2 w.image.rows;
         placement = w.placement;
         placed = placement_law s ys ms h ∙ w.placed;
         table = found.0;
@@ -54,9 +54,9 @@ module _ (asserts : AssertionsLaw) (given : GivenLaw) (resolved : ResolvedLaw) (
   is_whole k =
       let p : Program = program_of s k.placement ys in
       let placed = sym (placement_law s ys ms h) ∙ k.placed in
-      let names = given s k.placement ys ms h placed k.none in
+      let names = given_law s k.placement ys ms h placed k.none in
       let exported = (exports_law s k.placement ys ms k.table h k.exports).0 k.exported in
-      let asserted = (asserts s k.placement ys ms k.table h k.exports).0 (k.warnings, k.asserted) in
+      let asserted = (assertions_law s k.placement ys ms k.table h k.exports).0 (k.warnings, k.asserted) in
       let image : HasImage output s ys k.placement p files = (files_law output s k.placement ys ms k.table files h k.exports).1 (k.values, k.made) in
       record {
         once = (names_law s ys ms h).0 k.once;
@@ -77,6 +77,5 @@ module _ (asserts : AssertionsLaw) (given : GivenLaw) (resolved : ResolvedLaw) (
     λ k. is_whole (link_has output s (linked.program_of ms) files k.linked k.link k.same),
   )
 
--- by the law of assertions
-pub equality_by : AssertionsLaw → EqualityLaw
-equality_by asserts output s ys ms files h = either asserts given_law resolved_law output s ys ms files h
+pub equality_law : EqualityLaw
+equality_law output s ys ms files h = either output s ys ms files h

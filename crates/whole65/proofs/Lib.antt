@@ -47,5 +47,7 @@ pub mod Demands
 pub mod Imports
 pub mod Resolved
 pub mod Unresolved
+pub mod Asserting
+pub mod Asserted
 pub mod Links
 pub mod Equality

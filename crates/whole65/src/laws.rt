@@ -171,6 +171,11 @@ pub fn exports_pass()
     ensures { ExportsLaw }
 {}
 
+/// Assertions pass in a link, with some text of warnings, where they do in the whole program.
+pub fn assertions_pass()
+    ensures { AssertionsLaw }
+{}
+
 /// Where all names that modules export have values in the whole program, each export comes to one in a link.
 pub fn export_table()
     ensures { ExportTableLaw }
@@ -198,5 +203,5 @@ pub fn none_unresolved()
 
 /// Linking the objects of sources gives files exactly where their whole program has an image, and that image.
 pub fn equality()
-    ensures { AssertionsLaw → EqualityLaw }
+    ensures { EqualityLaw }
 {}

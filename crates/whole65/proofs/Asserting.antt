@@ -1,5 +1,5 @@
 -- What statements assert, and what is said of it in a module's contents.
-use Rattle.std.proofs.Common.{◌≡◌, ℕ, zero, suc, List, [], ◌∷◌, ◌++◌, length, map, slice_get, Option, Some, None, Result, Ok, Err, refl, sym, ◌∙◌, ap, subst}
+use Rattle.std.proofs.Common.{◌≡◌, ℕ, zero, suc, List, [], ◌∷◌, ◌++◌, length, map, slice_get, Option, Some, None, Result, Ok, Err, refl, sym, ◌∙◌, subst}
 use Rattle.std.specs.Prelude.{ℤ, pos, negsuc, ◌↔◌, ⊤}
 use Rattle.std.specs.List.{AllByRecursion, flat_map}
 use Rattle.std.proofs.lemmas.List.{append_assoc}
@@ -27,7 +27,7 @@ use Rattle.whole65.proofs.Later.{bind_ok}
 use Rattle.whole65.proofs.SameValues.{same_values_law}
 use Rattle.whole65.proofs.SectionBytes.{content_is, in_middle, placed_ok}
 use Rattle.whole65.specs.Objects.{AreObjects, HasValue, Objects}
-use Rattle.whole65.specs.Segments.{Line, line_of, lines_behind}
+use Rattle.whole65.specs.Segments.{line_of, lines_behind}
 use Rattle.whole65.specs.Values.{Program, Value}
 use Rattle.whole65.specs.Whole.{HasAssertion, Passes}
 

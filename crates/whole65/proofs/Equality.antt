@@ -1,6 +1,6 @@
 -- A link of the objects of sources gives the image of their whole program, and none where that has none.
-use Rattle.std.proofs.Common.{◌≡◌, ℕ, suc, List, [], ◌∷◌, Result, Ok, refl, sym, ◌∙◌}
-use Rattle.std.specs.Prelude.{ℤ, ◌↔◌}
+use Rattle.std.proofs.Common.{ℕ, suc, List, [], ◌∷◌, refl, sym, ◌∙◌}
+use Rattle.std.specs.Prelude.{◌↔◌}
 use Rattle.script65.specs.declared.script.Script.{Script}
 use Rattle.language65.specs.Layout.{Layout}
 use Rattle.linkage65.specs.Modules.{Module}

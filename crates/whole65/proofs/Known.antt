@@ -30,7 +30,7 @@ use Rattle.linkage65.specs.Programs.{Program, member, no_program, program_of, wi
 use Rattle.linkage65.specs.declared.parts.Definition.{Definition}
 use Rattle.linkage65.specs.declared.parts.Exported as parts
 use Rattle.linkage65.specs.declared.parts.Giver.{Giver}
-use Rattle.linkage65.specs.declared.parts.Giver.TheVariants.{ByModule, ByScript, Nobody}
+use Rattle.linkage65.specs.declared.parts.Giver.TheVariants.{Nobody}
 use Rattle.linkage65.specs.declared.parts.Member.{Member}
 use Rattle.module65.proofs.SoundForms.{all_append}
 use Rattle.module65.proofs.Segments.{all_more}

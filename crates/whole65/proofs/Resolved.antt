@@ -1,5 +1,5 @@
 -- Imports of objects whose names the whole program gives, since forms that hold them have values.
-use Rattle.std.proofs.Common.{◌≡◌, ℕ, suc, ◌+◌, Bool, true, false, nat_eq, cond, List, [], ◌∷◌, ◌++◌, length, map, filter, slice_get, Option, Some, None, Result, Ok, Err, refl, sym, ◌∙◌, ap, subst, arith}
+use Rattle.std.proofs.Common.{◌≡◌, ℕ, suc, Bool, true, false, nat_eq, cond, List, [], ◌∷◌, ◌++◌, length, map, filter, slice_get, Option, Some, None, Result, Ok, refl, sym, ◌∙◌, ap, subst}
 use Rattle.std.specs.Prelude.{⊤, ℤ, unwrap_or, ◌||◌}
 use Rattle.std.specs.List.{AllByRecursion, flat_map, list_any}
 use Rattle.std.proofs.lemmas.List.{append_assoc}
@@ -49,7 +49,7 @@ use Rattle.whole65.specs.Programs as whole
 use Rattle.whole65.specs.Programs.{length_of}
 use Rattle.whole65.specs.Segments.{line_of, lines_behind}
 use Rattle.whole65.specs.Sources.{AreSources, IsSource}
-use Rattle.whole65.specs.Values.{Giver, Program, by_module, by_nobody, by_script}
+use Rattle.whole65.specs.Values.{Program, by_nobody}
 use Rattle.whole65.specs.Whole.{HasAssertion, HasExport, IsGiven}
 
 -- ---- What asks for no section puts nothing there.

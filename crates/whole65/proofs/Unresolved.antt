@@ -1,5 +1,5 @@
 -- A link leaves names open exactly where the whole program lacks some that have to be given.
-use Rattle.std.proofs.Common.{◌≡◌, ℕ, zero, suc, ◌+◌, Bool, true, false, nat_eq, cond, List, [], ◌∷◌, ◌++◌, map, filter, length, ◌<◌, slice_get, Some, Result, Ok, Err, refl, sym, ◌∙◌, ap, subst, arith}
+use Rattle.std.proofs.Common.{◌≡◌, ℕ, zero, suc, ◌+◌, Bool, true, false, nat_eq, cond, List, [], ◌∷◌, map, filter, length, ◌<◌, slice_get, Some, Ok, Err, refl, sym, ◌∙◌, ap, subst, arith}
 use Rattle.std.specs.Prelude.{◌||◌}
 use Rattle.std.specs.Int.{next_multiple_of}
 use Rattle.std.specs.List.{AllByRecursion, flat_map, list_any}
@@ -7,7 +7,6 @@ use Rattle.std.specs.Str.{bytes_eq}
 use Rattle.std.proofs.lemmas.List.Folds.{list_any-append}
 use Rattle.script65.proofs.Apart.{bind_ok}
 use Rattle.script65.specs.Placing.{areas_from, has_row, place_of, rows_exist, unplaced}
-use Rattle.script65.specs.declared.placement.PlaceFault.{PlaceFault}
 use Rattle.script65.specs.declared.placement.PlaceFault.TheVariants.{NoRow}
 use Rattle.script65.specs.declared.placement.Placement.{Placement}
 use Rattle.script65.specs.declared.script.Row.{Row}
@@ -21,7 +20,6 @@ use Rattle.language65.specs.Layout.{Layout}
 use Rattle.language65.specs.Numbering.{parts_in, section_keys, segments_asked}
 use Rattle.linkage65.specs.Files.{RowBytes}
 use Rattle.linkage65.specs.Modules.{Module}
-use Rattle.linkage65.specs.Names.{symbol_imports}
 use Rattle.linkage65.specs.declared.parts.ValueFault.{ValueFault}
 use Rattle.module65.proofs.SoundForms.{all_append}
 use Rattle.whole65.proofs.Bases.{one_of}
@@ -39,15 +37,15 @@ use Rattle.whole65.specs.Contents.{AreBytes}
 use Rattle.whole65.specs.Keyed.{linked_objects}
 use Rattle.whole65.specs.Laws.{GivenLaw, ResolvedLaw}
 use Rattle.whole65.specs.Linked.{spot_in, symbols_at}
-use Rattle.whole65.specs.Modules.{exports_of, forced_of, global_spot, spot_or, table_of}
+use Rattle.whole65.specs.Modules.{global_spot, spot_or, table_of}
 use Rattle.whole65.specs.Objects.{HasValue, Objects}
 use Rattle.whole65.specs.Offsets.{lines_at}
 use Rattle.whole65.specs.Parts.{AreParts}
 use Rattle.whole65.specs.Programs as whole
-use Rattle.whole65.specs.Segments.{Line, asked_by, end_behind, end_of, has_section, items_from, items_of, largest_multiple, line, lines_behind, need_of, needs_of, part_of, rounding, segment_name, segments_of}
+use Rattle.whole65.specs.Segments.{Line, asked_by, end_of, has_section, items_from, items_of, largest_multiple, line, lines_behind, need_of, needs_of, part_of, rounding, segment_name, segments_of}
 use Rattle.whole65.specs.Sources.{AreSources, IsSource}
 use Rattle.whole65.specs.Values.{Program}
-use Rattle.whole65.specs.Whole.{AreAsserted, AreExported, AreForced, AreRow, HasAssertion, HasExport, IsGiven}
+use Rattle.whole65.specs.Whole.{AreAsserted, AreExported, AreForced, AreRow, IsGiven}
 
 -- ---- From the link.
 

@@ -19,12 +19,13 @@ use Rattle.ld65.specs.Linkage.{IsLinked, output_of}
 use Rattle.ld65.specs.Refusals.{memory_message}
 use Rattle.tools65.specs.Command.{Commands, Does, DoesLine, Ran, RanWords, line_memory, outcome_of}
 use Rattle.tools65.specs.Leaving.{Performs, Settles, StopsShort, apply}
-use Rattle.tools65.specs.OneProgram.{HasFiles, LineLinksWhole, LinksWhole, OneProgramLaw, SelectsSources, Source, WholeOf, WordsLinkWhole, WritesWhole, WroteFiles}
+use Rattle.tools65.specs.OneProgram.{HasFiles, LineLinksWhole, LinksWhole, SelectsSources, Source, WholeOf, WordsLinkWhole, WritesWhole, WroteFiles}
 use Rattle.tools65.specs.Outputs.{failing, with_map}
 use Rattle.tools65.specs.declared.outcome.Outcome.{Outcome}
 use Rattle.tools65.specs.declared.outcome.Status.{Status}
 use Rattle.tools65.specs.declared.outcome.Status.TheVariants.{Failure, Success}
 use Rattle.tools65.proofs.OneLinks.{link_found, link_is}
+use Rattle.tools65.proofs.Wholes.{one_program}
 use Rattle.tools65.proofs.Selected.{inputs_selected, names_front, selected_inputs, selected_once}
 
 -- ---- A run that succeeds.
@@ -53,7 +54,7 @@ link_once output s ms linked h = passed (names_once s (program_of ms)) h
     passed (Ok u) k = refl
     passed (Err e) k = absurd cc
 
-module _ (law : OneProgramLaw) (l : Linking) (m : Files) (s : Script) (xs : List Source) (k : SelectsSources l m s xs) where
+module _ (l : Linking) (m : Files) (s : Script) (xs : List Source) (k : SelectsSources l m s xs) where
   -- a link that succeeds is that of the modules that the line selects
   fed_so : (linked : Linked) → IsLinked m l (Ok linked) → LinkOf (output_of l) s k.modules (Ok linked)
   fed_so linked h =
@@ -76,13 +77,13 @@ module _ (law : OneProgramLaw) (l : Linking) (m : Files) (s : Script) (xs : List
       let link = fed_so linked (subst (λ (q : Result Linked Refusal). IsLinked m l q) found.1 is) in
       let outcome : o ≡ outcome_of l (Ok linked) = same ∙ ap (λ (q : Result Linked Refusal). outcome_of l q) found.1 in (
         linked.files,
-        (law (output_of l) s xs k.modules linked.files k.objects).1 (record { linked = linked; link = link; same = refl }),
+        (one_program (output_of l) s xs k.modules linked.files k.objects).1 (record { linked = linked; link = link; same = refl }),
         (linked.map, written ∙ ap (λ (z : Outcome). Some (apply z.outputs m)) outcome),
       )
 
   has_files : (files : List OutputFile) → WholeOf (output_of l) s xs files → (o : Outcome) → Does l m o → HasFiles l files o
   has_files files w o (r, is, same) =
-      let link : IsLinkedTo (output_of l) s k.modules files = (law (output_of l) s xs k.modules files k.objects).0 w in
+      let link : IsLinkedTo (output_of l) s k.modules files = (one_program (output_of l) s xs k.modules files k.objects).0 w in
       let found : r ≡ Ok link.linked = linked_so link.linked r link.link is in
       let made : List OutputFile → Outcome = λ zs. record { out = []; err = link.linked.warnings; outputs = with_map l.map zs link.linked.map; status = Success } in
       (link.linked.warnings, link.linked.map, same ∙ ap (λ (q : Result Linked Refusal). outcome_of l q) found ∙ ap made link.same)
@@ -99,12 +100,12 @@ module _ (law : OneProgramLaw) (l : Linking) (m : Files) (s : Script) (xs : List
 
 -- ---- Lines and words.
 
-module _ (law : OneProgramLaw) (m : Files) (new : Option Files) (out_old out_new err_old err_new : Option (List ℕ)) (status : Status) where
+module _ (m : Files) (new : Option Files) (out_old out_new err_old err_new : Option (List ℕ)) (status : Status) where
   line_links : (line : Says) → Ran (DoesLine line) (line_memory line) m new out_old out_new err_old err_new status → LineLinksWhole line m new out_old out_new err_old err_new status
   line_links line ran l same s xs k =
       let there : Ran (Does l) memory_message m new out_old out_new err_old err_new status =
           subst (λ (z : Says). Ran (DoesLine z) (line_memory z) m new out_old out_new err_old err_new status) same ran in
-      writes_whole law l m s xs k new out_old out_new err_old err_new status there
+      writes_whole l m s xs k new out_old out_new err_old err_new status there
 
   words_link : (words : Result Says LineFault) → RanWords words m new out_old out_new err_old err_new status → WordsLinkWhole words m new out_old out_new err_old err_new status
   words_link words ran l same = go (subst (λ (z : Result Says LineFault). RanWords z m new out_old out_new err_old err_new status) same ran)
@@ -114,11 +115,11 @@ module _ (law : OneProgramLaw) (m : Files) (new : Option Files) (out_old out_new
       go (inr p) = inr p
 
 -- a line that was run
-pub line_whole : OneProgramLaw → (known new : Option Files) (fo fn : ℕ) (line : Says) (out_old out_new err_old err_new : Option (List ℕ)) (status : Status) → IfSome known (λ m. NoneFailed fo fn → Ran (DoesLine line) (line_memory line) m new out_old out_new err_old err_new status) → IfSome known (λ m. NoneFailed fo fn → LineLinksWhole line m new out_old out_new err_old err_new status)
-line_whole law None new fo fn line out_old out_new err_old err_new status h = tt
-line_whole law (Some m) new fo fn line out_old out_new err_old err_new status h = λ none. line_links law m new out_old out_new err_old err_new status line (h none)
+pub line_whole : (known new : Option Files) (fo fn : ℕ) (line : Says) (out_old out_new err_old err_new : Option (List ℕ)) (status : Status) → IfSome known (λ m. NoneFailed fo fn → Ran (DoesLine line) (line_memory line) m new out_old out_new err_old err_new status) → IfSome known (λ m. NoneFailed fo fn → LineLinksWhole line m new out_old out_new err_old err_new status)
+line_whole None new fo fn line out_old out_new err_old err_new status h = tt
+line_whole (Some m) new fo fn line out_old out_new err_old err_new status h = λ none. line_links m new out_old out_new err_old err_new status line (h none)
 
 -- words that were run
-pub words_whole : OneProgramLaw → (known new : Option Files) (fo fn : ℕ) (words : List (List ℕ)) (out_old out_new err_old err_new : Option (List ℕ)) (status : Status) → IfSome known (λ m. NoneFailed fo fn → Commands words m new out_old out_new err_old err_new status) → IfSome known (λ m. NoneFailed fo fn → WordsLinkWhole (line_of words) m new out_old out_new err_old err_new status)
-words_whole law None new fo fn words out_old out_new err_old err_new status h = tt
-words_whole law (Some m) new fo fn words out_old out_new err_old err_new status h = λ none. words_link law m new out_old out_new err_old err_new status (line_of words) (h none)
+pub words_whole : (known new : Option Files) (fo fn : ℕ) (words : List (List ℕ)) (out_old out_new err_old err_new : Option (List ℕ)) (status : Status) → IfSome known (λ m. NoneFailed fo fn → Commands words m new out_old out_new err_old err_new status) → IfSome known (λ m. NoneFailed fo fn → WordsLinkWhole (line_of words) m new out_old out_new err_old err_new status)
+words_whole None new fo fn words out_old out_new err_old err_new status h = tt
+words_whole (Some m) new fo fn words out_old out_new err_old err_new status h = λ none. words_link m new out_old out_new err_old err_new status (line_of words) (h none)

@@ -12,8 +12,8 @@ use Rattle.module65.specs.Places.{PlacedFault}
 use Rattle.module65.specs.Reading.{Reached}
 use Rattle.linkage65.specs.Modules.{Module}
 use Rattle.linkage65.specs.declared.linked.OutputFile.{OutputFile}
+use Rattle.whole65.proofs.Equality.{equality_law}
 use Rattle.whole65.proofs.LaidOut.{laid_out_law}
-use Rattle.whole65.specs.Equality.{EqualityLaw}
 use Rattle.whole65.specs.Sources.{AreSources}
 use Rattle.whole65.specs.Sources as whole
 use Rattle.whole65.specs.Whole.{Whole}
@@ -51,11 +51,10 @@ laid_once (x ∷ xs) (y ∷ ys) (z ∷ zs) h k =
     let same : y ≡ z = ap (λ (r : Reached Layout). r.behind) (one_layout x.files x.job (one y) (one z) h.0 k.0) in
     ap (λ l. l ∷ ys) same ∙ ap (λ ls. z ∷ ls) (laid_once xs ys zs h.1 k.1)
 
--- by the law over laid sources
-pub one_program_by : EqualityLaw → OneProgramLaw
-one_program_by equal output s xs ms files h =
+pub one_program : OneProgramLaw
+one_program output s xs ms files h =
     let (ys, laid, sources) = all_laid xs ms h in
-    let both = equal output s ys ms files sources in (
+    let both = equality_law output s ys ms files sources in (
       λ w. both.0 (subst (λ zs. Whole output s zs files) (laid_once xs w.0 ys w.1 laid) w.2),
       λ k. (ys, laid, both.1 k),
     )

@@ -5,3 +5,4 @@ pub mod Assembling
 pub mod Archives
 pub mod Command
 pub mod Failing
+pub mod OneProgram

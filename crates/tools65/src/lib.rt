@@ -4,6 +4,7 @@
 mod archiving;
 mod assembling;
 mod disk_store;
+pub mod laws;
 mod outcome;
 mod outputs;
 mod performing;

@@ -85,6 +85,10 @@ all_either P Q (x ∷ xs) f =
     let more = all_either P Q xs (λ i z e. f (suc i) z e) in
     (λ k. (one.0 k.0, more.0 k.1), λ k. (one.1 k.0, more.1 k.1))
 
+pub all_split : {A : Type 0} (P : A → Type 0) (xs zs : List A) → AllByRecursion P (xs ++ zs) → AllByRecursion P xs × AllByRecursion P zs
+all_split P [] zs h = (tt, h)
+all_split P (x ∷ xs) zs h = let more = all_split P xs zs h.1 in ((h.0, more.0), more.1)
+
 -- a value is there where the check passes
 abbrev found_at : Site → Result ℤ ValueFault → Result (Unit {0}) LinkFault
 found_at s r = value_at s r >>= (λ v. Ok tt)
@@ -101,10 +105,6 @@ module _ (p : Program) where
   one_module owner [] = (λ k. tt, λ k. tt)
   one_module owner (e ∷ es) = let more = one_module owner es in (λ k. (k.0, more.0 k.1), λ k. (k.0, more.1 k.1))
 
-  all_split : (xs zs : List Exported) → AllByRecursion OfExport (xs ++ zs) → AllByRecursion OfExport xs × AllByRecursion OfExport zs
-  all_split [] zs h = (tt, h)
-  all_split (x ∷ xs) zs h = let more = all_split xs zs h.1 in ((h.0, more.0), more.1)
-
   pub all_modules : (owner : ℕ) (ys : List Layout) (ms : List Module) → AreSources ys ms → AllByRecursion OfExport (linked_exports owner ms) ↔ AreExported p owner ys
   all_modules owner [] [] h = (λ k. tt, λ k. tt)
   all_modules owner [] (m ∷ ms) h = absurd h
@@ -115,7 +115,7 @@ module _ (p : Program) where
       let more = all_modules (suc owner) ys ms h.1 in
       let first : List Exported = map (linked.exported owner) m.object.exports in
       let rest : List Exported = linked_exports (suc owner) ms in (
-        λ k. (let q = all_split first rest k in (subst (AllByRecursion (HasExport p owner)) names (one.0 q.0), more.0 q.1)),
+        λ k. (let q = all_split OfExport first rest k in (subst (AllByRecursion (HasExport p owner)) names (one.0 q.0), more.0 q.1)),
         λ k. all_append OfExport first rest (one.1 (subst (AllByRecursion (HasExport p owner)) (sym names) k.0)) (more.1 k.1),
       )
 

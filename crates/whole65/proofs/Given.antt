@@ -28,7 +28,7 @@ valued_imports_law E none bases values (binary op f g) v e =
     let (b, second, last) = bind_ok (value_in none bases values g) (λ b. or_none none (value2 op a b)) v others in
     all_append (λ k. (w : ℤ) × (values k ≡ Ok w)) (imports_in f) (imports_in g) (valued_imports_law E none bases values f a first) (valued_imports_law E none bases values g b second)
 
-none_again : (r : Option (List ℕ)) → (no_name_again r ≡ Ok tt) ↔ (r ≡ None)
+pub none_again : (r : Option (List ℕ)) → (no_name_again r ≡ Ok tt) ↔ (r ≡ None)
 none_again None = (λ k. refl, λ k. refl)
 none_again (Some name) = (λ k. absurd cc, λ k. absurd cc)
 

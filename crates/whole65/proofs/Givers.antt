@@ -246,11 +246,11 @@ givers_agree s placement ys ms name h =
 
 -- ---- What imports come to.
 
-past_all : (ls : List Laid) → slice_get ls (length ls) ≡ None
+pub past_all : (ls : List Laid) → slice_get ls (length ls) ≡ None
 past_all [] = refl
 past_all (l ∷ ls) = past_all ls
 
-global_form : (y : Layout) (x : List ℕ) (j : ℕ) (f : Form) → defined (table_of y) (named 0 x) ≡ Some j → defined_form (table_of y) j ≡ Ok f → norm (suc (suc (length (table_of y).definitions))) (table_of y) (global_spot y) (tree.name false (x ∷ [])) ≡ Ok f
+pub global_form : (y : Layout) (x : List ℕ) (j : ℕ) (f : Form) → defined (table_of y) (named 0 x) ≡ Some j → defined_form (table_of y) j ≡ Ok f → norm (suc (suc (length (table_of y).definitions))) (table_of y) (global_spot y) (tree.name false (x ∷ [])) ≡ Ok f
 global_form y x j f e h =
     let z : Symbols = table_of y in
     ap (λ o. or_fault (Undefined x) (or_else o None) (imported z x) >>= form_of_meaning (norm_of z) z) e ∙ h

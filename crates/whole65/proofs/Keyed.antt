@@ -45,7 +45,7 @@ or_left : (a b : Bool) → a ≡ true → (a || b) ≡ true
 or_left true b e = refl
 or_left false b e = absurd cc
 
-or_right : (a b : Bool) → b ≡ true → (a || b) ≡ true
+pub or_right : (a b : Bool) → b ≡ true → (a || b) ≡ true
 or_right true b e = refl
 or_right false b e = e
 
@@ -60,7 +60,7 @@ itself_among k xs = or_left (nat_eq k k) (list_any (nat_eq k) xs) alike
     alike = grind (arith, nat_tests)
 
 -- what holds of all keys that are among some holds of each of them
-each_among : (P : ℕ → Type 0) (xs : List ℕ) → ((k : ℕ) → list_any (nat_eq k) xs ≡ true → P k) → AllByRecursion P xs
+pub each_among : (P : ℕ → Type 0) (xs : List ℕ) → ((k : ℕ) → list_any (nat_eq k) xs ≡ true → P k) → AllByRecursion P xs
 each_among P [] up = tt
 each_among P (x ∷ xs) up = (up x (itself_among x xs), each_among P xs (λ k h. up k (or_right (nat_eq k x) (list_any (nat_eq k) xs) h)))
 

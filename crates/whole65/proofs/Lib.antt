@@ -42,3 +42,12 @@ pub mod Images
 pub mod Files
 pub mod Tables
 pub mod Given
+pub mod Known
+pub mod Demands
+pub mod Imports
+pub mod Resolved
+pub mod Unresolved
+pub mod Asserting
+pub mod Asserted
+pub mod Links
+pub mod Equality

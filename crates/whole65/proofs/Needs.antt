@@ -62,7 +62,7 @@ any_new n (x ∷ xs) known =
     ∙ ap (λ b. b || list_any (λ k. bytes_eq n k) xs) (any_name n x known)
     ∙ or_both (list_any (λ k. bytes_eq n k) known) (bytes_eq n x) (list_any (λ k. bytes_eq n k) xs)
 
-any_map : (N : ℕ → List ℕ) (n : List ℕ) (ks : List ℕ) → list_any (λ z. bytes_eq n z) (map N ks) ≡ list_any (λ k. bytes_eq n (N k)) ks
+pub any_map : (N : ℕ → List ℕ) (n : List ℕ) (ks : List ℕ) → list_any (λ z. bytes_eq n z) (map N ks) ≡ list_any (λ k. bytes_eq n (N k)) ks
 any_map N n [] = refl
 any_map N n (k ∷ ks) = ap (λ b. bytes_eq n (N k) || b) (any_map N n ks)
 
@@ -113,7 +113,7 @@ section_names y sections imports cs (k ∷ ks) h =
     ap (λ n. n ∷ map (λ (s : Section). s.name) (map (section_of y.standing.segments sections imports cs) ks)) (name_at y.standing.segments k h.0)
     ∙ ap (λ z. segment_name y k ∷ z) (section_names y sections imports cs ks h.1)
 
-names_asked : (y : Layout) (ls : List Laid) → map (segment_name y) (map (λ (l : Laid). l.spot.segment) ls) ≡ map (λ (l : Laid). segment_name y l.spot.segment) ls
+pub names_asked : (y : Layout) (ls : List Laid) → map (segment_name y) (map (λ (l : Laid). l.spot.segment) ls) ≡ map (λ (l : Laid). segment_name y l.spot.segment) ls
 names_asked y [] = refl
 names_asked y (l ∷ ls) = ap (λ z. segment_name y l.spot.segment ∷ z) (names_asked y ls)
 

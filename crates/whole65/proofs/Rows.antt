@@ -52,7 +52,7 @@ module _ (p : Program) (fill : ℕ) where
   bytes_joined at (x ∷ xs) zs bytes (own, rest, (a, b, k, more, e'), h, e) =
       (a, b ++ rest, k, bytes_joined (end_behind at x) xs zs (b ++ rest) (b, rest, more, h, refl), e ∙ ap (λ z. z ++ rest) e' ∙ append_assoc a b rest)
 
-  bytes_split : (at : ℕ) (xs zs : List Item) (bytes : List ℕ) → AreBytes p fill at (xs ++ zs) bytes → BothBytes at xs zs bytes
+  pub bytes_split : (at : ℕ) (xs zs : List Item) (bytes : List ℕ) → AreBytes p fill at (xs ++ zs) bytes → BothBytes at xs zs bytes
   bytes_split at [] zs bytes h = ([], bytes, refl, h, refl)
   bytes_split at (x ∷ xs) zs bytes (a, b, k, more, e) =
       let (own, rest, h, g, e') = bytes_split (end_behind at x) xs zs b more in

@@ -64,7 +64,7 @@ pub placed_ok : (place : Place) (r : Result Content AsmFault) (c : Content) → 
 placed_ok place (Ok d) c e = cc
 placed_ok place (Err f) c e = cc
 
-in_middle : (before : List Laid) (l : Laid) (ls : List Laid) → slice_get (before ++ l ∷ ls) (length before) ≡ Some l
+pub in_middle : (before : List Laid) (l : Laid) (ls : List Laid) → slice_get (before ++ l ∷ ls) (length before) ≡ Some l
 in_middle [] l ls = refl
 in_middle (x ∷ before) l ls = in_middle before l ls
 

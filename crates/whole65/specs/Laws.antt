@@ -21,8 +21,9 @@ use Rattle.whole65.specs.Modules.{exports_of, table_of}
 use Rattle.object65.specs.FormValue.{value_in}
 use Rattle.object65.specs.Objects.{section_len}
 use Rattle.whole65.specs.Parts.{AreFragments, AreParts, valued_by}
-use Rattle.linkage65.specs.Givers.{export_names, first_again}
+use Rattle.linkage65.specs.Givers.{export_names, first_again, unresolved}
 use Rattle.linkage65.specs.Links.{AreFiles, names_once}
+use Rattle.linkage65.specs.Names.{symbol_imports}
 use Rattle.linkage65.specs.Modules.{Module}
 use Rattle.linkage65.specs.Programs as linked
 use Rattle.linkage65.specs.Places as places
@@ -32,7 +33,7 @@ use Rattle.script65.specs.declared.placement.RowPlace.{RowPlace}
 use Rattle.script65.specs.declared.script.Row.{Row}
 use Rattle.syntax65.specs.Values.{wrapped}
 use Rattle.language65.specs.Sound.{IsSoundLayout, sections_in}
-use Rattle.linkage65.specs.Checks.{check_export, check_waiting, each_passes, waiting_by_row, waiting_in}
+use Rattle.linkage65.specs.Checks.{check_asserts, check_export, check_waiting, each_passes, waiting_by_row, waiting_in}
 use Rattle.linkage65.specs.Files.{RowBytes, cell_bytes, row_bytes}
 use Rattle.linkage65.specs.declared.parts.Exported.{Exported}
 use Rattle.linkage65.specs.declared.linked.OutputFile.{OutputFile}
@@ -54,7 +55,8 @@ use Rattle.std.specs.Int.{next_multiple_of}
 use Rattle.std.specs.List.{AllByRecursion, flat_map, list_any}
 use Rattle.script65.specs.Placing.{place_of, rounded_up}
 use Rattle.whole65.specs.Values.{Program, Value}
-use Rattle.whole65.specs.Whole.{AreExported, AreRow, HasImage, given_names}
+use Rattle.whole65.specs.Whole.{AreAsserted, AreExported, AreForced, AreRow, HasImage, given_names}
+use Rattle.whole65.specs.Whole as whole
 
 -- an expression has one value at most
 abbrev pub OneValueLaw : Type 0
@@ -317,6 +319,17 @@ ExportsLaw =
     (each_passes (check_export l (linked.program_of ms).members (in_table table)) (linked.program_of ms).exports ≡ Ok tt)
     ↔ AreExported (program_of s placement ys) 0 ys
 
+-- All assertions pass in a link, with some text of warnings, exactly where those that modules make pass in the whole
+-- program.
+abbrev pub AssertionsLaw : Type 0
+AssertionsLaw =
+    (s : Script) (placement : Placement) (ys : List Layout) (ms : List Module) (table : List (Result ℤ ValueFault)) →
+    let q : linked.Program = linked.program_of ms in
+    let l : Linkage = linkage_of s q placement in
+    AreSources ys ms → AreExports l table →
+    ((warnings : List ℕ) × (check_asserts l q.members (in_table table) q.asserts ≡ Ok warnings))
+    ↔ AreAsserted (program_of s placement ys) 0 ys
+
 -- The rows of a placed program have bytes and make these files exactly where each value that waits in a link passes its
 -- check, and the link makes them.
 abbrev pub FilesLaw : Type 0
@@ -347,3 +360,23 @@ abbrev pub NamesLaw : Type 0
 NamesLaw =
     (s : Script) (ys : List Layout) (ms : List Module) → AreSources ys ms →
     (names_once s (linked.program_of ms) ≡ Ok tt) ↔ (first_again [] (given_names s ys) ≡ None)
+
+-- Where a link leaves no name open, the names that have to be given in the whole program are: the script's imports, and those
+-- that modules import whether or not they use them.
+abbrev pub GivenLaw : Type 0
+GivenLaw =
+    (s : Script) (placement : Placement) (ys : List Layout) (ms : List Module) →
+    let p : Program = program_of s placement ys in
+    AreSources ys ms → place_of s (needs_of ys) ≡ Ok placement → unresolved s (linked.program_of ms) ≡ [] →
+    AllByRecursion (whole.IsGiven p) (symbol_imports s.symbols) × AreForced p ys
+
+-- A link leaves no name open where they are given, and all that has to have a value in the whole program has one: rows, exports
+-- and assertions.
+abbrev pub ResolvedLaw : Type 0
+ResolvedLaw =
+    (s : Script) (placement : Placement) (ys : List Layout) (ms : List Module) (bytes : RowBytes) →
+    let p : Program = program_of s placement ys in
+    AreSources ys ms → place_of s (needs_of ys) ≡ Ok placement →
+    AllByRecursion (whole.IsGiven p) (symbol_imports s.symbols) → AreForced p ys →
+    AreExported p 0 ys → AreAsserted p 0 ys → AllByRecursion (AreRow p ys bytes) s.rows →
+    unresolved s (linked.program_of ms) ≡ []

@@ -13,3 +13,4 @@ pub mod Cells
 pub mod Laws
 pub mod Sources
 pub mod Keyed
+pub mod Equality

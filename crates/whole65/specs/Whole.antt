@@ -83,6 +83,16 @@ abbrev pub AreExported : Program → ℕ → List Layout → Type 0
 AreExported p owner [] = ⊤
 AreExported p owner (y ∷ ys) = AllByRecursion (HasExport p owner) (exports_of y) × AreExported p (suc owner) ys
 
+-- The assertions of modules, the first of which has this place, have values and pass.
+abbrev pub AreAsserted : Program → ℕ → List Layout → Type 0
+AreAsserted p owner [] = ⊤
+AreAsserted p owner (y ∷ ys) = AllByRecursion (HasAssertion p) (lines_behind owner [] y.laid) × AreAsserted p (suc owner) ys
+
+-- The names that modules import whether or not they use them are given.
+abbrev pub AreForced : Program → List Layout → Type 0
+AreForced p [] = ⊤
+AreForced p (y ∷ ys) = AllByRecursion (IsGiven p) (forced_of y) × AreForced p ys
+
 -- The bytes of the rows of a placed program, and its files.
 pub record HasImage (output : List ℕ) (s : Script) (ys : List Layout) (placement : Placement) (p : Program) (files : List OutputFile) : Type 0 where
   pub bytes : RowBytes

@@ -1,6 +1,7 @@
 //! What holds of whole programs. Each function's contract is a law.
 
-ghost use Rattle.whole65.specs.Laws.{AlignmentLaw, BaseLaw, CellsLaw, CheckedLaw, ExportNamesLaw, ExportTableLaw, ExportValueLaw, ExportsLaw, FilesLaw, FormLaw, FragmentsLaw, KeyedLaw, LaidOutLaw, LengthLaw, LinkedBytesLaw, LinkedLaw, ModuleLaw, NamesLaw, NumberLaw, OffsetLaw, OneValueLaw, OwnPartsLaw, PartsLaw, PlacementLaw, PositionLaw, RoundingLaw, RowsLaw, SameValuesLaw, SectionBaseLaw, SectionLaw, SegmentLaw, ShiftLaw, SizeLaw, SourcesLaw, TableLaw, ValuedImportsLaw};
+ghost use Rattle.whole65.specs.Equality.{EqualityLaw};
+ghost use Rattle.whole65.specs.Laws.{AlignmentLaw, AssertionsLaw, BaseLaw, CellsLaw, CheckedLaw, ExportNamesLaw, ExportTableLaw, ExportValueLaw, ExportsLaw, FilesLaw, FormLaw, FragmentsLaw, GivenLaw, KeyedLaw, LaidOutLaw, LengthLaw, LinkedBytesLaw, LinkedLaw, ModuleLaw, NamesLaw, NumberLaw, OffsetLaw, OneValueLaw, OwnPartsLaw, PartsLaw, PlacementLaw, PositionLaw, ResolvedLaw, RoundingLaw, RowsLaw, SameValuesLaw, SectionBaseLaw, SectionLaw, SegmentLaw, ShiftLaw, SizeLaw, SourcesLaw, TableLaw, ValuedImportsLaw};
 
 /// An expression has at most one value.
 pub fn one_value()
@@ -170,6 +171,11 @@ pub fn exports_pass()
     ensures { ExportsLaw }
 {}
 
+/// Assertions pass in a link, with some text of warnings, where they do in the whole program.
+pub fn assertions_pass()
+    ensures { AssertionsLaw }
+{}
+
 /// Where all names that modules export have values in the whole program, each export comes to one in a link.
 pub fn export_table()
     ensures { ExportTableLaw }
@@ -183,4 +189,19 @@ pub fn same_names()
 /// A form that has a value has one of each of its imports. `E` is what may go wrong with an import.
 pub fn valued_imports<E>()
     ensures { ValuedImportsLaw E }
+{}
+
+/// Where a link leaves no name open, the names that have to be given in the whole program are.
+pub fn names_given()
+    ensures { GivenLaw }
+{}
+
+/// A link leaves no name open where the whole program has all its names and values.
+pub fn none_unresolved()
+    ensures { ResolvedLaw }
+{}
+
+/// Linking the objects of sources gives files exactly where their whole program has an image, and that image.
+pub fn equality()
+    ensures { EqualityLaw }
 {}

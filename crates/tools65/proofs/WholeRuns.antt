@@ -1,0 +1,125 @@
+-- A run over sources' objects, and the whole program of the sources.
+use Rattle.std.proofs.Common.{◌≡◌, ◌∙◌, ◌⊎◌, inl, inr, ℕ, List, [], Bool, true, false, Option, Some, None, Result, Ok, Err, refl, sym, ap, subst}
+use Rattle.std.specs.Prelude.{IfSome}
+use Rattle.syntax65.specs.Store.{Files, NoneFailed}
+use Rattle.script65.specs.declared.script.Script.{Script}
+use Rattle.syntax65.specs.Outcome.{First}
+use Rattle.linkage65.specs.Links.{IsProgramLink, LinkOf, names_once}
+use Rattle.linkage65.specs.declared.fault.LinkFault.{LinkFault}
+use Rattle.linkage65.specs.Modules.{Module}
+use Rattle.linkage65.specs.Programs.{program_of}
+use Rattle.linkage65.specs.declared.linked.Linked.{Linked}
+use Rattle.linkage65.specs.declared.linked.OutputFile.{OutputFile}
+use Rattle.line65.specs.Line.{Linking, Says, link, line_of}
+use Rattle.line65.specs.Messages.{line_memory_message}
+use Rattle.line65.specs.declared.fault.LineFault.{LineFault}
+use Rattle.whole65.specs.Equality.{IsLinkedTo}
+use Rattle.ld65.specs.declared.refusal.Refusal.{Refusal}
+use Rattle.ld65.specs.Linkage.{IsLinked, output_of}
+use Rattle.ld65.specs.Refusals.{memory_message}
+use Rattle.tools65.specs.Command.{Commands, Does, DoesLine, Ran, RanWords, line_memory, outcome_of}
+use Rattle.tools65.specs.Leaving.{Performs, Settles, StopsShort, apply}
+use Rattle.tools65.specs.OneProgram.{HasFiles, LineLinksWhole, LinksWhole, SelectsSources, Source, WholeOf, WordsLinkWhole, WritesWhole, WroteFiles}
+use Rattle.tools65.specs.Outputs.{failing, with_map}
+use Rattle.tools65.specs.declared.outcome.Outcome.{Outcome}
+use Rattle.tools65.specs.declared.outcome.Status.{Status}
+use Rattle.tools65.specs.declared.outcome.Status.TheVariants.{Failure, Success}
+use Rattle.tools65.proofs.OneLinks.{link_found, link_is}
+use Rattle.tools65.proofs.Wholes.{one_program}
+use Rattle.tools65.proofs.Selected.{inputs_selected, names_front, selected_inputs, selected_once}
+
+-- ---- A run that succeeds.
+
+settled_well : (o : Outcome) (m : Files) (new : Option Files) (status : Status) (whole : Bool) → Settles o m new status whole → status ≡ Success → (o.status ≡ Success) × (new ≡ Some (apply o.outputs m))
+settled_well o m new status true h e = (sym h.1 ∙ e, h.0)
+settled_well o m new status false h e = (let never : Success ≡ Failure = sym e ∙ h.1 in absurd cc)
+
+-- its outcome is carried out whole
+carried_out : (o : Outcome) (memory : List ℕ) (m : Files) (new : Option Files) (out_old out_new err_old err_new : Option (List ℕ)) (status : Status) → status ≡ Success → Performs o m new out_old out_new err_old err_new status ⊎ StopsShort o memory m new out_old out_new err_old err_new status → (o.status ≡ Success) × (new ≡ Some (apply o.outputs m))
+carried_out o memory m new out_old out_new err_old err_new status e (inl p) = settled_well o m new status p.whole p.settled e
+carried_out o memory m new out_old out_new err_old err_new status e (inr p) = (let never : Success ≡ Failure = sym e ∙ p.failed in absurd cc)
+
+failing_fails : (o : Outcome) (text : List ℕ) → o ≡ failing text → o.status ≡ Success → ⊥
+failing_fails o text same e = (let never : Success ≡ Failure = sym e ∙ ap (λ (z : Outcome). z.status) same in cc)
+
+linked_well : (l : Linking) (r : Result Linked Refusal) (o : Outcome) → o ≡ outcome_of l r → o.status ≡ Success → (linked : Linked) × (r ≡ Ok linked)
+linked_well l (Ok linked) o same e = (linked, refl)
+linked_well l (Err f) o same e = absurd (failing_fails o _ same e)
+
+-- no name is given twice among modules that have a link
+link_once : (output : List ℕ) (s : Script) (ms : List Module) (linked : Linked) → LinkOf output s ms (Ok linked) → names_once s (program_of ms) ≡ Ok tt
+link_once output s ms linked h = passed (names_once s (program_of ms)) h
+  where
+    passed : (q : Result (Unit {0}) LinkFault) → First q (λ u. IsProgramLink output s (program_of ms)) (Ok linked) → q ≡ Ok tt
+    passed (Ok u) k = refl
+    passed (Err e) k = absurd cc
+
+module _ (l : Linking) (m : Files) (s : Script) (xs : List Source) (k : SelectsSources l m s xs) where
+  -- a link that succeeds is that of the modules that the line selects
+  fed_so : (linked : Linked) → IsLinked m l (Ok linked) → LinkOf (output_of l) s k.modules (Ok linked)
+  fed_so linked h =
+      let found = link_found l m s k.text k.file k.script linked h in
+      let chosen = inputs_selected s m 0 [] l.inputs found.0 found.1 in
+      let same : found.0 ≡ k.modules = chosen.2 ∙ selected_once s m [] l.inputs chosen.0 k.modules chosen.1 k.selected in
+      subst (λ (ms : List Module). LinkOf (output_of l) s ms (Ok linked)) same found.2
+
+  -- where those modules have a link, the line has it
+  linked_so : (linked : Linked) (r : Result Linked Refusal) → LinkOf (output_of l) s k.modules (Ok linked) → IsLinked m l r → r ≡ Ok linked
+  linked_so linked r h is =
+      let once = link_once (output_of l) s k.modules linked h in
+      link_is l m s k.text k.file k.script k.modules linked r (selected_inputs s m 0 [] l.inputs k.modules k.selected once) (names_front s [] k.modules once) h is
+
+  wrote : (o : Outcome) (new : Option Files) → Does l m o ⊎ (o ≡ failing memory_message) → o.status ≡ Success → new ≡ Some (apply o.outputs m) → (files : List OutputFile) × WholeOf (output_of l) s xs files × WroteFiles l files m new
+  wrote o new (inr same) e written = absurd (failing_fails o memory_message same e)
+  wrote o new (inl (r, is, same)) e written =
+      let found = linked_well l r o same e in
+      let linked : Linked = found.0 in
+      let link = fed_so linked (subst (λ (q : Result Linked Refusal). IsLinked m l q) found.1 is) in
+      let outcome : o ≡ outcome_of l (Ok linked) = same ∙ ap (λ (q : Result Linked Refusal). outcome_of l q) found.1 in (
+        linked.files,
+        (one_program (output_of l) s xs k.modules linked.files k.objects).1 (record { linked = linked; link = link; same = refl }),
+        (linked.map, written ∙ ap (λ (z : Outcome). Some (apply z.outputs m)) outcome),
+      )
+
+  has_files : (files : List OutputFile) → WholeOf (output_of l) s xs files → (o : Outcome) → Does l m o → HasFiles l files o
+  has_files files w o (r, is, same) =
+      let link : IsLinkedTo (output_of l) s k.modules files = (one_program (output_of l) s xs k.modules files k.objects).0 w in
+      let found : r ≡ Ok link.linked = linked_so link.linked r link.link is in
+      let made : List OutputFile → Outcome = λ zs. record { out = []; err = link.linked.warnings; outputs = with_map l.map zs link.linked.map; status = Success } in
+      (link.linked.warnings, link.linked.map, same ∙ ap (λ (q : Result Linked Refusal). outcome_of l q) found ∙ ap made link.same)
+
+  writes_whole : (new : Option Files) (out_old out_new err_old err_new : Option (List ℕ)) (status : Status) → Ran (Does l) memory_message m new out_old out_new err_old err_new status → WritesWhole l s xs m new out_old out_new err_old err_new status
+  writes_whole new out_old out_new err_old err_new status (o, does, left) = record {
+    writes = λ files w. (o, carried files w does, left);
+    wrote = λ e. (let well = carried_out o memory_message m new out_old out_new err_old err_new status e left in wrote o new does well.0 well.1);
+  }
+    where
+      carried : (files : List OutputFile) → WholeOf (output_of l) s xs files → Does l m o ⊎ (o ≡ failing memory_message) → HasFiles l files o ⊎ (o ≡ failing memory_message)
+      carried files w (inl does) = inl (has_files files w o does)
+      carried files w (inr same) = inr same
+
+-- ---- Lines and words.
+
+module _ (m : Files) (new : Option Files) (out_old out_new err_old err_new : Option (List ℕ)) (status : Status) where
+  line_links : (line : Says) → Ran (DoesLine line) (line_memory line) m new out_old out_new err_old err_new status → LineLinksWhole line m new out_old out_new err_old err_new status
+  line_links line ran l same s xs k =
+      let there : Ran (Does l) memory_message m new out_old out_new err_old err_new status =
+          subst (λ (z : Says). Ran (DoesLine z) (line_memory z) m new out_old out_new err_old err_new status) same ran in
+      writes_whole l m s xs k new out_old out_new err_old err_new status there
+
+  words_link : (words : Result Says LineFault) → RanWords words m new out_old out_new err_old err_new status → WordsLinkWhole words m new out_old out_new err_old err_new status
+  words_link words ran l same = go (subst (λ (z : Result Says LineFault). RanWords z m new out_old out_new err_old err_new status) same ran)
+    where
+      go : RanWords (Ok (link l)) m new out_old out_new err_old err_new status → LinksWhole l m new out_old out_new err_old err_new status ⊎ Performs (failing line_memory_message) m new out_old out_new err_old err_new status
+      go (inl ran) = inl (line_links (link l) ran l refl)
+      go (inr p) = inr p
+
+-- a line that was run
+pub line_whole : (known new : Option Files) (fo fn : ℕ) (line : Says) (out_old out_new err_old err_new : Option (List ℕ)) (status : Status) → IfSome known (λ m. NoneFailed fo fn → Ran (DoesLine line) (line_memory line) m new out_old out_new err_old err_new status) → IfSome known (λ m. NoneFailed fo fn → LineLinksWhole line m new out_old out_new err_old err_new status)
+line_whole None new fo fn line out_old out_new err_old err_new status h = tt
+line_whole (Some m) new fo fn line out_old out_new err_old err_new status h = λ none. line_links m new out_old out_new err_old err_new status line (h none)
+
+-- words that were run
+pub words_whole : (known new : Option Files) (fo fn : ℕ) (words : List (List ℕ)) (out_old out_new err_old err_new : Option (List ℕ)) (status : Status) → IfSome known (λ m. NoneFailed fo fn → Commands words m new out_old out_new err_old err_new status) → IfSome known (λ m. NoneFailed fo fn → WordsLinkWhole (line_of words) m new out_old out_new err_old err_new status)
+words_whole None new fo fn words out_old out_new err_old err_new status h = tt
+words_whole (Some m) new fo fn words out_old out_new err_old err_new status h = λ none. words_link m new out_old out_new err_old err_new status (line_of words) (h none)

@@ -1,0 +1,60 @@
+-- What ca65 wrote of sources, linked, is the whole program of the sources.
+use Rattle.std.proofs.Common.{◌≡◌, ◌∙◌, ℕ, List, [], ◌∷◌, Option, Some, None, Result, Ok, refl, sym, ap, subst}
+use Rattle.std.specs.Prelude.{◌↔◌}
+use Rattle.object65.specs.declared.object.Object.{Object}
+use Rattle.script65.specs.declared.script.Script.{Script}
+use Rattle.language65.specs.Layout.{Layout}
+use Rattle.module65.proofs.OneLayouts.{one_layout}
+use Rattle.module65.proofs.SoundSources.{sound_layout}
+use Rattle.module65.specs.Laying.{AreLaid}
+use Rattle.module65.specs.Module.{object_of, outcome_of}
+use Rattle.module65.specs.Places.{PlacedFault}
+use Rattle.module65.specs.Reading.{Reached}
+use Rattle.linkage65.specs.Modules.{Module}
+use Rattle.linkage65.specs.declared.linked.OutputFile.{OutputFile}
+use Rattle.whole65.proofs.Equality.{equality_law}
+use Rattle.whole65.proofs.LaidOut.{laid_out_law}
+use Rattle.whole65.specs.Sources.{AreSources}
+use Rattle.whole65.specs.Sources as whole
+use Rattle.whole65.specs.Whole.{Whole}
+use Rattle.tools65.specs.OneProgram.{AreLaidOf, AreObjectsOf, IsLaidOf, IsObjectOf, OneProgramLaw, Source}
+
+-- a source with an object has no fault at a line
+no_fault : (y : Layout) (f : Option PlacedFault) (o : Object) → (outcome_of y f).result ≡ Ok o → (f ≡ None) × (object_of y ≡ Ok o)
+no_fault y None o e = (refl, e)
+no_fault y (Some f) o e = absurd cc
+
+laid_of : (x : Source) (m : Module) → IsObjectOf x m → (y : Layout) × IsLaidOf x y × whole.IsSource y m
+laid_of x m (a, (r, laid, is), found) =
+    let sound = no_fault r.behind r.fault m.object (sym (ap (λ z. z.result) is) ∙ found) in
+    let there : IsLaidOf x r.behind = subst (λ f. AreLaid x.files x.job (record { behind = r.behind; fault = f })) sound.0 laid in
+    (r.behind, there, record { laid_out = laid_out_law x.files x.job r laid; sound = sound_layout x.files x.job r laid; object = sound.1 })
+
+all_laid : (xs : List Source) (ms : List Module) → AreObjectsOf xs ms → (ys : List Layout) × AreLaidOf xs ys × AreSources ys ms
+all_laid [] [] h = ([], tt, tt)
+all_laid [] (m ∷ ms) h = absurd h
+all_laid (x ∷ xs) [] h = absurd h
+all_laid (x ∷ xs) (m ∷ ms) h =
+    let (y, laid, source) = laid_of x m h.0 in
+    let (ys, more, sources) = all_laid xs ms h.1 in
+    (y ∷ ys, (laid, more), (source, sources))
+
+-- sources are laid in one way
+laid_once : (xs : List Source) (ys zs : List Layout) → AreLaidOf xs ys → AreLaidOf xs zs → ys ≡ zs
+laid_once [] [] [] h k = refl
+laid_once [] (y ∷ ys) zs h k = absurd h
+laid_once [] [] (z ∷ zs) h k = absurd k
+laid_once (x ∷ xs) [] zs h k = absurd h
+laid_once (x ∷ xs) (y ∷ ys) [] h k = absurd k
+laid_once (x ∷ xs) (y ∷ ys) (z ∷ zs) h k =
+    let one : Layout → Reached Layout = λ l. record { behind = l; fault = None } in
+    let same : y ≡ z = ap (λ (r : Reached Layout). r.behind) (one_layout x.files x.job (one y) (one z) h.0 k.0) in
+    ap (λ l. l ∷ ys) same ∙ ap (λ ls. z ∷ ls) (laid_once xs ys zs h.1 k.1)
+
+pub one_program : OneProgramLaw
+one_program output s xs ms files h =
+    let (ys, laid, sources) = all_laid xs ms h in
+    let both = equality_law output s ys ms files sources in (
+      λ w. both.0 (subst (λ zs. Whole output s zs files) (laid_once xs w.0 ys w.1 laid) w.2),
+      λ k. (ys, laid, both.1 k),
+    )

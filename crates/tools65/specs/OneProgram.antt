@@ -1,0 +1,145 @@
+-- What ca65 wrote, linked, and the whole program of its sources.
+use Rattle.std.specs.Prelude.{◌≡◌, ℕ, ◌⊎◌, ◌↔◌, true, List, [], ◌∷◌, ◌++◌, Option, Some, None, Result, Ok, ⊤}
+use Rattle.std.specs.FinMap.{get}
+use Rattle.syntax65.specs.Store.{Files}
+use Rattle.script65.specs.Scripts.{IsScript}
+use Rattle.script65.specs.declared.script.Script.{Script}
+use Rattle.language65.specs.Layout.{Layout}
+use Rattle.module65.specs.Laying.{AreLaid}
+use Rattle.module65.specs.Module as asm
+use Rattle.module65.specs.Reading.{Job}
+use Rattle.asm65.specs.Assembly.{IsAssembled}
+use Rattle.object65.specs.declared.object.Object.{Object}
+use Rattle.library65.specs.Selection.{IsSelection}
+use Rattle.library65.specs.declared.entry.Entry.{Entry}
+use Rattle.linkage65.specs.Givers.{given_names, open_names}
+use Rattle.linkage65.specs.Modules.{Module}
+use Rattle.linkage65.specs.Programs.{program_of}
+use Rattle.link65.specs.Standing.{agrees_with, module_of}
+use Rattle.linkage65.specs.declared.linked.OutputFile.{OutputFile}
+use Rattle.whole65.specs.Equality.{IsLinkedTo}
+use Rattle.whole65.specs.Whole.{Whole}
+use Rattle.line65.specs.Line.{Linking, Says, link}
+use Rattle.line65.specs.Messages.{line_memory_message}
+use Rattle.line65.specs.declared.fault.LineFault.{LineFault}
+use Rattle.ld65.specs.Linkage.{ByKind, Input, chosen, file_input, index_in, is_library_in, member_input, object_in, output_of}
+use Rattle.ld65.specs.Refusals.{memory_message}
+use Rattle.tools65.specs.declared.outcome.Outcome.{Outcome}
+use Rattle.tools65.specs.declared.outcome.Status.{Status}
+use Rattle.tools65.specs.declared.outcome.Status.TheVariants.{Success}
+use Rattle.tools65.specs.Command.{Ran}
+use Rattle.tools65.specs.Leaving.{Performs, apply}
+use Rattle.tools65.specs.Outputs.{failing, with_map}
+
+-- ---- Sources, what ca65 writes of them, and what they are as one program.
+
+-- a source as ca65 is given it: files, and what is assembled of them
+pub record Source : Type 0 where
+  pub files : Files
+  pub job : Job
+
+-- a module's object is the one that ca65 writes of a source
+abbrev pub IsObjectOf : Source → Module → Type 0
+IsObjectOf x m = (o : asm.Outcome) × IsAssembled x.files x.job o × (o.result ≡ Ok m.object)
+
+abbrev pub AreObjectsOf : List Source → List Module → Type 0
+AreObjectsOf [] [] = ⊤
+AreObjectsOf (x ∷ xs) (m ∷ ms) = IsObjectOf x m × AreObjectsOf xs ms
+AreObjectsOf [] (m ∷ ms) = ⊥
+AreObjectsOf (x ∷ xs) [] = ⊥
+
+-- a source's expanded statements are laid so, and none has a fault at its line
+abbrev pub IsLaidOf : Source → Layout → Type 0
+IsLaidOf x y = AreLaid x.files x.job (record { behind = y; fault = None })
+
+abbrev pub AreLaidOf : List Source → List Layout → Type 0
+AreLaidOf [] [] = ⊤
+AreLaidOf (x ∷ xs) (y ∷ ys) = IsLaidOf x y × AreLaidOf xs ys
+AreLaidOf [] (y ∷ ys) = ⊥
+AreLaidOf (x ∷ xs) [] = ⊥
+
+-- the sources, laid out and evaluated as one program, have this image
+abbrev pub WholeOf : List ℕ → Script → List Source → List OutputFile → Type 0
+WholeOf output s xs files = (ys : List Layout) × AreLaidOf xs ys × Whole output s ys files
+
+-- Linking what ca65 wrote of sources gives files exactly where their whole program has an image, and that image.
+abbrev pub OneProgramLaw : Type 0
+OneProgramLaw =
+    (output : List ℕ) (s : Script) (xs : List Source) (ms : List Module) (files : List OutputFile) →
+    AreObjectsOf xs ms → WholeOf output s xs files ↔ IsLinkedTo output s ms files
+
+-- ---- The modules that a line selects: the objects given, and of each library the members that are needed.
+
+-- the module of an object, which its library's index tells, if it is a member of one
+abbrev pub IsModuleOf : Files → Input → Module → Type 0
+IsModuleOf m i x = (o : Object) × (object_in m i ≡ Ok o) × (agrees_with i.entry o ≡ true) × (x ≡ module_of i.name o)
+
+abbrev pub AreMembers : Files → List ℕ → List Entry → List Module → Type 0
+AreMembers m library [] [] = ⊤
+AreMembers m library (e ∷ es) (x ∷ ms) = IsModuleOf m (member_input library e) x × AreMembers m library es ms
+AreMembers m library [] (x ∷ ms) = ⊥
+AreMembers m library (e ∷ es) [] = ⊥
+
+-- the members of a library that the modules before it need, in the order in which they stand
+abbrev pub AreTaken : Script → Files → List Module → List ℕ → List Module → Type 0
+AreTaken s m before library ms =
+    (es : List Entry) × (places : List ℕ) × (index_in m library ≡ Ok es)
+    × IsSelection es (open_names s (program_of before)) (given_names s (program_of before)) places × AreMembers m library (chosen es places) ms
+
+-- the modules of an input behind others
+abbrev pub AreInputOf : Script → Files → List Module → List ℕ → List Module → Type 0
+AreInputOf s m before name ms =
+    ByKind (is_library_in m name) (AreTaken s m before name ms) ((x : Module) × IsModuleOf m (file_input name) x × (ms ≡ x ∷ []))
+
+-- the modules of inputs behind others, whether or not a name is given twice
+abbrev pub AreSelected : Script → Files → List Module → List (List ℕ) → List Module → Type 0
+AreSelected s m before [] ms = ms ≡ []
+AreSelected s m before (name ∷ names) ms =
+    (own : List Module) × (rest : List Module) × AreInputOf s m before name own
+    × AreSelected s m (before ++ own) names rest × (ms ≡ own ++ rest)
+
+-- ---- A run.
+
+-- The script of a line is this one, and each module that the line selects is the object that ca65 writes of a source, in
+-- this order.
+pub record SelectsSources (l : Linking) (m : Files) (s : Script) (xs : List Source) : Type 0 where
+  pub text : List ℕ
+  pub file : get m l.script ≡ Some text
+  pub script : IsScript text (Ok s)
+  pub modules : List Module
+  pub selected : AreSelected s m [] l.inputs modules
+  pub objects : AreObjectsOf xs modules
+
+-- a link's outcome has the files of an image, and then the map
+abbrev pub HasFiles : Linking → List OutputFile → Outcome → Type 0
+HasFiles l files o =
+    (warnings : List ℕ) × (map : List ℕ) × (o ≡ record { out = []; err = warnings; outputs = with_map l.map files map; status = Success })
+
+-- these files were written, and then the map
+abbrev pub WroteFiles : Linking → List OutputFile → Files → Option Files → Type 0
+WroteFiles l files m new = (map : List ℕ) × (new ≡ Some (apply (with_map l.map files map) m))
+
+-- A run over sources' objects writes an image exactly where the sources have one as one program, and that image.
+pub record WritesWhole (l : Linking) (s : Script) (xs : List Source) (m : Files) (new : Option Files) (out_old out_new err_old err_new : Option (List ℕ)) (status : Status) : Type 0 where
+  -- where they have one, the run carries out its files, or says that memory ran out
+  pub writes :
+      (files : List OutputFile) → WholeOf (output_of l) s xs files
+      → Ran (λ m o. HasFiles l files o) memory_message m new out_old out_new err_old err_new status
+  -- a run that succeeds wrote such an image
+  pub wrote :
+      status ≡ Success → (files : List OutputFile) × WholeOf (output_of l) s xs files × WroteFiles l files m new
+
+abbrev pub LinksWhole : Linking → Files → Option Files → Option (List ℕ) → Option (List ℕ) → Option (List ℕ) → Option (List ℕ) → Status → Type 0
+LinksWhole l m new out_old out_new err_old err_new status =
+    (s : Script) (xs : List Source) → SelectsSources l m s xs → WritesWhole l s xs m new out_old out_new err_old err_new status
+
+-- where a line is a link of sources' objects
+abbrev pub LineLinksWhole : Says → Files → Option Files → Option (List ℕ) → Option (List ℕ) → Option (List ℕ) → Option (List ℕ) → Status → Type 0
+LineLinksWhole line m new out_old out_new err_old err_new status =
+    (l : Linking) → line ≡ link l → LinksWhole l m new out_old out_new err_old err_new status
+
+-- where words are such a line, unless memory ran out before they were one
+abbrev pub WordsLinkWhole : Result Says LineFault → Files → Option Files → Option (List ℕ) → Option (List ℕ) → Option (List ℕ) → Option (List ℕ) → Status → Type 0
+WordsLinkWhole words m new out_old out_new err_old err_new status =
+    (l : Linking) → words ≡ Ok (link l)
+    → LinksWhole l m new out_old out_new err_old err_new status ⊎ Performs (failing line_memory_message) m new out_old out_new err_old err_new status

@@ -1,0 +1,271 @@
+-- Names that nobody gives, in a link and in the whole program.
+use Rattle.std.proofs.Common.{◌≡◌, ◌≢◌, ℕ, suc, ◌+◌, Bool, true, false, not, cond, List, [], ◌∷◌, ◌++◌, length, map, filter, Option, Some, None, Result, Ok, is_some, refl, sym, ◌∙◌, ap, subst, arith}
+use Rattle.std.specs.Prelude.{◌↔◌, ◌||◌, if◌then◌else◌}
+use Rattle.std.specs.List.{AllByRecursion, flat_map, list_any, position_from}
+use Rattle.std.specs.Str.{bytes_eq}
+use Rattle.std.proofs.lemmas.List.{append-nil, append_assoc, length-append, length-map, map-append}
+use Rattle.std.proofs.lemmas.List.Folds.{list_any-append}
+use Rattle.std.proofs.lemmas.Grind.{flat_map-append}
+use Rattle.script65.proofs.Apart.{bind_ok}
+use Rattle.script65.specs.Outcome.{◌>>=◌}
+use Rattle.script65.specs.Placing.{area_place, areas_from, bounds_of, is_in, place_of, row_after, row_place, rows_exist, rows_from, unplaced}
+use Rattle.script65.specs.declared.placement.AreaPlace.{AreaPlace}
+use Rattle.script65.specs.declared.placement.PlaceFault.{PlaceFault}
+use Rattle.script65.specs.declared.placement.Placement.{Placement}
+use Rattle.script65.specs.declared.placement.RowPlace.{RowPlace}
+use Rattle.script65.specs.declared.placement.SegmentNeed.{SegmentNeed}
+use Rattle.script65.specs.declared.placing.site.Bounds.{Bounds}
+use Rattle.script65.specs.declared.placing.site.Spot.{Spot}
+use Rattle.script65.specs.declared.script.Area.{Area}
+use Rattle.script65.specs.declared.script.Row.{Row}
+use Rattle.script65.specs.declared.script.Script.{Script}
+use Rattle.language65.proofs.Lists.{same_bytes}
+use Rattle.language65.specs.Layout.{Layout}
+use Rattle.linkage65.specs.Givers.{by_definition, by_export, defined_at, each_once, export_names, exported_at, given_names, is_among, is_given, references, unresolved}
+use Rattle.linkage65.specs.Givers as linked
+use Rattle.linkage65.specs.Lists.{flat_zip}
+use Rattle.linkage65.specs.Modules.{Module}
+use Rattle.linkage65.specs.Names.{area_definitions, area_names, areas_definitions, row_definitions, row_names, rows_definitions, script_definitions, script_names, symbol_exports, symbol_imports, weak_symbols}
+use Rattle.linkage65.specs.Programs.{Program, member, no_program, program_of, with_module, with_modules}
+use Rattle.linkage65.specs.declared.parts.Definition.{Definition}
+use Rattle.linkage65.specs.declared.parts.Exported as parts
+use Rattle.linkage65.specs.declared.parts.Giver.{Giver}
+use Rattle.linkage65.specs.declared.parts.Giver.TheVariants.{Nobody}
+use Rattle.linkage65.specs.declared.parts.Member.{Member}
+use Rattle.module65.proofs.SoundForms.{all_append}
+use Rattle.module65.proofs.Segments.{all_more}
+use Rattle.whole65.proofs.Givers.{Agree, givers_agree, of_module, of_nobody, of_script}
+use Rattle.whole65.specs.Programs as whole
+use Rattle.whole65.specs.Segments.{needs_of}
+use Rattle.whole65.specs.Sources.{AreSources}
+use Rattle.whole65.specs.Values as values
+use Rattle.whole65.specs.Values.{by_nobody}
+use Rattle.whole65.specs.Whole.{IsGiven}
+
+-- ---- A placement has a place for each area and each row.
+
+abbrev Reached : Type 0
+Reached = List Spot × ℕ
+
+abbrev front : Spot → Result Reached PlaceFault → Result Reached PlaceFault
+front s rest = rest >>= λ y. Ok (s ∷ y.0, y.1)
+
+same_pair : (x y : Reached) → ◌≡◌ {A = Result Reached PlaceFault} (Ok x) (Ok y) → x ≡ y
+same_pair x y h = cc
+
+rows_kept : (k : ℕ) (a : Area) (b : Bounds) (rs : List Row) (ss : List Spot) (cursor : ℕ) (x : Reached) → rows_from k a b rs ss cursor ≡ Ok x → length x.0 ≡ length ss
+rows_kept k a b [] ss cursor x h = ap (λ (z : Reached). length z.0) (sym (same_pair (ss, cursor) x h))
+rows_kept k a b (r ∷ rs) [] cursor x h = ap (λ (z : Reached). length z.0) (sym (same_pair ([], cursor) x h))
+rows_kept k a b (r ∷ rs) (s ∷ ss) cursor x h = by (is_in k r) h (λ c y e. rows_kept k a b rs ss c y e)
+  where
+    by : (t : Bool) → (if t then (row_after k a b r s cursor >>= λ x. front x.0 (rows_from k a b rs ss x.1)) else front s (rows_from k a b rs ss cursor)) ≡ Ok x → ((c : ℕ) (y : Reached) → rows_from k a b rs ss c ≡ Ok y → length y.0 ≡ length ss) → length x.0 ≡ length (s ∷ ss)
+    by true h again =
+        let f = bind_ok (row_after k a b r s cursor) (λ x. front x.0 (rows_from k a b rs ss x.1)) x h in
+        let z : Spot × ℕ = f.0 in
+        let g = bind_ok (rows_from k a b rs ss z.1) (λ y. Ok (z.0 ∷ y.0, y.1)) x f.2 in
+        let y : Reached = g.0 in
+        ap (λ (z : Reached). length z.0) (sym (same_pair (z.0 ∷ y.0, y.1) x g.2)) ∙ ap suc (again z.1 y g.1)
+    by false h again =
+        let g = bind_ok (rows_from k a b rs ss cursor) (λ y. Ok (s ∷ y.0, y.1)) x h in
+        let y : Reached = g.0 in
+        ap (λ (z : Reached). length z.0) (sym (same_pair (s ∷ y.0, y.1) x g.2)) ∙ ap suc (again cursor y g.1)
+
+areas_kept : (rows : List Row) (areas : List Area) (k : ℕ) (before : List AreaPlace) (ss : List Spot) (q : Placement) → areas_from k rows areas before ss ≡ Ok q → (length q.areas ≡ length before + length areas) × (length q.rows ≡ length ss)
+areas_kept rows [] k before ss q h =
+    let same : ◌≡◌ {A = Placement} (record { areas = before; rows = map row_place ss }) q = cc in
+    let none : length before ≡ length before + 0 = omega arith in
+    (ap (λ (z : Placement). length z.areas) (sym same) ∙ none, ap (λ (z : Placement). length z.rows) (sym same) ∙ length-map ss row_place)
+areas_kept rows (a ∷ rest) k before ss q h =
+    let f = bind_ok (rows_from k a (bounds_of a) rows ss (bounds_of a).start) (λ x. areas_from (k + 1) rows rest (before ++ area_place (bounds_of a) x.1 ∷ []) x.0) q h in
+    let x : Reached = f.0 in
+    let g = areas_kept rows rest (k + 1) (before ++ area_place (bounds_of a) x.1 ∷ []) x.0 q f.2 in
+    let longer : length (before ++ area_place (bounds_of a) x.1 ∷ []) ≡ length before + 1 = length-append before (area_place (bounds_of a) x.1 ∷ []) in
+    let more : length q.areas ≡ length (before ++ area_place (bounds_of a) x.1 ∷ []) + length rest = g.0 in
+    let all : length q.areas ≡ length before + suc (length rest) = omega (arith, longer, more) in
+    (all, g.1 ∙ rows_kept k a (bounds_of a) rows ss (bounds_of a).start x f.1)
+
+-- ---- A script's names are those of what it defines.
+
+abbrev names_of : List Definition → List (List ℕ)
+names_of ds = map (λ (d : Definition). d.name) ds
+
+zip_names : {A B : Type 0} (f : A → B → List Definition) (g : A → List (List ℕ)) → ((x : A) (y : B) → names_of (f x y) ≡ g x) → (xs : List A) (zs : List B) → length zs ≡ length xs → names_of (flat_zip f xs zs) ≡ flat_map g xs
+zip_names f g h [] zs e = refl
+zip_names f g h (x ∷ xs) [] e = absurd (omega (arith, e))
+zip_names f g h (x ∷ xs) (z ∷ zs) e =
+    map-append (λ (d : Definition). d.name) (f x z) (flat_zip f xs zs)
+    ∙ ap (λ ns. ns ++ names_of (flat_zip f xs zs)) (h x z)
+    ∙ ap (λ ns. g x ++ ns) (zip_names f g h xs zs (omega (arith, e)))
+
+of_area : (a : Area) (q : AreaPlace) → names_of (area_definitions a q) ≡ area_names a
+of_area a q = go a.define
+  where
+    go : (b : Bool) → names_of (area_definitions (record a { define = b }) q) ≡ area_names (record a { define = b })
+    go true = refl
+    go false = refl
+
+of_row : (r : Row) (q : RowPlace) → names_of (row_definitions r q) ≡ row_names r
+of_row r q = go r.define
+  where
+    go : (b : Bool) → names_of (row_definitions (record r { define = b }) q) ≡ row_names (record r { define = b })
+    go true = refl
+    go false = refl
+
+script_named : (s : Script) (needs : List SegmentNeed) (q : Placement) → place_of s needs ≡ Ok q → names_of (script_definitions s q) ≡ script_names s
+script_named s needs q h =
+    let f = bind_ok (rows_exist s.rows needs) (λ u. areas_from 0 s.rows s.areas [] (map (unplaced needs) s.rows)) q h in
+    let kept = areas_kept s.rows s.areas 0 [] (map (unplaced needs) s.rows) q f.2 in
+    let none : 0 + length s.areas ≡ length s.areas = omega arith in
+    let areas : names_of (areas_definitions s.areas q.areas) ≡ flat_map area_names s.areas = zip_names area_definitions area_names of_area s.areas q.areas (kept.0 ∙ none) in
+    let rows : names_of (rows_definitions s.rows q.rows) ≡ flat_map row_names s.rows = zip_names row_definitions row_names of_row s.rows q.rows (kept.1 ∙ length-map s.rows (unplaced needs)) in
+    let both : List Definition = areas_definitions s.areas q.areas ++ rows_definitions s.rows q.rows in
+    map-append (λ (d : Definition). d.name) both (symbol_exports s.symbols)
+    ∙ ap (λ ns. ns ++ names_of (symbol_exports s.symbols)) (
+      map-append (λ (d : Definition). d.name) (areas_definitions s.areas q.areas) (rows_definitions s.rows q.rows)
+      ∙ ap (λ ns. ns ++ names_of (rows_definitions s.rows q.rows)) areas
+      ∙ ap (λ ns. flat_map area_names s.areas ++ ns) rows
+    )
+
+-- ---- A name is given where somebody gives it.
+
+-- so says the test, and so the giver
+abbrev Knows : Bool → Giver → Type 0
+Knows b g = (g ≢ Nobody) ↔ (b ≡ true)
+
+some_step : (b : Bool) (i : ℕ) (o : Option ℕ) (rest : Bool) → is_some o ≡ rest → is_some (cond b (Some i) o) ≡ (b || rest)
+some_step true i o rest e = refl
+some_step false i o rest e = e
+
+some_among : (p : List ℕ → Bool) (i : ℕ) (xs : List (List ℕ)) → is_some (position_from p i xs) ≡ list_any p xs
+some_among p i [] = refl
+some_among p i (x ∷ xs) = some_step (p x) i (position_from p (i + 1) xs) (list_any p xs) (some_among p (i + 1) xs)
+
+knows_nobody : Knows false Nobody
+knows_nobody = (λ k. absurd (k refl), λ k. absurd cc)
+
+knows_definition : (ds : List Definition) (name : List ℕ) (b : Bool) (g : Giver) → Knows b g → Knows (is_among (names_of ds) name || b) (by_definition ds (defined_at ds name) g)
+knows_definition ds name b g h = subst (λ a. Knows (a || b) (by_definition ds (defined_at ds name) g)) (some_among (λ n. bytes_eq n name) 0 (names_of ds)) (go (defined_at ds name))
+  where
+    go : (o : Option ℕ) → Knows (is_some o || b) (by_definition ds o g)
+    go (Some i) = (λ k. refl, λ k e. absurd cc)
+    go None = h
+
+knows_export : (es : List parts.Exported) (name : List ℕ) (b : Bool) (g : Giver) → Knows b g → Knows (is_among (map (λ (e : parts.Exported). e.name) es) name || b) (by_export (exported_at es name) g)
+knows_export es name b g h = subst (λ a. Knows (a || b) (by_export (exported_at es name) g)) (some_among (λ n. bytes_eq n name) 0 (map (λ (e : parts.Exported). e.name) es)) (go (exported_at es name))
+  where
+    go : (o : Option ℕ) → Knows (is_some o || b) (by_export o g)
+    go (Some i) = (λ k. refl, λ k e. absurd cc)
+    go None = h
+
+in_either : (a b c : Bool) → (a || (b || (c || false))) ≡ ((a || b) || c)
+in_either true b c = refl
+in_either false true c = refl
+in_either false false true = refl
+in_either false false false = refl
+
+agree_known : (es : List parts.Exported) (name : List ℕ) (w : values.Giver) (g : Giver) → Agree es name w g → (w ≢ by_nobody) ↔ (g ≢ Nobody)
+agree_known es name _ _ (of_script v) = (λ k e. absurd cc, λ k e. absurd cc)
+agree_known es name _ _ of_nobody = (λ k. absurd (k refl), λ k. absurd (k refl))
+agree_known es name _ _ (of_module i e at called) = (λ k q. absurd cc, λ k q. absurd cc)
+
+module _ (s : Script) (placement : Placement) (ys : List Layout) (ms : List Module) (h : AreSources ys ms) (placed : place_of s (needs_of ys) ≡ Ok placement) where
+  abbrev p : values.Program
+  p = whole.program_of s placement ys
+
+  abbrev q : Program
+  q = program_of ms
+
+  known : (name : List ℕ) → IsGiven p name ↔ (is_given s q name ≡ true)
+  known name =
+      let own : List Definition = script_definitions s placement in
+      let weak : List Definition = weak_symbols s.symbols in
+      let agree = agree_known q.exports name (whole.giver_of s placement ys name) (linked.giver_of own q.exports weak name) (givers_agree s placement ys ms name h) in
+      let inner : Knows (is_among (export_names q) name || (is_among (names_of weak) name || false)) (by_export (exported_at q.exports name) (by_definition weak (defined_at weak name) Nobody)) =
+      knows_export q.exports name (is_among (names_of weak) name || false) (by_definition weak (defined_at weak name) Nobody) (knows_definition weak name false Nobody knows_nobody) in
+      let knows = knows_definition own name (is_among (export_names q) name || (is_among (names_of weak) name || false)) (by_export (exported_at q.exports name) (by_definition weak (defined_at weak name) Nobody)) inner in
+      let test : (is_among (names_of own) name || (is_among (export_names q) name || (is_among (names_of weak) name || false))) ≡ is_given s q name =
+      ap (λ ns. is_among ns name || (is_among (export_names q) name || (is_among (names_of weak) name || false))) (script_named s (needs_of ys) placement placed)
+      ∙ in_either (is_among (script_names s) name) (is_among (export_names q) name) (is_among (names_of weak) name)
+      ∙ ap (λ b. b || is_among (names_of weak) name) (sym (list_any-append (λ n. bytes_eq n name) (script_names s) (export_names q))) in
+      (λ k. sym test ∙ knows.0 (agree.0 k), λ k. agree.1 (knows.1 (test ∙ k)))
+
+-- ---- What has to be given, each once.
+
+pub all_parts : {A : Type 0} (P : A → Type 0) (xs zs : List A) → AllByRecursion P (xs ++ zs) → AllByRecursion P xs × AllByRecursion P zs
+all_parts P [] zs h = (tt, h)
+all_parts P (x ∷ xs) zs h = let more = all_parts P xs zs h.1 in ((h.0, more.0), more.1)
+
+-- what holds of all names holds of one that is among them
+pub of_among : (P : List ℕ → Type 0) (names : List (List ℕ)) (n : List ℕ) → AllByRecursion P names → is_among names n ≡ true → P n
+of_among P [] n h e = cc
+of_among P (k ∷ names) n h e = go (bytes_eq k n) refl e (of_among P names n h.1)
+  where
+    go : (b : Bool) → bytes_eq k n ≡ b → (b || is_among names n) ≡ true → (is_among names n ≡ true → P n) → P n
+    go true q e more = subst P (same_bytes k n q) h.0
+    go false q e more = more e
+
+module _ (P : List ℕ → Type 0) where
+  once_all : (names before : List (List ℕ)) → AllByRecursion P before → AllByRecursion P names → AllByRecursion P (each_once before names)
+  once_all [] before h k = h
+  once_all (n ∷ names) before h k = once_all names (cond (is_among before n) before (before ++ n ∷ [])) (go (is_among before n)) k.1
+    where
+      go : (b : Bool) → AllByRecursion P (cond b before (before ++ n ∷ []))
+      go true = h
+      go false = all_more P before n h k.0
+
+  once_parts : (names before : List (List ℕ)) → AllByRecursion P (each_once before names) → AllByRecursion P before × AllByRecursion P names
+  once_parts [] before h = (h, tt)
+  once_parts (n ∷ names) before h = go (is_among before n) refl (once_parts names (cond (is_among before n) before (before ++ n ∷ [])) h)
+    where
+      go : (b : Bool) → is_among before n ≡ b → AllByRecursion P (cond (is_among before n) before (before ++ n ∷ [])) × AllByRecursion P names → AllByRecursion P before × AllByRecursion P (n ∷ names)
+      go true e k =
+          let front : AllByRecursion P before = subst (λ b. AllByRecursion P (cond b before (before ++ n ∷ []))) e k.0 in
+          (front, (of_among P before n front e, k.1))
+      go false e k =
+          let both = all_parts P before (n ∷ []) (subst (λ b. AllByRecursion P (cond b before (before ++ n ∷ []))) e k.0) in
+          (both.0, (both.1.0, k.1))
+
+none_left : (t : List ℕ → Bool) (names : List (List ℕ)) → (filter (λ n. not (t n)) names ≡ []) ↔ AllByRecursion (λ n. t n ≡ true) names
+none_left t [] = (λ k. tt, λ k. refl)
+none_left t (n ∷ names) = go (t n) refl (none_left t names)
+  where
+    go : (b : Bool) → t n ≡ b → (filter (λ n. not (t n)) names ≡ []) ↔ AllByRecursion (λ n. t n ≡ true) names → (cond (not (t n)) (n ∷ filter (λ n. not (t n)) names) (filter (λ n. not (t n)) names) ≡ []) ↔ ((t n ≡ true) × AllByRecursion (λ n. t n ≡ true) names)
+    go true e more =
+        let kept : cond (not (t n)) (n ∷ filter (λ n. not (t n)) names) (filter (λ n. not (t n)) names) ≡ filter (λ n. not (t n)) names = ap (λ b. cond (not b) (n ∷ filter (λ n. not (t n)) names) (filter (λ n. not (t n)) names)) e in
+        (λ k. (e, more.0 (sym kept ∙ k)), λ k. kept ∙ more.1 k.1)
+    go false e more = (
+      λ k. (let some : n ∷ filter (λ n. not (t n)) names ≡ [] = sym (ap (λ b. cond (not b) (n ∷ filter (λ n. not (t n)) names) (filter (λ n. not (t n)) names)) e) ∙ k in absurd cc),
+      λ k. (let never : true ≡ false = sym k.0 ∙ e in absurd cc),
+    )
+
+-- the imports of members are those of their objects
+imports_behind : (q : Program) (ms : List Module) → flat_map (λ (m : Member). m.imports) (with_modules q ms).members ≡ flat_map (λ (m : Member). m.imports) q.members ++ flat_map (λ (m : Module). m.object.imports) ms
+imports_behind q [] = sym (append-nil (flat_map (λ (m : Member). m.imports) q.members))
+imports_behind q (m ∷ ms) =
+    imports_behind (with_module q m) ms
+    ∙ ap (λ ns. ns ++ flat_map (λ (m : Module). m.object.imports) ms) (flat_map-append (λ (m : Member). m.imports) q.members (member q m ∷ []) ∙ ap (λ ns. flat_map (λ (m : Member). m.imports) q.members ++ ns) (append-nil m.object.imports))
+    ∙ append_assoc (flat_map (λ (m : Member). m.imports) q.members) m.object.imports (flat_map (λ (m : Module). m.object.imports) ms)
+
+all_either : (P Q : List ℕ → Type 0) → ((n : List ℕ) → P n → Q n) → (ns : List (List ℕ)) → AllByRecursion P ns → AllByRecursion Q ns
+all_either P Q f [] h = tt
+all_either P Q f (n ∷ ns) h = (f n h.0, all_either P Q f ns h.1)
+
+-- A link leaves no name open where the imports of the script and of all objects are given in the whole program.
+pub none_open : (s : Script) (placement : Placement) (ys : List Layout) (ms : List Module) → AreSources ys ms → place_of s (needs_of ys) ≡ Ok placement → (unresolved s (program_of ms) ≡ []) ↔ (AllByRecursion (IsGiven (whole.program_of s placement ys)) (symbol_imports s.symbols) × AllByRecursion (IsGiven (whole.program_of s placement ys)) (flat_map (λ (m : Module). m.object.imports) ms))
+none_open s placement ys ms h placed =
+    let q : Program = program_of ms in
+    let Given : List ℕ → Type 0 = λ n. is_given s q n ≡ true in
+    let Known : List ℕ → Type 0 = IsGiven (whole.program_of s placement ys) in
+    let own : List (List ℕ) = symbol_imports s.symbols in
+    let members : List (List ℕ) = flat_map (λ (m : Member). m.imports) q.members in
+    let objects : List (List ℕ) = flat_map (λ (m : Module). m.object.imports) ms in
+    let same : members ≡ objects = imports_behind no_program ms in
+    let either = none_left (is_given s q) (references s q) in (
+      λ k. (
+        let both = all_parts Given own members (once_parts Given (own ++ members) [] (either.0 k)).1 in (
+          all_either Given Known (λ n e. (known s placement ys ms h placed n).1 e) own both.0,
+          subst (AllByRecursion Known) same (all_either Given Known (λ n e. (known s placement ys ms h placed n).1 e) members both.1),
+        )
+      ),
+      λ k. either.1 (once_all Given (own ++ members) [] tt (all_append Given own members (all_either Known Given (λ n e. (known s placement ys ms h placed n).0 e) own k.0) (all_either Known Given (λ n e. (known s placement ys ms h placed n).0 e) members (subst (AllByRecursion Known) (sym same) k.1)))),
+    )

@@ -1,0 +1,22 @@
+-- The whole program of sources, and a link of their objects.
+use Rattle.std.specs.Prelude.{◌≡◌, ℕ, ◌↔◌, List, Ok}
+use Rattle.script65.specs.declared.script.Script.{Script}
+use Rattle.language65.specs.Layout.{Layout}
+use Rattle.linkage65.specs.Links.{LinkOf}
+use Rattle.linkage65.specs.Modules.{Module}
+use Rattle.linkage65.specs.declared.linked.Linked.{Linked}
+use Rattle.linkage65.specs.declared.linked.OutputFile.{OutputFile}
+use Rattle.whole65.specs.Sources.{AreSources}
+use Rattle.whole65.specs.Whole.{Whole}
+
+-- A script links modules to these files, with some warnings and some map.
+pub record IsLinkedTo (output : List ℕ) (s : Script) (ms : List Module) (files : List OutputFile) : Type 0 where
+  pub linked : Linked
+  pub link : LinkOf output s ms (Ok linked)
+  pub same : linked.files ≡ files
+
+-- Linking the objects of sources gives files exactly where their whole program has an image, and that image.
+abbrev pub EqualityLaw : Type 0
+EqualityLaw =
+    (output : List ℕ) (s : Script) (ys : List Layout) (ms : List Module) (files : List OutputFile) →
+    AreSources ys ms → Whole output s ys files ↔ IsLinkedTo output s ms files

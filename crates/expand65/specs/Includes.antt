@@ -50,6 +50,14 @@ within name folder = folder ++ 47 ∷ name
 abbrev pub tried : List ℕ → List (List ℕ) → List ℕ → List (List ℕ)
 tried file folders name = if begins_with_slash name then name ∷ [] else (folder_of file ++ name) ∷ map (within name) folders
 
+-- the one name that is tried where only a file's own folder is
+abbrev pub beside : List ℕ → List ℕ → List ℕ
+beside file name = if begins_with_slash name then name else folder_of file ++ name
+
+-- a name that is a text
+abbrev pub as_text : List ℕ → Option (List ℕ)
+as_text name = if is_utf8 name then Some name else None
+
 -- a file that was found under a name, unless its bytes are too many; or else the others
 abbrev pub found_or : List ℕ → Option (List ℕ) → Result (List ℕ × List ℕ) ExpandFault → Result (List ℕ × List ℕ) ExpandFault
 found_or name None others = others

@@ -6,7 +6,7 @@ ghost use Rattle.std.specs.Str.{is_utf8};
 ghost use Rattle.syntax65.specs.Outcome.{Gives};
 ghost use Rattle.syntax65.specs.Store.{Passes};
 ghost use Rattle.expand65.specs.Faults.{is_outside};
-ghost use Rattle.expand65.specs.Includes.{begins_with_slash, file_named, first_file, folder_of, found_or, is_slash, tried, within};
+ghost use Rattle.expand65.specs.Includes.{as_text, begins_with_slash, beside, file_named, first_file, folder_of, found_or, is_slash, tried, within};
 ghost use Rattle.expand65.specs.Seeking.{Tries, file_of, is_there};
 
 use crate::fault::ExpandFault;
@@ -88,6 +88,22 @@ fn text_of(bytes: &[u8]) -> Option<&str>
     match std::str::from_utf8(bytes) {
         Ok(text) => Some(text),
         Err(_) => None,
+    }
+}
+
+/// A name as it is looked for in a file's own folder alone, if it is a text. A name that begins with `/` stays as given.
+pub fn name_beside(alloc: Global, file: &str, name: &[u8]) -> Result<Option<Text>, AllocError>
+    ensures { IfOk result (λ text. text ≡ as_text (beside file.now name.now)) }
+{
+    let folder = if begins_with_slash(name) {
+        b"".as_slice()
+    } else {
+        folder_of(file.as_bytes())
+    };
+    let whole = joined(alloc, folder, name)?;
+    match text_of(whole.as_slice()) {
+        Some(text) => Ok(Some(Text::copy_of(alloc, text)?)),
+        None => Ok(None),
     }
 }
 

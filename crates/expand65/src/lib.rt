@@ -24,6 +24,7 @@ mod rewriter;
 
 pub use expander::{Expander, Options, Statement};
 pub use fault::ExpandFault;
+pub use includes::name_beside;
 pub use knows::Knows;
 pub use line::Line;
 pub use place::Place;

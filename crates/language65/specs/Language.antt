@@ -41,6 +41,8 @@ pub data Stated : Type 0 where
   reserve : Tree → Option Tree → Stated
   -- `.align n[,v]`
   align : Tree → Option Tree → Stated
+  -- `.incbin` with the name of its file, as it is read
+  part_named : List ℕ → Option Tree → Option Tree → Stated
   -- `.incbin` with the bytes of its file, if there is one
   file_part : Option (List ℕ) → Option Tree → Option Tree → Stated
   segment : List ℕ → Option AddressSize → Stated

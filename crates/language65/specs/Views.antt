@@ -1,11 +1,11 @@
 -- Statements without where they lie in memory.
-use Rattle.std.specs.Prelude.{map}
-use Rattle.syntax65.specs.Trees.{tree_of}
-use Rattle.std.specs.Prelude.{option_map}
+use Rattle.std.specs.Prelude.{Option, map, option_map}
+use Rattle.syntax65.specs.Trees.{Tree, tree_of}
 use Rattle.language65.specs.declared.language.Item.{Item}
 use Rattle.language65.specs.declared.language.Item.TheVariants as item
 use Rattle.language65.specs.declared.language.Operand.{Operand}
 use Rattle.language65.specs.declared.language.Operand.TheVariants as operand
+use Rattle.language65.specs.declared.language.PartRange.{PartRange}
 use Rattle.language65.specs.declared.language.Statement.{Statement}
 use Rattle.language65.specs.declared.language.Statement.TheVariants as statement
 use Rattle.language65.specs.declared.laid.Spot.{Spot}
@@ -25,6 +25,10 @@ operand_of (operand.Indirect e) = l.indirect (tree_of e)
 operand_of (operand.IndirectX e) = l.indirect_x (tree_of e)
 operand_of (operand.IndirectY e) = l.indirect_y (tree_of e)
 
+-- a start and a length, each where it is there
+abbrev pub range_of : PartRange → Option Tree × Option Tree
+range_of range = (option_map tree_of range.start, option_map tree_of range.len)
+
 abbrev pub stated_of : Statement → l.Stated
 stated_of (statement.Label n) = l.label n
 stated_of (statement.CheapLabel n) = l.cheap_label n
@@ -34,6 +38,8 @@ stated_of (statement.Instruction m o) = l.instruction m (operand_of o)
 stated_of (statement.Values width items) = l.values width (map item_of items)
 stated_of (statement.Reserve n v) = l.reserve (tree_of n) (option_map tree_of v)
 stated_of (statement.Align n v) = l.align (tree_of n) (option_map tree_of v)
+stated_of (statement.NamedPart n range) = l.part_named n (range_of range).0 (range_of range).1
+stated_of (statement.FilePart bytes range) = l.file_part bytes (range_of range).0 (range_of range).1
 stated_of (statement.Segment n size) = l.segment n size
 stated_of statement.PushSegment = l.push_segment
 stated_of statement.PopSegment = l.pop_segment

@@ -39,6 +39,13 @@ pub enum Operand {
     IndirectY(Expr),
 }
 
+/// What is taken of a file: from a byte on, so many. By default all from the first byte on.
+#[derive(Debug, Drop)]
+pub struct PartRange {
+    pub start: Option<Expr>,
+    pub len: Option<Expr>,
+}
+
 /// A statement.
 #[derive(Debug, Drop)]
 pub enum Statement {
@@ -71,6 +78,16 @@ pub enum Statement {
     Align {
         multiple: Expr,
         value: Option<Expr>,
+    },
+    /// `.incbin` with the name of its file, as it is read.
+    NamedPart {
+        name: Sequence<u8>,
+        range: PartRange,
+    },
+    /// `.incbin` with the bytes of its file, if there is one.
+    FilePart {
+        bytes: Option<Sequence<u8>>,
+        range: PartRange,
     },
     /// `.segment "N"`, perhaps with an address size; `.code` and the like.
     Segment {

@@ -10,4 +10,4 @@ mod language;
 pub use contents::{Content, Part, Said, Segment};
 pub use fault::AsmFault;
 pub use laid::Spot;
-pub use language::{Index, Item, Operand, Statement};
+pub use language::{Index, Item, Operand, PartRange, Statement};

@@ -49,17 +49,17 @@ continues_first m b job opened y z opens defined = (opens.0, opens.2, begins m b
 -- ---- Statements.
 
 -- a statement that is taken
-pub continues_behind : {S : Type 0} (m : Files) (b : Between S) (IsAll : Reached S → Type 0) (old new : Expander) (x : Statement) (y z : S) → Continues m b IsAll old y → FollowsFrom m (b.meaning y) old (Ok (Some x)) new → IsGiven b.takes y (place_of new) (stated x) (Ok z) → Continues m b IsAll new z
+pub continues_behind : {S : Type 0} (m : Files) (b : Between S) (IsAll : Reached S → Type 0) (old new : Expander) (x : Statement) (y z : S) → Continues m b IsAll old y → FollowsFrom m (b.meaning y) old (Ok (Some x)) new → IsGiven m b.takes y (place_of new) (stated x) (Ok z) → Continues m b IsAll new z
 continues_behind m b IsAll old new x y z inv follows given =
     let a = follows inv.0 inv.1 in
-    (a.0, a.2, goes_on m b IsAll inv.0 a.0 (stated x) y z inv.2 a.1 (subst (λ p. IsGiven b.takes y p (stated x) (Ok z)) (sym (same_place m new a.0 a.2)) given))
+    (a.0, a.2, goes_on m b IsAll inv.0 a.0 (stated x) y z inv.2 a.1 (subst (λ p. IsGiven m b.takes y p (stated x) (Ok z)) (sym (same_place m new a.0 a.2)) given))
 
 -- one with a fault
-pub statement_refused : {S : Type 0} (m : Files) (b : Between S) (IsAll : Reached S → Type 0) (old new : Expander) (x : Statement) (y : S) (e : AsmFault) → Continues m b IsAll old y → FollowsFrom m (b.meaning y) old (Ok (Some x)) new → IsGiven b.takes y (place_of new) (stated x) (Err e) → IsAll (stopped y (place_of new) e)
+pub statement_refused : {S : Type 0} (m : Files) (b : Between S) (IsAll : Reached S → Type 0) (old new : Expander) (x : Statement) (y : S) (e : AsmFault) → Continues m b IsAll old y → FollowsFrom m (b.meaning y) old (Ok (Some x)) new → IsGiven m b.takes y (place_of new) (stated x) (Err e) → IsAll (stopped y (place_of new) e)
 statement_refused m b IsAll old new x y e inv follows given =
     let a = follows inv.0 inv.1 in
     let same = same_place m new a.0 a.2 in
-    subst (λ p. IsAll (stopped y p e)) same (stops m b IsAll inv.0 a.0 (stated x) y e inv.2 a.1 (subst (λ p. IsGiven b.takes y p (stated x) (Err e)) (sym same) given))
+    subst (λ p. IsAll (stopped y p e)) same (stops m b IsAll inv.0 a.0 (stated x) y e inv.2 a.1 (subst (λ p. IsGiven m b.takes y p (stated x) (Err e)) (sym same) given))
 
 -- a fault of expansion
 pub next_refused : {S : Type 0} (m : Files) (b : Between S) (IsAll : Reached S → Type 0) (old new : Expander) (y : S) (e : ExpandFault) → Continues m b IsAll old y → FollowsFrom m (b.meaning y) old (Err e) new → Unless (is_outside (Expansion e)) (IsAll (stopped y (place_of new) (Expansion e)))

@@ -2,6 +2,7 @@
 use Rattle.std.proofs.Common.{◌≡◌, ℕ, Bool, true, false, List, [], ◌∷◌, Option, Some, None, refl, sym, subst, arith}
 use Rattle.std.specs.Prelude.{Result, Ok, Err, length, if◌then◌else◌}
 use Rattle.syntax65.specs.Outcome.{First, Unless}
+use Rattle.syntax65.specs.Store.{Files}
 use Rattle.syntax65.specs.Tokens.{Lexeme, lexemes}
 use Rattle.syntax65.specs.Words.{is_reserved}
 use Rattle.syntax65.specs.declared.lexing.tokens.Token.{Token}
@@ -13,7 +14,7 @@ use Rattle.language65.specs.Language.{Stated, label, unnamed_label}
 use Rattle.expand65.specs.declared.place.Place.{Place}
 use Rattle.statements65.specs.Parsing.{IsStatement, is_colon, label_before, label_of, named_label, or_all, with_rest}
 use Rattle.module65.specs.Module.{out_of, warning_of}
-use Rattle.module65.specs.Reading.{Answers, IsLabel, IsLabelled, IsRest, Taking}
+use Rattle.module65.specs.Reading.{Answers, IsLabel, IsLabelled, IsRest, Taking, with_bytes}
 
 abbrev Made : Type 0
 Made = Result (Unit {0}) AsmFault
@@ -69,16 +70,16 @@ label_quiet (t ∷ ts) = by (is_colon t)
 
 -- ---- What stands behind it.
 
-pub rest_none : {S : Type 0} (Takes : Taking S) (Holds : S → Type 0) (y : S) (place : Place) (ts : List Lexeme) → ts ≡ [] → Holds y → Answers {X = Unit {0}} (IsRest Takes y place ts) Holds (Ok tt)
-rest_none Takes Holds y place ts e h = (y, subst (λ ks. IsRest Takes y place ks (Ok y)) (sym e) refl, h)
+pub rest_none : {S : Type 0} (m : Files) (Takes : Taking S) (Holds : S → Type 0) (y : S) (place : Place) (ts : List Lexeme) → ts ≡ [] → Holds y → Answers {X = Unit {0}} (IsRest m Takes y place ts) Holds (Ok tt)
+rest_none m Takes Holds y place ts e h = (y, subst (λ ks. IsRest m Takes y place ks (Ok y)) (sym e) refl, h)
 
-pub rest_fault : {S : Type 0} (Takes : Taking S) (y : S) (place : Place) (ts : List Lexeme) (e : AsmFault) → (ts ≡ [] → ⊥) → Unless (is_outside e) (IsStatement ts (Err e)) → Unless (is_outside e) (IsRest Takes y place ts (Err e))
-rest_fault Takes y place [] e some h = absurd (some refl)
-rest_fault Takes y place (t ∷ ts) e some h = unless_then (is_outside e) (λ g. (Err e, g, refl)) h
+pub rest_fault : {S : Type 0} (m : Files) (Takes : Taking S) (y : S) (place : Place) (ts : List Lexeme) (e : AsmFault) → (ts ≡ [] → ⊥) → Unless (is_outside e) (IsStatement ts (Err e)) → Unless (is_outside e) (IsRest m Takes y place ts (Err e))
+rest_fault m Takes y place [] e some h = absurd (some refl)
+rest_fault m Takes y place (t ∷ ts) e some h = unless_then (is_outside e) (λ g. (Err e, g, refl)) h
 
-pub rest_then : {S : Type 0} (Takes : Taking S) (Holds : S → Type 0) (y : S) (place : Place) (ts : List Lexeme) (x : Stated) (r : Made) → (ts ≡ [] → ⊥) → IsStatement ts (Ok x) → Answers (Takes y place x) Holds r → Answers (IsRest Takes y place ts) Holds r
-rest_then Takes Holds y place [] x r some is h = absurd (some refl)
-rest_then Takes Holds y place (t ∷ ts) x r some is h = reaches_then (Takes y place x) (IsRest Takes y place (t ∷ ts)) Holds r (λ q g. (Ok x, is, g)) h
+pub rest_then : {S : Type 0} (m : Files) (Takes : Taking S) (Holds : S → Type 0) (y : S) (place : Place) (ts : List Lexeme) (x : Stated) (r : Made) → (ts ≡ [] → ⊥) → IsStatement ts (Ok x) → Answers (Takes y place (with_bytes m place x)) Holds r → Answers (IsRest m Takes y place ts) Holds r
+rest_then m Takes Holds y place [] x r some is h = absurd (some refl)
+rest_then m Takes Holds y place (t ∷ ts) x r some is h = reaches_then (Takes y place (with_bytes m place x)) (IsRest m Takes y place (t ∷ ts)) Holds r (λ q g. (Ok x, is, g)) h
 
 pub no_tokens : (tokens : List Token) → length tokens ≡ 0 → lexemes tokens ≡ []
 no_tokens [] e = refl
@@ -90,14 +91,14 @@ some_tokens (t ∷ ts) some e = cc
 
 -- ---- A label.
 
-abbrev LabelOf : {S : Type 0} → Taking S → S → Place → (Option Stated × List Lexeme) → Result S AsmFault → Type 0
-LabelOf Takes y place p r = (q : Result _ AsmFault) × IsLabelled Takes y place p.0 q × First q (λ z. IsRest Takes z place p.1) r
+abbrev LabelOf : {S : Type 0} → Files → Taking S → S → Place → (Option Stated × List Lexeme) → Result S AsmFault → Type 0
+LabelOf m Takes y place p r = (q : Result _ AsmFault) × IsLabelled Takes y place p.0 q × First q (λ z. IsRest m Takes z place p.1) r
 
 pub label_none : {S : Type 0} (Takes : Taking S) (Holds : S → Type 0) (y : S) (place : Place) → Holds y → Answers {X = Unit {0}} (IsLabelled Takes y place None) Holds (Ok tt)
 label_none Takes Holds y place h = (y, refl, h)
 
-pub label_faulty : {S : Type 0} (Takes : Taking S) (y : S) (place : Place) (ts rest : List Lexeme) (l : Option Stated) (e : AsmFault) → label_of ts ≡ (l, rest) → Unless (is_outside e) (IsLabelled Takes y place l (Err e)) → Unless (is_outside e) (IsLabel Takes y place ts (Err e))
-label_faulty Takes y place ts rest l e is h = unless_then (is_outside e) (λ g. subst (λ p. LabelOf Takes y place p (Err e)) (sym is) (Err e, g, refl)) h
+pub label_faulty : {S : Type 0} (m : Files) (Takes : Taking S) (y : S) (place : Place) (ts rest : List Lexeme) (l : Option Stated) (e : AsmFault) → label_of ts ≡ (l, rest) → Unless (is_outside e) (IsLabelled Takes y place l (Err e)) → Unless (is_outside e) (IsLabel m Takes y place ts (Err e))
+label_faulty m Takes y place ts rest l e is h = unless_then (is_outside e) (λ g. subst (λ p. LabelOf m Takes y place p (Err e)) (sym is) (Err e, g, refl)) h
 
-pub label_then : {S : Type 0} (Takes : Taking S) (Holds : S → Type 0) (y z : S) (place : Place) (ts rest : List Lexeme) (l : Option Stated) (r : Made) → label_of ts ≡ (l, rest) → IsLabelled Takes y place l (Ok z) → Answers (IsRest Takes z place rest) Holds r → Answers (IsLabel Takes y place ts) Holds r
-label_then Takes Holds y z place ts rest l r is e h = reaches_then (IsRest Takes z place rest) (IsLabel Takes y place ts) Holds r (λ q g. subst (λ p. LabelOf Takes y place p q) (sym is) (Ok z, e, g)) h
+pub label_then : {S : Type 0} (m : Files) (Takes : Taking S) (Holds : S → Type 0) (y z : S) (place : Place) (ts rest : List Lexeme) (l : Option Stated) (r : Made) → label_of ts ≡ (l, rest) → IsLabelled Takes y place l (Ok z) → Answers (IsRest m Takes z place rest) Holds r → Answers (IsLabel m Takes y place ts) Holds r
+label_then m Takes Holds y z place ts rest l r is e h = reaches_then (IsRest m Takes z place rest) (IsLabel m Takes y place ts) Holds r (λ q g. subst (λ p. LabelOf m Takes y place p q) (sym is) (Ok z, e, g)) h

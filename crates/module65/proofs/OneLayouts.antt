@@ -18,7 +18,7 @@ use Rattle.statements65.proofs.OneStatements.{One, followed_one, made_one, same_
 use Rattle.module65.specs.Laws.{OneAnswer, OneLayout}
 use Rattle.module65.specs.Laying.{AreLaid, IsLaid, laying, with_statement}
 use Rattle.module65.specs.Module.{outcome_of}
-use Rattle.module65.specs.Reading.{AreDefined, AreTaken, taken, faulty, refused, ended, Define, Follows, IsBegun, IsGiven, IsLabel, IsLabelled, IsRest, Job, Reached, no_line, open_fault, stopped}
+use Rattle.module65.specs.Reading.{AreDefined, AreTaken, taken, faulty, refused, ended, Define, Follows, IsBegun, IsGiven, IsLabel, IsLabelled, IsRest, Job, Reached, no_line, open_fault, stopped, with_bytes}
 
 -- ---- A statement.
 
@@ -26,26 +26,26 @@ labelled_one : (y : Layout) (place : Place) (o : Option Stated) → One (IsLabel
 labelled_one y place None = same_one (Ok y)
 labelled_one y place (Some x) = same_one (with_statement y place x)
 
-rest_one : (y : Layout) (place : Place) (ts : List Lexeme) → One (IsRest IsLaid y place ts)
-rest_one y place [] = same_one (Ok y)
-rest_one y place (t ∷ ts) = followed_one (IsStatement (t ∷ ts)) (λ x. x) (IsLaid y place) (statement_one (t ∷ ts)) (λ x. same_one (with_statement y place x))
+rest_one : (m : Files) (y : Layout) (place : Place) (ts : List Lexeme) → One (IsRest m IsLaid y place ts)
+rest_one m y place [] = same_one (Ok y)
+rest_one m y place (t ∷ ts) = followed_one (IsStatement (t ∷ ts)) (λ x. x) (λ x. IsLaid y place (with_bytes m place x)) (statement_one (t ∷ ts)) (λ x. same_one (with_statement y place (with_bytes m place x)))
 
-label_one : (y : Layout) (place : Place) (ts : List Lexeme) → One (IsLabel IsLaid y place ts)
-label_one y place ts = followed_one (IsLabelled IsLaid y place (label_of ts).0) (λ q. q) (λ z. IsRest IsLaid z place (label_of ts).1) (labelled_one y place (label_of ts).0) (λ z. rest_one z place (label_of ts).1)
+label_one : (m : Files) (y : Layout) (place : Place) (ts : List Lexeme) → One (IsLabel m IsLaid y place ts)
+label_one m y place ts = followed_one (IsLabelled IsLaid y place (label_of ts).0) (λ q. q) (λ z. IsRest m IsLaid z place (label_of ts).1) (labelled_one y place (label_of ts).0) (λ z. rest_one m z place (label_of ts).1)
 
-given_one : (y : Layout) (place : Place) (x : expand.Stated) → One (IsGiven IsLaid y place x)
-given_one y place (expand.label ts) = label_one y place ts
-given_one y place (expand.plain ts) = rest_one y place ts
+given_one : (m : Files) (y : Layout) (place : Place) (x : expand.Stated) → One (IsGiven m IsLaid y place x)
+given_one m y place (expand.label ts) = label_one m y place ts
+given_one m y place (expand.plain ts) = rest_one m y place ts
 
 -- ---- All statements.
 
 -- the same statement comes next, and the same stands behind it
-same_given : (m : Files) (s t u : expand.State) (x w : expand.Stated) (y : Layout) (a b : Result Layout AsmFault) → Reaches m (laying.meaning y) s (statement x t) → IsGiven IsLaid y t.left.place x a → Reaches m (laying.meaning y) s (statement w u) → IsGiven IsLaid y u.left.place w b → (t ≡ u) × (a ≡ b)
+same_given : (m : Files) (s t u : expand.State) (x w : expand.Stated) (y : Layout) (a b : Result Layout AsmFault) → Reaches m (laying.meaning y) s (statement x t) → IsGiven m IsLaid y t.left.place x a → Reaches m (laying.meaning y) s (statement w u) → IsGiven m IsLaid y u.left.place w b → (t ≡ u) × (a ≡ b)
 same_given m s t u x w y a b h g j k =
     let next = one_next m (laying.meaning y) s (statement x t) (statement w u) h j in
     let state : u ≡ t = cc in
     let words : w ≡ x = cc in
-    (sym state, given_one y t.left.place x a b g (subst (λ (v : expand.State). IsGiven IsLaid y v.left.place x b) state (subst (λ v. IsGiven IsLaid y u.left.place v b) words k)))
+    (sym state, given_one m y t.left.place x a b g (subst (λ (v : expand.State). IsGiven m IsLaid y v.left.place x b) state (subst (λ v. IsGiven m IsLaid y u.left.place v b) words k)))
 
 taken_one : (m : Files) (s : expand.State) (y : Layout) (p q : Reached Layout) → AreTaken m laying s y p → AreTaken m laying s y q → p ≡ q
 taken_one m s y p q (taken _ t x _ z _ h g more) k = by q k (λ c. taken_one m t z p c more)

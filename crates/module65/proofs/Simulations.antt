@@ -12,7 +12,7 @@ use Rattle.expand65.specs.State as expand
 use Rattle.language65.specs.declared.fault.AsmFault.{AsmFault}
 use Rattle.language65.specs.Language.{Stated, constant}
 use Rattle.statements65.specs.Parsing.{IsStatement, label_of}
-use Rattle.module65.specs.Reading.{AreDefined, AreTaken, taken, faulty, refused, ended, Between, Define, Follows, IsBegun, IsGiven, IsLabel, IsLabelled, IsRest, IsSource, Job, Reached, Taking, no_line, open_fault}
+use Rattle.module65.specs.Reading.{AreDefined, AreTaken, taken, faulty, refused, ended, Between, Define, Follows, IsBegun, IsGiven, IsLabel, IsLabelled, IsRest, IsSource, Job, Reached, Taking, no_line, open_fault, with_bytes}
 
 -- what stands behind the one stands for what stands behind the other, and faults are the same
 abbrev pub Matches : {A B : Type 0} → (A → B → Type 0) → (Result A AsmFault → Type 0) → Result B AsmFault → Type 0
@@ -45,24 +45,24 @@ labelled_matches : {A B : Type 0} (R : A → B → Type 0) (TakesA : Taking A) (
 labelled_matches R TakesA TakesB sim y t place None r stands is = matches_same R (IsLabelled TakesA y place None) r (Ok t) (sym is) (y, refl, stands)
 labelled_matches R TakesA TakesB sim y t place (Some x) r stands is = sim y t place x r stands is
 
-rest_matches : {A B : Type 0} (R : A → B → Type 0) (TakesA : Taking A) (TakesB : Taking B) → Simulates R TakesA TakesB → (y : A) (t : B) (place : Place) (ts : List Lexeme) (r : Result B AsmFault) → R y t → IsRest TakesB t place ts r → Matches R (IsRest TakesA y place ts) r
-rest_matches R TakesA TakesB sim y t place [] r stands is = matches_same R (IsRest TakesA y place []) r (Ok t) (sym is) (y, refl, stands)
-rest_matches R TakesA TakesB sim y t place (k ∷ ts) r stands is = by is.0 is.1 is.2
+rest_matches : {A B : Type 0} (m : Files) (R : A → B → Type 0) (TakesA : Taking A) (TakesB : Taking B) → Simulates R TakesA TakesB → (y : A) (t : B) (place : Place) (ts : List Lexeme) (r : Result B AsmFault) → R y t → IsRest m TakesB t place ts r → Matches R (IsRest m TakesA y place ts) r
+rest_matches m R TakesA TakesB sim y t place [] r stands is = matches_same R (IsRest m TakesA y place []) r (Ok t) (sym is) (y, refl, stands)
+rest_matches m R TakesA TakesB sim y t place (k ∷ ts) r stands is = by is.0 is.1 is.2
   where
-    by : (x : Result Stated AsmFault) → IsStatement (k ∷ ts) x → First x (TakesB t place) r → Matches R (IsRest TakesA y place (k ∷ ts)) r
-    by (Ok x) says takes = matches_then R (TakesA y place x) (IsRest TakesA y place (k ∷ ts)) (λ s h. (Ok x, says, h)) r (sim y t place x r stands takes)
-    by (Err e) says takes = matches_same R (IsRest TakesA y place (k ∷ ts)) r (Err e) (sym takes) (Err e, says, refl)
+    by : (x : Result Stated AsmFault) → IsStatement (k ∷ ts) x → First x (λ s. TakesB t place (with_bytes m place s)) r → Matches R (IsRest m TakesA y place (k ∷ ts)) r
+    by (Ok x) says takes = matches_then R (TakesA y place (with_bytes m place x)) (IsRest m TakesA y place (k ∷ ts)) (λ s h. (Ok x, says, h)) r (sim y t place (with_bytes m place x) r stands takes)
+    by (Err e) says takes = matches_same R (IsRest m TakesA y place (k ∷ ts)) r (Err e) (sym takes) (Err e, says, refl)
 
-label_matches : {A B : Type 0} (R : A → B → Type 0) (TakesA : Taking A) (TakesB : Taking B) → Simulates R TakesA TakesB → (y : A) (t : B) (place : Place) (ts : List Lexeme) (r : Result B AsmFault) → R y t → IsLabel TakesB t place ts r → Matches R (IsLabel TakesA y place ts) r
-label_matches R TakesA TakesB sim y t place ts r stands is = by is.0 is.2 (labelled_matches R TakesA TakesB sim y t place (label_of ts).0 is.0 stands is.1)
+label_matches : {A B : Type 0} (m : Files) (R : A → B → Type 0) (TakesA : Taking A) (TakesB : Taking B) → Simulates R TakesA TakesB → (y : A) (t : B) (place : Place) (ts : List Lexeme) (r : Result B AsmFault) → R y t → IsLabel m TakesB t place ts r → Matches R (IsLabel m TakesA y place ts) r
+label_matches m R TakesA TakesB sim y t place ts r stands is = by is.0 is.2 (labelled_matches R TakesA TakesB sim y t place (label_of ts).0 is.0 stands is.1)
   where
-    by : (q : Result _ AsmFault) → First q (λ z. IsRest TakesB z place (label_of ts).1) r → Matches R (IsLabelled TakesA y place (label_of ts).0) q → Matches R (IsLabel TakesA y place ts) r
-    by (Ok u) rest m = matches_then R (IsRest TakesA m.0 place (label_of ts).1) (IsLabel TakesA y place ts) (λ s h. (Ok m.0, m.1, h)) r (rest_matches R TakesA TakesB sim m.0 u place (label_of ts).1 r m.2 rest)
-    by (Err e) same m = matches_same R (IsLabel TakesA y place ts) r (Err e) (sym same) (Err e, m, refl)
+    by : (q : Result _ AsmFault) → First q (λ z. IsRest m TakesB z place (label_of ts).1) r → Matches R (IsLabelled TakesA y place (label_of ts).0) q → Matches R (IsLabel m TakesA y place ts) r
+    by (Ok u) rest h = matches_then R (IsRest m TakesA h.0 place (label_of ts).1) (IsLabel m TakesA y place ts) (λ s k. (Ok h.0, h.1, k)) r (rest_matches m R TakesA TakesB sim h.0 u place (label_of ts).1 r h.2 rest)
+    by (Err e) same h = matches_same R (IsLabel m TakesA y place ts) r (Err e) (sym same) (Err e, h, refl)
 
-given_matches : {A B : Type 0} (R : A → B → Type 0) (TakesA : Taking A) (TakesB : Taking B) → Simulates R TakesA TakesB → (y : A) (t : B) (place : Place) (x : expand.Stated) (r : Result B AsmFault) → R y t → IsGiven TakesB t place x r → Matches R (IsGiven TakesA y place x) r
-given_matches R TakesA TakesB sim y t place (expand.label ts) r stands is = label_matches R TakesA TakesB sim y t place ts r stands is
-given_matches R TakesA TakesB sim y t place (expand.plain ts) r stands is = rest_matches R TakesA TakesB sim y t place ts r stands is
+given_matches : {A B : Type 0} (m : Files) (R : A → B → Type 0) (TakesA : Taking A) (TakesB : Taking B) → Simulates R TakesA TakesB → (y : A) (t : B) (place : Place) (x : expand.Stated) (r : Result B AsmFault) → R y t → IsGiven m TakesB t place x r → Matches R (IsGiven m TakesA y place x) r
+given_matches m R TakesA TakesB sim y t place (expand.label ts) r stands is = label_matches m R TakesA TakesB sim y t place ts r stands is
+given_matches m R TakesA TakesB sim y t place (expand.plain ts) r stands is = rest_matches m R TakesA TakesB sim y t place ts r stands is
 
 -- ---- All statements.
 
@@ -72,11 +72,11 @@ next_same R a b for m s y t n stands h = subst (λ k. Reaches m k s n) (sym (for
 
 taken_matches : {A B : Type 0} (R : A → B → Type 0) (a : Between A) (b : Between B) → StandIn R a b → (m : Files) (s : expand.State) (y : A) (t : B) (r : Reached B) → R y t → AreTaken m b s t r → MatchesAll R (AreTaken m a s y) r
 taken_matches R a b for m s y t r stands (taken _ u x _ z _ h g more) =
-    let g' : Matches R (IsGiven a.takes y u.left.place x) (Ok z) = given_matches R a.takes b.takes for.takes y t u.left.place x (Ok z) stands g in
+    let g' : Matches R (IsGiven m a.takes y u.left.place x) (Ok z) = given_matches m R a.takes b.takes for.takes y t u.left.place x (Ok z) stands g in
     let n = taken_matches R a b for m u g'.0 z r g'.2 more in
     (n.0, taken s u x y g'.0 _ (next_same R a b for m s y t (statement x u) stands h) g'.1 n.1, n.2)
 taken_matches R a b for m s y t r stands (faulty _ u x _ e h g) =
-    (y, faulty s u x y e (next_same R a b for m s y t (statement x u) stands h) (given_matches R a.takes b.takes for.takes y t u.left.place x (Err e) stands g), stands)
+    (y, faulty s u x y e (next_same R a b for m s y t (statement x u) stands h) (given_matches m R a.takes b.takes for.takes y t u.left.place x (Err e) stands g), stands)
 taken_matches R a b for m s y t r stands (refused _ _ e place h) =
     (y, refused s y e place (next_same R a b for m s y t (fault (e, place)) stands h), stands)
 taken_matches R a b for m s y t r stands (ended _ u _ h) =

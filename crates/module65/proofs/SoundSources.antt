@@ -15,14 +15,14 @@ use Rattle.expand65.specs.Expansion.{statement, first_state, opened_in}
 use Rattle.expand65.specs.Includes.{bytes_in}
 use Rattle.expand65.specs.State as expand
 use Rattle.language65.specs.declared.fault.AsmFault.{AsmFault}
-use Rattle.language65.specs.Language.{Stated, label, cheap_label, unnamed_label, constant}
+use Rattle.language65.specs.Language.{Stated, label, cheap_label, unnamed_label, constant, part_named}
 use Rattle.language65.specs.Layout.{Layout, nothing_laid}
 use Rattle.language65.specs.Sound.{AreNamed, IsSound}
 use Rattle.statements65.specs.Parsing.{IsStatement, is_colon, label_before, label_of, named_label, or_all, with_rest}
 use Rattle.statements65.proofs.Sounding.{statement_sound}
 use Rattle.module65.specs.Laws.{SoundLayoutLaw}
 use Rattle.module65.specs.Laying.{IsLaid, laying}
-use Rattle.module65.specs.Reading.{AreDefined, AreTaken, taken, faulty, refused, ended, Define, Follows, IsBegun, IsGiven, IsLabel, IsLabelled, IsRest, Job, Reached, no_line, stopped}
+use Rattle.module65.specs.Reading.{AreDefined, AreTaken, taken, faulty, refused, ended, Define, Follows, IsBegun, IsGiven, IsLabel, IsLabelled, IsRest, Job, Reached, no_line, stopped, with_bytes}
 use Rattle.module65.proofs.NamedSteps.{IsStateFit, first_fit, next_fit, tokens_of}
 use Rattle.module65.proofs.NamedTokens.{are_named}
 use Rattle.module65.proofs.SoundLayouts.{IsGood, good_statement, nothing_good, sound_from}
@@ -71,34 +71,39 @@ good_labelled : (y z : Layout) (place : Place) (o : Option Stated) → IsGood y 
 good_labelled y z place None good sound h = let same : y ≡ z = cc in subst IsGood same good
 good_labelled y z place (Some x) good sound h = good_statement y z place x good (sound x refl) h
 
-good_rest : (y z : Layout) (place : Place) (ts : List Lexeme) → IsGood y → AreNamed ts → IsRest IsLaid y place ts (Ok z) → IsGood z
-good_rest y z place [] good named h = let same : y ≡ z = cc in subst IsGood same good
-good_rest y z place (t ∷ ts) good named h = by h.0 h.1 h.2
+-- bytes hand nothing else to the object
+pub bytes_sound : (m : Files) (place : Place) (x : Stated) → IsSound x → IsSound (with_bytes m place x)
+bytes_sound m place (part_named name start len) sound = tt
+bytes_sound m place _ sound = sound
+
+good_rest : (m : Files) (y z : Layout) (place : Place) (ts : List Lexeme) → IsGood y → AreNamed ts → IsRest m IsLaid y place ts (Ok z) → IsGood z
+good_rest m y z place [] good named h = let same : y ≡ z = cc in subst IsGood same good
+good_rest m y z place (t ∷ ts) good named h = by h.0 h.1 h.2
   where
-    by : (q : Result Stated AsmFault) → IsStatement (t ∷ ts) q → First q (IsLaid y place) (Ok z) → IsGood z
-    by (Ok x) is e = good_statement y z place x good (statement_sound (t ∷ ts) x named is) e
+    by : (q : Result Stated AsmFault) → IsStatement (t ∷ ts) q → First q (λ x. IsLaid y place (with_bytes m place x)) (Ok z) → IsGood z
+    by (Ok x) is e = good_statement y z place (with_bytes m place x) good (bytes_sound m place x (statement_sound (t ∷ ts) x named is)) e
     by (Err f) is e = absurd cc
 
-good_label : (y z : Layout) (place : Place) (ts : List Lexeme) → IsGood y → AreNamed ts → IsLabel IsLaid y place ts (Ok z) → IsGood z
-good_label y z place ts good named h = by h.0 h.1 h.2
+good_label : (m : Files) (y z : Layout) (place : Place) (ts : List Lexeme) → IsGood y → AreNamed ts → IsLabel m IsLaid y place ts (Ok z) → IsGood z
+good_label m y z place ts good named h = by h.0 h.1 h.2
   where
     sound : IsLabelSound (label_of ts)
     sound = label_sound ts named
 
-    by : (q : Result Layout AsmFault) → IsLabelled IsLaid y place (label_of ts).0 q → First q (λ w. IsRest IsLaid w place (label_of ts).1) (Ok z) → IsGood z
-    by (Ok w) is e = good_rest w z place (label_of ts).1 (good_labelled y w place (label_of ts).0 good sound.label is) sound.rest e
+    by : (q : Result Layout AsmFault) → IsLabelled IsLaid y place (label_of ts).0 q → First q (λ w. IsRest m IsLaid w place (label_of ts).1) (Ok z) → IsGood z
+    by (Ok w) is e = good_rest m w z place (label_of ts).1 (good_labelled y w place (label_of ts).0 good sound.label is) sound.rest e
     by (Err f) is e = absurd cc
 
-good_given : (y z : Layout) (place : Place) (x : expand.Stated) → IsGood y → AreNamed (tokens_of x) → IsGiven IsLaid y place x (Ok z) → IsGood z
-good_given y z place (expand.label ts) good named h = good_label y z place ts good named h
-good_given y z place (expand.plain ts) good named h = good_rest y z place ts good named h
+good_given : (m : Files) (y z : Layout) (place : Place) (x : expand.Stated) → IsGood y → AreNamed (tokens_of x) → IsGiven m IsLaid y place x (Ok z) → IsGood z
+good_given m y z place (expand.label ts) good named h = good_label m y z place ts good named h
+good_given m y z place (expand.plain ts) good named h = good_rest m y z place ts good named h
 
 -- ---- All statements.
 
 good_taken : (m : Files) (s : expand.State) (y : Layout) (r : Reached Layout) → IsStateFit 0 s → IsGood y → AreTaken m laying s y r → IsGood r.behind
 good_taken m s y r fit good (taken _ t x _ z _ reaches is more) =
     let next = next_fit m (laying.meaning y) s (statement x t) fit reaches in
-    good_taken m t z r next.1 (good_given y z t.left.place x good (are_named (tokens_of x) next.0) is) more
+    good_taken m t z r next.1 (good_given m y z t.left.place x good (are_named (tokens_of x) next.0) is) more
 good_taken m s y r fit good (faulty _ t x _ e reaches is) = good
 good_taken m s y r fit good (refused _ _ e place reaches) = good
 good_taken m s y r fit good (ended _ t _ reaches) = good

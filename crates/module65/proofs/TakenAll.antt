@@ -16,11 +16,11 @@ use Rattle.module65.specs.Reading.{AreDefined, taken, faulty, refused, ended, Be
 -- ---- Statements.
 
 -- a statement that is taken
-pub goes_on : {S : Type 0} (m : Files) (b : Between S) (IsAll : Reached S → Type 0) (s t : expand.State) (x : expand.Stated) (y z : S) → GoesOn m b IsAll s y → Reaches m (b.meaning y) s (statement x t) → IsGiven b.takes y t.left.place x (Ok z) → GoesOn m b IsAll t z
+pub goes_on : {S : Type 0} (m : Files) (b : Between S) (IsAll : Reached S → Type 0) (s t : expand.State) (x : expand.Stated) (y z : S) → GoesOn m b IsAll s y → Reaches m (b.meaning y) s (statement x t) → IsGiven m b.takes y t.left.place x (Ok z) → GoesOn m b IsAll t z
 goes_on m b IsAll s t x y z inv reaches given = λ r h. inv r (taken s t x y z r reaches given h)
 
 -- one with a fault
-pub stops : {S : Type 0} (m : Files) (b : Between S) (IsAll : Reached S → Type 0) (s t : expand.State) (x : expand.Stated) (y : S) (e : AsmFault) → GoesOn m b IsAll s y → Reaches m (b.meaning y) s (statement x t) → IsGiven b.takes y t.left.place x (Err e) → IsAll (stopped y t.left.place e)
+pub stops : {S : Type 0} (m : Files) (b : Between S) (IsAll : Reached S → Type 0) (s t : expand.State) (x : expand.Stated) (y : S) (e : AsmFault) → GoesOn m b IsAll s y → Reaches m (b.meaning y) s (statement x t) → IsGiven m b.takes y t.left.place x (Err e) → IsAll (stopped y t.left.place e)
 stops m b IsAll s t x y e inv reaches given = inv (stopped y t.left.place e) (faulty s t x y e reaches given)
 
 -- a fault of expansion

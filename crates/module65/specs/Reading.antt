@@ -7,12 +7,13 @@ use Rattle.syntax65.specs.Trees.{number}
 use Rattle.expand65.specs.declared.fault.ExpandFault.{ExpandFault}
 use Rattle.expand65.specs.declared.place.Place.{Place}
 use Rattle.expand65.specs.Expansion.{Reaches, statement, nothing, fault, opened_in}
+use Rattle.expand65.specs.Includes.{beside, file_named}
 use Rattle.expand65.specs.Meaning.{Meaning}
 use Rattle.expand65.specs.State as expand
 use Rattle.language65.specs.declared.fault.AsmFault.{AsmFault}
 use Rattle.language65.specs.declared.fault.AsmFault.TheVariants.{BadScope, Expansion}
 use Rattle.language65.specs.Faults.{is_outside}
-use Rattle.language65.specs.Language.{Stated, constant}
+use Rattle.language65.specs.Language.{Stated, constant, file_part, part_named}
 use Rattle.language65.specs.LineFaults.{is_open}
 use Rattle.statements65.specs.Parsing.{IsStatement, label_of}
 use Rattle.module65.specs.Places.{PlacedFault}
@@ -36,23 +37,35 @@ abbrev pub IsLabelled :
 IsLabelled Takes y place None r = r ≡ Ok y
 IsLabelled Takes y place (Some x) r = Takes y place x r
 
+-- the bytes of the file of a name, in the folder of the file in which a statement stands
+abbrev pub bytes_for : Files → Place → List ℕ → Option (List ℕ)
+bytes_for m place name = file_named m (beside place.file name)
+
+-- a statement with the bytes that it takes from a file
+abbrev pub with_bytes : Files → Place → Stated → Stated
+with_bytes m place (part_named name start len) = file_part (bytes_for m place name) start len
+with_bytes m place x = x
+
 -- tokens as a statement, if there are any
-abbrev pub IsRest : {S : Type 0} → Taking S → S → Place → List Lexeme → Result S AsmFault → Type 0
-IsRest Takes y place [] r = r ≡ Ok y
-IsRest Takes y place (t ∷ ts) r =
-    (x : Result Stated AsmFault) × IsStatement (t ∷ ts) x × First x (Takes y place) r
+abbrev pub IsRest :
+    {S : Type 0} → Files → Taking S → S → Place → List Lexeme → Result S AsmFault → Type 0
+IsRest m Takes y place [] r = r ≡ Ok y
+IsRest m Takes y place (t ∷ ts) r =
+    (x : Result Stated AsmFault) × IsStatement (t ∷ ts) x
+    × First x (λ s. Takes y place (with_bytes m place s)) r
 
 -- a label's tokens
-abbrev pub IsLabel : {S : Type 0} → Taking S → S → Place → List Lexeme → Result S AsmFault → Type 0
-IsLabel Takes y place ts r =
+abbrev pub IsLabel :
+    {S : Type 0} → Files → Taking S → S → Place → List Lexeme → Result S AsmFault → Type 0
+IsLabel m Takes y place ts r =
     (q : Result _ AsmFault) × IsLabelled Takes y place (label_of ts).0 q
-    × First q (λ z. IsRest Takes z place (label_of ts).1) r
+    × First q (λ z. IsRest m Takes z place (label_of ts).1) r
 
 -- a statement that expansion gives: a label, or what begins with none
 abbrev pub IsGiven :
-    {S : Type 0} → Taking S → S → Place → expand.Stated → Result S AsmFault → Type 0
-IsGiven Takes y place (expand.label ts) r = IsLabel Takes y place ts r
-IsGiven Takes y place (expand.plain ts) r = IsRest Takes y place ts r
+    {S : Type 0} → Files → Taking S → S → Place → expand.Stated → Result S AsmFault → Type 0
+IsGiven m Takes y place (expand.label ts) r = IsLabel m Takes y place ts r
+IsGiven m Takes y place (expand.plain ts) r = IsRest m Takes y place ts r
 
 -- ---- All statements.
 
@@ -74,11 +87,11 @@ open_fault last scope =
 pub data AreTaken {S : Type 0} (m : Files) (b : Between S) : expand.State → S → Reached S → Type 0 where
   taken :
       (s t : expand.State) (x : expand.Stated) (y z : S) (r : Reached S) →
-      Reaches m (b.meaning y) s (statement x t) → IsGiven b.takes y t.left.place x (Ok z) →
+      Reaches m (b.meaning y) s (statement x t) → IsGiven m b.takes y t.left.place x (Ok z) →
       AreTaken m b t z r → AreTaken m b s y r
   faulty :
       (s t : expand.State) (x : expand.Stated) (y : S) (e : AsmFault) →
-      Reaches m (b.meaning y) s (statement x t) → IsGiven b.takes y t.left.place x (Err e) →
+      Reaches m (b.meaning y) s (statement x t) → IsGiven m b.takes y t.left.place x (Err e) →
       AreTaken m b s y (stopped y t.left.place e)
   refused :
       (s : expand.State) (y : S) (e : ExpandFault) (place : Place) →

@@ -2,4 +2,5 @@ pub mod Each
 pub mod Naming
 pub mod OneStatements
 pub mod Parts
+pub mod Ranges
 pub mod Sounding

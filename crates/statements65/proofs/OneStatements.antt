@@ -136,6 +136,23 @@ amount_one make (n ∷ []) = then_one (p.IsExpression n) (λ x. Ok (make x None)
 amount_one make (n ∷ v ∷ []) = followed_one (p.IsExpression n) (λ q. q) (λ x. p.IsAmountWith make x v) (expression_one n) (amount_with_one make v)
 amount_one make (n ∷ v ∷ w ∷ parts) = same_one p.unknown
 
+range_with_one : (n : List Lexeme) (start : Tree) → One (p.IsRangeWith start n)
+range_with_one n start = then_one (p.IsExpression n) (λ len. Ok (Some start, Some len)) (expression_one n)
+
+range_one : (parts : List (List Lexeme)) → One (p.IsRange parts)
+range_one [] = same_one (Ok (None, None))
+range_one (s ∷ []) = then_one (p.IsExpression s) (λ start. Ok (Some start, None)) (expression_one s)
+range_one (s ∷ n ∷ []) = followed_one (p.IsExpression s) (λ q. q) (λ start. p.IsRangeWith start n) (expression_one s) (range_with_one n)
+range_one (s ∷ n ∷ w ∷ parts) = same_one p.unknown
+
+part_of_one : (name : Option (List ℕ)) (range : List (List Lexeme)) → One (p.IsPartOf name range)
+part_of_one None range = same_one p.unknown
+part_of_one (Some name) range = then_one (p.IsRange range) (λ x. Ok (l.part_named name x.0 x.1)) (range_one range)
+
+file_part_one : (parts : List (List Lexeme)) → One (p.IsFilePart parts)
+file_part_one [] = same_one p.unknown
+file_part_one (name ∷ range) = part_of_one (p.string_of name) range
+
 assertion_one : (parts : List (List Lexeme)) → One (p.IsAssertion parts)
 assertion_one [] = same_one p.unknown
 assertion_one (e ∷ []) = same_one p.unknown
@@ -145,7 +162,7 @@ directive_one : (d : Directive) (ts : List Lexeme) → One (p.IsDirective d ts)
 directive_one (directive.List which width) ts = list_one which width ts
 directive_one directive.EndedText ts = same_one (p.ended ts)
 directive_one (directive.Amount which) ts = amount_one (p.amount_statement which) (p.parts_of ts)
-directive_one directive.FilePart ts = same_one p.unknown
+directive_one directive.FilePart ts = file_part_one (p.parts_of ts)
 directive_one directive.Segment ts = same_one (p.segment_of ts)
 directive_one (directive.Lone which) ts = same_one (p.alone (p.lone_statement which) ts)
 directive_one directive.Scope ts = same_one (p.scope_of ts)

@@ -174,7 +174,7 @@ first_goes Is Next view (Err f) x i h = go (is_outside f) h
 
 -- ---- Too many parts.
 
-some_part : (ts : List Lexeme) → parts_of ts ≢ []
+pub some_part : (ts : List Lexeme) → parts_of ts ≢ []
 some_part [] h = absurd cc
 some_part (t ∷ ts) h = go (is_comma t) (parts_of ts) refl refl
   where

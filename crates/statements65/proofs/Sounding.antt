@@ -138,6 +138,14 @@ amounts_sound which (n ∷ []) x h = after h.0 (λ y. good (p.amount_statement w
 amounts_sound which (n ∷ v ∷ []) x h = amount_first_sound which v x h.0 h.2
 amounts_sound which (n ∷ v ∷ w ∷ parts) x h = cc
 
+part_of_sound : (name : Option (List ℕ)) (range : List (List Lexeme)) (x : l.Stated) → p.IsPartOf name range (Ok x) → IsSound x
+part_of_sound None range x h = cc
+part_of_sound (Some name) range x h = after h.0 (λ (v : Option Tree × Option Tree). good (l.part_named name v.0 v.1)) x (λ v. made x (l.part_named name v.0 v.1) tt) h.2
+
+file_part_sound : (parts : List (List Lexeme)) (x : l.Stated) → p.IsFilePart parts (Ok x) → IsSound x
+file_part_sound [] x h = cc
+file_part_sound (name ∷ range) x h = part_of_sound (p.string_of name) range x h
+
 named_sound : (which : Names) (ns : List (List ℕ)) → list_all is_name ns ≡ true → IsSound (p.names_statement which ns)
 named_sound (names.Import own) ns h = h
 named_sound names.Export ns h = h
@@ -214,7 +222,7 @@ directive_sound : (d : Directive) (ts : List Lexeme) (x : l.Stated) → AreNamed
 directive_sound (directive.List elements width) ts x named h = after h.0 (λ xs. good (l.values width xs)) x (λ xs. made x (l.values width xs) tt) h.2
 directive_sound directive.EndedText ts x named h = ended_sound ts x h
 directive_sound (directive.Amount which) ts x named h = amounts_sound which (p.parts_of ts) x h
-directive_sound directive.FilePart ts x named h = cc
+directive_sound directive.FilePart ts x named h = file_part_sound (p.parts_of ts) x h
 directive_sound directive.Segment ts x named h = segment_sound ts x h
 directive_sound (directive.Lone which) ts x named h = alone_sound (p.lone_statement which) x ts (lone_sound which) h
 directive_sound directive.Scope ts x named h = scope_sound ts x h

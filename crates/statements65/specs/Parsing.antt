@@ -36,7 +36,7 @@ use Rattle.statements65.specs.declared.reading.words.Message.{Message}
 use Rattle.statements65.specs.declared.reading.words.Message.TheVariants as message
 use Rattle.statements65.specs.declared.reading.words.Names.{Names}
 use Rattle.statements65.specs.declared.reading.words.Names.TheVariants as names
-use Rattle.language65.specs.Language.{Item, value, text, Operand, no_operand, accumulator, immediate, address, indirect, indirect_x, indirect_y, Stated, label, cheap_label, unnamed_label, constant, instruction, values, reserve, align, segment, push_segment, pop_segment, open_scope, close_scope, open_proc, close_proc, imports, exports, globals, forced, assertion, says, warns, nothing}
+use Rattle.language65.specs.Language.{Item, value, text, Operand, no_operand, accumulator, immediate, address, indirect, indirect_x, indirect_y, Stated, label, cheap_label, unnamed_label, constant, instruction, values, reserve, align, part_named, segment, push_segment, pop_segment, open_scope, close_scope, open_proc, close_proc, imports, exports, globals, forced, assertion, says, warns, nothing}
 
 -- what isn't understood
 abbrev pub unknown : {A : Type 0} → Result A AsmFault
@@ -411,9 +411,28 @@ or_else (Some w) other = Some w
 abbrev pub directive_of : List ℕ → Option Directive
 directive_of d = or_else (among data_words d) (or_else (among place_words d) (or_else (among segment_words d) (or_else (among scope_words d) (or_else (among name_words d) (among message_words d)))))
 
--- a file's name, and perhaps a start and a length
+-- ---- Parts of files.
+
+abbrev pub IsRangeWith : Tree → List Lexeme → Result (Option Tree × Option Tree) AsmFault → Type 0
+IsRangeWith start n r = Then (IsExpression n) (λ len. Ok (Some start, Some len)) r
+
+-- a start and a length, each where it is there
+abbrev pub IsRange : List (List Lexeme) → Result (Option Tree × Option Tree) AsmFault → Type 0
+IsRange [] r = r ≡ Ok (None, None)
+IsRange (s ∷ []) r = Then (IsExpression s) (λ start. Ok (Some start, None)) r
+IsRange (s ∷ n ∷ []) r = (q : Result Tree AsmFault) × IsExpression s q × First q (λ start. IsRangeWith start n) r
+IsRange _ r = r ≡ unknown
+
+abbrev pub IsPartOf : Option (List ℕ) → List (List Lexeme) → Result Stated AsmFault → Type 0
+IsPartOf None range r = r ≡ unknown
+IsPartOf (Some name) range r = Then (IsRange range) (λ x. Ok (part_named name x.0 x.1)) r
+
+-- a file's name as a string, and perhaps a start and a length
 abbrev pub IsFilePart : List (List Lexeme) → Result Stated AsmFault → Type 0
-IsFilePart parts r = r ≡ unknown
+IsFilePart [] r = r ≡ unknown
+IsFilePart (name ∷ range) r = IsPartOf (string_of name) range r
+
+-- ---- Statements by their directives.
 
 -- the statement of a directive and the tokens behind it
 abbrev pub IsDirective : Directive → List Lexeme → Result Stated AsmFault → Type 0

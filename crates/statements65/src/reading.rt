@@ -3,6 +3,7 @@
 mod amounts;
 mod assertions;
 mod directives;
+mod files;
 mod items;
 mod labels;
 mod lists;

@@ -9,6 +9,7 @@ ghost use Rattle.language65.specs.Views.{stated_of};
 
 use super::amounts::amount;
 use super::assertions::assertion;
+use super::files::file_part;
 use super::lists::{ended_text, list, name_list};
 use super::messages::{lone, message, processor};
 use super::places::{proc, scope, segment};
@@ -29,8 +30,7 @@ fn statement_by(
         Directive::List(elements, width) => list(alloc, elements, width, tokens),
         Directive::EndedText => ended_text(alloc, tokens),
         Directive::Amount(which) => amount(alloc, which, tokens),
-        // No file is placed yet.
-        Directive::FilePart => Err(AsmFault::NotUnderstood),
+        Directive::FilePart => file_part(alloc, tokens),
         Directive::Segment => segment(alloc, tokens),
         Directive::Lone(which) => lone(alloc, which, tokens),
         Directive::Scope => scope(alloc, tokens),

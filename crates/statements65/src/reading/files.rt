@@ -1,0 +1,105 @@
+//! `.incbin`.
+
+ghost use Rattle.std.specs.Prelude.{◌≡◌, ◌∷◌, [], false, option_map, IfErr};
+ghost use Rattle.syntax65.specs.Relations.{Answers};
+ghost use Rattle.syntax65.specs.Tokens.{lexemes};
+ghost use Rattle.syntax65.specs.Trees.{tree_of};
+ghost use Rattle.language65.specs.Faults.{is_failure, is_outside};
+ghost use Rattle.language65.specs.Views.{range_of, stated_of};
+ghost use Rattle.statements65.specs.Parsing.{parts_behind, parts_of, IsFilePart, IsRange, IsRangeWith};
+
+use super::parts::{expression, first_part};
+use super::tokens::{copy_of, string_of};
+use language65::{AsmFault, PartRange, Statement};
+use std::alloc::Global;
+use syntax65::{Expr, Token};
+
+/// A start, with all that follows it.
+fn start_alone(alloc: Global, start: &[Token<'_>]) -> Result<PartRange, AsmFault>
+    ensures value { Answers is_outside range_of result (IsRange (lexemes start.now ∷ [])) }
+    ensures inside { IfErr result (λ e. is_failure e ≡ false) }
+{
+    let start = Some(expression(alloc, start)?);
+    Ok(PartRange { start, len: None })
+}
+
+fn with_len(alloc: Global, start: Expr, len: &[Token<'_>]) -> Result<PartRange, AsmFault>
+    ensures value { Answers is_outside range_of result (IsRangeWith (tree_of start) (lexemes len.now)) }
+    ensures inside { IfErr result (λ e. is_failure e ≡ false) }
+{
+    let len = expression(alloc, len)?;
+    Ok(PartRange {
+        start: Some(start),
+        len: Some(len),
+    })
+}
+
+fn start_and_len(
+    alloc: Global,
+    start: &[Token<'_>],
+    len: &[Token<'_>],
+) -> Result<PartRange, AsmFault>
+    ensures value { Answers is_outside range_of result (IsRange (lexemes start.now ∷ lexemes len.now ∷ [])) }
+    ensures inside { IfErr result (λ e. is_failure e ≡ false) }
+{
+    let start = expression(alloc, start)?;
+    with_len(alloc, start, len)
+}
+
+/// A start, and perhaps a length.
+fn range(alloc: Global, tokens: &[Token<'_>]) -> Result<PartRange, AsmFault>
+    ensures value { Answers is_outside range_of result (IsRange (parts_of (lexemes tokens.now))) }
+    ensures inside { IfErr result (λ e. is_failure e ≡ false) }
+{
+    let (start, behind) = first_part(tokens);
+    match behind {
+        None => start_alone(alloc, start),
+        Some(behind) => {
+            let (len, behind) = first_part(behind);
+            match behind {
+                None => start_and_len(alloc, start, len),
+                Some(_) => Err(AsmFault::NotUnderstood),
+            }
+        }
+    }
+}
+
+/// What stands behind a file's name.
+fn range_behind(alloc: Global, behind: Option<&[Token<'_>]>) -> Result<PartRange, AsmFault>
+    ensures value { Answers is_outside range_of result (IsRange (parts_behind (option_map (λ rest. lexemes rest.now) behind.entry))) }
+    ensures inside { IfErr result (λ e. is_failure e ≡ false) }
+{
+    match behind {
+        Some(behind) => range(alloc, behind),
+        None => Ok(PartRange {
+            start: None,
+            len: None,
+        }),
+    }
+}
+
+/// A part by the tokens of its name and those behind them.
+fn part_of(
+    alloc: Global,
+    name: &[Token<'_>],
+    behind: Option<&[Token<'_>]>,
+) -> Result<Statement, AsmFault>
+    ensures value { Answers is_outside stated_of result (IsFilePart (lexemes name.now ∷ parts_behind (option_map (λ rest. lexemes rest.now) behind.entry))) }
+    ensures inside { IfErr result (λ e. is_failure e ≡ false) }
+{
+    let Some(name) = string_of(name) else {
+        return Err(AsmFault::NotUnderstood);
+    };
+    let range = range_behind(alloc, behind)?;
+    let name = copy_of(alloc, name)?;
+    Ok(Statement::NamedPart { name, range })
+}
+
+/// `.incbin`
+pub fn file_part(alloc: Global, tokens: &[Token<'_>]) -> Result<Statement, AsmFault>
+    ensures value { Answers is_outside stated_of result (IsFilePart (parts_of (lexemes tokens.now))) }
+    ensures inside { IfErr result (λ e. is_failure e ≡ false) }
+{
+    let (name, behind) = first_part(tokens);
+    part_of(alloc, name, behind)
+}

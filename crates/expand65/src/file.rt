@@ -11,6 +11,7 @@ ghost use Rattle.expand65.specs.Reading.{IsPiece, ReadsLine, TakesPiece, bytes_o
 
 use crate::fault::ExpandFault;
 use std::alloc::Global;
+use std::mem;
 use syntax65::{LexFault, MAX_LINE, Sequence, Store, StoreFault, Text};
 
 /// How many bytes a file has at most.
@@ -29,6 +30,8 @@ pub struct OpenFile {
     pub next: u64,
     /// How many lines were taken.
     pub line: u32,
+    /// Room that a line before had, for the next one.
+    pub spare: Vec<u8>,
 }
 
 /// Reads what a file has from a place on into the front of a buffer. A file that isn't there has no bytes.
@@ -95,6 +98,7 @@ impl OpenFile {
             at: 0,
             next: 0,
             line: 0,
+            spare: Vec::new(alloc),
         }
     }
 
@@ -167,6 +171,20 @@ impl OpenFile {
         Ok(true)
     }
 
+    /// No bytes, in the room that a line before had.
+    fn empty_line(&mut self, alloc: Global) -> Vec<u8>
+        ensures empty { result.items ≡ [] }
+        ensures at { self.new.at ≡ self.old.at }
+        ensures buffer { self.new.buffer ≡ self.old.buffer }
+        ensures next { self.new.next ≡ self.old.next }
+        ensures line { self.new.line ≡ self.old.line }
+        ensures name { self.new.name ≡ self.old.name }
+    {
+        let mut line = mem::replace(&mut self.spare, Vec::new(alloc));
+        line.clear();
+        line
+    }
+
     /// The next line.
     pub fn next_line<S: Store>(
         &mut self,
@@ -181,7 +199,7 @@ impl OpenFile {
         ensures files { S.files store.new ≡ S.files store.old }
         ensures count { Passes ExpandFault.FileError (S.failures store.old) (S.failures store.new) result }
     {
-        let mut line = Vec::new(alloc);
+        let mut line = self.empty_line(alloc);
         'pieces: loop {
             if self.take_piece(&mut line)? {
                 drop_return(&mut line);

@@ -104,6 +104,7 @@ impl OpenFile {
     {
         let bytes = self.next_line(alloc, store)?;
         let line = line_of(alloc, bytes.as_slice())?;
+        self.spare = bytes.into_vec();
         match self.line.checked_add(1) {
             Some(number) => {
                 self.line = number;

@@ -42,7 +42,8 @@ impl Line {
         ensures { IfOk result (λ line. tokens_in line ≡ lexemes tokens.now) }
     {
         let mut words = Vec::with_capacity(alloc, tokens.len())?;
-        let mut bytes = Vec::new(alloc);
+        // A token has some four bytes.
+        let mut bytes = Vec::with_capacity(alloc, tokens.len().saturating_mul(4))?;
         for token in tokens {
             words.push(Word {
                 kind: token.kind,

@@ -142,6 +142,10 @@ impl Rewriter {
     fn macro_at(&self, token: &Token<'_>) -> Result<Option<Rc<Body>>, AllocError>
         ensures { IfOk result (λ found. MacroFound found self.now (lexeme_of token.now)) }
     {
+        // Most sources define no macro, and then no line's first name is looked up.
+        if self.macros.is_empty() {
+            return Ok(None);
+        }
         match token.kind {
             TokenKind::Identifier => match self.macros.get(token.text) {
                 Some(body) => Ok(Some(body.clone()?)),

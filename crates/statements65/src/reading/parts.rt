@@ -1,24 +1,73 @@
 //! Expressions of whole lists of tokens, and lists with commas.
 
-ghost use Rattle.std.specs.Prelude.{◌≡◌, ◌<◌, ◌∷◌, false, length, not, option_map, IfErr, IfSome};
+ghost use Rattle.std.specs.Prelude.{◌≡◌, ◌<◌, ◌≤◌, ◌∷◌, false, length, not, option_map, IfErr, IfOk, IfSome, IsTrue, None, Ok, Some};
 ghost use Rattle.std.specs.List.{prefix_len};
+ghost use Rattle.syntax65.specs.Expressions.{IsParsed, binary_at, opening_in};
+ghost use Rattle.syntax65.specs.Faults.{is_expr_outside};
 ghost use Rattle.syntax65.specs.Relations.{Answers};
 ghost use Rattle.syntax65.specs.Tokens.{lexeme_of, lexemes};
-ghost use Rattle.syntax65.specs.Trees.{tree_of};
+ghost use Rattle.syntax65.specs.Trees.{number, tree_of};
+ghost use Rattle.syntax65.specs.declared.expressions.words.Opening.TheVariants.{Number};
 ghost use Rattle.language65.specs.Faults.{is_failure, is_outside};
 ghost use Rattle.statements65.specs.Parsing.{is_comma, parts_behind, parts_of, IsExpression, IsFront};
 
-use super::tokens::is_comma;
+use super::tokens::{is_close, is_comma};
 use language65::AsmFault;
 use std::alloc::Global;
-use syntax65::{Expr, Token, read_expr};
+use syntax65::{Expr, ExprFault, Token, TokenKind, read_expr};
+
+/// The value of a number.
+fn number_in(token: &Token<'_>) -> Option<u32>
+    ensures { IfSome result (λ v. opening_in (Some (lexeme_of token.now)) ≡ Number v) }
+{
+    match token.kind {
+        TokenKind::Number(value) => Some(value),
+        _ => None,
+    }
+}
+
+/// Whether no expression goes on with these tokens: none is there, or a `,` or a `)` comes first.
+fn end_expression(tokens: &[Token<'_>]) -> bool
+    ensures { IsTrue result → binary_at (lexemes tokens.now) 0 ≡ None }
+{
+    match tokens.split_first() {
+        Some((first, _)) => is_comma(first) || is_close(first),
+        None => true,
+    }
+}
+
+/// The value of a number at the front that is an expression by itself.
+fn lone_number(tokens: &[Token<'_>]) -> Option<u32>
+    ensures read { IfSome result (λ v. IsParsed (lexemes tokens.now) (Ok (number v, 1))) }
+    ensures some { IfSome result (λ _. 0 < length tokens.now) }
+{
+    let Some((first, behind)) = tokens.split_first() else {
+        return None;
+    };
+    if end_expression(behind) {
+        number_in(first)
+    } else {
+        None
+    }
+}
+
+/// The expression at the front, and how many tokens it has. Most are one number, in which no operators are looked for.
+fn parsed(alloc: Global, tokens: &[Token<'_>]) -> Result<(Expr, usize), ExprFault>
+    ensures read { Answers is_expr_outside (λ r. (tree_of r.0, r.1)) result (IsParsed (lexemes tokens.now)) }
+    ensures bound { IfOk result (λ r. r.1 ≤ length tokens.now) }
+{
+    match lone_number(tokens) {
+        Some(value) => Ok((Expr::Number(value), 1)),
+        None => read_expr(alloc, tokens),
+    }
+}
 
 /// An expression of all the tokens.
 pub fn expression(alloc: Global, tokens: &[Token<'_>]) -> Result<Expr, AsmFault>
     ensures value { Answers is_outside tree_of result (IsExpression (lexemes tokens.now)) }
     ensures inside { IfErr result (λ e. is_failure e ≡ false) }
 {
-    match read_expr(alloc, tokens) {
+    match parsed(alloc, tokens) {
         Ok((value, count)) => {
             if count == tokens.len() {
                 Ok(value)
@@ -58,7 +107,7 @@ pub fn front<'a, 'b>(
     ensures value { Answers is_outside (λ x. (tree_of x.0, lexemes x.1.now)) result (IsFront (lexemes tokens.now)) }
     ensures inside { IfErr result (λ e. is_failure e ≡ false) }
 {
-    match read_expr(alloc, tokens) {
+    match parsed(alloc, tokens) {
         Ok((value, count)) => Ok((value, &tokens[count..])),
         Err(fault) => Err(AsmFault::from(fault)),
     }

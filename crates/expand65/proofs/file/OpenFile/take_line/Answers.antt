@@ -15,6 +15,6 @@ returns-in_err-bytes-clause-taken g c =
 
 pub returns-in-Some-clause-taken : goal.returns-in-Some-clause-taken
 returns-in-Some-clause-taken g c =
-    let new : OpenFile = record { name = c.next_line.new.self.name; buffer = c.next_line.new.self.buffer; at = c.next_line.new.self.at; next = c.next_line.new.self.next; line = c.in-Some.number } in
+    let new : OpenFile = record { name = c.next_line.new.self.name; buffer = c.next_line.new.self.buffer; at = c.next_line.new.self.at; next = c.next_line.new.self.next; line = c.in-Some.number; spare = c.into_vec.result } in
     let P : List ℕ → Type 0 = λ bytes. (q : Result (List Lexeme) LexFault) × IsRead bytes q × (Ok (tokens_in c.in_ok-line.line) ≡ lexed q) in
     file_taken (g.S.Store.files c.args.store.now) c.args.self.now new c.in_ok-bytes.bytes c.in_ok-line.line c.in-Some.number c.in_ok-bytes.ensures.read refl (c.in-Some.ensures.1 ∙ ap (λ n. n + 1) c.in_ok-bytes.ensures.line) (subst P c.as_slice.ensures c.in_ok-line.ensures.tokens)

@@ -1,24 +1,22 @@
 -- What stays whatever statements follow.
-use Rattle.std.proofs.Common.{◌≡◌, ℕ, zero, suc, ◌+◌, ◌-◌, ◌<◌, ◌≤◌, Bool, true, false, List, [], ◌∷◌, ◌++◌, length, take, position, is_some, Option, Some, None, option_map, slice_get, Result, Ok, Err, refl, sym, ap, ◌∙◌, subst, arith}
+use Rattle.std.proofs.Common.{◌≡◌, ℕ, zero, suc, ◌+◌, ◌-◌, ◌≤◌, Bool, true, false, List, [], ◌∷◌, length, take, position, is_some, Option, Some, None, slice_get, Result, Ok, Err, refl, sym, ap, ◌∙◌, arith}
 use Rattle.std.specs.Prelude.{nat_le, if◌then◌else◌}
 use Rattle.std.proofs.lemmas.Bool.Decides.{nat_tests}
 use Rattle.std.proofs.lemmas.List.{length-append, take-append-le}
-use Rattle.std.proofs.lemmas.Option.{slice_get_within}
 use Rattle.syntax65.specs.Outcome.{◌>>=◌}
-use Rattle.syntax65.specs.Trees.{Tree, number, here, name, cheap, forward, backward, unary, binary, tree_of}
+use Rattle.syntax65.specs.Trees.{Tree, number, here, name, cheap, forward, backward, unary, binary}
 use Rattle.object65.specs.Form.{Form}
 use Rattle.object65.specs.Folding.{fold1, fold2}
 use Rattle.language65.specs.declared.fault.AsmFault.{AsmFault}
 use Rattle.language65.specs.declared.fault.AsmFault.TheVariants.{NoSuchLabel, NoSuchScope, Undefined}
 use Rattle.language65.specs.Laid.{Spot}
-use Rattle.language65.specs.Names.{Meaning, defined_at, imported_as, backward_meaning, enclosing, first_found, last_of, meaning_of, member_meaning, or_else, or_fault, outward_from, plain_meaning, scope_from, scoped_meaning, scopes_from, scopes_of, shown, unnamed_meaning}
+use Rattle.language65.specs.Names.{Meaning, defined_at, enclosing, first_found, last_of, meaning_of, member_meaning, or_else, or_fault, outward_from, plain_meaning, scope_from, scoped_meaning, scopes_of, shown, unnamed_meaning}
 use Rattle.language65.specs.Norms.{address_of, folded, form_by, form_of_definition, form_of_meaning, form_of_value, norm, norm_of}
 use Rattle.language65.specs.Symbols.{Definition, Key, Symbols, cheap_in, defined, imported, named, same_key, unnamed_at}
 use Rattle.symbols65.specs.declared.resolving.attempt.Source.TheVariants.{Finals}
 use Rattle.symbols65.specs.declared.resolving.attempt.State.{State}
-use Rattle.symbols65.specs.declared.resolving.attempt.State.TheVariants.{Unknown, Waiting, Found}
+use Rattle.symbols65.specs.declared.resolving.attempt.State.TheVariants.{Unknown, Waiting, Hangs, Found}
 use Rattle.symbols65.specs.declared.resolving.attempt.Stop.{Stop}
-use Rattle.symbols65.specs.declared.resolving.attempt.Stop.TheVariants.{Needs, Fault}
 use Rattle.symbols65.specs.declared.table.symbols.Symbols as code
 use Rattle.language65.specs.Extending.{Extends}
 use Rattle.symbols65.specs.Finals.{IsFinalWithin}
@@ -28,7 +26,8 @@ use Rattle.symbols65.specs.Sources.{known_by}
 use Rattle.symbols65.specs.Views.{table_of}
 use Rattle.symbols65.proofs.NameParts.{name_is}
 use Rattle.symbols65.proofs.Places.{first_within, get_stays, position_stays}
-use Rattle.symbols65.proofs.Settling.{extends_itself, final_among}
+use Rattle.symbols65.proofs.Hanging.{extends_itself}
+use Rattle.symbols65.proofs.Settling.{final_among}
 use Rattle.symbols65.proofs.Turns.{expression_course, expression_is, ok_later}
 
 -- ---- Definitions.
@@ -106,6 +105,7 @@ known_ok : (j : ℕ) (o : Option State) (f : Form) → known_form j o ≡ Ok f �
 known_ok j None f e = absurd cc
 known_ok j (Some Unknown) f e = absurd cc
 known_ok j (Some Waiting) f e = absurd cc
+known_ok j (Some (Hangs k)) f e = absurd cc
 known_ok j (Some (Found g)) f e = (let same : g ≡ f = cc in ap (λ x. Some (Found x)) same)
 
 value_ok : (n : ℕ) (z : Symbols) (j : ℕ) (k : Option State) (d : Definition) (f : Form) → ((g : Form) → k ≡ Some (Found g) → form_of_definition (norm n z) (Some d) ≡ Ok g) → (v : Option Tree) → d.value ≡ v → attempt_value (λ q e. known_form j k) d.spot v ≡ Ok f → form_of_definition (norm n z) (Some d) ≡ Ok f

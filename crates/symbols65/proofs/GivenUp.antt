@@ -1,15 +1,17 @@
 -- A table in which constants wait is one again where they wait no more.
-use Rattle.std.proofs.Common.{◌≡◌, ◌≢◌, ℕ, ◌+◌, ◌<◌, ◌≤◌, refl, sym, ap, ◌∙◌, arith, List, [], ◌∷◌, length, Some, slice_get, Bool, true, false, nat_eq, inl, inr}
+use Rattle.std.proofs.Common.{◌≡◌, ◌≢◌, ℕ, ◌+◌, ◌<◌, ◌≤◌, refl, sym, ap, ◌∙◌, arith, List, [], ◌∷◌, length, map, Some, slice_get, Bool, true, false, nat_eq, inl, inr}
 use Rattle.std.specs.Prelude.{slice_set}
 use Rattle.std.proofs.lemmas.Bool.Decides.{nat_tests}
 use Rattle.std.proofs.lemmas.Grind.{common_steps}
 use Rattle.std.proofs.lemmas.List.Sums.{sum_by-set}
 use Rattle.std.proofs.lemmas.Option.{slice_get_within}
 use Rattle.symbols65.specs.declared.resolving.attempt.State.{State}
-use Rattle.symbols65.specs.declared.resolving.attempt.State.TheVariants.{Unknown, Waiting, Found}
+use Rattle.symbols65.specs.declared.resolving.attempt.State.TheVariants.{Unknown, Waiting, Hangs, Found}
 use Rattle.symbols65.specs.Knowns.{without}
 use Rattle.language65.specs.Symbols.{Symbols}
 use Rattle.symbols65.specs.Resolving.{IsTable, is_open, unknown}
+use Rattle.symbols65.specs.Hanging.{AreHung, bare}
+use Rattle.symbols65.proofs.Hanging.{same_found, same_length, same_unknown, same_waiting}
 use Rattle.symbols65.proofs.Knowns.{get_other, get_same}
 use Rattle.symbols65.proofs.Turns.{Course}
 use Rattle.symbols65.proofs.Pursuits.{Among, IsPursuit}
@@ -66,4 +68,18 @@ pursuit_lost table states v ws p = record {
   room = (let room = p.room in let more = without_unknown states ws p.inside in omega (arith, room, more));
   found = λ j f e. p.found j f (without_before states ws j (Found f) (λ q. cc) e).0;
   idle = λ j e. (let before = without_before states ws j Waiting (λ q. cc) e in before.1 (p.marked j before.0));
+  hung = λ j k e. p.hung j k (without_before states ws j (Hangs k) (λ q. cc) e).0;
+}
+
+-- constants that are looked for in a table that knows the same but for what hangs
+pub pursuit_same : (table : Symbols) (states new : List State) (v : Course) (ws : List ℕ) → map bare new ≡ map bare states → AreHung table new → IsPursuit table states v ws → IsPursuit table new v ws
+pursuit_same table states new v ws same hung p = record {
+  turns = p.turns;
+  long = same_length states new same ∙ p.long;
+  room = (let room = p.room in let as_many = same_unknown states new same in omega (arith, room, as_many));
+  found = λ j f e. p.found j f (same_found states new same j f e);
+  chain = p.chain;
+  marked = λ j e. p.marked j (same_waiting states new same j e);
+  inside = λ j h. (let lt = p.inside j h in let long = same_length states new same in omega (arith, lt, long));
+  hung = hung;
 }

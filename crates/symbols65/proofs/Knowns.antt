@@ -8,11 +8,14 @@ use Rattle.std.proofs.lemmas.List.{append-nil, drop_all, take_all}
 use Rattle.std.proofs.lemmas.List.Folds.{list_any-append}
 use Rattle.std.proofs.lemmas.Option.{gets, slice_get_within}
 use Rattle.symbols65.specs.declared.resolving.attempt.State.{State}
-use Rattle.symbols65.specs.declared.resolving.attempt.State.TheVariants.{Unknown, Waiting, Found}
+use Rattle.symbols65.specs.declared.resolving.attempt.State.TheVariants.{Unknown, Waiting, Hangs, Found}
 use Rattle.symbols65.specs.Knowns.{AreNoted, is_found, without}
 use Rattle.language65.specs.Symbols.{Symbols}
-use Rattle.symbols65.specs.Resolving.{IsTable}
-use Rattle.symbols65.proofs.Beginnings.{AreUnknown, blank_table}
+use Rattle.language65.specs.Extending.{Extends}
+use Rattle.symbols65.specs.Hanging.{AreHung, HangsOn}
+use Rattle.symbols65.specs.Resolving.{IsTable, is_open}
+use Rattle.symbols65.proofs.Beginnings.{AreOpen, blank_table}
+use Rattle.symbols65.proofs.Hanging.{hung_later}
 use Rattle.symbols65.proofs.Places.{get_more}
 
 -- nothing is found at one more place
@@ -26,6 +29,14 @@ noted_more states noted h = λ j e. by j (slice_get (states ++ Unknown ∷ []) j
         at : (slice_get states j ≡ Some x) ⊎ ((j ≡ length states) × (Unknown ≡ x)) → list_any (λ i. i == j) noted ≡ true
         at (inl same) = h j (ap is_found same ∙ e)
         at (inr new) = let no : true ≡ false = sym e ∙ ap (λ y. is_found (Some y)) (sym new.1) in absurd cc
+
+-- nothing hangs at one more place
+pub hung_more : (y : Symbols) (states : List State) → AreHung y states → AreHung y (states ++ Unknown ∷ [])
+hung_more y states h = λ j k e. by j k (get_more states Unknown (Hangs k) j e)
+  where
+    by : (j k : ℕ) → (slice_get states j ≡ Some (Hangs k)) ⊎ ((j ≡ length states) × (Unknown ≡ Hangs k)) → HangsOn y j k
+    by j k (inl same) = h j k same
+    by j k (inr new) = absurd (let never = new.1 in cc)
 
 -- a place more that is noted
 pub noted_one_more : (states : List State) (noted : List ℕ) (place : ℕ) → AreNoted states noted → AreNoted states (noted ++ place ∷ [])
@@ -104,18 +115,19 @@ pub noted_without : (states : List State) (noted ws : List ℕ) → AreNoted sta
 noted_without states noted [] h = h
 noted_without states noted (w ∷ ws) h = noted_without (slice_set states w Unknown) noted ws (noted_set states noted w Unknown refl h)
 
--- where none is noted and none waits, nothing is known
-pub none_noted : (states : List State) → AreNoted states [] → ((j : ℕ) → slice_get states j ≡ Some Waiting → ⊥) → AreUnknown states
+-- where none is noted and none waits, none is found
+pub none_noted : (states : List State) → AreNoted states [] → ((j : ℕ) → slice_get states j ≡ Some Waiting → ⊥) → AreOpen states
 none_noted [] h idle = tt
 none_noted (x ∷ states) h idle = (at x (h zero) (idle zero), none_noted states (λ j e. h (suc j) e) (λ j e. idle (suc j) e))
   where
-    at : (y : State) → (is_found (Some y) ≡ true → false ≡ true) → (Some y ≡ Some Waiting → ⊥) → y ≡ Unknown
+    at : (y : State) → (is_found (Some y) ≡ true → false ≡ true) → (Some y ≡ Some Waiting → ⊥) → is_open y ≡ 1
     at Unknown k w = refl
     at Waiting k w = absurd (w refl)
+    at (Hangs m) k w = refl
     at (Found f) k w = let never = k refl in absurd cc
 
-pub none_known : (table : Symbols) (states : List State) → AreNoted states [] → ((j : ℕ) → slice_get states j ≡ Some Waiting → ⊥) → length states ≡ length table.definitions → IsTable table states
-none_known table states h idle e = blank_table table states (none_noted states h idle) e
+pub none_known : (x y : Symbols) (states : List State) → AreNoted states [] → ((j : ℕ) → slice_get states j ≡ Some Waiting → ⊥) → AreHung x states → Extends x y → length states ≡ length y.definitions → IsTable y states
+none_known x y states h idle hung more e = blank_table y states (none_noted states h idle) (hung_later x y states more hung) e
 
 -- nothing more waits where nothing is known of one more place
 pub idle_set : (states : List State) (place : ℕ) → ((j : ℕ) → slice_get states j ≡ Some Waiting → ⊥) → (j : ℕ) → slice_get (slice_set states place Unknown) j ≡ Some Waiting → ⊥
@@ -133,3 +145,7 @@ idle_set states place idle j e = by (nat_eq j place) refl
 -- a list written over by one as long is that one
 pub written_over : {A : Type 0} (n : ℕ) (xs ys : List A) → length xs ≡ length ys → n ≡ length ys → take n (xs ++ drop (length xs) ys) ≡ xs
 written_over n xs ys same long = ap (λ zs. take n (xs ++ zs)) (drop_all (length xs) ys (omega (arith, same))) ∙ ap (take n) (append-nil xs) ∙ take_all n xs (omega (arith, same, long))
+
+-- and what hangs in that one hangs in it
+pub hung_written : (y : Symbols) (n : ℕ) (xs ys : List State) → length xs ≡ length ys → n ≡ length ys → AreHung y xs → AreHung y (take n (xs ++ drop (length xs) ys))
+hung_written y n xs ys same long h = subst (AreHung y) (sym (written_over n xs ys same long)) h

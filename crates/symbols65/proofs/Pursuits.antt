@@ -1,5 +1,5 @@
 -- Constants that wait for one another.
-use Rattle.std.proofs.Common.{◌≡◌, ◌≢◌, ℕ, zero, suc, ◌+◌, ◌-◌, ◌*◌, ◌<◌, ◌≤◌, refl, sym, ap, ◌∙◌, subst, arith, List, [], ◌∷◌, ◌++◌, length, get_or, Option, Some, None, slice_get, Bool, true, false, nat_eq, Result, Ok, Err, ◌⊎◌, inl, inr, length-append}
+use Rattle.std.proofs.Common.{◌≡◌, ◌≢◌, ℕ, zero, suc, ◌+◌, ◌*◌, ◌<◌, ◌≤◌, refl, sym, ap, ◌∙◌, subst, arith, List, [], ◌∷◌, ◌++◌, length, get_or, Option, Some, None, slice_get, Bool, true, false, nat_eq, Result, Ok, Err, ◌⊎◌, inl, inr, length-append}
 use Rattle.std.specs.Prelude.{slice_set, ⊤}
 use Rattle.std.proofs.lemmas.Bool.Decides.{nat_tests}
 use Rattle.std.proofs.lemmas.Grind.{common_steps}
@@ -7,24 +7,22 @@ use Rattle.std.proofs.lemmas.List.Sums.{sum_by-set}
 use Rattle.std.proofs.lemmas.Option.{gets, slice_get_within, slice_get_past}
 use Rattle.object65.specs.Form.{Form}
 use Rattle.language65.specs.declared.fault.AsmFault.{AsmFault}
-use Rattle.language65.specs.declared.fault.AsmFault.TheVariants.{Circular}
+use Rattle.language65.specs.declared.fault.AsmFault.TheVariants.{Circular, NoSuchLabel}
 use Rattle.symbols65.specs.declared.resolving.attempt.State.{State}
-use Rattle.symbols65.specs.declared.resolving.attempt.State.TheVariants.{Unknown, Waiting, Found}
+use Rattle.symbols65.specs.declared.resolving.attempt.State.TheVariants.{Unknown, Waiting, Hangs, Found}
 use Rattle.symbols65.specs.declared.resolving.attempt.Stop.{Stop}
 use Rattle.symbols65.specs.declared.resolving.attempt.Stop.TheVariants.{Needs, Fault}
 use Rattle.language65.specs.Symbols.{Symbols}
-use Rattle.symbols65.specs.Resolving.{FoundBy, IsTable, is_open, is_unknown, unknown}
+use Rattle.symbols65.specs.Resolving.{FoundBy, IsTable, is_open, may_be_looked_for, unknown}
+use Rattle.symbols65.specs.Hanging.{AreHung, Comes, HangsOn, Leads, Reaches}
+use Rattle.symbols65.specs.Knowns.{is_found}
+use Rattle.language65.specs.Norms.{form_of_definition, norm}
+use Rattle.symbols65.proofs.Hanging.{extends_itself}
 use Rattle.syntax65.specs.Outcome.{Unless}
 use Rattle.symbols65.proofs.Turns.{Course, IsCourse, constant_course, constant_is, ok_later, circular_before}
 use Rattle.symbols65.proofs.Tries.{Near, Agrees, IsAttempt, at_turn, last_course}
 
 -- ---- One constant needs another.
-
--- what has this course comes to a fault where the constant j does, one turn later
-pub record Leads (table : Symbols) (c : ℕ) (v : Course) (j : ℕ) : Type 0 where
-  pub later : (k : ℕ) (z : AsmFault) → c ≤ k → constant_course table j k ≡ Err z → v (suc k) ≡ Err z
-  pub circular : (k : ℕ) → constant_course table j k ≡ Err Circular → v (suc k) ≡ Err Circular
-  pub starts : constant_course table j 0 ≡ Err Circular
 
 near_so : (r s : Result Form AsmFault) → Near ⊥ r s → r ≡ s
 near_so r s (inl h) = absurd h.0
@@ -34,19 +32,35 @@ near_circular : (r : Result Form AsmFault) → Near ⊤ r (Err Circular) → r �
 near_circular r (inl h) = h.1
 near_circular r (inr e) = e
 
-pub leads_from : (c : ℕ) (table : Symbols) (known : ℕ → Option State) (v : Course) (a : Result Form Stop) (j : ℕ) → IsAttempt c table known v a → a ≡ Err (Needs j) → Leads table c v j
+pub leads_from : (c : ℕ) (table : Symbols) (known : ℕ → Option State) (v : Course) (a : Result Form Stop) (j : ℕ) → IsAttempt c table known v a → a ≡ Err (Needs j) → Leads table v j
 leads_from c table known v a j t e = record {
-  later = λ k z le h. (let P : Result Form Stop → Type 0 = λ x. Agrees ⊥ (at_turn table k) x (v (suc k)) in near_so (v (suc k)) (Err z) (subst P e (t.later k le) z h));
+  faults = λ z (n, h). (suc (c + n), λ k le. later z n h k le);
   circular = λ k h. (let P : Result Form Stop → Type 0 = λ x. Agrees ⊤ (at_turn table k) x (v (suc k)) in near_circular (v (suc k)) (subst P e (t.ever k) Circular h));
   starts = (t.lacks j e).starts;
 }
+  where
+    later : (z : AsmFault) (n : ℕ) → ((k : ℕ) → n ≤ k → constant_course table j k ≡ Err z) → (k : ℕ) → suc (c + n) ≤ k → v k ≡ Err z
+    later z n h zero le = absurd (omega (arith, le))
+    later z n h (suc k) le = (let P : Result Form Stop → Type 0 = λ x. Agrees ⊥ (at_turn table k) x (v (suc k)) in near_so (v (suc k)) (Err z) (subst P e (t.later k (omega (arith, le))) z (h k (omega (arith, le)))))
 
-leads_later : (table : Symbols) (c : ℕ) (v : Course) (j : ℕ) → Leads table c v j → Leads table (suc c) v j
-leads_later table c v j h = record {
-  later = λ k z le e. h.later k z (omega (arith, le)) e;
-  circular = h.circular;
-  starts = h.starts;
+-- what comes to the faults of a constant comes to those to which that comes
+leads_over : (table : Symbols) (v : Course) (j k : ℕ) → Leads table v j → Leads table (constant_course table j) k → Leads table v k
+leads_over table v j k l m = record {
+  faults = λ z comes. l.faults z (m.faults z comes);
+  circular = λ n e. l.circular n (circular_before (constant_course table j) (constant_is table j) n (suc n) (omega arith) (m.circular n e));
+  starts = m.starts;
 }
+
+pub leads_on : (table : Symbols) (v : Course) (j k : ℕ) → Leads table v j → Reaches table j k → Leads table v k
+leads_on table v j k l (inl e) = subst (Leads table v) e l
+leads_on table v j k l (inr h) = leads_over table v j k l (h table (extends_itself table))
+
+pub hangs_over : (y : Symbols) (i j k : ℕ) → HangsOn y i j → HangsOn y j k → HangsOn y i k
+hangs_over y i j k h g = λ z more. leads_over z (constant_course z i) j k (h z more) (g z more)
+
+pub reaches_over : (y : Symbols) (i j k : ℕ) → Reaches y i j → HangsOn y j k → Reaches y i k
+reaches_over y i j k (inl e) g = inr (subst (λ (q : ℕ). HangsOn y q k) (sym e) g)
+reaches_over y i j k (inr h) g = inr (hangs_over y i j k h g)
 
 pub fault_from : (c : ℕ) (table : Symbols) (known : ℕ → Option State) (v : Course) (a : Result Form Stop) (z : AsmFault) → IsAttempt c table known v a → a ≡ Err (Fault z) → (k : ℕ) → c ≤ k → v (suc k) ≡ Err z
 fault_from c table known v a z t e k le = (let P : Result Form Stop → Type 0 = λ x. Agrees ⊥ (at_turn table k) x (v (suc k)) in near_so (v (suc k)) (Err z) (subst P e (t.later k le)))
@@ -57,37 +71,31 @@ form_from c table known v a f t e k le = (let P : Result Form Stop → Type 0 = 
 -- ---- Chains.
 
 -- the expression waits for the first, and so on
-abbrev pub IsChain : Symbols → ℕ → Course → List ℕ → Type 0
-IsChain table c v [] = ⊤
-IsChain table c v (w ∷ ws) = Leads table c v w × IsChain table c (constant_course table w) ws
+abbrev pub IsChain : Symbols → Course → List ℕ → Type 0
+IsChain table v [] = ⊤
+IsChain table v (w ∷ ws) = Leads table v w × IsChain table (constant_course table w) ws
 
-chain_later : (table : Symbols) (c : ℕ) (v : Course) (ws : List ℕ) → IsChain table c v ws → IsChain table (suc c) v ws
-chain_later table c v [] h = tt
-chain_later table c v (w ∷ ws) (l, h) = (leads_later table c v w l, chain_later table c (constant_course table w) ws h)
+chain_more : (table : Symbols) (v : Course) (ws : List ℕ) (j : ℕ) → IsChain table v ws → Leads table (last_course table v ws) j → IsChain table v (ws ++ j ∷ [])
+chain_more table v [] j h l = (l, tt)
+chain_more table v (w ∷ ws) j (m, h) l = (m, chain_more table (constant_course table w) ws j h l)
 
-chain_more : (table : Symbols) (c : ℕ) (v : Course) (ws : List ℕ) (j : ℕ) → IsChain table c v ws → Leads table c (last_course table v ws) j → IsChain table c v (ws ++ j ∷ [])
-chain_more table c v [] j h l = (l, tt)
-chain_more table c v (w ∷ ws) j (m, h) l = (m, chain_more table c (constant_course table w) ws j h l)
-
-chain_less : (table : Symbols) (c : ℕ) (v : Course) (ws : List ℕ) (j : ℕ) → IsChain table c v (ws ++ j ∷ []) → IsChain table c v ws
-chain_less table c v [] j h = tt
-chain_less table c v (w ∷ ws) j (m, h) = (m, chain_less table c (constant_course table w) ws j h)
+chain_less : (table : Symbols) (v : Course) (ws : List ℕ) (j : ℕ) → IsChain table v (ws ++ j ∷ []) → IsChain table v ws
+chain_less table v [] j h = tt
+chain_less table v (w ∷ ws) j (m, h) = (m, chain_less table (constant_course table w) ws j h)
 
 last_of_more : (table : Symbols) (v : Course) (ws : List ℕ) (j : ℕ) → last_course table v (ws ++ j ∷ []) ≡ constant_course table j
 last_of_more table v [] j = refl
 last_of_more table v (w ∷ ws) j = last_of_more table (constant_course table w) ws j
 
-chain_fault : (table : Symbols) (c : ℕ) (v : Course) (ws : List ℕ) (k : ℕ) (z : AsmFault) → IsChain table c v ws → c ≤ k → last_course table v ws k ≡ Err z → v (length ws + k) ≡ Err z
-chain_fault table c v [] k z h le e = let same : 0 + k ≡ k = omega arith in ap v same ∙ e
-chain_fault table c v (w ∷ ws) k z (l, h) le e =
-    let same : suc (length ws) + k ≡ suc (length ws + k) = omega arith in
-    ap v same ∙ l.later (length ws + k) z (omega (arith, le)) (chain_fault table c (constant_course table w) ws k z h le e)
+chain_fault : (table : Symbols) (v : Course) (ws : List ℕ) (z : AsmFault) → IsChain table v ws → Comes (last_course table v ws) (Err z) → Comes v (Err z)
+chain_fault table v [] z h e = e
+chain_fault table v (w ∷ ws) z (l, h) e = l.faults z (chain_fault table (constant_course table w) ws z h e)
 
-chain_circular : (table : Symbols) (c : ℕ) (v : Course) (ws : List ℕ) (k : ℕ) → IsChain table c v ws → last_course table v ws k ≡ Err Circular → v (length ws + k) ≡ Err Circular
-chain_circular table c v [] k h e = let same : 0 + k ≡ k = omega arith in ap v same ∙ e
-chain_circular table c v (w ∷ ws) k (l, h) e =
+chain_circular : (table : Symbols) (v : Course) (ws : List ℕ) (k : ℕ) → IsChain table v ws → last_course table v ws k ≡ Err Circular → v (length ws + k) ≡ Err Circular
+chain_circular table v [] k h e = let same : 0 + k ≡ k = omega arith in ap v same ∙ e
+chain_circular table v (w ∷ ws) k (l, h) e =
     let same : suc (length ws) + k ≡ suc (length ws + k) = omega arith in
-    ap v same ∙ l.circular (length ws + k) (chain_circular table c (constant_course table w) ws k h e)
+    ap v same ∙ l.circular (length ws + k) (chain_circular table (constant_course table w) ws k h e)
 
 -- ---- A constant that is met again.
 
@@ -118,20 +126,20 @@ among_cases x w (v ∷ ws) (inr h) = go (among_cases x w ws h)
 abbrev pub After : Symbols → ℕ → ℕ → Course → Type 0
 After table d j v = (k : ℕ) → v k ≡ Err Circular → constant_course table j (d + k) ≡ Err Circular
 
-among_after : (table : Symbols) (c : ℕ) (v : Course) (ws : List ℕ) (j : ℕ) → IsChain table c v ws → Among j ws → (d : ℕ) × After table d j (last_course table v ws)
-among_after table c v [] j h m = absurd m
-among_after table c v (w ∷ ws) j (l, h) (inl e) = (length ws, λ k q. ap (λ x. constant_course table x (length ws + k)) e ∙ chain_circular table c (constant_course table w) ws k h q)
-among_after table c v (w ∷ ws) j (l, h) (inr m) = among_after table c (constant_course table w) ws j h m
+among_after : (table : Symbols) (v : Course) (ws : List ℕ) (j : ℕ) → IsChain table v ws → Among j ws → (d : ℕ) × After table d j (last_course table v ws)
+among_after table v [] j h m = absurd m
+among_after table v (w ∷ ws) j (l, h) (inl e) = (length ws, λ k q. ap (λ x. constant_course table x (length ws + k)) e ∙ chain_circular table (constant_course table w) ws k h q)
+among_after table v (w ∷ ws) j (l, h) (inr m) = among_after table (constant_course table w) ws j h m
 
 always : (table : Symbols) (j d : ℕ) → constant_course table j 0 ≡ Err Circular → ((k : ℕ) → constant_course table j k ≡ Err Circular → constant_course table j (d + suc k) ≡ Err Circular) → (k : ℕ) → constant_course table j k ≡ Err Circular
 always table j d s h zero = s
 always table j d s h (suc k) = circular_before (constant_course table j) (constant_is table j) (suc k) (d + suc k) (omega arith) (h k (always table j d s h k))
 
-pub met_again : (table : Symbols) (c : ℕ) (v : Course) → IsCourse v → (ws : List ℕ) (j : ℕ) → IsChain table c v ws → Leads table c (last_course table v ws) j → Among j ws → (n : ℕ) → v (suc n) ≡ Err Circular
-met_again table c v s ws j h l m n =
-    let (d, after) = among_after table c v ws j h m in
+pub met_again : (table : Symbols) (v : Course) → IsCourse v → (ws : List ℕ) (j : ℕ) → IsChain table v ws → Leads table (last_course table v ws) j → Among j ws → (n : ℕ) → v (suc n) ≡ Err Circular
+met_again table v s ws j h l m n =
+    let (d, after) = among_after table v ws j h m in
     let ever = always table j d l.starts (λ k e. after (suc k) (l.circular k e)) in
-    circular_before v s (suc n) (length ws + suc n) (omega arith) (chain_circular table c v ws (suc n) h (l.circular n (ever n)))
+    circular_before v s (suc n) (length ws + suc n) (omega arith) (chain_circular table v ws (suc n) h (l.circular n (ever n)))
 
 -- ---- The table.
 
@@ -146,9 +154,10 @@ pub record IsPursuit (table : Symbols) (states : List State) (v : Course) (ws : 
   pub long : length states ≡ length table.definitions
   pub room : turns + length ws + unknown states ≤ length table.definitions
   pub found : FoundBy turns table (slice_get states)
-  pub chain : IsChain table turns v ws
+  pub chain : IsChain table v ws
   pub marked : (j : ℕ) → slice_get states j ≡ Some Waiting → Among j ws
   pub inside : (j : ℕ) → Among j ws → j < length states
+  pub hung : AreHung table states
 
 pub pursuit_starts : (table : Symbols) (states : List State) (v : Course) → IsTable table states → IsPursuit table states v []
 pursuit_starts table states v t = record {
@@ -159,6 +168,7 @@ pursuit_starts table states v t = record {
   chain = tt;
   marked = λ j e. absurd (t.idle j e);
   inside = λ j h. absurd h;
+  hung = t.hung;
 }
 
 pub pursuit_ends : (table : Symbols) (states : List State) (v : Course) → IsPursuit table states v [] → IsTable table states
@@ -168,34 +178,61 @@ pursuit_ends table states v p = record {
   room = (let room = p.room in omega (arith, room));
   found = p.found;
   idle = λ j e. p.marked j e;
+  hung = p.hung;
 }
 
-fewer : (states : List State) (j : ℕ) → slice_get states j ≡ Some Unknown → j < length states → unknown (slice_set states j Waiting) + 1 ≡ unknown states
-fewer states j e lt =
-    let change = sum_by-set is_open states j Waiting Unknown lt in
-    let old : get_or states j Unknown ≡ Unknown = grind (arith, common_steps, gets) in
-    let one : is_open (get_or states j Unknown) ≡ 1 = ap is_open old in
-    omega (arith, change, one)
+open_is : (o : Option State) → may_be_looked_for o ≡ true → (x : State) × (o ≡ Some x) × (is_open x ≡ 1)
+open_is None e = absurd cc
+open_is (Some Unknown) e = (Unknown, refl, refl)
+open_is (Some Waiting) e = absurd cc
+open_is (Some (Hangs k)) e = (Hangs k, refl, refl)
+open_is (Some (Found f)) e = absurd cc
+
+pub open_within : (states : List State) (j : ℕ) → may_be_looked_for (slice_get states j) ≡ true → j < length states
+open_within states j e = let (x, is, one) = open_is (slice_get states j) e in slice_get_within states j x is
+
+fewer : (states : List State) (j : ℕ) → may_be_looked_for (slice_get states j) ≡ true → unknown (slice_set states j Waiting) + 1 ≡ unknown states
+fewer states j e =
+    let (x, is, one) = open_is (slice_get states j) e in
+    let change = sum_by-set is_open states j Waiting Unknown (slice_get_within states j x is) in
+    let old : get_or states j Unknown ≡ x = grind (arith, common_steps, gets) in
+    let same : is_open (get_or states j Unknown) ≡ 1 = ap is_open old ∙ one in
+    omega (arith, change, same)
 
 no_more : (states : List State) (j : ℕ) (f : Form) → j < length states → unknown (slice_set states j (Found f)) ≤ unknown states
 no_more states j f lt =
     let change = sum_by-set is_open states j (Found f) Unknown lt in
     omega (arith, change)
 
--- a constant is needed that is unknown
-pub pursuit_down : (table : Symbols) (states : List State) (v : Course) (ws : List ℕ) (j : ℕ) (p : IsPursuit table states v ws) → Leads table p.turns (last_course table v ws) j → slice_get states j ≡ Some Unknown → IsPursuit table (slice_set states j Waiting) v (ws ++ j ∷ [])
+-- what is put into a table and hangs on nothing leaves what hangs
+hung_set : (table : Symbols) (states : List State) (j : ℕ) (x : State) → j < length states → ((k : ℕ) → x ≡ Hangs k → ⊥) → AreHung table states → AreHung table (slice_set states j x)
+hung_set table states j x lt isnt h = λ i k e. by i k e (nat_eq i j) refl
+  where
+    by : (i k : ℕ) → slice_get (slice_set states j x) i ≡ Some (Hangs k) → (b : Bool) → nat_eq i j ≡ b → HangsOn table i k
+    by i k e true b =
+        let one : i ≡ j = grind (arith, nat_tests) in
+        let now : slice_get (slice_set states j x) i ≡ Some x = ap (slice_get (slice_set states j x)) one ∙ get_same states j x lt in
+        let same : x ≡ Hangs k = (let both : Some x ≡ Some (Hangs k) = sym now ∙ e in cc) in
+        absurd (isnt k same)
+    by i k e false b =
+        let other : i ≢ j = grind (arith, nat_tests) in
+        h i k (sym (get_other states i j x other) ∙ e)
+
+-- a constant is needed that is neither found nor waits
+pub pursuit_down : (table : Symbols) (states : List State) (v : Course) (ws : List ℕ) (j : ℕ) (p : IsPursuit table states v ws) → Leads table (last_course table v ws) j → may_be_looked_for (slice_get states j) ≡ true → IsPursuit table (slice_set states j Waiting) v (ws ++ j ∷ [])
 pursuit_down table states v ws j p l e = record {
   turns = p.turns;
   long = (let long = p.long in grind (arith, common_steps));
-  room = (let room = p.room in let less = fewer states j e lt in simp length-append (omega (arith, room, less)));
+  room = (let room = p.room in let less = fewer states j e in simp length-append (omega (arith, room, less)));
   found = λ i f q. p.found i f (before i (Found f) (λ w. cc) q);
-  chain = chain_more table p.turns v ws j p.chain l;
+  chain = chain_more table v ws j p.chain l;
   marked = λ i q. marks i q (nat_eq i j) refl;
   inside = λ i q. (let same : length (slice_set states j Waiting) ≡ length states = grind (arith, common_steps) in rw same (inner i (among_cases i j ws q)));
+  hung = hung_set table states j Waiting lt (λ k q. cc) p.hung;
 }
   where
     lt : j < length states
-    lt = slice_get_within states j Unknown e
+    lt = open_within states j e
 
     before : (i : ℕ) (x : State) → (x ≡ Waiting → ⊥) → slice_get (slice_set states j Waiting) i ≡ Some x → slice_get states i ≡ Some x
     before i x differs q = go (nat_eq i j) refl
@@ -227,9 +264,10 @@ pursuit_up table states v ws j f p e = record {
   long = (let long = p.long in grind (arith, common_steps));
   room = (let room : p.turns + length (ws ++ j ∷ []) + unknown states ≤ length table.definitions = p.room in let more = no_more states j f lt in let grown : length (ws ++ j ∷ []) ≡ length ws + 1 = length-append ws (j ∷ []) in omega (arith, room, more, grown));
   found = λ i g q. founds i g q (nat_eq i j) refl;
-  chain = chain_later table p.turns v ws (chain_less table p.turns v ws j p.chain);
+  chain = chain_less table v ws j p.chain;
   marked = λ i q. marks i q (nat_eq i j) refl;
   inside = λ i q. (let same : length (slice_set states j (Found f)) ≡ length states = grind (arith, common_steps) in rw same (p.inside i (among_more i j ws q)));
+  hung = hung_set table states j (Found f) lt (λ k q. cc) p.hung;
 }
   where
     lt : j < length states
@@ -259,33 +297,33 @@ pursuit_up table states v ws j f p e = record {
         rest (inr same) = let other : i ≢ j = grind (arith, nat_tests) in absurd (other same)
 
 -- a fault of the last that waits is the expression's
-pub pursuit_faults : (table : Symbols) (states : List State) (v : Course) (ws : List ℕ) (a : Result Form Stop) (z : AsmFault) (p : IsPursuit table states v ws) → IsAttempt p.turns table (slice_get states) (last_course table v ws) a → a ≡ Err (Fault z) → v (suc (length table.definitions)) ≡ Err z
-pursuit_faults table states v ws a z p t e =
-    let room = p.room in
-    let k : ℕ = length table.definitions - length ws in
-    let enough : p.turns ≤ k = omega (arith, room) in
-    let whole : length ws + suc k ≡ suc (length table.definitions) = omega (arith, room) in
-    sym (ap v whole) ∙ chain_fault table p.turns v ws (suc k) z p.chain (omega (arith, enough)) (fault_from p.turns table (slice_get states) (last_course table v ws) a z t e k enough)
+pub pursuit_faults : (table : Symbols) (states : List State) (v : Course) (ws : List ℕ) (a : Result Form Stop) (z : AsmFault) (p : IsPursuit table states v ws) → IsAttempt p.turns table (slice_get states) (last_course table v ws) a → a ≡ Err (Fault z) → Comes v (Err z)
+pursuit_faults table states v ws a z p t e = chain_fault table v ws z p.chain (suc p.turns, λ k le. later k le)
+  where
+    later : (k : ℕ) → suc p.turns ≤ k → last_course table v ws k ≡ Err z
+    later zero le = absurd (omega (arith, le))
+    later (suc k) le = fault_from p.turns table (slice_get states) (last_course table v ws) a z t e k (omega (arith, le))
 
--- a constant that is needed and neither unknown nor found waits
-pub pursuit_meets : (table : Symbols) (states : List State) (v : Course) → IsCourse v → (ws : List ℕ) (a : Result Form Stop) (j : ℕ) (p : IsPursuit table states v ws) → IsAttempt p.turns table (slice_get states) (last_course table v ws) a → a ≡ Err (Needs j) → (o : Option State) → slice_get states j ≡ o → is_unknown o ≡ false → v (suc (length table.definitions)) ≡ Err Circular
-pursuit_meets table states v s ws a j p t e None q known =
+-- the last that waits leads to what it needs, and so to that on which this hangs
+pub pursuit_leads : (table : Symbols) (states : List State) (v : Course) (ws : List ℕ) (a : Result Form Stop) (i j : ℕ) (p : IsPursuit table states v ws) → IsAttempt p.turns table (slice_get states) (last_course table v ws) a → a ≡ Err (Needs i) → Reaches table i j → Leads table (last_course table v ws) j
+pursuit_leads table states v ws a i j p t e reaches = leads_on table (last_course table v ws) i j (leads_from p.turns table (slice_get states) (last_course table v ws) a i t e) reaches
+
+-- what it leads to waits, where it may not be looked for
+pub pursuit_meets : (table : Symbols) (states : List State) (v : Course) → IsCourse v → (ws : List ℕ) (j : ℕ) (p : IsPursuit table states v ws) → Leads table (last_course table v ws) j → (is_found (slice_get states j) ≡ true → ⊥) → (o : Option State) → slice_get states j ≡ o → may_be_looked_for o ≡ false → v (suc (length table.definitions)) ≡ Err Circular
+pursuit_meets table states v s ws j p l unfound None q known =
     let past : length states ≤ j = grind (arith, common_steps, gets) in
     let long = p.long in
-    absurd ((t.lacks j e).inside (slice_get_past table.definitions j (omega (arith, past, long))))
-pursuit_meets table states v s ws a j p t e (Some Unknown) q known = absurd cc
-pursuit_meets table states v s ws a j p t e (Some Waiting) q known = met_again table p.turns v s ws j p.chain (leads_from p.turns table (slice_get states) (last_course table v ws) a j t e) (p.marked j q) (length table.definitions)
-pursuit_meets table states v s ws a j p t e (Some (Found f)) q known = absurd ((t.lacks j e).unfound f q)
+    let none : slice_get table.definitions j ≡ None = slice_get_past table.definitions j (omega (arith, past, long)) in
+    let never : Err NoSuchLabel ≡ Err Circular = sym (ap (form_of_definition (norm 0 table)) none) ∙ l.starts in
+    absurd cc
+pursuit_meets table states v s ws j p l unfound (Some Unknown) q known = absurd cc
+pursuit_meets table states v s ws j p l unfound (Some (Hangs k)) q known = absurd cc
+pursuit_meets table states v s ws j p l unfound (Some Waiting) q known = met_again table v s ws j p.chain l (p.marked j q) (length table.definitions)
+pursuit_meets table states v s ws j p l unfound (Some (Found f)) q known = absurd (unfound (ap is_found q))
 
-pub unknown_is : (o : Option State) → is_unknown o ≡ true → o ≡ Some Unknown
-unknown_is None e = absurd cc
-unknown_is (Some Unknown) e = refl
-unknown_is (Some Waiting) e = absurd cc
-unknown_is (Some (Found f)) e = absurd cc
-
-pub pursuit_needs : (table : Symbols) (states : List State) (v : Course) (ws more : List ℕ) (a : Result Form Stop) (j : ℕ) (p : IsPursuit table states v ws) → IsAttempt p.turns table (slice_get states) (last_course table v ws) a → a ≡ Err (Needs j) → slice_get states j ≡ Some Unknown → more ≡ ws ++ j ∷ [] → IsPursuit table (slice_set states j Waiting) v more
-pursuit_needs table states v ws more a j p t e q pushed =
-    subst (IsPursuit table (slice_set states j Waiting) v) (sym pushed) (pursuit_down table states v ws j p (leads_from p.turns table (slice_get states) (last_course table v ws) a j t e) q)
+pub pursuit_needs : (table : Symbols) (states : List State) (v : Course) (ws more : List ℕ) (j : ℕ) (p : IsPursuit table states v ws) → Leads table (last_course table v ws) j → may_be_looked_for (slice_get states j) ≡ true → more ≡ ws ++ j ∷ [] → IsPursuit table (slice_set states j Waiting) v more
+pursuit_needs table states v ws more j p l q pushed =
+    subst (IsPursuit table (slice_set states j Waiting) v) (sym pushed) (pursuit_down table states v ws j p l q)
 
 -- the expression's form is found
 pub pursuit_done : (table : Symbols) (states : List State) (v : Course) (ws : List ℕ) (a : Result Form Stop) (f : Form) (p : IsPursuit table states v ws) → IsAttempt p.turns table (slice_get states) (last_course table v ws) a → a ≡ Ok f → ws ≡ [] → v (suc (length table.definitions)) ≡ Ok f
@@ -312,9 +350,9 @@ pub unless_more : {P Q : Type 0} (b : Bool) → (P → Q) → Unless b P → Unl
 unless_more true f h = tt
 unless_more false f h = f h
 
-pub down_smaller : (states : List State) (ws more : List ℕ) (j : ℕ) → slice_get states j ≡ Some Unknown → more ≡ ws ++ j ∷ [] → 2 * unknown (slice_set states j Waiting) + length more < 2 * unknown states + length ws
+pub down_smaller : (states : List State) (ws more : List ℕ) (j : ℕ) → may_be_looked_for (slice_get states j) ≡ true → more ≡ ws ++ j ∷ [] → 2 * unknown (slice_set states j Waiting) + length more < 2 * unknown states + length ws
 down_smaller states ws more j e pushed =
-    let less = fewer states j e (slice_get_within states j Unknown e) in
+    let less = fewer states j e in
     let grown : length more ≡ length ws + 1 = ap length pushed ∙ length-append ws (j ∷ []) in
     omega (arith, less, grown)
 

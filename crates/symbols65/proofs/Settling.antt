@@ -1,20 +1,15 @@
 -- Forms by those that are final.
-use Rattle.std.proofs.Common.{◌≡◌, ℕ, zero, suc, ◌+◌, ◌<◌, ◌≤◌, List, [], ◌∷◌, ◌++◌, length, map, Option, Some, None, option_map, slice_get, Result, Ok, Err, ◌⊎◌, inl, inr, refl, sym, ap, ◌∙◌, subst, arith, append-nil}
+use Rattle.std.proofs.Common.{◌≡◌, ℕ, suc, ◌<◌, length, Option, Some, None, option_map, slice_get, Result, Ok, Err, refl, ap, ◌∙◌, arith}
 use Rattle.std.proofs.lemmas.Option.{slice_get_within}
-use Rattle.syntax65.specs.Outcome.{Gives, Refuses, Unless, ◌>>=◌}
-use Rattle.syntax65.specs.Trees.{Tree, number, here, name, cheap, forward, backward, unary, binary, tree_of}
+use Rattle.syntax65.specs.Outcome.{Gives}
+use Rattle.syntax65.specs.Trees.{Tree}
 use Rattle.object65.specs.Form.{Form}
-use Rattle.object65.specs.Folding.{fold1, fold2}
 use Rattle.language65.specs.declared.fault.AsmFault.{AsmFault}
 use Rattle.language65.specs.Faults.{is_memory}
 use Rattle.language65.specs.Laid.{Spot}
-use Rattle.language65.specs.Names.{Meaning, defined_at, imported_as, meaning_of}
-use Rattle.language65.specs.Norms.{folded, form_by, form_of_definition, form_of_meaning, form_of_value, norm, norm_of}
+use Rattle.language65.specs.Norms.{form_of_definition, norm, norm_of}
 use Rattle.language65.specs.Symbols as l
-use Rattle.language65.specs.Views.{spot_of}
-use Rattle.language65.proofs.Lists.{map_length}
 use Rattle.symbols65.specs.declared.resolving.attempt.Source.TheVariants.{Finals}
-use Rattle.symbols65.specs.declared.resolving.attempt.State.{State}
 use Rattle.symbols65.specs.declared.resolving.attempt.State.TheVariants.{Found}
 use Rattle.symbols65.specs.declared.resolving.attempt.Stop.{Stop}
 use Rattle.symbols65.specs.declared.resolving.attempt.Stop.TheVariants.{Needs, Fault}
@@ -23,12 +18,13 @@ use Rattle.symbols65.specs.declared.table.entries.Entry.{Entry}
 use Rattle.symbols65.specs.declared.table.symbols.Symbols.{Symbols}
 use Rattle.language65.specs.Extending.{Extends}
 use Rattle.symbols65.specs.Finals.{formed}
-use Rattle.symbols65.specs.Resolving.{FoundBy, attempt_definition, attempt_value, known_form, lacks_memory, meaning_form, operand_form, stopped, tried, tried_by}
-use Rattle.symbols65.specs.Settling.{MeansFinally, Operands, Settles}
+use Rattle.symbols65.specs.Resolving.{FoundBy, lacks_memory, tried}
+use Rattle.symbols65.specs.Settling.{Settles}
 use Rattle.symbols65.specs.Sources.{kept, known_by}
 use Rattle.symbols65.specs.Tables.{definition_in, table_without_imports}
 use Rattle.symbols65.specs.Views.{table_of, words_of}
-use Rattle.symbols65.proofs.Places.{get_mapped, get_mapped_none, get_stays}
+use Rattle.symbols65.proofs.Places.{get_mapped, get_stays}
+use Rattle.symbols65.proofs.Hanging.{extends_itself}
 use Rattle.symbols65.proofs.Pursuits.{fault_from, form_from, unless_more}
 use Rattle.symbols65.proofs.Tries.{attempt_first}
 use Rattle.symbols65.proofs.Turns.{constant_course, constant_is, expression_course, ok_later}
@@ -36,10 +32,6 @@ use Rattle.symbols65.proofs.Turns.{constant_course, constant_is, expression_cour
 has_form : (r : Result Form AsmFault) (f : Form) → formed r ≡ Some f → r ≡ Ok f
 has_form (Ok g) f e = (let same : g ≡ f = cc in ap Ok same)
 has_form (Err z) f e = absurd cc
-
--- a table extends itself
-pub extends_itself : (y : l.Symbols) → Extends y y
-extends_itself y = record { later_definitions = []; definitions = sym (append-nil y.definitions); later_scopes = []; scopes = sym (append-nil y.scopes) }
 
 -- imports are free
 without_imports : (t : Symbols) (z : l.Symbols) → Extends (table_of t) z → Extends (table_without_imports (words_of t) t.definitions.entries t.scopes.entries) z
@@ -68,7 +60,7 @@ module _ (t : Symbols) where
   pub final_among : (z : l.Symbols) → Extends (table_of t) z → (n : ℕ) (j : ℕ) (f : Form) → j < n → known_by t Finals j ≡ Some (Found f) → form_of_definition (norm n z) (slice_get z.definitions j) ≡ Ok f
   final_among z more n j f lt h = ok_later (constant_course z j) (constant_is z j) (suc j) n f (omega (arith, lt)) (final_in z more j f h)
 
-  known_inside : (j : ℕ) (f : Form) → known_by t Finals j ≡ Some (Found f) → j < length (table_of t).definitions
+  pub known_inside : (j : ℕ) (f : Form) → known_by t Finals j ≡ Some (Found f) → j < length (table_of t).definitions
   known_inside j f h = by (slice_get t.definitions.entries j) refl h
     where
       by : (o : Option (Entry × Definition)) → slice_get t.definitions.entries j ≡ o → kept (option_map (λ e. e.1) o) ≡ Some (Found f) → j < length (table_of t).definitions

@@ -1,5 +1,5 @@
 -- What an attempt at a form says of the form at each number of turns.
-use Rattle.std.proofs.Common.{◌≡◌, ℕ, suc, ◌≤◌, refl, sym, ap, ◌∙◌, subst, List, [], ◌∷◌, length, Option, Some, None, slice_get, Result, Ok, Err, ◌⊎◌, inl, inr}
+use Rattle.std.proofs.Common.{◌≡◌, ℕ, suc, ◌≤◌, refl, sym, ap, ◌∙◌, subst, List, [], ◌∷◌, Option, Some, None, slice_get, Result, Ok, Err, ◌⊎◌, inl, inr}
 use Rattle.std.specs.Prelude.{⊤}
 use Rattle.syntax65.specs.Outcome.{◌>>=◌}
 use Rattle.syntax65.specs.Trees.{Tree, number, here, name, cheap, forward, backward, unary, binary, tree_of}
@@ -11,7 +11,7 @@ use Rattle.object65.specs.Folding.{fold1, fold2}
 use Rattle.language65.specs.declared.fault.AsmFault.{AsmFault}
 use Rattle.language65.specs.declared.fault.AsmFault.TheVariants.{Circular}
 use Rattle.symbols65.specs.declared.resolving.attempt.State.{State}
-use Rattle.symbols65.specs.declared.resolving.attempt.State.TheVariants.{Unknown, Waiting, Found}
+use Rattle.symbols65.specs.declared.resolving.attempt.State.TheVariants.{Unknown, Waiting, Hangs, Found}
 use Rattle.symbols65.specs.declared.resolving.attempt.Stop.{Stop}
 use Rattle.symbols65.specs.declared.resolving.attempt.Stop.TheVariants.{Needs, Fault}
 use Rattle.language65.specs.Laid.{Spot}
@@ -72,6 +72,7 @@ known_agrees : (C : Type 0) (v : ℕ → Result Form AsmFault) (known : ℕ → 
 known_agrees C v known j r t e None q = λ z h. inr (sym e ∙ h)
 known_agrees C v known j r t e (Some Unknown) q = λ z h. inr (sym e ∙ h)
 known_agrees C v known j r t e (Some Waiting) q = λ z h. inr (sym e ∙ h)
+known_agrees C v known j r t e (Some (Hangs k)) q = λ z h. inr (sym e ∙ h)
 known_agrees C v known j r t e (Some (Found f)) q = (let P : Result Form AsmFault → Type 0 = λ x. Near C x (Ok f) in subst P e (t j f q))
 
 found_value : (C : Type 0) (v : ℕ → Result Form AsmFault) (known : ℕ → Option State) (j : ℕ) (g : Spot → Tree → Result Form AsmFault) (s : Spot) (x : Option Tree) → Fits C v known → v j ≡ form_of_value g s x → Agrees C v (attempt_value (λ s e. known_form j (known j)) s x) (form_of_value g s x)
@@ -141,6 +142,7 @@ known_lacks : (known : ℕ → Option State) (j i : ℕ) (o : Option State) → 
 known_lacks known j i None q e = let same : i ≡ j = cc in (same, λ f h. (let at_i : known i ≡ None = ap known same ∙ q in absurd cc))
 known_lacks known j i (Some Unknown) q e = let same : i ≡ j = cc in (same, λ f h. (let at_i : known i ≡ Some Unknown = ap known same ∙ q in absurd cc))
 known_lacks known j i (Some Waiting) q e = let same : i ≡ j = cc in (same, λ f h. (let at_i : known i ≡ Some Waiting = ap known same ∙ q in absurd cc))
+known_lacks known j i (Some (Hangs k)) q e = let same : i ≡ j = cc in (same, λ f h. (let at_i : known i ≡ Some (Hangs k) = ap known same ∙ q in absurd cc))
 known_lacks known j i (Some (Found g)) q e = absurd cc
 
 lacks_value : (table : Symbols) (known : ℕ → Option State) (j : ℕ) (l : Definition) (x : Option Tree) → slice_get table.definitions j ≡ Some l → l.value ≡ x → OnlyNeeds (Lacks table known) (attempt_value (λ s e. known_form j (known j)) l.spot x)

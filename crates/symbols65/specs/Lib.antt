@@ -1,4 +1,5 @@
 pub mod Finals
+pub mod Hanging
 pub mod Knowns
 pub mod Resolving
 pub mod Settling

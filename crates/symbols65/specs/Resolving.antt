@@ -12,9 +12,10 @@ use Rattle.syntax65.specs.Trees.{Tree, number, here, unary, binary}
 use Rattle.object65.specs.Form.{Form, lit, imp}
 use Rattle.object65.specs.Folding.{fold1, fold2}
 use Rattle.symbols65.specs.declared.resolving.attempt.State.{State}
-use Rattle.symbols65.specs.declared.resolving.attempt.State.TheVariants.{Unknown, Waiting, Found}
+use Rattle.symbols65.specs.declared.resolving.attempt.State.TheVariants.{Unknown, Waiting, Hangs, Found}
 use Rattle.symbols65.specs.declared.resolving.attempt.Stop.{Stop}
 use Rattle.symbols65.specs.declared.resolving.attempt.Stop.TheVariants.{Needs, Fault}
+use Rattle.symbols65.specs.Hanging.{AreHung}
 use Rattle.symbols65.specs.declared.resolving.meaning.Meaning as code
 use Rattle.symbols65.specs.declared.resolving.meaning.Meaning.TheVariants.{Defined, Imported}
 
@@ -106,9 +107,10 @@ tried_last known y first (w ∷ ws) = tried_last known y (tried_at known y w) ws
 
 abbrev pub is_open : State → ℕ
 is_open Unknown = 1
+is_open (Hangs k) = 1
 is_open _ = 0
 
--- how many are unknown
+-- how many aren't found and don't wait
 abbrev pub unknown : List State → ℕ
 unknown states = sum_by is_open states
 
@@ -123,7 +125,10 @@ pub record IsTable (y : Symbols) (states : List State) : Type 0 where
   pub room : turns + unknown states ≤ length y.definitions
   pub found : FoundBy turns y (slice_get states)
   pub idle : (j : ℕ) → slice_get states j ≡ Some Waiting → ⊥
+  pub hung : AreHung y states
 
-abbrev pub is_unknown : Option State → Bool
-is_unknown (Some Unknown) = true
-is_unknown _ = false
+-- whether a form isn't found and isn't looked for
+abbrev pub may_be_looked_for : Option State → Bool
+may_be_looked_for (Some Unknown) = true
+may_be_looked_for (Some (Hangs k)) = true
+may_be_looked_for _ = false

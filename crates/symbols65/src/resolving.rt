@@ -3,6 +3,7 @@
 mod attempt;
 mod definitions;
 mod finals;
+mod hanging;
 mod known;
 mod meaning;
 mod scopes;

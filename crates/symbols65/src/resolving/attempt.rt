@@ -27,6 +27,8 @@ pub enum State {
     Unknown,
     /// It is being looked for.
     Waiting,
+    /// Whatever statements follow, the constant has each fault of the constant at this place.
+    Hangs(usize),
     Found(Norm),
 }
 

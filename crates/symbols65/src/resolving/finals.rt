@@ -66,7 +66,7 @@ fn is_before(symbols: &Symbols, spot: Spot, steps: usize) -> bool
 }
 
 /// Whether each operand of an expression means the same whatever statements follow.
-fn are_final(symbols: &Symbols, spot: Spot, value: &Expr) -> bool
+pub fn are_final(symbols: &Symbols, spot: Spot, value: &Expr) -> bool
     ensures { result ≡ true → Operands (MeansFinally (table_of symbols.now) (spot_of spot)) (tree_of value.now) }
 {
     match value {

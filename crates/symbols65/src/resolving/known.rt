@@ -1,17 +1,20 @@
 //! Forms of constants that were found by a symbol table.
 
-ghost use Rattle.std.specs.Prelude.{◌+◌, ◌<◌, ◌≡◌, IfOk, OnOk, replicate, Some, [], length, ℕ, slice_get, slice_set};
+ghost use Rattle.std.specs.Prelude.{◌+◌, ◌<◌, ◌≡◌, IfOk, OnOk, replicate, Some, [], length, map, ℕ, slice_get, slice_set, true};
 ghost use Rattle.syntax65.specs.Outcome.{Finds, Gives};
 ghost use Rattle.syntax65.specs.Trees.{tree_of};
 ghost use Rattle.language65.specs.Faults.{is_memory};
 ghost use Rattle.symbols65.specs.declared.resolving.attempt.State.TheVariants.{Unknown, Waiting, Found};
-ghost use Rattle.symbols65.specs.Knowns.{AreNoted, without};
+ghost use Rattle.symbols65.specs.Knowns.{AreNoted, is_found, without};
+ghost use Rattle.language65.specs.Extending.{Extends};
 ghost use Rattle.language65.specs.Norms.{norm_of};
-ghost use Rattle.symbols65.specs.Resolving.{IsTable, is_unknown};
+ghost use Rattle.symbols65.specs.Hanging.{AreHung, Reaches, bare};
+ghost use Rattle.symbols65.specs.Resolving.{IsTable, may_be_looked_for};
 ghost use Rattle.language65.specs.Views.{spot_of};
 ghost use Rattle.symbols65.specs.Views.{Table, nothing_defined, table_of};
 
 use super::attempt::{State, Stop, try_last};
+use super::hanging::{hang_all, may_be_looked_for, root};
 use crate::table::Symbols;
 use language65::{AsmFault, Spot};
 use object65::Norm;
@@ -48,21 +51,21 @@ impl Known {
         })
     }
 
-    /// The table for one more definition, of which nothing is known. What is known of the others is forgotten.
+    /// The table for one more definition, of which nothing is known. The forms that were found are forgotten.
     pub fn grow(&mut self) -> Result<(), AllocError>
         requires { (j : ℕ) → slice_get self.old.states.items j ≡ Some Waiting → ⊥ }
-        ensures { OnOk result ((y : Table) → length y.definitions ≡ length self.old.states.items + 1 → IsTable y self.new.states.items) }
+        ensures { OnOk result ((x y : Table) → AreHung x self.old.states.items → Extends x y → length y.definitions ≡ length self.old.states.items + 1 → IsTable y self.new.states.items) }
     {
         self.states.push(State::Unknown)?;
         self.forget();
         Ok(())
     }
 
-    /// Forgets what is known: the table for any definitions, as many as before.
+    /// Forgets the forms that were found: the table for more statements with as many definitions.
     pub fn forget(&mut self)
         requires { (j : ℕ) → slice_get self.old.states.items j ≡ Some Waiting → ⊥ }
         ensures long { length self.new.states.items ≡ length self.old.states.items }
-        ensures table { (y : Table) → length self.old.states.items ≡ length y.definitions → IsTable y self.new.states.items }
+        ensures table { (x y : Table) → AreHung x self.old.states.items → Extends x y → length self.old.states.items ≡ length y.definitions → IsTable y self.new.states.items }
     {
         forget_noted(&mut self.states, &mut self.noted);
     }
@@ -86,10 +89,46 @@ impl Known {
     }
 
     /// Constants wait no more, though their forms aren't found.
-    fn give_up(&mut self, waiting: &[usize])
+    fn lose(&mut self, waiting: &[usize])
         ensures { self.new.states.items ≡ without self.old.states.items waiting.now }
     {
         lose_all(&mut self.states, waiting);
+    }
+
+    /// Lets constants hang on others, where their forms aren't found.
+    fn hang(&mut self, alloc: Global, symbols: &Symbols, places: &[usize])
+        ensures same { map bare self.new.states.items ≡ map bare self.old.states.items }
+        ensures hung { AreHung (table_of symbols.now) self.old.states.items → AreHung (table_of symbols.now) self.new.states.items }
+    {
+        hang_all(alloc, symbols, &mut self.states, places);
+    }
+
+    /// The last constant waits no more, and those before it hang on others.
+    fn give_up(&mut self, alloc: Global, symbols: &Symbols, waiting: &[usize])
+        ensures same { map bare self.new.states.items ≡ map bare (without self.old.states.items waiting.now) }
+        ensures hung { AreHung (table_of symbols.now) (without self.old.states.items waiting.now) → AreHung (table_of symbols.now) self.new.states.items }
+    {
+        self.lose(waiting);
+        // The last one's fault is its own.
+        if let Some((_, others)) = waiting.split_last() {
+            self.hang(alloc, symbols, others);
+        }
+    }
+
+    /// The constant whose form is looked for where that of another is needed: the last on which it hangs, or itself if
+    /// that one's form is found.
+    fn behind(&mut self, place: usize) -> usize
+        ensures same { map bare self.new.states.items ≡ map bare self.old.states.items }
+        ensures hung { (y : Table) → AreHung y self.old.states.items → AreHung y self.new.states.items }
+        ensures reached { (y : Table) → AreHung y self.old.states.items → Reaches y place result }
+        ensures found { is_found (slice_get self.new.states.items result) ≡ true → result ≡ place }
+    {
+        let last = root(&mut self.states, place);
+        if is_found(&self.states, last) {
+            place
+        } else {
+            last
+        }
     }
 
     /// The normal form of an expression. The forms of constants that are found on the way stay, and after a fault no
@@ -114,12 +153,13 @@ impl Known {
                     Some(last) => self.settle(last, form)?,
                 },
                 Err(Stop::Fault(fault)) => {
-                    self.give_up(&waiting);
+                    self.give_up(alloc, symbols, &waiting);
                     return Err(fault);
                 }
-                Err(Stop::Needs(next)) => {
-                    if !is_unknown(&self.states, next) {
-                        self.give_up(&waiting);
+                Err(Stop::Needs(place)) => {
+                    let next = self.behind(place);
+                    if !may_be_looked_for(&self.states, next) {
+                        self.give_up(alloc, symbols, &waiting);
                         return Err(AsmFault::Circular);
                     }
                     self.wait(next);
@@ -141,11 +181,11 @@ fn unknown_states(alloc: Global, count: usize) -> Result<Vec<State>, AllocError>
     Ok(states)
 }
 
-/// Whether nothing is known of the form of the constant at a place.
-fn is_unknown(states: &[State], place: usize) -> bool
-    ensures { result ≡ is_unknown (slice_get states.now place) }
+/// Whether the form of the constant at a place is found.
+fn is_found(states: &[State], place: usize) -> bool
+    ensures { result ≡ is_found (slice_get states.now place) }
 {
-    matches!(states.get(place), Some(State::Unknown))
+    matches!(states.get(place), Some(State::Found(_)))
 }
 
 /// Forgets what is known at a place, if there is one.
@@ -173,6 +213,7 @@ fn forget_noted(states: &mut [State], noted: &mut Vec<usize>)
     ensures noted { AreNoted states.new noted.new.items }
     ensures idle { (j : ℕ) → slice_get states.new j ≡ Some Waiting → ⊥ }
     ensures none { noted.new.items ≡ [] }
+    ensures hung { (y : Table) → AreHung y states.old → AreHung y states.new }
 {
     'places: while let Some(place) = noted.pop() {
         lose(states, place);

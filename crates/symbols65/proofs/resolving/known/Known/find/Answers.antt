@@ -1,6 +1,5 @@
-use Rattle.std.proofs.Common.{rules, ◌≡◌, sym, ap, ◌∙◌, ℕ, List, length, slice_get, Err, Bool, true, false, refl, subst, Result}
+use Rattle.std.proofs.Common.{rules, ◌≡◌, sym, ap, ◌∙◌, ℕ, List, length, map, slice_get, Err, arith, Bool, true, false, refl, subst, Result}
 use Rattle.std.proofs.lemmas.List.{nil_from_length}
-use Rattle.std.proofs.lemmas.Option.{slice_get_within}
 use Rattle.syntax65.specs.Trees.{Tree, tree_of}
 use Rattle.object65.specs.Form.{Form}
 use Rattle.language65.specs.Laid.{Spot}
@@ -10,15 +9,17 @@ use Rattle.symbols65.specs.Views.{table_of}
 use Rattle.language65.specs.Faults.{is_memory}
 use Rattle.symbols65.specs.Knowns.{without}
 use Rattle.symbols65.specs.declared.resolving.attempt.State.{State}
-use Rattle.symbols65.specs.declared.resolving.attempt.State.TheVariants.{Unknown}
 use Rattle.symbols65.specs.declared.resolving.attempt.Stop.TheVariants.{Needs}
 use Rattle.symbols65.specs.declared.resolving.attempt.Stop.{Stop}
 use Rattle.syntax65.specs.Outcome.{Refuses, Unless}
-use Rattle.symbols65.specs.Resolving.{IsTable, is_unknown, lacks_memory, tried, tried_last}
-use Rattle.symbols65.proofs.GivenUp.{pursuit_lost}
+use Rattle.symbols65.specs.Resolving.{IsTable, lacks_memory, may_be_looked_for, tried, tried_last}
+use Rattle.symbols65.specs.Hanging.{AreHung, Leads, Reaches, bare}
+use Rattle.symbols65.proofs.Hanging.{not_found, same_table, same_unknown}
+use Rattle.symbols65.proofs.Stability.{comes_to_norm}
+use Rattle.symbols65.proofs.GivenUp.{pursuit_lost, pursuit_same}
 use Rattle.symbols65.proofs.Turns.{expression_course, expression_is}
 use Rattle.symbols65.proofs.Tries.{IsAttempt, attempt_first, attempt_last, last_course}
-use Rattle.symbols65.proofs.Pursuits.{IsPursuit, pursuit_starts, pursuit_done, pursuit_faults, pursuit_inside, pursuit_meets, pursuit_needs, pursuit_pops, pursuit_table, unless_more, unknown_is, down_smaller, up_smaller}
+use Rattle.symbols65.proofs.Pursuits.{IsPursuit, pursuit_starts, pursuit_done, pursuit_faults, pursuit_inside, pursuit_leads, pursuit_meets, pursuit_needs, pursuit_pops, pursuit_table, open_within, unless_more, down_smaller, up_smaller}
 use Rattle.symbols65.proofs.resolving.known.Known.find.Goals as goal
 
 -- ---- What the code sees of its table and of what waits.
@@ -37,8 +38,17 @@ module _ (table : Symbols) (s : Spot) (e : Tree) where
   needed : (states : List State) (ws : List ℕ) (r : Result Form Stop) (x : Stop) (j : ℕ) → last_tried table s e states ws ≡ r → x ≡ Needs j → Refuses lacks_memory x r → last_tried table s e states ws ≡ Err (Needs j)
   needed states ws r x j same is h = (let P : Stop → Type 0 = λ q. Refuses lacks_memory q r in same ∙ subst P is h)
 
-  lost : (states new : List State) (ws0 ws : List ℕ) → IsPursuit table states (expression_course table s e) ws → new ≡ without states ws0 → ws0 ≡ ws → IsTable table new
-  lost states new ws0 ws p is same = subst (IsTable table) (sym (is ∙ ap (without states) same)) (pursuit_lost table states (expression_course table s e) ws p)
+  lost : (states new : List State) (ws0 ws : List ℕ) → IsPursuit table states (expression_course table s e) ws → map bare new ≡ map bare (without states ws0) → (AreHung table (without states ws0) → AreHung table new) → ws0 ≡ ws → IsTable table new
+  lost states new ws0 ws p is hung same =
+      let left : IsTable table (without states ws0) = subst (λ (q : List ℕ). IsTable table (without states q)) (sym same) (pursuit_lost table states (expression_course table s e) ws p) in
+      same_table (without states ws0) new is table (hung left.hung) left
+
+  -- the search goes on in a table that knows the same but for what hangs
+  goes_on : (states new : List State) (ws : List ℕ) → map bare new ≡ map bare states → ((y : Symbols) → AreHung y states → AreHung y new) → IsPursuit table states (expression_course table s e) ws → IsPursuit table new (expression_course table s e) ws
+  goes_on states new ws same hung p = pursuit_same table states new (expression_course table s e) ws same (hung table p.hung) p
+
+  reached : (states : List State) (ws : List ℕ) (i j : ℕ) (p : IsPursuit table states (expression_course table s e) ws) → last_tried table s e states ws ≡ Err (Needs i) → ((y : Symbols) → AreHung y states → Reaches y i j) → Leads table (last_course table (expression_course table s e) ws) j
+  reached states ws i j p needs reaches = pursuit_leads table states (expression_course table s e) ws (last_tried table s e states ws) i j p (attempt states ws p) needs (reaches table p.hung)
 
 unless_true : {P : Type 0} (b : Bool) → P → Unless b P
 unless_true true h = tt
@@ -102,43 +112,54 @@ returns-in-Err-Fault-clause-form c =
     let ws = c.find.waiting.items in
     let r = last_tried table s e c.deref.result.now c.deref-in-find.result.now in
     let same = same_attempt table s e c.deref.result.now states c.deref-in-find.result.now ws c.deref.ensures.value c.deref-in-find.ensures.value in
-    unless_more (is_memory c.in-Err-Fault.fault) (λ h. pursuit_faults table states v ws (last_tried table s e states ws) c.in-Err-Fault.fault c.find.invariant (attempt table s e states ws c.find.invariant) (same ∙ h)) (let P : Stop → Type 0 = λ x. Refuses lacks_memory x r in subst P c.in-Err-Fault.field-0-is c.in-Err-Fault.ensures)
+    unless_more (is_memory c.in-Err-Fault.fault) (λ h. comes_to_norm table s e (Err c.in-Err-Fault.fault) (pursuit_faults table states v ws (last_tried table s e states ws) c.in-Err-Fault.fault c.find.invariant (attempt table s e states ws c.find.invariant) (same ∙ h))) (let P : Stop → Type 0 = λ x. Refuses lacks_memory x r in subst P c.in-Err-Fault.field-0-is c.in-Err-Fault.ensures)
 
 pub returns-in-Err-Fault-clause-table : goal.returns-in-Err-Fault-clause-table
 returns-in-Err-Fault-clause-table c =
-    unless_true (is_memory c.in-Err-Fault.fault) (lost (table_of c.args.symbols.now) (spot_of c.args.spot) (tree_of c.args.value.now) c.find.self.states.items c.give_up.new.self.states.items c.deref-in-Err-Fault.result.now c.find.waiting.items c.find.invariant c.give_up.ensures c.deref-in-Err-Fault.ensures.value)
+    unless_true (is_memory c.in-Err-Fault.fault) (lost (table_of c.args.symbols.now) (spot_of c.args.spot) (tree_of c.args.value.now) c.find.self.states.items c.give_up.new.self.states.items c.deref-in-Err-Fault.result.now c.find.waiting.items c.find.invariant c.give_up.ensures.same c.give_up.ensures.hung c.deref-in-Err-Fault.ensures.value)
 
-pub returns-then-not-is_unknown-clause-form : goal.returns-then-not-is_unknown-clause-form
-returns-then-not-is_unknown-clause-form c =
+pub returns-then-not-may_be_looked_for-clause-form : goal.returns-then-not-may_be_looked_for-clause-form
+returns-then-not-may_be_looked_for-clause-form c =
     let table = table_of c.args.symbols.now in
     let s = spot_of c.args.spot in
     let e = tree_of c.args.value.now in
     let v = expression_course table s e in
     let states = c.find.self.states.items in
+    let new = c.behind-next.new.self.states.items in
     let ws = c.find.waiting.items in
-    let j = c.in-Err-Needs.next in
+    let i = c.in-Err-Needs.place in
+    let j = c.behind-next.result in
     let same = same_attempt table s e c.deref.result.now states c.deref-in-find.result.now ws c.deref.ensures.value c.deref-in-find.ensures.value in
-    let needs = needed table s e states ws (last_tried table s e c.deref.result.now c.deref-in-find.result.now) c.in-Err-Needs.field-0 j same c.in-Err-Needs.field-0-is c.in-Err-Needs.ensures in
-    let known : is_unknown (slice_get states j) ≡ false = ap (λ q. is_unknown (slice_get q j)) (sym c.deref-in-Err-Needs.ensures.value) ∙ sym c.is_unknown.ensures ∙ c.if-not-is_unknown.true in
-    pursuit_meets table states v (expression_is table s e) ws (last_tried table s e states ws) j c.find.invariant (attempt table s e states ws c.find.invariant) needs (slice_get states j) refl known
+    let needs = needed table s e states ws (last_tried table s e c.deref.result.now c.deref-in-find.result.now) c.in-Err-Needs.field-0 i same c.in-Err-Needs.field-0-is c.in-Err-Needs.ensures in
+    let known : may_be_looked_for (slice_get new j) ≡ false = ap (λ q. may_be_looked_for (slice_get q j)) (sym c.deref-in-Err-Needs.ensures.value) ∙ sym c.may_be_looked_for.ensures ∙ c.if-not-may_be_looked_for.true in
+    let unfound = not_found states new c.behind-next.ensures.same i j c.behind-next.ensures.found (((attempt table s e states ws c.find.invariant).lacks i needs).unfound) in
+    pursuit_meets table new v (expression_is table s e) ws j (goes_on table s e states new ws c.behind-next.ensures.same c.behind-next.ensures.hung c.find.invariant) (reached table s e states ws i j c.find.invariant needs c.behind-next.ensures.reached) unfound (slice_get new j) refl known
 
-pub returns-then-not-is_unknown-clause-table : goal.returns-then-not-is_unknown-clause-table
-returns-then-not-is_unknown-clause-table c =
-    lost (table_of c.args.symbols.now) (spot_of c.args.spot) (tree_of c.args.value.now) c.find.self.states.items c.give_up-then-not-is_unknown.new.self.states.items c.deref-then-not-is_unknown.result.now c.find.waiting.items c.find.invariant c.give_up-then-not-is_unknown.ensures c.deref-then-not-is_unknown.ensures.value
+pub returns-then-not-may_be_looked_for-clause-table : goal.returns-then-not-may_be_looked_for-clause-table
+returns-then-not-may_be_looked_for-clause-table c =
+    let table = table_of c.args.symbols.now in
+    let s = spot_of c.args.spot in
+    let e = tree_of c.args.value.now in
+    let new = c.behind-next.new.self.states.items in
+    let ws = c.find.waiting.items in
+    lost table s e new c.give_up-then-not-may_be_looked_for.new.self.states.items c.deref-then-not-may_be_looked_for.result.now ws (goes_on table s e c.find.self.states.items new ws c.behind-next.ensures.same c.behind-next.ensures.hung c.find.invariant) c.give_up-then-not-may_be_looked_for.ensures.same c.give_up-then-not-may_be_looked_for.ensures.hung c.deref-then-not-may_be_looked_for.ensures.value
 
 pub wait-requires : goal.wait-requires
 wait-requires c =
-    let states = c.find.self.states.items in
-    let j = c.in-Err-Needs.next in
-    let known : is_unknown (slice_get states j) ≡ true = ap (λ q. is_unknown (slice_get q j)) (sym c.deref-in-Err-Needs.ensures.value) ∙ sym c.is_unknown.ensures ∙ c.if-not-is_unknown.false in
-    slice_get_within states j Unknown (unknown_is (slice_get states j) known)
+    let new = c.behind-next.new.self.states.items in
+    let j = c.behind-next.result in
+    let known : may_be_looked_for (slice_get new j) ≡ true = ap (λ q. may_be_looked_for (slice_get q j)) (sym c.deref-in-Err-Needs.ensures.value) ∙ sym c.may_be_looked_for.ensures ∙ c.if-not-may_be_looked_for.false in
+    open_within new j known
 
 pub find-smaller : goal.find-smaller
 find-smaller c =
     let states = c.find.self.states.items in
-    let j = c.in-Err-Needs.next in
-    let known : is_unknown (slice_get states j) ≡ true = ap (λ q. is_unknown (slice_get q j)) (sym c.deref-in-Err-Needs.ensures.value) ∙ sym c.is_unknown.ensures ∙ c.if-not-is_unknown.false in
-    rw c.wait.ensures (down_smaller states c.find.waiting.items c.push.new.self.items j (unknown_is (slice_get states j) known) c.in_ok-push-in-Err-Needs.ensures.items)
+    let new = c.behind-next.new.self.states.items in
+    let j = c.behind-next.result in
+    let known : may_be_looked_for (slice_get new j) ≡ true = ap (λ q. may_be_looked_for (slice_get q j)) (sym c.deref-in-Err-Needs.ensures.value) ∙ sym c.may_be_looked_for.ensures ∙ c.if-not-may_be_looked_for.false in
+    let as_many = same_unknown states new c.behind-next.ensures.same in
+    let smaller = down_smaller new c.find.waiting.items c.push.new.self.items j known c.in_ok-push-in-Err-Needs.ensures.items in
+    rw c.wait.ensures (omega (arith, as_many, smaller))
 
 pub find-preserved : goal.find-preserved
 find-preserved c =
@@ -147,9 +168,11 @@ find-preserved c =
     let e = tree_of c.args.value.now in
     let v = expression_course table s e in
     let states = c.find.self.states.items in
+    let new = c.behind-next.new.self.states.items in
     let ws = c.find.waiting.items in
-    let j = c.in-Err-Needs.next in
+    let i = c.in-Err-Needs.place in
+    let j = c.behind-next.result in
     let same = same_attempt table s e c.deref.result.now states c.deref-in-find.result.now ws c.deref.ensures.value c.deref-in-find.ensures.value in
-    let needs = needed table s e states ws (last_tried table s e c.deref.result.now c.deref-in-find.result.now) c.in-Err-Needs.field-0 j same c.in-Err-Needs.field-0-is c.in-Err-Needs.ensures in
-    let known : is_unknown (slice_get states j) ≡ true = ap (λ q. is_unknown (slice_get q j)) (sym c.deref-in-Err-Needs.ensures.value) ∙ sym c.is_unknown.ensures ∙ c.if-not-is_unknown.false in
-    rw c.wait.ensures (pursuit_needs table states v ws c.push.new.self.items (last_tried table s e states ws) j c.find.invariant (attempt table s e states ws c.find.invariant) needs (unknown_is (slice_get states j) known) c.in_ok-push-in-Err-Needs.ensures.items)
+    let needs = needed table s e states ws (last_tried table s e c.deref.result.now c.deref-in-find.result.now) c.in-Err-Needs.field-0 i same c.in-Err-Needs.field-0-is c.in-Err-Needs.ensures in
+    let known : may_be_looked_for (slice_get new j) ≡ true = ap (λ q. may_be_looked_for (slice_get q j)) (sym c.deref-in-Err-Needs.ensures.value) ∙ sym c.may_be_looked_for.ensures ∙ c.if-not-may_be_looked_for.false in
+    rw c.wait.ensures (pursuit_needs table new v ws c.push.new.self.items j (goes_on table s e states new ws c.behind-next.ensures.same c.behind-next.ensures.hung c.find.invariant) (reached table s e states ws i j c.find.invariant needs c.behind-next.ensures.reached) known c.in_ok-push-in-Err-Needs.ensures.items)

@@ -1,16 +1,10 @@
-use Rattle.std.proofs.Common.{◌≡◌, ◌∙◌, List, length, ap, sym, subst}
-use Rattle.symbols65.specs.declared.resolving.attempt.State.{State}
-use Rattle.symbols65.specs.Knowns.{AreNoted, without}
-use Rattle.symbols65.proofs.Knowns.{noted_without, written_over}
+use Rattle.std.proofs.Common.{sym, subst}
+use Rattle.symbols65.specs.Hanging.{AreHung}
+use Rattle.symbols65.specs.Views.{table_of}
 use Rattle.symbols65.proofs.resolving.known.Known.give_up.Goals as goal
 
-pub invariant_of-self : goal.invariant_of-self
-invariant_of-self c = record {
-  noted_all =
-      let states = c.args.self.now.states.items in
-      let same : length c.lose_all.new.states ≡ length states = c.lose_all.auto.states ∙ ap length c.deref_mut.ensures.value in
-      let long : c.args.self.now.states.len ≡ length states = sym c.deref_mut.ensures.len ∙ ap length c.deref_mut.ensures.value in
-      let is : c.lose_all.new.states ≡ without states c.args.waiting.now = c.lose_all.ensures ∙ ap (λ s. without s c.args.waiting.now) c.deref_mut.ensures.value in
-      let P : List State → Type 0 = λ s. AreNoted s c.args.self.now.noted.items in
-      subst P (sym (written_over c.args.self.now.states.len c.lose_all.new.states states same long)) (subst P (sym is) (noted_without states c.args.self.now.noted.items c.args.waiting.now c.args.self.now.noted_all));
-}
+pub returns-in-Some-clause-hung : goal.returns-in-Some-clause-hung
+returns-in-Some-clause-hung c = λ h. c.hang.ensures.hung (subst (AreHung (table_of c.args.symbols.now)) (sym c.lose.ensures) h)
+
+pub returns-in_default-clause-hung : goal.returns-in_default-clause-hung
+returns-in_default-clause-hung c = λ h. subst (AreHung (table_of c.args.symbols.now)) (sym c.lose.ensures) h

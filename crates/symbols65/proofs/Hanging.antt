@@ -1,0 +1,185 @@
+-- Tables of forms by what they know, and constants that hang on others.
+use Rattle.std.proofs.Common.{◌≡◌, ◌≢◌, ℕ, ◌+◌, ◌<◌, refl, sym, ap, ◌∙◌, subst, arith, List, [], ◌∷◌, ◌++◌, length, map, Option, Some, None, option_map, slice_get, Bool, true, false, nat_eq, append-nil, append_assoc}
+use Rattle.std.specs.Prelude.{IfSome, slice_set}
+use Rattle.std.proofs.lemmas.Bool.Decides.{nat_tests}
+use Rattle.std.proofs.lemmas.Grind.{common_steps}
+use Rattle.std.proofs.lemmas.List.Sums.{sum_by-cons}
+use Rattle.std.proofs.lemmas.Option.{gets, get_or_from_slice_get, slice_get-map, slice_get_within}
+use Rattle.std.proofs.Math.Seq.{map-set_same}
+use Rattle.language65.proofs.Lists.{map_length}
+use Rattle.language65.specs.Extending.{Extends}
+use Rattle.language65.specs.Symbols.{Definition, Scope, Symbols}
+use Rattle.object65.specs.Form.{Form}
+use Rattle.symbols65.specs.declared.resolving.attempt.State.{State}
+use Rattle.symbols65.specs.declared.resolving.attempt.State.TheVariants.{Unknown, Waiting, Hangs, Found}
+use Rattle.symbols65.specs.Hanging.{AreHung, HangsOn, bare, hung_on}
+use Rattle.symbols65.specs.Knowns.{AreNoted, is_found}
+use Rattle.symbols65.specs.Resolving.{IsTable, is_open, may_be_looked_for, unknown}
+
+-- a table extends itself
+pub extends_itself : (y : Symbols) → Extends y y
+extends_itself y = record { later_definitions = []; definitions = sym (append-nil y.definitions); later_scopes = []; scopes = sym (append-nil y.scopes) }
+
+-- ---- What is known but for what hangs.
+
+open_bare : (x : State) → is_open (bare x) ≡ is_open x
+open_bare Unknown = refl
+open_bare Waiting = refl
+open_bare (Hangs k) = refl
+open_bare (Found f) = refl
+
+unknown_bare : (xs : List State) → unknown (map bare xs) ≡ unknown xs
+unknown_bare [] = refl
+unknown_bare (x ∷ xs) =
+    let one = open_bare x in
+    let rest = unknown_bare xs in
+    let sum : unknown (x ∷ xs) ≡ is_open x + unknown xs = sum_by-cons is_open x xs in
+    let other : unknown (bare x ∷ map bare xs) ≡ is_open (bare x) + unknown (map bare xs) = sum_by-cons is_open (bare x) (map bare xs) in
+    omega (arith, one, rest, sum, other)
+
+found_bare : (o : Option State) → is_found (option_map bare o) ≡ is_found o
+found_bare None = refl
+found_bare (Some Unknown) = refl
+found_bare (Some Waiting) = refl
+found_bare (Some (Hangs k)) = refl
+found_bare (Some (Found f)) = refl
+
+looked_bare : (o : Option State) → may_be_looked_for (option_map bare o) ≡ may_be_looked_for o
+looked_bare None = refl
+looked_bare (Some Unknown) = refl
+looked_bare (Some Waiting) = refl
+looked_bare (Some (Hangs k)) = refl
+looked_bare (Some (Found f)) = refl
+
+waiting_back : (o : Option State) → option_map bare o ≡ Some Waiting → o ≡ Some Waiting
+waiting_back None e = absurd cc
+waiting_back (Some Unknown) e = absurd cc
+waiting_back (Some Waiting) e = refl
+waiting_back (Some (Hangs k)) e = absurd cc
+waiting_back (Some (Found f)) e = absurd cc
+
+found_back : (o : Option State) (f : Form) → option_map bare o ≡ Some (Found f) → o ≡ Some (Found f)
+found_back None f e = absurd cc
+found_back (Some Unknown) f e = absurd cc
+found_back (Some Waiting) f e = absurd cc
+found_back (Some (Hangs k)) f e = absurd cc
+found_back (Some (Found g)) f e = e
+
+-- two tables that know the same but for what hangs
+module _ (xs ys : List State) (same : map bare ys ≡ map bare xs) where
+  pub same_length : length ys ≡ length xs
+  same_length = sym (map_length bare ys) ∙ ap length same ∙ map_length bare xs
+
+  pub same_unknown : unknown ys ≡ unknown xs
+  same_unknown = sym (unknown_bare ys) ∙ ap unknown same ∙ unknown_bare xs
+
+  same_get : (j : ℕ) → option_map bare (slice_get ys j) ≡ option_map bare (slice_get xs j)
+  same_get j = sym (slice_get-map bare ys j) ∙ ap (λ (zs : List State). slice_get zs j) same ∙ slice_get-map bare xs j
+
+  pub same_found : (j : ℕ) (f : Form) → slice_get ys j ≡ Some (Found f) → slice_get xs j ≡ Some (Found f)
+  same_found j f e = found_back (slice_get xs j) f (sym (same_get j) ∙ ap (option_map bare) e)
+
+  pub same_waiting : (j : ℕ) → slice_get ys j ≡ Some Waiting → slice_get xs j ≡ Some Waiting
+  same_waiting j e = waiting_back (slice_get xs j) (sym (same_get j) ∙ ap (option_map bare) e)
+
+  pub same_is_found : (j : ℕ) → is_found (slice_get ys j) ≡ is_found (slice_get xs j)
+  same_is_found j = sym (found_bare (slice_get ys j)) ∙ ap is_found (same_get j) ∙ found_bare (slice_get xs j)
+
+  pub same_noted : (noted : List ℕ) → AreNoted xs noted → AreNoted ys noted
+  same_noted noted h = λ j e. h j (sym (same_is_found j) ∙ e)
+
+  pub same_idle : ((j : ℕ) → slice_get xs j ≡ Some Waiting → ⊥) → (j : ℕ) → slice_get ys j ≡ Some Waiting → ⊥
+  same_idle idle j e = idle j (same_waiting j e)
+
+  pub same_table : (y : Symbols) → AreHung y ys → IsTable y xs → IsTable y ys
+  same_table y hung t = record {
+    long = same_length ∙ t.long;
+    turns = t.turns;
+    room = (let room = t.room in let as_many = same_unknown in omega (arith, room, as_many));
+    found = λ j f e. t.found j f (same_found j f e);
+    idle = same_idle t.idle;
+    hung = hung;
+  }
+
+-- what is needed is found in neither
+pub not_found : (xs ys : List State) → map bare ys ≡ map bare xs → (i j : ℕ) → (is_found (slice_get ys j) ≡ true → j ≡ i) → ((f : Form) → slice_get xs i ≡ Some (Found f) → ⊥) → is_found (slice_get ys j) ≡ true → ⊥
+not_found xs ys same i j only none e = by (slice_get xs i) refl (ap (λ (q : ℕ). is_found (slice_get xs q)) (sym (only e)) ∙ sym (same_is_found xs ys same j) ∙ e)
+  where
+    by : (o : Option State) → slice_get xs i ≡ o → is_found o ≡ true → ⊥
+    by None is e = absurd cc
+    by (Some Unknown) is e = absurd cc
+    by (Some Waiting) is e = absurd cc
+    by (Some (Hangs k)) is e = absurd cc
+    by (Some (Found f)) is e = none f is
+
+-- ---- A constant that hangs on another.
+
+pub if_some : {P Q : ℕ → Type 0} (o : Option ℕ) → ((k : ℕ) → P k → Q k) → IfSome o P → IfSome o Q
+if_some None f h = tt
+if_some (Some k) f h = f k h
+
+pub hung_is : (o : Option State) (k : ℕ) → Some k ≡ hung_on o → o ≡ Some (Hangs k)
+hung_is None k e = absurd cc
+hung_is (Some Unknown) k e = absurd cc
+hung_is (Some Waiting) k e = absurd cc
+hung_is (Some (Hangs m)) k e = (let same : m ≡ k = cc in ap (λ (q : ℕ). Some (Hangs q)) same)
+hung_is (Some (Found f)) k e = absurd cc
+
+pub open_is : (o : Option State) → may_be_looked_for o ≡ true → (x : State) × (o ≡ Some x) × (bare x ≡ Unknown)
+open_is None e = absurd cc
+open_is (Some Unknown) e = (Unknown, refl, refl)
+open_is (Some Waiting) e = absurd cc
+open_is (Some (Hangs k)) e = (Hangs k, refl, refl)
+open_is (Some (Found f)) e = absurd cc
+
+-- it is open still
+pub bare_put : (states : List State) (j k : ℕ) (x : State) → slice_get states j ≡ Some x → bare x ≡ Unknown → map bare (slice_set states j (Hangs k)) ≡ map bare states
+bare_put states j k x at free = map-set_same bare states j (Hangs k) Unknown (sym (ap bare (get_or_from_slice_get states j x Unknown at) ∙ free))
+
+-- where it does hang on the other, each hangs
+pub hung_put : (y : Symbols) (states : List State) (j k : ℕ) → AreHung y states → HangsOn y j k → AreHung y (slice_set states j (Hangs k))
+hung_put y states j k h on = λ i m e. by i m e (nat_eq i j) refl
+  where
+    by : (i m : ℕ) → slice_get (slice_set states j (Hangs k)) i ≡ Some (Hangs m) → (b : Bool) → nat_eq i j ≡ b → HangsOn y i m
+    by i m e true b =
+        let one : i ≡ j = grind (arith, nat_tests) in
+        let within : i < length (slice_set states j (Hangs k)) = slice_get_within (slice_set states j (Hangs k)) i (Hangs m) e in
+        let long : length (slice_set states j (Hangs k)) ≡ length states = grind (arith, common_steps) in
+        let lt : j < length states = omega (arith, within, long, one) in
+        let now : slice_get (slice_set states j (Hangs k)) j ≡ Some (Hangs k) = grind (arith, common_steps, gets) in
+        let same : k ≡ m = (let both : Some (Hangs k) ≡ Some (Hangs m) = sym now ∙ ap (slice_get (slice_set states j (Hangs k))) (sym one) ∙ e in cc) in
+        subst (λ (q : ℕ). HangsOn y q m) (sym one) (subst (HangsOn y j) same on)
+    by i m e false b =
+        let other : i ≢ j = grind (arith, nat_tests) in
+        let before : slice_get (slice_set states j (Hangs k)) i ≡ slice_get states i = grind (arith, common_steps, gets) in
+        h i m (sym before ∙ e)
+
+-- what is lost hangs on nothing
+pub hung_lost : (y : Symbols) (states : List State) (j : ℕ) → AreHung y states → AreHung y (slice_set states j Unknown)
+hung_lost y states j h = λ i m e. by i m e (nat_eq i j) refl
+  where
+    by : (i m : ℕ) → slice_get (slice_set states j Unknown) i ≡ Some (Hangs m) → (b : Bool) → nat_eq i j ≡ b → HangsOn y i m
+    by i m e true b =
+        let one : i ≡ j = grind (arith, nat_tests) in
+        let within : i < length (slice_set states j Unknown) = slice_get_within (slice_set states j Unknown) i (Hangs m) e in
+        let long : length (slice_set states j Unknown) ≡ length states = grind (arith, common_steps) in
+        let lt : j < length states = omega (arith, within, long, one) in
+        let now : slice_get (slice_set states j Unknown) j ≡ Some Unknown = grind (arith, common_steps, gets) in
+        let both : Some Unknown ≡ Some (Hangs m) = sym now ∙ ap (slice_get (slice_set states j Unknown)) (sym one) ∙ e in
+        absurd cc
+    by i m e false b =
+        let other : i ≢ j = grind (arith, nat_tests) in
+        let before : slice_get (slice_set states j Unknown) i ≡ slice_get states i = grind (arith, common_steps, gets) in
+        h i m (sym before ∙ e)
+
+-- what hangs hangs whatever statements follow
+extends_both : (x y z : Symbols) → Extends x y → Extends y z → Extends x z
+extends_both x y z h k = record {
+  later_definitions = h.later_definitions ++ k.later_definitions;
+  definitions = k.definitions ∙ ap (λ (ds : List Definition). ds ++ k.later_definitions) h.definitions ∙ append_assoc x.definitions h.later_definitions k.later_definitions;
+  later_scopes = h.later_scopes ++ k.later_scopes;
+  scopes = k.scopes ∙ ap (λ (cs : List Scope). cs ++ k.later_scopes) h.scopes ∙ append_assoc x.scopes h.later_scopes k.later_scopes;
+}
+
+pub hung_later : (x y : Symbols) (states : List State) → Extends x y → AreHung x states → AreHung y states
+hung_later x y states more h = λ j k e z further. h j k e z (extends_both x y z more further)

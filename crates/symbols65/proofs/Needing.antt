@@ -1,0 +1,65 @@
+-- An expression hangs on the constant that its attempt with final forms needs.
+use Rattle.std.proofs.Common.{◌≡◌, ℕ, ◌<◌, List, length, Option, Some, slice_get, Result, Err, refl, sym, ap, ◌∙◌, subst}
+use Rattle.std.proofs.lemmas.Option.{slice_get_within}
+use Rattle.syntax65.specs.Outcome.{◌>>=◌}
+use Rattle.syntax65.specs.Trees.{Tree, number, here, name, cheap, forward, backward, unary, binary}
+use Rattle.object65.specs.Form.{Form}
+use Rattle.object65.specs.Folding.{fold1, fold2}
+use Rattle.language65.specs.Extending.{Extends}
+use Rattle.language65.specs.Laid.{Spot}
+use Rattle.language65.specs.Norms.{folded, form_of_definition, form_of_value, norm}
+use Rattle.language65.specs.Symbols as l
+use Rattle.symbols65.specs.declared.resolving.attempt.Source.TheVariants.{Finals}
+use Rattle.symbols65.specs.declared.resolving.attempt.Stop.{Stop}
+use Rattle.symbols65.specs.declared.resolving.attempt.Stop.TheVariants.{Needs}
+use Rattle.symbols65.specs.declared.table.symbols.Symbols.{Symbols}
+use Rattle.symbols65.specs.Hanging.{ExpressionHangsOn, HangsOn, Leads}
+use Rattle.symbols65.specs.Resolving.{FoundBy, attempt_definition, known_form, meaning_form, operand_form, stopped, tried, tried_by}
+use Rattle.symbols65.specs.Settling.{MeansFinally, Operands}
+use Rattle.symbols65.specs.Sources.{known_by}
+use Rattle.symbols65.specs.Views.{table_of}
+use Rattle.symbols65.proofs.Hanging.{extends_itself}
+use Rattle.symbols65.proofs.Places.{get_stays}
+use Rattle.symbols65.proofs.Pursuits.{leads_from}
+use Rattle.symbols65.proofs.Settling.{final_among, known_inside}
+use Rattle.symbols65.proofs.Tries.{attempt_first}
+use Rattle.symbols65.proofs.Turns.{expression_course}
+
+-- attempts whose operands come to the same
+tried_same : (P : Tree → Type 0) (a b : Tree → Result Form Stop) (s : Spot) → ((t : Tree) → P t → a t ≡ b t) → (e : Tree) → Operands P e → tried_by a s e ≡ tried_by b s e
+tried_same P a b s h (number v) p = refl
+tried_same P a b s h here p = refl
+tried_same P a b s h (name global parts) p = h (name global parts) p
+tried_same P a b s h (cheap n) p = h (cheap n) p
+tried_same P a b s h (forward n) p = h (forward n) p
+tried_same P a b s h (backward n) p = h (backward n) p
+tried_same P a b s h (unary op e) p = ap (λ (r : Result Form Stop). r >>= (λ f. stopped (folded (fold1 op f)))) (tried_same P a b s h e p)
+tried_same P a b s h (binary op e g) p =
+    ap (λ (r : Result Form Stop). r >>= (λ f. tried_by a s g >>= (λ k. stopped (folded (fold2 op f k))))) (tried_same P a b s h e p.0)
+    ∙ ap (λ (q : Result Form Stop). tried_by b s e >>= (λ f. q >>= (λ k. stopped (folded (fold2 op f k))))) (tried_same P a b s h g p.1)
+
+module _ (t : Symbols) where
+  abbrev y : l.Symbols
+  y = table_of t
+
+  -- an operand that means the same whatever follows
+  operand_stays : (s : Spot) (z : l.Symbols) → Extends y z → (u : Tree) → MeansFinally y s u → operand_form (known_by t Finals) z s u ≡ operand_form (known_by t Finals) y s u
+  operand_stays s z more u (j, lt, means) =
+      ap (λ m. stopped m >>= meaning_form (known_by t Finals) z) (means z more)
+      ∙ ap (attempt_definition (λ q e. known_form j (known_by t Finals j))) (ap (λ (ds : List l.Definition). slice_get ds j) more.definitions ∙ get_stays y.definitions more.later_definitions j lt)
+      ∙ sym (ap (λ m. stopped m >>= meaning_form (known_by t Finals) y) (means y (extends_itself y)))
+
+  finals_later : (z : l.Symbols) → Extends y z → FoundBy (length y.definitions) z (known_by t Finals)
+  finals_later z more = λ j f h. final_among t z more (length y.definitions) j f (known_inside t j f h) h
+
+  pub needed_hangs : (s : Spot) (e : Tree) (k : ℕ) → Operands (MeansFinally y s) e → tried (known_by t Finals) y s e ≡ Err (Needs k) → ExpressionHangsOn y s e k
+  needed_hangs s e k p h = λ z more. leads_from (length y.definitions) z (known_by t Finals) (expression_course z s e) (tried (known_by t Finals) z s e) k (attempt_first (length y.definitions) z (known_by t Finals) (finals_later z more) s e) (tried_same (MeansFinally y s) (operand_form (known_by t Finals) z s) (operand_form (known_by t Finals) y s) s (λ u m. operand_stays s z more u m) e p ∙ h)
+
+-- a constant hangs on that on which its expression does
+pub constant_hangs : (y : l.Symbols) (j k : ℕ) (d : l.Definition) (e : Tree) → slice_get y.definitions j ≡ Some d → d.value ≡ Some e → ExpressionHangsOn y d.spot e k → HangsOn y j k
+constant_hangs y j k d e at value h = λ z more.
+    (let lt : j < length y.definitions = slice_get_within y.definitions j d at in
+    let there : slice_get z.definitions j ≡ Some d = ap (λ (ds : List l.Definition). slice_get ds j) more.definitions ∙ get_stays y.definitions more.later_definitions j lt ∙ at in
+    let P : Option l.Definition → Type 0 = λ o. Leads z (λ n. form_of_definition (norm n z) o) k in
+    let Q : Option Tree → Type 0 = λ o. Leads z (λ n. form_of_value (norm n z) d.spot o) k in
+    subst P (sym there) (subst Q (sym value) (h z more)))

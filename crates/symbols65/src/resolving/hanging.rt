@@ -1,0 +1,112 @@
+//! Constants that hang on others: that have each fault of theirs, whatever statements follow.
+
+ghost use Rattle.std.specs.Prelude.{◌≡◌, IfSome, map, slice_get};
+ghost use Rattle.syntax65.specs.Trees.{tree_of};
+ghost use Rattle.language65.specs.Views.{spot_of};
+ghost use Rattle.symbols65.specs.Hanging.{AreHung, ExpressionHangsOn, HangsOn, Reaches, bare, hung_on};
+ghost use Rattle.symbols65.specs.Resolving.{may_be_looked_for};
+ghost use Rattle.symbols65.specs.Views.{Table, table_of};
+
+use super::attempt::{Source, State, Stop, try_norm};
+use super::finals::are_final;
+use crate::table::Symbols;
+use language65::Spot;
+use std::alloc::Global;
+use syntax65::Expr;
+
+/// The constant without whose form an expression has none, whatever statements follow, where that is plain already.
+fn needed_by(alloc: Global, symbols: &Symbols, spot: Spot, value: &Expr) -> Option<usize>
+    ensures { IfSome result (λ k. ExpressionHangsOn (table_of symbols.now) (spot_of spot) (tree_of value.now) k) }
+{
+    if !are_final(symbols, spot, value) {
+        return None;
+    }
+    match try_norm(alloc, symbols, Source::Finals, spot, value) {
+        Err(Stop::Needs(place)) => Some(place),
+        _ => None,
+    }
+}
+
+/// The constant on which the one at a place hangs, where that is plain already.
+fn needed_at(alloc: Global, symbols: &Symbols, place: usize) -> Option<usize>
+    ensures { IfSome result (λ k. HangsOn (table_of symbols.now) place k) }
+{
+    let definition = symbols.definition(place)?;
+    match &definition.value {
+        Some(value) => needed_by(alloc, symbols, definition.spot, value),
+        None => None,
+    }
+}
+
+/// Whether the form of the constant at a place isn't found, and isn't looked for.
+pub fn may_be_looked_for(states: &[State], place: usize) -> bool
+    ensures { result ≡ may_be_looked_for (slice_get states.now place) }
+{
+    matches!(states.get(place), Some(State::Unknown | State::Hangs(_)))
+}
+
+/// Lets the constant at a place hang on another, where its form isn't found.
+fn hang(alloc: Global, symbols: &Symbols, states: &mut [State], place: usize)
+    ensures same { map bare states.new ≡ map bare states.old }
+    ensures hung { AreHung (table_of symbols.now) states.old → AreHung (table_of symbols.now) states.new }
+{
+    if !may_be_looked_for(states, place) {
+        return;
+    }
+    if let Some(next) = needed_at(alloc, symbols, place) {
+        states[place] = State::Hangs(next);
+    }
+}
+
+/// Lets constants hang on others, where their forms aren't found.
+pub fn hang_all(alloc: Global, symbols: &Symbols, states: &mut [State], places: &[usize])
+    ensures same { map bare states.new ≡ map bare states.old }
+    ensures hung { AreHung (table_of symbols.now) states.old → AreHung (table_of symbols.now) states.new }
+{
+    for place in places {
+        hang(alloc, symbols, states, *place);
+    }
+}
+
+/// The constant on which the one at a place hangs, if it does.
+fn hung_on(states: &[State], place: usize) -> Option<usize>
+    ensures { result ≡ hung_on (slice_get states.now place) }
+{
+    match states.get(place) {
+        Some(State::Hangs(next)) => Some(*next),
+        _ => None,
+    }
+}
+
+/// From a constant that hangs on another to that one, or to the one on which that hangs, on which it then hangs itself:
+/// so the way becomes shorter each time.
+fn hop(states: &mut [State], place: usize) -> Option<usize>
+    ensures same { map bare states.new ≡ map bare states.old }
+    ensures hung { (y : Table) → AreHung y states.old → AreHung y states.new }
+    ensures next { IfSome result (λ k. (y : Table) → AreHung y states.old → HangsOn y place k) }
+{
+    let next = hung_on(states, place)?;
+    match hung_on(states, next) {
+        Some(behind) => {
+            states[place] = State::Hangs(behind);
+            Some(behind)
+        }
+        None => Some(next),
+    }
+}
+
+/// The last of the constants of which each hangs on the next, from one on.
+pub fn root(states: &mut [State], place: usize) -> usize
+    ensures same { map bare states.new ≡ map bare states.old }
+    ensures hung { (y : Table) → AreHung y states.old → AreHung y states.new }
+    ensures root { (y : Table) → AreHung y states.old → Reaches y place result }
+{
+    let mut last = place;
+    for _ in 0..states.len() {
+        match hop(states, last) {
+            Some(next) => last = next,
+            None => return last,
+        }
+    }
+    last
+}

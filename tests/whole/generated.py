@@ -26,6 +26,7 @@ GRAMMAR = {
         ".assert ([tree]) = ([tree]), warning", ".assert (([tree]) & 255) < 256, error",
     ],
     "block": [
+        "lda [zp]\nlda ([zp]),y\nldx z:[zp],y\n.byte [zp], <[zp]", "[newlabel]: nop\n@q: .word @q & $FFFF\nbne @q", "[known]",
         "[newlabel]:\n[line]", "[newlabel]:\n[line]\n[line]", "[newlabel]: [line]\n[line]", '.segment "[segment]"',
         '.segment "[segment]"\n[newlabel]: [line]', "bne :+\n: nop\n.byte <:-, [byte]\n: bcs :-",
         ".pushseg\n.zeropage\n[newlabel]: .res 2\n.popseg", ".pushseg\n.bss\n[newlabel]: .res [digit]\n.popseg",
@@ -33,6 +34,13 @@ GRAMMAR = {
     ],
     "segment": ["CODE", "CODE", "DATA", "RODATA", "BSS", "ZEROPAGE", "EXTRA"],
 }
+# Of a number: how far it is to a label, which is known at its line.
+KNOWN = """d{n}: nop
+.align 4
+.byte [byte]
+.align 8
+.res (* - d{n}) & 15, * - d{n}
+lda #* - d{n}"""
 # A scope or a proc of a number, and how it is used inside and outside.
 SCOPED = """.{kind} s{n}
 c{n} = [tree]
@@ -81,7 +89,9 @@ OTHERS = {".export f0": (".export f0", "f0 = 1"), ".export f1": (".export f0", "
 class Source:
     """The lines of a module in the making."""
 
-    def __init__(self, chance, number, exported):
+    def __init__(self, chance, number, count, exported):
+        self.zero_page = [f"z{i}" for i in range(count)]
+        self.own_zero_page = self.zero_page[number]
         self.chance, self.lines, self.labels, self.counted, self.depth = chance, [], ["start"], 0, 0
         self.own = [name for name in exported if exported[name] == number]
         self.others = [name for name in exported if exported[name] != number]
@@ -95,7 +105,9 @@ class Source:
             return self.chance.choice(self.own or self.labels)
         if name == "other":
             return self.chance.choice(self.imports)
-        if name in ("count", "newlabel", "scoped"):
+        if name == "zp":
+            return self.chance.choice(self.zero_page)
+        if name in ("count", "newlabel", "scoped", "known"):
             self.counted += 1
         if name == "count":
             return str(self.counted)
@@ -104,6 +116,8 @@ class Source:
             return self.labels[-1]
         if name == "scoped":
             return self.filled(SCOPED.format(kind=self.chance.choice(["scope", "proc"]), n=self.counted))
+        if name == "known":
+            return self.filled(KNOWN.format(n=self.counted))
         texts = GRAMMAR[name]
         return self.filled(texts[0] if self.depth > 6 else self.chance.choice(texts))
 
@@ -121,10 +135,12 @@ class Source:
         return [f"{name} = {self.chance.choice(earlier or ['7'])} + {self.chance.randrange(9)}"]
 
     def text(self):
-        words = [f".import {', '.join(self.imports)}"]
+        wanted = [it for it in self.zero_page if it != self.own_zero_page]
+        words = [f".import {', '.join(self.imports)}", f".exportzp {self.own_zero_page}"]
+        words.append(f".{self.chance.choice(['importzp', 'globalzp'])} {', '.join(wanted)}")
         if self.own:
             words.append(f".{self.chance.choice(['export', 'global', 'exportzp'])} {', '.join(self.own)}")
-        lines = ["start:"]
+        lines = [".zeropage", f"{self.own_zero_page}: .res 1", ".code", "start:"]
         for name in self.own:
             lines += [self.filled("[block]"), *self.export(name)]
         lines += [self.filled("[block]") for i in range(self.chance.randrange(3, 9))]
@@ -145,7 +161,7 @@ def random_program(seed):
     chance = random.Random(seed)
     count = chance.randrange(2, 5)
     exported = {f"e{i}": chance.randrange(count) for i in range(chance.randrange(2, 7))}
-    texts = [Source(chance, i, exported).text() for i in range(count)]
+    texts = [Source(chance, i, count, exported).text() for i in range(count)]
     if chance.randrange(4) == 0:
         fault = chance.choice(FAULTS)
         texts[0] += fault

@@ -20,7 +20,9 @@ use Rattle.linkage65.specs.declared.fault.LinkFault.{LinkFault}
 use Rattle.linkage65.specs.declared.linked.Linked.{Linked}
 use Rattle.line65.specs.Line.{Linking}
 use Rattle.ld65.specs.declared.refusal.Refusal.{Refusal}
+use Rattle.ld65.specs.declared.refusal.Refusal.TheVariants as refusal
 use Rattle.ld65.specs.Linkage.{AreInputs, AreNeeded, ByKind, IsInput, IsInputLink, IsLibraryInput, IsLinked, IsLinkedBy, LinksTo, as_library, as_refusal, as_script, chosen, index_in, is_library_in, output_of, text_of, with_file, with_members}
+use Rattle.tools65.proofs.Selected.{ok_err, ok_same}
 
 -- ---- The modules of inputs.
 
@@ -64,16 +66,16 @@ module _ (l : Linking) (m : Files) (s : Script) (text : List ℕ) (file : get m 
       subst (λ (q : Result Script ScriptFault). First (as_script q) (IsLinkedBy m l) r) same there.2
 
   same_link : (ms : List Module) (linked : Linked) → LinksTo l s ms (Ok linked) → LinkOf (output_of l) s ms (Ok linked)
-  same_link ms linked (Ok x, link, same) = (let e : x ≡ linked = cc in subst (λ (z : Linked). LinkOf (output_of l) s ms (Ok z)) e link)
-  same_link ms linked (Err e, link, same) = absurd cc
+  same_link ms linked (Ok x, link, same) = subst (λ (z : Linked). LinkOf (output_of l) s ms (Ok z)) (sym (ok_same linked x same)) link
+  same_link ms linked (Err e, link, same) = absurd (ok_err linked (refusal.Link e) same)
 
   by_modules : (linked : Linked) (q : Result (List Module) Refusal) → AreInputs s m 0 [] l.inputs q → First q (LinksTo l s) (Ok linked) → (ms : List Module) × AreInputs s m 0 [] l.inputs (Ok ms) × LinkOf (output_of l) s ms (Ok linked)
   by_modules linked (Ok ms) are h = (ms, are, same_link ms linked h)
-  by_modules linked (Err e) are h = absurd cc
+  by_modules linked (Err e) are h = absurd (ok_err linked e h)
 
   by_names : (linked : Linked) (q : Result (Unit {0}) Refusal) → First q (λ u. IsInputLink m l s) (Ok linked) → IsInputLink m l s (Ok linked)
   by_names linked (Ok u) h = h
-  by_names linked (Err e) h = absurd cc
+  by_names linked (Err e) h = absurd (ok_err linked e h)
 
   -- a link that succeeds is that of modules of the inputs
   pub link_found : (linked : Linked) → IsLinked m l (Ok linked) → (ms : List Module) × AreInputs s m 0 [] l.inputs (Ok ms) × LinkOf (output_of l) s ms (Ok linked)

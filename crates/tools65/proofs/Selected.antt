@@ -16,25 +16,35 @@ use Rattle.linkage65.specs.Modules.{Module}
 use Rattle.linkage65.specs.Names.{script_names}
 use Rattle.linkage65.specs.Programs.{exported, program_of}
 use Rattle.linkage65.specs.declared.fault.LinkFault.{LinkFault}
+use Rattle.linkage65.specs.declared.fault.LinkFault.TheVariants.{IndexDisagrees, Malformed}
 use Rattle.linkage65.specs.declared.parts.Exported.{Exported}
 use Rattle.link65.specs.Standing.{agreed, agrees_with, as_link, joined as joined_to, module_of}
 use Rattle.whole65.proofs.Given.{none_again}
 use Rattle.whole65.proofs.Givers.{exports_are, linked_exports}
 use Rattle.whole65.proofs.Later.{bind_ok}
 use Rattle.ld65.specs.declared.refusal.Refusal.{Refusal}
+use Rattle.ld65.specs.declared.refusal.Refusal.TheVariants as refusal
 use Rattle.ld65.specs.Linkage.{AreInputs, AreNeeded, ByKind, Input, IsInput, IsLibraryInput, added_in, as_library, behind, chosen, file_input, index_in, is_library_in, member_input, member_module, object_in, with_file, with_member, with_members}
 use Rattle.ld65.specs.Refusals.{refusal_at, refusal_in}
 use Rattle.tools65.specs.OneProgram.{AreInputOf, AreMembers, AreSelected, AreTaken, IsModuleOf}
+
+-- ---- Answers that are right, and faults.
+
+pub ok_same : {A E : Type 0} (x y : A) → ◌≡◌ {A = Result A E} (Ok x) (Ok y) → x ≡ y
+ok_same x y e = cc
+
+pub ok_err : {A E : Type 0} (x : A) (e : E) → ◌≡◌ {A = Result A E} (Ok x) (Err e) → ⊥
+ok_err x e h = cc
 
 -- ---- Names of the first modules.
 
 front_once : (before xs zs : List (List ℕ)) → first_again before (xs ++ zs) ≡ None → first_again before xs ≡ None
 front_once before [] zs e = refl
-front_once before (x ∷ xs) zs e = go (is_among before x) e
+front_once before (x ∷ xs) zs e = go (is_among before x) (front_once (before ++ x ∷ []) xs zs) e
   where
-    go : (b : Bool) → cond b (Some x) (first_again (before ++ x ∷ []) (xs ++ zs)) ≡ None → cond b (Some x) (first_again (before ++ x ∷ []) xs) ≡ None
-    go true e = e
-    go false e = front_once (before ++ x ∷ []) xs zs e
+    go : (b : Bool) → (first_again (before ++ x ∷ []) (xs ++ zs) ≡ None → first_again (before ++ x ∷ []) xs ≡ None) → cond b (Some x) (first_again (before ++ x ∷ []) (xs ++ zs)) ≡ None → cond b (Some x) (first_again (before ++ x ∷ []) xs) ≡ None
+    go true rest e = e
+    go false rest e = rest e
 
 exports_front : (owner : ℕ) (a b : List Module) → (zs : List Exported) × (linked_exports owner (a ++ b) ≡ linked_exports owner a ++ zs)
 exports_front owner [] b = (linked_exports owner b, refl)
@@ -60,15 +70,24 @@ names_front s a b e =
 -- ---- One object.
 
 linked_object : (q : Result Object ObjectFault) (o : Object) → as_link q ≡ Ok o → q ≡ Ok o
-linked_object (Ok x) o e = cc
-linked_object (Err f) o e = cc
+linked_object (Ok x) o e = ap (λ z. Ok z) (ok_same x o e)
+linked_object (Err f) o e = absurd (ok_err o (Malformed f) (sym e))
 
 agreeing : (b : Bool) (x o : Object) (e : LinkFault) → cond b (Ok x) (Err e) ≡ Ok o → (b ≡ true) × (x ≡ o)
-agreeing true x o e h = (refl, cc)
-agreeing false x o e h = absurd cc
+agreeing true x o e h = (refl, ok_same x o h)
+agreeing false x o e h = absurd (ok_err o e (sym h))
 
 chain : (q : Result Object ObjectFault) (f g : Object → Result Object LinkFault) (o : Object) → q ≡ Ok o → f o ≡ Ok o → g o ≡ Ok o → (as_link q >>= f >>= g) ≡ Ok o
 chain q f g o a b c = rw (a, b) c
+
+abbrev either : Bool → Object → Result Object LinkFault
+either b o = cond b (Ok o) (Err IndexDisagrees)
+
+abbrev behind_names : Result (Unit {0}) LinkFault → Object → Result Object LinkFault
+behind_names q o = q >>= (λ u. Ok o)
+
+abbrev modules : List Module → Result (List Module) Refusal
+modules ms = Ok ms
 
 module _ (s : Script) (m : Files) where
   -- an object that is added is a module's
@@ -78,26 +97,26 @@ module _ (s : Script) (m : Files) where
       let (y, found, agreed_to) = bind_ok (as_link (object_in m i)) (agreed i.entry) x front in
       let (u, once, same) = bind_ok (names_once s (program_of (before ++ module_of i.name x ∷ []))) (λ u. Ok x) o joined in
       let both = agreeing (agrees_with i.entry y) y x _ agreed_to in
-      let equal : y ≡ o = both.1 ∙ cc in
+      let equal : y ≡ o = both.1 ∙ ok_same x o same in
       (o, subst (λ z. object_in m i ≡ Ok z) equal (linked_object (object_in m i) y found), subst (λ z. agrees_with i.entry z ≡ true) equal both.0, refl)
 
   -- a module's object is added where no name is given twice
   module_added : (before : List Module) (i : Input) (x : Module) → IsModuleOf m i x → names_once s (program_of (before ++ x ∷ [])) ≡ Ok tt → (named : LinkFault → Refusal) → behind named before i.name (added_in s before m i) ≡ Ok (before ++ x ∷ [])
   module_added before i x (o, found, agrees, same) once named =
-      let agreed_to : agreed i.entry o ≡ Ok o = rw agrees refl in
+      let agreed_to : agreed i.entry o ≡ Ok o = ap (λ (b : Bool). either b o) agrees in
       let there : names_once s (program_of (before ++ module_of i.name o ∷ [])) ≡ Ok tt = subst (λ z. names_once s (program_of (before ++ z ∷ [])) ≡ Ok tt) same once in
-      let joined : joined_to s before i.name o ≡ Ok o = rw there refl in
+      let joined : joined_to s before i.name o ≡ Ok o = ap (λ (q : Result (Unit {0}) LinkFault). behind_names q o) there in
       ap (behind named before i.name) (chain (object_in m i) (agreed i.entry) (joined_to s before i.name) o found agreed_to joined)
-      ∙ ap (λ (z : Module). Ok (before ++ z ∷ [])) (sym same)
+      ∙ ap (λ (z : Module). modules (before ++ z ∷ [])) (sym same)
 
   behind_ok : (named : LinkFault → Refusal) (before after : List Module) (name : List ℕ) (q : Result Object LinkFault) → behind named before name q ≡ Ok after → (o : Object) × (q ≡ Ok o) × (after ≡ before ++ module_of name o ∷ [])
-  behind_ok named before after name (Ok o) e = (o, refl, cc)
-  behind_ok named before after name (Err f) e = absurd cc
+  behind_ok named before after name (Ok o) e = (o, refl, sym (ok_same (before ++ module_of name o ∷ []) after e))
+  behind_ok named before after name (Err f) e = absurd (ok_err after (named f) (sym e))
 
   -- ---- Members of a library.
 
   members_added : (library : List ℕ) (before : List Module) (es : List Entry) (ms : List Module) → AreMembers m library es ms → names_once s (program_of (before ++ ms)) ≡ Ok tt → with_members s m library before es ≡ Ok (before ++ ms)
-  members_added library before [] [] h once = ap (Ok {E = Refusal}) (sym (append-nil before))
+  members_added library before [] [] h once = ap modules (sym (append-nil before))
   members_added library before [] (x ∷ ms) h once = absurd h
   members_added library before (e ∷ es) [] h once = absurd h
   members_added library before (e ∷ es) (x ∷ ms) h once =
@@ -107,10 +126,10 @@ module _ (s : Script) (m : Files) where
           module_added before (member_input library e) x h.0 (names_front s (before ++ x ∷ []) ms all) (refusal_in (member_module library e.name)) in
       ap (λ q. q >>= (λ zs. with_members s m library zs es)) first
       ∙ members_added library (before ++ x ∷ []) es ms h.1 all
-      ∙ ap (Ok {E = Refusal}) assoc
+      ∙ ap modules assoc
 
   members_there : (library : List ℕ) (before : List Module) (es : List Entry) (after : List Module) → with_members s m library before es ≡ Ok after → (ms : List Module) × AreMembers m library es ms × (after ≡ before ++ ms)
-  members_there library before [] after e = ([], tt, (let same : before ≡ after = cc in sym same ∙ sym (append-nil before)))
+  members_there library before [] after e = ([], tt, sym (ok_same before after e) ∙ sym (append-nil before))
   members_there library before (e ∷ es) after h =
       let (zs, first, rest) = bind_ok (with_member s m library before e) (λ zs. with_members s m library zs es) after h in
       let (o, added, same) = behind_ok (refusal_in (member_module library e.name)) before zs (member_module library e.name) (added_in s before m (member_input library e)) first in
@@ -122,7 +141,7 @@ module _ (s : Script) (m : Files) where
 
   index_there : (k : ℕ) (q : Result (List Entry) LibraryFault) (before after : List Module) (Next : List Entry → Result (List Module) Refusal → Type 0) → First (as_library k q) Next (Ok after) → (es : List Entry) × (q ≡ Ok es) × Next es (Ok after)
   index_there k (Ok es) before after Next h = (es, refl, h)
-  index_there k (Err e) before after Next h = absurd cc
+  index_there k (Err e) before after Next h = absurd (ok_err after (refusal.Library k e) h)
 
   kind_there : (b : Bool) (k : ℕ) (before after : List Module) (name : List ℕ) → ByKind b (IsLibraryInput s m k before name (Ok after)) (◌≡◌ {A = Result (List Module) Refusal} (Ok after) (with_file s m k before name)) → (ms : List Module) × ByKind b (AreTaken s m before name ms) ((x : Module) × IsModuleOf m (file_input name) x × (ms ≡ x ∷ [])) × (after ≡ before ++ ms)
   kind_there true k before after name h =
@@ -139,12 +158,12 @@ module _ (s : Script) (m : Files) where
       subst (λ q. First (as_library k q) (AreNeeded s m name before) (Ok (before ++ ms))) (sym index) needed
   kind_added false k before ms name (x, of, same) once =
       let there : names_once s (program_of (before ++ x ∷ [])) ≡ Ok tt = subst (λ z. names_once s (program_of (before ++ z)) ≡ Ok tt) same once in
-      ap (λ z. Ok (before ++ z)) same ∙ sym (module_added before (file_input name) x of there (refusal_at k))
+      ap (λ z. modules (before ++ z)) same ∙ sym (module_added before (file_input name) x of there (refusal_at k))
 
   -- what the linker is fed is what the line selects
   pub inputs_selected : (k : ℕ) (before : List Module) (names : List (List ℕ)) (after : List Module) → AreInputs s m k before names (Ok after) → (ms : List Module) × AreSelected s m before names ms × (after ≡ before ++ ms)
-  inputs_selected k before [] after h = ([], refl, (let same : after ≡ before = cc in same ∙ sym (append-nil before)))
-  inputs_selected k before (name ∷ names) after (Err e, is, next) = absurd cc
+  inputs_selected k before [] after h = ([], refl, ok_same after before h ∙ sym (append-nil before))
+  inputs_selected k before (name ∷ names) after (Err e, is, next) = absurd (ok_err after e next)
   inputs_selected k before (name ∷ names) after (Ok zs, is, next) =
       let own = kind_there (is_library_in m name) k before zs name is in
       let more = inputs_selected (k + 1) zs names after next in
@@ -153,7 +172,7 @@ module _ (s : Script) (m : Files) where
 
   -- and where no name is given twice it is fed what the line selects
   pub selected_inputs : (k : ℕ) (before : List Module) (names : List (List ℕ)) (ms : List Module) → AreSelected s m before names ms → names_once s (program_of (before ++ ms)) ≡ Ok tt → AreInputs s m k before names (Ok (before ++ ms))
-  selected_inputs k before [] ms h once = ap (Ok {E = Refusal}) (ap (λ z. before ++ z) h ∙ append-nil before)
+  selected_inputs k before [] ms h once = ap modules (ap (λ z. before ++ z) h ∙ append-nil before)
   selected_inputs k before (name ∷ names) ms (own, rest, of, more, same) once =
       let assoc : before ++ ms ≡ (before ++ own) ++ rest = ap (λ z. before ++ z) same ∙ sym (append_assoc before own rest) in
       let all : names_once s (program_of ((before ++ own) ++ rest)) ≡ Ok tt = subst (λ z. names_once s (program_of z) ≡ Ok tt) assoc once in
@@ -166,9 +185,6 @@ module _ (s : Script) (m : Files) where
   module_once i x y (o, found, agrees, same) (p, there, other, equal) =
       let objects : o ≡ p = ok_same o p (sym found ∙ there) in
       same ∙ ap (module_of i.name) objects ∙ sym equal
-    where
-      ok_same : (a b : Object) → ◌≡◌ {A = Result Object ObjectFault} (Ok a) (Ok b) → a ≡ b
-      ok_same a b e = cc
 
   members_once : (library : List ℕ) (es : List Entry) (xs ys : List Module) → AreMembers m library es xs → AreMembers m library es ys → xs ≡ ys
   members_once library [] [] [] h k = refl
@@ -186,9 +202,6 @@ module _ (s : Script) (m : Files) where
       let equal : others ≡ places = one_selection es (open_names s (program_of before)) (given_names s (program_of before)) others places selected selection in
       let moved : AreMembers m library (chosen es places) ys = subst (λ z. AreMembers m library (chosen es z) ys) equal (subst (λ z. AreMembers m library (chosen z others) ys) same further) in
       members_once library (chosen es places) xs ys members moved
-    where
-      ok_same : (a b : List Entry) → ◌≡◌ {A = Result (List Entry) LibraryFault} (Ok a) (Ok b) → a ≡ b
-      ok_same a b e = cc
 
   input_of_once : (b : Bool) (before : List Module) (name : List ℕ) (xs ys : List Module) → ByKind b (AreTaken s m before name xs) ((x : Module) × IsModuleOf m (file_input name) x × (xs ≡ x ∷ [])) → ByKind b (AreTaken s m before name ys) ((x : Module) × IsModuleOf m (file_input name) x × (ys ≡ x ∷ [])) → xs ≡ ys
   input_of_once true before name xs ys h k = taken_once before name xs ys h k

@@ -26,33 +26,36 @@ use Rattle.tools65.specs.declared.outcome.Status.{Status}
 use Rattle.tools65.specs.declared.outcome.Status.TheVariants.{Failure, Success}
 use Rattle.tools65.proofs.OneLinks.{link_found, link_is}
 use Rattle.tools65.proofs.Wholes.{one_program}
-use Rattle.tools65.proofs.Selected.{inputs_selected, names_front, selected_inputs, selected_once}
+use Rattle.tools65.proofs.Selected.{inputs_selected, names_front, ok_err, selected_inputs, selected_once}
 
 -- ---- A run that succeeds.
 
+not_both : Success ≡ Failure → ⊥
+not_both e = cc
+
 settled_well : (o : Outcome) (m : Files) (new : Option Files) (status : Status) (whole : Bool) → Settles o m new status whole → status ≡ Success → (o.status ≡ Success) × (new ≡ Some (apply o.outputs m))
 settled_well o m new status true h e = (sym h.1 ∙ e, h.0)
-settled_well o m new status false h e = (let never : Success ≡ Failure = sym e ∙ h.1 in absurd cc)
+settled_well o m new status false h e = absurd (not_both (sym e ∙ h.1))
 
 -- its outcome is carried out whole
 carried_out : (o : Outcome) (memory : List ℕ) (m : Files) (new : Option Files) (out_old out_new err_old err_new : Option (List ℕ)) (status : Status) → status ≡ Success → Performs o m new out_old out_new err_old err_new status ⊎ StopsShort o memory m new out_old out_new err_old err_new status → (o.status ≡ Success) × (new ≡ Some (apply o.outputs m))
 carried_out o memory m new out_old out_new err_old err_new status e (inl p) = settled_well o m new status p.whole p.settled e
-carried_out o memory m new out_old out_new err_old err_new status e (inr p) = (let never : Success ≡ Failure = sym e ∙ p.failed in absurd cc)
+carried_out o memory m new out_old out_new err_old err_new status e (inr p) = absurd (not_both (sym e ∙ p.failed))
 
 failing_fails : (o : Outcome) (text : List ℕ) → o ≡ failing text → o.status ≡ Success → ⊥
-failing_fails o text same e = (let never : Success ≡ Failure = sym e ∙ ap (λ (z : Outcome). z.status) same in cc)
+failing_fails o text same e = not_both (sym e ∙ ap (λ (z : Outcome). z.status) same)
 
 linked_well : (l : Linking) (r : Result Linked Refusal) (o : Outcome) → o ≡ outcome_of l r → o.status ≡ Success → (linked : Linked) × (r ≡ Ok linked)
 linked_well l (Ok linked) o same e = (linked, refl)
 linked_well l (Err f) o same e = absurd (failing_fails o _ same e)
 
+first_passed : {E A : Type 0} (q : Result (Unit {0}) E) (Next : Unit {0} → Result A E → Type 0) (x : A) → First q Next (Ok x) → q ≡ Ok tt
+first_passed (Ok u) Next x h = refl
+first_passed (Err e) Next x h = absurd (ok_err x e h)
+
 -- no name is given twice among modules that have a link
 link_once : (output : List ℕ) (s : Script) (ms : List Module) (linked : Linked) → LinkOf output s ms (Ok linked) → names_once s (program_of ms) ≡ Ok tt
-link_once output s ms linked h = passed (names_once s (program_of ms)) h
-  where
-    passed : (q : Result (Unit {0}) LinkFault) → First q (λ u. IsProgramLink output s (program_of ms)) (Ok linked) → q ≡ Ok tt
-    passed (Ok u) k = refl
-    passed (Err e) k = absurd cc
+link_once output s ms linked h = first_passed (names_once s (program_of ms)) (λ u. IsProgramLink output s (program_of ms)) linked h
 
 module _ (l : Linking) (m : Files) (s : Script) (xs : List Source) (k : SelectsSources l m s xs) where
   -- a link that succeeds is that of the modules that the line selects

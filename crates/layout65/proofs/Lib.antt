@@ -1,4 +1,5 @@
 pub mod Steps
 pub mod Measures
+pub mod Parts
 pub mod Segments
 pub mod Behind

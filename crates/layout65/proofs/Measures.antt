@@ -1,15 +1,15 @@
 -- Faults one after the other.
-use Rattle.std.proofs.Common.{◌≡◌, ℕ, zero, suc, ◌+◌, ◌<◌, ◌≤◌, nat_lt, arith, map, drop, get_or, add-one, Bool, true, false, List, [], ◌∷◌, length, Option, Some, None, refl, sym, ap, ◌∙◌}
-use Rattle.std.specs.Prelude.{◌&&◌, Result, Ok, Err}
+use Rattle.std.proofs.Common.{◌≡◌, ℕ, zero, suc, ◌+◌, ◌<◌, ◌≤◌, nat_lt, arith, map, drop, get_or, add-one, Bool, true, false, List, [], ◌∷◌, length, Option, Some, None, refl, sym, ap, subst, ◌∙◌}
+use Rattle.std.specs.Prelude.{◌&&◌, ◌++◌, Result, Ok, Err, IfOk}
 use Rattle.std.proofs.lemmas.Bool.Decides.{nat_tests}
 use Rattle.std.specs.Prelude.{sum_by}
 use Rattle.std.proofs.lemmas.List.{drop_all}
 use Rattle.std.proofs.lemmas.List.Sums.{sum_by-cons}
 use Rattle.object65.specs.declared.object.Width.{Width}
-use Rattle.language65.specs.Sizes.{counted, fill_settled, gap, item_len, optional_value}
+use Rattle.language65.specs.Sizes.{counted, fill_settled, gap, item_len, length_of, optional_value}
 use Rattle.language65.specs.Norms.{constant_in}
 use Rattle.std.specs.Prelude.{ℤ, pos, negsuc, not}
-use Rattle.syntax65.specs.Outcome.{◌>>=◌, Unless}
+use Rattle.syntax65.specs.Outcome.{◌>>=◌, Gives, Unless}
 use Rattle.syntax65.specs.Trees.{Tree}
 use Rattle.language65.specs.declared.fault.AsmFault.{AsmFault}
 use Rattle.language65.specs.Faults.{is_memory}
@@ -26,8 +26,9 @@ use Rattle.syntax65.specs.declared.lexing.tokens.AddressSize.TheVariants.{Absolu
 use Rattle.syntax65.specs.declared.lexing.tokens.AddressSize.{AddressSize}
 use Rattle.language65.specs.declared.contents.Segment.{Segment}
 use Rattle.language65.specs.Layout.{Standing, own_size, segment_at, spot_of}
-use Rattle.language65.specs.LineFaults.{first_fault, defined_twice, is_open, line_fault, opened_twice, scope_name, stands_outside, trees_of, is_byte_value, is_count, is_there, multiple_fault, item_trees, lost_scope, lost_scopes, or_then, when}
-use Rattle.layout65.specs.Measuring.{Measured, fitted, measure_of, measured, naming_fault, placed, placing_faults}
+use Rattle.language65.specs.LineFaults.{alignment_fault, block_fault, first_fault, form_fault, missing_file, operand_fault, part_fault, pop_fault, size_fault, defined_twice, is_open, line_fault, opened_twice, scope_name, stands_outside, trees_of, is_byte_value, is_count, is_there, multiple_fault, item_trees, lost_scope, lost_scopes, or_then, when}
+use Rattle.layout65.specs.declared.measuring.Measured as code
+use Rattle.layout65.specs.Measuring.{Measured, fitted, measure_of, measured, measured_of, naming_fault, placed, placing_faults}
 use Rattle.layout65.proofs.Steps.{unless_then}
 
 -- the second fault is looked for where there is no first
@@ -189,3 +190,26 @@ module _ (y : Symbols) (w : Standing) (x : l.Stated) where
   -- and one that isn't
   pub measured_named : unless_fault {A = Unit {0}} (naming_fault y (spot_of w) x) tt ≡ Ok tt → measured y w x ≡ placed y w x
   measured_named h = ap (λ f. unless_fault f (measure_of y w x)) (faults_are ∙ left_behind (naming_fault y (spot_of w) x) (first_fault (placing_faults y w x)) tt tt h)
+
+-- ---- Room for what is placed.
+
+last_fault : {A : Type 0} (fs : List (Option AsmFault)) (l : Option AsmFault) (x y : A) → unless_fault (first_fault (fs ++ l ∷ [])) x ≡ Ok y → (l ≡ None) × (x ≡ y)
+last_fault [] None x y h = (refl, cc)
+last_fault [] (Some e) x y h = absurd cc
+last_fault (None ∷ fs) l x y h = last_fault fs l x y h
+last_fault (Some e ∷ fs) l x y h = absurd cc
+
+fits : (count : ℕ) → when (nat_lt section_limit count) SectionTooLarge ≡ None → count ≤ section_limit
+fits count h = by (nat_lt section_limit count) refl h
+  where
+    by : (b : Bool) → nat_lt section_limit count ≡ b → when b SectionTooLarge ≡ None → count ≤ section_limit
+    by true is k = absurd cc
+    by false is k = grind (arith, nat_tests)
+
+-- what is placed has room
+pub room_of : (y : Symbols) (w : Standing) (x : l.Stated) (r : Result code.Measured AsmFault) → Gives is_memory measured_of r (placed y w x) → IfOk r (λ m. (spot_of w).offset + m.length ≤ section_limit)
+room_of y w x (Err e) h = tt
+room_of y w x (Ok m) h =
+    let s = spot_of w in
+    let found = last_fault (form_fault y s (own_size w) x ∷ operand_fault y s x ∷ alignment_fault y s x ∷ missing_file x ∷ part_fault y s x ∷ size_fault w.segments x ∷ block_fault y.scopes s.scope x ∷ pop_fault w.kept x ∷ []) (when (nat_lt section_limit (s.offset + length_of y s (own_size w) x)) SectionTooLarge) (measure_of y w x) (measured_of m) h in
+    subst (λ n. s.offset + n ≤ section_limit) (ap (λ (q : Measured). q.length) found.1) (fits (s.offset + length_of y s (own_size w) x) found.0)

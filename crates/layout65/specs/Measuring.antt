@@ -1,15 +1,17 @@
 -- What is found of a statement at its line, in the parts in which the code finds it.
-use Rattle.std.specs.Prelude.{ℕ, ◌+◌, ◌&&◌, nat_lt, Bool, true, false, List, [], ◌∷◌, Option, Result}
+use Rattle.std.specs.Prelude.{◌≡◌, ℕ, ◌+◌, ℤ, pos, negsuc, ◌&&◌, nat_le, nat_lt, not, Bool, true, false, List, [], ◌∷◌, Option, Some, None, Result, Ok, Err}
+use Rattle.syntax65.specs.Outcome.{Unless}
 use Rattle.syntax65.specs.declared.lexing.tokens.AddressSize.{AddressSize}
 use Rattle.object65.specs.Objects.{section_limit}
 use Rattle.language65.specs.declared.fault.AsmFault.{AsmFault}
-use Rattle.language65.specs.declared.fault.AsmFault.TheVariants.{NoSuchScope, NotUnderstood, SectionTooLarge}
+use Rattle.language65.specs.declared.fault.AsmFault.TheVariants.{BadOperand, BadPart, NoSuchScope, NotUnderstood, SectionTooLarge}
+use Rattle.language65.specs.Faults.{is_memory}
 use Rattle.language65.specs.Laid.{Settled, Spot}
 use Rattle.language65.specs.Language.{Stated, align, constant, file_part, instruction, reserve, values}
 use Rattle.language65.specs.Layout.{Standing, multiple_of, own_size, size_stated, spot_of}
-use Rattle.language65.specs.LineFaults.{alignment_fault, block_fault, defined_twice, first_fault, form_fault, is_open, line_fault, lost_scopes, missing_file, opened_twice, operand_fault, or_then, part_fault, pop_fault, scope_name, size_fault, stands_outside, trees_of, unless_there, when}
+use Rattle.language65.specs.LineFaults.{alignment_fault, block_fault, defined_twice, file_limit, first_fault, form_fault, is_open, is_part, left_from, line_fault, lost_scopes, missing_file, opened_twice, operand_fault, or_then, part_fault, pop_fault, scope_name, size_fault, stands_outside, trees_of, unless_there, when}
 use Rattle.language65.specs.Names.{scope_from, scopes_of, shown}
-use Rattle.language65.specs.Sizes.{length_of, settled_of}
+use Rattle.language65.specs.Sizes.{counted, length_of, settled_of}
 use Rattle.language65.specs.Symbols.{Scope, Symbols, key_defined}
 use Rattle.module65.specs.Laying.{unless_fault}
 use Rattle.layout65.specs.declared.measuring.Measured as code
@@ -90,6 +92,32 @@ is_bare (reserve n v) = false
 is_bare (align n v) = false
 is_bare (file_part bytes start len) = false
 is_bare _ = true
+
+-- ---- Parts of files.
+
+-- a constant, or the default where none is named
+abbrev pub or_default : Option ℤ → ℤ → ℤ
+or_default None default = default
+or_default (Some v) default = v
+
+-- what is named was found to be constant, or isn't
+abbrev pub IsFound : (ℤ → Option ℤ) → Result (Option ℤ) AsmFault → Type 0
+IsFound value (Ok v) = (default : ℤ) → value default ≡ Some (or_default v default)
+IsFound value (Err e) =
+    Unless (is_memory e) ((e ≡ BadOperand) × ((default : ℤ) → value default ≡ None))
+
+-- a place among so many, or behind the last one
+abbrev pub is_within : ℕ → ℤ → Bool
+is_within count (pos n) = nat_le n count
+is_within count (negsuc n) = false
+
+-- whether a file of so many bytes has a part, and the part's start and length
+abbrev pub ranged : ℕ → Option ℤ → Option ℤ → Result (ℕ × ℕ) AsmFault
+ranged count start len =
+    let from : Option ℤ = Some (or_default start (pos 0)) in
+    let more : Option ℤ = Some (or_default len (left_from count from)) in
+    unless_fault (when (not (nat_le count file_limit && is_part count from more)) BadPart)
+    (counted from, counted more)
 
 -- what is settled stands apart from its faults
 abbrev pub any_settled : held.Settled → Unit {0}

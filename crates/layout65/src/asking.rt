@@ -38,7 +38,8 @@ pub fn asks_section(statement: &Statement) -> bool
         | Statement::Align {
             multiple: _,
             value: _,
-        } => true,
+        }
+        | Statement::FilePart { bytes: _, range: _ } => true,
         Statement::Constant { name: _, value } => has_here(value),
         Statement::Assert {
             value,

@@ -5,6 +5,7 @@ mod bytes;
 mod kinds;
 mod lost;
 mod names;
+mod parts;
 mod rooms;
 mod trees;
 
@@ -46,6 +47,8 @@ pub enum Settled {
     Form(Mode),
     /// The byte that fills room, where one is named.
     Filled(u8),
+    /// The byte of a file at which the part that is taken begins.
+    From(u32),
 }
 
 /// What a statement places and defines.

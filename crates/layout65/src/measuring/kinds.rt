@@ -15,6 +15,7 @@ ghost use Rattle.layout65.specs.Views.{standing_of};
 
 use super::blocks::{check_kept, check_proc, check_scope, check_segment};
 use super::bytes::{instruction, values};
+use super::parts::file_part;
 use super::rooms::{align, reserve};
 use super::{Before, Measured, nothing};
 use crate::standing::Standing;
@@ -128,6 +129,7 @@ pub fn place(
         Statement::Values { width, items } => values(before.standing, *width, items.as_slice()),
         Statement::Reserve { count, value } => reserve(alloc, before, known, count, value),
         Statement::Align { multiple, value } => align(alloc, before, known, multiple, value),
+        Statement::FilePart { bytes, range } => file_part(alloc, before, known, bytes, range),
         Statement::Constant { name: _, value } => constant(alloc, before, known, value),
         _ => without_bytes(before, statement),
     }

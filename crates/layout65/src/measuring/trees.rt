@@ -1,17 +1,17 @@
 //! The expressions of statements.
 
 ghost use Rattle.std.specs.Option.{option_map};
-ghost use Rattle.std.specs.Prelude.{[], ◌∷◌, map};
+ghost use Rattle.std.specs.Prelude.{[], ◌∷◌, ◌++◌, map};
 ghost use Rattle.syntax65.specs.Outcome.{Gives};
 ghost use Rattle.syntax65.specs.Trees.{tree_of};
 ghost use Rattle.language65.specs.Faults.{is_memory};
 ghost use Rattle.language65.specs.LineFaults.{item_trees, lost_scopes, operand_trees, optional_tree, trees_of};
-ghost use Rattle.language65.specs.Views.{item_of, operand_of, stated_of};
+ghost use Rattle.language65.specs.Views.{item_of, operand_of, range_of, stated_of};
 ghost use Rattle.module65.specs.Laying.{unless_fault};
 ghost use Rattle.symbols65.specs.Views.{table_of};
 
 use super::lost::check_scopes;
-use language65::{AsmFault, Item, Operand, Statement};
+use language65::{AsmFault, Item, Operand, PartRange, Statement};
 use std::alloc::Global;
 use symbols65::Symbols;
 use syntax65::Expr;
@@ -21,6 +21,21 @@ fn check_one(alloc: Global, symbols: &Symbols, scope: usize, value: &Expr) -> Re
         (table_of symbols.now).scopes scope (tree_of value.now ∷ [])) tt) }
 {
     check_scopes(alloc, symbols, scope, value)
+}
+
+fn check_optional(
+    alloc: Global,
+    symbols: &Symbols,
+    scope: usize,
+    value: &Option<Expr>,
+) -> Result<(), AsmFault>
+    ensures { Gives is_memory (λ u. u) result (unless_fault (lost_scopes
+        (table_of symbols.now).scopes scope (optional_tree (option_map tree_of value.now))) tt) }
+{
+    match value {
+        Some(value) => check_one(alloc, symbols, scope, value),
+        None => Ok(()),
+    }
 }
 
 fn check_two(
@@ -35,9 +50,22 @@ fn check_two(
         (tree_of value.now ∷ optional_tree (option_map tree_of other.now))) tt) }
 {
     check_scopes(alloc, symbols, scope, value)?;
-    match other {
-        Some(other) => check_one(alloc, symbols, scope, other),
-        None => Ok(()),
+    check_optional(alloc, symbols, scope, other)
+}
+
+fn check_range(
+    alloc: Global,
+    symbols: &Symbols,
+    scope: usize,
+    range: &PartRange,
+) -> Result<(), AsmFault>
+    ensures { Gives is_memory (λ u. u) result (unless_fault (lost_scopes
+        (table_of symbols.now).scopes scope
+        (optional_tree (range_of range.now).0 ++ optional_tree (range_of range.now).1)) tt) }
+{
+    match &range.start {
+        Some(start) => check_two(alloc, symbols, scope, start, &range.len),
+        None => check_optional(alloc, symbols, scope, &range.len),
     }
 }
 
@@ -113,6 +141,7 @@ pub fn check_trees(
         ),
         Statement::Reserve { count, value } => check_two(alloc, symbols, scope, count, value),
         Statement::Align { multiple, value } => check_two(alloc, symbols, scope, multiple, value),
+        Statement::FilePart { bytes: _, range } => check_range(alloc, symbols, scope, range),
         Statement::Assert {
             value,
             action: _,

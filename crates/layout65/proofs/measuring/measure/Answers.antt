@@ -9,7 +9,7 @@ use Rattle.layout65.specs.Views.{standing_of}
 use Rattle.layout65.specs.Measuring.{Measured, measured_of, naming_fault}
 use Rattle.language65.specs.Views.{stated_of}
 use Rattle.symbols65.specs.Views.{table_of}
-use Rattle.layout65.proofs.Measures.{measured_named, measured_refused, refused_same}
+use Rattle.layout65.proofs.Measures.{measured_named, measured_refused, refused_same, room_of}
 use Rattle.layout65.proofs.measuring.measure.Goals as goal
 
 pub returns-in_err-check_naming-clause-measured : goal.returns-in_err-check_naming-clause-measured
@@ -28,3 +28,6 @@ returns-clause-measured c =
     let w = standing_of c.args.before.standing.now in
     let P : Result Measured AsmFault → Type 0 = λ r. Gives is_memory measured_of c.place.result r in
     subst P (sym (measured_named before w x (ap (λ (s : Spot). unless_fault {A = Unit {0}} (naming_fault before s x) tt) (sym c.spot.ensures) ∙ c.in_ok-check_naming.ensures))) c.place.ensures.placed
+
+pub returns-clause-room : goal.returns-clause-room
+returns-clause-room c = room_of (table_of c.args.before.symbols.now) (standing_of c.args.before.standing.now) (stated_of c.args.statement.now) c.place.result c.place.ensures.placed

@@ -1,0 +1,101 @@
+-- What a part of a file places, or its first fault.
+use Rattle.std.proofs.Common.{◌≡◌, ◌∙◌, ℕ, ◌+◌, nat_le, nat_lt, Bool, true, false, not, List, [], ◌∷◌, length, Option, Some, None, refl, sym, ap, subst}
+use Rattle.std.specs.Prelude.{◌&&◌, ℤ, pos, Result, Ok, Err}
+use Rattle.object65.specs.Objects.{section_limit}
+use Rattle.syntax65.specs.Outcome.{Unless}
+use Rattle.syntax65.specs.Trees.{Tree}
+use Rattle.language65.specs.declared.fault.AsmFault.{AsmFault}
+use Rattle.language65.specs.declared.fault.AsmFault.TheVariants.{BadOperand, BadPart, FileNotFound, SectionTooLarge}
+use Rattle.language65.specs.Faults.{is_memory}
+use Rattle.language65.specs.Laid.{Spot, from_byte}
+use Rattle.language65.specs.Language.{file_part}
+use Rattle.language65.specs.Layout.{Standing, own_size, spot_of}
+use Rattle.language65.specs.LineFaults.{file_limit, first_fault, is_part, is_there, left_from, part_fault, unless_there, when}
+use Rattle.language65.specs.Sizes.{optional_value, part_len, part_start}
+use Rattle.language65.specs.Symbols.{Symbols}
+use Rattle.module65.specs.Laying.{unless_fault}
+use Rattle.layout65.specs.Measuring.{IsFound, Measured, or_default, placed, ranged}
+use Rattle.layout65.proofs.Steps.{unless_then}
+
+-- ---- Ranges.
+
+-- what a file of so many bytes refuses a part for
+abbrev range_fault : ℕ → Option ℤ → Option ℤ → Option AsmFault
+range_fault count start len =
+    let from : Option ℤ = Some (or_default start (pos 0)) in
+    when (not (nat_le count file_limit && is_part count from (Some (or_default len (left_from count from))))) BadPart
+
+abbrev refuses : ℕ → Option ℤ → Option ℤ → Bool → Option AsmFault
+refuses count from more few = when (not (few && is_part count from more)) BadPart
+
+-- ---- A part.
+
+and_false : (a b : Bool) → b ≡ false → (a && b) ≡ false
+and_false true b e = e
+and_false false b e = refl
+
+module _ (y : Symbols) (w : Standing) (start len : Option Tree) where
+  abbrev there : Bool
+  there = is_there (optional_value y (spot_of w) start (pos 0)) && is_there (optional_value y (spot_of w) len (pos 0))
+
+  -- by whether both are constant, the file is there, and it has the part
+  abbrev by_faults : Option (List ℕ) → Bool → Option AsmFault → Option AsmFault → Result Measured AsmFault
+  by_faults bytes constant missing bad =
+      let count : ℕ = part_len y (spot_of w) bytes start len in
+      unless_fault (first_fault (
+      None
+      ∷ when (not constant) BadOperand
+      ∷ None ∷ missing ∷ bad ∷ None ∷ None ∷ None
+      ∷ when (nat_lt section_limit ((spot_of w).offset + count)) SectionTooLarge
+      ∷ []))
+      (record { length = count; size = own_size w; multiple = 1; settled = from_byte (part_start y (spot_of w) start) })
+
+  not_constant : (bytes : Option (List ℕ)) → there ≡ false → placed y w (file_part bytes start len) ≡ Err BadOperand
+  not_constant bytes e = subst (λ b. by_faults bytes b (unless_there bytes FileNotFound) (part_fault y (spot_of w) (file_part bytes start len)) ≡ Err BadOperand) (sym e) refl
+
+module _ (y : Symbols) (w : Standing) (start len : Option Tree) (s : Spot) (at : s ≡ spot_of w) where
+  found_here : (value : Option Tree) (r : Result (Option ℤ) AsmFault) → IsFound (optional_value y s value) r → IsFound (optional_value y (spot_of w) value) r
+  found_here value r h = subst (λ (here : Spot). IsFound (optional_value y here value) r) at h
+
+  -- a start that isn't constant
+  pub bad_start : (bytes : Option (List ℕ)) (e : AsmFault) → IsFound (optional_value y s start) (Err e) → Unless (is_memory e) (placed y w (file_part bytes start len) ≡ Err e)
+  bad_start bytes e h =
+      unless_then (is_memory e)
+      (λ f. not_constant y w start len bytes (ap (λ k. is_there k && is_there (optional_value y (spot_of w) len (pos 0))) (f.1 (pos 0))) ∙ ap (λ d. Err d) (sym f.0))
+      (found_here start (Err e) h)
+
+  -- a length that isn't
+  pub bad_len : (bytes : Option (List ℕ)) (e : AsmFault) → IsFound (optional_value y s len) (Err e) → Unless (is_memory e) (placed y w (file_part bytes start len) ≡ Err e)
+  bad_len bytes e h =
+      unless_then (is_memory e)
+      (λ f. not_constant y w start len bytes (and_false (is_there (optional_value y (spot_of w) start (pos 0))) _ (ap is_there (f.1 (pos 0)))) ∙ ap (λ d. Err d) (sym f.0))
+      (found_here len (Err e) h)
+
+  module _ (v n : Option ℤ) (first : IsFound (optional_value y s start) (Ok v)) (second : IsFound (optional_value y s len) (Ok n)) where
+    from : (d : ℤ) → optional_value y (spot_of w) start d ≡ Some (or_default v d)
+    from = found_here start (Ok v) first
+
+    more : (d : ℤ) → optional_value y (spot_of w) len d ≡ Some (or_default n d)
+    more = found_here len (Ok n) second
+
+    both : there y w start len ≡ true
+    both = ap (λ k. is_there k && is_there (optional_value y (spot_of w) len (pos 0))) (from (pos 0)) ∙ ap is_there (more (pos 0))
+
+    fault_is : (bytes : List ℕ) → part_fault y (spot_of w) (file_part (Some bytes) start len) ≡ range_fault (length bytes) v n
+    fault_is bytes =
+        ap (λ k. refuses (length bytes) k (optional_value y (spot_of w) len (left_from (length bytes) k)) (nat_le (length bytes) file_limit)) (from (pos 0))
+        ∙ ap (λ k. refuses (length bytes) (Some (or_default v (pos 0))) k (nat_le (length bytes) file_limit)) (more (left_from (length bytes) (Some (or_default v (pos 0)))))
+
+    constant : (bytes : Option (List ℕ)) → placed y w (file_part bytes start len) ≡ by_faults y w start len bytes true (unless_there bytes FileNotFound) (part_fault y (spot_of w) (file_part bytes start len))
+    constant bytes = ap (λ b. by_faults y w start len bytes b (unless_there bytes FileNotFound) (part_fault y (spot_of w) (file_part bytes start len))) both
+
+    -- a part that the file hasn't
+    refused_so : (bytes : List ℕ) (e : AsmFault) → ranged (length bytes) v n ≡ Err e → placed y w (file_part (Some bytes) start len) ≡ Err e
+    refused_so bytes e h = constant (Some bytes) ∙ ap (λ f. by_faults y w start len (Some bytes) true None f) (fault_is bytes) ∙ by _ (range_fault (length bytes) v n) h
+      where
+        by : {A : Type 0} (x : A) (f : Option AsmFault) → unless_fault f x ≡ Err e → by_faults y w start len (Some bytes) true None f ≡ Err e
+        by x None h = absurd cc
+        by x (Some d) h = cc
+
+    pub refused : (bytes : List ℕ) (e : AsmFault) → Unless (is_memory e) (ranged (length bytes) v n ≡ Err e) → Unless (is_memory e) (placed y w (file_part (Some bytes) start len) ≡ Err e)
+    refused bytes e h = unless_then (is_memory e) (λ p. refused_so bytes e p) h

@@ -1,0 +1,117 @@
+//! Statements that place a part of a file.
+
+ghost use Rattle.std.specs.Prelude.{◌≡◌, ◌≤◌, IfOk, List, not, OnOk, Some, ℕ};
+ghost use Rattle.std.specs.Option.{option_map};
+ghost use Rattle.syntax65.specs.Outcome.{Gives};
+ghost use Rattle.syntax65.specs.Trees.{tree_of};
+ghost use Rattle.language65.specs.declared.fault.AsmFault.TheVariants.{BadPart};
+ghost use Rattle.language65.specs.Faults.{is_memory};
+ghost use Rattle.language65.specs.Language.{file_part};
+ghost use Rattle.language65.specs.LineFaults.{when};
+ghost use Rattle.language65.specs.Sizes.{counted, optional_value};
+ghost use Rattle.language65.specs.Views.{range_of, spot_of};
+ghost use Rattle.module65.specs.Laying.{unless_fault};
+ghost use Rattle.symbols65.specs.Resolving.{IsTable};
+ghost use Rattle.symbols65.specs.Views.{table_of};
+ghost use Rattle.layout65.specs.Measuring.{IsFound, is_within, measured_of, or_default, placed, ranged};
+ghost use Rattle.layout65.specs.Sounds.{IsSoundStanding};
+ghost use Rattle.layout65.specs.Views.{standing_of};
+
+use super::{Before, Measured, Settled, fit};
+use language65::{AsmFault, PartRange, Spot};
+use std::alloc::Global;
+use symbols65::{Known, Symbols, knowing};
+use syntax65::{Expr, Sequence};
+
+/// How many bytes a file has at most.
+const MAX_FILE: usize = 16_777_216;
+
+/// The value of an expression that has to be constant, if there is one.
+fn named(
+    alloc: Global,
+    symbols: &Symbols,
+    known: &mut Known,
+    spot: Spot,
+    value: &Option<Expr>,
+) -> Result<Option<i64>, AsmFault>
+    requires { IsTable (table_of symbols.now) known.old.states.items }
+    ensures found { IsFound (optional_value (table_of symbols.now) (spot_of spot)
+        (option_map tree_of value.now)) result }
+    ensures table { OnOk result (IsTable (table_of symbols.now) known.new.states.items) }
+{
+    let Some(value) = value else {
+        return Ok(None);
+    };
+    match knowing::constant(alloc, symbols, known, spot, value)? {
+        Some(value) => Ok(Some(value)),
+        None => Err(AsmFault::BadOperand),
+    }
+}
+
+/// A value as a place among so many, or behind the last one.
+fn place_in(count: usize, value: i64) -> Result<usize, AsmFault>
+    ensures place { Gives is_memory (λ n. n) result
+        (unless_fault (when (not (is_within count value)) BadPart) (counted (Some value))) }
+    ensures within { IfOk result (λ n. n ≤ count) }
+{
+    if 0 <= value && value as u64 <= count as u64 {
+        Ok(value as usize)
+    } else {
+        Err(AsmFault::BadPart)
+    }
+}
+
+fn or_default(value: Option<i64>, default: i64) -> i64
+    ensures { result ≡ or_default value default }
+{
+    match value {
+        Some(value) => value,
+        None => default,
+    }
+}
+
+/// The start and the length of a part of a file of so many bytes.
+fn ranged(count: usize, start: Option<i64>, len: Option<i64>) -> Result<(usize, usize), AsmFault>
+    ensures part { Gives is_memory (λ p. p) result (ranged count start len) }
+    ensures few { IfOk result (λ p. p.0 ≤ 16777216) }
+{
+    if count > MAX_FILE {
+        return Err(AsmFault::BadPart);
+    }
+    let start = place_in(count, or_default(start, 0))?;
+    let left = count - start;
+    let len = place_in(left, or_default(len, left as i64))?;
+    Ok((start, len))
+}
+
+/// What a part of a file places.
+pub fn file_part(
+    alloc: Global,
+    before: Before<'_>,
+    known: &mut Known,
+    bytes: &Option<Sequence<u8>>,
+    range: &PartRange,
+) -> Result<Measured, AsmFault>
+    requires table { IsTable (table_of before.symbols.now) known.old.states.items }
+    requires standing { IsSoundStanding before.standing.now }
+    ensures placed { Gives is_memory measured_of result (placed
+        (table_of before.entry.symbols.now) (standing_of before.entry.standing.now)
+        (file_part bytes.now (range_of range.now).0 (range_of range.now).1)) }
+    ensures table { OnOk result
+        (IsTable (table_of before.entry.symbols.now) known.new.states.items) }
+{
+    let spot = before.standing.spot();
+    let start = named(alloc, before.symbols, known, spot, &range.start)?;
+    let len = named(alloc, before.symbols, known, spot, &range.len)?;
+    let Some(bytes) = bytes else {
+        return Err(AsmFault::FileNotFound);
+    };
+    let (start, len) = ranged(bytes.len(), start, len)?;
+    let length = fit(before.standing, len)?;
+    Ok(Measured {
+        length,
+        size: before.standing.segment().size,
+        multiple: 1,
+        settled: Settled::From(start as u32),
+    })
+}

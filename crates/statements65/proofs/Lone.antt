@@ -20,7 +20,7 @@ phrase ts t h =
 
 -- a number that no operator follows is an expression
 pub alone : (ts : List Lexeme) (v : ℕ) → opening_at ts 0 ≡ Number v → binary_at ts 1 ≡ None → IsParsed ts (Ok (number v, 1))
-alone ts v o e = record { phrase = phrase ts (number v) (ap (λ x. leaf_of x (text_at ts 0)) o); ends = no_operator ts e; }
+alone ts v o e = record { phrase = phrase ts (number v) (ap (λ x. leaf_of x (text_at ts 0)) o); ends = no_operator ts e }
 
 pub alone_if : (o : Option ℕ) (all behind : List Token) (first : Token) → all ≡ first ∷ behind → IfSome o (λ v. opening_in (Some (lexeme_of first)) ≡ Number v) → binary_at (lexemes behind) 0 ≡ None → IfSome o (λ v. IsParsed (lexemes all) (Ok (number v, 1)))
 alone_if None all behind first e n b = tt

@@ -1,6 +1,6 @@
 //! Lists of data.
 
-ghost use Rattle.std.specs.Prelude.{◌≡◌, false, map, IfErr};
+ghost use Rattle.std.specs.Prelude.{◌≡◌, [], false, map, IfErr, IfOk};
 ghost use Rattle.syntax65.specs.Relations.{Answers};
 ghost use Rattle.syntax65.specs.Tokens.{lexemes};
 ghost use Rattle.language65.specs.Faults.{is_failure, is_outside};
@@ -11,7 +11,7 @@ use super::parts::{expression, first_part};
 use super::tokens::{copy_of, string_of};
 use super::words::Elements;
 use language65::{AsmFault, Item};
-use std::alloc::Global;
+use std::alloc::{AllocError, Global};
 use syntax65::{Sequence, Token};
 
 /// An element that is a value.
@@ -37,6 +37,13 @@ fn item(alloc: Global, elements: Elements, tokens: &[Token<'_>]) -> Result<Item,
     }
 }
 
+/// No elements, with room for those of so many tokens: a comma stands between each two.
+fn no_items(alloc: Global, count: usize) -> Result<Sequence<Item>, AllocError>
+    ensures { IfOk result (λ items. items ≡ []) }
+{
+    Ok(Sequence::from_vec(Vec::with_capacity(alloc, count / 2 + 1)?))
+}
+
 /// The elements of a list, with a comma between each two.
 pub fn items(
     alloc: Global,
@@ -46,7 +53,7 @@ pub fn items(
     ensures value { Answers is_outside (λ items. map item_of items) result (EachIs (IsItem elements) (parts_of (lexemes tokens.now))) }
     ensures inside { IfErr result (λ e. is_failure e ≡ false) }
 {
-    let mut items = Sequence::new(alloc);
+    let mut items = no_items(alloc, tokens.len())?;
     let mut rest = Some(tokens);
     'parts: while let Some(left) = rest {
         let (part, behind) = first_part(left);

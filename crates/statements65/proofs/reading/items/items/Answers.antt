@@ -8,7 +8,7 @@ use Rattle.statements65.proofs.reading.items.items.Goals as goal
 
 pub returns-in_err-item-clause-value : goal.returns-in_err-item-clause-value
 returns-in_err-item-clause-value c =
-    stops (IsItem c.args.elements) (parts_of (lexemes c.args.tokens.now)) (map item_of c.parts.items) (lexemes c.first_part.result.0.now) (parts_left c.first_part.result.1) (λ items. map item_of items) c.from_residual.result c.in_err-item.field-0.0 c.from_residual.ensures.1 c.in_err-item.ensures.value
+    stops (IsItem c.args.elements) (parts_of (lexemes c.args.tokens.now)) (map item_of c.parts.items) (lexemes c.first_part.result.0.now) (parts_left c.first_part.result.1) (λ items. map item_of items) c.from_residual-in_err-item.result c.in_err-item.field-0.0 c.from_residual-in_err-item.ensures.1 c.in_err-item.ensures.value
     (taken (IsItem c.args.elements) (parts_of (lexemes c.args.tokens.now)) (map item_of c.parts.items) c.parts.rest c.in-Some.left (lexemes c.first_part.result.0.now) (parts_left c.first_part.result.1) c.in-Some.is c.first_part.ensures.parts c.parts.invariant)
 
 pub parts-preserved : goal.parts-preserved

@@ -1,12 +1,14 @@
 #!/usr/bin/env python3
-"""Evaluates programs of several modules as one program, and compares the images with those of separate assembly and linking.
+"""Evaluates programs of several modules as one program, and compares their images with those of separate assembly and
+linking.
 
 An image is evaluated from the sources alone (whole/): for each segment one list of the statements of all modules, the
-address of each statement, and the value of each expression by its tree. No object is made there; only how long a statement
-is goes by what its own module knows at its line. The programs are the cases of tests/cases that link sources which
-whole/sources.py can read, and random ones.
+address of each statement, and the value of each expression by its tree. No object is made there; only how long a
+statement is goes by what its own module knows at its line. The programs are the cases of tests/cases that link sources
+which whole/sources.py can read, and random ones.
 
-usage: one_program.py BIN65 [SEED]. Both have to make the same files, or both to refuse. The last line is 'N passed, M failed'."""
+usage: one_program.py BIN65 [SEED]. Both have to make the same files, or both to refuse. The last line is
+'N passed, M failed'."""
 
 import glob
 import os

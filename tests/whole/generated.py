@@ -13,24 +13,26 @@ GRAMMAR = {
     "sign": ["-", "~", "<", ">", "^", "+", ".lobyte "],
     "operator": "+ - + - * & ^ | = <> < > <= >= && .xor ||".split(),
     "digit": list("0123456789"),
-    "number": ["[digit]", "$[digit][digit]", "$[digit]F[digit][digit]", "%1011", "65[digit][digit][digit]", "$FFFFFFFF"],
+    "number": ["[digit]", "$[digit][digit]", "$[digit]F[digit][digit]", "%1011", "65[digit][digit][digit]",
+               "$FFFFFFFF"],
     "fill": ["", "", ", 1[digit]", ", 23[digit]"],
     "byte": ["<[operand]", "<[operand]", ">([tree])", "2[digit]", "([tree]) & 255", "!([tree])"],
     "mnemonic": ["lda", "sta", "inc", "ldx", "jsr", "asl", "cmp"],
     "index": ["", "", ",x"],
     "line": [
-        "nop", ".byte [byte], [byte]", '.byte "ab", [byte]', ".word ([tree]) & $FFFF", ".word [label]", ".dbyt <[operand]",
-        ".dword ([tree]) & $FFFFFFFF", "lda #[byte]", "[mnemonic] ([tree]) & $FFF".replace("] (", "] 0+("), "[mnemonic] [operand] & $FFFF",
-        "lda [label][index]", "lda a:[label][index]", "lda $20[index]", "lda (2[digit]),y", "jmp ([label])", "k[count] = [tree]",
-        ".res [digit][fill]", ".align 1[fill]", ".align 2[fill]", ".align 4[fill]", ".align 16[fill]", ".res * - * + [digit]",
+        "nop", ".byte [byte], [byte]", '.byte "ab", [byte]', ".word ([tree]) & $FFFF", ".word [label]",
+        ".dbyt <[operand]", ".dword ([tree]) & $FFFFFFFF", "lda #[byte]", "[mnemonic] 0 + ([tree]) & $FFF",
+        "[mnemonic] [operand] & $FFFF", "lda [label][index]", "lda a:[label][index]", "lda $20[index]",
+        "lda (2[digit]),y", "jmp ([label])", "k[count] = [tree]", ".res [digit][fill]", ".res * - * + [digit]",
+        ".align 1[fill]", ".align 2[fill]", ".align 4[fill]", ".align 16[fill]",
         ".assert ([tree]) = ([tree]), warning", ".assert (([tree]) & 255) < 256, error",
     ],
     "block": [
-        "lda [zp]\nlda ([zp]),y\nldx z:[zp],y\n.byte [zp], <[zp]", "[newlabel]: nop\n@q: .word @q & $FFFF\nbne @q", "[known]",
+        "lda [zp]\nlda ([zp]),y\nldx z:[zp],y\n.byte [zp], <[zp]", "[newlabel]: nop\n@q: .word @q & $FFFF\nbne @q",
         "[newlabel]:\n[line]", "[newlabel]:\n[line]\n[line]", "[newlabel]: [line]\n[line]", '.segment "[segment]"',
         '.segment "[segment]"\n[newlabel]: [line]', "bne :+\n: nop\n.byte <:-, [byte]\n: bcs :-",
         ".pushseg\n.zeropage\n[newlabel]: .res 2\n.popseg", ".pushseg\n.bss\n[newlabel]: .res [digit]\n.popseg",
-        "[scoped]",
+        "[known]", "[scoped]",
     ],
     "segment": ["CODE", "CODE", "DATA", "RODATA", "BSS", "ZEROPAGE", "EXTRA"],
 }
@@ -128,7 +130,7 @@ class Source:
         return found
 
     def export(self, name):
-        """A name that the module exports: a label, or a constant that an earlier export leads to, so that none is needed for itself."""
+        """A name that the module exports: a label, or a constant by an earlier export, so that there is no circle."""
         if self.chance.randrange(2):
             return [f"{name}:", self.filled("[line]")]
         earlier = [it for it in [*self.own, *self.others] if int(it[1:]) < int(name[1:])]
@@ -149,10 +151,12 @@ class Source:
 
 def script(chance):
     return (MEMORY + SEGMENTS).format(
-        ram=chance.choice(['""', '"ram"']), start=chance.choice(["$8000", "$8001", "$9003"]), fill=chance.choice(["yes", "no"]),
+        ram=chance.choice(['""', '"ram"']), start=chance.choice(["$8000", "$8001", "$9003"]),
+        fill=chance.choice(["yes", "no"]),
         byte=chance.randrange(256), top=chance.choice(["%O", '"top"', '""']), align=chance.choice([1, 2, 8]),
         other=chance.randrange(256), load=chance.choice([1, 4, 5]), area=chance.choice(["ROM", "TOP"]),
-        begin=chance.choice(["", "", "align = 16, "]), offset=chance.choice(["$100", "$180"]), soft=chance.randrange(300),
+        begin=chance.choice(["", "", "align = 16, "]), offset=chance.choice(["$100", "$180"]),
+        soft=chance.randrange(300),
     )
 
 

@@ -1,12 +1,12 @@
-"""The statements of a module, each with what it lies by: scope, region, segment, and how long it is by what is known at its
-line."""
+"""The statements of a module, each with what it lies by: scope, region, segment, and how long it is by what is known at
+its line."""
 
 from whole.sources import OPCODES, Refused, statements, value1, value2, wrapped
 
 LENGTHS = {"byte": 1, "word": 2, "dbyt": 2, "dword": 4, "branch": 1}
 WIDTHS = {"implied": None, "accumulator": None, "absolute": "word", "absolute_x": "word", "absolute_y": "word",
           "indirect": "word", "relative": "branch"}
-# Statements that ask for a section of the segment in which it stands.
+# What asks for a section of the segment in which it stands.
 ASKING = {"label", "cheap", "unnamed", "proc", "instruction", "data", "res", "align"}
 
 
@@ -29,6 +29,12 @@ class Statement:
         self.offset = module.ends.get(module.segment, 0)
         self.length, self.multiple, self.size, self.form, self.fill = 0, 1, module.sizes[module.segment], None, None
 
+    def key(self):
+        """By what the statement's definition is found, if it makes one."""
+        if self.kind in ("label", "constant", "proc"):
+            return self.scope, self.parts[0]
+        return {"cheap": ("cheap", self.region, *self.parts), "unnamed": ("unnamed", self.unnamed)}.get(self.kind)
+
     def expressions(self):
         """Those whose values the image rests on, whoever uses them."""
         if self.kind == "instruction":
@@ -38,8 +44,9 @@ class Statement:
         return [self.parts[0]] if self.kind == "assert" else []
 
     def asks(self):
-        here = self.kind in ("constant", "assert") and any(("here",) == it for it in operands(self.parts[self.kind == "constant"]))
-        return here or self.kind in ASKING
+        """Whether there has to be a section of the segment in which it stands."""
+        e = {"constant": self.parts[1:2], "assert": self.parts[:1]}.get(self.kind, [])
+        return self.kind in ASKING or ("here",) in [it for tree in e for it in operands(tree)]
 
 
 class Module:
@@ -193,8 +200,7 @@ class Module:
 
     def lay(self, s):
         self.measure(s)
-        key = {"label": (s.scope, *s.parts), "constant": (s.scope, s.parts[0] if s.parts else 0), "proc": (s.scope, *s.parts),
-               "cheap": ("cheap", s.region, *s.parts), "unnamed": ("unnamed", s.unnamed)}.get(s.kind)
+        key = s.key()
         if key in self.definitions:
             raise Refused("defined twice")
         if key:

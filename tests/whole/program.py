@@ -111,7 +111,8 @@ class Program:
             return bytes([OPCODES[s.parts[0], s.form]]) + self.operand(owner, s)
         if s.kind == "data":
             width, items = s.parts
-            return b"".join(it if isinstance(it, bytes) else self.stored(width, self.value(owner, s, it)) for it in items)
+            values = (it if isinstance(it, bytes) else self.stored(width, self.value(owner, s, it)) for it in items)
+            return b"".join(values)
         return bytes([fill if s.fill is None else s.fill]) * room
 
     def segment_bytes(self, name, fill):
@@ -152,7 +153,8 @@ class Program:
         self.check_said()
         files = {}
         for area in self.script.areas.values():
-            rows = [(row, contents[name]) for name, row in self.script.rows.items() if row.load_area is area and row.is_written]
+            loaded = [it for it in self.script.rows.items() if it[1].load_area is area and it[1].is_written]
+            rows = [(row, contents[name]) for name, row in loaded]
             name = output if area.file is None else area.file
             if name:
                 files[name] = files.get(name, b"") + area_file(area, rows)
@@ -169,8 +171,8 @@ def area_file(area, rows):
 
 
 def selected(modules, library, script):
-    """The members of a library that the modules before it need: the first exporters of the least set of names that has those
-    that are open, and with each name what its first exporter needs and isn't defined."""
+    """The members of a library that the modules before it need: the first exporters of the least set of names that has
+    those that are open, and with each name what its first exporter needs and isn't defined."""
     defined = {name for name, value in script.names()} | {name for module in modules for name in module.exports}
     left = [*script.imports, *(name for module in modules for name in module.needs())]
     chosen, seen = set(), set()

@@ -4,7 +4,10 @@ import re
 
 from whole.sources import Refused
 
-TOKEN = re.compile(r"[ \t\r\n]+|#.*|(?P<name>[A-Za-z_]\w*)|(?P<number>\d+|\$[0-9A-Fa-f]+)|\"(?P<string>[^\"\n%]*)\"|(?P<output>%O)|(?P<sign>[{}:;,=])")
+TOKEN = re.compile(
+    r"[ \t\r\n]+|#.*|(?P<name>[A-Za-z_]\w*)|(?P<number>\d+|\$[0-9A-Fa-f]+)|\"(?P<string>[^\"\n%]*)\"|(?P<output>%O)"
+    r"|(?P<sign>[{}:;,=])"
+)
 NUMBERS = {"start", "size", "fillval", "align", "align_load", "offset", "value"}
 
 
@@ -73,7 +76,7 @@ class Row:
 
 
 class Script:
-    """Areas and rows by their names, in their order; names that the script exports, wants, or gives where nothing else does."""
+    """Areas and rows by their names, in their order; names that it exports, wants, or gives where nothing else does."""
 
     def __init__(self, text):
         blocks, left = {"MEMORY": {}, "SEGMENTS": {}, "SYMBOLS": {}}, tokens(text)
@@ -82,17 +85,19 @@ class Script:
         self.areas = {name: Area(**it) for name, it in blocks["MEMORY"].items()}
         self.rows = {name: Row(self.areas, **it) for name, it in blocks["SEGMENTS"].items()}
         symbols = blocks["SYMBOLS"].items()
-        self.exports, self.weak = ({name: it["value"] for name, it in symbols if it["type"] == kind} for kind in ("export", "weak"))
+        self.exports = {name: it["value"] for name, it in symbols if it["type"] == "export"}
+        self.weak = {name: it["value"] for name, it in symbols if it["type"] == "weak"}
         self.imports = [name for name, it in symbols if it["type"] == "import"]
 
     def names(self):
         """The names that it gives, with their values once the rows are placed."""
         for name, it in self.areas.items():
             if it.defines:
-                yield from {f"__{name}_START__": it.start, f"__{name}_SIZE__": it.size, f"__{name}_LAST__": it.last}.items()
+                yield from [(f"__{name}_START__", it.start), (f"__{name}_SIZE__", it.size)]
+                yield f"__{name}_LAST__", it.last
         for name, it in self.rows.items():
             if it.defines:
-                yield from {f"__{name}_LOAD__": it.load, f"__{name}_RUN__": it.run, f"__{name}_SIZE__": it.size}.items()
+                yield from [(f"__{name}_LOAD__", it.load), (f"__{name}_RUN__", it.run), (f"__{name}_SIZE__", it.size)]
         yield from self.exports.items()
 
     def place(self, sizes):
@@ -113,6 +118,7 @@ class Script:
                     raise Refused(f"start below what is placed: {name}")
                 if begin + row.size > area.end:
                     raise Refused(f"overflow of {area_name} by {begin + row.size - area.end} bytes")
-                row.run, row.load = begin if area is row.run_area else row.run, begin if area is row.load_area else row.load
+                row.run = begin if area is row.run_area else row.run
+                row.load = begin if area is row.load_area else row.load
                 cursor = begin + row.size
             area.last = cursor

@@ -2,11 +2,10 @@
 
 ghost use Rattle.std.specs.Prelude.{◌≡◌, ◌<◌, ◌≤◌, IfOk, IfSome, map};
 ghost use Rattle.syntax65.specs.Store.{NoneFailed};
-ghost use Rattle.line65.specs.Line.{archiving, assembling, line_of, linking, view};
+ghost use Rattle.line65.specs.Line.{archiving, assembling, linking, view};
 ghost use Rattle.line65.specs.Messages.{memory_line};
 ghost use Rattle.tools65.specs.Archives.{Archives};
 ghost use Rattle.tools65.specs.Command.{outcome_of, Ran, Assembles, Does, DoesLine, Commands, line_memory};
-ghost use Rattle.tools65.specs.OneProgram.{LineLinksWhole, WordsLinkWhole};
 ghost use Rattle.ld65.specs.Refusals.{memory_message};
 
 use crate::archiving::archive_outcome;
@@ -142,8 +141,6 @@ pub fn run_line<S: Store, W: Write, E: Write>(
 ) -> Status
     ensures done { IfSome (S.files store.old) (λ m. NoneFailed (S.failures store.old) (S.failures store.new) →
         Ran (DoesLine (view line.now)) (line_memory (view line.now)) m (S.files store.new) (W.contents out.old) (W.contents out.new) (E.contents err.old) (E.contents err.new) result) }
-    ensures one_program { IfSome (S.files store.old) (λ m. NoneFailed (S.failures store.old) (S.failures store.new) →
-        LineLinksWhole (view line.now) m (S.files store.new) (W.contents out.old) (W.contents out.new) (E.contents err.old) (E.contents err.new) result) }
     ensures later { S.failures store.old ≤ S.failures store.new }
     ensures rose { S.failures store.old < S.failures store.new → result ≡ Status.Failure }
 {
@@ -164,8 +161,6 @@ pub fn run<A: AsStr, S: Store, W: Write, E: Write>(
 ) -> Status
     ensures done { IfSome (S.files store.old) (λ m. NoneFailed (S.failures store.old) (S.failures store.new) →
         Commands (map A.text words.now) m (S.files store.new) (W.contents out.old) (W.contents out.new) (E.contents err.old) (E.contents err.new) result) }
-    ensures one_program { IfSome (S.files store.old) (λ m. NoneFailed (S.failures store.old) (S.failures store.new) →
-        WordsLinkWhole (line_of (map A.text words.now)) m (S.files store.new) (W.contents out.old) (W.contents out.new) (E.contents err.old) (E.contents err.new) result) }
     ensures later { S.failures store.old ≤ S.failures store.new }
     ensures rose { S.failures store.old < S.failures store.new → result ≡ Status.Failure }
 {

@@ -107,7 +107,7 @@ module _ (m : Files) (new : Option Files) (out_old out_new err_old err_new : Opt
   links_whole : (line : Says) (l : Linking) → Ran (DoesLine line) (line_memory line) m new out_old out_new err_old err_new status → line ≡ link l → LinksWhole l m new out_old out_new err_old err_new status
   links_whole line l ran same s xs k =
       let there : Ran (Does l) memory_message m new out_old out_new err_old err_new status =
-          subst (λ (z : Says). Ran (DoesLine z) (line_memory z) m new out_old out_new err_old err_new status) same ran in
+      subst (λ (z : Says). Ran (DoesLine z) (line_memory z) m new out_old out_new err_old err_new status) same ran in
       writes_whole l m s xs k new out_old out_new err_old err_new status there
 
   line_links : (line : Says) → Ran (DoesLine line) (line_memory line) m new out_old out_new err_old err_new status → LineLinksWhole line m new out_old out_new err_old err_new status

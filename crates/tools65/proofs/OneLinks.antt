@@ -61,7 +61,7 @@ module _ (l : Linking) (m : Files) (s : Script) (text : List ℕ) (file : get m 
   by_script : (r : Result Linked Refusal) → IsLinked m l r → IsLinkedBy m l s r
   by_script r h =
       let there : First (text_of (Some text)) (λ text u. (q : Result Script ScriptFault) × IsScript text q × First (as_script q) (IsLinkedBy m l) u) r =
-          subst (λ (f : Option (List ℕ)). First (text_of f) (λ text u. (q : Result Script ScriptFault) × IsScript text q × First (as_script q) (IsLinkedBy m l) u) r) file h in
+      subst (λ (f : Option (List ℕ)). First (text_of f) (λ text u. (q : Result Script ScriptFault) × IsScript text q × First (as_script q) (IsLinkedBy m l) u) r) file h in
       let same : there.0 ≡ Ok s = one_reading text there.0 (Ok s) there.1 script in
       subst (λ (q : Result Script ScriptFault). First (as_script q) (IsLinkedBy m l) r) same there.2
 

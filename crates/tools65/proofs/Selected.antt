@@ -58,13 +58,13 @@ names_front s a b e =
     let front = exports_front 0 a b in
     let named : List Exported → List (List ℕ) = λ es. script_names s ++ map (λ (x : Exported). x.name) es in
     let split : named (linked_exports 0 a ++ front.0) ≡ named (linked_exports 0 a) ++ map (λ (x : Exported). x.name) front.0 =
-        ap (λ z. script_names s ++ z) (map-append (λ (x : Exported). x.name) (linked_exports 0 a) front.0)
-        ∙ sym (append_assoc (script_names s) (map (λ (x : Exported). x.name) (linked_exports 0 a)) (map (λ (x : Exported). x.name) front.0)) in
+    ap (λ z. script_names s ++ z) (map-append (λ (x : Exported). x.name) (linked_exports 0 a) front.0)
+    ∙ sym (append_assoc (script_names s) (map (λ (x : Exported). x.name) (linked_exports 0 a)) (map (λ (x : Exported). x.name) front.0)) in
     let all : first_again [] (named (program_of (a ++ b)).exports) ≡ None = (none_again (first_again [] (given_names s (program_of (a ++ b))))).0 e in
     let same : named (program_of (a ++ b)).exports ≡ named (linked_exports 0 a) ++ map (λ (x : Exported). x.name) front.0 =
-        ap named (exports_are (a ++ b) ∙ front.1) ∙ split in
+    ap named (exports_are (a ++ b) ∙ front.1) ∙ split in
     let first : first_again [] (named (linked_exports 0 a)) ≡ None =
-        front_once [] (named (linked_exports 0 a)) (map (λ (x : Exported). x.name) front.0) (subst (λ names. first_again [] names ≡ None) same all) in
+    front_once [] (named (linked_exports 0 a)) (map (λ (x : Exported). x.name) front.0) (subst (λ names. first_again [] names ≡ None) same all) in
     (none_again (first_again [] (given_names s (program_of a)))).1 (subst (λ es. first_again [] (named es) ≡ None) (sym (exports_are a)) first)
 
 -- ---- One object.
@@ -123,7 +123,7 @@ module _ (s : Script) (m : Files) where
       let assoc : (before ++ x ∷ []) ++ ms ≡ before ++ x ∷ ms = append_assoc before (x ∷ []) ms in
       let all : names_once s (program_of ((before ++ x ∷ []) ++ ms)) ≡ Ok tt = subst (λ z. names_once s (program_of z) ≡ Ok tt) (sym assoc) once in
       let first : with_member s m library before e ≡ Ok (before ++ x ∷ []) =
-          module_added before (member_input library e) x h.0 (names_front s (before ++ x ∷ []) ms all) (refusal_in (member_module library e.name)) in
+      module_added before (member_input library e) x h.0 (names_front s (before ++ x ∷ []) ms all) (refusal_in (member_module library e.name)) in
       ap (λ q. q >>= (λ zs. with_members s m library zs es)) first
       ∙ members_added library (before ++ x ∷ []) es ms h.1 all
       ∙ ap modules assoc

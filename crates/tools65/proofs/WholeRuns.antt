@@ -19,7 +19,7 @@ use Rattle.ld65.specs.Linkage.{IsLinked, output_of}
 use Rattle.ld65.specs.Refusals.{memory_message}
 use Rattle.tools65.specs.Command.{Commands, Does, DoesLine, Ran, RanWords, line_memory, outcome_of}
 use Rattle.tools65.specs.Leaving.{Performs, Settles, StopsShort, apply}
-use Rattle.tools65.specs.OneProgram.{HasFiles, LineLinksWhole, LinksWhole, SelectsSources, Source, WholeOf, WordsLinkWhole, WritesWhole, WroteFiles}
+use Rattle.tools65.specs.OneProgram.{HasFiles, LineLinksWhole, LineRunsLaw, LinksWhole, RunsLaw, SelectsSources, Source, WholeOf, WordsLinkWhole, WritesWhole, WroteFiles}
 use Rattle.tools65.specs.Outputs.{failing, with_map}
 use Rattle.tools65.specs.declared.outcome.Outcome.{Outcome}
 use Rattle.tools65.specs.declared.outcome.Status.{Status}
@@ -104,18 +104,29 @@ module _ (l : Linking) (m : Files) (s : Script) (xs : List Source) (k : SelectsS
 -- ---- Lines and words.
 
 module _ (m : Files) (new : Option Files) (out_old out_new err_old err_new : Option (List ℕ)) (status : Status) where
-  line_links : (line : Says) → Ran (DoesLine line) (line_memory line) m new out_old out_new err_old err_new status → LineLinksWhole line m new out_old out_new err_old err_new status
-  line_links line ran l same s xs k =
+  links_whole : (line : Says) (l : Linking) → Ran (DoesLine line) (line_memory line) m new out_old out_new err_old err_new status → line ≡ link l → LinksWhole l m new out_old out_new err_old err_new status
+  links_whole line l ran same s xs k =
       let there : Ran (Does l) memory_message m new out_old out_new err_old err_new status =
-          subst (λ (z : Says). Ran (DoesLine z) (line_memory z) m new out_old out_new err_old err_new status) same ran in
+      subst (λ (z : Says). Ran (DoesLine z) (line_memory z) m new out_old out_new err_old err_new status) same ran in
       writes_whole l m s xs k new out_old out_new err_old err_new status there
 
+  line_links : (line : Says) → Ran (DoesLine line) (line_memory line) m new out_old out_new err_old err_new status → LineLinksWhole line m new out_old out_new err_old err_new status
+  unfolding LineLinksWhole
+  line_links line ran l same = links_whole line l ran same
+
+  either : (l : Linking) → RanWords (Ok (link l)) m new out_old out_new err_old err_new status → LinksWhole l m new out_old out_new err_old err_new status ⊎ Performs (failing line_memory_message) m new out_old out_new err_old err_new status
+  either l (inl ran) = inl (links_whole (link l) l ran refl)
+  either l (inr p) = inr p
+
   words_link : (words : Result Says LineFault) → RanWords words m new out_old out_new err_old err_new status → WordsLinkWhole words m new out_old out_new err_old err_new status
-  words_link words ran l same = go (subst (λ (z : Result Says LineFault). RanWords z m new out_old out_new err_old err_new status) same ran)
-    where
-      go : RanWords (Ok (link l)) m new out_old out_new err_old err_new status → LinksWhole l m new out_old out_new err_old err_new status ⊎ Performs (failing line_memory_message) m new out_old out_new err_old err_new status
-      go (inl ran) = inl (line_links (link l) ran l refl)
-      go (inr p) = inr p
+  unfolding WordsLinkWhole
+  words_link words ran l same = either l (subst (λ (z : Result Says LineFault). RanWords z m new out_old out_new err_old err_new status) same ran)
+
+pub words_law : RunsLaw
+words_law words m new out_old out_new err_old err_new status ran = words_link m new out_old out_new err_old err_new status (line_of words) ran
+
+pub lines_law : LineRunsLaw
+lines_law line m new out_old out_new err_old err_new status ran = line_links m new out_old out_new err_old err_new status line ran
 
 -- a line that was run
 pub line_whole : (known new : Option Files) (fo fn : ℕ) (line : Says) (out_old out_new err_old err_new : Option (List ℕ)) (status : Status) → IfSome known (λ m. NoneFailed fo fn → Ran (DoesLine line) (line_memory line) m new out_old out_new err_old err_new status) → IfSome known (λ m. NoneFailed fo fn → LineLinksWhole line m new out_old out_new err_old err_new status)

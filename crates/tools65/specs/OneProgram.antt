@@ -19,7 +19,7 @@ use Rattle.link65.specs.Standing.{agrees_with, module_of}
 use Rattle.linkage65.specs.declared.linked.OutputFile.{OutputFile}
 use Rattle.whole65.specs.Equality.{IsLinkedTo}
 use Rattle.whole65.specs.Whole.{Whole}
-use Rattle.line65.specs.Line.{Linking, Says, link}
+use Rattle.line65.specs.Line.{Linking, Says, line_of, link}
 use Rattle.line65.specs.Messages.{line_memory_message}
 use Rattle.line65.specs.declared.fault.LineFault.{LineFault}
 use Rattle.ld65.specs.Linkage.{ByKind, Input, chosen, file_input, index_in, is_library_in, member_input, object_in, output_of}
@@ -27,7 +27,7 @@ use Rattle.ld65.specs.Refusals.{memory_message}
 use Rattle.tools65.specs.declared.outcome.Outcome.{Outcome}
 use Rattle.tools65.specs.declared.outcome.Status.{Status}
 use Rattle.tools65.specs.declared.outcome.Status.TheVariants.{Success}
-use Rattle.tools65.specs.Command.{Ran}
+use Rattle.tools65.specs.Command.{Commands, DoesLine, Ran, line_memory}
 use Rattle.tools65.specs.Leaving.{Performs, apply}
 use Rattle.tools65.specs.Outputs.{failing, with_map}
 
@@ -134,12 +134,23 @@ LinksWhole l m new out_old out_new err_old err_new status =
     (s : Script) (xs : List Source) → SelectsSources l m s xs → WritesWhole l s xs m new out_old out_new err_old err_new status
 
 -- where a line is a link of sources' objects
-abbrev pub LineLinksWhole : Says → Files → Option Files → Option (List ℕ) → Option (List ℕ) → Option (List ℕ) → Option (List ℕ) → Status → Type 0
+unfoldable pub LineLinksWhole : Says → Files → Option Files → Option (List ℕ) → Option (List ℕ) → Option (List ℕ) → Option (List ℕ) → Status → Type 0
 LineLinksWhole line m new out_old out_new err_old err_new status =
     (l : Linking) → line ≡ link l → LinksWhole l m new out_old out_new err_old err_new status
 
 -- where words are such a line, unless memory ran out before they were one
-abbrev pub WordsLinkWhole : Result Says LineFault → Files → Option Files → Option (List ℕ) → Option (List ℕ) → Option (List ℕ) → Option (List ℕ) → Status → Type 0
+unfoldable pub WordsLinkWhole : Result Says LineFault → Files → Option Files → Option (List ℕ) → Option (List ℕ) → Option (List ℕ) → Option (List ℕ) → Status → Type 0
 WordsLinkWhole words m new out_old out_new err_old err_new status =
     (l : Linking) → words ≡ Ok (link l)
     → LinksWhole l m new out_old out_new err_old err_new status ⊎ Performs (failing line_memory_message) m new out_old out_new err_old err_new status
+
+-- What a run of words or of a line does by its command, it does so.
+abbrev pub RunsLaw : Type 0
+RunsLaw =
+    (words : List (List ℕ)) (m : Files) (new : Option Files) (out_old out_new err_old err_new : Option (List ℕ)) (status : Status) →
+    Commands words m new out_old out_new err_old err_new status → WordsLinkWhole (line_of words) m new out_old out_new err_old err_new status
+
+abbrev pub LineRunsLaw : Type 0
+LineRunsLaw =
+    (line : Says) (m : Files) (new : Option Files) (out_old out_new err_old err_new : Option (List ℕ)) (status : Status) →
+    Ran (DoesLine line) (line_memory line) m new out_old out_new err_old err_new status → LineLinksWhole line m new out_old out_new err_old err_new status

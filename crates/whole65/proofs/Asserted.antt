@@ -114,13 +114,14 @@ module _ (l : Linkage) (members : List Member) (exports : Exports) where
       let one = result_told (site members a.owner a.line) a.action a.text (value_by l exports a.owner a.form) in
       let more = asserts_told rest in (
         λ k. (let (text, first, others) = bind_ok (check_assert l members exports a) (λ text. check_asserts l members exports rest >>= (λ more. Ok (text ++ more))) k.0 k.1 in
-        let (told, deeper, last) = bind_ok (check_asserts l members exports rest) (λ more. Ok (text ++ more)) k.0 others in
-        (one.0 (text, first), more.0 (told, deeper))),
+            let (told, deeper, last) = bind_ok (check_asserts l members exports rest) (λ more. Ok (text ++ more)) k.0 others in
+            (one.0 (text, first), more.0 (told, deeper))),
         λ k. (let first = one.1 k.0 in
-        let others = more.1 k.1 in
-        (first.0 ++ others.0,
-        ap (λ r. r >>= (λ text. check_asserts l members exports rest >>= (λ more. Ok (text ++ more)))) first.1
-        ∙ ap (λ r. r >>= (λ more. Ok (first.0 ++ more))) others.1)),
+            let others = more.1 k.1 in (
+              first.0 ++ others.0,
+              ap (λ r. r >>= (λ text. check_asserts l members exports rest >>= (λ more. Ok (text ++ more)))) first.1
+                  ∙ ap (λ r. r >>= (λ more. Ok (first.0 ++ more))) others.1,
+            )),
       )
 
 -- ---- Assertions of a source.

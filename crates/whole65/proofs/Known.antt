@@ -121,9 +121,9 @@ script_named s needs q h =
     let both : List Definition = areas_definitions s.areas q.areas ++ rows_definitions s.rows q.rows in
     map-append (λ (d : Definition). d.name) both (symbol_exports s.symbols)
     ∙ ap (λ ns. ns ++ names_of (symbol_exports s.symbols)) (
-      map-append (λ (d : Definition). d.name) (areas_definitions s.areas q.areas) (rows_definitions s.rows q.rows)
-      ∙ ap (λ ns. ns ++ names_of (rows_definitions s.rows q.rows)) areas
-      ∙ ap (λ ns. flat_map area_names s.areas ++ ns) rows
+    map-append (λ (d : Definition). d.name) (areas_definitions s.areas q.areas) (rows_definitions s.rows q.rows)
+    ∙ ap (λ ns. ns ++ names_of (rows_definitions s.rows q.rows)) areas
+    ∙ ap (λ ns. flat_map area_names s.areas ++ ns) rows
     )
 
 -- ---- A name is given where somebody gives it.
@@ -262,10 +262,10 @@ none_open s placement ys ms h placed =
     let same : members ≡ objects = imports_behind no_program ms in
     let either = none_left (is_given s q) (references s q) in (
       λ k. (
-        let both = all_parts Given own members (once_parts Given (own ++ members) [] (either.0 k)).1 in (
-          all_either Given Known (λ n e. (known s placement ys ms h placed n).1 e) own both.0,
-          subst (AllByRecursion Known) same (all_either Given Known (λ n e. (known s placement ys ms h placed n).1 e) members both.1),
-        )
-      ),
+          let both = all_parts Given own members (once_parts Given (own ++ members) [] (either.0 k)).1 in (
+            all_either Given Known (λ n e. (known s placement ys ms h placed n).1 e) own both.0,
+            subst (AllByRecursion Known) same (all_either Given Known (λ n e. (known s placement ys ms h placed n).1 e) members both.1),
+          )
+          ),
       λ k. either.1 (once_all Given (own ++ members) [] tt (all_append Given own members (all_either Known Given (λ n e. (known s placement ys ms h placed n).0 e) own k.0) (all_either Known Given (λ n e. (known s placement ys ms h placed n).0 e) members (subst (AllByRecursion Known) (sym same) k.1)))),
     )

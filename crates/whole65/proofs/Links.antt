@@ -79,11 +79,11 @@ module _ (output : List ℕ) (s : Script) (q : Program) (files : List OutputFile
       let l : Linkage = linkage_of s q h.placement in
       let there : placed s q ≡ Ok h.placement = placed_by (unresolved s q) (place_of s (needs_of q)) h.placement h.none h.placed in
       let passed : checked s q l (in_table h.table) ≡ Ok h.warnings =
-          checked_by (each_passes (check_waiting l q.members (in_table h.table)) (waiting_by_row s.rows q.segments))
-          (each_passes (check_export l q.members (in_table h.table)) q.exports)
-          (check_asserts l q.members (in_table h.table) q.asserts) h.warnings h.values h.exported h.asserted in
+      checked_by (each_passes (check_waiting l q.members (in_table h.table)) (waiting_by_row s.rows q.segments))
+      (each_passes (check_export l q.members (in_table h.table)) q.exports)
+      (check_asserts l q.members (in_table h.table) q.asserts) h.warnings h.values h.exported h.asserted in
       let finished : IsFinished output s q h.placement l (in_table h.table) (Ok (linked_by h)) =
-          goes_on (checked s q l (in_table h.table)) h.warnings (IsImaged output s q h.placement l (in_table h.table)) (Ok (linked_by h)) passed (files, h.made, refl) in
+      goes_on (checked s q l (in_table h.table)) h.warnings (IsImaged output s q h.placement l (in_table h.table)) (Ok (linked_by h)) passed (files, h.made, refl) in
       goes_on (names_once s q) tt (λ u. IsProgramLink output s q) (Ok (linked_by h)) h.once
       (goes_on (placed s q) h.placement (IsPlacedLink output s q) (Ok (linked_by h)) there (h.table, h.exports, finished))
 

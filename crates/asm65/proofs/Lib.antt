@@ -3,6 +3,8 @@ pub mod Puttings
 pub mod Constants
 pub mod Defines
 pub mod Outcomes
+pub mod NamedFiles
+pub mod WholeFiles
 pub mod Runs
 pub mod Sources
 pub mod Waitings

@@ -1,11 +1,13 @@
 -- What calls that take statements leave, by what their parts leave.
 use Rattle.std.proofs.Common.{◌≡◌, ◌∙◌, ℕ, zero, suc, ◌+◌, ◌≤◌, ◌<◌, Bool, true, false, List, [], ◌∷◌, ◌++◌, Option, Some, None, refl, sym, ap, subst, arith}
-use Rattle.std.specs.Prelude.{Result, Ok, Err, IfErr, ◌==◌, if◌then◌else◌}
+use Rattle.std.specs.Prelude.{Result, Ok, Err, IfErr, IfSome, ◌==◌, if◌then◌else◌}
 use Rattle.std.proofs.lemmas.List.{append-nil}
 use Rattle.syntax65.specs.Outcome.{First, Unless}
+use Rattle.syntax65.specs.Store.{Files}
 use Rattle.syntax65.specs.Tokens.{Lexeme}
 use Rattle.expand65.specs.Kept.{tokens_in}
 use Rattle.expand65.specs.Standing.{stated}
+use Rattle.expand65.specs.State as expand
 use Rattle.expand65.specs.declared.expander.Statement.{Statement}
 use Rattle.expand65.specs.declared.expander.Statement.TheVariants.{Label, Plain}
 use Rattle.expand65.specs.declared.line.Line.{Line}
@@ -30,7 +32,9 @@ use Rattle.asm65.specs.declared.assembler.Assembler.{Assembler}
 use Rattle.asm65.specs.declared.texts.Texts.{Texts}
 use Rattle.layout65.specs.Counting.{opened_by, opening_limit}
 use Rattle.asm65.specs.Holding.{Holds}
-use Rattle.asm65.specs.Running.{HoldsWithin, IsReached, behind, IsRoomy, IsSoundIf, Leaves, SaysAs, TakesBy, tokens_of}
+use Rattle.asm65.specs.Files.{read_bytes}
+use Rattle.asm65.specs.Running.{HoldsWithin, IsReached, behind, IsRoomy, IsSoundIf, Leaves, SaysAs, TakesBy, Told, tokens_of}
+use Rattle.asm65.proofs.WholeFiles.{read_sound, takes_whole}
 
 abbrev pub Answer : Type 0
 Answer = Result (Unit {0}) AsmFault
@@ -76,14 +80,62 @@ sound_leaves place x old new (Ok v) sound taken same = λ count t room h.
 sound_leaves place x old new (Err e) sound taken same = λ count t room h.
     fault_first (IsSound x) (Takes t place x) (count + 1) t new e (taken count t h (omega (arith, room))) (λ inside. says_same count t old new h (same inside))
 
+-- ---- Where files are told.
+
+pub told_then : (o : Option Files) (P Q : Files → Type 0) → ((m : Files) → P m → Q m) → IfSome o P → IfSome o Q
+told_then None P Q f h = tt
+told_then (Some m) P Q f h = f m h
+
+pub told_all : (o : Option Files) (P : Files → Type 0) → ((m : Files) → P m) → IfSome o P
+told_all None P f = tt
+told_all (Some m) P f = f m
+
+-- a refusal from outside
+pub refused_outside : (AreSo : Type 0) (Is : State → Result State AsmFault → Type 0) (more : ℕ) (old new : Assembler) (e : AsmFault) → is_outside e ≡ true → TakesBy AreSo Is more old new (Err e)
+refused_outside AreSo Is more old new e outside = λ count t room h.
+    (let P : Bool → Type 0 = λ b. Unless b ((AreSo → Is t (Err e)) × SaysAs t new) in subst P (sym outside) tt)
+
 -- ---- What stands behind a label.
 
-pub rest_leaves : (place : Place) (ts : List Lexeme) (x : Stated) (old new : Assembler) (r : Answer) → (ts ≡ [] → ⊥) → IsStatement ts (Ok x) → TakesBy (IsSound x) (λ t. Takes t place x) 1 old new r → TakesBy (AreNamed ts) (λ t. IsRest Takes t place ts) 1 old new r
-rest_leaves place [] x old new r some is taken = absurd (some refl)
-rest_leaves place (k ∷ ts) x old new (Ok v) some is taken = λ count t room h.
-    (let a = taken count t room h in (a.0, (Ok x, is, a.1), a.2, a.3))
-rest_leaves place (k ∷ ts) x old new (Err e) some is taken = λ count t room h.
-    fault_then (IsSound x) (AreNamed (k ∷ ts)) (Takes t place x) (IsRest Takes t place (k ∷ ts)) (count + 1) (count + 1) t t new e (λ named. statement_sound (k ∷ ts) x named is) (λ p. (Ok x, is, p)) (λ s. s) (taken count t room h)
+abbrev pub RestBy : Option Files → Place → List Lexeme → State → Result State AsmFault → Type 0
+RestBy o place ts = Told o (λ m t. IsRest m Takes t place ts)
+
+pub rest_none : (o : Option Files) (place : Place) (ts : List Lexeme) (a : Assembler) → ts ≡ [] → TakesBy (AreNamed ts) (RestBy o place ts) 1 a a (Ok tt)
+rest_none o place ts a none = λ count t room h.
+    (t, told_all o (λ m. IsRest m Takes t place ts (Ok t)) (λ m. subst (λ ks. IsRest m Takes t place ks (Ok t)) (sym none) refl), λ reached. reached, (count, omega arith, h))
+
+pub rest_wrong : (o : Option Files) (place : Place) (ts : List Lexeme) (a : Assembler) (e : AsmFault) → (ts ≡ [] → ⊥) → Unless (is_outside e) (IsStatement ts (Err e)) → TakesBy (AreNamed ts) (RestBy o place ts) 1 a a (Err e)
+rest_wrong o place [] a e some is = absurd (some refl)
+rest_wrong o place (k ∷ ts) a e some is = λ count t room h.
+    fault_first (AreNamed (k ∷ ts)) (RestBy o place (k ∷ ts) t) (count + 1) t a e (by t (is_outside e) is) (λ inside. (h.out, h.err))
+  where
+    by : (t : State) (b : Bool) → Unless b (IsStatement (k ∷ ts) (Err e)) → Unless b (RestBy o place (k ∷ ts) t (Err e))
+    by t true g = tt
+    by t false g = told_all o (λ m. IsRest m Takes t place (k ∷ ts) (Err e)) (λ m. (Err e, g, refl))
+
+-- a statement that was read, and the same with what was read of its file
+module _ (place : Place) (k : Lexeme) (ts : List Lexeme) (x y : Stated) (is : IsStatement (k ∷ ts) (Ok x)) where
+  taken_rest : (m : Files) (t : State) (r : Result State AsmFault) → y ≡ read_bytes m place x → Takes t place y r → IsRest m Takes t place (k ∷ ts) r
+  taken_rest m t r e h = (Ok x, is, takes_whole m place x t r (subst (λ z. Takes t place z r) e h))
+
+  sound_rest : (m : Files) → y ≡ read_bytes m place x → AreNamed (k ∷ ts) → IsSound y
+  sound_rest m e named = subst IsSound (sym e) (read_sound m place x (statement_sound (k ∷ ts) x named is))
+
+  wrong_rest : (o : Option Files) (most : ℕ) (t : State) (new : Assembler) (e : AsmFault) → IfSome o (λ m. y ≡ read_bytes m place x) → Leaves (IsSound y) (Takes t place y) most t new (Err e) → Leaves (AreNamed (k ∷ ts)) (RestBy o place (k ∷ ts) t) most t new (Err e)
+  wrong_rest (Some m) most t new e read h = fault_then (IsSound y) (AreNamed (k ∷ ts)) (Takes t place y) (RestBy (Some m) place (k ∷ ts) t) most most t t new e (sound_rest m read) (taken_rest m t (Err e) read) (λ s. s) h
+  wrong_rest None most t new e read h = by (is_outside e) h
+    where
+      by : (b : Bool) → Unless b ((IsSound y → Takes t place y (Err e)) × SaysAs t new) → Unless b ((AreNamed (k ∷ ts) → RestBy None place (k ∷ ts) t (Err e)) × SaysAs t new)
+      by true g = tt
+      by false g = (λ so. tt, g.1)
+
+pub rest_leaves : (o : Option Files) (place : Place) (ts : List Lexeme) (x y : Stated) (old new : Assembler) (r : Answer) → (ts ≡ [] → ⊥) → IsStatement ts (Ok x) → IfSome o (λ m. y ≡ read_bytes m place x) → TakesBy (IsSound y) (λ t. Takes t place y) 1 old new r → TakesBy (AreNamed ts) (RestBy o place ts) 1 old new r
+rest_leaves o place [] x y old new r some is read taken = absurd (some refl)
+rest_leaves o place (k ∷ ts) x y old new (Ok v) some is read taken = λ count t room h.
+    (let a = taken count t room h in
+    (a.0, told_then o (λ m. y ≡ read_bytes m place x) (λ m. IsRest m Takes t place (k ∷ ts) (Ok a.0)) (λ m e. taken_rest place k ts x y is m t (Ok a.0) e a.1) read, a.2, a.3))
+rest_leaves o place (k ∷ ts) x y old new (Err e) some is read taken = λ count t room h.
+    wrong_rest place k ts x y is o (count + 1) t new e read (taken count t room h)
 
 pub some_there : (n : ℕ) → false ≡ (n == 0) → n ≡ 0 → ⊥
 some_there zero h e = absurd cc
@@ -144,8 +196,8 @@ quiet_labelled : (t u : State) (place : Place) (o : Option Stated) → AreQuiet 
 quiet_labelled t u place None quiet h = (let same : u ≡ t = cc in (ap (λ (v : State). v.out) same, ap (λ (v : State). v.err) same))
 quiet_labelled t u place (Some x) quiet h = takes_quiet t u place x (quiet place x refl) h
 
-abbrev LabelAt : State → Place → (Option Stated × List Lexeme) → Result State AsmFault → Type 0
-LabelAt t place p r = (q : Result State AsmFault) × IsLabelled Takes t place p.0 q × First q (λ z. IsRest Takes z place p.1) r
+abbrev LabelAt : Files → State → Place → (Option Stated × List Lexeme) → Result State AsmFault → Type 0
+LabelAt m t place p r = (q : Result State AsmFault) × IsLabelled Takes t place p.0 q × First q (λ z. IsRest m Takes z place p.1) r
 
 sound_if : (o : Option Stated) → ((x : Stated) → o ≡ Some x → IsSound x) → IsSoundIf o
 sound_if None f = tt
@@ -165,46 +217,49 @@ label_room place o old mid v held front =
     let few = a.3.1 in
     (a.3.0, a.0, omega (arith, room, few), a.3.2)
 
-pub label_refused : (place : Place) (ts rest : List Lexeme) (o : Option Stated) (old new : Assembler) (e : AsmFault) (r : Answer) → Says ts rest o → FrontBy place o old new (Err e) → r ≡ Err e → TakesBy (AreNamed ts) (λ t. IsLabel Takes t place ts) 2 old new r
-label_refused place ts rest o old new e r says front fails =
-    subst (λ (q : Answer). TakesBy (AreNamed ts) (λ t. IsLabel Takes t place ts) 2 old new q) (sym fails) (λ count t room h. refused count t room h)
-  where
-    is : label_of ts ≡ (o, rest)
-    is = parted ts rest o says
+abbrev pub LabelBy : Option Files → Place → List Lexeme → State → Result State AsmFault → Type 0
+LabelBy f place ts = Told f (λ m t. IsLabel m Takes t place ts)
 
-    refused : (count : ℕ) (t : State) → count + 2 ≤ opening_limit → Holds count t old → Leaves (AreNamed ts) (IsLabel Takes t place ts) (count + 2) t new (Err e)
+pub label_refused : (f : Option Files) (place : Place) (ts rest : List Lexeme) (o : Option Stated) (old new : Assembler) (e : AsmFault) (r : Answer) → Says ts rest o → FrontBy place o old new (Err e) → r ≡ Err e → TakesBy (AreNamed ts) (LabelBy f place ts) 2 old new r
+label_refused f place ts rest o old new e r says front fails =
+    subst (λ (q : Answer). TakesBy (AreNamed ts) (LabelBy f place ts) 2 old new q) (sym fails) (λ count t room h. refused count t room h)
+  where
+    refused : (count : ℕ) (t : State) → count + 2 ≤ opening_limit → Holds count t old → Leaves (AreNamed ts) (LabelBy f place ts t) (count + 2) t new (Err e)
     refused count t room h =
-        fault_then (IsSoundIf o) (AreNamed ts) (IsLabelled Takes t place o) (IsLabel Takes t place ts) (count + 1) (count + 2) t t new e
+        fault_then (IsSoundIf o) (AreNamed ts) (IsLabelled Takes t place o) (LabelBy f place ts t) (count + 1) (count + 2) t t new e
         (λ named. sound_if o (subst (λ (p : Option Stated × List Lexeme). (x : Stated) → p.0 ≡ Some x → IsSound x) (parted ts rest o says) (label_sound ts named).label))
-        (λ p. subst (λ q. LabelAt t place q (Err e)) (sym (parted ts rest o says)) (Err e, p, refl))
+        (λ p. told_all f (λ m. IsLabel m Takes t place ts (Err e)) (λ m. subst (λ q. LabelAt m t place q (Err e)) (sym (parted ts rest o says)) (Err e, p, refl)))
         (λ s. s) (front count t (omega (arith, room)) h)
 
-pub label_leaves : (place : Place) (ts rest : List Lexeme) (o : Option Stated) (old mid new : Assembler) (v : Unit {0}) (r : Answer) → Says ts rest o → FrontBy place o old mid (Ok v) → TakesBy (AreNamed rest) (λ t. IsRest Takes t place rest) 1 mid new r → TakesBy (AreNamed ts) (λ t. IsLabel Takes t place ts) 2 old new r
-label_leaves place ts rest o old mid new v (Ok w) says front taken = λ count t room h.
+pub label_leaves : (f : Option Files) (place : Place) (ts rest : List Lexeme) (o : Option Stated) (old mid new : Assembler) (v : Unit {0}) (r : Answer) → Says ts rest o → FrontBy place o old mid (Ok v) → TakesBy (AreNamed rest) (RestBy f place rest) 1 mid new r → TakesBy (AreNamed ts) (LabelBy f place ts) 2 old new r
+label_leaves f place ts rest o old mid new v (Ok w) says front taken = λ count t room h.
     (let a = front count t (omega (arith, room)) h in
     let few = a.3.1 in
     let b = taken a.3.0 a.0 (omega (arith, room, few)) a.3.2 in
     let least = b.3.1 in
-    let given : IsLabel Takes t place ts (Ok b.0) = subst (λ q. LabelAt t place q (Ok b.0)) (sym (parted ts rest o says)) (Ok a.0, a.1, b.1) in
+    let given : LabelBy f place ts t (Ok b.0) = told_then f (λ m. IsRest m Takes a.0 place rest (Ok b.0)) (λ m. IsLabel m Takes t place ts (Ok b.0)) (λ m g. subst (λ q. LabelAt m t place q (Ok b.0)) (sym (parted ts rest o says)) (Ok a.0, a.1, g)) b.1 in
     (b.0, given, λ reached. b.2 (a.2 reached), (b.3.0, omega (arith, few, least), b.3.2)))
-label_leaves place ts rest o old mid new v (Err e) says front taken = λ count t room h.
+label_leaves f place ts rest o old mid new v (Err e) says front taken = λ count t room h.
     (let a = front count t (omega (arith, room)) h in
     let few = a.3.1 in
     let b = taken a.3.0 a.0 (omega (arith, room, few)) a.3.2 in
     let is = parted ts rest o says in
     let quiet : AreQuiet o = subst (λ (p : Option Stated × List Lexeme). AreQuiet p.0) is (label_quiet ts) in
     let same = quiet_labelled t a.0 place o quiet a.1 in
-    fault_then (AreNamed rest) (AreNamed ts) (IsRest Takes a.0 place rest) (IsLabel Takes t place ts) (a.3.0 + 1) (count + 2) t a.0 new e
+    fault_then (AreNamed rest) (AreNamed ts) (RestBy f place rest a.0) (LabelBy f place ts t) (a.3.0 + 1) (count + 2) t a.0 new e
     (λ named. subst (λ (p : Option Stated × List Lexeme). AreNamed p.1) is (label_sound ts named).rest)
-    (λ p. subst (λ q. LabelAt t place q (Err e)) (sym is) (Ok a.0, a.1, p))
+    (told_then f (λ m. IsRest m Takes a.0 place rest (Err e)) (λ m. IsLabel m Takes t place ts (Err e)) (λ m g. subst (λ q. LabelAt m t place q (Err e)) (sym is) (Ok a.0, a.1, g)))
     (λ s. (s.0 ∙ same.0, s.1 ∙ same.1)) b)
 
 -- ---- A statement that expansion gives.
 
-pub given_label : (place : Place) (g : Statement) (line : Line) (ts : List Lexeme) (old new : Assembler) (r : Answer) → g ≡ Label line → ts ≡ tokens_in line → TakesBy (AreNamed ts) (λ t. IsLabel Takes t place ts) 2 old new r → TakesBy (AreNamed (tokens_of (stated g))) (λ t. IsGiven Takes t place (stated g)) 2 old new r
-given_label place g line ts old new r is same h =
-    let P : Statement → Type 0 = λ g. TakesBy (AreNamed (tokens_of (stated g))) (λ t. IsGiven Takes t place (stated g)) 2 old new r in
-    let Q : List Lexeme → Type 0 = λ ts. TakesBy (AreNamed ts) (λ t. IsLabel Takes t place ts) 2 old new r in
+abbrev pub GivenBy : Option Files → Place → expand.Stated → State → Result State AsmFault → Type 0
+GivenBy f place g = Told f (λ m t. IsGiven m Takes t place g)
+
+pub given_label : (f : Option Files) (place : Place) (g : Statement) (line : Line) (ts : List Lexeme) (old new : Assembler) (r : Answer) → g ≡ Label line → ts ≡ tokens_in line → TakesBy (AreNamed ts) (LabelBy f place ts) 2 old new r → TakesBy (AreNamed (tokens_of (stated g))) (GivenBy f place (stated g)) 2 old new r
+given_label f place g line ts old new r is same h =
+    let P : Statement → Type 0 = λ g. TakesBy (AreNamed (tokens_of (stated g))) (GivenBy f place (stated g)) 2 old new r in
+    let Q : List Lexeme → Type 0 = λ ts. TakesBy (AreNamed ts) (LabelBy f place ts) 2 old new r in
     subst P (sym is) (subst Q same h)
 
 wider : (AreSo : Type 0) (Is : State → Result State AsmFault → Type 0) (old new : Assembler) (r : Answer) → TakesBy AreSo Is 1 old new r → TakesBy AreSo Is 2 old new r
@@ -214,8 +269,8 @@ wider AreSo Is old new (Ok v) taken = λ count t room h.
     (a.0, a.1, a.2, (a.3.0, omega (arith, few), a.3.2)))
 wider AreSo Is old new (Err e) taken = λ count t room h. taken count t (omega (arith, room)) h
 
-pub given_plain : (place : Place) (g : Statement) (line : Line) (ts : List Lexeme) (old new : Assembler) (r : Answer) → g ≡ Plain line → ts ≡ tokens_in line → TakesBy (AreNamed ts) (λ t. IsRest Takes t place ts) 1 old new r → TakesBy (AreNamed (tokens_of (stated g))) (λ t. IsGiven Takes t place (stated g)) 2 old new r
-given_plain place g line ts old new r is same h =
-    let P : Statement → Type 0 = λ g. TakesBy (AreNamed (tokens_of (stated g))) (λ t. IsGiven Takes t place (stated g)) 2 old new r in
-    let Q : List Lexeme → Type 0 = λ ts. TakesBy (AreNamed ts) (λ t. IsRest Takes t place ts) 2 old new r in
-    subst P (sym is) (subst Q same (wider (AreNamed ts) (λ t. IsRest Takes t place ts) old new r h))
+pub given_plain : (f : Option Files) (place : Place) (g : Statement) (line : Line) (ts : List Lexeme) (old new : Assembler) (r : Answer) → g ≡ Plain line → ts ≡ tokens_in line → TakesBy (AreNamed ts) (RestBy f place ts) 1 old new r → TakesBy (AreNamed (tokens_of (stated g))) (GivenBy f place (stated g)) 2 old new r
+given_plain f place g line ts old new r is same h =
+    let P : Statement → Type 0 = λ g. TakesBy (AreNamed (tokens_of (stated g))) (GivenBy f place (stated g)) 2 old new r in
+    let Q : List Lexeme → Type 0 = λ ts. TakesBy (AreNamed ts) (RestBy f place ts) 2 old new r in
+    subst P (sym is) (subst Q same (wider (AreNamed ts) (RestBy f place ts) old new r h))

@@ -34,7 +34,7 @@ use Rattle.asm65.specs.declared.running.Run.{Run}
 use Rattle.layout65.specs.Counting.{opening_limit}
 use Rattle.asm65.specs.Holding.{Holds}
 use Rattle.asm65.specs.Running.{HoldsSome, HoldsWithin, IsHeldBy, IsReached, IsReachedBy, IsRoomy, IsRunning, Ran, SaysAs, TakesBy, running_limit, tokens_of}
-use Rattle.asm65.proofs.Runs.{Answer}
+use Rattle.asm65.proofs.Runs.{Answer, GivenBy}
 
 pub some_then : (P Q : Files → Type 0) (o : Option Files) → ((m : Files) → P m → Q m) → IfSome o P → IfSome o Q
 some_then P Q None f h = tt
@@ -76,11 +76,11 @@ module _ (old mid : Run) (same : mid.assembler ≡ old.assembler) (less : measur
       let h = held.2 in
       (h.count, held.0, few_opened h.count (measure_of old.expander) h.room (some_left (measure_of old.expander) (measure_of mid.expander) less), holds_same h.count held.0 old.assembler mid.assembler same h.holds)
 
-  abbrev Takes2 : Statement → Run → Answer → Type 0
-  Takes2 x new r = TakesBy (AreNamed (tokens_of (stated x))) (λ t. IsGiven Takes t (place_of mid.expander) (stated x)) 2 mid.assembler new.assembler r
+  abbrev Takes2 : Option Files → Statement → Run → Answer → Type 0
+  Takes2 f x new r = TakesBy (AreNamed (tokens_of (stated x))) (GivenBy f (place_of mid.expander) (stated x)) 2 mid.assembler new.assembler r
 
-  pub still_running : (x : Statement) (new : Run) (v : Unit {0}) → Takes2 x new (Ok v) → new.expander ≡ mid.expander → IsRunning old → IsRunning new
-  still_running x new v taken stays held =
+  pub still_running : (f : Option Files) (x : Statement) (new : Run) (v : Unit {0}) → Takes2 f x new (Ok v) → new.expander ≡ mid.expander → IsRunning old → IsRunning new
+  still_running f x new v taken stays held =
       let h = held.2 in
       let room = few_opened h.count (measure_of old.expander) h.room (some_left (measure_of old.expander) (measure_of mid.expander) less) in
       let b = taken h.count held.0 room (holds_same h.count held.0 old.assembler mid.assembler same h.holds) in
@@ -132,7 +132,7 @@ same_tokens (Plain line) h = are_named _ h
 
 module _ (m : Files) (first old mid : Run) (same : mid.assembler ≡ old.assembler) where
   -- a statement that is taken
-  pub goes_further : (x : Statement) (new : Run) (v : Unit {0}) → measure_of mid.expander < measure_of old.expander → NextBy m old (Ok (Some x)) mid → TakesBy (AreNamed (tokens_of (stated x))) (λ t. IsGiven Takes t (place_of mid.expander) (stated x)) 2 mid.assembler new.assembler (Ok v) → new.expander ≡ mid.expander → Goes m first old → Goes m first new
+  pub goes_further : (x : Statement) (new : Run) (v : Unit {0}) → measure_of mid.expander < measure_of old.expander → NextBy m old (Ok (Some x)) mid → TakesBy (AreNamed (tokens_of (stated x))) (λ t. IsGiven m Takes t (place_of mid.expander) (stated x)) 2 mid.assembler new.assembler (Ok v) → new.expander ≡ mid.expander → Goes m first old → Goes m first new
   goes_further x new v less next taken stays so_far job t opens defined begun_held =
       let now = so_far job t opens defined begun_held in
       let u = now.0 in
@@ -148,13 +148,13 @@ module _ (m : Files) (first old mid : Run) (same : mid.assembler ≡ old.assembl
           left = a.0;
           stands = subst (λ e. StandsFor m e a.0) (sym stays) a.2;
           fit = fits.1;
-          goes = goes_on m running (IsSource m running job begun) s.left a.0 (stated x) u b.0 s.goes a.1 (subst (λ p. IsGiven Takes u p (stated x) (Ok b.0)) (sym place) b.1);
+          goes = goes_on m running (IsSource m running job begun) s.left a.0 (stated x) u b.0 s.goes a.1 (subst (λ p. IsGiven m Takes u p (stated x) (Ok b.0)) (sym place) b.1);
           held = held_behind u b.0 old mid new h b.3 less stays;
         },
       )
 
   -- a statement with a fault
-  pub goes_wrong : (x : Statement) (new : Run) (e : AsmFault) (r : Answer) → r ≡ Err e → measure_of mid.expander < measure_of old.expander → NextBy m old (Ok (Some x)) mid → TakesBy (AreNamed (tokens_of (stated x))) (λ t. IsGiven Takes t (place_of mid.expander) (stated x)) 2 mid.assembler new.assembler (Err e) → new.expander ≡ mid.expander → Goes m first old → RanAll m first new r
+  pub goes_wrong : (x : Statement) (new : Run) (e : AsmFault) (r : Answer) → r ≡ Err e → measure_of mid.expander < measure_of old.expander → NextBy m old (Ok (Some x)) mid → TakesBy (AreNamed (tokens_of (stated x))) (λ t. IsGiven m Takes t (place_of mid.expander) (stated x)) 2 mid.assembler new.assembler (Err e) → new.expander ≡ mid.expander → Goes m first old → RanAll m first new r
   goes_wrong x new e r fails less next taken stays so_far job t opens defined begun_held =
       let now = so_far job t opens defined begun_held in
       let u = now.0 in
@@ -168,10 +168,10 @@ module _ (m : Files) (first old mid : Run) (same : mid.assembler ≡ old.assembl
       let at_new : place_of new.expander ≡ a.0.left.place = ap place_of stays ∙ sym at_mid in
       subst (Ran m job new) (sym fails) (by u s a.0 a.1 fits.0 at_mid at_new (is_outside e) b)
     where
-      by : (u : State) (s : Stays m job old u) (t' : expand.State) → Reaches m (known_at u.symbols u.standing) s.left (statement (stated x) t') → AreFit (named.tokens_of (stated x)) → t'.left.place ≡ place_of mid.expander → place_of new.expander ≡ t'.left.place → (b : Bool) → Unless b ((AreNamed (tokens_of (stated x)) → IsGiven Takes u (place_of mid.expander) (stated x) (Err e)) × SaysAs u new.assembler) → Unless b ((w : State) × Runs m job (stopped w (place_of new.expander) e) × SaysAs w new.assembler)
+      by : (u : State) (s : Stays m job old u) (t' : expand.State) → Reaches m (known_at u.symbols u.standing) s.left (statement (stated x) t') → AreFit (named.tokens_of (stated x)) → t'.left.place ≡ place_of mid.expander → place_of new.expander ≡ t'.left.place → (b : Bool) → Unless b ((AreNamed (tokens_of (stated x)) → IsGiven m Takes u (place_of mid.expander) (stated x) (Err e)) × SaysAs u new.assembler) → Unless b ((w : State) × Runs m job (stopped w (place_of new.expander) e) × SaysAs w new.assembler)
       by u s t' reaches fit at_mid at_new true h = tt
       by u s t' reaches fit at_mid at_new false h =
-          (u, subst (λ p. Runs m job (stopped u p e)) (sym at_new) (stops m running (IsSource m running job begun) s.left t' (stated x) u e s.goes reaches (subst (λ p. IsGiven Takes u p (stated x) (Err e)) (sym at_mid) (h.0 (same_tokens x fit)))), h.1)
+          (u, subst (λ p. Runs m job (stopped u p e)) (sym at_new) (stops m running (IsSource m running job begun) s.left t' (stated x) u e s.goes reaches (subst (λ p. IsGiven m Takes u p (stated x) (Err e)) (sym at_mid) (h.0 (same_tokens x fit)))), h.1)
 
   -- a fault of expansion
   pub goes_out : (e : ExpandFault) (r : Answer) → r ≡ Err (Expansion e) → NextBy m old (Err e) mid → Goes m first old → RanAll m first mid r
@@ -223,12 +223,26 @@ module _ (o p : Option Files) (told : p ≡ o) (first old mid : Run) (same : mid
     pub all_end : q ≡ None → (r : Answer) → r ≡ (if is_open mid.assembler.standing.scope then Err BadScope else Ok tt) → IfSome o (λ m. RanAll m first mid r)
     all_end is r ends = some_both (λ m. Goes m first old) (λ m. NextBy m old (Ok None) mid) (λ m. RanAll m first mid r) o (λ m so n. goes_to_end m first old mid same r ends n so) so_far (given None is)
 
-    module _ (x : Statement) (is : q ≡ Some x) (less : measure_of mid.expander < measure_of old.expander) (new : Run) (stays : new.expander ≡ mid.expander) where
-      pub all_further : (v : Unit {0}) → Takes2 old mid same less x new (Ok v) → IfSome o (λ m. Goes m first new)
-      all_further v taken = some_both (λ m. Goes m first old) (λ m. NextBy m old (Ok (Some x)) mid) (λ m. Goes m first new) o (λ m so n. goes_further m first old mid same x new v less n taken stays so) so_far (given (Some x) is)
+    module _ (x : Statement) (is : q ≡ Some x) (less : measure_of mid.expander < measure_of old.expander) (new : Run) (stays : new.expander ≡ mid.expander) (f : Option Files) (there : f ≡ o) where
+      abbrev TakesIn : Answer → Files → Type 0
+      TakesIn r m = TakesBy (AreNamed (tokens_of (stated x))) (λ t. IsGiven m Takes t (place_of mid.expander) (stated x)) 2 mid.assembler new.assembler r
 
-      pub all_wrong : (e : AsmFault) (r : Answer) → r ≡ Err e → Takes2 old mid same less x new (Err e) → IfSome o (λ m. RanAll m first new r)
-      all_wrong e r fails taken = some_both (λ m. Goes m first old) (λ m. NextBy m old (Ok (Some x)) mid) (λ m. RanAll m first new r) o (λ m so n. goes_wrong m first old mid same x new e r fails less n taken stays so) so_far (given (Some x) is)
+      told_taken : (r : Answer) → Takes2 old mid same less f x new r → IfSome o (TakesIn r)
+      told_taken r taken = by o (subst (λ g. Takes2 old mid same less g x new r) there taken)
+        where
+          by : (g : Option Files) → Takes2 old mid same less g x new r → IfSome g (TakesIn r)
+          by None h = tt
+          by (Some m) h = h
+
+      pub all_further : (v : Unit {0}) → Takes2 old mid same less f x new (Ok v) → IfSome o (λ m. Goes m first new)
+      all_further v taken =
+          some_both (λ m. Goes m first old × NextBy m old (Ok (Some x)) mid) (TakesIn (Ok v)) (λ m. Goes m first new) o (λ m so t. goes_further m first old mid same x new v less so.1 t stays so.0)
+          (some_both (λ m. Goes m first old) (λ m. NextBy m old (Ok (Some x)) mid) (λ m. Goes m first old × NextBy m old (Ok (Some x)) mid) o (λ m so n. (so, n)) so_far (given (Some x) is)) (told_taken (Ok v) taken)
+
+      pub all_wrong : (e : AsmFault) (r : Answer) → r ≡ Err e → Takes2 old mid same less f x new (Err e) → IfSome o (λ m. RanAll m first new r)
+      all_wrong e r fails taken =
+          some_both (λ m. Goes m first old × NextBy m old (Ok (Some x)) mid) (TakesIn (Err e)) (λ m. RanAll m first new r) o (λ m so t. goes_wrong m first old mid same x new e r fails less so.1 t stays so.0)
+          (some_both (λ m. Goes m first old) (λ m. NextBy m old (Ok (Some x)) mid) (λ m. Goes m first old × NextBy m old (Ok (Some x)) mid) o (λ m so n. (so, n)) so_far (given (Some x) is)) (told_taken (Err e) taken)
 
 pub less_given : (q : Option Statement) (x : Statement) (a b : ℕ) → q ≡ Some x → IfSome q (λ y. a < b) → a < b
 less_given q x a b is h = subst (λ z. IfSome z (λ y. a < b)) is h

@@ -1,6 +1,7 @@
 pub mod Assembly
 pub mod Views
 pub mod Holding
+pub mod Files
 pub mod Knowing
 pub mod Putting
 pub mod Taking

@@ -1,5 +1,5 @@
 -- What an assembler has taken of a source while it takes its statements.
-use Rattle.std.specs.Prelude.{◌≡◌, ℕ, ◌+◌, ◌*◌, ◌≤◌, List, Option, Some, None, Result, Ok, Err, ⊤}
+use Rattle.std.specs.Prelude.{◌≡◌, ℕ, ◌+◌, ◌*◌, ◌≤◌, List, Option, Some, None, IfSome, Result, Ok, Err, ⊤}
 use Rattle.syntax65.specs.Outcome.{Unless}
 use Rattle.syntax65.specs.Store.{Files}
 use Rattle.syntax65.specs.Tokens.{Lexeme}
@@ -54,6 +54,12 @@ Leaves AreSo IsAnswer most t new (Ok x) =
     (u : State) × IsAnswer (Ok u) × LeadsTo t u × HoldsWithin most u new
 Leaves AreSo IsAnswer most t new (Err e) =
     Unless (is_outside e) ((AreSo → IsAnswer (Err e)) × SaysAs t new)
+
+-- where a store tells its files
+abbrev pub Told :
+    Option Files → (Files → State → Result State AsmFault → Type 0) → State →
+    Result State AsmFault → Type 0
+Told o IsAnswer t r = IfSome o (λ m. IsAnswer m t r)
 
 -- so for each state that is held and behind which so much may be opened
 abbrev pub TakesBy :

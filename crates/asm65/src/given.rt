@@ -1,6 +1,7 @@
 //! Statements that expansion gives: a label, or what begins with none.
 
 ghost use Rattle.std.specs.Prelude.{◌≡◌, false, option_map, IfErr};
+ghost use Rattle.syntax65.specs.Store.{PassesBy};
 ghost use Rattle.syntax65.specs.Tokens.{lexemes};
 ghost use Rattle.expand65.specs.Standing.{stated};
 ghost use Rattle.language65.specs.Faults.{is_failure};
@@ -8,16 +9,17 @@ ghost use Rattle.language65.specs.Sound.{AreNamed, IsSound};
 ghost use Rattle.language65.specs.Views.{stated_of};
 ghost use Rattle.module65.specs.Machine.{Takes};
 ghost use Rattle.module65.specs.Reading.{IsGiven, IsLabel, IsLabelled, IsRest};
-ghost use Rattle.asm65.specs.Running.{IsRoomy, IsSoundIf, TakesBy, tokens_of};
+ghost use Rattle.asm65.specs.Running.{IsRoomy, IsSoundIf, TakesBy, Told, tokens_of};
 ghost use Rattle.asm65.specs.Views.{place_in};
 
 use crate::assembler::{Assembler, At};
+use crate::files::with_bytes;
 use crate::sound::is_sound;
 use expand65::Statement as Given;
 use language65::{AsmFault, Statement};
 use statements65::{label, statement};
 use std::alloc::Global;
-use syntax65::Token;
+use syntax65::{Store, Token};
 
 /// Takes a statement. What it hands to the object is seen to here, since a store that tells nothing of its files tells
 /// nothing of their lines.
@@ -40,22 +42,25 @@ fn take_sound(
 }
 
 /// Takes what stands behind a label.
-fn take_rest(
+fn take_rest<S: Store>(
     alloc: Global,
+    store: &mut S,
     assembler: &mut Assembler,
     at: At<'_>,
     tokens: &[Token<'_>],
 ) -> Result<(), AsmFault>
     requires { IsRoomy 1 assembler.old }
-    ensures taken { TakesBy (AreNamed (lexemes tokens.now)) (λ t. IsRest Takes t
-        (place_in at.entry.file.now at.entry.line) (lexemes tokens.now))
+    ensures taken { TakesBy (AreNamed (lexemes tokens.now)) (Told (S.files store.old)
+        (λ m t. IsRest m Takes t (place_in at.entry.file.now at.entry.line) (lexemes tokens.now)))
         1 assembler.old assembler.new result }
-    ensures inside { IfErr result (λ e. is_failure e ≡ false) }
+    ensures files { S.files store.new ≡ S.files store.old }
+    ensures count { PassesBy is_failure (S.failures store.old) (S.failures store.new) result }
 {
     if tokens.is_empty() {
         return Ok(());
     }
-    let statement = statement(alloc, tokens)?;
+    let read = statement(alloc, tokens)?;
+    let statement = with_bytes(alloc, store, at.file, read)?;
     take_sound(alloc, assembler, at, statement)
 }
 
@@ -79,44 +84,48 @@ fn take_front(
 }
 
 /// Takes a label's tokens.
-fn take_label(
+fn take_label<S: Store>(
     alloc: Global,
+    store: &mut S,
     assembler: &mut Assembler,
     at: At<'_>,
     tokens: &[Token<'_>],
 ) -> Result<(), AsmFault>
     requires { IsRoomy 2 assembler.old }
-    ensures taken { TakesBy (AreNamed (lexemes tokens.now)) (λ t. IsLabel Takes t
-        (place_in at.entry.file.now at.entry.line) (lexemes tokens.now))
+    ensures taken { TakesBy (AreNamed (lexemes tokens.now)) (Told (S.files store.old)
+        (λ m t. IsLabel m Takes t (place_in at.entry.file.now at.entry.line) (lexemes tokens.now)))
         2 assembler.old assembler.new result }
-    ensures inside { IfErr result (λ e. is_failure e ≡ false) }
+    ensures files { S.files store.new ≡ S.files store.old }
+    ensures count { PassesBy is_failure (S.failures store.old) (S.failures store.new) result }
 {
     let (label, rest) = label(alloc, tokens)?;
     take_front(alloc, assembler, at, label)?;
-    take_rest(alloc, assembler, at, rest)
+    take_rest(alloc, store, assembler, at, rest)
 }
 
 /// Takes a statement that expansion gives.
-pub fn take_given(
+pub fn take_given<S: Store>(
     alloc: Global,
+    store: &mut S,
     assembler: &mut Assembler,
     at: At<'_>,
     given: &Given,
 ) -> Result<(), AsmFault>
     requires { IsRoomy 2 assembler.old }
-    ensures taken { TakesBy (AreNamed (tokens_of (stated given.now))) (λ t. IsGiven Takes t
-        (place_in at.entry.file.now at.entry.line) (stated given.now))
+    ensures taken { TakesBy (AreNamed (tokens_of (stated given.now))) (Told (S.files store.old)
+        (λ m t. IsGiven m Takes t (place_in at.entry.file.now at.entry.line) (stated given.now)))
         2 assembler.old assembler.new result }
-    ensures inside { IfErr result (λ e. is_failure e ≡ false) }
+    ensures files { S.files store.new ≡ S.files store.old }
+    ensures count { PassesBy is_failure (S.failures store.old) (S.failures store.new) result }
 {
     match given {
         Given::Label(line) => {
             let tokens = line.tokens(alloc)?;
-            take_label(alloc, assembler, at, &tokens)
+            take_label(alloc, store, assembler, at, &tokens)
         }
         Given::Plain(line) => {
             let tokens = line.tokens(alloc)?;
-            take_rest(alloc, assembler, at, &tokens)
+            take_rest(alloc, store, assembler, at, &tokens)
         }
     }
 }

@@ -6,6 +6,7 @@ mod assembling;
 mod assembly;
 mod concluding;
 mod defining;
+mod files;
 mod forms;
 mod given;
 mod knowing;

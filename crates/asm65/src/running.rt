@@ -11,7 +11,7 @@ ghost use Rattle.language65.specs.Sound.{AreNamed};
 ghost use Rattle.module65.specs.Knowing.{known_at};
 ghost use Rattle.module65.specs.Machine.{State, Takes, begun};
 ghost use Rattle.module65.specs.Reading.{AreDefined, IsGiven, Job, no_line};
-ghost use Rattle.asm65.specs.Running.{IsHeldBy, IsReachedBy, IsRoomy, IsRunning, Ran, TakesBy, tokens_of};
+ghost use Rattle.asm65.specs.Running.{IsHeldBy, IsReachedBy, IsRoomy, IsRunning, Ran, TakesBy, Told, tokens_of};
 
 use crate::assembler::{Assembler, At};
 use crate::given::take_given;
@@ -52,17 +52,24 @@ fn next<S: Store>(run: &mut Run, store: &mut S) -> Result<Option<Statement>, Exp
 }
 
 /// Takes a statement where it stands.
-fn take_next(alloc: Global, run: &mut Run, statement: &Statement) -> Result<(), AsmFault>
+fn take_next<S: Store>(
+    alloc: Global,
+    store: &mut S,
+    run: &mut Run,
+    statement: &Statement,
+) -> Result<(), AsmFault>
     requires { IsRoomy 2 run.old.assembler }
-    ensures taken { TakesBy (AreNamed (tokens_of (stated statement.now))) (λ t. IsGiven Takes t
-        (place_of run.old.expander) (stated statement.now))
+    ensures taken { TakesBy (AreNamed (tokens_of (stated statement.now)))
+        (Told (S.files store.old)
+        (λ m t. IsGiven m Takes t (place_of run.old.expander) (stated statement.now)))
         2 run.old.assembler run.new.assembler result }
     ensures same { run.new.expander ≡ run.old.expander }
-    ensures inside { IfErr result (λ e. is_failure e ≡ false) }
+    ensures files { S.files store.new ≡ S.files store.old }
+    ensures count { PassesBy is_failure (S.failures store.old) (S.failures store.new) result }
 {
     let (file, line) = run.expander.place();
     let at = At { file, line };
-    take_given(alloc, &mut run.assembler, at, statement)
+    take_given(alloc, store, &mut run.assembler, at, statement)
 }
 
 /// Refuses a scope that is open.
@@ -89,7 +96,7 @@ pub fn take_all<S: Store>(alloc: Global, store: &mut S, run: &mut Run) -> Result
 {
     'statements: loop {
         match next(run, store)? {
-            Some(statement) => take_next(alloc, run, &statement)?,
+            Some(statement) => take_next(alloc, store, run, &statement)?,
             None => return check_closed(run),
         }
     }

@@ -60,7 +60,7 @@ impl Assembler {
     {
         match settled {
             Settled::Form(mode) => self.enter_instruction(alloc, stand, mnemonic, mode, operand),
-            Settled::Nothing | Settled::Filled(_) => Ok(()),
+            Settled::Nothing | Settled::Filled(_) | Settled::From(_) => Ok(()),
         }
     }
 
@@ -95,6 +95,9 @@ impl Assembler {
                 multiple: _,
                 value: _,
             } => self.enter_room(spot, measured.length, measured.settled),
+            Statement::FilePart { bytes, range: _ } => {
+                self.enter_part(spot, measured.length, measured.settled, bytes)
+            }
             Statement::Assert {
                 value,
                 action,
@@ -134,7 +137,8 @@ impl Assembler {
                     names.as_slice(),
                 )
             }
-            Statement::Segment { name: _, size: _ }
+            Statement::NamedPart { name: _, range: _ }
+            | Statement::Segment { name: _, size: _ }
             | Statement::PushSegment
             | Statement::PopSegment
             | Statement::CloseScope

@@ -15,7 +15,7 @@ use Rattle.language65.specs.LineFaults.{line_fault}
 use Rattle.language65.specs.Symbols.{symbols_of}
 use Rattle.statements65.specs.Parsing.{label_of}
 use Rattle.module65.specs.Laying.{IsLaid, laying, unless_fault}
-use Rattle.module65.specs.Reading.{AreDefined, AreTaken, Define, Follows, IsBegun, IsGiven, IsLabelled, IsRest, Job, Reached, no_line, taken, faulty, refused, ended}
+use Rattle.module65.specs.Reading.{AreDefined, AreTaken, Define, Follows, IsBegun, IsGiven, IsLabelled, IsRest, Job, Reached, no_line, taken, faulty, refused, ended, with_bytes}
 use Rattle.whole65.specs.Laws.{LaidOutLaw}
 use Rattle.whole65.specs.Offsets.{IsLaidOut, begun, behind}
 
@@ -35,24 +35,24 @@ labelled : (y z : Layout) (place : Place) (x : Option Stated) → IsLaidOut y �
 labelled y z place None d h = unchanged y z d h
 labelled y z place (Some x) d h = one y z place x d h
 
-stated : (y z : Layout) (place : Place) (x : Result Stated AsmFault) → IsLaidOut y → First x (IsLaid y place) (Ok z) → IsLaidOut z
-stated y z place (Ok x) d h = one y z place x d h
-stated y z place (Err e) d h = absurd cc
+stated : (m : Files) (y z : Layout) (place : Place) (x : Result Stated AsmFault) → IsLaidOut y → First x (λ s. IsLaid y place (with_bytes m place s)) (Ok z) → IsLaidOut z
+stated m y z place (Ok x) d h = one y z place (with_bytes m place x) d h
+stated m y z place (Err e) d h = absurd cc
 
-rest : (y z : Layout) (place : Place) (ts : List Lexeme) → IsLaidOut y → IsRest IsLaid y place ts (Ok z) → IsLaidOut z
-rest y z place [] d h = unchanged y z d h
-rest y z place (t ∷ ts) d (x, is, h) = stated y z place x d h
+rest : (m : Files) (y z : Layout) (place : Place) (ts : List Lexeme) → IsLaidOut y → IsRest m IsLaid y place ts (Ok z) → IsLaidOut z
+rest m y z place [] d h = unchanged y z d h
+rest m y z place (t ∷ ts) d (x, is, h) = stated m y z place x d h
 
-behind_label : (y z : Layout) (place : Place) (ts : List Lexeme) (q : Result Layout AsmFault) → IsLaidOut y → IsLabelled IsLaid y place (label_of ts).0 q → First q (λ w. IsRest IsLaid w place (label_of ts).1) (Ok z) → IsLaidOut z
-behind_label y z place ts (Ok w) d l h = rest w z place (label_of ts).1 (labelled y w place (label_of ts).0 d l) h
-behind_label y z place ts (Err e) d l h = absurd cc
+behind_label : (m : Files) (y z : Layout) (place : Place) (ts : List Lexeme) (q : Result Layout AsmFault) → IsLaidOut y → IsLabelled IsLaid y place (label_of ts).0 q → First q (λ w. IsRest m IsLaid w place (label_of ts).1) (Ok z) → IsLaidOut z
+behind_label m y z place ts (Ok w) d l h = rest m w z place (label_of ts).1 (labelled y w place (label_of ts).0 d l) h
+behind_label m y z place ts (Err e) d l h = absurd cc
 
-given : (y z : Layout) (place : Place) (x : expand.Stated) → IsLaidOut y → IsGiven IsLaid y place x (Ok z) → IsLaidOut z
-given y z place (expand.label ts) d (q, l, h) = behind_label y z place ts q d l h
-given y z place (expand.plain ts) d h = rest y z place ts d h
+given : (m : Files) (y z : Layout) (place : Place) (x : expand.Stated) → IsLaidOut y → IsGiven m IsLaid y place x (Ok z) → IsLaidOut z
+given m y z place (expand.label ts) d (q, l, h) = behind_label m y z place ts q d l h
+given m y z place (expand.plain ts) d h = rest m y z place ts d h
 
 all_taken : (m : Files) {s : expand.State} {y : Layout} {r : Reached Layout} → AreTaken m laying s y r → IsLaidOut y → IsLaidOut r.behind
-all_taken m (taken s t x y z r reach h more) d = all_taken m more (given y z t.left.place x d h)
+all_taken m (taken s t x y z r reach h more) d = all_taken m more (given m y z t.left.place x d h)
 all_taken m (faulty s t x y e reach h) d = d
 all_taken m (refused s y e place reach) d = d
 all_taken m (ended s t y reach) d = d

@@ -1,8 +1,9 @@
 //! Parts of sections that are settled at their line.
 
-ghost use Rattle.std.specs.Prelude.{ℕ, IfOk, OnOk};
+ghost use Rattle.std.specs.Prelude.{◌≡◌, ℕ, drop, IfOk, OnOk, take};
 ghost use Rattle.object65.specs.Form.{lit};
-ghost use Rattle.language65.specs.Contents.{opcode_part, operand_form, put, room_part, stored};
+ghost use Rattle.language65.specs.Contents.{file_bytes, opcode_part, operand_form, put, room_part, stored};
+ghost use Rattle.language65.specs.declared.contents.Part.TheVariants.{Known};
 ghost use Rattle.language65.specs.Views.{spot_of};
 ghost use Rattle.sections65.specs.Standing.{Feeds};
 ghost use Rattle.asm65.specs.Putting.{IsFaultless, IsPut, operand_stored};
@@ -15,6 +16,7 @@ use layout65::Settled;
 use object65::{Norm, Width, fits, put};
 use sections65::Sections;
 use std::alloc::{AllocError, Global};
+use syntax65::Sequence;
 
 /// Puts the bytes of a value into the section of a segment, if it lies in its range.
 pub fn put_literal(
@@ -115,4 +117,39 @@ pub fn put_room(
         Settled::Filled(byte) => sections.fill(segment, count, byte),
         _ => sections.room(segment, count),
     }
+}
+
+/// So many bytes of a file from one on, as far as it goes.
+fn between(bytes: &[u8], start: usize, count: usize) -> &[u8]
+    ensures { result.now ≡ take count (drop start bytes.now) }
+{
+    let (_, rest) = bytes.split_at(start.min(bytes.len()));
+    let (part, _) = rest.split_at(count.min(rest.len()));
+    part
+}
+
+/// So many bytes of a file, if it is there, from the one on that is settled.
+fn file_bytes(bytes: &Option<Sequence<u8>>, settled: Settled, count: u32) -> &[u8]
+    ensures { result.now ≡ file_bytes count bytes.now (settled_in settled) }
+{
+    match (bytes, settled) {
+        (Some(bytes), Settled::From(start)) => {
+            between(bytes.as_slice(), start as usize, count as usize)
+        }
+        _ => b"",
+    }
+}
+
+/// Puts so many bytes of a file from the one on that is settled into the section of a segment.
+pub fn put_part(
+    sections: &mut Sections,
+    segment: u32,
+    count: u32,
+    settled: Settled,
+    bytes: &Option<Sequence<u8>>,
+) -> Result<(), AllocError>
+    ensures { OnOk result (Feeds sections.old sections.new
+        (put segment (Known (file_bytes count bytes.now (settled_in settled))))) }
+{
+    sections.append(segment, file_bytes(bytes, settled, count))
 }

@@ -10,7 +10,7 @@ ghost use Rattle.symbols65.specs.Views.{table_of};
 ghost use Rattle.asm65.specs.Putting.{IsSo};
 
 use super::Stand;
-use super::parts::{put_code, put_room};
+use super::parts::{put_code, put_part, put_room};
 use crate::assembler::Assembler;
 use crate::forms::literal_of;
 use crate::waiting::Piece;
@@ -68,7 +68,8 @@ fn is_so(alloc: Global, symbols: &Symbols, spot: Spot, value: &Expr) -> Result<b
 impl Assembler {
     ghost use Rattle.std.specs.Prelude.{◌∷◌, [], OnOk, map};
     ghost use Rattle.expand65.specs.declared.place.Place.{Place};
-    ghost use Rattle.language65.specs.Contents.{room_part, opcode_part};
+    ghost use Rattle.language65.specs.Contents.{file_bytes, opcode_part, room_part};
+    ghost use Rattle.language65.specs.declared.contents.Part.TheVariants.{Known};
     ghost use Rattle.language65.specs.Laid.{in_mode};
     ghost use Rattle.language65.specs.Views.{item_of};
     ghost use Rattle.syntax65.specs.Opcodes.{opcode_of};
@@ -164,6 +165,20 @@ impl Assembler {
             (given (room_part count (settled_in settled)) ∷ []) self.old self.new) }
     {
         put_room(&mut self.sections, spot.segment, count, settled)
+    }
+
+    /// Enters so many bytes of a file from the one on that is settled.
+    pub fn enter_part(
+        &mut self,
+        spot: Spot,
+        count: u32,
+        settled: Settled,
+        bytes: Option<Sequence<u8>>,
+    ) -> Result<(), AllocError>
+        ensures { OnOk result ((place : Place) → Enters place (spot_of spot)
+            (given (Known (file_bytes count bytes (settled_in settled))) ∷ []) self.old self.new) }
+    {
+        put_part(&mut self.sections, spot.segment, count, settled, &bytes)
     }
 
     /// Enters an assertion.

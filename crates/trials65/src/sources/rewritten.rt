@@ -91,6 +91,33 @@ fn included_files(rt: HostRuntime) -> Result<(), Fail> {
     Ok(())
 }
 
+/// A part of a file, and one that the file hasn't; the file is looked for beside the source alone.
+#[test]
+fn parts_of_files(rt: HostRuntime) -> Result<(), Fail> {
+    let mut store = MemStore::new(rt.alloc());
+    store.put("b.bin", b"\x01\x02\x03\x04")?;
+    store.put("d/c.bin", b"\x05")?;
+    store.put("b.s", b".incbin \"b.bin\",1,2")?;
+    let object = answer_in(rt.alloc(), &mut store, &alone())?;
+    assert!(rt;
+        object.as_slice()
+            == b"R65o\x01\x02\x09\0\x02\0\0\0\0CODE\x03\x02\0\x02\x03\x08\0\0".as_slice()
+    );
+    store.put("b.s", b".incbin \"b.bin\",1,4")?;
+    let past = answer_in(rt.alloc(), &mut store, &alone())?;
+    assert!(rt; past.as_slice() == b"b.s:1: incbin out of range".as_slice());
+    store.put("b.s", b"nop\n.incbin \"c.bin\"")?;
+    let folders = [Text::copy_of(rt.alloc(), "d")?];
+    let job = AsmJob {
+        source: "b.s",
+        include: &folders,
+        defines: &[],
+    };
+    let missing = answer_in(rt.alloc(), &mut store, &job)?;
+    assert!(rt; missing.as_slice() == b"b.s:2: file not found".as_slice());
+    Ok(())
+}
+
 fn with_defines(alloc: Global, source: &[u8], defines: &[Define<'_>]) -> Result<Vec<u8>, Fail> {
     let mut store = MemStore::new(alloc);
     store.put("b.s", source)?;

@@ -27,7 +27,7 @@ returns-in_err-take_next-in-Some-clause-ran g c =
     let mid = c.next.new.run in
     let e = c.in_ok-statement.ensures in
     let less = less_given c.in_ok-statement.field-0 c.in-Some.statement (measure_of mid.expander) (measure_of old.expander) c.in-Some.is e.size in
-    all_wrong (g.S.Store.files c.args.store.now) (g.S.Store.files c.statements.store) c.statements.invariant.files c.args.run.now old mid e.same c.statements.invariant.so_far c.in_ok-statement.field-0 e.next c.in-Some.statement c.in-Some.is less c.take_next.new.run c.in_err-take_next-in-Some.ensures.same c.in_err-take_next-in-Some.field-0.0 r (p.1 ∙ ap Err p.2) c.in_err-take_next-in-Some.ensures.taken
+    all_wrong (g.S.Store.files c.args.store.now) (g.S.Store.files c.statements.store) c.statements.invariant.files c.args.run.now old mid e.same c.statements.invariant.so_far c.in_ok-statement.field-0 e.next c.in-Some.statement c.in-Some.is less c.take_next.new.run c.in_err-take_next-in-Some.ensures.same (g.S.Store.files c.next.new.store) (e.files ∙ c.statements.invariant.files) c.in_err-take_next-in-Some.field-0.0 r (p.1 ∙ ap Err p.2) c.in_err-take_next-in-Some.ensures.taken
 
 pub statements-preserved-in_ok-take_next-in-Some : goal.statements-preserved-in_ok-take_next-in-Some
 statements-preserved-in_ok-take_next-in-Some g c =
@@ -38,10 +38,10 @@ statements-preserved-in_ok-take_next-in-Some g c =
     let t = c.in_ok-take_next-in-Some.ensures in
     let less = less_given c.in_ok-statement.field-0 c.in-Some.statement (measure_of mid.expander) (measure_of old.expander) c.in-Some.is e.size in
     record {
-      files = e.files ∙ c.statements.invariant.files;
+      files = t.files ∙ e.files ∙ c.statements.invariant.files;
       count = search rules;
-      running = still_running old mid e.same less c.in-Some.statement new c.in_ok-take_next-in-Some.field-0 t.taken t.same c.statements.invariant.running;
-      so_far = all_further (g.S.Store.files c.args.store.now) (g.S.Store.files c.statements.store) c.statements.invariant.files c.args.run.now old mid e.same c.statements.invariant.so_far c.in_ok-statement.field-0 e.next c.in-Some.statement c.in-Some.is less new t.same c.in_ok-take_next-in-Some.field-0 t.taken;
+      running = still_running old mid e.same less (g.S.Store.files c.next.new.store) c.in-Some.statement new c.in_ok-take_next-in-Some.field-0 t.taken t.same c.statements.invariant.running;
+      so_far = all_further (g.S.Store.files c.args.store.now) (g.S.Store.files c.statements.store) c.statements.invariant.files c.args.run.now old mid e.same c.statements.invariant.so_far c.in_ok-statement.field-0 e.next c.in-Some.statement c.in-Some.is less new t.same (g.S.Store.files c.next.new.store) (e.files ∙ c.statements.invariant.files) c.in_ok-take_next-in-Some.field-0 t.taken;
     }
 
 pub statements-preserved : goal.statements-preserved
@@ -53,10 +53,10 @@ statements-preserved g c =
     let t = c.in_ok-take_next-in-Some.ensures in
     let less = less_given c.in_ok-statement.field-0 c.in-Some.statement (measure_of mid.expander) (measure_of old.expander) c.in-Some.is e.size in
     record {
-      files = e.files ∙ c.statements.invariant.files;
+      files = t.files ∙ e.files ∙ c.statements.invariant.files;
       count = search rules;
-      running = still_running old mid e.same less c.in-Some.statement new c.in_ok-take_next-in-Some.field-0 t.taken t.same c.statements.invariant.running;
-      so_far = all_further (g.S.Store.files c.args.store.now) (g.S.Store.files c.statements.store) c.statements.invariant.files c.args.run.now old mid e.same c.statements.invariant.so_far c.in_ok-statement.field-0 e.next c.in-Some.statement c.in-Some.is less new t.same c.in_ok-take_next-in-Some.field-0 t.taken;
+      running = still_running old mid e.same less (g.S.Store.files c.next.new.store) c.in-Some.statement new c.in_ok-take_next-in-Some.field-0 t.taken t.same c.statements.invariant.running;
+      so_far = all_further (g.S.Store.files c.args.store.now) (g.S.Store.files c.statements.store) c.statements.invariant.files c.args.run.now old mid e.same c.statements.invariant.so_far c.in_ok-statement.field-0 e.next c.in-Some.statement c.in-Some.is less new t.same (g.S.Store.files c.next.new.store) (e.files ∙ c.statements.invariant.files) c.in_ok-take_next-in-Some.field-0 t.taken;
     }
 
 pub returns-in-None-clause-ran : goal.returns-in-None-clause-ran

@@ -3,7 +3,7 @@ use Rattle.std.specs.Prelude.{Some, None, true}
 use Rattle.std.specs.Option.{option_map}
 use Rattle.syntax65.specs.Trees.{tree_of}
 use Rattle.language65.specs.Language as l
-use Rattle.language65.specs.Views.{item_of, operand_of, spot_of, stated_of}
+use Rattle.language65.specs.Views.{item_of, operand_of, range_of, spot_of, stated_of}
 use Rattle.layout65.specs.Measuring.{measured_of}
 use Rattle.module65.specs.Pieces.{exported}
 use Rattle.asm65.specs.Views.{place_in}
@@ -50,6 +50,17 @@ returns-in-Align c =
     let new = c.enter_room-in-Align.new.self in
     let x : l.Stated = l.align (tree_of c.in-Align.multiple) (option_map tree_of c.in-Align.value) in
     taken_as place s m old new c.enter_room-in-Align.result x (stated_of c.args.statement) (sym (ap stated_of c.in-Align.is)) (λ h. adds_pieces place s m old new x (λ y. nothing_behind y) (h place)) c.enter_room-in-Align.ensures
+
+pub returns-in-FilePart : goal.returns-in-FilePart
+returns-in-FilePart c =
+    let place = place_in c.args.stand.at.file.now c.args.stand.at.line in
+    let s = spot_of c.args.stand.spot in
+    let m = measured_of c.args.measured in
+    let old = c.args.self.now in
+    let new = c.enter_part.new.self in
+    let range = range_of c.in-FilePart.range in
+    let x : l.Stated = l.file_part c.in-FilePart.bytes range.0 range.1 in
+    taken_as place s m old new c.enter_part.result x (stated_of c.args.statement) (sym (ap stated_of c.in-FilePart.is)) (λ h. adds_pieces place s m old new x (λ y. nothing_behind y) (h place)) c.enter_part.ensures
 
 pub returns-in-Assert : goal.returns-in-Assert
 returns-in-Assert c =

@@ -1,5 +1,5 @@
 -- A link line comes to one answer.
-use Rattle.std.proofs.Common.{◌≡◌, ◌∙◌, ℕ, ◌+◌, List, [], ◌∷◌, ◌++◌, Bool, true, false, Result, Ok, Err, refl, sym, ap, subst}
+use Rattle.std.proofs.Common.{◌≡◌, ◌∙◌, ℕ, ◌+◌, List, [], ◌∷◌, Bool, true, false, Result, Ok, Err, sym, ap, subst}
 use Rattle.std.specs.FinMap.{get}
 use Rattle.std.specs.Prelude.{Option, Some}
 use Rattle.syntax65.specs.Outcome.{First}
@@ -9,7 +9,6 @@ use Rattle.script65.specs.Scripts.{IsScript}
 use Rattle.script65.specs.declared.fault.ScriptFault.{ScriptFault}
 use Rattle.script65.specs.declared.script.Script.{Script}
 use Rattle.library65.proofs.Uniques.{one_selection}
-use Rattle.library65.specs.Selection.{IsSelection}
 use Rattle.library65.specs.declared.entry.Entry.{Entry}
 use Rattle.linkage65.proofs.OutcomeLemmas.{link_once}
 use Rattle.linkage65.specs.Givers.{given_names, open_names}

@@ -1,5 +1,5 @@
 -- The modules that a line selects, and those that the linker is fed.
-use Rattle.std.proofs.Common.{◌≡◌, ◌∙◌, ℕ, suc, ◌+◌, List, [], ◌∷◌, ◌++◌, map, Bool, true, false, cond, Option, Some, None, Result, Ok, Err, append-nil, append_assoc, refl, sym, ap, subst}
+use Rattle.std.proofs.Common.{◌≡◌, ◌∙◌, ℕ, suc, ◌+◌, List, [], ◌∷◌, ◌++◌, map, Bool, true, false, cond, Some, None, Result, Ok, Err, append-nil, append_assoc, refl, sym, ap, subst}
 use Rattle.std.proofs.lemmas.List.{map-append}
 use Rattle.syntax65.specs.Outcome.{◌>>=◌, First}
 use Rattle.syntax65.specs.Store.{Files}
@@ -11,7 +11,7 @@ use Rattle.library65.specs.declared.entry.Entry.{Entry}
 use Rattle.library65.specs.declared.fault.LibraryFault.{LibraryFault}
 use Rattle.script65.specs.declared.script.Script.{Script}
 use Rattle.linkage65.specs.Givers.{first_again, given_names, is_among, open_names}
-use Rattle.linkage65.specs.Links.{names_once, no_name_again}
+use Rattle.linkage65.specs.Links.{names_once}
 use Rattle.linkage65.specs.Modules.{Module}
 use Rattle.linkage65.specs.Names.{script_names}
 use Rattle.linkage65.specs.Programs.{exported, program_of}
@@ -24,9 +24,9 @@ use Rattle.whole65.proofs.Givers.{exports_are, linked_exports}
 use Rattle.whole65.proofs.Later.{bind_ok}
 use Rattle.ld65.specs.declared.refusal.Refusal.{Refusal}
 use Rattle.ld65.specs.declared.refusal.Refusal.TheVariants as refusal
-use Rattle.ld65.specs.Linkage.{AreInputs, AreNeeded, ByKind, Input, IsInput, IsLibraryInput, added_in, as_library, behind, chosen, file_input, index_in, is_library_in, member_input, member_module, object_in, with_file, with_member, with_members}
+use Rattle.ld65.specs.Linkage.{AreInputs, AreNeeded, ByKind, Input, IsLibraryInput, added_in, as_library, behind, chosen, file_input, index_in, is_library_in, member_input, member_module, object_in, with_file, with_member, with_members}
 use Rattle.ld65.specs.Refusals.{refusal_at, refusal_in}
-use Rattle.tools65.specs.OneProgram.{AreInputOf, AreMembers, AreSelected, AreTaken, IsModuleOf}
+use Rattle.tools65.specs.OneProgram.{AreMembers, AreSelected, AreTaken, IsModuleOf}
 
 -- ---- Answers that are right, and faults.
 

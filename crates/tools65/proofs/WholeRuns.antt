@@ -5,7 +5,6 @@ use Rattle.syntax65.specs.Store.{Files, NoneFailed}
 use Rattle.script65.specs.declared.script.Script.{Script}
 use Rattle.syntax65.specs.Outcome.{First}
 use Rattle.linkage65.specs.Links.{IsProgramLink, LinkOf, names_once}
-use Rattle.linkage65.specs.declared.fault.LinkFault.{LinkFault}
 use Rattle.linkage65.specs.Modules.{Module}
 use Rattle.linkage65.specs.Programs.{program_of}
 use Rattle.linkage65.specs.declared.linked.Linked.{Linked}

@@ -1,8 +1,6 @@
 -- What ca65 wrote of sources, linked, is the whole program of the sources.
-use Rattle.std.proofs.Common.{◌≡◌, ◌∙◌, ℕ, List, [], ◌∷◌, Option, Some, None, Result, Ok, refl, sym, ap, subst}
-use Rattle.std.specs.Prelude.{◌↔◌}
+use Rattle.std.proofs.Common.{◌≡◌, ◌∙◌, List, [], ◌∷◌, Option, Some, None, Ok, refl, sym, ap, subst}
 use Rattle.object65.specs.declared.object.Object.{Object}
-use Rattle.script65.specs.declared.script.Script.{Script}
 use Rattle.language65.specs.Layout.{Layout}
 use Rattle.module65.proofs.OneLayouts.{one_layout}
 use Rattle.module65.proofs.SoundSources.{sound_layout}
@@ -11,7 +9,6 @@ use Rattle.module65.specs.Module.{object_of, outcome_of}
 use Rattle.module65.specs.Places.{PlacedFault}
 use Rattle.module65.specs.Reading.{Reached}
 use Rattle.linkage65.specs.Modules.{Module}
-use Rattle.linkage65.specs.declared.linked.OutputFile.{OutputFile}
 use Rattle.whole65.proofs.Equality.{equality_law}
 use Rattle.whole65.proofs.LaidOut.{laid_out_law}
 use Rattle.whole65.specs.Sources.{AreSources}

@@ -1,8 +1,8 @@
-use Rattle.std.proofs.Common.{◌≡◌, ◌∙◌, refl, ap, map, rules, List, ℕ}
+use Rattle.std.proofs.Common.{◌≡◌, refl, map, rules}
 use Rattle.line65.specs.Line.{Assembling, assemble, assembling}
 use Rattle.module65.specs.Reading.{Job}
 use Rattle.asm65.specs.Assembly.{define_of}
-use Rattle.tools65.specs.Assembling.{define_in, job_in}
+use Rattle.tools65.specs.Assembling.{define_in}
 use Rattle.tools65.specs.Command.{Assembles}
 use Rattle.line65.specs.Messages.{memory_line}
 use Rattle.tools65.proofs.Failing.{failed_assembly, only_memory_fails}

@@ -45,3 +45,4 @@ pub other_room : (count : ℕ) (s : held.Settled) → ((byte : ℕ) → s ≡ se
 other_room count settled.Nothing h = refl
 other_room count (settled.Form mode) h = refl
 other_room count (settled.Filled byte) h = absurd (h byte refl)
+other_room count (settled.From start) h = refl

@@ -137,8 +137,9 @@ impl Assembler {
                     names.as_slice(),
                 )
             }
-            Statement::NamedPart { name: _, range: _ }
-            | Statement::Segment { name: _, size: _ }
+            // A part has its file's bytes before it is taken.
+            Statement::NamedPart { name: _, range: _ } => Ok(()),
+            Statement::Segment { name: _, size: _ }
             | Statement::PushSegment
             | Statement::PopSegment
             | Statement::CloseScope

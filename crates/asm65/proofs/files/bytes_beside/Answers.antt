@@ -1,0 +1,22 @@
+use Rattle.std.proofs.Common.{◌≡◌, ◌∙◌, sym, ap, Some, Ok, Err}
+use Rattle.std.specs.FinMap as fmap
+use Rattle.syntax65.specs.Reading.{front_in}
+use Rattle.syntax65.specs.declared.store.StoreFault.TheVariants.{FileNotFound}
+use Rattle.expand65.specs.Includes.{beside}
+use Rattle.asm65.proofs.NamedFiles.{read_none, read_some, unnamed}
+use Rattle.asm65.proofs.Runs.{told_all, told_then}
+use Rattle.asm65.proofs.files.bytes_beside.Goals as goal
+
+pub returns-in_default-clause-read : goal.returns-in_default-clause-read
+returns-in_default-clause-read g c =
+    told_all (g.S.Store.files c.args.store.now) _ (λ m. unnamed m (beside c.args.file.now c.args.name.now) 16777217 (sym c.in_default.is ∙ c.in_ok-name.ensures))
+
+pub returns-in-Ok-clause-read : goal.returns-in-Ok-clause-read
+returns-in-Ok-clause-read g c =
+    told_then (g.S.Store.files c.args.store.now) (λ m. front_in (fmap.get m c.as_str.result.now) 16777217 ≡ Ok c.in-Ok.bytes.items) _
+    (λ m h. read_some m (beside c.args.file.now c.args.name.now) c.as_str.result.now 16777217 c.in-Ok.bytes.items (ap Some c.as_str.ensures ∙ sym c.in-Some.is ∙ c.in_ok-name.ensures) h) c.in-Ok.ensures.read
+
+pub returns-in-Err-FileNotFound-clause-read : goal.returns-in-Err-FileNotFound-clause-read
+returns-in-Err-FileNotFound-clause-read g c =
+    told_then (g.S.Store.files c.args.store.now) (λ m. front_in (fmap.get m c.as_str.result.now) 16777217 ≡ Err FileNotFound) _
+    (λ m h. read_none m (beside c.args.file.now c.args.name.now) c.as_str.result.now 16777217 (ap Some c.as_str.ensures ∙ sym c.in-Some.is ∙ c.in_ok-name.ensures) h) c.in-Err-FileNotFound.ensures.read

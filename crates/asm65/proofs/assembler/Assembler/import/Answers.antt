@@ -10,4 +10,4 @@ returns-clause-known c =
     let y : Symbols = table_of c.args.self.now.symbols in
     let z : Symbols = table_of c.import.new.self in
     let is : z ≡ with_names y c.args.is_zero_page c.args.names.now = c.in_ok-import.ensures in
-    c.forget.ensures.table y z c.requires.hung (subst (Extends y) (sym is) (more_imported y c.args.is_zero_page c.args.names.now)) (c.requires.long ∙ ap (λ (x : Symbols). length x.definitions) (sym is))
+    c.forget.ensures.table y z c.requires.known.hung (subst (Extends y) (sym is) (more_imported y c.args.is_zero_page c.args.names.now)) (c.requires.known.long ∙ ap (λ (x : Symbols). length x.definitions) (sym is))

@@ -6,7 +6,14 @@ use Rattle.std.specs.Str.{is_utf8}
 use Rattle.syntax65.specs.Reading.{front_in}
 use Rattle.syntax65.specs.Store.{Files}
 use Rattle.syntax65.specs.declared.store.StoreFault.TheVariants.{FileNotFound}
-use Rattle.expand65.specs.Includes.{as_text, file_named}
+use Rattle.expand65.specs.Includes.{as_text, beside, file_named}
+use Rattle.language65.specs.declared.language.PartRange.{PartRange}
+use Rattle.language65.specs.declared.language.Statement.{Statement}
+use Rattle.language65.specs.declared.language.Statement.TheVariants.{FilePart, NamedPart}
+use Rattle.language65.specs.Language.{file_part}
+use Rattle.language65.specs.Views.{range_of, stated_of}
+use Rattle.asm65.specs.Files.{read_bytes}
+use Rattle.asm65.specs.Views.{place_in}
 
 named : (m : Files) (name text : List ℕ) → Some text ≡ as_text name → file_named m name ≡ fmap.get m text
 named m name text e = by (is_utf8 name) e
@@ -36,3 +43,9 @@ read_some m name text most bytes e h = front_some (fmap.get m text) most bytes h
 
 pub read_none : (m : Files) (name text : List ℕ) (most : ℕ) → Some text ≡ as_text name → front_in (fmap.get m text) most ≡ Err FileNotFound → None ≡ option_map (take most) (file_named m name)
 read_none m name text most e h = front_none (fmap.get m text) most h ∙ ap (option_map (take most)) (sym (named m name text e))
+
+-- a statement with what was read of its file
+pub part_read : (m : Files) (file name slice : List ℕ) (line : ℕ) (bytes : Option (List ℕ)) (range : PartRange) (x : Statement) → x ≡ NamedPart name range → slice ≡ name → bytes ≡ option_map (take 16777217) (file_named m (beside file slice)) → stated_of (FilePart bytes range) ≡ read_bytes m (place_in file line) (stated_of x)
+part_read m file name slice line bytes range x is same read =
+    ap (λ b. file_part b (range_of range).0 (range_of range).1) (read ∙ ap (λ n. option_map (take 16777217) (file_named m (beside file n))) same)
+    ∙ sym (ap (λ (s : Statement). read_bytes m (place_in file line) (stated_of s)) is)

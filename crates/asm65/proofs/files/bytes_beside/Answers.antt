@@ -1,7 +1,9 @@
-use Rattle.std.proofs.Common.{◌≡◌, ◌∙◌, sym, ap, Some, Ok, Err}
+use Rattle.std.proofs.Common.{◌≡◌, ◌∙◌, sym, ap, subst, Some, Ok, Err}
 use Rattle.std.specs.FinMap as fmap
 use Rattle.syntax65.specs.Reading.{front_in}
-use Rattle.syntax65.specs.declared.store.StoreFault.TheVariants.{FileNotFound}
+use Rattle.syntax65.specs.Outcome.{Unless}
+use Rattle.syntax65.specs.StoreFaults.{is_outside_store}
+use Rattle.syntax65.specs.declared.store.StoreFault.{StoreFault}
 use Rattle.expand65.specs.Includes.{beside}
 use Rattle.asm65.proofs.NamedFiles.{read_none, read_some, unnamed}
 use Rattle.asm65.proofs.Runs.{told_all, told_then}
@@ -14,9 +16,10 @@ returns-in_default-clause-read g c =
 pub returns-in-Ok-clause-read : goal.returns-in-Ok-clause-read
 returns-in-Ok-clause-read g c =
     told_then (g.S.Store.files c.args.store.now) (λ m. front_in (fmap.get m c.as_str.result.now) 16777217 ≡ Ok c.in-Ok.bytes.items) _
-    (λ m h. read_some m (beside c.args.file.now c.args.name.now) c.as_str.result.now 16777217 c.in-Ok.bytes.items (ap Some c.as_str.ensures ∙ sym c.in-Some.is ∙ c.in_ok-name.ensures) h) c.in-Ok.ensures.read
+    (λ m h. read_some m (beside c.args.file.now c.args.name.now) c.as_str.result.now 16777217 c.from_vec.result (ap Some c.as_str.ensures ∙ sym c.in-Some.is ∙ c.in_ok-name.ensures) (h ∙ ap Ok (sym c.from_vec.ensures))) c.in-Ok.ensures.read
 
 pub returns-in-Err-FileNotFound-clause-read : goal.returns-in-Err-FileNotFound-clause-read
 returns-in-Err-FileNotFound-clause-read g c =
-    told_then (g.S.Store.files c.args.store.now) (λ m. front_in (fmap.get m c.as_str.result.now) 16777217 ≡ Err FileNotFound) _
-    (λ m h. read_none m (beside c.args.file.now c.args.name.now) c.as_str.result.now 16777217 (ap Some c.as_str.ensures ∙ sym c.in-Some.is ∙ c.in_ok-name.ensures) h) c.in-Err-FileNotFound.ensures.read
+    let f = c.in-Err-FileNotFound.field-0 in
+    told_then (g.S.Store.files c.args.store.now) (λ m. Unless (is_outside_store f) (front_in (fmap.get m c.as_str.result.now) 16777217 ≡ Err f)) _
+    (λ m h. read_none m (beside c.args.file.now c.args.name.now) c.as_str.result.now 16777217 (ap Some c.as_str.ensures ∙ sym c.in-Some.is ∙ c.in_ok-name.ensures) (subst (λ (e : StoreFault). Unless (is_outside_store e) (front_in (fmap.get m c.as_str.result.now) 16777217 ≡ Err e)) c.in-Err-FileNotFound.field-0-is h)) c.in-Err-FileNotFound.ensures.read

@@ -105,6 +105,7 @@ module _ {A E : Type 0} (is_memory is_failure : E → Bool) (memory : List ℕ) 
 
 -- memory ran out before there was an outcome
 pub only_memory_fails : (known new : Option Files) (line : Says) (out err_old err_new : Option (List ℕ)) (whole : Bool) (status : Status) (Q : Type 0) → new ≡ known → status ≡ Failure → Prints err_old err_new (line_memory line) whole → IfSome known (λ m. Q → FailsLine line m new out out err_old err_new status)
+unfolding FailsLine
 only_memory_fails None new line out err_old err_new whole status Q same e p = tt
 only_memory_fails (Some m) new line out err_old err_new whole status Q same e p = λ _.
     inl (record { text = line_memory line; why = inr refl; said = says m new out err_old err_new (line_memory line) whole status same e p })
@@ -120,12 +121,14 @@ fails_as does other Why is (Some m) new fo fn out_old out_new err_old err_new st
 
 -- a link
 pub failed_link : (known mid new : Option Files) (fo fm fn : ℕ) (l : Linking) (r : Result Linked Refusal) (o : Outcome) (out_old out_new err_old err_new : Option (List ℕ)) (status : Status) → mid ≡ known → PassesBy is_failure fo fm r → o ≡ outcome_of l r → IfSome known (λ m. Finds is_outside (IsLinked m l) r) → (o.outputs ≡ [] → IfSome mid (λ m. Performs o m new out_old out_new err_old err_new status)) → IfSome mid (λ m. fm < fn → StopsWriting o m new out_old out_new err_old err_new status) → IfSome known (λ m. SomeFailed fo fn → FailsLine (link l) m new out_old out_new err_old err_new status)
+unfolding FailsLine
 failed_link known mid new fo fm fn l r o =
     failed_run is_memory is_failure memory_message (λ m. IsLinked m l) (λ r o. o ≡ outcome_of l r) (link_memory l) (SaysWhy (link l))
     (λ e o failed is. (refusal_message l e, inl (e, failed, refl), is)) known mid new fo fm fn r o
 
 -- a line of the librarian
 pub failed_archive : (known mid new : Option Files) (fo fm fn : ℕ) (a : Archiving) (r : Result Archived ArchiveRefusal) (o : Outcome) (out_old out_new err_old err_new : Option (List ℕ)) (status : Status) → mid ≡ known → PassesBy is_archive_failure fo fm r → o ≡ archive_outcome a r → IfSome known (λ m. Gives is_archive_outside (λ x. x) r (archived_of m a)) → (o.outputs ≡ [] → IfSome mid (λ m. Performs o m new out_old out_new err_old err_new status)) → IfSome mid (λ m. fm < fn → StopsWriting o m new out_old out_new err_old err_new status) → IfSome known (λ m. SomeFailed fo fn → FailsLine (archive a) m new out_old out_new err_old err_new status)
+unfolding FailsLine
 failed_archive known mid new fo fm fn a r o out_old out_new err_old err_new status same count comes gives performs stops =
     fails_as _ (Archives a) (SaysWhy (archive a)) (does_archive a) known new fo fn out_old out_new err_old err_new status
     (failed_run is_archive_memory is_archive_failure (memory_line a.library) (λ m. IsArchived a m) (λ r o. o ≡ archive_outcome a r) (archive_memory a) (SaysWhy (archive a))
@@ -163,6 +166,7 @@ module _ (a : Assembling) (out err : List ℕ) where
   assembles m o (r, is, comes) = with_texts a out err m o (r, is, comes.0)
 
   pub failed_assembly : (known mid new : Option Files) (fo fm fn : ℕ) (r : Result Object AsmRefusal) (o : Outcome) (out_old out_new err_old err_new : Option (List ℕ)) (status : Status) → mid ≡ known → PassesBy has_failed fo fm r → AssemblesWith a out err (in_places r) o → (is_from_outside r ≡ true → (out ≡ []) × (err ≡ [])) → IfSome known (λ m. Finds is_outside_refusal (Is m) r) → (o.outputs ≡ [] → IfSome mid (λ m. Performs o m new out_old out_new err_old err_new status)) → IfSome mid (λ m. fm < fn → StopsWriting o m new out_old out_new err_old err_new status) → IfSome known (λ m. SomeFailed fo fn → FailsLine (assemble a) m new out_old out_new err_old err_new status)
+  unfolding FailsLine
   failed_assembly known mid new fo fm fn r o out_old out_new err_old err_new status same count comes silent finds performs stops =
       fails_as _ (Assembles a) (SaysWhy (assemble a)) assembles known new fo fn out_old out_new err_old err_new status
       (failed_run (λ e. is_asm_memory e.fault) has_failed (memory_line a.source) Is Comes memory_only (SaysWhy (assemble a)) refusal_why
@@ -171,6 +175,7 @@ module _ (a : Assembling) (out err : List ℕ) where
 -- ---- Words.
 
 pub failed_words : (known new : Option Files) (fo fn : ℕ) (words : List (List ℕ)) (line : Says) (out_old out_new err_old err_new : Option (List ℕ)) (status : Status) → line_of words ≡ Ok line → IfSome known (λ m. SomeFailed fo fn → FailsLine line m new out_old out_new err_old err_new status) → IfSome known (λ m. SomeFailed fo fn → FailsWords words m new out_old out_new err_old err_new status)
+unfolding FailsWords
 failed_words None new fo fn words line out_old out_new err_old err_new status e h = tt
 failed_words (Some m) new fo fn words line out_old out_new err_old err_new status e h = λ some. (line, e, h some)
 

@@ -63,10 +63,10 @@ SaysFailure (archive a) text = (e : ArchiveRefusal) × (archives.is_failure e �
 abbrev pub SaysWhy : Says → List ℕ → Type 0
 SaysWhy line text = SaysFailure line text ⊎ (text ≡ line_memory line)
 
-abbrev pub FailsLine : Says → Files → Option Files → Option (List ℕ) → Option (List ℕ) → Option (List ℕ) → Option (List ℕ) → Status → Type 0
+unfoldable pub FailsLine : Says → Files → Option Files → Option (List ℕ) → Option (List ℕ) → Option (List ℕ) → Option (List ℕ) → Status → Type 0
 FailsLine line = Fails (DoesLine line) (SaysWhy line)
 
 -- Words that are no line ask nothing of the store.
-abbrev pub FailsWords : List (List ℕ) → Files → Option Files → Option (List ℕ) → Option (List ℕ) → Option (List ℕ) → Option (List ℕ) → Status → Type 0
+unfoldable pub FailsWords : List (List ℕ) → Files → Option Files → Option (List ℕ) → Option (List ℕ) → Option (List ℕ) → Option (List ℕ) → Status → Type 0
 FailsWords words m new out_old out_new err_old err_new status =
     (line : Says) × (line_of words ≡ Ok line) × FailsLine line m new out_old out_new err_old err_new status

@@ -2,11 +2,12 @@
 
 ghost use Rattle.std.specs.Prelude.{◌≡◌, ◌<◌, ◌≤◌, IfOk, IfSome, map};
 ghost use Rattle.syntax65.specs.Store.{NoneFailed};
-ghost use Rattle.line65.specs.Line.{archive, archiving, assemble, assembling, link, linking, view};
+ghost use Rattle.line65.specs.Line.{archive, archiving, assemble, assembling, line_of, link, linking, view};
 ghost use Rattle.line65.specs.Messages.{memory_line};
 ghost use Rattle.tools65.specs.Archives.{Archives};
 ghost use Rattle.tools65.specs.Command.{outcome_of, Ran, Assembles, Does, DoesLine, Commands, line_memory};
 ghost use Rattle.tools65.specs.Failing.{FailsLine, FailsWords, SomeFailed};
+ghost use Rattle.tools65.specs.OneProgram.{LineLinksWhole, WordsLinkWhole};
 ghost use Rattle.ld65.specs.Refusals.{memory_message};
 
 use crate::archiving::archive_outcome;
@@ -150,6 +151,8 @@ pub fn run_line<S: Store, W: Write, E: Write>(
         Ran (DoesLine (view line.now)) (line_memory (view line.now)) m (S.files store.new) (W.contents out.old) (W.contents out.new) (E.contents err.old) (E.contents err.new) result) }
     ensures failed { IfSome (S.files store.old) (λ m. SomeFailed (S.failures store.old) (S.failures store.new) →
         FailsLine (view line.now) m (S.files store.new) (W.contents out.old) (W.contents out.new) (E.contents err.old) (E.contents err.new) result) }
+    ensures one_program { IfSome (S.files store.old) (λ m. NoneFailed (S.failures store.old) (S.failures store.new) →
+        LineLinksWhole (view line.now) m (S.files store.new) (W.contents out.old) (W.contents out.new) (E.contents err.old) (E.contents err.new) result) }
     ensures later { S.failures store.old ≤ S.failures store.new }
     ensures rose { S.failures store.old < S.failures store.new → result ≡ Status.Failure }
 {
@@ -172,6 +175,8 @@ pub fn run<A: AsStr, S: Store, W: Write, E: Write>(
         Commands (map A.text words.now) m (S.files store.new) (W.contents out.old) (W.contents out.new) (E.contents err.old) (E.contents err.new) result) }
     ensures failed { IfSome (S.files store.old) (λ m. SomeFailed (S.failures store.old) (S.failures store.new) →
         FailsWords (map A.text words.now) m (S.files store.new) (W.contents out.old) (W.contents out.new) (E.contents err.old) (E.contents err.new) result) }
+    ensures one_program { IfSome (S.files store.old) (λ m. NoneFailed (S.failures store.old) (S.failures store.new) →
+        WordsLinkWhole (line_of (map A.text words.now)) m (S.files store.new) (W.contents out.old) (W.contents out.new) (E.contents err.old) (E.contents err.new) result) }
     ensures later { S.failures store.old ≤ S.failures store.new }
     ensures rose { S.failures store.old < S.failures store.new → result ≡ Status.Failure }
 {

@@ -1,6 +1,7 @@
 use Rattle.std.proofs.Common.{refl, map}
 use Rattle.tools65.proofs.Failing.{failed_words, none_fails}
 use Rattle.tools65.proofs.Runs.{line_run, refused_words}
+use Rattle.tools65.proofs.WholeRuns.{words_whole}
 use Rattle.tools65.proofs.running.run.Goals as goal
 
 pub returns-in-Ok-clause-done : goal.returns-in-Ok-clause-done
@@ -15,3 +16,13 @@ returns-in-Ok-clause-failed g c = failed_words _ _ _ _ (map g.A.AsStr.text c.arg
 
 pub returns-in-Err-clause-failed : goal.returns-in-Err-clause-failed
 returns-in-Err-clause-failed g c = none_fails _ _ _
+
+pub returns-in-Ok-clause-one_program : goal.returns-in-Ok-clause-one_program
+returns-in-Ok-clause-one_program g c =
+    words_whole _ _ _ _ (map g.A.AsStr.text c.args.words.now) _ _ _ _ _
+    (line_run _ _ _ _ (map g.A.AsStr.text c.args.words.now) _ _ _ _ _ _ c.in-Ok.ensures c.run_line.ensures.done)
+
+pub returns-in-Err-clause-one_program : goal.returns-in-Err-clause-one_program
+returns-in-Err-clause-one_program g c =
+    words_whole _ _ _ _ (map g.A.AsStr.text c.args.words.now) _ _ _ _ _
+    (refused_words _ _ (map g.A.AsStr.text c.args.words.now) c.in-Err.fault _ _ _ c.print.result _ _ refl refl c.in-Err.ensures (rw c.fault_message.ensures at c.print.ensures))

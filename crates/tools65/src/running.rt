@@ -62,6 +62,8 @@ fn run_link<S: Store, W: Write, E: Write>(
         Ran (Does (linking line.now)) memory_message m (S.files store.new) (W.contents out.old) (W.contents out.new) (E.contents err.old) (E.contents err.new) result) }
     ensures failed { IfSome (S.files store.old) (λ m. SomeFailed (S.failures store.old) (S.failures store.new) →
         FailsLine (link (linking line.now)) m (S.files store.new) (W.contents out.old) (W.contents out.new) (E.contents err.old) (E.contents err.new) result) }
+    ensures one_program { IfSome (S.files store.old) (λ m. NoneFailed (S.failures store.old) (S.failures store.new) →
+        LineLinksWhole (link (linking line.now)) m (S.files store.new) (W.contents out.old) (W.contents out.new) (E.contents err.old) (E.contents err.new) result) }
     ensures later { S.failures store.old ≤ S.failures store.new }
     ensures rose { S.failures store.old < S.failures store.new → result ≡ Status.Failure }
 {
@@ -87,6 +89,8 @@ fn run_assemble<S: Store, W: Write, E: Write>(
         Ran (Assembles (assembling line.now)) (memory_line line.now.source.now) m (S.files store.new) (W.contents out.old) (W.contents out.new) (E.contents err.old) (E.contents err.new) result) }
     ensures failed { IfSome (S.files store.old) (λ m. SomeFailed (S.failures store.old) (S.failures store.new) →
         FailsLine (assemble (assembling line.now)) m (S.files store.new) (W.contents out.old) (W.contents out.new) (E.contents err.old) (E.contents err.new) result) }
+    ensures one_program { IfSome (S.files store.old) (λ m. NoneFailed (S.failures store.old) (S.failures store.new) →
+        LineLinksWhole (assemble (assembling line.now)) m (S.files store.new) (W.contents out.old) (W.contents out.new) (E.contents err.old) (E.contents err.new) result) }
     ensures later { S.failures store.old ≤ S.failures store.new }
     ensures rose { S.failures store.old < S.failures store.new → result ≡ Status.Failure }
 {
@@ -125,6 +129,8 @@ fn run_archive<S: Store, W: Write, E: Write>(
         Ran (Archives (archiving line.now)) (memory_line line.now.library.now) m (S.files store.new) (W.contents out.old) (W.contents out.new) (E.contents err.old) (E.contents err.new) result) }
     ensures failed { IfSome (S.files store.old) (λ m. SomeFailed (S.failures store.old) (S.failures store.new) →
         FailsLine (archive (archiving line.now)) m (S.files store.new) (W.contents out.old) (W.contents out.new) (E.contents err.old) (E.contents err.new) result) }
+    ensures one_program { IfSome (S.files store.old) (λ m. NoneFailed (S.failures store.old) (S.failures store.new) →
+        LineLinksWhole (archive (archiving line.now)) m (S.files store.new) (W.contents out.old) (W.contents out.new) (E.contents err.old) (E.contents err.new) result) }
     ensures later { S.failures store.old ≤ S.failures store.new }
     ensures rose { S.failures store.old < S.failures store.new → result ≡ Status.Failure }
 {

@@ -4,6 +4,7 @@ use Rattle.line65.specs.Messages.{memory_line}
 use Rattle.tools65.specs.Archives.{Archives}
 use Rattle.tools65.proofs.Failing.{failed_archive, only_memory_fails}
 use Rattle.tools65.proofs.Runs.{only_memory, archived_run}
+use Rattle.tools65.proofs.WholeRuns.{line_whole}
 use Rattle.tools65.proofs.running.run_archive.Goals as goal
 
 pub returns-in-Ok-clause-done : goal.returns-in-Ok-clause-done
@@ -19,3 +20,11 @@ returns-in-Ok-clause-failed g c =
 
 pub returns-in-Err-clause-failed : goal.returns-in-Err-clause-failed
 returns-in-Err-clause-failed g c = only_memory_fails _ _ (archive (archiving c.args.line.now)) _ _ _ c.say_memory.result _ _ c.archive-archived.ensures.files refl c.say_memory.ensures
+
+pub returns-in-Ok-clause-one_program : goal.returns-in-Ok-clause-one_program
+returns-in-Ok-clause-one_program g c =
+    line_whole _ _ _ _ (archive (archiving c.args.line.now)) _ _ _ _ _ (archived_run _ _ _ _ _ _ (archiving c.args.line.now) c.archive-archived.result c.in-Ok.outcome _ _ _ _ _ c.archive-archived.ensures.files c.perform.ensures.later c.archive-archived.ensures.count c.in-Ok.ensures c.archive-archived.ensures.archived c.perform.ensures.done)
+
+pub returns-in-Err-clause-one_program : goal.returns-in-Err-clause-one_program
+returns-in-Err-clause-one_program g c =
+    line_whole _ _ _ _ (archive (archiving c.args.line.now)) _ _ _ _ _ (only_memory _ _ (Archives (archiving c.args.line.now)) _ _ _ (memory_line c.args.line.now.library.now) c.say_memory.result _ _ c.archive-archived.ensures.files refl c.say_memory.ensures)

@@ -7,6 +7,7 @@ use Rattle.tools65.specs.Command.{Assembles}
 use Rattle.line65.specs.Messages.{memory_line}
 use Rattle.tools65.proofs.Failing.{failed_assembly, only_memory_fails}
 use Rattle.tools65.proofs.Runs.{as_job, assembled_run, only_memory, same_job}
+use Rattle.tools65.proofs.WholeRuns.{line_whole}
 use Rattle.tools65.proofs.running.run_assemble.Goals as goal
 
 pub returns-in_default-clause-done : goal.returns-in_default-clause-done
@@ -44,3 +45,24 @@ returns-in-Ok-asm_outcome-clause-failed g c =
 
 pub returns-clause-failed : goal.returns-clause-failed
 returns-clause-failed g c = only_memory_fails _ _ (assemble (assembling c.args.line.now)) _ _ _ c.say_memory-in-Err.result _ _ c.assemble-assembly.ensures.files refl c.say_memory-in-Err.ensures
+
+pub returns-in_default-clause-one_program : goal.returns-in_default-clause-one_program
+returns-in_default-clause-one_program g c =
+    line_whole _ _ _ _ (assemble (assembling c.args.line.now)) _ _ _ _ _ (only_memory _ _ (Assembles (assembling c.args.line.now)) _ _ _ (memory_line c.args.line.now.source.now) c.say_memory.result _ _ refl refl c.say_memory.ensures)
+
+pub returns-in_default-defines_of-clause-one_program : goal.returns-in_default-defines_of-clause-one_program
+returns-in_default-defines_of-clause-one_program g c =
+    line_whole _ _ _ _ (assemble (assembling c.args.line.now)) _ _ _ _ _ (only_memory _ _ (Assembles (assembling c.args.line.now)) _ _ _ (memory_line c.args.line.now.source.now) c.say_memory-in_default-defines_of.result _ _ refl refl c.say_memory-in_default-defines_of.ensures)
+
+pub returns-in-Ok-asm_outcome-clause-one_program : goal.returns-in-Ok-asm_outcome-clause-one_program
+returns-in-Ok-asm_outcome-clause-one_program g c =
+    let a : Assembling = assembling c.args.line.now in
+    let j : Job = record { source = a.source; include = c.as_slice-3.result.now; defines = map define_of c.as_slice-4.result.now } in
+    let include : c.as_slice-3.result.now ≡ a.include = search rules in
+    let defines : map define_of c.as_slice-4.result.now ≡ map define_in a.defines = search rules in
+    let assembly = c.assemble-assembly.result in
+    line_whole _ _ _ _ (assemble (assembling c.args.line.now)) _ _ _ _ _ (assembled_run _ _ _ _ _ _ a assembly.out assembly.err assembly.result c.in-Ok-asm_outcome.outcome _ _ _ _ _ c.assemble-assembly.ensures.files c.perform.ensures.later c.assemble-assembly.ensures.count c.in-Ok-asm_outcome.ensures (as_job _ j a assembly.out assembly.err assembly.result (same_job a _ _ include defines) c.assemble-assembly.ensures.assembled) c.perform.ensures.done)
+
+pub returns-clause-one_program : goal.returns-clause-one_program
+returns-clause-one_program g c =
+    line_whole _ _ _ _ (assemble (assembling c.args.line.now)) _ _ _ _ _ (only_memory _ _ (Assembles (assembling c.args.line.now)) _ _ _ (memory_line c.args.line.now.source.now) c.say_memory-in-Err.result _ _ c.assemble-assembly.ensures.files refl c.say_memory-in-Err.ensures)

@@ -4,6 +4,7 @@ use Rattle.tools65.specs.Command.{Does}
 use Rattle.ld65.specs.Refusals.{memory_message}
 use Rattle.tools65.proofs.Failing.{failed_link, only_memory_fails}
 use Rattle.tools65.proofs.Runs.{only_memory, linked_run}
+use Rattle.tools65.proofs.WholeRuns.{line_whole}
 use Rattle.tools65.proofs.running.run_link.Goals as goal
 
 pub returns-in-Ok-clause-done : goal.returns-in-Ok-clause-done
@@ -19,3 +20,11 @@ returns-in-Ok-clause-failed g c =
 
 pub returns-in-Err-clause-failed : goal.returns-in-Err-clause-failed
 returns-in-Err-clause-failed g c = only_memory_fails _ _ (link (linking c.args.line.now)) _ _ _ c.say_memory.result _ _ c.link_files-linked.ensures.files refl c.say_memory.ensures
+
+pub returns-in-Ok-clause-one_program : goal.returns-in-Ok-clause-one_program
+returns-in-Ok-clause-one_program g c =
+    line_whole _ _ _ _ (link (linking c.args.line.now)) _ _ _ _ _ (linked_run _ _ _ _ _ _ (linking c.args.line.now) c.link_files-linked.result c.in-Ok.outcome _ _ _ _ _ c.link_files-linked.ensures.files c.perform.ensures.later c.link_files-linked.ensures.count c.in-Ok.ensures c.link_files-linked.ensures.linked c.perform.ensures.done)
+
+pub returns-in-Err-clause-one_program : goal.returns-in-Err-clause-one_program
+returns-in-Err-clause-one_program g c =
+    line_whole _ _ _ _ (link (linking c.args.line.now)) _ _ _ _ _ (only_memory _ _ (Does (linking c.args.line.now)) _ _ _ memory_message c.say_memory.result _ _ c.link_files-linked.ensures.files refl c.say_memory.ensures)

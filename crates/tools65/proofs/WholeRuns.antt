@@ -1,7 +1,7 @@
 -- A run over sources' objects, and the whole program of the sources.
 use Rattle.std.proofs.Common.{◌≡◌, ◌∙◌, ◌⊎◌, inl, inr, ℕ, List, [], Bool, true, false, Option, Some, None, Result, Ok, Err, refl, sym, ap, subst}
-use Rattle.std.specs.Prelude.{IfSome}
-use Rattle.syntax65.specs.Store.{Files, NoneFailed}
+use Rattle.std.specs.Prelude.{IfSome, slice_get}
+use Rattle.syntax65.specs.Store.{Files, NoneFailed, Tells}
 use Rattle.script65.specs.declared.script.Script.{Script}
 use Rattle.syntax65.specs.Outcome.{First}
 use Rattle.linkage65.specs.Links.{IsProgramLink, LinkOf, names_once}
@@ -17,8 +17,8 @@ use Rattle.ld65.specs.declared.refusal.Refusal.{Refusal}
 use Rattle.ld65.specs.Linkage.{IsLinked, output_of}
 use Rattle.ld65.specs.Refusals.{memory_message}
 use Rattle.tools65.specs.Command.{Commands, Does, DoesLine, Ran, RanWords, line_memory, outcome_of}
-use Rattle.tools65.specs.Leaving.{Performs, Settles, StopsShort, apply}
-use Rattle.tools65.specs.OneProgram.{HasFiles, LineLinksWhole, LineRunsLaw, LinksWhole, RunsLaw, SelectsSources, Source, WholeOf, WordsLinkWhole, WritesWhole, WroteFiles}
+use Rattle.tools65.specs.Leaving.{Performs, Settles, StopsAt, StopsShort, apply}
+use Rattle.tools65.specs.OneProgram.{DoesWhole, HasFiles, HaveNoImage, IsRefusal, LineLinksWhole, LineRunsLaw, LinksWhole, RunsLaw, SelectsSources, Source, WholeOf, WordsLinkWhole, WritesWhole, WroteFiles}
 use Rattle.tools65.specs.Outputs.{failing, with_map}
 use Rattle.tools65.specs.declared.outcome.Outcome.{Outcome}
 use Rattle.tools65.specs.declared.outcome.Status.{Status}
@@ -56,6 +56,24 @@ first_passed (Err e) Next x h = absurd (ok_err x e h)
 link_once : (output : List ℕ) (s : Script) (ms : List Module) (linked : Linked) → LinkOf output s ms (Ok linked) → names_once s (program_of ms) ≡ Ok tt
 link_once output s ms linked h = first_passed (names_once s (program_of ms)) (λ u. IsProgramLink output s (program_of ms)) linked h
 
+-- ---- A run without files.
+
+settled_alone : (o : Outcome) (m : Files) (new : Option Files) (status : Status) (whole : Bool) → o.outputs ≡ [] → o.status ≡ Failure → Settles o m new status whole → (new ≡ Some m) × (status ≡ Failure)
+settled_alone o m new status true none fails h = (h.0 ∙ ap (λ (files : List OutputFile). Some (apply files m)) none, h.1 ∙ fails)
+settled_alone o m new status false none fails h = h
+
+none_there : (place : ℕ) (o : OutputFile) → ◌≡◌ {A = Option OutputFile} (slice_get [] place) (Some o) → ⊥
+none_there place o e = cc
+
+no_place : (outputs : List OutputFile) (place : ℕ) (m : Files) (new : Option Files) → outputs ≡ [] → Tells (StopsAt outputs place) (Some m) new → ⊥
+no_place outputs place m None none left = left
+no_place outputs place m (Some z) none left = none_there place left.0 (sym (ap (λ (files : List OutputFile). slice_get files place) none) ∙ left.1)
+
+-- an outcome without files leaves the files as they were
+left_alone : (o : Outcome) (memory : List ℕ) (m : Files) (new : Option Files) (out_old out_new err_old err_new : Option (List ℕ)) (status : Status) → o.outputs ≡ [] → o.status ≡ Failure → Performs o m new out_old out_new err_old err_new status ⊎ StopsShort o memory m new out_old out_new err_old err_new status → (new ≡ Some m) × (status ≡ Failure)
+left_alone o memory m new out_old out_new err_old err_new status none fails (inl p) = settled_alone o m new status p.whole none fails p.settled
+left_alone o memory m new out_old out_new err_old err_new status none fails (inr p) = absurd (no_place o.outputs p.place m new none p.left)
+
 module _ (l : Linking) (m : Files) (s : Script) (xs : List Source) (k : SelectsSources l m s xs) where
   -- a link that succeeds is that of the modules that the line selects
   fed_so : (linked : Linked) → IsLinked m l (Ok linked) → LinkOf (output_of l) s k.modules (Ok linked)
@@ -90,15 +108,44 @@ module _ (l : Linking) (m : Files) (s : Script) (xs : List Source) (k : SelectsS
       let made : List OutputFile → Outcome = λ zs. record { out = []; err = link.linked.warnings; outputs = with_map l.map zs link.linked.map; status = Success } in
       (link.linked.warnings, link.linked.map, same ∙ ap (λ (q : Result Linked Refusal). outcome_of l q) found ∙ ap made link.same)
 
+  -- a link is the image of the sources, or they have none
+  image_or_none : (r : Result Linked Refusal) → IsLinked m l r → (o : Outcome) → o ≡ outcome_of l r → ((files : List OutputFile) × WholeOf (output_of l) s xs files × HasFiles l files o) ⊎ (HaveNoImage l s xs × IsRefusal l o)
+  image_or_none (Ok linked) is o same =
+      let whole = (one_program (output_of l) s xs k.modules linked.files k.objects).1 (record { linked = linked; link = fed_so linked is; same = refl }) in
+      inl (linked.files, whole, (linked.warnings, linked.map, same))
+  image_or_none (Err e) is o same = inr (none, (e, same))
+    where
+      none : HaveNoImage l s xs
+      none files w =
+          let link : IsLinkedTo (output_of l) s k.modules files = (one_program (output_of l) s xs k.modules files k.objects).0 w in
+          ok_err link.linked e (sym (linked_so link.linked (Err e) link.link is))
+
+  does_whole : (o : Outcome) → Does l m o → DoesWhole l s xs m o
+  does_whole o does = record {
+    does = does;
+    has = λ files w. has_files files w o does;
+    only = image_or_none does.0 does.1 o does.2;
+  }
+
+  -- a refusal, or want of memory, has no files and fails
+  fails_alone : (o : Outcome) → DoesWhole l s xs m o ⊎ (o ≡ failing memory_message) → HaveNoImage l s xs → (o.outputs ≡ []) × (o.status ≡ Failure)
+  fails_alone o (inr same) none = (ap (λ (z : Outcome). z.outputs) same, ap (λ (z : Outcome). z.status) same)
+  fails_alone o (inl d) none = by_only d.only
+    where
+      by_only : ((files : List OutputFile) × WholeOf (output_of l) s xs files × HasFiles l files o) ⊎ (HaveNoImage l s xs × IsRefusal l o) → (o.outputs ≡ []) × (o.status ≡ Failure)
+      by_only (inl (files, w, has)) = absurd (none files w)
+      by_only (inr (no, (e, same))) = (ap (λ (z : Outcome). z.outputs) same, ap (λ (z : Outcome). z.status) same)
+
   writes_whole : (new : Option Files) (out_old out_new err_old err_new : Option (List ℕ)) (status : Status) → Ran (Does l) memory_message m new out_old out_new err_old err_new status → WritesWhole l s xs m new out_old out_new err_old err_new status
   writes_whole new out_old out_new err_old err_new status (o, does, left) = record {
-    writes = λ files w. (o, carried files w does, left);
+    ran = (o, carried does, left);
     wrote = λ e. (let well = carried_out o memory_message m new out_old out_new err_old err_new status e left in wrote o new does well.0 well.1);
+    refused = λ none. (let fails = fails_alone o (carried does) none in left_alone o memory_message m new out_old out_new err_old err_new status fails.0 fails.1 left);
   }
     where
-      carried : (files : List OutputFile) → WholeOf (output_of l) s xs files → Does l m o ⊎ (o ≡ failing memory_message) → HasFiles l files o ⊎ (o ≡ failing memory_message)
-      carried files w (inl does) = inl (has_files files w o does)
-      carried files w (inr same) = inr same
+      carried : Does l m o ⊎ (o ≡ failing memory_message) → DoesWhole l s xs m o ⊎ (o ≡ failing memory_message)
+      carried (inl does) = inl (does_whole o does)
+      carried (inr same) = inr same
 
 -- ---- Lines and words.
 

@@ -23,11 +23,12 @@ use Rattle.line65.specs.Line.{Linking, Says, line_of, link}
 use Rattle.line65.specs.Messages.{line_memory_message}
 use Rattle.line65.specs.declared.fault.LineFault.{LineFault}
 use Rattle.ld65.specs.Linkage.{ByKind, Input, chosen, file_input, index_in, is_library_in, member_input, object_in, output_of}
-use Rattle.ld65.specs.Refusals.{memory_message}
+use Rattle.ld65.specs.Refusals.{memory_message, refusal_message}
+use Rattle.ld65.specs.declared.refusal.Refusal.{Refusal}
 use Rattle.tools65.specs.declared.outcome.Outcome.{Outcome}
 use Rattle.tools65.specs.declared.outcome.Status.{Status}
-use Rattle.tools65.specs.declared.outcome.Status.TheVariants.{Success}
-use Rattle.tools65.specs.Command.{Commands, DoesLine, Ran, line_memory}
+use Rattle.tools65.specs.declared.outcome.Status.TheVariants.{Failure, Success}
+use Rattle.tools65.specs.Command.{Commands, Does, DoesLine, Ran, line_memory}
 use Rattle.tools65.specs.Leaving.{Performs, apply}
 use Rattle.tools65.specs.Outputs.{failing, with_map}
 
@@ -119,15 +120,33 @@ HasFiles l files o =
 abbrev pub WroteFiles : Linking → List OutputFile → Files → Option Files → Type 0
 WroteFiles l files m new = (map : List ℕ) × (new ≡ Some (apply (with_map l.map files map) m))
 
+-- a link's outcome is a refusal: it says why, writes nothing and fails
+abbrev pub IsRefusal : Linking → Outcome → Type 0
+IsRefusal l o = (e : Refusal) × (o ≡ failing (refusal_message l e))
+
+-- sources have no image as one program
+abbrev pub HaveNoImage : Linking → Script → List Source → Type 0
+HaveNoImage l s xs = (files : List OutputFile) → WholeOf (output_of l) s xs files → ⊥
+
+-- What a line does with these files, where its modules are those of sources.
+pub record DoesWhole (l : Linking) (s : Script) (xs : List Source) (m : Files) (o : Outcome) : Type 0 where
+  pub does : Does l m o
+  -- where the sources have an image as one program, its files and then the map
+  pub has : (files : List OutputFile) → WholeOf (output_of l) s xs files → HasFiles l files o
+  -- nothing but those files, or a refusal where there is no image
+  pub only :
+      ((files : List OutputFile) × WholeOf (output_of l) s xs files × HasFiles l files o)
+      ⊎ (HaveNoImage l s xs × IsRefusal l o)
+
 -- A run over sources' objects writes an image exactly where the sources have one as one program, and that image.
 pub record WritesWhole (l : Linking) (s : Script) (xs : List Source) (m : Files) (new : Option Files) (out_old out_new err_old err_new : Option (List ℕ)) (status : Status) : Type 0 where
-  -- where they have one, the run carries out its files, or says that memory ran out
-  pub writes :
-      (files : List OutputFile) → WholeOf (output_of l) s xs files
-      → Ran (λ m o. HasFiles l files o) memory_message m new out_old out_new err_old err_new status
+  -- the run carries that out, or says that memory ran out
+  pub ran : Ran (DoesWhole l s xs) memory_message m new out_old out_new err_old err_new status
   -- a run that succeeds wrote such an image
   pub wrote :
       status ≡ Success → (files : List OutputFile) × WholeOf (output_of l) s xs files × WroteFiles l files m new
+  -- where there is none, no file is written and the run fails
+  pub refused : HaveNoImage l s xs → (new ≡ Some m) × (status ≡ Failure)
 
 abbrev pub LinksWhole : Linking → Files → Option Files → Option (List ℕ) → Option (List ℕ) → Option (List ℕ) → Option (List ℕ) → Status → Type 0
 LinksWhole l m new out_old out_new err_old err_new status =

@@ -9,7 +9,7 @@ pub fn one_program()
 {}
 
 /// What `run` does with words that are a link of sources' objects: it writes an image exactly where the
-/// sources have one as one program, and that image.
+/// sources have one as one program, and that image; where they have none it is refused and writes nothing.
 pub fn runs_of_one_program()
     ensures { RunsLaw }
 {}

@@ -1,6 +1,7 @@
 pub mod Begun
 pub mod Kept
 pub mod Longs
+pub mod Named
 pub mod Names
 pub mod Puts
 pub mod Takes

@@ -1,5 +1,5 @@
 -- What is found or done one item behind the other.
-use Rattle.std.proofs.Common.{◌≡◌, ◌∙◌, ℕ, zero, suc, ◌+◌, ◌<◌, Bool, true, false, List, [], ◌∷◌, ◌++◌, length, get_or, drop, map, refl, sym, ap, add-one, append_assoc, arith, Result, Ok, Err}
+use Rattle.std.proofs.Common.{◌≡◌, ◌∙◌, ℕ, zero, suc, ◌+◌, ◌<◌, Bool, true, false, List, [], ◌∷◌, ◌++◌, length, get_or, slice_get, drop, map, Some, refl, sym, ap, add-one, append_assoc, arith, Result, Ok, Err}
 use Rattle.std.specs.Borrow.{Bor}
 use Rattle.std.proofs.lemmas.List.{append-nil}
 use Rattle.syntax65.specs.Outcome.{◌>>=◌, Refuses, Unless, each}
@@ -50,6 +50,11 @@ next_here f (y ∷ ys) (suc k) x h = next_here f ys k x (omega (arith, h))
 -- the next name of the line, and those behind it
 pub name_next : {B : Type 0} (f : Bor (List ℕ) → B) (files : List (Bor (List ℕ))) (k : ℕ) (x : Bor (List ℕ)) → k < length files → drop k (map f files) ≡ f (get_or files k x) ∷ drop (k + 1) (map f files)
 name_next f files k x h = rw add-one (next_here f files k x h)
+
+pub name_there : (files : List (Bor (List ℕ))) (k : ℕ) → k < length files → (name : List ℕ) × (slice_get (map (λ s. s.now) files) k ≡ Some name)
+name_there [] k h = absurd (omega arith)
+name_there (y ∷ ys) zero h = (y.now, refl)
+name_there (y ∷ ys) (suc k) h = name_there ys k (omega (arith, h))
 
 member_here : (files : List (Bor (List ℕ))) (k : ℕ) (x : Bor (List ℕ)) → k < length files → drop k (map member_name (map (λ s. s.now) files)) ≡ member_name (get_or files k x).now ∷ drop (suc k) (map member_name (map (λ s. s.now) files))
 member_here [] k x h = absurd (omega arith)

@@ -1,3 +1,4 @@
 pub mod Librarian
 pub mod Refusals
+pub mod Naming
 pub mod Laws

@@ -1,12 +1,13 @@
 //! What a line of the librarian comes to.
 
-ghost use Rattle.std.specs.Prelude.{◌≡◌, IfSome};
+ghost use Rattle.std.specs.Prelude.{◌≡◌, IfErr, IfSome};
 ghost use Rattle.std.specs.FinMap as map;
 ghost use Rattle.syntax65.specs.Outcome.{Gives};
 ghost use Rattle.syntax65.specs.Store.{PassesBy};
 ghost use Rattle.line65.specs.Line.{archiving};
 ghost use Rattle.ar65.specs.Librarian.{archived_of, deleted_by, extracted_by, listed_by, replaced_by};
 ghost use Rattle.ar65.specs.Refusals.{is_failure, is_outside};
+ghost use Rattle.ar65.specs.Naming.{NamesEither, NamesLibrary, NamesOfLine};
 
 use crate::deleting::delete_files;
 use crate::extracting::{MemberFile, extract_files};
@@ -42,6 +43,7 @@ fn replace<S: Store>(
         Gives is_outside (λ a. a) result (replaced_by m (archiving line.now))) }
     ensures files { S.files store.new ≡ S.files store.old }
     ensures count { PassesBy is_failure (S.failures store.old) (S.failures store.new) result }
+    ensures named { IfErr result (NamesEither (archiving line.now).files) }
 {
     let mut library = load_or_begin(alloc, store, line.library)?;
     put_files(alloc, store, &mut library, line.files.as_slice())?;
@@ -59,6 +61,7 @@ fn delete<S: Store>(
         Gives is_outside (λ a. a) result (deleted_by m (archiving line.now))) }
     ensures files { S.files store.new ≡ S.files store.old }
     ensures count { PassesBy is_failure (S.failures store.old) (S.failures store.new) result }
+    ensures named { IfErr result NamesLibrary }
 {
     let mut library = Library::load(alloc, store, line.library)?;
     delete_files(&mut library, line.files.as_slice())?;
@@ -72,6 +75,7 @@ fn list<S: Store>(alloc: Global, store: &mut S, line: &ArchiveLine<'_>) -> Resul
         Gives is_outside (λ a. a) result (listed_by m (archiving line.now))) }
     ensures files { S.files store.new ≡ S.files store.old }
     ensures count { PassesBy is_failure (S.failures store.old) (S.failures store.new) result }
+    ensures named { IfErr result NamesLibrary }
 {
     let library = Library::load(alloc, store, line.library)?;
     Ok(Archived::Names(list_names(alloc, &library)?))
@@ -88,6 +92,7 @@ fn extract<S: Store>(
         Gives is_outside (λ a. a) result (extracted_by m (archiving line.now))) }
     ensures files { S.files store.new ≡ S.files store.old }
     ensures count { PassesBy is_failure (S.failures store.old) (S.failures store.new) result }
+    ensures named { IfErr result NamesLibrary }
 {
     let library = Library::load(alloc, store, line.library)?;
     Ok(Archived::Members(extract_files(alloc, &library, line.files.as_slice())?))
@@ -105,6 +110,7 @@ pub fn archive<S: Store>(
         Gives is_outside (λ a. a) result (archived_of m (archiving line.now))) }
     ensures files { S.files store.new ≡ S.files store.old }
     ensures count { PassesBy is_failure (S.failures store.old) (S.failures store.new) result }
+    ensures named { IfErr result (NamesOfLine (archiving line.now)) }
 {
     match line.operation {
         Operation::Replace => replace(alloc, store, line),

@@ -1,11 +1,12 @@
 //! Objects put into a library.
 
-ghost use Rattle.std.specs.Prelude.{◌≡◌, IfSome, map};
+ghost use Rattle.std.specs.Prelude.{◌≡◌, IfErr, IfSome, map};
 ghost use Rattle.syntax65.specs.Outcome.{Gives};
 ghost use Rattle.syntax65.specs.Store.{Passes, PassesBy};
 ghost use Rattle.library65.specs.Fault.{is_outside as is_library_outside};
 ghost use Rattle.ar65.specs.Librarian.{with_file, with_files};
 ghost use Rattle.ar65.specs.Refusals.{is_failure, is_outside};
+ghost use Rattle.ar65.specs.Naming.{NamesFiles};
 
 use crate::naming::member_name;
 use crate::reading::{CHUNK, read_front};
@@ -46,6 +47,7 @@ pub fn put_files<S: Store>(
         Gives is_outside (λ _. library.new) result (with_files m library.old 0 (map (λ s. s.now) files.now))) }
     ensures files { S.files store.new ≡ S.files store.old }
     ensures count { PassesBy is_failure (S.failures store.old) (S.failures store.new) result }
+    ensures named { IfErr result (NamesFiles (map (λ s. s.now) files.now)) }
 {
     let mut chunk = [0u8; CHUNK];
     for (place, file) in files.iter().enumerate() {

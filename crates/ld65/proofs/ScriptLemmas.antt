@@ -6,6 +6,7 @@ use Rattle.std.proofs.lemmas.Bool.Decides.{nat_tests}
 use Rattle.std.proofs.lemmas.List.{take_all, length-take}
 use Rattle.syntax65.specs.Outcome.{First, Finds, Unless}
 use Rattle.syntax65.specs.Store.{Files}
+use Rattle.syntax65.specs.declared.store.StoreFault.TheVariants.{FileNotFound}
 use Rattle.script65.specs.declared.script.Script.{Script}
 use Rattle.script65.specs.declared.fault.Stop.{Stop}
 use Rattle.script65.specs.declared.fault.Fault.TheVariants.{TooLong}
@@ -93,3 +94,16 @@ script_err (Some m) l text e read is = outside (is_script_outside e) is
     outside : (b : Bool) → Unless b (IsScript text (Err e)) → Unless (b || false) (IsLinked m l (Err (refusal.Script e)))
     outside true h = tt
     outside false h = read_script m l (get m l.script) text (Err e) (Err (refusal.Script e)) read h refl
+
+-- a script that wasn't read
+pub script_unread : (known : Option Files) (l : Linking) (e : Refusal) → IfSome known (λ m. Finds is_outside (λ r. r ≡ script_text m l.script) (Err e)) → IfSome known (λ m. Finds is_outside (IsLinked m l) (Err e))
+script_unread None l e read = tt
+script_unread (Some m) l e read = outside (is_outside e) read
+  where
+    unread : (file : Option (List ℕ)) → Err e ≡ front_of (text_of file) → First (text_of file) (λ text u. (q : Result Script ScriptFault) × IsScript text q × First (as_script q) (IsLinkedBy m l) u) (Err e)
+    unread None h = let same : e ≡ refusal.ScriptFile FileNotFound = cc in ap (λ z. Err z) same
+    unread (Some bytes) h = absurd cc
+
+    outside : (b : Bool) → Unless b (Err e ≡ script_text m l.script) → Unless b (IsLinked m l (Err e))
+    outside true h = tt
+    outside false h = unread (get m l.script) h

@@ -1,6 +1,6 @@
 //! The inputs of a line, fed to a linker.
 
-ghost use Rattle.std.specs.Prelude.{◌≡◌, List, OnOk, IfSome, Ok, map, false};
+ghost use Rattle.std.specs.Prelude.{◌≡◌, List, OnOk, IfErr, IfSome, Ok, map, false};
 ghost use Rattle.std.specs.FinMap.{get};
 ghost use Rattle.syntax65.specs.Outcome.{Gives};
 ghost use Rattle.syntax65.specs.Store.{Passes, PassesBy};
@@ -12,6 +12,7 @@ ghost use Rattle.link65.specs.Standing.{IsFed, Keeps, is_open};
 ghost use Rattle.ld65.specs.Feeding.{FeedsFile, FeedsInput, FeedsInputs};
 ghost use Rattle.ld65.specs.Linkage.{is_library};
 ghost use Rattle.ld65.specs.Refusals.{is_failure};
+ghost use Rattle.ld65.specs.Naming.{NamesInput, NamesInputs};
 
 use crate::choosing::Named;
 use crate::feeding::{ObjectInput, feed_object};
@@ -50,6 +51,7 @@ fn feed_file<S: Store>(
     ensures files { S.files store.new ≡ S.files store.old }
     ensures count { (modules : List Module) → IsFed linker.old modules →
         PassesBy is_failure (S.failures store.old) (S.failures store.new) result }
+    ensures named { IfErr result (NamesInput input.now.place input.now.name.now) }
 {
     let object = ObjectInput {
         file: input.name,
@@ -79,6 +81,7 @@ fn feed_input<S: Store>(
     ensures files { S.files store.new ≡ S.files store.old }
     ensures count { (modules : List Module) → IsFed linker.old modules →
         PassesBy is_failure (S.failures store.old) (S.failures store.new) result }
+    ensures named { IfErr result (NamesInput input.now.place input.now.name.now) }
 {
     match is_library(store, input.name) {
         Ok(true) => feed_library(alloc, store, linker, input),
@@ -101,6 +104,7 @@ pub fn feed_inputs<S: Store>(
     ensures files { S.files store.new ≡ S.files store.old }
     ensures count { (modules : List Module) → IsFed linker.old modules →
         PassesBy is_failure (S.failures store.old) (S.failures store.new) result }
+    ensures named { IfErr result (NamesInputs (map (λ s. s.now) inputs.now)) }
 {
     let mut reader = RecordReader::new();
     for (place, name) in inputs.iter().enumerate() {

@@ -1,12 +1,15 @@
 //! From the files of a line to what they are linked to.
 
-ghost use Rattle.std.specs.Prelude.{◌≡◌, IfSome, [], false};
+ghost use Rattle.std.specs.Prelude.{◌≡◌, IfErr, IfSome, [], true};
 ghost use Rattle.syntax65.specs.Outcome.{Finds};
 ghost use Rattle.syntax65.specs.Store.{PassesBy};
 ghost use Rattle.line65.specs.Line.{linking};
 ghost use Rattle.ld65.specs.Refusals.{is_outside, is_failure};
 ghost use Rattle.ld65.specs.Linkage.{output_of, IsLinkedBy, IsLinked};
 ghost use Rattle.ld65.specs.Texts.{script_text};
+ghost use Rattle.ld65.specs.Naming.{NamesInputs, NamesOfLine};
+ghost use Rattle.ld65.specs.declared.refusal.Refusal.TheVariants.{ScriptFile};
+ghost use Rattle.syntax65.specs.declared.store.StoreFault.TheVariants.{FileError};
 
 use crate::inputs::feed_inputs;
 use crate::refusal::Refusal;
@@ -36,6 +39,7 @@ fn link_inputs<S: Store>(
     ensures linked { IfSome (S.files store.old) (λ m. Finds is_outside (IsLinkedBy m (linking line.now) script) result) }
     ensures files { S.files store.new ≡ S.files store.old }
     ensures count { PassesBy is_failure (S.failures store.old) (S.failures store.new) result }
+    ensures named { IfErr result (NamesInputs (linking line.now).inputs) }
 {
     let mut linker = Linker::new(alloc, script, output_of(line))?;
     feed_inputs(alloc, store, &mut linker, line.inputs.as_slice())?;
@@ -47,6 +51,7 @@ fn read_text<S: Store>(alloc: Global, store: &mut S, name: &str) -> Result<Seque
     ensures read { IfSome (S.files store.old) (λ m. Finds is_outside (λ r. r ≡ script_text m name.now) result) }
     ensures files { S.files store.new ≡ S.files store.old }
     ensures count { PassesBy is_failure (S.failures store.old) (S.failures store.new) result }
+    ensures named { IfErr result (λ e. is_failure e ≡ true → e ≡ ScriptFile FileError) }
 {
     Ok(Sequence::from_vec(read_front(alloc, store, name, SCRIPT_LIMIT + 1)?))
 }
@@ -62,6 +67,7 @@ pub fn link_files<S: Store>(
     ensures linked { IfSome (S.files store.old) (λ m. Finds is_outside (IsLinked m (linking line.now)) result) }
     ensures files { S.files store.new ≡ S.files store.old }
     ensures count { PassesBy is_failure (S.failures store.old) (S.failures store.new) result }
+    ensures named { IfErr result (NamesOfLine (linking line.now)) }
 {
     let text = read_text(alloc, store, line.script)?;
     let script = read_script(alloc, text.as_slice())?;

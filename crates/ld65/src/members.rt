@@ -1,6 +1,6 @@
 //! The members of a library, fed to a linker.
 
-ghost use Rattle.std.specs.Prelude.{◌≡◌, ◌+◌, ◌≤◌, ◌∷◌, [], List, IfOk, OnOk, false, option_map, slice_get};
+ghost use Rattle.std.specs.Prelude.{◌≡◌, ◌+◌, ◌≤◌, ◌∷◌, [], List, IfErr, IfOk, OnOk, false, option_map, slice_get};
 ghost use Rattle.std.specs.List.{AllByRecursion};
 ghost use Rattle.syntax65.specs.Store.{PassesBy};
 ghost use Rattle.object65.specs.Reading.{file_limit};
@@ -9,6 +9,7 @@ ghost use Rattle.link65.specs.Standing.{IsFed, Keeps, is_open};
 ghost use Rattle.ld65.specs.Feeding.{FeedsLibrary, FeedsMembers};
 ghost use Rattle.ld65.specs.Linkage.{chosen, chosen_at, member_module};
 ghost use Rattle.ld65.specs.Refusals.{is_failure};
+ghost use Rattle.ld65.specs.Naming.{NamesInput, NamesMember};
 
 use crate::choosing::{Choice, Named, choose_members};
 use crate::feeding::{ObjectInput, feed_object};
@@ -58,6 +59,7 @@ fn feed_member<S: Store>(
     ensures files { S.files store.new ≡ S.files store.old }
     ensures count { (modules : List Module) → IsFed linker.old modules →
         PassesBy is_failure (S.failures store.old) (S.failures store.new) result }
+    ensures named { IfErr result (NamesMember member.now.library.now) }
 {
     let name = module_name(alloc, member)?;
     let object = ObjectInput {
@@ -103,6 +105,7 @@ fn feed_chosen<S: Store>(
     ensures files { S.files store.new ≡ S.files store.old }
     ensures count { (modules : List Module) → IsFed linker.old modules →
         PassesBy is_failure (S.failures store.old) (S.failures store.new) result }
+    ensures named { IfErr result (NamesMember chosen.now.library.now) }
 {
     let library = chosen.library;
     match entry_at(chosen.entries, chosen.place) {
@@ -127,6 +130,7 @@ fn feed_members<S: Store>(
     ensures files { S.files store.new ≡ S.files store.old }
     ensures count { (modules : List Module) → IsFed linker.old modules →
         PassesBy is_failure (S.failures store.old) (S.failures store.new) result }
+    ensures named { IfErr result (NamesMember library.now) }
 {
     let entries = choice.index.entries.as_slice();
     let places = choice.places.as_slice();
@@ -157,6 +161,7 @@ pub fn feed_library<S: Store>(
     ensures files { S.files store.new ≡ S.files store.old }
     ensures count { (modules : List Module) → IsFed linker.old modules →
         PassesBy is_failure (S.failures store.old) (S.failures store.new) result }
+    ensures named { IfErr result (NamesInput input.now.place input.now.name.now) }
 {
     let choice = choose_members(alloc, store, linker, input)?;
     feed_members(alloc, store, linker, input.name, &choice)

@@ -1,6 +1,7 @@
 use Rattle.std.proofs.Common.{◌∙◌, map}
+use Rattle.ar65.proofs.Named.{of_file}
 use Rattle.ar65.proofs.Puts.{file_more, file_none, refused_count, same_count}
-use Rattle.ar65.proofs.Turns.{name_next}
+use Rattle.ar65.proofs.Turns.{name_next, name_there}
 use Rattle.ar65.proofs.replacing.put_files.Goals as goal
 
 pub returns-in-Err-clause-put : goal.returns-in-Err-clause-put
@@ -16,3 +17,8 @@ loop-place-preserved g c = record {
   left = file_more _ _ c.args.library.now c.loop-place.library c.put_file.new.library (map (λ s. s.now) c.args.files.now) c.loop-place.place _ c.loop-place.invariant.files (name_next (λ s. s.now) c.args.files.now c.loop-place.place _ c.loop-place-test.true) c.loop-place.invariant.left c.in-Ok.ensures.put;
   count = same_count _ _ _ _ c.loop-place.invariant.count c.in-Ok.ensures.count;
 }
+
+pub returns-in-Err-clause-named : goal.returns-in-Err-clause-named
+returns-in-Err-clause-named g c =
+    let there = name_there c.args.files.now c.loop-place.place c.loop-place-test.true in
+    of_file (map (λ s. s.now) c.args.files.now) c.loop-place.place there.0 c.in-Err.fault there.1

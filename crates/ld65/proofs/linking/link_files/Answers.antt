@@ -4,8 +4,13 @@ use Rattle.syntax65.specs.Outcome.{Unless}
 use Rattle.line65.specs.Line.{linking}
 use Rattle.script65.specs.Faults.{is_script_outside}
 use Rattle.script65.specs.Scripts.{IsScript}
-use Rattle.ld65.proofs.ScriptLemmas.{script_ok, script_err}
+use Rattle.ld65.proofs.ScriptLemmas.{script_ok, script_err, script_unread}
 use Rattle.ld65.proofs.linking.link_files.Goals as goal
+
+pub returns-in_err-text-clause-linked : goal.returns-in_err-text-clause-linked
+returns-in_err-text-clause-linked g c =
+    let p = err_from_is_err_and c.from_residual.result c.from_residual.ensures.1 in
+    rw (p.1, p.2) (script_unread _ (linking c.args.line.now) c.in_err-text.field-0.0 c.in_err-text.ensures.read)
 
 pub returns-in_err-script-clause-linked : goal.returns-in_err-script-clause-linked
 returns-in_err-script-clause-linked g c =

@@ -134,7 +134,7 @@ module _ (l : Linking) (m : Files) (s : Script) (xs : List Source) (k : SelectsS
     where
       by_only : ((files : List OutputFile) × WholeOf (output_of l) s xs files × HasFiles l files o) ⊎ (HaveNoImage l s xs × IsRefusal l o) → (o.outputs ≡ []) × (o.status ≡ Failure)
       by_only (inl (files, w, has)) = absurd (none files w)
-      by_only (inr (no, (e, same))) = (ap (λ (z : Outcome). z.outputs) same, ap (λ (z : Outcome). z.status) same)
+      by_only (inr (none_there, (e, same))) = (ap (λ (z : Outcome). z.outputs) same, ap (λ (z : Outcome). z.status) same)
 
   writes_whole : (new : Option Files) (out_old out_new err_old err_new : Option (List ℕ)) (status : Status) → Ran (Does l) memory_message m new out_old out_new err_old err_new status → WritesWhole l s xs m new out_old out_new err_old err_new status
   writes_whole new out_old out_new err_old err_new status (o, does, left) = record {

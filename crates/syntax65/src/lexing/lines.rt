@@ -42,7 +42,7 @@ pub fn line_tokens(alloc: Global, line: &[u8]) -> Result<Vec<Token<'_>>, LexFaul
 }
 
 /// What stands behind the blanks.
-fn skip_blanks(line: &[u8]) -> &[u8]
+pub fn skip_blanks(line: &[u8]) -> &[u8]
     ensures { result.now ≡ after_blanks line.now }
 {
     let (_, here) = line.split_at(blank_len(line));
@@ -50,7 +50,7 @@ fn skip_blanks(line: &[u8]) -> &[u8]
 }
 
 /// Whether the line ends here, or a comment begins.
-fn is_end(here: &[u8]) -> bool
+pub fn is_end(here: &[u8]) -> bool
     ensures { IsTrue result ↔ IsEnd here.now }
 {
     match here.first() {

@@ -5,7 +5,6 @@ ghost use Rattle.syntax65.specs.Faults.{is_lex_outside};
 ghost use Rattle.syntax65.specs.Relations.{Answers};
 ghost use Rattle.syntax65.specs.Tokens.{after_blanks, lexemes, IsEnd, IsRead};
 
-use super::classes::{Class, class_of};
 use super::fault::LexFault;
 use super::places::token_at;
 use super::scanning::blank_len;
@@ -55,6 +54,6 @@ pub fn is_end(here: &[u8]) -> bool
 {
     match here.first() {
         None => true,
-        Some(first) => class_of(*first) == Class::Semicolon,
+        Some(first) => *first == b';',
     }
 }

@@ -1,9 +1,9 @@
 -- Lines without a label and a directive, and what they do to blocks.
-use Rattle.std.proofs.Common.{◌≡◌, ℕ, zero, suc, Bool, true, false, not, take, drop, List, [], ◌∷◌, ◌++◌, Option, Some, None, ap, refl, sym, ◌∙◌, subst}
+use Rattle.std.proofs.Common.{◌≡◌, ℕ, zero, suc, Bool, true, false, not, take, drop, List, [], ◌∷◌, ◌++◌, Option, None, ap, refl, sym, ◌∙◌}
 use Rattle.std.specs.Prelude.{if◌then◌else◌, ◌&&◌, slice_get}
 use Rattle.syntax65.specs.Tokens.{Lexeme}
-use Rattle.expand65.specs.Blocks.{Verdict, on, Branch, collecting, collects, gathering, gathers, passes, passing, skips, skipping, mislabelled}
-use Rattle.expand65.specs.Fronts.{front_directive, is_colon, is_label_name, is_mislabelled, label_len, line_directive, directive_in}
+use Rattle.expand65.specs.Blocks.{Verdict, on, collecting, collects, gathering, gathers, passes, passing, skips, skipping, mislabelled}
+use Rattle.expand65.specs.Fronts.{is_colon, is_label_name, is_mislabelled, label_len, line_directive, directive_in}
 use Rattle.expand65.specs.Kept.{cut}
 use Rattle.expand65.specs.Passing.{directive_of_first, is_colon_there}
 use Rattle.expand65.specs.Plain.{IsColonAt, IsPlain}

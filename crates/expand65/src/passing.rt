@@ -1,6 +1,6 @@
 //! Lines of a file that are passed over where they stand, neither copied nor kept.
 
-ghost use Rattle.std.specs.Prelude.{◌≡◌, ◌<◌, ◌≤◌, Bool, List, None, IfNone, IfSome, IsTrue, false};
+ghost use Rattle.std.specs.Prelude.{◌≡◌, ◌<◌, ◌≤◌, List, IfNone, IfSome, IsTrue, false};
 ghost use Rattle.syntax65.specs.Scanned.{IsFront};
 ghost use Rattle.syntax65.specs.Store.{Files};
 ghost use Rattle.syntax65.specs.Tokens.{Lexeme, lexeme_of};

@@ -1,4 +1,4 @@
-use Rattle.std.proofs.Common.{◌≡◌, sym, subst, true, false, refl, IsTrue}
+use Rattle.std.proofs.Common.{sym, subst, false, refl, IsTrue}
 use Rattle.std.proofs.lemmas.Result.{err_from_is_err_and}
 use Rattle.syntax65.specs.Forms.{Begins, FaultAt}
 use Rattle.syntax65.specs.Tokens.{IsEnd, after_blanks}

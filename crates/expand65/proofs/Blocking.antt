@@ -8,6 +8,8 @@ use Rattle.expand65.specs.Blocks.{Verdict, on, closed, refused, Block, a_fault, 
 use Rattle.expand65.specs.Faults.{is_outside}
 use Rattle.expand65.specs.Inside.{left_of}
 use Rattle.expand65.specs.Judging.{Judges}
+use Rattle.expand65.specs.Passing.{Plainly, no_line as none_passed, a_line}
+use Rattle.expand65.specs.Plain.{IsPlain}
 use Rattle.expand65.specs.State.{Left, Stop}
 use Rattle.expand65.specs.Taking.{Takes}
 use Rattle.expand65.specs.declared.blocks.BlockStep.{BlockStep}
@@ -73,3 +75,12 @@ line_goes_on judge (Some m) first reader new a0 a c ts h t j = λ r k. h r (one_
 pub step_goes_on : {A B : Type 0} (next : ℕ → A) (last : B) (s : BlockStep) (v : Verdict A B) → (s ≡ Closed → ⊥) → Judges next last (Ok s) v → (d : ℕ) × (v ≡ on (next d))
 step_goes_on next last (On d) v h j = (d, j)
 step_goes_on next last Closed v h j = absurd (h refl)
+
+-- lines that change nothing
+over_plain : {A B : Type 0} (judge : A → List Lexeme → Verdict A B) (a : A) (l n : Left) (r : Result (B × Left) Stop) → ((ts : List Lexeme) → IsPlain ts → judge a ts ≡ on a) → Plainly l n → Block judge a n r → Block judge a l r
+over_plain judge a _ _ r same (none_passed l) h = h
+over_plain judge a _ _ r same (a_line l m n before (ts, taken, plain)) h = over_plain judge a l m r same before (one_more a a m n ts r taken (same ts plain) h)
+
+pub lines_passed : {A B : Type 0} (judge : A → List Lexeme → Verdict A B) (o : Option Files) (first reader new : Reader) (a0 a : A) → ((ts : List Lexeme) → IsPlain ts → judge a ts ≡ on a) → ((m : Files) → Plainly (left_of m reader) (left_of m new)) → IfSome o (Leads judge a reader a0 first) → IfSome o (Leads judge a new a0 first)
+lines_passed judge None first reader new a0 a same passed h = tt
+lines_passed judge (Some m) first reader new a0 a same passed h = λ r k. h r (over_plain judge a (left_of m reader) (left_of m new) r same (passed m) k)

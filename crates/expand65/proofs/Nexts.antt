@@ -5,6 +5,7 @@ use Rattle.syntax65.specs.Store.{Files}
 use Rattle.expand65.specs.Faults.{is_outside}
 use Rattle.expand65.specs.Inside.{ComesNext, TakesLine, moved_by, left_in, mark_of, own, outside, left_of}
 use Rattle.expand65.specs.Kept.{tokens_in}
+use Rattle.expand65.specs.Passing.{PassesLine, PassesPlain}
 use Rattle.expand65.specs.State.{Item, written, played, mark, left, moved}
 use Rattle.expand65.specs.Taking.{IsOpened, Takes, TakesFrom}
 use Rattle.expand65.specs.declared.fault.ExpandFault.{ExpandFault}
@@ -89,3 +90,17 @@ told_refused (Some m) old mid last place room n f c s h t p r =
     let Q : ℕ → Type 0 = λ x. Unless (is_outside f) (TakesFrom (left_of m old).items x old.place (Err (f, moved_by n old.place))) in
     let S : Place → Type 0 = λ q. Unless (is_outside f) (TakesFrom (left_of m old).items old.room old.place (Err (f, q))) in
     subst S (sym p) (subst Q r (subst P before one))
+
+-- a line that is passed over where it stands
+pub line_passed : (m : Files) (old new : Reader) (n : ℕ) → PassesLine (left_in m old.top.source) n (left_in m new.top.source) → mark_of new.top ≡ mark_of old.top → new.outer ≡ old.outer → new.place ≡ moved old.place n → suc new.room ≡ old.room → PassesPlain (left_of m old) (left_of m new)
+line_passed m old new n (bytes, e, (ts, read, plain)) k u p r =
+    let tail = mark (mark_of old.top) ∷ outside m old.outer.items in
+    let after = left_in m new.top.source in
+    let one : TakesFrom ((written n bytes ∷ after) ++ tail) (suc new.room) old.place (Ok (Some ts, left (after ++ tail) new.room (moved old.place n))) = (Ok ts, (Ok ts, read, refl), refl) in
+    let items : after ++ tail ≡ (left_of m new).items = ap (λ x. after ++ (mark x ∷ outside m old.outer.items)) (sym k) ∙ ap (λ x. after ++ (mark (mark_of new.top) ∷ outside m x.items)) (sym u) ∙ sym (parted m new) in
+    let before : (written n bytes ∷ after) ++ tail ≡ (left_of m old).items = ap (λ l. l ++ tail) (sym e) ∙ sym (parted m old) in
+    let P : List Item → Type 0 = λ l. TakesFrom l (suc new.room) old.place (Ok (Some ts, left (after ++ tail) new.room (moved old.place n))) in
+    let Q : ℕ → Type 0 = λ x. TakesFrom (left_of m old).items x old.place (Ok (Some ts, left (after ++ tail) new.room (moved old.place n))) in
+    let R : List Item → Type 0 = λ l. TakesFrom (left_of m old).items old.room old.place (Ok (Some ts, left l new.room (moved old.place n))) in
+    let S : Place → Type 0 = λ q. TakesFrom (left_of m old).items old.room old.place (Ok (Some ts, left (left_of m new).items new.room q)) in
+    (ts, subst S (sym p) (subst R items (subst Q r (subst P before one))), plain)

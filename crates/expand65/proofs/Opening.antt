@@ -1,6 +1,7 @@
 -- Lines that are taken of files and bodies.
-use Rattle.std.proofs.Common.{◌≡◌, ℕ, suc, ◌+◌, ◌<◌, Bool, true, false, List, [], ◌∷◌, length, map, drop, refl, sym, ap, ◌∙◌, arith, Option, Some, None, IfSome, Result, Ok, Err, get_or, drop-cons, add-one, length-append}
-use Rattle.std.proofs.lemmas.List.{drop-map, length-drop}
+use Rattle.std.proofs.Common.{◌≡◌, ℕ, suc, ◌+◌, ◌<◌, Bool, true, false, List, [], ◌∷◌, ◌++◌, length, map, take, drop, refl, sym, ap, ◌∙◌, arith, Option, Some, None, IfSome, Result, Ok, Err, get_or, drop-cons, add-one, length-append}
+use Rattle.std.proofs.lemmas.List.{drop-map, drop-drop, length-drop}
+use Rattle.std.specs.List.{prefix_len}
 use Rattle.syntax65.specs.Faults.{is_lex_outside}
 use Rattle.syntax65.specs.Outcome.{Unless, Refuses}
 use Rattle.syntax65.specs.Store.{Files}
@@ -12,8 +13,9 @@ use Rattle.expand65.specs.Includes.{numbered}
 use Rattle.expand65.specs.Inside.{ComesNext, TakesLine}
 use Rattle.expand65.specs.Kept.{tokens_in}
 use Rattle.expand65.specs.Lines.{lines_of}
+use Rattle.expand65.specs.Passing.{IsPlainLine, PassesLine}
 use Rattle.expand65.specs.Playing.{left_to_play, replacing_of}
-use Rattle.expand65.specs.Reading.{ReadsLine, BeginsLong, content, left_in_file, rest_of}
+use Rattle.expand65.specs.Reading.{ReadsLine, BeginsLong, content, is_inside, left_in_file, rest_of, without_return}
 use Rattle.expand65.specs.Replacing.{Replacing, replaced}
 use Rattle.expand65.specs.State.{Item, written, played}
 use Rattle.expand65.specs.Taking.{IsOpened, fitted, lexed}
@@ -23,7 +25,7 @@ use Rattle.expand65.specs.declared.file.OpenFile.{OpenFile}
 use Rattle.expand65.specs.declared.input.NextLine.TheVariants.{Numbered}
 use Rattle.expand65.specs.declared.line.Line.{Line}
 use Rattle.expand65.specs.declared.playing.Replay.{Replay}
-use Rattle.expand65.proofs.Splitting.{some_line}
+use Rattle.expand65.proofs.Splitting.{piece_ends, some_line}
 
 -- a line without tokens
 pub not_read : (bytes : List ℕ) (e : LexFault) → Unless (is_lex_outside e) (IsRead bytes (Err e)) → Unless (is_outside (fault_of_lexing e)) ((q : Result (List Lexeme) LexFault) × IsRead bytes q × (Err (fault_of_lexing e) ≡ lexed q))
@@ -66,6 +68,16 @@ file_refused (Some m) old new last bytes f h t = by (is_outside f) t
     by : (b : Bool) → Unless b ((q : Result (List Lexeme) LexFault) × IsRead bytes q × (Err f ≡ lexed q)) → Unless b ((i : Item) × ((others : List Item) × (left_in_file m old ≡ i ∷ others) × IsOpened i (Err f)))
     by true k = tt
     by false k = (written (old.line + 1) bytes, (numbered (old.line + 1) (lines_of (rest_of m new)), ap (numbered old.line) h, k))
+
+-- a line that is passed over where it stands
+pub file_passed : (m : Files) (f : OpenFile) (n k : ℕ) → n ≡ prefix_len is_inside (drop f.at f.buffer.items) → n < length (drop f.at f.buffer.items) → IsPlainLine (without_return (take n (drop f.at f.buffer.items))) → k ≡ f.line + 1 → PassesLine (left_in_file m f) k (left_in_file m (record { name = f.name; buffer = f.buffer; at = f.at + (n + 1); next = f.next; line = k; spare = f.spare }))
+file_passed m f n k e lt plain number =
+    let here = drop f.at f.buffer.items in
+    let behind = drop f.next (content m f.name) in
+    let line = without_return (take n here) in
+    let lines : lines_of (rest_of m f) ≡ line ∷ lines_of (drop (n + 1) here ++ behind) = piece_ends [] here behind n refl e lt in
+    let gone : drop (n + 1) here ≡ drop (f.at + (n + 1)) f.buffer.items = drop-drop (n + 1) f.at f.buffer.items in
+    (line, ap (numbered f.line) (lines ∙ ap (λ l. line ∷ lines_of (l ++ behind)) gone) ∙ ap (λ j. written j line ∷ numbered j (lines_of (drop (f.at + (n + 1)) f.buffer.items ++ behind))) (sym number), plain)
 
 -- ---- Lines of bodies.
 

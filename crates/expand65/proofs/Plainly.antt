@@ -1,10 +1,11 @@
 -- Lines without a label and a directive, and what they do to blocks.
-use Rattle.std.proofs.Common.{◌≡◌, ℕ, zero, suc, Bool, true, false, not, take, drop, List, [], ◌∷◌, ◌++◌, Option, Some, None, ap, refl, sym, ◌∙◌, subst}
-use Rattle.std.specs.Prelude.{if◌then◌else◌, ◌&&◌}
+use Rattle.std.proofs.Common.{◌≡◌, ℕ, zero, suc, Bool, true, false, not, take, drop, List, [], ◌∷◌, ◌++◌, Option, None, ap, refl, sym, ◌∙◌}
+use Rattle.std.specs.Prelude.{if◌then◌else◌, ◌&&◌, slice_get}
 use Rattle.syntax65.specs.Tokens.{Lexeme}
-use Rattle.expand65.specs.Blocks.{Verdict, on, Branch, collecting, collects, gathering, gathers, passes, passing, skips, skipping, mislabelled}
-use Rattle.expand65.specs.Fronts.{front_directive, is_colon, is_label_name, is_mislabelled, label_len, line_directive}
+use Rattle.expand65.specs.Blocks.{Verdict, on, collecting, collects, gathering, gathers, passes, passing, skips, skipping, mislabelled}
+use Rattle.expand65.specs.Fronts.{is_colon, is_label_name, is_mislabelled, label_len, line_directive, directive_in}
 use Rattle.expand65.specs.Kept.{cut}
+use Rattle.expand65.specs.Passing.{directive_of_first, is_colon_there}
 use Rattle.expand65.specs.Plain.{IsColonAt, IsPlain}
 use Rattle.expand65.specs.declared.directives.Directive.{Directive}
 use Rattle.expand65.specs.declared.line.Word.{Word}
@@ -50,3 +51,16 @@ plain_collected body ts p = plain_on ts (collecting body ts) (body ++ ts ∷ [])
 pub plain_gathered : (d : ℕ) (body : List (List Lexeme)) (ts : List Lexeme) → IsPlain ts → gathers (d, body) ts ≡ on (d, body ++ ts ∷ [])
 plain_gathered zero body ts p = plain_on ts (gathering zero body ts) (zero, body ++ ts ∷ []) p refl
 plain_gathered (suc d) body ts p = plain_on ts (gathering (suc d) body ts) (suc d, body ++ ts ∷ []) p refl
+
+-- by a line's first two tokens
+pub plain_front : (ts : List Lexeme) (a b : Option Lexeme) → a ≡ slice_get ts 0 → b ≡ slice_get ts 1 → is_colon_there a ≡ false → is_colon_there b ≡ false → directive_of_first a ≡ None → IsPlain ts
+plain_front [] a b e f h k d = (refl, refl)
+plain_front (t ∷ []) a b e f h k d =
+    let first : is_colon t ≡ false = ap is_colon_there (sym e) ∙ h in
+    let no_directive : directive_in t ≡ None = ap directive_of_first (sym e) ∙ d in
+    (rw first (no_name (is_label_name t)), no_directive)
+plain_front (t ∷ u ∷ ts) a b e f h k d =
+    let first : is_colon t ≡ false = ap is_colon_there (sym e) ∙ h in
+    let second : is_colon u ≡ false = ap is_colon_there (sym f) ∙ k in
+    let no_directive : directive_in t ≡ None = ap directive_of_first (sym e) ∙ d in
+    (rw (first, second) (no_name (is_label_name t)), no_directive)

@@ -17,6 +17,7 @@ pub mod Macros
 pub mod Meaning
 pub mod Parting
 pub mod Parts
+pub mod Passing
 pub mod Plain
 pub mod Playing
 pub mod Reading

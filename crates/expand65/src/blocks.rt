@@ -244,6 +244,7 @@ impl Reader {
     {
         let mut depth = 0;
         'lines: loop {
+            self.pass_plain_lines();
             let line = self.block_line(alloc, store)?;
             match passed(alloc, &line, depth)? {
                 BlockStep::Closed => return Ok(()),
@@ -269,6 +270,7 @@ impl Reader {
     {
         let mut depth = 0;
         'lines: loop {
+            self.pass_plain_lines();
             let line = self.block_line(alloc, store)?;
             match skipped(alloc, &line, depth)? {
                 SkipStep::At(branch) => return Ok(branch),

@@ -222,7 +222,7 @@ fn drop_return(line: &mut Vec<u8>)
 }
 
 /// How many bytes stand before the first LF.
-fn line_len(bytes: &[u8]) -> usize
+pub fn line_len(bytes: &[u8]) -> usize
     ensures count { result ≡ prefix_len is_inside bytes.now }
     ensures within { result ≤ length bytes.now }
 {

@@ -7,7 +7,7 @@ ghost use Rattle.expand65.specs.Fronts.{begins_with_colon, closes_brace, directi
 use crate::directives::{Directive, directive_of};
 use syntax65::{Mark, Token, TokenKind, is_reserved};
 
-fn is_colon(token: &Token<'_>) -> bool
+pub fn is_colon(token: &Token<'_>) -> bool
     ensures { result ≡ is_colon (lexeme_of token.now) }
 {
     matches!(token.kind, TokenKind::Symbol(Mark::Colon))

@@ -16,6 +16,7 @@ pub mod laws;
 mod line;
 mod locals;
 mod macros;
+mod passing;
 mod place;
 mod playing;
 mod reader;

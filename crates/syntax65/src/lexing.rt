@@ -2,6 +2,7 @@
 
 mod classes;
 mod fault;
+mod front;
 mod lines;
 mod marks;
 mod numbers;
@@ -10,6 +11,7 @@ mod scanning;
 mod tokens;
 
 pub use fault::LexFault;
+pub use front::{LineFront, line_front};
 pub use lines::{MAX_LINE, line_tokens};
 pub use places::MAX_NAME;
 pub use tokens::{AddressSize, Mark, Token, TokenKind};

@@ -44,7 +44,7 @@ pub fn class_of(b: u8) -> Class
 pub fn is_word(b: u8) -> bool
     ensures { result ≡ is_word b }
 {
-    matches!(class_of(b), Class::Letter | Class::Digit)
+    matches!(b, b'a'..=b'z' | b'A'..=b'Z' | b'0'..=b'9' | b'_')
 }
 
 /// Whether the byte parts tokens.
@@ -52,5 +52,5 @@ pub fn is_word(b: u8) -> bool
 pub fn is_blank(b: u8) -> bool
     ensures { result ≡ is_blank b }
 {
-    matches!(class_of(b), Class::Blank)
+    b == b' ' || b == b'\t'
 }

@@ -5,7 +5,6 @@ ghost use Rattle.syntax65.specs.Faults.{is_lex_outside};
 ghost use Rattle.syntax65.specs.Relations.{Answers};
 ghost use Rattle.syntax65.specs.Tokens.{after_blanks, lexemes, IsEnd, IsRead};
 
-use super::classes::{Class, class_of};
 use super::fault::LexFault;
 use super::places::token_at;
 use super::scanning::blank_len;
@@ -42,7 +41,7 @@ pub fn line_tokens(alloc: Global, line: &[u8]) -> Result<Vec<Token<'_>>, LexFaul
 }
 
 /// What stands behind the blanks.
-fn skip_blanks(line: &[u8]) -> &[u8]
+pub fn skip_blanks(line: &[u8]) -> &[u8]
     ensures { result.now ≡ after_blanks line.now }
 {
     let (_, here) = line.split_at(blank_len(line));
@@ -50,11 +49,11 @@ fn skip_blanks(line: &[u8]) -> &[u8]
 }
 
 /// Whether the line ends here, or a comment begins.
-fn is_end(here: &[u8]) -> bool
+pub fn is_end(here: &[u8]) -> bool
     ensures { IsTrue result ↔ IsEnd here.now }
 {
     match here.first() {
         None => true,
-        Some(first) => class_of(*first) == Class::Semicolon,
+        Some(first) => *first == b';',
     }
 }

@@ -1,0 +1,34 @@
+-- A line's tokens of which the first two are kept.
+use Rattle.std.proofs.Common.{◌≡◌, ℕ, ◌≤◌, Bool, true, false, List, [], ◌∷◌, ◌++◌, length, take, drop, Option, Some, None, Ok, Err, refl, subst}
+use Rattle.std.proofs.lemmas.List.{append-nil}
+use Rattle.syntax65.specs.Forms.{IsToken, FaultAt}
+use Rattle.syntax65.specs.Scanned.{IsFront}
+use Rattle.syntax65.specs.Tokens.{Lexeme, lexeme_of, after_blanks, Reads, IsEnd, IsRead}
+use Rattle.syntax65.specs.declared.lexing.fault.LexFault.{LexFault}
+use Rattle.syntax65.specs.declared.lexing.fault.LexFault.TheVariants.{OutOfMemory, BadCharacter, BadNumber, StringNotClosed, LineTooLong, NameTooLong}
+use Rattle.syntax65.specs.declared.lexing.front.LineFront.{LineFront}
+use Rattle.syntax65.specs.declared.lexing.tokens.Token.{Token}
+use Rattle.syntax65.proofs.Lines.{more}
+
+-- so many tokens were read, of which the first two are kept, and what is left of the line goes on behind them
+abbrev pub SoFar : List ℕ → LineFront → Bool → List ℕ → List Lexeme → Type 0
+SoFar line f first rest ts = IsFront ts f × ((us : List Lexeme) (end : Option LexFault) → Reads first rest us end → Reads true line (ts ++ us) end)
+
+pub nothing_yet : (line : List ℕ) → SoFar line (record { first = None; second = None }) true line []
+nothing_yet line = ((refl, refl), λ us end h. h)
+
+pub one_more : (line rest : List ℕ) (old new : LineFront) (first : Bool) (ts : List Lexeme) (t : Token) → SoFar line old first rest ts → (IsFront ts old → IsFront (ts ++ lexeme_of t ∷ []) new) → t.text.now ≡ take (length t.text.now) (after_blanks rest) → IsToken first t.kind (length t.text.now) (after_blanks rest) → SoFar line new false (drop (length t.text.now) (after_blanks rest)) (ts ++ lexeme_of t ∷ [])
+one_more line rest old new first ts t (f, h) g front token = (g f, more line rest first ts (lexeme_of t) h front token)
+
+pub read_all : (line rest : List ℕ) (f : LineFront) (first : Bool) (ts : List Lexeme) → length line ≤ 4096 → SoFar line f first rest ts → IsEnd (after_blanks rest) → (us : List Lexeme) × IsRead line (Ok us) × IsFront us f
+read_all line rest f first ts short (g, h) e =
+    let P : List Lexeme → Type 0 = λ us. Reads true line us None in
+    (ts, (short, subst P (append-nil ts) (h [] None e)), g)
+
+pub refused : (line rest : List ℕ) (f : LineFront) (first : Bool) (ts : List Lexeme) (fault : LexFault) → length line ≤ 4096 → SoFar line f first rest ts → (IsEnd (after_blanks rest) → ⊥) → FaultAt first (after_blanks rest) fault → IsRead line (Err fault)
+refused line rest f first ts OutOfMemory short h e at = absurd at
+refused line rest f first ts BadCharacter short (g, h) e at = (short, (ts ++ [], h [] (Some BadCharacter) (e, at)))
+refused line rest f first ts BadNumber short (g, h) e at = (short, (ts ++ [], h [] (Some BadNumber) (e, at)))
+refused line rest f first ts StringNotClosed short (g, h) e at = (short, (ts ++ [], h [] (Some StringNotClosed) (e, at)))
+refused line rest f first ts LineTooLong short h e at = absurd at
+refused line rest f first ts NameTooLong short (g, h) e at = (short, (ts ++ [], h [] (Some NameTooLong) (e, at)))

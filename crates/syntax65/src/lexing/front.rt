@@ -1,0 +1,60 @@
+//! What a line begins with, where its tokens aren't kept.
+
+ghost use Rattle.std.specs.Prelude.{◌∷◌, ◌++◌, [], List};
+ghost use Rattle.syntax65.specs.Tokens.{Lexeme, lexeme_of};
+ghost use Rattle.syntax65.specs.Scanned.{IsFront, IsScanned};
+
+use super::fault::LexFault;
+use super::lines::{MAX_LINE, is_end, skip_blanks};
+use super::places::token_at;
+use super::tokens::Token;
+
+/// The first two tokens of a line, where they are there.
+#[derive(Clone, Copy, Debug)]
+pub struct LineFront<'a> {
+    pub first: Option<Token<'a>>,
+    pub second: Option<Token<'a>>,
+}
+
+impl<'a> LineFront<'a> {
+    /// One token more of the line.
+    fn add(&mut self, token: Token<'a>)
+        ensures { (ts : List Lexeme) → IsFront ts self.old → IsFront (ts ++ lexeme_of token.entry ∷ []) self.new }
+    {
+        if self.first.is_none() {
+            self.first = Some(token);
+        } else if self.second.is_none() {
+            self.second = Some(token);
+        }
+    }
+}
+
+/// The first two tokens of a line that is read whole, as by `line_tokens`, where nothing is kept of the others.
+///
+/// # Errors
+///
+/// `LineTooLong`, or else the fault of the first place where no token stands.
+pub fn line_front(line: &[u8]) -> Result<LineFront<'_>, LexFault>
+    ensures { IsScanned line.now result }
+{
+    if line.len() > MAX_LINE {
+        return Err(LexFault::LineTooLong);
+    }
+    let mut front = LineFront {
+        first: None,
+        second: None,
+    };
+    let mut first = true;
+    let mut rest = line;
+    'line: loop {
+        let here = skip_blanks(rest);
+        if is_end(here) {
+            return Ok(front);
+        }
+        let (kind, len) = token_at(first, here)?;
+        let (text, behind) = here.split_at(len);
+        front.add(Token { kind, text });
+        first = false;
+        rest = behind;
+    }
+}

@@ -7,8 +7,8 @@ use Rattle.symbols65.proofs.NameTables.{insert_name, number_mapped, one_begins, 
 use Rattle.asm65.proofs.Waitings.{named_there}
 use Rattle.asm65.proofs.putting.waits.place_of_file.Goals as goal
 
-pub returns-in-Some-clause-place : goal.returns-in-Some-clause-place
-returns-in-Some-clause-place c = named_there (map string_bytes c.args.files.now.keys) c.args.name.now c.in-Some.place (position_mapped (bytes_eq c.args.name.now) string_bytes c.args.files.now.keys ∙ sym c.get_index_of.ensures.index ∙ c.in-Some.is)
+pub returns-in-Some-get_index_of-clause-place : goal.returns-in-Some-get_index_of-clause-place
+returns-in-Some-get_index_of-clause-place c = named_there (map string_bytes c.args.files.now.keys) c.args.name.now c.in-Some-get_index_of.place (position_mapped (bytes_eq c.args.name.now) string_bytes c.args.files.now.keys ∙ sym c.get_index_of.ensures.index ∙ c.in-Some-get_index_of.is)
 
 pub returns-in_ok-place-in-None-clause-more : goal.returns-in_ok-place-in-None-clause-more
 returns-in_ok-place-in-None-clause-more c =

@@ -4,6 +4,7 @@ pub mod Failing
 pub mod OneLinks
 pub mod Selecting
 pub mod Inputs
+pub mod Archived
 pub mod Selected
 pub mod Wholes
 pub mod WholeRuns

@@ -1,6 +1,7 @@
 //! What holds of linking what ca65 wrote. Each function's contract is a law.
 
 ghost use Rattle.tools65.specs.Inputs.{SelectionExistsLaw, SourcesSelectedLaw, WrittenInputLaw, WrittenMemberLaw, WrittenObjectLaw};
+ghost use Rattle.tools65.specs.Kept.{ArchivedSourcesLaw, AssembledFileLaw};
 ghost use Rattle.tools65.specs.OneProgram.{LineRunsLaw, OneProgramLaw, RunsLaw};
 
 /// Linking the objects that ca65 writes of sources gives files exactly where the sources, laid out and
@@ -44,4 +45,14 @@ pub fn written_member_is_an_input()
 /// selects sources among these, as the law on one program supposes.
 pub fn written_inputs_select_sources()
     ensures { SourcesSelectedLaw }
+{}
+
+/// A file that a line of ca65 writes is what ca65 writes of the line's source.
+pub fn written_file_is_kept()
+    ensures { AssembledFileLaw }
+{}
+
+/// `r` makes of object files that ca65 wrote, and of a library of such members or of none, a library of such members.
+pub fn written_library_is_kept()
+    ensures { ArchivedSourcesLaw }
 {}

@@ -4,17 +4,16 @@ use Rattle.std.specs.Prelude.{IfSome, ◌==◌}
 use Rattle.std.specs.FinMap.{get}
 use Rattle.std.specs.List.{AllByRecursion}
 use Rattle.std.specs.Str.{bytes_eq}
-use Rattle.syntax65.specs.Outcome.{◌>>=◌}
 use Rattle.syntax65.specs.Store.{Files}
 use Rattle.object65.specs.declared.object.Object.{Object}
 use Rattle.object65.specs.Reading.{file_limit}
 use Rattle.object65.specs.Spelling.{IsObject, object_bytes}
 use Rattle.library65.specs.declared.contents.Contents.{Contents}
 use Rattle.library65.specs.declared.fault.LibraryFault.{LibraryFault}
-use Rattle.library65.specs.Libraries.{checked, library_at, member_names, replaced, with_member, written}
+use Rattle.library65.specs.Libraries.{checked, member_names, replaced, with_member, written}
 use Rattle.library65.specs.Names.{are_member_names}
 use Rattle.library65.specs.Reading.{in_file}
-use Rattle.library65.specs.Spelling.{IsLibrary, IsStock, Member}
+use Rattle.library65.specs.Spelling.{IsStock, Member}
 use Rattle.library65.proofs.Edits.{checked_good, with_good}
 use Rattle.library65.proofs.Loaded.{library_loaded}
 use Rattle.library65.proofs.Made.{written_is}
@@ -25,25 +24,21 @@ use Rattle.module65.specs.Module as asm
 use Rattle.module65.specs.Places.{PlacedFault}
 use Rattle.asm65.specs.Assembly.{IsAssembled}
 use Rattle.line65.specs.declared.line.Operation.{Operation}
-use Rattle.line65.specs.declared.line.Operation.TheVariants.{Replace}
 use Rattle.line65.specs.Line.{Archiving, Assembling}
 use Rattle.line65.specs.Messages.{memory_line}
 use Rattle.whole65.proofs.Later.{bind_ok}
-use Rattle.ar65.specs.declared.archiving.Archived.{Archived}
 use Rattle.ar65.specs.declared.archiving.Archived.TheVariants as archived
-use Rattle.ar65.specs.declared.refusal.Refusal.{Refusal}
 use Rattle.ar65.specs.Librarian.{as_file, as_library, begun, done, member_name, replaced_by, rewritten, with_file, with_files}
 use Rattle.tools65.specs.declared.outcome.Outcome.{Outcome}
-use Rattle.tools65.specs.declared.outcome.Status.{Status}
 use Rattle.tools65.specs.declared.outcome.Status.TheVariants.{Failure, Success}
 use Rattle.tools65.specs.Assembling.{asm_message, job_in}
-use Rattle.tools65.specs.Command.{Assembles, AssemblesWith, refused_with}
+use Rattle.tools65.specs.Command.{AssemblesWith, refused_with}
 use Rattle.tools65.specs.Kept.{ArchivedSourcesLaw, AssembledFileLaw, HasNumbers, source_in}
 use Rattle.tools65.specs.OneProgram.{Source}
 use Rattle.tools65.specs.Outputs.{failing, outputs_of}
 use Rattle.tools65.specs.Written.{IsSourceLibrary, IsSourceObject, IsWrittenOf}
 use Rattle.tools65.proofs.Inputs.{written_object}
-use Rattle.tools65.proofs.Selected.{ok_err, ok_same}
+use Rattle.tools65.proofs.Selected.{ok_same}
 
 -- ---- Members that ca65 wrote.
 

@@ -1,12 +1,11 @@
 -- Inputs that ca65 wrote of sources select them.
-use Rattle.std.proofs.Common.{◌≡◌, ◌∙◌, ◌⊎◌, inl, inr, ℕ, zero, suc, ◌+◌, ◌-◌, ◌<◌, ◌≤◌, Bool, true, false, ◌&&◌, List, [], ◌∷◌, ◌++◌, length, take, drop, map, slice_get, Option, Some, None, Result, Ok, Err, refl, sym, ap, subst, arith}
+use Rattle.std.proofs.Common.{◌≡◌, ◌∙◌, inl, inr, ℕ, zero, suc, ◌+◌, ◌-◌, ◌<◌, ◌≤◌, Bool, true, false, ◌&&◌, List, [], ◌∷◌, ◌++◌, length, take, drop, map, Option, Some, None, Ok, refl, sym, ap, subst, arith}
 use Rattle.std.specs.FinMap.{get}
 use Rattle.std.specs.List.{AllByRecursion}
 use Rattle.std.specs.Option.{option_map_or}
 use Rattle.std.specs.Str.{bytes_eq}
 use Rattle.std.proofs.lemmas.List.{append-nil, length-drop, length-take, take_all}
 use Rattle.std.proofs.lemmas.Slice.Eq.{bytes_eq-Decides}
-use Rattle.syntax65.specs.Outcome.{◌>>=◌}
 use Rattle.syntax65.specs.Store.{Files}
 use Rattle.object65.specs.declared.object.Export.{Export}
 use Rattle.object65.specs.declared.object.Object.{Object}
@@ -18,9 +17,8 @@ use Rattle.object65.proofs.Spellings.{no_prefix, object_is_read}
 use Rattle.library65.specs.declared.entry.Entry.{Entry}
 use Rattle.library65.specs.Libraries.{agrees, are_same, contents_from}
 use Rattle.library65.specs.Reading.{index_at, in_file as in_library}
-use Rattle.library65.specs.Spelling.{AreMembers as AreStored, IsLibrary, IsMember, Member, index_bytes}
+use Rattle.library65.specs.Spelling.{AreMembers as AreStored, IsLibrary, Member, index_bytes}
 use Rattle.library65.proofs.Again.{index_again}
-use Rattle.script65.specs.Scripts.{IsScript}
 use Rattle.script65.specs.declared.script.Script.{Script}
 use Rattle.language65.specs.declared.contents.Content.{Content}
 use Rattle.language65.specs.Layout.{Layout}
@@ -37,11 +35,10 @@ use Rattle.linkage65.specs.Givers.{given_names, open_names}
 use Rattle.linkage65.specs.Modules.{Module}
 use Rattle.linkage65.specs.Programs.{program_of}
 use Rattle.link65.specs.Standing.{module_of}
-use Rattle.line65.specs.Line.{Linking}
 use Rattle.whole65.proofs.Later.{bind_ok}
 use Rattle.ld65.specs.Linkage.{ByKind, chosen, chosen_at, file_input, is_library, is_library_in, member_input, member_module, no_limit}
 use Rattle.tools65.specs.Inputs.{SourcesSelectedLaw, WrittenInputLaw, WrittenMemberLaw, WrittenObjectLaw}
-use Rattle.tools65.specs.OneProgram.{AreInputOf, AreMembers, AreObjectsOf, AreSelected, AreTaken, IsModuleOf, IsObjectOf, SelectsSources, Source}
+use Rattle.tools65.specs.OneProgram.{AreInputOf, AreMembers, AreObjectsOf, AreSelected, AreTaken, IsModuleOf, IsObjectOf, Source}
 use Rattle.tools65.specs.Written.{IsOneOf, IsSourceInput, IsSourceObject, IsWrittenOf}
 use Rattle.tools65.proofs.Selected.{ok_err, ok_same}
 use Rattle.tools65.proofs.Selecting.{selection_exists}

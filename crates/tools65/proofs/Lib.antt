@@ -2,6 +2,9 @@ pub mod Texts
 pub mod Runs
 pub mod Failing
 pub mod OneLinks
+pub mod Selecting
+pub mod Inputs
+pub mod Archived
 pub mod Selected
 pub mod Wholes
 pub mod WholeRuns

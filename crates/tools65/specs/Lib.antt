@@ -6,3 +6,6 @@ pub mod Archives
 pub mod Command
 pub mod Failing
 pub mod OneProgram
+pub mod Written
+pub mod Inputs
+pub mod Kept

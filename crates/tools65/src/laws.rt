@@ -1,5 +1,7 @@
 //! What holds of linking what ca65 wrote. Each function's contract is a law.
 
+ghost use Rattle.tools65.specs.Inputs.{SelectionExistsLaw, SourcesSelectedLaw, WrittenInputLaw, WrittenMemberLaw, WrittenObjectLaw};
+ghost use Rattle.tools65.specs.Kept.{ArchivedSourcesLaw, AssembledFileLaw};
 ghost use Rattle.tools65.specs.OneProgram.{LineRunsLaw, OneProgramLaw, RunsLaw};
 
 /// Linking the objects that ca65 writes of sources gives files exactly where the sources, laid out and
@@ -17,4 +19,40 @@ pub fn runs_of_one_program()
 /// The same of `run_line` and a line.
 pub fn lines_of_one_program()
     ensures { LineRunsLaw }
+{}
+
+/// What is wanted of a library has a selection.
+pub fn selection_exists()
+    ensures { SelectionExistsLaw }
+{}
+
+/// What ca65 writes of a source is spelled as an object of the grammar.
+pub fn written_is_an_object()
+    ensures { WrittenObjectLaw }
+{}
+
+/// A file that ca65 wrote of a source gives one module: the source's object.
+pub fn written_is_an_input()
+    ensures { WrittenInputLaw }
+{}
+
+/// A library's member that ca65 wrote of a source gives the source's object.
+pub fn written_member_is_an_input()
+    ensures { WrittenMemberLaw }
+{}
+
+/// Where a line's script is one, and ca65 wrote each input, or each member of it, of one of some sources, the line
+/// selects sources among these, as the law on one program supposes.
+pub fn written_inputs_select_sources()
+    ensures { SourcesSelectedLaw }
+{}
+
+/// A file that a line of ca65 writes is what ca65 writes of the line's source.
+pub fn written_file_is_kept()
+    ensures { AssembledFileLaw }
+{}
+
+/// `r` makes of object files that ca65 wrote, and of a library of such members or of none, a library of such members.
+pub fn written_library_is_kept()
+    ensures { ArchivedSourcesLaw }
 {}

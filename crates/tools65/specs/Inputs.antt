@@ -1,0 +1,49 @@
+-- What holds of inputs that ca65 wrote of sources, or that are libraries of such members.
+use Rattle.std.specs.Prelude.{◌≡◌, ℕ, ◌≤◌, List, [], ◌∷◌, length, Some, Ok}
+use Rattle.std.specs.FinMap.{get}
+use Rattle.std.specs.List.{AllByRecursion}
+use Rattle.syntax65.specs.Store.{Files}
+use Rattle.object65.specs.Reading.{file_limit}
+use Rattle.object65.specs.Spelling.{IsObject}
+use Rattle.library65.specs.Selection.{IsSelection}
+use Rattle.library65.specs.Spelling.{IsMember, Member}
+use Rattle.library65.specs.declared.entry.Entry.{Entry}
+use Rattle.linkage65.specs.Modules.{Module}
+use Rattle.script65.specs.Scripts.{IsScript}
+use Rattle.script65.specs.declared.script.Script.{Script}
+use Rattle.line65.specs.Line.{Linking}
+use Rattle.ld65.specs.Linkage.{member_input}
+use Rattle.tools65.specs.OneProgram.{AreInputOf, IsModuleOf, IsObjectOf, SelectsSources, Source}
+use Rattle.tools65.specs.Written.{IsOneOf, IsSourceInput, IsWrittenOf}
+
+-- what is wanted of a library has a selection
+abbrev pub SelectionExistsLaw : Type 0
+SelectionExistsLaw =
+    (es : List Entry) (wanted defined : List (List ℕ)) →
+    (places : List ℕ) × IsSelection es wanted defined places
+
+-- what ca65 writes of a source is spelled as an object of the grammar
+abbrev pub WrittenObjectLaw : Type 0
+WrittenObjectLaw = (x : Source) (bytes : List ℕ) (w : IsWrittenOf x bytes) → IsObject bytes w.object
+
+-- a file that ca65 wrote of a source gives one module, the source's object, behind whatever modules it stands
+abbrev pub WrittenInputLaw : Type 0
+WrittenInputLaw =
+    (s : Script) (m : Files) (before : List Module) (name bytes : List ℕ) (x : Source) →
+    get m name ≡ Some bytes → IsWrittenOf x bytes →
+    (k : Module) × IsObjectOf x k × AreInputOf s m before name (k ∷ [])
+
+-- a library's member that ca65 wrote of a source gives the source's object
+abbrev pub WrittenMemberLaw : Type 0
+WrittenMemberLaw =
+    (m : Files) (library bytes : List ℕ) (e : Entry) (p : Member) (x : Source) →
+    get m library ≡ Some bytes → length bytes ≤ file_limit → IsMember bytes e p → IsWrittenOf x p.1 →
+    (k : Module) × IsObjectOf x k × IsModuleOf m (member_input library e) k
+
+-- Where a line's script is there and is a script, and ca65 wrote each input, or each member of it, of one of these
+-- sources, the line selects some of these sources.
+abbrev pub SourcesSelectedLaw : Type 0
+SourcesSelectedLaw =
+    (sources : List Source) (l : Linking) (m : Files) (text : List ℕ) (s : Script) →
+    get m l.script ≡ Some text → IsScript text (Ok s) → AllByRecursion (IsSourceInput sources m) l.inputs →
+    (xs : List Source) × AllByRecursion (IsOneOf sources) xs × SelectsSources l m s xs

@@ -1,0 +1,41 @@
+-- What ca65 writes of sources, alone and in libraries.
+use Rattle.std.specs.Prelude.{◌≡◌, ℕ, ◌≤◌, ◌⊎◌, List, length, slice_get, Some, Ok}
+use Rattle.std.specs.FinMap.{get}
+use Rattle.std.specs.List.{AllByRecursion}
+use Rattle.syntax65.specs.Store.{Files}
+use Rattle.object65.specs.declared.object.Object.{Object}
+use Rattle.object65.specs.Objects.{ObjectFits}
+use Rattle.object65.specs.Reading.{file_limit}
+use Rattle.object65.specs.Spelling.{object_bytes}
+use Rattle.library65.specs.Spelling.{IsLibrary, Member}
+use Rattle.module65.specs.Module as asm
+use Rattle.asm65.specs.Assembly.{IsAssembled}
+use Rattle.tools65.specs.OneProgram.{Source}
+
+-- ca65 writes these bytes of a source: the one spelling of its object
+pub record IsWrittenOf (x : Source) (bytes : List ℕ) : Type 0 where
+  pub outcome : asm.Outcome
+  pub assembled : IsAssembled x.files x.job outcome
+  pub object : Object
+  pub result : outcome.result ≡ Ok object
+  pub spelled : bytes ≡ object_bytes object
+  -- the numbers in it are those of their types, and no byte lies past the limit of a file
+  pub numbers : ObjectFits object
+  pub limit : length bytes ≤ file_limit
+
+abbrev pub IsOneOf : List Source → Source → Type 0
+IsOneOf xs x = (i : ℕ) × (slice_get xs i ≡ Some x)
+
+-- an object file that ca65 wrote of one of these sources
+abbrev pub IsSourceObject : List Source → List ℕ → Type 0
+IsSourceObject sources bytes = (x : Source) × IsOneOf sources x × IsWrittenOf x bytes
+
+-- a library, each member of which ca65 wrote of one of these sources
+abbrev pub IsSourceLibrary : List Source → List ℕ → Type 0
+IsSourceLibrary sources bytes =
+    (ms : List Member) × IsLibrary bytes ms × AllByRecursion (λ p. IsSourceObject sources p.1) ms
+
+-- a file of a name is one or the other
+abbrev pub IsSourceInput : List Source → Files → List ℕ → Type 0
+IsSourceInput sources m name =
+    (bytes : List ℕ) × (get m name ≡ Some bytes) × (IsSourceObject sources bytes ⊎ IsSourceLibrary sources bytes)

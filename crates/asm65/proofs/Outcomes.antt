@@ -1,5 +1,5 @@
 -- What is answered, from what the statements of a source come to.
-use Rattle.std.proofs.Common.{◌≡◌, ◌∙◌, ℕ, ◌+◌, ◌*◌, ◌≤◌, ◌<◌, ◌⊎◌, inl, inr, arith, nat_lt, Bool, true, false, List, [], Option, Some, None, refl, sym, ap, subst}
+use Rattle.std.proofs.Common.{◌≡◌, ◌∙◌, ℕ, ◌+◌, ◌*◌, ◌≤◌, ◌<◌, inl, inr, arith, nat_lt, Bool, true, false, List, [], Option, Some, None, refl, sym, ap, subst}
 use Rattle.std.specs.Prelude.{Result, Ok, Err, IfOk, IfErr, IfSome, ⊤, ◌||◌}
 use Rattle.syntax65.specs.Outcome.{Finds, Unless, ◌>>=◌}
 use Rattle.syntax65.specs.Store.{Files, Passes, PassesBy}
@@ -22,11 +22,10 @@ use Rattle.language65.specs.Numbering.{object_with}
 use Rattle.language65.specs.Sound.{AreSound}
 use Rattle.language65.specs.Symbols.{Symbols, symbols_of}
 use Rattle.module65.specs.Laws.{AreFoundAlike, StandsFor}
-use Rattle.module65.specs.Laying.{IsLaid}
 use Rattle.module65.specs.Machine.{Runs, State, Takes, begun, concluded, finished, running}
 use Rattle.module65.specs.Module.{IsOutcome, Outcome, contents_from}
 use Rattle.module65.specs.Places.{PlacedFault}
-use Rattle.module65.specs.Reading.{AreDefined, Job, Reached, no_line, stopped}
+use Rattle.module65.specs.Reading.{AreDefined, Job, no_line, stopped}
 use Rattle.module65.proofs.Continued.{constants_refused, open_refused}
 use Rattle.module65.proofs.Entries.{object_alike}
 use Rattle.module65.proofs.Passes.{Follows, begun_follows, one_pass, stands_for, takes_follows}
@@ -39,12 +38,10 @@ use Rattle.asm65.specs.declared.assembly.Assembly.{Assembly}
 use Rattle.asm65.specs.declared.refusal.AsmRefusal.{AsmRefusal}
 use Rattle.asm65.specs.declared.running.Run.{Run}
 use Rattle.asm65.specs.Assembly.{Concludes, IsAssembled, answer_of, has_failed, is_from_memory, is_from_outside, is_outside_refusal, placed_of}
-use Rattle.asm65.specs.Failing.{Begins, Stops, StopsAll, StopsBehind, StopsFrom, StopsSo}
+use Rattle.asm65.specs.Failing.{Stops, StopsAll, StopsBehind, StopsFrom, StopsSo}
 use Rattle.asm65.specs.Holding.{Holds}
-use Rattle.asm65.specs.Running.{HoldsSome, HoldsWithin, IsHeldBy, IsReached, at_first, behind, IsReachedBy, IsRunning, Leaves, Ran, SaysAs, running_limit}
+use Rattle.asm65.specs.Running.{HoldsWithin, IsHeldBy, IsReached, at_first, behind, IsReachedBy, IsRunning, Leaves, Ran, SaysAs, running_limit}
 use Rattle.asm65.proofs.Sources.{RanAll, some_all, some_both, some_then}
-use Rattle.asm65.specs.Views.{place_in}
-use Rattle.asm65.proofs.Runs.{Answer}
 
 -- ---- What statements lead to comes to objects of the grammar.
 
@@ -232,7 +229,7 @@ or_true : (b : Bool) → b || true ≡ true
 or_true true = refl
 or_true false = refl
 
-failure_outside : (e : AsmFault) → is_failure e ≡ true → is_outside e ≡ true
+pub failure_outside : (e : AsmFault) → is_failure e ≡ true → is_outside e ≡ true
 failure_outside e h = ap (λ b. is_memory e || b) h ∙ or_true (is_memory e)
 
 memory_outside : (e : AsmFault) → is_memory e ≡ true → is_outside e ≡ true
@@ -286,7 +283,7 @@ stops_first o job e a failed first silent = some_all (λ m. StopsSo m job a) o (
         let nothing = silent (failure_outside x.fault yes) in
         inl (record { fault = there.0 ∙ expansion_error e is; line = there.1; no_out = nothing.0; no_err = nothing.1 }))
 
-abbrev StoppedAt : Place → AsmFault → Found → Type 0
+abbrev pub StoppedAt : Place → AsmFault → Found → Type 0
 StoppedAt place e r = IfErr r (λ x. placed_of x ≡ record { place = place; fault = e })
 
 -- it failed behind some statements
@@ -302,20 +299,17 @@ stops_here o first now e a failed placed out err all =
     by m job (Err x) p h = λ yes.
         inr (subst (λ (q : PlacedFault). StopsBehind m job q a.out a.err) (sym p) (subst (λ (t : List ℕ). StopsBehind m job at t a.err) (sym out) (subst (λ (t : List ℕ). StopsBehind m job at now.assembler.texts.out t) (sym err) h)))
 
-pub stopped_outside : (r : Found) (place : Place) (e : AsmFault) → is_failure e ≡ true → IfOk r (λ o. ⊥) → StoppedAt place e r → is_from_outside r ≡ true
-stopped_outside (Ok o) place e failed none p = absurd none
-stopped_outside (Err x) place e failed none p = ap (λ (q : PlacedFault). is_outside q.fault) p ∙ failure_outside e failed
-
-pub stopped_answers : (o : Option Files) (first : Run) (place : Place) (e : AsmFault) (a : Assembly) → is_failure e ≡ true → IfOk a.result (λ o. ⊥) → StoppedAt place e a.result → IfSome o (λ m. AnswersAll m first a)
-stopped_answers o first place e a failed none p = some_all (λ m. AnswersAll m first a) o (λ m job t opens defined held. outside_found (λ q. IsAssembled m job (answer_of a q)) a.result (stopped_outside a.result place e failed none p))
-
-pub stopped_failed : (r : Found) (place : Place) (e : AsmFault) → StoppedAt place e r → IfErr r (λ x. has_failed x ≡ is_failure e)
-stopped_failed (Ok o) place e p = tt
-stopped_failed (Err x) place e p = ap (λ (q : PlacedFault). is_failure q.fault) p
-
 pub stopped_silent : (r : Found) (place : Place) (e : AsmFault) (P : Type 0) → is_failure e ≡ true → StoppedAt place e r → is_from_memory r ≡ true → P
 stopped_silent (Ok o) place e P failed p h = absurd cc
 stopped_silent (Err x) place e P failed p h = absurd (let both : true ≡ false = sym h ∙ ap (λ (q : PlacedFault). is_memory q.fault) p ∙ failure_inside e failed in cc)
+
+-- a fault behind some statements, which may be a failure of the store
+pub stops_behind : (o : Option Files) (first now : Run) (e : AsmFault) (a : Assembly) → IfErr a.result (λ x. has_failed x ≡ is_failure e) → (is_failure e ≡ true → StoppedAt (place_of now.expander) e a.result) → (is_failure e ≡ true → (a.out ≡ now.assembler.texts.out) × (a.err ≡ now.assembler.texts.err)) → IfSome o (λ m. StopsAll m first now (Err e)) → IfSome o (λ m. StopsFrom m first a)
+stops_behind o first now e a same stopped said all = by (is_failure e) refl
+  where
+    by : (b : Bool) → is_failure e ≡ b → IfSome o (λ m. StopsFrom m first a)
+    by true is = stops_here o first now e a is (stopped is) (said is).0 (said is).1 all
+    by false is = stops_never_from o first a (as_fault a.result e is same)
 
 -- what an opened source comes to behind its constants
 pub run_stops : (o : Option Files) (job : Job) (x : Expander) (b : Assembler) (v : Unit {0}) (a : Assembly) → AreLeft job b v → measure_of x ≤ 3145729 → IfSome o (λ m. Opens m (Ok x) (opened_in m job.source job.include)) → IfSome o (λ m. StopsFrom m (record { expander = x; assembler = b }) a) → IfSome o (λ m. StopsSo m job a)

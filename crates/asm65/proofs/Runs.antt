@@ -33,7 +33,7 @@ use Rattle.asm65.specs.declared.texts.Texts.{Texts}
 use Rattle.layout65.specs.Counting.{opened_by, opening_limit}
 use Rattle.asm65.specs.Holding.{Holds}
 use Rattle.asm65.specs.Files.{read_bytes}
-use Rattle.asm65.specs.Running.{HoldsWithin, IsReached, behind, IsRoomy, IsSoundIf, Leaves, SaysAs, StopsQuietly, TakesBy, Told, tokens_of}
+use Rattle.asm65.specs.Running.{behind, IsRoomy, IsSoundIf, Leaves, SaysAs, StopsQuietly, TakesBy, Told, tokens_of}
 use Rattle.asm65.proofs.WholeFiles.{read_sound, takes_whole}
 
 abbrev pub Answer : Type 0

@@ -1,14 +1,12 @@
 -- The statements of a source as an expander gives them and an assembler takes them.
-use Rattle.std.proofs.Common.{◌≡◌, ◌∙◌, ℕ, ◌+◌, ◌*◌, ◌≤◌, ◌<◌, Bool, true, false, Option, Some, None, refl, sym, ap, subst, arith}
+use Rattle.std.proofs.Common.{◌≡◌, ◌∙◌, ℕ, ◌+◌, ◌*◌, ◌≤◌, ◌<◌, Bool, true, false, Option, Some, None, sym, ap, subst, arith}
 use Rattle.std.specs.Prelude.{Result, Ok, Err, IfSome, if◌then◌else◌}
 use Rattle.syntax65.specs.Outcome.{Unless}
 use Rattle.syntax65.specs.Store.{Files}
-use Rattle.expand65.specs.declared.expander.Expander.{Expander}
 use Rattle.expand65.specs.declared.expander.Statement.{Statement}
 use Rattle.expand65.specs.declared.expander.Statement.TheVariants.{Label, Plain}
 use Rattle.expand65.specs.declared.fault.ExpandFault.{ExpandFault}
-use Rattle.expand65.specs.declared.place.Place.{Place}
-use Rattle.expand65.specs.Expansion.{Reaches, statement, nothing, fault, opened_in}
+use Rattle.expand65.specs.Expansion.{Reaches, statement, fault, opened_in}
 use Rattle.expand65.specs.Faults as expansion
 use Rattle.expand65.specs.Standing.{FollowsFrom, Opens, StandsFor, measure_of, place_of, stated}
 use Rattle.expand65.specs.State as expand
@@ -21,8 +19,7 @@ use Rattle.language65.specs.Sound.{AreNamed}
 use Rattle.module65.specs.Continuing.{GoesOn}
 use Rattle.module65.specs.Knowing.{known_at}
 use Rattle.module65.specs.Machine.{Runs, State, Takes, begun, running}
-use Rattle.module65.specs.Places.{PlacedFault}
-use Rattle.module65.specs.Reading.{AreDefined, IsGiven, IsSource, Job, Reached, no_line, open_fault, stopped}
+use Rattle.module65.specs.Reading.{AreDefined, IsGiven, IsSource, Job, no_line, open_fault, stopped}
 use Rattle.module65.proofs.Continued.{same_outside, same_place}
 use Rattle.module65.proofs.NamedSteps as named
 use Rattle.module65.proofs.NamedSteps.{IsStateFit, next_fit}
@@ -32,9 +29,9 @@ use Rattle.module65.proofs.TakenAll.{begins, ends, goes_on, is_refused, stops}
 use Rattle.asm65.specs.declared.assembler.Assembler.{Assembler}
 use Rattle.asm65.specs.declared.running.Run.{Run}
 use Rattle.layout65.specs.Counting.{opening_limit}
-use Rattle.asm65.specs.Failing.{Begins, IsTakenTo, at_first, further, IsWhere, StopsAll, StopsBehind}
+use Rattle.asm65.specs.Failing.{IsTakenTo, at_first, further, IsWhere, StopsAll, StopsBehind}
 use Rattle.asm65.specs.Holding.{Holds}
-use Rattle.asm65.specs.Running.{HoldsSome, HoldsWithin, IsHeldBy, IsReached, IsReachedBy, IsRoomy, IsRunning, Ran, SaysAs, StopsQuietly, TakesBy, running_limit, tokens_of}
+use Rattle.asm65.specs.Running.{HoldsWithin, IsHeldBy, IsReachedBy, IsRoomy, IsRunning, Ran, SaysAs, StopsQuietly, TakesBy, running_limit, tokens_of}
 use Rattle.asm65.proofs.Runs.{Answer, GivenBy}
 
 pub some_then : (P Q : Files → Type 0) (o : Option Files) → ((m : Files) → P m → Q m) → IfSome o P → IfSome o Q

@@ -1,5 +1,5 @@
 -- What assembling a source gives.
-use Rattle.std.specs.Prelude.{◌≡◌, ℕ, Bool, true, false, List, [], map, Result, Ok, Err, unwrap_or}
+use Rattle.std.specs.Prelude.{◌≡◌, Bool, false, [], map, Result, Ok, Err, unwrap_or}
 use Rattle.syntax65.specs.Outcome.{Finds}
 use Rattle.syntax65.specs.Store.{Files}
 use Rattle.object65.specs.declared.object.Object.{Object}

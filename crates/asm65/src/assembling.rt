@@ -105,6 +105,31 @@ fn refused(alloc: Global, assembler: Assembler, at: At<'_>, fault: AsmFault) -> 
     assembler.refuse(alloc, at, fault)
 }
 
+/// A fault behind some statements, at the place that was reached, behind what was said.
+fn refused_behind(
+    alloc: Global,
+    expander: Expander,
+    assembler: Assembler,
+    fault: AsmFault,
+) -> Assembly
+    ensures refused { is_outside fault ≡ false → (t : State) → SaysAs t assembler → Concludes
+        (concluded t (Some (record { place = place_of expander; fault = fault }))) result }
+    ensures outside { is_outside fault ≡ true → is_from_outside result.result ≡ true }
+    ensures none { IfOk result.result (λ _. ⊥) }
+    ensures failed { IfErr result.result (λ e. has_failed e ≡ is_failure fault) }
+    ensures stopped { is_failure fault ≡ true → IfErr result.result (λ e.
+        placed_of e ≡ record { place = place_of expander; fault = fault }) }
+    ensures said { is_failure fault ≡ true →
+        (result.out ≡ assembler.texts.out) × (result.err ≡ assembler.texts.err) }
+    ensures silent { is_from_memory result.result ≡ true → (result.out ≡ []) × (result.err ≡ []) }
+{
+    if is_failure(&fault) {
+        return stopped(expander, assembler, fault);
+    }
+    let (file, line) = expander.place();
+    refused(alloc, assembler, At { file, line }, fault)
+}
+
 /// A copy of the folders of a job.
 fn folders_of(alloc: Global, job: &AsmJob<'_>) -> Result<Options, ExpandFault>
     ensures folders { IfOk result (λ options. options.include ≡ job.now.include.now) }
@@ -151,13 +176,7 @@ fn finished<S: Store>(alloc: Global, store: &mut S, run: Run) -> Assembly
     } = run;
     match ran {
         Ok(()) => assembler.conclude(alloc),
-        Err(fault) => {
-            if is_failure(&fault) {
-                return stopped(expander, assembler, fault);
-            }
-            let (file, line) = expander.place();
-            refused(alloc, assembler, At { file, line }, fault)
-        }
+        Err(fault) => refused_behind(alloc, expander, assembler, fault),
     }
 }
 

@@ -1,9 +1,8 @@
-use Rattle.std.proofs.Common.{rules, ◌≡◌, ◌∙◌, ◌<◌, ap, refl, subst, Err}
+use Rattle.std.proofs.Common.{rules, ◌∙◌, ap, refl, Err}
 use Rattle.std.proofs.lemmas.Result.{err_from_is_err_and}
 use Rattle.expand65.specs.Standing.{measure_of}
 use Rattle.asm65.specs.Failing.{StopsAll}
-use Rattle.asm65.specs.Running.{IsRoomy}
-use Rattle.asm65.proofs.Sources.{Goes, all_end, all_further, all_out, all_stop, all_stopped, all_wrong, goes_first, less_given, reached_by, some_all, stops_never, still_roomy, still_running}
+use Rattle.asm65.proofs.Sources.{Goes, all_end, all_further, all_out, all_stop, all_stopped, all_wrong, goes_first, less_given, some_all, stops_never, still_running}
 use Rattle.asm65.proofs.running.take_all.Goals as goal
 
 pub statements-init : goal.statements-init

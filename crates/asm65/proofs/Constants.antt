@@ -3,10 +3,9 @@ use Rattle.std.proofs.Common.{◌≡◌, ◌∙◌, ℕ, sym, ap}
 use Rattle.std.specs.Prelude.{Ok}
 use Rattle.syntax65.specs.Trees.{Tree}
 use Rattle.object65.specs.Form.{Form}
-use Rattle.expand65.specs.Meaning.{Meaning}
 use Rattle.language65.specs.Extending.{IsFinal}
 use Rattle.language65.specs.Laid.{Spot}
-use Rattle.language65.specs.Layout.{Standing, spot_of}
+use Rattle.language65.specs.Layout.{spot_of}
 use Rattle.language65.specs.Norms.{constant_in, literal_in}
 use Rattle.language65.specs.Symbols.{Symbols}
 use Rattle.module65.proofs.Tables.{extends_same}

@@ -1,7 +1,6 @@
 -- The constants of the command line, one behind the other.
-use Rattle.std.proofs.Common.{◌≡◌, ◌∙◌, ℕ, zero, suc, ◌+◌, ◌≤◌, ◌<◌, Bool, true, false, List, [], ◌∷◌, length, drop, get_or, map, refl, sym, ap, subst, arith}
-use Rattle.std.specs.Prelude.{Result, Ok, Err, IfErr, ⊤}
-use Rattle.syntax65.specs.Outcome.{Unless}
+use Rattle.std.proofs.Common.{◌≡◌, ◌∙◌, ℕ, zero, suc, ◌+◌, ◌≤◌, ◌<◌, false, List, [], ◌∷◌, length, drop, get_or, map, refl, sym, ap, subst, arith}
+use Rattle.std.specs.Prelude.{Ok, Err, IfErr, ⊤}
 use Rattle.syntax65.specs.Trees.{number}
 use Rattle.expand65.specs.declared.place.Place.{Place}
 use Rattle.language65.specs.declared.fault.AsmFault.{AsmFault}
@@ -16,7 +15,7 @@ use Rattle.asm65.specs.declared.assembly.Define as code
 use Rattle.asm65.specs.Assembly.{define_of}
 use Rattle.layout65.specs.Counting.{opening_limit}
 use Rattle.asm65.specs.Holding.{Holds}
-use Rattle.asm65.specs.Running.{DefinesBy, HoldsWithin, IsReached, behind, at_first, IsRoomy, LeadsTo, Leaves, SaysAs}
+use Rattle.asm65.specs.Running.{DefinesBy, IsReached, behind, at_first, IsRoomy, Leaves}
 use Rattle.asm65.proofs.Runs.{Answer, fault_first, fault_then, says_same, takes_quiet}
 
 pub defines_by : (place : Place) (d : Define) (old new : Assembler) (r : Answer) → ((count : ℕ) (t : State) → Holds count t old → count < opening_limit → Answers (Takes t place (constant d.0 (number d.1))) (λ u. Holds (count + 0) u new) r) → IfErr r (λ e. is_outside e ≡ false → new.texts ≡ old.texts) → DefinesBy place d old new r

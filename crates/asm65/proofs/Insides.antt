@@ -1,7 +1,6 @@
 -- No fault of a statement is a store's.
 use Rattle.std.proofs.Common.{◌≡◌, ℕ, zero, suc, ℤ, pos, Bool, true, false, refl, List, [], ◌∷◌, ◌+◌, length, take, Option, Some, None, slice_get}
-use Rattle.std.specs.Prelude.{Result, Ok, Err, IfErr, ◌-◌, nat_le, nat_lt, not, ◌==◌, ◌&&◌, if◌then◌else◌}
-use Rattle.std.specs.List.{list_any}
+use Rattle.std.specs.Prelude.{Result, Ok, Err, IfErr, ◌-◌, nat_le, nat_lt, ◌&&◌, if◌then◌else◌}
 use Rattle.syntax65.specs.Outcome.{◌>>=◌, Gives, Unless}
 use Rattle.syntax65.specs.Trees.{Tree, number, here, name, cheap, forward, backward, unary, binary, tree_of}
 use Rattle.syntax65.specs.declared.lexing.tokens.AddressSize.{AddressSize}
@@ -26,7 +25,7 @@ use Rattle.language65.specs.Contents.{decided, export_said, import_fault, operan
 use Rattle.language65.specs.Faults.{is_failure, is_memory}
 use Rattle.language65.specs.Laid.{Spot}
 use Rattle.language65.specs.Language.{Stated, instruction, reserve, align, file_part, segment, close_scope, close_proc, pop_segment}
-use Rattle.language65.specs.Layout.{Standing, own_size, place_of, segment_at, spot_of}
+use Rattle.language65.specs.Layout.{Standing, own_size, place_of, spot_of}
 use Rattle.language65.specs.LineFaults as faults
 use Rattle.language65.specs.Names.{Meaning, defined_at, imported_as, first_found, last_of, meaning_of, member_meaning, or_fault, scope_from, scopes_from, scopes_of, shown, unnamed_meaning}
 use Rattle.language65.specs.Norms.{constant_in, defined_form, folded, form_by, form_of_definition, form_of_meaning, form_of_value, norm, norm_of}

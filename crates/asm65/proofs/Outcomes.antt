@@ -1,6 +1,6 @@
 -- What is answered, from what the statements of a source come to.
-use Rattle.std.proofs.Common.{◌≡◌, ◌∙◌, ℕ, ◌+◌, ◌*◌, ◌≤◌, ◌<◌, arith, nat_lt, Bool, true, false, List, [], Option, Some, None, refl, sym, ap, subst}
-use Rattle.std.specs.Prelude.{Result, Ok, Err, IfOk, IfErr, IfSome, ⊤}
+use Rattle.std.proofs.Common.{◌≡◌, ◌∙◌, ℕ, ◌+◌, ◌*◌, ◌≤◌, ◌<◌, inl, inr, arith, nat_lt, Bool, true, false, List, [], Option, Some, None, refl, sym, ap, subst}
+use Rattle.std.specs.Prelude.{Result, Ok, Err, IfOk, IfErr, IfSome, ⊤, ◌||◌}
 use Rattle.syntax65.specs.Outcome.{Finds, Unless, ◌>>=◌}
 use Rattle.syntax65.specs.Store.{Files, Passes, PassesBy}
 use Rattle.std.proofs.lemmas.Bool.Decides.{nat_tests}
@@ -12,21 +12,20 @@ use Rattle.object65.specs.declared.object.Object.{Object}
 use Rattle.object65.specs.Objects.{is_good_object}
 use Rattle.expand65.specs.declared.place.Place.{Place}
 use Rattle.expand65.specs.Standing.{Opens, measure_of, place_of}
-use Rattle.language65.specs.declared.fault.AsmFault.TheVariants.{Expansion}
+use Rattle.language65.specs.declared.fault.AsmFault.TheVariants.{Expansion, OutOfMemory, FileError as PartError}
 use Rattle.language65.specs.declared.contents.Content.{Content}
 use Rattle.language65.specs.declared.contents.Segment.{Segment}
 use Rattle.language65.specs.declared.fault.AsmFault.{AsmFault}
-use Rattle.language65.specs.Faults.{is_failure, is_outside}
+use Rattle.language65.specs.Faults.{is_failure, is_memory, is_outside}
 use Rattle.language65.specs.Layout.{Layout, Standing, nothing_laid}
 use Rattle.language65.specs.Numbering.{object_with}
 use Rattle.language65.specs.Sound.{AreSound}
 use Rattle.language65.specs.Symbols.{Symbols, symbols_of}
 use Rattle.module65.specs.Laws.{AreFoundAlike, StandsFor}
-use Rattle.module65.specs.Laying.{IsLaid}
 use Rattle.module65.specs.Machine.{Runs, State, Takes, begun, concluded, finished, running}
 use Rattle.module65.specs.Module.{IsOutcome, Outcome, contents_from}
 use Rattle.module65.specs.Places.{PlacedFault}
-use Rattle.module65.specs.Reading.{AreDefined, Job, Reached, no_line, stopped}
+use Rattle.module65.specs.Reading.{AreDefined, Job, no_line, stopped}
 use Rattle.module65.proofs.Continued.{constants_refused, open_refused}
 use Rattle.module65.proofs.Entries.{object_alike}
 use Rattle.module65.proofs.Passes.{Follows, begun_follows, one_pass, stands_for, takes_follows}
@@ -38,12 +37,11 @@ use Rattle.asm65.specs.declared.assembler.Assembler.{Assembler}
 use Rattle.asm65.specs.declared.assembly.Assembly.{Assembly}
 use Rattle.asm65.specs.declared.refusal.AsmRefusal.{AsmRefusal}
 use Rattle.asm65.specs.declared.running.Run.{Run}
-use Rattle.asm65.specs.Assembly.{Concludes, IsAssembled, answer_of, has_failed, is_from_outside, is_outside_refusal}
+use Rattle.asm65.specs.Assembly.{Concludes, IsAssembled, answer_of, has_failed, is_from_memory, is_from_outside, is_outside_refusal, placed_of}
+use Rattle.asm65.specs.Failing.{Stops, StopsAll, StopsBehind, StopsFrom, StopsSo}
 use Rattle.asm65.specs.Holding.{Holds}
-use Rattle.asm65.specs.Running.{HoldsSome, HoldsWithin, IsHeldBy, IsReached, at_first, behind, IsReachedBy, IsRunning, Leaves, Ran, SaysAs, running_limit}
-use Rattle.asm65.proofs.Sources.{RanAll, some_both, some_then}
-use Rattle.asm65.specs.Views.{place_in}
-use Rattle.asm65.proofs.Runs.{Answer}
+use Rattle.asm65.specs.Running.{HoldsWithin, IsHeldBy, IsReached, at_first, behind, IsReachedBy, IsRunning, Leaves, Ran, SaysAs, running_limit}
+use Rattle.asm65.proofs.Sources.{RanAll, some_all, some_both, some_then}
 
 -- ---- What statements lead to comes to objects of the grammar.
 
@@ -224,3 +222,96 @@ passed_through old mid new x r p q =
 pub none_passed : (old new : ℕ) (x : Expander) (e : AsmFault) (r : Found) → Passes {T = Expander} {E = ExpandFault} FileError old new (Ok x) → is_failure e ≡ false → IfOk r (λ o. ⊥) → IfErr r (λ y. has_failed y ≡ is_failure e) → PassesBy has_failed old new r
 none_passed old new x e (Ok o) p inside none h = absurd none
 none_passed old new x e (Err y) p inside none h = record { later = p.later; told = λ lt. (let told = p.told lt in absurd cc); cause = λ yes. (let no : true ≡ false = sym yes ∙ h ∙ inside in absurd cc) }
+
+-- ---- What was said where the store failed.
+
+or_true : (b : Bool) → b || true ≡ true
+or_true true = refl
+or_true false = refl
+
+pub failure_outside : (e : AsmFault) → is_failure e ≡ true → is_outside e ≡ true
+failure_outside e h = ap (λ b. is_memory e || b) h ∙ or_true (is_memory e)
+
+memory_outside : (e : AsmFault) → is_memory e ≡ true → is_outside e ≡ true
+memory_outside e h = ap (λ b. b || is_failure e) h
+
+failure_inside : (e : AsmFault) → is_failure e ≡ true → is_memory e ≡ false
+failure_inside PartError h = refl
+failure_inside (Expansion FileError) h = refl
+failure_inside _ h = absurd cc
+
+expansion_error : (e : ExpandFault) → is_failure (Expansion e) ≡ true → Expansion e ≡ Expansion FileError
+expansion_error FileError h = refl
+expansion_error _ h = absurd cc
+
+-- where memory runs out nothing is said, if nothing is where it comes from outside
+pub memory_silent : (r : Found) (P : Type 0) → (is_from_outside r ≡ true → P) → is_from_memory r ≡ true → P
+memory_silent (Ok o) P f h = absurd cc
+memory_silent (Err e) P f h = f (memory_outside e.fault h)
+
+-- the store didn't fail
+never_so : (m : Files) (job : Job) (a : Assembly) → IfErr a.result (λ e. has_failed e ≡ false) → StopsSo m job a
+never_so m job a none = by a.result none
+  where
+    by : (r : Found) → IfErr r (λ e. has_failed e ≡ false) → IfErr r (λ e. has_failed e ≡ true → Stops m job (placed_of e) a.out a.err)
+    by (Ok o) h = tt
+    by (Err e) h = λ yes. absurd (let both : true ≡ false = sym yes ∙ h in cc)
+
+pub stops_never_so : (o : Option Files) (job : Job) (a : Assembly) → IfErr a.result (λ e. has_failed e ≡ false) → IfSome o (λ m. StopsSo m job a)
+stops_never_so o job a none = some_all (λ m. StopsSo m job a) o (λ m. never_so m job a none)
+
+pub stops_never_from : (o : Option Files) (first : Run) (a : Assembly) → IfErr a.result (λ e. has_failed e ≡ false) → IfSome o (λ m. StopsFrom m first a)
+stops_never_from o first a none = some_all (λ m. StopsFrom m first a) o (λ m job begins. never_so m job a none)
+
+pub as_fault : (r : Found) (e : AsmFault) → is_failure e ≡ false → IfErr r (λ x. has_failed x ≡ is_failure e) → IfErr r (λ x. has_failed x ≡ false)
+as_fault (Ok o) e inside h = tt
+as_fault (Err x) e inside h = h ∙ inside
+
+pub as_memory : (r : Found) → IfErr r (λ e. e.fault ≡ OutOfMemory) → IfErr r (λ x. has_failed x ≡ false)
+as_memory (Ok o) h = tt
+as_memory (Err x) h = ap is_failure h
+
+-- it failed before a line was read
+pub stops_first : (o : Option Files) (job : Job) (e : ExpandFault) (a : Assembly) → IfErr a.result (λ x. has_failed x ≡ is_failure (Expansion e)) → (is_failure (Expansion e) ≡ true → IfErr a.result (λ x. (x.fault ≡ Expansion e) × (x.line ≡ 0))) → (is_from_outside a.result ≡ true → (a.out ≡ []) × (a.err ≡ [])) → IfSome o (λ m. StopsSo m job a)
+stops_first o job e a failed first silent = some_all (λ m. StopsSo m job a) o (λ m. by m a.result failed first silent)
+  where
+    by : (m : Files) (r : Found) → IfErr r (λ x. has_failed x ≡ is_failure (Expansion e)) → (is_failure (Expansion e) ≡ true → IfErr r (λ x. (x.fault ≡ Expansion e) × (x.line ≡ 0))) → (is_from_outside r ≡ true → (a.out ≡ []) × (a.err ≡ [])) → IfErr r (λ x. has_failed x ≡ true → Stops m job (placed_of x) a.out a.err)
+    by m (Ok x) failed first silent = tt
+    by m (Err x) failed first silent = λ yes.
+        (let is : is_failure (Expansion e) ≡ true = sym failed ∙ yes in
+        let there = first is in
+        let nothing = silent (failure_outside x.fault yes) in
+        inl (record { fault = there.0 ∙ expansion_error e is; line = there.1; no_out = nothing.0; no_err = nothing.1 }))
+
+abbrev pub StoppedAt : Place → AsmFault → Found → Type 0
+StoppedAt place e r = IfErr r (λ x. placed_of x ≡ record { place = place; fault = e })
+
+-- it failed behind some statements
+pub stops_here : (o : Option Files) (first now : Run) (e : AsmFault) (a : Assembly) → is_failure e ≡ true → StoppedAt (place_of now.expander) e a.result → a.out ≡ now.assembler.texts.out → a.err ≡ now.assembler.texts.err → IfSome o (λ m. StopsAll m first now (Err e)) → IfSome o (λ m. StopsFrom m first a)
+stops_here o first now e a failed placed out err all =
+    some_then (λ m. StopsAll m first now (Err e)) (λ m. StopsFrom m first a) o (λ m h job begins. by m job a.result placed (h failed job begins)) all
+  where
+    at : PlacedFault
+    at = record { place = place_of now.expander; fault = e }
+
+    by : (m : Files) (job : Job) (r : Found) → StoppedAt (place_of now.expander) e r → StopsBehind m job (record { place = place_of now.expander; fault = e }) now.assembler.texts.out now.assembler.texts.err → IfErr r (λ x. has_failed x ≡ true → Stops m job (placed_of x) a.out a.err)
+    by m job (Ok x) p h = tt
+    by m job (Err x) p h = λ yes.
+        inr (subst (λ (q : PlacedFault). StopsBehind m job q a.out a.err) (sym p) (subst (λ (t : List ℕ). StopsBehind m job at t a.err) (sym out) (subst (λ (t : List ℕ). StopsBehind m job at now.assembler.texts.out t) (sym err) h)))
+
+pub stopped_silent : (r : Found) (place : Place) (e : AsmFault) (P : Type 0) → is_failure e ≡ true → StoppedAt place e r → is_from_memory r ≡ true → P
+stopped_silent (Ok o) place e P failed p h = absurd cc
+stopped_silent (Err x) place e P failed p h = absurd (let both : true ≡ false = sym h ∙ ap (λ (q : PlacedFault). is_memory q.fault) p ∙ failure_inside e failed in cc)
+
+-- a fault behind some statements, which may be a failure of the store
+pub stops_behind : (o : Option Files) (first now : Run) (e : AsmFault) (a : Assembly) → IfErr a.result (λ x. has_failed x ≡ is_failure e) → (is_failure e ≡ true → StoppedAt (place_of now.expander) e a.result) → (is_failure e ≡ true → (a.out ≡ now.assembler.texts.out) × (a.err ≡ now.assembler.texts.err)) → IfSome o (λ m. StopsAll m first now (Err e)) → IfSome o (λ m. StopsFrom m first a)
+stops_behind o first now e a same stopped said all = by (is_failure e) refl
+  where
+    by : (b : Bool) → is_failure e ≡ b → IfSome o (λ m. StopsFrom m first a)
+    by true is = stops_here o first now e a is (stopped is) (said is).0 (said is).1 all
+    by false is = stops_never_from o first a (as_fault a.result e is same)
+
+-- what an opened source comes to behind its constants
+pub run_stops : (o : Option Files) (job : Job) (x : Expander) (b : Assembler) (v : Unit {0}) (a : Assembly) → AreLeft job b v → measure_of x ≤ 3145729 → IfSome o (λ m. Opens m (Ok x) (opened_in m job.source job.include)) → IfSome o (λ m. StopsFrom m (record { expander = x; assembler = b }) a) → IfSome o (λ m. StopsSo m job a)
+run_stops o job x b v a left size opens all =
+    some_both (λ m. Opens m (Ok x) (opened_in m job.source job.include)) (λ m. StopsFrom m (record { expander = x; assembler = b }) a) (λ m. StopsSo m job a) o (λ m q r. r job (left.0, q, left.1, first_held x b left.0 (record { expander = x; assembler = b }) refl size left.3)) opens all

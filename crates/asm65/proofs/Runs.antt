@@ -33,7 +33,7 @@ use Rattle.asm65.specs.declared.texts.Texts.{Texts}
 use Rattle.layout65.specs.Counting.{opened_by, opening_limit}
 use Rattle.asm65.specs.Holding.{Holds}
 use Rattle.asm65.specs.Files.{read_bytes}
-use Rattle.asm65.specs.Running.{HoldsWithin, IsReached, behind, IsRoomy, IsSoundIf, Leaves, SaysAs, TakesBy, Told, tokens_of}
+use Rattle.asm65.specs.Running.{behind, IsRoomy, IsSoundIf, Leaves, SaysAs, StopsQuietly, TakesBy, Told, tokens_of}
 use Rattle.asm65.proofs.WholeFiles.{read_sound, takes_whole}
 
 abbrev pub Answer : Type 0
@@ -216,6 +216,20 @@ label_room place o old mid v held front =
     let a = front held.0 held.1 (omega (arith, room)) held.3 in
     let few = a.3.1 in
     (a.3.0, a.0, omega (arith, room, few), a.3.2)
+
+-- a label says nothing, so neither does a failure behind it
+pub label_stops : (place : Place) (ts rest : List Lexeme) (o : Option Stated) (old mid new : Assembler) (v : Unit {0}) (r : Answer) → IsRoomy 2 old → Says ts rest o → FrontBy place o old mid (Ok v) → StopsQuietly mid new r → StopsQuietly old new r
+label_stops place ts rest o old mid new v (Ok w) held says front quiet = tt
+label_stops place ts rest o old mid new v (Err e) held says front quiet = λ failed.
+    (let room = held.2 in
+    let a = front held.0 held.1 (omega (arith, room)) held.3 in
+    let is = parted ts rest o says in
+    let silent : AreQuiet o = subst (λ (p : Option Stated × List Lexeme). AreQuiet p.0) is (label_quiet ts) in
+    let same = quiet_labelled held.1 a.0 place o silent a.1 in
+    let before = held.3 in
+    let behind = a.3.2 in
+    let q = quiet failed in
+    (q.0, q.1 ∙ behind.out ∙ same.0 ∙ sym before.out, q.2 ∙ behind.err ∙ same.1 ∙ sym before.err))
 
 abbrev pub LabelBy : Option Files → Place → List Lexeme → State → Result State AsmFault → Type 0
 LabelBy f place ts = Told f (λ m t. IsLabel m Takes t place ts)

@@ -1,28 +1,25 @@
 -- The statements of a source as an expander gives them and an assembler takes them.
-use Rattle.std.proofs.Common.{◌≡◌, ◌∙◌, ℕ, ◌+◌, ◌*◌, ◌≤◌, ◌<◌, Bool, true, false, Option, Some, None, refl, sym, ap, subst, arith}
+use Rattle.std.proofs.Common.{◌≡◌, ◌∙◌, ℕ, ◌+◌, ◌*◌, ◌≤◌, ◌<◌, Bool, true, false, Option, Some, None, sym, ap, subst, arith}
 use Rattle.std.specs.Prelude.{Result, Ok, Err, IfSome, if◌then◌else◌}
 use Rattle.syntax65.specs.Outcome.{Unless}
 use Rattle.syntax65.specs.Store.{Files}
-use Rattle.expand65.specs.declared.expander.Expander.{Expander}
 use Rattle.expand65.specs.declared.expander.Statement.{Statement}
 use Rattle.expand65.specs.declared.expander.Statement.TheVariants.{Label, Plain}
 use Rattle.expand65.specs.declared.fault.ExpandFault.{ExpandFault}
-use Rattle.expand65.specs.declared.place.Place.{Place}
-use Rattle.expand65.specs.Expansion.{Reaches, statement, nothing, fault, opened_in}
+use Rattle.expand65.specs.Expansion.{Reaches, statement, fault, opened_in}
 use Rattle.expand65.specs.Faults as expansion
 use Rattle.expand65.specs.Standing.{FollowsFrom, Opens, StandsFor, measure_of, place_of, stated}
 use Rattle.expand65.specs.State as expand
 use Rattle.language65.specs.declared.fault.AsmFault.{AsmFault}
 use Rattle.language65.specs.declared.fault.AsmFault.TheVariants.{BadScope, Expansion}
-use Rattle.language65.specs.Faults.{is_outside}
+use Rattle.language65.specs.Faults.{is_failure, is_outside}
 use Rattle.language65.specs.LineFaults.{is_open}
 use Rattle.language65.specs.Layout.{Standing}
 use Rattle.language65.specs.Sound.{AreNamed}
 use Rattle.module65.specs.Continuing.{GoesOn}
 use Rattle.module65.specs.Knowing.{known_at}
 use Rattle.module65.specs.Machine.{Runs, State, Takes, begun, running}
-use Rattle.module65.specs.Places.{PlacedFault}
-use Rattle.module65.specs.Reading.{AreDefined, IsGiven, IsSource, Job, Reached, no_line, open_fault, stopped}
+use Rattle.module65.specs.Reading.{AreDefined, IsGiven, IsSource, Job, no_line, open_fault, stopped}
 use Rattle.module65.proofs.Continued.{same_outside, same_place}
 use Rattle.module65.proofs.NamedSteps as named
 use Rattle.module65.proofs.NamedSteps.{IsStateFit, next_fit}
@@ -32,8 +29,9 @@ use Rattle.module65.proofs.TakenAll.{begins, ends, goes_on, is_refused, stops}
 use Rattle.asm65.specs.declared.assembler.Assembler.{Assembler}
 use Rattle.asm65.specs.declared.running.Run.{Run}
 use Rattle.layout65.specs.Counting.{opening_limit}
+use Rattle.asm65.specs.Failing.{IsTakenTo, at_first, further, IsWhere, StopsAll, StopsBehind}
 use Rattle.asm65.specs.Holding.{Holds}
-use Rattle.asm65.specs.Running.{HoldsSome, HoldsWithin, IsHeldBy, IsReached, IsReachedBy, IsRoomy, IsRunning, Ran, SaysAs, TakesBy, running_limit, tokens_of}
+use Rattle.asm65.specs.Running.{HoldsWithin, IsHeldBy, IsReachedBy, IsRoomy, IsRunning, Ran, SaysAs, StopsQuietly, TakesBy, running_limit, tokens_of}
 use Rattle.asm65.proofs.Runs.{Answer, GivenBy}
 
 pub some_then : (P Q : Files → Type 0) (o : Option Files) → ((m : Files) → P m → Q m) → IfSome o P → IfSome o Q
@@ -99,6 +97,7 @@ pub record Stays (m : Files) (job : Job) (run : Run) (u : State) : Type 0 where
   pub stands : StandsFor m run.expander left
   pub fit : IsStateFit 0 left
   pub goes : GoesOn m running (IsSource m running job begun) left u
+  pub taken : IsTakenTo m job left u
   pub held : IsHeldBy u run
 
 abbrev pub Goes : Files → Run → Run → Type 0
@@ -122,6 +121,7 @@ goes_first m run job t opens defined held = (
     stands = opens.2;
     fit = opened_fit m job.source job.include opens.0 opens.1;
     goes = begins m running job opens.0 begun t opens.1 defined;
+    taken = at_first opens.0 t opens.1 defined;
     held = held;
   },
 )
@@ -149,6 +149,7 @@ module _ (m : Files) (first old mid : Run) (same : mid.assembler ≡ old.assembl
           stands = subst (λ e. StandsFor m e a.0) (sym stays) a.2;
           fit = fits.1;
           goes = goes_on m running (IsSource m running job begun) s.left a.0 (stated x) u b.0 s.goes a.1 (subst (λ p. IsGiven m Takes u p (stated x) (Ok b.0)) (sym place) b.1);
+          taken = further s.left a.0 (stated x) u b.0 s.taken a.1 (subst (λ p. IsGiven m Takes u p (stated x) (Ok b.0)) (sym place) b.1);
           held = held_behind u b.0 old mid new h b.3 less stays;
         },
       )
@@ -205,6 +206,46 @@ module _ (m : Files) (first old mid : Run) (same : mid.assembler ≡ old.assembl
       by u count holds true runs = (u, runs, (holds.out, holds.err))
       by u count holds false runs = (u, runs, (count, holds))
 
+  -- the store fails while expansion reads on
+  pub stops_out : (e : ExpandFault) (r : Answer) → r ≡ Err (Expansion e) → Goes m first old → StopsAll m first mid r
+  stops_out e r fails so_far = subst (StopsAll m first mid) (sym fails) (λ failed job begun_so. by job (so_far job begun_so.0 begun_so.1 begun_so.2 begun_so.3))
+    where
+      by : (job : Job) → (u : State) × Stays m job old u → StopsBehind m job (record { place = place_of mid.expander; fault = Expansion e }) mid.assembler.texts.out mid.assembler.texts.err
+      by job now =
+          let u = now.0 in
+          let s = now.1 in
+          let says = says_held s.held.count u old.assembler mid.assembler same s.held.holds in
+          record { left = s.left; behind = u; taken = s.taken; where_it_is = tt; says_out = says.0; says_err = says.1 }
+
+  -- it fails while a statement is taken
+  pub stops_wrong : (x : Statement) (new : Run) (e : AsmFault) (r : Answer) → r ≡ Err e → NextBy m old (Ok (Some x)) mid → StopsQuietly mid.assembler new.assembler (Err e) → new.expander ≡ mid.expander → Goes m first old → StopsAll m first new r
+  stops_wrong x new e r fails next quiet stays so_far = subst (StopsAll m first new) (sym fails) (λ failed job begun_so. by failed job (so_far job begun_so.0 begun_so.1 begun_so.2 begun_so.3))
+    where
+      by : is_failure e ≡ true → (job : Job) → (u : State) × Stays m job old u → StopsBehind m job (record { place = place_of new.expander; fault = e }) new.assembler.texts.out new.assembler.texts.err
+      by failed job now =
+          let u = now.0 in
+          let s = now.1 in
+          let q = quiet failed in
+          let says = says_held s.held.count u old.assembler mid.assembler same s.held.holds in
+          let a = next u s.held s.left s.stands in
+          let at_new : place_of new.expander ≡ a.0.left.place = ap place_of stays ∙ sym (same_place m mid.expander a.0 a.2) in
+          record {
+            left = s.left;
+            behind = u;
+            taken = s.taken;
+            where_it_is = subst (λ f. IsWhere m s.left u f (place_of new.expander)) (sym q.0) (record { stated = stated x; left = a.0; reaches = a.1; at = at_new });
+            says_out = q.1 ∙ says.0;
+            says_err = q.2 ∙ says.1;
+          }
+
+-- nothing of it is a failure of the store
+pub stops_never : (m : Files) (first now : Run) (r : Answer) → r ≡ (if is_open now.assembler.standing.scope then Err BadScope else Ok tt) → StopsAll m first now r
+stops_never m first now r is = subst (StopsAll m first now) (sym is) (by (is_open now.assembler.standing.scope))
+  where
+    by : (b : Bool) → StopsAll m first now (if b then Err BadScope else Ok tt)
+    by true = λ failed job begun_so. absurd cc
+    by false = tt
+
 -- ---- The same by what a store tells of its files.
 
 pub some_all : (P : Files → Type 0) (o : Option Files) → ((m : Files) → P m) → IfSome o P
@@ -215,6 +256,10 @@ module _ (o p : Option Files) (told : p ≡ o) (first old mid : Run) (same : mid
   pub all_out : (e : ExpandFault) (r : Answer) → r ≡ Err (Expansion e) → IfSome p (λ m. NextBy m old (Err e) mid) → IfSome o (λ m. RanAll m first mid r)
   all_out e r fails next =
       some_both (λ m. Goes m first old) (λ m. NextBy m old (Err e) mid) (λ m. RanAll m first mid r) o (λ m so n. goes_out m first old mid same e r fails n so) so_far (subst (λ q. IfSome q (λ m. NextBy m old (Err e) mid)) told next)
+
+  pub all_stop : (e : ExpandFault) (r : Answer) → r ≡ Err (Expansion e) → IfSome o (λ m. StopsAll m first mid r)
+  all_stop e r fails =
+      some_then (λ m. Goes m first old) (λ m. StopsAll m first mid r) o (λ m so. stops_out m first old mid same e r fails so) so_far
 
   module _ (q : Option Statement) (next : IfSome p (λ m. NextBy m old (Ok q) mid)) where
     given : (x : Option Statement) → q ≡ x → IfSome o (λ m. NextBy m old (Ok x) mid)
@@ -238,6 +283,10 @@ module _ (o p : Option Files) (told : p ≡ o) (first old mid : Run) (same : mid
       all_further v taken =
           some_both (λ m. Goes m first old × NextBy m old (Ok (Some x)) mid) (TakesIn (Ok v)) (λ m. Goes m first new) o (λ m so t. goes_further m first old mid same x new v less so.1 t stays so.0)
           (some_both (λ m. Goes m first old) (λ m. NextBy m old (Ok (Some x)) mid) (λ m. Goes m first old × NextBy m old (Ok (Some x)) mid) o (λ m so n. (so, n)) so_far (given (Some x) is)) (told_taken (Ok v) taken)
+
+      pub all_stopped : (e : AsmFault) (r : Answer) → r ≡ Err e → StopsQuietly mid.assembler new.assembler (Err e) → IfSome o (λ m. StopsAll m first new r)
+      all_stopped e r fails quiet =
+          some_both (λ m. Goes m first old) (λ m. NextBy m old (Ok (Some x)) mid) (λ m. StopsAll m first new r) o (λ m so n. stops_wrong m first old mid same x new e r fails n quiet stays so) so_far (given (Some x) is)
 
       pub all_wrong : (e : AsmFault) (r : Answer) → r ≡ Err e → Takes2 old mid same less f x new (Err e) → IfSome o (λ m. RanAll m first new r)
       all_wrong e r fails taken =

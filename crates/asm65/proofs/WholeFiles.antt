@@ -1,5 +1,5 @@
 -- A file of which more than the limit was read is refused as the whole file is.
-use Rattle.std.proofs.Common.{◌≡◌, ◌∙◌, ℕ, ◌≤◌, ◌<◌, Bool, true, false, nat_le, not, List, [], ◌∷◌, Option, Some, None, length, take, refl, sym, subst, arith, option_map}
+use Rattle.std.proofs.Common.{◌≡◌, ℕ, ◌≤◌, Bool, true, false, nat_le, not, List, ◌∷◌, Option, Some, None, length, take, refl, sym, subst, arith, option_map}
 use Rattle.std.specs.Prelude.{◌&&◌, Result, Err}
 use Rattle.std.proofs.lemmas.Bool.Decides.{nat_tests}
 use Rattle.std.proofs.lemmas.List.{length-take-le, take_all}

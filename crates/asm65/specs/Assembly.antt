@@ -1,9 +1,9 @@
 -- What assembling a source gives.
-use Rattle.std.specs.Prelude.{◌≡◌, ℕ, Bool, true, false, List, [], map, Result, Ok, Err, string_bytes}
+use Rattle.std.specs.Prelude.{◌≡◌, Bool, false, [], map, Result, Ok, Err, unwrap_or}
 use Rattle.syntax65.specs.Outcome.{Finds}
 use Rattle.syntax65.specs.Store.{Files}
 use Rattle.object65.specs.declared.object.Object.{Object}
-use Rattle.language65.specs.Faults.{is_failure, is_outside}
+use Rattle.language65.specs.Faults.{is_failure, is_memory, is_outside}
 use Rattle.module65.specs.Module.{IsOutcome, Outcome}
 use Rattle.module65.specs.Places.{PlacedFault}
 use Rattle.module65.specs.Reading.{Define, Job}
@@ -23,9 +23,10 @@ job_of job = record {
   defines = map define_of job.defines.now;
 }
 
+-- no file where the source itself is meant
 abbrev pub placed_of : AsmRefusal → PlacedFault
 placed_of e = record {
-  place = record { file = string_bytes e.file; line = e.line };
+  place = record { file = unwrap_or e.file []; line = e.line };
   fault = e.fault;
 }
 
@@ -56,3 +57,8 @@ IsAssembled m job o = IsOutcome m job o
 abbrev pub is_from_outside : Result Object AsmRefusal → Bool
 is_from_outside (Ok o) = false
 is_from_outside (Err e) = is_outside_refusal e
+
+-- memory ran out
+abbrev pub is_from_memory : Result Object AsmRefusal → Bool
+is_from_memory (Ok o) = false
+is_from_memory (Err e) = is_memory e.fault

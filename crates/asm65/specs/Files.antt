@@ -1,5 +1,5 @@
 -- What is read of the files whose bytes statements take.
-use Rattle.std.specs.Prelude.{ℕ, List, Option, take}
+use Rattle.std.specs.Prelude.{take}
 use Rattle.std.specs.Option.{option_map}
 use Rattle.syntax65.specs.Store.{Files}
 use Rattle.expand65.specs.declared.place.Place.{Place}

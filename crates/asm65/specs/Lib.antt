@@ -7,3 +7,4 @@ pub mod Putting
 pub mod Taking
 pub mod Resolving
 pub mod Running
+pub mod Failing

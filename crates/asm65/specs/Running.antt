@@ -1,5 +1,5 @@
 -- What an assembler has taken of a source while it takes its statements.
-use Rattle.std.specs.Prelude.{◌≡◌, ℕ, ◌+◌, ◌*◌, ◌≤◌, List, Option, Some, None, IfSome, Result, Ok, Err, ⊤}
+use Rattle.std.specs.Prelude.{◌≡◌, ℕ, ◌+◌, ◌*◌, ◌≤◌, List, Option, Some, None, IfErr, IfSome, true, Result, Ok, Err, ⊤}
 use Rattle.syntax65.specs.Outcome.{Unless}
 use Rattle.syntax65.specs.Store.{Files}
 use Rattle.syntax65.specs.Tokens.{Lexeme}
@@ -8,7 +8,8 @@ use Rattle.expand65.specs.State as expand
 use Rattle.expand65.specs.Standing.{measure_of, place_of}
 use Rattle.expand65.specs.declared.place.Place.{Place}
 use Rattle.language65.specs.declared.fault.AsmFault.{AsmFault}
-use Rattle.language65.specs.Faults.{is_outside}
+use Rattle.language65.specs.declared.fault.AsmFault.TheVariants.{FileError}
+use Rattle.language65.specs.Faults.{is_failure, is_outside}
 use Rattle.language65.specs.Language.{Stated, constant}
 use Rattle.language65.specs.Sound.{IsSound}
 use Rattle.module65.specs.Machine.{Runs, State, Takes, begun}
@@ -68,6 +69,11 @@ abbrev pub TakesBy :
 TakesBy AreSo IsAnswer more old new r =
     (count : ℕ) (t : State) → count + more ≤ opening_limit → Holds count t old →
     Leaves AreSo (IsAnswer t) (count + more) t new r
+
+-- where the store failed, that is the fault, and nothing more was said
+abbrev pub StopsQuietly : Assembler → Assembler → Result (Unit {0}) AsmFault → Type 0
+StopsQuietly old new r = IfErr r (λ e. is_failure e ≡ true →
+    (e ≡ FileError) × (new.texts.out ≡ old.texts.out) × (new.texts.err ≡ old.texts.err))
 
 -- what a label is, if there is one, objects can hold
 abbrev pub IsSoundIf : Option Stated → Type 0

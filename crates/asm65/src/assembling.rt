@@ -5,11 +5,12 @@ ghost use Rattle.syntax65.specs.Outcome.{Finds};
 ghost use Rattle.syntax65.specs.Store.{Passes, PassesBy};
 ghost use Rattle.object65.specs.Objects.{ObjectFits, is_good_object};
 ghost use Rattle.expand65.specs.Expansion.{opened_in};
-ghost use Rattle.expand65.specs.Standing.{Opens, measure_of};
+ghost use Rattle.expand65.specs.Standing.{Opens, measure_of, place_of};
 ghost use Rattle.language65.specs.Faults.{is_failure, is_outside};
 ghost use Rattle.module65.specs.Machine.{State, Takes, begun, concluded};
 ghost use Rattle.module65.specs.Reading.{AreDefined, Job, no_line};
-ghost use Rattle.asm65.specs.Assembly.{Concludes, IsAssembled, answer_of, has_failed, is_from_outside, is_outside_refusal, job_of};
+ghost use Rattle.asm65.specs.Assembly.{Concludes, IsAssembled, answer_of, has_failed, is_from_memory, is_from_outside, is_outside_refusal, job_of, placed_of};
+ghost use Rattle.asm65.specs.Failing.{StopsFrom, StopsSo};
 ghost use Rattle.asm65.specs.Holding.{Holds};
 ghost use Rattle.asm65.specs.Running.{IsHeldBy, IsRunning, SaysAs};
 ghost use Rattle.asm65.specs.Views.{place_in};
@@ -19,36 +20,68 @@ use crate::assembly::{AsmJob, Assembly};
 use crate::defining::define_all;
 use crate::refusal::AsmRefusal;
 use crate::running::{Run, take_all};
-use expand65::{ExpandFault, Expander, Options};
+use crate::texts::Texts;
+use expand65::{ExpandFault, Expander, Options, Place};
 use language65::AsmFault;
 use std::alloc::Global;
 use syntax65::{Sequence, Store, Text};
+
+/// Whether the store failed.
+fn is_failure(fault: &AsmFault) -> bool
+    ensures { result ≡ is_failure fault.now }
+{
+    matches!(
+        fault,
+        AsmFault::FileError | AsmFault::Expansion(ExpandFault::FileError)
+    )
+}
 
 /// Whether memory ran out, or the store failed.
 fn is_outside(fault: &AsmFault) -> bool
     ensures { result ≡ is_outside fault.now }
 {
-    let is_failure = matches!(
-        fault,
-        AsmFault::FileError | AsmFault::Expansion(ExpandFault::FileError)
-    );
-    fault.is_memory() || is_failure
+    fault.is_memory() || is_failure(fault)
 }
 
-/// A refusal from outside, with which nothing is said.
+/// A refusal from outside before a line was read, with which nothing is said.
 fn refused_outside(alloc: Global, fault: AsmFault) -> Assembly
     ensures fault { IfErr result.result (λ e. e.fault ≡ fault) }
+    ensures line { IfErr result.result (λ e. e.line ≡ 0) }
     ensures none { IfOk result.result (λ _. ⊥) }
     ensures silent { (result.out ≡ []) × (result.err ≡ []) }
 {
     Assembly {
         result: Err(AsmRefusal {
-            file: String::new(alloc),
+            file: None,
             line: 0,
             fault,
         }),
         out: Sequence::new(alloc),
         err: Sequence::new(alloc),
+    }
+}
+
+/// The store failed behind some statements: what they say was said, and the place that was reached.
+fn stopped(expander: Expander, assembler: Assembler, fault: AsmFault) -> Assembly
+    ensures none { IfOk result.result (λ _. ⊥) }
+    ensures stopped { IfErr result.result (λ e. placed_of e ≡
+        record { place = place_of expander; fault = fault }) }
+    ensures out { result.out ≡ assembler.texts.out }
+    ensures err { result.err ≡ assembler.texts.err }
+{
+    // The name is handed on as it is, since no memory may be left for a copy.
+    let rewriter = expander.rewriter;
+    let reader = rewriter.reader;
+    let Place { file, line } = reader.place;
+    let Texts { out, err } = assembler.texts;
+    Assembly {
+        result: Err(AsmRefusal {
+            file: Some(file),
+            line,
+            fault,
+        }),
+        out,
+        err,
     }
 }
 
@@ -62,12 +95,39 @@ fn refused(alloc: Global, assembler: Assembler, at: At<'_>, fault: AsmFault) -> 
     ensures outside { is_outside fault ≡ true → is_from_outside result.result ≡ true }
     ensures none { IfOk result.result (λ _. ⊥) }
     ensures failed { IfErr result.result (λ e. has_failed e ≡ is_failure fault) }
+    ensures first { is_failure fault ≡ true →
+        IfErr result.result (λ e. (e.fault ≡ fault) × (e.line ≡ 0)) }
     ensures silent { is_from_outside result.result ≡ true → (result.out ≡ []) × (result.err ≡ []) }
 {
     if is_outside(&fault) {
         return refused_outside(alloc, fault);
     }
     assembler.refuse(alloc, at, fault)
+}
+
+/// A fault behind some statements, at the place that was reached, behind what was said.
+fn refused_behind(
+    alloc: Global,
+    expander: Expander,
+    assembler: Assembler,
+    fault: AsmFault,
+) -> Assembly
+    ensures refused { is_outside fault ≡ false → (t : State) → SaysAs t assembler → Concludes
+        (concluded t (Some (record { place = place_of expander; fault = fault }))) result }
+    ensures outside { is_outside fault ≡ true → is_from_outside result.result ≡ true }
+    ensures none { IfOk result.result (λ _. ⊥) }
+    ensures failed { IfErr result.result (λ e. has_failed e ≡ is_failure fault) }
+    ensures stopped { is_failure fault ≡ true → IfErr result.result (λ e.
+        placed_of e ≡ record { place = place_of expander; fault = fault }) }
+    ensures said { is_failure fault ≡ true →
+        (result.out ≡ assembler.texts.out) × (result.err ≡ assembler.texts.err) }
+    ensures silent { is_from_memory result.result ≡ true → (result.out ≡ []) × (result.err ≡ []) }
+{
+    if is_failure(&fault) {
+        return stopped(expander, assembler, fault);
+    }
+    let (file, line) = expander.place();
+    refused(alloc, assembler, At { file, line }, fault)
 }
 
 /// A copy of the folders of a job.
@@ -105,7 +165,8 @@ fn finished<S: Store>(alloc: Global, store: &mut S, run: Run) -> Assembly
     ensures count { PassesBy has_failed (S.failures store.old) (S.failures store.new) result.result }
     ensures good { IfOk result.result (λ o. is_good_object o ≡ true) }
     ensures numbers { IfOk result.result ObjectFits }
-    ensures silent { is_from_outside result.result ≡ true → (result.out ≡ []) × (result.err ≡ []) }
+    ensures stopped { IfSome (S.files store.old) (λ m. StopsFrom m run result) }
+    ensures silent { is_from_memory result.result ≡ true → (result.out ≡ []) × (result.err ≡ []) }
 {
     let mut run = run;
     let ran = take_all(alloc, store, &mut run);
@@ -115,10 +176,7 @@ fn finished<S: Store>(alloc: Global, store: &mut S, run: Run) -> Assembly
     } = run;
     match ran {
         Ok(()) => assembler.conclude(alloc),
-        Err(fault) => {
-            let (file, line) = expander.place();
-            refused(alloc, assembler, At { file, line }, fault)
-        }
+        Err(fault) => refused_behind(alloc, expander, assembler, fault),
     }
 }
 
@@ -136,7 +194,8 @@ fn assembled<S: Store>(
     ensures count { PassesBy has_failed (S.failures store.old) (S.failures store.new) result.result }
     ensures good { IfOk result.result (λ o. is_good_object o ≡ true) }
     ensures numbers { IfOk result.result ObjectFits }
-    ensures silent { is_from_outside result.result ≡ true → (result.out ≡ []) × (result.err ≡ []) }
+    ensures stopped { IfSome (S.files store.old) (λ m. StopsSo m (job_of job.now) result) }
+    ensures silent { is_from_memory result.result ≡ true → (result.out ≡ []) × (result.err ≡ []) }
 {
     let mut assembler = assembler;
     let at = At {
@@ -167,8 +226,10 @@ pub fn assemble<S: Store>(alloc: Global, store: &mut S, job: &AsmJob<'_>) -> Ass
     // An object can be written.
     ensures good { IfOk result.result (λ o. is_good_object o ≡ true) }
     ensures numbers { IfOk result.result ObjectFits }
-    // Where memory runs out or the store fails nothing is said.
-    ensures silent { is_from_outside result.result ≡ true → (result.out ≡ []) × (result.err ≡ []) }
+    // Where the store fails, what the statements before say is said, and where it was.
+    ensures stopped { IfSome (S.files store.old) (λ m. StopsSo m (job_of job.now) result) }
+    // Where memory runs out nothing is said.
+    ensures silent { is_from_memory result.result ≡ true → (result.out ≡ []) × (result.err ≡ []) }
 {
     match Assembler::new(alloc) {
         Ok(assembler) => assembled(alloc, store, job, assembler),

@@ -107,7 +107,7 @@ fn settle(
             fill(&mut ending.sections, made.filling);
             match warn_of(&mut ending.err, at, made.warning) {
                 Ok(()) => Ok(()),
-                Err(_) => Err(AsmRefusal::without_memory(alloc)),
+                Err(_) => Err(AsmRefusal::without_memory()),
             }
         }
         Err(fault) => Err(AsmRefusal::of_fault(alloc, at, fault)),
@@ -160,11 +160,11 @@ fn object_of(
     ensures failed { IfErr result (λ e. has_failed e ≡ false) }
 {
     let Ok(names) = names_of(alloc, imports) else {
-        return Err(AsmRefusal::without_memory(alloc));
+        return Err(AsmRefusal::without_memory());
     };
     match sections.finish(alloc, segments, names.as_slice()) {
         Ok(object) => Ok(object),
-        Err(_) => Err(AsmRefusal::without_memory(alloc)),
+        Err(_) => Err(AsmRefusal::without_memory()),
     }
 }
 

@@ -4,6 +4,7 @@ ghost use Rattle.std.specs.Prelude.{◌≡◌, ℕ, IfErr, IfOk, IfSome, take, t
 ghost use Rattle.std.specs.Option.{option_map};
 ghost use Rattle.syntax65.specs.Store.{PassesBy};
 ghost use Rattle.expand65.specs.Includes.{beside, file_named};
+ghost use Rattle.language65.specs.declared.fault.AsmFault.TheVariants.{FileError};
 ghost use Rattle.language65.specs.Faults.{is_failure, is_outside};
 ghost use Rattle.language65.specs.Views.{stated_of};
 ghost use Rattle.asm65.specs.Files.{read_bytes};
@@ -28,6 +29,7 @@ fn bytes_beside<S: Store>(
     ensures read { IfSome (S.files store.old) (λ m. IfOk result (λ bytes.
         bytes ≡ option_map (take 16777217) (file_named m (beside file.now name.now)))) }
     ensures outside { IfErr result (λ e. is_outside e ≡ true) }
+    ensures failed { IfErr result (λ e. is_failure e ≡ true → e ≡ FileError) }
     ensures files { S.files store.new ≡ S.files store.old }
     ensures count { PassesBy is_failure (S.failures store.old) (S.failures store.new) result }
 {
@@ -51,6 +53,7 @@ pub fn with_bytes<S: Store>(
     ensures bytes { IfSome (S.files store.old) (λ m. (line : ℕ) → IfOk result (λ x.
         stated_of x ≡ read_bytes m (place_in file.entry.now line) (stated_of statement))) }
     ensures outside { IfErr result (λ e. is_outside e ≡ true) }
+    ensures failed { IfErr result (λ e. is_failure e ≡ true → e ≡ FileError) }
     ensures files { S.files store.new ≡ S.files store.old }
     ensures count { PassesBy is_failure (S.failures store.old) (S.failures store.new) result }
 {

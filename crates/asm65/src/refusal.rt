@@ -1,6 +1,6 @@
 //! Why a source has no object, and where.
 
-ghost use Rattle.std.specs.Prelude.{◌≡◌, false, true};
+ghost use Rattle.std.specs.Prelude.{◌≡◌, [], false, true, unwrap_or};
 ghost use Rattle.language65.specs.Faults.{is_failure, is_outside};
 ghost use Rattle.asm65.specs.Assembly.{has_failed, is_outside_refusal, placed_of};
 ghost use Rattle.asm65.specs.Views.{place_in};
@@ -9,24 +9,25 @@ use crate::assembler::At;
 use expand65::ExpandFault;
 use language65::AsmFault;
 use std::alloc::Global;
+use syntax65::Text;
 
 /// Why a source has no object, and where: the line is 0 where none was read.
 #[derive(Debug, Drop)]
 pub struct AsmRefusal {
-    /// The file; no name where memory ran out.
-    pub file: String,
+    /// The file of the line; none where no line was read, or where memory ran out.
+    pub file: Option<Text>,
     pub line: u32,
     pub fault: AsmFault,
 }
 
 impl AsmRefusal {
     /// Memory ran out, perhaps for the name of a file.
-    pub fn without_memory(alloc: Global) -> Self
+    pub fn without_memory() -> Self
         ensures outside { is_outside_refusal result ≡ true }
         ensures inside { has_failed result ≡ false }
     {
         AsmRefusal {
-            file: String::new(alloc),
+            file: None,
             line: 0,
             fault: AsmFault::OutOfMemory,
         }
@@ -40,13 +41,23 @@ impl AsmRefusal {
         ensures inside { is_failure fault ≡ false → has_failed result ≡ false }
         ensures kept { is_outside fault ≡ false → has_failed result ≡ false }
     {
-        match String::from_str(alloc, at.file) {
+        match Text::copy_of(alloc, at.file) {
             Ok(file) => AsmRefusal {
-                file,
+                file: Some(file),
                 line: at.line,
                 fault,
             },
-            Err(_) => AsmRefusal::without_memory(alloc),
+            Err(_) => AsmRefusal::without_memory(),
+        }
+    }
+
+    /// The name of the file; empty where there is none.
+    pub fn file_name(&self) -> &str
+        ensures { result.now ≡ unwrap_or self.now.file [] }
+    {
+        match &self.file {
+            Some(file) => file.as_str(),
+            None => "",
         }
     }
 

@@ -1,8 +1,7 @@
-use Rattle.std.proofs.Common.{◌≡◌, ◌∙◌, ap, true}
+use Rattle.std.proofs.Common.{◌≡◌, refl, true}
 use Rattle.object65.specs.Objects.{ObjectFits, is_good_object}
 use Rattle.expand65.specs.Standing.{place_of}
-use Rattle.asm65.specs.Views.{place_in}
-use Rattle.asm65.proofs.Outcomes.{all_concluded, all_refused, good_answer, not_answered, passed_as, passed_on}
+use Rattle.asm65.proofs.Outcomes.{all_concluded, all_refused, good_answer, memory_silent, not_answered, passed_as, passed_on, stops_behind, stops_never_from}
 use Rattle.asm65.proofs.assembling.finished.Goals as goal
 
 pub returns-in-Ok-clause-assembled : goal.returns-in-Ok-clause-assembled
@@ -14,18 +13,26 @@ returns-in-Ok-clause-count g c = passed_on _ _ c.in-Ok.field-0 c.conclude.result
 pub returns-in-Ok-clause-good : goal.returns-in-Ok-clause-good
 returns-in-Ok-clause-good g c = good_answer c.conclude.result c.take_all-ran.new.run.assembler c.in-Ok.ensures.held c.conclude.ensures.concluded
 
-pub returns-clause-assembled : goal.returns-clause-assembled
-returns-clause-assembled g c =
-    let at = c.place-line.ensures.place in
-    let there = place_of c.take_all-ran.new.run.expander in
-    let same : place_in c.place-line.result.0.now c.place-line.result.1 ≡ there = ap (λ f. place_in f c.place-line.result.1) at.0 ∙ ap (place_in there.file) at.1 in
-    all_refused (g.S.Store.files c.args.store.now) c.args.run c.take_all-ran.new.run c.in-Err.fault (place_in c.place-line.result.0.now c.place-line.result.1) c.refused.result same c.refused.ensures.outside c.refused.ensures.refused c.in-Err.ensures.ran
+pub returns-in-Ok-clause-stopped : goal.returns-in-Ok-clause-stopped
+returns-in-Ok-clause-stopped g c = stops_never_from (g.S.Store.files c.args.store.now) c.args.run c.conclude.result c.conclude.ensures.inside
 
-pub returns-clause-count : goal.returns-clause-count
-returns-clause-count g c = passed_as _ _ c.in-Err.fault c.refused.result.result c.in-Err.ensures.count c.refused.ensures.none c.refused.ensures.failed
+pub returns-in-Ok-clause-silent : goal.returns-in-Ok-clause-silent
+returns-in-Ok-clause-silent g c = memory_silent c.conclude.result.result _ c.conclude.ensures.silent
 
-pub returns-clause-good : goal.returns-clause-good
-returns-clause-good g c = not_answered (λ o. is_good_object o ≡ true) c.refused.result.result c.refused.ensures.none
+pub returns-in-Err-clause-assembled : goal.returns-in-Err-clause-assembled
+returns-in-Err-clause-assembled g c =
+    let now = c.take_all-ran.new.run in
+    all_refused (g.S.Store.files c.args.store.now) c.args.run now c.in-Err.fault (place_of now.expander) c.refused_behind.result refl c.refused_behind.ensures.outside c.refused_behind.ensures.refused c.in-Err.ensures.ran
 
-pub returns-clause-numbers : goal.returns-clause-numbers
-returns-clause-numbers g c = not_answered ObjectFits c.refused.result.result c.refused.ensures.none
+pub returns-in-Err-clause-count : goal.returns-in-Err-clause-count
+returns-in-Err-clause-count g c = passed_as _ _ c.in-Err.fault c.refused_behind.result.result c.in-Err.ensures.count c.refused_behind.ensures.none c.refused_behind.ensures.failed
+
+pub returns-in-Err-clause-good : goal.returns-in-Err-clause-good
+returns-in-Err-clause-good g c = not_answered (λ o. is_good_object o ≡ true) c.refused_behind.result.result c.refused_behind.ensures.none
+
+pub returns-in-Err-clause-numbers : goal.returns-in-Err-clause-numbers
+returns-in-Err-clause-numbers g c = not_answered ObjectFits c.refused_behind.result.result c.refused_behind.ensures.none
+
+pub returns-in-Err-clause-stopped : goal.returns-in-Err-clause-stopped
+returns-in-Err-clause-stopped g c =
+    stops_behind (g.S.Store.files c.args.store.now) c.args.run c.take_all-ran.new.run c.in-Err.fault c.refused_behind.result c.refused_behind.ensures.failed c.refused_behind.ensures.stopped c.refused_behind.ensures.said c.in-Err.ensures.stopped

@@ -1,4 +1,4 @@
-use Rattle.std.proofs.Common.{rules, ◌≡◌, ◌∙◌, ◌+◌, ◌<◌, ap, subst, drop, get_or, length, map, List, [], Err}
+use Rattle.std.proofs.Common.{rules, ◌∙◌, ◌+◌, ◌<◌, ap, subst, drop, get_or, length, map, List, [], Err}
 use Rattle.std.proofs.lemmas.Result.{err_from_is_err_and}
 use Rattle.module65.specs.Reading.{Define, no_line}
 use Rattle.asm65.specs.declared.assembly.Define as code

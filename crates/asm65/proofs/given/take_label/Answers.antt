@@ -1,10 +1,10 @@
-use Rattle.std.proofs.Common.{◌≡◌, ap, sym, ◌∙◌, subst, Result, Ok, Err}
+use Rattle.std.proofs.Common.{◌≡◌, ap, ◌∙◌, Err}
 use Rattle.std.proofs.lemmas.Result.{err_from_is_err_and}
 use Rattle.std.specs.Prelude.{option_map}
 use Rattle.syntax65.specs.Tokens.{lexemes}
 use Rattle.language65.specs.Views.{stated_of}
 use Rattle.asm65.specs.Views.{place_in}
-use Rattle.asm65.proofs.Runs.{Answer, label_leaves, label_refused, label_room}
+use Rattle.asm65.proofs.Runs.{label_leaves, label_refused, label_room, label_stops}
 use Rattle.asm65.proofs.given.take_label.Goals as goal
 
 pub returns-in_err-take_front-clause-taken : goal.returns-in_err-take_front-clause-taken
@@ -20,3 +20,7 @@ take_rest-requires g c =
 pub returns-clause-taken : goal.returns-clause-taken
 returns-clause-taken g c =
     label_leaves (g.S.Store.files c.args.store.now) (place_in c.args.at.file.now c.args.at.line) (lexemes c.args.tokens.now) (lexemes c.in_ok-label.rest.now) (option_map stated_of c.in_ok-label.label) c.args.assembler.now c.take_front.new.assembler c.take_rest.new.assembler c.in_ok-take_front.field-0 c.take_rest.result c.in_ok-label.ensures.value c.in_ok-take_front.ensures.taken c.take_rest.ensures.taken
+
+pub returns-clause-stopped : goal.returns-clause-stopped
+returns-clause-stopped g c =
+    label_stops (place_in c.args.at.file.now c.args.at.line) (lexemes c.args.tokens.now) (lexemes c.in_ok-label.rest.now) (option_map stated_of c.in_ok-label.label) c.args.assembler.now c.take_front.new.assembler c.take_rest.new.assembler c.in_ok-take_front.field-0 c.take_rest.result c.requires c.in_ok-label.ensures.value c.in_ok-take_front.ensures.taken c.take_rest.ensures.stopped

@@ -1,5 +1,4 @@
-use Rattle.std.proofs.Common.{◌≡◌, ◌∙◌, [], length, ap, sym, Err}
-use Rattle.std.proofs.lemmas.Result.{err_from_is_err_and}
+use Rattle.std.proofs.Common.{◌≡◌, [], length}
 use Rattle.syntax65.specs.Tokens.{lexemes}
 use Rattle.language65.specs.Views.{stated_of}
 use Rattle.module65.proofs.Given.{some_tokens}

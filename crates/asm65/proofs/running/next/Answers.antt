@@ -1,9 +1,6 @@
-use Rattle.std.proofs.Common.{◌≡◌, sym, subst}
-use Rattle.std.specs.Prelude.{IfSome}
-use Rattle.expand65.specs.Meaning.{Meaning}
+use Rattle.std.proofs.Common.{subst}
 use Rattle.expand65.specs.Standing.{FollowsFrom}
 use Rattle.language65.specs.Views.{spot_of}
-use Rattle.module65.specs.Knowing.{known_at}
 use Rattle.symbols65.specs.Views.{table_of}
 use Rattle.asm65.specs.Knowing.{known_where}
 use Rattle.asm65.proofs.Constants.{known_held}

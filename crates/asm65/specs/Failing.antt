@@ -1,0 +1,84 @@
+-- The store fails while a source is read: what was taken of it, and where that is.
+use Rattle.std.specs.Prelude.{◌≡◌, ◌⊎◌, ℕ, true, List, [], IfErr, Result, Ok, ⊤}
+use Rattle.syntax65.specs.Store.{Files}
+use Rattle.expand65.specs.Expansion.{Reaches, opened_in, statement}
+use Rattle.expand65.specs.Standing.{Opens, place_of}
+use Rattle.expand65.specs.State as expand
+use Rattle.expand65.specs.declared.fault.ExpandFault.TheVariants as expansion
+use Rattle.expand65.specs.declared.place.Place.{Place}
+use Rattle.language65.specs.declared.fault.AsmFault.{AsmFault}
+use Rattle.language65.specs.declared.fault.AsmFault.TheVariants.{Expansion, FileError}
+use Rattle.language65.specs.Faults.{is_failure}
+use Rattle.module65.specs.Knowing.{known_at}
+use Rattle.module65.specs.Machine.{State, Takes, begun}
+use Rattle.module65.specs.Places.{PlacedFault}
+use Rattle.module65.specs.Reading.{AreDefined, IsGiven, Job, no_line}
+use Rattle.asm65.specs.Assembly.{has_failed, placed_of}
+use Rattle.asm65.specs.Running.{IsHeldBy}
+use Rattle.asm65.specs.declared.assembly.Assembly.{Assembly}
+use Rattle.asm65.specs.declared.running.Run.{Run}
+
+-- Of a source the constants and some of its first statements have been taken, as expansion gives them
+-- one behind the other: what expansion has left, and what stands behind them.
+pub data IsTakenTo (m : Files) (job : Job) : expand.State → State → Type 0 where
+  at_first :
+      (s : expand.State) (t : State) → opened_in m job.source job.include ≡ Ok s →
+      AreDefined Takes begun (no_line job.source) job.defines (Ok t) → IsTakenTo m job s t
+  further :
+      (s left : expand.State) (x : expand.Stated) (t u : State) → IsTakenTo m job s t →
+      Reaches m (known_at t.symbols t.standing) s (statement x left) →
+      IsGiven m Takes t left.left.place x (Ok u) → IsTakenTo m job left u
+
+-- expansion gives a statement next, at this place
+pub record IsNextAt (m : Files) (s : expand.State) (t : State) (place : Place) : Type 0 where
+  pub stated : expand.Stated
+  pub left : expand.State
+  pub reaches : Reaches m (known_at t.symbols t.standing) s (statement stated left)
+  pub at : place ≡ left.left.place
+
+-- a file that a statement takes bytes of can't be read: that is the next statement
+abbrev pub IsWhere : Files → expand.State → State → AsmFault → Place → Type 0
+IsWhere m s t FileError place = IsNextAt m s t place
+IsWhere m s t _ place = ⊤
+
+-- the store failed behind some of the statements, and what they say was said
+pub record StopsBehind (m : Files) (job : Job) (e : PlacedFault) (out err : List ℕ) : Type 0 where
+  pub left : expand.State
+  pub behind : State
+  pub taken : IsTakenTo m job left behind
+  pub where_it_is : IsWhere m left behind e.fault e.place
+  pub says_out : out ≡ behind.out
+  pub says_err : err ≡ behind.err
+
+-- it failed before a line was read, and nothing was said
+pub record StopsFirst (e : PlacedFault) (out err : List ℕ) : Type 0 where
+  pub fault : e.fault ≡ Expansion expansion.FileError
+  pub line : e.place.line ≡ 0
+  pub no_out : out ≡ []
+  pub no_err : err ≡ []
+
+abbrev pub Stops : Files → Job → PlacedFault → (out err : List ℕ) → Type 0
+Stops m job e out err = StopsFirst e out err ⊎ StopsBehind m job e out err
+
+-- an assembly that is refused since the store failed
+abbrev pub StopsSo : Files → Job → Assembly → Type 0
+StopsSo m job a =
+    IfErr a.result (λ e. has_failed e ≡ true → Stops m job (placed_of e) a.out a.err)
+
+-- ---- While statements are taken.
+
+-- a source that was opened, whose first statements an assembler has taken when a run begins
+abbrev pub Begins : Files → Job → Run → Type 0
+Begins m job run =
+    (t : State) × Opens m (Ok run.expander) (opened_in m job.source job.include)
+    × AreDefined Takes begun (no_line job.source) job.defines (Ok t) × IsHeldBy t run
+
+-- where the store fails behind such a beginning
+abbrev pub StopsAll : Files → Run → Run → Result (Unit {0}) AsmFault → Type 0
+StopsAll m first now r = IfErr r (λ e. is_failure e ≡ true → (job : Job) → Begins m job first →
+    StopsBehind m job (record { place = place_of now.expander; fault = e })
+    now.assembler.texts.out now.assembler.texts.err)
+
+-- what such a beginning comes to
+abbrev pub StopsFrom : Files → Run → Assembly → Type 0
+StopsFrom m first a = (job : Job) → Begins m job first → StopsSo m job a

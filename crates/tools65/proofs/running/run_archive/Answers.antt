@@ -16,7 +16,7 @@ returns-in-Err-clause-done g c = only_memory _ _ (Archives (archiving c.args.lin
 
 pub returns-in-Ok-clause-failed : goal.returns-in-Ok-clause-failed
 returns-in-Ok-clause-failed g c =
-    failed_archive _ _ _ _ _ _ (archiving c.args.line.now) c.archive-archived.result c.in-Ok.outcome _ _ _ _ _ c.archive-archived.ensures.files c.archive-archived.ensures.count c.in-Ok.ensures c.archive-archived.ensures.archived c.perform.ensures.plain c.perform.ensures.failed
+    failed_archive _ _ _ _ _ _ (archiving c.args.line.now) c.archive-archived.result c.in-Ok.outcome _ _ _ _ _ c.archive-archived.ensures.files c.archive-archived.ensures.count c.in-Ok.ensures c.archive-archived.ensures.named c.archive-archived.ensures.archived c.perform.ensures.plain c.perform.ensures.failed
 
 pub returns-in-Err-clause-failed : goal.returns-in-Err-clause-failed
 returns-in-Err-clause-failed g c = only_memory_fails _ _ (archive (archiving c.args.line.now)) _ _ _ c.say_memory.result _ _ c.archive-archived.ensures.files refl c.say_memory.ensures

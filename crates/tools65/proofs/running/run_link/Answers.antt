@@ -16,7 +16,7 @@ returns-in-Err-clause-done g c = only_memory _ _ (Does (linking c.args.line.now)
 
 pub returns-in-Ok-clause-failed : goal.returns-in-Ok-clause-failed
 returns-in-Ok-clause-failed g c =
-    failed_link _ _ _ _ _ _ (linking c.args.line.now) c.link_files-linked.result c.in-Ok.outcome _ _ _ _ _ c.link_files-linked.ensures.files c.link_files-linked.ensures.count c.in-Ok.ensures c.link_files-linked.ensures.linked c.perform.ensures.plain c.perform.ensures.failed
+    failed_link _ _ _ _ _ _ (linking c.args.line.now) c.link_files-linked.result c.in-Ok.outcome _ _ _ _ _ c.link_files-linked.ensures.files c.link_files-linked.ensures.count c.in-Ok.ensures c.link_files-linked.ensures.named c.link_files-linked.ensures.linked c.perform.ensures.plain c.perform.ensures.failed
 
 pub returns-in-Err-clause-failed : goal.returns-in-Err-clause-failed
 returns-in-Err-clause-failed g c = only_memory_fails _ _ (link (linking c.args.line.now)) _ _ _ c.say_memory.result _ _ c.link_files-linked.ensures.files refl c.say_memory.ensures

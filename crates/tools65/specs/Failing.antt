@@ -1,5 +1,5 @@
 -- What a run leaves where a call of the store fails while it runs.
-use Rattle.std.specs.Prelude.{◌≡◌, ℕ, ◌<◌, ◌⊎◌, true, List, ◌∷◌, [], codes, take, slice_get, Option, Some, Result, Ok, Bool}
+use Rattle.std.specs.Prelude.{◌≡◌, ℕ, ◌<◌, ◌⊎◌, true, List, ◌∷◌, [], ◌++◌, codes, slice_get, Option, Some, Ok, Bool}
 use Rattle.syntax65.specs.Store.{Files, Tells, last_count}
 use Rattle.ar65.specs.declared.refusal.Refusal.{Refusal as ArchiveRefusal}
 use Rattle.ar65.specs.Refusals as archives
@@ -10,10 +10,10 @@ use Rattle.line65.specs.Line.{Says, assemble, link, archive, line_of}
 use Rattle.line65.specs.Messages.{joined}
 use Rattle.linkage65.specs.declared.linked.OutputFile.{OutputFile}
 use Rattle.module65.specs.Places.{PlacedFault}
-use Rattle.tools65.specs.Assembling.{asm_message}
+use Rattle.asm65.specs.Failing.{Stops}
+use Rattle.tools65.specs.Assembling.{asm_message, job_in}
 use Rattle.tools65.specs.Command.{DoesLine, line_memory}
 use Rattle.tools65.specs.Leaving.{Performs, Prints, SaysBoth, StopsAt}
-use Rattle.tools65.specs.Outputs.{failing}
 use Rattle.tools65.specs.declared.outcome.Outcome.{Outcome}
 use Rattle.tools65.specs.declared.outcome.Status.{Status}
 use Rattle.tools65.specs.declared.outcome.Status.TheVariants.{Failure}
@@ -27,11 +27,16 @@ pub record SomeFailed (old new : ℕ) : Type 0 where
 abbrev pub file_error_line : List ℕ → List ℕ
 file_error_line name = joined (name ∷ codes ": Error: file error\n" ∷ [])
 
--- A call failed while files were read: nothing is written, and one of these texts alone says why.
-pub record StopsReading (Why : List ℕ → Type 0) (old : Files) (new : Option Files) (out_old out_new err_old err_new : Option (List ℕ)) (status : Status) : Type 0 where
-  pub text : List ℕ
-  pub why : Why text
-  pub said : Performs (failing text) old new out_old out_new err_old err_new status
+-- texts for both streams, and failure
+abbrev pub refusing : List ℕ → List ℕ → Outcome
+refusing out err = record { out = out; err = err; outputs = []; status = Failure }
+
+-- A call failed while files were read: nothing is written, and texts for both streams say why, as they may.
+pub record StopsReading (Why : List ℕ → List ℕ → Type 0) (old : Files) (new : Option Files) (out_old out_new err_old err_new : Option (List ℕ)) (status : Status) : Type 0 where
+  pub out : List ℕ
+  pub err : List ℕ
+  pub why : Why out err
+  pub said : Performs (refusing out err) old new out_old out_new err_old err_new status
 
 -- A call failed while an outcome's files were written: its texts were taken whole; the outputs before one are written, that
 -- one in part or not at all, and no later one; and what befell that file is said behind the texts, or a first part of that.
@@ -48,20 +53,22 @@ pub record StopsWriting (o : Outcome) (old : Files) (new : Option Files) (out_ol
   pub failed : status ≡ Failure
 
 -- A run in which a call failed: while it read files, or while it wrote those of the outcome that they give.
-abbrev pub Fails : (Files → Outcome → Type 0) → (List ℕ → Type 0) → Files → Option Files → Option (List ℕ) → Option (List ℕ) → Option (List ℕ) → Option (List ℕ) → Status → Type 0
+abbrev pub Fails : (Files → Outcome → Type 0) → (Files → List ℕ → List ℕ → Type 0) → Files → Option Files → Option (List ℕ) → Option (List ℕ) → Option (List ℕ) → Option (List ℕ) → Status → Type 0
 Fails does Why m new out_old out_new err_old err_new status =
-    StopsReading Why m new out_old out_new err_old err_new status
+    StopsReading (Why m) m new out_old out_new err_old err_new status
     ⊎ ((o : Outcome) × does m o × StopsWriting o m new out_old out_new err_old err_new status)
 
--- what a line says of a call that failed while it read files
-abbrev pub SaysFailure : Says → List ℕ → Type 0
-SaysFailure (assemble a) text = (e : PlacedFault) × (asm.is_failure e.fault ≡ true) × (text ≡ asm_message a.source e)
-SaysFailure (link l) text = (e : Refusal) × (is_failure e ≡ true) × (text ≡ refusal_message l e)
-SaysFailure (archive a) text = (e : ArchiveRefusal) × (archives.is_failure e ≡ true) × (text ≡ archives.refusal_message a e)
+-- What a line says on both streams of a call that failed while it read files: one message, which stands behind what the
+-- source said up to there where one is assembled.
+abbrev pub SaysFailure : Says → Files → List ℕ → List ℕ → Type 0
+SaysFailure (assemble a) m out err =
+    (e : PlacedFault) × (before : List ℕ) × (asm.is_failure e.fault ≡ true) × Stops m (job_in a) e out before × (err ≡ before ++ asm_message a.source e)
+SaysFailure (link l) m out err = (e : Refusal) × (is_failure e ≡ true) × (out ≡ []) × (err ≡ refusal_message l e)
+SaysFailure (archive a) m out err = (e : ArchiveRefusal) × (archives.is_failure e ≡ true) × (out ≡ []) × (err ≡ archives.refusal_message a e)
 
 -- that, or that memory ran out as well
-abbrev pub SaysWhy : Says → List ℕ → Type 0
-SaysWhy line text = SaysFailure line text ⊎ (text ≡ line_memory line)
+abbrev pub SaysWhy : Says → Files → List ℕ → List ℕ → Type 0
+SaysWhy line m out err = SaysFailure line m out err ⊎ ((out ≡ []) × (err ≡ line_memory line))
 
 unfoldable pub FailsLine : Says → Files → Option Files → Option (List ℕ) → Option (List ℕ) → Option (List ℕ) → Option (List ℕ) → Status → Type 0
 FailsLine line = Fails (DoesLine line) (SaysWhy line)

@@ -25,7 +25,7 @@ pub fn asm_message(
     }
     line_message(
         alloc,
-        refusal.file.as_bytes(),
+        refusal.file_name().as_bytes(),
         refusal.line as usize,
         words.as_slice(),
     )

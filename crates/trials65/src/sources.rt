@@ -18,7 +18,7 @@ fn in_words(alloc: Global, refusal: &AsmRefusal) -> Result<String, AllocError> {
     if refusal.line == 0 {
         return String::from_str(alloc, fault);
     }
-    let file = refusal.file.as_str();
+    let file = refusal.file_name();
     let line = refusal.line;
     format!(in alloc; "{file}:{line}: {fault}")
 }

@@ -169,6 +169,24 @@ def ends(tests):
     tests.check("1 where an output can't be written", tests.run("ca65", "-o", "no/w.o", "w.s")[0], 1)
 
 
+def unread(tests):
+    """What a source takes that is there and can't be read: the line is named, behind what those before say."""
+    os.mkdir("folder")
+    before = b'.warning "first"\n.out "second"\n'
+    said = b"second\n", b"a.s:1: Warning: first\n"
+    for line in (b'.include "folder"', b'.incbin "folder"', b'l: .incbin "folder",1,2', b'.include "/proc/self/mem"'):
+        tests.put("a.s", before + line + b'\n.warning "behind"\n')
+        ran = tests.run("ca65", "-o", "unread.o", "a.s")
+        wanted = 1, said[0], said[1] + b"a.s:3: Error: file error\n"
+        tests.check(f"{line.decode()} can't be read", (ran, tests.get("unread.o")), (wanted, None))
+    tests.put("a.s", b'nop\n\n.include "b.inc"\n')
+    tests.put("b.inc", b'.repeat 2, i\n.warning "in b"\n.endrepeat\n.macro m\n.incbin "folder"\n.endmacro\nm\n')
+    ran = tests.run("ca65", "-o", "unread.o", "a.s")
+    tests.check("within an included file", ran, (1, b"", b"b.inc:3: Warning: in b\n" * 2 + b"b.inc:7: Error: file error\n"))
+    ran = tests.run("ca65", "-o", "unread.o", "folder")
+    tests.check("a source that can't be read", ran, refused(b"folder: Error: file error"))
+
+
 def permissions(tests):
     """Files and folders that the user may not reach."""
     before = ()
@@ -198,7 +216,7 @@ def permissions(tests):
 def main():
     tests = Tests(os.path.abspath(sys.argv[1]))
     try:
-        for part in (buffers, in_turn, outputs, streams, ends, permissions):
+        for part in (buffers, in_turn, outputs, streams, ends, unread, permissions):
             part(tests)
     finally:
         os.chdir("/")

@@ -2,7 +2,7 @@
 
 use std::alloc::{AllocError, Global};
 use std::test::Fail;
-use syntax65::{AddressSize, LexFault, TokenKind, line_tokens};
+use syntax65::{AddressSize, LexFault, Token, TokenKind, line_front, line_tokens};
 
 /// A line, an arrow and what it is read as: one of each kind, and lines that no source shows to be read so. Numbers, names,
 /// strings and faults are among the cases.
@@ -95,6 +95,25 @@ fn tokens_of_lines(rt: HostRuntime) -> Result<(), Fail> {
         count = count.saturating_add(1);
     }
     assert_eq!(rt; count, 43);
+    Ok(())
+}
+
+fn bytes_of(token: Option<Token<'_>>) -> &[u8] {
+    match token {
+        Some(token) => token.text,
+        None => b"",
+    }
+}
+
+#[test]
+fn fronts_of_lines(rt: HostRuntime) -> Result<(), Fail> {
+    let front = line_front(b" @l: lda #1 ; c").ok().ok_or("refused")?;
+    assert_eq!(rt; bytes_of(front.first), b"@l".as_slice());
+    assert_eq!(rt; bytes_of(front.second), b":".as_slice());
+    let front = line_front(b"\tnop").ok().ok_or("refused")?;
+    assert_eq!(rt; bytes_of(front.first), b"nop".as_slice());
+    assert!(rt; front.second.is_none());
+    assert!(rt; matches!(line_front(b"nop 1 $zz"), Err(LexFault::BadNumber)));
     Ok(())
 }
 

@@ -38,6 +38,7 @@ impl Word {
 
 impl Line {
     /// A line of these tokens.
+    #[inline(always)]
     pub fn copy_of(alloc: Global, tokens: &[Token<'_>]) -> Result<Line, AllocError>
         ensures { IfOk result (λ line. tokens_in line ≡ lexemes tokens.now) }
     {

@@ -25,8 +25,8 @@ pub fn line_tokens(alloc: Global, line: &[u8]) -> Result<Vec<Token<'_>>, LexFaul
     if line.len() > MAX_LINE {
         return Err(LexFault::LineTooLong);
     }
-    // A token and what parts it from the next take some four bytes.
-    let mut tokens = Vec::with_capacity(alloc, line.len() / 4)?;
+    // A token and what parts it from the next take two bytes or more, but in lists of marks.
+    let mut tokens = Vec::with_capacity(alloc, line.len() / 2 + 1)?;
     let mut rest = line;
     'line: loop {
         let here = skip_blanks(rest);

@@ -22,7 +22,7 @@ use crate::line::Line;
 use crate::passing::trimmed;
 use crate::playing::Replay;
 use std::alloc::{AllocError, Global};
-use syntax65::{Sequence, Store, Token, TokenKind, line_tokens};
+use syntax65::{Sequence, Store, Token, TokenKind};
 
 /// Where lines come from.
 #[derive(Drop)]
@@ -64,17 +64,6 @@ pub fn number_line(alloc: Global, number: u32) -> Result<Line, AllocError>
     Line::copy_of(alloc, &[token])
 }
 
-/// The tokens of a line, kept.
-#[inline(always)]
-fn line_of(alloc: Global, bytes: &[u8]) -> Result<Line, ExpandFault>
-    ensures tokens { Answers is_outside tokens_in result
-        (λ r. (q : Result (List Lexeme) LexFault) × IsRead bytes.now q × (r ≡ lexed q)) }
-    ensures inside { IfErr result (λ e. is_failure e ≡ false) }
-{
-    let tokens = line_tokens(alloc, bytes)?;
-    Ok(Line::copy_of(alloc, tokens.as_slice())?)
-}
-
 impl OpenFile {
     /// Whether the file has a line more, and its number.
     fn begin_line<S: Store>(&mut self, store: &mut S) -> Result<NextLine, ExpandFault>
@@ -107,7 +96,7 @@ impl OpenFile {
     {
         let (_, rest) = self.buffer.split_at(self.at);
         let (bytes, _) = rest.split_at(len);
-        let line = line_of(alloc, trimmed(bytes))?;
+        let line = Line::read(alloc, trimmed(bytes))?;
         match self.line.checked_add(1) {
             Some(number) => {
                 self.line = number;
@@ -132,7 +121,7 @@ impl OpenFile {
             return self.take_at_hand(alloc, len);
         }
         let bytes = self.next_line(alloc, store)?;
-        let line = line_of(alloc, bytes.as_slice())?;
+        let line = Line::read(alloc, bytes.as_slice())?;
         self.spare = bytes.into_vec();
         match self.line.checked_add(1) {
             Some(number) => {

@@ -69,15 +69,20 @@ file_refused (Some m) old new last bytes f h t = by (is_outside f) t
     by true k = tt
     by false k = (written (old.line + 1) bytes, (numbered (old.line + 1) (lines_of (rest_of m new)), ap (numbered old.line) h, k))
 
+-- a line that ends in what is at hand is the first
+pub first_at_hand : (m : Files) (f : OpenFile) (n k : ℕ) → n ≡ prefix_len is_inside (drop f.at f.buffer.items) → n < length (drop f.at f.buffer.items) → lines_of (rest_of m f) ≡ without_return (take n (drop f.at f.buffer.items)) ∷ lines_of (rest_of m (record { name = f.name; buffer = f.buffer; at = f.at + (n + 1); next = f.next; line = k; spare = f.spare }))
+first_at_hand m f n k e lt =
+    let here = drop f.at f.buffer.items in
+    let behind = drop f.next (content m f.name) in
+    let gone : drop (n + 1) here ≡ drop (f.at + (n + 1)) f.buffer.items = drop-drop (n + 1) f.at f.buffer.items in
+    piece_ends [] here behind n refl e lt ∙ ap (λ l. without_return (take n here) ∷ lines_of (l ++ behind)) gone
+
 -- a line that is passed over where it stands
 pub file_passed : (m : Files) (f : OpenFile) (n k : ℕ) → n ≡ prefix_len is_inside (drop f.at f.buffer.items) → n < length (drop f.at f.buffer.items) → IsPlainLine (without_return (take n (drop f.at f.buffer.items))) → k ≡ f.line + 1 → PassesLine (left_in_file m f) k (left_in_file m (record { name = f.name; buffer = f.buffer; at = f.at + (n + 1); next = f.next; line = k; spare = f.spare }))
 file_passed m f n k e lt plain number =
-    let here = drop f.at f.buffer.items in
     let behind = drop f.next (content m f.name) in
-    let line = without_return (take n here) in
-    let lines : lines_of (rest_of m f) ≡ line ∷ lines_of (drop (n + 1) here ++ behind) = piece_ends [] here behind n refl e lt in
-    let gone : drop (n + 1) here ≡ drop (f.at + (n + 1)) f.buffer.items = drop-drop (n + 1) f.at f.buffer.items in
-    (line, ap (numbered f.line) (lines ∙ ap (λ l. line ∷ lines_of (l ++ behind)) gone) ∙ ap (λ j. written j line ∷ numbered j (lines_of (drop (f.at + (n + 1)) f.buffer.items ++ behind))) (sym number), plain)
+    let line = without_return (take n (drop f.at f.buffer.items)) in
+    (line, ap (numbered f.line) (first_at_hand m f n k e lt) ∙ ap (λ j. written j line ∷ numbered j (lines_of (drop (f.at + (n + 1)) f.buffer.items ++ behind))) (sym number), plain)
 
 -- ---- Lines of bodies.
 

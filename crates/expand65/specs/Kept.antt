@@ -1,5 +1,5 @@
 -- Lines as they are kept.
-use Rattle.std.specs.Prelude.{ℕ, List, [], ◌∷◌, take, drop}
+use Rattle.std.specs.Prelude.{◌≡◌, ℕ, List, [], ◌∷◌, ◌++◌, take, drop}
 use Rattle.syntax65.specs.Tokens.{Lexeme}
 use Rattle.expand65.specs.declared.line.Word.{Word}
 use Rattle.expand65.specs.declared.line.Line.{Line}
@@ -8,6 +8,10 @@ use Rattle.expand65.specs.declared.line.Line.{Line}
 abbrev pub cut : List Word → List ℕ → List Lexeme
 cut [] bytes = []
 cut (w ∷ ws) bytes = (w.kind, take w.len bytes) ∷ cut ws (drop w.len bytes)
+
+-- these words are so many tokens in the bytes, whatever is put behind them
+abbrev pub AreKept : List Word → List ℕ → List Lexeme → Type 0
+AreKept words bytes ts = (ws : List Word) (bs : List ℕ) → cut (words ++ ws) (bytes ++ bs) ≡ ts ++ cut ws bs
 
 -- the tokens of a line
 abbrev pub tokens_in : Line → List Lexeme

@@ -1,6 +1,6 @@
 //! The directives of expansion.
 
-ghost use Rattle.std.specs.Prelude.{◌≡◌};
+ghost use Rattle.std.specs.Prelude.{◌≡◌, ◌∷◌, ℕ, List, None, false};
 ghost use Rattle.expand65.specs.Directives.{among, block_words, condition_words, directive_of, macro_words};
 
 /// What a condition asks for.
@@ -94,10 +94,26 @@ fn block_word(word: &[u8]) -> Option<Directive>
     }
 }
 
+/// Whether a directive of expansion may have this letter behind its dot.
+fn may_be_second(letter: u8) -> bool
+    ensures { result ≡ false → (dot : ℕ) (rest : List ℕ) → directive_of (dot ∷ letter ∷ rest) ≡ None }
+{
+    matches!(
+        letter.to_ascii_lowercase(),
+        b'e' | b'i' | b'l' | b'm' | b'r'
+    )
+}
+
 /// The directive of expansion that a word is, if it is one.
 pub fn directive_of(word: &[u8]) -> Option<Directive>
     ensures { result ≡ directive_of word.now }
 {
+    // Most words of a source are other directives, such as `.byte`.
+    if let [_, letter, ..] = word {
+        if !may_be_second(*letter) {
+            return None;
+        }
+    }
     condition_word(word)
         .or_else(|| macro_word(word))
         .or_else(|| block_word(word))

@@ -150,6 +150,7 @@ impl Expander {
     }
 
     /// Steps up to the next statement or the end.
+    #[inline(always)]
     fn advance<S: Store, K: Knows>(
         &mut self,
         store: &mut S,
@@ -173,6 +174,7 @@ impl Expander {
     }
 
     /// Rewrites what comes first.
+    #[inline(always)]
     fn turn<S: Store, K: Knows>(&mut self, store: &mut S, knows: &K) -> Result<Turn, ExpandFault>
         requires { is_end self.old.front ≡ false }
         ensures turns { IfSome (S.files store.old) (λ m.
@@ -192,6 +194,7 @@ impl Expander {
     }
 
     /// Puts what a turn leads to in front of the lines; the statement that it gives, if it gives one.
+    #[inline(always)]
     fn follow(&mut self, turn: Turn) -> Option<Statement>
         ensures led { (m : Files) →
             turned (state_of m self.old.rewriter) turn ≡ led (state_in m self.new) result }

@@ -123,6 +123,7 @@ impl OpenFile {
     }
 
     /// Whether the file has more, which is then at hand.
+    #[inline(always)]
     pub fn has_more<S: Store>(&mut self, store: &mut S) -> Result<bool, ExpandFault>
         ensures kept { IfSome (S.files store.old) (λ m. OnOk result (rest_of m self.new ≡ rest_of m self.old)) }
         ensures more { IfOk result (λ b. IsTrue b → self.new.at < length self.new.buffer.items) }
@@ -186,6 +187,7 @@ impl OpenFile {
     }
 
     /// The next line.
+    #[inline(never)]
     pub fn next_line<S: Store>(
         &mut self,
         alloc: Global,

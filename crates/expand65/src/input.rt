@@ -1,7 +1,8 @@
 //! Where lines come from.
 
-ghost use Rattle.std.specs.Prelude.{◌≡◌, ◌↔◌, ◌<◌, ◌≤◌, ◌+◌, ◌^◌, length, true, false, [], ◌∷◌, Ok, IsTrue, IfErr, IfOk, IfSome, OnOk, Result, List, map};
-ghost use Rattle.syntax65.specs.Store.{Passes};
+ghost use Rattle.std.specs.Prelude.{◌≡◌, ◌↔◌, ◌<◌, ◌≤◌, ◌+◌, ◌^◌, drop, length, true, false, [], ◌∷◌, Ok, IsTrue, IfErr, IfOk, IfSome, OnOk, Result, List, map};
+ghost use Rattle.std.specs.List.{prefix_len};
+ghost use Rattle.syntax65.specs.Store.{Files, Passes};
 ghost use Rattle.syntax65.specs.Outcome.{Gives};
 ghost use Rattle.syntax65.specs.Relations.{Answers};
 ghost use Rattle.syntax65.specs.Tokens.{Lexeme, IsRead, lexemes};
@@ -9,18 +10,19 @@ ghost use Rattle.expand65.specs.Faults.{is_failure, is_outside};
 ghost use Rattle.expand65.specs.Inside.{ComesNext, IsReady, TakesLine, is_call, left_in};
 ghost use Rattle.expand65.specs.Kept.{tokens_in};
 ghost use Rattle.expand65.specs.Playing.{left_to_play, replacing_of};
-ghost use Rattle.expand65.specs.Reading.{left_in_file};
+ghost use Rattle.expand65.specs.Reading.{is_inside, left_in_file};
 ghost use Rattle.expand65.specs.Inside.{turns_left};
 ghost use Rattle.expand65.specs.Replacing.{number_token};
 ghost use Rattle.expand65.specs.Taking.{lexed};
 ghost use Rattle.syntax65.specs.declared.lexing.fault.LexFault.{LexFault};
 
 use crate::fault::ExpandFault;
-use crate::file::OpenFile;
+use crate::file::{OpenFile, line_len};
 use crate::line::Line;
+use crate::passing::trimmed;
 use crate::playing::Replay;
 use std::alloc::{AllocError, Global};
-use syntax65::{Sequence, Store, Token, TokenKind, line_tokens};
+use syntax65::{Sequence, Store, Token, TokenKind};
 
 /// Where lines come from.
 #[derive(Drop)]
@@ -62,16 +64,6 @@ pub fn number_line(alloc: Global, number: u32) -> Result<Line, AllocError>
     Line::copy_of(alloc, &[token])
 }
 
-/// The tokens of a line, kept.
-fn line_of(alloc: Global, bytes: &[u8]) -> Result<Line, ExpandFault>
-    ensures tokens { Answers is_outside tokens_in result
-        (λ r. (q : Result (List Lexeme) LexFault) × IsRead bytes.now q × (r ≡ lexed q)) }
-    ensures inside { IfErr result (λ e. is_failure e ≡ false) }
-{
-    let tokens = line_tokens(alloc, bytes)?;
-    Ok(Line::copy_of(alloc, tokens.as_slice())?)
-}
-
 impl OpenFile {
     /// Whether the file has a line more, and its number.
     fn begin_line<S: Store>(&mut self, store: &mut S) -> Result<NextLine, ExpandFault>
@@ -94,7 +86,28 @@ impl OpenFile {
         }
     }
 
-    /// Takes the next line.
+    /// Takes the next line, which ends behind so many bytes of those at hand.
+    #[inline(always)]
+    fn take_at_hand(&mut self, alloc: Global, len: usize) -> Result<Line, ExpandFault>
+        requires end { len ≡ prefix_len is_inside (drop self.old.at self.old.buffer.items) }
+        requires within { len < length (drop self.old.at self.old.buffer.items) }
+        ensures taken { (m : Files) → TakesLine (left_in_file m self.old) result (left_in_file m self.new) }
+        ensures inside { IfErr result (λ e. is_failure e ≡ false) }
+    {
+        let (_, rest) = self.buffer.split_at(self.at);
+        let (bytes, _) = rest.split_at(len);
+        let line = Line::read(alloc, trimmed(bytes))?;
+        match self.line.checked_add(1) {
+            Some(number) => {
+                self.line = number;
+                self.at += len + 1;
+                Ok(line)
+            }
+            None => Err(ExpandFault::OutOfMemory),
+        }
+    }
+
+    /// Takes the next line, which begins in what is at hand.
     fn take_line<S: Store>(&mut self, alloc: Global, store: &mut S) -> Result<Line, ExpandFault>
         requires { self.old.at < length self.old.buffer.items }
         ensures taken { IfSome (S.files store.old) (λ m.
@@ -102,8 +115,13 @@ impl OpenFile {
         ensures files { S.files store.new ≡ S.files store.old }
         ensures count { Passes ExpandFault.FileError (S.failures store.old) (S.failures store.new) result }
     {
+        let (_, rest) = self.buffer.split_at(self.at);
+        let len = line_len(rest);
+        if len < rest.len() {
+            return self.take_at_hand(alloc, len);
+        }
         let bytes = self.next_line(alloc, store)?;
-        let line = line_of(alloc, bytes.as_slice())?;
+        let line = Line::read(alloc, bytes.as_slice())?;
         self.spare = bytes.into_vec();
         match self.line.checked_add(1) {
             Some(number) => {

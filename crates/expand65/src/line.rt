@@ -1,18 +1,21 @@
 //! Lines that are kept.
 
-ghost use Rattle.std.specs.Prelude.{◌≡◌, ◌++◌, false, slice_get, option_map, IsTrue, IfErr, IfOk, OnOk};
-ghost use Rattle.syntax65.specs.Tokens.{lexeme_of, lexemes};
-ghost use Rattle.expand65.specs.Faults.{is_failure};
+ghost use Rattle.std.specs.Prelude.{◌≡◌, ◌∷◌, ◌++◌, [], false, slice_get, option_map, IsTrue, IfErr, IfOk, List, OnOk, Result};
+ghost use Rattle.syntax65.specs.Relations.{Answers};
+ghost use Rattle.syntax65.specs.Tokens.{IsRead, Lexeme, lexeme_of, lexemes};
+ghost use Rattle.syntax65.specs.declared.lexing.fault.LexFault.{LexFault};
+ghost use Rattle.expand65.specs.Faults.{is_failure, is_outside};
 ghost use Rattle.expand65.specs.Fronts.{front_directive, label_len};
-ghost use Rattle.expand65.specs.Kept.{tokens_in};
+ghost use Rattle.expand65.specs.Kept.{AreKept, tokens_in};
 ghost use Rattle.expand65.specs.Plain.{IsColon, IsColonAt, IsPlain};
 ghost use Rattle.expand65.specs.Parting.{IsParted};
+ghost use Rattle.expand65.specs.Taking.{lexed};
 
 use crate::directives::Directive;
 use crate::fault::ExpandFault;
 use crate::fronts::{directive_in, is_mislabelled, label_len};
 use std::alloc::{AllocError, Global};
-use syntax65::{Mark, Sequence, Token, TokenKind};
+use syntax65::{Lexer, Mark, Sequence, Token, TokenKind};
 
 /// What a token of a line is, and how many of the line's bytes are its own.
 #[derive(Clone, Copy, Debug)]
@@ -38,6 +41,7 @@ impl Word {
 
 impl Line {
     /// A line of these tokens.
+    #[inline(always)]
     pub fn copy_of(alloc: Global, tokens: &[Token<'_>]) -> Result<Line, AllocError>
         ensures { IfOk result (λ line. tokens_in line ≡ lexemes tokens.now) }
     {
@@ -55,6 +59,30 @@ impl Line {
             words: Sequence::from_vec(words),
             bytes: Sequence::from_vec(bytes),
         })
+    }
+
+    /// The tokens of a line of a file.
+    #[inline(always)]
+    pub fn read(alloc: Global, bytes: &[u8]) -> Result<Line, ExpandFault>
+        ensures tokens { Answers is_outside tokens_in result
+            (λ r. (q : Result (List Lexeme) LexFault) × IsRead bytes.now q × (r ≡ lexed q)) }
+        ensures inside { IfErr result (λ e. is_failure e ≡ false) }
+    {
+        let mut lexer = Lexer::new(bytes)?;
+        // A token and what parts it from the next take two bytes or more, but in lists of marks.
+        let mut words = Vec::with_capacity(alloc, bytes.len() / 2 + 1)?;
+        let mut kept = Vec::with_capacity(alloc, bytes.len())?;
+        'tokens: loop {
+            match lexer.next()? {
+                Some(token) => keep(&mut words, &mut kept, token)?,
+                None => {
+                    return Ok(Line {
+                        words: Sequence::from_vec(words),
+                        bytes: Sequence::from_vec(kept),
+                    });
+                }
+            }
+        }
     }
 
     /// Puts the line's tokens behind others.
@@ -145,6 +173,20 @@ impl Line {
         self.add_to(&mut tokens)?;
         Ok(tokens)
     }
+}
+
+/// Keeps a token behind others.
+#[inline(always)]
+fn keep(words: &mut Vec<Word>, bytes: &mut Vec<u8>, token: Token<'_>) -> Result<(), AllocError>
+    ensures { OnOk result ((ts : List Lexeme) → AreKept words.old.items bytes.old.items ts →
+        AreKept words.new.items bytes.new.items (ts ++ lexeme_of token.entry ∷ [])) }
+{
+    words.push(Word {
+        kind: token.kind,
+        len: token.text.len(),
+    })?;
+    bytes.extend_from_slice(token.text)?;
+    Ok(())
 }
 
 /// The label at the front of tokens and what stands behind it, if there is a label.

@@ -61,7 +61,7 @@ fn is_plain_line(line: &[u8]) -> bool
 }
 
 /// A line without a CR at its end.
-fn trimmed(line: &[u8]) -> &[u8]
+pub fn trimmed(line: &[u8]) -> &[u8]
     ensures { result.now ≡ without_return line.now }
 {
     if line.last() == Some(&b'\r') {

@@ -60,6 +60,7 @@ impl Place {
 
 impl Reader {
     /// The next line, or none at the end mark of the innermost input.
+    #[inline(always)]
     pub fn next_line<S: Store>(
         &mut self,
         alloc: Global,

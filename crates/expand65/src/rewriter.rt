@@ -271,6 +271,7 @@ impl Rewriter {
     }
 
     /// A line without a label.
+    #[inline(always)]
     pub fn act<S: Store, K: Knows>(
         &mut self,
         store: &mut S,
@@ -295,6 +296,7 @@ impl Rewriter {
     }
 
     /// A line that may begin with a label.
+    #[inline(always)]
     fn begin<S: Store, K: Knows>(
         &mut self,
         store: &mut S,
@@ -331,6 +333,7 @@ impl Rewriter {
     }
 
     /// The next line, or the end mark of the innermost input.
+    #[inline(always)]
     pub fn take<S: Store, K: Knows>(
         &mut self,
         store: &mut S,

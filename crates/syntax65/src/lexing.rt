@@ -3,6 +3,7 @@
 mod classes;
 mod fault;
 mod front;
+mod lexer;
 mod lines;
 mod marks;
 mod numbers;
@@ -12,6 +13,7 @@ mod tokens;
 
 pub use fault::LexFault;
 pub use front::{LineFront, line_front};
+pub use lexer::Lexer;
 pub use lines::{MAX_LINE, line_tokens};
 pub use places::MAX_NAME;
 pub use tokens::{AddressSize, Mark, Token, TokenKind};

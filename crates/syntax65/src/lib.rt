@@ -17,8 +17,8 @@ mod values;
 pub use expressions::{Expr, ExprFault, MAX_DEPTH, Name, is_reserved, read_expr};
 pub use instructions::{Mnemonic, Mode, mnemonic, opcode};
 pub use lexing::{
-    AddressSize, LexFault, LineFront, MAX_LINE, MAX_NAME, Mark, Token, TokenKind, line_front,
-    line_tokens,
+    AddressSize, LexFault, Lexer, LineFront, MAX_LINE, MAX_NAME, Mark, Token, TokenKind,
+    line_front, line_tokens,
 };
 pub use mem_store::MemStore;
 pub use reading::read_front;

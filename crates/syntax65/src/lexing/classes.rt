@@ -20,10 +20,14 @@ pub enum Class {
 }
 
 /// The class of a byte.
-#[inline]
+#[inline(always)]
 pub fn class_of(b: u8) -> Class
     ensures { result ≡ class_of b }
 {
+    // Most bytes of a source are small letters.
+    if b.is_ascii_lowercase() {
+        return Class::Letter;
+    }
     match b {
         b'a'..=b'z' | b'A'..=b'Z' | b'_' => Class::Letter,
         b'0'..=b'9' => Class::Digit,
@@ -40,11 +44,11 @@ pub fn class_of(b: u8) -> Class
 }
 
 /// Whether the byte may stand behind the first of a name or number.
-#[inline]
+#[inline(always)]
 pub fn is_word(b: u8) -> bool
     ensures { result ≡ is_word b }
 {
-    matches!(b, b'a'..=b'z' | b'A'..=b'Z' | b'0'..=b'9' | b'_')
+    b.is_ascii_lowercase() || matches!(b, b'0'..=b'9' | b'A'..=b'Z' | b'_')
 }
 
 /// Whether the byte parts tokens.

@@ -5,8 +5,7 @@ ghost use Rattle.syntax65.specs.Tokens.{Lexeme, lexeme_of};
 ghost use Rattle.syntax65.specs.Scanned.{IsFront, IsScanned};
 
 use super::fault::LexFault;
-use super::lines::{MAX_LINE, is_end, skip_blanks};
-use super::places::token_at;
+use super::lexer::Lexer;
 use super::tokens::Token;
 
 /// The first two tokens of a line, where they are there.
@@ -37,24 +36,15 @@ impl<'a> LineFront<'a> {
 pub fn line_front(line: &[u8]) -> Result<LineFront<'_>, LexFault>
     ensures { IsScanned line.now result }
 {
-    if line.len() > MAX_LINE {
-        return Err(LexFault::LineTooLong);
-    }
+    let mut lexer = Lexer::new(line)?;
     let mut front = LineFront {
         first: None,
         second: None,
     };
-    let mut first = true;
-    let mut rest = line;
     'line: loop {
-        let here = skip_blanks(rest);
-        if is_end(here) {
-            return Ok(front);
+        match lexer.next()? {
+            Some(token) => front.add(token),
+            None => return Ok(front),
         }
-        let (kind, len) = token_at(first, here)?;
-        let (text, behind) = here.split_at(len);
-        front.add(Token { kind, text });
-        first = false;
-        rest = behind;
     }
 }

@@ -6,7 +6,7 @@ ghost use Rattle.syntax65.specs.Relations.{Answers};
 ghost use Rattle.syntax65.specs.Tokens.{after_blanks, lexemes, IsEnd, IsRead};
 
 use super::fault::LexFault;
-use super::places::token_at;
+use super::lexer::Lexer;
 use super::scanning::blank_len;
 use super::tokens::Token;
 use std::alloc::Global;
@@ -22,21 +22,14 @@ pub const MAX_LINE: usize = 4096;
 pub fn line_tokens(alloc: Global, line: &[u8]) -> Result<Vec<Token<'_>>, LexFault>
     ensures { Answers is_lex_outside (λ tokens. lexemes tokens.items) result (IsRead line.now) }
 {
-    if line.len() > MAX_LINE {
-        return Err(LexFault::LineTooLong);
-    }
-    // A token and what parts it from the next take some four bytes.
-    let mut tokens = Vec::with_capacity(alloc, line.len() / 4)?;
-    let mut rest = line;
+    let mut lexer = Lexer::new(line)?;
+    // A token and what parts it from the next take two bytes or more, but in lists of marks.
+    let mut tokens = Vec::with_capacity(alloc, line.len() / 2 + 1)?;
     'line: loop {
-        let here = skip_blanks(rest);
-        if is_end(here) {
-            return Ok(tokens);
+        match lexer.next()? {
+            Some(token) => tokens.push(token)?,
+            None => return Ok(tokens),
         }
-        let (kind, len) = token_at(tokens.is_empty(), here)?;
-        let (text, behind) = here.split_at(len);
-        tokens.push(Token { kind, text })?;
-        rest = behind;
     }
 }
 

@@ -17,6 +17,7 @@ use super::tokens::{AddressSize, Mark, TokenKind};
 pub const MAX_NAME: usize = 200;
 
 /// The kind and length of the token at the front; `first` says whether it is the line's first.
+#[inline(always)]
 pub fn token_at(first: bool, here: &[u8]) -> Result<(TokenKind, usize), LexFault>
     requires no_end { IsEnd here.now → ⊥ }
     requires no_blank { Begins Blank here.now → ⊥ }
@@ -163,6 +164,7 @@ fn colon_at(here: &[u8]) -> Result<(TokenKind, usize), LexFault>
     }
 }
 
+#[inline(always)]
 fn mark_at(here: &[u8]) -> Result<(TokenKind, usize), LexFault>
     requires { BeginsMark here.now }
     ensures { (first : Bool) → IsAt first here.now result }

@@ -2,7 +2,7 @@
 
 use std::alloc::{AllocError, Global};
 use std::test::Fail;
-use syntax65::{AddressSize, LexFault, Token, TokenKind, line_front, line_tokens};
+use syntax65::{AddressSize, LexFault, Lexer, Token, TokenKind, line_front, line_tokens};
 
 /// A line, an arrow and what it is read as: one of each kind, and lines that no source shows to be read so. Numbers, names,
 /// strings and faults are among the cases.
@@ -114,6 +114,19 @@ fn fronts_of_lines(rt: HostRuntime) -> Result<(), Fail> {
     assert_eq!(rt; bytes_of(front.first), b"nop".as_slice());
     assert!(rt; front.second.is_none());
     assert!(rt; matches!(line_front(b"nop 1 $zz"), Err(LexFault::BadNumber)));
+    Ok(())
+}
+
+#[test]
+fn token_by_token(rt: HostRuntime) -> Result<(), Fail> {
+    let mut lexer = Lexer::new(b" lda [ ; c").ok().ok_or("refused")?;
+    assert_eq!(rt;
+        bytes_of(lexer.next().ok().ok_or("no token")?),
+        b"lda".as_slice()
+    );
+    assert!(rt; matches!(lexer.next(), Err(LexFault::BadCharacter)));
+    let mut lexer = Lexer::new(b"; c").ok().ok_or("refused")?;
+    assert!(rt; matches!(lexer.next(), Ok(None)));
     Ok(())
 }
 

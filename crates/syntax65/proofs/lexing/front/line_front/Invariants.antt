@@ -6,8 +6,8 @@ use Rattle.syntax65.proofs.lexing.front.line_front.Given as goal
 abbrev pub invariant-line : goal.invariant-line
 invariant-line l = record {
   short : length l.line ≤ 4096;
-  so_far : (ts : List Lexeme) × SoFar l.line l.front l.first l.rest ts;
+  so_far : (ts : List Lexeme) × SoFar l.line l.front l.lexer.first l.lexer.rest.now ts;
 }
 
 abbrev pub decreases-line : goal.decreases-line
-decreases-line l = length l.rest
+decreases-line l = length l.lexer.rest.now

@@ -1,0 +1,18 @@
+-- A line that is read token by token.
+use Rattle.std.specs.Prelude.{◌≡◌, ◌<◌, ◌≤◌, ℕ, Bool, true, List, [], ◌∷◌, length, Option, Some, None, Result, Ok, Err}
+use Rattle.syntax65.specs.Tokens.{Lexeme, lexeme_of, Reads}
+use Rattle.syntax65.specs.declared.lexing.fault.LexFault.{LexFault}
+use Rattle.syntax65.specs.declared.lexing.fault.LexFault.TheVariants.{LineTooLong}
+use Rattle.syntax65.specs.declared.lexing.lexer.Lexer.{Lexer}
+use Rattle.syntax65.specs.declared.lexing.tokens.Token.{Token}
+
+-- a line before its first token, unless it is too long
+abbrev pub IsStart : List ℕ → Result Lexer LexFault → Type 0
+IsStart line (Ok l) = (length line ≤ 4096) × (l.rest.now ≡ line) × (l.first ≡ true)
+IsStart line (Err fault) = (fault ≡ LineTooLong) × (4096 < length line)
+
+-- the first token of what is left of a line, its end, or why no token stands there; and what is left behind it
+abbrev pub IsNext : Bool → List ℕ → Result (Option Token) LexFault → Bool → List ℕ → Type 0
+IsNext first rest (Ok None) after left = Reads first rest [] None
+IsNext first rest (Ok (Some t)) after left = (us : List Lexeme) (end : Option LexFault) → Reads after left us end → Reads first rest (lexeme_of t ∷ us) end
+IsNext first rest (Err fault) after left = Reads first rest [] (Some fault)

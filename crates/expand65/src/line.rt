@@ -69,9 +69,9 @@ impl Line {
         ensures inside { IfErr result (λ e. is_failure e ≡ false) }
     {
         let mut lexer = Lexer::new(bytes)?;
-        // A token and what parts it from the next take two bytes or more, but in lists of marks.
-        let mut words = Vec::with_capacity(alloc, bytes.len() / 2 + 1)?;
-        let mut kept = Vec::with_capacity(alloc, bytes.len())?;
+        // Room for most lines, and not more: those of a macro stay as they are.
+        let mut words = Vec::with_capacity(alloc, (bytes.len() / 2 + 1).min(8))?;
+        let mut kept = Vec::with_capacity(alloc, bytes.len().min(32))?;
         'tokens: loop {
             match lexer.next()? {
                 Some(token) => keep(&mut words, &mut kept, token)?,

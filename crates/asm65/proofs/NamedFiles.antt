@@ -1,7 +1,8 @@
 -- The bytes of the file of a name.
 use Rattle.std.proofs.Common.{◌≡◌, ◌∙◌, ℕ, Bool, true, false, List, Option, Some, None, take, refl, sym, ap, option_map, Ok, Err}
 use Rattle.std.specs.FinMap as fmap
-use Rattle.std.specs.Prelude.{if◌then◌else◌}
+use Rattle.std.specs.Prelude.{Box, box_value, if◌then◌else◌}
+use Rattle.std.specs.declared.alloc.Global.{Global}
 use Rattle.std.specs.Str.{is_utf8}
 use Rattle.syntax65.specs.Reading.{front_in}
 use Rattle.syntax65.specs.Store.{Files}
@@ -45,7 +46,7 @@ pub read_none : (m : Files) (name text : List ℕ) (most : ℕ) → Some text �
 read_none m name text most e h = front_none (fmap.get m text) most h ∙ ap (option_map (take most)) (sym (named m name text e))
 
 -- a statement with what was read of its file
-pub part_read : (m : Files) (file name slice : List ℕ) (line : ℕ) (bytes : Option (List ℕ)) (range : PartRange) (x : Statement) → x ≡ NamedPart name range → slice ≡ name → bytes ≡ option_map (take 16777217) (file_named m (beside file slice)) → stated_of (FilePart bytes range) ≡ read_bytes m (place_in file line) (stated_of x)
+pub part_read : (m : Files) (file name slice : List ℕ) (line : ℕ) (bytes : Option (List ℕ)) (range : Box PartRange Global) (x : Statement) → x ≡ NamedPart name range → slice ≡ name → bytes ≡ option_map (take 16777217) (file_named m (beside file slice)) → stated_of (FilePart bytes range) ≡ read_bytes m (place_in file line) (stated_of x)
 part_read m file name slice line bytes range x is same read =
-    ap (λ b. file_part b (range_of range).0 (range_of range).1) (read ∙ ap (λ n. option_map (take 16777217) (file_named m (beside file n))) same)
+    ap (λ b. file_part b (range_of (box_value range)).0 (range_of (box_value range)).1) (read ∙ ap (λ n. option_map (take 16777217) (file_named m (beside file n))) same)
     ∙ sym (ap (λ (s : Statement). read_bytes m (place_in file line) (stated_of s)) is)

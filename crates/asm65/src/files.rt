@@ -20,6 +20,7 @@ const MAX_FILE: usize = 16_777_216;
 
 /// The bytes of a file that is looked for beside another one, if it is there. Of one with too many
 /// bytes one byte behind the limit is read.
+#[inline(never)]
 fn bytes_beside<S: Store>(
     alloc: Global,
     store: &mut S,

@@ -1,9 +1,10 @@
 //! Statements that expansion gives: a label, or what begins with none.
 
-ghost use Rattle.std.specs.Prelude.{◌≡◌, false, option_map, IfErr};
+ghost use Rattle.std.specs.Prelude.{◌≡◌, false, option_map, Err, IfErr};
 ghost use Rattle.syntax65.specs.Store.{PassesBy};
 ghost use Rattle.syntax65.specs.Tokens.{lexemes};
 ghost use Rattle.expand65.specs.Standing.{stated};
+ghost use Rattle.language65.specs.declared.fault.AsmFault.TheVariants.{NotUnderstood};
 ghost use Rattle.language65.specs.Faults.{is_failure};
 ghost use Rattle.language65.specs.Sound.{AreNamed, IsSound};
 ghost use Rattle.language65.specs.Views.{stated_of};
@@ -21,8 +22,18 @@ use statements65::{label, statement};
 use std::alloc::Global;
 use syntax65::{Store, Token};
 
+/// The refusal of a statement that objects can't hold. (What a statement holds is let go here, not
+/// where most statements go by.)
+#[inline(never)]
+fn not_understood(_statement: Statement) -> Result<(), AsmFault>
+    ensures { result ≡ Err NotUnderstood }
+{
+    Err(AsmFault::NotUnderstood)
+}
+
 /// Takes a statement. What it hands to the object is seen to here, since a store that tells nothing of its files tells
 /// nothing of their lines.
+#[inline(always)]
 fn take_sound(
     alloc: Global,
     assembler: &mut Assembler,
@@ -35,10 +46,11 @@ fn take_sound(
         1 assembler.old assembler.new result }
     ensures inside { IfErr result (λ e. is_failure e ≡ false) }
 {
-    if !is_sound(&statement) {
-        return Err(AsmFault::NotUnderstood);
+    if is_sound(&statement) {
+        assembler.take(alloc, at, statement)
+    } else {
+        not_understood(statement)
     }
-    assembler.take(alloc, at, statement)
 }
 
 /// Takes what stands behind a label.
@@ -85,6 +97,7 @@ fn take_front(
 }
 
 /// Takes a label's tokens.
+#[inline(never)]
 fn take_label<S: Store>(
     alloc: Global,
     store: &mut S,

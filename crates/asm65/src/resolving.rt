@@ -14,12 +14,12 @@ ghost use Rattle.symbols65.specs.Views.{table_of};
 ghost use Rattle.asm65.specs.Resolving.{coming, lost, made_in};
 ghost use Rattle.asm65.specs.Views.{place_in};
 
-use crate::forms::{literal_of, operand_form, stored};
+use crate::forms::{literal_of, stored};
 use crate::waiting::{Piece, Waiting};
 use language65::{AsmFault, Part, Said, Spot};
 use object65::{Action, Norm, Width};
 use std::alloc::{AllocError, Global};
-use symbols65::{Key, Known, Symbols, defined_norm, norm};
+use symbols65::{Key, Known, Symbols, defined_norm, norm, operand_form};
 use syntax65::Sequence;
 
 /// The number of the global scope.

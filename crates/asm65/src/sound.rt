@@ -18,12 +18,14 @@ fn is_printed(name: &[u8]) -> bool
     name.iter().all(|b| 0x20 < *b && *b < 0x7f)
 }
 
+#[inline(never)]
 fn is_name(name: &[u8]) -> bool
     ensures { result ≡ is_name name.now }
 {
     !name.is_empty() && name.len() < LEN_LIMIT && is_printed(name)
 }
 
+#[inline(never)]
 fn are_names(names: &[Sequence<u8>]) -> bool
     ensures { result ≡ list_all is_name names.now }
 {

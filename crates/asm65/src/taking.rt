@@ -1,5 +1,7 @@
 //! One statement of the source is taken.
 
+ghost use Rattle.std.specs.Prelude.{◌≡◌, Err};
+
 use crate::assembler::{Assembler, At};
 use crate::naming::Mention;
 use crate::putting::Stand;
@@ -16,8 +18,16 @@ struct Placed {
     measured: Measured,
 }
 
+/// The refusal of a statement. (What it holds is let go here, not where most statements go by.)
+#[inline(never)]
+fn refused(_statement: Statement, fault: AsmFault) -> Result<(), AsmFault>
+    ensures { result ≡ Err fault }
+{
+    Err(fault)
+}
+
 impl Assembler {
-    ghost use Rattle.std.specs.Prelude.{◌≡◌, ◌+◌, ◌<◌, ℕ, IfErr, IfOk, OnOk, false};
+    ghost use Rattle.std.specs.Prelude.{◌+◌, ◌<◌, ℕ, IfErr, IfOk, OnOk, false};
     ghost use Rattle.language65.specs.Faults.{is_failure, is_outside};
     ghost use Rattle.language65.specs.Views.{operand_of, spot_of, stated_of};
     ghost use Rattle.layout65.specs.Counting.{opened_by, opening_limit};
@@ -34,6 +44,7 @@ impl Assembler {
     ghost use Rattle.asm65.specs.Views.{place_in};
 
     /// A statement asks for its section, where it asks for one.
+    #[inline(always)]
     fn ask(&mut self, segment: u32, statement: &Statement) -> Result<(), AllocError>
         ensures asked { OnOk result (Asks segment (stated_of statement.now) self.old self.new) }
         ensures tables { KeepsTables self.old self.new }
@@ -45,6 +56,7 @@ impl Assembler {
     }
 
     /// An instruction is entered in the form that is settled.
+    #[inline(always)]
     fn enter_settled(
         &mut self,
         alloc: Global,
@@ -64,8 +76,10 @@ impl Assembler {
         }
     }
 
-    /// The pieces of a statement are entered, and then its names are known.
-    fn enter(
+    /// The pieces of a statement are entered, and then its names are known. Here stand all but the
+    /// instructions, which most statements are.
+    #[inline(never)]
+    fn enter_other(
         &mut self,
         alloc: Global,
         stand: Stand<'_>,
@@ -150,8 +164,33 @@ impl Assembler {
         }
     }
 
+    /// The pieces of a statement are entered, and then its names are known.
+    fn enter(
+        &mut self,
+        alloc: Global,
+        stand: Stand<'_>,
+        measured: Measured,
+        statement: Statement,
+    ) -> Result<(), AllocError>
+        requires known { IsTable (table_of self.old.symbols) self.old.known.states.items }
+        requires new { IsNew (table_of self.old.symbols) (spot_of stand.spot) (stated_of statement) }
+        ensures { OnOk result (let place = place_in stand.entry.at.file.now stand.entry.at.line in
+            let s = spot_of stand.entry.spot in let m = measured_of measured in
+            Turns place s (pieces_of m.length m.settled (stated_of statement))
+            (λ y. symbols_behind y (laid_as place s m (stated_of statement)))
+            self.old self.new) }
+    {
+        match statement {
+            Statement::Instruction { mnemonic, operand } => {
+                self.enter_settled(alloc, stand, measured.settled, mnemonic, operand)
+            }
+            other => self.enter_other(alloc, stand, measured, other),
+        }
+    }
+
     /// Finds what a statement places and where it stands, or its first fault; asks for its section,
     /// says what it prints, and goes on behind it.
+    #[inline(always)]
     fn place(
         &mut self,
         alloc: Global,
@@ -196,9 +235,12 @@ impl Assembler {
         ensures texts { IfErr result (λ e. is_outside e ≡ false → self.new.texts ≡ self.old.texts) }
         ensures inside { IfErr result (λ e. is_failure e ≡ false) }
     {
-        let Placed { spot, measured } = self.place(alloc, at, &statement)?;
-        let stand = Stand { at, spot };
-        self.enter(alloc, stand, measured, statement)?;
-        Ok(())
+        match self.place(alloc, at, &statement) {
+            Ok(Placed { spot, measured }) => {
+                self.enter(alloc, Stand { at, spot }, measured, statement)?;
+                Ok(())
+            }
+            Err(fault) => refused(statement, fault),
+        }
     }
 }

@@ -46,6 +46,7 @@ impl Texts {
 }
 
 /// Adds a line of words.
+#[inline(never)]
 fn add_line(out: &mut Sequence<u8>, words: &[u8]) -> Result<(), AllocError>
     ensures { OnOk result (out.new ≡ out.old ++ (words.now ++ codes "\n")) }
 {
@@ -55,6 +56,7 @@ fn add_line(out: &mut Sequence<u8>, words: &[u8]) -> Result<(), AllocError>
 }
 
 /// Adds a warning at a line of a file.
+#[inline(never)]
 pub fn warn(err: &mut Sequence<u8>, file: &str, line: u32, words: &[u8]) -> Result<(), AllocError>
     ensures { OnOk result (err.new ≡ err.old ++ warning_at (place_in file.now line) words.now) }
 {

@@ -1,5 +1,5 @@
 -- Statements without where they lie in memory.
-use Rattle.std.specs.Prelude.{Option, map, option_map}
+use Rattle.std.specs.Prelude.{Option, box_value, map, option_map}
 use Rattle.syntax65.specs.Trees.{Tree, tree_of}
 use Rattle.language65.specs.declared.language.Item.{Item}
 use Rattle.language65.specs.declared.language.Item.TheVariants as item
@@ -38,8 +38,8 @@ stated_of (statement.Instruction m o) = l.instruction m (operand_of o)
 stated_of (statement.Values width items) = l.values width (map item_of items)
 stated_of (statement.Reserve n v) = l.reserve (tree_of n) (option_map tree_of v)
 stated_of (statement.Align n v) = l.align (tree_of n) (option_map tree_of v)
-stated_of (statement.NamedPart n range) = l.part_named n (range_of range).0 (range_of range).1
-stated_of (statement.FilePart bytes range) = l.file_part bytes (range_of range).0 (range_of range).1
+stated_of (statement.NamedPart n range) = l.part_named n (range_of (box_value range)).0 (range_of (box_value range)).1
+stated_of (statement.FilePart bytes range) = l.file_part bytes (range_of (box_value range)).0 (range_of (box_value range)).1
 stated_of (statement.Segment n size) = l.segment n size
 stated_of statement.PushSegment = l.push_segment
 stated_of statement.PopSegment = l.pop_segment

@@ -46,7 +46,7 @@ pub struct PartRange {
     pub len: Option<Expr>,
 }
 
-/// A statement.
+/// A statement. What is large and rare is boxed, since each line's statement is moved several times.
 #[derive(Debug, Drop)]
 pub enum Statement {
     /// `name:`
@@ -82,12 +82,12 @@ pub enum Statement {
     /// `.incbin` with the name of its file, as it is read.
     NamedPart {
         name: Sequence<u8>,
-        range: PartRange,
+        range: Box<PartRange>,
     },
     /// `.incbin` with the bytes of its file, if there is one.
     FilePart {
         bytes: Option<Sequence<u8>>,
-        range: PartRange,
+        range: Box<PartRange>,
     },
     /// `.segment "N"`, perhaps with an address size; `.code` and the like.
     Segment {

@@ -163,6 +163,7 @@ impl Standing {
     }
 
     /// Goes on in the segment of a name, which begins if there is none.
+    #[inline(never)]
     fn select(
         &mut self,
         alloc: Global,
@@ -191,6 +192,7 @@ impl Standing {
     }
 
     /// Keeps the place of the segment in which statements stand.
+    #[inline(never)]
     fn keep(&mut self) -> Result<(), AllocError>
         requires sound { IsSoundStanding self.old }
         ensures moved { OnOk result (standing_of self.new ≡ record (standing_of self.old) {

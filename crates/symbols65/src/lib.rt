@@ -7,7 +7,7 @@ mod resolving;
 mod table;
 
 pub use resolving::{
-    Known, Meaning, State, defined_norm, definition_of, final_form, meaning_of, norm, scope_of,
-    shown,
+    Known, Meaning, State, defined_norm, definition_of, final_form, meaning_of, norm, operand_form,
+    scope_of, shown,
 };
 pub use table::{Definition, Entry, Key, Opening, Symbols};

@@ -19,6 +19,7 @@ impl Assembler {
     ghost use Rattle.asm65.specs.Views.{place_in};
 
     /// A constant is defined. Where its form isn't final it waits: its expression may have a fault.
+    #[inline(never)]
     pub fn define_constant(
         &mut self,
         alloc: Global,

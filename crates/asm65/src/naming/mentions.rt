@@ -41,6 +41,7 @@ impl Assembler {
     ghost use Rattle.asm65.specs.Views.{place_in};
 
     /// Names that are mentioned wait, one behind the other.
+    #[inline(never)]
     pub fn mention(
         &mut self,
         alloc: Global,

@@ -47,6 +47,7 @@ impl Assembler {
     ghost use Rattle.asm65.specs.Views.{place_in};
 
     /// A label is defined where it stands.
+    #[inline(never)]
     pub fn define_label(
         &mut self,
         alloc: Global,
@@ -64,6 +65,7 @@ impl Assembler {
     }
 
     /// A scope is opened, perhaps of a name.
+    #[inline(never)]
     pub fn open_block(
         &mut self,
         alloc: Global,
@@ -85,6 +87,7 @@ impl Assembler {
     }
 
     /// A label is defined, and a scope of its name opened beside it.
+    #[inline(never)]
     pub fn open_proc(
         &mut self,
         alloc: Global,
@@ -108,6 +111,7 @@ impl Assembler {
     }
 
     /// Names are imported, of this address size.
+    #[inline(never)]
     pub fn import_names(
         &mut self,
         alloc: Global,
@@ -127,6 +131,7 @@ impl Assembler {
     }
 
     /// Names are imported, whether anything uses them or not.
+    #[inline(never)]
     pub fn demand_names(
         &mut self,
         alloc: Global,

@@ -10,12 +10,13 @@ ghost use Rattle.asm65.specs.Putting.{IsFaultless, IsPut, operand_stored};
 ghost use Rattle.layout65.specs.Views.{settled_in};
 
 use super::Stand;
-use crate::forms::{literal_of, operand_form};
+use crate::forms::literal_of;
 use language65::Spot;
 use layout65::Settled;
 use object65::{Norm, Width, fits, put};
 use sections65::Sections;
 use std::alloc::{AllocError, Global};
+use symbols65::operand_form;
 use syntax65::Sequence;
 
 /// Puts the bytes of a value into the section of a segment, if it lies in its range.

@@ -80,6 +80,7 @@ impl Assembler {
     ghost use Rattle.layout65.specs.Views.{settled_in};
 
     /// Enters the code of an instruction.
+    #[inline(always)]
     fn enter_code(&mut self, spot: Spot, code: Option<u8>) -> Result<(), AllocError>
         ensures { OnOk result ((place : Place) → Enters place (spot_of spot)
             (given (opcode_part code) ∷ []) self.old self.new) }
@@ -106,6 +107,7 @@ impl Assembler {
     }
 
     /// Enters an instruction of a form.
+    #[inline(always)]
     pub fn enter_instruction(
         &mut self,
         alloc: Global,
@@ -142,6 +144,7 @@ impl Assembler {
     }
 
     /// Enters a list.
+    #[inline(never)]
     pub fn enter_values(
         &mut self,
         alloc: Global,
@@ -160,6 +163,7 @@ impl Assembler {
     }
 
     /// Enters room of so many bytes, filled with the byte that is settled, if there is one.
+    #[inline(never)]
     pub fn enter_room(&mut self, spot: Spot, count: u32, settled: Settled) -> Result<(), AllocError>
         ensures { OnOk result ((place : Place) → Enters place (spot_of spot)
             (given (room_part count (settled_in settled)) ∷ []) self.old self.new) }
@@ -168,6 +172,7 @@ impl Assembler {
     }
 
     /// Enters so many bytes of a file from the one on that is settled.
+    #[inline(never)]
     pub fn enter_part(
         &mut self,
         spot: Spot,
@@ -182,6 +187,7 @@ impl Assembler {
     }
 
     /// Enters an assertion.
+    #[inline(never)]
     pub fn enter_assertion(
         &mut self,
         alloc: Global,

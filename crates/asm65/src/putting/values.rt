@@ -112,6 +112,7 @@ impl Assembler {
     }
 
     /// Enters the value of an operand.
+    #[inline(never)]
     pub fn enter_operand(
         &mut self,
         alloc: Global,

@@ -59,6 +59,7 @@ impl Assembler {
     }
 
     /// A piece of a statement waits.
+    #[inline(never)]
     pub fn wait(&mut self, alloc: Global, stand: Stand<'_>, piece: Piece) -> Result<(), AllocError>
         ensures waits { OnOk result (Waits
             (place_in stand.entry.at.file.now stand.entry.at.line) (spot_of stand.entry.spot)

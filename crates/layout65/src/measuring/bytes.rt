@@ -111,6 +111,7 @@ fn list_len(standing: &Standing, width: Width, items: &[Item]) -> Result<u32, As
 }
 
 /// What a list of values places.
+#[inline(never)]
 pub fn values(standing: &Standing, width: Width, items: &[Item]) -> Result<Measured, AsmFault>
     requires { IsSoundStanding standing.now }
     ensures { (y : Table) → Gives is_memory measured_of result (placed y

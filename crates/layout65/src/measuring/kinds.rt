@@ -25,6 +25,7 @@ use symbols65::{Known, knowing};
 use syntax65::{AddressSize, Expr};
 
 /// What a constant places and defines.
+#[inline(never)]
 fn constant(
     alloc: Global,
     before: Before<'_>,
@@ -91,6 +92,7 @@ fn close_proc(before: Before<'_>) -> Result<Measured, AsmFault>
 
 /// What a statement that ends a block or changes the segment places, or one that does neither and
 /// has no bytes.
+#[inline(never)]
 fn without_bytes(before: Before<'_>, statement: &Statement) -> Result<Measured, AsmFault>
     requires standing { IsSoundStanding before.standing.now }
     requires bare { is_bare (stated_of statement.now) ≡ true }

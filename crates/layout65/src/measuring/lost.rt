@@ -53,6 +53,7 @@ fn plain_part(name: &Name) -> Option<&[u8]>
     }
 }
 
+#[inline(never)]
 fn check_name(
     alloc: Global,
     symbols: &Symbols,

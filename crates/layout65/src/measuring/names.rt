@@ -41,6 +41,7 @@ pub fn check_outside(scope: usize, statement: &Statement) -> Result<(), AsmFault
 }
 
 /// Refuses a scope of a name that the scope around it has already.
+#[inline(never)]
 fn check_scope(alloc: Global, symbols: &Symbols, scope: usize, name: &[u8]) -> Result<(), AsmFault>
     ensures { Gives is_memory (λ u. u) result (unless_fault (where_there
         (scope_in (table_of symbols.now).scopes scope name.now) (ScopeTwice name.now)) tt) }
@@ -73,6 +74,7 @@ pub fn check_opened(
 }
 
 /// Refuses a name whose key has a definition already.
+#[inline(never)]
 fn check_key(alloc: Global, symbols: &Symbols, key: Key<'_>, name: &[u8]) -> Result<(), AsmFault>
     ensures { Gives is_memory (λ u. u) result (unless_fault (where_there
         (defined (table_of symbols.now) (key_of key.entry)) (DefinedTwice name.now)) tt) }

@@ -85,6 +85,7 @@ fn ranged(count: usize, start: Option<i64>, len: Option<i64>) -> Result<(usize, 
 }
 
 /// What a part of a file places.
+#[inline(never)]
 pub fn file_part(
     alloc: Global,
     before: Before<'_>,

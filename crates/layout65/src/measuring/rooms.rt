@@ -71,6 +71,7 @@ fn count_of(value: Option<i64>) -> Result<usize, AsmFault>
 }
 
 /// What `.res` places.
+#[inline(never)]
 pub fn reserve(
     alloc: Global,
     before: Before<'_>,
@@ -151,6 +152,7 @@ fn gap(standing: &Standing, multiple: u32) -> u32
 }
 
 /// What `.align` places.
+#[inline(never)]
 pub fn align(
     alloc: Global,
     before: Before<'_>,

@@ -38,6 +38,7 @@ fn check_optional(
     }
 }
 
+#[inline(never)]
 fn check_two(
     alloc: Global,
     symbols: &Symbols,
@@ -53,6 +54,7 @@ fn check_two(
     check_optional(alloc, symbols, scope, other)
 }
 
+#[inline(never)]
 fn check_range(
     alloc: Global,
     symbols: &Symbols,
@@ -102,6 +104,7 @@ fn check_item(alloc: Global, symbols: &Symbols, scope: usize, item: &Item) -> Re
     }
 }
 
+#[inline(never)]
 fn check_items(
     alloc: Global,
     symbols: &Symbols,

@@ -90,7 +90,7 @@ fn part_of(
     let Some(name) = string_of(name) else {
         return Err(AsmFault::NotUnderstood);
     };
-    let range = range_behind(alloc, behind)?;
+    let range = Box::new(alloc, range_behind(alloc, behind)?)?;
     let name = copy_of(alloc, name)?;
     Ok(Statement::NamedPart { name, range })
 }

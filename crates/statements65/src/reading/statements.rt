@@ -82,6 +82,7 @@ fn named(alloc: Global, name: &[u8], tokens: &[Token<'_>]) -> Result<Statement, 
 /// # Errors
 ///
 /// Tokens that are no statement aren't understood.
+#[inline(never)]
 pub fn statement(alloc: Global, tokens: &[Token<'_>]) -> Result<Statement, AsmFault>
     ensures value { Answers is_outside stated_of result (IsStatement (lexemes tokens.now)) }
     ensures inside { IfErr result (λ e. is_failure e ≡ false) }

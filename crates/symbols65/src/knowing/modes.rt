@@ -31,10 +31,12 @@ fn mode_for(size: AddressSize, index: Option<Index>) -> Mode
 fn first_of(mnemonic: Mnemonic, first: Mode, second: Mode) -> Option<Mode>
     ensures { result ≡ first_of mnemonic first second }
 {
-    match (opcode(mnemonic, first), opcode(mnemonic, second)) {
-        (Some(_), _) => Some(first),
-        (None, Some(_)) => Some(second),
-        (None, None) => None,
+    if opcode(mnemonic, first).is_some() {
+        return Some(first);
+    }
+    match opcode(mnemonic, second) {
+        Some(_) => Some(second),
+        None => None,
     }
 }
 

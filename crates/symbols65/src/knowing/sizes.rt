@@ -99,6 +99,7 @@ fn size_of_operand(
 }
 
 /// The size of an expression by a symbol table, where the segment has this size.
+#[inline(never)]
 pub fn size(
     alloc: Global,
     symbols: &Symbols,

@@ -3,6 +3,6 @@ use Rattle.asm65.specs.Views.{place_in}
 use Rattle.asm65.proofs.Runs.{sound_leaves}
 use Rattle.asm65.proofs.given.take_sound.Goals as goal
 
-pub returns-clause-taken : goal.returns-clause-taken
-returns-clause-taken c =
-    sound_leaves (place_in c.args.at.file.now c.args.at.line) (stated_of c.args.statement) c.args.assembler.now c.take.new.self c.take.result (c.is_sound.ensures.sound c.if-not-is_sound.false) c.take.ensures.taken c.take.ensures.texts
+pub returns-then-is_sound-clause-taken : goal.returns-then-is_sound-clause-taken
+returns-then-is_sound-clause-taken c =
+    sound_leaves (place_in c.args.at.file.now c.args.at.line) (stated_of c.args.statement) c.args.assembler.now c.take.new.self c.take.result (c.is_sound.ensures.sound c.if-is_sound.true) c.take.ensures.taken c.take.ensures.texts

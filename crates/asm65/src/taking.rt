@@ -76,8 +76,8 @@ impl Assembler {
         }
     }
 
-    /// The pieces of a statement are entered, and then its names are known. Here stand all but the
-    /// instructions, which most statements are.
+    /// The pieces of any statement are entered, and then its names are known. `enter` hands over all
+    /// but instructions, which most statements are.
     #[inline(never)]
     fn enter_other(
         &mut self,

@@ -1,5 +1,5 @@
 -- Forms by those that are final.
-use Rattle.std.proofs.Common.{◌≡◌, ℕ, suc, ◌<◌, length, Option, Some, None, option_map, slice_get, Result, Ok, Err, refl, ap, ◌∙◌, arith}
+use Rattle.std.proofs.Common.{◌≡◌, ℕ, suc, ◌<◌, length, Option, Some, None, option_map, slice_get, Result, Ok, Err, refl, sym, subst, ap, ◌∙◌, arith}
 use Rattle.std.proofs.lemmas.Option.{slice_get_within}
 use Rattle.syntax65.specs.Outcome.{Gives}
 use Rattle.syntax65.specs.Trees.{Tree}
@@ -7,6 +7,7 @@ use Rattle.object65.specs.Form.{Form}
 use Rattle.language65.specs.declared.fault.AsmFault.{AsmFault}
 use Rattle.language65.specs.Faults.{is_memory}
 use Rattle.language65.specs.Laid.{Spot}
+use Rattle.language65.specs.Names.{Meaning, meaning_of}
 use Rattle.language65.specs.Norms.{form_of_definition, norm, norm_of}
 use Rattle.language65.specs.Symbols as l
 use Rattle.symbols65.specs.declared.resolving.attempt.Source.TheVariants.{Finals}
@@ -18,7 +19,7 @@ use Rattle.symbols65.specs.declared.table.entries.Entry.{Entry}
 use Rattle.symbols65.specs.declared.table.symbols.Symbols.{Symbols}
 use Rattle.language65.specs.Extending.{Extends}
 use Rattle.symbols65.specs.Finals.{formed}
-use Rattle.symbols65.specs.Resolving.{FoundBy, lacks_memory, tried}
+use Rattle.symbols65.specs.Resolving.{FoundBy, lacks_memory, meaning_form, tried}
 use Rattle.symbols65.specs.Settling.{Settles}
 use Rattle.symbols65.specs.Sources.{kept, known_by}
 use Rattle.symbols65.specs.Tables.{definition_in, table_without_imports}
@@ -26,7 +27,7 @@ use Rattle.symbols65.specs.Views.{table_of, words_of}
 use Rattle.symbols65.proofs.Places.{get_mapped, get_stays}
 use Rattle.symbols65.proofs.Hanging.{extends_itself}
 use Rattle.symbols65.proofs.Pursuits.{fault_from, form_from, unless_more}
-use Rattle.symbols65.proofs.Tries.{attempt_first}
+use Rattle.symbols65.proofs.Tries.{attempt_first, meant_tried}
 use Rattle.symbols65.proofs.Turns.{constant_course, constant_is, expression_course, ok_later}
 
 has_form : (r : Result Form AsmFault) (f : Form) → formed r ≡ Some f → r ≡ Ok f
@@ -84,3 +85,7 @@ module _ (t : Symbols) where
       by (Ok f) q = form_from n (table_of t) (known_by t Finals) (expression_course (table_of t) s e) a f (attempt_first n (table_of t) (known_by t Finals) finals_found s e) q n (omega arith)
       by (Err (Fault z)) q = unless_more (is_memory z) (λ k. fault_from n (table_of t) (known_by t Finals) (expression_course (table_of t) s e) a z (attempt_first n (table_of t) (known_by t Finals) finals_found s e) k n (omega arith)) q
       by (Err (Needs j)) q = tt
+
+  -- and so with what an operand means
+  pub meant_settles : (s : Spot) (e : Tree) (m : Meaning) (r : Result Form Stop) → meaning_of (table_of t) s e ≡ Ok m → Gives lacks_memory (λ f. f) r (meaning_form (known_by t Finals) (table_of t) m) → Settles (norm_of (table_of t) s e) r
+  meant_settles s e m r q h = attempt_settles s e r (let P : Result Form Stop → Type 0 = λ a. Gives lacks_memory (λ f. f) r a in subst P (sym (meant_tried (known_by t Finals) (table_of t) s e m q)) h)

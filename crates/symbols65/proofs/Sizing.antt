@@ -1,22 +1,48 @@
--- The sizes of expressions that are constant.
-use Rattle.std.proofs.Common.{◌≡◌, ℤ, pos, List, length, Some, ap}
-use Rattle.std.specs.Prelude.{if◌then◌else◌}
+-- Forms that some expressions don't have, and their values.
+use Rattle.std.proofs.Common.{◌≡◌, ap, refl, length, Result, Ok, Err}
+use Rattle.std.specs.Result.{result_ok}
+use Rattle.syntax65.specs.Outcome.{◌>>=◌}
 use Rattle.syntax65.specs.Trees.{Tree, number, here, name, cheap, forward, backward, unary, binary}
-use Rattle.syntax65.specs.declared.lexing.tokens.AddressSize.{AddressSize}
-use Rattle.syntax65.specs.declared.lexing.tokens.AddressSize.TheVariants as size
+use Rattle.syntax65.specs.declared.values.Op1.{Op1}
+use Rattle.syntax65.specs.declared.values.Op2.{Op2}
+use Rattle.object65.specs.Form.{Form}
+use Rattle.object65.specs.Folding.{fold1, fold2}
+use Rattle.object65.specs.declared.folding.FormFault.{FormFault}
+use Rattle.object65.specs.declared.folding.FormFault.TheVariants as form
+use Rattle.language65.specs.declared.fault.AsmFault.{AsmFault}
 use Rattle.language65.specs.Laid.{Spot}
-use Rattle.language65.specs.Symbols.{Symbols, Definition}
 use Rattle.language65.specs.Names.{meaning_of}
-use Rattle.language65.specs.Norms.{constant_in}
-use Rattle.language65.specs.Sizes.{larger, size_by, size_of, size_of_meaning, size_of_value, takes_byte}
+use Rattle.language65.specs.Norms.{folded, form_of_meaning, literal_in, norm, norm_of}
+use Rattle.language65.specs.Symbols.{Symbols}
+use Rattle.symbols65.specs.Forms.{IsName, binary_form, literal_of, prefix_form}
 
--- the size of a constant expression is that of its value
-pub constant_size : (y : Symbols) (s : Spot) (own : AddressSize) (e : Tree) (v : ℤ) → constant_in y s e ≡ Some v → size_of y s own e ≡ size_of_value v
-constant_size y s own (number n) v h = let same : pos n ≡ v = cc in ap size_of_value same
-constant_size y s own here v h = absurd cc
-constant_size y s own (name global parts) v h = ap (size_by (size_of_meaning y (meaning_of y s (name global parts)))) h
-constant_size y s own (cheap n) v h = ap (size_by (size_of_meaning y (meaning_of y s (cheap n)))) h
-constant_size y s own (forward n) v h = ap (size_by (size_of_meaning y (meaning_of y s (forward n)))) h
-constant_size y s own (backward n) v h = ap (size_by (size_of_meaning y (meaning_of y s (backward n)))) h
-constant_size y s own (unary op e) v h = ap (size_by (if takes_byte op then size.ZeroPage else size_of y s own e)) h
-constant_size y s own (binary op e f) v h = ap (size_by (larger (size_of y s own e) (size_of y s own f))) h
+pub literal_known : (r : Result Form AsmFault) → literal_of (result_ok r) ≡ literal_in r
+literal_known (Ok f) = refl
+literal_known (Err e) = refl
+
+folded_known : (r : Result Form FormFault) → result_ok r ≡ result_ok (folded r)
+folded_known (Ok f) = refl
+folded_known (Err form.OutOfMemory) = refl
+folded_known (Err form.NoValue) = refl
+folded_known (Err form.TooLarge) = refl
+
+pub prefix_known : (op : Op1) (r : Result Form AsmFault) → prefix_form op (result_ok r) ≡ result_ok (r >>= (λ f. folded (fold1 op f)))
+prefix_known op (Ok f) = folded_known (fold1 op f)
+prefix_known op (Err e) = refl
+
+pub binary_known : (op : Op2) (r s : Result Form AsmFault) → binary_form op (result_ok r) (result_ok s) ≡ result_ok (r >>= (λ f. s >>= (λ g. folded (fold2 op f g))))
+binary_known op (Ok f) (Ok g) = folded_known (fold2 op f g)
+binary_known op (Ok f) (Err e) = refl
+binary_known op (Err e) (Ok g) = refl
+binary_known op (Err e) (Err d) = refl
+
+-- what has no meaning has no form
+pub meaningless : (y : Symbols) (s : Spot) (e : Tree) (z : AsmFault) → IsName e → meaning_of y s e ≡ Err z → norm_of y s e ≡ Err z
+meaningless y s (number v) z n h = absurd n
+meaningless y s here z n h = absurd n
+meaningless y s (unary op e) z n h = absurd n
+meaningless y s (binary op e f) z n h = absurd n
+meaningless y s (name global parts) z n h = ap (λ r. r >>= form_of_meaning (norm (length y.definitions) y) y) h
+meaningless y s (cheap x) z n h = ap (λ r. r >>= form_of_meaning (norm (length y.definitions) y) y) h
+meaningless y s (forward x) z n h = ap (λ r. r >>= form_of_meaning (norm (length y.definitions) y) y) h
+meaningless y s (backward x) z n h = ap (λ r. r >>= form_of_meaning (norm (length y.definitions) y) y) h

@@ -228,3 +228,14 @@ operand_tried a s e (inl (x, q)) = ap (λ z. a (tree_of z)) q ∙ sym (ap (λ z.
 operand_tried a s e (inr (inl (x, q))) = ap (λ z. a (tree_of z)) q ∙ sym (ap (λ z. tried_by a s (tree_of z)) q)
 operand_tried a s e (inr (inr (inl (x, q)))) = ap (λ z. a (tree_of z)) q ∙ sym (ap (λ z. tried_by a s (tree_of z)) q)
 operand_tried a s e (inr (inr (inr (x, q)))) = ap (λ z. a (tree_of z)) q ∙ sym (ap (λ z. tried_by a s (tree_of z)) q)
+
+-- an operand that means something has the form of that
+pub meant_tried : (known : ℕ → Option State) (y : Symbols) (s : Spot) (e : Tree) (m : Meaning) → meaning_of y s e ≡ Ok m → tried known y s e ≡ meaning_form known y m
+meant_tried known y s (number n) m h = absurd cc
+meant_tried known y s here m h = absurd cc
+meant_tried known y s (unary op e) m h = absurd cc
+meant_tried known y s (binary op e f) m h = absurd cc
+meant_tried known y s (name global parts) m h = ap (λ r. stopped r >>= meaning_form known y) h
+meant_tried known y s (cheap n) m h = ap (λ r. stopped r >>= meaning_form known y) h
+meant_tried known y s (forward n) m h = ap (λ r. stopped r >>= meaning_form known y) h
+meant_tried known y s (backward n) m h = ap (λ r. stopped r >>= meaning_form known y) h

@@ -1,12 +1,12 @@
 -- Tables with more behind, and forms that stay whatever follows.
-use Rattle.std.specs.Prelude.{◌≡◌, ℕ, suc, List, ◌++◌, Option, Some, None, Result, Ok, Err}
+use Rattle.std.specs.Prelude.{◌≡◌, ℕ, suc, Option, Some, None, Result, Ok, Err}
 use Rattle.syntax65.specs.Trees.{Tree}
 use Rattle.object65.specs.Form.{Form}
 use Rattle.language65.specs.declared.fault.AsmFault.{AsmFault}
 use Rattle.language65.specs.Extending.{Extends}
 use Rattle.language65.specs.Laid.{Spot}
-use Rattle.language65.specs.Symbols.{Symbols, Definition, Scope}
-use Rattle.language65.specs.Norms.{form_of_value, norm, norm_of}
+use Rattle.language65.specs.Symbols.{Symbols, Definition}
+use Rattle.language65.specs.Norms.{form_of_value, norm}
 
 -- an expression has this form whatever statements follow, and needs no more expressions one inside the other than there
 -- are definitions, and itself

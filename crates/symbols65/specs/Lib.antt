@@ -1,4 +1,5 @@
 pub mod Finals
+pub mod Forms
 pub mod Hanging
 pub mod Knowns
 pub mod Resolving

@@ -1,5 +1,5 @@
 -- What is known of forms by those that are final.
-use Rattle.std.specs.Prelude.{◌≡◌, ℕ, ◌<◌, length, Option, Some, None, Result, Ok, Err, ⊤}
+use Rattle.std.specs.Prelude.{◌≡◌, ℕ, ◌<◌, length, Result, Ok, Err, ⊤}
 use Rattle.syntax65.specs.Outcome.{Unless}
 use Rattle.syntax65.specs.Trees.{Tree, number, here, unary, binary}
 use Rattle.object65.specs.Form.{Form}

@@ -1,5 +1,5 @@
 -- By what the forms of constants are known.
-use Rattle.std.specs.Prelude.{ℕ, List, slice_get, Option, Some, None, option_map}
+use Rattle.std.specs.Prelude.{ℕ, slice_get, Option, Some, None, option_map}
 use Rattle.symbols65.specs.declared.resolving.attempt.State.{State}
 use Rattle.symbols65.specs.declared.resolving.attempt.State.TheVariants.{Found}
 use Rattle.symbols65.specs.declared.resolving.attempt.Source.{Source}

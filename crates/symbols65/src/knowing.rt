@@ -2,6 +2,7 @@
 //! forms of instructions.
 
 mod constants;
+mod forms;
 mod modes;
 mod sizes;
 

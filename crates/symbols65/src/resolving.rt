@@ -11,12 +11,12 @@ mod scopes;
 mod settling;
 mod showing;
 
-pub use attempt::State;
+pub use attempt::{State, address};
 pub use definitions::definition_of;
 pub use finals::final_form;
 pub use known::Known;
 pub use meaning::{Meaning, meaning_of};
 pub use operands::operand_form;
 pub use scopes::scope_of;
-pub use settling::{defined_norm, norm, settled};
+pub use settling::{defined_norm, meant_norm, norm, settled};
 pub use showing::shown;

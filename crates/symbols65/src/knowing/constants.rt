@@ -1,28 +1,18 @@
 //! The values of expressions that are constant at a line.
 
-ghost use Rattle.std.specs.Prelude.{◌≡◌, IfOk, Ok, OnOk};
+ghost use Rattle.std.specs.Prelude.{◌≡◌, IfOk, OnOk};
 ghost use Rattle.syntax65.specs.Trees.{tree_of};
-ghost use Rattle.language65.specs.Norms.{constant_in, literal_in};
+ghost use Rattle.language65.specs.Norms.{constant_in};
 ghost use Rattle.language65.specs.Views.{spot_of};
 ghost use Rattle.symbols65.specs.Resolving.{IsTable};
 ghost use Rattle.symbols65.specs.Views.{table_of};
 
+use super::forms::{literal, pass_on_memory};
 use crate::resolving::{Known, norm};
 use crate::table::Symbols;
 use language65::Spot;
-use object65::{Node, Norm};
 use std::alloc::{AllocError, Global};
 use syntax65::Expr;
-
-/// The value of a form that is a number.
-fn literal(form: &Norm) -> Option<i64>
-    ensures { result ≡ literal_in (Ok form.now) }
-{
-    match form.node() {
-        Node::Lit(value) => Some(*value),
-        _ => None,
-    }
-}
 
 /// The value of an expression where it is constant by a symbol table.
 pub fn constant(
@@ -39,9 +29,7 @@ pub fn constant(
     match norm(alloc, symbols, known, spot, value) {
         Ok(form) => Ok(literal(&form)),
         Err(fault) => {
-            if fault.is_memory() {
-                return Err(AllocError);
-            }
+            pass_on_memory(&fault)?;
             // An expression without a form is no constant.
             Ok(None)
         }

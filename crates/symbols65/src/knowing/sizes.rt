@@ -1,17 +1,21 @@
 //! The sizes of expressions.
 
 ghost use Rattle.std.specs.Prelude.{◌≡◌, IfOk, Ok, OnOk, slice_get};
+ghost use Rattle.std.specs.Result.{result_ok};
 ghost use Rattle.syntax65.specs.Trees.{tree_of};
 ghost use Rattle.language65.specs.Names.{meaning_of};
-ghost use Rattle.language65.specs.Sizes.{is_byte, larger, size_defined, size_of, size_of_import, size_of_meaning, size_of_value, takes_byte};
+ghost use Rattle.language65.specs.Norms.{constant_in, norm_of};
+ghost use Rattle.language65.specs.Sizes.{is_byte, larger, size_by, size_defined, size_of, size_of_import, size_of_meaning, size_of_value, takes_byte};
 ghost use Rattle.language65.specs.Views.{spot_of};
+ghost use Rattle.symbols65.specs.Forms.{IsName, literal_of};
 ghost use Rattle.symbols65.specs.Resolving.{IsTable, meaning_in};
 ghost use Rattle.symbols65.specs.Views.{table_of};
 
-use super::constants::constant;
-use crate::resolving::{Known, Meaning, meaning_of};
+use super::forms::{binary_form, literal_of, pass_on_memory, prefix_form};
+use crate::resolving::{Known, Meaning, address, meaning_of, meant_norm};
 use crate::table::Symbols;
 use language65::Spot;
+use object65::{Node, Norm};
 use std::alloc::{AllocError, Global};
 use syntax65::{AddressSize, Expr, Op1};
 
@@ -77,23 +81,132 @@ fn size_of_meaning(symbols: &Symbols, meaning: Meaning) -> AddressSize
     }
 }
 
-/// The size of what an operand means by a symbol table.
-fn size_of_operand(
+/// The size that goes by a value, if it is there, and else another.
+fn size_by(other: AddressSize, value: Option<i64>) -> AddressSize
+    ensures { result ≡ size_by other value }
+{
+    match value {
+        Some(value) => size_of_value(value),
+        None => other,
+    }
+}
+
+/// What one walk over an expression finds.
+#[derive(Drop)]
+struct FormAndSize {
+    /// Its normal form, if it has one.
+    form: Option<Norm>,
+    size: AddressSize,
+}
+
+/// What is found where the form of an expression and the size that it has without a value are known.
+fn sized_by_value(form: Option<Norm>, other: AddressSize) -> FormAndSize
+    ensures form { result.form ≡ form }
+    ensures size { result.size ≡ size_by other (literal_of form) }
+{
+    let size = size_by(other, literal_of(&form));
+    FormAndSize { form, size }
+}
+
+/// The normal form of an operand that means this, if it has one.
+fn meant_form(
     alloc: Global,
     symbols: &Symbols,
+    known: &mut Known,
     spot: Spot,
     operand: &Expr,
-) -> Result<AddressSize, AllocError>
-    ensures { IfOk result (λ s. s ≡ size_of_meaning (table_of symbols.now) (meaning_of (table_of symbols.now) (spot_of spot) (tree_of operand.now))) }
+    meaning: Meaning,
+) -> Result<Option<Norm>, AllocError>
+    requires table { IsTable (table_of symbols.now) known.old.states.items }
+    requires meaning { meaning_of (table_of symbols.now) (spot_of spot) (tree_of operand.now) ≡ Ok (meaning_in meaning) }
+    ensures form { IfOk result (λ f. f ≡ result_ok (norm_of (table_of symbols.now) (spot_of spot) (tree_of operand.now))) }
+    ensures table { OnOk result (IsTable (table_of symbols.now) known.new.states.items) }
+{
+    match meant_norm(alloc, symbols, known, spot, operand, meaning) {
+        Ok(form) => Ok(Some(form)),
+        Err(fault) => {
+            pass_on_memory(&fault)?;
+            Ok(None)
+        }
+    }
+}
+
+/// What is found of an operand that isn't a number.
+fn operand_form_and_size(
+    alloc: Global,
+    symbols: &Symbols,
+    known: &mut Known,
+    spot: Spot,
+    operand: &Expr,
+) -> Result<FormAndSize, AllocError>
+    requires table { IsTable (table_of symbols.now) known.old.states.items }
+    requires name { IsName (tree_of operand.now) }
+    ensures form { IfOk result (λ r. r.form ≡ result_ok (norm_of (table_of symbols.now) (spot_of spot) (tree_of operand.now))) }
+    ensures size { IfOk result (λ r. r.size ≡ size_by (size_of_meaning (table_of symbols.now) (meaning_of (table_of symbols.now) (spot_of spot) (tree_of operand.now))) (constant_in (table_of symbols.now) (spot_of spot) (tree_of operand.now))) }
+    ensures table { OnOk result (IsTable (table_of symbols.now) known.new.states.items) }
 {
     match meaning_of(alloc, symbols, spot, operand) {
-        Ok(meaning) => Ok(size_of_meaning(symbols, meaning)),
+        Ok(meaning) => {
+            let other = size_of_meaning(symbols, meaning);
+            let form = meant_form(alloc, symbols, known, spot, operand, meaning)?;
+            Ok(sized_by_value(form, other))
+        }
         Err(fault) => {
-            if fault.is_memory() {
-                return Err(AllocError);
-            }
+            pass_on_memory(&fault)?;
             // What has no meaning yet may come to lie anywhere.
-            Ok(AddressSize::Absolute)
+            Ok(FormAndSize {
+                form: None,
+                size: AddressSize::Absolute,
+            })
+        }
+    }
+}
+
+/// The form and the size of an expression by a symbol table, where the segment has this size, in one walk.
+fn form_and_size(
+    alloc: Global,
+    symbols: &Symbols,
+    known: &mut Known,
+    spot: Spot,
+    own: AddressSize,
+    value: &Expr,
+) -> Result<FormAndSize, AllocError>
+    requires { IsTable (table_of symbols.now) known.old.states.items }
+    ensures form { IfOk result (λ r. r.form ≡ result_ok (norm_of (table_of symbols.now) (spot_of spot) (tree_of value.now))) }
+    ensures size { IfOk result (λ r. r.size ≡ size_of (table_of symbols.now) (spot_of spot) own (tree_of value.now)) }
+    ensures table { OnOk result (IsTable (table_of symbols.now) known.new.states.items) }
+{
+    match value {
+        Expr::Number(number) => {
+            let value = i64::from(*number);
+            Ok(FormAndSize {
+                form: Some(Norm::new(Node::Lit(value))),
+                size: size_of_value(value),
+            })
+        }
+        Expr::Here => Ok(FormAndSize {
+            form: Some(address(spot)),
+            size: own,
+        }),
+        Expr::Prefix(op, part) => {
+            let part = form_and_size(alloc, symbols, known, spot, own, part)?;
+            let other = if takes_byte(*op) {
+                AddressSize::ZeroPage
+            } else {
+                part.size
+            };
+            let form = prefix_form(alloc, *op, part.form)?;
+            Ok(sized_by_value(form, other))
+        }
+        Expr::Binary(op, left, right) => {
+            let left = form_and_size(alloc, symbols, known, spot, own, left)?;
+            let right = form_and_size(alloc, symbols, known, spot, own, right)?;
+            let other = larger(left.size, right.size);
+            let form = binary_form(alloc, *op, left.form, right.form)?;
+            Ok(sized_by_value(form, other))
+        }
+        Expr::Name(_) | Expr::Cheap(_) | Expr::Forward(_) | Expr::Backward(_) => {
+            operand_form_and_size(alloc, symbols, known, spot, value)
         }
     }
 }
@@ -112,26 +225,6 @@ pub fn size(
     ensures size { IfOk result (λ s. s ≡ size_of (table_of symbols.now) (spot_of spot) own (tree_of value.now)) }
     ensures table { OnOk result (IsTable (table_of symbols.now) known.new.states.items) }
 {
-    if let Some(value) = constant(alloc, symbols, known, spot, value)? {
-        return Ok(size_of_value(value));
-    }
-    match value {
-        Expr::Number(number) => Ok(size_of_value(i64::from(*number))),
-        Expr::Here => Ok(own),
-        Expr::Prefix(op, part) => {
-            if takes_byte(*op) {
-                Ok(AddressSize::ZeroPage)
-            } else {
-                size(alloc, symbols, known, spot, own, part)
-            }
-        }
-        Expr::Binary(_, left, right) => {
-            let left = size(alloc, symbols, known, spot, own, left)?;
-            let right = size(alloc, symbols, known, spot, own, right)?;
-            Ok(larger(left, right))
-        }
-        Expr::Name(_) | Expr::Cheap(_) | Expr::Forward(_) | Expr::Backward(_) => {
-            size_of_operand(alloc, symbols, spot, value)
-        }
-    }
+    let found = form_and_size(alloc, symbols, known, spot, own, value)?;
+    Ok(found.size)
 }

@@ -133,7 +133,7 @@ fn defined(alloc: Global, symbols: &Symbols, source: Source<'_>, place: usize) -
 }
 
 /// The form of what a name means.
-fn meant(
+pub fn meant(
     alloc: Global,
     symbols: &Symbols,
     source: Source<'_>,

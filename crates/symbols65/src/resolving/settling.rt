@@ -1,17 +1,19 @@
 //! Normal forms by those that are final, and else by a search.
 
-ghost use Rattle.std.specs.Prelude.{◌≡◌};
+ghost use Rattle.std.specs.Prelude.{◌≡◌, Ok};
 ghost use Rattle.syntax65.specs.Outcome.{Finds, Gives};
 ghost use Rattle.syntax65.specs.Trees.{tree_of};
 ghost use Rattle.language65.specs.Faults.{is_memory};
+ghost use Rattle.language65.specs.Names.{meaning_of};
 ghost use Rattle.language65.specs.Norms.{defined_form, norm_of};
 ghost use Rattle.language65.specs.Views.{spot_of};
-ghost use Rattle.symbols65.specs.Resolving.{IsTable};
+ghost use Rattle.symbols65.specs.Resolving.{IsTable, meaning_in};
 ghost use Rattle.symbols65.specs.Settling.{Settles};
 ghost use Rattle.symbols65.specs.Views.{table_of};
 
-use super::attempt::{Source, Stop, address, try_norm};
+use super::attempt::{Source, Stop, address, meant, try_norm};
 use super::known::Known;
+use super::meaning::Meaning;
 use crate::table::Symbols;
 use language65::{AsmFault, Spot};
 use object65::Norm;
@@ -41,6 +43,27 @@ pub fn norm(
         Ok(form) => Ok(form),
         Err(Stop::Fault(fault)) => Err(fault),
         Err(Stop::Needs(_)) => known.find(alloc, symbols, spot, value),
+    }
+}
+
+/// The normal form of an operand that means this.
+pub fn meant_norm(
+    alloc: Global,
+    symbols: &Symbols,
+    known: &mut Known,
+    spot: Spot,
+    operand: &Expr,
+    meaning: Meaning,
+) -> Result<Norm, AsmFault>
+    requires table { IsTable (table_of symbols.now) known.old.states.items }
+    requires meaning { meaning_of (table_of symbols.now) (spot_of spot) (tree_of operand.now) ≡ Ok (meaning_in meaning) }
+    ensures form { Gives is_memory (λ f. f) result (norm_of (table_of symbols.now) (spot_of spot) (tree_of operand.now)) }
+    ensures table { Finds is_memory (λ _. IsTable (table_of symbols.now) known.new.states.items) result }
+{
+    match meant(alloc, symbols, Source::Finals, meaning) {
+        Ok(form) => Ok(form),
+        Err(Stop::Fault(fault)) => Err(fault),
+        Err(Stop::Needs(_)) => known.find(alloc, symbols, spot, operand),
     }
 }
 

@@ -1,4 +1,4 @@
-use Rattle.std.proofs.Common.{◌≡◌, ℕ, Option, Result, option_map, slice_get, sym, ap, subst, ◌∙◌}
+use Rattle.std.proofs.Common.{Result, option_map, sym, ap, subst, ◌∙◌}
 use Rattle.syntax65.specs.Outcome.{Gives}
 use Rattle.syntax65.specs.Trees.{Tree, tree_of}
 use Rattle.object65.specs.Form.{Form}
@@ -7,7 +7,6 @@ use Rattle.language65.specs.Views.{spot_of}
 use Rattle.symbols65.specs.declared.resolving.attempt.Stop.{Stop}
 use Rattle.symbols65.specs.Resolving.{attempt_definition, attempt_value, known_form, lacks_memory}
 use Rattle.symbols65.specs.Sources.{kept, known_by}
-use Rattle.symbols65.specs.Views.{table_of}
 use Rattle.symbols65.proofs.resolving.attempt.defined.Goals as goal
 
 pub returns-in-Finals : goal.returns-in-Finals

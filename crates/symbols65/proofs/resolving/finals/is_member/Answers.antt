@@ -1,4 +1,4 @@
-use Rattle.std.proofs.Common.{◌≡◌, ◌≤◌, length, take, is_some, sym, ap, ◌∙◌, arith}
+use Rattle.std.proofs.Common.{◌≤◌, length, take, is_some, sym, ap, ◌∙◌, arith}
 use Rattle.language65.specs.Names.{last_of, scope_from, scopes_of}
 use Rattle.language65.specs.Symbols.{defined, named}
 use Rattle.language65.specs.Views.{spot_of}

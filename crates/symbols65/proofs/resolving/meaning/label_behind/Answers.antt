@@ -1,4 +1,4 @@
-use Rattle.std.proofs.Common.{◌≡◌, ◌+◌, ◌-◌, ◌≤◌, ◌^◌, None, ap, ◌∙◌, arith}
+use Rattle.std.proofs.Common.{◌+◌, ◌-◌, None, ap}
 use Rattle.language65.specs.declared.fault.AsmFault.TheVariants.{NoSuchLabel}
 use Rattle.language65.specs.Names.{or_fault}
 use Rattle.symbols65.specs.Views.{words_of}

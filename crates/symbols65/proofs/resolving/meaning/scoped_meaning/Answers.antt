@@ -1,4 +1,4 @@
-use Rattle.std.proofs.Common.{◌≡◌, Some, Err, take, ap, ◌∙◌, sym}
+use Rattle.std.proofs.Common.{Some, Err, take, ap, ◌∙◌, sym}
 use Rattle.language65.specs.declared.fault.AsmFault.TheVariants.{NoSuchScope, Undefined}
 use Rattle.language65.specs.Names.{last_of, member_meaning, scope_from, scopes_of, shown}
 use Rattle.symbols65.specs.Resolving.{or_absent}

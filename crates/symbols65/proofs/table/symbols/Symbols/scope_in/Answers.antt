@@ -1,5 +1,4 @@
-use Rattle.std.proofs.Common.{◌≡◌, suc, ◌+◌, Some, position, option_map, sym, ap, ◌∙◌, arith}
-use Rattle.std.specs.Str.{bytes_eq}
+use Rattle.std.proofs.Common.{◌≡◌, suc, ◌+◌, Some, option_map, sym, ap, ◌∙◌, arith}
 use Rattle.language65.specs.Names.{numbered}
 use Rattle.symbols65.specs.declared.table.entries.Opening.TheVariants as opening
 use Rattle.symbols65.specs.Tables.{place_of_opening}

@@ -1,5 +1,5 @@
 -- Tables with one word, one definition or one scope more.
-use Rattle.std.proofs.Common.{◌≡◌, ℕ, zero, suc, ◌+◌, ◌<◌, Bool, true, false, cond, List, [], ◌∷◌, ◌++◌, length, map, get_or, position, Option, Some, None, option_map, ◌⊎◌, inl, inr, refl, sym, ap, ◌∙◌, subst, arith, append-nil}
+use Rattle.std.proofs.Common.{◌≡◌, ℕ, zero, suc, ◌+◌, ◌<◌, Bool, true, false, cond, List, [], ◌∷◌, ◌++◌, length, map, get_or, position, Option, Some, None, option_map, ◌⊎◌, inl, inr, refl, sym, ap, ◌∙◌, subst, arith}
 use Rattle.std.specs.Prelude.{slice_get, ◌==◌, ◌&&◌, OnOk, OnErr, Result, Ok, Err, if◌then◌else◌}
 use Rattle.std.specs.List.{position_from}
 use Rattle.std.specs.Map.{keys_of}
@@ -24,7 +24,7 @@ use Rattle.language65.specs.Norms.{form_of_value, norm}
 use Rattle.language65.specs.Extending.{Extends}
 use Rattle.symbols65.specs.Finals.{formed}
 use Rattle.symbols65.specs.Tables.{AreCounted, AreDistinct, AreFinal, AreNumbered, Begins, HasNumber, IsCounted, IsOpening, KeepsFinal, definition_in, entry_of, first_number, key_in, place_of_opening, same_opening, scope_by, scope_opened, table_without_imports, word_at, word_of, word_opened}
-use Rattle.symbols65.proofs.Places.{position_none, first_within, first_passes, get_more, get_mapped, map_appended, map_same, position_same, position_stays}
+use Rattle.symbols65.proofs.Places.{position_none, first_within, first_passes, get_more, map_appended, map_same, position_same, position_stays}
 use Rattle.symbols65.proofs.Words.{finds_opened, get_word, keys_get}
 use Rattle.language65.proofs.Lists.{same_bytes}
 

@@ -44,7 +44,7 @@ module _ (t : Symbols) where
 
   -- an operand that means the same whatever follows
   operand_stays : (s : Spot) (z : l.Symbols) → Extends y z → (u : Tree) → MeansFinally y s u → operand_form (known_by t Finals) z s u ≡ operand_form (known_by t Finals) y s u
-  operand_stays s z more u (j, lt, means) =
+  operand_stays s z more u (j, (lt, means)) =
       ap (λ m. stopped m >>= meaning_form (known_by t Finals) z) (means z more)
       ∙ ap (attempt_definition (λ q e. known_form j (known_by t Finals j))) (ap (λ (ds : List l.Definition). slice_get ds j) more.definitions ∙ get_stays y.definitions more.later_definitions j lt)
       ∙ sym (ap (λ m. stopped m >>= meaning_form (known_by t Finals) y) (means y (extends_itself y)))

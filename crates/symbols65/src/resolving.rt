@@ -3,6 +3,7 @@
 mod attempt;
 mod definitions;
 mod finals;
+mod folding;
 mod hanging;
 mod known;
 mod meaning;
@@ -14,6 +15,7 @@ mod showing;
 pub use attempt::{State, address};
 pub use definitions::definition_of;
 pub use finals::final_form;
+pub use folding::{binary_form, prefix_form};
 pub use known::Known;
 pub use meaning::{Meaning, meaning_of};
 pub use operands::operand_form;

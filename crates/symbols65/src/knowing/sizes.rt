@@ -11,8 +11,8 @@ ghost use Rattle.symbols65.specs.Forms.{IsName, literal_of};
 ghost use Rattle.symbols65.specs.Resolving.{IsTable, meaning_in};
 ghost use Rattle.symbols65.specs.Views.{table_of};
 
-use super::forms::{binary_form, literal_of, pass_on_memory, prefix_form};
-use crate::resolving::{Known, Meaning, address, meaning_of, meant_norm};
+use super::forms::{literal_of, pass_on_memory};
+use crate::resolving::{Known, Meaning, address, binary_form, meaning_of, meant_norm, prefix_form};
 use crate::table::Symbols;
 use language65::Spot;
 use object65::{Node, Norm};

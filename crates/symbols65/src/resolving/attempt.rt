@@ -117,7 +117,12 @@ fn kept_form(alloc: Global, place: usize, kept: &Option<Norm>) -> Result<Norm, S
 }
 
 /// The form of what is defined at a place.
-fn defined(alloc: Global, symbols: &Symbols, source: Source<'_>, place: usize) -> Result<Norm, Stop>
+pub fn defined(
+    alloc: Global,
+    symbols: &Symbols,
+    source: Source<'_>,
+    place: usize,
+) -> Result<Norm, Stop>
     ensures { Gives lacks_memory (λ f. f) result (attempt_definition (λ s e. known_form place (known_by symbols.now source.entry place)) (slice_get (table_of symbols.now).definitions place)) }
 {
     match symbols.definition(place) {

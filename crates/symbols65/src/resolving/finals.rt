@@ -1,67 +1,84 @@
 //! Forms that are final: that stay whatever statements follow.
 
-ghost use Rattle.std.specs.Prelude.{◌≡◌, ◌∷◌, [], IfOk, None, Some, false, length, true};
+ghost use Rattle.std.specs.Prelude.{◌≡◌, ◌∷◌, [], IfOk, IfSome, None, Some, false, length, true};
 ghost use Rattle.syntax65.specs.Trees.{name as name_tree, cheap as cheap_tree, backward as backward_tree, tree_of};
 ghost use Rattle.object65.specs.Form.{Form};
 ghost use Rattle.language65.specs.Views.{spot_of};
 ghost use Rattle.language65.specs.Extending.{IsFinal};
 ghost use Rattle.symbols65.specs.Finals.{IsFinalWithin};
 ghost use Rattle.symbols65.specs.Resolving.{plain_part};
-ghost use Rattle.symbols65.specs.Settling.{MeansFinally, Operands};
+ghost use Rattle.symbols65.specs.Settling.{MeansAlways, MeansFinally, Operands};
 ghost use Rattle.symbols65.specs.Views.{table_of};
 
-use super::attempt::{Source, Stop, try_norm};
+use super::attempt::{Source, Stop, address, defined};
+use super::folding::{binary_form, prefix_form};
 use super::meaning::{last_in, plain_part, scopes_in};
 use super::scopes::scope_of;
 use crate::table::{Key, Symbols};
 use language65::Spot;
-use object65::Norm;
+use object65::{Node, Norm};
 use std::alloc::{AllocError, Global};
 use syntax65::{Expr, Name};
 
-/// Whether a plain name means the same whatever follows: the very scope of the use defines it.
-fn is_own_name(symbols: &Symbols, spot: Spot, name: &[u8]) -> bool
-    ensures { result ≡ true → MeansFinally (table_of symbols.now) (spot_of spot) (name_tree false (name.now ∷ [])) }
+/// The place of what a plain name means whatever follows: the very scope of the use defines it.
+fn own_name(symbols: &Symbols, spot: Spot, name: &[u8]) -> Option<usize>
+    ensures { IfSome result (MeansAlways (table_of symbols.now) (spot_of spot) (name_tree false (name.now ∷ []))) }
 {
     let scope = spot.scope as usize;
-    symbols.defined(Key::Named { scope, name }).is_some()
+    symbols.defined(Key::Named { scope, name })
 }
 
-/// Whether a name with `::` means the same whatever follows: its scope was opened before the use and defines it.
-fn is_member(symbols: &Symbols, spot: Spot, name: &Name) -> bool
-    ensures { plain_part name.now.is_global name.now.parts ≡ None → result ≡ true → MeansFinally (table_of symbols.now) (spot_of spot) (name_tree name.now.is_global name.now.parts) }
+/// The place of what a name with `::` means whatever follows: its scope was opened before the use and defines it.
+fn own_member(symbols: &Symbols, spot: Spot, name: &Name) -> Option<usize>
+    ensures { plain_part name.now.is_global name.now.parts ≡ None → IfSome result (MeansAlways (table_of symbols.now) (spot_of spot) (name_tree name.now.is_global name.now.parts)) }
 {
     let parts = name.parts.as_slice();
     let opened = spot.opened as usize;
     let scope = spot.scope as usize;
     if symbols.scope_count() < opened {
-        return false;
+        return None;
     }
     match scope_of(symbols, opened, scope, name.is_global, scopes_in(parts)) {
         Some(inner) => {
             let name = last_in(parts);
             let scope = inner;
-            symbols.defined(Key::Named { scope, name }).is_some()
+            symbols.defined(Key::Named { scope, name })
         }
-        None => false,
+        None => None,
     }
 }
 
-/// Whether a cheap name means the same whatever follows: its region has defined it.
-fn is_own_label(symbols: &Symbols, spot: Spot, name: &[u8]) -> bool
-    ensures { result ≡ true → MeansFinally (table_of symbols.now) (spot_of spot) (cheap_tree name.now) }
+/// The place of what a cheap name means whatever follows: its region has defined it.
+fn own_label(symbols: &Symbols, spot: Spot, name: &[u8]) -> Option<usize>
+    ensures { IfSome result (MeansAlways (table_of symbols.now) (spot_of spot) (cheap_tree name.now)) }
 {
     let region = spot.region as usize;
-    symbols.defined(Key::Cheap { region, name }).is_some()
+    symbols.defined(Key::Cheap { region, name })
 }
 
-/// Whether an unnamed label before a use is there.
-fn is_before(symbols: &Symbols, spot: Spot, steps: usize) -> bool
-    ensures { result ≡ true → MeansFinally (table_of symbols.now) (spot_of spot) (backward_tree steps) }
+/// The place of an unnamed label before a use, if it is there.
+fn label_before(symbols: &Symbols, spot: Spot, steps: usize) -> Option<usize>
+    ensures { IfSome result (MeansAlways (table_of symbols.now) (spot_of spot) (backward_tree steps)) }
 {
     match (spot.unnamed as usize).checked_sub(steps) {
-        Some(count) => symbols.defined(Key::Unnamed(count)).is_some(),
-        None => false,
+        Some(count) => symbols.defined(Key::Unnamed(count)),
+        None => None,
+    }
+}
+
+/// The place of what an operand means whatever statements follow, where that is plain already. An import never is, nor
+/// a plain name that is only defined further out.
+fn final_place(symbols: &Symbols, spot: Spot, operand: &Expr) -> Option<usize>
+    ensures { IfSome result (MeansAlways (table_of symbols.now) (spot_of spot) (tree_of operand.now)) }
+{
+    match operand {
+        Expr::Name(name) => match plain_part(name) {
+            Some(part) => own_name(symbols, spot, part),
+            None => own_member(symbols, spot, name),
+        },
+        Expr::Cheap(name) => own_label(symbols, spot, name.as_slice()),
+        Expr::Backward(steps) => label_before(symbols, spot, *steps),
+        _ => None,
     }
 }
 
@@ -75,31 +92,25 @@ pub fn are_final(symbols: &Symbols, spot: Spot, value: &Expr) -> bool
         Expr::Binary(_, left, right) => {
             are_final(symbols, spot, left) && are_final(symbols, spot, right)
         }
-        Expr::Name(name) => match plain_part(name) {
-            Some(part) => is_own_name(symbols, spot, part),
-            None => is_member(symbols, spot, name),
-        },
-        Expr::Cheap(name) => is_own_label(symbols, spot, name.as_slice()),
-        Expr::Forward(_) => false,
-        Expr::Backward(steps) => is_before(symbols, spot, *steps),
+        Expr::Name(_) | Expr::Cheap(_) | Expr::Forward(_) | Expr::Backward(_) => {
+            final_place(symbols, spot, value).is_some()
+        }
     }
 }
 
-/// The form that an expression keeps whatever statements follow, where that is plain already. An import never is, nor a
-/// plain name that is only defined further out.
-pub fn final_form(
+/// The form that an operand keeps, if it has one.
+fn final_operand(
     alloc: Global,
     symbols: &Symbols,
     spot: Spot,
-    value: &Expr,
+    operand: &Expr,
 ) -> Result<Option<Norm>, AllocError>
-    ensures stays { IfOk result (λ o. (f : Form) → o ≡ Some f → IsFinal (table_of symbols.now) (spot_of spot) (tree_of value.now) f) }
-    ensures within { IfOk result (λ o. (f : Form) → o ≡ Some f → IsFinalWithin (length (table_of symbols.now).definitions) (table_of symbols.now) (spot_of spot) (tree_of value.now) f) }
+    ensures { IfOk result (λ o. (f : Form) → o ≡ Some f → IsFinalWithin (length (table_of symbols.now).definitions) (table_of symbols.now) (spot_of spot) (tree_of operand.now) f) }
 {
-    if !are_final(symbols, spot, value) {
+    let Some(place) = final_place(symbols, spot, operand) else {
         return Ok(None);
-    }
-    match try_norm(alloc, symbols, Source::Finals, spot, value) {
+    };
+    match defined(alloc, symbols, Source::Finals, place) {
         Ok(form) => Ok(Some(form)),
         Err(Stop::Needs(_)) => Ok(None),
         Err(Stop::Fault(fault)) => {
@@ -110,4 +121,47 @@ pub fn final_form(
             Ok(None)
         }
     }
+}
+
+/// The form that an expression keeps, in one walk.
+fn kept_form(
+    alloc: Global,
+    symbols: &Symbols,
+    spot: Spot,
+    value: &Expr,
+) -> Result<Option<Norm>, AllocError>
+    ensures { IfOk result (λ o. (f : Form) → o ≡ Some f → IsFinalWithin (length (table_of symbols.now).definitions) (table_of symbols.now) (spot_of spot) (tree_of value.now) f) }
+{
+    match value {
+        Expr::Number(number) => Ok(Some(Norm::new(Node::Lit(i64::from(*number))))),
+        Expr::Here => Ok(Some(address(spot))),
+        Expr::Prefix(op, part) => {
+            let part = kept_form(alloc, symbols, spot, part)?;
+            prefix_form(alloc, *op, part)
+        }
+        Expr::Binary(op, left, right) => {
+            let left = kept_form(alloc, symbols, spot, left)?;
+            if left.is_none() {
+                return Ok(None);
+            }
+            let right = kept_form(alloc, symbols, spot, right)?;
+            binary_form(alloc, *op, left, right)
+        }
+        Expr::Name(_) | Expr::Cheap(_) | Expr::Forward(_) | Expr::Backward(_) => {
+            final_operand(alloc, symbols, spot, value)
+        }
+    }
+}
+
+/// The form that an expression keeps whatever statements follow, where that is plain already.
+pub fn final_form(
+    alloc: Global,
+    symbols: &Symbols,
+    spot: Spot,
+    value: &Expr,
+) -> Result<Option<Norm>, AllocError>
+    ensures stays { IfOk result (λ o. (f : Form) → o ≡ Some f → IsFinal (table_of symbols.now) (spot_of spot) (tree_of value.now) f) }
+    ensures within { IfOk result (λ o. (f : Form) → o ≡ Some f → IsFinalWithin (length (table_of symbols.now).definitions) (table_of symbols.now) (spot_of spot) (tree_of value.now) f) }
+{
+    kept_form(alloc, symbols, spot, value)
 }

@@ -1,5 +1,4 @@
-use Rattle.std.proofs.Common.{◌≡◌, Some, List, ℕ, map, position, sym, ap, subst, ◌∙◌}
-use Rattle.std.specs.List.{position_or_len}
+use Rattle.std.proofs.Common.{Some, map, position, sym, ap, subst, ◌∙◌}
 use Rattle.std.specs.Str.{bytes_eq}
 use Rattle.language65.proofs.Lists.{position_mapped}
 use Rattle.symbols65.specs.Tables.{Begins}

@@ -1,5 +1,4 @@
-use Rattle.std.proofs.Common.{List, ℕ, ◌≡◌, ◌∙◌, map, sym, ap, subst}
-use Rattle.language65.specs.Symbols.{Symbols}
+use Rattle.std.proofs.Common.{◌≡◌, ◌∙◌, map, ap}
 use Rattle.symbols65.specs.Tables.{AreFinal, AreNumbered, definition_in, scope_opened, word_of, word_opened}
 use Rattle.symbols65.specs.Views.{words_of}
 use Rattle.indexmap.specs.IndexMap.{keys}

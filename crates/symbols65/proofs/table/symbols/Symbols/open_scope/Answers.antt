@@ -1,4 +1,4 @@
-use Rattle.std.proofs.Common.{Option, None, List, ℕ, ◌≡◌, ◌∙◌, length, option_map, sym, ap}
+use Rattle.std.proofs.Common.{◌∙◌, length, option_map, ap}
 use Rattle.language65.specs.LineFaults.{opened_twice}
 use Rattle.language65.proofs.Lists.{on_ok}
 use Rattle.symbols65.specs.Views.{table_of, with_scope, words_of}

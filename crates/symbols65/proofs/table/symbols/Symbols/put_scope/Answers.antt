@@ -1,4 +1,4 @@
-use Rattle.std.proofs.Common.{Bool, List, ◌≡◌, sym, subst}
+use Rattle.std.proofs.Common.{Bool, List, sym, subst}
 use Rattle.std.specs.Map.{keys_of}
 use Rattle.symbols65.specs.declared.table.entries.Opening.{Opening}
 use Rattle.symbols65.specs.Tables.{AreDistinct, AreFinal, AreNumbered, word_opened}

@@ -2,7 +2,7 @@ use Rattle.std.proofs.Common.{◌≡◌, IfOk, Option, subst, sym}
 use Rattle.object65.specs.Form.{Form}
 use Rattle.object65.specs.Folding.{fold1}
 use Rattle.symbols65.specs.Forms.{prefix_form}
-use Rattle.symbols65.proofs.knowing.forms.prefix_form.Goals as goal
+use Rattle.symbols65.proofs.resolving.folding.prefix_form.Goals as goal
 
 pub returns-in-Some : goal.returns-in-Some
 returns-in-Some c =

@@ -2,7 +2,7 @@ use Rattle.std.proofs.Common.{◌≡◌, IfOk, Option, Some, subst, sym}
 use Rattle.object65.specs.Form.{Form}
 use Rattle.object65.specs.Folding.{fold2}
 use Rattle.symbols65.specs.Forms.{binary_form}
-use Rattle.symbols65.proofs.knowing.forms.binary_form.Goals as goal
+use Rattle.symbols65.proofs.resolving.folding.binary_form.Goals as goal
 
 pub returns-in-Some-Some : goal.returns-in-Some-Some
 returns-in-Some-Some c =

@@ -34,9 +34,9 @@ returns-in_ok-right-in-Binary t c =
     let first : c.deref-in-Binary.result.now ≡ c.in-Binary.left.value = search rules in
     let second : c.deref-in-Binary-2.result.now ≡ c.in-Binary.right.value = search rules in
     let whole : tree_of c.args.value.now ≡ binary c.in-Binary.op e g =
-        ap tree_of c.in-Binary.is
-        ∙ sym (ap (λ v. binary c.in-Binary.op (tree_of v) (tree_of c.in-Binary.right.value)) first)
-        ∙ sym (ap (λ v. binary c.in-Binary.op e (tree_of v)) second) in
+    ap tree_of c.in-Binary.is
+    ∙ sym (ap (λ v. binary c.in-Binary.op (tree_of v) (tree_of c.in-Binary.right.value)) first)
+    ∙ sym (ap (λ v. binary c.in-Binary.op e (tree_of v)) second) in
     let Q : Option Form → Type 0 = λ o. (f : Form) → o ≡ Some f → IsFinalWithin n y s (tree_of c.args.value.now) f in
     more_ok (λ o. o ≡ binary_form c.in-Binary.op left right) Q c.binary_form.result
     (λ o is f some. subst (λ v. IsFinalWithin n y s v f) (sym whole) (binary_stays n y s c.in-Binary.op e g left right c.in_ok-left-in-Binary.ensures c.in_ok-right-in-Binary.ensures f (sym is ∙ some)))

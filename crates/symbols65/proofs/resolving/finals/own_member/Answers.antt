@@ -18,6 +18,6 @@ returns-in-Some c = λ plain.
     let past = c.if-scope_count-opened.false in
     let le : s.opened ≤ length y.scopes = omega (arith, count, past) in
     by_place (MeansAlways y (spot_of s) (named_tree name.is_global name.parts)) c.defined.result (λ j at.
-        own_member y (spot_of s) name.is_global name.parts c.in-Some.inner j plain le
-        (ap (λ ps. scope_from before s.scope name.is_global (scopes_of ps)) (sym c.as_slice-parts.ensures) ∙ ap (scope_from before s.scope name.is_global) (sym c.scopes_in.ensures) ∙ sym c.scope_of.ensures ∙ c.in-Some.is)
-        (ap (λ n. defined y (named c.in-Some.inner n)) (ap last_of (sym c.as_slice-parts.ensures) ∙ sym c.last_in-name.ensures) ∙ sym c.defined.ensures ∙ at)))
+    own_member y (spot_of s) name.is_global name.parts c.in-Some.inner j plain le
+    (ap (λ ps. scope_from before s.scope name.is_global (scopes_of ps)) (sym c.as_slice-parts.ensures) ∙ ap (scope_from before s.scope name.is_global) (sym c.scopes_in.ensures) ∙ sym c.scope_of.ensures ∙ c.in-Some.is)
+    (ap (λ n. defined y (named c.in-Some.inner n)) (ap last_of (sym c.as_slice-parts.ensures) ∙ sym c.last_in-name.ensures) ∙ sym c.defined.ensures ∙ at)))

@@ -1,6 +1,5 @@
 -- One step of a reader, as one rule of the grammar.
-use Rattle.std.proofs.Common.{◌≡◌, ◌≢◌, ℕ, ◌+◌, ◌-◌, ◌<◌, ◌≤◌, true, false, List, [], ◌∷◌, ◌++◌, Option, Some, None, refl, sym, ap, subst, ◌∙◌, arith, append_assoc}
-use Rattle.std.proofs.lemmas.Bool.{cases_lt}
+use Rattle.std.proofs.Common.{◌≡◌, ◌≢◌, ℕ, zero, suc, ◌+◌, ◌-◌, ◌<◌, ◌≤◌, true, false, List, [], ◌∷◌, ◌++◌, Option, Some, None, refl, sym, ap, subst, ◌∙◌, arith, append_assoc}
 use Rattle.std.specs.Prelude.{Result, Ok, Err}
 use Rattle.syntax65.specs.Tokens.{Lexeme}
 use Rattle.syntax65.specs.Trees.{Tree, name, unary, binary, tree_of}
@@ -22,7 +21,7 @@ level_pos : (op : Op2) → 0 < level_of op
 level_pos Multiply = omega arith
 level_pos _ = omega arith
 
-pub level_zero : (ts : List Lexeme) (j : ℕ) → NoOperator ts 0 j
+level_zero : (ts : List Lexeme) (j : ℕ) → NoOperator ts 0 j
 level_zero ts j op h = level_pos op
 
 -- names
@@ -149,7 +148,7 @@ bad_operand ts room i o e n a b c d = (i, no_operand room i (λ h. none_begins o
 
 -- the levels
 
-pub first_stop : (ts : List Lexeme) (room n i : ℕ) (f : ExprFault) → 0 < n → n ≤ 5 → IsStop ts room (n - 1) i f → IsStop ts room n i f
+first_stop : (ts : List Lexeme) (room n i : ℕ) (f : ExprFault) → 0 < n → n ≤ 5 → IsStop ts room (n - 1) i f → IsStop ts room n i f
 first_stop ts room n i f pos low s =
     let r : (n - 1) + 1 ≡ n = omega arith in
     lift_stop ts room (n - 1) i room n i f (λ k g w. subst (λ (m : ℕ). Stops ts room m i k g) r (in_first room (n - 1) i k g (λ e. absurd (omega arith)) w)) s
@@ -157,26 +156,65 @@ first_stop ts room n i f pos low s =
 pub whole_stop : (ts : List Lexeme) (room i : ℕ) (f : ExprFault) → opening_at ts i ≢ Negation → IsStop ts room 5 i f → IsStop ts room 6 i f
 whole_stop ts room i f h s = lift_stop ts room 5 i room 6 i f (λ k g w. in_first room 5 i k g (λ e. h) w) s
 
-pub next_stop : (ts : List Lexeme) (room n i j : ℕ) (op : Op2) (t : Tree) (f : ExprFault) → 0 < n → Phrase ts room n i j t → binary_at ts j ≡ Some op → level_of op ≡ n → IsStop ts room (n - 1) (j + 1) f → IsStop ts room n i f
+next_stop : (ts : List Lexeme) (room n i j : ℕ) (op : Op2) (t : Tree) (f : ExprFault) → 0 < n → Phrase ts room n i j t → binary_at ts j ≡ Some op → level_of op ≡ n → IsStop ts room (n - 1) (j + 1) f → IsStop ts room n i f
 next_stop ts room n i j op t f pos left at level s =
     let r : (n - 1) + 1 ≡ n = omega arith in
     lift_stop ts room (n - 1) (j + 1) room n i f (λ k g w. subst (λ (m : ℕ). Stops ts room m i k g) r
     (in_next room (n - 1) i j k op t g (rw r left) at (level ∙ sym r) w)) s
 
-pub first_phrase : (ts : List Lexeme) (room n i j : ℕ) (t : Tree) → 0 < n → IsPhrase ts room (n - 1) i j t → Phrase ts room n i j t
-first_phrase ts room n i j t pos p =
-    let r : (n - 1) + 1 ≡ n = omega arith in
-    subst (λ (m : ℕ). Phrase ts room m i j t) r (of_level room (n - 1) i j t p.phrase)
-
-pub joined_phrase : (ts : List Lexeme) (room n i j k : ℕ) (op : Op2) (t u t' u' : Tree) → 0 < n → Phrase ts room n i j t → binary_at ts j ≡ Some op → level_of op ≡ n → IsPhrase ts room (n - 1) (j + 1) k u → t' ≡ t → u' ≡ u → Phrase ts room n i k (binary op t' u')
+joined_phrase : (ts : List Lexeme) (room n i j k : ℕ) (op : Op2) (t u t' u' : Tree) → 0 < n → Phrase ts room n i j t → binary_at ts j ≡ Some op → level_of op ≡ n → IsPhrase ts room (n - 1) (j + 1) k u → t' ≡ t → u' ≡ u → Phrase ts room n i k (binary op t' u')
 joined_phrase ts room n i j k op t u t' u' pos left at level right same_left same_right =
     let r : (n - 1) + 1 ≡ n = omega arith in
     rw (same_left, same_right) (subst (λ (m : ℕ). Phrase ts room m i k (binary op t u)) r
     (joined room (n - 1) i j k op t u (rw r left) at (level ∙ sym r) right.phrase))
 
--- no operator of a tighter level, and none of this one
-pub no_operators : (ts : List Lexeme) (n j : ℕ) → NoOperator ts (n - 1) j → ((op : Op2) → binary_at ts j ≡ Some op → level_of op ≢ n) → NoOperator ts n j
-no_operators ts n j tighter none op h = let lt = tighter op h in let ne = none op h in grind (arith, cases_lt n (level_of op))
+-- What is read of a phrase of level n so far: a phrase of some level up to it, behind which no tighter operator stands.
+pub record IsPart (ts : List Lexeme) (room n i j : ℕ) (t : Tree) : Type 0 where
+  pub own : ℕ
+  pub most : own ≤ n
+  pub phrase : Phrase ts room own i j t
+  pub tighter : NoOperator ts (own - 1) j
+
+raised_by : (ts : List Lexeme) (room n i j : ℕ) (t : Tree) (k : ℕ) → Phrase ts room n i j t → Phrase ts room (n + k) i j t
+raised_by ts room n i j t zero p = subst (λ m. Phrase ts room m i j t) (let r : n ≡ n + 0 = omega arith in r) p
+raised_by ts room n i j t (suc k) p = subst (λ m. Phrase ts room m i j t) (let r : (n + k) + 1 ≡ n + suc k = omega arith in r) (of_level room (n + k) i j t (raised_by ts room n i j t k p))
+
+raised : (ts : List Lexeme) (room m n i j : ℕ) (t : Tree) → m ≤ n → Phrase ts room m i j t → Phrase ts room n i j t
+raised ts room m n i j t le p = subst (λ k. Phrase ts room k i j t) (let r : m + (n - m) ≡ n = omega (arith, le) in r) (raised_by ts room m i j t (n - m) p)
+
+stop_raised_by : (ts : List Lexeme) (room n i : ℕ) (f : ExprFault) (k : ℕ) → n + k ≤ 5 → IsStop ts room n i f → IsStop ts room (n + k) i f
+stop_raised_by ts room n i f zero low s = subst (λ m. IsStop ts room m i f) (let r : n ≡ n + 0 = omega arith in r) s
+stop_raised_by ts room n i f (suc k) low s =
+    first_stop ts room (n + suc k) i f (omega arith) low
+    (subst (λ m. IsStop ts room m i f) (let r : n + k ≡ (n + suc k) - 1 = omega arith in r) (stop_raised_by ts room n i f k (omega (arith, low)) s))
+
+stop_raised : (ts : List Lexeme) (room m n i : ℕ) (f : ExprFault) → m ≤ n → n ≤ 5 → IsStop ts room m i f → IsStop ts room n i f
+stop_raised ts room m n i f le low s = subst (λ k. IsStop ts room k i f) (let r : m + (n - m) ≡ n = omega (arith, le) in r) (stop_raised_by ts room m i f (n - m) (omega (arith, le, low)) s)
+
+pub operand_stop : (ts : List Lexeme) (room n i : ℕ) (f : ExprFault) → n ≤ 5 → IsStop ts room 0 i f → IsStop ts room n i f
+operand_stop ts room n i f low s = stop_raised ts room 0 n i f (omega arith) low s
+
+pub operand_part : (ts : List Lexeme) (room n i j : ℕ) (t : Tree) → IsPhrase ts room 0 i j t → IsPart ts room n i j t
+operand_part ts room n i j t p = record { own = 0; most = omega arith; phrase = p.phrase; tighter = p.ends }
+
+-- the phrase before an operator is one of the operator's level
+before : (ts : List Lexeme) (room n m i j : ℕ) (op : Op2) (t : Tree) → IsPart ts room n i j t → binary_at ts j ≡ Some op → level_of op ≡ m → Phrase ts room m i j t
+before ts room n m i j op t p at level = (let lt = p.tighter op at in raised ts room p.own m i j t (omega (arith, lt, level)) p.phrase)
+
+pub right_stop : (ts : List Lexeme) (room n m i j : ℕ) (op : Op2) (t : Tree) (f : ExprFault) → n ≤ 5 → IsPart ts room n i j t → binary_at ts j ≡ Some op → level_of op ≡ m → m ≤ n → IsStop ts room (m - 1) (j + 1) f → IsStop ts room n i f
+right_stop ts room n m i j op t f low p at level le s =
+    (let pos = level_pos op in stop_raised ts room m n i f le low (next_stop ts room m i j op t f (omega (arith, pos, level)) (before ts room n m i j op t p at level) at level s))
+
+pub joined_part : (ts : List Lexeme) (room n m i j k : ℕ) (op : Op2) (t u t' u' : Tree) → IsPart ts room n i j t → binary_at ts j ≡ Some op → level_of op ≡ m → m ≤ n → IsPhrase ts room (m - 1) (j + 1) k u → t' ≡ t → u' ≡ u → IsPart ts room n i k (binary op t' u')
+joined_part ts room n m i j k op t u t' u' p at level le right same_left same_right = record {
+  own = m;
+  most = le;
+  phrase = (let pos = level_pos op in joined_phrase ts room m i j k op t u t' u' (omega (arith, pos, level)) (before ts room n m i j op t p at level) at level right same_left same_right);
+  tighter = right.ends;
+}
+
+pub whole_part : (ts : List Lexeme) (room n i j : ℕ) (t : Tree) → IsPart ts room n i j t → NoOperator ts n j → IsPhrase ts room n i j t
+whole_part ts room n i j t p none = record { phrase = raised ts room p.own n i j t p.most p.phrase; ends = none }
 
 pub whole_result : (ts : List Lexeme) (room i : ℕ) (r : Result (Expr × ℕ) ExprFault) → opening_at ts i ≢ Negation → ReadsLevel ts room 5 i r → ReadsLevel ts room 6 i r
 whole_result ts room i (Ok x) h p = whole_phrase ts room i x.1 (tree_of x.0) p

@@ -1,5 +1,5 @@
 -- The phrases of the expression grammar, by places in a list of tokens.
-use Rattle.std.specs.Prelude.{Bool, ◌≡◌, ◌≢◌, ℕ, ◌+◌, ◌<◌, true, false, List, [], ◌∷◌, Option, Some, None, slice_get, Result, Ok, Err, ⊤}
+use Rattle.std.specs.Prelude.{Bool, ◌≡◌, ◌≢◌, ℕ, ◌+◌, ◌<◌, ◌≤◌, true, false, List, [], ◌∷◌, Option, Some, None, slice_get, Result, Ok, Err, ⊤}
 use Rattle.syntax65.specs.Tokens.{Lexeme}
 use Rattle.syntax65.specs.Trees.{Tree, tree_of, number, here, name, cheap, forward, backward, unary, binary}
 use Rattle.syntax65.specs.Words.{opening_of, binary_of, level_of}
@@ -88,10 +88,10 @@ pub data Phrase (ts : List Lexeme) : (room n i j : ℕ) → Tree → Type 0 wher
 abbrev pub NoOperator : List Lexeme → ℕ → ℕ → Type 0
 NoOperator ts n j = (op : Op2) → binary_at ts j ≡ Some op → n < level_of op
 
--- this operator of level n stands at j, or none does
-abbrev pub IsOperatorAt : List Lexeme → ℕ → ℕ → Option Op2 → Type 0
-IsOperatorAt ts n j None = (op : Op2) → binary_at ts j ≡ Some op → level_of op ≢ n
-IsOperatorAt ts n j (Some op) = (binary_at ts j ≡ Some op) × (level_of op ≡ n)
+-- this operator, of this level, which is at most n, stands at j, or none does
+abbrev pub IsOperatorUpTo : List Lexeme → ℕ → ℕ → Option (Op2 × ℕ) → Type 0
+IsOperatorUpTo ts n j None = NoOperator ts n j
+IsOperatorUpTo ts n j (Some x) = (binary_at ts j ≡ Some x.0) × ((level_of x.0 ≡ x.1) × (x.1 ≤ n))
 
 abbrev pub BeginsOperand : Opening → Type 0
 BeginsOperand Negation = ⊥

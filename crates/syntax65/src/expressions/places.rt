@@ -1,8 +1,8 @@
 //! What stands at a place of a list of tokens.
 
-ghost use Rattle.std.specs.Prelude.{◌≡◌, ◌≢◌, ◌<◌, ◌↔◌, length, slice_get, IsSome, IsTrue};
+ghost use Rattle.std.specs.Prelude.{◌≡◌, ◌≢◌, ◌<◌, ◌↔◌, length, slice_get, IfSome, IsSome, IsTrue};
 ghost use Rattle.std.specs.Option.{option_map};
-ghost use Rattle.syntax65.specs.Expressions.{opening_at, binary_at, text_at, closes_at, IsOperatorAt};
+ghost use Rattle.syntax65.specs.Expressions.{opening_at, binary_at, text_at, closes_at, IsOperatorUpTo};
 ghost use Rattle.syntax65.specs.Tokens.{lexeme_of, lexemes};
 
 use super::words::{Opening, binary_of, level_of, opening_of};
@@ -60,15 +60,15 @@ pub fn text_at<'a>(tokens: &[Token<'a>], at: usize) -> &'a [u8]
     }
 }
 
-/// The operator of a level at a place.
-pub fn operator_at(tokens: &[Token<'_>], level: u8, at: usize) -> Option<Op2>
-    ensures value { IsOperatorAt (lexemes tokens.now) level at result }
+/// The operator at a place, and its level, where that is at most this one.
+pub fn operator_at(tokens: &[Token<'_>], level: u8, at: usize) -> Option<(Op2, u8)>
+    ensures value { IsOperatorUpTo (lexemes tokens.now) level at result }
+    ensures some { IfSome result (λ x. 0 < x.1) }
     ensures inside { IsSome result → at < length tokens.now }
 {
-    match binary_at(tokens, at) {
-        Some(op) if level_of(op) == level => Some(op),
-        _ => None,
-    }
+    let op = binary_at(tokens, at)?;
+    let own = level_of(op);
+    if own <= level { Some((op, own)) } else { None }
 }
 
 fn binary_at(tokens: &[Token<'_>], at: usize) -> Option<Op2>

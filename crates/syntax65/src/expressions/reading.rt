@@ -86,12 +86,10 @@ fn read_level(
     ensures further { IfOk result (λ r. at < r.1) }
     ensures inside { IfOk result (λ r. r.1 ≤ length tokens.now) }
 {
-    if level == 0 {
-        return read_operand(alloc, tokens, at, room);
-    }
-    let (mut left, mut end) = read_level(alloc, tokens, at, level - 1, room)?;
-    'operators: while let Some(op) = operator_at(tokens, level, end) {
-        let (right, next) = read_level(alloc, tokens, end + 1, level - 1, room)?;
+    let (mut left, mut end) = read_operand(alloc, tokens, at, room)?;
+    // What stands behind an operand of a level is of a looser one.
+    'operators: while let Some((op, own)) = operator_at(tokens, level, end) {
+        let (right, next) = read_level(alloc, tokens, end + 1, own - 1, room)?;
         left = Expr::Binary(op, Box::new(alloc, left)?, Box::new(alloc, right)?);
         end = next;
     }

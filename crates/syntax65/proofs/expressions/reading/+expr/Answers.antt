@@ -5,7 +5,7 @@ use Rattle.syntax65.specs.Tokens.{lexemes}
 use Rattle.syntax65.specs.Expressions.{leaf_of, text_at}
 use Rattle.syntax65.specs.Trees.{unary, tree_of}
 use Rattle.syntax65.specs.declared.values.Op1.TheVariants.{Not}
-use Rattle.syntax65.proofs.Phrases.{leaf_phrase, bad_operand, prefixed_phrase, prefixed_stop, deep_prefix, deep_open, deep_negation, negated_phrase, negated_stop, enclosed_phrase, enclosed_stop, open_stop, first_stop, whole_result, leaf_made, next_stop, first_phrase, joined_phrase}
+use Rattle.syntax65.proofs.Phrases.{leaf_phrase, bad_operand, prefixed_phrase, prefixed_stop, deep_prefix, deep_open, deep_negation, negated_phrase, negated_stop, enclosed_phrase, enclosed_stop, open_stop, whole_result, leaf_made, operand_stop, operand_part, right_stop, joined_part, whole_part}
 use Rattle.syntax65.proofs.expressions.reading.+expr.Goals as goal
 
 pub read_operand-returns-in-Some-clause-phrase : goal.read_operand-returns-in-Some-clause-phrase
@@ -74,13 +74,11 @@ read_whole-returns-else-is_negation-clause-phrase t c =
 pub read_level-returns-in_err-left-clause-phrase : goal.read_level-returns-in_err-left-clause-phrase
 read_level-returns-in_err-left-clause-phrase t c =
     let p = err_from_is_err_and c.from_residual.result c.from_residual.ensures.1 in
-    rw (p.1, p.2) (first_stop (lexemes c.args.tokens.now) c.args.room c.args.level c.args.at c.in_err-left.field-0.0 (omega arith) (omega arith) c.in_err-left.ensures.phrase)
+    rw (p.1, p.2) (operand_stop (lexemes c.args.tokens.now) c.args.room c.args.level c.args.at c.in_err-left.field-0.0 (omega arith) c.in_err-left.ensures.phrase)
 
 pub read_level-operators-init : goal.read_level-operators-init
 read_level-operators-init t c = record {
-  some_level = omega arith;
-  phrase = first_phrase (lexemes c.args.tokens.now) c.args.room c.args.level c.args.at _ _ (omega arith) c.in_ok-left.ensures.phrase;
-  tighter = c.in_ok-left.ensures.phrase.ends;
+  part = operand_part (lexemes c.args.tokens.now) c.args.room c.args.level c.args.at _ _ c.in_ok-left.ensures.phrase;
   further = c.in_ok-left.ensures.further;
   within = c.in_ok-left.ensures.inside;
 }
@@ -88,15 +86,17 @@ read_level-operators-init t c = record {
 pub read_level-returns-in_err-right-clause-phrase : goal.read_level-returns-in_err-right-clause-phrase
 read_level-returns-in_err-right-clause-phrase t c =
     let p = err_from_is_err_and c.from_residual-in_err-right.result c.from_residual-in_err-right.ensures.1 in
-    rw (p.1, p.2) (next_stop (lexemes c.args.tokens.now) c.args.room c.args.level c.args.at c.operators.end c.in-Some.op (tree_of c.operators.left) c.in_err-right.field-0.0 c.operators.invariant.some_level c.operators.invariant.phrase c.in-Some.ensures.value.0 c.in-Some.ensures.value.1 c.in_err-right.ensures.phrase)
+    rw (p.1, p.2) (right_stop (lexemes c.args.tokens.now) c.args.room c.args.level c.in-Some.own c.args.at c.operators.end c.in-Some.op (tree_of c.operators.left) c.in_err-right.field-0.0 (omega arith) c.operators.invariant.part c.in-Some.ensures.value.0 c.in-Some.ensures.value.1.0 c.in-Some.ensures.value.1.1 c.in_err-right.ensures.phrase)
 
 pub read_level-operators-preserved : goal.read_level-operators-preserved
 read_level-operators-preserved t c = record {
-  some_level = omega arith;
-  phrase =
-      joined_phrase (lexemes c.args.tokens.now) c.args.room c.args.level c.args.at c.operators.end _ c.in-Some.op (tree_of c.operators.left) (tree_of c.in_ok-right.right) _ _ c.operators.invariant.some_level c.operators.invariant.phrase c.in-Some.ensures.value.0 c.in-Some.ensures.value.1 c.in_ok-right.ensures.phrase
+  part =
+      joined_part (lexemes c.args.tokens.now) c.args.room c.args.level c.in-Some.own c.args.at c.operators.end _ c.in-Some.op (tree_of c.operators.left) (tree_of c.in_ok-right.right) _ _ c.operators.invariant.part c.in-Some.ensures.value.0 c.in-Some.ensures.value.1.0 c.in-Some.ensures.value.1.1 c.in_ok-right.ensures.phrase
       (ap tree_of c.in_ok-new.ensures.ok) (ap tree_of c.in_ok-new-2.ensures.ok);
-  tighter = c.in_ok-right.ensures.phrase.ends;
   further = omega (arith, c.operators.invariant.further, c.in_ok-right.ensures.further);
   within = c.in_ok-right.ensures.inside;
 }
+
+pub read_level-returns-clause-phrase : goal.read_level-returns-clause-phrase
+read_level-returns-clause-phrase t c =
+    whole_part (lexemes c.args.tokens.now) c.args.room c.args.level c.args.at c.operators.end (tree_of c.operators.left) c.operators.invariant.part c.in_default.ensures.value

@@ -1,7 +1,7 @@
 use Rattle.std.proofs.Common.{◌≤◌, ◌<◌, length, ◌+◌, ◌-◌, ◌*◌}
 use Rattle.syntax65.specs.Trees.{tree_of}
 use Rattle.syntax65.specs.Tokens.{lexemes}
-use Rattle.syntax65.specs.Expressions.{Phrase, NoOperator}
+use Rattle.syntax65.proofs.Phrases.{IsPart}
 use Rattle.syntax65.proofs.expressions.reading.+expr.Given as goal
 
 abbrev pub decreases-read_negated : goal.decreases-read_negated
@@ -24,9 +24,7 @@ decreases-read_whole l = 16 * l.room + 9
 
 abbrev pub invariant-read_level-operators : goal.invariant-read_level-operators
 invariant-read_level-operators l = record {
-  some_level : 0 < l.level;
-  phrase : Phrase (lexemes l.tokens) l.room l.level l.at l.end (tree_of l.left);
-  tighter : NoOperator (lexemes l.tokens) (l.level - 1) l.end;
+  part : IsPart (lexemes l.tokens) l.room l.level l.at l.end (tree_of l.left);
   further : l.at < l.end;
   within : l.end ≤ length l.tokens;
 }

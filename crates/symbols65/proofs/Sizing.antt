@@ -1,4 +1,4 @@
--- Forms that some expressions don't have, and their values.
+-- Folding forms that may be missing gives the normal forms of expressions.
 use Rattle.std.proofs.Common.{◌≡◌, ap, refl, length, Result, Ok, Err}
 use Rattle.std.specs.Result.{result_ok}
 use Rattle.syntax65.specs.Outcome.{◌>>=◌}
@@ -14,7 +14,7 @@ use Rattle.language65.specs.Laid.{Spot}
 use Rattle.language65.specs.Names.{meaning_of}
 use Rattle.language65.specs.Norms.{folded, form_of_meaning, literal_in, norm, norm_of}
 use Rattle.language65.specs.Symbols.{Symbols}
-use Rattle.symbols65.specs.Forms.{IsName, binary_form, literal_of, prefix_form}
+use Rattle.symbols65.specs.Forms.{IsReference, binary_form, literal_of, prefix_form}
 
 pub literal_known : (r : Result Form AsmFault) → literal_of (result_ok r) ≡ literal_in r
 literal_known (Ok f) = refl
@@ -37,7 +37,7 @@ binary_known op (Err e) (Ok g) = refl
 binary_known op (Err e) (Err d) = refl
 
 -- what has no meaning has no form
-pub meaningless : (y : Symbols) (s : Spot) (e : Tree) (z : AsmFault) → IsName e → meaning_of y s e ≡ Err z → norm_of y s e ≡ Err z
+pub meaningless : (y : Symbols) (s : Spot) (e : Tree) (z : AsmFault) → IsReference e → meaning_of y s e ≡ Err z → norm_of y s e ≡ Err z
 meaningless y s (number v) z n h = absurd n
 meaningless y s here z n h = absurd n
 meaningless y s (unary op e) z n h = absurd n

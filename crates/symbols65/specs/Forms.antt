@@ -1,4 +1,4 @@
--- Normal forms of expressions, of which some have none.
+-- Forms that may be missing, as an expression without a value has none.
 use Rattle.std.specs.Prelude.{ℤ, Option, Some, None, Ok, ⊤}
 use Rattle.std.specs.Result.{result_ok}
 use Rattle.syntax65.specs.Trees.{Tree, number, here, unary, binary}
@@ -13,6 +13,7 @@ abbrev pub literal_of : Option Form → Option ℤ
 literal_of None = None
 literal_of (Some f) = literal_in (Ok f)
 
+-- what an operation folds its parts to, where these are there and it has a value
 abbrev pub prefix_form : Op1 → Option Form → Option Form
 prefix_form op None = None
 prefix_form op (Some f) = result_ok (fold1 op f)
@@ -21,10 +22,10 @@ abbrev pub binary_form : Op2 → Option Form → Option Form → Option Form
 binary_form op (Some f) (Some g) = result_ok (fold2 op f g)
 binary_form op f g = None
 
--- it names something
-abbrev pub IsName : Tree → Type 0
-IsName (number v) = ⊥
-IsName here = ⊥
-IsName (unary op e) = ⊥
-IsName (binary op e f) = ⊥
-IsName e = ⊤
+-- a reference to a symbol, by a name or to an unnamed label
+abbrev pub IsReference : Tree → Type 0
+IsReference (number v) = ⊥
+IsReference here = ⊥
+IsReference (unary op e) = ⊥
+IsReference (binary op e f) = ⊥
+IsReference e = ⊤

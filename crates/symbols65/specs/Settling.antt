@@ -26,10 +26,10 @@ Operands P (unary op e) = Operands P e
 Operands P (binary op e g) = Operands P e × Operands P g
 Operands P e = P e
 
--- an operand means the definition at this place whatever statements follow
+-- an operand means the definition at this place of the table whatever statements follow
 abbrev pub MeansAlways : Symbols → Spot → Tree → ℕ → Type 0
 MeansAlways y s e j = (j < length y.definitions) × ((z : Symbols) → Extends y z → meaning_of z s e ≡ Ok (defined_at j))
 
--- and so that of some place
+-- an operand means the same definition whatever statements follow
 abbrev pub MeansFinally : Symbols → Spot → Tree → Type 0
 MeansFinally y s e = (j : ℕ) × MeansAlways y s e j

@@ -1,4 +1,4 @@
-//! Normal forms at a line, of expressions of which some have none.
+//! The values of forms, and the faults where there is none.
 
 ghost use Rattle.std.specs.Prelude.{◌≡◌, false, Ok, OnOk};
 ghost use Rattle.language65.specs.Faults.{is_memory};
@@ -29,7 +29,7 @@ pub fn literal_of(form: &Option<Norm>) -> Option<i64>
     }
 }
 
-/// Passes on want of memory. Any other fault says that there is no form.
+/// Passes on want of memory, and takes any other fault for a form that is missing.
 pub fn pass_on_memory(fault: &AsmFault) -> Result<(), AllocError>
     ensures { OnOk result (is_memory fault.now ≡ false) }
 {

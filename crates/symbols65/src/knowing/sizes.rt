@@ -7,7 +7,7 @@ ghost use Rattle.language65.specs.Names.{meaning_of};
 ghost use Rattle.language65.specs.Norms.{constant_in, norm_of};
 ghost use Rattle.language65.specs.Sizes.{is_byte, larger, size_by, size_defined, size_of, size_of_import, size_of_meaning, size_of_value, takes_byte};
 ghost use Rattle.language65.specs.Views.{spot_of};
-ghost use Rattle.symbols65.specs.Forms.{IsName, literal_of};
+ghost use Rattle.symbols65.specs.Forms.{IsReference, literal_of};
 ghost use Rattle.symbols65.specs.Resolving.{IsTable, meaning_in};
 ghost use Rattle.symbols65.specs.Views.{table_of};
 
@@ -108,7 +108,7 @@ fn sized_by_value(form: Option<Norm>, other: AddressSize) -> FormAndSize
     FormAndSize { form, size }
 }
 
-/// The normal form of an operand that means this, if it has one.
+/// The normal form of a reference that means this, if it has one.
 fn meant_form(
     alloc: Global,
     symbols: &Symbols,
@@ -131,8 +131,8 @@ fn meant_form(
     }
 }
 
-/// What is found of an operand that isn't a number.
-fn operand_form_and_size(
+/// What is found of a reference.
+fn reference_form_and_size(
     alloc: Global,
     symbols: &Symbols,
     known: &mut Known,
@@ -140,7 +140,7 @@ fn operand_form_and_size(
     operand: &Expr,
 ) -> Result<FormAndSize, AllocError>
     requires table { IsTable (table_of symbols.now) known.old.states.items }
-    requires name { IsName (tree_of operand.now) }
+    requires reference { IsReference (tree_of operand.now) }
     ensures form { IfOk result (λ r. r.form ≡ result_ok (norm_of (table_of symbols.now) (spot_of spot) (tree_of operand.now))) }
     ensures size { IfOk result (λ r. r.size ≡ size_by (size_of_meaning (table_of symbols.now) (meaning_of (table_of symbols.now) (spot_of spot) (tree_of operand.now))) (constant_in (table_of symbols.now) (spot_of spot) (tree_of operand.now))) }
     ensures table { OnOk result (IsTable (table_of symbols.now) known.new.states.items) }
@@ -206,7 +206,7 @@ fn form_and_size(
             Ok(sized_by_value(form, other))
         }
         Expr::Name(_) | Expr::Cheap(_) | Expr::Forward(_) | Expr::Backward(_) => {
-            operand_form_and_size(alloc, symbols, known, spot, value)
+            reference_form_and_size(alloc, symbols, known, spot, value)
         }
     }
 }

@@ -29,7 +29,7 @@ fn own_name(symbols: &Symbols, spot: Spot, name: &[u8]) -> Option<usize>
 }
 
 /// The place of what a name with `::` means whatever follows: its scope was opened before the use and defines it.
-fn own_member(symbols: &Symbols, spot: Spot, name: &Name) -> Option<usize>
+fn opened_member(symbols: &Symbols, spot: Spot, name: &Name) -> Option<usize>
     ensures { plain_part name.now.is_global name.now.parts ≡ None → IfSome result (MeansAlways (table_of symbols.now) (spot_of spot) (name_tree name.now.is_global name.now.parts)) }
 {
     let parts = name.parts.as_slice();
@@ -66,15 +66,15 @@ fn label_before(symbols: &Symbols, spot: Spot, steps: usize) -> Option<usize>
     }
 }
 
-/// The place of what an operand means whatever statements follow, where that is plain already. An import never is, nor
-/// a plain name that is only defined further out.
+/// The place of the definition that an operand means whatever statements follow, where that is evident already: never
+/// of an import, of a reference further on, or of a name without `::` that is only defined further out.
 fn final_place(symbols: &Symbols, spot: Spot, operand: &Expr) -> Option<usize>
     ensures { IfSome result (MeansAlways (table_of symbols.now) (spot_of spot) (tree_of operand.now)) }
 {
     match operand {
         Expr::Name(name) => match plain_part(name) {
             Some(part) => own_name(symbols, spot, part),
-            None => own_member(symbols, spot, name),
+            None => opened_member(symbols, spot, name),
         },
         Expr::Cheap(name) => own_label(symbols, spot, name.as_slice()),
         Expr::Backward(steps) => label_before(symbols, spot, *steps),
@@ -123,8 +123,8 @@ fn final_operand(
     }
 }
 
-/// The form that an expression keeps, in one walk.
-fn kept_form(
+/// The form that an expression keeps whatever statements follow, where that is evident already, in one walk.
+fn lasting_form(
     alloc: Global,
     symbols: &Symbols,
     spot: Spot,
@@ -136,15 +136,15 @@ fn kept_form(
         Expr::Number(number) => Ok(Some(Norm::new(Node::Lit(i64::from(*number))))),
         Expr::Here => Ok(Some(address(spot))),
         Expr::Prefix(op, part) => {
-            let part = kept_form(alloc, symbols, spot, part)?;
+            let part = lasting_form(alloc, symbols, spot, part)?;
             prefix_form(alloc, *op, part)
         }
         Expr::Binary(op, left, right) => {
-            let left = kept_form(alloc, symbols, spot, left)?;
+            let left = lasting_form(alloc, symbols, spot, left)?;
             if left.is_none() {
                 return Ok(None);
             }
-            let right = kept_form(alloc, symbols, spot, right)?;
+            let right = lasting_form(alloc, symbols, spot, right)?;
             binary_form(alloc, *op, left, right)
         }
         Expr::Name(_) | Expr::Cheap(_) | Expr::Forward(_) | Expr::Backward(_) => {
@@ -153,7 +153,8 @@ fn kept_form(
     }
 }
 
-/// The form that an expression keeps whatever statements follow, where that is plain already.
+/// The form that an expression keeps whatever statements follow, where that is evident already. An import never has one,
+/// nor has a reference further on, or a name without `::` that is only defined further out.
 pub fn final_form(
     alloc: Global,
     symbols: &Symbols,
@@ -163,5 +164,5 @@ pub fn final_form(
     ensures stays { IfOk result (λ o. (f : Form) → o ≡ Some f → IsFinal (table_of symbols.now) (spot_of spot) (tree_of value.now) f) }
     ensures within { IfOk result (λ o. (f : Form) → o ≡ Some f → IsFinalWithin (length (table_of symbols.now).definitions) (table_of symbols.now) (spot_of spot) (tree_of value.now) f) }
 {
-    kept_form(alloc, symbols, spot, value)
+    lasting_form(alloc, symbols, spot, value)
 }

@@ -1,4 +1,4 @@
-//! Folding forms, of which some aren't there.
+//! Folding forms that may be missing.
 
 ghost use Rattle.std.specs.Prelude.{◌≡◌, IfOk, Result};
 ghost use Rattle.std.specs.Result.{result_ok};

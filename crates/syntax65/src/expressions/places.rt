@@ -60,7 +60,7 @@ pub fn text_at<'a>(tokens: &[Token<'a>], at: usize) -> &'a [u8]
     }
 }
 
-/// The operator at a place, and its level, where that is at most this one.
+/// The operator at a place, and its level, where that is at most `level`.
 pub fn operator_at(tokens: &[Token<'_>], level: u8, at: usize) -> Option<(Op2, u8)>
     ensures value { IsOperatorUpTo (lexemes tokens.now) level at result }
     ensures some { IfSome result (λ x. 0 < x.1) }

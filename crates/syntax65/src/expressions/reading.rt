@@ -87,7 +87,8 @@ fn read_level(
     ensures inside { IfOk result (λ r. r.1 ≤ length tokens.now) }
 {
     let (mut left, mut end) = read_operand(alloc, tokens, at, room)?;
-    // What stands behind an operand of a level is of a looser one.
+    // No operator of its own level or of a tighter one stands behind a phrase, so what is read so far is the whole left
+    // side of the next.
     'operators: while let Some((op, own)) = operator_at(tokens, level, end) {
         let (right, next) = read_level(alloc, tokens, end + 1, own - 1, room)?;
         left = Expr::Binary(op, Box::new(alloc, left)?, Box::new(alloc, right)?);

@@ -15,4 +15,4 @@ returns-clause-stays c =
     let e = tree_of c.args.value.now in
     let P : Option Form → Type 0 = λ o. (f : Form) → o ≡ Some f → IsFinalWithin (length y.definitions) y s e f in
     let Q : Option Form → Type 0 = λ o. (f : Form) → o ≡ Some f → IsFinal y s e f in
-    more_ok P Q c.kept_form.result (λ o keeps f some. within_final y s e f (keeps f some)) c.kept_form.ensures
+    more_ok P Q c.lasting_form.result (λ o keeps f some. within_final y s e f (keeps f some)) c.lasting_form.ensures

@@ -6,7 +6,7 @@ use Rattle.language65.specs.Views.{spot_of}
 use Rattle.symbols65.specs.Settling.{MeansAlways}
 use Rattle.symbols65.specs.Views.{table_of}
 use Rattle.symbols65.proofs.Finals.{by_place, own_member}
-use Rattle.symbols65.proofs.resolving.finals.own_member.Goals as goal
+use Rattle.symbols65.proofs.resolving.finals.opened_member.Goals as goal
 
 pub returns-in-Some : goal.returns-in-Some
 returns-in-Some c = λ plain.

@@ -6,7 +6,7 @@ use Rattle.symbols65.specs.Finals.{IsFinalWithin}
 use Rattle.symbols65.specs.Forms.{binary_form, prefix_form}
 use Rattle.symbols65.specs.Views.{table_of}
 use Rattle.symbols65.proofs.Finals.{binary_stays, more_ok, prefix_stays}
-use Rattle.symbols65.proofs.resolving.finals.+kept_form.Goals as goal
+use Rattle.symbols65.proofs.resolving.finals.+lasting_form.Goals as goal
 
 pub returns-in_ok-part-in-Prefix : goal.returns-in_ok-part-in-Prefix
 returns-in_ok-part-in-Prefix t c =

@@ -64,7 +64,8 @@ fn size_at(symbols: &Symbols, place: usize) -> AddressSize
 
 /// The size of an import, by its place among the imports.
 fn size_of_import(symbols: &Symbols, key: usize) -> AddressSize
-    ensures { result ≡ size_of_import (table_of symbols.now) (slice_get (table_of symbols.now).imports key) }
+    ensures { result ≡ size_of_import (table_of symbols.now)
+        (slice_get (table_of symbols.now).imports key) }
 {
     match symbols.import_at(key) {
         Some(name) if symbols.is_zero_page(name) => AddressSize::ZeroPage,
@@ -118,8 +119,10 @@ fn meant_form(
     meaning: Meaning,
 ) -> Result<Option<Norm>, AllocError>
     requires table { IsTable (table_of symbols.now) known.old.states.items }
-    requires meaning { meaning_of (table_of symbols.now) (spot_of spot) (tree_of operand.now) ≡ Ok (meaning_in meaning) }
-    ensures form { IfOk result (λ f. f ≡ result_ok (norm_of (table_of symbols.now) (spot_of spot) (tree_of operand.now))) }
+    requires meaning { meaning_of (table_of symbols.now) (spot_of spot) (tree_of operand.now)
+        ≡ Ok (meaning_in meaning) }
+    ensures form { IfOk result (λ f. f ≡ result_ok
+        (norm_of (table_of symbols.now) (spot_of spot) (tree_of operand.now))) }
     ensures table { OnOk result (IsTable (table_of symbols.now) known.new.states.items) }
 {
     match meant_norm(alloc, symbols, known, spot, operand, meaning) {
@@ -141,8 +144,12 @@ fn reference_form_and_size(
 ) -> Result<FormAndSize, AllocError>
     requires table { IsTable (table_of symbols.now) known.old.states.items }
     requires reference { IsReference (tree_of operand.now) }
-    ensures form { IfOk result (λ r. r.form ≡ result_ok (norm_of (table_of symbols.now) (spot_of spot) (tree_of operand.now))) }
-    ensures size { IfOk result (λ r. r.size ≡ size_by (size_of_meaning (table_of symbols.now) (meaning_of (table_of symbols.now) (spot_of spot) (tree_of operand.now))) (constant_in (table_of symbols.now) (spot_of spot) (tree_of operand.now))) }
+    ensures form { IfOk result (λ r. r.form ≡ result_ok
+        (norm_of (table_of symbols.now) (spot_of spot) (tree_of operand.now))) }
+    ensures size { IfOk result (λ r. r.size ≡ size_by
+        (size_of_meaning (table_of symbols.now)
+        (meaning_of (table_of symbols.now) (spot_of spot) (tree_of operand.now)))
+        (constant_in (table_of symbols.now) (spot_of spot) (tree_of operand.now))) }
     ensures table { OnOk result (IsTable (table_of symbols.now) known.new.states.items) }
 {
     match meaning_of(alloc, symbols, spot, operand) {
@@ -172,8 +179,10 @@ fn form_and_size(
     value: &Expr,
 ) -> Result<FormAndSize, AllocError>
     requires { IsTable (table_of symbols.now) known.old.states.items }
-    ensures form { IfOk result (λ r. r.form ≡ result_ok (norm_of (table_of symbols.now) (spot_of spot) (tree_of value.now))) }
-    ensures size { IfOk result (λ r. r.size ≡ size_of (table_of symbols.now) (spot_of spot) own (tree_of value.now)) }
+    ensures form { IfOk result (λ r. r.form ≡ result_ok
+        (norm_of (table_of symbols.now) (spot_of spot) (tree_of value.now))) }
+    ensures size { IfOk result (λ r.
+        r.size ≡ size_of (table_of symbols.now) (spot_of spot) own (tree_of value.now)) }
     ensures table { OnOk result (IsTable (table_of symbols.now) known.new.states.items) }
 {
     match value {
@@ -222,7 +231,8 @@ pub fn size(
     value: &Expr,
 ) -> Result<AddressSize, AllocError>
     requires { IsTable (table_of symbols.now) known.old.states.items }
-    ensures size { IfOk result (λ s. s ≡ size_of (table_of symbols.now) (spot_of spot) own (tree_of value.now)) }
+    ensures size { IfOk result (λ s.
+        s ≡ size_of (table_of symbols.now) (spot_of spot) own (tree_of value.now)) }
     ensures table { OnOk result (IsTable (table_of symbols.now) known.new.states.items) }
 {
     let found = form_and_size(alloc, symbols, known, spot, own, value)?;

@@ -22,7 +22,8 @@ use syntax65::{Expr, Name};
 
 /// The place of what a plain name means whatever follows: the very scope of the use defines it.
 fn own_name(symbols: &Symbols, spot: Spot, name: &[u8]) -> Option<usize>
-    ensures { IfSome result (MeansAlways (table_of symbols.now) (spot_of spot) (name_tree false (name.now ∷ []))) }
+    ensures { IfSome result (MeansAlways (table_of symbols.now) (spot_of spot)
+        (name_tree false (name.now ∷ []))) }
 {
     let scope = spot.scope as usize;
     symbols.defined(Key::Named { scope, name })
@@ -30,7 +31,9 @@ fn own_name(symbols: &Symbols, spot: Spot, name: &[u8]) -> Option<usize>
 
 /// The place of what a name with `::` means whatever follows: its scope was opened before the use and defines it.
 fn opened_member(symbols: &Symbols, spot: Spot, name: &Name) -> Option<usize>
-    ensures { plain_part name.now.is_global name.now.parts ≡ None → IfSome result (MeansAlways (table_of symbols.now) (spot_of spot) (name_tree name.now.is_global name.now.parts)) }
+    ensures { plain_part name.now.is_global name.now.parts ≡ None → IfSome result
+        (MeansAlways (table_of symbols.now) (spot_of spot)
+        (name_tree name.now.is_global name.now.parts)) }
 {
     let parts = name.parts.as_slice();
     let opened = spot.opened as usize;
@@ -50,7 +53,8 @@ fn opened_member(symbols: &Symbols, spot: Spot, name: &Name) -> Option<usize>
 
 /// The place of what a cheap name means whatever follows: its region has defined it.
 fn own_label(symbols: &Symbols, spot: Spot, name: &[u8]) -> Option<usize>
-    ensures { IfSome result (MeansAlways (table_of symbols.now) (spot_of spot) (cheap_tree name.now)) }
+    ensures { IfSome result
+        (MeansAlways (table_of symbols.now) (spot_of spot) (cheap_tree name.now)) }
 {
     let region = spot.region as usize;
     symbols.defined(Key::Cheap { region, name })
@@ -58,7 +62,8 @@ fn own_label(symbols: &Symbols, spot: Spot, name: &[u8]) -> Option<usize>
 
 /// The place of an unnamed label before a use, if it is there.
 fn label_before(symbols: &Symbols, spot: Spot, steps: usize) -> Option<usize>
-    ensures { IfSome result (MeansAlways (table_of symbols.now) (spot_of spot) (backward_tree steps)) }
+    ensures { IfSome result
+        (MeansAlways (table_of symbols.now) (spot_of spot) (backward_tree steps)) }
 {
     match (spot.unnamed as usize).checked_sub(steps) {
         Some(count) => symbols.defined(Key::Unnamed(count)),
@@ -69,7 +74,8 @@ fn label_before(symbols: &Symbols, spot: Spot, steps: usize) -> Option<usize>
 /// The place of the definition that an operand means whatever statements follow, where that is evident already: never
 /// of an import, of a reference further on, or of a name without `::` that is only defined further out.
 fn final_place(symbols: &Symbols, spot: Spot, operand: &Expr) -> Option<usize>
-    ensures { IfSome result (MeansAlways (table_of symbols.now) (spot_of spot) (tree_of operand.now)) }
+    ensures { IfSome result
+        (MeansAlways (table_of symbols.now) (spot_of spot) (tree_of operand.now)) }
 {
     match operand {
         Expr::Name(name) => match plain_part(name) {
@@ -84,7 +90,8 @@ fn final_place(symbols: &Symbols, spot: Spot, operand: &Expr) -> Option<usize>
 
 /// Whether each operand of an expression means the same whatever statements follow.
 pub fn are_final(symbols: &Symbols, spot: Spot, value: &Expr) -> bool
-    ensures { result ≡ true → Operands (MeansFinally (table_of symbols.now) (spot_of spot)) (tree_of value.now) }
+    ensures { result ≡ true →
+        Operands (MeansFinally (table_of symbols.now) (spot_of spot)) (tree_of value.now) }
 {
     match value {
         Expr::Number(_) | Expr::Here => true,
@@ -105,7 +112,9 @@ fn final_operand(
     spot: Spot,
     operand: &Expr,
 ) -> Result<Option<Norm>, AllocError>
-    ensures { IfOk result (λ o. (f : Form) → o ≡ Some f → IsFinalWithin (length (table_of symbols.now).definitions) (table_of symbols.now) (spot_of spot) (tree_of operand.now) f) }
+    ensures { IfOk result (λ o. (f : Form) → o ≡ Some f → IsFinalWithin
+        (length (table_of symbols.now).definitions)
+        (table_of symbols.now) (spot_of spot) (tree_of operand.now) f) }
 {
     let Some(place) = final_place(symbols, spot, operand) else {
         return Ok(None);
@@ -130,7 +139,9 @@ fn lasting_form(
     spot: Spot,
     value: &Expr,
 ) -> Result<Option<Norm>, AllocError>
-    ensures { IfOk result (λ o. (f : Form) → o ≡ Some f → IsFinalWithin (length (table_of symbols.now).definitions) (table_of symbols.now) (spot_of spot) (tree_of value.now) f) }
+    ensures { IfOk result (λ o. (f : Form) → o ≡ Some f → IsFinalWithin
+        (length (table_of symbols.now).definitions)
+        (table_of symbols.now) (spot_of spot) (tree_of value.now) f) }
 {
     match value {
         Expr::Number(number) => Ok(Some(Norm::new(Node::Lit(i64::from(*number))))),
@@ -161,8 +172,11 @@ pub fn final_form(
     spot: Spot,
     value: &Expr,
 ) -> Result<Option<Norm>, AllocError>
-    ensures stays { IfOk result (λ o. (f : Form) → o ≡ Some f → IsFinal (table_of symbols.now) (spot_of spot) (tree_of value.now) f) }
-    ensures within { IfOk result (λ o. (f : Form) → o ≡ Some f → IsFinalWithin (length (table_of symbols.now).definitions) (table_of symbols.now) (spot_of spot) (tree_of value.now) f) }
+    ensures stays { IfOk result (λ o. (f : Form) → o ≡ Some f →
+        IsFinal (table_of symbols.now) (spot_of spot) (tree_of value.now) f) }
+    ensures within { IfOk result (λ o. (f : Form) → o ≡ Some f → IsFinalWithin
+        (length (table_of symbols.now).definitions)
+        (table_of symbols.now) (spot_of spot) (tree_of value.now) f) }
 {
     lasting_form(alloc, symbols, spot, value)
 }

@@ -14,7 +14,8 @@ use syntax65::{Op1, Op2};
 
 /// What folding gives, if anything.
 fn folded(form: Result<Norm, FormFault>) -> Result<Option<Norm>, AllocError>
-    ensures { (r : Result Form FormFault) → Gives lacks_memory (λ f. f) form r → IfOk result (λ f. f ≡ result_ok r) }
+    ensures { (r : Result Form FormFault) → Gives lacks_memory (λ f. f) form r →
+        IfOk result (λ f. f ≡ result_ok r) }
 {
     match form {
         Ok(form) => Ok(Some(form)),

@@ -36,8 +36,10 @@ pub fn norm(
     value: &Expr,
 ) -> Result<Norm, AsmFault>
     requires { IsTable (table_of symbols.now) known.old.states.items }
-    ensures form { Gives is_memory (λ f. f) result (norm_of (table_of symbols.now) (spot_of spot) (tree_of value.now)) }
-    ensures table { Finds is_memory (λ _. IsTable (table_of symbols.now) known.new.states.items) result }
+    ensures form { Gives is_memory (λ f. f) result
+        (norm_of (table_of symbols.now) (spot_of spot) (tree_of value.now)) }
+    ensures table { Finds is_memory
+        (λ _. IsTable (table_of symbols.now) known.new.states.items) result }
 {
     match settled(alloc, symbols, spot, value) {
         Ok(form) => Ok(form),
@@ -56,9 +58,12 @@ pub fn meant_norm(
     meaning: Meaning,
 ) -> Result<Norm, AsmFault>
     requires table { IsTable (table_of symbols.now) known.old.states.items }
-    requires meaning { meaning_of (table_of symbols.now) (spot_of spot) (tree_of operand.now) ≡ Ok (meaning_in meaning) }
-    ensures form { Gives is_memory (λ f. f) result (norm_of (table_of symbols.now) (spot_of spot) (tree_of operand.now)) }
-    ensures table { Finds is_memory (λ _. IsTable (table_of symbols.now) known.new.states.items) result }
+    requires meaning { meaning_of (table_of symbols.now) (spot_of spot) (tree_of operand.now)
+        ≡ Ok (meaning_in meaning) }
+    ensures form { Gives is_memory (λ f. f) result
+        (norm_of (table_of symbols.now) (spot_of spot) (tree_of operand.now)) }
+    ensures table { Finds is_memory
+        (λ _. IsTable (table_of symbols.now) known.new.states.items) result }
 {
     match meant(alloc, symbols, Source::Finals, meaning) {
         Ok(form) => Ok(form),
@@ -76,7 +81,8 @@ pub fn defined_norm(
 ) -> Result<Norm, AsmFault>
     requires { IsTable (table_of symbols.now) known.old.states.items }
     ensures form { Gives is_memory (λ f. f) result (defined_form (table_of symbols.now) place) }
-    ensures table { Finds is_memory (λ _. IsTable (table_of symbols.now) known.new.states.items) result }
+    ensures table { Finds is_memory
+        (λ _. IsTable (table_of symbols.now) known.new.states.items) result }
 {
     match symbols.definition(place) {
         None => Err(AsmFault::NoSuchLabel),

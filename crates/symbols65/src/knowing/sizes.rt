@@ -109,31 +109,6 @@ fn sized_by_value(form: Option<Norm>, other: AddressSize) -> FormAndSize
     FormAndSize { form, size }
 }
 
-/// The normal form of a reference that means this, if it has one.
-fn meant_form(
-    alloc: Global,
-    symbols: &Symbols,
-    known: &mut Known,
-    spot: Spot,
-    operand: &Expr,
-    meaning: Meaning,
-) -> Result<Option<Norm>, AllocError>
-    requires table { IsTable (table_of symbols.now) known.old.states.items }
-    requires meaning { meaning_of (table_of symbols.now) (spot_of spot) (tree_of operand.now)
-        ≡ Ok (meaning_in meaning) }
-    ensures form { IfOk result (λ f. f ≡ result_ok
-        (norm_of (table_of symbols.now) (spot_of spot) (tree_of operand.now))) }
-    ensures table { OnOk result (IsTable (table_of symbols.now) known.new.states.items) }
-{
-    match meant_norm(alloc, symbols, known, spot, operand, meaning) {
-        Ok(form) => Ok(Some(form)),
-        Err(fault) => {
-            pass_on_memory(&fault)?;
-            Ok(None)
-        }
-    }
-}
-
 /// What is found of a reference.
 fn reference_form_and_size(
     alloc: Global,
@@ -155,8 +130,16 @@ fn reference_form_and_size(
     match meaning_of(alloc, symbols, spot, operand) {
         Ok(meaning) => {
             let other = size_of_meaning(symbols, meaning);
-            let form = meant_form(alloc, symbols, known, spot, operand, meaning)?;
-            Ok(sized_by_value(form, other))
+            match meant_norm(alloc, symbols, known, spot, operand, meaning) {
+                Ok(form) => Ok(sized_by_value(Some(form), other)),
+                Err(fault) => {
+                    pass_on_memory(&fault)?;
+                    Ok(FormAndSize {
+                        form: None,
+                        size: other,
+                    })
+                }
+            }
         }
         Err(fault) => {
             pass_on_memory(&fault)?;

@@ -22,7 +22,7 @@ use std::alloc::Global;
 use syntax65::{Sequence, Store};
 
 /// What a line of the librarian comes to.
-#[derive(Debug, Drop)]
+#[derive(Drop)]
 pub enum Archived {
     /// The library's new bytes.
     Library(Sequence<u8>),

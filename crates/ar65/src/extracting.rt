@@ -13,7 +13,7 @@ use std::alloc::Global;
 use syntax65::{Sequence, Text};
 
 /// A member as it is written, to a file of its name.
-#[derive(Debug, Drop)]
+#[derive(Drop)]
 pub struct MemberFile {
     pub name: Text,
     pub bytes: Sequence<u8>,

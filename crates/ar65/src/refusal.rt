@@ -13,7 +13,7 @@ use std::alloc::{AllocError, Global};
 use syntax65::Sequence;
 
 /// Why a line of the librarian is refused.
-#[derive(Debug, Drop)]
+#[derive(Drop)]
 pub enum Refusal {
     /// The library can't be read, is none, has no such member or would be too long.
     Library(LibraryFault),

@@ -25,7 +25,7 @@ pub struct Assembler {
 }
 
 /// A place in a source: a file, and the number of a line in it, 0 where none was read.
-#[derive(Clone, Copy, Debug)]
+#[derive(Clone, Copy)]
 pub struct At<'a> {
     pub file: &'a str,
     pub line: u32,

@@ -5,14 +5,14 @@ use object65::Object;
 use syntax65::{Sequence, Text};
 
 /// A constant of the command line.
-#[derive(Clone, Copy, Debug)]
+#[derive(Clone, Copy)]
 pub struct Define<'a> {
     pub name: &'a [u8],
     pub value: u32,
 }
 
 /// What is assembled.
-#[derive(Clone, Copy, Debug)]
+#[derive(Clone, Copy)]
 pub struct AsmJob<'a> {
     /// The source's file.
     pub source: &'a str,
@@ -23,7 +23,7 @@ pub struct AsmJob<'a> {
 }
 
 /// What assembling gives.
-#[derive(Debug, Drop)]
+#[derive(Drop)]
 pub struct Assembly {
     /// The object, or the first fault.
     pub result: Result<Object, AsmRefusal>,

@@ -9,7 +9,7 @@ use crate::assembler::At;
 use language65::Spot;
 
 /// Where a piece of a statement stands.
-#[derive(Clone, Copy, Debug)]
+#[derive(Clone, Copy)]
 pub struct Stand<'a> {
     pub at: At<'a>,
     pub spot: Spot,

@@ -12,7 +12,7 @@ use std::alloc::Global;
 use syntax65::Text;
 
 /// Why a source has no object, and where: the line is 0 where none was read.
-#[derive(Debug, Drop)]
+#[derive(Drop)]
 pub struct AsmRefusal {
     /// The file of the line; none where no line was read, or where memory ran out.
     pub file: Option<Text>,

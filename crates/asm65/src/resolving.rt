@@ -26,7 +26,7 @@ use syntax65::Sequence;
 const GLOBAL: usize = 0;
 
 /// What is put where something waited.
-#[derive(Debug, Drop)]
+#[derive(Drop)]
 pub enum Filling {
     /// A part of the section of a segment.
     Part { segment: u32, part: Part },
@@ -35,7 +35,7 @@ pub enum Filling {
 }
 
 /// What a piece comes to.
-#[derive(Debug, Drop)]
+#[derive(Drop)]
 pub struct Made {
     pub filling: Filling,
     /// The text of an assertion that failed, where that is a warning.

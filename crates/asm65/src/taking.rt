@@ -12,7 +12,7 @@ use symbols65::Key;
 use syntax65::{AddressSize, Mnemonic};
 
 /// Where a statement stands, and what it places.
-#[derive(Clone, Copy, Debug)]
+#[derive(Clone, Copy)]
 struct Placed {
     spot: Spot,
     measured: Measured,

@@ -12,7 +12,7 @@ use std::alloc::{AllocError, Global};
 use syntax65::Sequence;
 
 /// What is said: to standard output, and to standard error.
-#[derive(Debug, Drop)]
+#[derive(Drop)]
 pub struct Texts {
     pub out: Sequence<u8>,
     pub err: Sequence<u8>,

@@ -5,7 +5,7 @@ use object65::{Action, Width};
 use syntax65::{Expr, Sequence};
 
 /// What waits of a statement.
-#[derive(Debug, Drop)]
+#[derive(Drop)]
 pub enum Piece {
     /// A value of a list.
     Datum {
@@ -36,7 +36,7 @@ pub enum Piece {
 }
 
 /// A piece of a statement that waits, and where the statement stands.
-#[derive(Debug, Drop)]
+#[derive(Drop)]
 pub struct Waiting {
     /// The file, by its place among those that are named.
     pub file: usize,

@@ -19,7 +19,7 @@ use std::alloc::{AllocError, Global};
 use syntax65::{Sequence, Store, Token};
 
 /// What a line does to the block that it stands in.
-#[derive(Clone, Copy, Debug)]
+#[derive(Clone, Copy)]
 pub enum BlockStep {
     /// The block goes on, with so many others open in it.
     On(u32),

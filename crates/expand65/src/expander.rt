@@ -29,14 +29,14 @@ use syntax65::{Sequence, Store, Text};
 const MAX_LINES: u32 = 1_048_576;
 
 /// Where files are looked for.
-#[derive(Debug, Drop)]
+#[derive(Drop)]
 pub struct Options {
     /// The folders in which an included file is looked for behind that of the file that includes it.
     pub include: Sequence<Text>,
 }
 
 /// A statement of a source.
-#[derive(Debug, Drop)]
+#[derive(Drop)]
 pub enum Statement {
     /// A label with its colon. It comes before the rest of its line.
     Label(Line),

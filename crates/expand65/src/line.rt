@@ -18,14 +18,14 @@ use std::alloc::{AllocError, Global};
 use syntax65::{Lexer, Mark, Sequence, Token, TokenKind};
 
 /// What a token of a line is, and how many of the line's bytes are its own.
-#[derive(Clone, Copy, Debug)]
+#[derive(Clone, Copy)]
 pub struct Word {
     pub kind: TokenKind,
     pub len: usize,
 }
 
 /// The tokens of a line, with their bytes one behind the other.
-#[derive(Debug, Drop)]
+#[derive(Drop)]
 pub struct Line {
     pub words: Sequence<Word>,
     pub bytes: Sequence<u8>,

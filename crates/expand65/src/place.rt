@@ -6,7 +6,7 @@ use std::alloc::{AllocError, Global};
 use syntax65::Text;
 
 /// A file and the number of the line of it that was read last, 0 where none was.
-#[derive(Debug, Drop)]
+#[derive(Drop)]
 pub struct Place {
     pub file: Text,
     pub line: u32,

@@ -41,7 +41,7 @@ pub struct Reader {
 }
 
 /// The end of an expansion: so many conditions stay open, and whether anything is left behind it.
-#[derive(Clone, Copy, Debug)]
+#[derive(Clone, Copy)]
 pub struct MacroEnd {
     pub conditions: usize,
     pub more: bool,

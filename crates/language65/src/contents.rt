@@ -4,7 +4,7 @@ use object65::{Action, Norm, Width};
 use syntax65::{AddressSize, Sequence};
 
 /// A part of a section.
-#[derive(Debug, Drop)]
+#[derive(Drop)]
 pub enum Part {
     /// Bytes that are known.
     Known(Sequence<u8>),
@@ -15,7 +15,7 @@ pub enum Part {
 }
 
 /// What a statement says to other modules and to the linker.
-#[derive(Debug, Drop)]
+#[derive(Drop)]
 pub enum Said {
     /// A name that the module defines for others, and the line that says so.
     Exported {
@@ -35,7 +35,7 @@ pub enum Said {
 }
 
 /// A statement as the object has it.
-#[derive(Debug, Drop)]
+#[derive(Drop)]
 pub struct Content {
     /// The segment in which it stands, by its place among the segments.
     pub segment: u32,
@@ -47,7 +47,7 @@ pub struct Content {
 }
 
 /// A segment as far as it has been laid.
-#[derive(Debug, Drop)]
+#[derive(Drop)]
 pub struct Segment {
     pub name: Sequence<u8>,
     /// The address size of what lies in it.

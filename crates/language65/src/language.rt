@@ -4,21 +4,21 @@ use object65::{Action, Width};
 use syntax65::{AddressSize, Expr, Mnemonic, Sequence};
 
 /// An element of a list of data.
-#[derive(Debug, Drop)]
+#[derive(Drop)]
 pub enum Item {
     Value(Expr),
     Text(Sequence<u8>),
 }
 
 /// A register that is added to an address.
-#[derive(Clone, Copy, Debug, PartialEq, Eq)]
+#[derive(Clone, Copy, PartialEq, Eq)]
 pub enum Index {
     X,
     Y,
 }
 
 /// What stands behind a mnemonic.
-#[derive(Debug, Drop)]
+#[derive(Drop)]
 pub enum Operand {
     Absent,
     /// `a`
@@ -40,14 +40,14 @@ pub enum Operand {
 }
 
 /// What is taken of a file: from a byte on, so many. By default all from the first byte on.
-#[derive(Debug, Drop)]
+#[derive(Drop)]
 pub struct PartRange {
     pub start: Option<Expr>,
     pub len: Option<Expr>,
 }
 
 /// A statement. What is large and rare is boxed, since each line's statement is moved several times.
-#[derive(Debug, Drop)]
+#[derive(Drop)]
 pub enum Statement {
     /// `name:`
     Label(Sequence<u8>),

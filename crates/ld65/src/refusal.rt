@@ -16,7 +16,7 @@ use std::alloc::{AllocError, Global};
 use syntax65::{Sequence, StoreFault};
 
 /// Why nothing is linked.
-#[derive(Debug, Drop)]
+#[derive(Drop)]
 pub enum Refusal {
     OutOfMemory,
     /// The script can't be read.

@@ -15,7 +15,7 @@ use std::alloc::Global;
 use syntax65::Sequence;
 
 /// What an object exports and imports, in its order.
-#[derive(Debug, Drop)]
+#[derive(Drop)]
 pub struct Contents {
     pub exports: Sequence<Sequence<u8>>,
     pub imports: Sequence<Sequence<u8>>,

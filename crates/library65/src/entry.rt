@@ -7,7 +7,7 @@ use syntax65::Sequence;
 pub type Names = IndexSet<Vec<u8>>;
 
 /// What an index says of a member.
-#[derive(Debug, Drop)]
+#[derive(Drop)]
 pub struct Entry {
     pub name: Sequence<u8>,
     /// Where the member's bytes begin in the library's file.
@@ -21,13 +21,13 @@ pub struct Entry {
 }
 
 /// The index of a library: its members in the order in which they stand.
-#[derive(Debug, Drop)]
+#[derive(Drop)]
 pub struct Index {
     pub entries: Sequence<Entry>,
 }
 
 /// What an index says of a member whose place isn't known yet.
-#[derive(Debug, Drop)]
+#[derive(Drop)]
 pub struct Listing {
     pub name: Sequence<u8>,
     pub size: u32,

@@ -28,7 +28,7 @@ use std::marker::Model;
 use syntax65::Store;
 
 /// What is kept of a member.
-#[derive(Debug, Drop)]
+#[derive(Drop)]
 pub struct Stored {
     pub bytes: Vec<u8>,
     /// What the object that the bytes are exports and imports.

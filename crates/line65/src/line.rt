@@ -3,7 +3,7 @@
 use syntax65::Sequence;
 
 /// `ld65 -C SCRIPT [-o FILE] [-m MAP] INPUT..`
-#[derive(Debug, Drop)]
+#[derive(Drop)]
 pub struct LinkLine<'a> {
     /// The script's file.
     pub script: &'a str,
@@ -16,14 +16,14 @@ pub struct LinkLine<'a> {
 }
 
 /// A constant that a line defines for the source.
-#[derive(Clone, Copy, Debug, Drop)]
+#[derive(Clone, Copy, Drop)]
 pub struct Define<'a> {
     pub name: &'a [u8],
     pub value: u32,
 }
 
 /// `ca65 [-o FILE] [-I DIR].. [-D NAME[=NUMBER]].. [-g] SOURCE`
-#[derive(Debug, Drop)]
+#[derive(Drop)]
 pub struct AssembleLine<'a> {
     /// The output, where one is named.
     pub output: Option<&'a str>,
@@ -36,7 +36,7 @@ pub struct AssembleLine<'a> {
 }
 
 /// What is done with a library.
-#[derive(Clone, Copy, Debug, PartialEq, Eq)]
+#[derive(Clone, Copy, PartialEq, Eq)]
 pub enum Operation {
     /// `r`: objects are put in, each in the place of the member of its name, or else last.
     Replace,
@@ -49,7 +49,7 @@ pub enum Operation {
 }
 
 /// `ar65 OP LIBRARY [FILE]..`
-#[derive(Debug, Drop)]
+#[derive(Drop)]
 pub struct ArchiveLine<'a> {
     pub operation: Operation,
     /// The library's file.
@@ -59,7 +59,7 @@ pub struct ArchiveLine<'a> {
 }
 
 /// A command line.
-#[derive(Debug, Drop)]
+#[derive(Drop)]
 pub enum Line<'a> {
     Assemble(AssembleLine<'a>),
     Link(LinkLine<'a>),

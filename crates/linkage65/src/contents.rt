@@ -4,7 +4,7 @@ use crate::parts::Waiting;
 use syntax65::Sequence;
 
 /// A piece of a segment.
-#[derive(Debug, Drop)]
+#[derive(Drop)]
 pub enum Piece {
     /// Bytes that are known.
     Known(Sequence<u8>),
@@ -15,7 +15,7 @@ pub enum Piece {
 }
 
 /// What a segment holds: its size in bytes, the largest alignment of its sections, and its pieces in order.
-#[derive(Debug, Drop)]
+#[derive(Drop)]
 pub struct Content {
     pub name: Sequence<u8>,
     pub size: u64,

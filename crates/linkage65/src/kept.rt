@@ -5,7 +5,7 @@ use crate::parts::{Asserted, Exported, Member};
 use syntax65::Sequence;
 
 /// What is kept of modules: all that a link needs of them.
-#[derive(Debug, Drop)]
+#[derive(Drop)]
 pub struct Kept {
     pub members: Sequence<Member>,
     /// Segments in the order in which modules first show them.

@@ -3,14 +3,14 @@
 use syntax65::{Sequence, Text};
 
 /// A file that a command leaves.
-#[derive(Debug, Drop)]
+#[derive(Drop)]
 pub struct OutputFile {
     pub name: Text,
     pub bytes: Sequence<u8>,
 }
 
 /// What linking gives.
-#[derive(Debug, Drop)]
+#[derive(Drop)]
 pub struct Linked {
     /// The files of areas, in the order in which they are written.
     pub files: Sequence<OutputFile>,

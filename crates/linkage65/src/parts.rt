@@ -5,7 +5,7 @@ use syntax65::Sequence;
 
 /// A module's name, where its sections lie in their segments, and the names that it imports. Forms name sections and
 /// imports by their places here. An owner is a member's place among the members.
-#[derive(Debug, Drop)]
+#[derive(Drop)]
 pub struct Member {
     pub name: Sequence<u8>,
     pub sections: Sequence<SectionPlace>,
@@ -13,7 +13,7 @@ pub struct Member {
 }
 
 /// Where a section lies: how far behind the start of its segment, and how many bytes it has.
-#[derive(Debug, Drop)]
+#[derive(Drop)]
 pub struct SectionPlace {
     pub segment: Sequence<u8>,
     pub offset: u64,
@@ -21,7 +21,7 @@ pub struct SectionPlace {
 }
 
 /// A value of a module that is computed once all is placed.
-#[derive(Debug, Drop)]
+#[derive(Drop)]
 pub struct Waiting {
     pub owner: usize,
     pub width: Width,
@@ -31,7 +31,7 @@ pub struct Waiting {
 }
 
 /// A name that a module defines for others.
-#[derive(Debug, Drop)]
+#[derive(Drop)]
 pub struct Exported {
     pub owner: usize,
     pub name: Sequence<u8>,
@@ -40,7 +40,7 @@ pub struct Exported {
 }
 
 /// What a module asks the linker to check.
-#[derive(Debug, Drop)]
+#[derive(Drop)]
 pub struct Asserted {
     pub owner: usize,
     pub action: Action,
@@ -51,7 +51,7 @@ pub struct Asserted {
 }
 
 /// Who gives a name.
-#[derive(Clone, Copy, Debug, PartialEq, Eq)]
+#[derive(Clone, Copy, PartialEq, Eq)]
 pub enum Giver {
     /// A module: the place of its export among all exports.
     ByModule(usize),
@@ -61,14 +61,14 @@ pub enum Giver {
 }
 
 /// The addresses of a module's sections, and who gives its imports.
-#[derive(Debug, Drop)]
+#[derive(Drop)]
 pub struct Resolved {
     pub bases: Sequence<i64>,
     pub givers: Sequence<Giver>,
 }
 
 /// Why a form has no value.
-#[derive(Clone, Copy, Debug, PartialEq, Eq)]
+#[derive(Clone, Copy, PartialEq, Eq)]
 pub enum ValueFault {
     /// It needs itself.
     Circular,
@@ -79,7 +79,7 @@ pub enum ValueFault {
 }
 
 /// A name that the script gives, and its value.
-#[derive(Debug, Drop)]
+#[derive(Drop)]
 pub struct Definition {
     pub name: Sequence<u8>,
     pub value: i64,

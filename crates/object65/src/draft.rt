@@ -4,7 +4,7 @@ use crate::Fragment;
 use syntax65::Sequence;
 
 /// A section in the making.
-#[derive(Debug, Drop)]
+#[derive(Drop)]
 pub struct Draft {
     pub name: Sequence<u8>,
     pub align: u8,

@@ -12,14 +12,14 @@ use syntax65::{Op1, Op2};
 pub const NODE_LIMIT: u32 = 255;
 
 /// A normal form, which contracts see without its boxes.
-#[derive(Debug, Drop)]
+#[derive(Drop)]
 #[cycle(norm)]
 pub struct Norm {
     node: Node,
 }
 
 /// A node of a normal form.
-#[derive(Debug, Drop)]
+#[derive(Drop)]
 #[cycle(norm)]
 pub enum Node {
     /// A number.

@@ -4,7 +4,7 @@ use crate::{Action, Fragment, Norm};
 use syntax65::Sequence;
 
 /// What one record of an object says.
-#[derive(Debug, Drop)]
+#[derive(Drop)]
 pub enum Item {
     /// The name of an import.
     Import(Sequence<u8>),

@@ -4,7 +4,7 @@ use crate::Norm;
 use syntax65::Sequence;
 
 /// A module in parts.
-#[derive(Debug, Drop)]
+#[derive(Drop)]
 pub struct Object {
     /// The names that the module uses and doesn't define; forms name them by their places here.
     pub imports: Sequence<Sequence<u8>>,
@@ -15,7 +15,7 @@ pub struct Object {
 }
 
 /// What a module adds to a segment.
-#[derive(Debug, Drop)]
+#[derive(Drop)]
 pub struct Section {
     /// The segment's name.
     pub name: Sequence<u8>,
@@ -25,7 +25,7 @@ pub struct Section {
 }
 
 /// A piece of a section.
-#[derive(Debug, Drop)]
+#[derive(Drop)]
 pub enum Fragment {
     /// Bytes that are known.
     Literal(Sequence<u8>),
@@ -36,7 +36,7 @@ pub enum Fragment {
 }
 
 /// How a value is stored.
-#[derive(Clone, Copy, Debug, PartialEq, Eq)]
+#[derive(Clone, Copy, PartialEq, Eq)]
 pub enum Width {
     /// One byte, 0 to 255.
     Byte = 0,
@@ -51,7 +51,7 @@ pub enum Width {
 }
 
 /// A name that a module defines for others, and the line that says so.
-#[derive(Debug, Drop)]
+#[derive(Drop)]
 pub struct Export {
     pub name: Sequence<u8>,
     pub line: u32,
@@ -59,7 +59,7 @@ pub struct Export {
 }
 
 /// What the linker has to check: a form that isn't 0.
-#[derive(Debug, Drop)]
+#[derive(Drop)]
 pub struct Assert {
     pub action: Action,
     pub line: u32,
@@ -69,7 +69,7 @@ pub struct Assert {
 }
 
 /// What follows from an assertion that fails.
-#[derive(Clone, Copy, Debug, PartialEq, Eq)]
+#[derive(Clone, Copy, PartialEq, Eq)]
 pub enum Action {
     Warning = 0,
     Error = 1,

@@ -20,7 +20,7 @@ pub const ASSERT: u8 = 7;
 pub const END: u8 = 8;
 
 /// One record of an object.
-#[derive(Debug, Drop)]
+#[derive(Drop)]
 pub struct Record {
     pub kind: u8,
     pub body: ArrayVec<u8, 4096>,

@@ -19,7 +19,7 @@ const FILE_LIMIT: u64 = 1_073_741_824;
 
 /// Reads records one by one into a record of its own, whose room is made once: most records are far shorter than
 /// the longest, for which the room is.
-#[derive(Debug, Drop)]
+#[derive(Drop)]
 pub struct RecordReader {
     record: Record,
     bytes: [u8; LARGEST_BODY],

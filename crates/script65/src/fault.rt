@@ -64,7 +64,7 @@ impl fmt::Display for ScriptFault {
 impl Error for ScriptFault {}
 
 /// A fault, and where the token begins at which it is found.
-#[derive(Clone, Copy, Debug, PartialEq, Eq)]
+#[derive(Clone, Copy, PartialEq, Eq)]
 pub struct Stop {
     pub fault: Fault,
     pub at: usize,

@@ -10,7 +10,7 @@ use std::fmt;
 
 /// What the modules of a program need of a segment: its size in bytes, gaps between their sections counted, and
 /// the largest alignment of a section, which says nothing of where the segment begins.
-#[derive(Debug, Drop)]
+#[derive(Drop)]
 pub struct SegmentNeed {
     pub name: Sequence<u8>,
     pub size: u64,
@@ -34,7 +34,7 @@ pub struct RowPlace {
 }
 
 /// The places of a script's areas and rows, in the script's order.
-#[derive(Debug, Drop)]
+#[derive(Drop)]
 pub struct Placement {
     pub areas: Sequence<AreaPlace>,
     pub rows: Sequence<RowPlace>,

@@ -5,7 +5,7 @@ ghost use Rattle.std.specs.Prelude.{◌≡◌};
 use crate::sequence::Sequence;
 
 /// A linker script: its areas, rows and symbols, each in the script's order.
-#[derive(Debug, Drop)]
+#[derive(Drop)]
 pub struct Script {
     pub areas: Sequence<Area>,
     pub rows: Sequence<Row>,
@@ -13,7 +13,7 @@ pub struct Script {
 }
 
 /// An area of memory, which spans `size` bytes from the address `start` on.
-#[derive(Debug, Drop)]
+#[derive(Drop)]
 pub struct Area {
     pub name: Sequence<u8>,
     pub start: u32,
@@ -29,7 +29,7 @@ pub struct Area {
 }
 
 /// The file in which an area's bytes are written.
-#[derive(Debug, Drop)]
+#[derive(Drop)]
 pub enum AreaFile {
     /// The linker's output.
     Output,
@@ -75,7 +75,7 @@ pub enum Begin {
 }
 
 /// A segment's row. An area is named by its place in the script's areas.
-#[derive(Debug, Drop)]
+#[derive(Drop)]
 pub struct Row {
     pub name: Sequence<u8>,
     pub load: usize,
@@ -95,7 +95,7 @@ pub struct Row {
 }
 
 /// A symbol of a script.
-#[derive(Debug, Drop)]
+#[derive(Drop)]
 pub struct Symbol {
     pub name: Sequence<u8>,
     pub kind: SymbolKind,

@@ -15,7 +15,7 @@ use std::mem;
 use syntax65::Sequence;
 
 /// What one call feeds.
-#[derive(Debug, Drop)]
+#[derive(Drop)]
 pub enum Entry {
     /// A part of the section of a segment.
     Put { segment: u32, part: Part },

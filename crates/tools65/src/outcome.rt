@@ -12,7 +12,7 @@ pub enum Status {
 
 /// What a command does once all is computed: a text for each stream, files in the order in which they are
 /// written, and its status.
-#[derive(Debug, Drop)]
+#[derive(Drop)]
 pub struct Outcome {
     /// For standard output.
     pub out: Sequence<u8>,

@@ -13,7 +13,7 @@ use std::alloc::{AllocError, Global};
 use syntax65::Sequence;
 
 /// How a statement mentions a name.
-#[derive(Clone, Copy, Debug)]
+#[derive(Clone, Copy)]
 pub enum Mention {
     Imported,
     /// It is imported though nothing may use it.

@@ -3,7 +3,7 @@
 use crate::parts::ValueFault;
 
 /// What is known of an export.
-#[derive(Clone, Copy, Debug)]
+#[derive(Clone, Copy)]
 pub enum Mark {
     Untouched,
     BeingEvaluated,
@@ -11,7 +11,7 @@ pub enum Mark {
 }
 
 /// Why a form has no value so far.
-#[derive(Clone, Copy, Debug, PartialEq, Eq)]
+#[derive(Clone, Copy, PartialEq, Eq)]
 pub enum Stop {
     /// It has none.
     Fault(ValueFault),
@@ -20,7 +20,7 @@ pub enum Stop {
 }
 
 /// What an attempt at an export gives.
-#[derive(Clone, Copy, Debug)]
+#[derive(Clone, Copy)]
 pub enum Attempt {
     /// What it comes to.
     Settled(Result<i64, ValueFault>),

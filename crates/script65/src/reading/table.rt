@@ -12,7 +12,7 @@ use indexmap::IndexMap;
 use std::alloc::{AllocError, Global};
 
 /// An entry: where its name stands, and its attributes.
-#[derive(Debug, Drop)]
+#[derive(Drop)]
 pub struct Entry {
     pub at: usize,
     pub given: Sequence<Given>,

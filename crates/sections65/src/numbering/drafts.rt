@@ -17,7 +17,7 @@ use std::mem;
 use syntax65::Sequence;
 
 /// A section in the making.
-#[derive(Debug, Drop)]
+#[derive(Drop)]
 pub struct Draft {
     pub segment: u32,
     pub done: Sequence<Fragment>,

@@ -22,7 +22,7 @@ use std::alloc::{AllocError, Global};
 use syntax65::{Expr, Op1, Op2};
 
 /// What is known of the form of a constant.
-#[derive(Debug, Drop)]
+#[derive(Drop)]
 pub enum State {
     Unknown,
     /// It is being looked for.
@@ -42,7 +42,7 @@ pub enum Source<'a> {
 }
 
 /// Why an attempt stops.
-#[derive(Debug, Drop)]
+#[derive(Drop)]
 pub enum Stop {
     /// The form of the constant at this place isn't known.
     Needs(usize),

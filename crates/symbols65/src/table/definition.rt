@@ -5,7 +5,7 @@ use object65::Norm;
 use syntax65::{AddressSize, Expr};
 
 /// What a key stands for.
-#[derive(Debug, Drop)]
+#[derive(Drop)]
 pub struct Definition {
     /// The expression of a constant; what has none is the address of where it stands.
     pub value: Option<Expr>,

@@ -1,7 +1,7 @@
 //! By what definitions and scopes are found.
 
 /// By what a definition is found.
-#[derive(Clone, Copy, Debug, Drop)]
+#[derive(Clone, Copy, Drop)]
 pub enum Key<'a> {
     /// A name, directly in a scope.
     Named { scope: usize, name: &'a [u8] },
@@ -12,7 +12,7 @@ pub enum Key<'a> {
 }
 
 /// A key, with its name by its number among the words of a table.
-#[derive(Clone, Copy, Debug, PartialEq, Eq, Hash)]
+#[derive(Clone, Copy, PartialEq, Eq, Hash)]
 pub enum Entry {
     Named { scope: usize, word: usize },
     Cheap { region: usize, word: usize },
@@ -20,7 +20,7 @@ pub enum Entry {
 }
 
 /// By what a scope is found: the scope in which it was opened, and its name. One without a name has a number of its own.
-#[derive(Clone, Copy, Debug, PartialEq, Eq, Hash)]
+#[derive(Clone, Copy, PartialEq, Eq, Hash)]
 pub enum Opening {
     Named { within: usize, word: usize },
     Nameless { within: usize, number: usize },

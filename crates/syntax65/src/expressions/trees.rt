@@ -3,7 +3,7 @@
 use crate::{Op1, Op2, Sequence};
 
 /// A name, or names with `::` between them.
-#[derive(Debug, Drop)]
+#[derive(Drop)]
 pub struct Name {
     /// Whether it begins with `::`.
     pub is_global: bool,
@@ -12,7 +12,7 @@ pub struct Name {
 }
 
 /// An expression.
-#[derive(Debug, Drop)]
+#[derive(Drop)]
 pub enum Expr {
     Number(u32),
     /// `*`, the address of the start of the statement.

@@ -6,7 +6,7 @@ ghost use Rattle.syntax65.specs.Opcodes.{opcode_of};
 use super::names::Mnemonic;
 
 /// A form of operand.
-#[derive(Clone, Copy, Debug, PartialEq, Eq)]
+#[derive(Clone, Copy, PartialEq, Eq)]
 pub enum Mode {
     /// No operand.
     Implied,

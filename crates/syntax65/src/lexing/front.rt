@@ -9,7 +9,7 @@ use super::lexer::Lexer;
 use super::tokens::Token;
 
 /// The first two tokens of a line, where they are there.
-#[derive(Clone, Copy, Debug)]
+#[derive(Clone, Copy)]
 pub struct LineFront<'a> {
     pub first: Option<Token<'a>>,
     pub second: Option<Token<'a>>,

@@ -9,7 +9,7 @@ use super::places::token_at;
 use super::tokens::Token;
 
 /// What is left of a line that is read token by token.
-#[derive(Clone, Copy, Debug)]
+#[derive(Clone, Copy)]
 pub struct Lexer<'a> {
     pub rest: &'a [u8],
     /// Whether no token was read yet.

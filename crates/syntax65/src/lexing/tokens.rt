@@ -1,14 +1,14 @@
 //! A token of a line.
 
 /// The two sizes of an address.
-#[derive(Clone, Copy, Debug, PartialEq, Eq)]
+#[derive(Clone, Copy, PartialEq, Eq)]
 pub enum AddressSize {
     ZeroPage,
     Absolute,
 }
 
 /// An operator or a mark of punctuation.
-#[derive(Clone, Copy, Debug, PartialEq, Eq)]
+#[derive(Clone, Copy, PartialEq, Eq)]
 pub enum Mark {
     /// `::`
     Scope,
@@ -69,7 +69,7 @@ pub enum Mark {
 }
 
 /// What a token is.
-#[derive(Clone, Copy, Debug, PartialEq, Eq)]
+#[derive(Clone, Copy, PartialEq, Eq)]
 pub enum TokenKind {
     /// A letter or `_`, then letters, digits and `_`.
     Identifier,
@@ -92,7 +92,7 @@ pub enum TokenKind {
 }
 
 /// A token, which borrows its bytes from the line.
-#[derive(Clone, Copy, Debug)]
+#[derive(Clone, Copy)]
 pub struct Token<'a> {
     pub kind: TokenKind,
     /// The bytes of the token as they stand in the line.

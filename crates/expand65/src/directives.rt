@@ -4,7 +4,7 @@ ghost use Rattle.std.specs.Prelude.{◌≡◌, ◌∷◌, ℕ, List, None, false
 ghost use Rattle.expand65.specs.Directives.{among, block_words, condition_words, directive_of, macro_words};
 
 /// What a condition asks for.
-#[derive(Clone, Copy, PartialEq, Eq)]
+#[derive(Clone, Copy)]
 pub enum Test {
     /// `.if`
     True,
@@ -19,7 +19,7 @@ pub enum Test {
 }
 
 /// A directive of expansion.
-#[derive(Clone, Copy, PartialEq, Eq)]
+#[derive(Clone, Copy)]
 pub enum Directive {
     Macro,
     EndMacro,

@@ -34,7 +34,7 @@ pub enum Source {
 }
 
 /// What comes next of a source of lines.
-#[derive(Clone, Copy, PartialEq, Eq)]
+#[derive(Clone, Copy)]
 pub enum NextLine {
     AtEnd,
     /// A line of a file, by its number.

@@ -1,7 +1,7 @@
 //! What statements lie by.
 
 /// Where a statement stands.
-#[derive(Clone, Copy, PartialEq, Eq)]
+#[derive(Clone, Copy)]
 pub struct Spot {
     /// The innermost open scope: 0 is the global one, the others have their numbers in the order in which they are opened.
     pub scope: u32,

@@ -11,7 +11,7 @@ pub enum Item {
 }
 
 /// A register that is added to an address.
-#[derive(Clone, Copy, PartialEq, Eq)]
+#[derive(Clone, Copy)]
 pub enum Index {
     X,
     Y,

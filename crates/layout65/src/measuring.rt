@@ -40,7 +40,7 @@ pub struct Before<'a> {
 }
 
 /// What is settled of a statement at its line.
-#[derive(Clone, Copy, PartialEq, Eq)]
+#[derive(Clone, Copy)]
 pub enum Settled {
     Nothing,
     /// The addressing form of an instruction.
@@ -52,7 +52,7 @@ pub enum Settled {
 }
 
 /// What a statement places and defines.
-#[derive(Clone, Copy, PartialEq, Eq)]
+#[derive(Clone, Copy)]
 pub struct Measured {
     /// How many bytes it places.
     pub length: u32,

@@ -36,7 +36,7 @@ pub struct AssembleLine<'a> {
 }
 
 /// What is done with a library.
-#[derive(Clone, Copy, PartialEq, Eq)]
+#[derive(Clone, Copy)]
 pub enum Operation {
     /// `r`: objects are put in, each in the place of the member of its name, or else last.
     Replace,

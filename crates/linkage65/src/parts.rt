@@ -51,7 +51,7 @@ pub struct Asserted {
 }
 
 /// Who gives a name.
-#[derive(Clone, Copy, PartialEq, Eq)]
+#[derive(Clone, Copy)]
 pub enum Giver {
     /// A module: the place of its export among all exports.
     ByModule(usize),
@@ -68,7 +68,7 @@ pub struct Resolved {
 }
 
 /// Why a form has no value.
-#[derive(Clone, Copy, PartialEq, Eq)]
+#[derive(Clone, Copy)]
 pub enum ValueFault {
     /// It needs itself.
     Circular,

@@ -12,7 +12,7 @@ use std::alloc::{AllocError, AllocFailed, Global};
 use syntax65::{Op1, Op2, apply1, apply2};
 
 /// Why an expression has no form.
-#[derive(Clone, Copy, Debug, PartialEq, Eq)]
+#[derive(Clone, Copy, Debug)]
 pub enum FormFault {
     OutOfMemory,
     /// An operation on numbers has no value.

@@ -36,7 +36,7 @@ pub enum Fragment {
 }
 
 /// How a value is stored.
-#[derive(Clone, Copy, PartialEq, Eq)]
+#[derive(Clone, Copy)]
 pub enum Width {
     /// One byte, 0 to 255.
     Byte = 0,
@@ -69,7 +69,7 @@ pub struct Assert {
 }
 
 /// What follows from an assertion that fails.
-#[derive(Clone, Copy, PartialEq, Eq)]
+#[derive(Clone, Copy)]
 pub enum Action {
     Warning = 0,
     Error = 1,

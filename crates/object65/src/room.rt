@@ -1,7 +1,7 @@
 //! A section in the making without its bytes.
 
 /// What stands last in a section, as far as the next record has to know it.
-#[derive(Clone, Copy, PartialEq, Eq)]
+#[derive(Clone, Copy)]
 pub enum Last {
     /// A record of a literal that isn't full, behind which no literal stands.
     Short,
@@ -12,7 +12,7 @@ pub enum Last {
 }
 
 /// A section in the making without its bytes.
-#[derive(Clone, Copy, PartialEq, Eq)]
+#[derive(Clone, Copy)]
 pub struct Room {
     /// How many bytes the section will have.
     pub size: u32,

@@ -8,7 +8,7 @@ use std::error::Error;
 use std::fmt;
 
 /// Why a script is refused.
-#[derive(Clone, Copy, Debug, PartialEq, Eq)]
+#[derive(Clone, Copy, Debug)]
 pub enum Fault {
     OutOfMemory = 1,
     SyntaxError = 2,
@@ -44,7 +44,7 @@ impl fmt::Display for Fault {
 }
 
 /// A fault of a script, and the line in which it is found, the first line being 1.
-#[derive(Clone, Copy, Debug, PartialEq, Eq)]
+#[derive(Clone, Copy, Debug)]
 pub struct ScriptFault {
     pub fault: Fault,
     pub line: usize,
@@ -64,7 +64,7 @@ impl fmt::Display for ScriptFault {
 impl Error for ScriptFault {}
 
 /// A fault, and where the token begins at which it is found.
-#[derive(Clone, Copy, PartialEq, Eq)]
+#[derive(Clone, Copy)]
 pub struct Stop {
     pub fault: Fault,
     pub at: usize,

@@ -6,7 +6,7 @@ ghost use Rattle.std.specs.Prelude.{◌*ℤ◌, int_div, int_rem};
 ghost use Rattle.std.specs.Int.{int_div_euclid};
 
 /// An operator for one operand.
-#[derive(Clone, Copy, Debug, PartialEq, Eq)]
+#[derive(Clone, Copy, Debug)]
 pub enum Op1 {
     Plus,
     Negate,
@@ -22,7 +22,7 @@ pub enum Op1 {
 }
 
 /// An operator for two operands. Comparisons and the logical `And`, `Xor` and `Or` give 1 or 0.
-#[derive(Clone, Copy, Debug, PartialEq, Eq)]
+#[derive(Clone, Copy, Debug)]
 pub enum Op2 {
     Multiply,
     Divide,

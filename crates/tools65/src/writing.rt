@@ -26,7 +26,7 @@ pub fn write_file<S: Store>(store: &mut S, name: &str, bytes: &[u8]) -> Result<(
 }
 
 /// An output that isn't written: its place among the outputs, and why.
-#[derive(Clone, Copy, PartialEq, Eq)]
+#[derive(Clone, Copy)]
 pub struct Unwritten {
     pub place: usize,
     pub fault: StoreFault,

@@ -11,7 +11,7 @@ pub enum Mark {
 }
 
 /// Why a form has no value so far.
-#[derive(Clone, Copy, PartialEq, Eq)]
+#[derive(Clone, Copy)]
 pub enum Stop {
     /// It has none.
     Fault(ValueFault),

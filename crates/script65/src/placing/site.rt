@@ -11,14 +11,14 @@ use crate::sequence::Sequence;
 use std::alloc::Global;
 
 /// The first address of an area, and the one behind its last.
-#[derive(Clone, Copy, PartialEq, Eq)]
+#[derive(Clone, Copy)]
 pub struct Bounds {
     pub start: u64,
     pub end: u64,
 }
 
 /// What is known of a row: its size, if a module has its segment, and where it runs and loads, once it is placed.
-#[derive(Clone, Copy, PartialEq, Eq)]
+#[derive(Clone, Copy)]
 pub struct Spot {
     pub size: Option<u64>,
     pub run: u64,

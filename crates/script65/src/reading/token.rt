@@ -3,7 +3,7 @@
 use crate::fault::{Fault, Stop};
 
 /// What a byte may begin.
-#[derive(Clone, Copy, PartialEq, Eq)]
+#[derive(Clone, Copy)]
 pub enum Class {
     Letter,
     Digit,
@@ -20,7 +20,7 @@ pub enum Class {
 }
 
 /// A form of token. The end of the script and a byte that begins no token are forms too.
-#[derive(Clone, Copy, PartialEq, Eq)]
+#[derive(Clone, Copy)]
 pub enum Form {
     Word,
     Number,
@@ -37,7 +37,7 @@ pub enum Form {
 }
 
 /// A token, and the places of its first byte and behind its last.
-#[derive(Clone, Copy, PartialEq, Eq)]
+#[derive(Clone, Copy)]
 pub struct Token {
     pub form: Form,
     pub from: usize,

@@ -6,14 +6,14 @@ ghost use Rattle.script65.specs.Words.{same_word, block_of, attribute_of, memory
 use crate::script::Access;
 
 /// A kind of block.
-#[derive(Clone, Copy, PartialEq, Eq)]
+#[derive(Clone, Copy)]
 pub enum Block {
     Memory,
     Segments,
     Symbols,
 }
 
-#[derive(Clone, Copy, PartialEq, Eq)]
+#[derive(Clone, Copy)]
 pub enum Attribute {
     Start,
     Size,
@@ -33,7 +33,7 @@ pub enum Attribute {
 }
 
 /// What the type of a symbol says.
-#[derive(Clone, Copy, PartialEq, Eq)]
+#[derive(Clone, Copy)]
 pub enum Role {
     Export,
     Weak,
@@ -41,7 +41,7 @@ pub enum Role {
 }
 
 /// What an attribute takes.
-#[derive(Clone, Copy, PartialEq, Eq)]
+#[derive(Clone, Copy)]
 pub enum Shape {
     /// A number between two others, these among them.
     Number(u32, u32),
@@ -57,7 +57,7 @@ pub enum Shape {
 }
 
 /// The value of an attribute; a name or a file's name is the places of its first byte and behind its last.
-#[derive(Clone, Copy, PartialEq, Eq)]
+#[derive(Clone, Copy)]
 pub enum Value {
     Number(u32),
     Byte(u8),
@@ -71,7 +71,7 @@ pub enum Value {
 }
 
 /// An attribute and its value.
-#[derive(Clone, Copy, PartialEq, Eq)]
+#[derive(Clone, Copy)]
 pub struct Given {
     pub attribute: Attribute,
     pub value: Value,

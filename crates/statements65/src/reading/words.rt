@@ -7,21 +7,21 @@ use object65::Width;
 use syntax65::AddressSize;
 
 /// What the elements of a list of data are.
-#[derive(Clone, Copy, PartialEq, Eq)]
+#[derive(Clone, Copy)]
 pub enum Elements {
     Values,
     ValuesAndTexts,
 }
 
 /// A statement that places so many bytes, or bytes up to a multiple.
-#[derive(Clone, Copy, PartialEq, Eq)]
+#[derive(Clone, Copy)]
 pub enum Amount {
     Reserve,
     Align,
 }
 
 /// A statement without operands.
-#[derive(Clone, Copy, PartialEq, Eq)]
+#[derive(Clone, Copy)]
 pub enum Lone {
     PushSegment,
     PopSegment,
@@ -37,7 +37,7 @@ pub enum Lone {
 }
 
 /// A statement with a list of names.
-#[derive(Clone, Copy, PartialEq, Eq)]
+#[derive(Clone, Copy)]
 pub enum Names {
     Import(AddressSize),
     Export,
@@ -46,14 +46,14 @@ pub enum Names {
 }
 
 /// A statement that prints.
-#[derive(Clone, Copy, PartialEq, Eq)]
+#[derive(Clone, Copy)]
 pub enum Message {
     Out,
     Warning,
 }
 
 /// What a directive asks for.
-#[derive(Clone, Copy, PartialEq, Eq)]
+#[derive(Clone, Copy)]
 pub enum Directive {
     List(Elements, Width),
     /// `.asciiz`

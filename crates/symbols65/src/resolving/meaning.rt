@@ -21,7 +21,7 @@ use std::alloc::Global;
 use syntax65::{Expr, Name, Sequence};
 
 /// What a name means.
-#[derive(Clone, Copy, PartialEq, Eq)]
+#[derive(Clone, Copy)]
 pub enum Meaning {
     /// The definition at this place.
     Defined(usize),

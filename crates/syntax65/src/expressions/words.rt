@@ -7,7 +7,7 @@ use crate::spelling::is_word;
 use crate::{Mark, Op1, Op2, TokenKind, mnemonic};
 
 /// How a token can begin an operand, or what it is in its place.
-#[derive(Clone, Copy, PartialEq, Eq)]
+#[derive(Clone, Copy)]
 pub enum Opening {
     Number(u32),
     Here,

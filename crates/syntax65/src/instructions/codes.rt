@@ -6,7 +6,7 @@ ghost use Rattle.syntax65.specs.Opcodes.{opcode_of};
 use super::names::Mnemonic;
 
 /// A form of operand.
-#[derive(Clone, Copy, PartialEq, Eq)]
+#[derive(Clone, Copy)]
 pub enum Mode {
     /// No operand.
     Implied,

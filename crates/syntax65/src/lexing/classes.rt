@@ -4,7 +4,7 @@ ghost use Rattle.std.specs.Prelude.{◌≡◌};
 ghost use Rattle.syntax65.specs.Bytes.{class_of, is_word, is_blank};
 
 /// What a byte may begin.
-#[derive(Clone, Copy, PartialEq, Eq)]
+#[derive(Clone, Copy)]
 pub enum Class {
     Letter,
     Digit,

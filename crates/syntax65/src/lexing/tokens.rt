@@ -1,14 +1,14 @@
 //! A token of a line.
 
 /// The two sizes of an address.
-#[derive(Clone, Copy, PartialEq, Eq)]
+#[derive(Clone, Copy)]
 pub enum AddressSize {
     ZeroPage,
     Absolute,
 }
 
 /// An operator or a mark of punctuation.
-#[derive(Clone, Copy, PartialEq, Eq)]
+#[derive(Clone, Copy)]
 pub enum Mark {
     /// `::`
     Scope,
@@ -69,7 +69,7 @@ pub enum Mark {
 }
 
 /// What a token is.
-#[derive(Clone, Copy, PartialEq, Eq)]
+#[derive(Clone, Copy)]
 pub enum TokenKind {
     /// A letter or `_`, then letters, digits and `_`.
     Identifier,

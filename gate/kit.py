@@ -28,6 +28,11 @@ def crates(rt):
     return sorted(rt.rtlib.crates_below(ROOT), key=lambda it: len(it.below()))
 
 
+def lanes(rt):
+    """How many checks may run at once: as many as there are processors, and as free memory holds (a check takes up to 3 GB)."""
+    return max(1, min(rt.processors(), rt.free() // 3_000_000_000))
+
+
 def minutes(seconds):
     return f"{int(seconds) // 60}:{int(seconds) % 60:02d}"
 

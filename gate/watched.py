@@ -2,7 +2,8 @@
 """Runs `rt ci`, which says what it proved only once a crate is through, and tells meanwhile what is under way, and at the
 end how long each part took on the clock and on processors.
 
-usage: watched.py rt ci    Its status is the command's."""
+usage: watched.py rt ci    Its status is the command's. RT_JOBS says how many checks run at once; where it isn't set, a lane
+for each processor is, as far as memory holds."""
 import os
 import subprocess
 import sys
@@ -90,7 +91,8 @@ def watch(top, parts, ended):
 
 def main(words):
     parts, ended, begun = {}, threading.Event(), time.time()
-    with subprocess.Popen(words, cwd=kit.ROOT, stdout=subprocess.PIPE, stderr=subprocess.STDOUT, errors="replace") as ran:
+    given = {"RT_JOBS": str(kit.lanes(kit.load())), **os.environ}
+    with subprocess.Popen(words, cwd=kit.ROOT, env=given, stdout=subprocess.PIPE, stderr=subprocess.STDOUT, errors="replace") as ran:
         watcher = threading.Thread(target=watch, args=(ran.pid, parts, ended), daemon=True)
         watcher.start()
         for line in ran.stdout:

@@ -71,8 +71,7 @@ def main(words):
         sys.exit("there is no wrong body")
     if prove.main([it.name for it in crates]):
         return 1
-    # (an edit's check takes up to 3 GB)
-    lanes = int(os.environ.get("WRONG_BODIES_JOBS", 0)) or max(1, min(rt.processors(), rt.free() // 3_000_000_000))
+    lanes = int(os.environ.get("WRONG_BODIES_JOBS", 0)) or kit.lanes(rt)
     refused, took = {}, []
     for crate in crates:
         begun, edits = time.time(), edits_of(crate, words, folders)

@@ -6,7 +6,7 @@ use Rattle.syntax65.specs.Outcome.{Unless}
 use Rattle.language65.specs.declared.contents.Content.{Content}
 use Rattle.language65.specs.declared.fault.AsmFault.{AsmFault}
 use Rattle.language65.specs.Symbols.{Symbols}
-use Rattle.expand65.specs.declared.place.Place.{Place}
+use Rattle.source65.specs.declared.place.Place.{Place}
 use Rattle.module65.specs.Machine as machine
 use Rattle.module65.specs.Machine.{Finished, before_it, resolved}
 use Rattle.module65.specs.Pieces.{Made, made_of}

@@ -11,7 +11,7 @@ use Rattle.expand65.specs.State as expand
 use Rattle.expand65.specs.declared.expander.Statement.{Statement}
 use Rattle.expand65.specs.declared.expander.Statement.TheVariants.{Label, Plain}
 use Rattle.expand65.specs.declared.line.Line.{Line}
-use Rattle.expand65.specs.declared.place.Place.{Place}
+use Rattle.source65.specs.declared.place.Place.{Place}
 use Rattle.language65.specs.declared.fault.AsmFault.{AsmFault}
 use Rattle.language65.specs.Faults.{is_outside}
 use Rattle.language65.specs.Laid.{Laid, Spot, asks_section}

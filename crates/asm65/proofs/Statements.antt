@@ -5,7 +5,7 @@ use Rattle.std.specs.declared.alloc.AllocError.{AllocError}
 use Rattle.syntax65.specs.declared.lexing.tokens.AddressSize.{AddressSize}
 use Rattle.syntax65.specs.declared.lexing.tokens.AddressSize.TheVariants as size
 use Rattle.syntax65.specs.Trees.{Tree}
-use Rattle.expand65.specs.declared.place.Place.{Place}
+use Rattle.source65.specs.declared.place.Place.{Place}
 use Rattle.language65.specs.Laid.{Spot}
 use Rattle.language65.specs.Language.{Stated, cheap_label, constant, forced, globals, imports, label, open_proc, open_scope, unnamed_label}
 use Rattle.language65.specs.Symbols.{Definition, Scope, Symbols, cheap_in, named, unnamed_at, with_new}

@@ -7,7 +7,7 @@ use Rattle.std.specs.Str.{bytes_eq}
 use Rattle.syntax65.specs.Trees.{Tree}
 use Rattle.language65.specs.declared.contents.Content.{Content}
 use Rattle.language65.specs.Extending.{Extends}
-use Rattle.expand65.specs.declared.place.Place.{Place}
+use Rattle.source65.specs.declared.place.Place.{Place}
 use Rattle.language65.specs.Laid.{Spot}
 use Rattle.language65.specs.Symbols.{Symbols}
 use Rattle.language65.specs.Views.{spot_of}

@@ -2,7 +2,7 @@
 use Rattle.std.specs.Prelude.{◌≡◌, ℕ, ◌<◌, ⊤, false, List, [], ◌∷◌, length, map, slice_get, string_bytes, Some}
 use Rattle.std.specs.List.{AllByRecursion}
 use Rattle.syntax65.specs.Trees.{Tree, tree_of}
-use Rattle.expand65.specs.declared.place.Place.{Place}
+use Rattle.source65.specs.declared.place.Place.{Place}
 use Rattle.language65.specs.declared.contents.Content.{Content}
 use Rattle.language65.specs.Laid.{Spot}
 use Rattle.language65.specs.Symbols.{Definition, Key, Symbols, unnamed_at}

@@ -2,7 +2,7 @@
 use Rattle.std.specs.Prelude.{◌≡◌, ℕ, ℤ, Bool, true, false, [], ◌∷◌, pos, Option, Some, None, Result, Ok, Err, ⊤}
 use Rattle.syntax65.specs.Outcome.{◌>>=◌}
 use Rattle.syntax65.specs.Trees.{Tree}
-use Rattle.expand65.specs.declared.place.Place.{Place}
+use Rattle.source65.specs.declared.place.Place.{Place}
 use Rattle.object65.specs.Form.{Form, lit}
 use Rattle.object65.specs.declared.object.Width.{Width}
 use Rattle.language65.specs.declared.contents.Part.{Part}

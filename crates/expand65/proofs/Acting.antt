@@ -5,7 +5,7 @@ use Rattle.syntax65.specs.Outcome.{Unless}
 use Rattle.syntax65.specs.Store.{Files}
 use Rattle.syntax65.specs.Tokens.{Lexeme}
 use Rattle.expand65.specs.Arguments.{arguments_of}
-use Rattle.expand65.specs.Faults.{is_outside}
+use Rattle.source65.specs.Faults.{is_outside}
 use Rattle.expand65.specs.Fronts.{front_directive, is_mislabelled, label_len, line_directive, string_of}
 use Rattle.expand65.specs.Includes.{first_file, include_line, included, included_by, tried}
 use Rattle.expand65.specs.Inside.{left_in, left_of, mark_of, outside, own}
@@ -20,11 +20,11 @@ use Rattle.expand65.specs.State.{Item, written, played, labelled, branch, mark, 
 use Rattle.expand65.specs.Step.{IsActed, IsDirected, IsLabelled, IsSplit, IsStep, IsStepBehind, IsStepFrom}
 use Rattle.expand65.specs.Taking.{Taken, Takes}
 use Rattle.expand65.specs.declared.directives.Directive.{Directive}
-use Rattle.expand65.specs.declared.fault.ExpandFault.{ExpandFault}
-use Rattle.expand65.specs.declared.fault.ExpandFault.TheVariants.{NotUnderstood}
+use Rattle.source65.specs.declared.fault.ExpandFault.{ExpandFault}
+use Rattle.source65.specs.declared.fault.ExpandFault.TheVariants.{NotUnderstood}
 use Rattle.expand65.specs.declared.line.Line.{Line}
 use Rattle.expand65.specs.declared.macros.Opening.TheVariants as opening
-use Rattle.expand65.specs.declared.place.Place.{Place}
+use Rattle.source65.specs.declared.place.Place.{Place}
 use Rattle.expand65.specs.declared.playing.Body.{Body}
 use Rattle.expand65.specs.declared.rewriter.Rewriter.{Rewriter}
 use Rattle.expand65.specs.declared.rewriter.Turn.{Turn}

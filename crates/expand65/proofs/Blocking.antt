@@ -5,7 +5,7 @@ use Rattle.syntax65.specs.Store.{Files}
 use Rattle.syntax65.specs.Tokens.{Lexeme}
 use Rattle.expand65.specs.BlockLines.{TakesInBlock}
 use Rattle.expand65.specs.Blocks.{Verdict, on, closed, refused, Block, a_fault, a_mark, a_refusal, the_last, one_more}
-use Rattle.expand65.specs.Faults.{is_outside}
+use Rattle.source65.specs.Faults.{is_outside}
 use Rattle.expand65.specs.Inside.{left_of}
 use Rattle.expand65.specs.Judging.{Judges}
 use Rattle.expand65.specs.Passing.{Plainly, no_line as none_passed, a_line}
@@ -14,9 +14,9 @@ use Rattle.expand65.specs.State.{Left, Stop}
 use Rattle.expand65.specs.Taking.{Takes}
 use Rattle.expand65.specs.declared.blocks.BlockStep.{BlockStep}
 use Rattle.expand65.specs.declared.blocks.BlockStep.TheVariants.{On, Closed}
-use Rattle.expand65.specs.declared.fault.ExpandFault.{ExpandFault}
-use Rattle.expand65.specs.declared.fault.ExpandFault.TheVariants.{NotClosed}
-use Rattle.expand65.specs.declared.place.Place.{Place}
+use Rattle.source65.specs.declared.fault.ExpandFault.{ExpandFault}
+use Rattle.source65.specs.declared.fault.ExpandFault.TheVariants.{NotClosed}
+use Rattle.source65.specs.declared.place.Place.{Place}
 use Rattle.expand65.specs.declared.reader.Reader.{Reader}
 
 -- what the rest of a block comes to, the whole comes to

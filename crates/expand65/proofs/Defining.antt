@@ -13,7 +13,7 @@ use Rattle.syntax65.specs.Store.{Files}
 use Rattle.syntax65.specs.Tokens.{Lexeme}
 use Rattle.expand65.specs.Blocks.{Block, collects, gathers}
 use Rattle.expand65.specs.Entering.{pushed}
-use Rattle.expand65.specs.Faults.{is_outside}
+use Rattle.source65.specs.Faults.{is_outside}
 use Rattle.expand65.specs.Inside.{left_of, turns_left}
 use Rattle.expand65.specs.Kept.{tokens_in}
 use Rattle.expand65.specs.Lines.{nesting_limit}
@@ -22,9 +22,9 @@ use Rattle.expand65.specs.Playing.{definition_of, replacing_of}
 use Rattle.expand65.specs.Repeats.{IsRepeated, repeat_mark, repeated, repeating, turns}
 use Rattle.expand65.specs.Rewriting.{macros_of, state_of}
 use Rattle.expand65.specs.State.{Item, played, Mark, mark, Left, left, Stop, Definition, State, Stepped, goes, stops, marks, with_left}
-use Rattle.expand65.specs.declared.fault.ExpandFault.{ExpandFault}
-use Rattle.expand65.specs.declared.fault.ExpandFault.TheVariants.{MacroTwice, Nested}
-use Rattle.expand65.specs.declared.place.Place.{Place}
+use Rattle.source65.specs.declared.fault.ExpandFault.{ExpandFault}
+use Rattle.source65.specs.declared.fault.ExpandFault.TheVariants.{MacroTwice, Nested}
+use Rattle.source65.specs.declared.place.Place.{Place}
 use Rattle.expand65.specs.declared.playing.Body.{Body}
 use Rattle.expand65.specs.declared.playing.Replay.{Replay}
 use Rattle.expand65.specs.declared.reader.Reader.{Reader}

@@ -4,7 +4,7 @@ use Rattle.std.proofs.lemmas.List.{append-nil}
 use Rattle.syntax65.specs.Store.{Files}
 use Rattle.expand65.specs.Lines.{lines_of}
 use Rattle.expand65.specs.Reading.{ReadsLine, TakesPiece, content, rest_of, without_return}
-use Rattle.expand65.specs.declared.fault.ExpandFault.{ExpandFault}
+use Rattle.source65.specs.declared.fault.ExpandFault.{ExpandFault}
 use Rattle.expand65.specs.declared.file.OpenFile.{OpenFile}
 use Rattle.expand65.proofs.Splitting.{IsPart, part_is_last}
 

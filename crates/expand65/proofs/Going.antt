@@ -4,7 +4,7 @@ use Rattle.std.specs.Result.{is_err}
 use Rattle.syntax65.specs.Outcome.{Unless}
 use Rattle.syntax65.specs.Store.{Files}
 use Rattle.expand65.specs.Expansion.{Next, statement, nothing, fault, Reaches, further, given, ended, stopped}
-use Rattle.expand65.specs.Faults.{is_outside}
+use Rattle.source65.specs.Faults.{is_outside}
 use Rattle.expand65.specs.Fronts.{front_directive}
 use Rattle.expand65.specs.Conditions.{IsIf}
 use Rattle.expand65.specs.Kept.{tokens_in}
@@ -18,9 +18,9 @@ use Rattle.expand65.specs.declared.expander.Expander.{Expander}
 use Rattle.expand65.specs.declared.expander.Front.{Front}
 use Rattle.expand65.specs.declared.expander.Front.TheVariants.{Nothing, Rest, Branch, End}
 use Rattle.expand65.specs.declared.expander.Statement.{Statement}
-use Rattle.expand65.specs.declared.fault.ExpandFault.{ExpandFault}
+use Rattle.source65.specs.declared.fault.ExpandFault.{ExpandFault}
 use Rattle.expand65.specs.declared.line.Line.{Line}
-use Rattle.expand65.specs.declared.place.Place.{Place}
+use Rattle.source65.specs.declared.place.Place.{Place}
 use Rattle.expand65.specs.declared.rewriter.Turn.{Turn}
 
 -- ---- The step by what stands in front of the lines.

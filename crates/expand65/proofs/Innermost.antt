@@ -6,17 +6,17 @@ use Rattle.syntax65.specs.Store.{Files}
 use Rattle.syntax65.specs.Tokens.{Lexeme}
 use Rattle.expand65.specs.Blocks.{Block, passes}
 use Rattle.expand65.specs.Conditions.{IsElse, conditions_in, popped}
-use Rattle.expand65.specs.Faults.{is_outside}
+use Rattle.source65.specs.Faults.{is_outside}
 use Rattle.expand65.specs.Fronts.{understood}
 use Rattle.expand65.specs.Inside.{is_call, left_in, left_of, mark_of, outside, own}
 use Rattle.expand65.specs.Macros.{in_macro, local_line, local_named, localised, new_names}
 use Rattle.expand65.specs.Rewriting.{state_of}
 use Rattle.expand65.specs.State.{Item, Mark, mark, Stepped, goes, stops, with_conditions, with_items}
 use Rattle.expand65.specs.Step.{last_condition}
-use Rattle.expand65.specs.declared.fault.ExpandFault.{ExpandFault}
-use Rattle.expand65.specs.declared.fault.ExpandFault.TheVariants.{NotOpened, NotUnderstood}
+use Rattle.source65.specs.declared.fault.ExpandFault.{ExpandFault}
+use Rattle.source65.specs.declared.fault.ExpandFault.TheVariants.{NotOpened, NotUnderstood}
 use Rattle.expand65.specs.declared.input.Source.{Source}
-use Rattle.expand65.specs.declared.place.Place.{Place}
+use Rattle.source65.specs.declared.place.Place.{Place}
 use Rattle.expand65.specs.declared.reader.Input.{Input}
 use Rattle.expand65.specs.declared.reader.Reader.{Reader}
 use Rattle.expand65.specs.declared.rewriter.Rewriter.{Rewriter}

@@ -7,8 +7,8 @@ use Rattle.expand65.specs.Entering.{closed, end_of, exit_of, if_more}
 use Rattle.expand65.specs.Inside.{is_call, left_in, mark_of, own, outside, left_of}
 use Rattle.expand65.specs.Macros.{outside_macro}
 use Rattle.expand65.specs.State.{Item, written, played, labelled, branch, mark, Mark, come_back}
-use Rattle.expand65.specs.declared.fault.ExpandFault.TheVariants.{NotClosed}
-use Rattle.expand65.specs.declared.place.Place.{Place}
+use Rattle.source65.specs.declared.fault.ExpandFault.TheVariants.{NotClosed}
+use Rattle.source65.specs.declared.place.Place.{Place}
 use Rattle.expand65.specs.declared.reader.Input.{Input}
 use Rattle.expand65.specs.declared.reader.MacroEnd.{MacroEnd}
 use Rattle.expand65.specs.declared.reader.Reader.{Reader}

@@ -15,7 +15,7 @@ use Rattle.expand65.specs.Reading.{rest_of}
 use Rattle.expand65.specs.Repeats.{in_turn, turns}
 use Rattle.expand65.specs.Replacing.{Replacing}
 use Rattle.expand65.specs.State.{Item, written, played, labelled, branch, mark, Mark, left, marks, innermost, come_back}
-use Rattle.expand65.specs.declared.fault.ExpandFault.TheVariants.{Nested}
+use Rattle.source65.specs.declared.fault.ExpandFault.TheVariants.{Nested}
 use Rattle.expand65.specs.declared.input.Source.{Source}
 use Rattle.expand65.specs.declared.input.Source.TheVariants as source
 use Rattle.expand65.specs.declared.reader.Input.{Input}

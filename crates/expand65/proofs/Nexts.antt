@@ -2,19 +2,19 @@
 use Rattle.std.proofs.Common.{◌≡◌, ℕ, suc, Bool, true, false, List, [], ◌∷◌, ◌++◌, refl, sym, ap, ◌∙◌, subst, append_assoc, Option, Some, None, IfSome, Ok, Err}
 use Rattle.syntax65.specs.Outcome.{Unless}
 use Rattle.syntax65.specs.Store.{Files}
-use Rattle.expand65.specs.Faults.{is_outside}
+use Rattle.source65.specs.Faults.{is_outside}
 use Rattle.expand65.specs.Inside.{ComesNext, TakesLine, moved_by, left_in, mark_of, own, outside, left_of}
 use Rattle.expand65.specs.Kept.{tokens_in}
 use Rattle.expand65.specs.Passing.{PassesLine, PassesPlain}
 use Rattle.expand65.specs.State.{Item, written, played, mark, left, moved}
 use Rattle.expand65.specs.Taking.{IsOpened, Takes, TakesFrom}
-use Rattle.expand65.specs.declared.fault.ExpandFault.{ExpandFault}
-use Rattle.expand65.specs.declared.fault.ExpandFault.TheVariants.{TooManyLines}
+use Rattle.source65.specs.declared.fault.ExpandFault.{ExpandFault}
+use Rattle.source65.specs.declared.fault.ExpandFault.TheVariants.{TooManyLines}
 use Rattle.expand65.specs.declared.input.NextLine.{NextLine}
 use Rattle.expand65.specs.declared.input.NextLine.TheVariants.{AtEnd, Numbered, Replayed}
 use Rattle.expand65.specs.declared.input.Source.{Source}
 use Rattle.expand65.specs.declared.line.Line.{Line}
-use Rattle.expand65.specs.declared.place.Place.{Place}
+use Rattle.source65.specs.declared.place.Place.{Place}
 use Rattle.expand65.specs.declared.reader.Reader.{Reader}
 
 pub too_many : (before tail : List Item) (n : NextLine) (p : Place) → ComesNext before n → (n ≡ AtEnd → ⊥) → TakesFrom (before ++ tail) 0 p (Err (TooManyLines, moved_by n p))

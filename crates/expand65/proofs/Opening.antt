@@ -8,7 +8,7 @@ use Rattle.syntax65.specs.Store.{Files}
 use Rattle.syntax65.specs.Tokens.{Lexeme, IsRead}
 use Rattle.syntax65.specs.declared.lexing.fault.LexFault.{LexFault}
 use Rattle.syntax65.specs.declared.lexing.fault.LexFault.TheVariants as lex
-use Rattle.expand65.specs.Faults.{fault_of_lexing, is_outside}
+use Rattle.source65.specs.Faults.{fault_of_lexing, is_outside}
 use Rattle.expand65.specs.Includes.{numbered}
 use Rattle.expand65.specs.Inside.{ComesNext, TakesLine}
 use Rattle.expand65.specs.Kept.{tokens_in}
@@ -19,8 +19,8 @@ use Rattle.expand65.specs.Reading.{ReadsLine, BeginsLong, content, is_inside, le
 use Rattle.expand65.specs.Replacing.{Replacing, replaced}
 use Rattle.expand65.specs.State.{Item, written, played}
 use Rattle.expand65.specs.Taking.{IsOpened, fitted, lexed}
-use Rattle.expand65.specs.declared.fault.ExpandFault.{ExpandFault}
-use Rattle.expand65.specs.declared.fault.ExpandFault.TheVariants.{Syntax}
+use Rattle.source65.specs.declared.fault.ExpandFault.{ExpandFault}
+use Rattle.source65.specs.declared.fault.ExpandFault.TheVariants.{Syntax}
 use Rattle.expand65.specs.declared.file.OpenFile.{OpenFile}
 use Rattle.expand65.specs.declared.input.NextLine.TheVariants.{Numbered}
 use Rattle.expand65.specs.declared.line.Line.{Line}

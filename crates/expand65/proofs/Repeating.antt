@@ -9,14 +9,14 @@ use Rattle.syntax65.specs.Trees.{Tree}
 use Rattle.syntax65.specs.declared.expressions.fault.ExprFault.{ExprFault}
 use Rattle.syntax65.specs.declared.expressions.fault.ExprFault.TheVariants.{OutOfMemory, OperandExpected, ParenthesisExpected, TooDeep}
 use Rattle.syntax65.specs.declared.lexing.tokens.Token.{Token}
-use Rattle.expand65.specs.Faults.{fault_of_parsing, is_outside}
+use Rattle.source65.specs.Faults.{fault_of_parsing, is_outside}
 use Rattle.expand65.specs.Fronts.{is_comma, name_in, is_mislabelled, label_len, understood, ◌>=>◌}
 use Rattle.expand65.specs.Kept.{tokens_in}
 use Rattle.expand65.specs.Parting.{AreParts}
 use Rattle.expand65.specs.Parts.{is_comma_at, name_at}
 use Rattle.expand65.specs.Repeats.{repeat_header, variable_of}
-use Rattle.expand65.specs.declared.fault.ExpandFault.{ExpandFault}
-use Rattle.expand65.specs.declared.fault.ExpandFault.TheVariants.{NotUnderstood}
+use Rattle.source65.specs.declared.fault.ExpandFault.{ExpandFault}
+use Rattle.source65.specs.declared.fault.ExpandFault.TheVariants.{NotUnderstood}
 use Rattle.expand65.specs.declared.line.Line.{Line}
 
 -- ---- The variable.

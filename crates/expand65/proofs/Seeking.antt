@@ -10,13 +10,13 @@ use Rattle.std.proofs.lemmas.List.Folds.{list_any-append}
 use Rattle.std.proofs.lemmas.Str.{IsUtf8-from_is_utf8}
 use Rattle.syntax65.specs.Outcome.{Unless}
 use Rattle.syntax65.specs.Store.{Files, Fills, ReadsAt}
-use Rattle.expand65.specs.Faults.{is_outside}
+use Rattle.source65.specs.Faults.{is_outside}
 use Rattle.expand65.specs.Includes.{file_named, first_file, folder_of, found_or, is_slash, numbered}
 use Rattle.expand65.specs.Lines.{lines_of}
 use Rattle.expand65.specs.Reading.{bytes_of, content, left_in_file}
 use Rattle.expand65.specs.Seeking.{file_of, is_there}
-use Rattle.expand65.specs.declared.fault.ExpandFault.{ExpandFault}
-use Rattle.expand65.specs.declared.fault.ExpandFault.TheVariants.{FileTooLong}
+use Rattle.source65.specs.declared.fault.ExpandFault.{ExpandFault}
+use Rattle.source65.specs.declared.fault.ExpandFault.TheVariants.{FileTooLong}
 use Rattle.expand65.specs.declared.file.OpenFile.{OpenFile}
 
 -- ---- A file's length by a read at its limit.

@@ -2,9 +2,9 @@
 use Rattle.std.proofs.Common.{◌≡◌, ℕ, zero, suc, ◌+◌, ◌-◌, ◌<◌, ◌≤◌, List, [], ◌∷◌, ◌++◌, length, map, drop, refl, sym, ap, ◌∙◌, arith, ◌⊎◌, inl, inr, Bool, true, false, Result, Ok, Err}
 use Rattle.std.proofs.lemmas.List.{length-map}
 use Rattle.syntax65.specs.Outcome.{Unless}
-use Rattle.expand65.specs.Faults.{is_outside}
+use Rattle.source65.specs.Faults.{is_outside}
 use Rattle.expand65.specs.Taking.{IsOpened}
-use Rattle.expand65.specs.declared.fault.ExpandFault.{ExpandFault}
+use Rattle.source65.specs.declared.fault.ExpandFault.{ExpandFault}
 use Rattle.expand65.specs.declared.input.NextLine.TheVariants.{Replayed}
 use Rattle.syntax65.specs.Tokens.{Lexeme}
 use Rattle.expand65.specs.Inside.{ComesNext, TakesLine, turns_left}

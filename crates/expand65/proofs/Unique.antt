@@ -19,9 +19,9 @@ use Rattle.expand65.specs.declared.directives.Directive.{Directive}
 use Rattle.expand65.specs.declared.directives.Directive.TheVariants as directive
 use Rattle.expand65.specs.declared.directives.Test.{Test}
 use Rattle.expand65.specs.declared.directives.Test.TheVariants.{True, Defined, NotDefined, Blank, NotBlank}
-use Rattle.expand65.specs.declared.fault.ExpandFault.{ExpandFault}
-use Rattle.expand65.specs.declared.fault.ExpandFault.TheVariants.{NotClosed}
-use Rattle.expand65.specs.declared.place.Place.{Place}
+use Rattle.source65.specs.declared.fault.ExpandFault.{ExpandFault}
+use Rattle.source65.specs.declared.fault.ExpandFault.TheVariants.{NotClosed}
+use Rattle.source65.specs.declared.place.Place.{Place}
 use Rattle.syntax65.proofs.Readings.{one_reading}
 use Rattle.syntax65.proofs.Parses.{one_parse}
 

@@ -3,7 +3,7 @@ use Rattle.std.specs.Prelude.{◌≡◌, List, Some, None, Result, Ok, Err}
 use Rattle.syntax65.specs.Tokens.{Lexeme}
 use Rattle.expand65.specs.State.{Left, Stop}
 use Rattle.expand65.specs.Taking.{Taken, Takes}
-use Rattle.expand65.specs.declared.fault.ExpandFault.TheVariants.{NotClosed}
+use Rattle.source65.specs.declared.fault.ExpandFault.TheVariants.{NotClosed}
 
 -- a block has to be closed before an end mark
 abbrev pub within_block : Taken → Result (List Lexeme × Left) Stop

@@ -6,8 +6,8 @@ use Rattle.expand65.specs.State.{Left, Stop}
 use Rattle.expand65.specs.Taking.{Takes}
 use Rattle.expand65.specs.declared.directives.Directive.{Directive}
 use Rattle.expand65.specs.declared.directives.Directive.TheVariants.{Macro, EndMacro, Repeat, EndRepeat, If, ElseIf, Else, EndIf}
-use Rattle.expand65.specs.declared.fault.ExpandFault.{ExpandFault}
-use Rattle.expand65.specs.declared.fault.ExpandFault.TheVariants.{NotClosed, MacroInside, NotUnderstood}
+use Rattle.source65.specs.declared.fault.ExpandFault.{ExpandFault}
+use Rattle.source65.specs.declared.fault.ExpandFault.TheVariants.{NotClosed, MacroInside, NotUnderstood}
 
 -- whether a block goes on behind a line, is closed by it, or the line is refused
 pub data Verdict (A B : Type 0) : Type 0 where

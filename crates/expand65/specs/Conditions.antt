@@ -11,8 +11,8 @@ use Rattle.expand65.specs.Meaning.{Meaning}
 use Rattle.expand65.specs.State.{State, Left, left, Stop, Stepped, goes, stops, branch, with_left, with_conditions, Mark}
 use Rattle.expand65.specs.declared.directives.Test.{Test}
 use Rattle.expand65.specs.declared.directives.Test.TheVariants.{True, Defined, NotDefined, Blank, NotBlank}
-use Rattle.expand65.specs.declared.fault.ExpandFault.{ExpandFault}
-use Rattle.expand65.specs.declared.fault.ExpandFault.TheVariants.{NotConstant, NotOpened}
+use Rattle.source65.specs.declared.fault.ExpandFault.{ExpandFault}
+use Rattle.source65.specs.declared.fault.ExpandFault.TheVariants.{NotConstant, NotOpened}
 
 -- ---- What a condition asks for.
 

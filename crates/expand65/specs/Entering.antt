@@ -2,9 +2,9 @@
 use Rattle.std.specs.Prelude.{ℕ, ◌==◌, nat_le, Bool, true, false, List, [], ◌∷◌, ◌++◌, Option, Some, None, Result, Ok, Err, if◌then◌else◌}
 use Rattle.expand65.specs.Lines.{nesting_limit}
 use Rattle.expand65.specs.State.{Item, mark, Mark, Left, left, Stop, marks, come_back}
-use Rattle.expand65.specs.declared.place.Place.{Place}
+use Rattle.source65.specs.declared.place.Place.{Place}
 use Rattle.expand65.specs.declared.reader.MacroEnd.{MacroEnd}
-use Rattle.expand65.specs.declared.fault.ExpandFault.TheVariants.{Nested, NotClosed}
+use Rattle.source65.specs.declared.fault.ExpandFault.TheVariants.{Nested, NotClosed}
 
 -- lines and an end mark in front of what is left
 abbrev pub pushed : List Item → Mark → Left → Result Left Stop

@@ -8,7 +8,7 @@ use Rattle.expand65.specs.Lines.{lines_of, line_limit}
 use Rattle.expand65.specs.Meaning.{Meaning}
 use Rattle.expand65.specs.State.{mark, Mark, Left, left, Stop, State, Stated, goes, gives, ends, stops}
 use Rattle.expand65.specs.Step.{IsStep}
-use Rattle.expand65.specs.declared.fault.ExpandFault.{ExpandFault}
+use Rattle.source65.specs.declared.fault.ExpandFault.{ExpandFault}
 
 -- what comes next: a statement and the state behind it, the end, or a fault
 pub data Next : Type 0 where

@@ -9,8 +9,8 @@ use Rattle.expand65.specs.Fronts.{string_of}
 use Rattle.expand65.specs.Lines.{lines_of, file_limit}
 use Rattle.expand65.specs.Macros.{entered}
 use Rattle.expand65.specs.State.{Item, written, Mark, State, Stepped, stops}
-use Rattle.expand65.specs.declared.fault.ExpandFault.{ExpandFault}
-use Rattle.expand65.specs.declared.fault.ExpandFault.TheVariants.{FileNotFound, FileTooLong, NotUnderstood}
+use Rattle.source65.specs.declared.fault.ExpandFault.{ExpandFault}
+use Rattle.source65.specs.declared.fault.ExpandFault.TheVariants.{FileNotFound, FileTooLong, NotUnderstood}
 
 -- ---- Files.
 

@@ -3,7 +3,7 @@ use Rattle.std.specs.Prelude.{◌≡◌, ℕ, ◌-◌, Bool, true, false, List, 
 use Rattle.syntax65.specs.Outcome.{Unless}
 use Rattle.syntax65.specs.Store.{Files}
 use Rattle.syntax65.specs.Tokens.{Lexeme}
-use Rattle.expand65.specs.Faults.{is_outside}
+use Rattle.source65.specs.Faults.{is_outside}
 use Rattle.expand65.specs.Kept.{tokens_in}
 use Rattle.expand65.specs.Playing.{left_to_play, replacing_of}
 use Rattle.expand65.specs.Reading.{left_in_file}
@@ -11,13 +11,13 @@ use Rattle.expand65.specs.Repeats.{turns}
 use Rattle.expand65.specs.Replacing.{Replacing}
 use Rattle.expand65.specs.State.{Item, written, played, mark, Mark, Left, left, moved, Stop}
 use Rattle.expand65.specs.Taking.{IsOpened}
-use Rattle.expand65.specs.declared.fault.ExpandFault.{ExpandFault}
+use Rattle.source65.specs.declared.fault.ExpandFault.{ExpandFault}
 use Rattle.expand65.specs.declared.input.Source.{Source}
 use Rattle.expand65.specs.declared.input.Source.TheVariants as source
 use Rattle.expand65.specs.declared.input.NextLine.{NextLine}
 use Rattle.expand65.specs.declared.input.NextLine.TheVariants.{AtEnd, Numbered, Replayed}
 use Rattle.expand65.specs.declared.line.Line.{Line}
-use Rattle.expand65.specs.declared.place.Place.{Place}
+use Rattle.source65.specs.declared.place.Place.{Place}
 use Rattle.expand65.specs.declared.playing.Replay.{Replay}
 use Rattle.expand65.specs.declared.reader.Input.{Input}
 use Rattle.expand65.specs.declared.reader.Reader.{Reader}

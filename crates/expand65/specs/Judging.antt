@@ -2,7 +2,7 @@
 use Rattle.std.specs.Prelude.{◌≡◌, ℕ, suc, Bool, true, false, Result, Ok, Err}
 use Rattle.syntax65.specs.Outcome.{Unless}
 use Rattle.expand65.specs.Blocks.{Verdict, on, closed, refused, Branch, at_elseif, at_else, at_endif}
-use Rattle.expand65.specs.Faults.{is_outside}
+use Rattle.source65.specs.Faults.{is_outside}
 use Rattle.expand65.specs.Kept.{tokens_in}
 use Rattle.expand65.specs.declared.blocks.BlockStep.{BlockStep}
 use Rattle.expand65.specs.declared.blocks.BlockStep.TheVariants.{On, Closed}
@@ -10,8 +10,8 @@ use Rattle.expand65.specs.declared.blocks.BranchLine.{BranchLine}
 use Rattle.expand65.specs.declared.blocks.BranchLine.TheVariants.{ElseIf, Else, EndIf}
 use Rattle.expand65.specs.declared.blocks.SkipStep.{SkipStep}
 use Rattle.expand65.specs.declared.blocks.SkipStep.TheVariants as skip
-use Rattle.expand65.specs.declared.fault.ExpandFault.{ExpandFault}
-use Rattle.expand65.specs.declared.fault.ExpandFault.TheVariants.{NotUnderstood, OutOfMemory}
+use Rattle.source65.specs.declared.fault.ExpandFault.{ExpandFault}
+use Rattle.source65.specs.declared.fault.ExpandFault.TheVariants.{NotUnderstood, OutOfMemory}
 
 -- the block goes on with so many others open in it, or is closed
 abbrev pub Judges : {A B : Type 0} → (ℕ → A) → B → Result BlockStep ExpandFault → Verdict A B → Type 0

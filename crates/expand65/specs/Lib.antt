@@ -5,7 +5,6 @@ pub mod Conditions
 pub mod Directives
 pub mod Entering
 pub mod Expansion
-pub mod Faults
 pub mod Fronts
 pub mod Includes
 pub mod Inside

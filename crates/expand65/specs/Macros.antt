@@ -11,8 +11,8 @@ use Rattle.expand65.specs.Fronts.{name_in, names_of, ◌>=>◌}
 use Rattle.expand65.specs.Lines.{nesting_limit}
 use Rattle.expand65.specs.Replacing.{Replacing, number_token, own_token}
 use Rattle.expand65.specs.State.{Item, played, mark, Mark, Left, left, Stop, Definition, State, plain, Stepped, goes, gives, stops, with_left, with_items, marks, innermost, come_back}
-use Rattle.expand65.specs.declared.fault.ExpandFault.TheVariants.{Nested, TooManyArguments, MacroTwice, NotOpened, NotUnderstood}
-use Rattle.expand65.specs.declared.place.Place.{Place}
+use Rattle.source65.specs.declared.fault.ExpandFault.TheVariants.{Nested, TooManyArguments, MacroTwice, NotOpened, NotUnderstood}
+use Rattle.source65.specs.declared.place.Place.{Place}
 
 -- ---- What stands in front of the lines that are left.
 

@@ -2,11 +2,11 @@
 use Rattle.std.specs.Prelude.{◌≡◌, ℕ, suc, true, false, List, take, drop, Option, Some, None, Result, Ok, Err}
 use Rattle.syntax65.specs.Outcome.{Unless}
 use Rattle.syntax65.specs.Tokens.{Lexeme}
-use Rattle.expand65.specs.Faults.{is_outside}
+use Rattle.source65.specs.Faults.{is_outside}
 use Rattle.expand65.specs.Fronts.{is_mislabelled, label_len}
 use Rattle.expand65.specs.Kept.{tokens_in}
-use Rattle.expand65.specs.declared.fault.ExpandFault.{ExpandFault}
-use Rattle.expand65.specs.declared.fault.ExpandFault.TheVariants.{NotUnderstood}
+use Rattle.source65.specs.declared.fault.ExpandFault.{ExpandFault}
+use Rattle.source65.specs.declared.fault.ExpandFault.TheVariants.{NotUnderstood}
 use Rattle.expand65.specs.declared.line.Line.{Line}
 
 -- the label and the rest of a line that has a label of n tokens

@@ -4,12 +4,12 @@ use Rattle.std.specs.FinMap as fmap
 use Rattle.syntax65.specs.Outcome.{Unless}
 use Rattle.syntax65.specs.Store.{Files}
 use Rattle.syntax65.specs.declared.lexing.fault.LexFault.TheVariants as lex
-use Rattle.expand65.specs.Faults.{is_outside}
+use Rattle.source65.specs.Faults.{is_outside}
 use Rattle.expand65.specs.Includes.{numbered}
 use Rattle.expand65.specs.Lines.{file_limit, is_line_end, is_return, lines_of}
 use Rattle.expand65.specs.State.{Item}
-use Rattle.expand65.specs.declared.fault.ExpandFault.{ExpandFault}
-use Rattle.expand65.specs.declared.fault.ExpandFault.TheVariants.{Syntax}
+use Rattle.source65.specs.declared.fault.ExpandFault.{ExpandFault}
+use Rattle.source65.specs.declared.fault.ExpandFault.TheVariants.{Syntax}
 use Rattle.expand65.specs.declared.file.OpenFile.{OpenFile}
 
 -- a file's bytes; one that isn't there has none

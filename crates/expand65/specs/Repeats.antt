@@ -11,8 +11,8 @@ use Rattle.expand65.specs.Macros.{entered}
 use Rattle.expand65.specs.Meaning.{Meaning}
 use Rattle.expand65.specs.Replacing.{Replacing, number_token}
 use Rattle.expand65.specs.State.{Item, played, Mark, Left, Stop, State, Stepped, stops, with_left}
-use Rattle.expand65.specs.declared.fault.ExpandFault.{ExpandFault}
-use Rattle.expand65.specs.declared.fault.ExpandFault.TheVariants.{NotConstant, CountOutOfRange}
+use Rattle.source65.specs.declared.fault.ExpandFault.{ExpandFault}
+use Rattle.source65.specs.declared.fault.ExpandFault.TheVariants.{NotConstant, CountOutOfRange}
 
 -- how many turns a repeat has at most
 abbrev pub turn_limit : ℕ

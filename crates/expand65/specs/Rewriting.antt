@@ -5,7 +5,7 @@ use Rattle.std.specs.Global.{Global}
 use Rattle.syntax65.specs.Outcome.{Unless}
 use Rattle.syntax65.specs.Store.{Files}
 use Rattle.syntax65.specs.Tokens.{Lexeme}
-use Rattle.expand65.specs.Faults.{is_outside}
+use Rattle.source65.specs.Faults.{is_outside}
 use Rattle.expand65.specs.Inside.{left_of}
 use Rattle.expand65.specs.Kept.{tokens_in}
 use Rattle.expand65.specs.Macros.{macro_at}
@@ -13,7 +13,7 @@ use Rattle.expand65.specs.Playing.{definition_of}
 use Rattle.expand65.specs.State.{labelled, branch, Definition, State, with_items, label, plain, Stepped, goes, gives, stops}
 use Rattle.expand65.specs.declared.directives.Directive.{Directive}
 use Rattle.expand65.specs.declared.directives.Directive.TheVariants as directive
-use Rattle.expand65.specs.declared.fault.ExpandFault.{ExpandFault}
+use Rattle.source65.specs.declared.fault.ExpandFault.{ExpandFault}
 use Rattle.expand65.specs.declared.macros.Opening.{Opening}
 use Rattle.expand65.specs.declared.macros.Opening.TheVariants as opening
 use Rattle.expand65.specs.declared.playing.Body.{Body}

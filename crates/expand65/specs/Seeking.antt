@@ -2,11 +2,11 @@
 use Rattle.std.specs.Prelude.{◌≡◌, List, ℕ, nat_le, length, Bool, true, false, if◌then◌else◌, Option, Some, None, Result, Ok, Err}
 use Rattle.syntax65.specs.Outcome.{Unless}
 use Rattle.syntax65.specs.Store.{Files}
-use Rattle.expand65.specs.Faults.{is_outside}
+use Rattle.source65.specs.Faults.{is_outside}
 use Rattle.expand65.specs.Lines.{file_limit}
 use Rattle.expand65.specs.Reading.{bytes_of}
-use Rattle.expand65.specs.declared.fault.ExpandFault.{ExpandFault}
-use Rattle.expand65.specs.declared.fault.ExpandFault.TheVariants.{FileTooLong}
+use Rattle.source65.specs.declared.fault.ExpandFault.{ExpandFault}
+use Rattle.source65.specs.declared.fault.ExpandFault.TheVariants.{FileTooLong}
 
 -- whether a file is there; too many bytes are refused
 abbrev pub is_there : Option (List ℕ) → Result Bool ExpandFault

@@ -13,7 +13,7 @@ use Rattle.expand65.specs.Taking.{Taken, Takes}
 use Rattle.expand65.specs.declared.directives.Directive.{Directive}
 use Rattle.expand65.specs.declared.directives.Directive.TheVariants.{Macro, EndMacro, ExitMacro, Local, Repeat, EndRepeat, If, ElseIf, Else, EndIf, Include, Error, End}
 use Rattle.expand65.specs.declared.directives.Test.TheVariants.{True}
-use Rattle.expand65.specs.declared.fault.ExpandFault.TheVariants as fault
+use Rattle.source65.specs.declared.fault.ExpandFault.TheVariants as fault
 
 -- what follows where nothing stands behind a directive
 abbrev pub if_alone : State → List Lexeme → Stepped → Stepped

@@ -2,13 +2,13 @@
 use Rattle.std.specs.Prelude.{◌≡◌, ℕ, zero, suc, nat_le, List, [], ◌∷◌, length, Option, Some, None, Result, Ok, Err, if◌then◌else◌}
 use Rattle.syntax65.specs.Tokens.{Lexeme, IsRead}
 use Rattle.syntax65.specs.declared.lexing.fault.LexFault.{LexFault}
-use Rattle.expand65.specs.Faults.{fault_of_lexing}
+use Rattle.source65.specs.Faults.{fault_of_lexing}
 use Rattle.expand65.specs.Lines.{token_limit}
 use Rattle.expand65.specs.Replacing.{replaced}
 use Rattle.expand65.specs.State.{Item, written, played, mark, Left, left, Stop, moved}
-use Rattle.expand65.specs.declared.fault.ExpandFault.{ExpandFault}
-use Rattle.expand65.specs.declared.fault.ExpandFault.TheVariants.{TooManyLines, LineTooLong}
-use Rattle.expand65.specs.declared.place.Place.{Place}
+use Rattle.source65.specs.declared.fault.ExpandFault.{ExpandFault}
+use Rattle.source65.specs.declared.fault.ExpandFault.TheVariants.{TooManyLines, LineTooLong}
+use Rattle.source65.specs.declared.place.Place.{Place}
 
 -- the tokens of a line of a file, or its fault
 abbrev pub lexed : Result (List Lexeme) LexFault → Result (List Lexeme) ExpandFault

@@ -5,16 +5,16 @@ ghost use Rattle.syntax65.specs.Tokens.{Lexeme, lexemes};
 ghost use Rattle.syntax65.specs.Store.{Passes};
 ghost use Rattle.expand65.specs.Inside.{Answers, left_of, mark_of};
 ghost use Rattle.expand65.specs.Blocks.{Block, collects, gathers, passes, skipping, skips};
-ghost use Rattle.expand65.specs.Faults.{is_failure};
+ghost use Rattle.source65.specs.Faults.{is_failure};
 ghost use Rattle.expand65.specs.Judging.{IsDeeper, IsSkipDeeper, Judges, JudgesSkip, alone_or, branch_of};
 ghost use Rattle.expand65.specs.Fronts.{is_nothing};
 ghost use Rattle.expand65.specs.Kept.{tokens_in};
 
 use crate::directives::Directive;
-use crate::fault::ExpandFault;
 use crate::fronts::{is_mislabelled, is_nothing, line_directive};
 use crate::line::Line;
 use crate::reader::Reader;
+use source65::ExpandFault;
 use std::alloc::{AllocError, Global};
 use syntax65::{Sequence, Store, Token};
 

@@ -7,14 +7,14 @@ ghost use Rattle.syntax65.specs.Tokens.{lexemes};
 ghost use Rattle.syntax65.specs.Trees.{Tree, tree_of};
 ghost use Rattle.syntax65.specs.declared.expressions.fault.ExprFault.{ExprFault};
 ghost use Rattle.expand65.specs.Conditions.{IsCondition, begins_enclosed, defined_tree, popped, truth, whole};
-ghost use Rattle.expand65.specs.Faults.{is_failure, is_outside};
+ghost use Rattle.source65.specs.Faults.{is_failure, is_outside};
 ghost use Rattle.expand65.specs.Macros.{outermost};
 ghost use Rattle.expand65.specs.Rewriting.{PopsTo};
 
 use crate::directives::Test;
-use crate::fault::ExpandFault;
 use crate::fronts::opens_parenthesis;
 use crate::knows::Knows;
+use source65::ExpandFault;
 use std::alloc::{AllocError, Global};
 use std::marker::Model;
 use syntax65::{Expr, Token, read_expr};

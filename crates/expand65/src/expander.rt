@@ -11,16 +11,15 @@ ghost use Rattle.expand65.specs.State.{State};
 ghost use Rattle.expand65.specs.Step.{IsStep};
 
 use crate::conditions::Conditions;
-use crate::fault::ExpandFault;
 use crate::file::OpenFile;
 use crate::includes::is_there;
 use crate::input::Source;
 use crate::knows::Knows;
 use crate::line::Line;
-use crate::place::Place;
 use crate::reader::{Input, Reader};
 use crate::rewriter::{Rewriter, Turn};
 use indexmap::IndexMap;
+use source65::{ExpandFault, Place};
 use std::alloc::{AllocError, Global};
 use std::mem;
 use syntax65::{Sequence, Store, Text};

@@ -4,12 +4,12 @@ ghost use Rattle.std.specs.Prelude.{◌≡◌, ◌<◌, ◌≤◌, ◌+◌, ◌-
 ghost use Rattle.std.specs.FinMap as fmap;
 ghost use Rattle.std.specs.List.{prefix_len};
 ghost use Rattle.syntax65.specs.Store.{Files, Fills, Passes};
-ghost use Rattle.expand65.specs.Faults.{is_failure, is_outside};
+ghost use Rattle.source65.specs.Faults.{is_failure, is_outside};
 ghost use Rattle.expand65.specs.Includes.{numbered};
 ghost use Rattle.expand65.specs.Lines.{lines_of};
 ghost use Rattle.expand65.specs.Reading.{IsPiece, ReadsLine, TakesPiece, bytes_of, ends_in_return, is_inside, left_in_file, rest_of, without_return};
 
-use crate::fault::ExpandFault;
+use source65::ExpandFault;
 use std::alloc::Global;
 use std::mem;
 use syntax65::{LexFault, MAX_LINE, Sequence, Store, StoreFault, Text};

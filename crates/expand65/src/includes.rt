@@ -5,12 +5,12 @@ ghost use Rattle.std.specs.FinMap as fmap;
 ghost use Rattle.std.specs.Str.{is_utf8};
 ghost use Rattle.syntax65.specs.Outcome.{Gives};
 ghost use Rattle.syntax65.specs.Store.{Passes};
-ghost use Rattle.expand65.specs.Faults.{is_outside};
+ghost use Rattle.source65.specs.Faults.{is_outside};
 ghost use Rattle.expand65.specs.Includes.{as_text, begins_with_slash, beside, file_named, first_file, folder_of, found_or, is_slash, tried, within};
 ghost use Rattle.expand65.specs.Seeking.{Tries, file_of, is_there};
 
-use crate::fault::ExpandFault;
 use crate::file::MAX_FILE;
+use source65::ExpandFault;
 use std::alloc::{AllocError, Global};
 use syntax65::{Store, StoreFault, Text};
 

@@ -6,7 +6,7 @@ ghost use Rattle.syntax65.specs.Store.{Files, Passes};
 ghost use Rattle.syntax65.specs.Outcome.{Gives};
 ghost use Rattle.syntax65.specs.Relations.{Answers};
 ghost use Rattle.syntax65.specs.Tokens.{Lexeme, IsRead, lexemes};
-ghost use Rattle.expand65.specs.Faults.{is_failure, is_outside};
+ghost use Rattle.source65.specs.Faults.{is_failure, is_outside};
 ghost use Rattle.expand65.specs.Inside.{ComesNext, IsReady, TakesLine, is_call, left_in};
 ghost use Rattle.expand65.specs.Kept.{tokens_in};
 ghost use Rattle.expand65.specs.Playing.{left_to_play, replacing_of};
@@ -16,11 +16,11 @@ ghost use Rattle.expand65.specs.Replacing.{number_token};
 ghost use Rattle.expand65.specs.Taking.{lexed};
 ghost use Rattle.syntax65.specs.declared.lexing.fault.LexFault.{LexFault};
 
-use crate::fault::ExpandFault;
 use crate::file::{OpenFile, line_len};
 use crate::line::Line;
 use crate::passing::trimmed;
 use crate::playing::Replay;
+use source65::ExpandFault;
 use std::alloc::{AllocError, Global};
 use syntax65::{Sequence, Store, Token, TokenKind};
 

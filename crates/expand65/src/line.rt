@@ -4,7 +4,7 @@ ghost use Rattle.std.specs.Prelude.{◌≡◌, ◌∷◌, ◌++◌, [], false, s
 ghost use Rattle.syntax65.specs.Relations.{Answers};
 ghost use Rattle.syntax65.specs.Tokens.{IsRead, Lexeme, lexeme_of, lexemes};
 ghost use Rattle.syntax65.specs.declared.lexing.fault.LexFault.{LexFault};
-ghost use Rattle.expand65.specs.Faults.{is_failure, is_outside};
+ghost use Rattle.source65.specs.Faults.{is_failure, is_outside};
 ghost use Rattle.expand65.specs.Fronts.{front_directive, label_len};
 ghost use Rattle.expand65.specs.Kept.{AreKept, tokens_in};
 ghost use Rattle.expand65.specs.Plain.{IsColon, IsColonAt, IsPlain};
@@ -12,8 +12,8 @@ ghost use Rattle.expand65.specs.Parting.{IsParted};
 ghost use Rattle.expand65.specs.Taking.{lexed};
 
 use crate::directives::Directive;
-use crate::fault::ExpandFault;
 use crate::fronts::{directive_in, is_mislabelled, label_len};
+use source65::ExpandFault;
 use std::alloc::{AllocError, Global};
 use syntax65::{Lexer, Mark, Sequence, Token, TokenKind};
 

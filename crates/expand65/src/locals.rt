@@ -5,7 +5,7 @@ ghost use Rattle.std.specs.List.{list_any};
 ghost use Rattle.syntax65.specs.Outcome.{Gives};
 ghost use Rattle.syntax65.specs.Store.{Files};
 ghost use Rattle.syntax65.specs.Tokens.{lexemes};
-ghost use Rattle.expand65.specs.Faults.{is_failure, is_outside};
+ghost use Rattle.source65.specs.Faults.{is_failure, is_outside};
 ghost use Rattle.expand65.specs.Fronts.{understood};
 ghost use Rattle.expand65.specs.Inside.{is_call, left_in};
 ghost use Rattle.expand65.specs.Kept.{tokens_in};
@@ -16,11 +16,11 @@ ghost use Rattle.expand65.specs.State.{Item, Mark, mark};
 ghost use Rattle.expand65.specs.Rewriting.{Turns, size_of, state_of, weight_of};
 
 use crate::arguments::names_of;
-use crate::fault::ExpandFault;
 use crate::input::Source;
 use crate::line::Line;
 use crate::playing::Replay;
 use crate::rewriter::{Rewriter, Turn};
+use source65::ExpandFault;
 use std::alloc::{AllocError, Global};
 use syntax65::{Token, TokenKind};
 

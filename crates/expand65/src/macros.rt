@@ -4,7 +4,7 @@ ghost use Rattle.std.specs.Prelude.{◌≡◌, ◌≤◌, ◌+◌, ◌∷◌, []
 ghost use Rattle.syntax65.specs.Outcome.{Gives};
 ghost use Rattle.syntax65.specs.Store.{Files, Passes};
 ghost use Rattle.syntax65.specs.Tokens.{lexeme_of, lexemes};
-ghost use Rattle.expand65.specs.Faults.{is_failure, is_outside};
+ghost use Rattle.source65.specs.Faults.{is_failure, is_outside};
 ghost use Rattle.expand65.specs.Fronts.{understood};
 ghost use Rattle.expand65.specs.Arguments.{arguments_of};
 ghost use Rattle.expand65.specs.Kept.{tokens_in};
@@ -14,7 +14,6 @@ ghost use Rattle.expand65.specs.Replacing.{number_token};
 ghost use Rattle.expand65.specs.Rewriting.{MacroFound, Opens, Turns, macros_of, size_of, state_of, weight_of};
 
 use crate::arguments::{arguments_of, names_of};
-use crate::fault::ExpandFault;
 use crate::fronts::name_in;
 use crate::input::{Source, number_line};
 use crate::line::Line;
@@ -22,6 +21,7 @@ use crate::playing::{Body, Replay};
 use crate::reader::Input;
 use crate::rewriter::{Rewriter, Turn};
 use indexmap::{IndexMap, IndexSet};
+use source65::ExpandFault;
 use std::alloc::{AllocError, Global};
 use std::rc::Rc;
 use syntax65::{Sequence, Store, Token, TokenKind};

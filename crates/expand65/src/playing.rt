@@ -5,15 +5,15 @@ ghost use Rattle.std.specs.Map.{lookup};
 ghost use Rattle.std.specs.Str.{bytes_eq};
 ghost use Rattle.syntax65.specs.Outcome.{Gives};
 ghost use Rattle.syntax65.specs.Tokens.{lexeme_of, lexemes};
-ghost use Rattle.expand65.specs.Faults.{is_failure, is_outside};
+ghost use Rattle.source65.specs.Faults.{is_failure, is_outside};
 ghost use Rattle.expand65.specs.Kept.{tokens_in};
 ghost use Rattle.expand65.specs.Playing.{replacing_of, tokens_for};
 ghost use Rattle.expand65.specs.Replacing.{argument_at, for_name, for_word, is_count_word, replaced, stand_in};
 ghost use Rattle.expand65.specs.Taking.{fitted};
 
-use crate::fault::ExpandFault;
 use crate::line::Line;
 use indexmap::{IndexMap, IndexSet};
+use source65::ExpandFault;
 use std::alloc::{AllocError, Global};
 use std::rc::Rc;
 use syntax65::{Sequence, Token, TokenKind};

@@ -2,7 +2,7 @@
 
 ghost use Rattle.std.specs.Prelude.{◌≡◌, ◌<◌, ◌≤◌, ◌-◌, ◌+◌, length, IfErr, IfNone, IfOk, IfSome, IsTrue, OnOk, [], false, option_map};
 ghost use Rattle.syntax65.specs.Store.{Passes};
-ghost use Rattle.expand65.specs.Faults.{is_failure, is_outside};
+ghost use Rattle.source65.specs.Faults.{is_failure, is_outside};
 ghost use Rattle.expand65.specs.Inside.{Answers, left_in, left_of, mark_of, moved_by, outside};
 ghost use Rattle.expand65.specs.Kept.{tokens_in};
 ghost use Rattle.syntax65.specs.Store.{Files};
@@ -12,10 +12,9 @@ ghost use Rattle.expand65.specs.State.{come_back};
 ghost use Rattle.expand65.specs.Taking.{Takes};
 ghost use Rattle.expand65.specs.BlockLines.{TakesInBlock};
 
-use crate::fault::ExpandFault;
 use crate::input::{NextLine, Source};
 use crate::line::Line;
-use crate::place::Place;
+use source65::{ExpandFault, Place};
 use std::alloc::Global;
 use std::mem;
 use syntax65::Store;
@@ -47,14 +46,12 @@ pub struct MacroEnd {
     pub more: bool,
 }
 
-impl Place {
-    /// Moves on to a line of its file.
-    fn move_by(&mut self, next: NextLine)
-        ensures { self.new ≡ moved_by next self.old }
-    {
-        if let NextLine::Numbered(line) = next {
-            self.line = line;
-        }
+/// Moves on to a line of a place's file.
+fn move_by(place: &mut Place, next: NextLine)
+    ensures { place.new ≡ moved_by next place.old }
+{
+    if let NextLine::Numbered(line) = next {
+        place.line = line;
     }
 }
 
@@ -82,7 +79,7 @@ impl Reader {
         if next.is_end() {
             return Ok(None);
         }
-        self.place.move_by(next);
+        move_by(&mut self.place, next);
         if self.room == 0 {
             return Err(ExpandFault::TooManyLines);
         }

@@ -4,7 +4,7 @@ ghost use Rattle.std.specs.Prelude.{◌≡◌, ◌≤◌, ◌<◌, ◌+◌, [], 
 ghost use Rattle.syntax65.specs.Store.{Files, Passes};
 ghost use Rattle.syntax65.specs.Tokens.{lexemes};
 ghost use Rattle.expand65.specs.Conditions.{IsDecided, IsElse, IsIf, ended_if};
-ghost use Rattle.expand65.specs.Faults.{is_failure};
+ghost use Rattle.source65.specs.Faults.{is_failure};
 ghost use Rattle.expand65.specs.Fronts.{front_directive, is_mislabelled, string_of};
 ghost use Rattle.expand65.specs.Includes.{include_line, included};
 ghost use Rattle.expand65.specs.Inside.{left_in, left_of};
@@ -18,7 +18,6 @@ ghost use Rattle.expand65.specs.Step.{IsActed, IsDirected, IsLabelled, IsStep, a
 use crate::blocks::BranchLine;
 use crate::conditions::{Conditions, condition};
 use crate::directives::{Directive, Test};
-use crate::fault::ExpandFault;
 use crate::file::OpenFile;
 use crate::fronts::string_of;
 use crate::includes::find_file;
@@ -26,10 +25,10 @@ use crate::input::Source;
 use crate::knows::Knows;
 use crate::line::Line;
 use crate::macros::behind_first;
-use crate::place::Place;
 use crate::playing::Body;
 use crate::reader::{Input, Reader};
 use indexmap::IndexMap;
+use source65::{ExpandFault, Place};
 use std::alloc::Global;
 use std::rc::Rc;
 use syntax65::{Sequence, Store, Text, Token};

@@ -1,8 +1,8 @@
 -- The faults of assembling: in words, and whether the cause lies outside the source.
 use Rattle.std.specs.Prelude.{ℕ, List, [], ◌++◌, Bool, true, false, codes, ◌||◌, encode_utf8_all}
-use Rattle.expand65.specs.Faults.{expand_words}
-use Rattle.expand65.specs.declared.fault.ExpandFault.{ExpandFault}
-use Rattle.expand65.specs.declared.fault.ExpandFault.TheVariants as expand
+use Rattle.source65.specs.Faults.{expand_words}
+use Rattle.source65.specs.declared.fault.ExpandFault.{ExpandFault}
+use Rattle.source65.specs.declared.fault.ExpandFault.TheVariants as expand
 use Rattle.syntax65.specs.declared.expressions.fault.ExprFault.{ExprFault}
 use Rattle.syntax65.specs.declared.expressions.fault.ExprFault.TheVariants as expr
 use Rattle.syntax65.specs.declared.store.StoreFault.{StoreFault}

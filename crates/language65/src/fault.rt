@@ -3,7 +3,7 @@
 ghost use Rattle.std.specs.Prelude.{◌≡◌, Some};
 ghost use Rattle.language65.specs.declared.fault.AsmFault.TheVariants.{Expansion, OutOfMemory};
 
-use expand65::ExpandFault;
+use source65::ExpandFault;
 use std::alloc::{AllocError, AllocFailed};
 use std::error::Error;
 use std::fmt;

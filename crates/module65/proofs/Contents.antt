@@ -18,7 +18,7 @@ use Rattle.language65.specs.declared.contents.Said.TheVariants.{Demanded}
 use Rattle.language65.specs.declared.fault.AsmFault.{AsmFault}
 use Rattle.language65.specs.Contents.{content_of, decided, each_of, export_said, import_fault, instruction_parts, item_part, opcode_part, operand_form, operand_part, operand_parts, operand_tree, stored, telling}
 use Rattle.language65.specs.Language.{Item, value, text, Operand, Stated, constant, instruction, values, imports, exports, globals, forced, assertion}
-use Rattle.expand65.specs.declared.place.Place.{Place}
+use Rattle.source65.specs.declared.place.Place.{Place}
 use Rattle.language65.specs.Laid.{Laid, Settled, nothing_settled, in_mode, filled_with, from_byte, Spot, asks_section}
 use Rattle.language65.specs.Norms.{norm_of}
 use Rattle.language65.specs.Sizes.{width_of}

@@ -5,10 +5,10 @@ use Rattle.syntax65.specs.Outcome.{Unless}
 use Rattle.syntax65.specs.Store.{Files}
 use Rattle.expand65.specs.declared.expander.Expander.{Expander}
 use Rattle.expand65.specs.declared.expander.Statement.{Statement}
-use Rattle.expand65.specs.declared.fault.ExpandFault.{ExpandFault}
-use Rattle.expand65.specs.declared.fault.ExpandFault.TheVariants.{OutOfMemory, FileError}
+use Rattle.source65.specs.declared.fault.ExpandFault.{ExpandFault}
+use Rattle.source65.specs.declared.fault.ExpandFault.TheVariants.{OutOfMemory, FileError}
 use Rattle.expand65.specs.Expansion.{opened_in}
-use Rattle.expand65.specs.Faults as expansion
+use Rattle.source65.specs.Faults as expansion
 use Rattle.expand65.specs.Standing.{FollowsFrom, Opens, StandsFor, place_of, stated}
 use Rattle.expand65.specs.State as expand
 use Rattle.language65.specs.declared.fault.AsmFault.{AsmFault}

@@ -3,7 +3,7 @@ use Rattle.std.proofs.Common.{◌∙◌, ℕ, List, [], ◌∷◌, refl, ap}
 use Rattle.syntax65.specs.Outcome.{◌>>=◌}
 use Rattle.language65.specs.declared.contents.Part.{Part}
 use Rattle.language65.specs.declared.contents.Said.TheVariants.{Demanded}
-use Rattle.expand65.specs.declared.place.Place.{Place}
+use Rattle.source65.specs.declared.place.Place.{Place}
 use Rattle.language65.specs.Laid.{Spot}
 use Rattle.language65.specs.Symbols.{Symbols}
 use Rattle.module65.specs.Laws.{FinalSettles}

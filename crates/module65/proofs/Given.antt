@@ -11,7 +11,7 @@ use Rattle.syntax65.specs.declared.lexing.tokens.TokenKind.TheVariants as token
 use Rattle.language65.specs.declared.fault.AsmFault.{AsmFault}
 use Rattle.language65.specs.Faults.{is_outside}
 use Rattle.language65.specs.Language.{Stated, label, unnamed_label}
-use Rattle.expand65.specs.declared.place.Place.{Place}
+use Rattle.source65.specs.declared.place.Place.{Place}
 use Rattle.statements65.specs.Parsing.{IsStatement, is_colon, label_before, label_of, named_label, or_all, with_rest}
 use Rattle.module65.specs.Module.{out_of, warning_of}
 use Rattle.module65.specs.Reading.{Answers, IsLabel, IsLabelled, IsRest, Taking, with_bytes}

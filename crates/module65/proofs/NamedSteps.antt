@@ -9,9 +9,9 @@ use Rattle.syntax65.specs.declared.lexing.tokens.TokenKind.{TokenKind}
 use Rattle.syntax65.specs.declared.lexing.tokens.TokenKind.TheVariants as token
 use Rattle.expand65.specs.declared.directives.Directive.{Directive}
 use Rattle.expand65.specs.declared.directives.Directive.TheVariants.{Macro, EndMacro, ExitMacro, Local, Repeat, EndRepeat, If, ElseIf, Else, EndIf, Include, Error, End}
-use Rattle.expand65.specs.declared.fault.ExpandFault.{ExpandFault}
-use Rattle.expand65.specs.declared.fault.ExpandFault.TheVariants as fault
-use Rattle.expand65.specs.declared.place.Place.{Place}
+use Rattle.source65.specs.declared.fault.ExpandFault.{ExpandFault}
+use Rattle.source65.specs.declared.fault.ExpandFault.TheVariants as fault
+use Rattle.source65.specs.declared.place.Place.{Place}
 use Rattle.expand65.specs.Arguments.{arguments_of}
 use Rattle.expand65.specs.Blocks.{Block, Branch, at_elseif, at_else, at_endif, Gathered, Verdict, on, closed, refused, closed_if, collecting, collects, gathering, gathers, mislabelled, passes, skips}
 use Rattle.expand65.specs.Conditions.{IsDecided, IsElse, ended_if, found, passed}

@@ -8,7 +8,7 @@ use Rattle.language65.specs.declared.contents.Content.{Content}
 use Rattle.language65.specs.declared.contents.Segment.{Segment}
 use Rattle.language65.specs.declared.fault.AsmFault.{AsmFault}
 use Rattle.language65.specs.Language.{Stated}
-use Rattle.expand65.specs.declared.place.Place.{Place}
+use Rattle.source65.specs.declared.place.Place.{Place}
 use Rattle.language65.specs.Laid.{Laid, Spot, asks_section}
 use Rattle.language65.specs.Layout.{Layout, Standing, laid, layout_behind, nothing_laid, standing_behind}
 use Rattle.language65.specs.LineFaults.{line_fault}

@@ -9,7 +9,7 @@ use Rattle.language65.specs.declared.contents.Part.{Part}
 use Rattle.language65.specs.declared.contents.Said.{Said}
 use Rattle.language65.specs.declared.fault.AsmFault.{AsmFault}
 use Rattle.language65.specs.Contents.{decided, export_said, import_fault, operand_form, stored, telling}
-use Rattle.expand65.specs.declared.place.Place.{Place}
+use Rattle.source65.specs.declared.place.Place.{Place}
 use Rattle.language65.specs.Laid.{Spot}
 use Rattle.language65.specs.Norms.{norm_of}
 use Rattle.language65.specs.Symbols.{Symbols, defined, named}

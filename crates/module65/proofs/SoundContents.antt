@@ -14,7 +14,7 @@ use Rattle.language65.specs.declared.contents.Content.{Content}
 use Rattle.language65.specs.declared.fault.AsmFault.{AsmFault}
 use Rattle.language65.specs.Contents.{content_of, parts_of, said_of}
 use Rattle.module65.specs.Places.{at_place}
-use Rattle.expand65.specs.declared.place.Place.{Place}
+use Rattle.source65.specs.declared.place.Place.{Place}
 use Rattle.language65.specs.Laid.{Laid, asks_section}
 use Rattle.language65.specs.Language as l
 use Rattle.module65.specs.Laws.{SoundContents}

@@ -22,7 +22,7 @@ use Rattle.language65.specs.declared.contents.Part.{Part}
 use Rattle.language65.specs.declared.contents.Part.TheVariants.{Known}
 use Rattle.language65.specs.declared.fault.AsmFault.TheVariants.{OutOfRange}
 use Rattle.language65.specs.Contents.{file_bytes, instruction_parts, item_part, opcode_part, operand_form, operand_part, operand_parts, operand_tree, parts_of, room_part, stored}
-use Rattle.expand65.specs.declared.place.Place.{Place}
+use Rattle.source65.specs.declared.place.Place.{Place}
 use Rattle.language65.specs.Laid.{Laid, Settled, nothing_settled, from_byte, Spot, asks_section, has_here}
 use Rattle.language65.specs.Language.{Item, value, text, Operand, no_operand, accumulator, immediate, address, indirect, indirect_x, indirect_y, Stated, instruction, values, reserve, align, file_part}
 use Rattle.language65.specs.declared.language.Index.{Index}

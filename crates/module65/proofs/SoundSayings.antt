@@ -12,7 +12,7 @@ use Rattle.language65.specs.declared.contents.Said.{Said}
 use Rattle.language65.specs.declared.contents.Said.TheVariants.{Exported, Demanded}
 use Rattle.language65.specs.declared.fault.AsmFault.{AsmFault}
 use Rattle.language65.specs.Contents.{decided, each_of, export_said, import_fault, said_of}
-use Rattle.expand65.specs.declared.place.Place.{Place}
+use Rattle.source65.specs.declared.place.Place.{Place}
 use Rattle.language65.specs.Laid.{Laid, Settled, Spot, asks_section}
 use Rattle.language65.specs.Language.{Stated, constant, imports, exports, globals, forced, assertion}
 use Rattle.language65.specs.Norms.{defined_form, norm_of}

@@ -9,8 +9,8 @@ use Rattle.syntax65.specs.Trees.{number}
 use Rattle.syntax65.specs.Words.{is_reserved}
 use Rattle.syntax65.specs.declared.lexing.tokens.TokenKind.{TokenKind}
 use Rattle.syntax65.specs.declared.lexing.tokens.TokenKind.TheVariants as token
-use Rattle.expand65.specs.declared.fault.ExpandFault.{ExpandFault}
-use Rattle.expand65.specs.declared.place.Place.{Place}
+use Rattle.source65.specs.declared.fault.ExpandFault.{ExpandFault}
+use Rattle.source65.specs.declared.place.Place.{Place}
 use Rattle.expand65.specs.Expansion.{statement, first_state, opened_in}
 use Rattle.expand65.specs.Includes.{bytes_in}
 use Rattle.expand65.specs.State as expand

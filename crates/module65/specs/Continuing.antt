@@ -2,7 +2,7 @@
 use Rattle.std.specs.Prelude.{List, Result}
 use Rattle.syntax65.specs.Store.{Files}
 use Rattle.expand65.specs.declared.expander.Expander.{Expander}
-use Rattle.expand65.specs.declared.place.Place.{Place}
+use Rattle.source65.specs.declared.place.Place.{Place}
 use Rattle.expand65.specs.Standing.{StandsFor}
 use Rattle.expand65.specs.State as expand
 use Rattle.language65.specs.declared.fault.AsmFault.{AsmFault}

@@ -5,7 +5,7 @@ use Rattle.syntax65.specs.Store.{Files}
 use Rattle.syntax65.specs.Trees.{Tree}
 use Rattle.object65.specs.Form.{Form}
 use Rattle.language65.specs.declared.contents.Content.{Content}
-use Rattle.expand65.specs.declared.place.Place.{Place}
+use Rattle.source65.specs.declared.place.Place.{Place}
 use Rattle.language65.specs.Laid.{Spot}
 use Rattle.language65.specs.Layout.{Layout}
 use Rattle.language65.specs.Numbering.{all_said, content_imports, parts_in, segments_asked}

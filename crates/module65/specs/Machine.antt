@@ -6,7 +6,7 @@ use Rattle.object65.specs.declared.object.Object.{Object}
 use Rattle.language65.specs.declared.contents.Content.{Content}
 use Rattle.language65.specs.declared.fault.AsmFault.{AsmFault}
 use Rattle.language65.specs.Language.{Stated}
-use Rattle.expand65.specs.declared.place.Place.{Place}
+use Rattle.source65.specs.declared.place.Place.{Place}
 use Rattle.language65.specs.Laid.{Laid, Spot, asks_section}
 use Rattle.language65.specs.Layout.{Standing, laid, standing_behind, start}
 use Rattle.language65.specs.LineFaults.{line_fault}

@@ -10,7 +10,7 @@ use Rattle.object65.specs.declared.object.Object.{Object}
 use Rattle.language65.specs.declared.contents.Content.{Content}
 use Rattle.language65.specs.declared.fault.AsmFault.{AsmFault}
 use Rattle.language65.specs.Contents.{content_of}
-use Rattle.expand65.specs.declared.place.Place.{Place}
+use Rattle.source65.specs.declared.place.Place.{Place}
 use Rattle.language65.specs.Laid.{Laid}
 use Rattle.language65.specs.Language.{Stated, assertion, says, warns}
 use Rattle.language65.specs.Layout.{Layout}

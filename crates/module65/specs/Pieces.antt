@@ -16,7 +16,7 @@ use Rattle.language65.specs.declared.fault.AsmFault.{AsmFault}
 use Rattle.language65.specs.declared.fault.AsmFault.TheVariants.{NotDefined}
 use Rattle.language65.specs.Contents.{put, telling, decided, export_said, file_bytes, import_fault, opcode_part, operand_form, operand_tree, room_part, stored}
 use Rattle.language65.specs.Language.{Item, value, text, Operand, Stated, constant, instruction, values, reserve, align, file_part, imports, exports, globals, forced, assertion}
-use Rattle.expand65.specs.declared.place.Place.{Place}
+use Rattle.source65.specs.declared.place.Place.{Place}
 use Rattle.language65.specs.Laid.{Settled, in_mode, Spot}
 use Rattle.language65.specs.Norms.{norm_of}
 use Rattle.language65.specs.Sizes.{width_of}

@@ -1,6 +1,6 @@
 -- Faults with their places.
 use Rattle.std.specs.Prelude.{Result, Ok, Err}
-use Rattle.expand65.specs.declared.place.Place.{Place}
+use Rattle.source65.specs.declared.place.Place.{Place}
 use Rattle.language65.specs.declared.fault.AsmFault.{AsmFault}
 
 -- its line is 0 where none was read

@@ -4,8 +4,8 @@ use Rattle.syntax65.specs.Outcome.{First, Unless}
 use Rattle.syntax65.specs.Store.{Files}
 use Rattle.syntax65.specs.Tokens.{Lexeme}
 use Rattle.syntax65.specs.Trees.{number}
-use Rattle.expand65.specs.declared.fault.ExpandFault.{ExpandFault}
-use Rattle.expand65.specs.declared.place.Place.{Place}
+use Rattle.source65.specs.declared.fault.ExpandFault.{ExpandFault}
+use Rattle.source65.specs.declared.place.Place.{Place}
 use Rattle.expand65.specs.Expansion.{Reaches, statement, nothing, fault, opened_in}
 use Rattle.expand65.specs.Includes.{beside, file_named}
 use Rattle.expand65.specs.Meaning.{Meaning}

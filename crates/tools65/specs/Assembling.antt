@@ -1,6 +1,6 @@
 -- What ca65 names and says.
 use Rattle.std.specs.Prelude.{◌≡◌, ℕ, nat_eq, List, map, Option, Some, None, if◌then◌else◌}
-use Rattle.expand65.specs.declared.place.Place.{Place}
+use Rattle.source65.specs.declared.place.Place.{Place}
 use Rattle.language65.specs.Faults.{fault_text}
 use Rattle.line65.specs.Defining.{Defining}
 use Rattle.line65.specs.Line.{Assembling}

@@ -11,7 +11,7 @@ use Rattle.language65.specs.LineFaults.{alignment_fault, block_fault, defined_tw
 use Rattle.language65.specs.Norms.{constant_in}
 use Rattle.language65.specs.Sizes.{counted, gap, length_of}
 use Rattle.language65.specs.Symbols.{Symbols, key_defined}
-use Rattle.expand65.specs.declared.place.Place.{Place}
+use Rattle.source65.specs.declared.place.Place.{Place}
 use Rattle.object65.specs.Objects.{section_limit}
 use Rattle.whole65.proofs.Numbers.{equal}
 use Rattle.whole65.proofs.Multiples.{power_positive}

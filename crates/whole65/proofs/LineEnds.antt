@@ -3,7 +3,7 @@ use Rattle.std.proofs.Common.{◌≡◌, ℕ, ◌+◌, max, Bool, true, false, n
 use Rattle.std.proofs.lemmas.List.{append-nil}
 use Rattle.std.proofs.Math.Nat.{add_assoc}
 use Rattle.std.proofs.lemmas.List.Elements.{filter-append}
-use Rattle.expand65.specs.declared.place.Place.{Place}
+use Rattle.source65.specs.declared.place.Place.{Place}
 use Rattle.language65.specs.Laid.{Laid}
 use Rattle.language65.specs.Language.{Stated}
 use Rattle.language65.specs.Layout.{Layout, laid, multiple_of, segment_at, spot_of}

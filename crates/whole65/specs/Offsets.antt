@@ -2,7 +2,7 @@
 use Rattle.std.specs.Prelude.{◌≡◌, ◌<◌, ℕ, zero, suc, ◌*◌, ◌^◌, List, [], ◌∷◌, filter, nat_eq, None}
 use Rattle.std.specs.Int.{next_multiple_of}
 use Rattle.std.specs.List.{AllByRecursion}
-use Rattle.expand65.specs.declared.place.Place.{Place}
+use Rattle.source65.specs.declared.place.Place.{Place}
 use Rattle.language65.specs.Language.{Stated}
 use Rattle.language65.specs.Layout.{Layout, layout_behind, nothing_laid}
 use Rattle.language65.specs.LineFaults.{line_fault}

@@ -36,7 +36,7 @@ fn label(spot: Spot, size: AddressSize) -> Definition
 impl Assembler {
     ghost use Rattle.std.specs.Prelude.{[], ◌++◌, OnOk, Some, false, map, true};
     ghost use Rattle.std.specs.Option.{option_map};
-    ghost use Rattle.expand65.specs.declared.place.Place.{Place};
+    ghost use Rattle.source65.specs.declared.place.Place.{Place};
     ghost use Rattle.language65.specs.LineFaults.{opened_twice};
     ghost use Rattle.language65.specs.Symbols.{defined, named};
     ghost use Rattle.module65.specs.Pieces.{demanded, imported};

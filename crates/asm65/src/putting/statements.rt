@@ -67,7 +67,7 @@ fn is_so(alloc: Global, symbols: &Symbols, spot: Spot, value: &Expr) -> Result<b
 
 impl Assembler {
     ghost use Rattle.std.specs.Prelude.{◌∷◌, [], OnOk, map};
-    ghost use Rattle.expand65.specs.declared.place.Place.{Place};
+    ghost use Rattle.source65.specs.declared.place.Place.{Place};
     ghost use Rattle.language65.specs.Contents.{file_bytes, opcode_part, room_part};
     ghost use Rattle.language65.specs.declared.contents.Part.TheVariants.{Known};
     ghost use Rattle.language65.specs.Laid.{in_mode};

@@ -1,5 +1,5 @@
 use Rattle.std.proofs.Common.{◌≡◌, ◌∙◌, ap, subst}
-use Rattle.expand65.specs.declared.place.Place.{Place}
+use Rattle.source65.specs.declared.place.Place.{Place}
 use Rattle.expand65.specs.Standing.{place_of, stated}
 use Rattle.language65.specs.Sound.{AreNamed}
 use Rattle.asm65.specs.Running.{TakesBy, tokens_of}

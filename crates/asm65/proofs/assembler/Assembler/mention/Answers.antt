@@ -1,5 +1,5 @@
 use Rattle.std.proofs.Common.{List, ℕ, map, take, sym, subst, arith}
-use Rattle.expand65.specs.declared.place.Place.{Place}
+use Rattle.source65.specs.declared.place.Place.{Place}
 use Rattle.language65.specs.Laid.{Spot}
 use Rattle.language65.specs.Views.{spot_of}
 use Rattle.module65.specs.Machine.{State}

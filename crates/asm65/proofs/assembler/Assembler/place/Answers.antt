@@ -5,7 +5,7 @@ use Rattle.syntax65.specs.Outcome.{Unless}
 use Rattle.language65.specs.declared.fault.AsmFault.{AsmFault}
 use Rattle.language65.specs.Faults.{is_failure, is_memory, is_outside}
 use Rattle.layout65.proofs.Steps.{unless_then}
-use Rattle.expand65.specs.declared.place.Place.{Place}
+use Rattle.source65.specs.declared.place.Place.{Place}
 use Rattle.language65.specs.Laid.{Spot}
 use Rattle.language65.specs.Language.{Stated}
 use Rattle.language65.specs.Layout as layout

@@ -5,7 +5,7 @@ use Rattle.syntax65.specs.Outcome.{Unless}
 use Rattle.syntax65.specs.Tokens.{Lexeme}
 use Rattle.expand65.specs.BlockLines.{TakesInBlock}
 use Rattle.expand65.specs.Blocks.{collects}
-use Rattle.expand65.specs.Faults.{is_outside}
+use Rattle.source65.specs.Faults.{is_outside}
 use Rattle.expand65.specs.Inside.{left_of}
 use Rattle.expand65.specs.Judging.{Judges}
 use Rattle.expand65.specs.Kept.{tokens_in}

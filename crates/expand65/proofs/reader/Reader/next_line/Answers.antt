@@ -18,7 +18,7 @@ returns-in_err-line-clause-read g c =
     let not_end : c.in_ok-next.next ≡ AtEnd → ⊥ = λ e. let t : c.is_end.result ≡ true = c.is_end.ensures.1 e in let u = c.if-is_end.false in absurd cc in
     let more : suc (old.room - 1) ≡ old.room = omega (arith, c.if-self-eq0.false) in
     let taken = moved_to (λ m. TakesLine (left_in m mid) (Err f) (left_in m c.take_line.new.self)) o (g.S.Store.files c.begin_line.new.store) c.in_ok-next.ensures.files c.in_err-line.ensures.taken in
-    rw (p.1, p.2) (told_refused o old mid c.take_line.new.self c.move_by.new.self (old.room - 1) c.in_ok-next.next f c.in_ok-next.ensures.comes c.in_ok-next.ensures.same not_end taken c.move_by.ensures more)
+    rw (p.1, p.2) (told_refused o old mid c.take_line.new.self c.move_by.new.place (old.room - 1) c.in_ok-next.next f c.in_ok-next.ensures.comes c.in_ok-next.ensures.same not_end taken c.move_by.ensures more)
 
 pub returns-clause-read : goal.returns-clause-read
 returns-clause-read g c =
@@ -26,7 +26,7 @@ returns-clause-read g c =
     let old = c.args.self.now in
     let mid = c.begin_line.new.self in
     let line = c.in_ok-line.line in
-    let new : Reader = record { top = record { source = c.take_line.new.self; conditions = old.top.conditions; back = old.top.back }; outer = old.outer; room = old.room - 1; place = c.move_by.new.self } in
+    let new : Reader = record { top = record { source = c.take_line.new.self; conditions = old.top.conditions; back = old.top.back }; outer = old.outer; room = old.room - 1; place = c.move_by.new.place } in
     let not_end : c.in_ok-next.next ≡ AtEnd → ⊥ = λ e. let t : c.is_end.result ≡ true = c.is_end.ensures.1 e in let u = c.if-is_end.false in absurd cc in
     let more : suc (old.room - 1) ≡ old.room = omega (arith, c.if-self-eq0.false) in
     let taken = moved_to (λ m. TakesLine (left_in m mid) (Ok line) (left_in m c.take_line.new.self)) o (g.S.Store.files c.begin_line.new.store) c.in_ok-next.ensures.files c.in_ok-line.ensures.taken in

@@ -3,7 +3,7 @@ use Rattle.std.proofs.lemmas.Result.{err_from_is_err_and}
 use Rattle.syntax65.specs.Outcome.{Unless}
 use Rattle.expand65.specs.BlockLines.{TakesInBlock}
 use Rattle.expand65.specs.Blocks.{skips}
-use Rattle.expand65.specs.Faults.{is_outside}
+use Rattle.source65.specs.Faults.{is_outside}
 use Rattle.expand65.specs.Inside.{left_of}
 use Rattle.expand65.specs.Judging.{JudgesSkip, branch_of}
 use Rattle.expand65.specs.Kept.{tokens_in}

@@ -3,13 +3,13 @@ use Rattle.std.specs.Prelude.{is_some}
 use Rattle.std.proofs.lemmas.Result.{err_from_is_err_and}
 use Rattle.syntax65.specs.Outcome.{Unless}
 use Rattle.expand65.specs.Blocks.{Block, collects}
-use Rattle.expand65.specs.Faults.{is_outside}
+use Rattle.source65.specs.Faults.{is_outside}
 use Rattle.expand65.specs.Inside.{left_of}
 use Rattle.expand65.specs.Kept.{tokens_in}
 use Rattle.expand65.specs.Macros.{IsKept, macro_of}
 use Rattle.expand65.specs.Rewriting.{macros_of, state_of}
 use Rattle.expand65.specs.State.{goes, stops}
-use Rattle.expand65.specs.declared.fault.ExpandFault.TheVariants.{MacroTwice}
+use Rattle.source65.specs.declared.fault.ExpandFault.TheVariants.{MacroTwice}
 use Rattle.expand65.specs.declared.playing.Body.{Body}
 use Rattle.expand65.proofs.Acting.{where_known, where_so}
 use Rattle.expand65.proofs.Defining.{entry_of, is_none, kept_one, once_refused, rewritten, twice}

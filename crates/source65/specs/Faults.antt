@@ -7,8 +7,8 @@ use Rattle.syntax65.specs.declared.lexing.fault.LexFault.{LexFault}
 use Rattle.syntax65.specs.declared.lexing.fault.LexFault.TheVariants as lex
 use Rattle.syntax65.specs.declared.store.StoreFault.{StoreFault}
 use Rattle.syntax65.specs.declared.store.StoreFault.TheVariants as store
-use Rattle.expand65.specs.declared.fault.ExpandFault.{ExpandFault}
-use Rattle.expand65.specs.declared.fault.ExpandFault.TheVariants.{FailedBefore, OutOfMemory, Syntax, FileNotFound, FileError, NotConstant, Nested, TooManyLines, NotClosed, NotOpened, TooManyArguments, MacroTwice, MacroInside, CountOutOfRange, FileTooLong, Error, NotUnderstood, LineTooLong}
+use Rattle.source65.specs.declared.fault.ExpandFault.{ExpandFault}
+use Rattle.source65.specs.declared.fault.ExpandFault.TheVariants.{FailedBefore, OutOfMemory, Syntax, FileNotFound, FileError, NotConstant, Nested, TooManyLines, NotClosed, NotOpened, TooManyArguments, MacroTwice, MacroInside, CountOutOfRange, FileTooLong, Error, NotUnderstood, LineTooLong}
 
 -- the words of a fault that has no text of its own
 abbrev pub own_words : ExpandFault → List ℕ

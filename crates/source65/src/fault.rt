@@ -1,8 +1,8 @@
 //! Why a source's statements can't be given.
 
 ghost use Rattle.std.specs.Prelude.{◌≡◌};
-ghost use Rattle.expand65.specs.declared.fault.ExpandFault.TheVariants.{FileError, FileNotFound, OutOfMemory};
-ghost use Rattle.expand65.specs.Faults.{fault_of_lexing, fault_of_parsing, fault_of_store};
+ghost use Rattle.source65.specs.declared.fault.ExpandFault.TheVariants.{FileError, FileNotFound, OutOfMemory};
+ghost use Rattle.source65.specs.Faults.{fault_of_lexing, fault_of_parsing, fault_of_store};
 
 use std::alloc::{AllocError, AllocFailed};
 use std::error::Error;
@@ -44,7 +44,7 @@ pub enum ExpandFault {
 }
 
 impl ExpandFault {
-    ghost use Rattle.expand65.specs.Faults.{own_words, expand_words};
+    ghost use Rattle.source65.specs.Faults.{own_words, expand_words};
 
     /// The words of a fault that has no text of its own.
     fn own_words(&self) -> &[u8]

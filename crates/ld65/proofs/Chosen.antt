@@ -2,7 +2,7 @@
 use Rattle.std.proofs.Common.{◌≡◌, ◌∙◌, ◌<◌, ◌+◌, ℕ, zero, suc, List, [], ◌∷◌, ◌++◌, drop, get_or, length, Bool, true, false, slice_get, Option, Some, None, Result, Ok, Err, refl, sym, ap, subst, arith}
 use Rattle.std.specs.Prelude.{IfSome}
 use Rattle.std.specs.Option.{option_map_or}
-use Rattle.script65.proofs.NeedLemmas.{drop_item}
+use Rattle.script65.proofs.Eaches.{drop_item}
 use Rattle.syntax65.specs.Outcome.{◌>>=◌, Refuses, Unless}
 use Rattle.syntax65.specs.Store.{Files, PassesBy}
 use Rattle.syntax65.proofs.Outcome.{refused-then}

@@ -10,7 +10,7 @@ use Rattle.linkage65.specs.declared.contents.Piece.TheVariants.{Known, Filled}
 use Rattle.linkage65.specs.declared.holding.Held.{Held}
 use Rattle.linkage65.specs.Contents.{cells_of, content_of, piece_cells, segment_from}
 use Rattle.linkage65.specs.Evaluation.{exports_in, linkage_in}
-use Rattle.linkage65.specs.Files.{cell_bytes, segment_bytes}
+use Rattle.linkage65.specs.RowBytes.{cell_bytes, segment_bytes}
 use Rattle.linkage65.specs.Holding.{bytes_in}
 use Rattle.linkage65.specs.Segments.{Cell, known, filled}
 use Rattle.linkage65.specs.Values.{Exports, Linkage}

@@ -5,9 +5,6 @@ pub mod Walk
 pub mod ExportTables
 pub mod Passes
 pub mod SegmentLemmas
-pub mod LoadLemmas
-pub mod FileLemmas
-pub mod ImageLemmas
 pub mod GrowingLaw
 pub mod PlaceOf
 pub mod Beginnings

@@ -1,7 +1,6 @@
 -- Names that are needed and not given so far, each once.
-use Rattle.std.proofs.Common.{◌≡◌, ◌∙◌, ℕ, Bool, true, false, not, ◌||◌, filter, List, [], ◌∷◌, ◌++◌, map, if◌then◌else◌, append_assoc, refl, sym, ap, subst}
-use Rattle.std.specs.Option.{is_some}
-use Rattle.std.specs.List.{flat_map, list_any}
+use Rattle.std.proofs.Common.{◌≡◌, ◌∙◌, ℕ, Bool, true, false, not, ◌||◌, List, [], ◌∷◌, ◌++◌, if◌then◌else◌, refl, sym, ap}
+use Rattle.std.specs.List.{flat_map}
 use Rattle.std.specs.Str.{bytes_eq}
 use Rattle.std.proofs.lemmas.List.Folds.{list_any-append}
 use Rattle.script65.specs.declared.script.Script.{Script}

@@ -2,15 +2,16 @@
 use Rattle.std.proofs.Common.{◌≡◌, ◌∙◌, ℕ, zero, suc, ◌+◌, ◌<◌, Bool, true, false, List, [], ◌∷◌, ◌++◌, length, get_or, Result, Ok, Err, refl, sym, ap, subst, arith}
 use Rattle.std.specs.Prelude.{ℤ, ◌==◌}
 use Rattle.syntax65.specs.Outcome.{First}
-use Rattle.script65.specs.declared.placement.Placement.{Placement}
+use Rattle.image65.specs.declared.placement.Placement.{Placement}
 use Rattle.script65.specs.declared.script.Area.{Area}
 use Rattle.script65.specs.declared.script.Script.{Script}
 use Rattle.linkage65.specs.declared.fault.LinkFault.{LinkFault}
 use Rattle.linkage65.specs.declared.linked.Linked.{Linked}
-use Rattle.linkage65.specs.declared.linked.OutputFile.{OutputFile}
+use Rattle.image65.specs.declared.output.OutputFile.{OutputFile}
 use Rattle.linkage65.specs.declared.parts.ValueFault.{ValueFault}
 use Rattle.linkage65.specs.declared.parts.ValueFault.TheVariants.{Unresolved}
-use Rattle.linkage65.specs.Files.{AddsArea, AddsAreas, IsAreaFile, IsImage, Piece, file_name, row_bytes, with_bytes}
+use Rattle.image65.specs.Files.{AddsArea, AddsAreas, IsAreaFile, IsImage, Piece, file_name, with_bytes}
+use Rattle.linkage65.specs.RowBytes.{row_bytes}
 use Rattle.linkage65.specs.Links.{IsFinished, IsImaged, IsPlacedLink, IsProgramLink, LinkOf, checked, names_once, placed}
 use Rattle.linkage65.specs.Maps.{map_text}
 use Rattle.linkage65.specs.Modules.{Module}

@@ -5,7 +5,7 @@ use Rattle.std.specs.Option.{option_map}
 use Rattle.std.specs.Prelude.{find, option_copied}
 use Rattle.std.specs.Str.{bytes_eq}
 use Rattle.std.proofs.lemmas.List.{drop_all}
-use Rattle.script65.proofs.NeedLemmas.{drop_item}
+use Rattle.script65.proofs.Eaches.{drop_item}
 use Rattle.linkage65.specs.declared.contents.Content.{Content}
 use Rattle.linkage65.specs.Contents.{content_of, segment_from, segments_from}
 use Rattle.linkage65.specs.Segments.{segment_of}

@@ -2,7 +2,7 @@
 use Rattle.std.proofs.Common.{◌≡◌, ◌∙◌, ◌<◌, ◌≤◌, ℕ, zero, suc, ◌+◌, List, [], ◌∷◌, ◌++◌, length, drop, get_or, slice_get, Option, Some, None, refl, sym, ap, append_assoc, add-one}
 use Rattle.std.proofs.lemmas.List.{drop_all}
 use Rattle.script65.proofs.Eaches.{append_none, drop_at}
-use Rattle.script65.proofs.NeedLemmas.{drop_item}
+use Rattle.script65.proofs.Eaches.{drop_item}
 use Rattle.linkage65.specs.Lists.{flat_zip, with_beside}
 
 module _ {A B C : Type 0} (f : A → B → List C) where

@@ -1,10 +1,9 @@
--- What the rows of a placed program hold, as the code has it, and the files so far.
-use Rattle.std.specs.Prelude.{◌≡◌, map}
-use Rattle.linkage65.specs.declared.files.Files.{Files}
+-- What the rows of a placed program hold, as the code has it.
 use Rattle.linkage65.specs.declared.holding.Held.{Held}
 use Rattle.linkage65.specs.Contents.{AreByName, segments_from}
 use Rattle.linkage65.specs.Evaluation.{exports_in, linkage_in}
-use Rattle.linkage65.specs.Files.{RowBytes, row_bytes}
+use Rattle.image65.specs.Files.{RowBytes}
+use Rattle.linkage65.specs.RowBytes.{row_bytes}
 use Rattle.linkage65.specs.Marks.{AllFound}
 
 -- the bytes of rows
@@ -15,7 +14,3 @@ bytes_in h = row_bytes (linkage_in h.program) (exports_in h.program) (segments_f
 pub record IsReady (h : Held) : Type 0 where
   pub found : AllFound h.program.marks.now
   pub table : AreByName h.segments.now
-
--- the names are those of the files, in order
-abbrev pub AreNamed : Files → Type 0
-AreNamed f = map (λ k. k.now) f.names.keys ≡ map (λ o. o.name) f.outputs.items

@@ -12,9 +12,7 @@ pub mod Contents
 pub mod Grounds
 pub mod Places
 pub mod Checks
-pub mod Files
-pub mod Loads
-pub mod Laying
+pub mod RowBytes
 pub mod Holding
 pub mod Warnings
 pub mod Maps

@@ -1,17 +1,18 @@
 -- What modules come to by a script.
 use Rattle.std.specs.Prelude.{◌≡◌, ℕ, ℤ, List, [], ◌∷◌, ◌++◌, Option, Some, None, Result, Ok, Err}
 use Rattle.syntax65.specs.Outcome.{◌>>=◌, First}
-use Rattle.script65.specs.Placing.{place_of}
-use Rattle.script65.specs.declared.placement.PlaceFault.{PlaceFault}
-use Rattle.script65.specs.declared.placement.Placement.{Placement}
+use Rattle.image65.specs.Placing.{place_of}
+use Rattle.image65.specs.declared.placement.PlaceFault.{PlaceFault}
+use Rattle.image65.specs.declared.placement.Placement.{Placement}
 use Rattle.script65.specs.declared.script.Script.{Script}
 use Rattle.linkage65.specs.declared.fault.LinkFault.{LinkFault}
 use Rattle.linkage65.specs.declared.fault.LinkFault.TheVariants as fault
 use Rattle.linkage65.specs.declared.linked.Linked.{Linked}
-use Rattle.linkage65.specs.declared.linked.OutputFile.{OutputFile}
+use Rattle.image65.specs.declared.output.OutputFile.{OutputFile}
 use Rattle.linkage65.specs.declared.parts.ValueFault.{ValueFault}
 use Rattle.linkage65.specs.Checks.{check_asserts, check_export, check_waiting, each_passes, waiting_by_row}
-use Rattle.linkage65.specs.Files.{AddsAreas, IsAreaFile, row_bytes}
+use Rattle.image65.specs.Files.{AddsAreas, IsAreaFile}
+use Rattle.linkage65.specs.RowBytes.{row_bytes}
 use Rattle.linkage65.specs.Givers.{first_again, given_names, unresolved}
 use Rattle.linkage65.specs.Maps.{map_text}
 use Rattle.linkage65.specs.Modules.{Module}

@@ -2,15 +2,15 @@
 use Rattle.std.specs.Prelude.{ℕ, zero, suc, ◌/◌, ◌%◌, ◌^◌, ◌||◌, is_some, nat_lt, get_or, List, [], ◌∷◌, ◌++◌, codes, if◌then◌else◌}
 use Rattle.std.specs.Int.{w64, cast_unsigned}
 use Rattle.std.specs.List.{flat_map}
-use Rattle.script65.specs.declared.placement.Placement.{Placement}
-use Rattle.script65.specs.declared.placement.RowPlace.{RowPlace}
+use Rattle.image65.specs.declared.placement.Placement.{Placement}
+use Rattle.image65.specs.declared.placement.RowPlace.{RowPlace}
 use Rattle.script65.specs.declared.script.Row.{Row}
 use Rattle.script65.specs.declared.script.Script.{Script}
 use Rattle.linkage65.specs.declared.parts.Definition.{Definition}
 use Rattle.linkage65.specs.declared.parts.Exported.{Exported}
 use Rattle.linkage65.specs.declared.parts.Member.{Member}
 use Rattle.linkage65.specs.declared.parts.SectionPlace.{SectionPlace}
-use Rattle.linkage65.specs.Files.{or_zero}
+use Rattle.linkage65.specs.RowBytes.{or_zero}
 use Rattle.linkage65.specs.Givers.{defined_at, exported_at}
 use Rattle.linkage65.specs.Lists.{flat_zip}
 use Rattle.linkage65.specs.Names.{script_definitions, weak_symbols}

@@ -4,8 +4,8 @@ ghost use Rattle.std.specs.Prelude.{◌≡◌, Some};
 ghost use Rattle.linkage65.specs.Faults.{of_object, of_place};
 ghost use Rattle.linkage65.specs.declared.fault.LinkFault.TheVariants.{OutOfMemory};
 
+use image65::PlaceFault;
 use object65::ObjectFault;
-use script65::PlaceFault;
 use std::alloc::{AllocError, AllocFailed};
 use std::error::Error;
 use std::fmt;

@@ -13,14 +13,14 @@ ghost use Rattle.linkage65.specs.Warnings.{warnings_of_rows};
 use crate::asserting::check_assertions;
 use crate::checking::{check_data, check_exports};
 use crate::fault::LinkFault;
-use crate::files::files_of;
 use crate::holding::Held;
 use crate::linked::Linked;
 use crate::mapping::{members_text, rows_text, symbols_text};
 use crate::resolving::Names;
 use crate::texts::join;
 use crate::warning::warnings_of;
-use script65::{Placement, Script};
+use image65::{Placement, files_of};
+use script65::Script;
 use std::alloc::{AllocError, Global};
 use syntax65::Sequence;
 

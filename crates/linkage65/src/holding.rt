@@ -4,7 +4,7 @@ ghost use Rattle.std.specs.Prelude.{◌≡◌, ◌++◌, IfOk, OnOk, replicate};
 ghost use Rattle.std.specs.List.{flat_map};
 ghost use Rattle.linkage65.specs.Contents.{cells_of, piece_cells};
 ghost use Rattle.linkage65.specs.Evaluation.{exports_in, linkage_in};
-ghost use Rattle.linkage65.specs.Files.{cell_bytes, or_zero, stored};
+ghost use Rattle.linkage65.specs.RowBytes.{cell_bytes, or_zero, stored};
 ghost use Rattle.linkage65.specs.Holding.{IsReady, bytes_in};
 ghost use Rattle.linkage65.specs.Marks.{AllFound};
 ghost use Rattle.linkage65.specs.Values.{value_by};
@@ -14,6 +14,7 @@ use crate::evaluation::{Evaluated, value_in};
 use crate::parts::{Asserted, ValueFault, Waiting};
 use crate::tables::Segments;
 use arrayvec::ArrayVec;
+use image65::RowContents;
 use object65::{Width, fits, put};
 use script65::Row;
 use std::alloc::{AllocError, Global};
@@ -104,24 +105,22 @@ fn bytes_of_pieces(
     Ok(bytes)
 }
 
-/// The bytes of a row.
-pub fn bytes_of_row(
-    alloc: Global,
-    held: &Held<'_, '_>,
-    row: &Row,
-) -> Result<Sequence<u8>, AllocError>
-    requires { IsReady held.now }
-    ensures { IfOk result (λ bytes. bytes ≡ bytes_in held.now row.now) }
-{
-    match held.segments.get(row.name.as_slice()) {
-        None => Ok(Sequence::new(alloc)),
-        Some(content) => {
-            bytes_of_pieces(
-                alloc,
-                &held.program,
-                row.fill_value,
-                content.pieces.as_slice(),
-            )
+impl RowContents for Held<'_, '_> {
+    ghost row_bytes = { bytes_in };
+
+    ghost is_ready = { IsReady };
+
+    fn bytes_of_row(&self, alloc: Global, row: &Row) -> Result<Sequence<u8>, AllocError> {
+        match self.segments.get(row.name.as_slice()) {
+            None => Ok(Sequence::new(alloc)),
+            Some(content) => {
+                bytes_of_pieces(
+                    alloc,
+                    &self.program,
+                    row.fill_value,
+                    content.pieces.as_slice(),
+                )
+            }
         }
     }
 }

@@ -1,18 +1,15 @@
 //! What linking is: the definitions, the laws that hold of them, and what is done once all modules are known.
 #![tactic(auto)]
 
-mod areas;
 mod asserting;
 mod checking;
 mod contents;
 mod evaluation;
 mod fault;
-mod files;
 mod finishing;
 mod given;
 mod growing;
 mod holding;
-mod imaging;
 mod kept;
 pub mod laws;
 mod linked;
@@ -36,8 +33,9 @@ pub use finishing::{Job, finish};
 pub use given::Given;
 pub use growing::{Growing, end_module, no_module, take_item};
 pub use holding::Held;
+pub use image65::OutputFile;
 pub use kept::Kept;
-pub use linked::{Linked, OutputFile};
+pub use linked::Linked;
 pub use linking::{link, link_placed};
 pub use missing::open_names;
 pub use naming::{definitions_of, weak_symbols};

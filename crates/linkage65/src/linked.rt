@@ -1,13 +1,7 @@
 //! What linking gives.
 
-use syntax65::{Sequence, Text};
-
-/// A file that a command leaves.
-#[derive(Drop)]
-pub struct OutputFile {
-    pub name: Text,
-    pub bytes: Sequence<u8>,
-}
+use image65::OutputFile;
+use syntax65::Sequence;
 
 /// What linking gives.
 #[derive(Drop)]

@@ -14,7 +14,8 @@ use crate::naming::row_place;
 use crate::parts::{Definition, Exported, Member, SectionPlace};
 use crate::resolving::{Names, is_defined};
 use crate::texts::join;
-use script65::{Row, RowPlace};
+use image65::RowPlace;
+use script65::Row;
 use std::alloc::{AllocError, Global};
 use syntax65::Sequence;
 

@@ -6,7 +6,8 @@ ghost use Rattle.linkage65.specs.Names.{area_definitions, areas_definitions, exp
 
 use crate::parts::Definition;
 use crate::texts::{copy_of, join};
-use script65::{Area, AreaPlace, Placement, Row, RowPlace, Script, Symbol, SymbolKind};
+use image65::{AreaPlace, Placement, RowPlace};
+use script65::{Area, Row, Script, Symbol, SymbolKind};
 use std::alloc::{AllocError, Global};
 use syntax65::Sequence;
 

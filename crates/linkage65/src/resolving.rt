@@ -9,8 +9,9 @@ ghost use Rattle.linkage65.specs.Resolving.{AreAddresses, AreNames, IsTable, giv
 ghost use Rattle.linkage65.specs.declared.parts.Giver.TheVariants.{Nobody};
 
 use crate::parts::{Definition, Exported, Giver, Member, Resolved, SectionPlace};
+use image65::RowPlace;
 use indexmap::IndexMap;
-use script65::{Row, RowPlace};
+use script65::Row;
 use std::alloc::{AllocError, Global};
 use syntax65::Sequence;
 

@@ -1,12 +1,7 @@
-pub mod Apart
 pub mod Digits
 pub mod Eaches
 pub mod Forms
 pub mod Manys
-pub mod Members
-pub mod NeedLemmas
 pub mod OneReading
-pub mod Shown
 pub mod TableLemmas
 pub mod Utf8
-pub mod Walks

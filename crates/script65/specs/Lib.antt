@@ -4,7 +4,6 @@ pub mod Grammar
 pub mod Laws
 pub mod Numbers
 pub mod Outcome
-pub mod Placing
 pub mod Scripts
 pub mod Tables
 pub mod Tokens

@@ -1,18 +1,13 @@
-//! Linker scripts: the areas of memory, the rows of segments and the symbols that one defines, and where the
-//! segments of a program are placed by it.
+//! Linker scripts: the areas of memory, the rows of segments and the symbols that one defines.
 #![tactic(auto)]
 
 mod fault;
 pub mod laws;
-mod placement;
-mod placing;
 mod reading;
 mod script;
 mod sequence;
 
 pub use fault::{Fault, ScriptFault};
-pub use placement::{AreaPlace, PlaceFault, Placement, RowPlace, SegmentNeed};
-pub use placing::place;
 pub use reading::read_script;
 pub use script::{Access, Area, AreaFile, Begin, Row, Script, Symbol, SymbolKind};
 pub use sequence::Sequence;

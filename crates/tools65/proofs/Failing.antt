@@ -7,7 +7,7 @@ use Rattle.syntax65.specs.Outcome.{Finds, Gives, Unless}
 use Rattle.syntax65.specs.Store.{Files, HasFailed, PassesBy, Tells, last_count}
 use Rattle.syntax65.specs.declared.store.StoreFault.{StoreFault}
 use Rattle.syntax65.specs.declared.store.StoreFault.TheVariants.{OutOfMemory, FileNotFound, FileError}
-use Rattle.linkage65.specs.declared.linked.OutputFile.{OutputFile}
+use Rattle.image65.specs.declared.output.OutputFile.{OutputFile}
 use Rattle.object65.specs.declared.object.Object.{Object}
 use Rattle.asm65.specs.declared.refusal.AsmRefusal.{AsmRefusal}
 use Rattle.asm65.specs.Assembly.{IsAssembled, has_failed, in_places, is_outside_refusal, placed_of}

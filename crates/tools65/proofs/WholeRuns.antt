@@ -8,7 +8,7 @@ use Rattle.linkage65.specs.Links.{IsProgramLink, LinkOf, names_once}
 use Rattle.linkage65.specs.Modules.{Module}
 use Rattle.linkage65.specs.Programs.{program_of}
 use Rattle.linkage65.specs.declared.linked.Linked.{Linked}
-use Rattle.linkage65.specs.declared.linked.OutputFile.{OutputFile}
+use Rattle.image65.specs.declared.output.OutputFile.{OutputFile}
 use Rattle.line65.specs.Line.{Linking, Says, link, line_of}
 use Rattle.line65.specs.Messages.{line_memory_message}
 use Rattle.line65.specs.declared.fault.LineFault.{LineFault}

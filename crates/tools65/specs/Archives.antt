@@ -2,7 +2,7 @@
 use Rattle.std.specs.Prelude.{◌≡◌, ℕ, List, [], ◌∷◌, map, Result, Ok, Err}
 use Rattle.syntax65.specs.Store.{Files}
 use Rattle.line65.specs.Line.{Archiving}
-use Rattle.linkage65.specs.declared.linked.OutputFile.{OutputFile}
+use Rattle.image65.specs.declared.output.OutputFile.{OutputFile}
 use Rattle.ar65.specs.declared.archiving.Archived.{Archived}
 use Rattle.ar65.specs.declared.archiving.Archived.TheVariants.{Library, Names, Members}
 use Rattle.ar65.specs.declared.extracting.MemberFile.{MemberFile}

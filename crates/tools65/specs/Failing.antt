@@ -10,7 +10,7 @@ use Rattle.ld65.specs.Refusals.{is_failure, refusal_message}
 use Rattle.language65.specs.Faults as asm
 use Rattle.line65.specs.Line.{Says, assemble, link, archive, line_of}
 use Rattle.line65.specs.Messages.{joined}
-use Rattle.linkage65.specs.declared.linked.OutputFile.{OutputFile}
+use Rattle.image65.specs.declared.output.OutputFile.{OutputFile}
 use Rattle.module65.specs.Places.{PlacedFault}
 use Rattle.asm65.specs.Failing.{Stops}
 use Rattle.tools65.specs.Assembling.{asm_message, job_in}

@@ -7,7 +7,7 @@ use Rattle.syntax65.specs.declared.store.StoreFault.{StoreFault}
 use Rattle.syntax65.specs.declared.store.StoreFault.TheVariants.{FileError}
 use Rattle.tools65.specs.declared.writing.Unwritten.{Unwritten}
 use Rattle.tools65.specs.declared.outcome.Outcome.{Outcome}
-use Rattle.linkage65.specs.declared.linked.OutputFile.{OutputFile}
+use Rattle.image65.specs.declared.output.OutputFile.{OutputFile}
 use Rattle.tools65.specs.declared.outcome.Status.{Status}
 use Rattle.tools65.specs.declared.outcome.Status.TheVariants.{Failure}
 

@@ -16,7 +16,7 @@ use Rattle.linkage65.specs.Givers.{given_names, open_names}
 use Rattle.linkage65.specs.Modules.{Module}
 use Rattle.linkage65.specs.Programs.{program_of}
 use Rattle.link65.specs.Standing.{agrees_with, module_of}
-use Rattle.linkage65.specs.declared.linked.OutputFile.{OutputFile}
+use Rattle.image65.specs.declared.output.OutputFile.{OutputFile}
 use Rattle.whole65.specs.Equality.{IsLinkedTo}
 use Rattle.whole65.specs.Whole.{Whole}
 use Rattle.line65.specs.Line.{Linking, Says, line_of, link}

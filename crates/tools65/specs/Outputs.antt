@@ -1,6 +1,6 @@
 -- What commands write.
 use Rattle.std.specs.Prelude.{ℕ, ◌==◌, if◌then◌else◌, List, [], ◌∷◌, ◌++◌, length, Option, Some, None}
-use Rattle.linkage65.specs.declared.linked.OutputFile.{OutputFile}
+use Rattle.image65.specs.declared.output.OutputFile.{OutputFile}
 use Rattle.tools65.specs.declared.outcome.Outcome.{Outcome}
 use Rattle.tools65.specs.declared.outcome.Status.TheVariants.{Failure}
 

@@ -4,7 +4,7 @@ ghost use Rattle.std.specs.Prelude.{◌≡◌, ◌<◌, ◌≤◌, ◌⊎◌, []
 ghost use Rattle.syntax65.specs.Store.{NoneFailed};
 ghost use Rattle.tools65.specs.Leaving.{Prints, SaysBoth, Performs, StopsShort};
 ghost use Rattle.line65.specs.Messages.{memory_line};
-ghost use Rattle.linkage65.specs.declared.linked.OutputFile.{OutputFile};
+ghost use Rattle.image65.specs.declared.output.OutputFile.{OutputFile};
 ghost use Rattle.tools65.specs.Failing.{StopsWriting, file_error_line};
 
 use crate::outcome::{Outcome, Status};

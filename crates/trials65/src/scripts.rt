@@ -4,7 +4,8 @@ mod faults;
 mod places;
 mod scripts;
 
-use script65::{Placement, Script, SegmentNeed, Sequence, place, read_script};
+use image65::{Placement, SegmentNeed, place};
+use script65::{Script, Sequence, read_script};
 use std::alloc::Global;
 use std::test::Fail;
 

@@ -5,7 +5,7 @@ use Rattle.std.specs.List.{flat_map}
 use Rattle.syntax65.specs.Outcome.{◌>>=◌}
 use Rattle.object65.specs.Objects.{fits_width, value_bytes}
 use Rattle.linkage65.specs.Checks.{check_waiting, each_passes, fitting, site, value_at, waiting_in}
-use Rattle.linkage65.specs.Files.{cell_bytes, or_zero, stored}
+use Rattle.linkage65.specs.RowBytes.{cell_bytes, or_zero, stored}
 use Rattle.linkage65.specs.Segments.{Cell, known, filled, waits}
 use Rattle.linkage65.specs.Values.{AreExports, Exports, Linkage, in_table, value_by}
 use Rattle.linkage65.specs.declared.fault.LinkFault.{LinkFault}

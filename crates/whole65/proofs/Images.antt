@@ -4,13 +4,14 @@ use Rattle.std.specs.Prelude.{ℤ, ◌↔◌}
 use Rattle.std.specs.List.{AllByRecursion, flat_map}
 use Rattle.syntax65.specs.Outcome.{◌>>=◌}
 use Rattle.syntax65.specs.Trees as tree
-use Rattle.script65.specs.declared.placement.Placement.{Placement}
+use Rattle.image65.specs.declared.placement.Placement.{Placement}
 use Rattle.script65.specs.declared.script.Row.{Row}
 use Rattle.script65.specs.declared.script.Script.{Script}
 use Rattle.language65.specs.Layout.{Layout}
 use Rattle.linkage65.proofs.Passes.{passes_append}
 use Rattle.linkage65.specs.Checks.{check_waiting, each_passes, waiting_by_row, waiting_in, waiting_of}
-use Rattle.linkage65.specs.Files.{RowBytes, cell_bytes, row_bytes, segment_bytes}
+use Rattle.image65.specs.Files.{RowBytes}
+use Rattle.linkage65.specs.RowBytes.{cell_bytes, row_bytes, segment_bytes}
 use Rattle.linkage65.specs.Modules.{Module}
 use Rattle.linkage65.specs.Places.{linkage_of}
 use Rattle.linkage65.specs.Programs as linked

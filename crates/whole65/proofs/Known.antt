@@ -6,16 +6,16 @@ use Rattle.std.specs.Str.{bytes_eq}
 use Rattle.std.proofs.lemmas.List.{append-nil, append_assoc, length-append, length-map, map-append}
 use Rattle.std.proofs.lemmas.List.Folds.{list_any-append}
 use Rattle.std.proofs.lemmas.Grind.{flat_map-append}
-use Rattle.script65.proofs.Apart.{bind_ok}
+use Rattle.image65.proofs.Apart.{bind_ok}
 use Rattle.script65.specs.Outcome.{◌>>=◌}
-use Rattle.script65.specs.Placing.{area_place, areas_from, bounds_of, is_in, place_of, row_after, row_place, rows_exist, rows_from, unplaced}
-use Rattle.script65.specs.declared.placement.AreaPlace.{AreaPlace}
-use Rattle.script65.specs.declared.placement.PlaceFault.{PlaceFault}
-use Rattle.script65.specs.declared.placement.Placement.{Placement}
-use Rattle.script65.specs.declared.placement.RowPlace.{RowPlace}
-use Rattle.script65.specs.declared.placement.SegmentNeed.{SegmentNeed}
-use Rattle.script65.specs.declared.placing.site.Bounds.{Bounds}
-use Rattle.script65.specs.declared.placing.site.Spot.{Spot}
+use Rattle.image65.specs.Placing.{area_place, areas_from, bounds_of, is_in, place_of, row_after, row_place, rows_exist, rows_from, unplaced}
+use Rattle.image65.specs.declared.placement.AreaPlace.{AreaPlace}
+use Rattle.image65.specs.declared.placement.PlaceFault.{PlaceFault}
+use Rattle.image65.specs.declared.placement.Placement.{Placement}
+use Rattle.image65.specs.declared.placement.RowPlace.{RowPlace}
+use Rattle.image65.specs.declared.placement.SegmentNeed.{SegmentNeed}
+use Rattle.image65.specs.declared.placing.site.Bounds.{Bounds}
+use Rattle.image65.specs.declared.placing.site.Spot.{Spot}
 use Rattle.script65.specs.declared.script.Area.{Area}
 use Rattle.script65.specs.declared.script.Row.{Row}
 use Rattle.script65.specs.declared.script.Script.{Script}

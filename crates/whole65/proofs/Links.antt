@@ -2,9 +2,9 @@
 use Rattle.std.proofs.Common.{◌≡◌, ℕ, List, [], ◌∷◌, ◌++◌, Result, Ok, Err, refl, sym, ◌∙◌, ap, subst}
 use Rattle.std.specs.Prelude.{ℤ}
 use Rattle.syntax65.specs.Outcome.{◌>>=◌, First}
-use Rattle.script65.specs.Placing.{place_of}
-use Rattle.script65.specs.declared.placement.PlaceFault.{PlaceFault}
-use Rattle.script65.specs.declared.placement.Placement.{Placement}
+use Rattle.image65.specs.Placing.{place_of}
+use Rattle.image65.specs.declared.placement.PlaceFault.{PlaceFault}
+use Rattle.image65.specs.declared.placement.Placement.{Placement}
 use Rattle.script65.specs.declared.script.Script.{Script}
 use Rattle.linkage65.specs.Checks.{check_asserts, check_export, check_waiting, each_passes, waiting_by_row}
 use Rattle.linkage65.specs.Givers.{unresolved}
@@ -16,7 +16,7 @@ use Rattle.linkage65.specs.Values.{AreExports, Exports, Linkage, in_table}
 use Rattle.linkage65.specs.Warnings.{warnings_of_rows}
 use Rattle.linkage65.specs.declared.fault.LinkFault.{LinkFault}
 use Rattle.linkage65.specs.declared.linked.Linked.{Linked}
-use Rattle.linkage65.specs.declared.linked.OutputFile.{OutputFile}
+use Rattle.image65.specs.declared.output.OutputFile.{OutputFile}
 use Rattle.linkage65.specs.declared.parts.ValueFault.{ValueFault}
 use Rattle.whole65.proofs.Later.{bind_ok}
 

@@ -9,11 +9,11 @@ use Rattle.std.proofs.lemmas.List.Folds.{list_any-append}
 use Rattle.object65.specs.declared.object.Object.{Object}
 use Rattle.object65.specs.declared.object.Section.{Section}
 use Rattle.script65.specs.Outcome.{◌>>=◌}
-use Rattle.script65.specs.Placing.{areas_from, has_row, rows_exist, size_of, unplaced}
-use Rattle.script65.specs.declared.placement.PlaceFault.{PlaceFault}
-use Rattle.script65.specs.declared.placement.PlaceFault.TheVariants.{NoRow}
-use Rattle.script65.specs.declared.placement.SegmentNeed.{SegmentNeed}
-use Rattle.script65.specs.declared.placing.site.Spot.{Spot}
+use Rattle.image65.specs.Placing.{areas_from, has_row, rows_exist, size_of, unplaced}
+use Rattle.image65.specs.declared.placement.PlaceFault.{PlaceFault}
+use Rattle.image65.specs.declared.placement.PlaceFault.TheVariants.{NoRow}
+use Rattle.image65.specs.declared.placement.SegmentNeed.{SegmentNeed}
+use Rattle.image65.specs.declared.placing.site.Spot.{Spot}
 use Rattle.script65.specs.declared.script.Row.{Row}
 use Rattle.language65.proofs.Lists.{bytes_swap, same_bytes}
 use Rattle.language65.specs.declared.contents.Content.{Content}

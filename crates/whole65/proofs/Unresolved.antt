@@ -5,10 +5,10 @@ use Rattle.std.specs.Int.{next_multiple_of}
 use Rattle.std.specs.List.{AllByRecursion, flat_map, list_any}
 use Rattle.std.specs.Str.{bytes_eq}
 use Rattle.std.proofs.lemmas.List.Folds.{list_any-append}
-use Rattle.script65.proofs.Apart.{bind_ok}
-use Rattle.script65.specs.Placing.{areas_from, has_row, place_of, rows_exist, unplaced}
-use Rattle.script65.specs.declared.placement.PlaceFault.TheVariants.{NoRow}
-use Rattle.script65.specs.declared.placement.Placement.{Placement}
+use Rattle.image65.proofs.Apart.{bind_ok}
+use Rattle.image65.specs.Placing.{areas_from, has_row, place_of, rows_exist, unplaced}
+use Rattle.image65.specs.declared.placement.PlaceFault.TheVariants.{NoRow}
+use Rattle.image65.specs.declared.placement.Placement.{Placement}
 use Rattle.script65.specs.declared.script.Row.{Row}
 use Rattle.script65.specs.declared.script.Script.{Script}
 use Rattle.language65.proofs.Lists.{same_bytes}
@@ -18,7 +18,7 @@ use Rattle.language65.specs.declared.contents.Part.TheVariants.{Known, Filled, W
 use Rattle.language65.specs.Laid.{Laid, asks_section}
 use Rattle.language65.specs.Layout.{Layout}
 use Rattle.language65.specs.Numbering.{parts_in, section_keys, segments_asked}
-use Rattle.linkage65.specs.Files.{RowBytes}
+use Rattle.image65.specs.Files.{RowBytes}
 use Rattle.linkage65.specs.Modules.{Module}
 use Rattle.linkage65.specs.declared.parts.ValueFault.{ValueFault}
 use Rattle.module65.proofs.SoundForms.{all_append}

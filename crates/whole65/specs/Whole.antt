@@ -4,12 +4,12 @@ use Rattle.std.specs.List.{flat_map, AllByRecursion}
 use Rattle.syntax65.specs.Trees.{name}
 use Rattle.object65.specs.declared.object.Action.{Action}
 use Rattle.object65.specs.declared.object.Action.TheVariants as action
-use Rattle.script65.specs.Placing.{place_of}
-use Rattle.script65.specs.declared.placement.Placement.{Placement}
+use Rattle.image65.specs.Placing.{place_of}
+use Rattle.image65.specs.declared.placement.Placement.{Placement}
 use Rattle.script65.specs.declared.script.Row.{Row}
 use Rattle.script65.specs.declared.script.Script.{Script}
-use Rattle.linkage65.specs.declared.linked.OutputFile.{OutputFile}
-use Rattle.linkage65.specs.Files.{AddsAreas, IsAreaFile, RowBytes}
+use Rattle.image65.specs.declared.output.OutputFile.{OutputFile}
+use Rattle.image65.specs.Files.{AddsAreas, IsAreaFile, RowBytes}
 use Rattle.linkage65.specs.Givers.{first_again}
 use Rattle.linkage65.specs.Names.{script_names, symbol_imports}
 use Rattle.language65.specs.Language.{Stated, assertion}

@@ -1,5 +1,6 @@
 use super::{ROM, need, place_text};
-use script65::{AreaPlace, RowPlace, place, read_script};
+use image65::{AreaPlace, RowPlace, place};
+use script65::read_script;
 use std::test::Fail;
 
 fn row(load: u64, run: u64, size: u64) -> RowPlace {

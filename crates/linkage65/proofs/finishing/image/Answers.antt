@@ -1,6 +1,6 @@
 use Rattle.std.proofs.Common.{List, [], subst}
-use Rattle.script65.specs.declared.placement.RowPlace.{RowPlace}
-use Rattle.linkage65.specs.Files.{AddsAreas, IsAreaFile}
+use Rattle.image65.specs.declared.placement.RowPlace.{RowPlace}
+use Rattle.image65.specs.Files.{AddsAreas, IsAreaFile}
 use Rattle.linkage65.specs.Holding.{bytes_in}
 use Rattle.linkage65.proofs.finishing.image.Goals as goal
 

@@ -2,7 +2,7 @@ use Rattle.std.proofs.Common.{◌≡◌, ◌++◌, drop}
 use Rattle.std.specs.List.{flat_map}
 use Rattle.linkage65.specs.Contents.{cells_of}
 use Rattle.linkage65.specs.Evaluation.{exports_in, linkage_in}
-use Rattle.linkage65.specs.Files.{cell_bytes}
+use Rattle.linkage65.specs.RowBytes.{cell_bytes}
 use Rattle.linkage65.proofs.holding.bytes_of_pieces.Given as goal
 
 abbrev pub invariant-loop-piece : goal.invariant-loop-piece

@@ -1,5 +1,5 @@
-use Rattle.std.proofs.Common.{◌∙◌, ◌+◌, ◌∷◌, [], ◌++◌, List, ℕ, drop, map, if◌then◌else◌, sym, ap}
-use Rattle.script65.proofs.NeedLemmas.{drop_item}
+use Rattle.std.proofs.Common.{◌∙◌, ◌+◌, ◌∷◌, [], ◌++◌, drop, map, if◌then◌else◌, sym, ap}
+use Rattle.script65.proofs.Eaches.{drop_item}
 use Rattle.linkage65.specs.Givers.{each_once, is_among}
 use Rattle.linkage65.proofs.MissingLemmas.{inserted}
 use Rattle.linkage65.proofs.missing.each_once.Goals as goal

@@ -1,5 +1,5 @@
-use Rattle.std.proofs.Common.{◌≡◌, ◌∙◌, ◌++◌, List, ℕ, take, ap, sym, append_assoc}
-use Rattle.linkage65.specs.Faults.{listed, separator_behind}
+use Rattle.std.proofs.Common.{◌∙◌, ◌++◌, take, ap}
+use Rattle.linkage65.specs.Faults.{separator_behind}
 use Rattle.linkage65.proofs.Shown.{next_listed, next_names, next_separator}
 use Rattle.linkage65.proofs.words.listed.Goals as goal
 

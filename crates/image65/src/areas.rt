@@ -1,0 +1,80 @@
+//! The rows of each area's file.
+
+ghost use Rattle.std.specs.Prelude.{◌≡◌, ◌<◌, ◌++◌, ◌∷◌, ◌==◌, [], ℕ, List, Some, IfOk, OnOk, length, map, slice_get, if◌then◌else◌};
+ghost use Rattle.std.specs.Option.{option_map};
+ghost use Rattle.image65.specs.Loads.{HoldsLoads};
+ghost use Rattle.image65.specs.Files.{is_loaded};
+
+use crate::placement::RowPlace;
+use script65::Row;
+use std::alloc::{AllocError, Global};
+use syntax65::Sequence;
+
+/// A row and where it is placed.
+#[derive(Clone, Copy)]
+pub struct Load<'a> {
+    pub row: &'a Row,
+    pub place: RowPlace,
+}
+
+/// As many empty sequences as there are areas.
+fn no_loads<'a>(alloc: Global, areas: usize) -> Result<Vec<Sequence<Load<'a>>>, AllocError>
+    ensures { IfOk result (λ v. (k : ℕ) → k < areas → slice_get v.items k ≡ Some []) }
+{
+    let mut loads = Vec::new(alloc);
+    for _ in 0..areas {
+        loads.push(Sequence::new(alloc))?;
+    }
+    Ok(loads)
+}
+
+/// Adds a row to those of an area, if there is such an area.
+fn add_load<'a>(
+    loads: &mut Vec<Sequence<Load<'a>>>,
+    area: usize,
+    load: Load<'a>,
+) -> Result<(), AllocError>
+    ensures { OnOk result ((k : ℕ) → slice_get loads.new.items k
+        ≡ option_map (λ m. if area == k then m ++ load.entry ∷ [] else m) (slice_get loads.old.items k)) }
+{
+    if area < loads.len() {
+        loads[area].push(load)?;
+    }
+    Ok(())
+}
+
+/// Adds a row to those of its load area, if it is written.
+fn add_row<'a>(loads: &mut Vec<Sequence<Load<'a>>>, load: Load<'a>) -> Result<(), AllocError>
+    ensures { OnOk result ((k : ℕ) → slice_get loads.new.items k
+        ≡ option_map (λ m. if is_loaded k load.entry.row.now then m ++ load.entry ∷ [] else m) (slice_get loads.old.items k)) }
+{
+    if load.row.access.is_written() {
+        add_load(loads, load.row.load, load)?;
+    }
+    Ok(())
+}
+
+fn place_at(places: &[RowPlace], i: usize) -> Option<RowPlace>
+    ensures { result ≡ slice_get places.now i }
+{
+    places.get(i).copied()
+}
+
+/// The rows of each area's file, in order.
+pub fn loads_of<'a>(
+    alloc: Global,
+    areas: usize,
+    rows: &'a [Row],
+    places: &[RowPlace],
+) -> Result<Vec<Sequence<Load<'a>>>, AllocError>
+    ensures { IfOk result (λ v. (k : ℕ) → k < areas → HoldsLoads k rows.entry.now places.now (slice_get v.items k)) }
+{
+    let mut loads = no_loads(alloc, areas)?;
+    for (i, row) in rows.iter().enumerate() {
+        match place_at(places, i) {
+            Some(place) => add_row(&mut loads, Load { row, place })?,
+            None => (),
+        }
+    }
+    Ok(loads)
+}

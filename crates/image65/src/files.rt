@@ -1,0 +1,117 @@
+//! The files of areas.
+
+ghost use Rattle.std.specs.Prelude.{◌≡◌, ◌<◌, ◌++◌, ◌==◌, List, [], IfOk, OnOk, Some, length, map, slice_get, slice_set};
+ghost use Rattle.image65.specs.Files.{AddsArea, AddsAreas, IsAreaFile, IsFileBy, file_name, with_bytes};
+ghost use Rattle.image65.specs.Loads.{AreNamed, view};
+ghost use Rattle.image65.specs.declared.areas.Load.{Load};
+ghost use Rattle.image65.specs.declared.output.OutputFile.{OutputFile};
+
+use crate::areas::{Load, loads_of};
+use crate::imaging::area_file;
+use crate::output::OutputFile;
+use crate::placement::RowPlace;
+use crate::rows::RowContents;
+use indexmap::IndexSet;
+use script65::{Area, AreaFile, Script};
+use std::alloc::{AllocError, Global};
+use syntax65::{Sequence, Text};
+
+/// The name of an area's file, where the linker's output has a name.
+fn file_name<'a>(output: &'a str, file: &'a AreaFile) -> &'a str
+    ensures { result.now ≡ file_name output.entry.now file.entry.now }
+{
+    match file {
+        AreaFile::Output => output,
+        AreaFile::Named(name) => match std::str::from_utf8(name.as_slice()) {
+            Ok(name) => name,
+            Err(_) => "",
+        },
+    }
+}
+
+/// Files in the order in which they are written, with their names.
+#[derive(Drop)]
+pub struct Files<'a> {
+    pub names: IndexSet<&'a str>,
+    pub outputs: Vec<OutputFile>,
+}
+
+/// Adds bytes to a file that is there.
+fn extend(outputs: &mut Vec<OutputFile>, place: usize, bytes: &[u8]) -> Result<(), AllocError>
+    requires { place < length outputs.old.items }
+    ensures { OnOk result ((o : OutputFile) → slice_get outputs.old.items place ≡ Some o →
+        outputs.new.items ≡ slice_set outputs.old.items place (record { name = o.name; bytes = o.bytes ++ bytes.now })) }
+{
+    outputs[place].bytes.extend_from_slice(bytes)?;
+    Ok(())
+}
+
+impl<'a> Files<'a> {
+    /// Adds bytes to the file of a name, or begins it behind the others.
+    fn add(&mut self, alloc: Global, name: &'a str, bytes: Sequence<u8>) -> Result<(), AllocError>
+        requires { AreNamed self.old }
+        ensures files { OnOk result (self.new.outputs.items ≡ with_bytes name.entry.now bytes self.old.outputs.items) }
+        ensures named { OnOk result (AreNamed self.new) }
+    {
+        let (place, is_new) = self.names.insert_full(name)?;
+        if is_new {
+            let name = Text::copy_of(alloc, name)?;
+            self.outputs.push(OutputFile { name, bytes })?;
+            return Ok(());
+        }
+        extend(&mut self.outputs, place, bytes.as_slice())?;
+        Ok(())
+    }
+
+    /// Adds an area, if its file has a name.
+    fn add_area<C: RowContents>(
+        &mut self,
+        alloc: Global,
+        name: &'a str,
+        area: &Area,
+        contents: &C,
+        loads: &[Load<'_>],
+    ) -> Result<(), AllocError>
+        requires named { AreNamed self.old }
+        requires ready { C.is_ready contents.now }
+        ensures files { OnOk result (AddsArea (length name.entry.now == 0) name.entry.now (IsFileBy (C.row_bytes contents.now) area.now (map view loads.now)) self.old.outputs.items self.new.outputs.items) }
+        ensures named { OnOk result (AreNamed self.new) }
+    {
+        if name.is_empty() {
+            return Ok(());
+        }
+        let image = area_file(alloc, area, contents, loads)?;
+        self.add(alloc, name, Sequence::from_vec(image))
+    }
+}
+
+fn loads_at<'b, 'a>(loads: &'b Vec<Sequence<Load<'a>>>, k: usize) -> &'b [Load<'a>]
+    requires { k < length loads.now.items }
+    ensures { (m : List Load) → slice_get loads.entry.now.items k ≡ Some m → result.now ≡ m }
+{
+    loads[k].as_slice()
+}
+
+/// The files of all areas, by the places of the script's rows.
+pub fn files_of<C: RowContents>(
+    alloc: Global,
+    output: &str,
+    script: &Script,
+    contents: &C,
+    places: &[RowPlace],
+) -> Result<Sequence<OutputFile>, AllocError>
+    requires { C.is_ready contents.now }
+    ensures { IfOk result (λ files. AddsAreas output.now (IsAreaFile script.now.rows places.now (C.row_bytes contents.now)) 0 script.now.areas [] files) }
+{
+    let areas = script.areas.as_slice();
+    let loads = loads_of(alloc, areas.len(), script.rows.as_slice(), places)?;
+    let mut files = Files {
+        names: IndexSet::new(alloc),
+        outputs: Vec::new(alloc),
+    };
+    for (k, area) in areas.iter().enumerate() {
+        let name = file_name(output, &area.file);
+        files.add_area(alloc, name, area, contents, loads_at(&loads, k))?;
+    }
+    Ok(Sequence::from_vec(files.outputs))
+}

@@ -31,6 +31,12 @@ def edits_of(crate, words, folders):
     return found
 
 
+def tried(rt, crate, edit, kept=None):
+    """Whether the prover refuses an edit, and what is to be said of that. One that can't be read or tried isn't refused."""
+    kind, text = rt.must_fail(crate, edit, ["--jobs", "1"], kept)
+    return kind in (rt.REFUSED, rt.AT_LIMIT), text
+
+
 def in_turn(rt, crate, edits):
     """Tries edits one after the other, as the gate does: each over what the checks before it kept, at first the proof of the crate.
     Where the crate as it is isn't proved over that any more, a refusal would say nothing, and each is tried again from nothing."""
@@ -40,12 +46,12 @@ def in_turn(rt, crate, edits):
         shutil.copytree(f"{crate.folder}/out/incremental", kept)
         for edit in edits:
             begun = time.time()
-            found[edit], text = rt.must_fail(crate, edit, ["--jobs", "1"], kept)
+            found[edit], text = tried(rt, crate, edit, kept)
             kit.say(f"{text.removeprefix('must-fail ')} ({kit.minutes(time.time() - begun)})")
         is_sound = not rt.checked(crate, {}, ["--jobs", "1"], kept).returncode
     if not is_sound:
         kit.say(f"{crate.name}: what was kept doesn't prove the crate as it is; each once more from nothing")
-    return found if is_sound else {it: rt.must_fail(crate, it, ["--jobs", "1"])[0] for it in edits}
+    return found if is_sound else {it: tried(rt, crate, it)[0] for it in edits}
 
 
 def try_all(rt, crate, edits, lanes):

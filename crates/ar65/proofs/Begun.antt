@@ -3,8 +3,8 @@ use Rattle.std.proofs.Common.{◌≡◌, ℕ, zero, suc, ◌+◌, ◌++◌, ◌&
 use Rattle.std.specs.Prelude.{IfSome}
 use Rattle.std.specs.FinMap.{get}
 use Rattle.std.specs.Str.{bytes_eq}
-use Rattle.syntax65.specs.Outcome.{◌>>=◌, Refuses}
-use Rattle.syntax65.specs.Store.{Files}
+use Rattle.base65.specs.Outcome.{◌>>=◌, Refuses}
+use Rattle.base65.specs.Store.{Files}
 use Rattle.object65.specs.declared.fault.ObjectFault.{ObjectFault}
 use Rattle.object65.specs.declared.object.Object.{Object}
 use Rattle.object65.specs.Reading.{file_limit}

@@ -5,7 +5,7 @@ use Rattle.std.proofs.lemmas.List.{take_all, length-take, length-drop}
 use Rattle.object65.specs.declared.fault.ObjectFault.{ObjectFault}
 use Rattle.object65.specs.declared.fault.ObjectFault.TheVariants.{BadSize, BytesAfterEnd}
 use Rattle.object65.specs.declared.object.Object.{Object}
-use Rattle.syntax65.specs.Outcome.{◌>>=◌}
+use Rattle.base65.specs.Outcome.{◌>>=◌}
 use Rattle.object65.specs.Reading.{end_at, file_limit, front_of, head_at, record_at, room, whole}
 use Rattle.object65.specs.Record.{Entry}
 use Rattle.object65.specs.Taking.{State, after, finished, start}

@@ -3,12 +3,12 @@ use Rattle.std.proofs.Common.{◌≡◌, ◌∙◌, ℕ, ◌+◌, ◌<◌, ◌�
 use Rattle.std.specs.Prelude.{IfSome, IsErrOf}
 use Rattle.std.specs.FinMap.{get}
 use Rattle.std.proofs.lemmas.List.{drop_all}
-use Rattle.syntax65.specs.Outcome.{◌>>=◌, Gives, Refuses, Unless}
-use Rattle.syntax65.specs.Reading.{front_in}
-use Rattle.syntax65.specs.Store.{Files, HasFailed, Passes, PassesBy}
-use Rattle.syntax65.specs.StoreFaults.{is_outside_store}
-use Rattle.syntax65.specs.declared.store.StoreFault.{StoreFault}
-use Rattle.syntax65.specs.declared.store.StoreFault.TheVariants as store
+use Rattle.base65.specs.Outcome.{◌>>=◌, Gives, Refuses, Unless}
+use Rattle.base65.specs.Reading.{front_in}
+use Rattle.base65.specs.Store.{Files, HasFailed, Passes, PassesBy}
+use Rattle.base65.specs.StoreFaults.{is_outside_store}
+use Rattle.base65.specs.declared.store.StoreFault.{StoreFault}
+use Rattle.base65.specs.declared.store.StoreFault.TheVariants as store
 use Rattle.object65.specs.Reading.{file_limit}
 use Rattle.library65.specs.declared.contents.Contents.{Contents}
 use Rattle.library65.specs.declared.fault.LibraryFault.{LibraryFault}

@@ -2,8 +2,8 @@
 use Rattle.std.proofs.Common.{◌≡◌, ◌∙◌, ℕ, ◌+◌, Bool, true, false, List, [], ◌∷◌, length, drop, map, Option, Some, None, Result, Ok, Err, Bor, refl, sym, ap}
 use Rattle.std.specs.Prelude.{IfSome, ◌==◌}
 use Rattle.std.specs.FinMap.{get}
-use Rattle.syntax65.specs.Outcome.{◌>>=◌, Refuses, Unless}
-use Rattle.syntax65.specs.Store.{Files, Passes, PassesBy}
+use Rattle.base65.specs.Outcome.{◌>>=◌, Refuses, Unless}
+use Rattle.base65.specs.Store.{Files, Passes, PassesBy}
 use Rattle.library65.specs.declared.fault.LibraryFault.{LibraryFault}
 use Rattle.library65.specs.declared.fault.LibraryFault.TheVariants as fault
 use Rattle.library65.specs.Fault.{is_memory as is_library_memory}

@@ -4,8 +4,8 @@ use Rattle.std.specs.FinMap.{get}
 use Rattle.std.specs.List.{flat_map, AllByRecursion}
 use Rattle.std.specs.Path.{rsplit_once, slash}
 use Rattle.std.specs.Str.{is_utf8}
-use Rattle.syntax65.specs.Outcome.{◌>>=◌, each}
-use Rattle.syntax65.specs.Store.{Files}
+use Rattle.base65.specs.Outcome.{◌>>=◌, each}
+use Rattle.base65.specs.Store.{Files}
 use Rattle.library65.specs.declared.fault.LibraryFault.{LibraryFault}
 use Rattle.library65.specs.declared.fault.LibraryFault.TheVariants.{NoSuchMember}
 use Rattle.library65.specs.Libraries.{bytes_of, deleted, library_at, member_names, replaced, written}

@@ -2,8 +2,8 @@
 
 ghost use Rattle.std.specs.Prelude.{◌≡◌, IfErr, IfSome};
 ghost use Rattle.std.specs.FinMap as map;
-ghost use Rattle.syntax65.specs.Outcome.{Gives};
-ghost use Rattle.syntax65.specs.Store.{PassesBy};
+ghost use Rattle.base65.specs.Outcome.{Gives};
+ghost use Rattle.base65.specs.Store.{PassesBy};
 ghost use Rattle.line65.specs.Line.{archiving};
 ghost use Rattle.ar65.specs.Librarian.{archived_of, deleted_by, extracted_by, listed_by, replaced_by};
 ghost use Rattle.ar65.specs.Refusals.{is_failure, is_outside};
@@ -16,10 +16,10 @@ use crate::loading::load_or_begin;
 use crate::refusal::Refusal;
 use crate::replacing::put_files;
 use crate::writing::library_bytes;
+use base65::{Sequence, Store};
 use library65::Library;
 use line65::{ArchiveLine, Operation};
 use std::alloc::Global;
-use syntax65::{Sequence, Store};
 
 /// What a line of the librarian comes to.
 #[derive(Drop)]

@@ -1,7 +1,7 @@
 //! Members taken out of a library.
 
 ghost use Rattle.std.specs.Prelude.{IsErrOf, map};
-ghost use Rattle.syntax65.specs.Outcome.{Gives};
+ghost use Rattle.base65.specs.Outcome.{Gives};
 ghost use Rattle.library65.specs.Fault.{is_memory};
 ghost use Rattle.ar65.specs.Librarian.{without_files};
 

@@ -2,15 +2,15 @@
 
 ghost use Rattle.std.specs.Prelude.{◌≡◌, IsErrOf, map, true};
 ghost use Rattle.std.specs.Str.{is_utf8};
-ghost use Rattle.syntax65.specs.Outcome.{Gives};
+ghost use Rattle.base65.specs.Outcome.{Gives};
 ghost use Rattle.library65.specs.Fault.{is_memory};
 ghost use Rattle.library65.specs.Libraries.{member_names};
 ghost use Rattle.ar65.specs.Librarian.{AreTexts, extracted, file_of, files_of, member_name};
 
 use crate::naming::member_name;
+use base65::{Sequence, Text};
 use library65::{Library, LibraryFault};
 use std::alloc::Global;
-use syntax65::{Sequence, Text};
 
 /// A member as it is written, to a file of its name.
 #[derive(Drop)]

@@ -4,9 +4,9 @@ ghost use Rattle.std.specs.Prelude.{◌≡◌, IfOk};
 ghost use Rattle.library65.specs.Libraries.{member_names};
 ghost use Rattle.ar65.specs.Librarian.{names_text};
 
+use base65::Sequence;
 use library65::Library;
 use std::alloc::{AllocError, Global};
-use syntax65::Sequence;
 
 /// The names of the members, one a line.
 pub fn list_names(alloc: Global, library: &Library) -> Result<Sequence<u8>, AllocError>

@@ -2,14 +2,14 @@
 
 ghost use Rattle.std.specs.Prelude.{◌≡◌, IfSome};
 ghost use Rattle.std.specs.FinMap as map;
-ghost use Rattle.syntax65.specs.Outcome.{Gives};
-ghost use Rattle.syntax65.specs.Store.{Passes};
+ghost use Rattle.base65.specs.Outcome.{Gives};
+ghost use Rattle.base65.specs.Store.{Passes};
 ghost use Rattle.library65.specs.Fault.{is_outside};
 ghost use Rattle.ar65.specs.Librarian.{begun};
 
+use base65::Store;
 use library65::{Library, LibraryFault};
 use std::alloc::Global;
-use syntax65::Store;
 
 /// The library of a file, or one of no member where there is no such file.
 pub fn load_or_begin<S: Store>(

@@ -2,13 +2,13 @@
 
 ghost use Rattle.std.specs.Prelude.{◌≡◌, ◌≤◌, ◌<◌, ◌+◌, ◌^◌, IfOk, IfSome, length};
 ghost use Rattle.std.specs.FinMap as map;
-ghost use Rattle.syntax65.specs.Outcome.{Gives};
-ghost use Rattle.syntax65.specs.Store.{Passes};
-ghost use Rattle.syntax65.specs.StoreFaults.{is_outside_store};
-ghost use Rattle.syntax65.specs.Reading.{front_in, ReadsChunk};
+ghost use Rattle.base65.specs.Outcome.{Gives};
+ghost use Rattle.base65.specs.Store.{Passes};
+ghost use Rattle.base65.specs.StoreFaults.{is_outside_store};
+ghost use Rattle.base65.specs.Reading.{front_in, ReadsChunk};
 
+use base65::{Store, StoreFault, read_full};
 use std::alloc::Global;
-use syntax65::{Store, StoreFault, read_full};
 
 /// So many bytes are read at a time.
 pub const CHUNK: usize = 4096;

@@ -7,10 +7,10 @@ ghost use Rattle.library65.specs.declared.fault.LibraryFault.TheVariants.{OutOfM
 ghost use Rattle.ar65.specs.declared.refusal.Refusal.TheVariants.{Library};
 ghost use Rattle.ar65.specs.Refusals.{is_memory, named, refusal_message};
 
+use base65::Sequence;
 use library65::LibraryFault;
 use line65::{ArchiveLine, file_message, join};
 use std::alloc::{AllocError, Global};
-use syntax65::Sequence;
 
 /// Why a line of the librarian is refused.
 #[derive(Drop)]

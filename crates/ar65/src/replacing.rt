@@ -1,8 +1,8 @@
 //! Objects put into a library.
 
 ghost use Rattle.std.specs.Prelude.{◌≡◌, IfErr, IfSome, map};
-ghost use Rattle.syntax65.specs.Outcome.{Gives};
-ghost use Rattle.syntax65.specs.Store.{Passes, PassesBy};
+ghost use Rattle.base65.specs.Outcome.{Gives};
+ghost use Rattle.base65.specs.Store.{Passes, PassesBy};
 ghost use Rattle.library65.specs.Fault.{is_outside as is_library_outside};
 ghost use Rattle.ar65.specs.Librarian.{with_file, with_files};
 ghost use Rattle.ar65.specs.Refusals.{is_failure, is_outside};
@@ -11,9 +11,9 @@ ghost use Rattle.ar65.specs.Naming.{NamesFiles};
 use crate::naming::member_name;
 use crate::reading::{CHUNK, read_front};
 use crate::refusal::Refusal;
+use base65::Store;
 use library65::{Library, LibraryFault};
 use std::alloc::Global;
-use syntax65::Store;
 
 /// An object's file has at most so many bytes.
 const FILE_LIMIT: usize = 1_073_741_824;

@@ -1,12 +1,12 @@
 //! A library as bytes.
 
-ghost use Rattle.syntax65.specs.Outcome.{Gives};
+ghost use Rattle.base65.specs.Outcome.{Gives};
 ghost use Rattle.library65.specs.Fault.{is_memory};
 ghost use Rattle.library65.specs.Libraries.{written};
 
+use base65::Sequence;
 use library65::{Library, LibraryFault};
 use std::alloc::Global;
-use syntax65::Sequence;
 
 /// The bytes of a library.
 pub fn library_bytes(alloc: Global, library: &Library) -> Result<Sequence<u8>, LibraryFault>

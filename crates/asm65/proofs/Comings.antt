@@ -1,6 +1,6 @@
 -- What waits and what it comes to.
 use Rattle.std.proofs.Common.{◌≡◌, ◌∙◌, ◌||◌, ℕ, Bool, true, false, List, refl, sym, ap}
-use Rattle.syntax65.specs.Outcome.{◌>>=◌, Unless}
+use Rattle.base65.specs.Outcome.{◌>>=◌, Unless}
 use Rattle.syntax65.specs.Trees.{Tree}
 use Rattle.source65.specs.declared.place.Place.{Place}
 use Rattle.language65.specs.declared.fault.AsmFault.{AsmFault}

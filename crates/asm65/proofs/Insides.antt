@@ -1,7 +1,7 @@
 -- No fault of a statement is a store's.
 use Rattle.std.proofs.Common.{◌≡◌, ℕ, zero, suc, ℤ, pos, Bool, true, false, refl, List, [], ◌∷◌, ◌+◌, length, take, Option, Some, None, slice_get}
 use Rattle.std.specs.Prelude.{Result, Ok, Err, IfErr, ◌-◌, nat_le, nat_lt, ◌&&◌, if◌then◌else◌}
-use Rattle.syntax65.specs.Outcome.{◌>>=◌, Gives, Unless}
+use Rattle.base65.specs.Outcome.{◌>>=◌, Gives, Unless}
 use Rattle.syntax65.specs.Trees.{Tree, number, here, name, cheap, forward, backward, unary, binary, tree_of}
 use Rattle.syntax65.specs.declared.lexing.tokens.AddressSize.{AddressSize}
 use Rattle.source65.specs.declared.place.Place.{Place}

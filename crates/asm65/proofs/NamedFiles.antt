@@ -4,9 +4,9 @@ use Rattle.std.specs.FinMap as fmap
 use Rattle.std.specs.Prelude.{Box, box_value, if◌then◌else◌}
 use Rattle.std.specs.declared.alloc.Global.{Global}
 use Rattle.std.specs.Str.{is_utf8}
-use Rattle.syntax65.specs.Reading.{front_in}
-use Rattle.syntax65.specs.Store.{Files}
-use Rattle.syntax65.specs.declared.store.StoreFault.TheVariants.{FileNotFound}
+use Rattle.base65.specs.Reading.{front_in}
+use Rattle.base65.specs.Store.{Files}
+use Rattle.base65.specs.declared.store.StoreFault.TheVariants.{FileNotFound}
 use Rattle.expand65.specs.Includes.{as_text, beside, file_named}
 use Rattle.language65.specs.declared.language.PartRange.{PartRange}
 use Rattle.language65.specs.declared.language.Statement.{Statement}

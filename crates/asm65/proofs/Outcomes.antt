@@ -1,8 +1,8 @@
 -- What is answered, from what the statements of a source come to.
 use Rattle.std.proofs.Common.{◌≡◌, ◌∙◌, ℕ, ◌+◌, ◌*◌, ◌≤◌, ◌<◌, inl, inr, arith, nat_lt, Bool, true, false, List, [], Option, Some, None, refl, sym, ap, subst}
 use Rattle.std.specs.Prelude.{Result, Ok, Err, IfOk, IfErr, IfSome, ⊤, ◌||◌}
-use Rattle.syntax65.specs.Outcome.{Finds, Unless, ◌>>=◌}
-use Rattle.syntax65.specs.Store.{Files, Passes, PassesBy}
+use Rattle.base65.specs.Outcome.{Finds, Unless, ◌>>=◌}
+use Rattle.base65.specs.Store.{Files, Passes, PassesBy}
 use Rattle.std.proofs.lemmas.Bool.Decides.{nat_tests}
 use Rattle.source65.specs.declared.fault.ExpandFault.TheVariants.{FileError}
 use Rattle.expand65.specs.declared.expander.Expander.{Expander}

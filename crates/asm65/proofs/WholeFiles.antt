@@ -3,7 +3,7 @@ use Rattle.std.proofs.Common.{◌≡◌, ℕ, ◌≤◌, Bool, true, false, nat_
 use Rattle.std.specs.Prelude.{◌&&◌, Result, Err}
 use Rattle.std.proofs.lemmas.Bool.Decides.{nat_tests}
 use Rattle.std.proofs.lemmas.List.{length-take-le, take_all}
-use Rattle.syntax65.specs.Store.{Files}
+use Rattle.base65.specs.Store.{Files}
 use Rattle.syntax65.specs.Trees.{Tree}
 use Rattle.source65.specs.declared.place.Place.{Place}
 use Rattle.language65.specs.declared.fault.AsmFault.{AsmFault}

@@ -1,7 +1,7 @@
 -- What assembling a source gives.
 use Rattle.std.specs.Prelude.{◌≡◌, Bool, false, [], map, Result, Ok, Err, unwrap_or}
-use Rattle.syntax65.specs.Outcome.{Finds}
-use Rattle.syntax65.specs.Store.{Files}
+use Rattle.base65.specs.Outcome.{Finds}
+use Rattle.base65.specs.Store.{Files}
 use Rattle.object65.specs.declared.object.Object.{Object}
 use Rattle.language65.specs.Faults.{is_failure, is_memory, is_outside}
 use Rattle.module65.specs.Module.{IsOutcome, Outcome}

@@ -1,7 +1,7 @@
 -- What is read of the files whose bytes statements take.
 use Rattle.std.specs.Prelude.{take}
 use Rattle.std.specs.Option.{option_map}
-use Rattle.syntax65.specs.Store.{Files}
+use Rattle.base65.specs.Store.{Files}
 use Rattle.source65.specs.declared.place.Place.{Place}
 use Rattle.language65.specs.Language.{Stated, file_part, part_named}
 use Rattle.module65.specs.Reading.{bytes_for}

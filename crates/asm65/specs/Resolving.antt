@@ -1,6 +1,6 @@
 -- What waits comes to its content behind the last line.
 use Rattle.std.specs.Prelude.{◌≡◌, ℕ, Bool, List, [], ◌++◌, Option, Some, None, Result, Ok, Err}
-use Rattle.syntax65.specs.Outcome.{◌>>=◌, Unless}
+use Rattle.base65.specs.Outcome.{◌>>=◌, Unless}
 use Rattle.syntax65.specs.Trees.{tree_of}
 use Rattle.source65.specs.declared.place.Place.{Place}
 use Rattle.language65.specs.declared.contents.Content.{Content}

@@ -11,7 +11,7 @@ use Rattle.language65.specs.LineFaults.{line_fault, opened_twice, scope_name}
 use Rattle.language65.specs.declared.fault.AsmFault.{AsmFault}
 use Rattle.language65.specs.Faults.{is_outside}
 use Rattle.module65.specs.Module.{out_of, warning_of}
-use Rattle.syntax65.specs.Outcome.{Unless}
+use Rattle.base65.specs.Outcome.{Unless}
 use Rattle.language65.specs.Symbols.{Definition, Key, Symbols, defined, key_defined}
 use Rattle.layout65.specs.Measuring.{Measured, measure_of}
 use Rattle.module65.specs.Machine.{PutsAll, State, awaiting, entered}

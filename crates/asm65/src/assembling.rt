@@ -1,8 +1,8 @@
 //! From a source to its object.
 
 ghost use Rattle.std.specs.Prelude.{◌≡◌, ◌≤◌, false, true, IfErr, IfOk, IfSome, Ok, Some, []};
-ghost use Rattle.syntax65.specs.Outcome.{Finds};
-ghost use Rattle.syntax65.specs.Store.{Passes, PassesBy};
+ghost use Rattle.base65.specs.Outcome.{Finds};
+ghost use Rattle.base65.specs.Store.{Passes, PassesBy};
 ghost use Rattle.object65.specs.Objects.{ObjectFits, is_good_object};
 ghost use Rattle.expand65.specs.Expansion.{opened_in};
 ghost use Rattle.expand65.specs.Standing.{Opens, measure_of, place_of};
@@ -21,10 +21,10 @@ use crate::defining::define_all;
 use crate::refusal::AsmRefusal;
 use crate::running::{Run, take_all};
 use crate::texts::Texts;
+use base65::{Sequence, Store, Text};
 use expand65::{ExpandFault, Expander, Options, Place};
 use language65::AsmFault;
 use std::alloc::Global;
-use syntax65::{Sequence, Store, Text};
 
 /// Whether the store failed.
 fn is_failure(fault: &AsmFault) -> bool

@@ -1,8 +1,8 @@
 //! What is assembled, and what that gives.
 
 use crate::AsmRefusal;
+use base65::{Sequence, Text};
 use object65::Object;
-use syntax65::{Sequence, Text};
 
 /// A constant of the command line.
 #[derive(Clone, Copy)]

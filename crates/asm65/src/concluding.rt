@@ -24,13 +24,13 @@ use crate::refusal::AsmRefusal;
 use crate::resolving::{Filling, Made, resolve};
 use crate::texts::{Texts, warn};
 use crate::waiting::Waiting;
+use base65::Sequence;
 use indexmap::IndexSet;
 use language65::{AsmFault, Segment};
 use object65::Object;
 use sections65::Sections;
 use std::alloc::{AllocError, Global};
 use symbols65::{Known, Symbols};
-use syntax65::Sequence;
 
 /// What is still open behind the last line.
 #[derive(Drop)]

@@ -11,9 +11,10 @@ ghost use Rattle.asm65.specs.Views.{place_in};
 
 use crate::assembler::{Assembler, At};
 use crate::assembly::{AsmJob, Define};
+use base65::Sequence;
 use language65::{AsmFault, Statement};
 use std::alloc::Global;
-use syntax65::{Expr, Sequence};
+use syntax65::Expr;
 
 /// Takes a constant.
 fn define(

@@ -2,7 +2,7 @@
 
 ghost use Rattle.std.specs.Prelude.{◌≡◌, ℕ, IfErr, IfOk, IfSome, take, true};
 ghost use Rattle.std.specs.Option.{option_map};
-ghost use Rattle.syntax65.specs.Store.{PassesBy};
+ghost use Rattle.base65.specs.Store.{PassesBy};
 ghost use Rattle.expand65.specs.Includes.{beside, file_named};
 ghost use Rattle.language65.specs.declared.fault.AsmFault.TheVariants.{FileError};
 ghost use Rattle.language65.specs.Faults.{is_failure, is_outside};
@@ -10,10 +10,10 @@ ghost use Rattle.language65.specs.Views.{stated_of};
 ghost use Rattle.asm65.specs.Files.{read_bytes};
 ghost use Rattle.asm65.specs.Views.{place_in};
 
+use base65::{Sequence, Store, StoreFault, read_front};
 use expand65::name_beside;
 use language65::{AsmFault, Statement};
 use std::alloc::Global;
-use syntax65::{Sequence, Store, StoreFault, read_front};
 
 /// How many bytes a file has at most.
 const MAX_FILE: usize = 16_777_216;

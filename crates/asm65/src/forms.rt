@@ -1,15 +1,15 @@
 //! Forms that are literals, and what is stored of forms.
 
 ghost use Rattle.std.specs.Prelude.{◌≡◌};
-ghost use Rattle.syntax65.specs.Outcome.{Gives};
+ghost use Rattle.base65.specs.Outcome.{Gives};
 ghost use Rattle.language65.specs.Contents.{stored};
 ghost use Rattle.language65.specs.Faults.{is_memory};
 ghost use Rattle.asm65.specs.Putting.{literal_of};
 
+use base65::Sequence;
 use language65::{AsmFault, Part};
 use object65::{Node, Norm, Width, fits, put};
 use std::alloc::Global;
-use syntax65::Sequence;
 
 /// The value of a form that is a literal.
 pub fn literal_of(form: &Norm) -> Option<i64>

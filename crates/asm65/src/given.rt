@@ -1,7 +1,7 @@
 //! Statements that expansion gives: a label, or what begins with none.
 
 ghost use Rattle.std.specs.Prelude.{◌≡◌, false, option_map, Err, IfErr};
-ghost use Rattle.syntax65.specs.Store.{PassesBy};
+ghost use Rattle.base65.specs.Store.{PassesBy};
 ghost use Rattle.syntax65.specs.Tokens.{lexemes};
 ghost use Rattle.expand65.specs.Standing.{stated};
 ghost use Rattle.language65.specs.declared.fault.AsmFault.TheVariants.{NotUnderstood};
@@ -16,11 +16,12 @@ ghost use Rattle.asm65.specs.Views.{place_in};
 use crate::assembler::{Assembler, At};
 use crate::files::with_bytes;
 use crate::sound::is_sound;
+use base65::Store;
 use expand65::Statement as Given;
 use language65::{AsmFault, Statement};
 use statements65::{label, statement};
 use std::alloc::Global;
-use syntax65::{Store, Token};
+use syntax65::Token;
 
 /// The refusal of a statement that objects can't hold. (What a statement holds is let go here, not
 /// where most statements go by.)

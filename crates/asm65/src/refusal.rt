@@ -6,10 +6,10 @@ ghost use Rattle.asm65.specs.Assembly.{has_failed, is_outside_refusal, placed_of
 ghost use Rattle.asm65.specs.Views.{place_in};
 
 use crate::assembler::At;
+use base65::Text;
 use expand65::ExpandFault;
 use language65::AsmFault;
 use std::alloc::Global;
-use syntax65::Text;
 
 /// Why a source has no object, and where: the line is 0 where none was read.
 #[derive(Drop)]

@@ -1,7 +1,7 @@
 //! What waits comes to its content, by the symbol table of all statements.
 
 ghost use Rattle.std.specs.Prelude.{◌≡◌, ◌∷◌, List, ℕ, [], None, Option, OnOk, IfOk};
-ghost use Rattle.syntax65.specs.Outcome.{Gives};
+ghost use Rattle.base65.specs.Outcome.{Gives};
 ghost use Rattle.language65.specs.declared.contents.Said.TheVariants.{Checked, Demanded, Exported};
 ghost use Rattle.language65.specs.Contents.{telling};
 ghost use Rattle.language65.specs.Faults.{is_memory};
@@ -16,11 +16,11 @@ ghost use Rattle.asm65.specs.Views.{place_in};
 
 use crate::forms::{literal_of, stored};
 use crate::waiting::{Piece, Waiting};
+use base65::Sequence;
 use language65::{AsmFault, Part, Said, Spot};
 use object65::{Action, Norm, Width};
 use std::alloc::{AllocError, Global};
 use symbols65::{Key, Known, Symbols, defined_norm, norm, operand_form};
-use syntax65::Sequence;
 
 /// The number of the global scope.
 const GLOBAL: usize = 0;

@@ -1,7 +1,7 @@
 //! The statements of a source, taken one behind the other.
 
 ghost use Rattle.std.specs.Prelude.{◌≡◌, ◌+◌, ◌<◌, ◌≤◌, ℕ, false, IfErr, IfOk, IfSome, Ok, OnOk, Err, if◌then◌else◌};
-ghost use Rattle.syntax65.specs.Store.{Passes, PassesBy};
+ghost use Rattle.base65.specs.Store.{Passes, PassesBy};
 ghost use Rattle.expand65.specs.Expansion.{opened_in};
 ghost use Rattle.expand65.specs.Standing.{FollowsFrom, Opens, measure_of, place_of, stated};
 ghost use Rattle.language65.specs.declared.fault.AsmFault.TheVariants.{BadScope};
@@ -17,10 +17,10 @@ ghost use Rattle.asm65.specs.Running.{IsHeldBy, IsReachedBy, IsRoomy, IsRunning,
 use crate::assembler::{Assembler, At};
 use crate::given::take_given;
 use crate::knowing::Knowledge;
+use base65::Store;
 use expand65::{ExpandFault, Expander, Statement};
 use language65::AsmFault;
 use std::alloc::Global;
-use syntax65::Store;
 
 /// The number of the global scope.
 const GLOBAL: u32 = 0;

@@ -6,8 +6,8 @@ ghost use Rattle.object65.specs.Objects.{is_name, is_printed};
 ghost use Rattle.language65.specs.Sound.{IsSound};
 ghost use Rattle.language65.specs.Views.{stated_of};
 
+use base65::Sequence;
 use language65::Statement;
-use syntax65::Sequence;
 
 /// How many bytes a name or a text has fewer than.
 const LEN_LIMIT: usize = 256;

@@ -6,10 +6,10 @@ ghost use Rattle.asm65.specs.Views.{place_in};
 ghost use Rattle.module65.specs.Module.{out_of, warning_at, warning_of};
 
 use crate::assembler::At;
+use base65::Sequence;
 use itoa::Buffer;
 use language65::Statement;
 use std::alloc::{AllocError, Global};
-use syntax65::Sequence;
 
 /// What is said: to standard output, and to standard error.
 #[derive(Drop)]

@@ -1,8 +1,9 @@
 //! What waits until the symbol table of all statements is known.
 
+use base65::Sequence;
 use language65::Spot;
 use object65::{Action, Width};
-use syntax65::{Expr, Sequence};
+use syntax65::Expr;
 
 /// What waits of a statement.
 #[derive(Drop)]

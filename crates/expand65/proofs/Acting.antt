@@ -1,8 +1,8 @@
 -- What the first line that is left leads to, from what the calls for its parts answer.
 use Rattle.std.proofs.Common.{◌≡◌, ℕ, zero, suc, Bool, true, false, List, [], ◌∷◌, ◌++◌, take, drop, Option, Some, None, IfSome, Result, Ok, Err, ap, refl, sym, subst, ◌∙◌, Global}
 use Rattle.std.specs.declared.rc.Rc.{Rc}
-use Rattle.syntax65.specs.Outcome.{Unless}
-use Rattle.syntax65.specs.Store.{Files}
+use Rattle.base65.specs.Outcome.{Unless}
+use Rattle.base65.specs.Store.{Files}
 use Rattle.syntax65.specs.Tokens.{Lexeme}
 use Rattle.expand65.specs.Arguments.{arguments_of}
 use Rattle.source65.specs.Faults.{is_outside}

@@ -1,7 +1,7 @@
 -- Blocks line by line, as the code takes them.
 use Rattle.std.proofs.Common.{◌≡◌, ℕ, Bool, true, false, List, refl, ap, subst, Option, Some, None, IfSome, Result, Ok, Err}
-use Rattle.syntax65.specs.Outcome.{Unless}
-use Rattle.syntax65.specs.Store.{Files}
+use Rattle.base65.specs.Outcome.{Unless}
+use Rattle.base65.specs.Store.{Files}
 use Rattle.syntax65.specs.Tokens.{Lexeme}
 use Rattle.expand65.specs.BlockLines.{TakesInBlock}
 use Rattle.expand65.specs.Blocks.{Verdict, on, closed, refused, Block, a_fault, a_mark, a_refusal, the_last, one_more}

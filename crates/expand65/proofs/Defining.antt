@@ -8,8 +8,8 @@ use Rattle.std.specs.declared.rc.Rc.{Rc}
 use Rattle.std.proofs.lemmas.List.{map-append, drop_all, length-map}
 use Rattle.indexmap.specs.IndexMap.{IndexMap, insert_entry, get}
 use Rattle.indexmap.proofs.CallerLemmas.{insert_entry-new}
-use Rattle.syntax65.specs.Outcome.{Unless}
-use Rattle.syntax65.specs.Store.{Files}
+use Rattle.base65.specs.Outcome.{Unless}
+use Rattle.base65.specs.Store.{Files}
 use Rattle.syntax65.specs.Tokens.{Lexeme}
 use Rattle.expand65.specs.Blocks.{Block, collects, gathers}
 use Rattle.expand65.specs.Entering.{pushed}

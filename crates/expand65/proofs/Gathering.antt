@@ -1,7 +1,7 @@
 -- A line that is gathered piece by piece from an open file.
 use Rattle.std.proofs.Common.{◌≡◌, ℕ, ◌<◌, true, false, List, [], ◌∷◌, ◌++◌, length, drop, refl, sym, ap, ◌∙◌, subst, arith, Option, Some, None, IfSome, Ok, Err}
 use Rattle.std.proofs.lemmas.List.{append-nil}
-use Rattle.syntax65.specs.Store.{Files}
+use Rattle.base65.specs.Store.{Files}
 use Rattle.expand65.specs.Lines.{lines_of}
 use Rattle.expand65.specs.Reading.{ReadsLine, TakesPiece, content, rest_of, without_return}
 use Rattle.source65.specs.declared.fault.ExpandFault.{ExpandFault}

@@ -1,8 +1,8 @@
 -- Steps one after another, as an expander takes them.
 use Rattle.std.proofs.Common.{◌≡◌, ℕ, refl, sym, ◌∙◌, ap, subst, List, Option, Some, None, Bool, true, false, Result, Ok, Err, IfSome}
 use Rattle.std.specs.Result.{is_err}
-use Rattle.syntax65.specs.Outcome.{Unless}
-use Rattle.syntax65.specs.Store.{Files}
+use Rattle.base65.specs.Outcome.{Unless}
+use Rattle.base65.specs.Store.{Files}
 use Rattle.expand65.specs.Expansion.{Next, statement, nothing, fault, Reaches, further, given, ended, stopped}
 use Rattle.source65.specs.Faults.{is_outside}
 use Rattle.expand65.specs.Fronts.{front_directive}

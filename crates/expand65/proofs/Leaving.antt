@@ -2,7 +2,7 @@
 use Rattle.std.proofs.Common.{◌≡◌, ◌≢◌, ℕ, refl, sym, ◌∙◌, ap, subst, arith, List, [], ◌∷◌, ◌++◌, Bool, true, false, Option, Some, None, Ok, Err}
 use Rattle.std.specs.Prelude.{◌==◌, if◌then◌else◌}
 use Rattle.std.proofs.lemmas.Bool.Decides.{nat_tests}
-use Rattle.syntax65.specs.Store.{Files}
+use Rattle.base65.specs.Store.{Files}
 use Rattle.expand65.specs.Entering.{closed, end_of, exit_of, if_more}
 use Rattle.expand65.specs.Inside.{is_call, left_in, mark_of, own, outside, left_of}
 use Rattle.expand65.specs.Macros.{outside_macro}

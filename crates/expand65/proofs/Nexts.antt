@@ -1,7 +1,7 @@
 -- The next line of the innermost input, as a line that is taken of all that is left.
 use Rattle.std.proofs.Common.{◌≡◌, ℕ, suc, Bool, true, false, List, [], ◌∷◌, ◌++◌, refl, sym, ap, ◌∙◌, subst, append_assoc, Option, Some, None, IfSome, Ok, Err}
-use Rattle.syntax65.specs.Outcome.{Unless}
-use Rattle.syntax65.specs.Store.{Files}
+use Rattle.base65.specs.Outcome.{Unless}
+use Rattle.base65.specs.Store.{Files}
 use Rattle.source65.specs.Faults.{is_outside}
 use Rattle.expand65.specs.Inside.{ComesNext, TakesLine, moved_by, left_in, mark_of, own, outside, left_of}
 use Rattle.expand65.specs.Kept.{tokens_in}

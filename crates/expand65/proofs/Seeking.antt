@@ -8,8 +8,8 @@ use Rattle.std.proofs.lemmas.Bool.Decides.{nat_tests}
 use Rattle.std.proofs.lemmas.List.{length-drop, take_all, take_more}
 use Rattle.std.proofs.lemmas.List.Folds.{list_any-append}
 use Rattle.std.proofs.lemmas.Str.{IsUtf8-from_is_utf8}
-use Rattle.syntax65.specs.Outcome.{Unless}
-use Rattle.syntax65.specs.Store.{Files, Fills, ReadsAt}
+use Rattle.base65.specs.Outcome.{Unless}
+use Rattle.base65.specs.Store.{Files, Fills, ReadsAt}
 use Rattle.source65.specs.Faults.{is_outside}
 use Rattle.expand65.specs.Includes.{file_named, first_file, folder_of, found_or, is_slash, numbered}
 use Rattle.expand65.specs.Lines.{lines_of}

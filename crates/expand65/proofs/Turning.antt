@@ -1,7 +1,7 @@
 -- The turns of a repeat.
 use Rattle.std.proofs.Common.{◌≡◌, ℕ, zero, suc, ◌+◌, ◌-◌, ◌<◌, ◌≤◌, List, [], ◌∷◌, ◌++◌, length, map, drop, refl, sym, ap, ◌∙◌, arith, ◌⊎◌, inl, inr, Bool, true, false, Result, Ok, Err}
 use Rattle.std.proofs.lemmas.List.{length-map}
-use Rattle.syntax65.specs.Outcome.{Unless}
+use Rattle.base65.specs.Outcome.{Unless}
 use Rattle.source65.specs.Faults.{is_outside}
 use Rattle.expand65.specs.Taking.{IsOpened}
 use Rattle.source65.specs.declared.fault.ExpandFault.{ExpandFault}

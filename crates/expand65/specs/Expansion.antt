@@ -1,8 +1,8 @@
 -- Expansion: from a state to the next statement, and from a source to its first state.
 use Rattle.std.specs.Prelude.{ℕ, List, [], ◌∷◌, ◌++◌, false, None, Result, Ok}
 use Rattle.std.specs.FinMap as fmap
-use Rattle.syntax65.specs.Outcome.{◌>>=◌}
-use Rattle.syntax65.specs.Store.{Files}
+use Rattle.base65.specs.Outcome.{◌>>=◌}
+use Rattle.base65.specs.Store.{Files}
 use Rattle.expand65.specs.Includes.{bytes_in, numbered}
 use Rattle.expand65.specs.Lines.{lines_of, line_limit}
 use Rattle.expand65.specs.Meaning.{Meaning}

@@ -1,6 +1,6 @@
 -- What a line does to the block that it stands in, as the code answers it.
 use Rattle.std.specs.Prelude.{◌≡◌, ℕ, suc, Bool, true, false, Result, Ok, Err}
-use Rattle.syntax65.specs.Outcome.{Unless}
+use Rattle.base65.specs.Outcome.{Unless}
 use Rattle.expand65.specs.Blocks.{Verdict, on, closed, refused, Branch, at_elseif, at_else, at_endif}
 use Rattle.source65.specs.Faults.{is_outside}
 use Rattle.expand65.specs.Kept.{tokens_in}

@@ -1,6 +1,6 @@
 -- What is proved of the definitions.
 use Rattle.std.specs.Prelude.{◌≡◌}
-use Rattle.syntax65.specs.Store.{Files}
+use Rattle.base65.specs.Store.{Files}
 use Rattle.expand65.specs.Expansion.{Next, Reaches}
 use Rattle.expand65.specs.Meaning.{Meaning}
 use Rattle.expand65.specs.State.{State}

@@ -1,6 +1,6 @@
 -- A line parted into its label and the rest.
 use Rattle.std.specs.Prelude.{◌≡◌, ℕ, suc, true, false, List, take, drop, Option, Some, None, Result, Ok, Err}
-use Rattle.syntax65.specs.Outcome.{Unless}
+use Rattle.base65.specs.Outcome.{Unless}
 use Rattle.syntax65.specs.Tokens.{Lexeme}
 use Rattle.source65.specs.Faults.{is_outside}
 use Rattle.expand65.specs.Fronts.{is_mislabelled, label_len}

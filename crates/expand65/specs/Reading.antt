@@ -1,8 +1,8 @@
 -- What an open file still has.
 use Rattle.std.specs.Prelude.{◌≡◌, ◌<◌, ◌≤◌, ℕ, ◌-◌, not, Bool, true, false, List, [], ◌∷◌, ◌++◌, length, take, drop, slice_get, option_map, unwrap_or, Result, Ok, Err, if◌then◌else◌}
 use Rattle.std.specs.FinMap as fmap
-use Rattle.syntax65.specs.Outcome.{Unless}
-use Rattle.syntax65.specs.Store.{Files}
+use Rattle.base65.specs.Outcome.{Unless}
+use Rattle.base65.specs.Store.{Files}
 use Rattle.syntax65.specs.declared.lexing.fault.LexFault.TheVariants as lex
 use Rattle.source65.specs.Faults.{is_outside}
 use Rattle.expand65.specs.Includes.{numbered}

@@ -2,8 +2,8 @@
 use Rattle.std.specs.Prelude.{◌≡◌, ℕ, ◌+◌, ◌*◌, Bool, true, false, List, [], ◌∷◌, length, map, Option, Some, None, Result, Ok, Err}
 use Rattle.std.specs.declared.rc.Rc.{Rc}
 use Rattle.std.specs.Global.{Global}
-use Rattle.syntax65.specs.Outcome.{Unless}
-use Rattle.syntax65.specs.Store.{Files}
+use Rattle.base65.specs.Outcome.{Unless}
+use Rattle.base65.specs.Store.{Files}
 use Rattle.syntax65.specs.Tokens.{Lexeme}
 use Rattle.source65.specs.Faults.{is_outside}
 use Rattle.expand65.specs.Inside.{left_of}

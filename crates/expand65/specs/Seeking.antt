@@ -1,7 +1,7 @@
 -- Names under which files are looked for, one after another.
 use Rattle.std.specs.Prelude.{◌≡◌, List, ℕ, nat_le, length, Bool, true, false, if◌then◌else◌, Option, Some, None, Result, Ok, Err}
-use Rattle.syntax65.specs.Outcome.{Unless}
-use Rattle.syntax65.specs.Store.{Files}
+use Rattle.base65.specs.Outcome.{Unless}
+use Rattle.base65.specs.Store.{Files}
 use Rattle.source65.specs.Faults.{is_outside}
 use Rattle.expand65.specs.Lines.{file_limit}
 use Rattle.expand65.specs.Reading.{bytes_of}

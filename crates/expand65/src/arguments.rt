@@ -9,8 +9,9 @@ ghost use Rattle.expand65.specs.Parts.{is_comma_at, name_at, part_len};
 
 use crate::fronts::{closes_brace, is_comma, name_in, opens_brace};
 use crate::line::Line;
+use base65::Sequence;
 use std::alloc::{AllocError, Global};
-use syntax65::{Sequence, Token};
+use syntax65::Token;
 
 /// The name at a place, if one stands there.
 pub fn name_at<'a>(tokens: &[Token<'a>], at: usize) -> Option<&'a [u8]>

@@ -2,7 +2,7 @@
 
 ghost use Rattle.std.specs.Prelude.{◌≡◌, ◌∷◌, ◌++◌, [], ◌<◌, ◌↔◌, List, IsTrue, false, drop, map, IfErr, IfOk, IfSome, OnOk};
 ghost use Rattle.syntax65.specs.Tokens.{Lexeme, lexemes};
-ghost use Rattle.syntax65.specs.Store.{Passes};
+ghost use Rattle.base65.specs.Store.{Passes};
 ghost use Rattle.expand65.specs.Inside.{Answers, left_of, mark_of};
 ghost use Rattle.expand65.specs.Blocks.{Block, collects, gathers, passes, skipping, skips};
 ghost use Rattle.source65.specs.Faults.{is_failure};
@@ -14,9 +14,10 @@ use crate::directives::Directive;
 use crate::fronts::{is_mislabelled, is_nothing, line_directive};
 use crate::line::Line;
 use crate::reader::Reader;
+use base65::{Sequence, Store};
 use source65::ExpandFault;
 use std::alloc::{AllocError, Global};
-use syntax65::{Sequence, Store, Token};
+use syntax65::Token;
 
 /// What a line does to the block that it stands in.
 #[derive(Clone, Copy)]

@@ -2,7 +2,7 @@
 
 ghost use Rattle.std.specs.Prelude.{◌≡◌, ◌∷◌, [], false, length, IfErr, IfNone, List, OnOk, ℕ, Result};
 ghost use Rattle.syntax65.specs.Expressions.{IsParsed};
-ghost use Rattle.syntax65.specs.Relations.{Answers};
+ghost use Rattle.base65.specs.Relations.{Answers};
 ghost use Rattle.syntax65.specs.Tokens.{lexemes};
 ghost use Rattle.syntax65.specs.Trees.{Tree, tree_of};
 ghost use Rattle.syntax65.specs.declared.expressions.fault.ExprFault.{ExprFault};

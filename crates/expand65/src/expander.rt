@@ -1,7 +1,7 @@
 //! The statements of a source, one after another.
 
 ghost use Rattle.std.specs.Prelude.{◌≡◌, ◌<◌, ◌≤◌, ◌+◌, ◌*◌, true, false, length, Err, IfNone, IfOk, IfSome, OnErr};
-ghost use Rattle.syntax65.specs.Store.{Files, Passes};
+ghost use Rattle.base65.specs.Store.{Files, Passes};
 ghost use Rattle.expand65.specs.Standing.{Comes, FollowsFrom, Opens, StandsFor, is_end, led, measure_of, place_of, state_in};
 ghost use Rattle.expand65.specs.Expansion.{first_left, opened_in};
 ghost use Rattle.expand65.specs.Inside.{left_of};
@@ -18,11 +18,11 @@ use crate::knows::Knows;
 use crate::line::Line;
 use crate::reader::{Input, Reader};
 use crate::rewriter::{Rewriter, Turn};
+use base65::{Sequence, Store, Text};
 use indexmap::IndexMap;
 use source65::{ExpandFault, Place};
 use std::alloc::{AllocError, Global};
 use std::mem;
-use syntax65::{Sequence, Store, Text};
 
 /// How many lines are read, skipped, collected and replayed at most, all together.
 const MAX_LINES: u32 = 1_048_576;

@@ -3,16 +3,17 @@
 ghost use Rattle.std.specs.Prelude.{◌≡◌, ◌<◌, ◌≤◌, ◌+◌, ◌-◌, ◌++◌, [], not, min, length, take, drop, true, false, IsTrue, IfErr, IfOk, IfSome, List, OnOk, ℕ, map};
 ghost use Rattle.std.specs.FinMap as fmap;
 ghost use Rattle.std.specs.List.{prefix_len};
-ghost use Rattle.syntax65.specs.Store.{Files, Fills, Passes};
+ghost use Rattle.base65.specs.Store.{Files, Fills, Passes};
 ghost use Rattle.source65.specs.Faults.{is_failure, is_outside};
 ghost use Rattle.expand65.specs.Includes.{numbered};
 ghost use Rattle.expand65.specs.Lines.{lines_of};
 ghost use Rattle.expand65.specs.Reading.{IsPiece, ReadsLine, TakesPiece, bytes_of, ends_in_return, is_inside, left_in_file, rest_of, without_return};
 
+use base65::{Sequence, Store, StoreFault, Text};
 use source65::ExpandFault;
 use std::alloc::Global;
 use std::mem;
-use syntax65::{LexFault, MAX_LINE, Sequence, Store, StoreFault, Text};
+use syntax65::{LexFault, MAX_LINE};
 
 /// How many bytes a file has at most.
 pub const MAX_FILE: u64 = 16_777_216;

@@ -3,16 +3,16 @@
 ghost use Rattle.std.specs.Prelude.{◌≡◌, ◌<◌, ◌+◌, ◌^◌, ◌++◌, ◌∷◌, [], if◌then◌else◌, true, false, map, IfNone, IfOk, IfSome, List, ℕ, Result};
 ghost use Rattle.std.specs.FinMap as fmap;
 ghost use Rattle.std.specs.Str.{is_utf8};
-ghost use Rattle.syntax65.specs.Outcome.{Gives};
-ghost use Rattle.syntax65.specs.Store.{Passes};
+ghost use Rattle.base65.specs.Outcome.{Gives};
+ghost use Rattle.base65.specs.Store.{Passes};
 ghost use Rattle.source65.specs.Faults.{is_outside};
 ghost use Rattle.expand65.specs.Includes.{as_text, begins_with_slash, beside, file_named, first_file, folder_of, found_or, is_slash, tried, within};
 ghost use Rattle.expand65.specs.Seeking.{Tries, file_of, is_there};
 
 use crate::file::MAX_FILE;
+use base65::{Store, StoreFault, Text};
 use source65::ExpandFault;
 use std::alloc::{AllocError, Global};
-use syntax65::{Store, StoreFault, Text};
 
 /// A file's name up to and with its last `/`, nothing where it has none.
 fn folder_of(file: &[u8]) -> &[u8]

@@ -2,9 +2,9 @@
 
 ghost use Rattle.std.specs.Prelude.{◌≡◌, ◌↔◌, ◌<◌, ◌≤◌, ◌+◌, ◌^◌, drop, length, true, false, [], ◌∷◌, Ok, IsTrue, IfErr, IfOk, IfSome, OnOk, Result, List, map};
 ghost use Rattle.std.specs.List.{prefix_len};
-ghost use Rattle.syntax65.specs.Store.{Files, Passes};
-ghost use Rattle.syntax65.specs.Outcome.{Gives};
-ghost use Rattle.syntax65.specs.Relations.{Answers};
+ghost use Rattle.base65.specs.Store.{Files, Passes};
+ghost use Rattle.base65.specs.Outcome.{Gives};
+ghost use Rattle.base65.specs.Relations.{Answers};
 ghost use Rattle.syntax65.specs.Tokens.{Lexeme, IsRead, lexemes};
 ghost use Rattle.source65.specs.Faults.{is_failure, is_outside};
 ghost use Rattle.expand65.specs.Inside.{ComesNext, IsReady, TakesLine, is_call, left_in};
@@ -20,9 +20,10 @@ use crate::file::{OpenFile, line_len};
 use crate::line::Line;
 use crate::passing::trimmed;
 use crate::playing::Replay;
+use base65::{Sequence, Store};
 use source65::ExpandFault;
 use std::alloc::{AllocError, Global};
-use syntax65::{Sequence, Store, Token, TokenKind};
+use syntax65::{Token, TokenKind};
 
 /// Where lines come from.
 #[derive(Drop)]

@@ -1,7 +1,7 @@
 //! Lines that are kept.
 
 ghost use Rattle.std.specs.Prelude.{◌≡◌, ◌∷◌, ◌++◌, [], false, slice_get, option_map, IsTrue, IfErr, IfOk, List, OnOk, Result};
-ghost use Rattle.syntax65.specs.Relations.{Answers};
+ghost use Rattle.base65.specs.Relations.{Answers};
 ghost use Rattle.syntax65.specs.Tokens.{IsRead, Lexeme, lexeme_of, lexemes};
 ghost use Rattle.syntax65.specs.declared.lexing.fault.LexFault.{LexFault};
 ghost use Rattle.source65.specs.Faults.{is_failure, is_outside};
@@ -13,9 +13,10 @@ ghost use Rattle.expand65.specs.Taking.{lexed};
 
 use crate::directives::Directive;
 use crate::fronts::{directive_in, is_mislabelled, label_len};
+use base65::Sequence;
 use source65::ExpandFault;
 use std::alloc::{AllocError, Global};
-use syntax65::{Lexer, Mark, Sequence, Token, TokenKind};
+use syntax65::{Lexer, Mark, Token, TokenKind};
 
 /// What a token of a line is, and how many of the line's bytes are its own.
 #[derive(Clone, Copy)]

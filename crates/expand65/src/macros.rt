@@ -1,8 +1,8 @@
 //! Macros: their definitions and their calls.
 
 ghost use Rattle.std.specs.Prelude.{◌≡◌, ◌≤◌, ◌+◌, ◌∷◌, [], false, is_some, drop, length, map, IfErr, IfOk, IfSome, Ok, Some};
-ghost use Rattle.syntax65.specs.Outcome.{Gives};
-ghost use Rattle.syntax65.specs.Store.{Files, Passes};
+ghost use Rattle.base65.specs.Outcome.{Gives};
+ghost use Rattle.base65.specs.Store.{Files, Passes};
 ghost use Rattle.syntax65.specs.Tokens.{lexeme_of, lexemes};
 ghost use Rattle.source65.specs.Faults.{is_failure, is_outside};
 ghost use Rattle.expand65.specs.Fronts.{understood};
@@ -20,11 +20,12 @@ use crate::line::Line;
 use crate::playing::{Body, Replay};
 use crate::reader::Input;
 use crate::rewriter::{Rewriter, Turn};
+use base65::{Sequence, Store};
 use indexmap::{IndexMap, IndexSet};
 use source65::ExpandFault;
 use std::alloc::{AllocError, Global};
 use std::rc::Rc;
-use syntax65::{Sequence, Store, Token, TokenKind};
+use syntax65::{Token, TokenKind};
 
 /// A macro's name and its parameters.
 #[derive(Drop)]

@@ -2,7 +2,7 @@
 
 ghost use Rattle.std.specs.Prelude.{◌≡◌, ◌<◌, ◌≤◌, List, IfNone, IfSome, IsTrue, false};
 ghost use Rattle.syntax65.specs.Scanned.{IsFront};
-ghost use Rattle.syntax65.specs.Store.{Files};
+ghost use Rattle.base65.specs.Store.{Files};
 ghost use Rattle.syntax65.specs.Tokens.{Lexeme, lexeme_of};
 ghost use Rattle.std.specs.Option.{option_map};
 ghost use Rattle.expand65.specs.Inside.{is_call, left_in, left_of, mark_of};

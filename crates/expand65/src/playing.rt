@@ -3,7 +3,7 @@
 ghost use Rattle.std.specs.Prelude.{◌≡◌, ◌<◌, ◌++◌, ◌∷◌, [], length, position, false, IfErr, IfOk, OnOk, unwrap_or, map, Some};
 ghost use Rattle.std.specs.Map.{lookup};
 ghost use Rattle.std.specs.Str.{bytes_eq};
-ghost use Rattle.syntax65.specs.Outcome.{Gives};
+ghost use Rattle.base65.specs.Outcome.{Gives};
 ghost use Rattle.syntax65.specs.Tokens.{lexeme_of, lexemes};
 ghost use Rattle.source65.specs.Faults.{is_failure, is_outside};
 ghost use Rattle.expand65.specs.Kept.{tokens_in};
@@ -12,11 +12,12 @@ ghost use Rattle.expand65.specs.Replacing.{argument_at, for_name, for_word, is_c
 ghost use Rattle.expand65.specs.Taking.{fitted};
 
 use crate::line::Line;
+use base65::Sequence;
 use indexmap::{IndexMap, IndexSet};
 use source65::ExpandFault;
 use std::alloc::{AllocError, Global};
 use std::rc::Rc;
-use syntax65::{Sequence, Token, TokenKind};
+use syntax65::{Token, TokenKind};
 
 /// How many tokens a line has at most once names are replaced.
 const MAX_TOKENS: usize = 4096;

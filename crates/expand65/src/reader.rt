@@ -1,11 +1,11 @@
 //! The open files, expansions and repeats, one inside the other.
 
 ghost use Rattle.std.specs.Prelude.{◌≡◌, ◌<◌, ◌≤◌, ◌-◌, ◌+◌, length, IfErr, IfNone, IfOk, IfSome, IsTrue, OnOk, [], false, option_map};
-ghost use Rattle.syntax65.specs.Store.{Passes};
+ghost use Rattle.base65.specs.Store.{Passes};
 ghost use Rattle.source65.specs.Faults.{is_failure, is_outside};
 ghost use Rattle.expand65.specs.Inside.{Answers, left_in, left_of, mark_of, moved_by, outside};
 ghost use Rattle.expand65.specs.Kept.{tokens_in};
-ghost use Rattle.syntax65.specs.Store.{Files};
+ghost use Rattle.base65.specs.Store.{Files};
 ghost use Rattle.expand65.specs.Entering.{closed, end_of, exit_of, if_more, pushed};
 ghost use Rattle.expand65.specs.Macros.{outside_macro};
 ghost use Rattle.expand65.specs.State.{come_back};
@@ -14,10 +14,10 @@ ghost use Rattle.expand65.specs.BlockLines.{TakesInBlock};
 
 use crate::input::{NextLine, Source};
 use crate::line::Line;
+use base65::Store;
 use source65::{ExpandFault, Place};
 use std::alloc::Global;
 use std::mem;
-use syntax65::Store;
 
 /// How many files, expansions and repeats are open at most inside the source.
 const MAX_NESTING: usize = 256;

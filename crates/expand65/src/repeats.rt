@@ -1,10 +1,10 @@
 //! Repeats.
 
-ghost use Rattle.std.specs.Prelude.{◌≡◌, ◌≤◌, ◌+◌, ℕ, false, length, map, IfErr, IfOk, IfSome, Ok, Result};
+ghost use Rattle.std.specs.Prelude.{◌≡◌, ◌≤◌, ◌+◌, ◌∷◌, [], ℕ, false, length, map, IfErr, IfOk, IfSome, Ok, Result};
 ghost use Rattle.syntax65.specs.Expressions.{IsParsed};
-ghost use Rattle.syntax65.specs.Outcome.{Gives};
-ghost use Rattle.syntax65.specs.Relations.{Answers};
-ghost use Rattle.syntax65.specs.Store.{Passes};
+ghost use Rattle.base65.specs.Outcome.{Gives};
+ghost use Rattle.base65.specs.Relations.{Answers};
+ghost use Rattle.base65.specs.Store.{Passes};
 ghost use Rattle.syntax65.specs.Tokens.{lexemes};
 ghost use Rattle.syntax65.specs.Trees.{Tree, tree_of};
 ghost use Rattle.syntax65.specs.declared.expressions.fault.ExprFault.{ExprFault};
@@ -19,11 +19,12 @@ use crate::knows::Knows;
 use crate::playing::{Body, Replay};
 use crate::reader::Input;
 use crate::rewriter::{Rewriter, Turn};
+use base65::{Sequence, Store};
 use indexmap::{IndexMap, IndexSet};
 use source65::ExpandFault;
-use std::alloc::Global;
+use std::alloc::{AllocError, Global};
 use std::rc::Rc;
-use syntax65::{Expr, Sequence, Store, Token, read_expr};
+use syntax65::{Expr, Token, read_expr};
 
 /// How many turns a repeat has at most.
 const MAX_TURNS: i64 = 65_536;
@@ -35,27 +36,31 @@ pub struct Header {
     pub variable: IndexSet<Vec<u8>>,
 }
 
+/// One name.
+fn one_name(alloc: Global, name: &[u8]) -> Result<IndexSet<Vec<u8>>, AllocError>
+    ensures { IfOk result (λ s. map (λ k. k.items) s.keys ≡ name.now ∷ []) }
+{
+    let mut names = IndexSet::new(alloc);
+    names.insert(Vec::from_slice(alloc, name)?)?;
+    Ok(names)
+}
+
 /// Nothing, or a comma and a name.
 fn variable_of(alloc: Global, tokens: &[Token<'_>]) -> Result<IndexSet<Vec<u8>>, ExpandFault>
     ensures variable { Gives is_outside (λ s. map (λ k. k.items) s.keys) result
         (understood (variable_of (lexemes tokens.now))) }
     ensures inside { IfErr result (λ e. is_failure e ≡ false) }
 {
-    let mut variable = IndexSet::new(alloc);
     if tokens.is_empty() {
-        return Ok(variable);
+        return Ok(IndexSet::new(alloc));
     }
-    if !is_comma_at(tokens, 0) {
+    if tokens.len() != 2 || !is_comma_at(tokens, 0) {
         return Err(ExpandFault::NotUnderstood);
     }
-    if tokens.len() != 2 {
-        return Err(ExpandFault::NotUnderstood);
+    match name_at(tokens, 1) {
+        Some(name) => Ok(one_name(alloc, name)?),
+        None => Err(ExpandFault::NotUnderstood),
     }
-    let Some(name) = name_at(tokens, 1) else {
-        return Err(ExpandFault::NotUnderstood);
-    };
-    variable.insert(Vec::from_slice(alloc, name)?)?;
-    Ok(variable)
 }
 
 /// The expression of a count, and the variable, if there is one.

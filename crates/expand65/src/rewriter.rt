@@ -1,7 +1,7 @@
 //! Lines rewritten one after another.
 
 ghost use Rattle.std.specs.Prelude.{◌≡◌, ◌≤◌, ◌<◌, ◌+◌, [], true, false, length, IfErr, IfOk, IfSome, Ok};
-ghost use Rattle.syntax65.specs.Store.{Files, Passes};
+ghost use Rattle.base65.specs.Store.{Files, Passes};
 ghost use Rattle.syntax65.specs.Tokens.{lexemes};
 ghost use Rattle.expand65.specs.Conditions.{IsDecided, IsElse, IsIf, ended_if};
 ghost use Rattle.source65.specs.Faults.{is_failure};
@@ -27,11 +27,12 @@ use crate::line::Line;
 use crate::macros::behind_first;
 use crate::playing::Body;
 use crate::reader::{Input, Reader};
+use base65::{Sequence, Store, Text};
 use indexmap::IndexMap;
 use source65::{ExpandFault, Place};
 use std::alloc::Global;
 use std::rc::Rc;
-use syntax65::{Sequence, Store, Text, Token};
+use syntax65::Token;
 
 /// Where a line or an end mark leads to.
 #[derive(Drop)]

@@ -6,9 +6,9 @@ ghost use Rattle.image65.specs.Loads.{HoldsLoads};
 ghost use Rattle.image65.specs.Files.{is_loaded};
 
 use crate::placement::RowPlace;
+use base65::Sequence;
 use script65::Row;
 use std::alloc::{AllocError, Global};
-use syntax65::Sequence;
 
 /// A row and where it is placed.
 #[derive(Clone, Copy)]

@@ -11,10 +11,10 @@ use crate::imaging::area_file;
 use crate::output::OutputFile;
 use crate::placement::RowPlace;
 use crate::rows::RowContents;
+use base65::{Sequence, Text};
 use indexmap::IndexSet;
 use script65::{Area, AreaFile, Script};
 use std::alloc::{AllocError, Global};
-use syntax65::{Sequence, Text};
 
 /// The name of an area's file, where the linker's output has a name.
 fn file_name<'a>(output: &'a str, file: &'a AreaFile) -> &'a str

@@ -1,6 +1,6 @@
 //! What a command leaves.
 
-use syntax65::{Sequence, Text};
+use base65::{Sequence, Text};
 
 /// A file that a command leaves.
 #[derive(Drop)]

@@ -3,9 +3,9 @@
 ghost use Rattle.std.specs.Prelude.{◌≡◌, IfOk};
 ghost use Rattle.image65.specs.Files.{RowBytes};
 
+use base65::Sequence;
 use script65::Row;
 use std::alloc::{AllocError, Global};
-use syntax65::Sequence;
 
 /// What the rows of a script hold.
 pub trait RowContents {

@@ -1,7 +1,7 @@
 -- What a module's statements put into its object: the parts of sections, exports, assertions; and their first fault.
 use Rattle.std.specs.Prelude.{ℕ, zero, ◌+◌, pos, true, false, List, [], ◌∷◌, map, replicate, take, drop, Option, Some, None, Result, Ok, Err, if◌then◌else◌}
 use Rattle.std.specs.List.{flat_map}
-use Rattle.syntax65.specs.Outcome.{◌>>=◌, each}
+use Rattle.base65.specs.Outcome.{◌>>=◌, each}
 use Rattle.syntax65.specs.Opcodes.{opcode_of}
 use Rattle.syntax65.specs.Trees.{Tree}
 use Rattle.syntax65.specs.declared.instructions.codes.Mode.{Mode}
@@ -13,7 +13,7 @@ use Rattle.object65.specs.declared.object.Action.{Action}
 use Rattle.object65.specs.declared.object.Action.TheVariants as action
 use Rattle.object65.specs.declared.object.Width.{Width}
 use Rattle.object65.specs.declared.object.Width.TheVariants.{Branch}
-use Rattle.syntax65.specs.declared.values.Op2.TheVariants.{Subtract}
+use Rattle.base65.specs.declared.values.Op2.TheVariants.{Subtract}
 use Rattle.language65.specs.declared.contents.Content.{Content}
 use Rattle.language65.specs.declared.contents.Part.{Part}
 use Rattle.language65.specs.declared.contents.Part.TheVariants.{Known, Filled, Waiting}

@@ -5,8 +5,8 @@ use Rattle.source65.specs.declared.fault.ExpandFault.{ExpandFault}
 use Rattle.source65.specs.declared.fault.ExpandFault.TheVariants as expand
 use Rattle.syntax65.specs.declared.expressions.fault.ExprFault.{ExprFault}
 use Rattle.syntax65.specs.declared.expressions.fault.ExprFault.TheVariants as expr
-use Rattle.syntax65.specs.declared.store.StoreFault.{StoreFault}
-use Rattle.syntax65.specs.declared.store.StoreFault.TheVariants as store
+use Rattle.base65.specs.declared.store.StoreFault.{StoreFault}
+use Rattle.base65.specs.declared.store.StoreFault.TheVariants as store
 use Rattle.language65.specs.declared.fault.AsmFault.{AsmFault}
 use Rattle.language65.specs.declared.fault.AsmFault.TheVariants.{OutOfMemory, Expansion, NotUnderstood, NoSuchForm, DefinedTwice, Undefined, Circular, OutOfRange, NoValue, TooLarge, SectionTooLarge, NoSuchScope, ScopeTwice, NoSuchLabel, ImportedAndDefined, NotDefined, BadAlignment, PopWithoutPush, BadOperand, BadPart, Assertion, SizeChanged, BadScope, FileNotFound, FileError}
 

@@ -1,7 +1,8 @@
 //! What statements put into an object.
 
+use base65::Sequence;
 use object65::{Action, Norm, Width};
-use syntax65::{AddressSize, Sequence};
+use syntax65::AddressSize;
 
 /// A part of a section.
 #[derive(Drop)]

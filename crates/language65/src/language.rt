@@ -1,7 +1,8 @@
 //! The statements of the language, as they are behind expansion.
 
+use base65::Sequence;
 use object65::{Action, Width};
-use syntax65::{AddressSize, Expr, Mnemonic, Sequence};
+use syntax65::{AddressSize, Expr, Mnemonic};
 
 /// An element of a list of data.
 #[derive(Drop)]

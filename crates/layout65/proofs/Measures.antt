@@ -9,7 +9,7 @@ use Rattle.object65.specs.declared.object.Width.{Width}
 use Rattle.language65.specs.Sizes.{counted, fill_settled, gap, item_len, length_of, optional_value}
 use Rattle.language65.specs.Norms.{constant_in}
 use Rattle.std.specs.Prelude.{ℤ, pos, negsuc, not}
-use Rattle.syntax65.specs.Outcome.{◌>>=◌, Gives, Unless}
+use Rattle.base65.specs.Outcome.{◌>>=◌, Gives, Unless}
 use Rattle.syntax65.specs.Trees.{Tree}
 use Rattle.language65.specs.declared.fault.AsmFault.{AsmFault}
 use Rattle.language65.specs.Faults.{is_memory}

@@ -12,11 +12,12 @@ ghost use Rattle.layout65.specs.Sounds.{AreWithin, IsCounted, IsSoundStanding};
 ghost use Rattle.layout65.specs.Views.{standing_of};
 
 use crate::measuring::Measured;
+use base65::Sequence;
 use indexmap::IndexSet;
 use language65::{Segment, Spot, Statement};
 use std::alloc::{AllocError, Global};
 use symbols65::Symbols;
-use syntax65::{AddressSize, Sequence};
+use syntax65::AddressSize;
 
 /// How many bytes a section has at most.
 const MAX_SECTION: u32 = 16_777_216;

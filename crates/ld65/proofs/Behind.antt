@@ -1,8 +1,8 @@
 -- A module behind others, and the count of failures.
 use Rattle.std.proofs.Common.{◌≡◌, ◌∙◌, ◌<◌, ℕ, List, [], ◌∷◌, ◌++◌, Bool, true, false, Option, Some, None, Result, Ok, Err, refl, ap, subst, arith}
 use Rattle.std.specs.Prelude.{IfSome}
-use Rattle.syntax65.specs.Outcome.{Refuses, Unless}
-use Rattle.syntax65.specs.Store.{Files, Passes, PassesBy}
+use Rattle.base65.specs.Outcome.{Refuses, Unless}
+use Rattle.base65.specs.Store.{Files, Passes, PassesBy}
 use Rattle.object65.specs.declared.fault.ObjectFault.{ObjectFault}
 use Rattle.object65.specs.declared.fault.ObjectFault.TheVariants as object
 use Rattle.object65.specs.declared.object.Object.{Object}

@@ -3,8 +3,8 @@ use Rattle.std.proofs.Common.{◌≡◌, ◌∙◌, ◌<◌, ℕ, List, Bool, tr
 use Rattle.std.specs.Prelude.{IfSome}
 use Rattle.std.specs.FinMap.{get}
 use Rattle.std.proofs.lemmas.Bool.Decides.{nat_tests}
-use Rattle.syntax65.specs.Outcome.{Refuses, Unless}
-use Rattle.syntax65.specs.Store.{Files, Passes}
+use Rattle.base65.specs.Outcome.{Refuses, Unless}
+use Rattle.base65.specs.Store.{Files, Passes}
 use Rattle.object65.specs.declared.fault.ObjectFault.{ObjectFault}
 use Rattle.object65.specs.declared.fault.ObjectFault.TheVariants as object
 use Rattle.object65.specs.Fault.{is_outside as is_object_outside, is_memory as is_object_memory}

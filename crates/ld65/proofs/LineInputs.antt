@@ -4,8 +4,8 @@ use Rattle.std.specs.Prelude.{IfSome}
 use Rattle.std.specs.FinMap.{get}
 use Rattle.std.specs.Option.{option_map_or}
 use Rattle.std.proofs.lemmas.List.{drop_all}
-use Rattle.syntax65.specs.Outcome.{First, Gives, Unless}
-use Rattle.syntax65.specs.Store.{Files, PassesBy}
+use Rattle.base65.specs.Outcome.{First, Gives, Unless}
+use Rattle.base65.specs.Store.{Files, PassesBy}
 use Rattle.object65.specs.declared.fault.ObjectFault.{ObjectFault}
 use Rattle.object65.specs.declared.fault.ObjectFault.TheVariants as object
 use Rattle.object65.specs.Fault.{is_outside as is_object_outside}

@@ -1,8 +1,8 @@
 -- From the inputs of a line to what they are linked to.
 use Rattle.std.proofs.Common.{◌≡◌, ◌∙◌, ℕ, List, [], Bool, true, false, Option, Some, None, Result, Ok, Err, refl}
 use Rattle.std.specs.Prelude.{IfSome, ◌||◌}
-use Rattle.syntax65.specs.Outcome.{Finds, Refuses, Unless}
-use Rattle.syntax65.specs.Store.{Files, PassesBy}
+use Rattle.base65.specs.Outcome.{Finds, Refuses, Unless}
+use Rattle.base65.specs.Store.{Files, PassesBy}
 use Rattle.script65.specs.declared.script.Script.{Script}
 use Rattle.linkage65.specs.declared.fault.LinkFault.{LinkFault}
 use Rattle.linkage65.specs.declared.linked.Linked.{Linked}

@@ -4,9 +4,9 @@ use Rattle.std.specs.Prelude.{IfSome, ◌||◌, min}
 use Rattle.std.specs.FinMap.{get}
 use Rattle.std.proofs.lemmas.Bool.Decides.{nat_tests}
 use Rattle.std.proofs.lemmas.List.{take_all, length-take}
-use Rattle.syntax65.specs.Outcome.{First, Finds, Unless}
-use Rattle.syntax65.specs.Store.{Files}
-use Rattle.syntax65.specs.declared.store.StoreFault.TheVariants.{FileNotFound}
+use Rattle.base65.specs.Outcome.{First, Finds, Unless}
+use Rattle.base65.specs.Store.{Files}
+use Rattle.base65.specs.declared.store.StoreFault.TheVariants.{FileNotFound}
 use Rattle.script65.specs.declared.script.Script.{Script}
 use Rattle.script65.specs.declared.fault.Stop.{Stop}
 use Rattle.script65.specs.declared.fault.Fault.TheVariants.{TooLong}

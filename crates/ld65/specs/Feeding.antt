@@ -1,8 +1,8 @@
 -- What feeding a linker comes to: the records of an object, an object, a library's members, and the inputs of a line.
 use Rattle.std.specs.Prelude.{◌≡◌, ℕ, List, [], ◌∷◌, ◌++◌, length, option_map, Option, Result, Ok, Err, IfSome, Bool, true, false}
 use Rattle.std.specs.FinMap.{get}
-use Rattle.syntax65.specs.Outcome.{Refuses, Unless}
-use Rattle.syntax65.specs.Store.{Files}
+use Rattle.base65.specs.Outcome.{Refuses, Unless}
+use Rattle.base65.specs.Store.{Files}
 use Rattle.object65.specs.declared.fault.ObjectFault.{ObjectFault}
 use Rattle.object65.specs.Fault.{is_outside as is_object_outside}
 use Rattle.object65.specs.Reading.{in_file}

@@ -4,9 +4,9 @@ use Rattle.std.specs.FinMap.{get}
 use Rattle.std.specs.List.{flat_map}
 use Rattle.std.specs.Option.{option_map_or}
 use Rattle.std.specs.Str.{bytes_eq}
-use Rattle.syntax65.specs.Outcome.{◌>>=◌, First}
-use Rattle.syntax65.specs.Store.{Files}
-use Rattle.syntax65.specs.declared.store.StoreFault.TheVariants.{FileNotFound}
+use Rattle.base65.specs.Outcome.{◌>>=◌, First}
+use Rattle.base65.specs.Store.{Files}
+use Rattle.base65.specs.declared.store.StoreFault.TheVariants.{FileNotFound}
 use Rattle.object65.specs.declared.object.Object.{Object}
 use Rattle.object65.specs.declared.fault.ObjectFault.{ObjectFault}
 use Rattle.object65.specs.Reading.{in_file}

@@ -1,6 +1,6 @@
 -- What a refusal names where the store failed: the script, an input, or a member of an input.
 use Rattle.std.specs.Prelude.{◌≡◌, ℕ, ◌⊎◌, List, slice_get, Some, true}
-use Rattle.syntax65.specs.declared.store.StoreFault.TheVariants as store
+use Rattle.base65.specs.declared.store.StoreFault.TheVariants as store
 use Rattle.line65.specs.Line.{Linking}
 use Rattle.ld65.specs.declared.refusal.Refusal.{Refusal}
 use Rattle.ld65.specs.declared.refusal.Refusal.TheVariants.{OutOfMemory, ScriptFile, Script, Object, Library, Member, Disagrees, Link}

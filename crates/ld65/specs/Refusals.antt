@@ -1,8 +1,8 @@
 -- Why nothing is linked: in words, and whether the cause lies outside the files.
 use Rattle.std.specs.Prelude.{ℕ, List, [], Bool, true, false, codes, ◌||◌, get_or, if◌then◌else◌}
-use Rattle.syntax65.specs.declared.store.StoreFault.{StoreFault}
-use Rattle.syntax65.specs.declared.store.StoreFault.TheVariants as store
-use Rattle.syntax65.specs.StoreFaults.{store_words}
+use Rattle.base65.specs.declared.store.StoreFault.{StoreFault}
+use Rattle.base65.specs.declared.store.StoreFault.TheVariants as store
+use Rattle.base65.specs.StoreFaults.{store_words}
 use Rattle.object65.specs.declared.fault.ObjectFault.TheVariants as object
 use Rattle.object65.specs.Fault.{fault_text, is_memory as is_object_memory}
 use Rattle.library65.specs.declared.fault.LibraryFault.TheVariants as library

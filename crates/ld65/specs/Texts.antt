@@ -1,7 +1,7 @@
 -- A script's bytes as they are read: no more of them than tell that it is too long.
 use Rattle.std.specs.Prelude.{ℕ, ◌+◌, List, take, Result, Ok, Err}
 use Rattle.std.specs.FinMap.{get}
-use Rattle.syntax65.specs.Store.{Files}
+use Rattle.base65.specs.Store.{Files}
 use Rattle.ld65.specs.declared.refusal.Refusal.{Refusal}
 use Rattle.ld65.specs.Linkage.{text_of}
 

@@ -2,8 +2,8 @@
 
 ghost use Rattle.std.specs.Prelude.{◌≡◌, ◌+◌, ◌≤◌, List, IfErr, IfOk, IfSome, false, true};
 ghost use Rattle.std.specs.List.{AllByRecursion};
-ghost use Rattle.syntax65.specs.Outcome.{Gives};
-ghost use Rattle.syntax65.specs.Store.{PassesBy};
+ghost use Rattle.base65.specs.Outcome.{Gives};
+ghost use Rattle.base65.specs.Store.{PassesBy};
 ghost use Rattle.object65.specs.Reading.{file_limit};
 ghost use Rattle.linkage65.specs.Modules.{Module};
 ghost use Rattle.link65.specs.Standing.{IsFed};
@@ -13,10 +13,10 @@ ghost use Rattle.ld65.specs.Refusals.{is_failure, is_memory, is_outside};
 ghost use Rattle.ld65.specs.Naming.{NamesInput};
 
 use crate::refusal::Refusal;
+use base65::Store;
 use library65::{Index, read_index, select};
 use link65::Linker;
 use std::alloc::Global;
-use syntax65::Store;
 
 /// An input of the line: its place there, and its name.
 #[derive(Clone, Copy)]

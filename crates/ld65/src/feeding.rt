@@ -1,7 +1,7 @@
 //! Objects, fed to a linker record by record.
 
 ghost use Rattle.std.specs.Prelude.{◌≡◌, List, ℕ, OnOk, Option, true, false};
-ghost use Rattle.syntax65.specs.Store.{Passes};
+ghost use Rattle.base65.specs.Store.{Passes};
 ghost use Rattle.object65.specs.declared.fault.ObjectFault.TheVariants.{FileError};
 ghost use Rattle.object65.specs.Taking.{start};
 ghost use Rattle.library65.specs.declared.entry.Entry as index;
@@ -10,10 +10,10 @@ ghost use Rattle.linkage65.specs.Modules.{Module};
 ghost use Rattle.link65.specs.Standing.{IsFed, IsFeeding, Keeps, is_open};
 ghost use Rattle.ld65.specs.Feeding.{FeedsObject, FeedsRecords, input_of};
 
+use base65::Store;
 use library65::Entry;
 use link65::{LinkFault, Linker};
 use object65::{RecordReader, check_end, read_head};
-use syntax65::Store;
 
 /// An object that is fed: where it stands in a file, the name of its module, and its entry in a library's index, if it
 /// is a member of one.

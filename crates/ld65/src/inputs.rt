@@ -2,8 +2,8 @@
 
 ghost use Rattle.std.specs.Prelude.{◌≡◌, List, OnOk, IfErr, IfSome, Ok, map, false};
 ghost use Rattle.std.specs.FinMap.{get};
-ghost use Rattle.syntax65.specs.Outcome.{Gives};
-ghost use Rattle.syntax65.specs.Store.{Passes, PassesBy};
+ghost use Rattle.base65.specs.Outcome.{Gives};
+ghost use Rattle.base65.specs.Store.{Passes, PassesBy};
 ghost use Rattle.object65.specs.declared.fault.ObjectFault.TheVariants.{FileError};
 ghost use Rattle.object65.specs.Fault.{is_outside as is_object_outside};
 ghost use Rattle.object65.specs.Reading.{in_file};
@@ -18,10 +18,10 @@ use crate::choosing::Named;
 use crate::feeding::{ObjectInput, feed_object};
 use crate::members::feed_library;
 use crate::refusal::Refusal;
+use base65::{Store, read_full};
 use link65::Linker;
 use object65::{ObjectFault, RecordReader};
 use std::alloc::Global;
-use syntax65::{Store, read_full};
 
 /// With these bytes a library begins.
 const LIBRARY: [u8; 4] = [0x52, 0x36, 0x35, 0x6c];

@@ -1,23 +1,23 @@
 //! From the files of a line to what they are linked to.
 
 ghost use Rattle.std.specs.Prelude.{◌≡◌, IfErr, IfSome, [], true};
-ghost use Rattle.syntax65.specs.Outcome.{Finds};
-ghost use Rattle.syntax65.specs.Store.{PassesBy};
+ghost use Rattle.base65.specs.Outcome.{Finds};
+ghost use Rattle.base65.specs.Store.{PassesBy};
 ghost use Rattle.line65.specs.Line.{linking};
 ghost use Rattle.ld65.specs.Refusals.{is_outside, is_failure};
 ghost use Rattle.ld65.specs.Linkage.{output_of, IsLinkedBy, IsLinked};
 ghost use Rattle.ld65.specs.Texts.{script_text};
 ghost use Rattle.ld65.specs.Naming.{NamesInputs, NamesOfLine};
 ghost use Rattle.ld65.specs.declared.refusal.Refusal.TheVariants.{ScriptFile};
-ghost use Rattle.syntax65.specs.declared.store.StoreFault.TheVariants.{FileError};
+ghost use Rattle.base65.specs.declared.store.StoreFault.TheVariants.{FileError};
 
 use crate::inputs::feed_inputs;
 use crate::refusal::Refusal;
+use base65::{Sequence, Store, read_front};
 use line65::LinkLine;
 use link65::{Linked, Linker};
 use script65::{Script, read_script};
 use std::alloc::Global;
-use syntax65::{Sequence, Store, read_front};
 
 /// A script has at most so many bytes.
 const SCRIPT_LIMIT: usize = 1_048_576;

@@ -2,7 +2,7 @@
 
 ghost use Rattle.std.specs.Prelude.{◌≡◌, ◌+◌, ◌≤◌, ◌∷◌, [], List, IfErr, IfOk, OnOk, false, option_map, slice_get};
 ghost use Rattle.std.specs.List.{AllByRecursion};
-ghost use Rattle.syntax65.specs.Store.{PassesBy};
+ghost use Rattle.base65.specs.Store.{PassesBy};
 ghost use Rattle.object65.specs.Reading.{file_limit};
 ghost use Rattle.linkage65.specs.Modules.{Module};
 ghost use Rattle.link65.specs.Standing.{IsFed, Keeps, is_open};
@@ -14,12 +14,12 @@ ghost use Rattle.ld65.specs.Naming.{NamesInput, NamesMember};
 use crate::choosing::{Choice, Named, choose_members};
 use crate::feeding::{ObjectInput, feed_object};
 use crate::refusal::Refusal;
+use base65::{Sequence, Store};
 use library65::Entry;
 use line65::join;
 use link65::Linker;
 use object65::RecordReader;
 use std::alloc::{AllocError, Global};
-use syntax65::{Sequence, Store};
 
 /// A member of a library: the library's file, and the member's entry in its index.
 #[derive(Clone, Copy)]

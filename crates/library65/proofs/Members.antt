@@ -2,7 +2,7 @@
 use Rattle.std.proofs.Common.{◌≡◌, ◌∙◌, ◌<◌, ◌&&◌, ℕ, suc, Bool, true, false, not, List, ◌∷◌, length, drop, get_or, Result, Ok, Err, refl, sym, ap, if◌then◌else◌}
 use Rattle.std.specs.Str.{bytes_eq}
 use Rattle.std.proofs.Math.Seq.{drop-cons}
-use Rattle.syntax65.specs.Outcome.{◌>>=◌, Refuses}
+use Rattle.base65.specs.Outcome.{◌>>=◌, Refuses}
 use Rattle.object65.specs.declared.fault.ObjectFault.{ObjectFault}
 use Rattle.object65.specs.declared.object.Object.{Object}
 use Rattle.object65.specs.Whole.{object_at}

@@ -4,10 +4,10 @@ use Rattle.std.specs.Prelude.{IfSome}
 use Rattle.std.specs.FinMap as map
 use Rattle.std.proofs.lemmas.Bool.Decides.{nat_tests}
 use Rattle.std.proofs.lemmas.List.{drop-drop, length-take, take_all}
-use Rattle.syntax65.specs.Reading.{ReadsChunk}
-use Rattle.syntax65.specs.Store.{Files}
-use Rattle.syntax65.proofs.Chunks.{more}
-use Rattle.syntax65.proofs.Filling.{take-add}
+use Rattle.base65.specs.Reading.{ReadsChunk}
+use Rattle.base65.specs.Store.{Files}
+use Rattle.base65.proofs.Chunks.{more}
+use Rattle.base65.proofs.Filling.{take-add}
 use Rattle.library65.specs.declared.fault.LibraryFault.TheVariants.{CutShort}
 use Rattle.library65.specs.Reading.{in_file}
 use Rattle.library65.specs.Libraries.{piece_at}

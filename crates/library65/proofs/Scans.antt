@@ -1,6 +1,6 @@
 -- Records that are scanned one after another for what they export and import.
 use Rattle.std.proofs.Common.{◌≡◌, ◌∙◌, ◌<◌, ℕ, List, [], length, map, Bool, true, false, Ok, refl, sym, ap, subst}
-use Rattle.syntax65.specs.Outcome.{Refuses, Unless}
+use Rattle.base65.specs.Outcome.{Refuses, Unless}
 use Rattle.object65.specs.declared.fault.ObjectFault.{ObjectFault}
 use Rattle.object65.specs.declared.item.Item.{Item}
 use Rattle.object65.specs.declared.object.Export.{Export}

@@ -3,7 +3,7 @@ use Rattle.std.proofs.Common.{◌≡◌, ap, subst, add-one, drop, get_or, lengt
 use Rattle.std.proofs.Math.Seq.{drop-cons}
 use Rattle.std.proofs.lemmas.List.{map-append}
 use Rattle.std.specs.List.{AllByRecursion}
-use Rattle.syntax65.specs.Outcome.{◌>>=◌}
+use Rattle.base65.specs.Outcome.{◌>>=◌}
 use Rattle.library65.specs.declared.entry.Entry.{Entry}
 use Rattle.library65.specs.declared.entry.Listing.{Listing}
 use Rattle.library65.specs.declared.fault.LibraryFault.{LibraryFault}

@@ -8,7 +8,7 @@ use Rattle.byteorder.specs.Numbers.{little_from-lt}
 use Rattle.object65.specs.Bytes.{IsBytes}
 use Rattle.object65.specs.Reading.{file_limit}
 use Rattle.object65.proofs.Numbers.{bytes_drop, bytes_take, front}
-use Rattle.syntax65.specs.Outcome.{◌>>=◌}
+use Rattle.base65.specs.Outcome.{◌>>=◌}
 use Rattle.library65.specs.declared.fault.LibraryFault.{LibraryFault}
 use Rattle.library65.specs.declared.fault.LibraryFault.TheVariants.{BadIndex, CutShort}
 use Rattle.library65.specs.Names.{is_name}

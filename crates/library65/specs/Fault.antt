@@ -1,8 +1,8 @@
 -- Why a library is refused: in words, and whether the cause lies outside the bytes.
 use Rattle.std.specs.Prelude.{ℕ, List, ◌++◌, Bool, true, false, codes, encode_utf8_all, if◌then◌else◌}
 use Rattle.std.specs.Str.{is_utf8}
-use Rattle.syntax65.specs.declared.store.StoreFault.{StoreFault}
-use Rattle.syntax65.specs.declared.store.StoreFault.TheVariants as store
+use Rattle.base65.specs.declared.store.StoreFault.{StoreFault}
+use Rattle.base65.specs.declared.store.StoreFault.TheVariants as store
 use Rattle.library65.specs.declared.fault.LibraryFault.{LibraryFault}
 use Rattle.library65.specs.declared.fault.LibraryFault.TheVariants.{OutOfMemory, NotALibrary, CutShort, BadIndex, NoSuchMember, NotAnObject, IndexDisagrees, FileError, FileNotFound, BadMemberName}
 

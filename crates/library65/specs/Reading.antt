@@ -3,7 +3,7 @@ use Rattle.std.specs.Prelude.{ℕ, zero, suc, ◌+◌, List, [], ◌∷◌, ◌+
 use Rattle.std.specs.Str.{bytes_eq}
 use Rattle.byteorder.specs.Endian.{little_number}
 use Rattle.object65.specs.Reading.{file_limit}
-use Rattle.syntax65.specs.Outcome.{◌>>=◌}
+use Rattle.base65.specs.Outcome.{◌>>=◌}
 use Rattle.library65.specs.declared.entry.Entry.{Entry}
 use Rattle.library65.specs.declared.entry.Listing.{Listing}
 use Rattle.library65.specs.declared.fault.LibraryFault.{LibraryFault}

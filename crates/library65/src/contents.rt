@@ -1,7 +1,7 @@
 //! What the object in a member's bytes exports and imports.
 
 ghost use Rattle.std.specs.Prelude.{◌≡◌, Ok, IfOk, map, true};
-ghost use Rattle.syntax65.specs.Outcome.{Gives};
+ghost use Rattle.base65.specs.Outcome.{Gives};
 ghost use Rattle.object65.specs.Objects.{is_good_object};
 ghost use Rattle.library65.specs.Fault.{is_memory};
 ghost use Rattle.library65.specs.Libraries.{agrees, are_same, checked, contents_in, member_fault, object_in};
@@ -10,9 +10,9 @@ ghost use Rattle.library65.specs.Writing.{AreSymbols};
 use crate::naming::is_file_name;
 use crate::objects::read_contents;
 use crate::{Entry, LibraryFault};
+use base65::Sequence;
 use object65::{Export, Object, ObjectFault, Record};
 use std::alloc::Global;
-use syntax65::Sequence;
 
 /// What an object exports and imports, in its order.
 #[derive(Drop)]

@@ -1,7 +1,7 @@
 //! What a library's index says.
 
+use base65::Sequence;
 use indexmap::IndexSet;
-use syntax65::Sequence;
 
 /// Names, each once.
 pub type Names = IndexSet<Vec<u8>>;

@@ -8,9 +8,9 @@ ghost use Rattle.library65.specs.Searching.{IsTable};
 ghost use Rattle.library65.specs.Selection.{first_exporter, imports_at};
 
 use crate::Entry;
+use base65::Sequence;
 use indexmap::IndexMap;
 use std::alloc::{AllocError, Global};
-use syntax65::Sequence;
 
 /// The place of the first member that exports each name.
 #[derive(Drop)]

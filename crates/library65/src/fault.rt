@@ -3,10 +3,10 @@
 ghost use Rattle.std.specs.Prelude.{◌≡◌};
 ghost use Rattle.library65.specs.declared.fault.LibraryFault.TheVariants.{OutOfMemory};
 
+use base65::{Sequence, StoreFault};
 use std::alloc::{AllocError, AllocFailed};
 use std::error::Error;
 use std::fmt;
-use syntax65::{Sequence, StoreFault};
 
 /// Why a library is refused.
 #[derive(Debug, Drop)]

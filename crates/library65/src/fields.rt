@@ -2,17 +2,17 @@
 
 ghost use Rattle.std.specs.Prelude.{◌≡◌, ◌≤◌, ◌<◌, ◌+◌, length, IfOk, OnOk, IfSome};
 ghost use Rattle.std.specs.FinMap as map;
-ghost use Rattle.syntax65.specs.Outcome.{Gives};
-ghost use Rattle.syntax65.specs.Store.{Passes};
+ghost use Rattle.base65.specs.Outcome.{Gives};
+ghost use Rattle.base65.specs.Store.{Passes};
 ghost use Rattle.object65.specs.Reading.{file_limit};
 ghost use Rattle.library65.specs.Fault.{is_outside};
 ghost use Rattle.library65.specs.Names.{is_among, is_member_name};
 ghost use Rattle.library65.specs.Reading.{in_file, field_at, head_at, name_at, number_at};
 
 use crate::LibraryFault;
+use base65::{Sequence, Store, read_full};
 use byteorder::{ByteOrder, LittleEndian};
 use std::alloc::Global;
-use syntax65::{Sequence, Store, read_full};
 
 /// With these bytes a library begins.
 pub const HEAD: [u8; 5] = [0x52, 0x36, 0x35, 0x6c, 0x01];

@@ -2,8 +2,8 @@
 
 ghost use Rattle.std.specs.Prelude.{◌≡◌, ◌≤◌, ◌<◌, ◌+◌, ◌++◌, ◌∷◌, [], ℕ, List, length, map, Ok, IfOk, OnOk, IfSome, false};
 ghost use Rattle.std.specs.FinMap as map;
-ghost use Rattle.syntax65.specs.Outcome.{Gives};
-ghost use Rattle.syntax65.specs.Store.{Passes};
+ghost use Rattle.base65.specs.Outcome.{Gives};
+ghost use Rattle.base65.specs.Store.{Passes};
 ghost use Rattle.object65.specs.Reading.{file_limit};
 ghost use Rattle.library65.specs.Fault.{is_outside};
 ghost use Rattle.library65.specs.Names.{is_among};
@@ -13,9 +13,9 @@ use crate::LibraryFault;
 use crate::entry::Listing;
 use crate::fields::{read_head, read_name, read_number};
 use crate::naming::{add_name, has_name, is_file_name, is_symbol_name};
+use base65::{Sequence, Store};
 use indexmap::IndexSet;
 use std::alloc::Global;
-use syntax65::{Sequence, Store};
 
 /// For so many names room is made at once, where the index says that there are as many: most members have few, and
 /// the index may say anything.

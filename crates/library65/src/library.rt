@@ -3,9 +3,9 @@
 ghost use Rattle.std.specs.Prelude.{◌≡◌, ◌∷◌, [], IfOk, IfSome, OnErr, OnOk, Ok};
 ghost use Rattle.std.specs.Iterator.{YieldsFirstRef, item_count};
 ghost use Rattle.std.specs.Option.{option_copied};
-ghost use Rattle.syntax65.specs.Outcome.{Gives};
+ghost use Rattle.base65.specs.Outcome.{Gives};
 ghost use Rattle.std.specs.FinMap as map;
-ghost use Rattle.syntax65.specs.Store.{Passes};
+ghost use Rattle.base65.specs.Store.{Passes};
 ghost use Rattle.library65.specs.Fault.{is_memory, is_outside};
 ghost use Rattle.library65.specs.Reading.{in_file};
 ghost use Rattle.library65.specs.Libraries.{bytes_of, checked, deleted, library_at, member_names, replaced, with_member, without_member, written_behind};
@@ -20,12 +20,12 @@ use crate::loading::read_members;
 use crate::naming::copy_of;
 use crate::objects::empty_record;
 use crate::writing::put_library;
+use base65::Store;
 use indexmap::IndexMap;
 use indexmap::map::Keys;
 use object65::Record;
 use std::alloc::{AllocError, Global};
 use std::marker::Model;
-use syntax65::Store;
 
 /// What is kept of a member.
 #[derive(Drop)]

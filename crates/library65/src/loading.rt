@@ -3,9 +3,9 @@
 ghost use Rattle.std.specs.Prelude.{◌≡◌, ◌≤◌, ◌+◌, ◌++◌, [], length, drop, take, Ok, OnOk, IsErrOf, IfSome, IfOk};
 ghost use Rattle.std.specs.FinMap as map;
 ghost use Rattle.std.specs.List.{AllByRecursion};
-ghost use Rattle.syntax65.specs.Outcome.{Gives};
-ghost use Rattle.syntax65.specs.Reading.{ReadsChunk};
-ghost use Rattle.syntax65.specs.Store.{Passes};
+ghost use Rattle.base65.specs.Outcome.{Gives};
+ghost use Rattle.base65.specs.Reading.{ReadsChunk};
+ghost use Rattle.base65.specs.Store.{Passes};
 ghost use Rattle.object65.specs.Reading.{file_limit};
 ghost use Rattle.library65.specs.Fault.{is_memory, is_outside};
 ghost use Rattle.library65.specs.Libraries.{added, agreed, checked, joined, library_at, piece_at};
@@ -17,10 +17,10 @@ use crate::contents::{Contents, agrees, check_member};
 use crate::library::{Stored, put_member};
 use crate::objects::empty_record;
 use crate::{Entry, LibraryFault, read_index};
+use base65::{Store, StoreFault, read_full};
 use indexmap::IndexMap;
 use object65::Record;
 use std::alloc::Global;
-use syntax65::{Store, StoreFault, read_full};
 
 const CHUNK: usize = 4096;
 

@@ -4,14 +4,14 @@ ghost use Rattle.std.specs.Prelude.{◌≡◌, ◌++◌, ◌∷◌, [], Ok, fals
 ghost use Rattle.std.specs.List.{list_all};
 ghost use Rattle.std.specs.Str.{is_utf8};
 ghost use Rattle.object65.specs.Objects.{is_printed};
-ghost use Rattle.syntax65.specs.Outcome.{Gives};
+ghost use Rattle.base65.specs.Outcome.{Gives};
 ghost use Rattle.library65.specs.Fault.{is_memory};
 ghost use Rattle.library65.specs.Names.{is_among, is_folder, is_member_name, is_name, is_plain};
 
 use crate::LibraryFault;
+use base65::Sequence;
 use indexmap::IndexSet;
 use std::alloc::Global;
-use syntax65::Sequence;
 
 const HERE: [u8; 1] = [b'.'];
 

@@ -14,10 +14,10 @@ ghost use Rattle.library65.specs.Writing.{AreSymbols};
 use crate::contents::Contents;
 use crate::fields::FILE_LIMIT;
 use arrayvec::ArrayVec;
+use base65::Sequence;
 use byteorder::{ByteOrder, LittleEndian};
 use object65::{Item, ObjectFault, Record, Scan};
 use std::alloc::Global;
-use syntax65::Sequence;
 
 /// With these bytes an object begins.
 const MAGIC: [u8; 4] = [0x52, 0x36, 0x35, 0x6f];

@@ -3,8 +3,8 @@
 ghost use Rattle.std.specs.Prelude.{◌≡◌, ◌≤◌, ◌<◌, ◌+◌, [], IfOk, IfSome, IsErrOf};
 ghost use Rattle.std.specs.FinMap as map;
 ghost use Rattle.std.specs.List.{AllByRecursion};
-ghost use Rattle.syntax65.specs.Outcome.{Gives};
-ghost use Rattle.syntax65.specs.Store.{Passes};
+ghost use Rattle.base65.specs.Outcome.{Gives};
+ghost use Rattle.base65.specs.Store.{Passes};
 ghost use Rattle.object65.specs.Reading.{file_limit};
 ghost use Rattle.library65.specs.Fault.{is_memory, is_outside};
 ghost use Rattle.library65.specs.Reading.{in_file, entry_at, placed, end_at, index_at};
@@ -13,8 +13,8 @@ use crate::entry::Listing;
 use crate::fields::FILE_LIMIT;
 use crate::indexing::read_list;
 use crate::{Entry, Index, LibraryFault};
+use base65::{Sequence, Store, read_full};
 use std::alloc::Global;
-use syntax65::{Sequence, Store, read_full};
 
 /// The entry of a member that stands at a place.
 fn entry_of(member: Listing, place: u64) -> Entry

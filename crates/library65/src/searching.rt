@@ -6,8 +6,8 @@ ghost use Rattle.library65.specs.Searching.{Finds, IsSearched, IsSound, IsTable,
 use crate::Names;
 use crate::exporting::Exporters;
 use crate::naming::has_name;
+use base65::Sequence;
 use std::alloc::{AllocError, Global};
-use syntax65::Sequence;
 
 /// The members that were found so far.
 #[derive(Drop)]

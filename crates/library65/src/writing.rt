@@ -12,10 +12,10 @@ ghost use Rattle.library65.specs.Writing.{AreSymbols, Puts};
 use crate::LibraryFault;
 use crate::fields::HEAD;
 use crate::library::Stored;
+use base65::Sequence;
 use byteorder::{ByteOrder, LittleEndian};
 use indexmap::IndexMap;
 use std::alloc::AllocError;
-use syntax65::Sequence;
 
 /// A count as it is written.
 fn count_of(len: usize) -> Result<u32, LibraryFault>

@@ -8,7 +8,7 @@ use Rattle.clap.specs.declared.parser.matches.ArgMatches.{ArgMatches}
 use Rattle.clap.proofs.OnLiterals.{clap_on_literals}
 use Rattle.line65.specs.CommandLine.{bin65}
 use Rattle.line65.specs.LineFaults.{of_kind, is_outside}
-use Rattle.syntax65.specs.Outcome.{Refuses}
+use Rattle.base65.specs.Outcome.{Refuses}
 use Rattle.line65.specs.Line.{taken, unless_kinds}
 
 bin65_simple : is_simple bin65 ≡ true

@@ -5,7 +5,7 @@ use Rattle.std.specs.List.{list_all, position}
 use Rattle.clap.specs.Words.{Text}
 use Rattle.syntax65.specs.Bytes.{is_word}
 use Rattle.syntax65.specs.Numbers.{digits, plain_number_of}
-use Rattle.syntax65.specs.Outcome.{◌>>=◌}
+use Rattle.base65.specs.Outcome.{◌>>=◌}
 use Rattle.syntax65.specs.Words.{is_reserved}
 use Rattle.line65.specs.declared.fault.LineFault.{LineFault}
 use Rattle.line65.specs.declared.fault.LineFault.TheVariants.{BadArguments}

@@ -3,15 +3,16 @@
 ghost use Rattle.std.specs.Prelude.{◌≡◌, ◌==◌, ◌<◌, length, IfSome, map};
 ghost use Rattle.std.specs.List.{list_all, position};
 ghost use Rattle.syntax65.specs.Bytes.{is_word};
-ghost use Rattle.syntax65.specs.Outcome.{Gives, each};
+ghost use Rattle.base65.specs.Outcome.{Gives, each};
 ghost use Rattle.line65.specs.Defining.{begins_name, define_of, defining, is_constant_name, named_in, valued_in};
 ghost use Rattle.line65.specs.LineFaults.{is_outside};
 
 use crate::fault::LineFault;
 use crate::line::Define;
 use crate::numbers::number_in;
+use base65::Sequence;
 use std::alloc::Global;
-use syntax65::{MAX_NAME, Sequence, is_reserved};
+use syntax65::{MAX_NAME, is_reserved};
 
 /// The constants that texts define, or the first fault.
 pub fn defines<'a>(alloc: Global, texts: &[&'a str]) -> Result<Sequence<Define<'a>>, LineFault>

@@ -1,6 +1,6 @@
 //! A command line as a value.
 
-use syntax65::Sequence;
+use base65::Sequence;
 
 /// `ld65 -C SCRIPT [-o FILE] [-m MAP] INPUT..`
 #[derive(Drop)]

@@ -4,9 +4,9 @@ ghost use Rattle.std.specs.Prelude.{◌≡◌, ◌<◌, IfOk, map, Some};
 ghost use Rattle.line65.specs.Messages.{joined, file_message, line_message, line_message_of};
 
 use crate::fault::LineFault;
+use base65::Sequence;
 use itoa::Buffer;
 use std::alloc::{AllocError, Global};
-use syntax65::Sequence;
 
 /// Texts one behind the other.
 pub fn join(alloc: Global, parts: &[&[u8]]) -> Result<Sequence<u8>, AllocError>

@@ -3,7 +3,7 @@
 ghost use Rattle.std.specs.Prelude.{map};
 ghost use Rattle.clap.specs.Words.{subcommand_rows_of};
 ghost use Rattle.line65.specs.LineFaults.{is_outside};
-ghost use Rattle.syntax65.specs.Outcome.{Gives};
+ghost use Rattle.base65.specs.Outcome.{Gives};
 ghost use Rattle.line65.specs.Line.{taken};
 
 use crate::commands::command;

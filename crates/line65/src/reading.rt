@@ -2,7 +2,7 @@
 
 ghost use Rattle.std.specs.Prelude.{◌≡◌, IfOk, map, option_map};
 ghost use Rattle.clap.specs.Words.{found_of, rows_of, first_of};
-ghost use Rattle.syntax65.specs.Outcome.{Gives};
+ghost use Rattle.base65.specs.Outcome.{Gives};
 ghost use Rattle.line65.specs.LineFaults.{is_outside};
 ghost use Rattle.line65.specs.Line.{view, all_given, archiving, assembling, linking, line_of, operation_of, said_by, archiving_of, assembling_of, linking_of};
 
@@ -10,10 +10,10 @@ use crate::defining::defines;
 use crate::fault::LineFault;
 use crate::line::{ArchiveLine, AssembleLine, Line, LinkLine, Operation};
 use crate::parsing::parse;
+use base65::Sequence;
 use clap::ArgMatches;
 use std::alloc::{AllocError, Global};
 use std::convert::AsStr;
-use syntax65::Sequence;
 
 /// The line that words are; the first is the program's name. Words that are no line are bad arguments.
 #[tactic(auto, unfolding(crate::specs::Line::line_of))]

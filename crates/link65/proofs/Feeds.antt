@@ -7,7 +7,7 @@ use Rattle.object65.specs.declared.item.Item.{Item}
 use Rattle.object65.specs.declared.object.Object.{Object}
 use Rattle.object65.specs.declared.item.Item.TheVariants as item
 use Rattle.object65.specs.declared.fault.ObjectFault.TheVariants as object
-use Rattle.syntax65.specs.Outcome.{◌>>=◌, Finds, First, Refuses, Unless}
+use Rattle.base65.specs.Outcome.{◌>>=◌, Finds, First, Refuses, Unless}
 use Rattle.linkage65.specs.GivenTwice.{all_once}
 use Rattle.linkage65.specs.Givers.{first_again, given_names}
 use Rattle.linkage65.specs.declared.linked.Linked.{Linked}

@@ -10,7 +10,7 @@ use Rattle.linkage65.specs.Names.{script_names}
 use Rattle.linkage65.specs.Programs.{Program, exported, program_of, with_module}
 use Rattle.linkage65.proofs.GivenLemmas.{each_once_all}
 use Rattle.script65.specs.declared.script.Script.{Script}
-use Rattle.syntax65.specs.Outcome.{◌>>=◌, Refuses, Unless}
+use Rattle.base65.specs.Outcome.{◌>>=◌, Refuses, Unless}
 
 abbrev Names : Type 0
 Names = List (List ℕ)

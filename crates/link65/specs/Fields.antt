@@ -8,7 +8,7 @@ use Rattle.object65.specs.Taking.{IsReached, State, after, finished}
 use Rattle.library65.specs.Libraries.{are_same}
 use Rattle.linkage65.specs.declared.fault.LinkFault.{LinkFault}
 use Rattle.linkage65.specs.declared.fault.LinkFault.TheVariants.{IndexDisagrees}
-use Rattle.syntax65.specs.Outcome.{◌>>=◌}
+use Rattle.base65.specs.Outcome.{◌>>=◌}
 use Rattle.linkage65.specs.GivenTwice.{all_once}
 use Rattle.linkage65.specs.Growing.{Growth, at_rest, growth_of}
 use Rattle.linkage65.specs.Programs.{Program, with_module}

@@ -1,7 +1,7 @@
 -- What a linker stands for: the modules that it was fed, and the records so far of the one that is open.
 use Rattle.std.specs.Prelude.{◌≡◌, ◌++◌, ◌∷◌, [], ℕ, List, length, Option, Some, None, is_some, Bool, true, false, Result, Ok, Err, OnOk, ◌==◌, if◌then◌else◌}
 use Rattle.std.specs.Option.{option_map}
-use Rattle.syntax65.specs.Outcome.{◌>>=◌, Finds, Gives, Refuses}
+use Rattle.base65.specs.Outcome.{◌>>=◌, Finds, Gives, Refuses}
 use Rattle.object65.specs.declared.fault.ObjectFault.{ObjectFault}
 use Rattle.object65.specs.declared.object.Object.{Object}
 use Rattle.object65.specs.Record.{Entry}

@@ -5,7 +5,7 @@ ghost use Rattle.std.specs.Option.{option_map};
 ghost use Rattle.object65.specs.Record.{entry_of};
 ghost use Rattle.object65.specs.Scanning.{outline_of};
 ghost use Rattle.object65.specs.Taking.{start};
-ghost use Rattle.syntax65.specs.Outcome.{Gives};
+ghost use Rattle.base65.specs.Outcome.{Gives};
 ghost use Rattle.linkage65.specs.Faults.{is_memory};
 ghost use Rattle.linkage65.specs.GivenTwice.{names_in};
 ghost use Rattle.linkage65.specs.Grounds.{AreNamed, growth_in};
@@ -14,12 +14,12 @@ ghost use Rattle.link65.specs.Standing.{listed_of, values_in};
 
 use crate::listed::{are_listed, copy_of, listed_of};
 use crate::open::Open;
+use base65::Sequence;
 use library65::Entry;
 use linkage65::{Exported, Given, Growing, LinkFault, end_module, take_item};
 use object65::{ObjectFault, Record, Scan};
 use std::alloc::Global;
 use std::mem;
-use syntax65::Sequence;
 
 /// Opens a module of this name, a library's member where there is an entry of it.
 pub fn open_module(

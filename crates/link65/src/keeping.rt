@@ -1,18 +1,18 @@
 //! What is kept once all modules are fed.
 
 ghost use Rattle.std.specs.Prelude.{◌≡◌, ◌++◌, [], map};
-ghost use Rattle.syntax65.specs.Outcome.{Gives};
+ghost use Rattle.base65.specs.Outcome.{Gives};
 ghost use Rattle.linkage65.specs.Faults.{is_memory};
 ghost use Rattle.linkage65.specs.Finishing.{program_from};
 ghost use Rattle.linkage65.specs.GivenTwice.{all_once};
 ghost use Rattle.linkage65.specs.Grounds.{growth_in};
 ghost use Rattle.linkage65.specs.Names.{script_names};
 
+use base65::Sequence;
 use indexmap::IndexSet;
 use linkage65::{Exported, Given, Growing, Kept, LinkFault};
 use script65::Script;
 use std::alloc::Global;
-use syntax65::Sequence;
 
 /// The names that a script and exports give, none of them twice, or else the first that is.
 pub fn given_names(

@@ -3,7 +3,7 @@
 ghost use Rattle.std.specs.Prelude.{◌≡◌, ◌+◌, [], Err, IfErr, IfOk, OnErr, OnOk, map, true, false};
 ghost use Rattle.std.specs.Option.{option_map};
 ghost use Rattle.object65.specs.Record.{entry_of};
-ghost use Rattle.syntax65.specs.Outcome.{Gives};
+ghost use Rattle.base65.specs.Outcome.{Gives};
 ghost use Rattle.linkage65.specs.Faults.{is_memory};
 ghost use Rattle.linkage65.specs.Links.{names_once};
 ghost use Rattle.linkage65.specs.Programs.{program_of};
@@ -13,13 +13,13 @@ ghost use Rattle.link65.specs.Standing.{AreNames, Begins, Continues, Ends, IsFed
 use crate::feeding::{close_module, open_module, take_record};
 use crate::keeping::{given_names, kept_of};
 use crate::open::Open;
+use base65::Text;
 use library65::{Entry, Names};
 use linkage65::{Given, Growing, LinkFault, Linked, link, no_module, open_names};
 use object65::Record;
 use script65::Script;
 use std::alloc::Global;
 use std::marker::Model;
-use syntax65::Text;
 
 /// A linker, which stands for the modules that were fed and the records so far of the one that is open. It keeps
 /// what they put into segments, exports and assertions, and no module or record.

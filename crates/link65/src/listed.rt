@@ -6,10 +6,10 @@ ghost use Rattle.library65.specs.Libraries.{are_same};
 ghost use Rattle.link65.specs.Fields.{are_listed};
 ghost use Rattle.link65.specs.Standing.{listed_of};
 
+use base65::Sequence;
 use library65::Entry;
 use linkage65::Exported;
 use std::alloc::{AllocError, Global};
-use syntax65::Sequence;
 
 /// The names that an index has of a member: what it exports and what it imports, in its order.
 #[derive(Drop)]

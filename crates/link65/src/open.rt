@@ -1,8 +1,8 @@
 //! A module that is open.
 
 use crate::listed::Listed;
+use base65::Sequence;
 use object65::Scan;
-use syntax65::Sequence;
 
 /// A module that is open: its name, and what is kept of its records to take the next.
 #[derive(Drop)]

@@ -5,8 +5,8 @@ use Rattle.std.proofs.lemmas.Grind.{common_steps}
 use Rattle.std.proofs.Common.{nat_lt}
 use Rattle.std.proofs.lemmas.Bool.Decides.{nat_tests}
 use Rattle.std.proofs.lemmas.Option.{gets}
-use Rattle.syntax65.specs.Outcome.{◌>>=◌}
-use Rattle.syntax65.specs.Values.{value1, value2}
+use Rattle.base65.specs.Outcome.{◌>>=◌}
+use Rattle.base65.specs.Values.{value1, value2}
 use Rattle.object65.specs.Form.{Form, lit, sec, imp, prefix, binary}
 use Rattle.object65.specs.FormValue.{or_none, value_in}
 use Rattle.linkage65.specs.declared.evaluation.mark.Mark.{Mark}

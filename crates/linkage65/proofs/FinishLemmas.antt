@@ -1,6 +1,6 @@
 -- From the parts of a link to the whole.
 use Rattle.std.proofs.Common.{◌≡◌, refl, sym, subst, Bool, true, false, Result, Ok, Err}
-use Rattle.syntax65.specs.Outcome.{First, Refuses, Unless}
+use Rattle.base65.specs.Outcome.{First, Refuses, Unless}
 use Rattle.linkage65.specs.declared.fault.LinkFault.{LinkFault}
 use Rattle.linkage65.specs.Faults.{is_memory}
 

@@ -4,7 +4,7 @@ use Rattle.std.proofs.Common.{append_assoc}
 use Rattle.std.specs.List.{flat_map}
 use Rattle.std.proofs.lemmas.List.{drop_all}
 use Rattle.script65.proofs.Eaches.{drop_item}
-use Rattle.syntax65.specs.Outcome.{◌>>=◌, Refuses, Unless}
+use Rattle.base65.specs.Outcome.{◌>>=◌, Refuses, Unless}
 use Rattle.linkage65.specs.declared.fault.LinkFault.{LinkFault}
 use Rattle.std.specs.Option.{option_map}
 use Rattle.std.specs.Prelude.{replicate}

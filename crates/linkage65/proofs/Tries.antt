@@ -1,8 +1,8 @@
 -- What an attempt at a form says of what it comes to.
 use Rattle.std.proofs.Common.{◌≡◌, ℕ, zero, suc, ◌+◌, refl, ◌∙◌, ap, arith, ◌⊎◌, inl, inr, List, slice_get, Option, Some, None, Result, Ok, Err}
 use Rattle.std.specs.Prelude.{ℤ, ◌+ℤ◌}
-use Rattle.syntax65.specs.Outcome.{◌>>=◌}
-use Rattle.syntax65.specs.Values.{value1, value2, wrapped}
+use Rattle.base65.specs.Outcome.{◌>>=◌}
+use Rattle.base65.specs.Values.{value1, value2, wrapped}
 use Rattle.object65.specs.Form.{Form, lit, sec, imp, prefix, binary}
 use Rattle.object65.specs.FormValue.{or_none, value_in}
 use Rattle.linkage65.specs.declared.evaluation.mark.Mark.{Mark}

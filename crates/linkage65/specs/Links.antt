@@ -1,6 +1,6 @@
 -- What modules come to by a script.
 use Rattle.std.specs.Prelude.{◌≡◌, ℕ, ℤ, List, [], ◌∷◌, ◌++◌, Option, Some, None, Result, Ok, Err}
-use Rattle.syntax65.specs.Outcome.{◌>>=◌, First}
+use Rattle.base65.specs.Outcome.{◌>>=◌, First}
 use Rattle.image65.specs.Placing.{place_of}
 use Rattle.image65.specs.declared.placement.PlaceFault.{PlaceFault}
 use Rattle.image65.specs.declared.placement.Placement.{Placement}

@@ -1,7 +1,7 @@
 //! The assertions of modules.
 
 ghost use Rattle.std.specs.Prelude.{◌≡◌, IfOk};
-ghost use Rattle.syntax65.specs.Outcome.{Gives};
+ghost use Rattle.base65.specs.Outcome.{Gives};
 ghost use Rattle.linkage65.specs.Checks.{assertion_result, check_assert, check_asserts, site};
 ghost use Rattle.linkage65.specs.Evaluation.{exports_in, linkage_in};
 ghost use Rattle.linkage65.specs.Faults.{is_memory};
@@ -13,10 +13,10 @@ use crate::evaluation::{Evaluated, value_in};
 use crate::fault::{LinkFault, Site};
 use crate::parts::{Asserted, Member};
 use crate::texts::{copy_of, join};
+use base65::Sequence;
 use itoa::Buffer;
 use object65::Action;
 use std::alloc::{AllocError, Global};
-use syntax65::Sequence;
 
 /// `module:line: Warning: text`
 fn assertion_warning(alloc: Global, site: &Site, text: &[u8]) -> Result<Sequence<u8>, AllocError>

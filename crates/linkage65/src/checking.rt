@@ -3,7 +3,7 @@
 ghost use Rattle.std.specs.Prelude.{◌≡◌, IfOk, ℕ, [], option_copied, slice_get, map};
 ghost use Rattle.std.specs.List.{flat_map};
 ghost use Rattle.std.specs.Option.{option_map_or};
-ghost use Rattle.syntax65.specs.Outcome.{Gives};
+ghost use Rattle.base65.specs.Outcome.{Gives};
 ghost use Rattle.linkage65.specs.Checks.{check_export, check_waiting, each_passes, fitting, site, value_at, waiting_by_row, waiting_of};
 ghost use Rattle.linkage65.specs.Contents.{AreByName, piece_waiting, segments_from};
 ghost use Rattle.linkage65.specs.Evaluation.{exports_in, linkage_in};
@@ -17,10 +17,10 @@ use crate::fault::{LinkFault, Site};
 use crate::parts::{Exported, Member, ValueFault, Waiting};
 use crate::tables::Segments;
 use crate::texts::copy_of;
+use base65::Sequence;
 use object65::fits;
 use script65::Row;
 use std::alloc::{AllocError, Global};
-use syntax65::Sequence;
 
 pub fn name_of(members: &[Member], owner: usize) -> &[u8]
     ensures { result.now ≡ option_map_or (λ m. m.name) (slice_get members.entry.now owner) [] }

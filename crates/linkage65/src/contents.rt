@@ -1,7 +1,7 @@
 //! What segments hold before anything is placed.
 
 use crate::parts::Waiting;
-use syntax65::Sequence;
+use base65::Sequence;
 
 /// A piece of a segment.
 #[derive(Drop)]

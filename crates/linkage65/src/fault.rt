@@ -4,12 +4,12 @@ ghost use Rattle.std.specs.Prelude.{◌≡◌, Some};
 ghost use Rattle.linkage65.specs.Faults.{of_object, of_place};
 ghost use Rattle.linkage65.specs.declared.fault.LinkFault.TheVariants.{OutOfMemory};
 
+use base65::Sequence;
 use image65::PlaceFault;
 use object65::ObjectFault;
 use std::alloc::{AllocError, AllocFailed};
 use std::error::Error;
 use std::fmt;
-use syntax65::Sequence;
 
 /// The module and the line of a datum, an export or an assertion.
 #[derive(Debug, Drop)]

@@ -1,7 +1,7 @@
 //! What a placed program comes to.
 
 ghost use Rattle.std.specs.Prelude.{◌≡◌, ◌++◌, IfOk};
-ghost use Rattle.syntax65.specs.Outcome.{Finds, Gives};
+ghost use Rattle.base65.specs.Outcome.{Finds, Gives};
 ghost use Rattle.linkage65.specs.Evaluation.{exports_in, linkage_in};
 ghost use Rattle.linkage65.specs.Faults.{is_memory};
 ghost use Rattle.linkage65.specs.Finishing.{AreOf, program_in};
@@ -19,10 +19,10 @@ use crate::mapping::{members_text, rows_text, symbols_text};
 use crate::resolving::Names;
 use crate::texts::join;
 use crate::warning::warnings_of;
+use base65::Sequence;
 use image65::{Placement, files_of};
 use script65::Script;
 use std::alloc::{AllocError, Global};
-use syntax65::Sequence;
 
 /// By what a program is finished: the name of the linker's output, the script, and where it places the segments.
 #[derive(Clone, Copy)]

@@ -1,7 +1,7 @@
 //! Names of which none may be given twice.
 
 ghost use Rattle.std.specs.Prelude.{◌≡◌, ◌++◌, ◌∷◌, [], Ok, OnErr, map};
-ghost use Rattle.syntax65.specs.Outcome.{Gives};
+ghost use Rattle.base65.specs.Outcome.{Gives};
 ghost use Rattle.linkage65.specs.Faults.{is_memory};
 ghost use Rattle.linkage65.specs.GivenTwice.{all_once, names_in, with_each, with_new};
 ghost use Rattle.linkage65.specs.Names.{script_names};
@@ -10,10 +10,10 @@ use crate::fault::LinkFault;
 use crate::own_names::script_names;
 use crate::parts::Exported;
 use crate::texts::copy_of;
+use base65::Sequence;
 use indexmap::IndexSet;
 use script65::Script;
 use std::alloc::Global;
-use syntax65::Sequence;
 
 /// The names that a script and modules give so far, none of them twice.
 #[derive(Drop)]

@@ -4,7 +4,7 @@ ghost use Rattle.std.specs.Prelude.{◌≡◌, ◌≤◌, ◌<◌, ◌+◌, ◌-
 ghost use Rattle.std.specs.Str.{bytes_eq};
 ghost use Rattle.object65.specs.Objects.{fragment_len};
 ghost use Rattle.image65.specs.Placing.{rounded_up};
-ghost use Rattle.syntax65.specs.Outcome.{Gives};
+ghost use Rattle.base65.specs.Outcome.{Gives};
 ghost use Rattle.linkage65.specs.Contents.{cells_of, segment_from, segments_from};
 ghost use Rattle.linkage65.specs.declared.contents.Content.{Content};
 ghost use Rattle.linkage65.specs.declared.parts.SectionPlace.{SectionPlace};
@@ -18,11 +18,11 @@ use crate::contents::{Content, Piece};
 use crate::fault::LinkFault;
 use crate::parts::{Asserted, Exported, Member, SectionPlace, Waiting};
 use crate::texts::copy_of;
+use base65::Sequence;
 use indexmap::IndexSet;
 use object65::{Fragment, Item, Width};
 use std::alloc::Global;
 use std::mem;
-use syntax65::Sequence;
 
 /// The modules taken so far, and what the open one has put into segments, exports and assertions.
 #[derive(Drop)]

@@ -14,11 +14,11 @@ use crate::evaluation::{Evaluated, value_in};
 use crate::parts::{Asserted, ValueFault, Waiting};
 use crate::tables::Segments;
 use arrayvec::ArrayVec;
+use base65::Sequence;
 use image65::RowContents;
 use object65::{Width, fits, put};
 use script65::Row;
 use std::alloc::{AllocError, Global};
-use syntax65::Sequence;
 
 /// A placed program and its segments.
 #[derive(Clone, Copy)]

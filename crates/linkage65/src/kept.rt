@@ -2,7 +2,7 @@
 
 use crate::contents::Content;
 use crate::parts::{Asserted, Exported, Member};
-use syntax65::Sequence;
+use base65::Sequence;
 
 /// What is kept of modules: all that a link needs of them.
 #[derive(Drop)]

@@ -1,7 +1,7 @@
 //! What linking gives.
 
+use base65::Sequence;
 use image65::OutputFile;
-use syntax65::Sequence;
 
 /// What linking gives.
 #[derive(Drop)]

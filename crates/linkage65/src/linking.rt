@@ -1,7 +1,7 @@
 //! From what is kept of modules to what a placed program comes to.
 
 ghost use Rattle.std.specs.Prelude.{◌≡◌, map};
-ghost use Rattle.syntax65.specs.Outcome.{Finds, Gives};
+ghost use Rattle.base65.specs.Outcome.{Finds, Gives};
 ghost use Rattle.linkage65.specs.Faults.{is_memory};
 ghost use Rattle.linkage65.specs.Finishing.{program_from};
 ghost use Rattle.linkage65.specs.Links.{IsPlacedLink, IsProgramLink, placed};

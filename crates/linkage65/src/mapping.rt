@@ -14,10 +14,10 @@ use crate::naming::row_place;
 use crate::parts::{Definition, Exported, Member, SectionPlace};
 use crate::resolving::{Names, is_defined};
 use crate::texts::join;
+use base65::Sequence;
 use image65::RowPlace;
 use script65::Row;
 use std::alloc::{AllocError, Global};
-use syntax65::Sequence;
 
 const DIGITS: [u8; 16] = *b"0123456789ABCDEF";
 

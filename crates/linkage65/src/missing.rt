@@ -2,7 +2,7 @@
 
 ghost use Rattle.std.specs.Prelude.{◌≡◌, ◌∷◌, [], IfOk, OnOk, is_some, map};
 ghost use Rattle.std.specs.List.{flat_map};
-ghost use Rattle.syntax65.specs.Outcome.{Gives};
+ghost use Rattle.base65.specs.Outcome.{Gives};
 ghost use Rattle.linkage65.specs.Faults.{is_memory};
 ghost use Rattle.linkage65.specs.Finishing.{program_from};
 ghost use Rattle.linkage65.specs.Givers.{each_once, open_names, unresolved};
@@ -18,10 +18,10 @@ use crate::own_names::script_names;
 use crate::parts::{Definition, Exported, Member};
 use crate::resolving::{Places, definition_places, export_places, places_of};
 use crate::texts::copy_of;
+use base65::Sequence;
 use indexmap::IndexSet;
 use script65::{Script, Symbol, SymbolKind};
 use std::alloc::{AllocError, Global};
-use syntax65::Sequence;
 
 /// The names that are given, each found by itself.
 #[derive(Drop)]

@@ -6,10 +6,10 @@ ghost use Rattle.linkage65.specs.Names.{area_definitions, areas_definitions, exp
 
 use crate::parts::Definition;
 use crate::texts::{copy_of, join};
+use base65::Sequence;
 use image65::{AreaPlace, Placement, RowPlace};
 use script65::{Area, Row, Script, Symbol, SymbolKind};
 use std::alloc::{AllocError, Global};
-use syntax65::Sequence;
 
 /// `__N_PART__`
 pub fn part_name(alloc: Global, name: &[u8], part: &[u8]) -> Result<Sequence<u8>, AllocError>

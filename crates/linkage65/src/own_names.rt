@@ -7,9 +7,9 @@ ghost use Rattle.linkage65.specs.Names.{area_names, row_names, script_names};
 use crate::naming::{add_exports, part_name};
 use crate::parts::Definition;
 use crate::texts::copy_of;
+use base65::Sequence;
 use script65::{Area, Row, Script};
 use std::alloc::{AllocError, Global};
-use syntax65::Sequence;
 
 /// Adds the names that an area gives.
 fn add_area(

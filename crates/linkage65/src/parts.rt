@@ -1,7 +1,7 @@
 //! What a link keeps of its modules.
 
+use base65::Sequence;
 use object65::{Action, Norm, Width};
-use syntax65::Sequence;
 
 /// A module's name, where its sections lie in their segments, and the names that it imports. Forms name sections and
 /// imports by their places here. An owner is a member's place among the members.

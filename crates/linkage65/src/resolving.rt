@@ -9,11 +9,11 @@ ghost use Rattle.linkage65.specs.Resolving.{AreAddresses, AreNames, IsTable, giv
 ghost use Rattle.linkage65.specs.declared.parts.Giver.TheVariants.{Nobody};
 
 use crate::parts::{Definition, Exported, Giver, Member, Resolved, SectionPlace};
+use base65::Sequence;
 use image65::RowPlace;
 use indexmap::IndexMap;
 use script65::Row;
 use std::alloc::{AllocError, Global};
-use syntax65::Sequence;
 
 /// The place of the first of names that equals one.
 #[derive(Drop)]

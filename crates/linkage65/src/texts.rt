@@ -3,8 +3,8 @@
 ghost use Rattle.std.specs.Prelude.{◌≡◌, IfOk, map};
 ghost use Rattle.linkage65.specs.Warnings.{joined};
 
+use base65::Sequence;
 use std::alloc::{AllocError, Global};
-use syntax65::Sequence;
 
 /// Texts one behind the other.
 pub fn join(alloc: Global, parts: &[&[u8]]) -> Result<Sequence<u8>, AllocError>

@@ -10,10 +10,10 @@ ghost use Rattle.linkage65.specs.Warnings.{absence_warning, align_words, alignme
 use crate::contents::{Content, Piece};
 use crate::tables::Segments;
 use crate::texts::join;
+use base65::Sequence;
 use itoa::Buffer;
 use script65::Row;
 use std::alloc::{AllocError, Global};
-use syntax65::Sequence;
 
 /// `ld65: Warning: segment name words`
 fn segment_warning(alloc: Global, name: &[u8], words: &[u8]) -> Result<Sequence<u8>, AllocError>

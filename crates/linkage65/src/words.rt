@@ -5,8 +5,8 @@ ghost use Rattle.linkage65.specs.Faults.{fault_text, listed};
 
 use crate::fault::LinkFault;
 use crate::texts::{copy_of, join};
+use base65::Sequence;
 use std::alloc::{AllocError, Global};
-use syntax65::Sequence;
 
 /// Names between commas and blanks.
 fn listed(alloc: Global, names: &[Sequence<u8>]) -> Result<Sequence<u8>, AllocError>

@@ -1,7 +1,7 @@
 -- What each of some names says, one behind the other.
 use Rattle.std.proofs.Common.{◌≡◌, List, [], ◌∷◌, ◌++◌, refl, ap, Result, Ok, Err}
 use Rattle.std.specs.List.{flat_map}
-use Rattle.syntax65.specs.Outcome.{◌>>=◌, each}
+use Rattle.base65.specs.Outcome.{◌>>=◌, each}
 use Rattle.language65.specs.declared.contents.Said.{Said}
 use Rattle.language65.specs.declared.fault.AsmFault.{AsmFault}
 use Rattle.language65.specs.Contents.{each_of}

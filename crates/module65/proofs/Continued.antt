@@ -1,8 +1,8 @@
 -- The statements of a source as an expander gives them: how they begin, one further, and each end.
 use Rattle.std.proofs.Common.{◌≡◌, Some, None, Bool, true, false, refl, sym, subst, ap}
 use Rattle.std.specs.Prelude.{Ok, Err}
-use Rattle.syntax65.specs.Outcome.{Unless}
-use Rattle.syntax65.specs.Store.{Files}
+use Rattle.base65.specs.Outcome.{Unless}
+use Rattle.base65.specs.Store.{Files}
 use Rattle.expand65.specs.declared.expander.Expander.{Expander}
 use Rattle.expand65.specs.declared.expander.Statement.{Statement}
 use Rattle.source65.specs.declared.fault.ExpandFault.{ExpandFault}

@@ -1,6 +1,6 @@
 -- Which pieces are settled at their line.
 use Rattle.std.proofs.Common.{◌∙◌, ℕ, List, [], ◌∷◌, refl, ap}
-use Rattle.syntax65.specs.Outcome.{◌>>=◌}
+use Rattle.base65.specs.Outcome.{◌>>=◌}
 use Rattle.language65.specs.declared.contents.Part.{Part}
 use Rattle.language65.specs.declared.contents.Said.TheVariants.{Demanded}
 use Rattle.source65.specs.declared.place.Place.{Place}

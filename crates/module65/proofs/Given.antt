@@ -1,8 +1,8 @@
 -- What taking a statement that expansion gives answers.
 use Rattle.std.proofs.Common.{◌≡◌, ℕ, Bool, true, false, List, [], ◌∷◌, Option, Some, None, refl, sym, subst, arith}
 use Rattle.std.specs.Prelude.{Result, Ok, Err, length, if◌then◌else◌}
-use Rattle.syntax65.specs.Outcome.{First, Unless}
-use Rattle.syntax65.specs.Store.{Files}
+use Rattle.base65.specs.Outcome.{First, Unless}
+use Rattle.base65.specs.Store.{Files}
 use Rattle.syntax65.specs.Tokens.{Lexeme, lexemes}
 use Rattle.syntax65.specs.Words.{is_reserved}
 use Rattle.syntax65.specs.declared.lexing.tokens.Token.{Token}

@@ -1,11 +1,11 @@
 -- The sections and imports that forms hold.
 use Rattle.std.proofs.Common.{◌≡◌, ℕ, Bool, true, false, nat_eq, nat_le, refl, Option, Some, None, Ok, Err}
 use Rattle.std.specs.Prelude.{⊤, ℤ, ◌-ℤ◌, IfOk, Result, if◌then◌else◌}
-use Rattle.syntax65.specs.Values.{value2, wrapped}
-use Rattle.syntax65.specs.declared.values.Op1.{Op1}
-use Rattle.syntax65.specs.declared.values.Op1.TheVariants.{Plus}
-use Rattle.syntax65.specs.declared.values.Op2.{Op2}
-use Rattle.syntax65.specs.declared.values.Op2.TheVariants.{Add, Subtract}
+use Rattle.base65.specs.Values.{value2, wrapped}
+use Rattle.base65.specs.declared.values.Op1.{Op1}
+use Rattle.base65.specs.declared.values.Op1.TheVariants.{Plus}
+use Rattle.base65.specs.declared.values.Op2.{Op2}
+use Rattle.base65.specs.declared.values.Op2.TheVariants.{Add, Subtract}
 use Rattle.object65.specs.declared.folding.FormFault.{FormFault}
 use Rattle.object65.specs.declared.folding.FormFault.TheVariants as fault
 use Rattle.object65.specs.Folding.{fold1, fold2, fold_any, fold_difference, fold_prefix, fold_sum, limited, literal, node_limit}

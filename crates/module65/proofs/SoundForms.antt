@@ -2,7 +2,7 @@
 use Rattle.std.proofs.Common.{◌≡◌, ℕ, zero, suc, Bool, true, false, refl, subst, arith, List, [], ◌∷◌, ◌++◌, ◌+◌, length, take, Option, Some, None, slice_get, Result, Ok, Err}
 use Rattle.std.specs.Prelude.{⊤, IfOk, ◌||◌, ◌-◌, nat_le, if◌then◌else◌}
 use Rattle.std.specs.List.{AllByRecursion, flat_map}
-use Rattle.syntax65.specs.Outcome.{◌>>=◌}
+use Rattle.base65.specs.Outcome.{◌>>=◌}
 use Rattle.syntax65.specs.Trees.{Tree, number, here, name, cheap, forward, backward, unary, binary}
 use Rattle.syntax65.specs.declared.lexing.tokens.AddressSize.{AddressSize}
 use Rattle.object65.specs.Form.{Form}

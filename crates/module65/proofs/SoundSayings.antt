@@ -2,7 +2,7 @@
 use Rattle.std.proofs.Common.{◌≡◌, ℕ, zero, suc, ◌<◌, Bool, true, false, refl, subst, List, [], ◌∷◌, ◌++◌, length, map, pos, negsuc, Option, Some, None, Result, Ok}
 use Rattle.std.specs.Prelude.{⊤, IfOk, ◌&&◌}
 use Rattle.std.specs.List.{AllByRecursion, list_all}
-use Rattle.syntax65.specs.Outcome.{◌>>=◌}
+use Rattle.base65.specs.Outcome.{◌>>=◌}
 use Rattle.syntax65.specs.declared.lexing.tokens.AddressSize.{AddressSize}
 use Rattle.object65.specs.Form.{Form, lit}
 use Rattle.object65.specs.Objects.{is_name}

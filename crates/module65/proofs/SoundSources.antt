@@ -2,8 +2,8 @@
 use Rattle.std.proofs.Common.{◌≡◌, ℕ, Bool, true, false, List, [], ◌∷◌, Option, Some, None, refl, sym, subst}
 use Rattle.std.specs.Prelude.{Result, Ok, Err, if◌then◌else◌}
 use Rattle.std.specs.FinMap as fmap
-use Rattle.syntax65.specs.Outcome.{◌>>=◌, First}
-use Rattle.syntax65.specs.Store.{Files}
+use Rattle.base65.specs.Outcome.{◌>>=◌, First}
+use Rattle.base65.specs.Store.{Files}
 use Rattle.syntax65.specs.Tokens.{Lexeme}
 use Rattle.syntax65.specs.Trees.{number}
 use Rattle.syntax65.specs.Words.{is_reserved}

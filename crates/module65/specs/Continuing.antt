@@ -1,6 +1,6 @@
 -- How the statements of a source are taken while they are: what is left is what decides all.
 use Rattle.std.specs.Prelude.{List, Result}
-use Rattle.syntax65.specs.Store.{Files}
+use Rattle.base65.specs.Store.{Files}
 use Rattle.expand65.specs.declared.expander.Expander.{Expander}
 use Rattle.source65.specs.declared.place.Place.{Place}
 use Rattle.expand65.specs.Standing.{StandsFor}

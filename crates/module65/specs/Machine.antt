@@ -1,7 +1,7 @@
 -- The assembler in one pass: what it holds between statements, what one adds, what waits.
 use Rattle.std.specs.Prelude.{◌≡◌, ℕ, suc, List, [], ◌∷◌, ◌++◌, Option, Some, None, Result, Ok, Err, if◌then◌else◌}
-use Rattle.syntax65.specs.Outcome.{◌>>=◌}
-use Rattle.syntax65.specs.Store.{Files}
+use Rattle.base65.specs.Outcome.{◌>>=◌}
+use Rattle.base65.specs.Store.{Files}
 use Rattle.object65.specs.declared.object.Object.{Object}
 use Rattle.language65.specs.declared.contents.Content.{Content}
 use Rattle.language65.specs.declared.fault.AsmFault.{AsmFault}

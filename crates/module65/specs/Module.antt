@@ -1,8 +1,8 @@
 -- A module: the object of its statements or the first fault, and what is said up to there.
 use Rattle.std.specs.Prelude.{◌≡◌, ℕ, zero, pos, Option, Some, None, Bool, true, false, List, [], ◌∷◌, ◌++◌, codes, decimal, Result, Ok, Err, if◌then◌else◌}
 use Rattle.std.specs.List.{flat_map}
-use Rattle.syntax65.specs.Outcome.{◌>>=◌, each}
-use Rattle.syntax65.specs.Store.{Files}
+use Rattle.base65.specs.Outcome.{◌>>=◌, each}
+use Rattle.base65.specs.Store.{Files}
 use Rattle.object65.specs.Form.{Form, lit}
 use Rattle.object65.specs.declared.object.Action.{Action}
 use Rattle.object65.specs.declared.object.Action.TheVariants as action

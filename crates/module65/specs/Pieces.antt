@@ -1,7 +1,7 @@
 -- The pieces of which a statement's content is made, and what each comes to.
 use Rattle.std.specs.Prelude.{ℕ, Bool, true, false, List, [], ◌∷◌, ◌++◌, map, Option, Some, Result, Ok, Err}
 use Rattle.syntax65.specs.Opcodes.{opcode_of}
-use Rattle.syntax65.specs.Outcome.{◌>>=◌}
+use Rattle.base65.specs.Outcome.{◌>>=◌}
 use Rattle.syntax65.specs.Trees.{Tree}
 use Rattle.syntax65.specs.declared.instructions.names.Mnemonic.{Mnemonic}
 use Rattle.object65.specs.Form.{Form}

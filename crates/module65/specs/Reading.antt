@@ -1,7 +1,7 @@
 -- How the statements of a source are taken one behind the other, over what stands between them.
 use Rattle.std.specs.Prelude.{◌≡◌, ℕ, List, [], ◌∷◌, Option, Some, None, Result, Ok, Err, if◌then◌else◌}
-use Rattle.syntax65.specs.Outcome.{First, Unless}
-use Rattle.syntax65.specs.Store.{Files}
+use Rattle.base65.specs.Outcome.{First, Unless}
+use Rattle.base65.specs.Store.{Files}
 use Rattle.syntax65.specs.Tokens.{Lexeme}
 use Rattle.syntax65.specs.Trees.{number}
 use Rattle.source65.specs.declared.fault.ExpandFault.{ExpandFault}

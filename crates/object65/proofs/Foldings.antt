@@ -4,12 +4,12 @@ use Rattle.std.proofs.lemmas.Bool.Decides.{nat_tests}
 use Rattle.std.proofs.lemmas.Int.{ints, int_wrap-add_left, int_wrap-add_right, int_wrap-sub_right}
 use Rattle.std.proofs.Math.IntN.{neg_ℤ}
 use Rattle.std.specs.Int.{w64}
-use Rattle.syntax65.specs.declared.values.Op1.{Op1}
-use Rattle.syntax65.specs.declared.values.Op1.TheVariants.{Plus}
-use Rattle.syntax65.specs.declared.values.Op2.{Op2}
-use Rattle.syntax65.specs.declared.values.Op2.TheVariants.{Add, Subtract}
-use Rattle.syntax65.specs.Outcome.{◌>>=◌}
-use Rattle.syntax65.specs.Values.{value1, value2, wrapped}
+use Rattle.base65.specs.declared.values.Op1.{Op1}
+use Rattle.base65.specs.declared.values.Op1.TheVariants.{Plus}
+use Rattle.base65.specs.declared.values.Op2.{Op2}
+use Rattle.base65.specs.declared.values.Op2.TheVariants.{Add, Subtract}
+use Rattle.base65.specs.Outcome.{◌>>=◌}
+use Rattle.base65.specs.Values.{value1, value2, wrapped}
 use Rattle.object65.specs.declared.folding.FormFault.TheVariants.{TooLarge}
 use Rattle.object65.specs.Folding
 use Rattle.object65.specs.Form.{Form, lit, sec, prefix, binary, nodes}

@@ -7,8 +7,8 @@ use Rattle.object65.specs.Small.{is_small_form, is_small_text, is_small_export, 
 use Rattle.std.specs.Int.{w64, cast_unsigned}
 use Rattle.byteorder.specs.Endian.{little_bytes}
 use Rattle.byteorder.specs.Numbers.{length-bytes_low_first}
-use Rattle.syntax65.specs.declared.values.Op1.{Op1}
-use Rattle.syntax65.specs.declared.values.Op1.TheVariants.{Plus, Negate, BitNot, LowByte, HighByte, BankByte, Not}
+use Rattle.base65.specs.declared.values.Op1.{Op1}
+use Rattle.base65.specs.declared.values.Op1.TheVariants.{Plus, Negate, BitNot, LowByte, HighByte, BankByte, Not}
 use Rattle.object65.specs.Form.{Form, lit, sec, imp, prefix, binary, nodes}
 use Rattle.object65.specs.Bodies.{form_at, form_of_code}
 use Rattle.object65.specs.Spelling.{form_bytes, code1}

@@ -3,7 +3,7 @@ use Rattle.std.proofs.Common.{◌≡◌, ◌∙◌, ◌<◌, ◌≤◌, ℕ, zer
 use Rattle.std.specs.Prelude.{IfSome}
 use Rattle.std.proofs.lemmas.List.{drop_all}
 use Rattle.std.specs.FinMap as map
-use Rattle.syntax65.specs.Store.{Files, Passes}
+use Rattle.base65.specs.Store.{Files, Passes}
 use Rattle.object65.specs.declared.fault.ObjectFault.{ObjectFault}
 use Rattle.object65.specs.declared.fault.ObjectFault.TheVariants.{OutOfMemory, CutShort, FileError, FileNotFound}
 use Rattle.object65.specs.Fault.{◌>>=◌, Refuses, is_memory, is_outside}
@@ -11,8 +11,8 @@ use Rattle.object65.specs.Record.{Entry}
 use Rattle.object65.specs.Reading.{head_at, record_at, end_at, in_file, front_of, whole, ending, room}
 use Rattle.object65.specs.Taking.{State, start, after, finished}
 use Rattle.object65.specs.Whole.{records_at, object_at}
-use Rattle.syntax65.specs.Outcome.{Unless}
-use Rattle.syntax65.proofs.Outcome.{refused-then}
+use Rattle.base65.specs.Outcome.{Unless}
+use Rattle.base65.proofs.Outcome.{refused-then}
 use Rattle.object65.proofs.Frees.{after_free}
 
 pub cut : (at limit : ℕ) (bytes : List ℕ) → length bytes ≤ at → record_at at limit bytes ≡ Err CutShort

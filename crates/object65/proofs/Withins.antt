@@ -21,7 +21,7 @@ use Rattle.object65.specs.Scanning
 use Rattle.object65.specs.Small.{is_small_text}
 use Rattle.object65.specs.Sound.{HasRoom, IsWhole, Stands, state_in, state_of, unmarked}
 use Rattle.object65.specs.Taking
-use Rattle.syntax65.specs.Outcome.{Unless}
+use Rattle.base65.specs.Outcome.{Unless}
 use Rattle.object65.proofs.Builders.{reached_next, reached_parts}
 use Rattle.object65.proofs.Goods.{and}
 use Rattle.object65.proofs.Reached.{GoodState, GoodDraft}

@@ -4,8 +4,8 @@ use Rattle.std.specs.Int.{w64, cast_signed}
 use Rattle.byteorder.specs.Endian.{little_number}
 use Rattle.object65.specs.declared.fault.ObjectFault.{ObjectFault}
 use Rattle.object65.specs.declared.fault.ObjectFault.TheVariants.{BadSize}
-use Rattle.syntax65.specs.declared.values.Op1.{Op1}
-use Rattle.syntax65.specs.declared.values.Op2.{Op2}
+use Rattle.base65.specs.declared.values.Op1.{Op1}
+use Rattle.base65.specs.declared.values.Op2.{Op2}
 use Rattle.object65.specs.declared.object.Action.{Action}
 use Rattle.object65.specs.declared.object.Action.TheVariants as action
 use Rattle.object65.specs.declared.object.Assert.{Assert}

@@ -1,10 +1,10 @@
 -- Why an object is refused: in words, and whether the cause lies outside the bytes.
 use Rattle.std.specs.Prelude.{ℕ, List, Bool, true, false, codes}
-use Rattle.syntax65.specs.declared.store.StoreFault.{StoreFault}
-use Rattle.syntax65.specs.declared.store.StoreFault.TheVariants as store
+use Rattle.base65.specs.declared.store.StoreFault.{StoreFault}
+use Rattle.base65.specs.declared.store.StoreFault.TheVariants as store
 use Rattle.object65.specs.declared.fault.ObjectFault.{ObjectFault}
 use Rattle.object65.specs.declared.fault.ObjectFault.TheVariants.{FailedBefore, OutOfMemory, NotAnObject, UnknownVersion, CutShort, UnknownRecord, OutOfOrder, IndexOutOfRange, BadSize, NotCanonical, BytesAfterEnd, FileError, FileNotFound}
-pub use Rattle.syntax65.specs.Outcome.{◌>>=◌, Gives, Refuses}
+pub use Rattle.base65.specs.Outcome.{◌>>=◌, Gives, Refuses}
 
 abbrev pub of_store : StoreFault → ObjectFault
 of_store store.OutOfMemory = OutOfMemory

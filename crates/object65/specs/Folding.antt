@@ -1,13 +1,13 @@
 -- What the form of an operation on forms is, and when a form can't be folded any more.
 use Rattle.std.specs.Prelude.{◌==◌, ℕ, ◌+◌, ℤ, ◌+ℤ◌, ◌-ℤ◌, Bool, true, false, not, ◌&&◌, ◌||◌, Option, Some, None, Result, Ok, Err, nat_le, if◌then◌else◌}
-use Rattle.syntax65.specs.declared.values.Op1.{Op1}
-use Rattle.syntax65.specs.declared.values.Op1.TheVariants.{Plus}
-use Rattle.syntax65.specs.declared.values.Op2.{Op2}
-use Rattle.syntax65.specs.declared.values.Op2.TheVariants.{Add, Subtract}
+use Rattle.base65.specs.declared.values.Op1.{Op1}
+use Rattle.base65.specs.declared.values.Op1.TheVariants.{Plus}
+use Rattle.base65.specs.declared.values.Op2.{Op2}
+use Rattle.base65.specs.declared.values.Op2.TheVariants.{Add, Subtract}
 use Rattle.object65.specs.declared.folding.FormFault.{FormFault}
 use Rattle.object65.specs.declared.folding.FormFault.TheVariants.{OutOfMemory, NoValue, TooLarge}
 use Rattle.object65.specs.Form.{Form, lit, sec, imp, prefix, binary, nodes}
-use Rattle.syntax65.specs.Values.{value1, value2, wrapped}
+use Rattle.base65.specs.Values.{value1, value2, wrapped}
 
 -- memory ran out
 abbrev pub lacks_memory : FormFault → Bool

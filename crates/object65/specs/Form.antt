@@ -3,8 +3,8 @@ use Rattle.std.specs.Prelude.{◌≡◌, ℕ, ◌+◌, ℤ}
 use Rattle.std.proofs.Common.{ap, ◌∙◌, sym}
 use Rattle.std.specs.Coded.{Coded, coded_ℤ}
 use base.Stored.{Gv, gnum, gcons}
-use Rattle.syntax65.specs.declared.values.Op1.{Op1}
-use Rattle.syntax65.specs.declared.values.Op2.{Op2}
+use Rattle.base65.specs.declared.values.Op1.{Op1}
+use Rattle.base65.specs.declared.values.Op2.{Op2}
 use Rattle.object65.specs.Operators.{number1, op1_of, op1_of-number1, number2, op2_of, op2_of-number2}
 
 pub data Form : Type 0 where

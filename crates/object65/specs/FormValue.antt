@@ -1,10 +1,10 @@
 -- The value of a form, where its sections lie at some bases and its imports mean something. Of what may go
 -- wrong, `none` says that an operation has no value; what else an import may answer is left open.
 use Rattle.std.specs.Prelude.{ℕ, ℤ, ◌+ℤ◌, Option, Some, None, Result, Ok, Err}
-use Rattle.syntax65.specs.declared.values.Op1.{Op1}
-use Rattle.syntax65.specs.declared.values.Op2.{Op2}
-use Rattle.syntax65.specs.Outcome.{◌>>=◌}
-use Rattle.syntax65.specs.Values.{value1, value2, wrapped}
+use Rattle.base65.specs.declared.values.Op1.{Op1}
+use Rattle.base65.specs.declared.values.Op2.{Op2}
+use Rattle.base65.specs.Outcome.{◌>>=◌}
+use Rattle.base65.specs.Values.{value1, value2, wrapped}
 use Rattle.object65.specs.Form.{Form, lit, sec, imp, prefix, binary}
 
 abbrev pub or_none : {E : Type 0} → E → Option ℤ → Result ℤ E

@@ -1,8 +1,8 @@
 -- What holds of objects and their bytes, and of forms.
 use Rattle.std.specs.Prelude.{◌≡◌, ℕ, ◌+◌, ◌≤◌, ℤ, List, [], ◌++◌, length, true, false, Result, Ok}
 use Rattle.byteorder.specs.Endian.{little_number}
-use Rattle.syntax65.specs.declared.values.Op1.{Op1}
-use Rattle.syntax65.specs.declared.values.Op2.{Op2}
+use Rattle.base65.specs.declared.values.Op1.{Op1}
+use Rattle.base65.specs.declared.values.Op2.{Op2}
 use Rattle.object65.specs.declared.object.Object.{Object}
 use Rattle.object65.specs.Bytes.{IsBytes}
 use Rattle.object65.specs.Folding.{fold1, fold2, folds1, folds2, is_normal, node_limit}

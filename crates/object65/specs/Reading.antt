@@ -7,8 +7,8 @@ use Rattle.object65.specs.declared.fault.ObjectFault.TheVariants.{NotAnObject, U
 use Rattle.object65.specs.Fault.{◌>>=◌}
 use Rattle.object65.specs.Record.{Entry, is_record_kind}
 use Rattle.object65.specs.Spelling.{magic, body_limit}
-use Rattle.syntax65.specs.declared.store.StoreFault.{StoreFault}
-use Rattle.syntax65.specs.declared.store.StoreFault.TheVariants as store
+use Rattle.base65.specs.declared.store.StoreFault.{StoreFault}
+use Rattle.base65.specs.declared.store.StoreFault.TheVariants as store
 
 -- what a file has from a place on, up to the end of a member's room
 abbrev pub room : List ℕ → ℕ → ℕ → List ℕ

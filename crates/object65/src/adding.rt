@@ -11,9 +11,9 @@ use crate::draft::Draft;
 use crate::filling::width_size;
 use crate::parts::Parts;
 use crate::{Assert, Export, Fragment, Item, ObjectFault};
+use base65::Sequence;
 use std::alloc::Global;
 use std::mem;
-use syntax65::Sequence;
 
 /// Puts the literal in the making behind the other fragments.
 fn close_literal(alloc: Global, draft: &mut Draft) -> Result<(), ObjectFault>

@@ -11,9 +11,9 @@ use crate::adding::add_item;
 use crate::finishing::finish_object;
 use crate::parts::Parts;
 use crate::{Object, ObjectFault, Record, Scan};
+use base65::Sequence;
 use std::alloc::Global;
 use std::marker::Model;
-use syntax65::Sequence;
 
 /// An object in the making, which stands for the records taken so far.
 pub struct Builder {

@@ -1,7 +1,7 @@
 //! A section in the making.
 
 use crate::Fragment;
-use syntax65::Sequence;
+use base65::Sequence;
 
 /// A section in the making.
 #[derive(Drop)]

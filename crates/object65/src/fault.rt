@@ -3,9 +3,9 @@
 ghost use Rattle.std.specs.Prelude.{◌≡◌};
 ghost use Rattle.object65.specs.declared.fault.ObjectFault.TheVariants.{OutOfMemory};
 
+use base65::StoreFault;
 use std::alloc::{AllocError, AllocFailed};
 use std::fmt;
-use syntax65::StoreFault;
 
 /// Why an object is refused.
 #[derive(Clone, Copy, Debug, PartialEq, Eq)]

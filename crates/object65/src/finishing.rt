@@ -8,8 +8,8 @@ ghost use Rattle.object65.specs.Taking.{section_from, object_from};
 use crate::draft::Draft;
 use crate::parts::Parts;
 use crate::{Fragment, Object, ObjectFault, Section};
+use base65::Sequence;
 use std::alloc::Global;
-use syntax65::Sequence;
 
 /// The section, with its last literal in place.
 fn finish_section(draft: Draft) -> Result<Section, ObjectFault>

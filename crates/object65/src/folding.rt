@@ -8,8 +8,8 @@ ghost use Rattle.object65.specs.Form.{binary};
 
 use crate::form::{NODE_LIMIT, count};
 use crate::{Node, Norm};
+use base65::{Op1, Op2, apply1, apply2};
 use std::alloc::{AllocError, AllocFailed, Global};
-use syntax65::{Op1, Op2, apply1, apply2};
 
 /// Why an expression has no form.
 #[derive(Clone, Copy, Debug)]

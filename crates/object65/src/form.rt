@@ -4,9 +4,9 @@ ghost use Rattle.std.specs.Prelude.{◌≡◌, ◌-◌, ◌^◌, min, IfOk};
 ghost use Rattle.object65.specs.Form.{Form, nodes};
 ghost use Rattle.object65.specs.Norm.{form_of};
 
+use base65::{Op1, Op2};
 use std::alloc::{AllocError, Global};
 use std::marker::Model;
-use syntax65::{Op1, Op2};
 
 /// No form has more nodes.
 pub const NODE_LIMIT: u32 = 255;

@@ -6,9 +6,9 @@ ghost use Rattle.object65.specs.Bodies.{number_at, text_at, counted_at, op1_at, 
 ghost use Rattle.object65.specs.Fault.{Gives, is_memory};
 
 use crate::{Node, Norm, ObjectFault};
+use base65::{Op1, Op2};
 use byteorder::{ByteOrder, LittleEndian};
 use std::alloc::Global;
-use syntax65::{Op1, Op2};
 
 /// The byte at the front, and what follows.
 pub fn byte_at(bytes: &[u8]) -> Result<(u8, &[u8]), ObjectFault>

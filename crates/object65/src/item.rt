@@ -1,7 +1,7 @@
 //! What one record of an object says.
 
 use crate::{Action, Fragment, Norm};
-use syntax65::Sequence;
+use base65::Sequence;
 
 /// What one record of an object says.
 #[derive(Drop)]

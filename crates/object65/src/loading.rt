@@ -3,7 +3,7 @@
 ghost use Rattle.std.specs.Prelude.{◌≡◌, ◌≤◌, ◌+◌, length, IfSome, IfOk, true};
 ghost use Rattle.std.specs.FinMap as map;
 ghost use Rattle.std.specs.List.{AllByRecursion};
-ghost use Rattle.syntax65.specs.Store.{Passes};
+ghost use Rattle.base65.specs.Store.{Passes};
 ghost use Rattle.object65.specs.Fault.{Gives, is_outside};
 ghost use Rattle.object65.specs.Objects.{is_good_object, section_len, section_limit};
 ghost use Rattle.object65.specs.Reading.{in_file};
@@ -11,8 +11,8 @@ ghost use Rattle.object65.specs.Taking.{start};
 ghost use Rattle.object65.specs.Whole.{records_at, object_at};
 
 use crate::{Builder, Object, ObjectFault, RecordReader, check_end, read_head};
+use base65::Store;
 use std::alloc::Global;
-use syntax65::Store;
 
 /// Reads record by record up to the END, and answers where the END ends.
 fn read_records<S: Store>(

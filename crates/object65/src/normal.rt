@@ -6,7 +6,7 @@ ghost use Rattle.object65.specs.Form.{nodes};
 
 use crate::form::{NODE_LIMIT, count};
 use crate::{Node, Norm};
-use syntax65::{Op1, Op2};
+use base65::{Op1, Op2};
 
 /// Whether the sections and imports of a form are there, of so many.
 pub fn are_there(form: &Norm, sections: usize, imports: usize) -> bool

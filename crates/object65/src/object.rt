@@ -1,7 +1,7 @@
 //! An object as a value.
 
 use crate::Norm;
-use syntax65::Sequence;
+use base65::Sequence;
 
 /// A module in parts.
 #[derive(Drop)]

@@ -2,8 +2,8 @@
 
 use crate::draft::Draft;
 use crate::{Assert, Export};
+use base65::Sequence;
 use std::alloc::Global;
-use syntax65::Sequence;
 
 /// What has been taken of an object.
 #[derive(Drop)]

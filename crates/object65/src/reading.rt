@@ -2,7 +2,7 @@
 
 ghost use Rattle.std.specs.Prelude.{◌≡◌, ◌≤◌, ◌+◌, ◌-◌, length, IfOk, IfSome, take};
 ghost use Rattle.std.specs.FinMap as map;
-ghost use Rattle.syntax65.specs.Store.{Passes};
+ghost use Rattle.base65.specs.Store.{Passes};
 ghost use Rattle.object65.specs.Fault.{Gives, is_outside};
 ghost use Rattle.object65.specs.Record.{is_record_kind};
 ghost use Rattle.object65.specs.Reading.{in_file, head_at, end_at, room, IsRoomRead, front_of};
@@ -10,8 +10,8 @@ ghost use Rattle.object65.specs.Spelling.{body_limit};
 
 use crate::ObjectFault;
 use crate::record::{END, IMPORT};
+use base65::{Store, StoreFault, read_full};
 use byteorder::{ByteOrder, LittleEndian};
-use syntax65::{Store, StoreFault, read_full};
 
 /// With these bytes an object begins.
 const MAGIC: [u8; 4] = [0x52, 0x36, 0x35, 0x6f];

@@ -2,7 +2,7 @@
 
 ghost use Rattle.std.specs.Prelude.{◌≡◌, ◌≤◌, ◌+◌, ◌-◌, length, IfOk, IfSome, take};
 ghost use Rattle.std.specs.FinMap as map;
-ghost use Rattle.syntax65.specs.Store.{Passes};
+ghost use Rattle.base65.specs.Store.{Passes};
 ghost use Rattle.object65.specs.Fault.{Gives, is_outside};
 ghost use Rattle.object65.specs.Record.{entry_of};
 ghost use Rattle.object65.specs.Reading.{in_file, record_at, room, whole, file_limit};
@@ -11,8 +11,8 @@ ghost use Rattle.object65.specs.Spelling.{body_limit};
 use crate::reading::{LARGEST_BODY, read_front, read_room};
 use crate::{ObjectFault, Record};
 use arrayvec::ArrayVec;
+use base65::Store;
 use std::marker::Model;
-use syntax65::Store;
 
 /// An object or library file has at most so many bytes.
 const FILE_LIMIT: u64 = 1_073_741_824;

@@ -19,10 +19,10 @@ use crate::reading::is_kind;
 use crate::record::{ASSERT, EXPORT, FILL, IMPORT, LITERAL, SECTION, VALUE};
 use crate::room::{Last, Room};
 use crate::{Item, ObjectFault, Record};
+use base65::Sequence;
 use byteorder::{ByteOrder, LittleEndian};
 use indexmap::IndexSet;
 use std::alloc::Global;
-use syntax65::Sequence;
 
 const SECTION_LIMIT: u32 = 16_777_216;
 

@@ -12,9 +12,9 @@ ghost use Rattle.object65.specs.Spelling.{code1, form_bytes, width_code, action_
 
 use crate::record::{ASSERT, END, EXPORT, FILL, IMPORT, LITERAL, SECTION, VALUE};
 use crate::{Action, Assert, Export, Fragment, Node, Norm, Object, ObjectFault, Section, Width};
+use base65::{Op1, Op2, Sequence};
 use byteorder::{ByteOrder, LittleEndian};
 use std::alloc::{AllocError, Global};
-use syntax65::{Op1, Op2, Sequence};
 
 /// With these bytes an object begins.
 const HEAD: [u8; 5] = [0x52, 0x36, 0x35, 0x6f, 0x01];

@@ -8,8 +8,8 @@ mod libraries;
 mod lines;
 mod linking;
 
+use base65::{MemStore, Store};
 use std::alloc::{AllocError, Global};
-use syntax65::{MemStore, Store};
 use tools65::{Status, run};
 
 /// `A9 00 60` in segment CODE.

@@ -9,10 +9,10 @@ ghost use Rattle.language65.specs.Contents.{put};
 ghost use Rattle.sections65.specs.Fed.{AreAlike, content_of, filled, is_open, open_count};
 ghost use Rattle.sections65.specs.Standing.{Defers, IsAdded, IsSettled, Settles, Takes, contents_in};
 
+use base65::Sequence;
 use language65::{Part, Said};
 use std::alloc::{AllocError, Global};
 use std::mem;
-use syntax65::Sequence;
 
 /// What one call feeds.
 #[derive(Drop)]

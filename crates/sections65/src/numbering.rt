@@ -15,6 +15,7 @@ mod names;
 mod numbers;
 
 use crate::entries::{Entry, copy_of};
+use base65::Sequence;
 use drafts::{Draft, filled};
 use exports::{asserts_of, exports_of};
 use indexmap::IndexSet;
@@ -23,7 +24,6 @@ use language65::Segment;
 use numbers::Numbers;
 use object65::{Fragment, Object, Section};
 use std::alloc::{AllocError, Global};
-use syntax65::Sequence;
 
 /// The power of two to a multiple of which a segment is aligned.
 fn power_of(align: u32) -> u8

@@ -11,11 +11,11 @@ ghost use Rattle.sections65.specs.Standing.{Awaits, Feeds, Receives, Stands};
 
 use crate::entries::{Entries, Entry};
 use crate::numbering::object_of;
+use base65::Sequence;
 use indexmap::IndexSet;
 use language65::{Part, Said, Segment};
 use object65::{Norm, Object, Width};
 use std::alloc::{AllocError, Global};
-use syntax65::Sequence;
 
 /// Sections in the making: what statements put into them and say to other modules and to the linker, in the order of
 /// the source. Neighbouring bytes of a section lie in one buffer.

@@ -5,8 +5,8 @@ use Rattle.syntax65.specs.declared.expressions.fault.ExprFault.{ExprFault}
 use Rattle.syntax65.specs.declared.expressions.fault.ExprFault.TheVariants as expr
 use Rattle.syntax65.specs.declared.lexing.fault.LexFault.{LexFault}
 use Rattle.syntax65.specs.declared.lexing.fault.LexFault.TheVariants as lex
-use Rattle.syntax65.specs.declared.store.StoreFault.{StoreFault}
-use Rattle.syntax65.specs.declared.store.StoreFault.TheVariants as store
+use Rattle.base65.specs.declared.store.StoreFault.{StoreFault}
+use Rattle.base65.specs.declared.store.StoreFault.TheVariants as store
 use Rattle.source65.specs.declared.fault.ExpandFault.{ExpandFault}
 use Rattle.source65.specs.declared.fault.ExpandFault.TheVariants.{FailedBefore, OutOfMemory, Syntax, FileNotFound, FileError, NotConstant, Nested, TooManyLines, NotClosed, NotOpened, TooManyArguments, MacroTwice, MacroInside, CountOutOfRange, FileTooLong, Error, NotUnderstood, LineTooLong}
 

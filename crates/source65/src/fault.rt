@@ -4,10 +4,11 @@ ghost use Rattle.std.specs.Prelude.{◌≡◌};
 ghost use Rattle.source65.specs.declared.fault.ExpandFault.TheVariants.{FileError, FileNotFound, OutOfMemory};
 ghost use Rattle.source65.specs.Faults.{fault_of_lexing, fault_of_parsing, fault_of_store};
 
+use base65::{Sequence, StoreFault};
 use std::alloc::{AllocError, AllocFailed};
 use std::error::Error;
 use std::fmt;
-use syntax65::{ExprFault, LexFault, Sequence, StoreFault};
+use syntax65::{ExprFault, LexFault};
 
 /// Why a source's statements can't be given.
 #[derive(Debug, Drop)]

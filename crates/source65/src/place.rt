@@ -2,8 +2,8 @@
 
 ghost use Rattle.std.specs.Prelude.{◌≡◌, IfOk};
 
+use base65::Text;
 use std::alloc::{AllocError, Global};
-use syntax65::Text;
 
 /// A file and the number of the line of it that was read last, 0 where none was.
 #[derive(Drop)]

@@ -1,8 +1,8 @@
 -- Lists that are read part by part.
 use Rattle.std.proofs.Common.{◌≡◌, ℕ, suc, Bool, true, false, List, [], ◌∷◌, ◌++◌, length, Option, Some, None, Result, Ok, Err, refl, ap, sym, ◌∙◌, subst, append_assoc, append-nil, option_map, Bor}
 use Rattle.std.specs.Result.{IsErrAnd}
-use Rattle.syntax65.specs.Outcome.{◌>>=◌, Unless}
-use Rattle.syntax65.specs.Relations.{Answers}
+use Rattle.base65.specs.Outcome.{◌>>=◌, Unless}
+use Rattle.base65.specs.Relations.{Answers}
 use Rattle.syntax65.specs.Tokens.{Lexeme, lexemes}
 use Rattle.syntax65.specs.declared.lexing.tokens.Token.{Token}
 use Rattle.language65.specs.Faults.{is_outside}

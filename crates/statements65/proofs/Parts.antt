@@ -6,8 +6,8 @@ use Rattle.std.proofs.lemmas.List.{take_all}
 use Rattle.syntax65.specs.Expressions.{IsParsed}
 use Rattle.syntax65.specs.Faults.{is_expr_outside}
 use Rattle.std.specs.Result.{IsErrAnd}
-use Rattle.syntax65.specs.Outcome.{◌>>=◌, First, Unless}
-use Rattle.syntax65.specs.Relations.{Answers}
+use Rattle.base65.specs.Outcome.{◌>>=◌, First, Unless}
+use Rattle.base65.specs.Relations.{Answers}
 use Rattle.language65.specs.declared.fault.AsmFault.{AsmFault}
 use Rattle.syntax65.specs.declared.expressions.fault.ExprFault.TheVariants.{OutOfMemory, OperandExpected, ParenthesisExpected, TooDeep}
 use Rattle.language65.specs.Faults.{is_outside, of_expr}

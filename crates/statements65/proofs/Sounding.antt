@@ -4,7 +4,7 @@ use Rattle.std.specs.Prelude.{Result, Ok, Err, ◌++◌, nat_le, length, codes, 
 use Rattle.std.specs.List.{list_all, AllByRecursion}
 use Rattle.std.specs.Str.{bytes_eq}
 use Rattle.std.proofs.lemmas.Bool.Decides.{nat_tests}
-use Rattle.syntax65.specs.Outcome.{◌>>=◌, First}
+use Rattle.base65.specs.Outcome.{◌>>=◌, First}
 use Rattle.syntax65.specs.Tokens.{Lexeme, IsRead}
 use Rattle.syntax65.specs.Trees.{Tree}
 use Rattle.syntax65.specs.Words.{is_reserved}

@@ -5,7 +5,7 @@ use Rattle.std.specs.List.{list_all}
 use Rattle.std.specs.Str.{bytes_eq, str_eq_ignore_ascii_case}
 use Rattle.syntax65.specs.Expressions.{IsParsed}
 use Rattle.syntax65.specs.Mnemonics.{mnemonic_of}
-use Rattle.syntax65.specs.Outcome.{◌>>=◌, First}
+use Rattle.base65.specs.Outcome.{◌>>=◌, First}
 use Rattle.syntax65.specs.Tokens.{Lexeme}
 use Rattle.syntax65.specs.Trees.{Tree}
 use Rattle.syntax65.specs.Words.{is_reserved}

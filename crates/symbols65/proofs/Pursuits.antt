@@ -18,7 +18,7 @@ use Rattle.symbols65.specs.Hanging.{AreHung, Comes, HangsOn, Leads, Reaches}
 use Rattle.symbols65.specs.Knowns.{is_found}
 use Rattle.language65.specs.Norms.{form_of_definition, norm}
 use Rattle.symbols65.proofs.Hanging.{extends_itself}
-use Rattle.syntax65.specs.Outcome.{Unless}
+use Rattle.base65.specs.Outcome.{Unless}
 use Rattle.symbols65.proofs.Turns.{Course, IsCourse, constant_course, constant_is, ok_later, circular_before}
 use Rattle.symbols65.proofs.Tries.{Near, Agrees, IsAttempt, at_turn, last_course}
 

@@ -2,8 +2,8 @@
 use Rattle.std.specs.Prelude.{ℤ, Option, Some, None, Ok, ⊤}
 use Rattle.std.specs.Result.{result_ok}
 use Rattle.syntax65.specs.Trees.{Tree, number, here, unary, binary}
-use Rattle.syntax65.specs.declared.values.Op1.{Op1}
-use Rattle.syntax65.specs.declared.values.Op2.{Op2}
+use Rattle.base65.specs.declared.values.Op1.{Op1}
+use Rattle.base65.specs.declared.values.Op2.{Op2}
 use Rattle.object65.specs.Form.{Form}
 use Rattle.object65.specs.Folding.{fold1, fold2}
 use Rattle.language65.specs.Norms.{literal_in}

@@ -7,7 +7,7 @@ use Rattle.language65.specs.Laid.{Spot}
 use Rattle.language65.specs.Names.{Meaning, defined_at, imported_as, meaning_of, plain_meaning, scoped_meaning}
 use Rattle.language65.specs.Norms.{address_of, folded, form_of_definition, norm}
 use Rattle.language65.specs.Symbols.{Symbols, Definition}
-use Rattle.syntax65.specs.Outcome.{◌>>=◌}
+use Rattle.base65.specs.Outcome.{◌>>=◌}
 use Rattle.syntax65.specs.Trees.{Tree, number, here, unary, binary}
 use Rattle.object65.specs.Form.{Form, lit, imp}
 use Rattle.object65.specs.Folding.{fold1, fold2}

@@ -5,7 +5,7 @@ use Rattle.std.specs.Prelude.{Err}
 use Rattle.syntax65.specs.Bytes.{is_blank, is_blank_class}
 use Rattle.syntax65.specs.Forms.{Begins, IsToken, FaultAt}
 use Rattle.syntax65.specs.Faults.{is_lex_outside}
-use Rattle.syntax65.specs.Outcome.{Unless}
+use Rattle.base65.specs.Outcome.{Unless}
 use Rattle.syntax65.specs.Tokens.{Lexeme, after_blanks, Reads, IsRead}
 use Rattle.syntax65.specs.declared.lexing.classes.Class.TheVariants.{Blank}
 use Rattle.syntax65.specs.declared.lexing.tokens.TokenKind.{TokenKind}

@@ -9,7 +9,7 @@ use Rattle.syntax65.specs.Expressions.{opening_at, binary_at, binary_in, text_at
 use Rattle.syntax65.specs.declared.lexing.tokens.Mark.TheVariants.{CloseParenthesis}
 use Rattle.syntax65.specs.declared.lexing.tokens.TokenKind.{TokenKind}
 use Rattle.syntax65.specs.declared.lexing.tokens.TokenKind.TheVariants as token
-use Rattle.syntax65.specs.declared.values.Op1.TheVariants.{Not}
+use Rattle.base65.specs.declared.values.Op1.TheVariants.{Not}
 use Rattle.syntax65.specs.declared.expressions.words.Opening.{Opening}
 use Rattle.syntax65.specs.declared.expressions.words.Opening.TheVariants.{Name, Negation}
 use Rattle.syntax65.specs.declared.expressions.fault.ExprFault.{ExprFault}

@@ -6,9 +6,9 @@ use Rattle.syntax65.specs.Words.{opening_of, binary_of, level_of}
 use Rattle.syntax65.specs.declared.lexing.tokens.TokenKind.{TokenKind}
 use Rattle.syntax65.specs.declared.lexing.tokens.TokenKind.TheVariants as token
 use Rattle.syntax65.specs.declared.lexing.tokens.Mark.TheVariants as mark
-use Rattle.syntax65.specs.declared.values.Op1.{Op1}
-use Rattle.syntax65.specs.declared.values.Op1.TheVariants.{Not}
-use Rattle.syntax65.specs.declared.values.Op2.{Op2}
+use Rattle.base65.specs.declared.values.Op1.{Op1}
+use Rattle.base65.specs.declared.values.Op1.TheVariants.{Not}
+use Rattle.base65.specs.declared.values.Op2.{Op2}
 use Rattle.syntax65.specs.declared.expressions.trees.Expr.{Expr}
 use Rattle.syntax65.specs.declared.expressions.words.Opening.{Opening}
 use Rattle.syntax65.specs.declared.expressions.words.Opening.TheVariants.{Number, Here, Cheap, Forward, Backward, Name, Scope, Prefix, Parenthesis, Negation, Nothing}

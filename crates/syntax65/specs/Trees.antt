@@ -1,7 +1,7 @@
 -- Expressions, without where they lie in memory.
 use Rattle.std.specs.Prelude.{ℕ, Bool, List}
-use Rattle.syntax65.specs.declared.values.Op1.{Op1}
-use Rattle.syntax65.specs.declared.values.Op2.{Op2}
+use Rattle.base65.specs.declared.values.Op1.{Op1}
+use Rattle.base65.specs.declared.values.Op2.{Op2}
 use Rattle.syntax65.specs.declared.expressions.trees.Expr.{Expr}
 use Rattle.syntax65.specs.declared.expressions.trees.Expr.TheVariants.{Number, Here, Name, Cheap, Forward, Backward, Prefix', Binary'}
 

@@ -3,10 +3,10 @@ use Rattle.std.proofs.Common.{◌≡◌, ◌∙◌, ◌⊎◌, inl, inr, ℕ, �
 use Rattle.std.proofs.Math.Nat.{eq-or-lt_of_le}
 use Rattle.std.specs.Prelude.{IfSome, IfErr, ◌||◌}
 use Rattle.std.specs.Result.{IsErrAnd}
-use Rattle.syntax65.specs.Outcome.{Finds, Gives, Unless}
-use Rattle.syntax65.specs.Store.{Files, HasFailed, PassesBy, Tells, last_count}
-use Rattle.syntax65.specs.declared.store.StoreFault.{StoreFault}
-use Rattle.syntax65.specs.declared.store.StoreFault.TheVariants.{OutOfMemory, FileNotFound, FileError}
+use Rattle.base65.specs.Outcome.{Finds, Gives, Unless}
+use Rattle.base65.specs.Store.{Files, HasFailed, PassesBy, Tells, last_count}
+use Rattle.base65.specs.declared.store.StoreFault.{StoreFault}
+use Rattle.base65.specs.declared.store.StoreFault.TheVariants.{OutOfMemory, FileNotFound, FileError}
 use Rattle.image65.specs.declared.output.OutputFile.{OutputFile}
 use Rattle.object65.specs.declared.object.Object.{Object}
 use Rattle.asm65.specs.declared.refusal.AsmRefusal.{AsmRefusal}

@@ -6,7 +6,7 @@ use Rattle.std.specs.Option.{option_map_or}
 use Rattle.std.specs.Str.{bytes_eq}
 use Rattle.std.proofs.lemmas.List.{append-nil, length-drop, length-take, take_all}
 use Rattle.std.proofs.lemmas.Slice.Eq.{bytes_eq-Decides}
-use Rattle.syntax65.specs.Store.{Files}
+use Rattle.base65.specs.Store.{Files}
 use Rattle.object65.specs.declared.object.Export.{Export}
 use Rattle.object65.specs.declared.object.Object.{Object}
 use Rattle.object65.specs.Objects.{is_good_object}

@@ -2,8 +2,8 @@
 use Rattle.std.proofs.Common.{◌≡◌, ◌∙◌, ℕ, ◌+◌, List, [], ◌∷◌, Bool, true, false, Result, Ok, Err, sym, ap, subst}
 use Rattle.std.specs.FinMap.{get}
 use Rattle.std.specs.Prelude.{Option, Some}
-use Rattle.syntax65.specs.Outcome.{First}
-use Rattle.syntax65.specs.Store.{Files}
+use Rattle.base65.specs.Outcome.{First}
+use Rattle.base65.specs.Store.{Files}
 use Rattle.script65.proofs.OneReading.{one_reading}
 use Rattle.script65.specs.Scripts.{IsScript}
 use Rattle.script65.specs.declared.fault.ScriptFault.{ScriptFault}

@@ -1,8 +1,8 @@
 -- From the parts of a run to the whole.
 use Rattle.std.proofs.Common.{◌≡◌, ◌∙◌, ◌⊎◌, inl, inr, ℕ, ◌<◌, ◌≤◌, List, [], Bool, true, false, Option, Some, None, Result, Ok, Err, refl, sym, ap, subst, map, arith, append-nil}
 use Rattle.std.specs.Prelude.{IfSome, IfErr, ◌||◌}
-use Rattle.syntax65.specs.Outcome.{Finds, Gives, Refuses, Unless}
-use Rattle.syntax65.specs.Store.{Files, NoneFailed, HasFailed, PassesBy, last_count}
+use Rattle.base65.specs.Outcome.{Finds, Gives, Refuses, Unless}
+use Rattle.base65.specs.Store.{Files, NoneFailed, HasFailed, PassesBy, last_count}
 use Rattle.linkage65.specs.declared.linked.Linked.{Linked}
 use Rattle.ld65.specs.declared.refusal.Refusal.{Refusal}
 use Rattle.tools65.specs.declared.outcome.Outcome.{Outcome}

@@ -8,12 +8,12 @@ use Rattle.std.specs.Io.KnownBytes.{Appends, Keeps}
 use Rattle.std.specs.Ordering.{nat_cmp, eq_by_cmp}
 use Rattle.std.specs.Cmp.{eq_by_cmp_equiv}
 use Rattle.std.specs.Cmp.Lexicographic.{slice_cmp, nat_list_cmp_total}
-use Rattle.syntax65.specs.Store.{Files, Tells, NoneFailed, HasFailed, Appends as Appended}
-use Rattle.syntax65.specs.declared.store.StoreFault.{StoreFault}
-use Rattle.syntax65.specs.declared.store.StoreFault.TheVariants.{OutOfMemory, FileNotFound, FileError}
+use Rattle.base65.specs.Store.{Files, Tells, NoneFailed, HasFailed, Appends as Appended}
+use Rattle.base65.specs.declared.store.StoreFault.{StoreFault}
+use Rattle.base65.specs.declared.store.StoreFault.TheVariants.{OutOfMemory, FileNotFound, FileError}
 use Rattle.tools65.specs.Leaving.{Prints, SaysBoth, IsPartly, apply, StopsAt, StopsShort, is_failure, is_file_error}
 use Rattle.tools65.specs.declared.writing.Unwritten.{Unwritten}
-use Rattle.syntax65.proofs.Filling.{take-add}
+use Rattle.base65.proofs.Filling.{take-add}
 use Rattle.tools65.specs.declared.outcome.Outcome.{Outcome}
 use Rattle.tools65.specs.declared.outcome.Status.{Status}
 use Rattle.tools65.specs.declared.outcome.Status.TheVariants.{Failure}

@@ -1,9 +1,9 @@
 -- A run over sources' objects, and the whole program of the sources.
 use Rattle.std.proofs.Common.{◌≡◌, ◌∙◌, ◌⊎◌, inl, inr, ℕ, List, [], Bool, true, false, Option, Some, None, Result, Ok, Err, refl, sym, ap, subst}
 use Rattle.std.specs.Prelude.{IfSome, slice_get}
-use Rattle.syntax65.specs.Store.{Files, NoneFailed, Tells}
+use Rattle.base65.specs.Store.{Files, NoneFailed, Tells}
 use Rattle.script65.specs.declared.script.Script.{Script}
-use Rattle.syntax65.specs.Outcome.{First}
+use Rattle.base65.specs.Outcome.{First}
 use Rattle.linkage65.specs.Links.{IsProgramLink, LinkOf, names_once}
 use Rattle.linkage65.specs.Modules.{Module}
 use Rattle.linkage65.specs.Programs.{program_of}

@@ -1,6 +1,6 @@
 -- What a line of the librarian does.
 use Rattle.std.specs.Prelude.{◌≡◌, ℕ, List, [], ◌∷◌, map, Result, Ok, Err}
-use Rattle.syntax65.specs.Store.{Files}
+use Rattle.base65.specs.Store.{Files}
 use Rattle.line65.specs.Line.{Archiving}
 use Rattle.image65.specs.declared.output.OutputFile.{OutputFile}
 use Rattle.ar65.specs.declared.archiving.Archived.{Archived}

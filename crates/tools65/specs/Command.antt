@@ -1,6 +1,6 @@
 -- What a command does.
 use Rattle.std.specs.Prelude.{◌≡◌, ℕ, ◌⊎◌, List, [], ◌++◌, Option, Result, Ok, Err, if◌then◌else◌}
-use Rattle.syntax65.specs.Store.{Files}
+use Rattle.base65.specs.Store.{Files}
 use Rattle.object65.specs.declared.object.Object.{Object}
 use Rattle.object65.specs.Spelling.{object_bytes}
 use Rattle.asm65.specs.Assembly.{IsAssembled}

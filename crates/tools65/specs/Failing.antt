@@ -1,6 +1,6 @@
 -- What a run leaves where a call of the store fails while it runs.
 use Rattle.std.specs.Prelude.{◌≡◌, ℕ, ◌<◌, ◌⊎◌, true, List, ◌∷◌, [], ◌++◌, codes, take, slice_get, Option, Some, Result, Ok, Bool}
-use Rattle.syntax65.specs.Store.{Files, Tells, last_count}
+use Rattle.base65.specs.Store.{Files, Tells, last_count}
 use Rattle.ar65.specs.declared.refusal.Refusal.{Refusal as ArchiveRefusal}
 use Rattle.ar65.specs.Naming.{IsOfLine as IsOfArchive}
 use Rattle.ar65.specs.Refusals as archives

@@ -2,9 +2,9 @@
 use Rattle.std.specs.Prelude.{◌≡◌, ℕ, ◌<◌, ◌⊎◌, List, [], ◌∷◌, ◌++◌, length, take, slice_get, Option, Some, None, Bool, true, false, ⊤}
 use Rattle.std.specs.FinMap.{insert}
 use Rattle.std.specs.Io.KnownBytes.{Keeps}
-use Rattle.syntax65.specs.Store.{Files, Tells}
-use Rattle.syntax65.specs.declared.store.StoreFault.{StoreFault}
-use Rattle.syntax65.specs.declared.store.StoreFault.TheVariants.{FileError}
+use Rattle.base65.specs.Store.{Files, Tells}
+use Rattle.base65.specs.declared.store.StoreFault.{StoreFault}
+use Rattle.base65.specs.declared.store.StoreFault.TheVariants.{FileError}
 use Rattle.tools65.specs.declared.writing.Unwritten.{Unwritten}
 use Rattle.tools65.specs.declared.outcome.Outcome.{Outcome}
 use Rattle.image65.specs.declared.output.OutputFile.{OutputFile}

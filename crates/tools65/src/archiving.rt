@@ -6,10 +6,10 @@ ghost use Rattle.tools65.specs.Archives.{archive_outcome, archived_outcome, libr
 
 use crate::outcome::{Outcome, Status};
 use ar65::{Archived, MemberFile, Refusal, refusal_message};
+use base65::{Sequence, Text};
 use ld65::OutputFile;
 use line65::ArchiveLine;
 use std::alloc::{AllocError, Global};
-use syntax65::{Sequence, Text};
 
 /// The library's file.
 fn library_file(

@@ -5,12 +5,12 @@ mod read_ahead;
 ghost use Rattle.std.specs.Prelude.{◌≡◌, ◌<◌, ◌-◌, ◌+◌, ◌≤◌, ◌^◌, None, IfOk, IfErr, length};
 
 use crate::disk_store::read_ahead::ReadAhead;
+use base65::{Store, StoreFault, Text};
 use std::alloc::Global;
 use std::fs::OpenOptions;
 use std::io::{ErrorKind, Write};
 use std::rt::Files;
 use std::{fs, io};
-use syntax65::{Store, StoreFault, Text};
 
 /// A file that is being written.
 #[derive(Drop)]

@@ -1,7 +1,7 @@
 //! What a command does.
 
+use base65::Sequence;
 use ld65::OutputFile;
-use syntax65::Sequence;
 
 /// What a run answers to its caller.
 #[derive(Clone, Copy, Debug, PartialEq, Eq)]

@@ -3,9 +3,9 @@
 ghost use Rattle.std.specs.Prelude.{◌≡◌, IfOk, option_map};
 ghost use Rattle.tools65.specs.Outputs.{outputs_of, with_map};
 
+use base65::{Sequence, Text};
 use ld65::OutputFile;
 use std::alloc::{AllocError, Global};
-use syntax65::{Sequence, Text};
 
 /// The file of a name, or none where the name is empty.
 pub fn outputs_of(

@@ -1,7 +1,7 @@
 //! One command.
 
 ghost use Rattle.std.specs.Prelude.{◌≡◌, ◌<◌, ◌≤◌, IfOk, IfSome, map};
-ghost use Rattle.syntax65.specs.Store.{NoneFailed};
+ghost use Rattle.base65.specs.Store.{NoneFailed};
 ghost use Rattle.line65.specs.Line.{archive, archiving, assemble, assembling, line_of, link, linking, view};
 ghost use Rattle.line65.specs.Messages.{memory_line};
 ghost use Rattle.tools65.specs.Archives.{Archives};
@@ -19,12 +19,12 @@ use crate::performing::{perform, say_memory};
 use crate::printing::print;
 use ar65::archive;
 use asm65::{AsmJob, assemble};
+use base65::{Sequence, Store};
 use ld65::{Linked, Refusal, link_files, refusal_message};
 use line65::{ArchiveLine, AssembleLine, Line, LinkLine, fault_message, read_line};
 use std::alloc::{AllocError, Global};
 use std::convert::AsStr;
 use std::io::Write;
-use syntax65::{Sequence, Store};
 
 /// What linking does: it warns and writes its files and its map, or says why there are none.
 fn link_outcome(

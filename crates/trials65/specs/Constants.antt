@@ -1,9 +1,9 @@
 -- The values of expressions without names.
 use Rattle.std.specs.Prelude.{ℤ, pos, Bool, Option, Some, None}
 use Rattle.syntax65.specs.Trees.{Tree, number, unary, binary}
-use Rattle.syntax65.specs.Values.{value1, value2}
-use Rattle.syntax65.specs.declared.values.Op1.{Op1}
-use Rattle.syntax65.specs.declared.values.Op2.{Op2}
+use Rattle.base65.specs.Values.{value1, value2}
+use Rattle.base65.specs.declared.values.Op1.{Op1}
+use Rattle.base65.specs.declared.values.Op2.{Op2}
 use Rattle.expand65.specs.Meaning.{Meaning}
 
 abbrev pub of_one : Op1 → Option ℤ → Option ℤ

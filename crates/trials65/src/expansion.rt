@@ -7,10 +7,10 @@ mod macros;
 mod repeats;
 mod values;
 
+use base65::{MemStore, Sequence, Store, Text};
 use expand65::{ExpandFault, Expander, Options, Statement};
 use std::alloc::{AllocError, Global};
 use std::test::Fail;
-use syntax65::{MemStore, Sequence, Store, Text};
 use values::Constants;
 
 /// How many statements a test looks at.

@@ -1,4 +1,5 @@
-//! Trials of the crates below the commands: public calls on worked inputs, and with stores that give little.
+//! Trials of the crates below the assembler and the commands: public calls on worked inputs, and with stores that give
+//! little.
 #![tactic(auto)]
 
 #[cfg(test)]
@@ -11,7 +12,5 @@ mod linkers;
 mod objects;
 #[cfg(test)]
 mod scripts;
-#[cfg(test)]
-mod sources;
 #[cfg(test)]
 mod syntax;

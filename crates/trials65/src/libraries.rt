@@ -1,9 +1,9 @@
 //! Libraries of small objects, byte by byte.
 
+use base65::MemStore;
 use library65::{Library, LibraryFault, Names, read_index, select};
 use std::alloc::{AllocError, Global};
 use std::test::Fail;
-use syntax65::MemStore;
 
 /// Three bytes in CODE, and nothing else.
 const THREE_BYTES: [u8; 26] = [

@@ -1,13 +1,13 @@
 //! An object that was worked out by hand, fed to a linker record by record.
 
 use arrayvec::ArrayVec;
+use base65::MemStore;
 use library65::{Entry, Library, Names, read_index};
 use link65::{LinkFault, Linked, Linker};
 use object65::{ObjectFault, Record, read_head, read_record};
 use script65::read_script;
 use std::alloc::{AllocError, Global};
 use std::test::Fail;
-use syntax65::MemStore;
 
 /// A section CODE whose jump goes to its own start, which is exported.
 const JUMP: [u8; 71] = [

@@ -8,12 +8,12 @@ ghost use Rattle.std.specs.Prelude.{◌≡◌, IfOk, None, true};
 ghost use Rattle.object65.specs.Objects.{is_good_object};
 
 use arrayvec::ArrayVec;
+use base65::{MemStore, Store, StoreFault};
 use object65::{
     Builder, Fragment, Object, ObjectFault, Record, read_object, read_record, write_object,
 };
 use std::alloc::Global;
 use std::test::Fail;
-use syntax65::{MemStore, Store, StoreFault};
 
 /// A section CODE of the bytes A9 00 60.
 const CODE: [u8; 26] = [

@@ -2,7 +2,7 @@
 use Rattle.std.proofs.Common.{◌≡◌, ℕ, Bool, true, false, cond, List, [], ◌∷◌, ◌++◌, Result, Ok, Err, refl, sym, ◌∙◌, ap}
 use Rattle.std.specs.Prelude.{ℤ}
 use Rattle.std.specs.List.{flat_map}
-use Rattle.syntax65.specs.Outcome.{◌>>=◌}
+use Rattle.base65.specs.Outcome.{◌>>=◌}
 use Rattle.object65.specs.Objects.{fits_width, value_bytes}
 use Rattle.linkage65.specs.Checks.{check_waiting, each_passes, fitting, site, value_at, waiting_in}
 use Rattle.linkage65.specs.RowBytes.{cell_bytes, or_zero, stored}

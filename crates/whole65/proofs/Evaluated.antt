@@ -1,8 +1,8 @@
 -- Exports that are evaluated once.
 use Rattle.std.proofs.Common.{◌≡◌, ℕ, zero, suc, ◌+◌, ◌<◌, List, [], ◌∷◌, length, slice_get, Option, Some, None, Result, Ok, Err, refl, ◌∙◌, ap, subst, arith}
 use Rattle.std.specs.Prelude.{ℤ}
-use Rattle.syntax65.specs.Outcome.{◌>>=◌}
-use Rattle.syntax65.specs.Values.{value1, value2}
+use Rattle.base65.specs.Outcome.{◌>>=◌}
+use Rattle.base65.specs.Values.{value1, value2}
 use Rattle.object65.specs.Form.{Form, lit, sec, imp, prefix, binary}
 use Rattle.object65.specs.FormValue.{or_none}
 use Rattle.linkage65.proofs.Tries.{exports_grow, form_grows}

@@ -5,7 +5,7 @@ use Rattle.std.specs.List.{AllByRecursion, list_any, position_from}
 use Rattle.std.specs.Option.{option_map_or}
 use Rattle.std.specs.Str.{bytes_eq}
 use Rattle.std.proofs.lemmas.List.{append-nil, append_assoc, length-append}
-use Rattle.syntax65.specs.Outcome.{◌>>=◌}
+use Rattle.base65.specs.Outcome.{◌>>=◌}
 use Rattle.syntax65.specs.Trees as tree
 use Rattle.object65.specs.Form.{Form}
 use Rattle.object65.specs.declared.object.Export.{Export}

@@ -1,7 +1,7 @@
 -- A source lays its statements one behind the other, none with a fault at its line.
 use Rattle.std.proofs.Common.{◌≡◌, List, [], ◌∷◌, Option, Some, None, Result, Ok, Err, refl, sym, subst}
-use Rattle.syntax65.specs.Outcome.{First}
-use Rattle.syntax65.specs.Store.{Files}
+use Rattle.base65.specs.Outcome.{First}
+use Rattle.base65.specs.Store.{Files}
 use Rattle.syntax65.specs.Tokens.{Lexeme}
 use Rattle.syntax65.specs.Trees.{number}
 use Rattle.expand65.specs.Expansion.{opened_in}

@@ -3,9 +3,9 @@ use Rattle.std.proofs.Common.{◌≡◌, ℕ, suc, ◌+◌, ◌-◌, List, [], �
 use Rattle.std.proofs.lemmas.List.{append-nil}
 use Rattle.std.specs.Prelude.{ℤ, pos, ◌+ℤ◌, ◌↔◌, replicate}
 use Rattle.syntax65.specs.Opcodes.{opcode_of}
-use Rattle.syntax65.specs.Outcome.{◌>>=◌, each}
+use Rattle.base65.specs.Outcome.{◌>>=◌, each}
 use Rattle.syntax65.specs.Trees.{Tree}
-use Rattle.syntax65.specs.Values.{wrapped}
+use Rattle.base65.specs.Values.{wrapped}
 use Rattle.syntax65.specs.declared.instructions.names.Mnemonic.{Mnemonic}
 use Rattle.object65.specs.Form.{Form}
 use Rattle.object65.specs.declared.object.Width.{Width}

@@ -6,7 +6,7 @@ use Rattle.std.specs.Int.{int_wrap, w64}
 use Rattle.std.proofs.lemmas.Bool.Decides.{nat_tests}
 use Rattle.std.proofs.lemmas.Int.{ints, int_wrap-add_left}
 use Rattle.syntax65.specs.Trees.{Tree}
-use Rattle.syntax65.specs.Values.{wrapped}
+use Rattle.base65.specs.Values.{wrapped}
 use Rattle.image65.specs.declared.placement.Placement.{Placement}
 use Rattle.script65.specs.declared.script.Script.{Script}
 use Rattle.linkage65.specs.Places.{run_of}

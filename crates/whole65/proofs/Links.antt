@@ -1,7 +1,7 @@
 -- What a link comes to that gives files.
 use Rattle.std.proofs.Common.{◌≡◌, ℕ, List, [], ◌∷◌, ◌++◌, Result, Ok, Err, refl, sym, ◌∙◌, ap, subst}
 use Rattle.std.specs.Prelude.{ℤ}
-use Rattle.syntax65.specs.Outcome.{◌>>=◌, First}
+use Rattle.base65.specs.Outcome.{◌>>=◌, First}
 use Rattle.image65.specs.Placing.{place_of}
 use Rattle.image65.specs.declared.placement.PlaceFault.{PlaceFault}
 use Rattle.image65.specs.declared.placement.Placement.{Placement}

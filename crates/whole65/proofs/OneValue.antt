@@ -3,7 +3,7 @@ use Rattle.std.proofs.Common.{◌≡◌, ℕ, refl, sym, ◌∙◌, ap, Option, 
 use Rattle.std.specs.Prelude.{ℤ, pos}
 use Rattle.syntax65.specs.Trees.{Tree, name}
 use Rattle.syntax65.specs.Trees as tree
-use Rattle.syntax65.specs.Values.{value1, value2}
+use Rattle.base65.specs.Values.{value1, value2}
 use Rattle.whole65.specs.Laws.{OneValueLaw}
 use Rattle.whole65.specs.Values.{Meaning, label_at, constant_at, import_of, Giver, by_module, by_script, by_nobody, Program, meaning_in, Value, number, here, label, constant, exported, scripted, prefixed, joined}
 

@@ -1,7 +1,7 @@
 -- The form of what stands for a definition.
 use Rattle.std.proofs.Common.{◌≡◌, ℕ, suc, refl, sym, ◌∙◌, ap, subst, List, Option, Some, None, Result, Ok, Err}
 use Rattle.std.specs.Prelude.{slice_get}
-use Rattle.syntax65.specs.Outcome.{◌>>=◌}
+use Rattle.base65.specs.Outcome.{◌>>=◌}
 use Rattle.syntax65.specs.Trees.{Tree}
 use Rattle.syntax65.specs.Trees as tree
 use Rattle.object65.specs.Form.{Form, imp}

@@ -3,7 +3,7 @@ use Rattle.std.proofs.Common.{◌≡◌, ℕ, suc, Bool, true, false, nat_eq, co
 use Rattle.std.specs.Prelude.{⊤, ℤ, unwrap_or, ◌||◌}
 use Rattle.std.specs.List.{AllByRecursion, flat_map, list_any}
 use Rattle.std.proofs.lemmas.List.{append_assoc}
-use Rattle.syntax65.specs.Outcome.{◌>>=◌, each}
+use Rattle.base65.specs.Outcome.{◌>>=◌, each}
 use Rattle.syntax65.specs.Trees as tree
 use Rattle.object65.specs.Form.{Form}
 use Rattle.image65.specs.declared.placement.Placement.{Placement}

@@ -1,12 +1,12 @@
 -- A normal form has the value of its expression.
 use Rattle.std.proofs.Common.{◌≡◌, ℕ, zero, suc, ◌+◌, refl, sym, ◌∙◌, ap, subst, arith, List, [], ◌∷◌, false, Option, Some, None, Ok}
 use Rattle.std.specs.Prelude.{ℤ, pos, slice_get}
-use Rattle.syntax65.specs.Outcome.{◌>>=◌}
+use Rattle.base65.specs.Outcome.{◌>>=◌}
 use Rattle.syntax65.specs.Trees.{Tree}
 use Rattle.syntax65.specs.Trees as tree
-use Rattle.syntax65.specs.Values.{value1, value2}
-use Rattle.syntax65.specs.declared.values.Op1.{Op1}
-use Rattle.syntax65.specs.declared.values.Op2.{Op2}
+use Rattle.base65.specs.Values.{value1, value2}
+use Rattle.base65.specs.declared.values.Op1.{Op1}
+use Rattle.base65.specs.declared.values.Op2.{Op2}
 use Rattle.object65.proofs.Foldings.{binary_fold_law, prefix_fold_law}
 use Rattle.object65.specs.Folding.{fold1, fold2}
 use Rattle.object65.specs.Form.{Form, lit, imp}

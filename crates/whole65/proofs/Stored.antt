@@ -3,9 +3,9 @@ use Rattle.std.proofs.Common.{◌≡◌, ℕ, ◌+◌, Bool, true, false, cond, 
 use Rattle.std.specs.Prelude.{ℤ, pos, ◌+ℤ◌, ◌-ℤ◌, ◌↔◌}
 use Rattle.std.specs.Int.{w64}
 use Rattle.std.proofs.lemmas.Int.{ints, int_wrap-add_left}
-use Rattle.syntax65.specs.Outcome.{◌>>=◌}
-use Rattle.syntax65.specs.Values.{wrapped}
-use Rattle.syntax65.specs.declared.values.Op2.TheVariants.{Subtract}
+use Rattle.base65.specs.Outcome.{◌>>=◌}
+use Rattle.base65.specs.Values.{wrapped}
+use Rattle.base65.specs.declared.values.Op2.TheVariants.{Subtract}
 use Rattle.object65.proofs.Foldings.{binary_fold_law}
 use Rattle.object65.specs.Folding.{fold2}
 use Rattle.object65.specs.Form.{Form, lit, sec, imp, prefix, binary}

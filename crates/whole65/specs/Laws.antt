@@ -1,6 +1,6 @@
 -- What holds of whole programs.
 use Rattle.std.specs.Prelude.{◌≡◌, ◌<◌, ℕ, ◌+◌, ◌^◌, ℤ, pos, ◌↔◌, List, [], ◌∷◌, length, map, nat_eq, slice_get, take, true, false, Some, None, Result, Ok}
-use Rattle.syntax65.specs.Store.{Files}
+use Rattle.base65.specs.Store.{Files}
 use Rattle.syntax65.specs.Trees.{Tree, name}
 use Rattle.object65.specs.Form.{Form}
 use Rattle.language65.specs.Laid.{Laid}
@@ -31,7 +31,7 @@ use Rattle.linkage65.specs.Places.{address_of, linkage_of, run_of}
 use Rattle.linkage65.specs.declared.parts.SectionPlace.{SectionPlace}
 use Rattle.image65.specs.declared.placement.RowPlace.{RowPlace}
 use Rattle.script65.specs.declared.script.Row.{Row}
-use Rattle.syntax65.specs.Values.{wrapped}
+use Rattle.base65.specs.Values.{wrapped}
 use Rattle.language65.specs.Sound.{IsSoundLayout, sections_in}
 use Rattle.linkage65.specs.Checks.{check_asserts, check_export, check_waiting, each_passes, waiting_by_row, waiting_in}
 use Rattle.image65.specs.Files.{RowBytes}

@@ -1,7 +1,7 @@
 -- Modules as linking sees them: forms in place of expressions, values by a placement and through exports.
 use Rattle.std.specs.Prelude.{◌≡◌, ◌≢◌, ℕ, zero, suc, ℤ, pos, ◌+ℤ◌, false, List, [], ◌∷◌, slice_get, Option, Some, None, Result, Ok, Err}
 use Rattle.syntax65.specs.Trees.{Tree, name}
-use Rattle.syntax65.specs.Values.{wrapped}
+use Rattle.base65.specs.Values.{wrapped}
 use Rattle.object65.specs.Form.{Form}
 use Rattle.object65.specs.FormValue.{value_in}
 use Rattle.language65.specs.declared.fault.AsmFault.{AsmFault}

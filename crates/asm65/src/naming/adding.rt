@@ -2,9 +2,9 @@
 
 use crate::assembler::Assembler;
 use crate::naming::defining::define;
+use base65::Sequence;
 use std::alloc::{AllocError, Global};
 use symbols65::{Definition, Key};
-use syntax65::Sequence;
 
 impl Assembler {
     ghost use Rattle.std.specs.Prelude.{◌≡◌, None, OnOk, length};

@@ -9,8 +9,8 @@ ghost use Rattle.asm65.specs.Taking.{mentioned};
 use crate::assembler::Assembler;
 use crate::putting::Stand;
 use crate::waiting::Piece;
+use base65::Sequence;
 use std::alloc::{AllocError, Global};
-use syntax65::Sequence;
 
 /// How a statement mentions a name.
 #[derive(Clone, Copy)]

@@ -9,10 +9,11 @@ ghost use Rattle.asm65.specs.Taking.{is_for_zero_page, label_at};
 use crate::assembler::Assembler;
 use crate::naming::mentions::Mention;
 use crate::putting::Stand;
+use base65::Sequence;
 use language65::Spot;
 use std::alloc::{AllocError, Global};
 use symbols65::{Definition, Key};
-use syntax65::{AddressSize, Sequence};
+use syntax65::AddressSize;
 
 fn is_for_zero_page(size: AddressSize) -> bool
     ensures { result ≡ is_for_zero_page size }

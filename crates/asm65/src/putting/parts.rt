@@ -11,13 +11,13 @@ ghost use Rattle.layout65.specs.Views.{settled_in};
 
 use super::Stand;
 use crate::forms::literal_of;
+use base65::Sequence;
 use language65::Spot;
 use layout65::Settled;
 use object65::{Norm, Width, fits, put};
 use sections65::Sections;
 use std::alloc::{AllocError, Global};
 use symbols65::operand_form;
-use syntax65::Sequence;
 
 /// Puts the bytes of a value into the section of a segment, if it lies in its range.
 pub fn put_literal(

@@ -14,12 +14,13 @@ use super::parts::{put_code, put_part, put_room};
 use crate::assembler::Assembler;
 use crate::forms::literal_of;
 use crate::waiting::Piece;
+use base65::Sequence;
 use language65::{Item, Operand, Spot};
 use layout65::Settled;
 use object65::{Action, Width};
 use std::alloc::{AllocError, Global};
 use symbols65::{Symbols, final_form};
-use syntax65::{Expr, Mnemonic, Mode, Sequence, opcode};
+use syntax65::{Expr, Mnemonic, Mode, opcode};
 
 /// How wide the operand of an instruction of a form is stored, if it has a value.
 fn width_of(mode: Mode) -> Option<Width>

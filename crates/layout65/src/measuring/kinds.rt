@@ -1,7 +1,7 @@
 //! What statements place, by their kinds.
 
 ghost use Rattle.std.specs.Prelude.{◌≡◌, ℕ, List, OnOk, true};
-ghost use Rattle.syntax65.specs.Outcome.{Gives};
+ghost use Rattle.base65.specs.Outcome.{Gives};
 ghost use Rattle.syntax65.specs.Trees.{tree_of};
 ghost use Rattle.language65.specs.Faults.{is_memory};
 ghost use Rattle.language65.specs.Language.{close_proc, close_scope, constant, pop_segment, segment};

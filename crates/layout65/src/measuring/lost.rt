@@ -2,7 +2,7 @@
 
 ghost use Rattle.std.specs.Prelude.{◌≡◌};
 ghost use Rattle.std.specs.Option.{option_map};
-ghost use Rattle.syntax65.specs.Outcome.{Gives};
+ghost use Rattle.base65.specs.Outcome.{Gives};
 ghost use Rattle.syntax65.specs.Trees.{name, tree_of};
 ghost use Rattle.language65.specs.Faults.{is_memory};
 ghost use Rattle.language65.specs.LineFaults.{lost_scope};
@@ -12,10 +12,11 @@ ghost use Rattle.symbols65.specs.Resolving.{plain_part};
 ghost use Rattle.symbols65.specs.Views.{table_of};
 ghost use Rattle.layout65.specs.Measuring.{lost_parts};
 
+use base65::Sequence;
 use language65::AsmFault;
 use std::alloc::Global;
 use symbols65::{Symbols, scope_of, shown};
-use syntax65::{Expr, Name, Sequence};
+use syntax65::{Expr, Name};
 
 /// The parts that name scopes: all but the last.
 fn scopes_in(parts: &[Sequence<u8>]) -> &[Sequence<u8>]

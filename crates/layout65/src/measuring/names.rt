@@ -1,7 +1,7 @@
 //! Names and scopes that are there already.
 
 ghost use Rattle.std.specs.Prelude.{◌≡◌, ◌&&◌};
-ghost use Rattle.syntax65.specs.Outcome.{Gives};
+ghost use Rattle.base65.specs.Outcome.{Gives};
 ghost use Rattle.language65.specs.declared.fault.AsmFault.TheVariants.{DefinedTwice, NotUnderstood, ScopeTwice};
 ghost use Rattle.language65.specs.Faults.{is_memory};
 ghost use Rattle.language65.specs.LineFaults.{defined_twice, is_open, opened_twice, scope_name, stands_outside, when, where_there};
@@ -12,10 +12,10 @@ ghost use Rattle.module65.specs.Laying.{unless_fault};
 ghost use Rattle.symbols65.specs.Tables.{key_of};
 ghost use Rattle.symbols65.specs.Views.{table_of};
 
+use base65::Sequence;
 use language65::{AsmFault, Spot, Statement};
 use std::alloc::Global;
 use symbols65::{Key, Symbols};
-use syntax65::Sequence;
 
 fn stands_outside(statement: &Statement) -> bool
     ensures { result ≡ stands_outside (stated_of statement.now) }

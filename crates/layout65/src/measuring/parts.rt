@@ -2,7 +2,7 @@
 
 ghost use Rattle.std.specs.Prelude.{◌≡◌, ◌≤◌, IfOk, List, not, OnOk, Some, ℕ};
 ghost use Rattle.std.specs.Option.{option_map};
-ghost use Rattle.syntax65.specs.Outcome.{Gives};
+ghost use Rattle.base65.specs.Outcome.{Gives};
 ghost use Rattle.syntax65.specs.Trees.{tree_of};
 ghost use Rattle.language65.specs.declared.fault.AsmFault.TheVariants.{BadPart};
 ghost use Rattle.language65.specs.Faults.{is_memory};
@@ -18,10 +18,11 @@ ghost use Rattle.layout65.specs.Sounds.{IsSoundStanding};
 ghost use Rattle.layout65.specs.Views.{standing_of};
 
 use super::{Before, Measured, Settled, fit};
+use base65::Sequence;
 use language65::{AsmFault, PartRange, Spot};
 use std::alloc::Global;
 use symbols65::{Known, Symbols, knowing};
-use syntax65::{Expr, Sequence};
+use syntax65::Expr;
 
 /// How many bytes a file has at most.
 const MAX_FILE: usize = 16_777_216;

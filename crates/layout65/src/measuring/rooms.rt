@@ -2,7 +2,7 @@
 
 ghost use Rattle.std.specs.Prelude.{◌≡◌, ◌<◌, ◌≤◌, IfOk, not, OnOk, pos, Some};
 ghost use Rattle.std.specs.Option.{option_map};
-ghost use Rattle.syntax65.specs.Outcome.{Gives};
+ghost use Rattle.base65.specs.Outcome.{Gives};
 ghost use Rattle.syntax65.specs.Trees.{tree_of};
 ghost use Rattle.language65.specs.declared.fault.AsmFault.TheVariants.{BadOperand};
 ghost use Rattle.language65.specs.Faults.{is_memory};

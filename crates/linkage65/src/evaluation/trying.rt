@@ -1,7 +1,7 @@
 //! Attempts at forms.
 
 ghost use Rattle.std.specs.Prelude.{◌≡◌, ◌<◌, ℕ, List, ◌+ℤ◌, length, option_copied, slice_get};
-ghost use Rattle.syntax65.specs.Values.{wrapped};
+ghost use Rattle.base65.specs.Values.{wrapped};
 ghost use Rattle.object65.specs.FormValue.{or_none};
 ghost use Rattle.linkage65.specs.declared.evaluation.mark.Stop.TheVariants.{Fault};
 ghost use Rattle.linkage65.specs.declared.parts.Exported.{Exported};
@@ -11,8 +11,8 @@ ghost use Rattle.linkage65.specs.Values.{base_of, giver_at, in_table, linkage, v
 
 use crate::evaluation::mark::{Attempt, Mark, Stop};
 use crate::parts::{Exported, Giver, Resolved, ValueFault};
+use base65::{apply1, apply2};
 use object65::{Node, Norm};
-use syntax65::{apply1, apply2};
 
 fn as_found(outcome: Result<i64, ValueFault>) -> Result<i64, Stop>
     ensures { result ≡ as_found outcome }

@@ -1,9 +1,9 @@
 //! Whole runs of ar65.
 
 use super::{O1, is_quiet, run_on, says};
+use base65::{MemStore, Sequence};
 use std::alloc::{AllocError, Global};
 use std::test::Fail;
-use syntax65::{MemStore, Sequence};
 use tools65::{ArchiveLine, Line, Operation, Status, run_line};
 
 /// An object without sections.

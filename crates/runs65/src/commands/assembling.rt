@@ -1,9 +1,9 @@
 //! Whole runs of ca65.
 
 use super::{LINK, S1, files, is_quiet, run_on, says};
+use base65::MemStore;
 use std::alloc::{AllocError, Global};
 use std::test::Fail;
-use syntax65::MemStore;
 
 const ASSEMBLE: [&str; 3] = ["bin65", "ca65", "a.s"];
 

@@ -5,11 +5,11 @@ ghost use Rattle.std.specs.Option.{ForSome};
 ghost use Rattle.std.specs.Bool.{OnTrue, OnFalse};
 
 use super::{LINK, O1, S1, files, is_quiet, run_on, says};
+use base65::{MemStore, Store, StoreFault};
 use std::alloc::{AllocError, Global};
 use std::io;
 use std::io::{ErrorKind, Write};
 use std::test::Fail;
-use syntax65::{MemStore, Store, StoreFault};
 use tools65::{Status, run};
 
 /// Files in memory, of which each call moves one byte at most.

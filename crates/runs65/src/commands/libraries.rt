@@ -3,9 +3,9 @@
 ghost use Rattle.std.specs.Prelude.{Some};
 
 use super::{S1, is_quiet, run_on, says};
+use base65::{MemStore, Store, StoreFault};
 use std::alloc::{AllocError, Global};
 use std::test::Fail;
-use syntax65::{MemStore, Store, StoreFault};
 use tools65::Status;
 
 /// An object of one byte in CODE, which imports and exports names of one letter; each export has the value 9.

@@ -1,8 +1,8 @@
 //! Command lines on their own.
 
 use super::{O1, S1, files, run_on, says};
+use base65::{MemStore, Sequence};
 use std::test::Fail;
-use syntax65::{MemStore, Sequence};
 use tools65::{
     AssembleLine, Line, LineFault, LinkLine, Operation, Status, print, read_line, run_line,
     write_file,

@@ -10,11 +10,11 @@ ghost use Rattle.language65.specs.Numbering.{fragment_of};
 
 use super::numbers::{Numbers, numbered};
 use crate::entries::{Entry, sum_of};
+use base65::Sequence;
 use language65::Part;
 use object65::Fragment;
 use std::alloc::{AllocError, Global};
 use std::mem;
-use syntax65::Sequence;
 
 /// A section in the making.
 #[derive(Drop)]

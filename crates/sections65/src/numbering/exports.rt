@@ -8,11 +8,11 @@ ghost use Rattle.language65.specs.Numbering.{all_said, assert_of, exports_among}
 
 use super::numbers::{Numbers, numbered};
 use crate::entries::{Entry, copy_of};
+use base65::Sequence;
 use indexmap::IndexSet;
 use language65::Said;
 use object65::{Assert, Export};
 use std::alloc::{AllocError, Global};
-use syntax65::Sequence;
 
 /// Exports, with the names by which a second one is found.
 #[derive(Drop)]

@@ -9,11 +9,11 @@ ghost use Rattle.language65.specs.Numbering.{content_imports, import_keys, impor
 
 use super::names::ImportTable;
 use crate::entries::Entry;
+use base65::Sequence;
 use indexmap::IndexSet;
 use language65::{Part, Said};
 use object65::{Node, Norm};
 use std::alloc::{AllocError, Global};
-use syntax65::Sequence;
 
 /// Adds the imports that a form holds.
 #[tactic(auto, using(crate::proofs::Keys::once_append))]

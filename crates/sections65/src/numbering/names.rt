@@ -5,9 +5,9 @@ ghost use Rattle.sections65.specs.Drafts.{IsTable};
 ghost use Rattle.language65.specs.Numbering.{key_of};
 
 use super::numbers::narrow;
+use base65::Sequence;
 use indexmap::IndexMap;
 use std::alloc::{AllocError, Global};
-use syntax65::Sequence;
 
 /// The imports, by name.
 #[derive(Drop)]

@@ -1,7 +1,7 @@
 //! `.res` and `.align`.
 
 ghost use Rattle.std.specs.Prelude.{◌≡◌, ◌∷◌, [], false, option_map, IfErr};
-ghost use Rattle.syntax65.specs.Relations.{Answers};
+ghost use Rattle.base65.specs.Relations.{Answers};
 ghost use Rattle.syntax65.specs.Tokens.{lexemes};
 ghost use Rattle.syntax65.specs.Trees.{tree_of};
 ghost use Rattle.language65.specs.Faults.{is_failure, is_outside};

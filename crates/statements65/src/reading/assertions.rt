@@ -1,7 +1,7 @@
 //! Assertions.
 
 ghost use Rattle.std.specs.Prelude.{◌≡◌, ◌∷◌, false, option_map, IfErr};
-ghost use Rattle.syntax65.specs.Relations.{Answers};
+ghost use Rattle.base65.specs.Relations.{Answers};
 ghost use Rattle.syntax65.specs.Tokens.{lexemes};
 ghost use Rattle.syntax65.specs.Trees.{tree_of};
 ghost use Rattle.language65.specs.Faults.{is_failure, is_outside};
@@ -10,10 +10,11 @@ ghost use Rattle.language65.specs.Views.{stated_of};
 
 use super::parts::{expression, first_part};
 use super::tokens::{copy_of, needed_string, needed_word};
+use base65::Sequence;
 use language65::{AsmFault, Statement};
 use object65::Action;
 use std::alloc::Global;
-use syntax65::{Expr, Sequence, Token};
+use syntax65::{Expr, Token};
 
 /// How many bytes the text of an assertion has at most.
 const MAX_TEXT: usize = 255;

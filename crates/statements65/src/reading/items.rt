@@ -1,7 +1,7 @@
 //! Lists of data.
 
 ghost use Rattle.std.specs.Prelude.{◌≡◌, [], false, map, IfErr, IfOk};
-ghost use Rattle.syntax65.specs.Relations.{Answers};
+ghost use Rattle.base65.specs.Relations.{Answers};
 ghost use Rattle.syntax65.specs.Tokens.{lexemes};
 ghost use Rattle.language65.specs.Faults.{is_failure, is_outside};
 ghost use Rattle.statements65.specs.Parsing.{parts_of, EachIs, IsItem, IsValue};
@@ -10,9 +10,10 @@ ghost use Rattle.language65.specs.Views.{item_of};
 use super::parts::{expression, first_part};
 use super::tokens::{copy_of, string_of};
 use super::words::Elements;
+use base65::Sequence;
 use language65::{AsmFault, Item};
 use std::alloc::{AllocError, Global};
-use syntax65::{Sequence, Token};
+use syntax65::Token;
 
 /// An element that is a value.
 #[tactic(auto, using(crate::proofs::Parts::then_fault))]

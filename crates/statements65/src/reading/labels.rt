@@ -1,7 +1,7 @@
 //! Labels.
 
 ghost use Rattle.std.specs.Prelude.{◌≡◌, false, IfErr, Ok, option_map};
-ghost use Rattle.syntax65.specs.Relations.{Answers};
+ghost use Rattle.base65.specs.Relations.{Answers};
 ghost use Rattle.syntax65.specs.Tokens.{lexeme_of, lexemes};
 ghost use Rattle.language65.specs.Faults.{is_failure, is_outside};
 ghost use Rattle.statements65.specs.Parsing.{front_label, label_before, label_of, named_label};

@@ -1,7 +1,7 @@
 //! Statements with lists of values or names.
 
 ghost use Rattle.std.specs.Prelude.{◌≡◌, false, IfErr};
-ghost use Rattle.syntax65.specs.Relations.{Answers};
+ghost use Rattle.base65.specs.Relations.{Answers};
 ghost use Rattle.syntax65.specs.Tokens.{lexemes};
 ghost use Rattle.language65.specs.Faults.{is_failure, is_outside};
 ghost use Rattle.statements65.specs.Parsing.{ended, names_statement, parts_of, EachIs, IsList, IsName, IsNames};
@@ -11,10 +11,11 @@ use super::items::items;
 use super::parts::first_part;
 use super::tokens::{name_of, needed_string};
 use super::words::{Elements, Names};
+use base65::Sequence;
 use language65::{AsmFault, Item, Statement};
 use object65::Width;
 use std::alloc::Global;
-use syntax65::{Sequence, Token};
+use syntax65::Token;
 
 /// `.byte` and the like.
 pub fn list(

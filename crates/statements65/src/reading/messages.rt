@@ -1,7 +1,7 @@
 //! Statements that print, and those without operands.
 
 ghost use Rattle.std.specs.Prelude.{◌≡◌, false, IfErr, None, Ok};
-ghost use Rattle.syntax65.specs.Relations.{Answers};
+ghost use Rattle.base65.specs.Relations.{Answers};
 ghost use Rattle.syntax65.specs.Tokens.{lexemes};
 ghost use Rattle.language65.specs.Faults.{is_failure, is_outside};
 ghost use Rattle.language65.specs.Language.{segment};

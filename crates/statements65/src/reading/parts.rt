@@ -4,7 +4,7 @@ ghost use Rattle.std.specs.Prelude.{◌≡◌, ◌<◌, ◌≤◌, ◌∷◌, fa
 ghost use Rattle.std.specs.List.{prefix_len};
 ghost use Rattle.syntax65.specs.Expressions.{IsParsed, binary_at, opening_in};
 ghost use Rattle.syntax65.specs.Faults.{is_expr_outside};
-ghost use Rattle.syntax65.specs.Relations.{Answers};
+ghost use Rattle.base65.specs.Relations.{Answers};
 ghost use Rattle.syntax65.specs.Tokens.{lexeme_of, lexemes};
 ghost use Rattle.syntax65.specs.Trees.{number, tree_of};
 ghost use Rattle.syntax65.specs.declared.expressions.words.Opening.TheVariants.{Number};

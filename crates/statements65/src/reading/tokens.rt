@@ -1,14 +1,15 @@
 //! What single tokens say.
 
 ghost use Rattle.std.specs.Prelude.{◌≡◌, false, option_map, IfErr, IfOk};
-ghost use Rattle.syntax65.specs.Relations.{Answers};
+ghost use Rattle.base65.specs.Relations.{Answers};
 ghost use Rattle.syntax65.specs.Tokens.{lexeme_of, lexemes};
 ghost use Rattle.language65.specs.Faults.{is_failure, is_outside};
 ghost use Rattle.statements65.specs.Parsing.{defines, inner, is_close, is_colon, is_comma, name_of, quoted_in, spelled, spells, string_of, understood, word_in, word_of};
 
+use base65::Sequence;
 use language65::AsmFault;
 use std::alloc::{AllocError, Global};
-use syntax65::{Mark, Sequence, Token, TokenKind, is_reserved};
+use syntax65::{Mark, Token, TokenKind, is_reserved};
 
 pub fn is_comma(token: &Token<'_>) -> bool
     ensures { result ≡ is_comma (lexeme_of token.now) }

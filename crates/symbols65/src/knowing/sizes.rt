@@ -14,10 +14,11 @@ ghost use Rattle.symbols65.specs.Views.{table_of};
 use super::forms::{literal_of, pass_on_memory};
 use crate::resolving::{Known, Meaning, address, binary_form, meaning_of, meant_norm, prefix_form};
 use crate::table::Symbols;
+use base65::Op1;
 use language65::Spot;
 use object65::{Node, Norm};
 use std::alloc::{AllocError, Global};
-use syntax65::{AddressSize, Expr, Op1};
+use syntax65::{AddressSize, Expr};
 
 fn is_byte(value: i64) -> bool
     ensures { result ≡ is_byte value }

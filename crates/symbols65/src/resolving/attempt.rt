@@ -2,7 +2,7 @@
 
 ghost use Rattle.std.specs.Prelude.{◌≡◌, slice_get};
 ghost use Rattle.std.specs.Option.{option_map};
-ghost use Rattle.syntax65.specs.Outcome.{Gives};
+ghost use Rattle.base65.specs.Outcome.{Gives};
 ghost use Rattle.syntax65.specs.Trees.{tree_of};
 ghost use Rattle.object65.specs.Folding.{fold1, fold2};
 ghost use Rattle.language65.specs.declared.fault.AsmFault.TheVariants.{OutOfMemory};
@@ -16,10 +16,11 @@ ghost use Rattle.symbols65.specs.Views.{table_of};
 
 use super::meaning::{Meaning, meaning_of};
 use crate::table::Symbols;
+use base65::{Op1, Op2};
 use language65::{AsmFault, Spot};
 use object65::{FormFault, Node, Norm};
 use std::alloc::{AllocError, Global};
-use syntax65::{Expr, Op1, Op2};
+use syntax65::Expr;
 
 /// What is known of the form of a constant.
 #[derive(Drop)]

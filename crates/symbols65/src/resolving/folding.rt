@@ -2,15 +2,15 @@
 
 ghost use Rattle.std.specs.Prelude.{◌≡◌, IfOk, Result};
 ghost use Rattle.std.specs.Result.{result_ok};
-ghost use Rattle.syntax65.specs.Outcome.{Gives};
+ghost use Rattle.base65.specs.Outcome.{Gives};
 ghost use Rattle.object65.specs.Form.{Form};
 ghost use Rattle.object65.specs.Folding.{lacks_memory};
 ghost use Rattle.object65.specs.declared.folding.FormFault.{FormFault};
 ghost use Rattle.symbols65.specs.Forms.{binary_form, prefix_form};
 
+use base65::{Op1, Op2};
 use object65::{FormFault, Norm};
 use std::alloc::{AllocError, Global};
-use syntax65::{Op1, Op2};
 
 /// What folding gives, if anything.
 fn folded(form: Result<Norm, FormFault>) -> Result<Option<Norm>, AllocError>

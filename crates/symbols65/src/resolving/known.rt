@@ -1,7 +1,7 @@
 //! Forms of constants that were found by a symbol table.
 
 ghost use Rattle.std.specs.Prelude.{◌+◌, ◌<◌, ◌≡◌, IfOk, OnOk, replicate, Some, [], length, map, ℕ, slice_get, slice_set, true};
-ghost use Rattle.syntax65.specs.Outcome.{Finds, Gives};
+ghost use Rattle.base65.specs.Outcome.{Finds, Gives};
 ghost use Rattle.syntax65.specs.Trees.{tree_of};
 ghost use Rattle.language65.specs.Faults.{is_memory};
 ghost use Rattle.symbols65.specs.declared.resolving.attempt.State.TheVariants.{Unknown, Waiting, Found};

@@ -2,7 +2,7 @@
 
 ghost use Rattle.std.specs.Prelude.{◌≡◌, ◌+◌, ◌-◌, ◌^◌, ◌≤◌, IfNone, IfSome, Some};
 ghost use Rattle.std.specs.Option.{option_map};
-ghost use Rattle.syntax65.specs.Outcome.{Gives};
+ghost use Rattle.base65.specs.Outcome.{Gives};
 ghost use Rattle.syntax65.specs.Trees.{tree_of};
 ghost use Rattle.language65.specs.declared.fault.AsmFault.{AsmFault};
 ghost use Rattle.language65.specs.declared.fault.AsmFault.TheVariants.{NoSuchLabel, Undefined};
@@ -16,9 +16,10 @@ ghost use Rattle.symbols65.specs.Views.{table_of};
 use super::scopes::{defined_outward, scope_of};
 use super::showing::shown;
 use crate::table::{Key, Symbols};
+use base65::Sequence;
 use language65::{AsmFault, Spot};
 use std::alloc::Global;
-use syntax65::{Expr, Name, Sequence};
+use syntax65::{Expr, Name};
 
 /// What a name means.
 #[derive(Clone, Copy)]

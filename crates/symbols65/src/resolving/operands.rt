@@ -1,17 +1,17 @@
 //! The forms that are stored of operands.
 
-ghost use Rattle.syntax65.specs.Outcome.{Gives};
-ghost use Rattle.syntax65.specs.declared.values.Op2.TheVariants.{Subtract};
+ghost use Rattle.base65.specs.Outcome.{Gives};
+ghost use Rattle.base65.specs.declared.values.Op2.TheVariants.{Subtract};
 ghost use Rattle.object65.specs.Folding.{fold2};
 ghost use Rattle.language65.specs.Contents.{operand_form};
 ghost use Rattle.language65.specs.Faults.{is_memory};
 ghost use Rattle.language65.specs.Norms.{folded};
 ghost use Rattle.language65.specs.Views.{spot_of};
 
+use base65::Op2;
 use language65::{AsmFault, Spot};
 use object65::{FormFault, Node, Norm, Width};
 use std::alloc::Global;
-use syntax65::Op2;
 
 fn difference(alloc: Global, left: Norm, right: Norm) -> Result<Norm, AsmFault>
     ensures { Gives is_memory (λ f. f) result (folded (fold2 Subtract left right)) }

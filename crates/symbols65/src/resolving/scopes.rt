@@ -6,7 +6,7 @@ ghost use Rattle.language65.specs.Symbols.{defined, named};
 ghost use Rattle.symbols65.specs.Views.{table_of};
 
 use crate::table::{Key, Symbols};
-use syntax65::Sequence;
+use base65::Sequence;
 
 /// The number of the global scope.
 const GLOBAL: usize = 0;

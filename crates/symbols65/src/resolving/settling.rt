@@ -1,7 +1,7 @@
 //! Normal forms by those that are final, and else by a search.
 
 ghost use Rattle.std.specs.Prelude.{◌≡◌, Ok};
-ghost use Rattle.syntax65.specs.Outcome.{Finds, Gives};
+ghost use Rattle.base65.specs.Outcome.{Finds, Gives};
 ghost use Rattle.syntax65.specs.Trees.{tree_of};
 ghost use Rattle.language65.specs.Faults.{is_memory};
 ghost use Rattle.language65.specs.Names.{meaning_of};

@@ -4,8 +4,8 @@ ghost use Rattle.std.specs.Prelude.{◌≡◌, ◌++◌, IfOk, OnOk};
 ghost use Rattle.language65.specs.Names.{joined, shown};
 ghost use Rattle.symbols65.specs.Resolving.{joined_behind};
 
+use base65::Sequence;
 use std::alloc::{AllocError, Global};
-use syntax65::Sequence;
 
 /// What stands between two parts of a name.
 const BETWEEN: &[u8] = b"::";

@@ -14,9 +14,9 @@ ghost use Rattle.symbols65.specs.Views.{table_of, with_definition, with_names, w
 use super::definition::Definition;
 use super::entries::{Entry, Key, Opening};
 use super::symbols::Symbols;
+use base65::Sequence;
 use indexmap::{IndexMap, IndexSet};
 use std::alloc::{AllocError, Global};
-use syntax65::Sequence;
 
 /// The number of a name, which is put in where it is new.
 fn intern(alloc: Global, words: &mut IndexSet<Vec<u8>>, name: &[u8]) -> Result<usize, AllocError>

@@ -2,7 +2,7 @@
 
 ghost use Rattle.std.specs.Prelude.{◌≡◌, ◌<◌, ◌≤◌, length, IfOk};
 ghost use Rattle.syntax65.specs.Faults.{is_expr_outside};
-ghost use Rattle.syntax65.specs.Relations.{Answers};
+ghost use Rattle.base65.specs.Relations.{Answers};
 ghost use Rattle.std.specs.Option.{option_map};
 ghost use Rattle.syntax65.specs.Expressions.{IsParsed, ReadsLevel, opening_at, leaf_of};
 ghost use Rattle.syntax65.specs.Tokens.{lexemes};

@@ -6,9 +6,9 @@ ghost use Rattle.line65.specs.Defining.{defining};
 ghost use Rattle.tools65.specs.Assembling.{define_in};
 
 use asm65::Define;
+use base65::Text;
 use line65::Define as Given;
 use std::alloc::{AllocError, Global};
-use syntax65::Text;
 
 /// The folders of a line.
 pub fn folders_of(alloc: Global, include: &[&str]) -> Result<Vec<Text>, AllocError>

@@ -13,10 +13,10 @@ use crate::assembling::refusal::asm_message;
 use crate::outcome::{Outcome, Status};
 use crate::outputs::outputs_of;
 use asm65::{AsmRefusal, Assembly};
+use base65::{Sequence, Text};
 use line65::{AssembleLine, join};
 use object65::{Object, write_object};
 use std::alloc::{AllocError, Global};
-use syntax65::{Sequence, Text};
 
 /// The name of the object's file.
 fn output_name(alloc: Global, line: &AssembleLine<'_>) -> Result<Text, AllocError>

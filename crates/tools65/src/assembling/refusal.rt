@@ -5,9 +5,9 @@ ghost use Rattle.asm65.specs.Assembly.{placed_of};
 ghost use Rattle.tools65.specs.Assembling.{asm_message};
 
 use asm65::AsmRefusal;
+use base65::Sequence;
 use line65::{file_message, line_message};
 use std::alloc::{AllocError, Global};
-use syntax65::Sequence;
 
 /// The message of a refusal.
 pub fn asm_message(

@@ -2,10 +2,10 @@
 
 ghost use Rattle.std.specs.Prelude.{◌≤◌, IfOk, length};
 
+use base65::Text;
 use std::alloc::{AllocError, Global};
 use std::io;
 use std::io::{Read, Seek, SeekFrom};
-use syntax65::Text;
 
 const BUFFER: usize = 16_384;
 

@@ -2,8 +2,8 @@
 
 use super::values::Constants;
 use super::{expanded_in, expands_to, same};
+use base65::MemStore;
 use std::test::Fail;
-use syntax65::MemStore;
 
 #[test]
 fn lines_that_are_skipped(rt: HostRuntime) -> Result<(), Fail> {

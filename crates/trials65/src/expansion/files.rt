@@ -2,8 +2,8 @@
 
 use super::values::Constants;
 use super::{expanded_in, same};
+use base65::MemStore;
 use std::test::Fail;
-use syntax65::MemStore;
 
 #[test]
 fn a_file_in_a_folder(rt: HostRuntime) -> Result<(), Fail> {

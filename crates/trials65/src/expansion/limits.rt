@@ -4,10 +4,10 @@ ghost use Rattle.std.specs.Prelude.{None};
 
 use super::values::Constants;
 use super::{expanded_in, expands_to, same};
+use base65::{MemStore, Sequence, Store, StoreFault};
 use expand65::{Expander, Options};
 use std::alloc::{AllocError, Global};
 use std::test::Fail;
-use syntax65::{MemStore, Sequence, Store, StoreFault};
 
 const LINE: &[u8; 4] = b"nop\n";
 

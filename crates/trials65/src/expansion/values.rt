@@ -4,9 +4,10 @@ ghost use Rattle.std.specs.Prelude.{◌≡◌};
 ghost use Rattle.syntax65.specs.Trees.{tree_of};
 ghost use Rattle.trials65.specs.Constants.{value_of};
 
+use base65::{apply1, apply2};
 use expand65::Knows;
 use std::alloc::{AllocError, Global};
-use syntax65::{Expr, Name, apply1, apply2};
+use syntax65::{Expr, Name};
 
 /// The value of an expression without names.
 fn value_of(expr: &Expr) -> Option<i64>

@@ -1,10 +1,10 @@
 //! Forms that are folded, and what folding says of them.
 
+use base65::{Op1, Op2};
 use object65::laws::{binary_keeps_its_value, prefix_keeps_its_value};
 use object65::{FormFault, Node, Norm, ObjectFault};
 use std::alloc::{AllocError, Global};
 use std::test::Fail;
-use syntax65::{Op1, Op2};
 
 fn lit(value: i64) -> Norm {
     Norm::new(Node::Lit(value))

@@ -1,10 +1,10 @@
 //! The items of objects that were worked out by hand.
 
 use super::TWO_LITERALS;
+use base65::MemStore;
 use object65::{Fragment, Item, Node, ObjectFault, Scan, Width, read_head, read_record};
 use std::alloc::Global;
 use std::test::Fail;
-use syntax65::MemStore;
 
 /// A section CODE whose jump goes to its own start, which is exported.
 const JUMP: [u8; 71] = [

@@ -1,6 +1,6 @@
 //! The values of operators.
 
-use syntax65::{Op1, Op2, apply1, apply2};
+use base65::{Op1, Op2, apply1, apply2};
 
 #[test]
 fn values_of_two(rt: HostRuntime) {

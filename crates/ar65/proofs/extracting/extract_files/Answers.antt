@@ -1,5 +1,5 @@
 use Rattle.std.proofs.Common.{sym, subst}
-use Rattle.syntax65.specs.Outcome.{Gives}
+use Rattle.base65.specs.Outcome.{Gives}
 use Rattle.library65.specs.Fault.{is_memory}
 use Rattle.ar65.proofs.Takes.{some_named}
 use Rattle.ar65.proofs.extracting.extract_files.Goals as goal

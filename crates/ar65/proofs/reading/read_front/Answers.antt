@@ -1,5 +1,5 @@
 use Rattle.std.proofs.Common.{◌≡◌, ◌∙◌, ◌-◌, length, take, min, rules}
-use Rattle.syntax65.proofs.Chunks.{told_whole}
+use Rattle.base65.proofs.Chunks.{told_whole}
 use Rattle.ar65.proofs.reading.read_front.Goals as goal
 
 pub returns-clause-read : goal.returns-clause-read

@@ -1,7 +1,7 @@
 use Rattle.std.proofs.Common.{◌≡◌, ◌≤◌, ◌-◌, length}
 use Rattle.std.specs.Prelude.{IfSome}
 use Rattle.std.specs.FinMap as map
-use Rattle.syntax65.proofs.Chunks.{IsFront}
+use Rattle.base65.proofs.Chunks.{IsFront}
 use Rattle.ar65.proofs.reading.read_front.Given as goal
 
 abbrev pub invariant-reading : goal.invariant-reading

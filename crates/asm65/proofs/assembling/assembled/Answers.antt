@@ -1,6 +1,6 @@
 use Rattle.std.proofs.Common.{◌≡◌, true, subst}
 use Rattle.std.specs.Prelude.{IfSome, Option}
-use Rattle.syntax65.specs.Store.{Files}
+use Rattle.base65.specs.Store.{Files}
 use Rattle.object65.specs.Objects.{ObjectFits, is_good_object}
 use Rattle.asm65.specs.declared.running.Run.{Run}
 use Rattle.asm65.specs.Assembly.{job_of}

@@ -1,9 +1,9 @@
 use Rattle.std.proofs.Common.{◌≡◌, ◌∙◌, sym, ap, subst, Some, Ok, Err}
 use Rattle.std.specs.FinMap as fmap
-use Rattle.syntax65.specs.Reading.{front_in}
-use Rattle.syntax65.specs.Outcome.{Unless}
-use Rattle.syntax65.specs.StoreFaults.{is_outside_store}
-use Rattle.syntax65.specs.declared.store.StoreFault.{StoreFault}
+use Rattle.base65.specs.Reading.{front_in}
+use Rattle.base65.specs.Outcome.{Unless}
+use Rattle.base65.specs.StoreFaults.{is_outside_store}
+use Rattle.base65.specs.declared.store.StoreFault.{StoreFault}
 use Rattle.expand65.specs.Includes.{beside}
 use Rattle.asm65.proofs.NamedFiles.{read_none, read_some, unnamed}
 use Rattle.asm65.proofs.Runs.{told_all, told_then}

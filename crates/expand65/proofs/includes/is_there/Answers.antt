@@ -1,6 +1,6 @@
 use Rattle.std.proofs.Common.{◌≡◌, ◌<◌, true, arith, length, Ok, Err}
 use Rattle.std.specs.FinMap as fmap
-use Rattle.syntax65.specs.Store.{ReadsAt}
+use Rattle.base65.specs.Store.{ReadsAt}
 use Rattle.expand65.specs.Seeking.{is_there}
 use Rattle.source65.specs.declared.fault.ExpandFault.TheVariants.{FileTooLong}
 use Rattle.expand65.proofs.Acting.{where_known}

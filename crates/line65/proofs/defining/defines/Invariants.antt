@@ -1,5 +1,5 @@
 use Rattle.std.proofs.Common.{◌≡◌, map, drop}
-use Rattle.syntax65.specs.Outcome.{each}
+use Rattle.base65.specs.Outcome.{each}
 use Rattle.line65.specs.Defining.{define_of, defining}
 use Rattle.line65.proofs.Each.{behind}
 use Rattle.line65.proofs.defining.defines.Given as goal

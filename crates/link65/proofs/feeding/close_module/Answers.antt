@@ -1,7 +1,7 @@
 use Rattle.std.proofs.Common.{◌≡◌, ◌∙◌, ap, drop, map, refl, sym, subst, OnOk, Ok}
 use Rattle.linkage65.specs.declared.parts.Exported.{Exported}
 use Rattle.linkage65.specs.Faults.{is_memory}
-use Rattle.syntax65.specs.Outcome.{Refuses}
+use Rattle.base65.specs.Outcome.{Refuses}
 use Rattle.linkage65.specs.GivenTwice.{all_once, names_in}
 use Rattle.linkage65.specs.Growing.{at_rest, ended}
 use Rattle.linkage65.specs.Grounds.{growth_in}

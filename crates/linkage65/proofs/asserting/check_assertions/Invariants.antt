@@ -1,5 +1,5 @@
 use Rattle.std.proofs.Common.{◌≡◌, ◌++◌, drop, Ok}
-use Rattle.syntax65.specs.Outcome.{◌>>=◌}
+use Rattle.base65.specs.Outcome.{◌>>=◌}
 use Rattle.linkage65.specs.Checks.{check_asserts}
 use Rattle.linkage65.specs.Evaluation.{exports_in, linkage_in}
 use Rattle.linkage65.proofs.asserting.check_assertions.Given as goal

@@ -2,7 +2,7 @@ use Rattle.linkage65.specs.Checks.{check_waiting, each_passes}
 use Rattle.linkage65.specs.Contents.{piece_waiting}
 use Rattle.linkage65.specs.Evaluation.{exports_in, linkage_in}
 use Rattle.linkage65.specs.Faults.{is_memory}
-use Rattle.syntax65.specs.Outcome.{Gives}
+use Rattle.base65.specs.Outcome.{Gives}
 use Rattle.std.specs.List.{flat_map}
 use Rattle.std.proofs.Common.{◌∙◌, ap, subst, List}
 use Rattle.linkage65.specs.declared.parts.Waiting.{Waiting}

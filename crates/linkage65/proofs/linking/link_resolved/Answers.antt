@@ -1,5 +1,5 @@
 use Rattle.std.proofs.Common.{◌∙◌, sym, subst, List}
-use Rattle.syntax65.specs.Outcome.{Finds}
+use Rattle.base65.specs.Outcome.{Finds}
 use Rattle.linkage65.specs.declared.contents.Content.{Content}
 use Rattle.linkage65.specs.declared.evaluation.mark.Mark.{Mark}
 use Rattle.linkage65.specs.declared.parts.Asserted.{Asserted}

@@ -1,5 +1,5 @@
 use Rattle.std.proofs.Common.{◌≡◌, take}
-use Rattle.syntax65.specs.Store.{Tells}
+use Rattle.base65.specs.Store.{Tells}
 use Rattle.tools65.specs.Leaving.{apply}
 use Rattle.tools65.proofs.writing.write_outputs.Given as goal
 

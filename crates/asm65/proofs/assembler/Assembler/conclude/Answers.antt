@@ -1,6 +1,6 @@
 use Rattle.std.proofs.Common.{◌≡◌, ℕ, List, ap, false, map, string_bytes, subst, Global}
 use Rattle.std.specs.Prelude.{IfOk, None, Ok, Err}
-use Rattle.syntax65.specs.Outcome.{Unless}
+use Rattle.base65.specs.Outcome.{Unless}
 use Rattle.language65.specs.declared.contents.Segment.{Segment}
 use Rattle.module65.specs.Machine.{State, concluded}
 use Rattle.asm65.specs.Assembly.{is_outside_refusal}

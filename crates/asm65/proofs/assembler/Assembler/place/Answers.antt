@@ -1,7 +1,7 @@
 use Rattle.std.proofs.Common.{◌≡◌, ◌∙◌, ℕ, sym, ap, subst}
 use Rattle.std.specs.Prelude.{Ok, Err, Result, Some}
 use Rattle.std.proofs.lemmas.Result.{err_from_is_err_and}
-use Rattle.syntax65.specs.Outcome.{Unless}
+use Rattle.base65.specs.Outcome.{Unless}
 use Rattle.language65.specs.declared.fault.AsmFault.{AsmFault}
 use Rattle.language65.specs.Faults.{is_failure, is_memory, is_outside}
 use Rattle.layout65.proofs.Steps.{unless_then}

@@ -1,6 +1,6 @@
 use Rattle.std.proofs.Common.{◌≡◌, ◌∙◌, ap, arith, sym, rules}
 use Rattle.std.proofs.lemmas.Result.{err_from_is_err_and}
-use Rattle.syntax65.specs.Outcome.{Unless}
+use Rattle.base65.specs.Outcome.{Unless}
 use Rattle.source65.specs.Faults.{is_outside}
 use Rattle.expand65.specs.Rewriting.{state_of, turned}
 use Rattle.expand65.specs.Standing.{led, place_of, state_in}

@@ -1,6 +1,6 @@
 use Rattle.std.proofs.Common.{◌≡◌, ◌∙◌, ◌+◌, ap, drop, refl, subst, take, List, ℕ, Ok, Err, Result, Some}
 use Rattle.std.proofs.lemmas.Result.{err_from_is_err_and}
-use Rattle.syntax65.specs.Outcome.{Unless}
+use Rattle.base65.specs.Outcome.{Unless}
 use Rattle.syntax65.specs.Tokens.{Lexeme, IsRead}
 use Rattle.syntax65.specs.declared.lexing.fault.LexFault.{LexFault}
 use Rattle.source65.specs.Faults.{is_outside}

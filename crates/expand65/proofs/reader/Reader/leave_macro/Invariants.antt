@@ -1,5 +1,5 @@
 use Rattle.std.proofs.Common.{◌≡◌, ◌≤◌, length}
-use Rattle.syntax65.specs.Store.{Files}
+use Rattle.base65.specs.Store.{Files}
 use Rattle.expand65.specs.Inside.{left_of}
 use Rattle.expand65.specs.Macros.{outside_macro}
 use Rattle.expand65.specs.State.{come_back}

@@ -1,5 +1,5 @@
 use Rattle.std.proofs.Common.{◌≡◌, ◌≤◌}
-use Rattle.syntax65.specs.Store.{Files}
+use Rattle.base65.specs.Store.{Files}
 use Rattle.expand65.specs.Inside.{left_of, mark_of}
 use Rattle.expand65.specs.Passing.{Plainly}
 use Rattle.expand65.proofs.reader.Reader.pass_plain_lines.Given as goal

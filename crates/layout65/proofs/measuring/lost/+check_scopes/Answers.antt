@@ -1,6 +1,6 @@
 use Rattle.std.proofs.Common.{ap, ◌∙◌, subst, sym, Option, Result}
 use Rattle.std.proofs.lemmas.Result.{err_from_is_err_and}
-use Rattle.syntax65.specs.Outcome.{Gives}
+use Rattle.base65.specs.Outcome.{Gives}
 use Rattle.syntax65.specs.Trees.{tree_of}
 use Rattle.syntax65.specs.declared.expressions.trees.Expr.{Expr}
 use Rattle.language65.specs.declared.fault.AsmFault.{AsmFault}

@@ -1,6 +1,6 @@
 use Rattle.std.proofs.Common.{◌≡◌, subst, Err}
 use Rattle.std.proofs.lemmas.Result.{err_from_is_err_and}
-use Rattle.syntax65.specs.Outcome.{Unless}
+use Rattle.base65.specs.Outcome.{Unless}
 use Rattle.language65.specs.Faults.{is_memory}
 use Rattle.language65.specs.Views.{range_of, spot_of}
 use Rattle.symbols65.specs.Views.{table_of}

@@ -1,6 +1,6 @@
 use Rattle.std.proofs.Common.{◌∙◌, ℕ, List, ap, subst}
 use Rattle.script65.specs.declared.script.Script.{Script}
-use Rattle.syntax65.specs.Outcome.{Finds}
+use Rattle.base65.specs.Outcome.{Finds}
 use Rattle.linkage65.specs.Faults.{is_memory}
 use Rattle.linkage65.specs.Finishing.{program_from}
 use Rattle.linkage65.specs.Links.{IsProgramLink}

@@ -1,5 +1,5 @@
 use Rattle.std.proofs.Common.{map, subst, Result, List, ℕ}
-use Rattle.syntax65.specs.Outcome.{Gives}
+use Rattle.base65.specs.Outcome.{Gives}
 use Rattle.linkage65.specs.declared.fault.LinkFault.{LinkFault}
 use Rattle.linkage65.specs.Faults.{is_memory}
 use Rattle.linkage65.specs.GivenTwice.{names_in}

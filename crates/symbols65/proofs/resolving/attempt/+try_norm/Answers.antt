@@ -1,6 +1,6 @@
 use Rattle.std.proofs.Common.{subst, Result}
 use Rattle.object65.specs.Form.{Form}
-use Rattle.syntax65.specs.Outcome.{Gives}
+use Rattle.base65.specs.Outcome.{Gives}
 use Rattle.language65.specs.Views.{spot_of}
 use Rattle.symbols65.specs.declared.resolving.attempt.Stop.{Stop}
 use Rattle.symbols65.specs.Resolving.{lacks_memory, operand_form}

@@ -1,5 +1,5 @@
 use Rattle.std.proofs.Common.{Result, option_map, sym, ap, subst, ◌∙◌}
-use Rattle.syntax65.specs.Outcome.{Gives}
+use Rattle.base65.specs.Outcome.{Gives}
 use Rattle.syntax65.specs.Trees.{Tree, tree_of}
 use Rattle.object65.specs.Form.{Form}
 use Rattle.language65.specs.Laid.{Spot}

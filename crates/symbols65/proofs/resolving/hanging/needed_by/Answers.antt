@@ -1,4 +1,4 @@
-use Rattle.syntax65.specs.Outcome.{Refuses}
+use Rattle.base65.specs.Outcome.{Refuses}
 use Rattle.syntax65.specs.Trees.{tree_of}
 use Rattle.std.proofs.Common.{subst}
 use Rattle.language65.specs.Views.{spot_of}

@@ -4,7 +4,7 @@ use Rattle.std.specs.Option.{option_map}
 use Rattle.syntax65.specs.Tokens.{lexemes}
 use Rattle.syntax65.specs.Expressions.{leaf_of, text_at}
 use Rattle.syntax65.specs.Trees.{unary, tree_of}
-use Rattle.syntax65.specs.declared.values.Op1.TheVariants.{Not}
+use Rattle.base65.specs.declared.values.Op1.TheVariants.{Not}
 use Rattle.syntax65.proofs.Phrases.{leaf_phrase, bad_operand, prefixed_phrase, prefixed_stop, deep_prefix, deep_open, deep_negation, negated_phrase, negated_stop, enclosed_phrase, enclosed_stop, open_stop, whole_result, leaf_made, operand_stop, operand_part, right_stop, joined_part, whole_part}
 use Rattle.syntax65.proofs.expressions.reading.+expr.Goals as goal
 

@@ -1,0 +1,5 @@
+pub mod Filling
+pub mod Chunks
+pub mod Outcome
+pub mod Wraps
+pub mod Places

@@ -1,0 +1,17 @@
+-- The first bytes of a file.
+use Rattle.std.specs.Prelude.{◌≡◌, ℕ, List, ◌++◌, length, take, drop, Option, Some, None, Result, Ok, Err, ⊤}
+use Rattle.base65.specs.declared.store.StoreFault.{StoreFault}
+use Rattle.base65.specs.declared.store.StoreFault.TheVariants.{OutOfMemory, FileNotFound, FileError}
+
+-- a file's bytes, so many at most
+abbrev pub front_in : Option (List ℕ) → ℕ → Result (List ℕ) StoreFault
+front_in None most = Err FileNotFound
+front_in (Some bytes) most = Ok (take most bytes)
+
+-- new is old with what the file has from a place on, so many bytes at most
+abbrev pub ReadsChunk : Option (List ℕ) → ℕ → ℕ → List ℕ → List ℕ → Result ℕ StoreFault → Type 0
+ReadsChunk None at want old new (Ok n) = ⊥
+ReadsChunk (Some bytes) at want old new (Ok n) = (new ≡ old ++ take want (drop at bytes)) × (n ≡ length (take want (drop at bytes)))
+ReadsChunk file at want old new (Err FileNotFound) = file ≡ None
+ReadsChunk file at want old new (Err FileError) = ⊤
+ReadsChunk file at want old new (Err OutOfMemory) = ⊤

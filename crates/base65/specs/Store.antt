@@ -1,0 +1,99 @@
+-- What the calls of a store do to its files and to its count of failures.
+use Rattle.std.specs.Prelude.{◌≡◌, ℕ, ◌-◌, ◌^◌, ◌<◌, ◌≤◌, min, ◌⊎◌, List, [], ◌++◌, length, take, drop, Option, Some, None, Result, Ok, Err, Bool, true, IsErrOf, IsErrAnd, IfErr, ⊤}
+use Rattle.std.specs.Ordering.{nat_cmp}
+use Rattle.std.specs.Cmp.Lexicographic.{slice_cmp}
+use Rattle.std.specs.FinMap.{FinMap, get, insert}
+use Rattle.base65.specs.declared.store.StoreFault.{StoreFault}
+use Rattle.base65.specs.declared.store.StoreFault.TheVariants.{OutOfMemory, FileNotFound, FileError}
+
+-- files by the bytes of their names
+abbrev pub Files : Type 0
+Files = FinMap (slice_cmp nat_cmp) (List ℕ)
+
+-- the count's last value
+abbrev pub last_count : ℕ
+last_count = 2 ^ 64 - 1
+
+-- a call that began at the count old and ended at new failed, or the count stood at its last value
+abbrev pub HasFailed : ℕ → ℕ → Type 0
+HasFailed old new = (old < new) ⊎ (old ≡ last_count)
+
+-- An error is the store's failure passed on: it is answered where the count rose, and nowhere but where the
+-- count rose or stood at its last value. The count never falls.
+pub record Passes {T E : Type 0} (error : E) (old new : ℕ) (result : Result T E) : Type 0 where
+  pub later : old ≤ new
+  pub told : old < new → IsErrOf result error
+  pub cause : IsErrOf result error → HasFailed old new
+
+-- The same where several errors are the store's failures passed on.
+pub record PassesBy {T E : Type 0} (fails : E → Bool) (old new : ℕ) (result : Result T E) : Type 0 where
+  pub later : old ≤ new
+  pub told : old < new → IsErrAnd result (λ e. fails e ≡ true)
+  pub cause : IfErr result (λ e. fails e ≡ true → HasFailed old new)
+
+-- the same of one call of a store, which also fails wherever the count stands at its last value
+pub record Counts {T : Type 0} (old new : ℕ) (result : Result T StoreFault) : Type 0 where
+  pub later : old ≤ new
+  pub told : HasFailed old new → IsErrOf result FileError
+  pub cause : IsErrOf result FileError → HasFailed old new
+
+-- The first n bytes of the buffer are those of what the file has from there on. There are none only at the
+-- file's end or where the buffer is empty.
+pub record Fills (rest : List ℕ) (n : ℕ) (buf : List ℕ) : Type 0 where
+  pub within : n ≤ length rest
+  pub front : take n buf ≡ take n rest
+  pub ends : n ≡ 0 → 0 < length buf → rest ≡ []
+
+-- what a file has from a place on is read into the buffer, or there is no such file
+abbrev pub ReadsAt : Option (List ℕ) → ℕ → List ℕ → Result ℕ StoreFault → Type 0
+ReadsAt None at buf (Ok n) = ⊥
+ReadsAt (Some bytes) at buf (Ok n) = Fills (drop at bytes) n buf
+ReadsAt file at buf (Err FileNotFound) = file ≡ None
+ReadsAt file at buf (Err FileError) = ⊤
+ReadsAt file at buf (Err OutOfMemory) = ⊤
+
+-- new is old with the file emptied, or old where the call was refused; a file that isn't there is no cause
+abbrev pub Creates : Files → List ℕ → Files → Result (Unit {0}) StoreFault → Type 0
+Creates old name new (Ok u) = new ≡ insert old name []
+Creates old name new (Err FileNotFound) = ⊥
+Creates old name new (Err FileError) = new ≡ old
+Creates old name new (Err OutOfMemory) = new ≡ old
+
+-- new is old with the first n bytes of the piece behind the file's own
+pub record Extends (old : Files) (name piece : List ℕ) (n : ℕ) (new : Files) (bytes : List ℕ) : Type 0 where
+  pub was : get old name ≡ Some bytes
+  pub grown : new ≡ insert old name (bytes ++ take n piece)
+
+abbrev pub Appends : Files → List ℕ → List ℕ → Files → Result ℕ StoreFault → Type 0
+Appends old name piece new (Ok n) = (bytes : List ℕ) × Extends old name piece n new bytes
+Appends old name piece new (Err FileNotFound) = (get old name ≡ None) × (new ≡ old)
+Appends old name piece new (Err FileError) = new ≡ old
+Appends old name piece new (Err OutOfMemory) = new ≡ old
+
+-- two knowledges of files stand in a relation, where the files are known
+abbrev pub Tells : (Files → Files → Type 0) → Option Files → Option Files → Type 0
+Tells P None new = ⊤
+Tells P (Some old) None = ⊥
+Tells P (Some old) (Some new) = P old new
+
+-- the buffer has been filled from there on as far as the file goes
+pub record FillsAll (rest : List ℕ) (n : ℕ) (buf : List ℕ) : Type 0 where
+  pub count : n ≡ min (length buf) (length rest)
+  pub front : take n buf ≡ take n rest
+
+abbrev pub ReadsFull : Option (List ℕ) → ℕ → List ℕ → Result ℕ StoreFault → Type 0
+ReadsFull None at buf (Ok n) = ⊥
+ReadsFull (Some bytes) at buf (Ok n) = FillsAll (drop at bytes) n buf
+ReadsFull file at buf (Err FileNotFound) = file ≡ None
+ReadsFull file at buf (Err FileError) = ⊤
+ReadsFull file at buf (Err OutOfMemory) = ⊤
+
+-- the first n bytes of the buffer are the file's from there on
+abbrev pub FilledTo : Option (List ℕ) → ℕ → ℕ → List ℕ → Type 0
+FilledTo None at n buf = ⊤
+FilledTo (Some bytes) at n buf = (n ≤ length (drop at bytes)) × (take n buf ≡ take n (drop at bytes))
+
+-- no call of the store failed between two counts
+pub record NoneFailed (old new : ℕ) : Type 0 where
+  pub same : new ≡ old
+  pub before : old < last_count

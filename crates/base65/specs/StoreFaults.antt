@@ -1,0 +1,15 @@
+-- Why a call of a store was refused: in words, and whether the cause lies outside the files.
+use Rattle.std.specs.Prelude.{ℕ, List, Bool, true, false, codes}
+use Rattle.base65.specs.declared.store.StoreFault.{StoreFault}
+use Rattle.base65.specs.declared.store.StoreFault.TheVariants.{OutOfMemory, FileNotFound, FileError}
+
+abbrev pub store_words : StoreFault → List ℕ
+store_words OutOfMemory = codes "out of memory"
+store_words FileNotFound = codes "file not found"
+store_words FileError = codes "file error"
+
+-- memory ran out or the store failed
+abbrev pub is_outside_store : StoreFault → Bool
+is_outside_store OutOfMemory = true
+is_outside_store FileNotFound = false
+is_outside_store FileError = true

@@ -1,0 +1,63 @@
+-- The values of operators.
+use Rattle.std.specs.Prelude.{◌/◌, ◌%◌, ◌^◌, ℤ, pos, negsuc, ◌-ℤ◌, ◌+ℤ◌, ◌*ℤ◌, neg_ℤ, Bool, true, false, not, ◌&&◌, ◌||◌, Option, Some, None, int_div, int_rem, int_lt, int_le, nat_lt, if◌then◌else◌}
+use Rattle.std.specs.Int.{w64, int_wrap, int_div_euclid, int_bit_and, int_bit_or, int_bit_xor, cast_unsigned}
+use Rattle.std.specs.Ordering.{int_eq}
+use Rattle.base65.specs.declared.values.Op1.{Op1}
+use Rattle.base65.specs.declared.values.Op1.TheVariants.{Plus, Negate, BitNot, LowByte, HighByte, BankByte, Not}
+use Rattle.base65.specs.declared.values.Op2.{Op2}
+use Rattle.base65.specs.declared.values.Op2.TheVariants.{Multiply, Divide, Modulo, BitAnd, BitXor, ShiftLeft, ShiftRight, Add, Subtract, BitOr, Equal, NotEqual, Less, Greater, LessOrEqual, GreaterOrEqual, And, Xor, Or}
+
+-- brought into the signed 64-bit range modulo 2 ^ 64
+abbrev pub wrapped : ℤ → ℤ
+wrapped z = int_wrap w64 z
+
+abbrev pub truth : Bool → ℤ
+truth true = pos 1
+truth false = pos 0
+
+-- every number but 0 is true
+abbrev pub is_true : ℤ → Bool
+is_true a = not (int_eq a (pos 0))
+
+abbrev pub is_other : Bool → Bool → Bool
+is_other true b = not b
+is_other false b = b
+
+abbrev pub value1 : Op1 → ℤ → ℤ
+value1 Plus a = a
+value1 Negate a = wrapped (neg_ℤ a)
+value1 BitNot a = neg_ℤ a -ℤ pos 1
+value1 LowByte a = pos (cast_unsigned w64 a % 2 ^ 8)
+value1 HighByte a = pos (cast_unsigned w64 a / 2 ^ 8 % 2 ^ 8)
+value1 BankByte a = pos (cast_unsigned w64 a / 2 ^ 16 % 2 ^ 8)
+value1 Not a = truth (not (is_true a))
+
+-- a formula that has no value at the divisor 0
+abbrev pub divided : (ℤ → ℤ → ℤ) → ℤ → ℤ → Option ℤ
+divided f a b = if int_eq b (pos 0) then None else Some (wrapped (f a b))
+
+-- a formula that has no value at a shift count outside 0 to 63
+abbrev pub shifted : (ℤ → ℤ → ℤ) → ℤ → ℤ → Option ℤ
+shifted f a (pos n) = if nat_lt n 64 then Some (wrapped (f a (pos (2 ^ n)))) else None
+shifted f a (negsuc n) = None
+
+abbrev pub value2 : Op2 → ℤ → ℤ → Option ℤ
+value2 Multiply a b = Some (wrapped (a *ℤ b))
+value2 Divide a b = divided int_div a b
+value2 Modulo a b = divided int_rem a b
+value2 BitAnd a b = Some (int_bit_and w64 a b)
+value2 BitXor a b = Some (int_bit_xor w64 a b)
+value2 ShiftLeft a b = shifted (λ x p. x *ℤ p) a b
+value2 ShiftRight a b = shifted int_div_euclid a b
+value2 Add a b = Some (wrapped (a +ℤ b))
+value2 Subtract a b = Some (wrapped (a -ℤ b))
+value2 BitOr a b = Some (int_bit_or w64 a b)
+value2 Equal a b = Some (truth (int_eq a b))
+value2 NotEqual a b = Some (truth (not (int_eq a b)))
+value2 Less a b = Some (truth (int_lt a b))
+value2 Greater a b = Some (truth (int_lt b a))
+value2 LessOrEqual a b = Some (truth (int_le a b))
+value2 GreaterOrEqual a b = Some (truth (int_le b a))
+value2 And a b = Some (truth (is_true a && is_true b))
+value2 Xor a b = Some (truth (is_other (is_true a) (is_true b)))
+value2 Or a b = Some (truth (is_true a || is_true b))

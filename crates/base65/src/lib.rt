@@ -1,0 +1,17 @@
+//! What every crate of the tools stands on: files by name, the operators on values, and small types that contracts
+//! see as lists.
+#![tactic(auto)]
+
+mod mem_store;
+mod reading;
+mod sequence;
+mod store;
+mod text;
+mod values;
+
+pub use mem_store::MemStore;
+pub use reading::read_front;
+pub use sequence::Sequence;
+pub use store::{Store, StoreFault, read_full};
+pub use text::Text;
+pub use values::{Op1, Op2, apply1, apply2};

@@ -1,0 +1,141 @@
+//! Files in memory.
+
+ghost use Rattle.std.specs.Prelude.{◌≡◌, ◌+◌, ◌<◌, ◌≤◌, min, take, drop, length, Option, Some, None, OnOk, OnErr, IfOk, IfSome, IfNone, slice_get, slice_set, [], IsErrOf};
+ghost use Rattle.std.specs.Option.{option_map, option_copied};
+ghost use Rattle.std.specs.FinMap as map;
+ghost use Rattle.base65.specs.Store.{ReadsAt, Fills, Appends};
+ghost use Rattle.base65.specs.MemStore.{place_of, files_of};
+
+use crate::{Store, StoreFault};
+use std::alloc::{AllocError, Global};
+use std::marker::Model;
+
+#[derive(Drop)]
+struct File {
+    name: Vec<u8>,
+    bytes: Vec<u8>,
+}
+
+/// Files that lie in memory. No call of it fails.
+#[derive(Drop)]
+pub struct MemStore {
+    alloc: Global,
+    files: Vec<File>,
+}
+
+impl Model for MemStore {
+    ghost use Rattle.std.specs.Coded.{coded_ℕ, coded_list};
+    ghost use Rattle.std.specs.FinMap as map;
+    ghost use Rattle.base65.specs.Store.{Files};
+
+    ghost Value = { Files };
+
+    ghost coded = { map.code (coded_list coded_ℕ) (coded_list coded_ℕ) };
+
+    ghost use Rattle.base65.specs.MemStore.{files_of};
+
+    ghost view = { λ s. files_of s.files.items };
+}
+
+/// Where the file of a name stands.
+fn place(files: &[File], name: &[u8]) -> Option<usize>
+    ensures place { result ≡ place_of name.now files.now }
+    ensures bound { IfSome result (λ i. i < length files.now) }
+{
+    for (i, file) in files.iter().enumerate() {
+        if name == file.name.as_slice() {
+            return Some(i);
+        }
+    }
+    None
+}
+
+impl MemStore {
+    ghost use Rattle.base65.specs.MemStore.{place_of, files_of};
+
+    /// A store with no file.
+    pub fn new(alloc: Global) -> Self
+        ensures { result ≡ map.empty }
+    {
+        MemStore {
+            alloc,
+            files: Vec::new(alloc),
+        }
+    }
+
+    /// The bytes of a file.
+    pub fn get(&self, name: &str) -> Option<&[u8]>
+        ensures { option_copied result ≡ map.get self.now name.now }
+    {
+        let i = place(&self.files, name.as_bytes())?;
+        Some(self.files[i].bytes.as_slice())
+    }
+
+    /// Puts a file in, in the place of one of its name. A refusal changes nothing.
+    pub fn put(&mut self, name: &str, bytes: &[u8]) -> Result<(), AllocError>
+        ensures ok { OnOk result (self.new ≡ map.insert self.old name.now bytes.now) }
+        ensures err { OnErr result (self.new ≡ self.old) }
+    {
+        set_file(self.alloc, &mut self.files, name.as_bytes(), bytes)
+    }
+}
+
+/// Puts a file into a list, in the place of one of its name.
+fn set_file(
+    alloc: Global,
+    files: &mut Vec<File>,
+    name: &[u8],
+    bytes: &[u8],
+) -> Result<(), AllocError>
+    ensures ok { OnOk result (files_of files.new.items ≡ map.insert (files_of files.old.items) name.now bytes.now) }
+    ensures err { OnErr result (files.new.items ≡ files.old.items) }
+{
+    let file = File {
+        name: Vec::from_slice(alloc, name)?,
+        bytes: Vec::from_slice(alloc, bytes)?,
+    };
+    match place(files, name) {
+        Some(i) => files[i] = file,
+        None => files.push(file)?,
+    }
+    Ok(())
+}
+
+/// Puts bytes behind those of the file of a name.
+fn extend_file(files: &mut Vec<File>, name: &[u8], piece: &[u8]) -> Result<usize, StoreFault>
+    ensures appended { Appends (files_of files.old.items) name.now piece.now (files_of files.new.items) result }
+    ensures all { IfOk result (λ n. n ≡ length piece.now) }
+    ensures cause { IsErrOf result StoreFault.FileError → ⊥ }
+{
+    match place(files, name) {
+        None => Err(StoreFault::FileNotFound),
+        Some(i) => {
+            let file = &mut files[i];
+            file.bytes.extend_from_slice(piece)?;
+            Ok(piece.len())
+        }
+    }
+}
+
+impl Store for MemStore {
+    ghost files = { λ s. Some s };
+
+    ghost failures = { λ _. 0 };
+
+    fn read_at(&mut self, name: &str, at: u64, buf: &mut [u8]) -> Result<usize, StoreFault> {
+        let bytes = self.get(name).ok_or(StoreFault::FileNotFound)?;
+        let start = (at as usize).min(bytes.len());
+        let rest = &bytes[start..];
+        let n = rest.len().min(buf.len());
+        buf[..n].copy_from_slice(&rest[..n]);
+        Ok(n)
+    }
+
+    fn create(&mut self, name: &str) -> Result<(), StoreFault> {
+        Ok(self.put(name, &[])?)
+    }
+
+    fn append(&mut self, name: &str, piece: &[u8]) -> Result<usize, StoreFault> {
+        extend_file(&mut self.files, name.as_bytes(), piece)
+    }
+}

@@ -1,0 +1,58 @@
+//! Whole files, up to a limit.
+
+ghost use Rattle.std.specs.Prelude.{◌≡◌, ◌≤◌, ◌<◌, ◌+◌, ◌^◌, IfOk, IfSome, length};
+ghost use Rattle.std.specs.FinMap as map;
+ghost use Rattle.base65.specs.Outcome.{Gives};
+ghost use Rattle.base65.specs.Store.{Passes};
+ghost use Rattle.base65.specs.StoreFaults.{is_outside_store};
+ghost use Rattle.base65.specs.Reading.{front_in, ReadsChunk};
+
+use crate::{Store, StoreFault, read_full};
+use std::alloc::Global;
+
+const CHUNK: usize = 4096;
+
+/// Adds what a file has from a place on, so many bytes at most, and answers how many there were.
+fn read_chunk<S: Store>(
+    store: &mut S,
+    name: &str,
+    at: u64,
+    want: usize,
+    bytes: &mut Vec<u8>,
+) -> Result<usize, StoreFault>
+    requires want { want ≤ 4096 }
+    requires room { at < 2 ^ 63 }
+    ensures read { IfSome (S.files store.old) (λ m. ReadsChunk (map.get m name.now) at want bytes.old.items bytes.new.items result) }
+    ensures grown { IfOk result (λ n. (n ≤ want) × (length bytes.new.items ≡ length bytes.old.items + n)) }
+    ensures files { S.files store.new ≡ S.files store.old }
+    ensures count { Passes StoreFault.FileError (S.failures store.old) (S.failures store.new) result }
+{
+    let mut chunk = [0u8; CHUNK];
+    let n = read_full(store, name, at, &mut chunk[..want])?;
+    bytes.extend_from_slice(&chunk[..n])?;
+    Ok(n)
+}
+
+/// The first bytes of a file, so many at most. Memory grows only by what was read.
+pub fn read_front<S: Store>(
+    alloc: Global,
+    store: &mut S,
+    name: &str,
+    most: usize,
+) -> Result<Vec<u8>, StoreFault>
+    requires { most < 2 ^ 62 }
+    ensures read { IfSome (S.files store.old) (λ m. Gives is_outside_store (λ v. v.items) result (front_in (map.get m name.now) most)) }
+    ensures files { S.files store.new ≡ S.files store.old }
+    ensures count { Passes StoreFault.FileError (S.failures store.old) (S.failures store.new) result }
+{
+    let mut bytes = Vec::new(alloc);
+    'reading: loop {
+        let len = bytes.len();
+        let want = CHUNK.min(most - len);
+        let n = read_chunk(store, name, len as u64, want, &mut bytes)?;
+        if n < CHUNK {
+            break;
+        }
+    }
+    Ok(bytes)
+}

@@ -1,0 +1,104 @@
+//! Files as the tools see them.
+
+ghost use Rattle.std.specs.Prelude.{◌≡◌, ◌≤◌, ◌<◌, ◌+◌, ◌^◌, ℕ, Option, length, IfOk, IfSome};
+ghost use Rattle.std.specs.FinMap as map;
+ghost use Rattle.base65.specs.declared.store.StoreFault.TheVariants.{OutOfMemory, FileError};
+ghost use Rattle.base65.specs.Store.{Files, Counts, ReadsAt, Creates, Appends, Tells, ReadsFull, Passes};
+
+use std::alloc::{AllocError, AllocFailed};
+use std::fmt;
+
+/// Why a call of a store was refused.
+#[derive(Clone, Copy, Debug, PartialEq, Eq)]
+pub enum StoreFault {
+    OutOfMemory = 1,
+    FileNotFound = 2,
+    FileError = 3,
+}
+
+impl fmt::Display for StoreFault {
+    ghost use Rattle.std.specs.Prelude.{Some};
+    ghost use Rattle.base65.specs.StoreFaults.{store_words};
+
+    ghost output = { λ f. Some (store_words f) };
+
+    fn fmt<W: fmt::Write>(&self, f: &mut fmt::Formatter<W>) -> fmt::Result {
+        f.write_str(match self {
+            StoreFault::OutOfMemory => "out of memory",
+            StoreFault::FileNotFound => "file not found",
+            StoreFault::FileError => "file error",
+        })
+    }
+}
+
+impl From<AllocError> for StoreFault {
+    ghost from_gives = { λ _ e. e ≡ OutOfMemory };
+
+    fn from(_e: AllocError) -> StoreFault {
+        StoreFault::OutOfMemory
+    }
+}
+
+impl<T: Drop> From<AllocFailed<T>> for StoreFault {
+    ghost from_gives = { λ _ e. e ≡ OutOfMemory };
+
+    fn from(_e: AllocFailed<T>) -> StoreFault {
+        StoreFault::OutOfMemory
+    }
+}
+
+/// Files by name.
+pub trait Store {
+    /// The files, where the store tells them.
+    ghost files: { Self → Option Files };
+
+    /// How often a call has failed.
+    ghost failures: { Self → ℕ };
+
+    /// Reads what a file has from a place on into the front of a buffer, and answers how many bytes it read.
+    fn read_at(&mut self, name: &str, at: u64, buf: &mut [u8]) -> Result<usize, StoreFault>
+        ensures bound { IfOk result (λ n. n ≤ length buf.new) }
+        ensures read { IfSome (files self.old) (λ m. ReadsAt (map.get m name.now) at buf.new result) }
+        ensures files { files self.new ≡ files self.old }
+        ensures count { Counts (failures self.old) (failures self.new) result };
+
+    /// Makes a file empty, and begins it where there is none.
+    fn create(&mut self, name: &str) -> Result<(), StoreFault>
+        ensures created { Tells (λ old new. Creates old name.now new result) (files self.old) (files self.new) }
+        ensures count { Counts (failures self.old) (failures self.new) result };
+
+    /// Adds the first bytes of a piece behind a file's own, and answers how many it added: one at least of a
+    /// piece that isn't empty.
+    fn append(&mut self, name: &str, piece: &[u8]) -> Result<usize, StoreFault>
+        ensures bound { IfOk result (λ n. (n ≤ length piece.now) × (n ≡ 0 → length piece.now ≡ 0)) }
+        ensures appended { Tells (λ old new. Appends old name.now piece.now new result) (files self.old) (files self.new) }
+        ensures count { Counts (failures self.old) (failures self.new) result };
+}
+
+/// Reads until the buffer is full or the file ends.
+pub fn read_full<S: Store>(
+    store: &mut S,
+    name: &str,
+    at: u64,
+    buf: &mut [u8],
+) -> Result<usize, StoreFault>
+    requires { at + length buf.old < 2 ^ 64 }
+    ensures bound { IfOk result (λ n. n ≤ length buf.new) }
+    ensures read { IfSome (S.files store.old) (λ m. ReadsFull (map.get m name.now) at buf.new result) }
+    ensures files { S.files store.new ≡ S.files store.old }
+    ensures count { Passes FileError (S.failures store.old) (S.failures store.new) result }
+{
+    let mut done = 0;
+    'fill: loop {
+        let n = store.read_at(name, at + done as u64, &mut buf[done..])?;
+        if n == 0 {
+            break;
+        }
+        done += n;
+        // A full buffer needs no further call to know that it is full.
+        if done == buf.len() {
+            break;
+        }
+    }
+    Ok(done)
+}

@@ -1,6 +1,7 @@
 //! Whole scripts, their faults, and where rows are placed.
 
 mod faults;
+mod files;
 mod places;
 mod scripts;
 

@@ -1,5 +1,5 @@
-//! What every crate of the tools stands on: files by name, the operators on values, and small types that contracts
-//! see as lists.
+//! What the crates of the tools share: files by name, the operators on values, and small types that contracts see as
+//! lists.
 #![tactic(auto)]
 
 mod mem_store;

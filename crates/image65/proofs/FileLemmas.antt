@@ -15,9 +15,7 @@ use Rattle.script65.specs.declared.script.AreaFile.{AreaFile}
 use Rattle.script65.specs.declared.script.AreaFile.TheVariants.{Named}
 use Rattle.script65.specs.declared.script.Row.{Row}
 use Rattle.image65.specs.declared.output.OutputFile.{OutputFile}
-use Rattle.image65.specs.Files.{AddsArea, AddsAreas, file_name, with_bytes}
-use Rattle.image65.specs.Files.{IsAreaFile, IsFileBy, RowBytes}
-use Rattle.image65.specs.Files.{Placed, loaded_in}
+use Rattle.image65.specs.Files.{AddsArea, AddsAreas, IsAreaFile, IsFileBy, Placed, RowBytes, file_name, loaded_in, with_bytes}
 
 pub named_ok : (output name bytes got : List ℕ) (f : AreaFile) → f ≡ Named name → bytes ≡ name → got ≡ bytes → IsUtf8 bytes → got ≡ file_name output f
 named_ok output name bytes got f is same e utf8 = rw (is, sym same, is_utf8-from_IsUtf8 bytes utf8) e

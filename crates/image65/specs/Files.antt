@@ -59,7 +59,7 @@ is_inside i at bytes = nat_le at i && nat_lt i (at + length bytes)
 abbrev pub laid_over : ℕ → ℕ → List ℕ → ℕ → ℕ
 laid_over i at bytes before = if is_inside i at bytes then get_or bytes (i - at) 0 else before
 
--- the byte at a place: that of the piece which covers it, and what was there before where none does
+-- the byte at a place: that of the last piece which covers it, and what was there before where none does
 abbrev pub byte_over : List Piece → ℕ → ℕ → ℕ
 byte_over [] i before = before
 byte_over (p ∷ ps) i before = byte_over ps i (laid_over i p.offset p.bytes before)

@@ -2,7 +2,7 @@
 
 ghost use Rattle.library65.specs.Laws.{GrowingSelectionLaw, IndexReadLaw, IndexSpellingLaw, LibraryReadLaw, LibrarySpellingLaw, OneLibraryLaw, OneSelectionLaw, StockLaw, WrittenLaw};
 
-/// What is wanted has one selection.
+/// What is wanted has one selection at most.
 pub fn one_selection()
     ensures { OneSelectionLaw }
 {}

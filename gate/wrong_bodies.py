@@ -5,7 +5,6 @@ usage: wrong_bodies.py [--all] [CRATE[/EDIT]..]    with --all those of must-fail
 They are tried by the gate's own function, side by side, each over what the proof of the crate as it is kept.
 The last line is 'N refused, M not'."""
 import os
-import shutil
 import sys
 import tempfile
 import time
@@ -31,35 +30,27 @@ def edits_of(crate, words, folders):
     return found
 
 
-def tried(rt, crate, edit, kept=None):
-    """Whether the prover refuses an edit, and what is to be said of that. One that can't be read or tried isn't refused."""
-    kind, text = rt.must_fail(crate, edit, ["--jobs", "1"], kept)
-    return kind in (rt.REFUSED, rt.AT_LIMIT), text
-
-
-def in_turn(rt, crate, edits):
-    """Tries edits one after the other, as the gate does: each over what the checks before it kept, at first the proof of the crate.
-    Where the crate as it is isn't proved over that any more, a refusal would say nothing, and each is tried again from nothing."""
-    found = {}
+def over_kept(rt, crate, call):
+    """What a call answers over a copy of what the proof of the crate as it is kept."""
     with tempfile.TemporaryDirectory(prefix="wrong-") as room:
-        kept = f"{room}/kept"
-        shutil.copytree(f"{crate.folder}/out/incremental", kept)
-        for edit in edits:
-            begun = time.time()
-            found[edit], text = tried(rt, crate, edit, kept)
-            kit.say(f"{text.removeprefix('must-fail ')} ({kit.minutes(time.time() - begun)})")
-        is_sound = not rt.checked(crate, {}, ["--jobs", "1"], kept).returncode
-    if not is_sound:
-        kit.say(f"{crate.name}: what was kept doesn't prove the crate as it is; each once more from nothing")
-    return found if is_sound else {it: tried(rt, crate, it)[0] for it in edits}
+        rt.linked(f"{crate.folder}/out/incremental", f"{room}/kept")
+        return call(f"{room}/kept")
 
 
-def try_all(rt, crate, edits, lanes):
-    """Tries a crate's edits side by side, and returns for each whether it is refused."""
-    shares = [share for share in (edits[lane::lanes] for lane in range(lanes)) if share]
-    with ThreadPoolExecutor(lanes) as pool:
-        runs = [pool.submit(in_turn, rt, crate, share) for share in shares]
-    return {edit: is_refused for run in runs for edit, is_refused in run.result().items()}
+def is_sound(rt, crate):
+    """Whether the crate as it is is proved over what its proof kept; where it isn't, a refusal over that would say nothing."""
+    found = not over_kept(rt, crate, lambda kept: rt.checked(crate, {}, ["--jobs", "1"], kept).returncode)
+    if not found:
+        kit.say(f"{crate.name}: what was kept doesn't prove the crate as it is, so its wrong bodies are tried from nothing")
+    return found
+
+
+def is_refused(rt, crate, edit, has_kept):
+    """Whether the prover refuses an edit. One that can't be read or tried isn't refused."""
+    begun, flags = time.time(), ["--jobs", "1"]
+    kind, text = over_kept(rt, crate, lambda kept: rt.must_fail(crate, edit, flags, kept)) if has_kept else rt.must_fail(crate, edit, flags)
+    kit.say(f"{text.removeprefix('must-fail ')} ({kit.minutes(time.time() - begun)})")
+    return kind in (rt.REFUSED, rt.AT_LIMIT)
 
 
 def main(words):
@@ -77,18 +68,17 @@ def main(words):
         sys.exit("there is no wrong body")
     if prove.main([it.name for it in crates]):
         return 1
-    lanes = int(os.environ.get("WRONG_BODIES_JOBS", 0)) or kit.lanes(rt)
-    refused, took = {}, []
-    for crate in crates:
-        begun, edits = time.time(), edits_of(crate, words, folders)
-        kit.say(f"{crate.name}: {len(edits)} wrong bodies, {lanes} at once")
-        refused |= try_all(rt, crate, edits, lanes)
-        took.append((f"{crate.name}: {len(edits)} wrong bodies", time.time() - begun))
-    kit.table("How long each crate took:", took)
-    wrong = [it for crate in crates for it in edits_of(crate, words, folders) if not refused.get(it)]
+    lanes, begun = int(os.environ.get("WRONG_BODIES_JOBS", 0)) or kit.lanes(rt), time.time()
+    tries = [(crate, edit) for crate in crates for edit in edits_of(crate, words, folders)]
+    kit.say(f"{len(tries)} wrong bodies of {len(crates)} crates, {lanes} at once")
+    with ThreadPoolExecutor(lanes) as pool:
+        sound = dict(zip(crates, pool.map(lambda crate: is_sound(rt, crate), crates)))
+        refused = [*pool.map(lambda it: is_refused(rt, *it, sound[it[0]]), tries)]
+    kit.say(f"all were tried after {kit.minutes(time.time() - begun)}")
+    wrong = [edit for (_, edit), found in zip(tries, refused) if not found]
     for it in wrong:
         print(f"not refused: {os.path.relpath(it, kit.ROOT)}")
-    print(f"{len(refused) - len(wrong)} refused, {len(wrong)} not")
+    print(f"{len(tries) - len(wrong)} refused, {len(wrong)} not")
     return 1 if wrong else 0
 
 

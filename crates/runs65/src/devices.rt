@@ -4,8 +4,8 @@ ghost use Rattle.std.specs.Prelude.{Some, ◌≡◌, true, false, if◌then◌el
 ghost use Rattle.std.specs.Option.{ForSome};
 ghost use Rattle.std.specs.Bool.{OnTrue, OnFalse};
 
-use super::{LINK, O1, S1, files, is_quiet, run_on, says};
 use base65::{MemStore, Store, StoreFault};
+use running65::{LINK, O1, S1, files, is_quiet, run_on, says};
 use std::alloc::{AllocError, Global};
 use std::io;
 use std::io::{ErrorKind, Write};

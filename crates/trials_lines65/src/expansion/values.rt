@@ -2,7 +2,7 @@
 
 ghost use Rattle.std.specs.Prelude.{◌≡◌};
 ghost use Rattle.syntax65.specs.Trees.{tree_of};
-ghost use Rattle.trials65.specs.Constants.{value_of};
+ghost use Rattle.trials_lines65.specs.Constants.{value_of};
 
 use base65::{apply1, apply2};
 use expand65::Knows;
@@ -35,7 +35,7 @@ pub struct Constants {
 }
 
 impl Knows for Constants {
-    ghost use Rattle.trials65.specs.Constants.{meaning_of};
+    ghost use Rattle.trials_lines65.specs.Constants.{meaning_of};
 
     ghost meaning = { λ k. meaning_of k.all };
 

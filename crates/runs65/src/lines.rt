@@ -1,7 +1,7 @@
 //! Command lines on their own.
 
-use super::{O1, S1, files, run_on, says};
 use base65::{MemStore, Sequence};
+use running65::{O1, S1, files, run_on, says};
 use std::test::Fail;
 use tools65::{
     AssembleLine, Line, LineFault, LinkLine, Operation, Status, print, read_line, run_line,

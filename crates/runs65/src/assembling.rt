@@ -1,7 +1,7 @@
 //! Whole runs of ca65.
 
-use super::{LINK, S1, files, is_quiet, run_on, says};
 use base65::MemStore;
+use running65::{LINK, S1, files, is_quiet, run_on, says};
 use std::alloc::{AllocError, Global};
 use std::test::Fail;
 

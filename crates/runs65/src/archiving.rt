@@ -1,7 +1,7 @@
 //! Whole runs of ar65.
 
-use super::{O1, is_quiet, run_on, says};
 use base65::{MemStore, Sequence};
+use running65::{O1, is_quiet, run_on, says};
 use std::alloc::{AllocError, Global};
 use std::test::Fail;
 use tools65::{ArchiveLine, Line, Operation, Status, run_line};

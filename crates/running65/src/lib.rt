@@ -1,12 +1,5 @@
-//! Runs of whole commands over files in memory: the worked ones, and what no command on the disk shows. All others are
-//! cases for the real program.
-
-mod archiving;
-mod assembling;
-mod devices;
-mod libraries;
-mod lines;
-mod linking;
+//! What the trials of commands share: a script and an object, and a run over files and streams in memory.
+#![tactic(auto)]
 
 use base65::{MemStore, Store};
 use std::alloc::{AllocError, Global};

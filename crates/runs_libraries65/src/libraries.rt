@@ -2,8 +2,8 @@
 
 ghost use Rattle.std.specs.Prelude.{Some};
 
-use super::{S1, is_quiet, run_on, says};
 use base65::{MemStore, Store, StoreFault};
+use running65::{S1, is_quiet, run_on, says};
 use std::alloc::{AllocError, Global};
 use std::test::Fail;
 use tools65::Status;

@@ -1,6 +1,6 @@
 //! Whole links.
 
-use super::{LINK, O1, S1, files, is_quiet, run_on, says, warns};
+use running65::{LINK, O1, S1, files, is_quiet, run_on, says, warns};
 use std::alloc::{AllocError, Global};
 use std::test::Fail;
 

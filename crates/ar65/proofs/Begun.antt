@@ -9,7 +9,7 @@ use Rattle.object65.specs.declared.fault.ObjectFault.{ObjectFault}
 use Rattle.object65.specs.declared.object.Object.{Object}
 use Rattle.object65.specs.Reading.{file_limit}
 use Rattle.object65.specs.Whole.{object_at}
-use Rattle.library65.specs.declared.entry.Entry.{Entry}
+use Rattle.selection65.specs.declared.entry.Entry.{Entry}
 use Rattle.library65.specs.declared.entry.Listing.{Listing}
 use Rattle.library65.specs.declared.fault.LibraryFault.{LibraryFault}
 use Rattle.library65.specs.declared.fault.LibraryFault.TheVariants.{FileNotFound, BadIndex, BadMemberName, CutShort, IndexDisagrees, NotALibrary}

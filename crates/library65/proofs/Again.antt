@@ -13,7 +13,7 @@ use Rattle.byteorder.specs.Endian.{little_bytes}
 use Rattle.object65.specs.Reading.{file_limit}
 use Rattle.object65.proofs.Numbers.{back}
 use Rattle.base65.specs.Outcome.{◌>>=◌}
-use Rattle.library65.specs.declared.entry.Entry.{Entry}
+use Rattle.selection65.specs.declared.entry.Entry.{Entry}
 use Rattle.library65.specs.declared.entry.Listing.{Listing}
 use Rattle.library65.specs.declared.fault.LibraryFault.{LibraryFault}
 use Rattle.library65.specs.Names.{are_member_names, is_among, is_member_name, is_name}

@@ -2,16 +2,11 @@ pub mod Scans
 pub mod Shown
 pub mod Leads
 pub mod Steps
-pub mod Places
-pub mod Searches
-pub mod Selections
-pub mod Tables
 pub mod Members
 pub mod Edits
 pub mod Pieces
 pub mod Symbols
 pub mod Written
-pub mod Uniques
 pub mod Spelled
 pub mod Again
 pub mod Loaded

@@ -1,20 +1,10 @@
--- What holds of indexes, libraries and selections, whatever made them.
-use Rattle.std.specs.Prelude.{◌≡◌, ℕ, List, [], true, Ok}
+-- What holds of indexes and libraries, whatever made them.
+use Rattle.std.specs.Prelude.{◌≡◌, ℕ, List, [], Ok}
 use Rattle.object65.specs.Bytes.{IsBytes}
-use Rattle.library65.specs.declared.entry.Entry.{Entry}
+use Rattle.selection65.specs.declared.entry.Entry.{Entry}
 use Rattle.library65.specs.Libraries.{deleted as deleted_of, library_at, replaced as replaced_of, written}
-use Rattle.library65.specs.Names.{is_among}
 use Rattle.library65.specs.Reading.{index_at}
-use Rattle.library65.specs.Selection.{IsSelection, has_place}
 use Rattle.library65.specs.Spelling.{IsIndex, IsLibrary, IsStock, Member}
-
--- what is wanted has one selection
-abbrev pub OneSelectionLaw : Type 0
-OneSelectionLaw = (es : List Entry) (wanted defined : List (List ℕ)) (a b : List ℕ) → IsSelection es wanted defined a → IsSelection es wanted defined b → a ≡ b
-
--- where more is wanted, no fewer members are selected
-abbrev pub GrowingSelectionLaw : Type 0
-GrowingSelectionLaw = (es : List Entry) (wanted more defined : List (List ℕ)) (a b : List ℕ) → ((name : List ℕ) → is_among wanted name ≡ true → is_among more name ≡ true) → IsSelection es wanted defined a → IsSelection es more defined b → (place : ℕ) → has_place a place ≡ true → has_place b place ≡ true
 
 -- a library has one spelling
 abbrev pub OneLibraryLaw : Type 0

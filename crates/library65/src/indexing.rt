@@ -12,9 +12,10 @@ ghost use Rattle.library65.specs.Reading.{in_file, symbol_at, counted_at, count_
 use crate::LibraryFault;
 use crate::entry::Listing;
 use crate::fields::{read_head, read_name, read_number};
-use crate::naming::{add_name, has_name, is_file_name, is_symbol_name};
+use crate::naming::{add_name, is_file_name, is_symbol_name};
 use base65::{Sequence, Store};
 use indexmap::IndexSet;
+use selection65::has_name;
 use std::alloc::Global;
 
 /// For so many names room is made at once, where the index says that there are as many: most members have few, and

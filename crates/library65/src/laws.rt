@@ -1,16 +1,6 @@
 //! What holds of libraries, whatever made them. Each function's contract is a law.
 
-ghost use Rattle.library65.specs.Laws.{GrowingSelectionLaw, IndexReadLaw, IndexSpellingLaw, LibraryReadLaw, LibrarySpellingLaw, OneLibraryLaw, OneSelectionLaw, StockLaw, WrittenLaw};
-
-/// What is wanted has one selection at most.
-pub fn one_selection()
-    ensures { OneSelectionLaw }
-{}
-
-/// Where more is wanted, no fewer members are selected.
-pub fn selection_grows()
-    ensures { GrowingSelectionLaw }
-{}
+ghost use Rattle.library65.specs.Laws.{IndexReadLaw, IndexSpellingLaw, LibraryReadLaw, LibrarySpellingLaw, OneLibraryLaw, StockLaw, WrittenLaw};
 
 /// A library has one spelling.
 pub fn one_spelling()

@@ -3,7 +3,6 @@
 
 mod contents;
 mod entry;
-mod exporting;
 mod fault;
 mod fields;
 mod indexing;
@@ -13,12 +12,11 @@ mod loading;
 mod naming;
 mod objects;
 mod placing;
-mod searching;
 mod selecting;
 mod writing;
 
-pub use entry::{Entry, Index, Names};
 pub use fault::LibraryFault;
 pub use library::{Library, MemberNames};
 pub use placing::read_index;
 pub use selecting::select;
+pub use selection65::{Entry, Index, Names};

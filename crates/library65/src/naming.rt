@@ -63,13 +63,6 @@ pub fn is_file_name(name: &[u8]) -> bool
         && !is_folder_name(name)
 }
 
-/// Whether a name is there.
-pub fn has_name(names: &IndexSet<Vec<u8>>, name: &[u8]) -> bool
-    ensures { result ≡ is_among (map (λ n. n.items) names.now.keys) name.now }
-{
-    names.contains(name)
-}
-
 /// Adds a new name.
 pub fn add_name(
     alloc: Global,

@@ -1,0 +1,3 @@
+pub mod Selection
+pub mod Searching
+pub mod Laws

@@ -29,13 +29,13 @@ use Rattle.line65.specs.Messages.{memory_line}
 use Rattle.whole65.proofs.Later.{bind_ok}
 use Rattle.ar65.specs.declared.archiving.Archived.TheVariants as archived
 use Rattle.ar65.specs.Librarian.{as_file, as_library, begun, done, member_name, replaced_by, rewritten, with_file, with_files}
-use Rattle.tools65.specs.declared.outcome.Outcome.{Outcome}
-use Rattle.tools65.specs.declared.outcome.Status.TheVariants.{Failure, Success}
+use Rattle.outcomes65.specs.declared.outcome.Outcome.{Outcome}
+use Rattle.outcomes65.specs.declared.outcome.Status.TheVariants.{Failure, Success}
 use Rattle.tools65.specs.Assembling.{asm_message, job_in}
 use Rattle.tools65.specs.Command.{AssemblesWith, refused_with}
 use Rattle.tools65.specs.Kept.{ArchivedSourcesLaw, AssembledFileLaw, HasNumbers, source_in}
 use Rattle.tools65.specs.OneProgram.{Source}
-use Rattle.tools65.specs.Outputs.{failing, outputs_of}
+use Rattle.outcomes65.specs.Outputs.{failing, outputs_of}
 use Rattle.tools65.specs.Written.{IsSourceLibrary, IsSourceObject, IsWrittenOf}
 use Rattle.tools65.proofs.Inputs.{written_object}
 use Rattle.tools65.proofs.Selected.{ok_same}

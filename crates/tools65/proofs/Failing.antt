@@ -1,13 +1,10 @@
 -- Runs in which a call of the store fails.
-use Rattle.std.proofs.Common.{◌≡◌, ◌∙◌, ◌⊎◌, inl, inr, ℕ, ◌<◌, ◌≤◌, List, [], ◌++◌, Bool, true, false, Option, Some, None, Result, Ok, Err, refl, sym, ap, subst, map, arith, slice_get, length}
+use Rattle.std.proofs.Common.{◌≡◌, ◌∙◌, ◌⊎◌, inl, inr, ℕ, ◌<◌, ◌≤◌, List, [], ◌++◌, Bool, true, false, Option, Some, None, Result, Ok, Err, refl, sym, ap, subst, map, arith}
 use Rattle.std.proofs.Math.Nat.{eq-or-lt_of_le}
 use Rattle.std.specs.Prelude.{IfSome, IfErr, ◌||◌}
 use Rattle.std.specs.Result.{IsErrAnd}
 use Rattle.base65.specs.Outcome.{Finds, Gives, Unless}
-use Rattle.base65.specs.Store.{Files, HasFailed, PassesBy, Tells, last_count}
-use Rattle.base65.specs.declared.store.StoreFault.{StoreFault}
-use Rattle.base65.specs.declared.store.StoreFault.TheVariants.{OutOfMemory, FileNotFound, FileError}
-use Rattle.image65.specs.declared.output.OutputFile.{OutputFile}
+use Rattle.base65.specs.Store.{Files, HasFailed, PassesBy, last_count}
 use Rattle.object65.specs.declared.object.Object.{Object}
 use Rattle.asm65.specs.declared.refusal.AsmRefusal.{AsmRefusal}
 use Rattle.asm65.specs.Assembly.{IsAssembled, has_failed, in_places, is_outside_refusal, placed_of}
@@ -29,40 +26,14 @@ use Rattle.ar65.specs.Refusals.{is_failure as is_archive_failure, is_memory as i
 use Rattle.tools65.specs.Archives.{Archives, archive_outcome}
 use Rattle.tools65.specs.Assembling.{asm_message, job_in}
 use Rattle.tools65.specs.Command.{Assembles, AssemblesWith, line_memory, outcome_of, refused_with}
-use Rattle.tools65.specs.Failing.{Fails, FailsLine, FailsWords, SaysWhy, SomeFailed, StopsReading, StopsWriting, file_error_line, refusing}
-use Rattle.tools65.specs.Leaving.{Performs, Prints, SaysBoth, Settles, StopsAt, apply, is_failure as is_unwritten_failure}
-use Rattle.tools65.specs.Outputs.{failing}
-use Rattle.tools65.specs.declared.outcome.Outcome.{Outcome}
-use Rattle.tools65.specs.declared.outcome.Status.{Status}
-use Rattle.tools65.specs.declared.outcome.Status.TheVariants.{Failure}
-use Rattle.tools65.specs.declared.writing.Unwritten.{Unwritten}
+use Rattle.tools65.specs.Failing.{Fails, FailsLine, FailsWords, SaysWhy, SomeFailed, StopsReading, refusing}
+use Rattle.outcomes65.specs.Leaving.{Performs, Prints}
+use Rattle.outcomes65.specs.Stopping.{StopsWriting}
+use Rattle.outcomes65.specs.Outputs.{failing}
+use Rattle.outcomes65.specs.declared.outcome.Outcome.{Outcome}
+use Rattle.outcomes65.specs.declared.outcome.Status.{Status}
+use Rattle.outcomes65.specs.declared.outcome.Status.TheVariants.{Failure}
 use Rattle.tools65.proofs.Runs.{Computes, IsArchived, archive_memory, archived_found, asm_memory, did_not_fail, does_archive, found, link_memory, no_failure, says, with_texts}
-
--- ---- One outcome is carried out.
-
-file_error : (u : Unwritten) → is_unwritten_failure u ≡ true → u.fault ≡ FileError
-file_error u = go u.fault refl
-  where
-    go : (f : StoreFault) → u.fault ≡ f → is_unwritten_failure u ≡ true → u.fault ≡ FileError
-    go FileError e h = e
-    go OutOfMemory e h = let no : is_unwritten_failure u ≡ false = rw e refl in cc
-    go FileNotFound e h = let no : is_unwritten_failure u ≡ false = rw e refl in cc
-
--- where a file isn't written since a call failed
-pub stops_writing : (known new : Option Files) (fm fn : ℕ) (o : Outcome) (u : Unwritten) (out_old out_new err_old err_mid err_new : Option (List ℕ)) (whole : Bool) (status : Status) → status ≡ Failure → (fm < fn → is_unwritten_failure u ≡ true) → Tells (StopsAt o.outputs u.place) known new → SaysBoth out_old out_new o.out err_old err_mid o.err true → ((file : OutputFile) → u.fault ≡ FileError → slice_get o.outputs u.place ≡ Some file → Prints err_mid err_new (file_error_line file.name) whole) → IfSome known (λ m. fm < fn → StopsWriting o m new out_old out_new err_old err_new status)
-stops_writing None new fm fn o u out_old out_new err_old err_mid err_new whole status failed told left said behind = tt
-stops_writing (Some m) None fm fn o u out_old out_new err_old err_mid err_new whole status failed told left said behind = absurd left
-stops_writing (Some m) (Some n) fm fn o u out_old out_new err_old err_mid err_new whole status failed told left said behind = λ rose. record {
-  err_mid = err_mid;
-  said = said;
-  place = u.place;
-  left = left;
-  output = left.0;
-  at = left.1;
-  whole = whole;
-  behind = behind left.0 (file_error u (told rose)) left.1;
-  failed = failed;
-}
 
 -- ---- What was computed is carried out.
 

@@ -1,4 +1,3 @@
-pub mod Texts
 pub mod Runs
 pub mod Failing
 pub mod OneLinks

@@ -17,12 +17,12 @@ use Rattle.ld65.specs.declared.refusal.Refusal.{Refusal}
 use Rattle.ld65.specs.Linkage.{IsLinked, output_of}
 use Rattle.ld65.specs.Refusals.{memory_message}
 use Rattle.tools65.specs.Command.{Commands, Does, DoesLine, Ran, RanWords, line_memory, outcome_of}
-use Rattle.tools65.specs.Leaving.{Performs, Settles, StopsAt, StopsShort, apply}
+use Rattle.outcomes65.specs.Leaving.{Performs, Settles, StopsAt, StopsShort, apply}
 use Rattle.tools65.specs.OneProgram.{DoesWhole, HasFiles, HaveNoImage, IsRefusal, LineLinksWhole, LineRunsLaw, LinksWhole, RunsLaw, SelectsSources, Source, WholeOf, WordsLinkWhole, WritesWhole, WroteFiles}
-use Rattle.tools65.specs.Outputs.{failing, with_map}
-use Rattle.tools65.specs.declared.outcome.Outcome.{Outcome}
-use Rattle.tools65.specs.declared.outcome.Status.{Status}
-use Rattle.tools65.specs.declared.outcome.Status.TheVariants.{Failure, Success}
+use Rattle.outcomes65.specs.Outputs.{failing, with_map}
+use Rattle.outcomes65.specs.declared.outcome.Outcome.{Outcome}
+use Rattle.outcomes65.specs.declared.outcome.Status.{Status}
+use Rattle.outcomes65.specs.declared.outcome.Status.TheVariants.{Failure, Success}
 use Rattle.tools65.proofs.OneLinks.{link_found, link_is}
 use Rattle.tools65.proofs.Wholes.{one_program}
 use Rattle.tools65.proofs.Selected.{inputs_selected, names_front, ok_err, selected_inputs, selected_once}

@@ -9,9 +9,9 @@ use Rattle.ar65.specs.declared.extracting.MemberFile.{MemberFile}
 use Rattle.ar65.specs.declared.refusal.Refusal.{Refusal}
 use Rattle.ar65.specs.Librarian.{archived_of}
 use Rattle.ar65.specs.Refusals.{refusal_message}
-use Rattle.tools65.specs.declared.outcome.Outcome.{Outcome}
-use Rattle.tools65.specs.declared.outcome.Status.TheVariants.{Success}
-use Rattle.tools65.specs.Outputs.{failing}
+use Rattle.outcomes65.specs.declared.outcome.Outcome.{Outcome}
+use Rattle.outcomes65.specs.declared.outcome.Status.TheVariants.{Success}
+use Rattle.outcomes65.specs.Outputs.{failing}
 
 -- the library's file, under its name as it stands in the line
 abbrev pub library_file : List ℕ → List ℕ → List OutputFile

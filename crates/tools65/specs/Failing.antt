@@ -1,6 +1,6 @@
 -- What a run leaves where a call of the store fails while it runs.
-use Rattle.std.specs.Prelude.{◌≡◌, ℕ, ◌<◌, ◌⊎◌, true, List, ◌∷◌, [], ◌++◌, codes, take, slice_get, Option, Some, Result, Ok, Bool}
-use Rattle.base65.specs.Store.{Files, Tells, last_count}
+use Rattle.std.specs.Prelude.{◌≡◌, ℕ, ◌<◌, ◌⊎◌, true, List, [], ◌++◌, Option, Result, Ok}
+use Rattle.base65.specs.Store.{Files, last_count}
 use Rattle.ar65.specs.declared.refusal.Refusal.{Refusal as ArchiveRefusal}
 use Rattle.ar65.specs.Naming.{IsOfLine as IsOfArchive}
 use Rattle.ar65.specs.Refusals as archives
@@ -9,25 +9,20 @@ use Rattle.ld65.specs.Naming.{IsOfLine}
 use Rattle.ld65.specs.Refusals.{is_failure, refusal_message}
 use Rattle.language65.specs.Faults as asm
 use Rattle.line65.specs.Line.{Says, assemble, link, archive, line_of}
-use Rattle.line65.specs.Messages.{joined}
-use Rattle.image65.specs.declared.output.OutputFile.{OutputFile}
 use Rattle.module65.specs.Places.{PlacedFault}
 use Rattle.asm65.specs.Failing.{Stops}
 use Rattle.tools65.specs.Assembling.{asm_message, job_in}
 use Rattle.tools65.specs.Command.{DoesLine, line_memory}
-use Rattle.tools65.specs.Leaving.{Performs, Prints, SaysBoth, StopsAt}
-use Rattle.tools65.specs.declared.outcome.Outcome.{Outcome}
-use Rattle.tools65.specs.declared.outcome.Status.{Status}
-use Rattle.tools65.specs.declared.outcome.Status.TheVariants.{Failure}
+use Rattle.outcomes65.specs.Leaving.{Performs}
+use Rattle.outcomes65.specs.Stopping.{StopsWriting}
+use Rattle.outcomes65.specs.declared.outcome.Outcome.{Outcome}
+use Rattle.outcomes65.specs.declared.outcome.Status.{Status}
+use Rattle.outcomes65.specs.declared.outcome.Status.TheVariants.{Failure}
 
 -- a call failed that came after one that could still be counted
 pub record SomeFailed (old new : ℕ) : Type 0 where
   pub before : old < last_count
   pub rose : old < new
-
--- What befell a file: `name: Error: file error`.
-abbrev pub file_error_line : List ℕ → List ℕ
-file_error_line name = joined (name ∷ codes ": Error: file error\n" ∷ [])
 
 -- texts for both streams, and failure
 abbrev pub refusing : List ℕ → List ℕ → Outcome
@@ -39,20 +34,6 @@ pub record StopsReading (Why : List ℕ → List ℕ → Type 0) (old : Files) (
   pub err : List ℕ
   pub why : Why out err
   pub said : Performs (refusing out err) old new out_old out_new err_old err_new status
-
--- A call failed while an outcome's files were written: its texts were taken whole; the outputs before one are written, that
--- one in part or not at all, and no later one; and what befell that file is said behind the texts, or a first part of that.
-pub record StopsWriting (o : Outcome) (old : Files) (new : Option Files) (out_old out_new err_old err_new : Option (List ℕ)) (status : Status) : Type 0 where
-  -- standard error behind the outcome's text
-  pub err_mid : Option (List ℕ)
-  pub said : SaysBoth out_old out_new o.out err_old err_mid o.err true
-  pub place : ℕ
-  pub left : Tells (StopsAt o.outputs place) (Some old) new
-  pub output : OutputFile
-  pub at : slice_get o.outputs place ≡ Some output
-  pub whole : Bool
-  pub behind : Prints err_mid err_new (file_error_line output.name) whole
-  pub failed : status ≡ Failure
 
 -- A run in which a call failed: while it read files, or while it wrote those of the outcome that they give.
 abbrev pub Fails : (Files → Outcome → Type 0) → (Files → List ℕ → List ℕ → Type 0) → Files → Option Files → Option (List ℕ) → Option (List ℕ) → Option (List ℕ) → Option (List ℕ) → Status → Type 0

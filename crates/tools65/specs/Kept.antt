@@ -12,8 +12,8 @@ use Rattle.line65.specs.declared.line.Operation.TheVariants.{Replace}
 use Rattle.line65.specs.Line.{Archiving, Assembling}
 use Rattle.ar65.specs.declared.archiving.Archived.TheVariants as archived
 use Rattle.ar65.specs.Librarian.{archived_of}
-use Rattle.tools65.specs.declared.outcome.Outcome.{Outcome}
-use Rattle.tools65.specs.declared.outcome.Status.TheVariants.{Success}
+use Rattle.outcomes65.specs.declared.outcome.Outcome.{Outcome}
+use Rattle.outcomes65.specs.declared.outcome.Status.TheVariants.{Success}
 use Rattle.tools65.specs.Assembling.{job_in}
 use Rattle.tools65.specs.Command.{Assembles}
 use Rattle.tools65.specs.OneProgram.{Source}

@@ -1,6 +1,4 @@
 pub mod Naming
-pub mod Leaving
-pub mod Outputs
 pub mod Assembling
 pub mod Archives
 pub mod Command

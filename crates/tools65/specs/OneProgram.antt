@@ -10,8 +10,8 @@ use Rattle.module65.specs.Module as asm
 use Rattle.module65.specs.Reading.{Job}
 use Rattle.asm65.specs.Assembly.{IsAssembled}
 use Rattle.object65.specs.declared.object.Object.{Object}
-use Rattle.library65.specs.Selection.{IsSelection}
-use Rattle.library65.specs.declared.entry.Entry.{Entry}
+use Rattle.selection65.specs.Selection.{IsSelection}
+use Rattle.selection65.specs.declared.entry.Entry.{Entry}
 use Rattle.linkage65.specs.Givers.{given_names, open_names}
 use Rattle.linkage65.specs.Modules.{Module}
 use Rattle.linkage65.specs.Programs.{program_of}
@@ -25,12 +25,12 @@ use Rattle.line65.specs.declared.fault.LineFault.{LineFault}
 use Rattle.ld65.specs.Linkage.{ByKind, Input, chosen, file_input, index_in, is_library_in, member_input, object_in, output_of}
 use Rattle.ld65.specs.Refusals.{memory_message, refusal_message}
 use Rattle.ld65.specs.declared.refusal.Refusal.{Refusal}
-use Rattle.tools65.specs.declared.outcome.Outcome.{Outcome}
-use Rattle.tools65.specs.declared.outcome.Status.{Status}
-use Rattle.tools65.specs.declared.outcome.Status.TheVariants.{Failure, Success}
+use Rattle.outcomes65.specs.declared.outcome.Outcome.{Outcome}
+use Rattle.outcomes65.specs.declared.outcome.Status.{Status}
+use Rattle.outcomes65.specs.declared.outcome.Status.TheVariants.{Failure, Success}
 use Rattle.tools65.specs.Command.{Commands, Does, DoesLine, Ran, line_memory}
-use Rattle.tools65.specs.Leaving.{Performs, apply}
-use Rattle.tools65.specs.Outputs.{failing, with_map}
+use Rattle.outcomes65.specs.Leaving.{Performs, apply}
+use Rattle.outcomes65.specs.Outputs.{failing, with_map}
 
 -- ---- Sources, what ca65 writes of them, and what they are as one program.
 

@@ -10,12 +10,11 @@ ghost use Rattle.line65.specs.Line.{assembling};
 
 use crate::assembling::naming::object_name;
 use crate::assembling::refusal::asm_message;
-use crate::outcome::{Outcome, Status};
-use crate::outputs::outputs_of;
 use asm65::{AsmRefusal, Assembly};
 use base65::{Sequence, Text};
 use line65::{AssembleLine, join};
 use object65::{Object, write_object};
+use outcomes65::{Outcome, Status, outputs_of};
 use std::alloc::{AllocError, Global};
 
 /// The name of the object's file.

@@ -1,5 +1,5 @@
-use Rattle.tools65.proofs.Texts.{stops_within}
-use Rattle.tools65.proofs.printing.print_all.Goals as goal
+use Rattle.outcomes65.proofs.Texts.{stops_within}
+use Rattle.outcomes65.proofs.printing.print_all.Goals as goal
 
 pub returns-then-not-print : goal.returns-then-not-print
 returns-then-not-print g c =

@@ -1,8 +1,8 @@
 -- What commands write.
 use Rattle.std.specs.Prelude.{ℕ, ◌==◌, if◌then◌else◌, List, [], ◌∷◌, ◌++◌, length, Option, Some, None}
 use Rattle.image65.specs.declared.output.OutputFile.{OutputFile}
-use Rattle.tools65.specs.declared.outcome.Outcome.{Outcome}
-use Rattle.tools65.specs.declared.outcome.Status.TheVariants.{Failure}
+use Rattle.outcomes65.specs.declared.outcome.Outcome.{Outcome}
+use Rattle.outcomes65.specs.declared.outcome.Status.TheVariants.{Failure}
 
 -- a command that only says why
 abbrev pub failing : List ℕ → Outcome

@@ -1,7 +1,7 @@
 //! What a command does.
 
 use base65::Sequence;
-use ld65::OutputFile;
+use image65::OutputFile;
 
 /// What a run answers to its caller.
 #[derive(Clone, Copy, Debug, PartialEq, Eq)]

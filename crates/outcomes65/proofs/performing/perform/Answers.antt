@@ -1,8 +1,8 @@
 use Rattle.std.proofs.Common.{refl}
 use Rattle.line65.specs.Messages.{memory_line}
-use Rattle.tools65.proofs.Failing.{stops_writing}
-use Rattle.tools65.proofs.Texts.{short}
-use Rattle.tools65.proofs.performing.perform.Goals as goal
+use Rattle.outcomes65.proofs.Stopped.{stops_writing}
+use Rattle.outcomes65.proofs.Texts.{short}
+use Rattle.outcomes65.proofs.performing.perform.Goals as goal
 
 pub returns-in-Err-clause-done : goal.returns-in-Err-clause-done
 returns-in-Err-clause-done g c =

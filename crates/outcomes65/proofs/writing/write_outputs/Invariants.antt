@@ -1,7 +1,7 @@
 use Rattle.std.proofs.Common.{◌≡◌, take}
 use Rattle.base65.specs.Store.{Tells}
-use Rattle.tools65.specs.Leaving.{apply}
-use Rattle.tools65.proofs.writing.write_outputs.Given as goal
+use Rattle.outcomes65.specs.Leaving.{apply}
+use Rattle.outcomes65.proofs.writing.write_outputs.Given as goal
 
 abbrev pub invariant-loop-place : goal.invariant-loop-place
 invariant-loop-place g l = record {

@@ -1,6 +1,6 @@
 use Rattle.std.proofs.Common.{rules}
-use Rattle.tools65.proofs.Texts.{next_output}
-use Rattle.tools65.proofs.writing.write_outputs.Goals as goal
+use Rattle.outcomes65.proofs.Texts.{next_output}
+use Rattle.outcomes65.proofs.writing.write_outputs.Goals as goal
 
 pub loop-place-preserved : goal.loop-place-preserved
 loop-place-preserved g c = record {

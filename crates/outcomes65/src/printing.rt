@@ -1,7 +1,7 @@
 //! Text to a stream.
 
 ghost use Rattle.std.specs.Prelude.{map};
-ghost use Rattle.tools65.specs.Leaving.{Prints};
+ghost use Rattle.outcomes65.specs.Leaving.{Prints};
 ghost use Rattle.line65.specs.Messages.{joined};
 
 use std::io::Write;

@@ -5,11 +5,11 @@ use Rattle.std.specs.Io.KnownBytes.{Keeps}
 use Rattle.base65.specs.Store.{Files, Tells}
 use Rattle.base65.specs.declared.store.StoreFault.{StoreFault}
 use Rattle.base65.specs.declared.store.StoreFault.TheVariants.{FileError}
-use Rattle.tools65.specs.declared.writing.Unwritten.{Unwritten}
-use Rattle.tools65.specs.declared.outcome.Outcome.{Outcome}
+use Rattle.outcomes65.specs.declared.writing.Unwritten.{Unwritten}
+use Rattle.outcomes65.specs.declared.outcome.Outcome.{Outcome}
 use Rattle.image65.specs.declared.output.OutputFile.{OutputFile}
-use Rattle.tools65.specs.declared.outcome.Status.{Status}
-use Rattle.tools65.specs.declared.outcome.Status.TheVariants.{Failure}
+use Rattle.outcomes65.specs.declared.outcome.Status.{Status}
+use Rattle.outcomes65.specs.declared.outcome.Status.TheVariants.{Failure}
 
 -- a stream has taken all of a text, or a first part of it that isn't all
 abbrev pub Prints : Option (List ℕ) → Option (List ℕ) → List ℕ → Bool → Type 0

@@ -11,12 +11,12 @@ use Rattle.std.specs.Cmp.Lexicographic.{slice_cmp, nat_list_cmp_total}
 use Rattle.base65.specs.Store.{Files, Tells, NoneFailed, HasFailed, Appends as Appended}
 use Rattle.base65.specs.declared.store.StoreFault.{StoreFault}
 use Rattle.base65.specs.declared.store.StoreFault.TheVariants.{OutOfMemory, FileNotFound, FileError}
-use Rattle.tools65.specs.Leaving.{Prints, SaysBoth, IsPartly, apply, StopsAt, StopsShort, is_failure, is_file_error}
-use Rattle.tools65.specs.declared.writing.Unwritten.{Unwritten}
+use Rattle.outcomes65.specs.Leaving.{Prints, SaysBoth, IsPartly, apply, StopsAt, StopsShort, is_failure, is_file_error}
+use Rattle.outcomes65.specs.declared.writing.Unwritten.{Unwritten}
 use Rattle.base65.proofs.Filling.{take-add}
-use Rattle.tools65.specs.declared.outcome.Outcome.{Outcome}
-use Rattle.tools65.specs.declared.outcome.Status.{Status}
-use Rattle.tools65.specs.declared.outcome.Status.TheVariants.{Failure}
+use Rattle.outcomes65.specs.declared.outcome.Outcome.{Outcome}
+use Rattle.outcomes65.specs.declared.outcome.Status.{Status}
+use Rattle.outcomes65.specs.declared.outcome.Status.TheVariants.{Failure}
 use Rattle.image65.specs.declared.output.OutputFile.{OutputFile}
 use Rattle.std.specs.Prelude.{IfSome, IsErrOf}
 

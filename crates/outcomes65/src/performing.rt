@@ -2,16 +2,16 @@
 
 ghost use Rattle.std.specs.Prelude.{◌≡◌, ◌<◌, ◌≤◌, ◌⊎◌, [], slice_get, IfSome, Some};
 ghost use Rattle.base65.specs.Store.{NoneFailed};
-ghost use Rattle.tools65.specs.Leaving.{Prints, SaysBoth, Performs, StopsShort};
+ghost use Rattle.outcomes65.specs.Leaving.{Prints, SaysBoth, Performs, StopsShort};
 ghost use Rattle.line65.specs.Messages.{memory_line};
 ghost use Rattle.image65.specs.declared.output.OutputFile.{OutputFile};
-ghost use Rattle.tools65.specs.Failing.{StopsWriting, file_error_line};
+ghost use Rattle.outcomes65.specs.Stopping.{StopsWriting, file_error_line};
 
 use crate::outcome::{Outcome, Status};
 use crate::printing::{print, print_all};
 use crate::writing::{Unwritten, write_outputs};
 use base65::{Store, StoreFault};
-use ld65::OutputFile;
+use image65::OutputFile;
 use std::io::Write;
 
 /// Says a text on each of two streams, on the second only where the first took all of its own, and answers

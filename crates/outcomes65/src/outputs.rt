@@ -1,10 +1,10 @@
 //! The files that a command leaves.
 
 ghost use Rattle.std.specs.Prelude.{◌≡◌, IfOk, option_map};
-ghost use Rattle.tools65.specs.Outputs.{outputs_of, with_map};
+ghost use Rattle.outcomes65.specs.Outputs.{outputs_of, with_map};
 
 use base65::{Sequence, Text};
-use ld65::OutputFile;
+use image65::OutputFile;
 use std::alloc::{AllocError, Global};
 
 /// The file of a name, or none where the name is empty.

@@ -1,6 +1,6 @@
 use Rattle.std.proofs.Common.{length, ◌≤◌}
-use Rattle.tools65.proofs.Texts.{Printing}
-use Rattle.tools65.proofs.printing.print.Given as goal
+use Rattle.outcomes65.proofs.Texts.{Printing}
+use Rattle.outcomes65.proofs.printing.print.Given as goal
 
 abbrev pub invariant-printing : goal.invariant-printing
 invariant-printing g l = record {

@@ -3,10 +3,10 @@
 ghost use Rattle.std.specs.Prelude.{◌≡◌, ◌≢◌, ◌<◌, length, OnOk, OnErr, IfErr, IfSome, IsErrOf};
 ghost use Rattle.std.specs.FinMap as map;
 ghost use Rattle.base65.specs.Store.{Tells, Passes, PassesBy};
-ghost use Rattle.tools65.specs.Leaving.{IsPartly, StopsAt, apply, is_failure};
+ghost use Rattle.outcomes65.specs.Leaving.{IsPartly, StopsAt, apply, is_failure};
 
 use base65::{Store, StoreFault};
-use ld65::OutputFile;
+use image65::OutputFile;
 
 /// Writes a whole file. A refusal leaves the first part of it, or the file as it was.
 pub fn write_file<S: Store>(store: &mut S, name: &str, bytes: &[u8]) -> Result<(), StoreFault>

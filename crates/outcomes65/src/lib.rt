@@ -1,0 +1,16 @@
+//! What a command leaves: texts on two streams and files, and the disk that these are written to.
+#![tactic(auto)]
+
+mod disk_store;
+mod outcome;
+mod outputs;
+mod performing;
+mod printing;
+mod writing;
+
+pub use disk_store::DiskStore;
+pub use outcome::{Outcome, Status};
+pub use outputs::{outputs_of, with_map};
+pub use performing::{perform, say_memory};
+pub use printing::print;
+pub use writing::write_file;

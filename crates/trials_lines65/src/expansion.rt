@@ -1,10 +1,6 @@
-//! Sources and the statements that they expand to.
+//! Sources and the statements that they expand to. Limits, and what else a program shows, are cases for the real program.
 
-mod conditions;
 mod files;
-mod limits;
-mod macros;
-mod repeats;
 mod values;
 
 use base65::{MemStore, Sequence, Store, Text};
@@ -13,10 +9,85 @@ use std::alloc::{AllocError, Global};
 use std::test::Fail;
 use values::Constants;
 
-/// How many statements a test looks at.
-const MANY: usize = 70_000;
+/// A source whose names aren't defined, with ` // ` between its lines, an arrow, and its statements: each token has a blank
+/// behind it, a label ends in `|`, another statement in `;`. Where it is refused, the place and the words stand at the end.
+const ROWS: &str = "\
+.if 0 // .if 1/0 // .endif // .bogus // .endif // nop ==> nop ;
+.if 0 // .ifconst 5 // .endif // nop ==> nop ;
+.if 0 // ~? // .endif ==> b.s:2: bad character
+.if 0 // l: .local x // .endif ==> b.s:2: directive not understood
+.if 0 // l: .if 1 // .endif // .endif // nop ==> nop ;
+.if 2 // nop // .elseif 1 // clc // .else // sec // .endif ==> nop ;
+.if 0 // nop // .elseif 1 // clc // .else // sec // .endif ==> clc ;
+.if 0 // nop // .elseif 0 // clc // .else // sec // .endif ==> sec ;
+.if 1 // .elseif ( // .endif // nop ==> nop ;
+.if 1 // .else // .endif x // nop ==> nop ;
+.if 1 // .else // .else // .endif // nop ==> nop ;
+.if 0 // .else // .else // .endif ==> b.s:3: block end without begin
+.if 1 // .endif x ==> b.s:2: directive not understood
+.endif x ==> b.s:1: directive not understood
+.elseif ( ==> b.s:1: block end without begin
+.endif ==> b.s:1: block end without begin
+.if 1 // nop ==> nop ;b.s:2: block not closed
+.if nope // .endif ==> b.s:1: not constant
+.if 1/0 // .endif ==> b.s:1: not constant
+.if 1 2 // .endif ==> b.s:1: directive not understood
+.ifdef @c // .endif ==> b.s:1: directive not understood
+.ifdef (v) // .endif ==> b.s:1: directive not understood
+l: .ifdef v // nop // .endif // .ifndef ::v // clc // .endif ==> l : |clc ;
+.ifblank {} // nop // .endif // clc ==> clc ;
+.ifblank ; x // nop // .endif ==> nop ;
+nop // .error \"no\" ==> nop ;b.s:2: no
+.error no ==> b.s:1: directive not understood
+.if 1 // nop // .end // .bogus ==> nop ;
+.end 1 ==> b.s:1: directive not understood
+.macro w n // .local l // ldx #n // l: dex // bne l // .endmacro // w 3 // w 4 // .repeat 3,i // .byte i*2 // .endrepeat ==> ldx # 3 ;l?1 : |dex ;bne l?1 ;ldx # 4 ;l?2 : |dex ;bne l?2 ;.byte 0 * 2 ;.byte 1 * 2 ;.byte 2 * 2 ;
+.macro m p,q0 // .byte p, .paramcount // .ifblank q0 // nop // .endif // .endmacro // m // m {1,2} // m {{1,2}} // m {1,2}+3,{4} ==> .byte , 0 ;nop ;.byte 1 , 2 , 1 ;nop ;.byte { 1 , 2 } , 1 ;nop ;.byte { 1 , 2 } + 3 , 2 ;
+.macro m p,q0 // .ifnblank q0 // nop // .endif // .endmacro // m {1,2 // clc ==> clc ;
+.macro m p,q0 // .ifnblank q0 // nop // .endif // .endmacro // m },1 ==> nop ;
+.macro m p // nop // .endmacro // m 1,2 ==> b.s:4: too many arguments
+.macro m p,q0 // .out \"p\" // .byte p, s::q0 // .endmacro // m q0,p ==> .out \"p\" ;.byte q0 , s :: p ;
+.macro m p // .repeat 2,i // .byte p // .endrepeat // .endmacro // m i ==> .byte 0 ;.byte 1 ;
+.repeat 2,i // .repeat 2,i // .byte i // .endrepeat // .endrepeat ==> b.s:5: directive not understood
+.macro e0 // .endmacro // .macro m // .local l // .byte l // .endmacro // e0 // m // m ==> .byte l?2 ;.byte l?3 ;
+.macro m // .local l,l // l: jmp l // .endmacro // m ==> l?1 : |jmp l?1 ;
+.macro m // .local l // .local l // .endmacro // m ==> b.s:5: directive not understood
+.local l ==> b.s:1: directive not understood
+.macro m // .repeat 1 // .local l // .endrepeat // .endmacro // m ==> b.s:6: directive not understood
+.macro m // .if 1 // .repeat 2 // .if 1 // nop // .exitmacro // .endif // .endrepeat // .endif // clc // .endmacro // m // sec ==> nop ;sec ;
+.macro m // .exitmacro // .endmacro // .if 1 // m // .else // clc // .endif // sec ==> sec ;
+nop // .exitmacro ==> nop ;b.s:2: block end without begin
+.exitmacro x ==> b.s:1: directive not understood
+.macro m // .endmacro // .macro m // nop ==> b.s:3: macro defined twice
+.macro m // .macro n0 // .endmacro // .endmacro ==> b.s:2: macro inside macro
+.macro m // l: .macro q0 // .endmacro // .endmacro ==> b.s:2: directive not understood
+.macro m p,q0,p // .endmacro ==> b.s:1: directive not understood
+.macro a // .endmacro ==> b.s:1: directive not understood
+.macro m // nop ==> b.s:2: block not closed
+nop // .endmacro ==> nop ;b.s:2: block end without begin
+.macro m // nop // .endmacro // m: clc ==> m : |clc ;
+.macro m p // nop // .endmacro // m = 5 ==> nop ;
+.repeat 0 // nop // .endrepeat // clc ==> clc ;
+.repeat 2 // .endrepeat // clc ==> clc ;
+.repeat 2,i // .repeat 2,j // .byte i,j // .endrep // .endrep ==> .byte 0 , 0 ;.byte 0 , 1 ;.byte 1 , 0 ;.byte 1 , 1 ;
+.repeat 2 // .if 1 // nop // .endrepeat ==> nop ;nop ;b.s:4: block not closed
+.repeat 2 // l: .endrepeat ==> b.s:2: directive not understood
+.repeat nope // nop ==> b.s:1: not constant
+.repeat -1 // .endrepeat ==> b.s:1: repeat count out of range
+.repeat 65537 // .endrepeat ==> b.s:1: repeat count out of range
+.repeat 65536 // .endrepeat // nop ==> nop ;
+.repeat 2, // .endrepeat ==> b.s:1: directive not understood
+.repeat 2 i // .endrepeat ==> b.s:1: directive not understood
+.repeat 2,i,j // .endrepeat ==> b.s:1: directive not understood
+.repeat 2,a // .endrepeat ==> b.s:1: directive not understood
+.repeat 2 // nop ==> b.s:2: block not closed
+.endrepeat ==> b.s:1: block end without begin
+.repeat 65536 // .repeat 65536 //  // .endrepeat // .endrepeat ==> b.s:5: too many lines
+.include \"b.s\" ==> b.s:1: nested over 256
+.include \"none\" ==> b.s:1: file not found
+";
 
-/// Puts a statement's tokens behind others, with a blank between them; a label ends in `|`, another statement in `;`.
+/// Puts a statement's tokens behind others.
 fn spell(alloc: Global, statement: &Statement, out: &mut Vec<u8>) -> Result<(), AllocError> {
     let (line, end) = match statement {
         Statement::Label(line) => (line, b'|'),
@@ -43,57 +114,77 @@ fn refuse(
     out.extend_from_slice(fault.words())
 }
 
-/// The statements that an expander gives, and then why it is refused, if it is.
-fn spelled<S: Store>(
+/// Puts so many statements that an expander gives behind others, and then why it is refused, if it is.
+fn spell_all<S: Store>(
     alloc: Global,
     store: &mut S,
     expander: &mut Expander,
-    knows: &Constants,
+    all: bool,
+    many: usize,
 ) -> Result<Vec<u8>, AllocError> {
     let mut out = Vec::new(alloc);
-    for _ in 0..MANY {
-        match expander.next(store, knows) {
+    for _ in 0..many {
+        match expander.next(store, &Constants { all }) {
             Ok(Some(statement)) => spell(alloc, &statement, &mut out)?,
-            Ok(None) => return Ok(out),
+            Ok(None) => break,
             Err(fault) => {
                 refuse(alloc, expander, &fault, &mut out)?;
-                return Ok(out);
+                break;
             }
         }
     }
     Ok(out)
 }
 
-/// The statements of `b.s` in a store, with included files looked for in folders, and where names are defined or not.
-fn expanded_in<S: Store>(
+/// A folder in which included files are looked for.
+fn in_folder(alloc: Global, folder: &str) -> Result<Options, AllocError> {
+    let mut include = Sequence::new(alloc);
+    include.push(Text::copy_of(alloc, folder)?)?;
+    Ok(Options { include })
+}
+
+/// So many statements of `b.s` in a store, where all names are defined or none. (An expander has much to let go, so each way
+/// out of a function that holds one is dear to prove.)
+fn expanded<S: Store>(
     alloc: Global,
     store: &mut S,
-    folders: &[&str],
-    knows: &Constants,
+    options: &Options,
+    all: bool,
+    many: usize,
 ) -> Result<Vec<u8>, AllocError> {
-    let mut include = Sequence::new(alloc);
-    for folder in folders {
-        include.push(Text::copy_of(alloc, folder)?)?;
-    }
-    match Expander::open(alloc, store, "b.s", &Options { include }) {
-        Ok(mut expander) => spelled(alloc, store, &mut expander, knows),
+    match Expander::open(alloc, store, "b.s", options) {
+        Ok(mut expander) => spell_all(alloc, store, &mut expander, all, many),
         Err(fault) => Vec::from_slice(alloc, fault.words()),
     }
 }
 
-/// The statements of a source, whose names aren't defined.
-fn expanded(alloc: Global, source: &[u8]) -> Result<Vec<u8>, Fail> {
-    let mut store = MemStore::new(alloc);
-    store.put("b.s", source)?;
-    Ok(expanded_in(alloc, &mut store, &[], &Constants { all: false })?)
+/// Puts a file of these lines into a store.
+fn put_lines(
+    alloc: Global,
+    store: &mut MemStore,
+    name: &str,
+    lines: &str,
+) -> Result<(), AllocError> {
+    let mut text = Vec::new(alloc);
+    for line in lines.split(" // ") {
+        text.extend_from_slice(line.as_bytes())?;
+        text.push(b'\n')?;
+    }
+    store.put(name, text.as_slice())
 }
 
-fn same(found: &[u8], wanted: &[u8]) -> bool {
-    found == wanted
-}
-
-/// Whether a source expands to these statements.
-fn expands_to(alloc: Global, source: &[u8], wanted: &[u8]) -> Result<bool, Fail> {
-    let found = expanded(alloc, source)?;
-    Ok(found.as_slice() == wanted)
+#[test]
+fn rows(rt: HostRuntime) -> Result<(), Fail> {
+    let mut store = MemStore::new(rt.alloc());
+    let options = in_folder(rt.alloc(), "d")?;
+    let mut count = 0u32;
+    for row in ROWS.lines() {
+        let (lines, wanted) = row.split_once(" ==> ").ok_or("no arrow")?;
+        put_lines(rt.alloc(), &mut store, "b.s", lines)?;
+        let found = expanded(rt.alloc(), &mut store, &options, false, 70_000)?;
+        assert!(rt; found.as_slice() == wanted.as_bytes(), "{row}");
+        count = count.saturating_add(1);
+    }
+    assert_eq!(rt; count, 73);
+    Ok(())
 }

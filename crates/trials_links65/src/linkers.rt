@@ -1,22 +1,18 @@
 //! An object that was worked out by hand, fed to a linker record by record.
 
+use crate::libraries::{index_of, object};
 use arrayvec::ArrayVec;
 use base65::MemStore;
-use library65::{Entry, Library, Names, read_index};
+use library65::{Entry, Names};
 use link65::{LinkFault, Linked, Linker};
 use object65::{ObjectFault, Record, read_head, read_record};
 use script65::read_script;
-use std::alloc::{AllocError, Global};
+use std::alloc::Global;
 use std::test::Fail;
 
 /// A section CODE whose jump goes to its own start, which is exported.
-const JUMP: [u8; 71] = [
-    0x52, 0x36, 0x35, 0x6f, 0x01, 0x02, 0x09, 0x00, 0x03, 0x00, 0x00, 0x00, 0x00, 0x43, 0x4f, 0x44,
-    0x45, 0x03, 0x01, 0x00, 0x4c, 0x05, 0x12, 0x00, 0x01, 0x02, 0x00, 0x00, 0x00, 0x01, 0x00, 0x00,
-    0x00, 0x00, 0x00, 0x00, 0x00, 0x00, 0x00, 0x00, 0x00, 0x00, 0x06, 0x17, 0x00, 0x05, 0x73, 0x74,
-    0x61, 0x72, 0x74, 0x01, 0x00, 0x00, 0x00, 0x01, 0x00, 0x00, 0x00, 0x00, 0x00, 0x00, 0x00, 0x00,
-    0x00, 0x00, 0x00, 0x00, 0x08, 0x00, 0x00,
-];
+const JUMP: &[u8] =
+    b"R65o\x01\x02\x09\0\x03\0\0\0\0CODE\x03\x01\0\x4c\x05\x12\0\x01\x02\0\0\0\x01\0\0\0\0\0\0\0\0\0\0\0\0\x06\x17\0\x05start\x01\0\0\0\x01\0\0\0\0\0\0\0\0\0\0\0\0\x08\0\0";
 
 const SCRIPT: &[u8] = b"MEMORY { ROM: start = $8000, size = $10; }
 SEGMENTS { CODE: load = ROM, type = ro; DATA: load = ROM, type = ro, optional = yes; }";
@@ -73,7 +69,7 @@ fn is_image(linked: &Linked, bytes: &[u8]) -> bool {
 #[test]
 fn links_a_jump(rt: HostRuntime) -> Result<(), Fail> {
     let alloc = rt.alloc();
-    let records = records_of(alloc, &JUMP)?;
+    let records = records_of(alloc, JUMP)?;
     let mut linker = new_linker(alloc)?;
     assert_eq!(rt; linker.pending(), 0);
     if !linker.is_open() {
@@ -127,31 +123,19 @@ fn keeps_to_a_refusal(rt: HostRuntime) -> Result<(), Fail> {
     Ok(())
 }
 
-/// An object that imports and exports names of one letter.
-fn module(alloc: Global, imports: &[u8], exports: &[u8]) -> Result<Vec<u8>, AllocError> {
-    let mut bytes = Vec::from_slice(alloc, b"R65o\x01")?;
-    for name in imports {
-        bytes.extend_from_slice(&[0x01, 0x01, 0x00, *name])?;
-    }
-    for name in exports {
-        bytes.extend_from_slice(&[0x06, 0x0f, 0x00, 0x01, *name, 0x01, 0x00, 0x00, 0x00])?;
-        bytes.extend_from_slice(&[0x00, 0x09, 0x00, 0x00, 0x00, 0x00, 0x00, 0x00, 0x00])?;
-    }
-    bytes.extend_from_slice(&[0x08, 0x00, 0x00])?;
-    Ok(bytes)
-}
-
-/// Feeds a module whole, where none is open.
+/// Feeds a module of these imports and exports, where none is open.
 fn feed(
     alloc: Global,
     linker: &mut Linker,
-    bytes: &[u8],
+    imports: &[u8],
+    exports: &[u8],
     entry: Option<&Entry>,
 ) -> Result<(), LinkFault> {
     if !linker.is_open() {
         linker.begin_module(b"m.o", entry)?;
     }
-    let records = records_of(alloc, bytes)?;
+    let bytes = object(alloc, imports, exports)?;
+    let records = records_of(alloc, bytes.as_slice())?;
     pending_behind(alloc, linker, records.as_slice())?;
     if linker.is_open() {
         linker.end_module()?;
@@ -172,70 +156,65 @@ const SYMBOLS: &[u8] =
     b"MEMORY { A: start = 0, size = 1; } SEGMENTS { C: load = A, optional = yes; }
 SYMBOLS { s: type = import; e: type = export, value = 1; w: type = weak, value = 2; }";
 
+/// Whether these names are open and these are defined.
+fn tells(linker: &Linker, open: &[u8], defined: &[u8]) -> Result<bool, LinkFault> {
+    let is_open = are_names(&linker.open_names()?, open);
+    Ok(is_open && are_names(&linker.defined_names()?, defined))
+}
+
 /// Names are open in order of first reference until something gives them; a weak name gives nothing here.
 #[test]
 fn tells_open_and_defined_names(rt: HostRuntime) -> Result<(), Fail> {
     let alloc = rt.alloc();
     let script = read_script(alloc, SYMBOLS)?;
     let mut linker = Linker::new(alloc, script, "out")?;
-    assert!(rt; are_names(&linker.open_names()?, b"s"));
-    assert!(rt; are_names(&linker.defined_names()?, b"e"));
-    feed(
-        alloc,
-        &mut linker,
-        module(alloc, b"gewf", b"h")?.as_slice(),
-        None,
-    )?;
-    assert!(rt; are_names(&linker.open_names()?, b"sgwf"));
-    assert!(rt; are_names(&linker.defined_names()?, b"eh"));
-    feed(
-        alloc,
-        &mut linker,
-        module(alloc, b"x", b"gs")?.as_slice(),
-        None,
-    )?;
-    assert!(rt; are_names(&linker.open_names()?, b"wfx"));
-    assert!(rt; are_names(&linker.defined_names()?, b"ehgs"));
+    assert!(rt; tells(&linker, b"s", b"e")?);
+    feed(alloc, &mut linker, b"gewf", b"h", None)?;
+    assert!(rt; tells(&linker, b"sgwf", b"eh")?);
+    feed(alloc, &mut linker, b"x", b"gs", None)?;
+    assert!(rt; tells(&linker, b"wfx", b"ehgs")?);
     Ok(())
 }
 
-/// Whether the call was refused because an index disagrees.
-fn disagrees(answer: &Result<(), LinkFault>) -> bool {
-    matches!(answer, Err(LinkFault::IndexDisagrees))
+/// Whether a linker takes a module of these names where an entry has others or the same; none where it refuses it otherwise
+/// than by the index, or answers otherwise behind that.
+fn takes(
+    linker: &mut Linker,
+    alloc: Global,
+    imports: &[u8],
+    exports: &[u8],
+    entry: Option<&Entry>,
+) -> Option<bool> {
+    match feed(alloc, linker, imports, exports, entry) {
+        Ok(()) => Some(true),
+        Err(LinkFault::IndexDisagrees) => has_failed(linker).then_some(false),
+        Err(_) => None,
+    }
+}
+
+/// Whether both calls for names are refused because a call before was.
+fn has_failed(linker: &Linker) -> bool {
+    matches!(linker.open_names(), Err(LinkFault::FailedBefore))
+        && matches!(linker.defined_names(), Err(LinkFault::FailedBefore))
 }
 
 #[test]
 fn compares_a_member_with_its_entry(rt: HostRuntime) -> Result<(), Fail> {
-    let alloc = rt.alloc();
-    let mut library = Library::empty(alloc);
-    library.replace(b"a.o", module(alloc, b"xy", b"fg")?.as_slice())?;
-    let mut bytes = Vec::new(alloc);
-    library.write(&mut bytes)?;
-    let mut store = MemStore::new(alloc);
-    store.put("l.lib", bytes.as_slice())?;
-    let index = read_index(alloc, &mut store, "l.lib")?;
+    let index = index_of(rt.alloc(), &[(b'a', b"xy", b"fg")])?;
     let entry = index.entries.as_slice().first();
     assert!(rt; entry.is_some());
-    let mut linker = new_linker(alloc)?;
-    feed(
-        alloc,
-        &mut linker,
-        module(alloc, b"xy", b"fg")?.as_slice(),
-        entry,
-    )?;
-    let others: [(&[u8], &[u8]); 5] = [
+    let modules: [(&[u8], &[u8]); 6] = [
+        (b"xy", b"fg"),
         (b"yx", b"fg"),
         (b"xy", b"gf"),
         (b"x", b"fg"),
         (b"xy", b"f"),
         (b"xy", b"fgh"),
     ];
-    for (imports, exports) in others {
-        let mut linker = new_linker(alloc)?;
-        let other = module(alloc, imports, exports)?;
-        assert!(rt; disagrees(&feed(alloc, &mut linker, other.as_slice(), entry)));
-        assert!(rt; matches!(linker.open_names(), Err(LinkFault::FailedBefore)));
-        assert!(rt; matches!(linker.defined_names(), Err(LinkFault::FailedBefore)));
+    for (place, (imports, exports)) in modules.into_iter().enumerate() {
+        let mut linker = new_linker(rt.alloc())?;
+        let found = takes(&mut linker, rt.alloc(), imports, exports, entry);
+        assert!(rt; found == Some(place == 0), "{place}");
     }
     Ok(())
 }

@@ -5,9 +5,9 @@ mod files;
 mod places;
 mod scripts;
 
-use image65::{Placement, SegmentNeed, place};
+use image65::{PlaceFault, Placement, SegmentNeed, place};
 use script65::{Script, Sequence, read_script};
-use std::alloc::Global;
+use std::alloc::{AllocError, Global};
 use std::test::Fail;
 
 /// An area of 16 bytes, with a row for code and one for data that no module need have.
@@ -22,20 +22,29 @@ fn fault_of(alloc: Global, text: &str) -> Option<(u8, usize)> {
     }
 }
 
-fn need(alloc: Global, name: &str, size: u64, align: u32) -> Result<SegmentNeed, Fail> {
-    Ok(SegmentNeed {
-        name: Sequence::copy_of(alloc, name.as_bytes())?,
-        size,
-        align,
-    })
-}
-
-/// Where segments of these sizes are placed by a script.
-fn place_text(alloc: Global, text: &str, sizes: &[(&str, u64)]) -> Result<Placement, Fail> {
-    let script: Script = read_script(alloc, text.as_bytes())?;
+/// Where segments of these sizes are placed by a script, or why they can't be.
+fn placed(
+    alloc: Global,
+    script: &Script,
+    sizes: &[(&str, u64)],
+) -> Result<Result<Placement, PlaceFault>, AllocError> {
     let mut needs = Vec::new(alloc);
     for (name, size) in sizes {
-        needs.push(need(alloc, *name, *size, 1)?)?;
+        needs.push(SegmentNeed {
+            name: Sequence::copy_of(alloc, name.as_bytes())?,
+            size: *size,
+            align: 1,
+        })?;
     }
-    Ok(place(alloc, &script, needs.as_slice())?)
+    Ok(place(alloc, script, needs.as_slice()))
+}
+
+/// The same by a script's text.
+fn place_text(
+    alloc: Global,
+    text: &str,
+    sizes: &[(&str, u64)],
+) -> Result<Result<Placement, PlaceFault>, Fail> {
+    let script = read_script(alloc, text.as_bytes())?;
+    Ok(placed(alloc, &script, sizes)?)
 }

@@ -1,16 +1,62 @@
 //! Sources and what becomes of them: the worked ones, and what no source shows. All others are cases for the real program.
 
-mod rewritten;
 mod stores;
 
-use asm65::{AsmJob, AsmRefusal, assemble};
-use base65::MemStore;
+use asm65::{AsmJob, AsmRefusal, Define, assemble};
+use base65::{MemStore, Text};
 use expand65::ExpandFault;
 use language65::AsmFault;
 use object65::write_object;
 use std::alloc::{AllocError, Global};
 use std::test::Fail;
 use syntax65::LexFault;
+
+/// A source with ` // ` between its lines, an arrow, and its object's bytes, or where it is refused and why. The command line
+/// gives the folder `d` and the constant n, which is 3.
+const ROWS: &str = "\
+nop ==> 5236356F010209000100000000434F4445030100EA080000
+; nothing ==> 5236356F01080000
+.byte 1,$FF // .word $1234, 0FFh, %101 ==> 5236356F010209000800000000434F444503080001FF3412FF000500080000
+.byte ($FFFFFFFF + 1) >> 32 ==> 5236356F010209000100000000434F444503010001080000
+.export start // start: .word start ==> 5236356F010209000200000000434F44450512000102000000010000000000000000000000000617000573746172740100000001000000000000000000000000080000
+.export start // start: jmp start ==> 5236356F010209000300000000434F44450301004C0512000102000000010000000000000000000000000617000573746172740100000001000000000000000000000000080000
+.import v, u // .word u - v ==> 5236356F0101010075010100760209000200000000434F444505100001020000002802000000000201000000080000
+.zeropage // p: .res 1 // .code // lda p // lda q // .zeropage // q: .res 1 ==> 5236356F01020D0002000000005A45524F504147450209000500000000434F444504040002000000030100A5051200000400000001000000000000000000000000030100AD051200010500000001000000000100000000000000080000
+bne :+ // .data // : .byte 0 // .code // : rts ==> 5236356F010209000300000000434F4445020900010000000044415441030100D005200004010000002801010000000000000000000000010000000002000000000000000301006003010000080000
+lda 5,y // stx 5,y // ldx 5,y // lda a:5 // asl // asl a ==> 5236356F010209000C00000000434F4445030C00B905009605B605AD05000A0A080000
+.byte 1+2*3, 7 & 3 + 1, !0 = 1 // .dbyt $1234 // .word $1234 // .byte \"AB\",'C' // .asciiz \"A\" ==> 5236356F010209000C00000000434F4445030C00070401123434124142434100080000
+.proc p // @l: dex // bne @l // q = 5 // .endproc // lda #p::q ==> 5236356F010209000500000000434F4445030500CAD0FDA905080000
+.macro w n // .local l // ldx #n // l: dex // bne l // .endmacro // w 3 // w 4 // .repeat 3,i // .byte i*2 // .endrepeat ==> 5236356F010209000D00000000434F4445030D00A203CAD0FDA204CAD0FD000204080000
+.macro m n // .if n > 1 // m n-1 // .endif // .endmacro // m 256 ==> 5236356F01080000
+s: nop // nop // nop // .if * - s > 2 // rts // .endif ==> 5236356F010209000400000000434F4445030400EAEAEA60080000
+.if 0 // .if 1/0 // .endif // .bogus // .endif // nop ==> 5236356F010209000100000000434F4445030100EA080000
+.include \"d/i.inc\" ==> 5236356F010209000100000000434F4445030100EA080000
+.incbin \"b.bin\",1,2 ==> 5236356F010209000200000000434F44450302000203080000
+.ifdef n // .byte n // .endif ==> 5236356F010209000100000000434F444503010003080000
+.byte 256 ==> b.s:1: out of range
+l: .res 127,0 // bne l ==> b.s:2: out of range
+bne l // .res 128,0 // l: rts ==> b.s:1: out of range
+lda (5) ==> b.s:1: no such addressing form
+.byte -1 ==> b.s:1: out of range
+v = $10 // .scope s // lda v // v = $1234 // .endscope ==> b.s:3: out of range
+.scope s // .import v // .endscope ==> b.s:2: statement not understood
+u = v // v = u ==> b.s:1: circular definition
+.macro m n // .if n > 1 // m n-1 // .endif // .endmacro // m 257 ==> b.s:6: nested over 256
+s: nop // nop // nop // .data // .if * - s > 2 // rts // .endif ==> b.s:5: not constant
+.include \"e.inc\" ==> d/e.inc:1: no
+.incbin \"b.bin\",1,4 ==> b.s:1: incbin out of range
+nop // .incbin \"c.bin\" ==> b.s:2: file not found
+n = 1 ==> b.s:1: defined twice: n
+";
+
+/// The files beside the source.
+const FILES: [(&str, &[u8]); 5] = [
+    ("d/i.inc", b".include \"j.inc\""),
+    ("d/j.inc", b"nop"),
+    ("j.inc", b"clc"),
+    ("d/e.inc", b".error \"no\""),
+    ("b.bin", b"\x01\x02\x03\x04"),
+];
 
 /// A refusal in words.
 fn in_words(alloc: Global, refusal: &AsmRefusal) -> Result<String, AllocError> {
@@ -24,6 +70,15 @@ fn in_words(alloc: Global, refusal: &AsmRefusal) -> Result<String, AllocError> {
     format!(in alloc; "{file}:{line}: {fault}")
 }
 
+/// Bytes in digits.
+fn in_digits(alloc: Global, bytes: &[u8]) -> Result<String, AllocError> {
+    let mut text = String::new(alloc);
+    for byte in bytes {
+        write!(text, "{byte:02X}")?;
+    }
+    Ok(text)
+}
+
 /// The source `b.s` alone.
 fn alone() -> AsmJob<'static> {
     AsmJob {
@@ -33,174 +88,72 @@ fn alone() -> AsmJob<'static> {
     }
 }
 
-/// The bytes of the object of `b.s`, or where it is refused and why.
-fn answer(alloc: Global, source: &[u8]) -> Result<Vec<u8>, Fail> {
-    let mut store = MemStore::new(alloc);
-    store.put("b.s", source)?;
-    answer_in(alloc, &mut store, &alone())
-}
-
-/// The bytes of the object of a source, or where it is refused and why.
-fn answer_in(alloc: Global, store: &mut MemStore, job: &AsmJob<'_>) -> Result<Vec<u8>, Fail> {
-    let assembled = assemble(alloc, store, job).result;
-    match assembled {
+/// What becomes of a source.
+fn answer(alloc: Global, store: &mut MemStore, job: &AsmJob<'_>) -> Result<String, Fail> {
+    match assemble(alloc, store, job).result {
         Ok(object) => {
-            let mut out = Vec::new(alloc);
-            write_object(alloc, &object, &mut out)?;
-            Ok(out)
+            let mut bytes = Vec::new(alloc);
+            write_object(alloc, &object, &mut bytes)?;
+            Ok(in_digits(alloc, bytes.as_slice())?)
         }
-        Err(refusal) => {
-            let words = in_words(alloc, &refusal)?;
-            Ok(Vec::from_slice(alloc, words.as_str().as_bytes())?)
-        }
+        Err(refusal) => Ok(in_words(alloc, &refusal)?),
     }
 }
 
-fn answers(alloc: Global, source: &[u8], wanted: &[u8]) -> Result<bool, Fail> {
-    Ok(answer(alloc, source)?.as_slice() == wanted)
+/// Puts the lines of a row as `b.s` into a store.
+fn put_source(alloc: Global, store: &mut MemStore, lines: &str) -> Result<(), AllocError> {
+    let mut source = Vec::new(alloc);
+    for line in lines.split(" // ") {
+        source.extend_from_slice(line.as_bytes())?;
+        source.push(b'\n')?;
+    }
+    store.put("b.s", source.as_slice())
 }
 
-/// No statement, one instruction, and lists of numbers.
+/// The constant n of the command line.
+fn three() -> Define<'static> {
+    Define {
+        name: b"n",
+        value: 3,
+    }
+}
+
 #[test]
-fn nothing_and_numbers(rt: HostRuntime) -> Result<(), Fail> {
-    assert!(rt;
-        answers(
-            rt.alloc(),
-            b"nop",
-            b"R65o\x01\x02\x09\0\x01\0\0\0\0CODE\x03\x01\0\xea\x08\0\0"
-        )?
-    );
-    assert!(rt; answers(rt.alloc(), b"", b"R65o\x01\x08\0\0")?);
-    assert!(rt;
-        answers(
-            rt.alloc(),
-            b".byte 1,$FF\n.word $1234, 0FFh, %101",
-            b"R65o\x01\x02\x09\0\x08\0\0\0\0CODE\x03\x08\0\x01\xff4\x12\xff\0\x05\0\x08\0\0"
-        )?
-    );
-    assert!(rt;
-        answers(
-            rt.alloc(),
-            b".byte ($FFFFFFFF + 1) >> 32",
-            b"R65o\x01\x02\x09\0\x01\0\0\0\0CODE\x03\x01\0\x01\x08\0\0"
-        )?
-    );
-    assert!(rt; answers(rt.alloc(), b".byte 256", b"b.s:1: out of range")?);
+fn rows(rt: HostRuntime) -> Result<(), Fail> {
+    let mut store = MemStore::new(rt.alloc());
+    for (name, bytes) in FILES {
+        store.put(name, bytes)?;
+    }
+    let folders = [Text::copy_of(rt.alloc(), "d")?];
+    let job = AsmJob {
+        source: "b.s",
+        include: &folders,
+        defines: &[three()],
+    };
+    let mut count = 0u32;
+    for row in ROWS.lines() {
+        let (lines, wanted) = row.split_once(" ==> ").ok_or("no arrow")?;
+        put_source(rt.alloc(), &mut store, lines)?;
+        let found = answer(rt.alloc(), &mut store, &job)?;
+        assert!(rt; found.as_str() == wanted, "{row}");
+        count = count.saturating_add(1);
+    }
+    assert_eq!(rt; count, 33);
     Ok(())
 }
 
-/// An exported label in a word and in a jump, and imports in the order of the form.
+/// A constant of the command line that is given twice.
 #[test]
-fn exports_and_imports(rt: HostRuntime) -> Result<(), Fail> {
-    assert!(rt;
-        answers(
-            rt.alloc(),
-            b".export start\nstart: .word start",
-            b"R65o\x01\x02\x09\0\x02\0\0\0\0CODE\x05\x12\0\x01\x02\0\0\0\x01\0\0\0\0\0\0\0\0\0\0\0\0\x06\x17\0\x05start\x01\0\0\0\x01\0\0\0\0\0\0\0\0\0\0\0\0\x08\0\0"
-        )?
-    );
-    assert!(rt;
-        answers(
-            rt.alloc(),
-            b".export start\nstart: jmp start",
-            b"R65o\x01\x02\x09\0\x03\0\0\0\0CODE\x03\x01\0L\x05\x12\0\x01\x02\0\0\0\x01\0\0\0\0\0\0\0\0\0\0\0\0\x06\x17\0\x05start\x01\0\0\0\x01\0\0\0\0\0\0\0\0\0\0\0\0\x08\0\0"
-        )?
-    );
-    assert!(rt;
-        answers(
-            rt.alloc(),
-            b".import v, u\n.word u - v",
-            b"R65o\x01\x01\x01\0u\x01\x01\0v\x02\x09\0\x02\0\0\0\0CODE\x05\x10\0\x01\x02\0\0\0(\x02\0\0\0\0\x02\x01\0\0\0\x08\0\0"
-        )?
-    );
-    Ok(())
-}
-
-/// A known label of the zero page, one that comes later, and a branch to another segment.
-#[test]
-fn labels_of_segments(rt: HostRuntime) -> Result<(), Fail> {
-    assert!(rt;
-        answers(
-            rt.alloc(),
-            b".zeropage\np: .res 1\n.code\nlda p\nlda q\n.zeropage\nq: .res 1",
-            b"R65o\x01\x02\x0d\0\x02\0\0\0\0ZEROPAGE\x02\x09\0\x05\0\0\0\0CODE\x04\x04\0\x02\0\0\0\x03\x01\0\xa5\x05\x12\0\0\x04\0\0\0\x01\0\0\0\0\0\0\0\0\0\0\0\0\x03\x01\0\xad\x05\x12\0\x01\x05\0\0\0\x01\0\0\0\0\x01\0\0\0\0\0\0\0\x08\0\0"
-        )?
-    );
-    assert!(rt;
-        answers(
-            rt.alloc(),
-            b"bne :+\n.data\n: .byte 0\n.code\n: rts",
-            b"R65o\x01\x02\x09\0\x03\0\0\0\0CODE\x02\x09\0\x01\0\0\0\0DATA\x03\x01\0\xd0\x05 \0\x04\x01\0\0\0(\x01\x01\0\0\0\0\0\0\0\0\0\0\0\x01\0\0\0\0\x02\0\0\0\0\0\0\0\x03\x01\0`\x03\x01\0\0\x08\0\0"
-        )?
-    );
-    Ok(())
-}
-
-/// A branch goes 128 bytes back and 127 forward, and no byte farther.
-#[test]
-fn farthest_branches(rt: HostRuntime) -> Result<(), Fail> {
-    let back = answer(rt.alloc(), b"l: .res 126,0\nbne l")?;
-    assert!(rt; back.ends_with(b"\xd0\x80\x08\0\0"));
-    let forth = answer(rt.alloc(), b"bne l\n.res 127,0\nl: rts")?;
-    assert!(rt; forth.starts_with(b"R65o\x01\x02\x09\0\x82\0\0\0\0CODE\x03\x82\0\xd0\x7f"));
-    assert!(rt; answers(rt.alloc(), b"l: .res 127,0\nbne l", b"b.s:2: out of range")?);
-    assert!(rt;
-        answers(
-            rt.alloc(),
-            b"bne l\n.res 128,0\nl: rts",
-            b"b.s:1: out of range"
-        )?
-    );
-    Ok(())
-}
-
-/// Forms of operands, operators and lists, and what is no form and no byte.
-#[test]
-fn operands_and_lists(rt: HostRuntime) -> Result<(), Fail> {
-    assert!(rt;
-        answers(
-            rt.alloc(),
-            b"lda 5,y\nstx 5,y\nldx 5,y\nlda a:5\nasl\nasl a",
-            b"R65o\x01\x02\x09\0\x0c\0\0\0\0CODE\x03\x0c\0\xb9\x05\0\x96\x05\xb6\x05\xad\x05\0\x0a\x0a\x08\0\0"
-        )?
-    );
-    assert!(rt;
-        answers(
-            rt.alloc(),
-            b".byte 1+2*3, 7 & 3 + 1, !0 = 1\n.dbyt $1234\n.word $1234\n.byte \"AB\",'C'\n.asciiz \"A\"",
-            b"R65o\x01\x02\x09\0\x0c\0\0\0\0CODE\x03\x0c\0\x07\x04\x01\x1244\x12ABCA\0\x08\0\0"
-        )?
-    );
-    assert!(rt; answers(rt.alloc(), b"lda (5)", b"b.s:1: no such addressing form")?);
-    assert!(rt; answers(rt.alloc(), b".byte -1", b"b.s:1: out of range")?);
-    Ok(())
-}
-
-/// A proc, a name of an inner scope, and an import within a scope.
-#[test]
-fn scopes(rt: HostRuntime) -> Result<(), Fail> {
-    assert!(rt;
-        answers(
-            rt.alloc(),
-            b".proc p\n@l: dex\nbne @l\nq = 5\n.endproc\nlda #p::q",
-            b"R65o\x01\x02\x09\0\x05\0\0\0\0CODE\x03\x05\0\xca\xd0\xfd\xa9\x05\x08\0\0"
-        )?
-    );
-    assert!(rt;
-        answers(
-            rt.alloc(),
-            b"v = $10\n.scope s\nlda v\nv = $1234\n.endscope",
-            b"b.s:3: out of range"
-        )?
-    );
-    assert!(rt;
-        answers(
-            rt.alloc(),
-            b".scope s\n.import v\n.endscope",
-            b"b.s:2: statement not understood"
-        )?
-    );
-    assert!(rt; answers(rt.alloc(), b"u = v\nv = u", b"b.s:1: circular definition")?);
+fn constants_given_twice(rt: HostRuntime) -> Result<(), Fail> {
+    let mut store = MemStore::new(rt.alloc());
+    store.put("b.s", b"nop")?;
+    let job = AsmJob {
+        source: "b.s",
+        include: &[],
+        defines: &[three(), three()],
+    };
+    let found = answer(rt.alloc(), &mut store, &job)?;
+    assert!(rt; found.as_str() == "defined twice: n");
     Ok(())
 }
 

@@ -1,69 +1,99 @@
-//! Files that are included.
+//! Files that are included, and how much is read of a source.
 
-use super::values::Constants;
-use super::{expanded_in, same};
-use base65::MemStore;
+ghost use Rattle.std.specs.Prelude.{None};
+
+use super::{expanded, in_folder, put_lines};
+use base65::{MemStore, Store, StoreFault};
 use std::test::Fail;
 
+/// A folder, a source, of which all names are defined, an arrow, and its statements. A folder's name isn't cleaned.
+const ROWS: &str = "\
+d> .include \"i.inc\" ==> d/i.inc:1: no
+d/> .include \"i.inc\" ==> b.s:1: file not found
+c> .include \"i.inc\" ==> b.s:1: file not found
+d> .include \"j.inc\" // .include \"/j.inc\" ==> clc ;sec ;
+d> .include \"d/m\" // m // .byte 1 ==> nop ;.byte 1 ;
+d> .include \"open\" ==> nop ;nop ;open:3: block not closed
+d> .macro m // .include \"own\" // .endmacro // m ==> own:1: directive not understood
+d> .include \"end\" // clc ==> nop ;
+d> l: .ifdef v // nop // .endif // .ifndef ::v // clc // .endif ==> l : |nop ;
+";
+
+/// Files that include others, in folders and beside each other.
+const FILES: &str = "\
+d/i.inc: .error \"no\"
+j.inc: clc
+/j.inc: sec
+d/m: .macro m // .include \"i\" // .endmacro
+i: nop
+d/i: clc
+open: nop\r // .if 1 // nop
+own: .local l
+end: nop // .end
+";
+
 #[test]
-fn a_file_in_a_folder(rt: HostRuntime) -> Result<(), Fail> {
-    let alloc = rt.alloc();
-    let mut store = MemStore::new(alloc);
-    store.put("b.s", b".include \"i.inc\"")?;
-    store.put("d/i.inc", b".error \"no\"\n")?;
-    let found = expanded_in(alloc, &mut store, &["c", "d"], &Constants { all: false })?;
-    assert!(rt; same(found.as_slice(), b"d/i.inc:1: no"));
-    let missing = expanded_in(alloc, &mut store, &["c"], &Constants { all: false })?;
-    assert!(rt; same(missing.as_slice(), b"b.s:1: file not found"));
-    // A folder that ends in a slash gets another one.
-    let slash = expanded_in(alloc, &mut store, &["d/"], &Constants { all: false })?;
-    assert!(rt; same(slash.as_slice(), b"b.s:1: file not found"));
+fn rows(rt: HostRuntime) -> Result<(), Fail> {
+    let mut store = MemStore::new(rt.alloc());
+    for file in FILES.lines() {
+        let (name, lines) = file.split_once(": ").ok_or("no name")?;
+        put_lines(rt.alloc(), &mut store, name, lines)?;
+    }
+    let mut count = 0u32;
+    for row in ROWS.lines() {
+        let (folder, row) = row.split_once("> ").ok_or("no folder")?;
+        let (lines, wanted) = row.split_once(" ==> ").ok_or("no arrow")?;
+        put_lines(rt.alloc(), &mut store, "b.s", lines)?;
+        let options = in_folder(rt.alloc(), folder)?;
+        let found = expanded(rt.alloc(), &mut store, &options, true, 100)?;
+        assert!(rt; found.as_slice() == wanted.as_bytes(), "{row}");
+        count = count.saturating_add(1);
+    }
+    assert_eq!(rt; count, 9);
     Ok(())
 }
 
-#[test]
-fn a_file_beside_a_file(rt: HostRuntime) -> Result<(), Fail> {
-    let alloc = rt.alloc();
-    let mut store = MemStore::new(alloc);
-    store.put("b.s", b".include \"d/i.inc\"\n.include \"/j.inc\"")?;
-    store.put("d/i.inc", b".include \"j.inc\"")?;
-    store.put("d/j.inc", b"nop")?;
-    store.put("j.inc", b"clc")?;
-    store.put("/j.inc", b"sec")?;
-    let found = expanded_in(alloc, &mut store, &["d"], &Constants { all: false })?;
-    assert!(rt; same(found.as_slice(), b"nop ;sec ;"));
-    Ok(())
+const LINE: &[u8; 4] = b"nop\n";
+
+/// A store whose only file has so many bytes, lines `nop`, and which counts the bytes that it gives.
+#[derive(Drop)]
+struct Lines {
+    len: u64,
+    given: u64,
+}
+
+impl Store for Lines {
+    ghost files = { λ _. None };
+
+    ghost failures = { λ _. 0 };
+
+    fn read_at(&mut self, _name: &str, at: u64, buf: &mut [u8]) -> Result<usize, StoreFault> {
+        let left = self.len.saturating_sub(at);
+        let count = (buf.len() as u64).min(left) as usize;
+        for i in 0..count {
+            buf[i] = LINE[((at % 4) as usize + i) % 4];
+        }
+        self.given = self.given.saturating_add(count as u64);
+        Ok(count)
+    }
+
+    fn create(&mut self, _name: &str) -> Result<(), StoreFault> {
+        Ok(())
+    }
+
+    fn append(&mut self, _name: &str, piece: &[u8]) -> Result<usize, StoreFault> {
+        Ok(piece.len())
+    }
 }
 
 #[test]
-fn the_folder_of_a_call(rt: HostRuntime) -> Result<(), Fail> {
-    let alloc = rt.alloc();
-    let mut store = MemStore::new(alloc);
-    store.put("b.s", b".include \"d/m\"\nm\n.byte 1")?;
-    store.put("d/m", b".macro m\n.include \"i\"\n.endmacro\n")?;
-    store.put("i", b"nop")?;
-    store.put("d/i", b"clc")?;
-    let found = expanded_in(alloc, &mut store, &[], &Constants { all: false })?;
-    assert!(rt; same(found.as_slice(), b"nop ;.byte 1 ;"));
-    Ok(())
-}
-
-#[test]
-fn ends_of_files(rt: HostRuntime) -> Result<(), Fail> {
-    let alloc = rt.alloc();
-    let mut store = MemStore::new(alloc);
-    // A block closes in the file that opened it, and names of an expansion's own aren't those of a file's.
-    store.put("b.s", b".include \"i\"")?;
-    store.put("i", b"nop\r\n.if 1\nnop\n")?;
-    let open = expanded_in(alloc, &mut store, &[], &Constants { all: false })?;
-    assert!(rt; same(open.as_slice(), b"nop ;nop ;i:3: block not closed"));
-    store.put("b.s", b".macro m\n.include \"i\"\n.endmacro\nm")?;
-    store.put("i", b".local l\n")?;
-    let local = expanded_in(alloc, &mut store, &[], &Constants { all: false })?;
-    assert!(rt; same(local.as_slice(), b"i:1: directive not understood"));
-    store.put("b.s", b".include \"i\"\nclc")?;
-    store.put("i", b"nop\n.end\n")?;
-    let end = expanded_in(alloc, &mut store, &[], &Constants { all: false })?;
-    assert!(rt; same(end.as_slice(), b"nop ;"));
+fn little_is_read_at_first(rt: HostRuntime) -> Result<(), Fail> {
+    let mut store = Lines {
+        len: 400_000,
+        given: 0,
+    };
+    let options = in_folder(rt.alloc(), "d")?;
+    let first = expanded(rt.alloc(), &mut store, &options, false, 1)?;
+    assert!(rt; first.as_slice() == b"nop ;".as_slice() && store.given <= 8_192);
     Ok(())
 }

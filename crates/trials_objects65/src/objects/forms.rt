@@ -56,83 +56,55 @@ fn folds(alloc: Global, op: Op2, left: Norm, right: Norm, wanted: &str) -> Resul
 
 #[test]
 fn numbers_are_folded(rt: HostRuntime) -> Result<(), Fail> {
-    let alloc = rt.alloc();
-    assert!(rt; folds(alloc, Op2::Divide, lit(-7), lit(2), "-3")?);
-    assert!(rt; folds(alloc, Op2::Modulo, lit(-7), lit(2), "-1")?);
-    assert!(rt; folds(alloc, Op2::ShiftRight, lit(-1), lit(63), "-1")?);
-    assert!(rt; folds(alloc, Op2::ShiftLeft, lit(1), lit(64), "NoValue")?);
-    assert!(rt;
-        folds(
-            alloc,
-            Op2::Divide,
-            lit(i64::MIN),
-            lit(-1),
-            "-9223372036854775808"
-        )?
-    );
-    assert!(rt; folds(alloc, Op2::Divide, lit(1), lit(0), "NoValue")?);
+    for (op, left, right, wanted) in [
+        (Op2::Divide, -7, 2, "-3"),
+        (Op2::Modulo, -7, 2, "-1"),
+        (Op2::ShiftRight, -1, 63, "-1"),
+        (Op2::ShiftLeft, 1, 64, "NoValue"),
+        (Op2::Divide, i64::MIN, -1, "-9223372036854775808"),
+        (Op2::Divide, 1, 0, "NoValue"),
+    ] {
+        assert!(rt; folds(rt.alloc(), op, lit(left), lit(right), wanted)?);
+    }
     Ok(())
 }
 
 #[test]
 fn places_are_folded(rt: HostRuntime) -> Result<(), Fail> {
-    let alloc = rt.alloc();
-    assert!(rt; folds(alloc, Op2::Add, lit(7), sec(0, 5), "s0:12")?);
-    assert!(rt; folds(alloc, Op2::Subtract, sec(1, 5), sec(1, 7), "-2")?);
-    assert!(rt;
-        folds(
-            alloc,
-            Op2::Subtract,
-            sec(0, 5),
-            sec(1, 5),
-            "(Subtract s0:5 s1:5)"
-        )?
-    );
-    let text = shown(alloc, Norm::prefix(alloc, Op1::LowByte, sec(0, 0)))?;
-    assert_eq!(rt; text.as_str(), "(LowByte s0:0)");
-    Ok(())
-}
-
-/// A form of so many operations on an import.
-fn nested(alloc: Global, operations: u32) -> Result<Norm, FormFault> {
-    let mut form = imp(0);
-    for _ in 0..operations {
-        form = Norm::prefix(alloc, Op1::Negate, form)?;
+    assert!(rt; folds(rt.alloc(), Op2::Add, lit(7), sec(0, 5), "s0:12")?);
+    for (section, offset, wanted) in [(1, 7, "-2"), (0, 5, "(Subtract s1:5 s0:5)")] {
+        assert!(rt;
+            folds(
+                rt.alloc(),
+                Op2::Subtract,
+                sec(1, 5),
+                sec(section, offset),
+                wanted
+            )?
+        );
     }
-    Ok(form)
-}
-
-#[test]
-fn largest_forms(rt: HostRuntime) -> Result<(), Fail> {
-    let alloc = rt.alloc();
-    assert!(rt; nested(alloc, 254).is_ok());
-    assert!(rt; matches!(nested(alloc, 255), Err(FormFault::TooLarge)));
-    match nested(alloc, 252) {
-        Ok(form) => assert!(rt; Norm::binary(alloc, Op2::Add, form, imp(0)).is_ok()),
-        Err(_) => return Err(Fail::from("no form")),
-    }
-    match nested(alloc, 253) {
-        Ok(form) => {
-            let sum = Norm::binary(alloc, Op2::Add, form, imp(0));
-            assert!(rt; matches!(sum, Err(FormFault::TooLarge)));
-        }
-        Err(_) => return Err(Fail::from("no form")),
-    }
+    let text = shown(
+        rt.alloc(),
+        Norm::prefix(rt.alloc(), Op1::LowByte, sec(0, 0)),
+    )?;
+    assert!(rt; text.as_str() == "(LowByte s0:0)");
     Ok(())
 }
 
 #[test]
 fn copies_are_the_same(rt: HostRuntime) -> Result<(), Fail> {
     let alloc = rt.alloc();
-    match Norm::binary(alloc, Op2::Subtract, imp(3), sec(1, -2)) {
-        Ok(form) => {
-            let copy = Norm::copy_of(alloc, &form)?;
-            let text = shown(alloc, Ok(copy))?;
-            assert_eq!(rt; text.as_str(), "(Subtract i3 s1:-2)");
-            Ok(())
-        }
-        Err(_) => Err(Fail::from("no form")),
-    }
+    let copy = Norm::copy_of(alloc, &imp(3))?;
+    assert!(rt;
+        folds(
+            alloc,
+            Op2::Subtract,
+            copy,
+            sec(1, -2),
+            "(Subtract i3 s1:-2)"
+        )?
+    );
+    Ok(())
 }
 
 #[test]

@@ -9,6 +9,9 @@ use std::test::Fail;
 /// The records of an object behind its head, and what becomes of them: `good` where the object that is read is
 /// written as the same bytes. Rows of sections, literals and fills alone are cases for the real program.
 const ROWS: &str = "\
+02 0900 03000000 00 434F4445  03 0300 A90060  08 0000 ==> good
+02 0900 03000000 00 434F4445  03 0300 A90060  08 0000 00 ==> bytes after the end
+02 0900 03000000 00 434F4445  03 0200 A900  03 0100 60  08 0000 ==> not canonical
 02 0900 03000000 00 434F4445  03 0100 4C  05 1200 01 02000000 01 00000000 0000000000000000  06 1700 05 7374617274 01000000 01 00000000 0000000000000000  08 0000 ==> good
 02 0900 02000000 00 434F4445  05 1200 01 02000000 01 00000000 0000000000000000  06 1700 05 7374617274 01000000 01 00000000 0000000000000000  08 0000 ==> good
 01 0100 75  01 0100 76  02 0900 02000000 00 434F4445  05 1000 01 02000000 28 02 00000000 02 01000000  08 0000 ==> good
@@ -115,7 +118,7 @@ fn reads_and_writes_all_kinds(rt: HostRuntime) -> Result<(), Fail> {
         assert_eq!(rt; found.as_str(), wanted);
         count = count.saturating_add(1);
     }
-    assert_eq!(rt; count, 50);
+    assert_eq!(rt; count, 53);
     Ok(())
 }
 

@@ -7,13 +7,8 @@ use std::alloc::Global;
 use std::test::Fail;
 
 /// A section CODE whose jump goes to its own start, which is exported.
-const JUMP: [u8; 71] = [
-    0x52, 0x36, 0x35, 0x6f, 0x01, 0x02, 0x09, 0x00, 0x03, 0x00, 0x00, 0x00, 0x00, 0x43, 0x4f, 0x44,
-    0x45, 0x03, 0x01, 0x00, 0x4c, 0x05, 0x12, 0x00, 0x01, 0x02, 0x00, 0x00, 0x00, 0x01, 0x00, 0x00,
-    0x00, 0x00, 0x00, 0x00, 0x00, 0x00, 0x00, 0x00, 0x00, 0x00, 0x06, 0x17, 0x00, 0x05, 0x73, 0x74,
-    0x61, 0x72, 0x74, 0x01, 0x00, 0x00, 0x00, 0x01, 0x00, 0x00, 0x00, 0x00, 0x00, 0x00, 0x00, 0x00,
-    0x00, 0x00, 0x00, 0x00, 0x08, 0x00, 0x00,
-];
+const JUMP: &[u8] =
+    b"R65o\x01\x02\x09\0\x03\0\0\0\0CODE\x03\x01\0\x4c\x05\x12\0\x01\x02\0\0\0\x01\0\0\0\0\0\0\0\0\0\0\0\0\x06\x17\0\x05start\x01\0\0\0\x01\0\0\0\0\0\0\0\0\0\0\0\0\x08\0\0";
 
 /// The items of the object, and how the scan of it ends; where a record is refused, its fault.
 fn scan_bytes(
@@ -67,7 +62,7 @@ fn is_of_jump(place: usize, item: &Item) -> bool {
 
 #[test]
 fn gives_an_item_a_record(rt: HostRuntime) -> Result<(), Fail> {
-    let (items, end) = scan_bytes(rt.alloc(), &JUMP)?;
+    let (items, end) = scan_bytes(rt.alloc(), JUMP)?;
     assert_eq!(rt; items.len(), 5);
     for (place, item) in items.iter().enumerate() {
         assert!(rt; is_of_jump(place, item), "at {place}");
@@ -86,11 +81,7 @@ fn wants_the_end(rt: HostRuntime) -> Result<(), Fail> {
 
 #[test]
 fn refuses_what_a_builder_refuses(rt: HostRuntime) -> Result<(), Fail> {
-    match scan_bytes(rt.alloc(), &TWO_LITERALS) {
-        Ok(_) => Err(Fail::from("scanned")),
-        Err(e) => {
-            assert_eq!(rt; e, ObjectFault::NotCanonical);
-            Ok(())
-        }
-    }
+    let refused = scan_bytes(rt.alloc(), TWO_LITERALS);
+    assert!(rt; matches!(refused, Err(ObjectFault::NotCanonical)));
+    Ok(())
 }

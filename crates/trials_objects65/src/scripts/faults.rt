@@ -5,12 +5,28 @@ use std::test::Fail;
 
 #[test]
 fn faults_with_their_lines(rt: HostRuntime) {
-    let alloc = rt.alloc();
-    assert_eq!(rt; fault_of(alloc, "MEMORY {\n A; }"), Some((2, 2)));
-    assert_eq!(rt; fault_of(alloc, "MEMORY { A: foo = 1; } ~"), Some((3, 1)));
-    let behind = "SEGMENTS{a:load=A;\nb:load=Q;} MEMORY{A:start=0,size=1;}";
-    assert_eq!(rt; fault_of(alloc, behind), Some((7, 2)));
-    assert_eq!(rt; fault_of(alloc, ROM), None);
+    for (text, number, line) in [
+        ("MEMORY {\n A; }", 2, 2),
+        ("MEMORY { A: foo = 1; } ~", 3, 1),
+        (
+            "SEGMENTS{a:load=A;\nb:load=Q;} MEMORY{A:start=0,size=1;}",
+            7,
+            2,
+        ),
+    ] {
+        assert!(rt; fault_of(rt.alloc(), text) == Some((number, line)));
+    }
+}
+
+/// Whether a text is refused for a word that isn't there, or accepted; none where it is refused otherwise.
+fn is_refused_early(alloc: Global, text: &[u8]) -> Option<bool> {
+    match read_script(alloc, text) {
+        Ok(_) => Some(false),
+        Err(e) => match e.fault {
+            Fault::SyntaxError | Fault::UnknownAttribute => Some(true),
+            _ => None,
+        },
+    }
 }
 
 /// Each part of a script is a list of whole blocks, or stops within a word or before what has to follow.
@@ -20,13 +36,7 @@ fn parts_of_a_script(rt: HostRuntime) {
     for len in 0..ROM.len() {
         let (part, _) = ROM.as_bytes().split_at(len);
         let whole = len == 0 || len == memory || len == memory + 1;
-        match read_script(rt.alloc(), part) {
-            Ok(_) => assert!(rt; whole, "{len}"),
-            Err(e) => {
-                let early = matches!(e.fault, Fault::SyntaxError | Fault::UnknownAttribute);
-                assert!(rt; !whole && early, "{len}");
-            }
-        }
+        assert!(rt; is_refused_early(rt.alloc(), part) == Some(!whole), "{len}");
     }
 }
 

@@ -2,10 +2,10 @@
 
 ghost use Rattle.std.specs.Prelude.{⊤};
 
-use super::need;
+use super::placed;
 use base65::Sequence;
-use image65::{RowContents, files_of, place};
-use script65::{Row, read_script};
+use image65::{OutputFile, Placement, RowContents, files_of};
+use script65::{Row, Script, read_script};
 use std::alloc::{AllocError, Global};
 use std::test::Fail;
 
@@ -25,23 +25,33 @@ impl RowContents for Names {
     }
 }
 
+const TEXT: &[u8] =
+    b"MEMORY { ROM: start = $8000, size = $10, fillval = $FF; } SEGMENTS { CODE: load = ROM, type = ro; BSS: load = ROM, type = bss; DATA: load = ROM; }";
+
+/// Whether there is one file with this name and these bytes.
+fn is_file(files: &[OutputFile], name: &str, bytes: &[u8]) -> bool {
+    match files {
+        [file] => file.name.as_str() == name && file.bytes.as_slice() == bytes,
+        _ => false,
+    }
+}
+
+/// Whether rows that hold their names, placed so, make one file with these bytes.
+fn make(
+    alloc: Global,
+    script: &Script,
+    placement: &Placement,
+    bytes: &[u8],
+) -> Result<bool, AllocError> {
+    let files = files_of(alloc, "a.out", script, &Names, placement.rows.as_slice())?;
+    Ok(is_file(files.as_slice(), "a.out", bytes))
+}
+
 /// A row without bytes of its own leaves a gap, and what is behind it doesn't move up.
 #[test]
 fn a_gap_has_the_fill(rt: HostRuntime) -> Result<(), Fail> {
-    let text =
-        "MEMORY { ROM: start = $8000, size = $10, fillval = $FF; } SEGMENTS { CODE: load = ROM, type = ro; BSS: load = ROM, type = bss; DATA: load = ROM; }";
-    let script = read_script(rt.alloc(), text.as_bytes())?;
-    let mut needs = Vec::new(rt.alloc());
-    needs.push(need(rt.alloc(), "CODE", 4, 1)?)?;
-    needs.push(need(rt.alloc(), "BSS", 2, 1)?)?;
-    needs.push(need(rt.alloc(), "DATA", 4, 1)?)?;
-    let placement = place(rt.alloc(), &script, needs.as_slice())?;
-    let places = placement.rows.as_slice();
-    let files = files_of(rt.alloc(), "a.out", &script, &Names, places)?;
-    assert_eq!(rt; files.len(), 1);
-    for file in files.as_slice() {
-        assert_eq!(rt; file.name.as_str(), "a.out");
-        assert_eq!(rt; file.bytes.as_slice(), b"CODE\xff\xffDATA".as_slice());
-    }
+    let script = read_script(rt.alloc(), TEXT)?;
+    let placement = placed(rt.alloc(), &script, &[("CODE", 4), ("BSS", 2), ("DATA", 4)])??;
+    assert!(rt; make(rt.alloc(), &script, &placement, b"CODE\xff\xffDATA")?);
     Ok(())
 }

@@ -1,46 +1,54 @@
-use super::{ROM, need, place_text};
-use image65::{AreaPlace, RowPlace, place};
-use script65::read_script;
+//! Where rows are placed, and why they can't be.
+
+use super::{ROM, place_text};
+use image65::{AreaPlace, RowPlace};
+use std::alloc::Global;
 use std::test::Fail;
 
 fn row(load: u64, run: u64, size: u64) -> RowPlace {
     RowPlace { load, run, size }
 }
 
-/// The text of the fault with which a script places segments; none where it places them.
-fn refusal(rt: HostRuntime, text: &str, sizes: &[(&str, u64)]) -> Result<String, Fail> {
-    let script = read_script(rt.alloc(), text.as_bytes())?;
-    let mut needs = Vec::new(rt.alloc());
-    for (name, size) in sizes {
-        needs.push(need(rt.alloc(), *name, *size, 1)?)?;
+/// Whether a script refuses to place segments with this text.
+fn refuses(alloc: Global, text: &str, sizes: &[(&str, u64)], wanted: &str) -> Result<bool, Fail> {
+    match place_text(alloc, text, sizes)? {
+        Ok(_) => Ok(false),
+        Err(e) => Ok(e.to_string(alloc)?.as_str() == wanted),
     }
-    match place(rt.alloc(), &script, needs.as_slice()) {
-        Ok(_) => Ok(String::new(rt.alloc())),
-        Err(e) => Ok(e.to_string(rt.alloc())?),
+}
+
+/// Whether a script places rows and ends areas here.
+fn places(
+    alloc: Global,
+    text: &str,
+    sizes: &[(&str, u64)],
+    rows: &[RowPlace],
+    areas: &[AreaPlace],
+) -> Result<bool, Fail> {
+    match place_text(alloc, text, sizes)? {
+        Ok(it) => Ok(it.rows.as_slice() == rows && it.areas.as_slice() == areas),
+        Err(_) => Ok(false),
     }
 }
 
 #[test]
 fn one_segment(rt: HostRuntime) -> Result<(), Fail> {
-    let p = place_text(rt.alloc(), ROM, &[("CODE", 3)])?;
-    let places = [row(0x8000, 0x8000, 3), row(0x8003, 0x8003, 0)];
-    assert_eq!(rt; p.rows.as_slice(), places.as_slice());
+    let rows = [row(0x8000, 0x8000, 3), row(0x8003, 0x8003, 0)];
     let rom = AreaPlace {
         start: 0x8000,
         size: 0x10,
         last: 0x8003,
     };
-    assert_eq!(rt; p.areas.as_slice(), [rom].as_slice());
+    assert!(rt; places(rt.alloc(), ROM, &[("CODE", 3)], &rows, &[rom])?);
     Ok(())
 }
 
+const MOVED: &str =
+    "MEMORY { RAM: start = $0200, size = $100, file = \"\"; ROM: start = $8000, size = $10; } SEGMENTS { CODE: load = ROM, type = ro; DATA: load = ROM, run = RAM, define = yes; }";
+
 #[test]
 fn load_and_run(rt: HostRuntime) -> Result<(), Fail> {
-    let text =
-        "MEMORY { RAM: start = $0200, size = $100, file = \"\"; ROM: start = $8000, size = $10; } SEGMENTS { CODE: load = ROM, type = ro; DATA: load = ROM, run = RAM, define = yes; }";
-    let p = place_text(rt.alloc(), text, &[("DATA", 2), ("CODE", 2)])?;
-    let places = [row(0x8000, 0x8000, 2), row(0x8002, 0x0200, 2)];
-    assert_eq!(rt; p.rows.as_slice(), places.as_slice());
+    let rows = [row(0x8000, 0x8000, 2), row(0x8002, 0x0200, 2)];
     let ram = AreaPlace {
         start: 0x0200,
         size: 0x100,
@@ -51,36 +59,45 @@ fn load_and_run(rt: HostRuntime) -> Result<(), Fail> {
         size: 0x10,
         last: 0x8004,
     };
-    assert_eq!(rt; p.areas.as_slice(), [ram, rom].as_slice());
+    let sizes = [("DATA", 2), ("CODE", 2)];
+    assert!(rt; places(rt.alloc(), MOVED, &sizes, &rows, &[ram, rom])?);
     Ok(())
 }
 
+const BEGINS: &str =
+    "MEMORY { A: start = $100, size = $100; B: start = $205, size = $100; } SEGMENTS { N: load = A, align = 16, start = $1F1; O: load = A, offset = $F8; P: load = B, align = 8; Q: load = B, run = A, align_load = 16, align = 4; R: load = B, align = 256; }";
+
 #[test]
 fn where_rows_begin(rt: HostRuntime) -> Result<(), Fail> {
-    let text =
-        "MEMORY { A: start = $100, size = $100; B: start = $205, size = $100; } SEGMENTS { N: load = A, align = 16, start = $1F1; O: load = A, offset = $F8; P: load = B, align = 8; Q: load = B, run = A, align_load = 16, align = 4; R: load = B, align = 256; }";
-    let p = place_text(rt.alloc(), text, &[("N", 1), ("O", 1), ("P", 1), ("Q", 1)])?;
-    let places = [
+    let rows = [
         row(0x1f1, 0x1f1, 1),
         row(0x1f8, 0x1f8, 1),
         row(0x208, 0x208, 1),
         row(0x210, 0x1fc, 1),
         row(0x211, 0x211, 0),
     ];
-    assert_eq!(rt; p.rows.as_slice(), places.as_slice());
+    let sizes = [("N", 1), ("O", 1), ("P", 1), ("Q", 1)];
+    let a = AreaPlace {
+        start: 0x100,
+        size: 0x100,
+        last: 0x1fd,
+    };
+    let b = AreaPlace {
+        start: 0x205,
+        size: 0x100,
+        last: 0x211,
+    };
+    assert!(rt; places(rt.alloc(), BEGINS, &sizes, &rows, &[a, b])?);
     Ok(())
 }
 
 /// What no object asks for, and what can't be placed.
 #[test]
 fn refusals(rt: HostRuntime) -> Result<(), Fail> {
-    assert_eq!(rt;
-        refusal(rt, ROM, &[("CODE", u64::MAX)])?.as_str(),
-        "overflow of ROM by 18446744073709551599 bytes"
-    );
-    assert_eq!(rt;
-        refusal(rt, ROM, &[("CODE", 17), ("X", 0), ("Y", 0)])?.as_str(),
-        "segment has no row: X"
-    );
+    let sizes = [("CODE", u64::MAX)];
+    let wanted = "overflow of ROM by 18446744073709551599 bytes";
+    assert!(rt; refuses(rt.alloc(), ROM, &sizes, wanted)?);
+    let sizes = [("CODE", 17), ("X", 0), ("Y", 0)];
+    assert!(rt; refuses(rt.alloc(), ROM, &sizes, "segment has no row: X")?);
     Ok(())
 }

@@ -1,32 +1,45 @@
+//! The parts of whole scripts.
+
 use super::ROM;
-use script65::{Access, AreaFile, Begin, SymbolKind, read_script};
+use script65::{Access, Area, AreaFile, Begin, Row, Script, Symbol, SymbolKind, read_script};
 use std::test::Fail;
+
+/// An area of 16 bytes for the output, with what an attribute that isn't there stands for.
+fn is_plain_area(area: &Area) -> bool {
+    area.name.as_slice() == b"ROM".as_slice()
+        && (area.start, area.size, area.fill_value) == (0x8000, 0x10, 0)
+        && !(area.read_only || area.fill || area.define)
+        && matches!(area.file, AreaFile::Output)
+}
+
+/// A row of that area with nothing but its access.
+fn is_plain_row(row: &Row) -> bool {
+    (row.load, row.run, row.align, row.align_load) == (0, 0, 1, 1)
+        && (row.access, row.begin) == (Access::ReadOnly, Begin::Aligned)
+        && row.fill_value == 0
+        && !row.define
+}
+
+/// Whether the script is the one of an area with two rows, of which the second is optional.
+fn is_rom(script: &Script) -> bool {
+    match (script.areas.as_slice(), script.rows.as_slice()) {
+        ([area], [code, data]) => {
+            is_plain_area(area)
+                && is_plain_row(code)
+                && is_plain_row(data)
+                && code.name.as_slice() == b"CODE".as_slice()
+                && !code.optional
+                && data.optional
+                && script.symbols.len() == 0
+        }
+        _ => false,
+    }
+}
 
 #[test]
 fn defaults(rt: HostRuntime) -> Result<(), Fail> {
     let script = read_script(rt.alloc(), ROM.as_bytes())?;
-    let [area] = script.areas.as_slice() else {
-        assert!(rt; false);
-        return Ok(());
-    };
-    assert_eq!(rt; area.name.as_slice(), b"ROM".as_slice());
-    assert_eq!(rt; (area.start, area.size, area.fill_value), (0x8000, 0x10, 0));
-    assert!(rt; !area.read_only && !area.fill && !area.define);
-    assert!(rt; matches!(area.file, AreaFile::Output));
-    let [code, data] = script.rows.as_slice() else {
-        assert!(rt; false);
-        return Ok(());
-    };
-    assert_eq!(rt; code.name.as_slice(), b"CODE".as_slice());
-    assert_eq!(rt; (code.load, code.run), (0, 0));
-    assert_eq!(rt; (code.align, code.align_load), (1, 1));
-    assert_eq!(rt;
-        (code.access, code.begin),
-        (Access::ReadOnly, Begin::Aligned)
-    );
-    assert!(rt; code.fill_value == 0 && !code.define && !code.optional);
-    assert!(rt; data.optional);
-    assert_eq!(rt; script.symbols.len(), 0);
+    assert!(rt; is_rom(&script));
     Ok(())
 }
 
@@ -44,49 +57,61 @@ SYMBOLS { i: type = import addrsize zp; }
 memory { RAM: start = 512, size = 256, type = rw, file = \"\", fill no, define No; OUT: start 0 size 0 file %O; }
 ";
 
-#[test]
-fn areas_and_symbols(rt: HostRuntime) -> Result<(), Fail> {
-    let script = read_script(rt.alloc(), WHOLE.as_bytes())?;
-    let [rom, ram, out] = script.areas.as_slice() else {
-        assert!(rt; false);
-        return Ok(());
-    };
-    assert_eq!(rt; (rom.start, rom.size, rom.fill_value), (0x8000, 0x10, 0xff));
-    assert!(rt; rom.read_only && rom.fill && rom.define);
-    assert!(rt;
-        matches!(&rom.file, AreaFile::Named(name) if name.as_slice() == b"rom.bin".as_slice())
-    );
-    assert_eq!(rt; (ram.start, ram.size), (512, 256));
-    assert!(rt; matches!(&ram.file, AreaFile::Named(name) if name.len() == 0));
-    assert!(rt; matches!(out.file, AreaFile::Output));
-    let [e, w, i] = script.symbols.as_slice() else {
-        assert!(rt; false);
-        return Ok(());
-    };
-    assert_eq!(rt; e.kind, SymbolKind::Export(0x10));
-    assert_eq!(rt; w.kind, SymbolKind::Weak(7));
-    assert_eq!(rt; i.kind, SymbolKind::Import);
-    assert_eq!(rt; i.name.as_slice(), b"i".as_slice());
-    Ok(())
+fn are_areas(areas: &[Area]) -> bool {
+    match areas {
+        [rom, ram, out] => {
+            (rom.start, rom.size, rom.fill_value) == (0x8000, 0x10, 0xff)
+                && rom.read_only
+                && rom.fill
+                && rom.define
+                && is_named(&rom.file, b"rom.bin")
+                && (ram.start, ram.size) == (512, 256)
+                && is_named(&ram.file, b"")
+                && matches!(out.file, AreaFile::Output)
+        }
+        _ => false,
+    }
+}
+
+fn is_named(file: &AreaFile, wanted: &[u8]) -> bool {
+    match file {
+        AreaFile::Named(name) => name.as_slice() == wanted,
+        AreaFile::Output => false,
+    }
+}
+
+fn are_symbols(symbols: &[Symbol]) -> bool {
+    match symbols {
+        [e, w, i] => {
+            e.kind == SymbolKind::Export(0x10)
+                && w.kind == SymbolKind::Weak(7)
+                && i.kind == SymbolKind::Import
+                && i.name.as_slice() == b"i".as_slice()
+        }
+        _ => false,
+    }
+}
+
+/// The first row's fill value is its load area's.
+fn are_rows(rows: &[Row]) -> bool {
+    match rows {
+        [data, bss, zp] => {
+            (data.load, data.run, data.align, data.align_load) == (0, 1, 4, 0x100)
+                && (data.access, data.begin) == (Access::ReadWrite, Begin::Offset(2))
+                && (data.fill_value, data.define, data.optional) == (0xff, true, false)
+                && (bss.load, bss.run, bss.fill_value) == (1, 1, 3)
+                && (bss.access, bss.begin) == (Access::Bss, Begin::Start(0x210))
+                && zp.access == Access::ZeroPage
+        }
+        _ => false,
+    }
 }
 
 #[test]
-fn rows(rt: HostRuntime) -> Result<(), Fail> {
+fn whole_scripts(rt: HostRuntime) -> Result<(), Fail> {
     let script = read_script(rt.alloc(), WHOLE.as_bytes())?;
-    let [data, bss, zp] = script.rows.as_slice() else {
-        assert!(rt; false);
-        return Ok(());
-    };
-    assert_eq!(rt; (data.load, data.run), (0, 1));
-    assert_eq!(rt; (data.align, data.align_load), (4, 0x100));
-    assert_eq!(rt;
-        (data.access, data.begin),
-        (Access::ReadWrite, Begin::Offset(2))
-    );
-    assert_eq!(rt; data.fill_value, 0xff, "the load area's");
-    assert!(rt; data.define && !data.optional);
-    assert_eq!(rt; (bss.load, bss.run, bss.fill_value), (1, 1, 3));
-    assert_eq!(rt; (bss.access, bss.begin), (Access::Bss, Begin::Start(0x210)));
-    assert_eq!(rt; zp.access, Access::ZeroPage);
+    assert!(rt; are_areas(script.areas.as_slice()));
+    assert!(rt; are_symbols(script.symbols.as_slice()));
+    assert!(rt; are_rows(script.rows.as_slice()));
     Ok(())
 }

@@ -1,15 +1,15 @@
 //! What the trials of commands share: a script and an object, and a run over files and streams in memory.
 #![tactic(auto)]
 
+mod scenes;
+
 use base65::{MemStore, Store};
+pub use scenes::first_wrong;
 use std::alloc::{AllocError, Global};
 use tools65::{Status, run};
 
 /// `A9 00 60` in segment CODE.
-pub const O1: [u8; 26] = [
-    0x52, 0x36, 0x35, 0x6f, 0x01, 0x02, 0x09, 0x00, 0x03, 0x00, 0x00, 0x00, 0x00, 0x43, 0x4f, 0x44,
-    0x45, 0x03, 0x03, 0x00, 0xa9, 0x00, 0x60, 0x08, 0x00, 0x00,
-];
+pub const O1: &[u8] = b"R65o\x01\x02\x09\0\x03\0\0\0\0CODE\x03\x03\0\xa9\0\x60\x08\0\0";
 
 pub const S1: &str =
     "MEMORY { ROM: start = $8000, size = $10; } SEGMENTS { CODE: load = ROM, type = ro; DATA: load = ROM, type = ro, optional = yes; }";

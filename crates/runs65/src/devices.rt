@@ -153,7 +153,7 @@ impl Write for Stopping {
 #[test]
 fn links_byte_by_byte(rt: HostRuntime) -> Result<(), Fail> {
     let mut store = ByteByByte {
-        files: files(rt.alloc(), &O1, S1)?,
+        files: files(rt.alloc(), O1, S1)?,
     };
     let ran = run_on(rt.alloc(), &mut store, &LINK);
     assert!(rt; is_quiet(&ran));
@@ -167,7 +167,7 @@ fn names_each_failure(rt: HostRuntime) -> Result<(), Fail> {
     let mut met = false;
     for k in 0..64 {
         let mut store = FailsOnce {
-            files: files(rt.alloc(), &O1, S1)?,
+            files: files(rt.alloc(), O1, S1)?,
             left: Some(k),
             failed: false,
         };
@@ -223,7 +223,7 @@ fn names_each_failure_of_the_librarian(rt: HostRuntime) -> Result<(), Fail> {
 /// A library of a member without sections, and another object of its name.
 fn library(alloc: Global) -> Result<MemStore, AllocError> {
     let mut store = MemStore::new(alloc);
-    store.put("a.o", &O1)?;
+    store.put("a.o", O1)?;
     store.put(
         "l.lib",
         b"R65l\x01\x01\0\0\0\x03a.o\x08\0\0\0\0\0\0\0\0\0\0\0R65o\x01\x08\0\0",
@@ -269,7 +269,7 @@ fn stops_with_its_stream(rt: HostRuntime) -> Result<(), Fail> {
     let message = b"s.cfg: Error: file not found\n";
     for k in 0..=message.len() {
         let mut store = MemStore::new(rt.alloc());
-        store.put("a.o", &O1)?;
+        store.put("a.o", O1)?;
         let mut out = Vec::new(rt.alloc());
         let mut err = Stopping {
             taken: Vec::new(rt.alloc()),

@@ -9,6 +9,8 @@ mod assembling;
 #[cfg(test)]
 mod devices;
 #[cfg(test)]
+mod libraries;
+#[cfg(test)]
 mod lines;
 #[cfg(test)]
 mod linking;

@@ -1,61 +1,70 @@
 //! Command lines on their own.
 
 use base65::{MemStore, Sequence};
-use running65::{O1, S1, files, run_on, says};
+use running65::{O1, Ran, S1, files, is_quiet};
+use std::alloc::{AllocError, Global};
 use std::test::Fail;
 use tools65::{
-    AssembleLine, Line, LineFault, LinkLine, Operation, Status, print, read_line, run_line,
-    write_file,
+    AssembleLine, Define, Line, LinkLine, Operation, Status, print, read_line, run_line, write_file,
 };
 
+fn is_link(line: &LinkLine<'_>) -> bool {
+    line.script == "s.cfg"
+        && line.output == Some("image")
+        && line.map == Some("map")
+        && line.inputs.as_slice() == ["a.o", "b.o"].as_slice()
+}
+
+fn is_define(define: &Define<'_>, name: &[u8], value: u32) -> bool {
+    define.name == name && define.value == value
+}
+
+fn is_assembling(line: &AssembleLine<'_>) -> bool {
+    let is_defined = match line.defines.as_slice() {
+        [first, second, third] => {
+            is_define(first, b"one", 255)
+                && is_define(second, b"two", 0)
+                && is_define(third, b"one", 3)
+        }
+        _ => false,
+    };
+    is_defined
+        && line.output.is_none()
+        && line.source == "a.s"
+        && line.include.as_slice() == ["a", "b/c"].as_slice()
+}
+
+/// Whether words are the line that is looked at here; none where they are no line.
+fn is_line(alloc: Global, words: &[&str]) -> Option<bool> {
+    match read_line(alloc, words).ok()? {
+        Line::Link(line) => Some(is_link(&line)),
+        Line::Assemble(line) => Some(is_assembling(&line)),
+        Line::Archive(line) => Some(
+            line.operation == Operation::Delete
+                && line.library == "l.lib"
+                && line.files.as_slice() == ["a.o", "b.o"].as_slice(),
+        ),
+    }
+}
+
 #[test]
-fn reads_lines(rt: HostRuntime) -> Result<(), Fail> {
-    let words = [
+fn reads_lines(rt: HostRuntime) {
+    let link = [
         "bin65", "ld65", "a.o", "-Cs.cfg", "-o", "image", "-mmap", "b.o",
     ];
-    let Ok(Line::Link(line)) = read_line(rt.alloc(), words.as_slice()) else {
-        return Err(Fail::from("no line of ld65"));
-    };
-    assert!(rt; line.script == "s.cfg" && line.output == Some("image") && line.map == Some("map"));
-    assert!(rt; line.inputs.as_slice() == ["a.o", "b.o"].as_slice());
-    let words = ["bin65", "ca65", "a.s"];
-    let Ok(Line::Assemble(line)) = read_line(rt.alloc(), words.as_slice()) else {
-        return Err(Fail::from("no line of ca65"));
-    };
-    assert!(rt; line.output.is_none() && line.source == "a.s");
-    let words = ["bin65", "ar65", "d", "l.lib", "a.o", "b.o"];
-    let Ok(Line::Archive(line)) = read_line(rt.alloc(), words.as_slice()) else {
-        return Err(Fail::from("no line of ar65"));
-    };
-    assert!(rt; line.operation == Operation::Delete && line.library == "l.lib");
-    assert!(rt; line.files.as_slice() == ["a.o", "b.o"].as_slice());
-    let words = ["bin65", "ld65", "a.o"];
-    let refused = read_line(rt.alloc(), words.as_slice());
-    assert!(rt; matches!(refused, Err(LineFault::BadArguments)));
-    Ok(())
-}
-
-#[test]
-fn reads_folders_and_constants(rt: HostRuntime) -> Result<(), Fail> {
-    let words = [
+    assert!(rt; is_line(rt.alloc(), &link) == Some(true));
+    let assemble = [
         "bin65", "ca65", "-Ia", "-D", "one=$fF", "-I", "b/c", "-Dtwo", "-g", "-D", "one=%11", "a.s",
     ];
-    let Ok(Line::Assemble(line)) = read_line(rt.alloc(), words.as_slice()) else {
-        return Err(Fail::from("no line of ca65"));
-    };
-    assert!(rt; line.include.as_slice() == ["a", "b/c"].as_slice());
-    let [first, second, third] = line.defines.as_slice() else {
-        return Err(Fail::from("not three constants"));
-    };
-    assert!(rt; first.name == b"one".as_slice() && first.value == 255);
-    assert!(rt; second.name == b"two".as_slice() && second.value == 0);
-    assert!(rt; third.name == b"one".as_slice() && third.value == 3);
-    Ok(())
+    assert!(rt; is_line(rt.alloc(), &assemble) == Some(true));
+    let archive = ["bin65", "ar65", "d", "l.lib", "a.o", "b.o"];
+    assert!(rt; is_line(rt.alloc(), &archive) == Some(true));
+    assert!(rt; is_line(rt.alloc(), &["bin65", "ld65", "a.o"]).is_none());
 }
 
 #[test]
-fn refuses_what_is_no_constant(rt: HostRuntime) -> Result<(), Fail> {
-    let defines = [
+fn refuses_what_is_no_constant(rt: HostRuntime) {
+    for define in [
         "",
         "=1",
         "1a",
@@ -68,40 +77,34 @@ fn refuses_what_is_no_constant(rt: HostRuntime) -> Result<(), Fail> {
         "n=1=2",
         "n=-1",
         "n= 1",
-    ];
-    for define in defines {
+    ] {
         let words = ["bin65", "ca65", "-D", define, "a.s"];
-        let refused = read_line(rt.alloc(), words.as_slice());
-        assert!(rt; matches!(refused, Err(LineFault::BadArguments)));
+        assert!(rt; is_line(rt.alloc(), &words).is_none(), "{define}");
     }
-    Ok(())
 }
 
-#[test]
-fn refuses_a_line_without_a_script(rt: HostRuntime) -> Result<(), Fail> {
-    let mut store = files(rt.alloc(), &O1, S1)?;
-    let ran = run_on(rt.alloc(), &mut store, &["bin65", "ld65", "a.o"]);
-    assert!(rt; says(&ran, "bin65: Error: bad arguments\n"));
-    assert!(rt; store.get("a.out").is_none());
-    Ok(())
+/// Runs a line over a store, with both streams in memory.
+fn run_over(alloc: Global, store: &mut MemStore, line: &Line<'_>) -> Ran {
+    let mut out = Vec::new(alloc);
+    let mut err = Vec::new(alloc);
+    let status = run_line(alloc, line, store, &mut out, &mut err);
+    Ran { status, out, err }
 }
 
-#[test]
-fn runs_lines(rt: HostRuntime) -> Result<(), Fail> {
-    let mut store = files(rt.alloc(), &O1, S1)?;
-    store.put("a.s", b".out \"one\"\nnop")?;
-    let mut out = Vec::new(rt.alloc());
-    let mut err = Vec::new(rt.alloc());
+/// Assembles `a.s` to `b.o`.
+fn assembled(alloc: Global, store: &mut MemStore) -> Ran {
     let line = Line::Assemble(AssembleLine {
         output: Some("b.o"),
-        include: Sequence::new(rt.alloc()),
-        defines: Sequence::new(rt.alloc()),
+        include: Sequence::new(alloc),
+        defines: Sequence::new(alloc),
         source: "a.s",
     });
-    let status = run_line(rt.alloc(), &line, &mut store, &mut out, &mut err);
-    assert!(rt; status == Status::Success && out.as_slice() == b"one\n".as_slice());
-    assert!(rt; store.get("b.o").is_some_and(|object| object.len() == 24));
-    let mut inputs = Sequence::new(rt.alloc());
+    run_over(alloc, store, &line)
+}
+
+/// Links `a.o` and `b.o`, with a map.
+fn linked(alloc: Global, store: &mut MemStore) -> Result<Ran, AllocError> {
+    let mut inputs = Sequence::new(alloc);
     inputs.push("a.o")?;
     inputs.push("b.o")?;
     let line = Line::Link(LinkLine {
@@ -110,8 +113,17 @@ fn runs_lines(rt: HostRuntime) -> Result<(), Fail> {
         map: Some("map"),
         inputs,
     });
-    let status = run_line(rt.alloc(), &line, &mut store, &mut out, &mut err);
-    assert!(rt; status == Status::Success && err.is_empty());
+    Ok(run_over(alloc, store, &line))
+}
+
+#[test]
+fn runs_lines(rt: HostRuntime) -> Result<(), Fail> {
+    let mut store = files(rt.alloc(), O1, S1)?;
+    store.put("a.s", b".out \"one\"\nnop")?;
+    let ran = assembled(rt.alloc(), &mut store);
+    assert!(rt; ran.status == Status::Success && ran.out.as_slice() == b"one\n".as_slice());
+    let ran = linked(rt.alloc(), &mut store)?;
+    assert!(rt; is_quiet(&ran));
     assert!(rt; store.get("a.out") == Some(b"\xa9\0\x60\xea".as_slice()));
     assert!(rt;
         store

@@ -1,124 +1,105 @@
 //! Whole links.
 
-use running65::{LINK, O1, S1, files, is_quiet, run_on, says, warns};
-use std::alloc::{AllocError, Global};
+use running65::first_wrong;
 use std::test::Fail;
 
-/// P and Q of one byte each.
-const PAIR: &[u8] =
-    b"R65o\x01\x02\x06\0\x01\0\0\0\0P\x02\x06\0\x01\0\0\0\0Q\x03\x01\0\x11\x03\x01\0\x22\x08\0\0";
+/// Objects and scripts, their images and maps, and why they are refused.
+const SCENES: &str = "\
+text s.cfg MEMORY { ROM: start = $8000, size = $10; } SEGMENTS { CODE: load = ROM, type = ro; DATA: load = ROM, type = ro, optional = yes; }
+bytes a.o 5236356F010209000300000000434F4445030300A90060080000
+$ ld65 -C s.cfg -m a.map a.o
+is a.out A90060
+says a.map MODULES // a.o //   CODE 00000000 00000003 // SEGMENTS // CODE 00008000 00008000 00000003 // DATA 00008003 00008003 00000000 // SYMBOLS
+$ ld65 -C s.cfg -m  a.o a.o
+is a.out A90060A90060
+says  MODULES // a.o //   CODE 00000000 00000003 // a.o //   CODE 00000003 00000003 // SEGMENTS // CODE 00008000 00008000 00000006 // DATA 00008006 00008006 00000000 // SYMBOLS
+$ ld65 a.o ==> bin65: Error: bad arguments
 
-/// CODE with `EA`, BSS with room for two bytes and DATA with `01`.
-const ROOM: &[u8] =
-    b"R65o\x01\x02\x09\0\x01\0\0\0\0CODE\x02\x08\0\x02\0\0\0\0BSS\x02\x09\0\x01\0\0\0\0DATA\x03\x01\0\xEA\x04\x04\0\x02\0\0\0\x03\x01\0\x01\x08\0\0";
+text s.cfg MEMORY { ROM: start = $8000, size = $10; } SEGMENTS { CODE: load = ROM, type = ro; DATA: load = ROM, type = ro, optional = yes; }
+bytes a.o 5236356F010209000300000000434F4445030300A90060080000
+$ ld65 -C s.cfg -o  a.o
+absent
+absent a.out
+bytes b.o 5236356F010209000300000000434F4445030300A900600800
+$ ld65 -C s.cfg b.o ==> b.o: Error: object cut short
+bytes b.o 5236356F010209000300000000434F4445030300A9006008000000
+$ ld65 -C s.cfg b.o ==> b.o: Error: bytes after the end
+bytes b.o 5236356F010209000300000000434F4445030200A90003010060080000
+$ ld65 -C s.cfg b.o ==> b.o: Error: not canonical
+text t.cfg MEMORY { // # nothing
+$ ld65 -C t.cfg a.o ==> t.cfg:3: Error: syntax error
+text t.cfg MEMORY { ROM: start = 0, size = 9, type = ro; } SEGMENTS { CODE: load = ROM; }
+$ ld65 -C t.cfg a.o ==> ld65: Error: read-only area: CODE
+bytes b.o 5236356F010206000100000000500206000100000000510301001103010022080000
+text t.cfg MEMORY { ROM: start = $8000, size = $10; } SEGMENTS { P: load = ROM, start = $8000; Q: load = ROM, start = $8000; }
+$ ld65 -C t.cfg b.o ==> ld65: Error: start below what is placed: Q
+absent a.out
+text t.cfg MEMORY { ROM: start = $8000, size = 8, fill = yes, fillval = $FF; } SEGMENTS { CODE: load = ROM, type = ro; }
+$ ld65 -C t.cfg a.o
+is a.out A90060FFFFFFFFFF
+text t.cfg MEMORY { ROM: start = $8000, size = $10; } SEGMENTS { CODE: load = ROM; X: load = ROM; }
+$ ld65 -C t.cfg a.o ==> ld65: Warning: segment X does not exist
+is a.out A90060
+bytes b.o 5236356F010209000100000000434F44450208000200000000425353020900010000000044415441030100EA0404000200000003010001080000
+text t.cfg MEMORY { ROM: start = $8000, size = $10, fillval = $FF; } SEGMENTS { CODE: load = ROM; BSS: load = ROM, type = bss; DATA: load = ROM; }
+$ ld65 -C t.cfg b.o
+is a.out EAFFFF01
+bytes b.o 5236356F010209000500000002434F4445030100EA0404000300000003010005080000
+$ ld65 -C s.cfg b.o ==> ld65: Warning: segment CODE needs alignment 4
+is a.out EA00000005
 
-/// CODE with `EA`, room for three bytes and `05`, at a multiple of 4.
-const ALIGNED: &[u8] =
-    b"R65o\x01\x02\x09\0\x05\0\0\0\x02CODE\x03\x01\0\xEA\x04\x04\0\x03\0\0\0\x03\x01\0\x05\x08\0\0";
+text s.cfg MEMORY { ZP: start = 0, size = $100, file = \"\"; ROM: start = $8000, size = $10; } SEGMENTS { ZEROPAGE: load = ZP, type = zp; CODE: load = ROM, type = ro; }
+text a.s .zeropage // p: .res 1 // .code // lda p // lda q // .zeropage // q: .res 1
+$ ca65 a.s
+$ ld65 -C s.cfg a.o
+is a.out A500AD0100
+text s.cfg MEMORY { ROM: start = $12FF, size = $10; } SEGMENTS { CODE: load = ROM, type = ro; }
+text a.s lab: .byte <lab+1
+$ ca65 a.s
+$ ld65 -C s.cfg a.o ==> a.o:1: Error: out of range
+text a.s lab: .byte <(lab+1)
+$ ca65 a.s
+$ ld65 -C s.cfg a.o
+is a.out 00
+text s.cfg MEMORY { RAM: start = $0200, size = $100, file = \"\"; ROM: start = $8000, size = $10; } SEGMENTS { CODE: load = ROM, type = ro; DATA: load = ROM, run = RAM, define = yes; }
+text a.s .import __DATA_LOAD__ // lda #<__DATA_LOAD__ // .data // d: .word d
+$ ca65 a.s
+$ ld65 -C s.cfg a.o
+is a.out A9020002
 
-/// Whether an object and a script are linked into these bytes, with these warnings.
-fn links(
-    alloc: Global,
-    object: &[u8],
-    script: &str,
-    image: &[u8],
-    warnings: &str,
-) -> Result<bool, AllocError> {
-    let mut store = files(alloc, object, script)?;
-    let ran = run_on(alloc, &mut store, &LINK);
-    Ok(warns(&ran, warnings) && store.get("a.out") == Some(image))
-}
-
-/// Whether an object and a script are refused with this message, and nothing is written.
-fn refuses(alloc: Global, object: &[u8], script: &str, message: &str) -> Result<bool, AllocError> {
-    let mut store = files(alloc, object, script)?;
-    let ran = run_on(alloc, &mut store, &LINK);
-    Ok(says(&ran, message) && store.get("a.out").is_none())
-}
+text s.cfg MEMORY { ROM: start = $8000, size = $10; } SEGMENTS { CODE: load = ROM, type = ro, align = 4; }
+text t.cfg MEMORY { ROM: start = $8000, size = $10; } SEGMENTS { CODE: load = ROM, type = ro; DATA: load = ROM, type = ro, optional = yes; }
+text m1.s .byte 1,2,3
+text m2.s .byte 4 // .align 4 // .byte 5
+$ ca65 m1.s
+$ ca65 m2.s
+$ ld65 -C s.cfg m1.o m2.o
+is a.out 010203000400000005
+$ ld65 -C t.cfg -o b.out m1.o m2.o ==> ld65: Warning: segment CODE needs alignment 4
+is b.out 010203000400000005
+text m1.s .export f // .import g // f = g
+text m2.s .export g // .import f // g = f
+$ ca65 m1.s
+$ ca65 m2.s
+$ ld65 -C t.cfg m1.o m2.o ==> m1.o:1: Error: circular definition
+text m1.s .export v // v = 1
+$ ca65 m1.s
+$ ld65 -C t.cfg m1.o m1.o ==> ld65: Error: duplicate export: v
+$ ld65 -C t.cfg -m a.map m1.o ==> ld65: Warning: segment CODE does not exist
+says a.map MODULES // m1.o // SEGMENTS // CODE 00008000 00008000 00000000 // DATA 00008000 00008000 00000000 // SYMBOLS // v 0000000000000001
+text m1.s .import v, u // .byte u, v
+$ ca65 m1.s
+$ ld65 -C t.cfg m1.o ==> ld65: Error: unresolved: u, v
+text t.cfg MEMORY { ROM: start = $8001, size = $10; } SEGMENTS { CODE: load = ROM, type = ro; }
+text m1.s .byte 1 // .align 4 // .byte 5
+$ ca65 m1.s
+$ ld65 -C t.cfg -o c.out m1.o ==> ld65: Warning: segment CODE needs alignment 4
+is c.out 0100000005
+";
 
 #[test]
-fn links_the_first_object(rt: HostRuntime) -> Result<(), Fail> {
-    assert!(rt; links(rt.alloc(), &O1, S1, b"\xa9\0\x60", "")?);
-    let script =
-        "MEMORY { ROM: start = $8000, size = 8, fill = yes, fillval = $FF; } SEGMENTS { CODE: load = ROM, type = ro; }";
-    assert!(rt;
-        links(
-            rt.alloc(),
-            &O1,
-            script,
-            b"\xa9\0\x60\xff\xff\xff\xff\xff",
-            ""
-        )?
-    );
-    Ok(())
-}
-
-/// A gap for room that isn't written, an alignment that the row hasn't, and a row that no module has.
-#[test]
-fn fills_gaps_and_warns(rt: HostRuntime) -> Result<(), Fail> {
-    let script =
-        "MEMORY { ROM: start = $8000, size = $10, fillval = $FF; } SEGMENTS { CODE: load = ROM; BSS: load = ROM, type = bss; DATA: load = ROM; }";
-    assert!(rt; links(rt.alloc(), ROOM, script, b"\xea\xff\xff\x01", "")?);
-    let warning = "ld65: Warning: segment CODE needs alignment 4\n";
-    assert!(rt; links(rt.alloc(), ALIGNED, S1, b"\xea\0\0\0\x05", warning)?);
-    let script =
-        "MEMORY { ROM: start = $8000, size = $10; } SEGMENTS { CODE: load = ROM; X: load = ROM; }";
-    let warning = "ld65: Warning: segment X does not exist\n";
-    assert!(rt; links(rt.alloc(), &O1, script, b"\xa9\0\x60", warning)?);
-    Ok(())
-}
-
-#[test]
-fn refuses_what_is_not_placed(rt: HostRuntime) -> Result<(), Fail> {
-    let script =
-        "MEMORY { ROM: start = $8000, size = $10; } SEGMENTS { P: load = ROM, start = $8000; Q: load = ROM, start = $8000; }";
-    let message = "ld65: Error: start below what is placed: Q\n";
-    assert!(rt; refuses(rt.alloc(), PAIR, script, message)?);
-    let script = "MEMORY { ROM: start = 0, size = 9, type = ro; } SEGMENTS { CODE: load = ROM; }";
-    assert!(rt;
-        refuses(
-            rt.alloc(),
-            &O1,
-            script,
-            "ld65: Error: read-only area: CODE\n"
-        )?
-    );
-    Ok(())
-}
-
-/// An object without its last byte, with one behind it, and with its literal in two records.
-#[test]
-fn refuses_other_spellings(rt: HostRuntime) -> Result<(), Fail> {
-    assert!(rt; refuses(rt.alloc(), &O1[..25], S1, "a.o: Error: object cut short\n")?);
-    let longer = b"R65o\x01\x02\x09\0\x03\0\0\0\0CODE\x03\x03\0\xa9\0\x60\x08\0\0\0";
-    assert!(rt; refuses(rt.alloc(), longer, S1, "a.o: Error: bytes after the end\n")?);
-    let split = b"R65o\x01\x02\x09\0\x03\0\0\0\0CODE\x03\x02\0\xa9\0\x03\x01\0\x60\x08\0\0";
-    assert!(rt; refuses(rt.alloc(), split, S1, "a.o: Error: not canonical\n")?);
-    let script = "MEMORY {\n\n";
-    assert!(rt; refuses(rt.alloc(), &O1, script, "s.cfg:3: Error: syntax error\n")?);
-    Ok(())
-}
-
-#[test]
-fn names_no_file_where_none_is_named(rt: HostRuntime) -> Result<(), Fail> {
-    let mut store = files(rt.alloc(), &O1, S1)?;
-    let words = ["bin65", "ld65", "-C", "s.cfg", "-o", "", "a.o"];
-    assert!(rt; is_quiet(&run_on(rt.alloc(), &mut store, &words)));
-    assert!(rt; store.get("").is_none() && store.get("a.out").is_none());
-    Ok(())
-}
-
-/// The map of one module linked twice.
-const TWICE: &[u8] =
-    b"MODULES\na.o\n  CODE 00000000 00000003\na.o\n  CODE 00000003 00000003\nSEGMENTS\nCODE 00008000 00008000 00000006\nDATA 00008006 00008006 00000000\nSYMBOLS\n";
-
-/// Under the name that the line gives, which may be empty.
-#[test]
-fn writes_the_map(rt: HostRuntime) -> Result<(), Fail> {
-    let mut store = files(rt.alloc(), &O1, S1)?;
-    let words = ["bin65", "ld65", "-C", "s.cfg", "-m", "", "a.o", "a.o"];
-    assert!(rt; is_quiet(&run_on(rt.alloc(), &mut store, &words)));
-    assert!(rt; store.get("a.out") == Some(b"\xa9\0\x60\xa9\0\x60".as_slice()));
-    assert!(rt; store.get("") == Some(TWICE));
+fn scenes(rt: HostRuntime) -> Result<(), Fail> {
+    let wrong = first_wrong(rt.alloc(), SCENES)?;
+    assert!(rt; wrong.is_none(), "{wrong:?}");
     Ok(())
 }

@@ -5,6 +5,7 @@ usage: wrong_bodies.py [--all] [CRATE[/EDIT]..]    with --all those of must-fail
 They are tried by the gate's own function, side by side, each over what the proof of the crate as it is kept.
 The last line is 'N refused, M not'."""
 import os
+import shutil
 import sys
 import tempfile
 import time
@@ -30,16 +31,16 @@ def edits_of(crate, words, folders):
     return found
 
 
-def over_kept(rt, crate, call):
+def over_kept(crate, call):
     """What a call answers over a copy of what the proof of the crate as it is kept."""
     with tempfile.TemporaryDirectory(prefix="wrong-") as room:
-        rt.linked(f"{crate.folder}/out/incremental", f"{room}/kept")
+        shutil.copytree(f"{crate.folder}/out/incremental", f"{room}/kept")
         return call(f"{room}/kept")
 
 
 def is_sound(rt, crate):
     """Whether the crate as it is is proved over what its proof kept; where it isn't, a refusal over that would say nothing."""
-    found = not over_kept(rt, crate, lambda kept: rt.checked(crate, {}, ["--jobs", "1"], kept).returncode)
+    found = not over_kept(crate, lambda kept: rt.checked(crate, {}, ["--jobs", "1"], kept).returncode)
     if not found:
         kit.say(f"{crate.name}: what was kept doesn't prove the crate as it is, so its wrong bodies are tried from nothing")
     return found
@@ -48,9 +49,10 @@ def is_sound(rt, crate):
 def is_refused(rt, crate, edit, has_kept):
     """Whether the prover refuses an edit. One that can't be read or tried isn't refused."""
     begun, flags = time.time(), ["--jobs", "1"]
-    kind, text = over_kept(rt, crate, lambda kept: rt.must_fail(crate, edit, flags, kept)) if has_kept else rt.must_fail(crate, edit, flags)
+    kind, text = over_kept(crate, lambda kept: rt.must_fail(crate, edit, flags, kept)) if has_kept else rt.must_fail(crate, edit, flags)
     kit.say(f"{text.removeprefix('must-fail ')} ({kit.minutes(time.time() - begun)})")
-    return kind in (rt.REFUSED, rt.AT_LIMIT)
+    # (some kits answer a truth value, others a word, of which these two mean yes)
+    return kind is True or kind in [getattr(rt, it) for it in ("REFUSED", "AT_LIMIT") if hasattr(rt, it)]
 
 
 def main(words):

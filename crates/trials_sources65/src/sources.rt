@@ -90,7 +90,8 @@ fn alone() -> AsmJob<'static> {
 
 /// What becomes of a source.
 fn answer(alloc: Global, store: &mut MemStore, job: &AsmJob<'_>) -> Result<String, Fail> {
-    match assemble(alloc, store, job).result {
+    let assembled = assemble(alloc, store, job).result;
+    match assembled {
         Ok(object) => {
             let mut bytes = Vec::new(alloc);
             write_object(alloc, &object, &mut bytes)?;

@@ -2,6 +2,7 @@
 use Rattle.std.specs.Prelude.{◌≡◌, ℕ, ◌⊎◌, List, [], ◌++◌, Option, Result, Ok, Err, if◌then◌else◌}
 use Rattle.base65.specs.Store.{Files}
 use Rattle.object65.specs.declared.object.Object.{Object}
+use Rattle.object65.specs.Objects.{ObjectFits}
 use Rattle.object65.specs.Spelling.{object_bytes}
 use Rattle.asm65.specs.Assembly.{IsAssembled}
 use Rattle.language65.specs.Faults.{is_memory}
@@ -37,10 +38,11 @@ refused_with source out err e =
     if is_memory e.fault then failing (memory_line source)
     else record { out = out; err = err ++ asm_message source e; outputs = []; status = Failure }
 
--- what assembling comes to: the object's file, or why there is none, behind what was said
+-- what assembling comes to: the object's file, whose numbers are those of their types, or why there is none, behind
+-- what was said
 abbrev pub AssemblesWith : Assembling → List ℕ → List ℕ → Result Object PlacedFault → Outcome → Type 0
 AssemblesWith a out err (Ok object) o =
-    (name : List ℕ) × IsOutputName a.output a.source name × (o ≡ record { out = out; err = err; outputs = outputs_of name (object_bytes object); status = Success })
+    ObjectFits object × (name : List ℕ) × IsOutputName a.output a.source name × (o ≡ record { out = out; err = err; outputs = outputs_of name (object_bytes object); status = Success })
 AssemblesWith a out err (Err e) o = o ≡ refused_with a.source out err e
 
 abbrev pub AssemblesTo : Assembling → asm.Outcome → Outcome → Type 0

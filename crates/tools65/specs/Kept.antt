@@ -3,11 +3,7 @@ use Rattle.std.specs.Prelude.{◌≡◌, ℕ, ◌≤◌, List, length, IfSome, O
 use Rattle.std.specs.FinMap.{get}
 use Rattle.std.specs.List.{AllByRecursion}
 use Rattle.base65.specs.Store.{Files}
-use Rattle.object65.specs.declared.object.Object.{Object}
-use Rattle.object65.specs.Objects.{ObjectFits}
 use Rattle.object65.specs.Reading.{file_limit}
-use Rattle.module65.specs.Module as asm
-use Rattle.asm65.specs.Assembly.{IsAssembled}
 use Rattle.line65.specs.declared.line.Operation.TheVariants.{Replace}
 use Rattle.line65.specs.Line.{Archiving, Assembling}
 use Rattle.ar65.specs.declared.archiving.Archived.TheVariants as archived
@@ -23,14 +19,10 @@ use Rattle.tools65.specs.Written.{IsSourceLibrary, IsSourceObject, IsWrittenOf}
 abbrev pub source_in : Assembling → Files → Source
 source_in a m = record { files = m; job = job_in a }
 
--- the numbers in a source's object are those of their types
-abbrev pub HasNumbers : Source → Type 0
-HasNumbers x = (z : asm.Outcome) (o : Object) → IsAssembled x.files x.job z → z.result ≡ Ok o → ObjectFits o
-
--- a file that an assemble line writes is what ca65 writes of the line's source
+-- a file that an assemble line writes is what ca65 writes of the line's source, where it is within the limit of a file
 abbrev pub AssembledFileLaw : Type 0
 AssembledFileLaw =
-    (a : Assembling) (m : Files) (o : Outcome) → Assembles a m o → o.status ≡ Success → HasNumbers (source_in a m) →
+    (a : Assembling) (m : Files) (o : Outcome) → Assembles a m o → o.status ≡ Success →
     AllByRecursion (λ f. length f.bytes ≤ file_limit → IsWrittenOf (source_in a m) f.bytes) o.outputs
 
 -- `r` makes of object files that ca65 wrote, and of a library of such members or of none, a library of such members

@@ -47,7 +47,7 @@ pub fn written_inputs_select_sources()
     ensures { SourcesSelectedLaw }
 {}
 
-/// A file that a line of ca65 writes is what ca65 writes of the line's source.
+/// A file that a line of ca65 writes is what ca65 writes of the line's source, where it is within the limit of a file.
 pub fn written_file_is_kept()
     ensures { AssembledFileLaw }
 {}

@@ -1,7 +1,7 @@
 //! What assembling comes to.
 
 ghost use Rattle.std.specs.Prelude.{◌≡◌, IfOk, true};
-ghost use Rattle.object65.specs.Objects.{is_good_object};
+ghost use Rattle.object65.specs.Objects.{ObjectFits, is_good_object};
 ghost use Rattle.object65.specs.Spelling.{object_bytes};
 ghost use Rattle.tools65.specs.Assembling.{IsOutputName};
 ghost use Rattle.asm65.specs.Assembly.{answer_of, placed_of};
@@ -72,7 +72,8 @@ pub fn asm_outcome(
     line: &AssembleLine<'_>,
     assembly: Assembly,
 ) -> Result<Outcome, AllocError>
-    requires { IfOk assembly.result (λ object. is_good_object object ≡ true) }
+    requires good { IfOk assembly.result (λ object. is_good_object object ≡ true) }
+    requires numbers { IfOk assembly.result ObjectFits }
     ensures { IfOk result (λ outcome. AssemblesTo (assembling line.now) (answer_of assembly assembly.result) outcome) }
 {
     let Assembly { result, out, err } = assembly;

@@ -1,9 +1,10 @@
 #!/usr/bin/env python3
 """Tries the wrong bodies that the gate itself doesn't: crates/NAME/wrong-bodies/*.edit, each of which the prover must refuse.
 
-usage: wrong_bodies.py [--all] [CRATE[/EDIT]..]    with --all those of must-fail/ too; WRONG_BODIES_JOBS tries so many at once.
-They are tried by the gate's own function, side by side, each over what the proof of the crate as it is kept.
-The last line is 'N refused, M not'."""
+usage: wrong_bodies.py [--all] [--anew] [CRATE[/EDIT]..]    with --all those of must-fail/ too; WRONG_BODIES_JOBS tries so many at once.
+They are tried by the gate's own function, side by side, each over what the proof of the crate as it is kept. Where the kit
+keeps what came of an edit, an edit is tried once on this machine for the same files of its crate and those below: so a run
+that was stopped goes on where it was. --anew tries all. The last line is 'N refused, M not'."""
 import os
 import shutil
 import sys
@@ -46,18 +47,46 @@ def is_sound(rt, crate):
     return found
 
 
-def is_refused(rt, crate, edit, has_kept):
+class Earlier:
+    """What came of edits in earlier runs on this machine, by the files that they stand on. Some kits keep nothing."""
+
+    def __init__(self, rt, crates, anew):
+        self.rt, self.anew, self.seen = rt, anew, {}
+        self.kept = rt.Kept(kit.crates(rt)) if all(hasattr(rt, it) for it in ("Kept", "stamp_of", "SETTLED")) else None
+        for crate in crates if self.kept else ():
+            rt.stamp_of(crate, self.seen)
+
+    def name(self, crate, edit):
+        return self.kept.of_edit(edit, self.seen[crate.name])
+
+    def told(self, crate, edit):
+        """What an edit came to, and what was said, or None."""
+        return self.kept.tried(self.name(crate, edit)) if self.kept and not self.anew else None
+
+    def keep(self, crate, edit, kind, text):
+        """Keeps what an edit came to, unless a file that it stands on was touched since the run began."""
+        if self.kept and kind in self.rt.SETTLED and all(self.kept.is_untouched(it) for it in (crate, *crate.below())):
+            self.kept.keep_tried(self.name(crate, edit), kind, text)
+
+
+def is_refused(rt, crate, edit, has_kept, earlier):
     """Whether the prover refuses an edit. One that can't be read or tried isn't refused."""
     begun, flags = time.time(), ["--jobs", "1"]
     kind, text = over_kept(crate, lambda kept: rt.must_fail(crate, edit, flags, kept)) if has_kept else rt.must_fail(crate, edit, flags)
     kit.say(f"{text.removeprefix('must-fail ')} ({kit.minutes(time.time() - begun)})")
+    earlier.keep(crate, edit, kind, text)
+    return means_refused(rt, kind)
+
+
+def means_refused(rt, kind):
     # (some kits answer a truth value, others a word, of which these two mean yes)
     return kind is True or kind in [getattr(rt, it) for it in ("REFUSED", "AT_LIMIT") if hasattr(rt, it)]
 
 
 def main(words):
     folders = FOLDERS if "--all" in words else FOLDERS[:1]
-    words = [it for it in words if it != "--all"]
+    anew = "--anew" in words
+    words = [it for it in words if it not in ("--all", "--anew")]
     names = {it.partition("/")[0] for it in words}
     rt = kit.load()
     rt.rtlib.guarded()
@@ -68,19 +97,26 @@ def main(words):
             sys.exit(f"no wrong body is called {word}")
     if not crates:
         sys.exit("there is no wrong body")
-    if prove.main([it.name for it in crates]):
+    earlier = Earlier(rt, crates, anew)
+    every = [(crate, edit) for crate in crates for edit in edits_of(crate, words, folders)]
+    told = {edit: found for crate, edit in every for found in [earlier.told(crate, edit)] if found}
+    tries = [it for it in every if it[1] not in told]
+    crates = [it for it in crates if any(it is crate for crate, _ in tries)]
+    if told:
+        kit.say(f"{len(told)} of {len(every)} wrong bodies were tried by earlier runs on this machine, and nothing that they stand on has changed")
+    if crates and prove.main([it.name for it in crates]):
         return 1
     lanes, begun = int(os.environ.get("WRONG_BODIES_JOBS", 0)) or kit.lanes(rt), time.time()
-    tries = [(crate, edit) for crate in crates for edit in edits_of(crate, words, folders)]
     kit.say(f"{len(tries)} wrong bodies of {len(crates)} crates, {lanes} at once")
     with ThreadPoolExecutor(lanes) as pool:
         sound = dict(zip(crates, pool.map(lambda crate: is_sound(rt, crate), crates)))
-        refused = [*pool.map(lambda it: is_refused(rt, *it, sound[it[0]]), tries)]
+        refused = dict(zip([edit for _, edit in tries], pool.map(lambda it: is_refused(rt, *it, sound[it[0]], earlier), tries)))
+    refused |= {edit: means_refused(rt, kind) for edit, (kind, _) in told.items()}
     kit.say(f"all were tried after {kit.minutes(time.time() - begun)}")
-    wrong = [edit for (_, edit), found in zip(tries, refused) if not found]
+    wrong = [edit for _, edit in every if not refused[edit]]
     for it in wrong:
         print(f"not refused: {os.path.relpath(it, kit.ROOT)}")
-    print(f"{len(tries) - len(wrong)} refused, {len(wrong)} not")
+    print(f"{len(every) - len(wrong)} refused, {len(wrong)} not")
     return 1 if wrong else 0
 
 

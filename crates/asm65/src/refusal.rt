@@ -14,7 +14,7 @@ use std::alloc::Global;
 /// Why a source has no object, and where: the line is 0 where none was read.
 #[derive(Drop)]
 pub struct AsmRefusal {
-    /// The file of the line; none where no line was read, or where memory ran out.
+    /// The file of the line, or the source where no line was read; none where memory ran out.
     pub file: Option<Text>,
     pub line: u32,
     pub fault: AsmFault,

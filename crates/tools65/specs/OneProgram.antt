@@ -138,7 +138,8 @@ pub record DoesWhole (l : Linking) (s : Script) (xs : List Source) (m : Files) (
       ((files : List OutputFile) × WholeOf (output_of l) s xs files × HasFiles l files o)
       ⊎ (HaveNoImage l s xs × IsRefusal l o)
 
--- A run over sources' objects writes an image exactly where the sources have one as one program, and that image.
+-- A run over sources' objects carries out the image that the sources have as one program, and a refusal where they have
+-- none.
 pub record WritesWhole (l : Linking) (s : Script) (xs : List Source) (m : Files) (new : Option Files) (out_old out_new err_old err_new : Option (List ℕ)) (status : Status) : Type 0 where
   -- the run carries that out, or says that memory ran out
   pub ran : Ran (DoesWhole l s xs) memory_message m new out_old out_new err_old err_new status

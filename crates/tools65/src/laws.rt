@@ -10,8 +10,9 @@ pub fn one_program()
     ensures { OneProgramLaw }
 {}
 
-/// What `run` does with words that are a link of sources' objects: it writes an image exactly where the
-/// sources have one as one program, and that image; where they have none it is refused and writes nothing.
+/// What `run` does with words that are a link of sources' objects: it carries out the image that the sources have as one
+/// program, unless memory runs out or a stream stops short; with status 0 it wrote that image; where they have none it
+/// writes nothing and fails.
 pub fn runs_of_one_program()
     ensures { RunsLaw }
 {}
@@ -42,7 +43,7 @@ pub fn written_member_is_an_input()
 {}
 
 /// Where a line's script is one, and ca65 wrote each input, or each member of it, of one of some sources, the line
-/// selects sources among these, as the law on one program supposes.
+/// selects sources among these, as the clause `one_program` supposes.
 pub fn written_inputs_select_sources()
     ensures { SourcesSelectedLaw }
 {}

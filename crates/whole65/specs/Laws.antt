@@ -343,7 +343,8 @@ FilesLaw =
     ↔ ((each_passes (check_waiting l (linked.program_of ms).members (in_table table)) (waiting_by_row s.rows (linked.program_of ms).segments) ≡ Ok tt)
     × AreFiles output s (linked.program_of ms) placement l (in_table table) files)
 
--- Where all names that modules export have values in the whole program, each export comes to one in a link.
+-- Where all names that modules export have values in the whole program, a link has the table of exports that its
+-- definition wants.
 abbrev pub ExportTableLaw : Type 0
 ExportTableLaw =
     (s : Script) (placement : Placement) (ys : List Layout) (ms : List Module) →

@@ -176,7 +176,8 @@ pub fn assertions_pass()
     ensures { AssertionsLaw }
 {}
 
-/// Where all names that modules export have values in the whole program, each export comes to one in a link.
+/// Where all names that modules export have values in the whole program, a link has the table of exports that its
+/// definition wants.
 pub fn export_table()
     ensures { ExportTableLaw }
 {}

@@ -4,15 +4,12 @@ ghost use Rattle.std.specs.Prelude.{◌≡◌, ◌++◌, ◌∷◌, [], IfOk, No
 ghost use Rattle.std.specs.Option.{option_map};
 ghost use Rattle.std.specs.Str.{bytes_eq};
 ghost use Rattle.indexmap.specs.IndexMap.{keys};
-ghost use Rattle.syntax65.specs.Trees.{tree_of};
 ghost use Rattle.language65.specs.LineFaults.{opened_twice};
-ghost use Rattle.language65.specs.Symbols.{defined, with_new};
-ghost use Rattle.language65.specs.Views.{spot_of};
-ghost use Rattle.symbols65.specs.Tables.{Begins, HasNumber, IsCounted, IsOpening, KeepsFinal, definition_in, entry_of, first_number, key_of, same_entry, same_opening, scope_by, word_of, word_opened};
-ghost use Rattle.symbols65.specs.Views.{table_of, with_definition, with_names, with_scope, words_of};
+ghost use Rattle.language65.specs.Symbols.{with_new};
+ghost use Rattle.symbols65.specs.Tables.{Begins, HasNumber, IsOpening, first_number, same_opening, scope_by, word_opened};
+ghost use Rattle.symbols65.specs.Views.{table_of, with_names, with_scope, words_of};
 
-use super::definition::Definition;
-use super::entries::{Entry, Key, Opening};
+use super::entries::Opening;
 use super::symbols::Symbols;
 use base65::Sequence;
 use indexmap::{IndexMap, IndexSet};
@@ -29,22 +26,6 @@ fn intern(alloc: Global, words: &mut IndexSet<Vec<u8>>, name: &[u8]) -> Result<u
             let (word, _) = words.insert_full(Vec::from_slice(alloc, name)?)?;
             Ok(word)
         }
-    }
-}
-
-/// Adds a definition behind all others, where there is none by its entry.
-fn push_definition(
-    definitions: &mut IndexMap<Entry, Definition>,
-    entry: Entry,
-    definition: Definition,
-) -> Result<(), AllocError>
-    requires { position (same_entry entry) (keys definitions.old) ≡ None }
-    ensures pushed { OnOk result (definitions.new.entries ≡ definitions.old.entries ++ (entry, definition) ∷ []) }
-    ensures unchanged { OnErr result (definitions.new.entries ≡ definitions.old.entries) }
-{
-    match definitions.insert(entry, definition) {
-        Ok(_) => Ok(()),
-        Err(_) => Err(AllocError),
     }
 }
 
@@ -87,39 +68,6 @@ impl Symbols {
         ensures number { IfOk result (λ w. position (bytes_eq name.now) (words_of self.new) ≡ Some w) }
     {
         intern(alloc, &mut self.words, name)
-    }
-
-    /// The entry of a key, whose name is put in where it is new.
-    fn enter(&mut self, alloc: Global, key: Key<'_>) -> Result<Entry, AllocError>
-        ensures table { table_of self.new ≡ table_of self.old }
-        ensures definitions { self.new.definitions ≡ self.old.definitions }
-        ensures entry { IfOk result (λ e. entry_of (words_of self.new) (key_of key.entry) ≡ Some e) }
-        ensures counted { IfOk result IsCounted }
-    {
-        match key {
-            Key::Named { scope, name } => {
-                let word = self.number(alloc, name)?;
-                Ok(Entry::Named { scope, word })
-            }
-            Key::Cheap { region, name } => {
-                let word = self.number(alloc, name)?;
-                Ok(Entry::Cheap { region, word })
-            }
-            Key::Unnamed(count) => Ok(Entry::Unnamed(count)),
-        }
-    }
-
-    /// Adds a definition behind all others, where its key has none.
-    fn put(&mut self, entry: Entry, definition: Definition) -> Result<(), AllocError>
-        requires number { first_number (words_of self.old) (word_of entry) ≡ word_of entry }
-        requires counted { IsCounted entry }
-        requires form { KeepsFinal (table_of self.old) (length self.old.definitions.entries) (definition_in (words_of self.old) (entry, definition)) definition.form }
-        ensures { OnOk result (position (same_entry entry) (keys self.old.definitions) ≡ None → table_of self.new ≡ with_definition (table_of self.old) (definition_in (words_of self.old) (entry, definition))) }
-    {
-        match self.place_of(entry) {
-            Some(_) => Ok(()),
-            None => push_definition(&mut self.definitions, entry, definition),
-        }
     }
 
     /// The opening of a scope: by its name, which is put in where it is new, or without one.

@@ -1,10 +1,10 @@
 -- Runs in which a call of the store fails.
-use Rattle.std.proofs.Common.{◌≡◌, ◌∙◌, ◌⊎◌, inl, inr, ℕ, ◌<◌, ◌≤◌, List, [], ◌++◌, Bool, true, false, Option, Some, None, Result, Ok, Err, refl, sym, ap, subst, map, arith}
+use Rattle.std.proofs.Common.{◌≡◌, ◌∙◌, ◌⊎◌, inl, inr, ℕ, ◌<◌, List, [], ◌++◌, Bool, true, false, Option, Some, None, Result, Ok, Err, refl, sym, ap, subst, arith}
 use Rattle.std.proofs.Math.Nat.{eq-or-lt_of_le}
 use Rattle.std.specs.Prelude.{IfSome, IfErr, ◌||◌}
 use Rattle.std.specs.Result.{IsErrAnd}
-use Rattle.base65.specs.Outcome.{Finds, Gives, Unless}
-use Rattle.base65.specs.Store.{Files, HasFailed, PassesBy, last_count}
+use Rattle.base65.specs.Outcome.{Finds, Gives}
+use Rattle.base65.specs.Store.{Files, PassesBy}
 use Rattle.object65.specs.declared.object.Object.{Object}
 use Rattle.asm65.specs.declared.refusal.AsmRefusal.{AsmRefusal}
 use Rattle.asm65.specs.Assembly.{IsAssembled, has_failed, in_places, is_outside_refusal, placed_of}
@@ -26,7 +26,7 @@ use Rattle.ar65.specs.Refusals.{is_failure as is_archive_failure, is_memory as i
 use Rattle.tools65.specs.Archives.{Archives, archive_outcome}
 use Rattle.tools65.specs.Assembling.{asm_message, job_in}
 use Rattle.tools65.specs.Command.{Assembles, AssemblesWith, line_memory, outcome_of, refused_with}
-use Rattle.tools65.specs.Failing.{Fails, FailsLine, FailsWords, SaysWhy, SomeFailed, StopsReading, refusing}
+use Rattle.tools65.specs.Failing.{Fails, FailsLine, FailsWords, SaysWhy, SomeFailed, refusing}
 use Rattle.outcomes65.specs.Leaving.{Performs, Prints}
 use Rattle.outcomes65.specs.Stopping.{StopsWriting}
 use Rattle.outcomes65.specs.Outputs.{failing}

@@ -7,3 +7,4 @@ pub mod Archived
 pub mod Selected
 pub mod Wholes
 pub mod WholeRuns
+pub mod OneOutcomes

@@ -1,5 +1,5 @@
 -- What a run leaves where a call of the store fails while it runs.
-use Rattle.std.specs.Prelude.{◌≡◌, ℕ, ◌<◌, ◌⊎◌, true, List, [], ◌++◌, Option, Result, Ok}
+use Rattle.std.specs.Prelude.{◌≡◌, ℕ, ◌<◌, ◌⊎◌, true, List, [], ◌++◌, Option, Ok}
 use Rattle.base65.specs.Store.{Files, last_count}
 use Rattle.ar65.specs.declared.refusal.Refusal.{Refusal as ArchiveRefusal}
 use Rattle.ar65.specs.Naming.{IsOfLine as IsOfArchive}

@@ -2,6 +2,7 @@ pub mod Naming
 pub mod Assembling
 pub mod Archives
 pub mod Command
+pub mod OneOutcome
 pub mod Failing
 pub mod OneProgram
 pub mod Written

@@ -1,8 +1,14 @@
-//! What holds of linking what ca65 wrote. Each function's contract is a law.
+//! What holds of commands, and of linking what ca65 wrote. Each function's contract is a law.
 
 ghost use Rattle.tools65.specs.Inputs.{SelectionExistsLaw, SourcesSelectedLaw, WrittenInputLaw, WrittenMemberLaw, WrittenObjectLaw};
 ghost use Rattle.tools65.specs.Kept.{ArchivedSourcesLaw, AssembledFileLaw};
+ghost use Rattle.tools65.specs.OneOutcome.{OneOutcomeLaw};
 ghost use Rattle.tools65.specs.OneProgram.{LineRunsLaw, OneProgramLaw, RunsLaw};
+
+/// What words do as a command, given the files, is one outcome at most: these texts, these files, this status.
+pub fn one_outcome()
+    ensures { OneOutcomeLaw }
+{}
 
 /// Linking the objects that ca65 writes of sources gives files exactly where the sources, laid out and
 /// evaluated as one program, have an image, and these files are that image.

@@ -33,7 +33,7 @@ use Rattle.language65.specs.Sizes.{length_of}
 use Rattle.language65.specs.Symbols.{Definition, Key, Scope, Symbols, cheap_in, defined, imported, key_defined, named, unnamed_at}
 use Rattle.module65.specs.Pieces as piece
 use Rattle.module65.specs.Pieces.{Made, Purpose, absent_of, as_part, as_said, made_of, used}
-use Rattle.module65.specs.Laying.{unless_fault}
+use Rattle.language65.specs.LineFaults.{unless_fault}
 use Rattle.layout65.specs.Measuring.{Measured, measure_of, measured}
 use Rattle.asm65.specs.declared.waiting.Piece.{Piece}
 use Rattle.asm65.specs.declared.waiting.Piece.TheVariants.{Datum, Operand, Constant, Assertion, Import, Demand, Export}

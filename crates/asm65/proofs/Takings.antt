@@ -20,7 +20,7 @@ use Rattle.layout65.specs.Sounds.{AreWithin, IsCounted, IsSoundStanding}
 use Rattle.layout65.specs.Views.{standing_of}
 use Rattle.layout65.proofs.Behind.{inside_behind}
 use Rattle.layout65.proofs.Measures.{faults_are}
-use Rattle.module65.proofs.Segments.{all_more, all_same}
+use Rattle.language65.proofs.Segments.{all_more, all_same}
 use Rattle.module65.specs.Machine.{Puts, PutsAll, State, Steps, Takes, UnlessFault, at_once, entered, known, later, symbols_behind}
 use Rattle.module65.specs.Module.{out_of, warning_of}
 use Rattle.module65.specs.Pieces.{Piece, pieces_of}

@@ -6,30 +6,31 @@ use Rattle.base65.specs.Store.{Files}
 use Rattle.syntax65.specs.Tokens.{Lexeme}
 use Rattle.expand65.specs.Arguments.{arguments_of}
 use Rattle.source65.specs.Faults.{is_outside}
-use Rattle.expand65.specs.Fronts.{front_directive, is_mislabelled, label_len, line_directive, string_of}
+use Rattle.reader65.specs.Fronts.{front_directive, is_mislabelled, label_len, line_directive, string_of}
 use Rattle.expand65.specs.Includes.{first_file, include_line, included, included_by, tried}
-use Rattle.expand65.specs.Inside.{left_in, left_of, mark_of, outside, own}
-use Rattle.expand65.specs.Kept.{tokens_in}
+use Rattle.reader65.specs.Inside.{left_in, left_of, mark_of, outside, own}
+use Rattle.reader65.specs.Kept.{tokens_in}
 use Rattle.expand65.specs.Macros.{called, called_or_given, macro_at, ordinary}
 use Rattle.expand65.specs.Meaning.{Meaning}
-use Rattle.expand65.specs.Parting.{AreParts}
-use Rattle.expand65.specs.Playing.{definition_of}
+use Rattle.reader65.specs.Parting.{AreParts}
+use Rattle.reader65.specs.Playing.{definition_of}
 use Rattle.expand65.specs.Rewriting.{Opens, Turns, macros_of, state_of, turned}
 use Rattle.expand65.specs.Seeking.{file_of}
-use Rattle.expand65.specs.State.{Item, written, played, labelled, branch, mark, State, plain, label, Stepped, goes, gives, stops, with_items}
+use Rattle.reader65.specs.Left.{Item, written, played, labelled, branch, mark}
+use Rattle.expand65.specs.State.{State, plain, label, Stepped, goes, gives, stops, with_items}
 use Rattle.expand65.specs.Step.{IsActed, IsDirected, IsLabelled, IsSplit, IsStep, IsStepBehind, IsStepFrom}
-use Rattle.expand65.specs.Taking.{Taken, Takes}
-use Rattle.expand65.specs.declared.directives.Directive.{Directive}
+use Rattle.reader65.specs.Taking.{Taken, Takes}
+use Rattle.reader65.specs.declared.directives.Directive.{Directive}
 use Rattle.source65.specs.declared.fault.ExpandFault.{ExpandFault}
 use Rattle.source65.specs.declared.fault.ExpandFault.TheVariants.{NotUnderstood}
-use Rattle.expand65.specs.declared.line.Line.{Line}
+use Rattle.reader65.specs.declared.line.Line.{Line}
 use Rattle.expand65.specs.declared.macros.Opening.TheVariants as opening
 use Rattle.source65.specs.declared.place.Place.{Place}
-use Rattle.expand65.specs.declared.playing.Body.{Body}
+use Rattle.reader65.specs.declared.playing.Body.{Body}
 use Rattle.expand65.specs.declared.rewriter.Rewriter.{Rewriter}
 use Rattle.expand65.specs.declared.rewriter.Turn.{Turn}
 use Rattle.expand65.specs.declared.rewriter.Turn.TheVariants.{Parts}
-use Rattle.expand65.proofs.Marks.{AreLines, lines_left, own_split}
+use Rattle.reader65.proofs.Marks.{AreLines, lines_left, own_split}
 
 -- ---- What a call answers leads to a step of another word for it.
 

@@ -11,26 +11,28 @@ use Rattle.indexmap.proofs.CallerLemmas.{insert_entry-new}
 use Rattle.base65.specs.Outcome.{Unless}
 use Rattle.base65.specs.Store.{Files}
 use Rattle.syntax65.specs.Tokens.{Lexeme}
-use Rattle.expand65.specs.Blocks.{Block, collects, gathers}
-use Rattle.expand65.specs.Entering.{pushed}
+use Rattle.reader65.specs.Blocks.{Block, collects, gathers}
+use Rattle.reader65.specs.Entering.{pushed}
 use Rattle.source65.specs.Faults.{is_outside}
-use Rattle.expand65.specs.Inside.{left_of, turns_left}
-use Rattle.expand65.specs.Kept.{tokens_in}
-use Rattle.expand65.specs.Lines.{nesting_limit}
+use Rattle.reader65.specs.Inside.{left_of, turns_left}
+use Rattle.reader65.specs.Kept.{tokens_in}
+use Rattle.reader65.specs.Lines.{nesting_limit}
 use Rattle.expand65.specs.Macros.{IsKept, entered, kept, macro_of}
-use Rattle.expand65.specs.Playing.{definition_of, replacing_of}
-use Rattle.expand65.specs.Repeats.{IsRepeated, repeat_mark, repeated, repeating, turns}
+use Rattle.reader65.specs.Playing.{definition_of, replacing_of}
+use Rattle.reader65.specs.Replacing.{repeating, Definition}
+use Rattle.reader65.specs.Left.{turns, Item, played, Mark, mark, Left, left, Stop, marks}
+use Rattle.expand65.specs.Repeats.{IsRepeated, repeat_mark, repeated}
 use Rattle.expand65.specs.Rewriting.{macros_of, state_of}
-use Rattle.expand65.specs.State.{Item, played, Mark, mark, Left, left, Stop, Definition, State, Stepped, goes, stops, marks, with_left}
+use Rattle.expand65.specs.State.{State, Stepped, goes, stops, with_left}
 use Rattle.source65.specs.declared.fault.ExpandFault.{ExpandFault}
 use Rattle.source65.specs.declared.fault.ExpandFault.TheVariants.{MacroTwice, Nested}
 use Rattle.source65.specs.declared.place.Place.{Place}
-use Rattle.expand65.specs.declared.playing.Body.{Body}
-use Rattle.expand65.specs.declared.playing.Replay.{Replay}
-use Rattle.expand65.specs.declared.reader.Reader.{Reader}
+use Rattle.reader65.specs.declared.playing.Body.{Body}
+use Rattle.reader65.specs.declared.playing.Replay.{Replay}
+use Rattle.reader65.specs.declared.reader.Reader.{Reader}
 use Rattle.expand65.specs.declared.rewriter.Rewriter.{Rewriter}
-use Rattle.expand65.proofs.Lists.{lookup_mapped}
-use Rattle.expand65.proofs.Tables.{same_name}
+use Rattle.reader65.proofs.Lists.{lookup_mapped}
+use Rattle.reader65.proofs.Tables.{same_name}
 
 -- ---- The table of macros.
 

@@ -8,8 +8,8 @@ use Rattle.std.proofs.lemmas.List.{map-append, take-append-drop}
 use Rattle.std.proofs.lemmas.List.Folds.{list_any-append}
 use Rattle.indexmap.specs.IndexSet.{insert_key}
 use Rattle.expand65.specs.Macros.{are_distinct, distinct_of}
-use Rattle.expand65.proofs.Lists.{any_seen, drop_seen, take_seen}
-use Rattle.expand65.proofs.Tables.{same_name}
+use Rattle.reader65.proofs.Lists.{any_seen, drop_seen, take_seen}
+use Rattle.reader65.proofs.Tables.{same_name}
 
 number_sym : (a b : ℕ) → nat_eq a b ≡ nat_eq b a
 number_sym a b = grind (arith, nat_tests)

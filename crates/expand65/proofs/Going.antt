@@ -5,21 +5,21 @@ use Rattle.base65.specs.Outcome.{Unless}
 use Rattle.base65.specs.Store.{Files}
 use Rattle.expand65.specs.Expansion.{Next, statement, nothing, fault, Reaches, further, given, ended, stopped}
 use Rattle.source65.specs.Faults.{is_outside}
-use Rattle.expand65.specs.Fronts.{front_directive}
+use Rattle.reader65.specs.Fronts.{front_directive}
 use Rattle.expand65.specs.Conditions.{IsIf}
-use Rattle.expand65.specs.Kept.{tokens_in}
+use Rattle.reader65.specs.Kept.{tokens_in}
 use Rattle.expand65.specs.Meaning.{Meaning}
 use Rattle.expand65.specs.Rewriting.{Turns, state_of, turned}
 use Rattle.expand65.specs.Standing.{Answered, Comes, FollowsFrom, fronted, is_end, led, place_of, state_in, stated}
 use Rattle.expand65.specs.State.{State, Stepped, goes, gives, ends, stops}
 use Rattle.expand65.specs.Step.{IsActed, IsStep}
-use Rattle.expand65.specs.declared.directives.Test.TheVariants.{True}
+use Rattle.reader65.specs.declared.directives.Test.TheVariants.{True}
 use Rattle.expand65.specs.declared.expander.Expander.{Expander}
 use Rattle.expand65.specs.declared.expander.Front.{Front}
 use Rattle.expand65.specs.declared.expander.Front.TheVariants.{Nothing, Rest, Branch, End}
 use Rattle.expand65.specs.declared.expander.Statement.{Statement}
 use Rattle.source65.specs.declared.fault.ExpandFault.{ExpandFault}
-use Rattle.expand65.specs.declared.line.Line.{Line}
+use Rattle.reader65.specs.declared.line.Line.{Line}
 use Rattle.source65.specs.declared.place.Place.{Place}
 use Rattle.expand65.specs.declared.rewriter.Turn.{Turn}
 

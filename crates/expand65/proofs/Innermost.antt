@@ -4,23 +4,24 @@ use Rattle.std.specs.Prelude.{if◌then◌else◌}
 use Rattle.base65.specs.Outcome.{Unless}
 use Rattle.base65.specs.Store.{Files}
 use Rattle.syntax65.specs.Tokens.{Lexeme}
-use Rattle.expand65.specs.Blocks.{Block, passes}
+use Rattle.reader65.specs.Blocks.{Block, passes}
 use Rattle.expand65.specs.Conditions.{IsElse, conditions_in, popped}
 use Rattle.source65.specs.Faults.{is_outside}
-use Rattle.expand65.specs.Fronts.{understood}
-use Rattle.expand65.specs.Inside.{is_call, left_in, left_of, mark_of, outside, own}
-use Rattle.expand65.specs.Macros.{in_macro, local_line, local_named, localised, new_names}
+use Rattle.reader65.specs.Fronts.{understood}
+use Rattle.reader65.specs.Inside.{is_call, left_in, left_of, mark_of, outside, own}
+use Rattle.reader65.specs.Left.{localised, Item, Mark, mark}
+use Rattle.expand65.specs.Macros.{in_macro, local_line, local_named, new_names}
 use Rattle.expand65.specs.Rewriting.{state_of}
-use Rattle.expand65.specs.State.{Item, Mark, mark, Stepped, goes, stops, with_conditions, with_items}
+use Rattle.expand65.specs.State.{Stepped, goes, stops, with_conditions, with_items}
 use Rattle.expand65.specs.Step.{last_condition}
 use Rattle.source65.specs.declared.fault.ExpandFault.{ExpandFault}
 use Rattle.source65.specs.declared.fault.ExpandFault.TheVariants.{NotOpened, NotUnderstood}
-use Rattle.expand65.specs.declared.input.Source.{Source}
+use Rattle.reader65.specs.declared.input.Source.{Source}
 use Rattle.source65.specs.declared.place.Place.{Place}
-use Rattle.expand65.specs.declared.reader.Input.{Input}
-use Rattle.expand65.specs.declared.reader.Reader.{Reader}
+use Rattle.reader65.specs.declared.reader.Input.{Input}
+use Rattle.reader65.specs.declared.reader.Reader.{Reader}
 use Rattle.expand65.specs.declared.rewriter.Rewriter.{Rewriter}
-use Rattle.expand65.proofs.Marks.{innermost_is, own_split}
+use Rattle.reader65.proofs.Marks.{innermost_is, own_split}
 
 -- an input with another source of lines
 abbrev pub with_source : Input → Source → Input

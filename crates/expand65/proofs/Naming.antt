@@ -1,7 +1,7 @@
 -- Lists of names with commas between them, read from a place on.
 use Rattle.std.proofs.Common.{◌≡◌, ℕ, zero, suc, ◌+◌, ◌<◌, true, false, List, [], ◌∷◌, ◌++◌, length, drop, Option, Some, None, refl, sym, ap, ◌∙◌, arith, append_assoc, subst}
 use Rattle.syntax65.specs.Tokens.{Lexeme}
-use Rattle.expand65.specs.Fronts.{is_comma, names_from, ◌>=>◌}
+use Rattle.reader65.specs.Fronts.{is_comma, names_from, ◌>=>◌}
 use Rattle.expand65.specs.Parts.{is_comma_at, name_at}
 
 -- a name in front of others

@@ -4,7 +4,7 @@ use Rattle.std.proofs.lemmas.List.{take_all}
 use Rattle.std.specs.Prelude.{◌==◌, ◌&&◌}
 use Rattle.syntax65.specs.Tokens.{Lexeme}
 use Rattle.expand65.specs.Arguments.{braces_behind, parts_within, put_in_first, unbraced}
-use Rattle.expand65.specs.Fronts.{is_comma}
+use Rattle.reader65.specs.Fronts.{is_comma}
 use Rattle.expand65.specs.Parts.{part_len}
 
 abbrev ends_part : ℕ → Lexeme → Bool

@@ -10,14 +10,14 @@ use Rattle.syntax65.specs.declared.expressions.fault.ExprFault.{ExprFault}
 use Rattle.syntax65.specs.declared.expressions.fault.ExprFault.TheVariants.{OutOfMemory, OperandExpected, ParenthesisExpected, TooDeep}
 use Rattle.syntax65.specs.declared.lexing.tokens.Token.{Token}
 use Rattle.source65.specs.Faults.{fault_of_parsing, is_outside}
-use Rattle.expand65.specs.Fronts.{is_comma, name_in, is_mislabelled, label_len, understood, ◌>=>◌}
-use Rattle.expand65.specs.Kept.{tokens_in}
-use Rattle.expand65.specs.Parting.{AreParts}
+use Rattle.reader65.specs.Fronts.{is_comma, name_in, is_mislabelled, label_len, understood, ◌>=>◌}
+use Rattle.reader65.specs.Kept.{tokens_in}
+use Rattle.reader65.specs.Parting.{AreParts}
 use Rattle.expand65.specs.Parts.{is_comma_at, name_at}
 use Rattle.expand65.specs.Repeats.{repeat_header, variable_of}
 use Rattle.source65.specs.declared.fault.ExpandFault.{ExpandFault}
 use Rattle.source65.specs.declared.fault.ExpandFault.TheVariants.{NotUnderstood}
-use Rattle.expand65.specs.declared.line.Line.{Line}
+use Rattle.reader65.specs.declared.line.Line.{Line}
 
 -- ---- The variable.
 
@@ -63,20 +63,6 @@ pub a_header : (ts : List Token) (behind : List Token) (e : Tree) (n : ℕ) (v :
 a_header ts behind e n v h b r =
     let same : understood (variable_of (drop n (lexemes ts))) ≡ Ok v = ap (λ l. understood (variable_of l)) (sym (ap lexemes b ∙ sym (drop-map lexeme_of n ts))) ∙ r in
     (Ok (e, n), h, sym (ap (λ (r : Result (List (List ℕ)) ExpandFault). r >>= (λ v. Ok (e, v))) same))
-
--- ---- A line with a label.
-
-pub parts : (toks : List Token) (ts : List Lexeme) (len : ℕ) (a b : Line) → lexemes toks ≡ ts → len ≡ label_len (lexemes toks) → len ≢ 0 → is_mislabelled (lexemes toks) ≡ false → tokens_in a ≡ lexemes (take len toks) → tokens_in b ≡ lexemes (drop len toks) → (n : ℕ) × AreParts ts n a b
-parts toks ts zero a b e l z w p q = absurd (z refl)
-parts toks ts (suc n) a b e l z w p q = (
-  n,
-  record {
-    some = sym (l ∙ ap label_len e);
-    right = sym (ap is_mislabelled e) ∙ w;
-    label = p ∙ sym (take-map lexeme_of (suc n) toks) ∙ ap (take (suc n)) e;
-    rest = q ∙ sym (drop-map lexeme_of (suc n) toks) ∙ ap (drop (suc n)) e;
-  },
-)
 
 -- what isn't there isn't there with more
 pub refused_on : {A B : Type 0} (o : Option A) (f : A → Option B) (e : ExpandFault) → Unless (is_outside e) (understood o ≡ Err e) → Unless (is_outside e) (understood (o >=> f) ≡ Err e)

@@ -11,13 +11,14 @@ use Rattle.std.proofs.lemmas.Str.{IsUtf8-from_is_utf8}
 use Rattle.base65.specs.Outcome.{Unless}
 use Rattle.base65.specs.Store.{Files, Fills, ReadsAt}
 use Rattle.source65.specs.Faults.{is_outside}
-use Rattle.expand65.specs.Includes.{file_named, first_file, folder_of, found_or, is_slash, numbered}
-use Rattle.expand65.specs.Lines.{lines_of}
-use Rattle.expand65.specs.Reading.{bytes_of, content, left_in_file}
+use Rattle.reader65.specs.Left.{numbered}
+use Rattle.expand65.specs.Includes.{file_named, first_file, folder_of, found_or, is_slash}
+use Rattle.reader65.specs.Lines.{lines_of}
+use Rattle.reader65.specs.Reading.{bytes_of, content, left_in_file}
 use Rattle.expand65.specs.Seeking.{file_of, is_there}
 use Rattle.source65.specs.declared.fault.ExpandFault.{ExpandFault}
 use Rattle.source65.specs.declared.fault.ExpandFault.TheVariants.{FileTooLong}
-use Rattle.expand65.specs.declared.file.OpenFile.{OpenFile}
+use Rattle.reader65.specs.declared.file.OpenFile.{OpenFile}
 
 -- ---- A file's length by a read at its limit.
 
@@ -67,11 +68,6 @@ folder_next file i len n d l h w e = by (is_slash (get_or file i d)) refl
     by false c =
         let count : n ≡ len = e ∙ rw c refl in
         (ap folder_of (take_more file i d l) ∙ folder_push (take i file) (get_or file i d) false c ∙ h ∙ ap (λ k. take k file) (sym count), omega (arith, count, w))
-
--- ---- A file before its first line.
-
-pub opens : (m : Files) (name buffer : List ℕ) → buffer ≡ [] → length (bytes_of m name) ≤ 16777216 → numbered 0 (lines_of (buffer ++ content m name)) ≡ numbered 0 (lines_of (bytes_of m name))
-opens m name buffer b h = ap (λ x. numbered 0 (lines_of (x ++ content m name))) b ∙ ap (λ l. numbered 0 (lines_of l)) (take_all 16777216 (bytes_of m name) h)
 
 -- ---- A file that was found isn't too long.
 

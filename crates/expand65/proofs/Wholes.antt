@@ -13,7 +13,7 @@ use Rattle.syntax65.specs.declared.expressions.fault.ExprFault.TheVariants.{OutO
 use Rattle.syntax65.specs.declared.lexing.tokens.Token.{Token}
 use Rattle.expand65.specs.Conditions.{whole}
 use Rattle.source65.specs.Faults.{fault_of_parsing, is_outside}
-use Rattle.expand65.specs.Fronts.{unknown}
+use Rattle.reader65.specs.Fronts.{unknown}
 use Rattle.source65.specs.declared.fault.ExpandFault.{ExpandFault}
 
 -- these tokens are read as an expression of all of them, or not

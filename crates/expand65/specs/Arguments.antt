@@ -1,7 +1,7 @@
 -- The arguments of a macro's call.
 use Rattle.std.specs.Prelude.{ℕ, ◌+◌, ◌-◌, ◌==◌, ◌&&◌, Bool, false, List, [], ◌∷◌, length, take, drop, map, if◌then◌else◌}
 use Rattle.syntax65.specs.Tokens.{Lexeme}
-use Rattle.expand65.specs.Fronts.{is_comma, opens_brace, closes_brace}
+use Rattle.reader65.specs.Fronts.{is_comma, opens_brace, closes_brace}
 
 -- how many braces are open behind a token; one that closes none is a token like others
 abbrev pub braces_behind : ℕ → Lexeme → ℕ

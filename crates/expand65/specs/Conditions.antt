@@ -5,12 +5,13 @@ use Rattle.base65.specs.Outcome.{◌>>=◌}
 use Rattle.syntax65.specs.Tokens.{Lexeme}
 use Rattle.syntax65.specs.Trees.{Tree, name}
 use Rattle.syntax65.specs.declared.expressions.fault.ExprFault.{ExprFault}
-use Rattle.expand65.specs.Blocks.{Block, Branch, at_elseif, at_else, at_endif, skips, passes}
-use Rattle.expand65.specs.Fronts.{opens_parenthesis, unknown}
+use Rattle.reader65.specs.Blocks.{Block, Branch, at_elseif, at_else, at_endif, skips, passes}
+use Rattle.reader65.specs.Fronts.{opens_parenthesis, unknown}
 use Rattle.expand65.specs.Meaning.{Meaning}
-use Rattle.expand65.specs.State.{State, Left, left, Stop, Stepped, goes, stops, branch, with_left, with_conditions, Mark}
-use Rattle.expand65.specs.declared.directives.Test.{Test}
-use Rattle.expand65.specs.declared.directives.Test.TheVariants.{True, Defined, NotDefined, Blank, NotBlank}
+use Rattle.reader65.specs.Left.{Left, left, Stop, branch, Mark}
+use Rattle.expand65.specs.State.{State, Stepped, goes, stops, with_left, with_conditions}
+use Rattle.reader65.specs.declared.directives.Test.{Test}
+use Rattle.reader65.specs.declared.directives.Test.TheVariants.{True, Defined, NotDefined, Blank, NotBlank}
 use Rattle.source65.specs.declared.fault.ExpandFault.{ExpandFault}
 use Rattle.source65.specs.declared.fault.ExpandFault.TheVariants.{NotConstant, NotOpened}
 

@@ -3,10 +3,11 @@ use Rattle.std.specs.Prelude.{ℕ, List, [], ◌∷◌, ◌++◌, false, None, R
 use Rattle.std.specs.FinMap as fmap
 use Rattle.base65.specs.Outcome.{◌>>=◌}
 use Rattle.base65.specs.Store.{Files}
-use Rattle.expand65.specs.Includes.{bytes_in, numbered}
-use Rattle.expand65.specs.Lines.{lines_of, line_limit}
+use Rattle.reader65.specs.Left.{numbered, mark, Mark, Left, left, Stop}
+use Rattle.expand65.specs.Includes.{bytes_in}
+use Rattle.reader65.specs.Lines.{lines_of, line_limit}
 use Rattle.expand65.specs.Meaning.{Meaning}
-use Rattle.expand65.specs.State.{mark, Mark, Left, left, Stop, State, Stated, goes, gives, ends, stops}
+use Rattle.expand65.specs.State.{State, Stated, goes, gives, ends, stops}
 use Rattle.expand65.specs.Step.{IsStep}
 use Rattle.source65.specs.declared.fault.ExpandFault.{ExpandFault}
 

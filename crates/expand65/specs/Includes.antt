@@ -5,10 +5,11 @@ use Rattle.std.specs.List.{list_any}
 use Rattle.std.specs.Str.{is_utf8}
 use Rattle.base65.specs.Store.{Files}
 use Rattle.syntax65.specs.Tokens.{Lexeme}
-use Rattle.expand65.specs.Fronts.{string_of}
-use Rattle.expand65.specs.Lines.{lines_of, file_limit}
+use Rattle.reader65.specs.Fronts.{string_of}
+use Rattle.reader65.specs.Lines.{lines_of, file_limit}
 use Rattle.expand65.specs.Macros.{entered}
-use Rattle.expand65.specs.State.{Item, written, Mark, State, Stepped, stops}
+use Rattle.reader65.specs.Left.{Mark, numbered}
+use Rattle.expand65.specs.State.{State, Stepped, stops}
 use Rattle.source65.specs.declared.fault.ExpandFault.{ExpandFault}
 use Rattle.source65.specs.declared.fault.ExpandFault.TheVariants.{FileNotFound, FileTooLong, NotUnderstood}
 
@@ -22,11 +23,6 @@ file_named m name = if is_utf8 name then fmap.get m name else None
 abbrev pub bytes_in : Option (List ℕ) → Result (List ℕ) ExpandFault
 bytes_in None = Err FileNotFound
 bytes_in (Some bytes) = if nat_le (length bytes) file_limit then Ok bytes else Err FileTooLong
-
--- the lines of a file behind the first n
-abbrev pub numbered : ℕ → List (List ℕ) → List Item
-numbered n [] = []
-numbered n (line ∷ lines) = written (n + 1) line ∷ numbered (n + 1) lines
 
 -- ---- Where a name is looked for.
 

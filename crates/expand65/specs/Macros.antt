@@ -6,11 +6,12 @@ use Rattle.std.specs.Str.{bytes_eq}
 use Rattle.syntax65.specs.Tokens.{Lexeme}
 use Rattle.syntax65.specs.declared.lexing.tokens.TokenKind.TheVariants as token
 use Rattle.expand65.specs.Arguments.{arguments_of}
-use Rattle.expand65.specs.Blocks.{Block, collects}
-use Rattle.expand65.specs.Fronts.{name_in, names_of, ◌>=>◌}
-use Rattle.expand65.specs.Lines.{nesting_limit}
-use Rattle.expand65.specs.Replacing.{Replacing, number_token, own_token}
-use Rattle.expand65.specs.State.{Item, played, mark, Mark, Left, left, Stop, Definition, State, plain, Stepped, goes, gives, stops, with_left, with_items, marks, innermost, come_back}
+use Rattle.reader65.specs.Blocks.{Block, collects}
+use Rattle.reader65.specs.Fronts.{name_in, names_of, ◌>=>◌}
+use Rattle.reader65.specs.Lines.{nesting_limit}
+use Rattle.reader65.specs.Replacing.{Definition, Replacing, number_token}
+use Rattle.reader65.specs.Left.{Item, played, mark, Mark, Left, left, Stop, innermost, localised, marks, outside_macro}
+use Rattle.expand65.specs.State.{State, plain, Stepped, goes, gives, stops, with_left, with_items}
 use Rattle.source65.specs.declared.fault.ExpandFault.TheVariants.{Nested, TooManyArguments, MacroTwice, NotOpened, NotUnderstood}
 use Rattle.source65.specs.declared.place.Place.{Place}
 
@@ -103,26 +104,6 @@ ordinary s (t ∷ ts) = called_or_given s t ts (macro_at s.macros t)
 
 -- ---- An expansion's own names.
 
--- a name with what stands for it, once
-abbrev pub with_local : List (List ℕ × List Lexeme) → List ℕ → List Lexeme → List (List ℕ × List Lexeme)
-with_local [] name ts = (name, ts) ∷ []
-with_local ((other, us) ∷ others) name ts = if bytes_eq name other then (other, ts) ∷ others else (other, us) ∷ with_local others name ts
-
-abbrev pub all_local : ℕ → List (List ℕ) → List (List ℕ × List Lexeme) → List (List ℕ × List Lexeme)
-all_local number [] locals = locals
-all_local number (name ∷ names) locals = all_local number names (with_local locals name (own_token number name ∷ []))
-
--- more names of its own, each of which is followed by `?` and the expansion's number
-abbrev pub with_locals : List (List ℕ) → Replacing → Replacing
-with_locals names r = record { params = r.params; arguments = r.arguments; count = r.count; locals = all_local r.number names r.locals; number = r.number }
-
--- what is left of an expansion, with more names of its own
-abbrev pub localised : List (List ℕ) → List Item → List Item
-localised names [] = []
-localised names (played r ts ∷ is) = played (with_locals names r) ts ∷ localised names is
-localised names (mark k ∷ is) = mark k ∷ is
-localised names (i ∷ is) = i ∷ localised names is
-
 -- `?` marks the names that were made
 abbrev pub is_made : List ℕ → Bool
 is_made name = list_any (λ b. b == 63) name
@@ -147,12 +128,6 @@ abbrev pub local_line : State → List Lexeme → Stepped
 local_line s ts = if in_macro (innermost s.left.items) then local_named s (new_names ts) else stops (NotUnderstood, s.left.place)
 
 -- ---- Leaving an expansion.
-
--- what is left behind the innermost expansion, with its mark and the place behind it
-abbrev pub outside_macro : List Item → Place → Option (Mark × List Item × Place)
-outside_macro [] p = None
-outside_macro (mark k ∷ is) p = if k.is_macro then Some (k, is, come_back p k.back) else outside_macro is (come_back p k.back)
-outside_macro (_ ∷ is) p = outside_macro is p
 
 -- the outermost conditions, so many of them
 abbrev pub outermost : ℕ → List Bool → List Bool

@@ -2,7 +2,7 @@
 use Rattle.std.specs.Prelude.{ℕ, ◌+◌, ◌==◌, ◌&&◌, Bool, false, List, [], ◌∷◌, slice_get, Option, Some, None, if◌then◌else◌}
 use Rattle.syntax65.specs.Tokens.{Lexeme}
 use Rattle.expand65.specs.Arguments.{braces_behind}
-use Rattle.expand65.specs.Fronts.{is_comma, name_in, ◌>=>◌}
+use Rattle.reader65.specs.Fronts.{is_comma, name_in, ◌>=>◌}
 
 -- the name at a place
 abbrev pub name_at : List Lexeme → ℕ → Option (List ℕ)

@@ -5,12 +5,13 @@ use Rattle.base65.specs.Outcome.{◌>>=◌}
 use Rattle.syntax65.specs.Tokens.{Lexeme}
 use Rattle.syntax65.specs.Trees.{Tree}
 use Rattle.syntax65.specs.declared.expressions.fault.ExprFault.{ExprFault}
-use Rattle.expand65.specs.Blocks.{Block, gathers}
-use Rattle.expand65.specs.Fronts.{is_comma, name_in, understood, unknown, ◌>=>◌}
+use Rattle.reader65.specs.Blocks.{Block, gathers}
+use Rattle.reader65.specs.Fronts.{is_comma, name_in, understood, unknown, ◌>=>◌}
 use Rattle.expand65.specs.Macros.{entered}
 use Rattle.expand65.specs.Meaning.{Meaning}
-use Rattle.expand65.specs.Replacing.{Replacing, number_token}
-use Rattle.expand65.specs.State.{Item, played, Mark, Left, Stop, State, Stepped, stops, with_left}
+use Rattle.reader65.specs.Replacing.{repeating}
+use Rattle.reader65.specs.Left.{Mark, Left, Stop, turns}
+use Rattle.expand65.specs.State.{State, Stepped, stops, with_left}
 use Rattle.source65.specs.declared.fault.ExpandFault.{ExpandFault}
 use Rattle.source65.specs.declared.fault.ExpandFault.TheVariants.{NotConstant, CountOutOfRange}
 
@@ -37,19 +38,6 @@ turns_of (Some (negsuc n)) = Err CountOutOfRange
 -- how many turns there are, and the variable, if it has one
 abbrev pub repeat_of : Meaning → List Lexeme → Result (Tree × ℕ) ExprFault → Result (ℕ × List (List ℕ)) ExpandFault
 repeat_of k ts q = repeat_header ts q >>= (λ h. turns_of (k.value h.0) >>= (λ n. Ok (n, h.1)))
-
--- what a repeat puts into its lines, but for the number of the turn
-abbrev pub repeating : List (List ℕ) → Replacing
-repeating variable = record { params = variable; arguments = []; count = None; locals = []; number = 0 }
-
--- and in a turn, the first one being 0
-abbrev pub in_turn : Replacing → ℕ → Replacing
-in_turn e t = record { params = e.params; arguments = (number_token t ∷ []) ∷ []; count = e.count; locals = e.locals; number = e.number }
-
--- the lines of so many turns from turn t on
-abbrev pub turns : Replacing → List (List Lexeme) → ℕ → ℕ → List Item
-turns e body t zero = []
-turns e body t (suc n) = map (played (in_turn e t)) body ++ turns e body (t + 1) n
 
 abbrev pub repeat_mark : State → Mark
 repeat_mark s = record { is_macro = false; conditions = length s.conditions; back = None }

@@ -6,17 +6,19 @@ use Rattle.base65.specs.Outcome.{Unless}
 use Rattle.base65.specs.Store.{Files}
 use Rattle.syntax65.specs.Tokens.{Lexeme}
 use Rattle.source65.specs.Faults.{is_outside}
-use Rattle.expand65.specs.Inside.{left_of}
-use Rattle.expand65.specs.Kept.{tokens_in}
+use Rattle.reader65.specs.Inside.{left_of}
+use Rattle.reader65.specs.Kept.{tokens_in}
 use Rattle.expand65.specs.Macros.{macro_at}
-use Rattle.expand65.specs.Playing.{definition_of}
-use Rattle.expand65.specs.State.{labelled, branch, Definition, State, with_items, label, plain, Stepped, goes, gives, stops}
-use Rattle.expand65.specs.declared.directives.Directive.{Directive}
-use Rattle.expand65.specs.declared.directives.Directive.TheVariants as directive
+use Rattle.reader65.specs.Playing.{definition_of}
+use Rattle.reader65.specs.Left.{labelled, branch}
+use Rattle.reader65.specs.Replacing.{Definition}
+use Rattle.expand65.specs.State.{State, with_items, label, plain, Stepped, goes, gives, stops}
+use Rattle.reader65.specs.declared.directives.Directive.{Directive}
+use Rattle.reader65.specs.declared.directives.Directive.TheVariants as directive
 use Rattle.source65.specs.declared.fault.ExpandFault.{ExpandFault}
 use Rattle.expand65.specs.declared.macros.Opening.{Opening}
 use Rattle.expand65.specs.declared.macros.Opening.TheVariants as opening
-use Rattle.expand65.specs.declared.playing.Body.{Body}
+use Rattle.reader65.specs.declared.playing.Body.{Body}
 use Rattle.expand65.specs.declared.rewriter.Rewriter.{Rewriter}
 use Rattle.expand65.specs.declared.rewriter.Turn.{Turn}
 use Rattle.expand65.specs.declared.rewriter.Turn.TheVariants.{Goes, Gives, Parts, Decides, Ends}

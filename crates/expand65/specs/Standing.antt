@@ -4,10 +4,11 @@ use Rattle.base65.specs.Outcome.{Unless}
 use Rattle.base65.specs.Store.{Files}
 use Rattle.expand65.specs.Expansion.{Next, statement, nothing, fault, Reaches}
 use Rattle.source65.specs.Faults.{is_outside}
-use Rattle.expand65.specs.Kept.{tokens_in}
+use Rattle.reader65.specs.Kept.{tokens_in}
 use Rattle.expand65.specs.Meaning.{Meaning}
 use Rattle.expand65.specs.Rewriting.{state_of, size_of}
-use Rattle.expand65.specs.State.{Item, labelled, branch, State, with_items, Stated, label, plain, Stepped, goes, gives}
+use Rattle.reader65.specs.Left.{Item, labelled, branch}
+use Rattle.expand65.specs.State.{State, with_items, Stated, label, plain, Stepped, goes, gives}
 use Rattle.expand65.specs.declared.expander.Expander.{Expander}
 use Rattle.expand65.specs.declared.expander.Front.{Front}
 use Rattle.expand65.specs.declared.expander.Front.TheVariants.{Nothing, Rest, Branch, End}

@@ -1,48 +1,8 @@
 -- The state of expansion: the lines that are left, the macros, the open conditions.
-use Rattle.std.specs.Prelude.{ℕ, ◌+◌, List, [], ◌∷◌, Bool, Option, Some, None}
+use Rattle.std.specs.Prelude.{ℕ, List, Bool}
 use Rattle.syntax65.specs.Tokens.{Lexeme}
-use Rattle.expand65.specs.Replacing.{Replacing}
-use Rattle.source65.specs.declared.fault.ExpandFault.{ExpandFault}
-use Rattle.source65.specs.declared.place.Place.{Place}
-
--- where a file, an expansion or a repeat ends
-pub record Mark : Type 0 where
-  -- whether it is a macro's expansion
-  pub is_macro : Bool
-  -- how many conditions were open where it began
-  pub conditions : ℕ
-  -- the place of the line that a file was included from
-  pub back : Option Place
-
--- what is left of a line, or an end mark
-pub data Item : Type 0 where
-  -- a line of a file: its number and its bytes
-  written : ℕ → List ℕ → Item
-  -- a line of a body, and what stands for names in it
-  played : Replacing → List Lexeme → Item
-  -- what stands behind the label of a line
-  labelled : List Lexeme → Item
-  -- what stands behind an `.elseif` that has to be decided
-  branch : List Lexeme → Item
-  mark : Mark → Item
-
--- the lines that are left, how many more may be taken, and the place of the last one that was
-pub record Left : Type 0 where
-  pub items : List Item
-  pub room : ℕ
-  pub place : Place
-
-abbrev pub left : List Item → ℕ → Place → Left
-left is r p = record { items = is; room = r; place = p }
-
--- a fault and its place
-abbrev pub Stop : Type 0
-Stop = ExpandFault × Place
-
--- a macro's parameters and lines
-pub record Definition : Type 0 where
-  pub params : List (List ℕ)
-  pub body : List (List Lexeme)
+use Rattle.reader65.specs.Left.{Item, Left, left, Stop}
+use Rattle.reader65.specs.Replacing.{Definition}
 
 pub record State : Type 0 where
   pub left : Left
@@ -77,23 +37,3 @@ pub data Stepped : Type 0 where
   gives : Stated → State → Stepped
   ends : State → Stepped
   stops : Stop → Stepped
-
-abbrev pub moved : Place → ℕ → Place
-moved p n = record { file = p.file; line = n }
-
--- the place behind an end mark
-abbrev pub come_back : Place → Option Place → Place
-come_back p None = p
-come_back p (Some q) = q
-
--- how many end marks there are
-abbrev pub marks : List Item → ℕ
-marks [] = 0
-marks (mark k ∷ is) = marks is + 1
-marks (_ ∷ is) = marks is
-
--- the first end mark, that of the innermost file, expansion or repeat
-abbrev pub innermost : List Item → Option Mark
-innermost [] = None
-innermost (mark k ∷ is) = Some k
-innermost (_ ∷ is) = innermost is

@@ -3,16 +3,17 @@ use Rattle.std.specs.Prelude.{◌≡◌, ℕ, zero, suc, ◌==◌, Bool, true, f
 use Rattle.base65.specs.Store.{Files}
 use Rattle.syntax65.specs.Tokens.{Lexeme}
 use Rattle.expand65.specs.Conditions.{IsIf, IsElse, conditions_in, ended_if, popped}
-use Rattle.expand65.specs.Fronts.{front_directive, is_mislabelled, label_len, line_directive, string_of}
+use Rattle.reader65.specs.Fronts.{front_directive, is_mislabelled, label_len, line_directive, string_of}
 use Rattle.expand65.specs.Includes.{include_line}
 use Rattle.expand65.specs.Macros.{IsMacro, exit_macro, local_line, ordinary}
 use Rattle.expand65.specs.Meaning.{Meaning}
 use Rattle.expand65.specs.Repeats.{IsRepeat}
-use Rattle.expand65.specs.State.{Item, labelled, branch, mark, left, State, label, Stepped, goes, gives, ends, stops, with_left, with_items, innermost, come_back}
-use Rattle.expand65.specs.Taking.{Taken, Takes}
-use Rattle.expand65.specs.declared.directives.Directive.{Directive}
-use Rattle.expand65.specs.declared.directives.Directive.TheVariants.{Macro, EndMacro, ExitMacro, Local, Repeat, EndRepeat, If, ElseIf, Else, EndIf, Include, Error, End}
-use Rattle.expand65.specs.declared.directives.Test.TheVariants.{True}
+use Rattle.reader65.specs.Left.{Item, labelled, branch, mark, left, innermost, come_back}
+use Rattle.expand65.specs.State.{State, label, Stepped, goes, gives, ends, stops, with_left, with_items}
+use Rattle.reader65.specs.Taking.{Taken, Takes}
+use Rattle.reader65.specs.declared.directives.Directive.{Directive}
+use Rattle.reader65.specs.declared.directives.Directive.TheVariants.{Macro, EndMacro, ExitMacro, Local, Repeat, EndRepeat, If, ElseIf, Else, EndIf, Include, Error, End}
+use Rattle.reader65.specs.declared.directives.Test.TheVariants.{True}
 use Rattle.source65.specs.declared.fault.ExpandFault.TheVariants as fault
 
 -- what follows where nothing stands behind a directive

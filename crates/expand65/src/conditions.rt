@@ -11,9 +11,8 @@ ghost use Rattle.source65.specs.Faults.{is_failure, is_outside};
 ghost use Rattle.expand65.specs.Macros.{outermost};
 ghost use Rattle.expand65.specs.Rewriting.{PopsTo};
 
-use crate::directives::Test;
-use crate::fronts::opens_parenthesis;
 use crate::knows::Knows;
+use reader65::{Test, opens_parenthesis};
 use source65::ExpandFault;
 use std::alloc::{AllocError, Global};
 use std::marker::Model;

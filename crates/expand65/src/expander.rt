@@ -4,22 +4,19 @@ ghost use Rattle.std.specs.Prelude.{◌≡◌, ◌<◌, ◌≤◌, ◌+◌, ◌*
 ghost use Rattle.base65.specs.Store.{Files, Passes};
 ghost use Rattle.expand65.specs.Standing.{Comes, FollowsFrom, Opens, StandsFor, is_end, led, measure_of, place_of, state_in};
 ghost use Rattle.expand65.specs.Expansion.{first_left, opened_in};
-ghost use Rattle.expand65.specs.Inside.{left_of};
-ghost use Rattle.expand65.specs.Reading.{bytes_of};
+ghost use Rattle.reader65.specs.Inside.{left_of};
+ghost use Rattle.reader65.specs.Reading.{bytes_of};
 ghost use Rattle.expand65.specs.Rewriting.{Turns, size_of, state_of, turned, weight_of};
 ghost use Rattle.expand65.specs.State.{State};
 ghost use Rattle.expand65.specs.Step.{IsStep};
 
 use crate::conditions::Conditions;
-use crate::file::OpenFile;
 use crate::includes::is_there;
-use crate::input::Source;
 use crate::knows::Knows;
-use crate::line::Line;
-use crate::reader::{Input, Reader};
 use crate::rewriter::{Rewriter, Turn};
 use base65::{Sequence, Store, Text};
 use indexmap::IndexMap;
+use reader65::{Input, Line, OpenFile, Reader, Source};
 use source65::{ExpandFault, Place};
 use std::alloc::{AllocError, Global};
 use std::mem;

@@ -9,8 +9,8 @@ ghost use Rattle.source65.specs.Faults.{is_outside};
 ghost use Rattle.expand65.specs.Includes.{as_text, begins_with_slash, beside, file_named, first_file, folder_of, found_or, is_slash, tried, within};
 ghost use Rattle.expand65.specs.Seeking.{Tries, file_of, is_there};
 
-use crate::file::MAX_FILE;
 use base65::{Store, StoreFault, Text};
+use reader65::MAX_FILE;
 use source65::ExpandFault;
 use std::alloc::{AllocError, Global};
 

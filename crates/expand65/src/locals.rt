@@ -6,20 +6,18 @@ ghost use Rattle.base65.specs.Outcome.{Gives};
 ghost use Rattle.base65.specs.Store.{Files};
 ghost use Rattle.syntax65.specs.Tokens.{lexemes};
 ghost use Rattle.source65.specs.Faults.{is_failure, is_outside};
-ghost use Rattle.expand65.specs.Fronts.{understood};
-ghost use Rattle.expand65.specs.Inside.{is_call, left_in};
-ghost use Rattle.expand65.specs.Kept.{tokens_in};
-ghost use Rattle.expand65.specs.Macros.{exit_macro, is_made, local_line, localised, new_names, with_locals};
-ghost use Rattle.expand65.specs.Playing.{replacing_of};
-ghost use Rattle.expand65.specs.Replacing.{own_token};
-ghost use Rattle.expand65.specs.State.{Item, Mark, mark};
+ghost use Rattle.reader65.specs.Fronts.{understood};
+ghost use Rattle.reader65.specs.Inside.{is_call, left_in};
+ghost use Rattle.reader65.specs.Kept.{tokens_in};
+ghost use Rattle.reader65.specs.Left.{localised, Item, Mark, mark};
+ghost use Rattle.reader65.specs.Replacing.{with_locals, own_token};
+ghost use Rattle.expand65.specs.Macros.{exit_macro, is_made, local_line, new_names};
+ghost use Rattle.reader65.specs.Playing.{replacing_of};
 ghost use Rattle.expand65.specs.Rewriting.{Turns, size_of, state_of, weight_of};
 
 use crate::arguments::names_of;
-use crate::input::Source;
-use crate::line::Line;
-use crate::playing::Replay;
 use crate::rewriter::{Rewriter, Turn};
+use reader65::{Line, Replay, Source};
 use source65::ExpandFault;
 use std::alloc::{AllocError, Global};
 use syntax65::{Token, TokenKind};
@@ -56,66 +54,6 @@ fn new_names<'a>(alloc: Global, tokens: &[Token<'a>]) -> Result<Vec<&'a [u8]>, E
         return Err(ExpandFault::NotUnderstood);
     }
     Ok(names)
-}
-
-/// What stands for a name of an expansion's own.
-fn own_line(alloc: Global, number: u64, name: &[u8]) -> Result<Line, AllocError>
-    ensures { IfOk result (λ line. tokens_in line ≡ own_token number name.now ∷ []) }
-{
-    let digits = format!(in alloc; "{number}")?;
-    let mut text = Vec::from_slice(alloc, name)?;
-    text.push(b'?')?;
-    text.extend_from_slice(digits.as_bytes())?;
-    let token = Token {
-        kind: TokenKind::Identifier,
-        text: text.as_slice(),
-    };
-    Line::copy_of(alloc, &[token])
-}
-
-impl Replay {
-    /// One more name of the expansion's own.
-    fn add_local(&mut self, alloc: Global, name: &[u8]) -> Result<(), AllocError>
-        ensures added { OnOk result
-            (replacing_of self.new ≡ with_locals (name.now ∷ []) (replacing_of self.old)) }
-        ensures body { self.new.body ≡ self.old.body }
-        ensures at { self.new.at ≡ self.old.at }
-    {
-        let line = own_line(alloc, self.number, name)?;
-        let name = Vec::from_slice(alloc, name)?;
-        self.locals.insert(name, line)?;
-        Ok(())
-    }
-
-    /// More names of the expansion's own.
-    fn add_locals(&mut self, alloc: Global, names: &[&[u8]]) -> Result<(), AllocError>
-        ensures added { OnOk result
-            (replacing_of self.new ≡ with_locals (map (λ s. s.now) names.now)
-            (replacing_of self.old)) }
-        ensures body { self.new.body ≡ self.old.body }
-        ensures at { self.new.at ≡ self.old.at }
-    {
-        for name in names {
-            self.add_local(alloc, name)?;
-        }
-        Ok(())
-    }
-}
-
-impl Source {
-    /// More names of an expansion's own.
-    fn add_locals(&mut self, alloc: Global, names: &[&[u8]]) -> Result<(), AllocError>
-        requires { is_call self.old ≡ true }
-        ensures added { (m : Files) (k : Mark) (is : List Item) →
-            OnOk result (left_in m self.new ++ mark k ∷ is ≡ localised (map (λ s. s.now) names.now)
-            (left_in m self.old ++ mark k ∷ is)) }
-        ensures call { is_call self.new ≡ is_call self.old }
-    {
-        match self {
-            Source::Call(replay) => replay.add_locals(alloc, names),
-            _ => Ok(()),
-        }
-    }
 }
 
 impl Rewriter {

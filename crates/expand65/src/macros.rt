@@ -5,23 +5,19 @@ ghost use Rattle.base65.specs.Outcome.{Gives};
 ghost use Rattle.base65.specs.Store.{Files, Passes};
 ghost use Rattle.syntax65.specs.Tokens.{lexeme_of, lexemes};
 ghost use Rattle.source65.specs.Faults.{is_failure, is_outside};
-ghost use Rattle.expand65.specs.Fronts.{understood};
+ghost use Rattle.reader65.specs.Fronts.{understood};
 ghost use Rattle.expand65.specs.Arguments.{arguments_of};
-ghost use Rattle.expand65.specs.Kept.{tokens_in};
+ghost use Rattle.reader65.specs.Kept.{tokens_in};
 ghost use Rattle.expand65.specs.Macros.{IsDefined, IsMacro, called, distinct_of, header_of, header_with, macro_of, ordinary, params_of};
-ghost use Rattle.expand65.specs.Playing.{definition_of};
-ghost use Rattle.expand65.specs.Replacing.{number_token};
+ghost use Rattle.reader65.specs.Playing.{definition_of};
+ghost use Rattle.reader65.specs.Replacing.{number_token};
 ghost use Rattle.expand65.specs.Rewriting.{MacroFound, Opens, Turns, macros_of, size_of, state_of, weight_of};
 
 use crate::arguments::{arguments_of, names_of};
-use crate::fronts::name_in;
-use crate::input::{Source, number_line};
-use crate::line::Line;
-use crate::playing::{Body, Replay};
-use crate::reader::Input;
 use crate::rewriter::{Rewriter, Turn};
 use base65::{Sequence, Store};
 use indexmap::{IndexMap, IndexSet};
+use reader65::{Body, Input, Line, Replay, Source, behind_first, name_in, number_line};
 use source65::ExpandFault;
 use std::alloc::{AllocError, Global};
 use std::rc::Rc;
@@ -242,16 +238,6 @@ pub enum Opening {
     Nothing,
     Call(Rc<Body>),
     Other,
-}
-
-/// What stands behind the first token.
-pub fn behind_first<'a, 'b>(tokens: &'b [Token<'a>]) -> &'b [Token<'a>]
-    ensures { lexemes result.now ≡ drop 1 (lexemes tokens.now) }
-{
-    match tokens {
-        [] => tokens,
-        [_, behind @ ..] => behind,
-    }
 }
 
 /// How many arguments there are, as a line.

@@ -1,5 +1,5 @@
 -- The faults that are found at a statement's line, in their order.
-use Rattle.std.specs.Prelude.{ℕ, zero, suc, ◌+◌, ◌-◌, ◌==◌, ℤ, pos, Bool, true, false, nat_le, nat_lt, not, ◌&&◌, List, [], ◌∷◌, ◌++◌, length, Option, Some, None, slice_get}
+use Rattle.std.specs.Prelude.{ℕ, zero, suc, ◌+◌, ◌-◌, ◌==◌, ℤ, pos, Bool, true, false, nat_le, nat_lt, not, ◌&&◌, List, [], ◌∷◌, ◌++◌, length, Option, Some, None, Result, Ok, Err, slice_get}
 use Rattle.std.specs.List.{list_any}
 use Rattle.syntax65.specs.Trees.{Tree, name, unary, binary}
 use Rattle.syntax65.specs.declared.lexing.tokens.AddressSize.{AddressSize}
@@ -33,6 +33,11 @@ unless_there (Some x) e = None
 abbrev pub where_there : {A : Type 0} → Option A → AsmFault → Option AsmFault
 where_there None e = None
 where_there (Some x) e = Some e
+
+-- a fault, or else this
+abbrev pub unless_fault : {A : Type 0} → Option AsmFault → A → Result A AsmFault
+unless_fault None x = Ok x
+unless_fault (Some e) x = Err e
 
 -- ---- Names in the global scope alone.
 

@@ -11,11 +11,10 @@ use Rattle.language65.specs.declared.fault.AsmFault.TheVariants.{SectionTooLarge
 use Rattle.language65.specs.Laid.{is_unnamed, opens_region}
 use Rattle.language65.specs.Language as l
 use Rattle.language65.specs.Layout.{Standing, first_size, named_segments, new_segment, opens_scope, own_size, place_of, scope_behind, segments_behind, spot_of, standing_behind}
-use Rattle.language65.specs.LineFaults.{first_fault, line_fault, or_then, when}
+use Rattle.language65.specs.LineFaults.{first_fault, line_fault, or_then, when, unless_fault}
 use Rattle.language65.specs.Names.{enclosing, within}
 use Rattle.language65.specs.Sizes.{length_of}
 use Rattle.language65.specs.Symbols.{Scope, Symbols, scope_opened}
-use Rattle.module65.specs.Laying.{unless_fault}
 use Rattle.layout65.specs.declared.standing.Standing as code
 use Rattle.layout65.specs.Advancing.{advanced}
 use Rattle.layout65.specs.Counting.{AreInside, HasNumbers, opened_by, opening_limit}
@@ -23,7 +22,7 @@ use Rattle.layout65.specs.Measuring.{Measured, measure_of, measured, naming_faul
 use Rattle.layout65.specs.Sounds.{IsCounted}
 use Rattle.layout65.specs.Views.{standing_of}
 use Rattle.layout65.proofs.Measures.{faults_are, no_fault}
-use Rattle.module65.proofs.Segments.{all_more, all_same, grown_length}
+use Rattle.language65.proofs.Segments.{all_more, all_same, grown_length}
 
 -- ---- What is open.
 

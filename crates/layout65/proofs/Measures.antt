@@ -20,13 +20,12 @@ use Rattle.language65.specs.Symbols.{Scope, Symbols, key_defined}
 use Rattle.language65.specs.Language as l
 use Rattle.language65.specs.Views.{item_of}
 use Rattle.language65.proofs.Lists.{drop_mapped, map_length}
-use Rattle.module65.specs.Laying.{unless_fault}
 use Rattle.object65.specs.Objects.{section_limit}
 use Rattle.syntax65.specs.declared.lexing.tokens.AddressSize.TheVariants.{Absolute}
 use Rattle.syntax65.specs.declared.lexing.tokens.AddressSize.{AddressSize}
 use Rattle.language65.specs.declared.contents.Segment.{Segment}
 use Rattle.language65.specs.Layout.{Standing, own_size, segment_at, spot_of}
-use Rattle.language65.specs.LineFaults.{alignment_fault, block_fault, first_fault, form_fault, missing_file, operand_fault, part_fault, pop_fault, size_fault, defined_twice, is_open, line_fault, opened_twice, scope_name, stands_outside, trees_of, is_byte_value, is_count, is_there, multiple_fault, item_trees, lost_scope, lost_scopes, or_then, when}
+use Rattle.language65.specs.LineFaults.{alignment_fault, block_fault, first_fault, form_fault, missing_file, operand_fault, part_fault, pop_fault, size_fault, defined_twice, is_open, line_fault, opened_twice, scope_name, stands_outside, trees_of, is_byte_value, is_count, is_there, multiple_fault, item_trees, lost_scope, lost_scopes, or_then, when, unless_fault}
 use Rattle.layout65.specs.declared.measuring.Measured as code
 use Rattle.layout65.specs.Measuring.{Measured, fitted, measure_of, measured, measured_of, naming_fault, placed, placing_faults}
 use Rattle.layout65.proofs.Steps.{unless_then}

@@ -10,10 +10,9 @@ use Rattle.language65.specs.Faults.{is_memory}
 use Rattle.language65.specs.Laid.{Spot, from_byte}
 use Rattle.language65.specs.Language.{file_part}
 use Rattle.language65.specs.Layout.{Standing, own_size, spot_of}
-use Rattle.language65.specs.LineFaults.{file_limit, first_fault, is_part, is_there, left_from, part_fault, unless_there, when}
+use Rattle.language65.specs.LineFaults.{file_limit, first_fault, is_part, is_there, left_from, part_fault, unless_there, when, unless_fault}
 use Rattle.language65.specs.Sizes.{optional_value, part_len, part_start}
 use Rattle.language65.specs.Symbols.{Symbols}
-use Rattle.module65.specs.Laying.{unless_fault}
 use Rattle.layout65.specs.Measuring.{IsFound, Measured, or_default, placed, ranged}
 use Rattle.layout65.proofs.Steps.{unless_then}
 

@@ -13,7 +13,7 @@ use Rattle.layout65.specs.declared.standing.Standing.{Standing}
 use Rattle.language65.specs.Layout.{grown, grown_at, place_of, segment_at}
 use Rattle.layout65.specs.Sounds.{AreWithin, IsSoundStanding}
 use Rattle.language65.proofs.Lists.{bytes_swap, position_mapped}
-use Rattle.module65.proofs.Segments.{all_more, all_same, grown_length, grown_names}
+use Rattle.language65.proofs.Segments.{all_more, all_same, grown_length, grown_names}
 
 pub segment_is : (gs : List Segment) (i : ℕ) (g : Segment) → i < length gs → g ≡ get_or gs i g → g ≡ segment_at gs i
 segment_is [] i g lt e = absurd (omega arith)

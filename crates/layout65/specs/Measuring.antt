@@ -9,11 +9,10 @@ use Rattle.language65.specs.Faults.{is_memory}
 use Rattle.language65.specs.Laid.{Settled, Spot}
 use Rattle.language65.specs.Language.{Stated, align, constant, file_part, instruction, reserve, values}
 use Rattle.language65.specs.Layout.{Standing, multiple_of, own_size, size_stated, spot_of}
-use Rattle.language65.specs.LineFaults.{alignment_fault, block_fault, defined_twice, file_limit, first_fault, form_fault, is_open, is_part, left_from, line_fault, lost_scopes, missing_file, opened_twice, operand_fault, or_then, part_fault, pop_fault, scope_name, size_fault, stands_outside, trees_of, unless_there, when}
+use Rattle.language65.specs.LineFaults.{alignment_fault, block_fault, defined_twice, file_limit, first_fault, form_fault, is_open, is_part, left_from, line_fault, lost_scopes, missing_file, opened_twice, operand_fault, or_then, part_fault, pop_fault, scope_name, size_fault, stands_outside, trees_of, unless_there, when, unless_fault}
 use Rattle.language65.specs.Names.{scope_from, scopes_of, shown}
 use Rattle.language65.specs.Sizes.{counted, length_of, settled_of}
 use Rattle.language65.specs.Symbols.{Scope, Symbols, key_defined}
-use Rattle.module65.specs.Laying.{unless_fault}
 use Rattle.layout65.specs.declared.measuring.Measured as code
 use Rattle.layout65.specs.declared.measuring.Settled as held
 use Rattle.layout65.specs.Views.{settled_in}

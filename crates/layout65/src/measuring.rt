@@ -16,7 +16,7 @@ ghost use Rattle.language65.specs.Faults.{is_memory};
 ghost use Rattle.language65.specs.Laid.{nothing_settled};
 ghost use Rattle.language65.specs.Layout.{own_size, spot_of};
 ghost use Rattle.language65.specs.Views.{spot_of as laid_spot, stated_of};
-ghost use Rattle.module65.specs.Laying.{unless_fault};
+ghost use Rattle.language65.specs.LineFaults.{unless_fault};
 ghost use Rattle.symbols65.specs.Resolving.{IsTable};
 ghost use Rattle.symbols65.specs.Views.{table_of};
 ghost use Rattle.layout65.specs.Measuring.{fitted, measured, measured_of, naming_fault};

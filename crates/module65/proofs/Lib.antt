@@ -5,7 +5,6 @@ pub mod Finals
 pub mod Finishes
 pub mod Holding
 pub mod Resolving
-pub mod Segments
 pub mod SoundContents
 pub mod SoundForms
 pub mod SoundLayouts

@@ -9,10 +9,10 @@ use Rattle.syntax65.specs.Words.{is_reserved}
 use Rattle.syntax65.specs.declared.lexing.tokens.TokenKind.{TokenKind}
 use Rattle.syntax65.specs.declared.lexing.tokens.TokenKind.TheVariants as token
 use Rattle.expand65.specs.Arguments.{arguments_of, braces_behind, is_braced, parts_within, put_in_first, unbraced}
-use Rattle.expand65.specs.Fronts.{is_comma, name_in, names_from, ◌>=>◌}
-use Rattle.expand65.specs.Lines.{line_limit}
-use Rattle.expand65.specs.Macros.{all_local, is_made, new_names, unmade, with_local, with_locals}
-use Rattle.expand65.specs.Replacing.{Replacing, argument_at, either, is_count_word, own_token, replaced, stand_in}
+use Rattle.reader65.specs.Fronts.{is_comma, name_in, names_from, ◌>=>◌}
+use Rattle.reader65.specs.Lines.{line_limit}
+use Rattle.reader65.specs.Replacing.{all_local, with_local, with_locals, Replacing, argument_at, either, is_count_word, own_token, replaced, stand_in}
+use Rattle.expand65.specs.Macros.{is_made, new_names, unmade}
 use Rattle.module65.proofs.NamedTokens.{AreFit, IsBase, IsFit, fit_drop, fit_take, own_fit}
 use Rattle.module65.proofs.SoundForms.{all_append}
 

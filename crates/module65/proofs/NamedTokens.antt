@@ -16,9 +16,9 @@ use Rattle.syntax65.specs.declared.lexing.tokens.TokenKind.{TokenKind}
 use Rattle.syntax65.specs.declared.lexing.tokens.TokenKind.TheVariants as token
 use Rattle.object65.proofs.Goods.{and, left, right}
 use Rattle.object65.specs.Objects.{is_name, is_printed}
-use Rattle.expand65.specs.Lines.{line_limit}
+use Rattle.reader65.specs.Lines.{line_limit}
 use Rattle.expand65.specs.Macros.{is_made}
-use Rattle.expand65.specs.Replacing.{own_token}
+use Rattle.reader65.specs.Replacing.{own_token}
 use Rattle.language65.specs.Sound.{AreNamed, IsNamed}
 use Rattle.statements65.proofs.Naming.{tokens_named}
 

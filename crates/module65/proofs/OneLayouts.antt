@@ -9,6 +9,7 @@ use Rattle.source65.specs.declared.fault.ExpandFault.{ExpandFault}
 use Rattle.source65.specs.declared.place.Place.{Place}
 use Rattle.expand65.specs.Expansion.{Reaches, statement, nothing, fault, opened_in}
 use Rattle.expand65.specs.State as expand
+use Rattle.reader65.specs.Left.{Stop}
 use Rattle.language65.specs.declared.fault.AsmFault.{AsmFault}
 use Rattle.language65.specs.declared.fault.AsmFault.TheVariants.{Expansion}
 use Rattle.language65.specs.Language.{Stated, constant}
@@ -78,7 +79,7 @@ taken_one m s y p q (refused _ _ e place h) k = by q k
     by q (refused _ _ d there j) =
         let same = one_next m (laying.meaning y) s (fault (e, place)) (fault (d, there)) h j in
         let pair : (e, place) ≡ (d, there) = cc in
-        ap (λ (c : expand.Stop). stopped y c.1 (Expansion c.0)) pair
+        ap (λ (c : Stop). stopped y c.1 (Expansion c.0)) pair
     by q (ended _ u _ j) = let d = one_next m (laying.meaning y) s (fault (e, place)) (nothing u) h j in absurd cc
 taken_one m s y p q (ended _ t _ h) k = by q k
   where

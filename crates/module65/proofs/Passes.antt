@@ -11,11 +11,11 @@ use Rattle.language65.specs.Language.{Stated}
 use Rattle.source65.specs.declared.place.Place.{Place}
 use Rattle.language65.specs.Laid.{Laid, Spot, asks_section}
 use Rattle.language65.specs.Layout.{Layout, Standing, laid, layout_behind, nothing_laid, standing_behind}
-use Rattle.language65.specs.LineFaults.{line_fault}
+use Rattle.language65.specs.LineFaults.{line_fault, unless_fault}
 use Rattle.language65.specs.Numbering.{object_with}
 use Rattle.language65.specs.Symbols.{Symbols, symbols_of}
 use Rattle.module65.specs.Laws.{AreFoundAlike, LaidRuns, OnePass, RunsLaid, StandsFor}
-use Rattle.module65.specs.Laying.{IsLaid, laying, unless_fault}
+use Rattle.module65.specs.Laying.{IsLaid, laying}
 use Rattle.language65.specs.Extending.{Extends}
 use Rattle.module65.specs.Machine.{Finished, Puts, at_once, later, PutsAll, Slot, awaited, holds, State, Steps, Takes, UnlessFault, Waiting, asked, awaited_in, awaiting, before_it, begun, concluded, entered, finished, known, running, symbols_behind}
 use Rattle.module65.specs.Places.{PlacedFault}

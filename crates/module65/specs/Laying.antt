@@ -1,18 +1,14 @@
 -- From the statements of a source to laid ones, or the first fault that is found at a line.
-use Rattle.std.specs.Prelude.{◌≡◌, Option, Some, None, Result, Ok, Err}
+use Rattle.std.specs.Prelude.{◌≡◌, Result}
 use Rattle.base65.specs.Store.{Files}
 use Rattle.source65.specs.declared.place.Place.{Place}
 use Rattle.language65.specs.declared.fault.AsmFault.{AsmFault}
 use Rattle.language65.specs.Language.{Stated}
 use Rattle.language65.specs.Layout.{Layout, layout_behind, nothing_laid}
-use Rattle.language65.specs.LineFaults.{line_fault}
+use Rattle.language65.specs.LineFaults.{line_fault, unless_fault}
 use Rattle.language65.specs.Symbols.{symbols_of}
 use Rattle.module65.specs.Knowing.{known_at}
 use Rattle.module65.specs.Reading.{Between, IsSource, Job, Reached}
-
-abbrev pub unless_fault : {A : Type 0} → Option AsmFault → A → Result A AsmFault
-unless_fault None x = Ok x
-unless_fault (Some e) x = Err e
 
 -- a statement behind those before it, or its first fault there
 abbrev pub with_statement : Layout → Place → Stated → Result Layout AsmFault

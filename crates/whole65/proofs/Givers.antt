@@ -38,7 +38,7 @@ use Rattle.linkage65.specs.declared.parts.Giver.TheVariants.{ByModule, ByScript,
 use Rattle.linkage65.specs.declared.parts.ValueFault.{ValueFault}
 use Rattle.linkage65.specs.declared.parts.ValueFault.TheVariants.{Circular, NoValue, Unresolved}
 use Rattle.module65.proofs.SoundForms.{all_append}
-use Rattle.module65.proofs.Segments.{all_more}
+use Rattle.language65.proofs.Segments.{all_more}
 use Rattle.module65.specs.Module.{contents_from}
 use Rattle.whole65.proofs.Exports.{IsDefined, said_all, source_exports}
 use Rattle.whole65.proofs.Keyed.{form_law, keyed_law}

@@ -8,7 +8,7 @@ use Rattle.language65.specs.Language.{Stated, segment, push_segment, pop_segment
 use Rattle.language65.specs.Layout.{Standing, current_behind, first_size, grown_at, kept_behind, last_kept, multiple_of, named_segments, new_segment, own_size, place_of, rest_kept, segment_at, segments_behind, spot_of}
 use Rattle.language65.specs.Sizes.{length_of}
 use Rattle.language65.specs.Symbols.{Symbols}
-use Rattle.module65.proofs.Segments.{all_same, end_behind, grown_end, grown_length, grown_other, named_there, one_longer}
+use Rattle.language65.proofs.Segments.{all_same, end_behind, grown_end, grown_length, grown_other, named_there, one_longer}
 
 abbrev pub are_below : ℕ → List ℕ → Type 0
 are_below count ks = AllByRecursion (λ k. k < count) ks

@@ -14,7 +14,7 @@ use Rattle.language65.specs.Laid.{Laid, asks_section}
 use Rattle.language65.specs.Layout.{Layout}
 use Rattle.language65.specs.Numbering.{number_of, once, section_keys, segments_asked}
 use Rattle.language65.specs.Symbols.{Symbols}
-use Rattle.module65.proofs.Segments.{all_more}
+use Rattle.language65.proofs.Segments.{all_more}
 use Rattle.module65.specs.Module.{contents_from}
 use Rattle.module65.specs.Places.{PlacedFault, at_place}
 use Rattle.whole65.proofs.Later.{bind_ok}

@@ -33,7 +33,7 @@ use Rattle.linkage65.specs.declared.parts.Giver.{Giver}
 use Rattle.linkage65.specs.declared.parts.Giver.TheVariants.{Nobody}
 use Rattle.linkage65.specs.declared.parts.Member.{Member}
 use Rattle.module65.proofs.SoundForms.{all_append}
-use Rattle.module65.proofs.Segments.{all_more}
+use Rattle.language65.proofs.Segments.{all_more}
 use Rattle.whole65.proofs.Givers.{Agree, givers_agree, of_module, of_nobody, of_script}
 use Rattle.whole65.specs.Programs as whole
 use Rattle.whole65.specs.Segments.{needs_of}

@@ -11,10 +11,10 @@ use Rattle.source65.specs.declared.place.Place.{Place}
 use Rattle.language65.specs.declared.fault.AsmFault.{AsmFault}
 use Rattle.language65.specs.Language.{Stated, constant}
 use Rattle.language65.specs.Layout.{Layout, layout_behind, nothing_laid}
-use Rattle.language65.specs.LineFaults.{line_fault}
+use Rattle.language65.specs.LineFaults.{line_fault, unless_fault}
 use Rattle.language65.specs.Symbols.{symbols_of}
 use Rattle.statements65.specs.Parsing.{label_of}
-use Rattle.module65.specs.Laying.{IsLaid, laying, unless_fault}
+use Rattle.module65.specs.Laying.{IsLaid, laying}
 use Rattle.module65.specs.Reading.{AreDefined, AreTaken, Define, Follows, IsBegun, IsGiven, IsLabelled, IsRest, Job, Reached, no_line, taken, faulty, refused, ended, with_bytes}
 use Rattle.whole65.specs.Laws.{LaidOutLaw}
 use Rattle.whole65.specs.Offsets.{IsLaidOut, begun, behind}

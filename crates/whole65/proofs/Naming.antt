@@ -13,7 +13,7 @@ use Rattle.language65.specs.Layout.{Layout, Standing, first_size, grown_at, laid
 use Rattle.language65.specs.Sizes.{length_of}
 use Rattle.language65.specs.Symbols.{Symbols, symbols_of}
 use Rattle.source65.specs.declared.place.Place.{Place}
-use Rattle.module65.proofs.Segments.{all_more, all_same, grown_length, one_longer}
+use Rattle.language65.proofs.Segments.{all_more, all_same, grown_length, one_longer}
 use Rattle.whole65.proofs.Growing.{behind_more}
 use Rattle.whole65.proofs.Numbers.{equal}
 use Rattle.whole65.proofs.Offsets.{placed}

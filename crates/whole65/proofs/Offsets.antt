@@ -8,7 +8,7 @@ use Rattle.language65.specs.Language.{Stated}
 use Rattle.language65.specs.Layout.{Layout, laid, layout_behind, nothing_laid, segment_at, spot_of}
 use Rattle.language65.specs.LineFaults.{line_fault}
 use Rattle.language65.specs.Symbols.{Symbols, symbols_of}
-use Rattle.module65.proofs.Segments.{all_more}
+use Rattle.language65.proofs.Segments.{all_more}
 use Rattle.whole65.proofs.Ends.{line_ends, multiple_power}
 use Rattle.whole65.proofs.Growing.{Adds, adds, are_below, current_below, kept_below}
 use Rattle.whole65.proofs.Numbers.{equal}

@@ -10,7 +10,7 @@ use Rattle.language65.specs.Language.{Stated}
 use Rattle.language65.specs.Layout.{Layout, laid, own_size, spot_of}
 use Rattle.language65.specs.Sizes.{length_of}
 use Rattle.language65.specs.Symbols.{Symbols, symbols_of}
-use Rattle.module65.proofs.Segments.{all_more}
+use Rattle.language65.proofs.Segments.{all_more}
 use Rattle.whole65.proofs.Before.{IsAbsent, other_part}
 use Rattle.whole65.proofs.Numbers.{equal}
 use Rattle.whole65.proofs.Offsets.{placed}

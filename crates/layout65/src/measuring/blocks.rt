@@ -2,9 +2,8 @@
 
 ghost use Rattle.std.specs.Prelude.{◌≡◌, ◌&&◌, not, slice_get};
 ghost use Rattle.language65.specs.Layout.{place_of, segment_at};
-ghost use Rattle.language65.specs.LineFaults.{changed_size, is_kept, is_open, is_scope, opened_as, same_size, when};
+ghost use Rattle.language65.specs.LineFaults.{changed_size, is_kept, is_open, is_scope, opened_as, same_size, when, unless_fault};
 ghost use Rattle.language65.specs.declared.fault.AsmFault.TheVariants.{BadScope, PopWithoutPush};
-ghost use Rattle.module65.specs.Laying.{unless_fault};
 ghost use Rattle.symbols65.specs.Views.{table_of};
 ghost use Rattle.layout65.specs.Sounds.{IsSoundStanding};
 ghost use Rattle.layout65.specs.Views.{standing_of};

@@ -8,10 +8,9 @@ ghost use Rattle.language65.specs.declared.fault.AsmFault.TheVariants.{BadOperan
 ghost use Rattle.language65.specs.Faults.{is_memory};
 ghost use Rattle.language65.specs.Language.{align, reserve};
 ghost use Rattle.language65.specs.Layout.{spot_of as standing_spot};
-ghost use Rattle.language65.specs.LineFaults.{is_byte_value, is_count, is_there, multiple_fault, when};
+ghost use Rattle.language65.specs.LineFaults.{is_byte_value, is_count, is_there, multiple_fault, when, unless_fault};
 ghost use Rattle.language65.specs.Sizes.{counted, fill_settled, gap, optional_value};
 ghost use Rattle.language65.specs.Views.{spot_of};
-ghost use Rattle.module65.specs.Laying.{unless_fault};
 ghost use Rattle.symbols65.specs.Resolving.{IsTable};
 ghost use Rattle.symbols65.specs.Views.{table_of};
 ghost use Rattle.layout65.specs.Measuring.{any_settled, measured_of, placed};

@@ -1,7 +1,7 @@
 use Rattle.std.proofs.Common.{◌≡◌, ◌≤◌, ◌-◌, ◌++◌, map, drop, length}
 use Rattle.syntax65.specs.Tokens.{lexemes}
 use Rattle.expand65.specs.Arguments.{parts_within, unbraced}
-use Rattle.expand65.specs.Kept.{tokens_in}
+use Rattle.reader65.specs.Kept.{tokens_in}
 use Rattle.expand65.proofs.arguments.parts_of.Given as goal
 
 abbrev pub invariant-parts : goal.invariant-parts

@@ -4,7 +4,7 @@ use Rattle.base65.specs.Outcome.{Gives}
 use Rattle.language65.specs.declared.fault.AsmFault.{AsmFault}
 use Rattle.language65.specs.Faults.{is_memory}
 use Rattle.language65.specs.Laid.{Spot}
-use Rattle.module65.specs.Laying.{unless_fault}
+use Rattle.language65.specs.LineFaults.{unless_fault}
 use Rattle.layout65.specs.Views.{standing_of}
 use Rattle.layout65.specs.Measuring.{Measured, measured_of, naming_fault}
 use Rattle.language65.specs.Views.{stated_of}

@@ -6,7 +6,7 @@ use Rattle.expand65.specs.Rewriting.{state_of, turned}
 use Rattle.expand65.specs.Standing.{led, place_of, state_in}
 use Rattle.expand65.specs.State.{stops}
 use Rattle.expand65.specs.Step.{IsStep}
-use Rattle.expand65.proofs.Gathering.{moved_to}
+use Rattle.reader65.proofs.Gathering.{moved_to}
 use Rattle.expand65.proofs.Going.{came_to_end, came_to_fault, gave, goes_on}
 use Rattle.expand65.proofs.expander.Expander.advance.Goals as goal
 

@@ -1,9 +1,8 @@
 use Rattle.std.proofs.Common.{◌≡◌, ◌∙◌, ◌++◌, ◌∷◌, ℕ, Bor, List, map, subst, sym}
 use Rattle.std.proofs.lemmas.Result.{err_from_is_err_and}
 use Rattle.syntax65.specs.Tokens.{lexemes}
-use Rattle.expand65.specs.Inside.{left_in}
-use Rattle.expand65.specs.Macros.{localised}
-use Rattle.expand65.specs.State.{mark}
+use Rattle.reader65.specs.Inside.{left_in}
+use Rattle.reader65.specs.Left.{localised, mark}
 use Rattle.expand65.proofs.Innermost.{bad_names, names_added, no_macro}
 use Rattle.expand65.proofs.rewriter.Rewriter.add_locals.Goals as goal
 

@@ -1,13 +1,13 @@
 use Rattle.std.proofs.Common.{◌≡◌, ◌∙◌, ℕ, [], false, None, Ok, ap, map, refl, subst}
-use Rattle.expand65.specs.Blocks.{Block, gathers}
-use Rattle.expand65.specs.Entering.{pushed}
-use Rattle.expand65.specs.Inside.{left_of, turns_left}
-use Rattle.expand65.specs.Kept.{tokens_in}
+use Rattle.reader65.specs.Blocks.{Block, gathers}
+use Rattle.reader65.specs.Entering.{pushed}
+use Rattle.reader65.specs.Inside.{left_of, turns_left}
+use Rattle.reader65.specs.Kept.{tokens_in}
 use Rattle.expand65.specs.Repeats.{IsRepeated, repeat_mark}
 use Rattle.expand65.specs.Rewriting.{macros_of, state_of}
 use Rattle.expand65.specs.State.{goes}
-use Rattle.expand65.specs.declared.playing.Body.{Body}
-use Rattle.expand65.specs.declared.playing.Replay.{Replay}
+use Rattle.reader65.specs.declared.playing.Body.{Body}
+use Rattle.reader65.specs.declared.playing.Replay.{Replay}
 use Rattle.expand65.proofs.Acting.{where_known}
 use Rattle.expand65.proofs.Defining.{repeated_one, rewritten, turns_ready}
 use Rattle.expand65.proofs.rewriter.Rewriter.repeat.Goals as goal

@@ -4,17 +4,17 @@ use Rattle.std.specs.Prelude.{IfNone}
 use Rattle.std.proofs.lemmas.Result.{err_from_is_err_and}
 use Rattle.base65.specs.Outcome.{Unless}
 use Rattle.source65.specs.Faults.{is_outside}
-use Rattle.expand65.specs.Inside.{left_in, left_of}
-use Rattle.expand65.specs.Fronts.{is_mislabelled}
-use Rattle.expand65.specs.Kept.{tokens_in}
+use Rattle.reader65.specs.Inside.{left_in, left_of}
+use Rattle.reader65.specs.Fronts.{is_mislabelled}
+use Rattle.reader65.specs.Kept.{tokens_in}
 use Rattle.expand65.specs.Rewriting.{Turns, state_of}
 use Rattle.expand65.specs.Step.{IsLabelled, IsStep, at_mark}
 use Rattle.expand65.specs.State.{stops}
-use Rattle.expand65.specs.Taking.{Takes}
-use Rattle.expand65.specs.declared.line.Line.{Line}
+use Rattle.reader65.specs.Taking.{Takes}
+use Rattle.reader65.specs.declared.line.Line.{Line}
 use Rattle.expand65.specs.declared.rewriter.Rewriter.{Rewriter}
 use Rattle.expand65.proofs.Acting.{refused_step, step_taken, turns_so, where_both, where_known}
-use Rattle.expand65.proofs.Gathering.{moved_to}
+use Rattle.reader65.proofs.Gathering.{moved_to}
 use Rattle.expand65.proofs.rewriter.Rewriter.take.Goals as goal
 
 pub returns-in_err-next_line-clause-turns : goal.returns-in_err-next_line-clause-turns

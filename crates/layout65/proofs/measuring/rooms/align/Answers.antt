@@ -5,10 +5,9 @@ use Rattle.std.proofs.lemmas.Result.{err_from_is_err_and}
 use Rattle.syntax65.specs.Trees.{Tree, tree_of}
 use Rattle.language65.specs.declared.fault.AsmFault.TheVariants.{BadOperand}
 use Rattle.language65.specs.Laid.{Spot}
-use Rattle.module65.specs.Laying.{unless_fault}
 use Rattle.language65.specs.Layout.{spot_of}
 use Rattle.layout65.specs.Views.{standing_of}
-use Rattle.language65.specs.LineFaults.{is_byte_value, when}
+use Rattle.language65.specs.LineFaults.{is_byte_value, when, unless_fault}
 use Rattle.language65.specs.Norms.{constant_in}
 use Rattle.language65.specs.Sizes.{fill_settled, optional_value}
 use Rattle.symbols65.specs.Views.{table_of}

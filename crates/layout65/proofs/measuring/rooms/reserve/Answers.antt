@@ -6,10 +6,9 @@ use Rattle.syntax65.specs.Trees.{Tree, tree_of}
 use Rattle.language65.specs.declared.fault.AsmFault.TheVariants.{BadOperand}
 use Rattle.language65.specs.Laid.{Spot}
 use Rattle.language65.specs.Layout.{spot_of}
-use Rattle.language65.specs.LineFaults.{is_byte_value, when}
+use Rattle.language65.specs.LineFaults.{is_byte_value, when, unless_fault}
 use Rattle.language65.specs.Norms.{constant_in}
 use Rattle.language65.specs.Sizes.{fill_settled, optional_value}
-use Rattle.module65.specs.Laying.{unless_fault}
 use Rattle.symbols65.specs.Views.{table_of}
 use Rattle.layout65.specs.Views.{standing_of}
 use Rattle.layout65.proofs.Measures.{bad_fill, refused_same, reserved_as}

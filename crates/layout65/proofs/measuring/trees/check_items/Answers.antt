@@ -1,7 +1,6 @@
 use Rattle.std.proofs.Common.{◌∙◌, ap, map, drop, ◌∷◌, [], ◌+◌, arith}
 use Rattle.std.proofs.lemmas.Result.{err_from_is_err_and}
-use Rattle.module65.specs.Laying.{unless_fault}
-use Rattle.language65.specs.LineFaults.{item_trees, lost_scopes}
+use Rattle.language65.specs.LineFaults.{item_trees, lost_scopes, unless_fault}
 use Rattle.language65.specs.Views.{item_of}
 use Rattle.symbols65.specs.Views.{table_of}
 use Rattle.layout65.proofs.Measures.{items_lost, left_behind, refused_first, refused_same}

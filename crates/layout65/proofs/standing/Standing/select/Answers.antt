@@ -1,6 +1,6 @@
 use Rattle.std.proofs.Common.{refl, sym, ◌∙◌}
 use Rattle.layout65.proofs.Segments.{sound_of}
-use Rattle.module65.proofs.Segments.{found_below}
+use Rattle.language65.proofs.Segments.{found_below}
 use Rattle.layout65.proofs.standing.Standing.select.Goals as goal
 
 pub returns-in-Some-clause-sound : goal.returns-in-Some-clause-sound

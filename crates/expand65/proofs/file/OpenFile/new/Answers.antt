@@ -1,5 +1,0 @@
-use Rattle.expand65.proofs.Seeking.{opens}
-use Rattle.expand65.proofs.file.OpenFile.new.Goals as goal
-
-pub returns : goal.returns
-returns c = λ m h. opens m c.args.name c.new.result.items c.new.ensures.items h

@@ -1,0 +1,13 @@
+pub mod Blocking
+pub mod Filling
+pub mod Gathering
+pub mod Labels
+pub mod Leaving
+pub mod Lists
+pub mod Marks
+pub mod Nexts
+pub mod Opening
+pub mod Plainly
+pub mod Splitting
+pub mod Tables
+pub mod Turning

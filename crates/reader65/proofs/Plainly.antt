@@ -1,0 +1,66 @@
+-- Lines without a label and a directive, and what they do to blocks.
+use Rattle.std.proofs.Common.{◌≡◌, ℕ, zero, suc, Bool, true, false, not, take, drop, List, [], ◌∷◌, ◌++◌, Option, None, ap, refl, sym, ◌∙◌}
+use Rattle.std.specs.Prelude.{if◌then◌else◌, ◌&&◌, slice_get}
+use Rattle.syntax65.specs.Tokens.{Lexeme}
+use Rattle.reader65.specs.Blocks.{Verdict, on, collecting, collects, gathering, gathers, passes, passing, skips, skipping, mislabelled}
+use Rattle.reader65.specs.Fronts.{is_colon, is_label_name, is_mislabelled, label_len, line_directive, directive_in}
+use Rattle.reader65.specs.Kept.{cut}
+use Rattle.reader65.specs.Passing.{directive_of_first, is_colon_there}
+use Rattle.reader65.specs.Plain.{IsColonAt, IsPlain}
+use Rattle.reader65.specs.declared.directives.Directive.{Directive}
+use Rattle.reader65.specs.declared.line.Word.{Word}
+
+no_name : (b : Bool) → ◌≡◌ {A = ℕ} (if b && false then 2 else 0) 0
+no_name true = refl
+no_name false = refl
+
+pub no_label : (ws : List Word) (bs : List ℕ) (a b : Bool) → IsColonAt ws 0 a → IsColonAt ws 1 b → a ≡ false → not b ≡ true → label_len (cut ws bs) ≡ 0
+no_label [] bs a b e f h k = refl
+no_label (w ∷ []) bs a b e f h k =
+    let first : is_colon (w.kind, take w.len bs) ≡ false = sym (e (take w.len bs)) ∙ h in
+    rw first (no_name (is_label_name (w.kind, take w.len bs)))
+no_label (w ∷ v ∷ ws) bs a true e f h k = absurd (cc)
+no_label (w ∷ v ∷ ws) bs a false e f h k =
+    let rest = drop w.len bs in
+    let first : is_colon (w.kind, take w.len bs) ≡ false = sym (e (take w.len bs)) ∙ h in
+    let second : is_colon (v.kind, take v.len rest) ≡ false = sym (f (take v.len rest)) in
+    rw (first, second) (no_name (is_label_name (w.kind, take w.len bs)))
+
+right : (ts : List Lexeme) → label_len ts ≡ 0 → is_mislabelled ts ≡ false
+right ts e = rw e refl
+
+none : (ts : List Lexeme) → IsPlain ts → line_directive ts ≡ None
+none ts (e, f) = rw e f
+
+plain_on : {A B : Type 0} (ts : List Lexeme) (step : Option Directive → Verdict A B) (a : A) → IsPlain ts → step None ≡ on a → (if is_mislabelled ts then mislabelled else step (line_directive ts)) ≡ on a
+plain_on {A} {B} ts step a p e =
+    let P : Bool → Verdict A B = λ b. if b then mislabelled else step (line_directive ts) in
+    ap P (right ts p.0) ∙ ap step (none ts p) ∙ e
+
+pub plain_skipped : (d : ℕ) (ts : List Lexeme) → IsPlain ts → skips d ts ≡ on d
+plain_skipped zero ts p = plain_on ts (skipping zero ts) zero p refl
+plain_skipped (suc d) ts p = plain_on ts (skipping (suc d) ts) (suc d) p refl
+
+pub plain_passed : (d : ℕ) (ts : List Lexeme) → IsPlain ts → passes d ts ≡ on d
+plain_passed zero ts p = plain_on ts (passing zero) zero p refl
+plain_passed (suc d) ts p = plain_on ts (passing (suc d)) (suc d) p refl
+
+pub plain_collected : (body : List (List Lexeme)) (ts : List Lexeme) → IsPlain ts → collects body ts ≡ on (body ++ ts ∷ [])
+plain_collected body ts p = plain_on ts (collecting body ts) (body ++ ts ∷ []) p refl
+
+pub plain_gathered : (d : ℕ) (body : List (List Lexeme)) (ts : List Lexeme) → IsPlain ts → gathers (d, body) ts ≡ on (d, body ++ ts ∷ [])
+plain_gathered zero body ts p = plain_on ts (gathering zero body ts) (zero, body ++ ts ∷ []) p refl
+plain_gathered (suc d) body ts p = plain_on ts (gathering (suc d) body ts) (suc d, body ++ ts ∷ []) p refl
+
+-- by a line's first two tokens
+pub plain_front : (ts : List Lexeme) (a b : Option Lexeme) → a ≡ slice_get ts 0 → b ≡ slice_get ts 1 → is_colon_there a ≡ false → is_colon_there b ≡ false → directive_of_first a ≡ None → IsPlain ts
+plain_front [] a b e f h k d = (refl, refl)
+plain_front (t ∷ []) a b e f h k d =
+    let first : is_colon t ≡ false = ap is_colon_there (sym e) ∙ h in
+    let no_directive : directive_in t ≡ None = ap directive_of_first (sym e) ∙ d in
+    (rw first (no_name (is_label_name t)), no_directive)
+plain_front (t ∷ u ∷ ts) a b e f h k d =
+    let first : is_colon t ≡ false = ap is_colon_there (sym e) ∙ h in
+    let second : is_colon u ≡ false = ap is_colon_there (sym f) ∙ k in
+    let no_directive : directive_in t ≡ None = ap directive_of_first (sym e) ∙ d in
+    (rw (first, second) (no_name (is_label_name t)), no_directive)

@@ -1,0 +1,276 @@
+-- The first line of bytes.
+use Rattle.std.proofs.Common.{◌≡◌, ℕ, suc, ◌+◌, ◌<◌, Bool, true, false, List, [], ◌∷◌, length, take, drop, slice_get, refl, ap, sym, ◌∙◌, arith, ◌++◌, length-append, append_assoc, add-one, one-add, length-drop, subst, ◌≤◌}
+use Rattle.std.specs.List.{prefix_len}
+use Rattle.std.proofs.lemmas.List.{take_all, drop_all, take_at, length-take, take-append-drop, append-nil, drop-drop}
+use Rattle.std.proofs.lemmas.Bool.Decides.{nat_tests}
+use Rattle.std.proofs.Math.Seq.{drop-append-add}
+use Rattle.std.specs.Prelude.{unwrap_or, option_map, if◌then◌else◌, ◌-◌, nat_lt}
+use Rattle.reader65.specs.Lines.{is_line_end, is_return, begins_with_end, put_before, lines_of}
+use Rattle.reader65.specs.Reading.{BeginsLong, ends_in_return, is_inside, without_return}
+
+lines_end : (b : ℕ) (bs : List ℕ) → is_line_end b ≡ true → lines_of (b ∷ bs) ≡ [] ∷ lines_of bs
+lines_end b bs e = rw e refl
+
+lines_return : (b : ℕ) (bs : List ℕ) → is_line_end b ≡ false → is_return b ≡ true → begins_with_end bs ≡ true → lines_of (b ∷ bs) ≡ lines_of bs
+lines_return b bs e r h = rw (e, r, h) refl
+
+lines_more : (b : ℕ) (bs : List ℕ) → is_line_end b ≡ false → is_return b ≡ false → lines_of (b ∷ bs) ≡ put_before b (lines_of bs)
+lines_more b bs e r = rw (e, r) refl
+
+lines_inside : (b c : ℕ) (bs : List ℕ) → is_line_end b ≡ false → is_line_end c ≡ false → lines_of (b ∷ c ∷ bs) ≡ put_before b (lines_of (c ∷ bs))
+lines_inside b c bs e f = go (is_return b) refl
+  where
+    go : (t : Bool) → is_return b ≡ t → lines_of (b ∷ c ∷ bs) ≡ put_before b (lines_of (c ∷ bs))
+    go true r = rw (e, r, f) refl
+    go false r = lines_more b (c ∷ bs) e r
+
+prefix_end : (b : ℕ) (bs : List ℕ) → is_line_end b ≡ true → prefix_len is_inside (b ∷ bs) ≡ 0
+prefix_end b bs e = rw e refl
+
+prefix_more : (b : ℕ) (bs : List ℕ) → is_line_end b ≡ false → prefix_len is_inside (b ∷ bs) ≡ suc (prefix_len is_inside bs)
+prefix_more b bs e = rw e (one-add (prefix_len is_inside bs))
+
+-- a line that doesn't end
+pub last_line : (b : ℕ) (bs : List ℕ) → prefix_len is_inside (b ∷ bs) ≡ length (b ∷ bs) → lines_of (b ∷ bs) ≡ (b ∷ bs) ∷ []
+last_line b [] h = go (is_line_end b) (is_return b) refl refl
+  where
+    go : (t r : Bool) → is_line_end b ≡ t → is_return b ≡ r → lines_of (b ∷ []) ≡ (b ∷ []) ∷ []
+    go true r e f = let x = sym (prefix_end b [] e) ∙ h in absurd cc
+    go false true e f = rw (e, f) refl
+    go false false e f = rw (e, f) refl
+last_line b (c ∷ bs) h = go (is_line_end b) (is_line_end c) (last_line c bs) refl refl
+  where
+    go : (t u : Bool) → (prefix_len is_inside (c ∷ bs) ≡ length (c ∷ bs) → lines_of (c ∷ bs) ≡ (c ∷ bs) ∷ []) → is_line_end b ≡ t → is_line_end c ≡ u → lines_of (b ∷ c ∷ bs) ≡ (b ∷ c ∷ bs) ∷ []
+    go true u next e f = let x = sym (prefix_end b (c ∷ bs) e) ∙ h in absurd cc
+    go false true next e f = let x = sym (prefix_more b (c ∷ bs) e ∙ ap suc (prefix_end c bs f)) ∙ h in absurd cc
+    go false false next e f =
+        let x : prefix_len is_inside (c ∷ bs) ≡ length (c ∷ bs) = let y = sym (prefix_more b (c ∷ bs) e) ∙ h in cc in
+        lines_inside b c bs e f ∙ ap (put_before b) (next x)
+
+-- ---- A CR at the end.
+
+return_alone : (b : ℕ) → is_return b ≡ true → without_return (b ∷ []) ≡ []
+return_alone b r = rw r refl
+
+no_return_alone : (b : ℕ) → is_return b ≡ false → without_return (b ∷ []) ≡ b ∷ []
+no_return_alone b r = rw r refl
+
+return_behind : (b c : ℕ) (bs : List ℕ) → without_return (b ∷ c ∷ bs) ≡ b ∷ without_return (c ∷ bs)
+return_behind b c bs =
+    let e : length (b ∷ c ∷ bs) - 1 ≡ suc (length (c ∷ bs) - 1) = omega arith in
+    ap (λ n. if unwrap_or (option_map is_return (slice_get (b ∷ c ∷ bs) n)) false then take n (b ∷ c ∷ bs) else b ∷ c ∷ bs) e
+    ∙ go (ends_in_return (c ∷ bs)) refl
+  where
+    go : (t : Bool) → ends_in_return (c ∷ bs) ≡ t → (if ends_in_return (c ∷ bs) then b ∷ take (length (c ∷ bs) - 1) (c ∷ bs) else b ∷ c ∷ bs) ≡ b ∷ without_return (c ∷ bs)
+    go true h = rw h refl
+    go false h = rw h refl
+
+-- ---- The first line's end.
+
+-- what stands in front of the first line's end, and what behind it
+front : List ℕ → List ℕ
+front bs = take (prefix_len is_inside bs) bs
+
+rest : List ℕ → List ℕ
+rest bs = drop (suc (prefix_len is_inside bs)) bs
+
+front_more : (b : ℕ) (bs : List ℕ) → is_line_end b ≡ false → front (b ∷ bs) ≡ b ∷ front bs
+unfolding front
+front_more b bs e = ap (λ n. take n (b ∷ bs)) (prefix_more b bs e)
+
+rest_more : (b : ℕ) (bs : List ℕ) → is_line_end b ≡ false → rest (b ∷ bs) ≡ rest bs
+unfolding rest
+rest_more b bs e = ap (λ n. drop (suc n) (b ∷ bs)) (prefix_more b bs e)
+
+front_end : (b : ℕ) (bs : List ℕ) → is_line_end b ≡ true → front (b ∷ bs) ≡ []
+unfolding front
+front_end b bs e = ap (λ n. take n (b ∷ bs)) (prefix_end b bs e)
+
+rest_end : (b : ℕ) (bs : List ℕ) → is_line_end b ≡ true → rest (b ∷ bs) ≡ bs
+unfolding rest
+rest_end b bs e = ap (λ n. drop (suc n) (b ∷ bs)) (prefix_end b bs e)
+
+-- a byte before a line that ends
+one_more : (b c : ℕ) (bs : List ℕ) → is_line_end b ≡ false → lines_of (c ∷ bs) ≡ without_return (front (c ∷ bs)) ∷ lines_of (rest (c ∷ bs)) → lines_of (b ∷ c ∷ bs) ≡ without_return (b ∷ front (c ∷ bs)) ∷ lines_of (rest (c ∷ bs))
+one_more b c bs e next = go (is_line_end c) (is_return b) refl refl
+  where
+    go : (t r : Bool) → is_line_end c ≡ t → is_return b ≡ r → lines_of (b ∷ c ∷ bs) ≡ without_return (b ∷ front (c ∷ bs)) ∷ lines_of (rest (c ∷ bs))
+    go true true f g = lines_return b (c ∷ bs) e g f ∙ next ∙ rw (front_end c bs f, return_alone b g) refl
+    go true false f g = lines_more b (c ∷ bs) e g ∙ ap (put_before b) next ∙ rw (front_end c bs f, no_return_alone b g) refl
+    go false r f g = lines_inside b c bs e f ∙ ap (put_before b) next ∙ rw (front_more c bs f, return_behind b c (front bs)) refl
+
+-- a line that ends
+ended : (bs : List ℕ) → prefix_len is_inside bs < length bs → lines_of bs ≡ without_return (front bs) ∷ lines_of (rest bs)
+ended [] h = absurd (omega arith)
+ended (b ∷ []) h = go (is_line_end b) refl
+  where
+    go : (t : Bool) → is_line_end b ≡ t → lines_of (b ∷ []) ≡ without_return (front (b ∷ [])) ∷ lines_of (rest (b ∷ []))
+    go true e = lines_end b [] e ∙ rw (front_end b [] e, rest_end b [] e) refl
+    go false e = let x = prefix_more b [] e in absurd (omega arith)
+ended (b ∷ c ∷ bs) h = go (is_line_end b) refl (ended (c ∷ bs))
+  where
+    go : (t : Bool) → is_line_end b ≡ t → (prefix_len is_inside (c ∷ bs) < length (c ∷ bs) → lines_of (c ∷ bs) ≡ without_return (front (c ∷ bs)) ∷ lines_of (rest (c ∷ bs))) → lines_of (b ∷ c ∷ bs) ≡ without_return (front (b ∷ c ∷ bs)) ∷ lines_of (rest (b ∷ c ∷ bs))
+    go true e next = lines_end b (c ∷ bs) e ∙ rw (front_end b (c ∷ bs) e, rest_end b (c ∷ bs) e) refl
+    go false e next =
+        let x = prefix_more b (c ∷ bs) e in
+        one_more b c bs e (next (omega arith)) ∙ rw (front_more b (c ∷ bs) e, rest_more b (c ∷ bs) e) refl
+
+pub ended_line : (bs : List ℕ) → prefix_len is_inside bs < length bs → lines_of bs ≡ without_return (take (prefix_len is_inside bs) bs) ∷ lines_of (drop (suc (prefix_len is_inside bs)) bs)
+unfolding front rest
+ended_line bs h = ended bs h
+
+pub whole_line : (bs : List ℕ) (n : ℕ) → (bs ≡ [] → ⊥) → n ≡ prefix_len is_inside bs → n ≡ length bs → lines_of bs ≡ take n bs ∷ lines_of (drop n bs)
+whole_line [] n some e f = absurd (some refl)
+whole_line (b ∷ bs) n some e f =
+    let all : take n (b ∷ bs) ≡ b ∷ bs = take_all n (b ∷ bs) (omega arith) in
+    let none : drop n (b ∷ bs) ≡ [] = drop_all n (b ∷ bs) (omega arith) in
+    last_line b bs (sym e ∙ f) ∙ rw (all, none) refl
+
+pub ended_there : (bs : List ℕ) (n : ℕ) → n ≡ prefix_len is_inside bs → n < length bs → lines_of bs ≡ without_return (take n bs) ∷ lines_of (drop (n + 1) bs)
+ended_there bs n e lt = let P : ℕ → Type 0 = λ k. lines_of bs ≡ without_return (take k bs) ∷ lines_of (drop (k + 1) bs) in subst P (sym e) (rw add-one (ended_line bs (omega arith)))
+
+-- ---- A line that is gathered piece by piece.
+
+-- no line ends within these bytes
+abbrev pub IsPart : List ℕ → Type 0
+IsPart bs = prefix_len is_inside bs ≡ length bs
+
+pub prefix_append : (front more : List ℕ) → IsPart front → prefix_len is_inside (front ++ more) ≡ length front + prefix_len is_inside more
+prefix_append [] more h = omega arith
+prefix_append (b ∷ bs) more h = by (is_line_end b) refl (prefix_append bs more)
+  where
+    by : (t : Bool) → is_line_end b ≡ t → (IsPart bs → prefix_len is_inside (bs ++ more) ≡ length bs + prefix_len is_inside more) → prefix_len is_inside (b ∷ (bs ++ more)) ≡ length (b ∷ bs) + prefix_len is_inside more
+    by true e next = let x = sym (prefix_end b bs e) ∙ h in absurd cc
+    by false e next =
+        let x : prefix_len is_inside bs ≡ length bs = let y = sym (prefix_more b bs e) ∙ h in cc in
+        prefix_more b (bs ++ more) e ∙ ap suc (next x) ∙ omega arith
+
+-- more of a line
+pub part_append : (front more : List ℕ) → IsPart front → IsPart more → IsPart (front ++ more)
+part_append front more h k = prefix_append front more h ∙ omega (arith, length-append front more, k)
+
+-- the line's end
+pub part_ends : (front more : List ℕ) (b : ℕ) → IsPart front → is_line_end b ≡ true → lines_of (front ++ b ∷ more) ≡ without_return front ∷ lines_of more
+part_ends front more b h e =
+    let n : length front ≡ prefix_len is_inside (front ++ b ∷ more) = sym (prefix_append front (b ∷ more) h ∙ ap (λ k. length front + k) (prefix_end b more e) ∙ omega arith) in
+    let lt : length front < length (front ++ b ∷ more) = omega (arith, length-append front (b ∷ more)) in
+    let gone : drop (length front + 1) (front ++ b ∷ more) ≡ more = drop-append-add front (b ∷ more) 1 in
+    ended_there (front ++ b ∷ more) (length front) n lt ∙ rw (take_at front (b ∷ more) (length front) refl, gone) refl
+
+-- the file's end
+pub part_is_last : (front : List ℕ) → (front ≡ [] → ⊥) → IsPart front → lines_of front ≡ front ∷ []
+part_is_last [] some h = absurd (some refl)
+part_is_last (b ∷ bs) some h = last_line b bs h
+
+almost : (line : List ℕ) → length line ≤ length (without_return line) + 1
+almost line = by (ends_in_return line) refl
+  where
+    by : (t : Bool) → ends_in_return line ≡ t → length line ≤ length (without_return line) + 1
+    by true e = rw e (omega (arith, length-take (length line - 1) line))
+    by false e = rw e (omega arith)
+
+prefix_within : (bs : List ℕ) → prefix_len is_inside bs ≤ length bs
+prefix_within [] = omega arith
+prefix_within (b ∷ bs) = by (is_line_end b) refl (prefix_within bs)
+  where
+    by : (t : Bool) → is_line_end b ≡ t → prefix_len is_inside bs ≤ length bs → prefix_len is_inside (b ∷ bs) ≤ length (b ∷ bs)
+    by true e next = omega (arith, prefix_end b bs e)
+    by false e next = omega (arith, prefix_more b bs e, next)
+
+whole : (bs : List ℕ) → 0 < length bs → prefix_len is_inside bs ≡ length bs → lines_of bs ≡ bs ∷ []
+whole [] some h = absurd (omega arith)
+whole (b ∷ bs) some h = last_line b bs h
+
+-- a line that has too many bytes, whatever follows
+pub part_is_long : (front more : List ℕ) → IsPart front → 4097 < length front → BeginsLong (lines_of (front ++ more))
+part_is_long front more h long = by (nat_lt (prefix_len is_inside (front ++ more)) (length (front ++ more))) refl
+  where
+    by : (t : Bool) → nat_lt (prefix_len is_inside (front ++ more)) (length (front ++ more)) ≡ t → BeginsLong (lines_of (front ++ more))
+    by true e =
+        let all = front ++ more in
+        let n = prefix_len is_inside all in
+        let lt : prefix_len is_inside (front ++ more) < length (front ++ more) = grind (arith, nat_tests, e) in
+        let big : length front ≤ prefix_len is_inside (front ++ more) = omega (arith, prefix_append front more h) in
+        let len : length (take (prefix_len is_inside (front ++ more)) (front ++ more)) ≡ prefix_len is_inside (front ++ more) = omega (arith, length-take (prefix_len is_inside (front ++ more)) (front ++ more)) in
+        let less = almost (take (prefix_len is_inside (front ++ more)) (front ++ more)) in
+        (without_return (take (prefix_len is_inside (front ++ more)) (front ++ more)), (lines_of (drop (prefix_len is_inside (front ++ more) + 1) (front ++ more)), ended_there (front ++ more) (prefix_len is_inside (front ++ more)) refl lt, omega (arith, less, len, big, long)))
+    by false e =
+        let ge : length (front ++ more) ≤ prefix_len is_inside (front ++ more) = grind (arith, nat_tests, e) in
+        let le : prefix_len is_inside (front ++ more) ≤ length (front ++ more) = prefix_within (front ++ more) in
+        let all : length (front ++ more) ≡ length front + length more = length-append front more in
+        let big : 4096 < length (front ++ more) = omega (arith, all, long) in
+        (front ++ more, ([], whole (front ++ more) (omega (arith, big)) (omega (arith, ge, le)), big))
+
+-- the bytes before a line's end
+pub front_is_part : (bs : List ℕ) → IsPart (take (prefix_len is_inside bs) bs)
+front_is_part [] = refl
+front_is_part (b ∷ bs) = by (is_line_end b) refl (front_is_part bs)
+  where
+    by : (t : Bool) → is_line_end b ≡ t → IsPart (take (prefix_len is_inside bs) bs) → IsPart (take (prefix_len is_inside (b ∷ bs)) (b ∷ bs))
+    by true e next = let P : ℕ → Type 0 = λ k. IsPart (take k (b ∷ bs)) in subst P (sym (prefix_end b bs e)) refl
+    by false e next =
+        let P : ℕ → Type 0 = λ k. IsPart (take k (b ∷ bs)) in
+        subst P (sym (prefix_more b bs e)) (prefix_more b (take (prefix_len is_inside bs) bs) e ∙ ap suc next)
+
+-- ---- A piece of a line at hand.
+
+-- it is too much
+pub piece_too_long : (line here behind : List ℕ) (n : ℕ) → IsPart line → n ≡ prefix_len is_inside here → n ≤ length here → 4097 < length line + n → BeginsLong (lines_of (line ++ (here ++ behind)))
+piece_too_long line here behind n h e le long =
+    let P : ℕ → Type 0 = λ k. IsPart (take k here) in
+    let piece : IsPart (take n here) = subst P (sym e) (front_is_part here) in
+    let len : length (take n here) ≡ n = omega (arith, length-take n here) in
+    let more : 4097 < length (line ++ take n here) = omega (arith, length-append line (take n here), len, long) in
+    let whole : (line ++ take n here) ++ (drop n here ++ behind) ≡ line ++ (here ++ behind) =
+    append_assoc line (take n here) (drop n here ++ behind) ∙ ap (λ l. line ++ l) (sym (append_assoc (take n here) (drop n here) behind) ∙ ap (λ l. l ++ behind) (take-append-drop n here)) in
+    let Q : List ℕ → Type 0 = λ l. BeginsLong (lines_of l) in
+    subst Q whole (part_is_long (line ++ take n here) (drop n here ++ behind) (part_append line (take n here) h piece) more)
+
+-- it is all that is at hand
+pub piece_is_all : (line here behind : List ℕ) (n : ℕ) → drop n here ≡ [] → line ++ (here ++ behind) ≡ (line ++ take n here) ++ ([] ++ behind)
+piece_is_all line here behind n e =
+    let all : here ≡ take n here = sym (take-append-drop n here) ∙ ap (λ l. take n here ++ l) e ∙ append-nil (take n here) in
+    ap (λ l. line ++ (l ++ behind)) all ∙ sym (append_assoc line (take n here) behind)
+
+-- what stands behind the bytes before a line's end
+stops : (bs : List ℕ) (b : ℕ) (cs : List ℕ) → drop (prefix_len is_inside bs) bs ≡ b ∷ cs → is_line_end b ≡ true
+stops [] b cs e = absurd cc
+stops (a ∷ bs) b cs e = by (is_line_end a) refl (stops bs b cs)
+  where
+    by : (t : Bool) → is_line_end a ≡ t → (drop (prefix_len is_inside bs) bs ≡ b ∷ cs → is_line_end b ≡ true) → is_line_end b ≡ true
+    by true f next = let P : ℕ → Type 0 = λ k. drop k (a ∷ bs) ≡ b ∷ cs in let x : a ∷ bs ≡ b ∷ cs = subst P (prefix_end a bs f) e in let same : a ≡ b = cc in ap is_line_end (sym same) ∙ f
+    by false f next = let P : ℕ → Type 0 = λ k. drop k (a ∷ bs) ≡ b ∷ cs in next (subst P (prefix_more a bs f) e)
+
+-- it ends the line
+pub piece_ends : (line here behind : List ℕ) (n : ℕ) → IsPart line → n ≡ prefix_len is_inside here → n < length here → lines_of (line ++ (here ++ behind)) ≡ without_return (line ++ take n here) ∷ lines_of (drop (n + 1) here ++ behind)
+piece_ends line here behind n h e lt =
+    by (drop n here) refl
+  where
+    by : (l : List ℕ) → drop n here ≡ l → lines_of (line ++ (here ++ behind)) ≡ without_return (line ++ take n here) ∷ lines_of (drop (n + 1) here ++ behind)
+    by [] f = absurd (omega (arith, length-drop n here, ap length f))
+    by (b ∷ bs) f =
+        let Q : ℕ → Type 0 = λ k. drop k here ≡ b ∷ bs in
+        let at_end : is_line_end b ≡ true = stops here b bs (subst Q e f) in
+        let split : here ≡ take n here ++ b ∷ bs = sym (take-append-drop n here) ∙ ap (λ l. take n here ++ l) f in
+        let gone : drop (n + 1) here ≡ bs = sym (drop-drop 1 n here) ∙ ap (drop 1) f in
+        let P : ℕ → Type 0 = λ k. IsPart (take k here) in
+        let piece : IsPart (take n here) = subst P (sym e) (front_is_part here) in
+        let all : line ++ (here ++ behind) ≡ (line ++ take n here) ++ b ∷ (bs ++ behind) =
+        ap (λ l. line ++ (l ++ behind)) split ∙ ap (λ l. line ++ l) (append_assoc (take n here) (b ∷ bs) behind) ∙ sym (append_assoc line (take n here) (b ∷ (bs ++ behind))) in
+        ap lines_of all ∙ part_ends (line ++ take n here) (bs ++ behind) b (part_append line (take n here) h piece) at_end ∙ ap (λ l. without_return (line ++ take n here) ∷ lines_of (l ++ behind)) (sym gone)
+
+pub piece_is_part : (line here : List ℕ) (n : ℕ) → IsPart line → n ≡ prefix_len is_inside here → IsPart (line ++ take n here)
+piece_is_part line here n h e = let P : ℕ → Type 0 = λ k. IsPart (take k here) in part_append line (take n here) h (subst P (sym e) (front_is_part here))
+
+-- bytes have a line
+pub some_line : (b : ℕ) (bs : List ℕ) → (line : List ℕ) × ((others : List (List ℕ)) × (lines_of (b ∷ bs) ≡ line ∷ others))
+some_line b bs = by (nat_lt (prefix_len is_inside (b ∷ bs)) (length (b ∷ bs))) refl
+  where
+    by : (t : Bool) → nat_lt (prefix_len is_inside (b ∷ bs)) (length (b ∷ bs)) ≡ t → (line : List ℕ) × ((others : List (List ℕ)) × (lines_of (b ∷ bs) ≡ line ∷ others))
+    by true e =
+        let lt : prefix_len is_inside (b ∷ bs) < length (b ∷ bs) = grind (arith, nat_tests, e) in
+        (without_return (take (prefix_len is_inside (b ∷ bs)) (b ∷ bs)), (lines_of (drop (prefix_len is_inside (b ∷ bs) + 1) (b ∷ bs)), ended_there (b ∷ bs) (prefix_len is_inside (b ∷ bs)) refl lt))
+    by false e =
+        let ge : length (b ∷ bs) ≤ prefix_len is_inside (b ∷ bs) = grind (arith, nat_tests, e) in
+        let le : prefix_len is_inside (b ∷ bs) ≤ length (b ∷ bs) = prefix_within (b ∷ bs) in
+        (b ∷ bs, ([], whole (b ∷ bs) (omega arith) (omega (arith, ge, le))))

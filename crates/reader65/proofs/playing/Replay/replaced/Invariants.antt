@@ -1,0 +1,12 @@
+use Rattle.std.proofs.Common.{◌≡◌, ◌≤◌, ◌++◌, drop, length}
+use Rattle.syntax65.specs.Tokens.{lexemes}
+use Rattle.reader65.specs.Kept.{tokens_in}
+use Rattle.reader65.specs.Playing.{replacing_of}
+use Rattle.reader65.specs.Replacing.{replaced}
+use Rattle.reader65.proofs.playing.Replay.replaced.Given as goal
+
+abbrev pub invariant-loop-token : goal.invariant-loop-token
+invariant-loop-token l = record {
+  so_far : lexemes l.out.items ++ replaced (replacing_of l.self) (lexemes (drop l.token-index l.token-items)) ≡ replaced (replacing_of l.self) (tokens_in l.line);
+  few : length l.out.items ≤ 4096;
+}

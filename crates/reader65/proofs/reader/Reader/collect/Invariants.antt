@@ -1,0 +1,20 @@
+use Rattle.std.proofs.Common.{◌≡◌, ◌≤◌, [], map}
+use Rattle.std.specs.Prelude.{IfSome}
+use Rattle.reader65.specs.Blocks.{collects}
+use Rattle.reader65.specs.Inside.{mark_of}
+use Rattle.reader65.specs.Kept.{tokens_in}
+use Rattle.reader65.proofs.Blocking.{Leads}
+use Rattle.reader65.proofs.reader.Reader.collect.Given as goal
+
+abbrev pub invariant-lines : goal.invariant-lines
+invariant-lines g l = record {
+  outer : l.self.outer ≡ l.fn.self.outer;
+  mark : mark_of l.self.top ≡ mark_of l.fn.self.top;
+  room : l.self.room ≤ l.fn.self.room;
+  files : g.S.Store.files l.store ≡ g.S.Store.files l.fn.store;
+  count : g.S.Store.failures l.store ≡ g.S.Store.failures l.fn.store;
+  so_far : IfSome (g.S.Store.files l.fn.store) (Leads collects (map tokens_in l.body) l.self [] l.fn.self);
+}
+
+abbrev pub decreases-lines : goal.decreases-lines
+decreases-lines g l = l.self.room

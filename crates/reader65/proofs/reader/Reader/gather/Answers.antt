@@ -1,0 +1,67 @@
+use Rattle.std.proofs.Common.{◌≡◌, ℕ, ◌∙◌, ◌++◌, ◌∷◌, [], List, map, ap, sym, subst, rules, Ok, Err, arith, IfSome}
+use Rattle.std.proofs.lemmas.List.{map-append}
+use Rattle.std.proofs.lemmas.Result.{err_from_is_err_and}
+use Rattle.base65.specs.Outcome.{Unless}
+use Rattle.syntax65.specs.Tokens.{Lexeme}
+use Rattle.reader65.specs.BlockLines.{TakesInBlock}
+use Rattle.reader65.specs.Blocks.{gathers}
+use Rattle.source65.specs.Faults.{is_outside}
+use Rattle.reader65.specs.Inside.{left_of}
+use Rattle.reader65.specs.Judging.{Judges}
+use Rattle.reader65.specs.Kept.{tokens_in}
+use Rattle.reader65.specs.declared.blocks.BlockStep.{BlockStep}
+use Rattle.reader65.proofs.Blocking.{Leads, line_missing, line_refused, line_closes, line_goes_on}
+use Rattle.reader65.proofs.Gathering.{moved_to}
+use Rattle.reader65.proofs.reader.Reader.gather.Goals as goal
+
+pub returns-in_err-line-clause-read : goal.returns-in_err-line-clause-read
+returns-in_err-line-clause-read g c =
+    let p = err_from_is_err_and c.from_residual.result c.from_residual.ensures.1 in
+    let o = g.S.Store.files c.args.store.now in
+    let f = c.in_err-line.field-0.0 in
+    let new = c.block_line.new.self in
+    let body = map tokens_in c.lines.body in
+    let taken = moved_to (λ m. Unless (is_outside f) (TakesInBlock (left_of m c.lines.self) (Err (f, new.place)))) o (g.S.Store.files c.lines.store) c.lines.invariant.files c.in_err-line.ensures.read in
+    rw (p.1, p.2) (line_missing gathers o c.args.self.now c.lines.self (0, []) (c.lines.depth, body) f new.place c.lines.invariant.so_far taken)
+
+pub returns-in_err-gathered-clause-read : goal.returns-in_err-gathered-clause-read
+returns-in_err-gathered-clause-read g c =
+    let p = err_from_is_err_and c.from_residual-in_err-gathered.result c.from_residual-in_err-gathered.ensures.1 in
+    let o = g.S.Store.files c.args.store.now in
+    let new = c.block_line.new.self in
+    let line = c.in_ok-line.line in
+    let body = map tokens_in c.lines.body in
+    let taken = moved_to (λ m. TakesInBlock (left_of m c.lines.self) (Ok (tokens_in line, left_of m new))) o (g.S.Store.files c.lines.store) c.lines.invariant.files c.in_ok-line.ensures.read in
+    rw (p.1, p.2) (line_refused gathers o c.args.self.now c.lines.self new (0, []) (c.lines.depth, body) (tokens_in line) c.in_err-gathered.field-0.0 c.lines.invariant.so_far taken (c.in_err-gathered.ensures.step body))
+
+pub returns-in-Closed-clause-read : goal.returns-in-Closed-clause-read
+returns-in-Closed-clause-read g c =
+    let o = g.S.Store.files c.args.store.now in
+    let new = c.block_line.new.self in
+    let line = c.in_ok-line.line in
+    let body = map tokens_in c.lines.body in
+    let taken = moved_to (λ m. TakesInBlock (left_of m c.lines.self) (Ok (tokens_in line, left_of m new))) o (g.S.Store.files c.lines.store) c.lines.invariant.files c.in_ok-line.ensures.read in
+    let P : BlockStep → Type 0 = λ s. Judges (λ (d : ℕ). (d, body ++ tokens_in line ∷ [])) body (Ok s) (gathers (c.lines.depth, body) (tokens_in line)) in
+    let last = subst P c.in-Closed.is (c.in_ok-gathered.ensures.step body) in
+    line_closes gathers o c.args.self.now c.lines.self new (0, []) (c.lines.depth, body) (tokens_in line) body c.lines.invariant.so_far taken last
+
+pub lines-preserved : goal.lines-preserved
+lines-preserved g c =
+    let o = g.S.Store.files c.args.store.now in
+    let new = c.block_line.new.self in
+    let line = c.in_ok-line.line in
+    let body = map tokens_in c.lines.body in
+    let taken = moved_to (λ m. TakesInBlock (left_of m c.lines.self) (Ok (tokens_in line, left_of m new))) o (g.S.Store.files c.lines.store) c.lines.invariant.files c.in_ok-line.ensures.read in
+    let P : BlockStep → Type 0 = λ s. Judges (λ (d : ℕ). (d, body ++ tokens_in line ∷ [])) body (Ok s) (gathers (c.lines.depth, body) (tokens_in line)) in
+    let goes = subst P c.in-On.is (c.in_ok-gathered.ensures.step body) in
+    let more = line_goes_on gathers o c.args.self.now c.lines.self new (0, []) (c.lines.depth, body) (c.in-On.deeper, body ++ tokens_in line ∷ []) (tokens_in line) c.lines.invariant.so_far taken goes in
+    let items : map tokens_in c.push.new.self ≡ body ++ tokens_in line ∷ [] = ap (map tokens_in) c.in_ok-push-in-On.ensures.ok ∙ map-append tokens_in c.lines.body (line ∷ []) in
+    let Q : List (List Lexeme) → Type 0 = λ b. IfSome o (Leads gathers (c.in-On.deeper, b) new (0, []) c.args.self.now) in
+    record {
+      outer = c.in_ok-line.ensures.outer ∙ c.lines.invariant.outer;
+      mark = c.in_ok-line.ensures.mark ∙ c.lines.invariant.mark;
+      room = omega (arith, c.in_ok-line.ensures.room, c.lines.invariant.room);
+      files = c.in_ok-line.ensures.files ∙ c.lines.invariant.files;
+      count = search rules;
+      so_far = subst Q (sym items) more;
+    }

@@ -1,0 +1,34 @@
+use Rattle.std.proofs.Common.{◌≡◌, ◌∙◌, ap, refl, suc, arith, ◌-◌, true, Ok, Err}
+use Rattle.std.proofs.lemmas.Result.{err_from_is_err_and}
+use Rattle.reader65.specs.Inside.{TakesLine, left_in}
+use Rattle.reader65.specs.Left.{Mark}
+use Rattle.reader65.specs.declared.input.NextLine.TheVariants.{AtEnd}
+use Rattle.reader65.specs.declared.reader.Reader.{Reader}
+use Rattle.reader65.proofs.Gathering.{moved_to}
+use Rattle.reader65.proofs.Nexts.{told_taken, told_refused}
+use Rattle.reader65.proofs.reader.Reader.next_line.Goals as goal
+
+pub returns-in_err-line-clause-read : goal.returns-in_err-line-clause-read
+returns-in_err-line-clause-read g c =
+    let p = err_from_is_err_and c.from_residual-in_err-line.result c.from_residual-in_err-line.ensures.1 in
+    let o = g.S.Store.files c.args.store.now in
+    let old = c.args.self.now in
+    let mid = c.begin_line.new.self in
+    let f = c.in_err-line.field-0.0 in
+    let not_end : c.in_ok-next.next ≡ AtEnd → ⊥ = λ e. let t : c.is_end.result ≡ true = c.is_end.ensures.1 e in let u = c.if-is_end.false in absurd cc in
+    let more : suc (old.room - 1) ≡ old.room = omega (arith, c.if-self-eq0.false) in
+    let taken = moved_to (λ m. TakesLine (left_in m mid) (Err f) (left_in m c.take_line.new.self)) o (g.S.Store.files c.begin_line.new.store) c.in_ok-next.ensures.files c.in_err-line.ensures.taken in
+    rw (p.1, p.2) (told_refused o old mid c.take_line.new.self c.move_by.new.place (old.room - 1) c.in_ok-next.next f c.in_ok-next.ensures.comes c.in_ok-next.ensures.same not_end taken c.move_by.ensures more)
+
+pub returns-clause-read : goal.returns-clause-read
+returns-clause-read g c =
+    let o = g.S.Store.files c.args.store.now in
+    let old = c.args.self.now in
+    let mid = c.begin_line.new.self in
+    let line = c.in_ok-line.line in
+    let new : Reader = record { top = record { source = c.take_line.new.self; conditions = old.top.conditions; back = old.top.back }; outer = old.outer; room = old.room - 1; place = c.move_by.new.place } in
+    let not_end : c.in_ok-next.next ≡ AtEnd → ⊥ = λ e. let t : c.is_end.result ≡ true = c.is_end.ensures.1 e in let u = c.if-is_end.false in absurd cc in
+    let more : suc (old.room - 1) ≡ old.room = omega (arith, c.if-self-eq0.false) in
+    let taken = moved_to (λ m. TakesLine (left_in m mid) (Ok line) (left_in m c.take_line.new.self)) o (g.S.Store.files c.begin_line.new.store) c.in_ok-next.ensures.files c.in_ok-line.ensures.taken in
+    let same = ap (λ b. let k : Mark = record { is_macro = b; conditions = old.top.conditions; back = old.top.back } in k) (c.in_ok-line.ensures.call ∙ c.in_ok-next.ensures.call) in
+    told_taken o old new mid c.in_ok-next.next line c.in_ok-next.ensures.comes c.in_ok-next.ensures.same not_end taken same refl c.move_by.ensures more

@@ -1,0 +1,64 @@
+use Rattle.std.proofs.Common.{ℕ, ◌∙◌, subst, rules, Ok, Err, arith}
+use Rattle.std.proofs.lemmas.Result.{err_from_is_err_and}
+use Rattle.base65.specs.Outcome.{Unless}
+use Rattle.reader65.specs.BlockLines.{TakesInBlock}
+use Rattle.reader65.specs.Blocks.{passes}
+use Rattle.source65.specs.Faults.{is_outside}
+use Rattle.reader65.specs.Inside.{left_of}
+use Rattle.reader65.specs.Judging.{Judges}
+use Rattle.reader65.specs.Kept.{tokens_in}
+use Rattle.reader65.specs.declared.blocks.BlockStep.{BlockStep}
+use Rattle.reader65.proofs.Blocking.{lines_passed, line_missing, line_refused, line_closes, line_goes_on}
+use Rattle.reader65.proofs.Gathering.{moved_to}
+use Rattle.reader65.proofs.Plainly.{plain_passed}
+use Rattle.reader65.proofs.reader.Reader.pass.Goals as goal
+
+pub returns-in_err-line-clause-read : goal.returns-in_err-line-clause-read
+returns-in_err-line-clause-read g c =
+    let p = err_from_is_err_and c.from_residual.result c.from_residual.ensures.1 in
+    let o = g.S.Store.files c.args.store.now in
+    let so_far = lines_passed passes o c.args.self.now c.lines.self c.pass_plain_lines.new.self 0 c.lines.depth (λ ts p. plain_passed c.lines.depth ts p) c.pass_plain_lines.ensures.passed c.lines.invariant.so_far in
+    let f = c.in_err-line.field-0.0 in
+    let new = c.block_line.new.self in
+    let taken = moved_to (λ m. Unless (is_outside f) (TakesInBlock (left_of m c.pass_plain_lines.new.self) (Err (f, new.place)))) o (g.S.Store.files c.lines.store) c.lines.invariant.files c.in_err-line.ensures.read in
+    rw (p.1, p.2) (line_missing passes o c.args.self.now c.pass_plain_lines.new.self 0 c.lines.depth f new.place so_far taken)
+
+pub returns-in_err-passed-clause-read : goal.returns-in_err-passed-clause-read
+returns-in_err-passed-clause-read g c =
+    let p = err_from_is_err_and c.from_residual-in_err-passed.result c.from_residual-in_err-passed.ensures.1 in
+    let o = g.S.Store.files c.args.store.now in
+    let so_far = lines_passed passes o c.args.self.now c.lines.self c.pass_plain_lines.new.self 0 c.lines.depth (λ ts p. plain_passed c.lines.depth ts p) c.pass_plain_lines.ensures.passed c.lines.invariant.so_far in
+    let new = c.block_line.new.self in
+    let line = c.in_ok-line.line in
+    let taken = moved_to (λ m. TakesInBlock (left_of m c.pass_plain_lines.new.self) (Ok (tokens_in line, left_of m new))) o (g.S.Store.files c.lines.store) c.lines.invariant.files c.in_ok-line.ensures.read in
+    rw (p.1, p.2) (line_refused passes o c.args.self.now c.pass_plain_lines.new.self new 0 c.lines.depth (tokens_in line) c.in_err-passed.field-0.0 so_far taken c.in_err-passed.ensures.step)
+
+pub returns-in-Closed-clause-read : goal.returns-in-Closed-clause-read
+returns-in-Closed-clause-read g c =
+    let o = g.S.Store.files c.args.store.now in
+    let so_far = lines_passed passes o c.args.self.now c.lines.self c.pass_plain_lines.new.self 0 c.lines.depth (λ ts p. plain_passed c.lines.depth ts p) c.pass_plain_lines.ensures.passed c.lines.invariant.so_far in
+    let new = c.block_line.new.self in
+    let line = c.in_ok-line.line in
+    let taken = moved_to (λ m. TakesInBlock (left_of m c.pass_plain_lines.new.self) (Ok (tokens_in line, left_of m new))) o (g.S.Store.files c.lines.store) c.lines.invariant.files c.in_ok-line.ensures.read in
+    let P : BlockStep → Type 0 = λ s. Judges (λ (d : ℕ). d) tt (Ok s) (passes c.lines.depth (tokens_in line)) in
+    let last = subst P c.in-Closed.is c.in_ok-passed.ensures.step in
+    line_closes passes o c.args.self.now c.pass_plain_lines.new.self new 0 c.lines.depth (tokens_in line) tt so_far taken last
+
+pub lines-preserved : goal.lines-preserved
+lines-preserved g c =
+    let o = g.S.Store.files c.args.store.now in
+    let so_far = lines_passed passes o c.args.self.now c.lines.self c.pass_plain_lines.new.self 0 c.lines.depth (λ ts p. plain_passed c.lines.depth ts p) c.pass_plain_lines.ensures.passed c.lines.invariant.so_far in
+    let new = c.block_line.new.self in
+    let line = c.in_ok-line.line in
+    let taken = moved_to (λ m. TakesInBlock (left_of m c.pass_plain_lines.new.self) (Ok (tokens_in line, left_of m new))) o (g.S.Store.files c.lines.store) c.lines.invariant.files c.in_ok-line.ensures.read in
+    let P : BlockStep → Type 0 = λ s. Judges (λ (d : ℕ). d) tt (Ok s) (passes c.lines.depth (tokens_in line)) in
+    let goes = subst P c.in-On.is c.in_ok-passed.ensures.step in
+    let more = line_goes_on passes o c.args.self.now c.pass_plain_lines.new.self new 0 c.lines.depth c.in-On.deeper (tokens_in line) so_far taken goes in
+    record {
+      outer = c.in_ok-line.ensures.outer ∙ c.pass_plain_lines.ensures.outer ∙ c.lines.invariant.outer;
+      mark = c.in_ok-line.ensures.mark ∙ c.pass_plain_lines.ensures.mark ∙ c.lines.invariant.mark;
+      room = omega (arith, c.in_ok-line.ensures.room, c.pass_plain_lines.ensures.room, c.lines.invariant.room);
+      files = c.in_ok-line.ensures.files ∙ c.lines.invariant.files;
+      count = search rules;
+      so_far = more;
+    }

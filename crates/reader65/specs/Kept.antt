@@ -1,0 +1,18 @@
+-- Lines as they are kept.
+use Rattle.std.specs.Prelude.{◌≡◌, ℕ, List, [], ◌∷◌, ◌++◌, take, drop}
+use Rattle.syntax65.specs.Tokens.{Lexeme}
+use Rattle.reader65.specs.declared.line.Word.{Word}
+use Rattle.reader65.specs.declared.line.Line.{Line}
+
+-- words cut off the bytes one after another
+abbrev pub cut : List Word → List ℕ → List Lexeme
+cut [] bytes = []
+cut (w ∷ ws) bytes = (w.kind, take w.len bytes) ∷ cut ws (drop w.len bytes)
+
+-- these words are so many tokens in the bytes, whatever is put behind them
+abbrev pub AreKept : List Word → List ℕ → List Lexeme → Type 0
+AreKept words bytes ts = (ws : List Word) (bs : List ℕ) → cut (words ++ ws) (bytes ++ bs) ≡ ts ++ cut ws bs
+
+-- the tokens of a line
+abbrev pub tokens_in : Line → List Lexeme
+tokens_in line = cut line.words line.bytes

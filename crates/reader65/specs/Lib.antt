@@ -1,0 +1,17 @@
+pub mod BlockLines
+pub mod Blocks
+pub mod Directives
+pub mod Entering
+pub mod Fronts
+pub mod Inside
+pub mod Judging
+pub mod Kept
+pub mod Left
+pub mod Lines
+pub mod Parting
+pub mod Passing
+pub mod Plain
+pub mod Playing
+pub mod Reading
+pub mod Replacing
+pub mod Taking

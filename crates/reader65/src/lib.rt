@@ -1,0 +1,23 @@
+//! The lines of a source, one after another: those of open files, expansions and repeats, one inside the other, and the
+//! blocks of lines among them.
+#![tactic(auto)]
+
+mod blocks;
+mod directives;
+mod file;
+mod fronts;
+mod input;
+mod line;
+mod locals;
+mod passing;
+mod playing;
+mod reader;
+
+pub use blocks::BranchLine;
+pub use directives::{Directive, Test};
+pub use file::{MAX_FILE, OpenFile};
+pub use fronts::{behind_first, closes_brace, is_comma, name_in, opens_brace, opens_parenthesis, string_of};
+pub use input::{Source, number_line};
+pub use line::Line;
+pub use playing::{Body, Replay};
+pub use reader::{Input, Reader};

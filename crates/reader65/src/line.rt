@@ -1,0 +1,209 @@
+//! Lines that are kept.
+
+ghost use Rattle.std.specs.Prelude.{◌≡◌, ◌∷◌, ◌++◌, [], false, slice_get, option_map, IsTrue, IfErr, IfOk, List, OnOk, Result};
+ghost use Rattle.base65.specs.Relations.{Answers};
+ghost use Rattle.syntax65.specs.Tokens.{IsRead, Lexeme, lexeme_of, lexemes};
+ghost use Rattle.syntax65.specs.declared.lexing.fault.LexFault.{LexFault};
+ghost use Rattle.source65.specs.Faults.{is_failure, is_outside};
+ghost use Rattle.reader65.specs.Fronts.{front_directive, label_len};
+ghost use Rattle.reader65.specs.Kept.{AreKept, tokens_in};
+ghost use Rattle.reader65.specs.Plain.{IsColon, IsColonAt, IsPlain};
+ghost use Rattle.reader65.specs.Parting.{IsParted};
+ghost use Rattle.reader65.specs.Taking.{lexed};
+
+use crate::directives::Directive;
+use crate::fronts::{directive_in, is_mislabelled, label_len};
+use base65::Sequence;
+use source65::ExpandFault;
+use std::alloc::{AllocError, Global};
+use syntax65::{Lexer, Mark, Token, TokenKind};
+
+/// What a token of a line is, and how many of the line's bytes are its own.
+#[derive(Clone, Copy)]
+pub struct Word {
+    pub kind: TokenKind,
+    pub len: usize,
+}
+
+/// The tokens of a line, with their bytes one behind the other.
+#[derive(Drop)]
+pub struct Line {
+    pub words: Sequence<Word>,
+    pub bytes: Sequence<u8>,
+}
+
+impl Word {
+    fn is_colon(&self) -> bool
+        ensures { IsColon self.now result }
+    {
+        matches!(self.kind, TokenKind::Symbol(Mark::Colon))
+    }
+}
+
+impl Line {
+    /// A line of these tokens.
+    #[inline(always)]
+    pub fn copy_of(alloc: Global, tokens: &[Token<'_>]) -> Result<Line, AllocError>
+        ensures { IfOk result (λ line. tokens_in line ≡ lexemes tokens.now) }
+    {
+        let mut words = Vec::with_capacity(alloc, tokens.len())?;
+        // A token has some four bytes.
+        let mut bytes = Vec::with_capacity(alloc, tokens.len().saturating_mul(4))?;
+        for token in tokens {
+            words.push(Word {
+                kind: token.kind,
+                len: token.text.len(),
+            })?;
+            bytes.extend_from_slice(token.text)?;
+        }
+        Ok(Line {
+            words: Sequence::from_vec(words),
+            bytes: Sequence::from_vec(bytes),
+        })
+    }
+
+    /// The tokens of a line of a file.
+    #[inline(always)]
+    pub fn read(alloc: Global, bytes: &[u8]) -> Result<Line, ExpandFault>
+        ensures tokens { Answers is_outside tokens_in result
+            (λ r. (q : Result (List Lexeme) LexFault) × IsRead bytes.now q × (r ≡ lexed q)) }
+        ensures inside { IfErr result (λ e. is_failure e ≡ false) }
+    {
+        let mut lexer = Lexer::new(bytes)?;
+        // Room for most lines, and not more: those of a macro stay as they are.
+        let mut words = Vec::with_capacity(alloc, (bytes.len() / 2 + 1).min(8))?;
+        let mut kept = Vec::with_capacity(alloc, bytes.len().min(32))?;
+        'tokens: loop {
+            match lexer.next()? {
+                Some(token) => keep(&mut words, &mut kept, token)?,
+                None => {
+                    return Ok(Line {
+                        words: Sequence::from_vec(words),
+                        bytes: Sequence::from_vec(kept),
+                    });
+                }
+            }
+        }
+    }
+
+    /// Puts the line's tokens behind others.
+    pub fn add_to<'a>(&'a self, tokens: &mut Vec<Token<'a>>) -> Result<(), AllocError>
+        ensures { OnOk result (lexemes tokens.new.items ≡ lexemes tokens.old.items ++ tokens_in self.now) }
+    {
+        let mut rest = self.bytes.as_slice();
+        for word in self.words.as_slice() {
+            let (text, behind) = rest.split_at(word.len.min(rest.len()));
+            tokens.push(Token {
+                kind: word.kind,
+                text,
+            })?;
+            rest = behind;
+        }
+        Ok(())
+    }
+
+    /// The first token.
+    pub fn first(&self) -> Option<Token<'_>>
+        ensures { option_map lexeme_of result ≡ slice_get (tokens_in self.now) 0 }
+    {
+        let word = self.words.as_slice().first()?;
+        let bytes = self.bytes.as_slice();
+        let (text, _) = bytes.split_at(word.len.min(bytes.len()));
+        Some(Token {
+            kind: word.kind,
+            text,
+        })
+    }
+
+    /// The directive of expansion at the front.
+    pub fn directive(&self) -> Option<Directive>
+        ensures { result ≡ front_directive (tokens_in self.now) }
+    {
+        match self.first() {
+            Some(token) => directive_in(&token),
+            None => None,
+        }
+    }
+
+    /// Whether a word is there at a place, and is a colon.
+    fn is_colon_at(&self, at: usize) -> bool
+        ensures { IsColonAt self.now.words at result }
+    {
+        match self.words.as_slice().get(at) {
+            Some(word) => word.is_colon(),
+            None => false,
+        }
+    }
+
+    /// Whether neither of the first two words is a colon, so that the line has no label.
+    fn has_no_colon(&self) -> bool
+        ensures { IsTrue result → label_len (tokens_in self.now) ≡ 0 }
+    {
+        let first = self.is_colon_at(0);
+        if first {
+            return false;
+        }
+        let second = self.is_colon_at(1);
+        !second
+    }
+
+    /// Whether the line has no label, and no directive of expansion.
+    pub fn is_plain(&self) -> bool
+        ensures { IsTrue result → IsPlain (tokens_in self.now) }
+    {
+        self.has_no_colon() && self.directive().is_none()
+    }
+
+    /// The label at the front and what stands behind it, if there is a label.
+    pub fn parted(&self, alloc: Global) -> Result<Option<(Line, Line)>, ExpandFault>
+        ensures parts { IsParted (tokens_in self.now) result }
+        ensures inside { IfErr result (λ e. is_failure e ≡ false) }
+    {
+        if self.has_no_colon() {
+            return Ok(None);
+        }
+        let tokens = self.tokens(alloc)?;
+        parted(alloc, tokens.as_slice())
+    }
+
+    /// The line's tokens.
+    pub fn tokens(&self, alloc: Global) -> Result<Vec<Token<'_>>, AllocError>
+        ensures { IfOk result (λ tokens. lexemes tokens.items ≡ tokens_in self.now) }
+    {
+        let mut tokens = Vec::with_capacity(alloc, self.words.len())?;
+        self.add_to(&mut tokens)?;
+        Ok(tokens)
+    }
+}
+
+/// Keeps a token behind others.
+#[inline(always)]
+fn keep(words: &mut Vec<Word>, bytes: &mut Vec<u8>, token: Token<'_>) -> Result<(), AllocError>
+    ensures { OnOk result ((ts : List Lexeme) → AreKept words.old.items bytes.old.items ts →
+        AreKept words.new.items bytes.new.items (ts ++ lexeme_of token.entry ∷ [])) }
+{
+    words.push(Word {
+        kind: token.kind,
+        len: token.text.len(),
+    })?;
+    bytes.extend_from_slice(token.text)?;
+    Ok(())
+}
+
+/// The label at the front of tokens and what stands behind it, if there is a label.
+fn parted(alloc: Global, tokens: &[Token<'_>]) -> Result<Option<(Line, Line)>, ExpandFault>
+    ensures parts { IsParted (lexemes tokens.now) result }
+    ensures inside { IfErr result (λ e. is_failure e ≡ false) }
+{
+    let len = label_len(tokens);
+    if len == 0 {
+        return Ok(None);
+    }
+    if is_mislabelled(tokens) {
+        return Err(ExpandFault::NotUnderstood);
+    }
+    let (label, rest) = tokens.split_at(len);
+    let label = Line::copy_of(alloc, label)?;
+    let rest = Line::copy_of(alloc, rest)?;
+    Ok(Some((label, rest)))
+}

@@ -16,8 +16,8 @@ use Rattle.module65.specs.Pieces.{Made, made_of, used}
 use Rattle.asm65.specs.declared.waiting.Piece.{Piece}
 use Rattle.asm65.specs.declared.waiting.Piece.TheVariants.{Datum, Operand, Constant, Assertion, Import, Demand, Export}
 use Rattle.asm65.specs.declared.waiting.Waiting.{Waiting}
-use Rattle.asm65.specs.Holding.{IsConstant, IsPiece, IsWaiting}
-use Rattle.asm65.specs.Resolving.{coming}
+use Rattle.asm65.specs.Inner.Holding.{IsConstant, IsPiece, IsWaiting}
+use Rattle.asm65.specs.Inner.Resolving.{coming}
 use Rattle.asm65.specs.Views.{place_in}
 
 -- ---- Faults from outside.

@@ -22,8 +22,8 @@ use Rattle.asm65.specs.declared.assembler.Assembler.{Assembler}
 use Rattle.asm65.specs.declared.concluding.Ending.{Ending}
 use Rattle.asm65.specs.declared.refusal.AsmRefusal.{AsmRefusal}
 use Rattle.asm65.specs.Assembly.{in_places, is_from_outside, is_outside_refusal, placed_of}
-use Rattle.asm65.specs.Holding.{AreWaiting, Holds}
-use Rattle.asm65.specs.Resolving.{AreFaulty, AreSettled, SettlesAll}
+use Rattle.asm65.specs.Inner.Holding.{AreWaiting, Holds}
+use Rattle.asm65.specs.Inner.Resolving.{AreFaulty, AreSettled, SettlesAll}
 use Rattle.layout65.specs.Views.{standing_of}
 use Rattle.asm65.proofs.Goings.{awaited}
 

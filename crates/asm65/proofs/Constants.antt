@@ -14,8 +14,8 @@ use Rattle.module65.specs.Machine.{State}
 use Rattle.symbols65.specs.Views.{table_of}
 use Rattle.layout65.specs.Views.{standing_of}
 use Rattle.asm65.specs.declared.assembler.Assembler.{Assembler}
-use Rattle.asm65.specs.Holding.{Holds}
-use Rattle.asm65.specs.Knowing.{known_where}
+use Rattle.asm65.specs.Inner.Holding.{Holds}
+use Rattle.asm65.specs.Inner.Knowing.{known_where}
 
 -- a final form is the one now
 pub final_constant : (y : Symbols) (s : Spot) (e : Tree) (f : Form) → IsFinal y s e f → literal_in (Ok f) ≡ constant_in y s e

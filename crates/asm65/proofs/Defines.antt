@@ -6,7 +6,7 @@ use Rattle.source65.specs.declared.place.Place.{Place}
 use Rattle.language65.specs.declared.fault.AsmFault.{AsmFault}
 use Rattle.language65.specs.Faults.{is_outside}
 use Rattle.language65.specs.Language.{constant}
-use Rattle.module65.specs.Continuing.{DefinesOn}
+use Rattle.module65.specs.Inner.Continuing.{DefinesOn}
 use Rattle.module65.specs.Machine.{State, Takes, begun}
 use Rattle.module65.specs.Reading.{Answers, AreDefined, Define}
 use Rattle.module65.proofs.TakenAll.{faulty_constant, first_constant, last_constant, next_constant}
@@ -14,8 +14,8 @@ use Rattle.asm65.specs.declared.assembler.Assembler.{Assembler}
 use Rattle.asm65.specs.declared.assembly.Define as code
 use Rattle.asm65.specs.Assembly.{define_of}
 use Rattle.layout65.specs.Counting.{opening_limit}
-use Rattle.asm65.specs.Holding.{Holds}
-use Rattle.asm65.specs.Running.{DefinesBy, IsReached, behind, at_first, IsRoomy, Leaves}
+use Rattle.asm65.specs.Inner.Holding.{Holds}
+use Rattle.asm65.specs.Inner.Running.{DefinesBy, IsReached, behind, at_first, IsRoomy, Leaves}
 use Rattle.asm65.proofs.Runs.{Answer, fault_first, fault_then, says_same, takes_quiet}
 
 pub defines_by : (place : Place) (d : Define) (old new : Assembler) (r : Answer) → ((count : ℕ) (t : State) → Holds count t old → count < opening_limit → Answers (Takes t place (constant d.0 (number d.1))) (λ u. Holds (count + 0) u new) r) → IfErr r (λ e. is_outside e ≡ false → new.texts ≡ old.texts) → DefinesBy place d old new r

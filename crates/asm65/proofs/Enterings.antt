@@ -25,8 +25,8 @@ use Rattle.sections65.proofs.Standings.{asked_same}
 use Rattle.symbols65.specs.Views.{table_of}
 use Rattle.asm65.specs.declared.assembler.Assembler.{Assembler}
 use Rattle.asm65.specs.declared.waiting.Piece as held
-use Rattle.asm65.specs.Holding.{Enters, IsPiece}
-use Rattle.asm65.specs.Putting.{IsPut, IsTried, Waits, operand_stored}
+use Rattle.asm65.specs.Inner.Holding.{Enters, IsPiece}
+use Rattle.asm65.specs.Inner.Putting.{IsPut, IsTried, Waits, operand_stored}
 use Rattle.asm65.proofs.Waitings.{holds_entered, waits_enters}
 
 -- ---- One behind the other.

@@ -17,8 +17,8 @@ use Rattle.asm65.specs.declared.concluding.Ending.{Ending}
 use Rattle.asm65.specs.declared.refusal.AsmRefusal.{AsmRefusal}
 use Rattle.asm65.specs.declared.waiting.Waiting.{Waiting}
 use Rattle.asm65.specs.Assembly.{is_outside_refusal, placed_of}
-use Rattle.asm65.specs.Holding.{AreAwaited, AreWaiting, IsWaiting}
-use Rattle.asm65.specs.Resolving.{AreFaulty, AreSettled, IsFaulty, IsSettled, ReceivesAll}
+use Rattle.asm65.specs.Inner.Holding.{AreAwaited, AreWaiting, IsWaiting}
+use Rattle.asm65.specs.Inner.Resolving.{AreFaulty, AreSettled, IsFaulty, IsSettled, ReceivesAll}
 use Rattle.layout65.proofs.Steps.{unless_then}
 
 abbrev pub done_with : List Content → List ℕ → Finished Content

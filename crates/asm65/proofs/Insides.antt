@@ -37,7 +37,7 @@ use Rattle.language65.specs.LineFaults.{unless_fault}
 use Rattle.layout65.specs.Measuring.{Measured, measure_of, measured}
 use Rattle.asm65.specs.declared.waiting.Piece.{Piece}
 use Rattle.asm65.specs.declared.waiting.Piece.TheVariants.{Datum, Operand, Constant, Assertion, Import, Demand, Export}
-use Rattle.asm65.specs.Resolving.{coming, lost}
+use Rattle.asm65.specs.Inner.Resolving.{coming, lost}
 
 abbrev pub IsInside : {A : Type 0} → Result A AsmFault → Type 0
 IsInside r = IfErr r (λ e. is_failure e ≡ false)

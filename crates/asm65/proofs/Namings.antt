@@ -17,10 +17,10 @@ use Rattle.symbols65.specs.Resolving.{IsTable}
 use Rattle.symbols65.specs.Tables.{Begins}
 use Rattle.symbols65.specs.Views.{table_of, with_definition, with_names, with_scope}
 use Rattle.asm65.specs.declared.assembler.Assembler.{Assembler}
-use Rattle.asm65.specs.Holding.{AreBefore, Enters, Holds}
+use Rattle.asm65.specs.Inner.Holding.{AreBefore, Enters, Holds}
 use Rattle.layout65.specs.Counting.{AreInside}
-use Rattle.asm65.specs.Putting.{KeepsTables}
-use Rattle.asm65.specs.Taking.{KeepsPut, Mentions, Turns, all_awaiting, with_symbols}
+use Rattle.asm65.specs.Inner.Putting.{KeepsTables}
+use Rattle.asm65.specs.Inner.Taking.{KeepsPut, Mentions, Turns, all_awaiting, with_symbols}
 use Rattle.asm65.proofs.Waitings.{waiting_stays}
 
 -- ---- More names.

@@ -39,8 +39,8 @@ use Rattle.asm65.specs.declared.refusal.AsmRefusal.{AsmRefusal}
 use Rattle.asm65.specs.declared.running.Run.{Run}
 use Rattle.asm65.specs.Assembly.{Concludes, IsAssembled, answer_of, has_failed, is_from_memory, is_from_outside, is_outside_refusal, placed_of}
 use Rattle.asm65.specs.Failing.{Stops, StopsAll, StopsBehind, StopsFrom, StopsSo}
-use Rattle.asm65.specs.Holding.{Holds}
-use Rattle.asm65.specs.Running.{HoldsWithin, IsHeldBy, IsReached, at_first, behind, IsReachedBy, IsRunning, Leaves, Ran, SaysAs, running_limit}
+use Rattle.asm65.specs.Inner.Holding.{Holds}
+use Rattle.asm65.specs.Inner.Running.{HoldsWithin, IsHeldBy, IsReached, at_first, behind, IsReachedBy, IsRunning, Leaves, Ran, SaysAs, running_limit}
 use Rattle.asm65.proofs.Sources.{RanAll, some_all, some_both, some_then}
 
 -- ---- What statements lead to comes to objects of the grammar.

@@ -13,7 +13,7 @@ use Rattle.sections65.specs.declared.sections.Sections.{Sections}
 use Rattle.sections65.specs.Standing.{Feeds}
 use Rattle.layout65.specs.declared.measuring.Settled as held
 use Rattle.layout65.specs.declared.measuring.Settled.TheVariants as settled
-use Rattle.asm65.specs.Putting.{IsPut, literal_of}
+use Rattle.asm65.specs.Inner.Putting.{IsPut, literal_of}
 use Rattle.layout65.specs.Views.{settled_in}
 
 -- ---- What is stored of a form.

@@ -31,9 +31,9 @@ use Rattle.module65.proofs.SoundSources.{label_sound}
 use Rattle.asm65.specs.declared.assembler.Assembler.{Assembler}
 use Rattle.asm65.specs.declared.texts.Texts.{Texts}
 use Rattle.layout65.specs.Counting.{opened_by, opening_limit}
-use Rattle.asm65.specs.Holding.{Holds}
-use Rattle.asm65.specs.Files.{read_bytes}
-use Rattle.asm65.specs.Running.{behind, IsRoomy, IsSoundIf, Leaves, SaysAs, StopsQuietly, TakesBy, Told, tokens_of}
+use Rattle.asm65.specs.Inner.Holding.{Holds}
+use Rattle.asm65.specs.Inner.Files.{read_bytes}
+use Rattle.asm65.specs.Inner.Running.{behind, IsRoomy, IsSoundIf, Leaves, SaysAs, StopsQuietly, TakesBy, Told, tokens_of}
 use Rattle.asm65.proofs.WholeFiles.{read_sound, takes_whole}
 
 abbrev pub Answer : Type 0

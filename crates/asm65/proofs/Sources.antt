@@ -16,7 +16,7 @@ use Rattle.language65.specs.Faults.{is_failure, is_outside}
 use Rattle.language65.specs.LineFaults.{is_open}
 use Rattle.language65.specs.Layout.{Standing}
 use Rattle.language65.specs.Sound.{AreNamed}
-use Rattle.module65.specs.Continuing.{GoesOn}
+use Rattle.module65.specs.Inner.Continuing.{GoesOn}
 use Rattle.module65.specs.Knowing.{known_at}
 use Rattle.module65.specs.Machine.{Runs, State, Takes, begun, running}
 use Rattle.module65.specs.Reading.{AreDefined, IsGiven, IsSource, Job, no_line, open_fault, stopped}
@@ -30,8 +30,8 @@ use Rattle.asm65.specs.declared.assembler.Assembler.{Assembler}
 use Rattle.asm65.specs.declared.running.Run.{Run}
 use Rattle.layout65.specs.Counting.{opening_limit}
 use Rattle.asm65.specs.Failing.{IsTakenTo, at_first, further, IsWhere, StopsAll, StopsBehind}
-use Rattle.asm65.specs.Holding.{Holds}
-use Rattle.asm65.specs.Running.{HoldsWithin, IsHeldBy, IsReachedBy, IsRoomy, IsRunning, Ran, SaysAs, StopsQuietly, TakesBy, running_limit, tokens_of}
+use Rattle.asm65.specs.Inner.Holding.{Holds}
+use Rattle.asm65.specs.Inner.Running.{HoldsWithin, IsHeldBy, IsReachedBy, IsRoomy, IsRunning, Ran, SaysAs, StopsQuietly, TakesBy, running_limit, tokens_of}
 use Rattle.asm65.proofs.Runs.{Answer, GivenBy}
 
 pub some_then : (P Q : Files → Type 0) (o : Option Files) → ((m : Files) → P m → Q m) → IfSome o P → IfSome o Q

@@ -15,8 +15,8 @@ use Rattle.module65.specs.Machine.{symbols_behind}
 use Rattle.module65.specs.Pieces.{demanded, equated, exported, imported, pieces_of, valued}
 use Rattle.symbols65.specs.Views.{with_definition, with_names, with_scope}
 use Rattle.asm65.specs.declared.assembler.Assembler.{Assembler}
-use Rattle.asm65.specs.Holding.{Enters}
-use Rattle.asm65.specs.Taking.{Turns, is_for_zero_page, label_at, laid_as}
+use Rattle.asm65.specs.Inner.Holding.{Enters}
+use Rattle.asm65.specs.Inner.Taking.{Turns, is_for_zero_page, label_at, laid_as}
 use Rattle.asm65.proofs.Namings.{same_as, table_with, turns_as, turns_same}
 
 -- nothing more is known

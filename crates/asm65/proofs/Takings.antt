@@ -30,8 +30,8 @@ use Rattle.symbols65.specs.Views.{table_of}
 use Rattle.symbols65.proofs.Places.{position_none}
 use Rattle.asm65.specs.declared.assembler.Assembler.{Assembler}
 use Rattle.asm65.specs.declared.texts.Texts.{Texts}
-use Rattle.asm65.specs.Holding.{AreBefore, Holds, IsBefore}
-use Rattle.asm65.specs.Taking.{IsNew, IsPlaced, Turns, asked_of, laid_as, stepped, with_symbols}
+use Rattle.asm65.specs.Inner.Holding.{AreBefore, Holds, IsBefore}
+use Rattle.asm65.specs.Inner.Taking.{IsNew, IsPlaced, Turns, asked_of, laid_as, stepped, with_symbols}
 use Rattle.asm65.proofs.Namings.{IsBeside, puts_beside}
 
 -- ---- Unnamed labels.

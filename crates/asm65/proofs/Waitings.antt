@@ -29,8 +29,8 @@ use Rattle.layout65.specs.declared.standing.Standing.{Standing}
 use Rattle.asm65.specs.declared.waiting.Piece.{Piece}
 use Rattle.asm65.specs.declared.waiting.Piece.TheVariants.{Datum, Operand, Constant, Assertion, Import, Demand, Export}
 use Rattle.asm65.specs.declared.waiting.Waiting.{Waiting}
-use Rattle.asm65.specs.Holding.{AreAwaited, AreWaiting, Enters, Holds, IsConstant, IsPiece, IsWaiting}
-use Rattle.asm65.specs.Putting.{KeepsTables, Waits}
+use Rattle.asm65.specs.Inner.Holding.{AreAwaited, AreWaiting, Enters, Holds, IsConstant, IsPiece, IsWaiting}
+use Rattle.asm65.specs.Inner.Putting.{KeepsTables, Waits}
 use Rattle.layout65.specs.Sounds.{AreWithin, IsCounted, IsSoundStanding}
 use Rattle.layout65.specs.Views.{standing_of}
 use Rattle.layout65.proofs.Segments.{all_before}

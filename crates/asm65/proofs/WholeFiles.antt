@@ -16,7 +16,7 @@ use Rattle.language65.specs.Sound.{IsSound}
 use Rattle.language65.specs.Symbols.{Symbols}
 use Rattle.module65.specs.Machine.{State, Steps, Takes, UnlessFault}
 use Rattle.module65.specs.Reading.{bytes_for, with_bytes}
-use Rattle.asm65.specs.Files.{read_bytes}
+use Rattle.asm65.specs.Inner.Files.{read_bytes}
 
 pub read_sound : (m : Files) (place : Place) (x : Stated) → IsSound x → IsSound (read_bytes m place x)
 read_sound m place (part_named name start len) sound = tt

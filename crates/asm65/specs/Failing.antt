@@ -14,7 +14,7 @@ use Rattle.module65.specs.Machine.{State, Takes, begun}
 use Rattle.module65.specs.Places.{PlacedFault}
 use Rattle.module65.specs.Reading.{AreDefined, IsGiven, Job, no_line}
 use Rattle.asm65.specs.Assembly.{has_failed, placed_of}
-use Rattle.asm65.specs.Running.{IsHeldBy}
+use Rattle.asm65.specs.Inner.Running.{IsHeldBy}
 use Rattle.asm65.specs.declared.assembly.Assembly.{Assembly}
 use Rattle.asm65.specs.declared.running.Run.{Run}
 

@@ -1,10 +1,4 @@
 pub mod Assembly
+pub mod Inner
 pub mod Views
-pub mod Holding
-pub mod Files
-pub mod Knowing
-pub mod Putting
-pub mod Taking
-pub mod Resolving
-pub mod Running
 pub mod Failing

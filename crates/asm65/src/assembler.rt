@@ -34,7 +34,7 @@ pub struct At<'a> {
 impl Assembler {
     ghost use Rattle.std.specs.Prelude.{IfOk};
     ghost use Rattle.module65.specs.Machine.{begun};
-    ghost use Rattle.asm65.specs.Holding.{Holds};
+    ghost use Rattle.asm65.specs.Inner.Holding.{Holds};
 
     /// The assembler before the first statement.
     pub fn new(alloc: Global) -> Result<Self, AllocError>

@@ -11,8 +11,8 @@ ghost use Rattle.module65.specs.Machine.{State, Takes, begun, concluded};
 ghost use Rattle.module65.specs.Reading.{AreDefined, Job, no_line};
 ghost use Rattle.asm65.specs.Assembly.{Concludes, IsAssembled, answer_of, has_failed, is_from_memory, is_from_outside, is_outside_refusal, job_of, placed_of};
 ghost use Rattle.asm65.specs.Failing.{StopsFrom, StopsSo};
-ghost use Rattle.asm65.specs.Holding.{Holds};
-ghost use Rattle.asm65.specs.Running.{IsHeldBy, IsRunning, SaysAs};
+ghost use Rattle.asm65.specs.Inner.Holding.{Holds};
+ghost use Rattle.asm65.specs.Inner.Running.{IsHeldBy, IsRunning, SaysAs};
 ghost use Rattle.asm65.specs.Views.{place_in};
 
 use crate::assembler::{Assembler, At};

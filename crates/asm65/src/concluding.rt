@@ -13,9 +13,9 @@ ghost use Rattle.sections65.specs.Standing.{Receives, Stands};
 ghost use Rattle.symbols65.specs.Resolving.{IsTable};
 ghost use Rattle.symbols65.specs.Views.{table_of};
 ghost use Rattle.asm65.specs.Assembly.{Concludes, has_failed, in_places, is_from_outside, is_outside_refusal};
-ghost use Rattle.asm65.specs.Holding.{AreWaiting, Holds, IsWaiting};
-ghost use Rattle.asm65.specs.Resolving.{Settles, SettlesAll, content_of, warning_in};
-ghost use Rattle.asm65.specs.Running.{SaysAs};
+ghost use Rattle.asm65.specs.Inner.Holding.{AreWaiting, Holds, IsWaiting};
+ghost use Rattle.asm65.specs.Inner.Resolving.{Settles, SettlesAll, content_of, warning_in};
+ghost use Rattle.asm65.specs.Inner.Running.{SaysAs};
 ghost use Rattle.asm65.specs.Views.{place_in};
 
 use crate::assembler::{Assembler, At};

@@ -5,8 +5,8 @@ ghost use Rattle.language65.specs.Faults.{is_failure};
 ghost use Rattle.module65.specs.Machine.{Takes, begun};
 ghost use Rattle.module65.specs.Reading.{AreDefined, no_line};
 ghost use Rattle.asm65.specs.Assembly.{define_of, job_of};
-ghost use Rattle.asm65.specs.Holding.{Holds};
-ghost use Rattle.asm65.specs.Running.{DefinesBy, IsRoomy, Leaves};
+ghost use Rattle.asm65.specs.Inner.Holding.{Holds};
+ghost use Rattle.asm65.specs.Inner.Running.{DefinesBy, IsRoomy, Leaves};
 ghost use Rattle.asm65.specs.Views.{place_in};
 
 use crate::assembler::{Assembler, At};

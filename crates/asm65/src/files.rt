@@ -7,7 +7,7 @@ ghost use Rattle.expand65.specs.Includes.{beside, file_named};
 ghost use Rattle.language65.specs.declared.fault.AsmFault.TheVariants.{FileError};
 ghost use Rattle.language65.specs.Faults.{is_failure, is_outside};
 ghost use Rattle.language65.specs.Views.{stated_of};
-ghost use Rattle.asm65.specs.Files.{read_bytes};
+ghost use Rattle.asm65.specs.Inner.Files.{read_bytes};
 ghost use Rattle.asm65.specs.Views.{place_in};
 
 use base65::{Sequence, Store, StoreFault, read_front};

@@ -4,7 +4,7 @@ ghost use Rattle.std.specs.Prelude.{◌≡◌};
 ghost use Rattle.base65.specs.Outcome.{Gives};
 ghost use Rattle.language65.specs.Contents.{stored};
 ghost use Rattle.language65.specs.Faults.{is_memory};
-ghost use Rattle.asm65.specs.Putting.{literal_of};
+ghost use Rattle.asm65.specs.Inner.Putting.{literal_of};
 
 use base65::Sequence;
 use language65::{AsmFault, Part};

@@ -10,7 +10,7 @@ ghost use Rattle.language65.specs.Sound.{AreNamed, IsSound};
 ghost use Rattle.language65.specs.Views.{stated_of};
 ghost use Rattle.module65.specs.Machine.{Takes};
 ghost use Rattle.module65.specs.Reading.{IsGiven, IsLabel, IsLabelled, IsRest};
-ghost use Rattle.asm65.specs.Running.{IsRoomy, IsSoundIf, StopsQuietly, TakesBy, Told, tokens_of};
+ghost use Rattle.asm65.specs.Inner.Running.{IsRoomy, IsSoundIf, StopsQuietly, TakesBy, Told, tokens_of};
 ghost use Rattle.asm65.specs.Views.{place_in};
 
 use crate::assembler::{Assembler, At};

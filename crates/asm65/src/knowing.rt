@@ -5,7 +5,7 @@ ghost use Rattle.syntax65.specs.Trees.{tree_of};
 ghost use Rattle.language65.specs.Norms.{literal_in};
 ghost use Rattle.language65.specs.Views.{spot_of};
 ghost use Rattle.symbols65.specs.Views.{table_of};
-ghost use Rattle.asm65.specs.Knowing.{known_where};
+ghost use Rattle.asm65.specs.Inner.Knowing.{known_where};
 
 use expand65::Knows;
 use language65::Spot;

@@ -11,7 +11,7 @@ ghost use Rattle.language65.specs.Views.{spot_of};
 ghost use Rattle.module65.specs.Pieces.{asserted, datum, imported, made_of, operand, quietly, used};
 ghost use Rattle.symbols65.specs.Resolving.{IsTable};
 ghost use Rattle.symbols65.specs.Views.{table_of};
-ghost use Rattle.asm65.specs.Resolving.{coming, lost, made_in};
+ghost use Rattle.asm65.specs.Inner.Resolving.{coming, lost, made_in};
 ghost use Rattle.asm65.specs.Views.{place_in};
 
 use crate::forms::{literal_of, stored};

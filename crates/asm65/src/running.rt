@@ -12,7 +12,7 @@ ghost use Rattle.module65.specs.Knowing.{known_at};
 ghost use Rattle.module65.specs.Machine.{State, Takes, begun};
 ghost use Rattle.module65.specs.Reading.{AreDefined, IsGiven, Job, no_line};
 ghost use Rattle.asm65.specs.Failing.{StopsAll};
-ghost use Rattle.asm65.specs.Running.{IsHeldBy, IsReachedBy, IsRoomy, IsRunning, Ran, StopsQuietly, TakesBy, Told, tokens_of};
+ghost use Rattle.asm65.specs.Inner.Running.{IsHeldBy, IsReachedBy, IsRoomy, IsRunning, Ran, StopsQuietly, TakesBy, Told, tokens_of};
 
 use crate::assembler::{Assembler, At};
 use crate::given::take_given;

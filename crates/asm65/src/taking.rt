@@ -38,9 +38,9 @@ impl Assembler {
     ghost use Rattle.module65.specs.Reading.{Answers};
     ghost use Rattle.symbols65.specs.Resolving.{IsTable};
     ghost use Rattle.symbols65.specs.Views.{table_of};
-    ghost use Rattle.asm65.specs.Holding.{Enters, Holds};
-    ghost use Rattle.asm65.specs.Putting.{KeepsTables};
-    ghost use Rattle.asm65.specs.Taking.{Asks, IsHeld, IsNew, IsPlaced, IsRefused, Turns, laid_as, stepped};
+    ghost use Rattle.asm65.specs.Inner.Holding.{Enters, Holds};
+    ghost use Rattle.asm65.specs.Inner.Putting.{KeepsTables};
+    ghost use Rattle.asm65.specs.Inner.Taking.{Asks, IsHeld, IsNew, IsPlaced, IsRefused, Turns, laid_as, stepped};
     ghost use Rattle.asm65.specs.Views.{place_in};
 
     /// A statement asks for its section, where it asks for one.

@@ -15,7 +15,7 @@ use Rattle.expand65.specs.Meaning.{Meaning}
 use Rattle.reader65.specs.Parting.{AreParts}
 use Rattle.reader65.specs.Playing.{definition_of}
 use Rattle.expand65.specs.Rewriting.{Opens, Turns, macros_of, state_of, turned}
-use Rattle.expand65.specs.Seeking.{file_of}
+use Rattle.expand65.specs.Inner.Seeking.{file_of}
 use Rattle.reader65.specs.Left.{Item, written, played, labelled, branch, mark}
 use Rattle.expand65.specs.State.{State, plain, label, Stepped, goes, gives, stops, with_items}
 use Rattle.expand65.specs.Step.{IsActed, IsDirected, IsLabelled, IsSplit, IsStep, IsStepBehind, IsStepFrom}

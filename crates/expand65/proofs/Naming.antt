@@ -2,7 +2,7 @@
 use Rattle.std.proofs.Common.{◌≡◌, ℕ, zero, suc, ◌+◌, ◌<◌, true, false, List, [], ◌∷◌, ◌++◌, length, drop, Option, Some, None, refl, sym, ap, ◌∙◌, arith, append_assoc, subst}
 use Rattle.syntax65.specs.Tokens.{Lexeme}
 use Rattle.reader65.specs.Fronts.{is_comma, names_from, ◌>=>◌}
-use Rattle.expand65.specs.Parts.{is_comma_at, name_at}
+use Rattle.expand65.specs.Inner.Parts.{is_comma_at, name_at}
 
 -- a name in front of others
 pub after_name : (o : Option (List (List ℕ))) (n : List ℕ) (found : List (List ℕ)) → ((o >=> (λ ns. Some (n ∷ ns))) >=> (λ ns. Some (found ++ ns))) ≡ (o >=> (λ ns. Some ((found ++ n ∷ []) ++ ns)))

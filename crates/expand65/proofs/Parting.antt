@@ -5,7 +5,7 @@ use Rattle.std.specs.Prelude.{◌==◌, ◌&&◌}
 use Rattle.syntax65.specs.Tokens.{Lexeme}
 use Rattle.expand65.specs.Arguments.{braces_behind, parts_within, put_in_first, unbraced}
 use Rattle.reader65.specs.Fronts.{is_comma}
-use Rattle.expand65.specs.Parts.{part_len}
+use Rattle.expand65.specs.Inner.Parts.{part_len}
 
 abbrev ends_part : ℕ → Lexeme → Bool
 ends_part d t = is_comma t && (d == 0)

@@ -13,7 +13,7 @@ use Rattle.source65.specs.Faults.{fault_of_parsing, is_outside}
 use Rattle.reader65.specs.Fronts.{is_comma, name_in, is_mislabelled, label_len, understood, ◌>=>◌}
 use Rattle.reader65.specs.Kept.{tokens_in}
 use Rattle.reader65.specs.Parting.{AreParts}
-use Rattle.expand65.specs.Parts.{is_comma_at, name_at}
+use Rattle.expand65.specs.Inner.Parts.{is_comma_at, name_at}
 use Rattle.expand65.specs.Repeats.{repeat_header, variable_of}
 use Rattle.source65.specs.declared.fault.ExpandFault.{ExpandFault}
 use Rattle.source65.specs.declared.fault.ExpandFault.TheVariants.{NotUnderstood}

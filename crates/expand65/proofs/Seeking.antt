@@ -15,7 +15,7 @@ use Rattle.reader65.specs.Left.{numbered}
 use Rattle.expand65.specs.Includes.{file_named, first_file, folder_of, found_or, is_slash}
 use Rattle.reader65.specs.Lines.{lines_of}
 use Rattle.reader65.specs.Reading.{bytes_of, content, left_in_file}
-use Rattle.expand65.specs.Seeking.{file_of, is_there}
+use Rattle.expand65.specs.Inner.Seeking.{file_of, is_there}
 use Rattle.source65.specs.declared.fault.ExpandFault.{ExpandFault}
 use Rattle.source65.specs.declared.fault.ExpandFault.TheVariants.{FileTooLong}
 use Rattle.reader65.specs.declared.file.OpenFile.{OpenFile}

@@ -2,13 +2,12 @@ pub mod Arguments
 pub mod Conditions
 pub mod Expansion
 pub mod Includes
+pub mod Inner
 pub mod Laws
 pub mod Macros
 pub mod Meaning
-pub mod Parts
 pub mod Repeats
 pub mod Rewriting
-pub mod Seeking
 pub mod Standing
 pub mod State
 pub mod Step

@@ -5,7 +5,7 @@ ghost use Rattle.syntax65.specs.Tokens.{lexeme_of, lexemes};
 ghost use Rattle.expand65.specs.Arguments.{arguments_of, braces_behind, closes_last, is_braced, parts_within, unbraced};
 ghost use Rattle.reader65.specs.Fronts.{names_of};
 ghost use Rattle.reader65.specs.Kept.{tokens_in};
-ghost use Rattle.expand65.specs.Parts.{is_comma_at, name_at, part_len};
+ghost use Rattle.expand65.specs.Inner.Parts.{is_comma_at, name_at, part_len};
 
 use base65::Sequence;
 use reader65::{Line, closes_brace, is_comma, name_in, opens_brace};

@@ -7,7 +7,7 @@ ghost use Rattle.base65.specs.Outcome.{Gives};
 ghost use Rattle.base65.specs.Store.{Passes};
 ghost use Rattle.source65.specs.Faults.{is_outside};
 ghost use Rattle.expand65.specs.Includes.{as_text, begins_with_slash, beside, file_named, first_file, folder_of, found_or, is_slash, tried, within};
-ghost use Rattle.expand65.specs.Seeking.{Tries, file_of, is_there};
+ghost use Rattle.expand65.specs.Inner.Seeking.{Tries, file_of, is_there};
 
 use base65::{Store, StoreFault, Text};
 use reader65::MAX_FILE;

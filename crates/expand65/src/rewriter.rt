@@ -12,7 +12,7 @@ ghost use Rattle.reader65.specs.Kept.{tokens_in};
 ghost use Rattle.expand65.specs.Meaning.{Meaning};
 ghost use Rattle.reader65.specs.Reading.{bytes_of};
 ghost use Rattle.expand65.specs.Rewriting.{Turns, size_of, stands_alone, state_of, weight_of};
-ghost use Rattle.expand65.specs.Seeking.{file_of};
+ghost use Rattle.expand65.specs.Inner.Seeking.{file_of};
 ghost use Rattle.expand65.specs.Step.{IsActed, IsDirected, IsLabelled, IsStep, at_mark, error_by, last_condition};
 
 use crate::conditions::{Conditions, condition};
@@ -20,7 +20,10 @@ use crate::includes::find_file;
 use crate::knows::Knows;
 use base65::{Sequence, Store, Text};
 use indexmap::IndexMap;
-use reader65::{Body, BranchLine, Directive, Input, Line, OpenFile, Reader, Source, Test, behind_first, string_of};
+use reader65::{
+    Body, BranchLine, Directive, Input, Line, OpenFile, Reader, Source, Test, behind_first,
+    string_of,
+};
 use source65::{ExpandFault, Place};
 use std::alloc::Global;
 use std::rc::Rc;

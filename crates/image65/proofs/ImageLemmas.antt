@@ -5,8 +5,8 @@ use Rattle.std.proofs.lemmas.List.{drop_all, get_or-replicate}
 use Rattle.script65.proofs.Eaches.{drop_item}
 use Rattle.image65.specs.declared.areas.Load.{Load}
 use Rattle.image65.specs.Files.{IsImage, Piece, RowBytes, area_pieces, byte_over, offset_of}
-use Rattle.image65.specs.Laying.{LaysAll, Overlays}
-use Rattle.image65.specs.Loads.{view}
+use Rattle.image65.specs.Inner.Laying.{LaysAll, Overlays}
+use Rattle.image65.specs.Inner.Loads.{view}
 
 -- a piece over an image, and then others
 both : (p : Piece) (ps : List Piece) (old mid new : List ℕ) → Overlays old p.offset p.bytes mid → LaysAll ps mid new → LaysAll (p ∷ ps) old new

@@ -10,7 +10,7 @@ use Rattle.script65.proofs.Eaches.{drop_item}
 use Rattle.image65.specs.declared.placement.RowPlace.{RowPlace}
 use Rattle.script65.specs.declared.script.Row.{Row}
 use Rattle.image65.specs.declared.areas.Load.{Load}
-use Rattle.image65.specs.Loads.{HoldsLoads, view}
+use Rattle.image65.specs.Inner.Loads.{HoldsLoads, view}
 use Rattle.image65.specs.Files.{is_loaded, loaded_in}
 
 -- an item more, where a test holds

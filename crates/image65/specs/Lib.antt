@@ -1,6 +1,5 @@
 pub mod Faults
 pub mod Files
+pub mod Inner
 pub mod Laws
-pub mod Laying
-pub mod Loads
 pub mod Placing

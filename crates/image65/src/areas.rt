@@ -2,7 +2,7 @@
 
 ghost use Rattle.std.specs.Prelude.{◌≡◌, ◌<◌, ◌++◌, ◌∷◌, ◌==◌, [], ℕ, List, Some, IfOk, OnOk, length, map, slice_get, if◌then◌else◌};
 ghost use Rattle.std.specs.Option.{option_map};
-ghost use Rattle.image65.specs.Loads.{HoldsLoads};
+ghost use Rattle.image65.specs.Inner.Loads.{HoldsLoads};
 ghost use Rattle.image65.specs.Files.{is_loaded};
 
 use crate::placement::RowPlace;

@@ -2,7 +2,7 @@
 
 ghost use Rattle.std.specs.Prelude.{◌≡◌, ◌<◌, ◌++◌, ◌==◌, List, [], IfOk, OnOk, Some, length, map, slice_get, slice_set};
 ghost use Rattle.image65.specs.Files.{AddsArea, AddsAreas, IsAreaFile, IsFileBy, file_name, with_bytes};
-ghost use Rattle.image65.specs.Loads.{AreNamed, view};
+ghost use Rattle.image65.specs.Inner.Loads.{AreNamed, view};
 ghost use Rattle.image65.specs.declared.areas.Load.{Load};
 ghost use Rattle.image65.specs.declared.output.OutputFile.{OutputFile};
 

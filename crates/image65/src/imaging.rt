@@ -2,8 +2,8 @@
 
 ghost use Rattle.std.specs.Prelude.{◌≡◌, IfOk, OnOk, map};
 ghost use Rattle.image65.specs.Files.{IsFileBy, area_pieces, end_behind, file_len};
-ghost use Rattle.image65.specs.Laying.{LaysAll, Overlays};
-ghost use Rattle.image65.specs.Loads.{view};
+ghost use Rattle.image65.specs.Inner.Laying.{LaysAll, Overlays};
+ghost use Rattle.image65.specs.Inner.Loads.{view};
 
 use crate::areas::Load;
 use crate::rows::RowContents;

@@ -12,7 +12,7 @@ use Rattle.linkage65.specs.declared.fault.LinkFault.TheVariants as link
 use Rattle.linkage65.specs.Modules.{Module}
 use Rattle.link65.specs.Standing.{Feeding, IsFed, module_of}
 use Rattle.ld65.specs.declared.refusal.Refusal.{Refusal}
-use Rattle.ld65.specs.Feeding.{is_link_outside}
+use Rattle.ld65.specs.Inner.Feeding.{is_link_outside}
 use Rattle.ld65.specs.Linkage.{Input, added_in, behind}
 use Rattle.ld65.specs.Refusals.{is_failure, is_outside, refusal_at, refusal_in}
 

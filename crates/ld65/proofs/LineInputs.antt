@@ -17,7 +17,7 @@ use Rattle.linkage65.specs.Modules.{Module}
 use Rattle.link65.specs.Standing.{Feeding, IsFed, module_of}
 use Rattle.ld65.specs.declared.refusal.Refusal.{Refusal}
 use Rattle.ld65.specs.declared.refusal.Refusal.TheVariants as refusal
-use Rattle.ld65.specs.Feeding.{FeedsFile, FeedsInput, FeedsInputs, FeedsLibrary, FeedsObject, Leads, LeadsBy}
+use Rattle.ld65.specs.Inner.Feeding.{FeedsFile, FeedsInput, FeedsInputs, FeedsLibrary, FeedsObject, Leads, LeadsBy}
 use Rattle.ld65.specs.Linkage.{AreInputs, IsInput, IsLibraryInput, file_input, is_library, is_library_in, with_file}
 use Rattle.ld65.specs.Refusals.{is_failure, is_outside, refusal_at}
 use Rattle.ld65.proofs.Behind.{Counted, at_outside, done_count, fed_behind, kept_by, later_count, refused_behind}

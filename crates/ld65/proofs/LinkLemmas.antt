@@ -14,7 +14,7 @@ use Rattle.link65.specs.Standing.{Feeding, IsFed, Links}
 use Rattle.line65.specs.Line.{Linking}
 use Rattle.ld65.specs.declared.refusal.Refusal.{Refusal}
 use Rattle.ld65.specs.declared.refusal.Refusal.TheVariants as refusal
-use Rattle.ld65.specs.Feeding.{FeedsInputs}
+use Rattle.ld65.specs.Inner.Feeding.{FeedsInputs}
 use Rattle.ld65.specs.Linkage.{AreInputs, IsLinkedBy, as_refusal, output_of}
 use Rattle.ld65.specs.Refusals.{is_failure, is_outside}
 

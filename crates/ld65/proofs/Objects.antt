@@ -22,7 +22,7 @@ use Rattle.linkage65.specs.Modules.{Module}
 use Rattle.linkage65.specs.Programs.{Program, program_of}
 use Rattle.script65.specs.declared.script.Script.{Script}
 use Rattle.link65.specs.Standing.{Begins, Ends, Feeding, IsFed, Leads, agreed, agrees_with, as_link, joined, module_of, whole}
-use Rattle.ld65.specs.Feeding.{FeedsObject, FeedsRecords, Leads as LeadsIn, is_link_outside, records_in}
+use Rattle.ld65.specs.Inner.Feeding.{FeedsObject, FeedsRecords, Leads as LeadsIn, is_link_outside, records_in}
 use Rattle.ld65.specs.Linkage.{Input, added_in, object_in}
 use Rattle.ld65.proofs.Fed.{accepted, by_memory, memory_outside, of_object, unless}
 

@@ -21,7 +21,7 @@ use Rattle.ld65.specs.declared.refusal.Refusal.{Refusal}
 use Rattle.ld65.specs.declared.refusal.Refusal.TheVariants as refusal
 use Rattle.ld65.specs.Linkage.{IsLinkedBy, IsLinked, as_script, text_of}
 use Rattle.ld65.specs.Refusals.{is_outside}
-use Rattle.ld65.specs.Texts.{front_of, script_limit, script_text}
+use Rattle.ld65.specs.Inner.Texts.{front_of, script_limit, script_text}
 
 first_err : {A B : Type 0} (head : Result A Stop) (e : Stop) (Next : A → Result B Stop → Type 0) (r : Result B Stop) → head ≡ Err e → FirstOf head Next r → r ≡ Err e
 first_err (Ok x) e Next r h k = absurd cc

@@ -1,5 +1,4 @@
+pub mod Inner
 pub mod Linkage
 pub mod Refusals
-pub mod Texts
-pub mod Feeding
 pub mod Naming

@@ -8,7 +8,7 @@ ghost use Rattle.selection65.specs.declared.entry.Entry as index;
 ghost use Rattle.linkage65.specs.declared.fault.LinkFault.TheVariants.{Malformed};
 ghost use Rattle.linkage65.specs.Modules.{Module};
 ghost use Rattle.link65.specs.Standing.{IsFed, IsFeeding, Keeps, is_open};
-ghost use Rattle.ld65.specs.Feeding.{FeedsObject, FeedsRecords, input_of};
+ghost use Rattle.ld65.specs.Inner.Feeding.{FeedsObject, FeedsRecords, input_of};
 
 use base65::Store;
 use library65::Entry;

@@ -9,7 +9,7 @@ ghost use Rattle.object65.specs.Fault.{is_outside as is_object_outside};
 ghost use Rattle.object65.specs.Reading.{in_file};
 ghost use Rattle.linkage65.specs.Modules.{Module};
 ghost use Rattle.link65.specs.Standing.{IsFed, Keeps, is_open};
-ghost use Rattle.ld65.specs.Feeding.{FeedsFile, FeedsInput, FeedsInputs};
+ghost use Rattle.ld65.specs.Inner.Feeding.{FeedsFile, FeedsInput, FeedsInputs};
 ghost use Rattle.ld65.specs.Linkage.{is_library};
 ghost use Rattle.ld65.specs.Refusals.{is_failure};
 ghost use Rattle.ld65.specs.Naming.{NamesInput, NamesInputs};

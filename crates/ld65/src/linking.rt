@@ -6,7 +6,7 @@ ghost use Rattle.base65.specs.Store.{PassesBy};
 ghost use Rattle.line65.specs.Line.{linking};
 ghost use Rattle.ld65.specs.Refusals.{is_outside, is_failure};
 ghost use Rattle.ld65.specs.Linkage.{output_of, IsLinkedBy, IsLinked};
-ghost use Rattle.ld65.specs.Texts.{script_text};
+ghost use Rattle.ld65.specs.Inner.Texts.{script_text};
 ghost use Rattle.ld65.specs.Naming.{NamesInputs, NamesOfLine};
 ghost use Rattle.ld65.specs.declared.refusal.Refusal.TheVariants.{ScriptFile};
 ghost use Rattle.base65.specs.declared.store.StoreFault.TheVariants.{FileError};

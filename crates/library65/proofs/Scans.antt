@@ -14,7 +14,7 @@ use Rattle.object65.specs.Whole.{records_at}
 use Rattle.object65.proofs.Builders.{reached_next, reached_parts, reached_start}
 use Rattle.object65.proofs.Records.{Goes, begins, ends, goes_on, stops_reading, stops_taking}
 use Rattle.library65.specs.declared.contents.Contents.{Contents}
-use Rattle.library65.specs.Contents.{EndsWith}
+use Rattle.library65.specs.Inner.Contents.{EndsWith}
 use Rattle.library65.specs.Libraries.{contents_from}
 use Rattle.library65.specs.Writing.{AreSymbols}
 use Rattle.library65.proofs.Symbols.{all_names}

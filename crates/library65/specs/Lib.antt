@@ -1,5 +1,5 @@
-pub mod Contents
 pub mod Fault
+pub mod Inner
 pub mod Names
 pub mod Spelling
 pub mod Reading

@@ -17,10 +17,9 @@ use crate::LibraryFault;
 use crate::contents::{Contents, check_member};
 use crate::fields::FILE_LIMIT;
 use crate::loading::read_members;
-use crate::naming::copy_of;
 use crate::objects::empty_record;
 use crate::writing::put_library;
-use base65::Store;
+use base65::{Sequence, Store};
 use indexmap::IndexMap;
 use indexmap::map::Keys;
 use object65::Record;
@@ -204,7 +203,7 @@ impl Library {
         ensures unchanged { OnErr result (self.new ≡ self.old) }
     {
         if !has_member(&self.members, name) {
-            return Err(LibraryFault::NoSuchMember(copy_of(self.alloc, name)?));
+            return Err(LibraryFault::NoSuchMember(Sequence::copy_of(self.alloc, name)?));
         }
         remove_member(&mut self.members, name);
         Ok(())

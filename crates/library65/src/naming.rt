@@ -9,7 +9,6 @@ ghost use Rattle.library65.specs.Fault.{is_memory};
 ghost use Rattle.library65.specs.Names.{is_among, is_folder, is_member_name, is_name, is_plain};
 
 use crate::LibraryFault;
-use base65::Sequence;
 use indexmap::IndexSet;
 use std::alloc::Global;
 
@@ -75,11 +74,4 @@ pub fn add_name(
     let key = Vec::from_slice(alloc, name)?;
     names.insert(key)?;
     Ok(())
-}
-
-/// A copy of bytes.
-pub fn copy_of(alloc: Global, bytes: &[u8]) -> Result<Sequence<u8>, LibraryFault>
-    ensures { Gives is_memory (λ s. s) result (Ok bytes.now) }
-{
-    Ok(Sequence::from_vec(Vec::from_slice(alloc, bytes)?))
 }

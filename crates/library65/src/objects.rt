@@ -7,7 +7,7 @@ ghost use Rattle.object65.specs.Reading.{end_at, front_of, head_at, record_at, r
 ghost use Rattle.object65.specs.Record.{entry_of, is_record_kind};
 ghost use Rattle.object65.specs.Spelling.{body_limit};
 ghost use Rattle.object65.specs.Taking.{State, object_from};
-ghost use Rattle.library65.specs.Contents.{ReadsContents, contents_at};
+ghost use Rattle.library65.specs.Inner.Contents.{ReadsContents, contents_at};
 ghost use Rattle.library65.specs.Libraries.{contents_from};
 ghost use Rattle.library65.specs.Writing.{AreSymbols};
 

@@ -33,7 +33,7 @@ use Rattle.linkage65.proofs.GrowingLaw.{growth_law}
 use Rattle.linkage65.specs.Grounds.{IsSmall}
 use Rattle.linkage65.specs.Modules.{Module}
 use Rattle.linkage65.specs.Programs.{Program, exported, program_of, with_module, with_modules}
-use Rattle.link65.specs.Fields.{Comes, are_listed, exports_from, matched}
+use Rattle.link65.specs.Inner.Fields.{Comes, are_listed, exports_from, matched}
 use Rattle.link65.specs.Standing.{Feeding, IsFed, IsFeeding, Leads, Opened, agreed, agrees_with, as_link, joined, listed_of, module_of, opening, whole}
 use Rattle.link65.specs.declared.listed.Listed.{Listed}
 

@@ -9,10 +9,10 @@ ghost use Rattle.base65.specs.Outcome.{Gives};
 ghost use Rattle.linkage65.specs.Faults.{is_memory};
 ghost use Rattle.linkage65.specs.GivenTwice.{names_in};
 ghost use Rattle.linkage65.specs.Grounds.{AreNamed, growth_in};
-ghost use Rattle.link65.specs.Fields.{Closes, Grows};
+ghost use Rattle.link65.specs.Inner.Fields.{Closes, Grows};
 ghost use Rattle.link65.specs.Standing.{listed_of, values_in};
 
-use crate::listed::{are_listed, copy_of, listed_of};
+use crate::listed::{are_listed, listed_of};
 use crate::open::Open;
 use base65::Sequence;
 use library65::Entry;
@@ -32,7 +32,7 @@ pub fn open_module(
     ensures memory { IfErr result (λ e. is_memory e ≡ true) }
 {
     Ok(Open {
-        name: copy_of(alloc, name)?,
+        name: Sequence::copy_of(alloc, name)?,
         scan: Scan::new(alloc),
         first_export,
         listed: listed_of(alloc, entry)?,

@@ -42,7 +42,7 @@ impl Model for Linker {
     ghost use Rattle.linkage65.specs.GivenTwice.{names_in};
     ghost use Rattle.linkage65.specs.Grounds.{AreNamed, growth_in};
     ghost use Rattle.link65.specs.Standing.{Feeding};
-    ghost use Rattle.link65.specs.Fields.{opened_in};
+    ghost use Rattle.link65.specs.Inner.Fields.{opened_in};
 
     ghost Value = { Feeding };
 

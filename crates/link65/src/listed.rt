@@ -3,7 +3,7 @@
 ghost use Rattle.std.specs.Prelude.{◌≡◌, IfOk, map};
 ghost use Rattle.std.specs.Option.{option_map};
 ghost use Rattle.library65.specs.Libraries.{are_same};
-ghost use Rattle.link65.specs.Fields.{are_listed};
+ghost use Rattle.link65.specs.Inner.Fields.{are_listed};
 ghost use Rattle.link65.specs.Standing.{listed_of};
 
 use base65::Sequence;
@@ -18,21 +18,12 @@ pub struct Listed {
     pub imports: Sequence<Sequence<u8>>,
 }
 
-/// A copy of bytes.
-pub fn copy_of(alloc: Global, bytes: &[u8]) -> Result<Sequence<u8>, AllocError>
-    ensures { IfOk result (λ copy. copy ≡ bytes.now) }
-{
-    let mut copy = Sequence::new(alloc);
-    copy.extend_from_slice(bytes)?;
-    Ok(copy)
-}
-
 fn copies(alloc: Global, names: &[Sequence<u8>]) -> Result<Sequence<Sequence<u8>>, AllocError>
     ensures { IfOk result (λ all. all ≡ names.now) }
 {
     let mut all = Sequence::new(alloc);
     for name in names {
-        all.push(copy_of(alloc, name.as_slice())?)?;
+        all.push(Sequence::copy_of(alloc, name.as_slice())?)?;
     }
     Ok(all)
 }

@@ -11,7 +11,7 @@ use Rattle.script65.specs.declared.script.Script.{Script}
 use Rattle.linkage65.specs.declared.missing.GivenNames.{GivenNames}
 use Rattle.linkage65.specs.declared.resolving.Places.{Places}
 use Rattle.linkage65.specs.Givers.{each_once, export_names, is_among, is_given}
-use Rattle.linkage65.specs.Missing.{AreGiven, gives_in, has, missing_behind}
+use Rattle.linkage65.specs.Inner.Missing.{AreGiven, gives_in, has, missing_behind}
 use Rattle.linkage65.specs.Names.{script_names, weak_symbols}
 use Rattle.linkage65.specs.Programs.{Program}
 use Rattle.linkage65.specs.Resolving.{IsTable}

@@ -6,7 +6,7 @@ use Rattle.std.proofs.lemmas.List.Folds.{list_any-append}
 use Rattle.script65.specs.declared.script.Script.{Script}
 use Rattle.linkage65.specs.declared.missing.GivenNames.{GivenNames}
 use Rattle.linkage65.specs.Givers.{each_once, export_names, given_names, is_among, open_names}
-use Rattle.linkage65.specs.Missing.{AreGiven, gives_in, has, missing_behind}
+use Rattle.linkage65.specs.Inner.Missing.{AreGiven, gives_in, has, missing_behind}
 use Rattle.linkage65.specs.Names.{script_names, symbol_imports}
 use Rattle.linkage65.specs.Programs.{Program}
 use Rattle.linkage65.proofs.MissingLemmas.{has_name, missing_all}

@@ -2,6 +2,7 @@
 use Rattle.std.proofs.Common.{◌≡◌, ◌∙◌, ℕ, zero, suc, ◌+◌, ◌<◌, Bool, true, false, List, [], ◌∷◌, ◌++◌, length, get_or, Result, Ok, Err, refl, sym, ap, subst, arith}
 use Rattle.std.specs.Prelude.{ℤ, ◌==◌}
 use Rattle.base65.specs.Outcome.{First}
+use Rattle.base65.proofs.Outcome.{first_once}
 use Rattle.image65.specs.declared.placement.Placement.{Placement}
 use Rattle.script65.specs.declared.script.Area.{Area}
 use Rattle.script65.specs.declared.script.Script.{Script}
@@ -31,11 +32,6 @@ same_list (x ∷ xs) (y ∷ ys) d n h =
     let first : x ≡ y = h zero (omega arith) in
     let rest : xs ≡ ys = same_list xs ys d (omega arith) (λ i lt. h (suc i) (omega arith)) in
     cc
-
--- what follows a first reading has one outcome, if it has for each value of that
-first_once : {A B : Type 0} (head : Result A LinkFault) (Next : A → Result B LinkFault → Type 0) (r q : Result B LinkFault) → ((x : A) → Next x r → Next x q → r ≡ q) → First head Next r → First head Next q → r ≡ q
-first_once (Ok x) Next r q once h k = once x h k
-first_once (Err e) Next r q once h k = h ∙ sym k
 
 image_once : (len fill : ℕ) (pieces : List Piece) (a b : List ℕ) → IsImage len fill pieces a → IsImage len fill pieces b → a ≡ b
 image_once len fill pieces a b h k =

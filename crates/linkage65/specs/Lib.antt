@@ -1,3 +1,4 @@
+pub mod Inner
 pub mod Modules
 pub mod Segments
 pub mod Programs
@@ -22,5 +23,4 @@ pub mod WeakNames
 pub mod Laws
 pub mod Resolving
 pub mod Finishing
-pub mod Missing
 pub mod GivenTwice

@@ -12,7 +12,7 @@ use crate::checking::{site_of, value_at};
 use crate::evaluation::{Evaluated, value_in};
 use crate::fault::{LinkFault, Site};
 use crate::parts::{Asserted, Member};
-use crate::texts::{copy_of, join};
+use crate::texts::join;
 use base65::Sequence;
 use itoa::Buffer;
 use object65::Action;
@@ -53,7 +53,7 @@ fn judge(
     let text = assert.text.as_slice();
     match assert.action {
         Action::Warning => Ok(assertion_warning(alloc, &site, text)?),
-        Action::Error => Err(LinkFault::Assertion(site, copy_of(alloc, text)?)),
+        Action::Error => Err(LinkFault::Assertion(site, Sequence::copy_of(alloc, text)?)),
     }
 }
 

@@ -16,7 +16,6 @@ use crate::evaluation::{Evaluated, value_in};
 use crate::fault::{LinkFault, Site};
 use crate::parts::{Exported, Member, ValueFault, Waiting};
 use crate::tables::Segments;
-use crate::texts::copy_of;
 use base65::Sequence;
 use object65::fits;
 use script65::Row;
@@ -40,7 +39,7 @@ pub fn site_of(
 ) -> Result<Site, AllocError>
     ensures { IfOk result (λ s. s ≡ site members.now owner line) }
 {
-    let module_name = copy_of(alloc, name_of(members, owner))?;
+    let module_name = Sequence::copy_of(alloc, name_of(members, owner))?;
     Ok(Site { module_name, line })
 }
 

@@ -9,7 +9,6 @@ ghost use Rattle.linkage65.specs.Names.{script_names};
 use crate::fault::LinkFault;
 use crate::own_names::script_names;
 use crate::parts::Exported;
-use crate::texts::copy_of;
 use base65::Sequence;
 use indexmap::IndexSet;
 use script65::Script;
@@ -30,7 +29,7 @@ impl Given {
     {
         let key = Vec::from_slice(self.alloc, name)?;
         if !self.names.insert(key)? {
-            return Err(LinkFault::DuplicateExport(copy_of(self.alloc, name)?));
+            return Err(LinkFault::DuplicateExport(Sequence::copy_of(self.alloc, name)?));
         }
         Ok(())
     }

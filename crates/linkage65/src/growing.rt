@@ -17,7 +17,6 @@ ghost use Rattle.linkage65.specs.Segments.{empty_segment, filled, fragment_cells
 use crate::contents::{Content, Piece};
 use crate::fault::LinkFault;
 use crate::parts::{Asserted, Exported, Member, SectionPlace, Waiting};
-use crate::texts::copy_of;
 use base65::Sequence;
 use indexmap::IndexSet;
 use object65::{Fragment, Item, Width};
@@ -159,7 +158,7 @@ fn add_segment(growing: &mut Growing, name: &[u8]) -> Result<(), LinkFault>
 {
     let alloc = growing.alloc;
     let key = Vec::from_slice(alloc, name)?;
-    let name = copy_of(alloc, name)?;
+    let name = Sequence::copy_of(alloc, name)?;
     growing.contents.push(Content {
         name,
         size: 0,

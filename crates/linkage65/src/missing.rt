@@ -7,7 +7,7 @@ ghost use Rattle.linkage65.specs.Faults.{is_memory};
 ghost use Rattle.linkage65.specs.Finishing.{program_from};
 ghost use Rattle.linkage65.specs.Givers.{each_once, open_names, unresolved};
 ghost use Rattle.linkage65.specs.Links.{names_given};
-ghost use Rattle.linkage65.specs.Missing.{AreGiven, gives_in, has, missing_behind};
+ghost use Rattle.linkage65.specs.Inner.Missing.{AreGiven, gives_in, has, missing_behind};
 ghost use Rattle.linkage65.specs.Names.{import_name, symbol_imports};
 ghost use Rattle.linkage65.specs.Programs.{Program};
 
@@ -17,7 +17,6 @@ use crate::naming::weak_symbols;
 use crate::own_names::script_names;
 use crate::parts::{Definition, Exported, Member};
 use crate::resolving::{Places, definition_places, export_places, places_of};
-use crate::texts::copy_of;
 use base65::Sequence;
 use indexmap::IndexSet;
 use script65::{Script, Symbol, SymbolKind};
@@ -149,7 +148,7 @@ fn copies(alloc: Global, names: &[&[u8]]) -> Result<Sequence<Sequence<u8>>, Allo
 {
     let mut all = Sequence::new(alloc);
     for name in names {
-        all.push(copy_of(alloc, name)?)?;
+        all.push(Sequence::copy_of(alloc, name)?)?;
     }
     Ok(all)
 }

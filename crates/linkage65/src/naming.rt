@@ -5,7 +5,7 @@ ghost use Rattle.linkage65.specs.Lists.{with_beside};
 ghost use Rattle.linkage65.specs.Names.{area_definitions, areas_definitions, export_definition, part, part_name, row_definitions, rows_definitions, script_definitions, symbol_exports, weak_definition, weak_symbols};
 
 use crate::parts::Definition;
-use crate::texts::{copy_of, join};
+use crate::texts::join;
 use base65::Sequence;
 use image65::{AreaPlace, Placement, RowPlace};
 use script65::{Area, Row, Script, Symbol, SymbolKind};
@@ -104,7 +104,7 @@ fn add_export(
 {
     match symbol.kind {
         SymbolKind::Export(number) => definitions.push(Definition {
-            name: copy_of(alloc, symbol.name.as_slice())?,
+            name: Sequence::copy_of(alloc, symbol.name.as_slice())?,
             value: u64::from(number).cast_signed(),
         }),
         SymbolKind::Weak(_) => Ok(()),
@@ -122,7 +122,7 @@ fn add_weak(
 {
     match symbol.kind {
         SymbolKind::Weak(number) => definitions.push(Definition {
-            name: copy_of(alloc, symbol.name.as_slice())?,
+            name: Sequence::copy_of(alloc, symbol.name.as_slice())?,
             value: u64::from(number).cast_signed(),
         }),
         SymbolKind::Export(_) => Ok(()),

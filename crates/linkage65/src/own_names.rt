@@ -6,7 +6,6 @@ ghost use Rattle.linkage65.specs.Names.{area_names, row_names, script_names};
 
 use crate::naming::{add_exports, part_name};
 use crate::parts::Definition;
-use crate::texts::copy_of;
 use base65::Sequence;
 use script65::{Area, Row, Script};
 use std::alloc::{AllocError, Global};
@@ -78,7 +77,7 @@ fn add_definitions(
     ensures { OnOk result (names.new ≡ names.old ++ map (λ d. d.name) definitions.now) }
 {
     for definition in definitions {
-        names.push(copy_of(alloc, definition.name.as_slice())?)?;
+        names.push(Sequence::copy_of(alloc, definition.name.as_slice())?)?;
     }
     Ok(())
 }

@@ -16,12 +16,3 @@ pub fn join(alloc: Global, parts: &[&[u8]]) -> Result<Sequence<u8>, AllocError>
     }
     Ok(text)
 }
-
-/// A copy of bytes.
-pub fn copy_of(alloc: Global, bytes: &[u8]) -> Result<Sequence<u8>, AllocError>
-    ensures { IfOk result (λ copy. copy ≡ bytes.now) }
-{
-    let mut copy = Sequence::new(alloc);
-    copy.extend_from_slice(bytes)?;
-    Ok(copy)
-}

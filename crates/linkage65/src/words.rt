@@ -4,7 +4,7 @@ ghost use Rattle.std.specs.Prelude.{◌≡◌, IfOk, map};
 ghost use Rattle.linkage65.specs.Faults.{fault_text, listed};
 
 use crate::fault::LinkFault;
-use crate::texts::{copy_of, join};
+use crate::texts::join;
 use base65::Sequence;
 use std::alloc::{AllocError, Global};
 
@@ -32,7 +32,7 @@ pub fn fault_text(alloc: Global, fault: &LinkFault) -> Result<Sequence<u8>, Allo
             let names = listed(alloc, names.as_slice())?;
             join(alloc, &[b"unresolved: ", names.as_slice()])
         }
-        LinkFault::Assertion(_, text) => copy_of(alloc, text.as_slice()),
+        LinkFault::Assertion(_, text) => Sequence::copy_of(alloc, text.as_slice()),
         LinkFault::FailedBefore
         | LinkFault::OutOfMemory
         | LinkFault::Malformed(_)
@@ -40,6 +40,6 @@ pub fn fault_text(alloc: Global, fault: &LinkFault) -> Result<Sequence<u8>, Allo
         | LinkFault::Circular(_)
         | LinkFault::OutOfRange(_)
         | LinkFault::NoValue(_)
-        | LinkFault::IndexDisagrees => copy_of(alloc, fault.to_string(alloc)?.as_bytes()),
+        | LinkFault::IndexDisagrees => Sequence::copy_of(alloc, fault.to_string(alloc)?.as_bytes()),
     }
 }

@@ -14,7 +14,7 @@ use Rattle.expand65.specs.State as expand
 use Rattle.language65.specs.declared.fault.AsmFault.{AsmFault}
 use Rattle.language65.specs.declared.fault.AsmFault.TheVariants.{Expansion}
 use Rattle.language65.specs.Faults.{is_outside}
-use Rattle.module65.specs.Continuing.{Continues}
+use Rattle.module65.specs.Inner.Continuing.{Continues}
 use Rattle.module65.specs.Reading.{AreDefined, Between, IsGiven, IsSource, Job, Reached, no_line, open_fault, stopped}
 use Rattle.module65.proofs.TakenAll.{begins, ends, goes_on, is_refused, not_defined, not_opened, stops}
 

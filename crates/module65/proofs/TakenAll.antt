@@ -10,7 +10,7 @@ use Rattle.expand65.specs.State as expand
 use Rattle.language65.specs.declared.fault.AsmFault.{AsmFault}
 use Rattle.language65.specs.declared.fault.AsmFault.TheVariants.{Expansion}
 use Rattle.language65.specs.Language.{constant}
-use Rattle.module65.specs.Continuing.{DefinesOn, GoesOn}
+use Rattle.module65.specs.Inner.Continuing.{DefinesOn, GoesOn}
 use Rattle.module65.specs.Reading.{AreDefined, taken, faulty, refused, ended, Between, Define, IsBegun, IsGiven, IsSource, Job, Reached, Taking, no_line, open_fault, stopped}
 
 -- ---- Statements.

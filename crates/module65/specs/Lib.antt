@@ -1,7 +1,7 @@
+pub mod Inner
 pub mod Places
 pub mod Reading
 pub mod Knowing
-pub mod Continuing
 pub mod Laying
 pub mod Module
 pub mod Pieces

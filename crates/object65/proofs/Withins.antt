@@ -19,7 +19,7 @@ use Rattle.object65.specs.Objects.{fragment_len, section_limit}
 use Rattle.object65.specs.Record.{Entry}
 use Rattle.object65.specs.Scanning
 use Rattle.object65.specs.Small.{is_small_text}
-use Rattle.object65.specs.Sound.{HasRoom, IsWhole, Stands, state_in, state_of, unmarked}
+use Rattle.object65.specs.Inner.Sound.{HasRoom, IsWhole, Stands, state_in, state_of, unmarked}
 use Rattle.object65.specs.Taking
 use Rattle.base65.specs.Outcome.{Unless}
 use Rattle.object65.proofs.Builders.{reached_next, reached_parts}

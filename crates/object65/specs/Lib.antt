@@ -1,3 +1,4 @@
+pub mod Inner
 pub mod Operators
 pub mod Form
 pub mod Norm
@@ -14,6 +15,5 @@ pub mod Whole
 pub mod Small
 pub mod Items
 pub mod Scanning
-pub mod Sound
 pub mod Bytes
 pub mod Laws

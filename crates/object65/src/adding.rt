@@ -4,7 +4,7 @@ ghost use Rattle.std.specs.Prelude.{◌≡◌, ◌≤◌, ◌<◌, ◌+◌, [], 
 ghost use Rattle.object65.specs.Fault.{Gives, is_memory};
 ghost use Rattle.object65.specs.Items.{grown, with_item, with_piece};
 ghost use Rattle.object65.specs.Objects.{fragment_len};
-ghost use Rattle.object65.specs.Sound.{HasPlace, HasRoom, state_of, unmarked};
+ghost use Rattle.object65.specs.Inner.Sound.{HasPlace, HasRoom, state_of, unmarked};
 ghost use Rattle.object65.specs.Taking.{closed, with_fragment};
 
 use crate::draft::Draft;

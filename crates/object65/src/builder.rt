@@ -34,7 +34,7 @@ impl Model for Builder {
 
     ghost coded = { Prim.hlevel (codes, form_code) };
 
-    ghost use Rattle.object65.specs.Sound.{state_in, IsWhole};
+    ghost use Rattle.object65.specs.Inner.Sound.{state_in, IsWhole};
 
     ghost view = { λ b. record (state_in b.parts b.scan) { failed = b.failed } };
 

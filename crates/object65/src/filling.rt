@@ -10,8 +10,9 @@ ghost use Rattle.object65.specs.Taking.{known, canonical, canonical_open};
 use crate::forming::{byte_at, form_of, u32_at};
 use crate::normal::{are_there, is_folded, is_limited, is_number};
 use crate::room::{Last, Room};
-use crate::taking::{check, copy_of};
+use crate::taking::check;
 use crate::{Fragment, Norm, ObjectFault, Width};
+use base65::Sequence;
 use byteorder::{ByteOrder, LittleEndian};
 use std::alloc::Global;
 
@@ -102,7 +103,7 @@ pub fn room_with_literal(
         Last::Short
     };
     let grown = room_behind(room, body.len() as u32, last);
-    Ok((grown, Fragment::Literal(copy_of(alloc, body)?)))
+    Ok((grown, Fragment::Literal(Sequence::copy_of(alloc, body)?)))
 }
 
 /// Adds a FILL to a section.

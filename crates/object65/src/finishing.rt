@@ -2,7 +2,7 @@
 
 ghost use Rattle.std.specs.Prelude.{◌≡◌, Ok, map};
 ghost use Rattle.object65.specs.Fault.{Gives, is_memory};
-ghost use Rattle.object65.specs.Sound.{state_of};
+ghost use Rattle.object65.specs.Inner.Sound.{state_of};
 ghost use Rattle.object65.specs.Taking.{section_from, object_from};
 
 use crate::draft::Draft;

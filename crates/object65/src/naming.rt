@@ -7,13 +7,14 @@ ghost use Rattle.object65.specs.Fault.{Gives, is_memory};
 ghost use Rattle.object65.specs.Items.{has_small_text};
 ghost use Rattle.object65.specs.Small.{is_small_text};
 ghost use Rattle.object65.specs.Scanning.{scan_import, scan_export, scan_assert};
-ghost use Rattle.object65.specs.Sound.{outline_in, IsSound};
+ghost use Rattle.object65.specs.Inner.Sound.{outline_in, IsSound};
 
 use crate::filling::{check_form, check_open_form, check_places};
 use crate::forming::{byte_at, form_of, text_of, u32_at};
 use crate::kept::Kept;
-use crate::taking::{add_name, all_full, check, check_name, copy_of};
+use crate::taking::{add_name, all_full, check, check_name};
 use crate::{Action, Assert, Export, Item, ObjectFault};
+use base65::Sequence;
 use std::alloc::Global;
 
 /// Takes an IMPORT.
@@ -30,7 +31,7 @@ pub fn take_import(kept: &mut Kept, body: &[u8]) -> Result<Item, ObjectFault>
     )?;
     check_name(&kept.imports, body)?;
     add_name(kept.alloc, &mut kept.imports, body)?;
-    let name = copy_of(kept.alloc, body)?;
+    let name = Sequence::copy_of(kept.alloc, body)?;
     Ok(Item::Import(name))
 }
 
@@ -42,7 +43,7 @@ fn read_export(alloc: Global, body: &[u8]) -> Result<Export, ObjectFault>
     let (name, rest) = text_of(body)?;
     let (line, rest) = u32_at(rest)?;
     let form = form_of(alloc, rest)?;
-    let name = copy_of(alloc, name)?;
+    let name = Sequence::copy_of(alloc, name)?;
     Ok(Export { name, line, form })
 }
 
@@ -86,7 +87,7 @@ fn read_assert(alloc: Global, body: &[u8]) -> Result<Assert, ObjectFault>
     let (line, rest) = u32_at(rest)?;
     let (text, rest) = text_of(rest)?;
     let form = form_of(alloc, rest)?;
-    let text = copy_of(alloc, text)?;
+    let text = Sequence::copy_of(alloc, text)?;
     Ok(Assert {
         action,
         line,

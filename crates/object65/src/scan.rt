@@ -25,7 +25,7 @@ impl Model for Scan {
     ghost use Rattle.std.specs.Prelude.{◌≡◌, false};
     ghost use Rattle.std.specs.Coded.{codes};
     ghost use Rattle.object65.specs.Scanning.{Outline};
-    ghost use Rattle.object65.specs.Sound.{outline_in, IsIntact};
+    ghost use Rattle.object65.specs.Inner.Sound.{outline_in, IsIntact};
 
     ghost Value = { Outline };
 

@@ -7,7 +7,7 @@ ghost use Rattle.object65.specs.Fault.{Gives, is_memory};
 ghost use Rattle.object65.specs.Items.{has_small_text};
 ghost use Rattle.object65.specs.Objects.{is_name, is_printed, is_among};
 ghost use Rattle.object65.specs.Record.{entry_of};
-ghost use Rattle.object65.specs.Sound.{outline_in, IsSound};
+ghost use Rattle.object65.specs.Inner.Sound.{outline_in, IsSound};
 ghost use Rattle.object65.specs.declared.room.Room.{Room};
 ghost use Rattle.object65.specs.Scanning.{is_filled, open_room, empty_room, room_literal, room_fill, room_value, scan_section, scan_part, scan_last, scan_entry, heading};
 ghost use Rattle.object65.specs.Taking.{is_none, wants, new_name};
@@ -75,13 +75,6 @@ pub fn add_name(
     let key = Vec::from_slice(alloc, name)?;
     names.insert(key)?;
     Ok(())
-}
-
-/// A copy of bytes.
-pub fn copy_of(alloc: Global, bytes: &[u8]) -> Result<Sequence<u8>, ObjectFault>
-    ensures { Gives is_memory (λ s. s) result (Ok bytes.now) }
-{
-    Ok(Sequence::from_vec(Vec::from_slice(alloc, bytes)?))
 }
 
 fn is_full_room(room: &Room) -> bool
@@ -210,7 +203,7 @@ fn read_section(alloc: Global, body: &[u8]) -> Result<(u32, u8, Sequence<u8>), O
         return Err(ObjectFault::BadSize);
     }
     let align = body[4];
-    let name = copy_of(alloc, &body[5..])?;
+    let name = Sequence::copy_of(alloc, &body[5..])?;
     Ok((size, align, name))
 }
 

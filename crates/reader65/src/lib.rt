@@ -16,7 +16,9 @@ mod reader;
 pub use blocks::BranchLine;
 pub use directives::{Directive, Test};
 pub use file::{MAX_FILE, OpenFile};
-pub use fronts::{behind_first, closes_brace, is_comma, name_in, opens_brace, opens_parenthesis, string_of};
+pub use fronts::{
+    behind_first, closes_brace, is_comma, name_in, opens_brace, opens_parenthesis, string_of,
+};
 pub use input::{Source, number_line};
 pub use line::Line;
 pub use playing::{Body, Replay};

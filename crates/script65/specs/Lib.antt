@@ -1,10 +1,10 @@
 pub mod Access
 pub mod Faults
 pub mod Grammar
+pub mod Inner
 pub mod Laws
 pub mod Numbers
 pub mod Outcome
 pub mod Scripts
-pub mod Tables
 pub mod Tokens
 pub mod Words

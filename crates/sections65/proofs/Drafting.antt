@@ -11,7 +11,7 @@ use Rattle.language65.specs.declared.contents.Content.{Content}
 use Rattle.language65.specs.declared.contents.Part.{Part}
 use Rattle.language65.specs.declared.contents.Segment.{Segment}
 use Rattle.sections65.specs.declared.numbering.drafts.Draft.{Draft}
-use Rattle.sections65.specs.Drafts.{all_of_draft, grown, new_draft, section_from, with_content, with_contents, with_fragment, with_parts}
+use Rattle.sections65.specs.Inner.Drafts.{all_of_draft, grown, new_draft, section_from, with_content, with_contents, with_fragment, with_parts}
 use Rattle.language65.specs.Numbering.{all_joined, fragment_of, fragments_of, is_empty, joined, parts_in, section_of, segment_name, segment_power}
 
 -- ---- One item of a list in which each has a key of its own.

@@ -7,7 +7,7 @@ use Rattle.object65.specs.declared.object.Section.{Section}
 use Rattle.object65.specs.Objects.{FragmentFits}
 use Rattle.language65.specs.declared.contents.Segment.{Segment}
 use Rattle.sections65.specs.declared.numbering.drafts.Draft.{Draft}
-use Rattle.sections65.specs.Drafts.{DraftFits, all_of_draft, begun, grown, new_draft, optional_fragment, section_from, with_fragment}
+use Rattle.sections65.specs.Inner.Drafts.{DraftFits, all_of_draft, begun, grown, new_draft, optional_fragment, section_from, with_fragment}
 use Rattle.language65.specs.Numbering.{is_empty}
 
 pub all_more : {A : Type 0} (P : A → Type 0) (xs ys : List A) → AllByRecursion P xs → AllByRecursion P ys → AllByRecursion P (xs ++ ys)

@@ -1,3 +1,3 @@
-pub mod Drafts
 pub mod Fed
+pub mod Inner
 pub mod Standing

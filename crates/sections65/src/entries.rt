@@ -38,13 +38,6 @@ pub struct Entries {
     pub room: u32,
 }
 
-/// A copy of bytes.
-pub fn copy_of(alloc: Global, bytes: &[u8]) -> Result<Sequence<u8>, AllocError>
-    ensures { IfOk result (λ s. s ≡ bytes.now) }
-{
-    Ok(Sequence::from_vec(Vec::from_slice(alloc, bytes)?))
-}
-
 /// Two numbers of bytes as one. No section has more than 32 bits hold.
 pub fn sum_of(left: u32, right: u32) -> Result<u32, AllocError>
     ensures { IfOk result (λ n. n ≡ left + right) }

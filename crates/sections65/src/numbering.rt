@@ -3,7 +3,7 @@
 ghost use Rattle.std.specs.Prelude.{◌≡◌, map, nat_eq, slice_get, option_copied, IfOk};
 ghost use Rattle.std.specs.List.{IsDistinct};
 ghost use Rattle.object65.specs.Objects.{ObjectFits};
-ghost use Rattle.sections65.specs.Drafts.{all_of_draft, section_from};
+ghost use Rattle.sections65.specs.Inner.Drafts.{all_of_draft, section_from};
 ghost use Rattle.sections65.specs.Fed.{content_of, object_by, object_over};
 ghost use Rattle.language65.specs.Layout.{powers};
 ghost use Rattle.language65.specs.Numbering.{name_of, number_of, segment_name, segment_power};
@@ -14,7 +14,7 @@ mod keys;
 mod names;
 mod numbers;
 
-use crate::entries::{Entry, copy_of};
+use crate::entries::Entry;
 use base65::Sequence;
 use drafts::{Draft, filled};
 use exports::{asserts_of, exports_of};
@@ -54,7 +54,7 @@ fn section_name(alloc: Global, segment: Option<&Segment>) -> Result<Sequence<u8>
     ensures { IfOk result (λ s. s ≡ segment_name (option_copied segment.entry)) }
 {
     match segment {
-        Some(segment) => copy_of(alloc, segment.name.as_slice()),
+        Some(segment) => Sequence::copy_of(alloc, segment.name.as_slice()),
         None => Ok(Sequence::new(alloc)),
     }
 }
@@ -117,7 +117,7 @@ fn import_name(alloc: Global, names: &[Sequence<u8>], key: u32) -> Result<Sequen
     ensures { IfOk result (λ name. name ≡ name_of names.now key) }
 {
     match names.get(key as usize) {
-        Some(name) => copy_of(alloc, name.as_slice()),
+        Some(name) => Sequence::copy_of(alloc, name.as_slice()),
         None => Ok(Sequence::new(alloc)),
     }
 }

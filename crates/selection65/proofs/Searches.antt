@@ -7,7 +7,7 @@ use Rattle.std.proofs.lemmas.List.Folds.{list_any-append}
 use Rattle.std.proofs.lemmas.Slice.Eq.{bytes_eq-Decides}
 use Rattle.selection65.specs.declared.entry.Entry.{Entry}
 use Rattle.object65.specs.Objects.{is_among}
-use Rattle.selection65.specs.Searching.{Finds, IsSearched}
+use Rattle.selection65.specs.Inner.Searching.{Finds, IsSearched}
 use Rattle.selection65.specs.Selection.{first_exporter, has_place, imports_at}
 use Rattle.selection65.proofs.Places.{either, get_kept, or_left, or_right, or_true, place_behind, place_kept, place_of}
 

@@ -3,7 +3,7 @@ use Rattle.std.proofs.Common.{◌≡◌, ◌∙◌, ◌<◌, ◌-◌, ℕ, ◌+�
 use Rattle.std.specs.List.{list_any, position_from}
 use Rattle.selection65.specs.declared.entry.Entry.{Entry}
 use Rattle.object65.specs.Objects.{is_among}
-use Rattle.selection65.specs.Searching.{IsSearched, marked_from}
+use Rattle.selection65.specs.Inner.Searching.{IsSearched, marked_from}
 use Rattle.selection65.specs.Selection.{IsClosed, IsRising, IsSelection, first_exporter, has_place, imports_at}
 use Rattle.selection65.proofs.Places.{any_at, any_of, marked_places, marked_rising, or_left, or_right, or_true, place_at, place_of}
 

@@ -1,3 +1,3 @@
+pub mod Inner
 pub mod Selection
-pub mod Searching
 pub mod Laws

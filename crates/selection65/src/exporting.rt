@@ -4,7 +4,7 @@ ghost use Rattle.std.specs.Prelude.{◌≡◌, ◌<◌, ℕ, List, Some, if◌th
 ghost use Rattle.std.specs.Str.{bytes_eq};
 ghost use Rattle.indexmap.specs.IndexMap.{get_by};
 ghost use Rattle.object65.specs.Objects.{is_among};
-ghost use Rattle.selection65.specs.Searching.{IsTable};
+ghost use Rattle.selection65.specs.Inner.Searching.{IsTable};
 ghost use Rattle.selection65.specs.Selection.{first_exporter, imports_at};
 
 use crate::Entry;

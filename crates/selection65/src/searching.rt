@@ -1,7 +1,7 @@
 //! The search for the members that a link needs.
 
 ghost use Rattle.std.specs.Prelude.{◌≡◌, ◌<◌, ◌++◌, ◌∷◌, [], false, length, map, get_or, replicate, OnOk, IfOk};
-ghost use Rattle.selection65.specs.Searching.{Finds, IsSearched, IsSound, IsTable, marked_from};
+ghost use Rattle.selection65.specs.Inner.Searching.{Finds, IsSearched, IsSound, IsTable, marked_from};
 
 use crate::exporting::Exporters;
 use crate::{Names, has_name};

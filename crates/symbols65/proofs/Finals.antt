@@ -28,8 +28,8 @@ use Rattle.language65.specs.Extending.{Extends}
 use Rattle.symbols65.specs.Finals.{IsFinalWithin}
 use Rattle.symbols65.specs.Forms.{binary_form, prefix_form}
 use Rattle.symbols65.specs.Resolving.{attempt_definition, attempt_value, known_form, plain_part}
-use Rattle.symbols65.specs.Settling.{MeansAlways, MeansFinally, Operands}
-use Rattle.symbols65.specs.Sources.{known_by}
+use Rattle.symbols65.specs.Inner.Settling.{MeansAlways, MeansFinally, Operands}
+use Rattle.symbols65.specs.Inner.Sources.{known_by}
 use Rattle.symbols65.specs.Views.{table_of}
 use Rattle.symbols65.proofs.NameParts.{name_is}
 use Rattle.symbols65.proofs.Places.{first_within, get_stays, position_stays}

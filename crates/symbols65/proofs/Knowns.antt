@@ -9,7 +9,7 @@ use Rattle.std.proofs.lemmas.List.Folds.{list_any-append}
 use Rattle.std.proofs.lemmas.Option.{gets, slice_get_within}
 use Rattle.symbols65.specs.declared.resolving.attempt.State.{State}
 use Rattle.symbols65.specs.declared.resolving.attempt.State.TheVariants.{Unknown, Waiting, Hangs, Found}
-use Rattle.symbols65.specs.Knowns.{AreNoted, is_found, without}
+use Rattle.symbols65.specs.Inner.Knowns.{AreNoted, is_found, without}
 use Rattle.language65.specs.Symbols.{Symbols}
 use Rattle.language65.specs.Extending.{Extends}
 use Rattle.symbols65.specs.Hanging.{AreHung, HangsOn}
@@ -17,18 +17,6 @@ use Rattle.symbols65.specs.Resolving.{IsTable, is_open}
 use Rattle.symbols65.proofs.Beginnings.{AreOpen, blank_table}
 use Rattle.symbols65.proofs.Hanging.{hung_later}
 use Rattle.symbols65.proofs.Places.{get_more}
-
--- nothing is found at one more place
-pub noted_more : (states : List State) (noted : List ℕ) → AreNoted states noted → AreNoted (states ++ Unknown ∷ []) noted
-noted_more states noted h = λ j e. by j (slice_get (states ++ Unknown ∷ []) j) refl e
-  where
-    by : (j : ℕ) (o : Option State) → slice_get (states ++ Unknown ∷ []) j ≡ o → is_found o ≡ true → list_any (λ i. i == j) noted ≡ true
-    by j None is e = absurd cc
-    by j (Some x) is e = at (get_more states Unknown x j is)
-      where
-        at : (slice_get states j ≡ Some x) ⊎ ((j ≡ length states) × (Unknown ≡ x)) → list_any (λ i. i == j) noted ≡ true
-        at (inl same) = h j (ap is_found same ∙ e)
-        at (inr new) = let no : true ≡ false = sym e ∙ ap (λ y. is_found (Some y)) (sym new.1) in absurd cc
 
 -- nothing hangs at one more place
 pub hung_more : (y : Symbols) (states : List State) → AreHung y states → AreHung y (states ++ Unknown ∷ [])

@@ -15,8 +15,8 @@ use Rattle.symbols65.specs.declared.resolving.attempt.Stop.TheVariants.{Needs}
 use Rattle.symbols65.specs.declared.table.symbols.Symbols.{Symbols}
 use Rattle.symbols65.specs.Hanging.{ExpressionHangsOn, HangsOn, Leads}
 use Rattle.symbols65.specs.Resolving.{FoundBy, attempt_definition, known_form, meaning_form, operand_form, stopped, tried, tried_by}
-use Rattle.symbols65.specs.Settling.{MeansFinally, Operands}
-use Rattle.symbols65.specs.Sources.{known_by}
+use Rattle.symbols65.specs.Inner.Settling.{MeansFinally, Operands}
+use Rattle.symbols65.specs.Inner.Sources.{known_by}
 use Rattle.symbols65.specs.Views.{table_of}
 use Rattle.symbols65.proofs.Hanging.{extends_itself}
 use Rattle.symbols65.proofs.Places.{get_stays}

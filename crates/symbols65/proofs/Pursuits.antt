@@ -15,7 +15,7 @@ use Rattle.symbols65.specs.declared.resolving.attempt.Stop.TheVariants.{Needs, F
 use Rattle.language65.specs.Symbols.{Symbols}
 use Rattle.symbols65.specs.Resolving.{FoundBy, IsTable, is_open, may_be_looked_for, unknown}
 use Rattle.symbols65.specs.Hanging.{AreHung, Comes, HangsOn, Leads, Reaches}
-use Rattle.symbols65.specs.Knowns.{is_found}
+use Rattle.symbols65.specs.Inner.Knowns.{is_found}
 use Rattle.language65.specs.Norms.{form_of_definition, norm}
 use Rattle.symbols65.proofs.Hanging.{extends_itself}
 use Rattle.base65.specs.Outcome.{Unless}

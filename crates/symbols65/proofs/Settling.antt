@@ -20,8 +20,8 @@ use Rattle.symbols65.specs.declared.table.symbols.Symbols.{Symbols}
 use Rattle.language65.specs.Extending.{Extends}
 use Rattle.symbols65.specs.Finals.{formed}
 use Rattle.symbols65.specs.Resolving.{FoundBy, lacks_memory, meaning_form, tried}
-use Rattle.symbols65.specs.Settling.{Settles}
-use Rattle.symbols65.specs.Sources.{kept, known_by}
+use Rattle.symbols65.specs.Inner.Settling.{Settles}
+use Rattle.symbols65.specs.Inner.Sources.{kept, known_by}
 use Rattle.symbols65.specs.Tables.{definition_in, table_without_imports}
 use Rattle.symbols65.specs.Views.{table_of, words_of}
 use Rattle.symbols65.proofs.Places.{get_mapped, get_stays}

@@ -1,9 +1,7 @@
 pub mod Finals
 pub mod Forms
 pub mod Hanging
-pub mod Knowns
+pub mod Inner
 pub mod Resolving
-pub mod Settling
-pub mod Sources
 pub mod Tables
 pub mod Views

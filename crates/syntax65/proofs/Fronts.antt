@@ -7,7 +7,7 @@ use Rattle.std.proofs.lemmas.List.{length-take-le, length-drop}
 use Rattle.std.proofs.lemmas.List.Sums.{prefix_len-le-length}
 use Rattle.syntax65.specs.Bytes.{class_of, is_word, is_no_quote}
 use Rattle.syntax65.specs.Forms.{AllWord, IsName, IsRunOf, ClosesText, StartsNumber, IsSizeLetter, spelling, IsForm, Stands, IsLongest, NoForm, Begins, FaultAt, name_in, HasValue}
-use Rattle.syntax65.specs.Places.{BeginsNumber, BeginsSigned, NoSign}
+use Rattle.syntax65.specs.Inner.Places.{BeginsNumber, BeginsSigned, NoSign}
 use Rattle.syntax65.specs.declared.lexing.classes.Class.{Class}
 use Rattle.syntax65.specs.declared.lexing.classes.Class.TheVariants.{Letter, Digit, Radix, At, Dot, Apostrophe, Quote, Colon, Other}
 use Rattle.syntax65.specs.declared.lexing.tokens.AddressSize.{AddressSize}

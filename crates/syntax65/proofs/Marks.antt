@@ -6,7 +6,7 @@ use Rattle.std.proofs.lemmas.List.{length-take-le}
 use Rattle.std.proofs.lemmas.List.Sums.{prefix_len-le-length}
 use Rattle.syntax65.specs.Bytes.{class_of}
 use Rattle.syntax65.specs.Forms.{IsRunOf, spelling, Stands, IsLongest, Begins, FaultAt}
-use Rattle.syntax65.specs.Places.{BeginsMark, NoSign}
+use Rattle.syntax65.specs.Inner.Places.{BeginsMark, NoSign}
 use Rattle.syntax65.specs.declared.lexing.classes.Class.TheVariants.{Quote, Colon, Other}
 use Rattle.syntax65.specs.declared.lexing.tokens.Mark.{Mark}
 use Rattle.syntax65.specs.declared.lexing.tokens.TokenKind.{TokenKind}

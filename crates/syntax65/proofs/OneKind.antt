@@ -6,7 +6,7 @@ use Rattle.std.proofs.lemmas.Bool.{cases_order}
 use Rattle.std.proofs.lemmas.Bool.Decides.{nat_tests}
 use Rattle.syntax65.specs.Bytes.{class_of, is_word}
 use Rattle.syntax65.specs.Forms.{IsRunOf, IsSizeLetter, spelling, IsForm, IsLongest, HasValue}
-use Rattle.syntax65.specs.Places.{NoSign}
+use Rattle.syntax65.specs.Inner.Places.{NoSign}
 use Rattle.syntax65.specs.declared.lexing.classes.Class.{Class}
 use Rattle.syntax65.specs.declared.lexing.classes.Class.TheVariants.{Letter, Digit, Radix, At, Dot, Apostrophe, Quote, Colon, Semicolon, Blank, Other}
 use Rattle.syntax65.specs.declared.lexing.tokens.AddressSize.{AddressSize}

@@ -3,6 +3,7 @@ use Rattle.std.proofs.Common.{◌≡◌, ◌∙◌, ℕ, ◌+◌, List, [], ◌�
 use Rattle.std.specs.FinMap.{get}
 use Rattle.std.specs.Prelude.{Option, Some}
 use Rattle.base65.specs.Outcome.{First}
+use Rattle.base65.proofs.Outcome.{first_once}
 use Rattle.base65.specs.Store.{Files}
 use Rattle.script65.proofs.OneReading.{one_reading}
 use Rattle.script65.specs.Scripts.{IsScript}
@@ -24,11 +25,6 @@ use Rattle.ld65.specs.Linkage.{AreInputs, AreNeeded, ByKind, IsInput, IsInputLin
 use Rattle.tools65.proofs.Selected.{ok_err, ok_same}
 
 -- ---- The modules of inputs.
-
--- what follows one thing is one where it is so behind each
-pub first_once : {E A B : Type 0} (q : Result A E) (Next : A → Result B E → Type 0) (r t : Result B E) → ((x : A) → Next x r → Next x t → r ≡ t) → First q Next r → First q Next t → r ≡ t
-first_once (Ok x) Next r t f h k = f x h k
-first_once (Err e) Next r t f h k = h ∙ sym k
 
 module _ (s : Script) (m : Files) where
   needed_once : (before : List Module) (library : List ℕ) (es : List Entry) (r t : Result (List Module) Refusal) → AreNeeded s m library before es r → AreNeeded s m library before es t → r ≡ t

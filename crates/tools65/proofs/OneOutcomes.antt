@@ -3,6 +3,7 @@ use Rattle.std.proofs.Common.{◌≡◌, ◌∙◌, ◌<◌, ℕ, zero, suc, ◌
 use Rattle.std.specs.Prelude.{codes}
 use Rattle.std.specs.FinMap.{get}
 use Rattle.base65.specs.Outcome.{First}
+use Rattle.base65.proofs.Outcome.{first_once}
 use Rattle.base65.specs.Store.{Files}
 use Rattle.object65.specs.Spelling.{object_bytes}
 use Rattle.selection65.proofs.Uniques.{one_selection}
@@ -33,14 +34,9 @@ use Rattle.tools65.specs.OneOutcome.{OneOutcomeLaw}
 
 -- ---- Parts, and what follows them.
 
--- what follows an answer is one where each next part is
-first_one : {E A B : Type 0} (q : Result A E) (Next : A → Result B E → Type 0) → ((x : A) (a b : Result B E) → Next x a → Next x b → a ≡ b) → (a b : Result B E) → First q Next a → First q Next b → a ≡ b
-first_one (Ok x) Next one a b h k = one x a b h k
-first_one (Err e) Next one a b h k = h ∙ sym k
-
 -- and where the answer is the only one, too
 then_one : {E A B X : Type 0} (P : X → Type 0) (answer : X → Result A E) (Next : A → Result B E → Type 0) → ((q r : X) → P q → P r → q ≡ r) → ((x : A) (a b : Result B E) → Next x a → Next x b → a ≡ b) → (a b : Result B E) → ((q : X) × P q × First (answer q) Next a) → ((q : X) × P q × First (answer q) Next b) → a ≡ b
-then_one P answer Next same one a b (q, p, h) (r, s, k) = first_one (answer r) Next one a b (subst (λ x. First (answer x) Next a) (same q r p s) h) k
+then_one P answer Next same one a b (q, p, h) (r, s, k) = first_once (answer r) Next a b (λ x. one x a b) (subst (λ x. First (answer x) Next a) (same q r p s) h) k
 
 -- ---- Linking.
 
@@ -50,7 +46,7 @@ module _ (s : Script) (m : Files) where
       e ∙ ap (λ ps. with_members s m library before (chosen es ps)) (one_selection es (open_names s (program_of before)) (given_names s (program_of before)) places others is was) ∙ sym f
 
   kind_one : (library : Bool) (k : ℕ) (before : List Module) (name : List ℕ) (a b : Result (List Module) Refusal) → ByKind library (IsLibraryInput s m k before name a) (a ≡ with_file s m k before name) → ByKind library (IsLibraryInput s m k before name b) (b ≡ with_file s m k before name) → a ≡ b
-  kind_one true k before name a b h g = first_one (as_library k (index_in m name)) (AreNeeded s m name before) (needed_one name before) a b h g
+  kind_one true k before name a b h g = first_once (as_library k (index_in m name)) (AreNeeded s m name before) a b (λ es. needed_one name before es a b) h g
   kind_one false k before name a b h g = h ∙ sym g
 
   inputs_one : (k : ℕ) (before : List Module) (names : List (List ℕ)) (a b : Result (List Module) Refusal) → AreInputs s m k before names a → AreInputs s m k before names b → a ≡ b
@@ -66,12 +62,12 @@ input_link_one : (m : Files) (l : Linking) (s : Script) (a b : Result Linked Ref
 input_link_one m l s a b h g = then_one (AreInputs s m 0 [] l.inputs) (λ q. q) (LinksTo l s) (inputs_one s m 0 [] l.inputs) (links_one l s) a b h g
 
 linked_by_one : (m : Files) (l : Linking) (s : Script) (a b : Result Linked Refusal) → IsLinkedBy m l s a → IsLinkedBy m l s b → a ≡ b
-linked_by_one m l s a b h g = first_one (as_refusal (names_once s (program_of []))) (λ u. IsInputLink m l s) (λ u. input_link_one m l s) a b h g
+linked_by_one m l s a b h g = first_once (as_refusal (names_once s (program_of []))) (λ u. IsInputLink m l s) a b (λ u. input_link_one m l s a b) h g
 
 linked_one : (m : Files) (l : Linking) (a b : Result Linked Refusal) → IsLinked m l a → IsLinked m l b → a ≡ b
 linked_one m l a b h g =
-    first_one (text_of (get m l.script)) (λ text u. (q : Result Script ScriptFault) × IsScript text q × First (as_script q) (IsLinkedBy m l) u)
-    (λ text. then_one (IsScript text) as_script (IsLinkedBy m l) (one_reading text) (linked_by_one m l)) a b h g
+    first_once (text_of (get m l.script)) (λ text u. (q : Result Script ScriptFault) × IsScript text q × First (as_script q) (IsLinkedBy m l) u) a b
+    (λ text. then_one (IsScript text) as_script (IsLinkedBy m l) (one_reading text) (linked_by_one m l) a b) h g
 
 -- ---- Assembling.
 

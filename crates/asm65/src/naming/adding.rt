@@ -14,7 +14,7 @@ impl Assembler {
     ghost use Rattle.symbols65.specs.Resolving.{IsTable};
     ghost use Rattle.symbols65.specs.Tables.{KeepsFinal, definition_seen, key_of};
     ghost use Rattle.symbols65.specs.Views.{table_of, with_definition, with_names, with_scope};
-    ghost use Rattle.asm65.specs.Taking.{KeepsPut};
+    ghost use Rattle.asm65.specs.Inner.Taking.{KeepsPut};
 
     /// A new key is defined.
     pub fn define(

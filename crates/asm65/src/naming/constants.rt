@@ -15,7 +15,7 @@ impl Assembler {
     ghost use Rattle.module65.specs.Pieces.{equated, valued};
     ghost use Rattle.symbols65.specs.Resolving.{IsTable};
     ghost use Rattle.symbols65.specs.Views.{table_of, with_definition};
-    ghost use Rattle.asm65.specs.Taking.{Turns};
+    ghost use Rattle.asm65.specs.Inner.Taking.{Turns};
     ghost use Rattle.asm65.specs.Views.{place_in};
 
     /// A constant is defined. Where its form isn't final it waits: its expression may have a fault.

@@ -1,39 +1,14 @@
 //! Definitions that are added to a symbol table.
 
-ghost use Rattle.std.specs.Prelude.{◌≡◌, ◌++◌, ◌∷◌, [], IfOk, None, OnErr, OnOk, Some, length, map, position};
-ghost use Rattle.std.specs.Str.{bytes_eq};
+ghost use Rattle.std.specs.Prelude.{◌≡◌, ◌++◌, ◌∷◌, [], IfOk, None, OnErr, OnOk, Some, length, position};
 ghost use Rattle.indexmap.specs.IndexMap.{keys};
 ghost use Rattle.language65.specs.Symbols.{defined};
-ghost use Rattle.symbols65.specs.Tables.{Begins, IsCounted, KeepsFinal, definition_in, definition_seen, entry_of, first_number, key_of, same_entry, word_of};
+ghost use Rattle.symbols65.specs.Tables.{IsCounted, KeepsFinal, definition_in, definition_seen, entry_of, first_number, key_of, same_entry, word_of};
 ghost use Rattle.symbols65.specs.Views.{table_of, with_definition, words_of};
 
-use indexmap::{IndexMap, IndexSet};
+use indexmap::IndexMap;
 use std::alloc::{AllocError, Global};
 use symbols65::{Definition, Entry, Key, Symbols};
-
-/// The number of a name, which is put in where it is new.
-fn intern(alloc: Global, words: &mut IndexSet<Vec<u8>>, name: &[u8]) -> Result<usize, AllocError>
-    ensures more { Begins (map (λ k. k.items) words.old.keys) (map (λ k. k.items) words.new.keys) }
-    ensures number { IfOk result (λ w.
-        position (bytes_eq name.now) (map (λ k. k.items) words.new.keys) ≡ Some w) }
-{
-    match words.get_index_of(name) {
-        Some(word) => Ok(word),
-        None => {
-            let (word, _) = words.insert_full(Vec::from_slice(alloc, name)?)?;
-            Ok(word)
-        }
-    }
-}
-
-/// The number of a name among those of a symbol table.
-fn number(alloc: Global, symbols: &mut Symbols, name: &[u8]) -> Result<usize, AllocError>
-    ensures table { table_of symbols.new ≡ table_of symbols.old }
-    ensures definitions { symbols.new.definitions ≡ symbols.old.definitions }
-    ensures number { IfOk result (λ w. position (bytes_eq name.now) (words_of symbols.new) ≡ Some w) }
-{
-    intern(alloc, &mut symbols.words, name)
-}
 
 /// The entry of a key, whose name is put in where it is new.
 fn entry(alloc: Global, symbols: &mut Symbols, key: Key<'_>) -> Result<Entry, AllocError>
@@ -44,11 +19,11 @@ fn entry(alloc: Global, symbols: &mut Symbols, key: Key<'_>) -> Result<Entry, Al
 {
     match key {
         Key::Named { scope, name } => {
-            let word = number(alloc, symbols, name)?;
+            let word = symbols.number(alloc, name)?;
             Ok(Entry::Named { scope, word })
         }
         Key::Cheap { region, name } => {
-            let word = number(alloc, symbols, name)?;
+            let word = symbols.number(alloc, name)?;
             Ok(Entry::Cheap { region, word })
         }
         Key::Unnamed(count) => Ok(Entry::Unnamed(count)),

@@ -3,8 +3,8 @@
 ghost use Rattle.std.specs.Prelude.{◌≡◌, IfOk, OnOk, map};
 ghost use Rattle.language65.specs.Laid.{Spot};
 ghost use Rattle.language65.specs.Symbols.{Symbols};
-ghost use Rattle.asm65.specs.Holding.{IsPiece};
-ghost use Rattle.asm65.specs.Taking.{mentioned};
+ghost use Rattle.asm65.specs.Inner.Holding.{IsPiece};
+ghost use Rattle.asm65.specs.Inner.Taking.{mentioned};
 
 use crate::assembler::Assembler;
 use crate::putting::Stand;
@@ -36,8 +36,8 @@ fn piece_of(alloc: Global, mention: Mention, name: &[u8]) -> Result<Piece, Alloc
 
 impl Assembler {
     ghost use Rattle.language65.specs.Views.{spot_of};
-    ghost use Rattle.asm65.specs.Putting.{KeepsTables};
-    ghost use Rattle.asm65.specs.Taking.{Mentions};
+    ghost use Rattle.asm65.specs.Inner.Putting.{KeepsTables};
+    ghost use Rattle.asm65.specs.Inner.Taking.{Mentions};
     ghost use Rattle.asm65.specs.Views.{place_in};
 
     /// Names that are mentioned wait, one behind the other.

@@ -4,7 +4,7 @@ ghost use Rattle.std.specs.Prelude.{◌≡◌, None};
 ghost use Rattle.language65.specs.Symbols.{Key as DefinedKey};
 ghost use Rattle.language65.specs.Views.{spot_of};
 ghost use Rattle.symbols65.specs.Tables.{definition_seen};
-ghost use Rattle.asm65.specs.Taking.{is_for_zero_page, label_at};
+ghost use Rattle.asm65.specs.Inner.Taking.{is_for_zero_page, label_at};
 
 use crate::assembler::Assembler;
 use crate::naming::mentions::Mention;
@@ -44,7 +44,7 @@ impl Assembler {
     ghost use Rattle.symbols65.specs.Resolving.{IsTable};
     ghost use Rattle.symbols65.specs.Tables.{key_of};
     ghost use Rattle.symbols65.specs.Views.{table_of, with_definition, with_names, with_scope};
-    ghost use Rattle.asm65.specs.Taking.{Turns, mentioned};
+    ghost use Rattle.asm65.specs.Inner.Taking.{Turns, mentioned};
     ghost use Rattle.asm65.specs.Views.{place_in};
 
     /// A label is defined where it stands.

@@ -6,7 +6,7 @@ ghost use Rattle.language65.specs.Contents.{file_bytes, opcode_part, operand_for
 ghost use Rattle.language65.specs.declared.contents.Part.TheVariants.{Known};
 ghost use Rattle.language65.specs.Views.{spot_of};
 ghost use Rattle.sections65.specs.Standing.{Feeds};
-ghost use Rattle.asm65.specs.Putting.{IsFaultless, IsPut, operand_stored};
+ghost use Rattle.asm65.specs.Inner.Putting.{IsFaultless, IsPut, operand_stored};
 ghost use Rattle.layout65.specs.Views.{settled_in};
 
 use super::Stand;

@@ -7,7 +7,7 @@ ghost use Rattle.language65.specs.Contents.{operand_tree};
 ghost use Rattle.language65.specs.Sizes.{width_of};
 ghost use Rattle.language65.specs.Views.{operand_of, spot_of};
 ghost use Rattle.symbols65.specs.Views.{table_of};
-ghost use Rattle.asm65.specs.Putting.{IsSo};
+ghost use Rattle.asm65.specs.Inner.Putting.{IsSo};
 
 use super::Stand;
 use super::parts::{put_code, put_part, put_room};
@@ -76,7 +76,7 @@ impl Assembler {
     ghost use Rattle.syntax65.specs.Opcodes.{opcode_of};
     ghost use Rattle.module65.specs.Pieces.{asserted, given, instruction_pieces, valued};
     ghost use Rattle.module65.specs.Pieces.{item_piece, operand_pieces};
-    ghost use Rattle.asm65.specs.Holding.{Enters};
+    ghost use Rattle.asm65.specs.Inner.Holding.{Enters};
     ghost use Rattle.asm65.specs.Views.{place_in};
     ghost use Rattle.layout65.specs.Views.{settled_in};
 

@@ -7,7 +7,7 @@ ghost use Rattle.language65.specs.Contents.{stored};
 ghost use Rattle.language65.specs.Extending.{IsFinal};
 ghost use Rattle.language65.specs.Laid.{Spot};
 ghost use Rattle.language65.specs.Symbols.{Symbols};
-ghost use Rattle.asm65.specs.Putting.{operand_stored};
+ghost use Rattle.asm65.specs.Inner.Putting.{operand_stored};
 
 use super::Stand;
 use super::parts::{put_form, put_literal, put_operand};
@@ -46,8 +46,8 @@ impl Assembler {
     ghost use Rattle.std.specs.Prelude.{◌∷◌, [], IfOk, OnOk};
     ghost use Rattle.language65.specs.Views.{spot_of};
     ghost use Rattle.module65.specs.Pieces.{datum, operand, valued};
-    ghost use Rattle.asm65.specs.Holding.{Enters};
-    ghost use Rattle.asm65.specs.Putting.{IsTried};
+    ghost use Rattle.asm65.specs.Inner.Holding.{Enters};
+    ghost use Rattle.asm65.specs.Inner.Putting.{IsTried};
     ghost use Rattle.asm65.specs.Views.{place_in};
 
     /// Puts a value of a list, if it is settled without a fault.

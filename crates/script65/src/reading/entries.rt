@@ -4,7 +4,7 @@ ghost use Rattle.std.specs.Prelude.{◌≡◌, ◌≤◌, ◌<◌, false, IfOk, 
 ghost use Rattle.script65.specs.Faults.{is_outside};
 ghost use Rattle.script65.specs.Grammar.{Attributes, Blocks, Drafts, Entries, IsBlock, IsEntry, block_head, entries_of, entry_fault, entry_head, is_taken, nothing, sized, text_of, unless_fault};
 ghost use Rattle.script65.specs.Outcome.{Finds};
-ghost use Rattle.script65.specs.Tables.{draft_in};
+ghost use Rattle.script65.specs.Inner.Tables.{draft_in};
 
 use crate::fault::{Fault, Stop};
 use crate::reading::attributes::{attribute_at, expect, stands};

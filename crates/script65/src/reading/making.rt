@@ -4,7 +4,7 @@ ghost use Rattle.std.specs.Prelude.{◌≡◌, IfOk, IfSome, length, map};
 ghost use Rattle.script65.specs.Faults.{is_outside};
 ghost use Rattle.script65.specs.Scripts.{area_file, area_fill, area_of, begin_of, file_in, found, is_excluded, kind_of, load_place, row_areas, row_of, row_with, run_place, script_of, symbol_of};
 ghost use Rattle.script65.specs.Outcome.{Gives, each};
-ghost use Rattle.script65.specs.Tables.{draft_in, named};
+ghost use Rattle.script65.specs.Inner.Tables.{draft_in, named};
 
 use crate::fault::{Fault, Stop};
 use crate::reading::given::{

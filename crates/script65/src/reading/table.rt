@@ -4,7 +4,7 @@ ghost use Rattle.std.specs.Prelude.{◌≡◌, ◌++◌, ◌∷◌, [], None, le
 ghost use Rattle.std.specs.Option.{option_map};
 ghost use Rattle.std.specs.Str.{bytes_eq};
 ghost use Rattle.script65.specs.Grammar.{added, entries_of, is_taken, nothing};
-ghost use Rattle.script65.specs.Tables.{draft_in, named};
+ghost use Rattle.script65.specs.Inner.Tables.{draft_in, named};
 
 use crate::reading::words::{Block, Given};
 use crate::sequence::Sequence;

@@ -3,7 +3,7 @@
 ghost use Rattle.std.specs.Prelude.{◌≡◌, ◌+◌, ◌++◌, ◌∷◌, [], Some, map, nat_eq, IfOk, OnOk};
 ghost use Rattle.std.specs.List.{AllByRecursion, IsDistinct};
 ghost use Rattle.object65.specs.declared.object.Fragment.TheVariants.{Fill, Literal};
-ghost use Rattle.sections65.specs.Drafts.{begun, new_draft, DraftFits, with_content, with_contents, with_fragment};
+ghost use Rattle.sections65.specs.Inner.Drafts.{begun, new_draft, DraftFits, with_content, with_contents, with_fragment};
 ghost use Rattle.language65.specs.Contents.{put};
 ghost use Rattle.sections65.specs.Fed.{content_of};
 ghost use Rattle.language65.specs.Numbering.{fragment_of};

@@ -2,12 +2,12 @@
 
 ghost use Rattle.std.specs.Prelude.{◌≡◌, ◌++◌, ◌∷◌, [], filter_map, map, IfOk, OnOk};
 ghost use Rattle.std.specs.List.{AllByRecursion};
-ghost use Rattle.sections65.specs.Drafts.{AreNamed, AssertFits, ExportFits};
+ghost use Rattle.sections65.specs.Inner.Drafts.{AreNamed, AssertFits, ExportFits};
 ghost use Rattle.sections65.specs.Fed.{content_of};
 ghost use Rattle.language65.specs.Numbering.{all_said, assert_of, exports_among};
 
 use super::numbers::{Numbers, numbered};
-use crate::entries::{Entry, copy_of};
+use crate::entries::Entry;
 use base65::Sequence;
 use indexmap::IndexSet;
 use language65::Said;
@@ -43,7 +43,7 @@ fn add_assert(
         asserts.push(Assert {
             action: *action,
             line: *line,
-            text: copy_of(alloc, text.as_slice())?,
+            text: Sequence::copy_of(alloc, text.as_slice())?,
             form: numbered(alloc, numbers, form)?,
         })?;
     }
@@ -112,7 +112,7 @@ fn add_export<'a>(
     if let Said::Exported { name, line, form } = said {
         if exports.names.insert(name.as_slice())? {
             exports.all.push(Export {
-                name: copy_of(alloc, name.as_slice())?,
+                name: Sequence::copy_of(alloc, name.as_slice())?,
                 line: *line,
                 form: numbered(alloc, numbers, form)?,
             })?;

@@ -3,7 +3,7 @@
 ghost use Rattle.std.specs.Prelude.{◌≡◌, map, nat_eq, IfOk, OnOk};
 ghost use Rattle.std.specs.List.{flat_map};
 ghost use Rattle.indexmap.specs.IndexSet.{IsUnique};
-ghost use Rattle.sections65.specs.Drafts.{IsTable};
+ghost use Rattle.sections65.specs.Inner.Drafts.{IsTable};
 ghost use Rattle.sections65.specs.Fed.{content_of};
 ghost use Rattle.language65.specs.Numbering.{content_imports, import_keys, imports_in, key_of, once, optional_key, part_imports, said_imports};
 

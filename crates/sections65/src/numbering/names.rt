@@ -1,7 +1,7 @@
 //! The keys of imports, by name.
 
 ghost use Rattle.std.specs.Prelude.{◌≡◌, IfOk, option_copied};
-ghost use Rattle.sections65.specs.Drafts.{IsTable};
+ghost use Rattle.sections65.specs.Inner.Drafts.{IsTable};
 ghost use Rattle.language65.specs.Numbering.{key_of};
 
 use super::numbers::narrow;

@@ -9,7 +9,7 @@ ghost use Rattle.statements65.specs.Parsing.{action_of, action_word, asserted, o
 ghost use Rattle.language65.specs.Views.{stated_of};
 
 use super::parts::{expression, first_part};
-use super::tokens::{copy_of, needed_string, needed_word};
+use super::tokens::{needed_string, needed_word};
 use base65::Sequence;
 use language65::{AsmFault, Statement};
 use object65::Action;
@@ -47,7 +47,7 @@ fn own_text(alloc: Global, tokens: &[Token<'_>]) -> Result<Sequence<u8>, AsmFaul
     if text.len() > MAX_TEXT {
         return Err(AsmFault::NotUnderstood);
     }
-    Ok(copy_of(alloc, text)?)
+    Ok(Sequence::copy_of(alloc, text)?)
 }
 
 /// An assertion's text, if it has one of its own.
@@ -57,7 +57,7 @@ fn text_of(alloc: Global, rest: Option<&[Token<'_>]>) -> Result<Sequence<u8>, As
 {
     match rest {
         Some(rest) => only_text(alloc, rest),
-        None => Ok(copy_of(alloc, b"assertion failed")?),
+        None => Ok(Sequence::copy_of(alloc, b"assertion failed")?),
     }
 }
 

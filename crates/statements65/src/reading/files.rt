@@ -9,7 +9,8 @@ ghost use Rattle.language65.specs.Views.{range_of, stated_of};
 ghost use Rattle.statements65.specs.Parsing.{parts_behind, parts_of, IsFilePart, IsRange, IsRangeWith};
 
 use super::parts::{expression, first_part};
-use super::tokens::{copy_of, string_of};
+use super::tokens::string_of;
+use base65::Sequence;
 use language65::{AsmFault, PartRange, Statement};
 use std::alloc::Global;
 use syntax65::{Expr, Token};
@@ -91,7 +92,7 @@ fn part_of(
         return Err(AsmFault::NotUnderstood);
     };
     let range = Box::new(alloc, range_behind(alloc, behind)?)?;
-    let name = copy_of(alloc, name)?;
+    let name = Sequence::copy_of(alloc, name)?;
     Ok(Statement::NamedPart { name, range })
 }
 

@@ -8,7 +8,7 @@ ghost use Rattle.statements65.specs.Parsing.{parts_of, EachIs, IsItem, IsValue};
 ghost use Rattle.language65.specs.Views.{item_of};
 
 use super::parts::{expression, first_part};
-use super::tokens::{copy_of, string_of};
+use super::tokens::string_of;
 use super::words::Elements;
 use base65::Sequence;
 use language65::{AsmFault, Item};
@@ -32,7 +32,7 @@ fn item(alloc: Global, elements: Elements, tokens: &[Token<'_>]) -> Result<Item,
     match elements {
         Elements::Values => value_item(alloc, tokens),
         Elements::ValuesAndTexts => match string_of(tokens) {
-            Some(text) => Ok(Item::Text(copy_of(alloc, text)?)),
+            Some(text) => Ok(Item::Text(Sequence::copy_of(alloc, text)?)),
             None => value_item(alloc, tokens),
         },
     }

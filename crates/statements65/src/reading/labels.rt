@@ -7,7 +7,8 @@ ghost use Rattle.language65.specs.Faults.{is_failure, is_outside};
 ghost use Rattle.statements65.specs.Parsing.{front_label, label_before, label_of, named_label};
 ghost use Rattle.language65.specs.Views.{stated_of};
 
-use super::tokens::{copy_of, is_colon};
+use super::tokens::is_colon;
+use base65::Sequence;
 use language65::{AsmFault, Statement};
 use std::alloc::Global;
 use syntax65::{Token, TokenKind, is_reserved};
@@ -22,10 +23,12 @@ fn named_label(alloc: Global, token: &Token<'_>) -> Result<Option<Statement>, As
             if is_reserved(token.text) {
                 Ok(None)
             } else {
-                Ok(Some(Statement::Label(copy_of(alloc, token.text)?)))
+                Ok(Some(Statement::Label(Sequence::copy_of(alloc, token.text)?)))
             }
         }
-        TokenKind::CheapName => Ok(Some(Statement::CheapLabel(copy_of(alloc, token.text)?))),
+        TokenKind::CheapName => Ok(Some(Statement::CheapLabel(Sequence::copy_of(
+            alloc, token.text,
+        )?))),
         _ => Ok(None),
     }
 }

@@ -8,8 +8,9 @@ ghost use Rattle.language65.specs.Language.{segment};
 ghost use Rattle.statements65.specs.Parsing.{alone, lone_statement, processor_of, told};
 ghost use Rattle.language65.specs.Views.{stated_of};
 
-use super::tokens::{copy_of, needed_string};
+use super::tokens::needed_string;
 use super::words::{Lone, Message};
+use base65::Sequence;
 use language65::{AsmFault, Statement};
 use std::alloc::Global;
 use syntax65::Token;
@@ -19,7 +20,7 @@ fn standard_segment(alloc: Global, name: &[u8]) -> Result<Statement, AsmFault>
     ensures inside { IfErr result (λ e. is_failure e ≡ false) }
 {
     Ok(Statement::Segment {
-        name: copy_of(alloc, name)?,
+        name: Sequence::copy_of(alloc, name)?,
         size: None,
     })
 }
@@ -59,7 +60,7 @@ pub fn message(alloc: Global, which: Message, tokens: &[Token<'_>]) -> Result<St
     ensures value { Answers is_outside stated_of result (λ r. r ≡ told which (lexemes tokens.now)) }
     ensures inside { IfErr result (λ e. is_failure e ≡ false) }
 {
-    let text = copy_of(alloc, needed_string(tokens)?)?;
+    let text = Sequence::copy_of(alloc, needed_string(tokens)?)?;
     Ok(match which {
         Message::Out => Statement::Out(text),
         Message::Warning => Statement::Warning(text),

@@ -8,7 +8,8 @@ ghost use Rattle.language65.specs.Faults.{is_failure, is_outside};
 ghost use Rattle.statements65.specs.Parsing.{is_identifier, is_letter, is_letter_or_digit, proc_of, scope_of, segment_named, segment_of, size_behind, size_word};
 ghost use Rattle.language65.specs.Views.{stated_of};
 
-use super::tokens::{copy_of, is_colon, name_of, needed_quoted, needed_word};
+use super::tokens::{is_colon, name_of, needed_quoted, needed_word};
+use base65::Sequence;
 use language65::{AsmFault, Statement};
 use std::alloc::Global;
 use syntax65::{AddressSize, MAX_NAME, Token};
@@ -82,7 +83,7 @@ fn segment_named(
     if !is_identifier(name) {
         return Err(AsmFault::NotUnderstood);
     }
-    let name = copy_of(alloc, name)?;
+    let name = Sequence::copy_of(alloc, name)?;
     Ok(Statement::Segment { name, size })
 }
 

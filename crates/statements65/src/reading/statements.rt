@@ -11,7 +11,8 @@ ghost use Rattle.language65.specs.Views.{stated_of};
 use super::directives::directive_statement;
 use super::operands::operand;
 use super::parts::expression;
-use super::tokens::{copy_of, defines};
+use super::tokens::defines;
+use base65::Sequence;
 use language65::{AsmFault, Statement};
 use std::alloc::Global;
 use syntax65::{Mnemonic, Token, TokenKind, is_reserved, mnemonic};
@@ -21,7 +22,7 @@ fn plain_constant(alloc: Global, name: &[u8], tokens: &[Token<'_>]) -> Result<St
     ensures inside { IfErr result (λ e. is_failure e ≡ false) }
 {
     let value = expression(alloc, tokens)?;
-    let name = copy_of(alloc, name)?;
+    let name = Sequence::copy_of(alloc, name)?;
     Ok(Statement::Constant { name, value })
 }
 

@@ -1,6 +1,6 @@
 //! What single tokens say.
 
-ghost use Rattle.std.specs.Prelude.{◌≡◌, false, option_map, IfErr, IfOk};
+ghost use Rattle.std.specs.Prelude.{◌≡◌, false, option_map, IfErr};
 ghost use Rattle.base65.specs.Relations.{Answers};
 ghost use Rattle.syntax65.specs.Tokens.{lexeme_of, lexemes};
 ghost use Rattle.language65.specs.Faults.{is_failure, is_outside};
@@ -8,7 +8,7 @@ ghost use Rattle.statements65.specs.Parsing.{defines, inner, is_close, is_colon,
 
 use base65::Sequence;
 use language65::AsmFault;
-use std::alloc::{AllocError, Global};
+use std::alloc::Global;
 use syntax65::{Mark, Token, TokenKind, is_reserved};
 
 pub fn is_comma(token: &Token<'_>) -> bool
@@ -105,12 +105,6 @@ pub fn spells(token: &Token<'_>, name: &[u8]) -> bool
     is_spelled(word_in(token), name)
 }
 
-pub fn copy_of(alloc: Global, bytes: &[u8]) -> Result<Sequence<u8>, AllocError>
-    ensures { IfOk result (λ s. s ≡ bytes.now) }
-{
-    Ok(Sequence::from_vec(Vec::from_slice(alloc, bytes)?))
-}
-
 /// The bytes of a string, which the token has to be.
 pub fn needed_quoted<'a>(token: &Token<'a>) -> Result<&'a [u8], AsmFault>
     ensures value { Answers is_outside (λ s. s.now) result (λ r. r ≡ understood (quoted_in (lexeme_of token.now))) }
@@ -153,5 +147,5 @@ pub fn name_of(alloc: Global, tokens: &[Token<'_>]) -> Result<Sequence<u8>, AsmF
     if is_reserved(name) {
         return Err(AsmFault::NotUnderstood);
     }
-    Ok(copy_of(alloc, name)?)
+    Ok(Sequence::copy_of(alloc, name)?)
 }

@@ -7,7 +7,7 @@ ghost use Rattle.language65.specs.Views.{spot_of};
 ghost use Rattle.language65.specs.Extending.{IsFinal};
 ghost use Rattle.symbols65.specs.Finals.{IsFinalWithin};
 ghost use Rattle.symbols65.specs.Resolving.{plain_part};
-ghost use Rattle.symbols65.specs.Settling.{MeansAlways, MeansFinally, Operands};
+ghost use Rattle.symbols65.specs.Inner.Settling.{MeansAlways, MeansFinally, Operands};
 ghost use Rattle.symbols65.specs.Views.{table_of};
 
 use super::attempt::{Source, Stop, address, defined};

@@ -5,7 +5,7 @@ ghost use Rattle.base65.specs.Outcome.{Finds, Gives};
 ghost use Rattle.syntax65.specs.Trees.{tree_of};
 ghost use Rattle.language65.specs.Faults.{is_memory};
 ghost use Rattle.symbols65.specs.declared.resolving.attempt.State.TheVariants.{Unknown, Waiting, Found};
-ghost use Rattle.symbols65.specs.Knowns.{AreNoted, is_found, without};
+ghost use Rattle.symbols65.specs.Inner.Knowns.{AreNoted, is_found, without};
 ghost use Rattle.language65.specs.Extending.{Extends};
 ghost use Rattle.language65.specs.Norms.{norm_of};
 ghost use Rattle.symbols65.specs.Hanging.{AreHung, Reaches, bare};

@@ -8,7 +8,7 @@ ghost use Rattle.language65.specs.Names.{meaning_of};
 ghost use Rattle.language65.specs.Norms.{defined_form, norm_of};
 ghost use Rattle.language65.specs.Views.{spot_of};
 ghost use Rattle.symbols65.specs.Resolving.{IsTable, meaning_in};
-ghost use Rattle.symbols65.specs.Settling.{Settles};
+ghost use Rattle.symbols65.specs.Inner.Settling.{Settles};
 ghost use Rattle.symbols65.specs.Views.{table_of};
 
 use super::attempt::{Source, Stop, address, meant, try_norm};

@@ -61,7 +61,7 @@ fn add_names(
 
 impl Symbols {
     /// The number of a name, which is put in where it is new.
-    fn number(&mut self, alloc: Global, name: &[u8]) -> Result<usize, AllocError>
+    pub fn number(&mut self, alloc: Global, name: &[u8]) -> Result<usize, AllocError>
         ensures table { table_of self.new ≡ table_of self.old }
         ensures definitions { self.new.definitions ≡ self.old.definitions }
         ensures scopes { self.new.scopes ≡ self.old.scopes }

@@ -2,7 +2,7 @@
 
 ghost use Rattle.std.specs.Prelude.{◌↔◌, Bool, None, IsTrue};
 ghost use Rattle.syntax65.specs.Forms.{Begins, IsSize, NotColonOrEqual};
-ghost use Rattle.syntax65.specs.Places.{IsAt, IsPrefixAt, IsLongMarkAt, BeginsNumber, BeginsSigned, BeginsMark};
+ghost use Rattle.syntax65.specs.Inner.Places.{IsAt, IsPrefixAt, IsLongMarkAt, BeginsNumber, BeginsSigned, BeginsMark};
 ghost use Rattle.syntax65.specs.Tokens.{IsEnd};
 ghost use Rattle.syntax65.specs.declared.lexing.classes.Class.TheVariants.{Letter, Apostrophe, Quote, Colon, Blank};
 

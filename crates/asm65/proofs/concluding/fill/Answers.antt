@@ -1,7 +1,7 @@
 use Rattle.std.proofs.Common.{◌∷◌, ap, subst, List}
 use Rattle.language65.specs.declared.contents.Content.{Content}
 use Rattle.sections65.specs.Standing.{Stands}
-use Rattle.asm65.specs.Resolving.{content_of}
+use Rattle.asm65.specs.Inner.Resolving.{content_of}
 use Rattle.asm65.proofs.concluding.fill.Goals as goal
 
 pub returns-in-Part : goal.returns-in-Part

@@ -8,8 +8,8 @@ use Rattle.module65.specs.Pieces.{Made}
 use Rattle.module65.specs.Places.{PlacedFault}
 use Rattle.symbols65.specs.Views.{table_of}
 use Rattle.asm65.specs.Assembly.{is_outside_refusal}
-use Rattle.asm65.specs.Holding.{IsWaiting}
-use Rattle.asm65.specs.Resolving.{IsFaulty, made_in, warning_in}
+use Rattle.asm65.specs.Inner.Holding.{IsWaiting}
+use Rattle.asm65.specs.Inner.Resolving.{IsFaulty, made_in, warning_in}
 use Rattle.asm65.specs.Views.{place_in}
 use Rattle.language65.specs.Views.{spot_of}
 use Rattle.asm65.specs.declared.resolving.Made.{Made as CodeMade}

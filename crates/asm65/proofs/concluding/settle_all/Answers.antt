@@ -5,7 +5,7 @@ use Rattle.std.specs.Vec.Iter.{into_iter_items}
 use Rattle.module65.specs.Machine as machine
 use Rattle.symbols65.specs.Views.{table_of}
 use Rattle.asm65.specs.declared.waiting.Waiting.{Waiting}
-use Rattle.asm65.specs.Holding.{AreWaiting}
+use Rattle.asm65.specs.Inner.Holding.{AreWaiting}
 use Rattle.asm65.proofs.Goings.{SoFar, begins, ends, goes_on, stops}
 use Rattle.asm65.proofs.concluding.settle_all.Goals as goal
 

@@ -3,7 +3,7 @@ use Rattle.std.specs.Vec.Iter.{into_iter_items}
 use Rattle.module65.specs.Machine as machine
 use Rattle.symbols65.specs.Resolving.{IsTable}
 use Rattle.symbols65.specs.Views.{table_of}
-use Rattle.asm65.specs.Holding.{AreWaiting}
+use Rattle.asm65.specs.Inner.Holding.{AreWaiting}
 use Rattle.asm65.proofs.Goings.{SoFar}
 use Rattle.asm65.proofs.concluding.settle_all.Given as goal
 

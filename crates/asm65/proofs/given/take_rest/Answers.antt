@@ -2,7 +2,7 @@ use Rattle.std.proofs.Common.{◌≡◌, [], length}
 use Rattle.syntax65.specs.Tokens.{lexemes}
 use Rattle.language65.specs.Views.{stated_of}
 use Rattle.module65.proofs.Given.{some_tokens}
-use Rattle.asm65.specs.Files.{read_bytes}
+use Rattle.asm65.specs.Inner.Files.{read_bytes}
 use Rattle.asm65.specs.Views.{place_in}
 use Rattle.asm65.proofs.Runs.{rest_leaves, some_there, told_then}
 use Rattle.asm65.proofs.given.take_rest.Goals as goal

@@ -2,7 +2,7 @@ use Rattle.std.proofs.Common.{subst}
 use Rattle.expand65.specs.Standing.{FollowsFrom}
 use Rattle.language65.specs.Views.{spot_of}
 use Rattle.symbols65.specs.Views.{table_of}
-use Rattle.asm65.specs.Knowing.{known_where}
+use Rattle.asm65.specs.Inner.Knowing.{known_where}
 use Rattle.asm65.proofs.Constants.{known_held}
 use Rattle.asm65.proofs.Sources.{NextBy, some_then}
 use Rattle.asm65.proofs.running.next.Goals as goal

@@ -1,7 +1,7 @@
 use Rattle.std.proofs.Common.{◌≡◌}
 use Rattle.std.specs.Prelude.{IfSome}
 use Rattle.expand65.specs.Standing.{measure_of}
-use Rattle.asm65.specs.Running.{IsRunning}
+use Rattle.asm65.specs.Inner.Running.{IsRunning}
 use Rattle.asm65.proofs.Sources.{Goes}
 use Rattle.asm65.proofs.running.take_all.Given as goal
 

@@ -5,7 +5,7 @@ use Rattle.base65.specs.Outcome.{Unless}
 use Rattle.base65.specs.Store.{Files}
 use Rattle.source65.specs.Faults.{is_outside}
 use Rattle.expand65.specs.Includes.{file_named, found_or}
-use Rattle.expand65.specs.Seeking.{file_of, is_there}
+use Rattle.expand65.specs.Inner.Seeking.{file_of, is_there}
 use Rattle.source65.specs.declared.fault.ExpandFault.{ExpandFault}
 use Rattle.expand65.proofs.Acting.{where_known}
 use Rattle.expand65.proofs.Seeking.{is_found, is_missing, is_refused}

@@ -5,7 +5,7 @@ use Rattle.script65.specs.declared.script.Area.{Area}
 use Rattle.script65.specs.declared.script.Row.{Row}
 use Rattle.image65.specs.declared.output.OutputFile.{OutputFile}
 use Rattle.image65.specs.Files.{AddsAreas, IsAreaFile}
-use Rattle.image65.specs.Loads.{HoldsLoads, view}
+use Rattle.image65.specs.Inner.Loads.{HoldsLoads, view}
 use Rattle.image65.proofs.FileLemmas.{next_area, no_area}
 use Rattle.image65.proofs.files.files_of.Goals as goal
 

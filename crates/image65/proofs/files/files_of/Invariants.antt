@@ -1,6 +1,6 @@
 use Rattle.std.proofs.Common.{List, [], drop}
 use Rattle.image65.specs.Files.{AddsAreas, IsAreaFile}
-use Rattle.image65.specs.Loads.{AreNamed}
+use Rattle.image65.specs.Inner.Loads.{AreNamed}
 use Rattle.image65.specs.declared.output.OutputFile.{OutputFile}
 use Rattle.image65.proofs.files.files_of.Given as goal
 

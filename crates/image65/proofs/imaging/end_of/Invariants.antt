@@ -1,5 +1,5 @@
 use Rattle.std.proofs.Common.{◌≡◌, drop, map}
-use Rattle.image65.specs.Loads.{view}
+use Rattle.image65.specs.Inner.Loads.{view}
 use Rattle.image65.specs.Files.{end_behind}
 use Rattle.image65.proofs.imaging.end_of.Given as goal
 

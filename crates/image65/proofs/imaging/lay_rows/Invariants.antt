@@ -1,7 +1,7 @@
 use Rattle.std.proofs.Common.{List, ℕ, drop, map}
 use Rattle.image65.specs.Files.{area_pieces}
-use Rattle.image65.specs.Laying.{LaysAll}
-use Rattle.image65.specs.Loads.{view}
+use Rattle.image65.specs.Inner.Laying.{LaysAll}
+use Rattle.image65.specs.Inner.Loads.{view}
 use Rattle.image65.proofs.imaging.lay_rows.Given as goal
 
 abbrev pub invariant-loop-load : goal.invariant-loop-load

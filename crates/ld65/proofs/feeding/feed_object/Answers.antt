@@ -1,7 +1,7 @@
 use Rattle.std.proofs.Common.{◌∙◌}
 use Rattle.std.proofs.lemmas.Result.{err_from_is_err_and}
 use Rattle.object65.proofs.Records.{kept_count}
-use Rattle.ld65.specs.Feeding.{input_of}
+use Rattle.ld65.specs.Inner.Feeding.{input_of}
 use Rattle.ld65.proofs.Objects.{no_head, no_records, more_behind, whole_module, ends_count, err_count, kept_link_count}
 use Rattle.ld65.proofs.feeding.feed_object.Goals as goal
 

@@ -4,7 +4,7 @@ use Rattle.std.specs.FinMap.{get}
 use Rattle.object65.specs.Reading.{in_file, record_at}
 use Rattle.object65.specs.Record.{entry_of}
 use Rattle.object65.proofs.Records.{kept_count}
-use Rattle.ld65.specs.Feeding.{input_of}
+use Rattle.ld65.specs.Inner.Feeding.{input_of}
 use Rattle.ld65.proofs.Fed.{is_at_first, seen, unread, untaken, ends_there, goes_further, none_passed}
 use Rattle.ld65.proofs.feeding.feed_records.Goals as goal
 

@@ -1,6 +1,6 @@
 use Rattle.std.proofs.Common.{◌≡◌, ◌-◌, true}
 use Rattle.link65.specs.Standing.{Keeps, is_open}
-use Rattle.ld65.specs.Feeding.{input_of}
+use Rattle.ld65.specs.Inner.Feeding.{input_of}
 use Rattle.ld65.proofs.Fed.{IsAt}
 use Rattle.ld65.proofs.feeding.feed_records.Given as goal
 

@@ -1,5 +1,5 @@
 use Rattle.std.proofs.Common.{◌≡◌, drop, map}
-use Rattle.linkage65.specs.Missing.{gives_in, missing_behind}
+use Rattle.linkage65.specs.Inner.Missing.{gives_in, missing_behind}
 use Rattle.linkage65.proofs.missing.add_imports.Given as goal
 
 abbrev pub invariant-loop-name : goal.invariant-loop-name

@@ -2,7 +2,7 @@ use Rattle.std.proofs.Common.{◌∙◌, ◌+◌, ◌++◌, List, ℕ, drop, map
 use Rattle.std.specs.List.{flat_map}
 use Rattle.script65.proofs.Eaches.{drop_item}
 use Rattle.linkage65.specs.declared.parts.Member.{Member}
-use Rattle.linkage65.specs.Missing.{gives_in, missing_behind}
+use Rattle.linkage65.specs.Inner.Missing.{gives_in, missing_behind}
 use Rattle.linkage65.proofs.MissingLemmas.{missing_append}
 use Rattle.linkage65.proofs.missing.add_members.Goals as goal
 

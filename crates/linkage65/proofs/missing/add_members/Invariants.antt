@@ -1,6 +1,6 @@
 use Rattle.std.proofs.Common.{◌≡◌, drop, map}
 use Rattle.std.specs.List.{flat_map}
-use Rattle.linkage65.specs.Missing.{gives_in, missing_behind}
+use Rattle.linkage65.specs.Inner.Missing.{gives_in, missing_behind}
 use Rattle.linkage65.proofs.missing.add_members.Given as goal
 
 abbrev pub invariant-loop-member : goal.invariant-loop-member

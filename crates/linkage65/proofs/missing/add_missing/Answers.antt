@@ -1,6 +1,6 @@
 use Rattle.std.proofs.Common.{◌≡◌, ◌∙◌, ◌||◌, ◌∷◌, [], ◌++◌, false, map, if◌then◌else◌, sym, ap}
 use Rattle.linkage65.specs.Givers.{is_among}
-use Rattle.linkage65.specs.Missing.{gives_in}
+use Rattle.linkage65.specs.Inner.Missing.{gives_in}
 use Rattle.linkage65.proofs.MissingLemmas.{inserted}
 use Rattle.linkage65.proofs.missing.add_missing.Goals as goal
 

@@ -1,5 +1,5 @@
 use Rattle.std.proofs.Common.{◌≡◌, drop, map}
-use Rattle.linkage65.specs.Missing.{gives_in, missing_behind}
+use Rattle.linkage65.specs.Inner.Missing.{gives_in, missing_behind}
 use Rattle.linkage65.specs.Names.{symbol_imports}
 use Rattle.linkage65.proofs.missing.add_symbols.Given as goal
 

@@ -5,7 +5,7 @@ use Rattle.script65.specs.declared.script.Symbol.{Symbol}
 use Rattle.linkage65.specs.declared.parts.Exported.{Exported}
 use Rattle.linkage65.specs.declared.parts.Member.{Member}
 use Rattle.linkage65.specs.Givers.{each_once, export_names, open_names}
-use Rattle.linkage65.specs.Missing.{AreGiven, gives_in, missing_behind}
+use Rattle.linkage65.specs.Inner.Missing.{AreGiven, gives_in, missing_behind}
 use Rattle.linkage65.specs.Names.{script_names, symbol_imports}
 use Rattle.linkage65.specs.Programs.{Program}
 use Rattle.linkage65.proofs.MissingLemmas.{are_given}

@@ -7,7 +7,7 @@ use Rattle.linkage65.specs.declared.parts.Exported.{Exported}
 use Rattle.linkage65.specs.declared.parts.Member.{Member}
 use Rattle.linkage65.specs.Finishing.{program_from}
 use Rattle.linkage65.specs.Givers.{export_names, is_given, unresolved}
-use Rattle.linkage65.specs.Missing.{AreGiven, gives_in, missing_behind}
+use Rattle.linkage65.specs.Inner.Missing.{AreGiven, gives_in, missing_behind}
 use Rattle.linkage65.specs.Names.{script_names, symbol_imports, weak_symbols}
 use Rattle.linkage65.proofs.MissingLemmas.{are_given, gives_given, missing_all}
 use Rattle.linkage65.proofs.missing.unresolved.Goals as goal

@@ -6,7 +6,7 @@ use Rattle.object65.specs.declared.object.Export.{Export}
 use Rattle.object65.specs.declared.object.Object.{Object}
 use Rattle.object65.specs.declared.object.Section.{Section}
 use Rattle.object65.specs.Objects.{FragmentFits}
-use Rattle.sections65.specs.Drafts.{section_from}
+use Rattle.sections65.specs.Inner.Drafts.{section_from}
 use Rattle.sections65.specs.Fed.{content_of}
 use Rattle.language65.specs.Numbering.{all_said, assert_of, exports_among, name_of}
 use Rattle.sections65.proofs.Drafting.{sections_are}

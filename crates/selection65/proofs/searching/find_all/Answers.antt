@@ -1,7 +1,7 @@
 use Rattle.std.proofs.Common.{◌≡◌, ◌∙◌, ◌<◌, ℕ, map, length, Some, slice_get, subst, ap, arith, refl}
 use Rattle.std.proofs.lemmas.List.{length-append}
 use Rattle.std.proofs.lemmas.Option.{slice_get_read}
-use Rattle.selection65.specs.Searching.{Finds}
+use Rattle.selection65.specs.Inner.Searching.{Finds}
 use Rattle.selection65.specs.Selection.{imports_at}
 use Rattle.selection65.proofs.Searches.{search_goes_on}
 use Rattle.selection65.proofs.searching.find_all.Goals as goal

@@ -1,5 +1,5 @@
 use Rattle.std.proofs.Common.{◌≡◌, ◌≤◌, ◌-◌, length, map}
-use Rattle.selection65.specs.Searching.{IsSearched, IsSound}
+use Rattle.selection65.specs.Inner.Searching.{IsSearched, IsSound}
 use Rattle.selection65.proofs.searching.find_all.Given as goal
 
 abbrev pub invariant-loop-next : goal.invariant-loop-next

@@ -1,5 +1,5 @@
 use Rattle.std.proofs.Common.{◌∙◌, ◌∷◌, [], map, take, sym, subst}
-use Rattle.selection65.specs.Searching.{Finds}
+use Rattle.selection65.specs.Inner.Searching.{Finds}
 use Rattle.selection65.proofs.Searches.{finds_more}
 use Rattle.selection65.proofs.Tables.{taken_more}
 use Rattle.selection65.proofs.searching.find_imports.Goals as goal

@@ -1,5 +1,5 @@
 use Rattle.std.proofs.Common.{◌≡◌, length, map, take}
-use Rattle.selection65.specs.Searching.{Finds, IsSound}
+use Rattle.selection65.specs.Inner.Searching.{Finds, IsSound}
 use Rattle.selection65.proofs.searching.find_imports.Given as goal
 
 abbrev pub invariant-loop-name : goal.invariant-loop-name

@@ -1,6 +1,6 @@
 use Rattle.std.proofs.Common.{◌∙◌, ◌∷◌, [], map, take, sym, subst, ap}
 use Rattle.std.proofs.lemmas.List.{map-append}
-use Rattle.selection65.specs.Searching.{Finds}
+use Rattle.selection65.specs.Inner.Searching.{Finds}
 use Rattle.selection65.proofs.Searches.{finds_more}
 use Rattle.selection65.proofs.Tables.{taken_more}
 use Rattle.selection65.proofs.searching.find_wanted.Goals as goal

@@ -1,5 +1,5 @@
 use Rattle.std.proofs.Common.{◌≡◌, ◌++◌, drop}
-use Rattle.selection65.specs.Searching.{marked_from}
+use Rattle.selection65.specs.Inner.Searching.{marked_from}
 use Rattle.selection65.proofs.searching.marked_places.Given as goal
 
 abbrev pub invariant-loop-place : goal.invariant-loop-place

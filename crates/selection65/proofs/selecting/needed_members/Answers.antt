@@ -1,7 +1,7 @@
 use Rattle.std.proofs.Common.{◌∙◌, ◌<◌, ◌≤◌, ◌+◌, map, length, sym, subst, ap, arith}
 use Rattle.std.proofs.lemmas.Result.{IfOk-weaker}
 use Rattle.std.specs.List.{AllByRecursion}
-use Rattle.selection65.specs.Searching.{marked_from}
+use Rattle.selection65.specs.Inner.Searching.{marked_from}
 use Rattle.selection65.specs.Selection.{IsSelection}
 use Rattle.selection65.proofs.Places.{marked_below}
 use Rattle.selection65.proofs.Selections.{searched_selected}

@@ -5,7 +5,7 @@ use Rattle.language65.specs.Laid.{asks_section}
 use Rattle.language65.specs.Views.{stated_of}
 use Rattle.module65.specs.Machine.{entered}
 use Rattle.asm65.specs.declared.assembler.Assembler.{Assembler}
-use Rattle.asm65.specs.Holding.{Holds}
+use Rattle.asm65.specs.Inner.Holding.{Holds}
 use Rattle.asm65.proofs.Waitings.{holds_entered}
 use Rattle.asm65.proofs.assembler.Assembler.ask.Goals as goal
 

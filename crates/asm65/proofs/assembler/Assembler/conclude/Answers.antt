@@ -4,8 +4,8 @@ use Rattle.base65.specs.Outcome.{Unless}
 use Rattle.language65.specs.declared.contents.Segment.{Segment}
 use Rattle.module65.specs.Machine.{State, concluded}
 use Rattle.asm65.specs.Assembly.{is_outside_refusal}
-use Rattle.asm65.specs.Holding.{Holds}
-use Rattle.asm65.specs.Resolving.{AreFaulty, AreSettled}
+use Rattle.asm65.specs.Inner.Holding.{Holds}
+use Rattle.asm65.specs.Inner.Resolving.{AreFaulty, AreSettled}
 use Rattle.asm65.proofs.Comings.{certain}
 use Rattle.asm65.proofs.Conclusions.{IsGoodWhere, IsMade, all_settled, either_concluded, either_good, ending_of, fault_concluded, imports_of}
 use Rattle.asm65.proofs.assembler.Assembler.conclude.Goals as goal

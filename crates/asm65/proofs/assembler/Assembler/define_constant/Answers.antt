@@ -16,8 +16,8 @@ use Rattle.symbols65.specs.Finals.{formed}
 use Rattle.symbols65.specs.Tables.{definition_in}
 use Rattle.symbols65.specs.Views.{table_of, with_definition, words_of}
 use Rattle.asm65.specs.declared.assembler.Assembler.{Assembler}
-use Rattle.asm65.specs.Holding.{Holds, IsConstant}
-use Rattle.asm65.specs.Taking.{with_symbols}
+use Rattle.asm65.specs.Inner.Holding.{Holds, IsConstant}
+use Rattle.asm65.specs.Inner.Taking.{with_symbols}
 use Rattle.asm65.specs.Views.{place_in}
 use Rattle.asm65.proofs.Namings.{holds_grown, last_there, more_defined}
 use Rattle.asm65.proofs.Enterings.{says_nothing}

@@ -6,7 +6,7 @@ use Rattle.language65.specs.Contents.{opcode_part, operand_tree}
 use Rattle.language65.specs.Sizes.{width_of}
 use Rattle.language65.specs.Views.{operand_of, spot_of}
 use Rattle.module65.specs.Pieces.{given, operand_pieces}
-use Rattle.asm65.specs.Holding.{Enters}
+use Rattle.asm65.specs.Inner.Holding.{Enters}
 use Rattle.asm65.specs.Views.{place_in}
 use Rattle.asm65.proofs.Enterings.{enters_both}
 use Rattle.layout65.proofs.Steps.{ok_then}

@@ -8,7 +8,7 @@ use Rattle.language65.specs.Laid.{Spot}
 use Rattle.language65.specs.Views.{item_of, spot_of}
 use Rattle.module65.specs.Pieces.{item_piece}
 use Rattle.asm65.specs.declared.assembler.Assembler.{Assembler}
-use Rattle.asm65.specs.Holding.{Enters}
+use Rattle.asm65.specs.Inner.Holding.{Enters}
 use Rattle.asm65.specs.Views.{place_in}
 use Rattle.asm65.proofs.Enterings.{enters_both, enters_none}
 use Rattle.asm65.proofs.assembler.Assembler.enter_values.Goals as goal

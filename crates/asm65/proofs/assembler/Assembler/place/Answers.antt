@@ -23,8 +23,8 @@ use Rattle.layout65.specs.declared.measuring.Measured as found
 use Rattle.layout65.proofs.Behind.{behind_measured, has_numbers, is_measured, with_fault, without_fault}
 use Rattle.symbols65.specs.Views.{table_of}
 use Rattle.asm65.specs.declared.assembler.Assembler.{Assembler}
-use Rattle.asm65.specs.Holding.{AreBefore, Holds}
-use Rattle.asm65.specs.Taking.{IsNew, asked_of}
+use Rattle.asm65.specs.Inner.Holding.{AreBefore, Holds}
+use Rattle.asm65.specs.Inner.Taking.{IsNew, asked_of}
 use Rattle.asm65.specs.Views.{place_in}
 use Rattle.asm65.proofs.Insides.{measured_inside}
 use Rattle.asm65.proofs.Takings.{holds_known, holds_stepped, is_new, unless_either}

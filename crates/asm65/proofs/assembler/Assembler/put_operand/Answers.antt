@@ -8,7 +8,7 @@ use Rattle.language65.specs.Views.{spot_of}
 use Rattle.symbols65.specs.Views.{table_of}
 use Rattle.module65.specs.Pieces.{operand, valued}
 use Rattle.asm65.specs.declared.assembler.Assembler.{Assembler}
-use Rattle.asm65.specs.Putting.{IsPut, IsTried, operand_stored}
+use Rattle.asm65.specs.Inner.Putting.{IsPut, IsTried, operand_stored}
 use Rattle.asm65.specs.Views.{place_in}
 use Rattle.asm65.proofs.Enterings.{operand_tried}
 use Rattle.layout65.proofs.Steps.{ok_with}

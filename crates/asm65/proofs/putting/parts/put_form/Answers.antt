@@ -3,7 +3,7 @@ use Rattle.std.specs.Prelude.{ℤ, IfOk, true}
 use Rattle.std.proofs.lemmas.Int.{to_z-of_z}
 use Rattle.object65.specs.Form.{Form, lit}
 use Rattle.language65.specs.Contents.{stored}
-use Rattle.asm65.specs.Putting.{IsPut}
+use Rattle.asm65.specs.Inner.Putting.{IsPut}
 use Rattle.asm65.proofs.Puttings.{literal_is, other_stored}
 use Rattle.asm65.proofs.putting.parts.put_form.Goals as goal
 

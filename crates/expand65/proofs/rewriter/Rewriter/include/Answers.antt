@@ -3,7 +3,7 @@ use Rattle.std.specs.Option.{option_map}
 use Rattle.syntax65.specs.Tokens.{lexemes}
 use Rattle.expand65.specs.Includes.{first_file, include_line, included, tried}
 use Rattle.expand65.specs.Rewriting.{Turns, state_of}
-use Rattle.expand65.specs.Seeking.{file_of}
+use Rattle.expand65.specs.Inner.Seeking.{file_of}
 use Rattle.expand65.proofs.Acting.{include_found, turns_so, where_known}
 use Rattle.expand65.proofs.Seeking.{found_fits}
 use Rattle.expand65.proofs.rewriter.Rewriter.include.Goals as goal

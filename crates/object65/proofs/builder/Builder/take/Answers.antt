@@ -1,5 +1,5 @@
 use Rattle.object65.specs.Record.{entry_of}
-use Rattle.object65.specs.Sound.{state_in}
+use Rattle.object65.specs.Inner.Sound.{state_in}
 use Rattle.object65.proofs.Withins.{room_next, whole_next}
 use Rattle.object65.proofs.builder.Builder.take.Goals as goal
 

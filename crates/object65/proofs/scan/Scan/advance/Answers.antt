@@ -2,7 +2,7 @@ use Rattle.std.proofs.Common.{Bool, Ok, ap, refl, sym, subst, ◌∙◌}
 use Rattle.object65.specs.declared.item.Item.{Item}
 use Rattle.object65.specs.Record.{entry_of}
 use Rattle.object65.specs.Scanning.{Outline, IsWithin}
-use Rattle.object65.specs.Sound.{outline_in}
+use Rattle.object65.specs.Inner.Sound.{outline_in}
 use Rattle.object65.proofs.Withins.{scanned_on, stands_next, within_next}
 use Rattle.object65.proofs.scan.Scan.advance.Goals as goal
 

@@ -2,7 +2,7 @@ use Rattle.std.proofs.Common.{◌≤◌, ◌-◌, ℕ, length}
 use Rattle.std.specs.Prelude.{Result}
 use Rattle.script65.specs.declared.fault.Stop.{Stop}
 use Rattle.script65.specs.Grammar.{Draft, Blocks}
-use Rattle.script65.specs.Tables.{draft_in}
+use Rattle.script65.specs.Inner.Tables.{draft_in}
 use Rattle.script65.proofs.reading.entries.blocks.Given as goal
 
 abbrev pub invariant-script : goal.invariant-script

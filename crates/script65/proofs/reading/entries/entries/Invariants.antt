@@ -2,7 +2,7 @@ use Rattle.std.proofs.Common.{◌≤◌, ◌-◌, ℕ, length}
 use Rattle.std.specs.Prelude.{Result}
 use Rattle.script65.specs.declared.fault.Stop.{Stop}
 use Rattle.script65.specs.Grammar.{Draft, Entries}
-use Rattle.script65.specs.Tables.{draft_in}
+use Rattle.script65.specs.Inner.Tables.{draft_in}
 use Rattle.script65.proofs.reading.entries.entries.Given as goal
 
 abbrev pub invariant-entries : goal.invariant-entries

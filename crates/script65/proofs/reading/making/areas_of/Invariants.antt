@@ -1,6 +1,6 @@
 use Rattle.std.proofs.Common.{◌≡◌, ◌-◌, ◌++◌, length, map, drop}
 use Rattle.script65.specs.Scripts.{area_of}
-use Rattle.script65.specs.Tables.{named}
+use Rattle.script65.specs.Inner.Tables.{named}
 use Rattle.script65.proofs.reading.making.areas_of.Given as goal
 
 abbrev pub invariant-areas : goal.invariant-areas

@@ -1,6 +1,6 @@
 use Rattle.std.proofs.Common.{◌≡◌, length, map, drop, slice_get, subst, sym, ap, ◌∙◌, ◌++◌}
 use Rattle.script65.specs.Scripts.{symbol_of}
-use Rattle.script65.specs.Tables.{named}
+use Rattle.script65.specs.Inner.Tables.{named}
 use Rattle.script65.proofs.Eaches.{map_step, map_end, none_mapped}
 use Rattle.script65.proofs.reading.making.symbols_of.Goals as goal
 

@@ -1,5 +1,5 @@
 use Rattle.std.proofs.Common.{◌≡◌, ◌∙◌, ap, map, sym}
-use Rattle.sections65.specs.Drafts.{with_content}
+use Rattle.sections65.specs.Inner.Drafts.{with_content}
 use Rattle.language65.specs.Contents.{put}
 use Rattle.sections65.specs.Fed.{content_of}
 use Rattle.sections65.proofs.Drafting.{nothing_put}

@@ -1,6 +1,6 @@
 use Rattle.std.proofs.Common.{◌∙◌, ◌∷◌, [], sym, ap, nat_eq}
 use Rattle.std.specs.List.{list_any}
-use Rattle.sections65.specs.Drafts.{DraftFits, with_parts}
+use Rattle.sections65.specs.Inner.Drafts.{DraftFits, with_parts}
 use Rattle.sections65.specs.declared.numbering.drafts.Draft.{Draft}
 use Rattle.sections65.proofs.Drafting.{none_stands, one_changed}
 use Rattle.sections65.proofs.Fitting.{set_keeps}

@@ -2,7 +2,7 @@ use Rattle.std.proofs.Common.{◌≡◌, ◌∙◌, sym, ap, map, subst}
 use Rattle.std.specs.List.{AllByRecursion}
 use Rattle.std.proofs.Common.{rules}
 use Rattle.std.specs.Vec.Iter.{into_iter_items}
-use Rattle.sections65.specs.Drafts.{DraftFits, new_draft, with_contents}
+use Rattle.sections65.specs.Inner.Drafts.{DraftFits, new_draft, with_contents}
 use Rattle.sections65.specs.Fed.{content_of}
 use Rattle.sections65.specs.declared.numbering.drafts.Draft.{Draft}
 use Rattle.sections65.proofs.Drafting.{segments_stay, segments_begin}

@@ -1,7 +1,7 @@
 use Rattle.std.proofs.Common.{◌≡◌, map}
 use Rattle.std.specs.List.{AllByRecursion}
 use Rattle.std.specs.Vec.Iter.{into_iter_items}
-use Rattle.sections65.specs.Drafts.{DraftFits, new_draft, with_contents}
+use Rattle.sections65.specs.Inner.Drafts.{DraftFits, new_draft, with_contents}
 use Rattle.sections65.specs.Fed.{content_of}
 use Rattle.sections65.proofs.numbering.drafts.filled.Given as goal
 

@@ -1,5 +1,5 @@
 use Rattle.std.proofs.Common.{◌≡◌, map, take}
-use Rattle.sections65.specs.Drafts.{new_draft}
+use Rattle.sections65.specs.Inner.Drafts.{new_draft}
 use Rattle.sections65.proofs.numbering.drafts.new_drafts.Given as goal
 
 abbrev pub invariant-loop-key : goal.invariant-loop-key

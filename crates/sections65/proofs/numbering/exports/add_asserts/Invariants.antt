@@ -1,7 +1,7 @@
 use Rattle.std.proofs.Common.{◌≡◌, ◌++◌, drop}
 use Rattle.std.specs.Prelude.{filter_map}
 use Rattle.std.specs.List.{AllByRecursion}
-use Rattle.sections65.specs.Drafts.{AssertFits}
+use Rattle.sections65.specs.Inner.Drafts.{AssertFits}
 use Rattle.language65.specs.Numbering.{assert_of}
 use Rattle.sections65.proofs.numbering.exports.add_asserts.Given as goal
 

@@ -1,6 +1,6 @@
 use Rattle.std.proofs.Common.{◌≡◌, drop}
 use Rattle.std.specs.List.{AllByRecursion}
-use Rattle.sections65.specs.Drafts.{AreNamed, ExportFits}
+use Rattle.sections65.specs.Inner.Drafts.{AreNamed, ExportFits}
 use Rattle.language65.specs.Numbering.{exports_among}
 use Rattle.sections65.proofs.numbering.exports.add_exports.Given as goal
 

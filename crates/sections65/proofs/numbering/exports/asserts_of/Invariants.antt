@@ -1,7 +1,7 @@
 use Rattle.std.proofs.Common.{◌≡◌, ◌++◌, drop, map}
 use Rattle.std.specs.Prelude.{filter_map}
 use Rattle.std.specs.List.{AllByRecursion}
-use Rattle.sections65.specs.Drafts.{AssertFits}
+use Rattle.sections65.specs.Inner.Drafts.{AssertFits}
 use Rattle.sections65.specs.Fed.{content_of}
 use Rattle.language65.specs.Numbering.{all_said, assert_of}
 use Rattle.sections65.proofs.numbering.exports.asserts_of.Given as goal

@@ -1,6 +1,6 @@
 use Rattle.std.proofs.Common.{◌≡◌, [], drop, map}
 use Rattle.std.specs.List.{AllByRecursion}
-use Rattle.sections65.specs.Drafts.{AreNamed, ExportFits}
+use Rattle.sections65.specs.Inner.Drafts.{AreNamed, ExportFits}
 use Rattle.sections65.specs.Fed.{content_of}
 use Rattle.language65.specs.Numbering.{all_said, exports_among}
 use Rattle.sections65.proofs.numbering.exports.exports_of.Given as goal

@@ -6,7 +6,7 @@ use Rattle.language65.specs.Laid.{Spot}
 use Rattle.language65.specs.Views.{spot_of}
 use Rattle.symbols65.specs.declared.resolving.attempt.Stop.{Stop}
 use Rattle.symbols65.specs.Resolving.{attempt_definition, attempt_value, known_form, lacks_memory}
-use Rattle.symbols65.specs.Sources.{kept, known_by}
+use Rattle.symbols65.specs.Inner.Sources.{kept, known_by}
 use Rattle.symbols65.proofs.resolving.attempt.defined.Goals as goal
 
 pub returns-in-Finals : goal.returns-in-Finals

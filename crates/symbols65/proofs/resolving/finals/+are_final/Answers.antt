@@ -1,7 +1,7 @@
 use Rattle.std.proofs.Common.{sym, ◌∙◌}
 use Rattle.syntax65.specs.Trees.{tree_of}
 use Rattle.language65.specs.Views.{spot_of}
-use Rattle.symbols65.specs.Settling.{MeansFinally}
+use Rattle.symbols65.specs.Inner.Settling.{MeansFinally}
 use Rattle.symbols65.specs.Views.{table_of}
 use Rattle.symbols65.proofs.Finals.{operands_of, some_place}
 use Rattle.symbols65.proofs.resolving.finals.+are_final.Goals as goal

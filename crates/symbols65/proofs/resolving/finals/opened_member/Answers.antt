@@ -3,7 +3,7 @@ use Rattle.syntax65.specs.Trees.{name as named_tree}
 use Rattle.language65.specs.Names.{last_of, scope_from, scopes_of}
 use Rattle.language65.specs.Symbols.{defined, named}
 use Rattle.language65.specs.Views.{spot_of}
-use Rattle.symbols65.specs.Settling.{MeansAlways}
+use Rattle.symbols65.specs.Inner.Settling.{MeansAlways}
 use Rattle.symbols65.specs.Views.{table_of}
 use Rattle.symbols65.proofs.Finals.{by_place, own_member}
 use Rattle.symbols65.proofs.resolving.finals.opened_member.Goals as goal

@@ -7,7 +7,7 @@ use Rattle.language65.specs.Symbols.{Symbols}
 use Rattle.language65.specs.Views.{spot_of}
 use Rattle.symbols65.specs.Views.{table_of}
 use Rattle.language65.specs.Faults.{is_memory}
-use Rattle.symbols65.specs.Knowns.{without}
+use Rattle.symbols65.specs.Inner.Knowns.{without}
 use Rattle.symbols65.specs.declared.resolving.attempt.State.{State}
 use Rattle.symbols65.specs.declared.resolving.attempt.Stop.TheVariants.{Needs}
 use Rattle.symbols65.specs.declared.resolving.attempt.Stop.{Stop}

@@ -1,6 +1,6 @@
 use Rattle.std.proofs.Common.{◌≡◌, ◌∙◌, List, length, ap, sym, subst}
 use Rattle.symbols65.specs.declared.resolving.attempt.State.{State}
-use Rattle.symbols65.specs.Knowns.{AreNoted, without}
+use Rattle.symbols65.specs.Inner.Knowns.{AreNoted, without}
 use Rattle.symbols65.proofs.Knowns.{noted_without, written_over}
 use Rattle.symbols65.proofs.resolving.known.Known.lose.Goals as goal
 

@@ -19,7 +19,7 @@ use Rattle.module65.specs.Pieces as piece
 use Rattle.asm65.specs.declared.assembler.Assembler.{Assembler}
 use Rattle.asm65.specs.declared.naming.mentions.Mention.{Mention}
 use Rattle.asm65.specs.declared.naming.mentions.Mention.TheVariants.{Demanded, Exported, Imported}
-use Rattle.asm65.specs.Holding.{AreBefore, Holds}
+use Rattle.asm65.specs.Inner.Holding.{AreBefore, Holds}
 use Rattle.layout65.specs.Counting.{AreInside, opening_limit}
 
 -- a statement with what it lies by

@@ -17,7 +17,7 @@ use Rattle.module65.specs.Reading.{Define, Job, stopped}
 use Rattle.asm65.specs.declared.assembler.Assembler.{Assembler}
 use Rattle.asm65.specs.declared.running.Run.{Run}
 use Rattle.layout65.specs.Counting.{opening_limit}
-use Rattle.asm65.specs.Holding.{Holds}
+use Rattle.asm65.specs.Inner.Holding.{Holds}
 
 -- ---- What a call that takes statements leaves.
 

@@ -18,7 +18,7 @@ use Rattle.sections65.specs.declared.sections.Sections.{Sections}
 use Rattle.symbols65.specs.Views.{table_of}
 use Rattle.asm65.specs.declared.assembler.Assembler.{Assembler}
 use Rattle.asm65.specs.declared.waiting.Piece.{Piece}
-use Rattle.asm65.specs.Holding.{Enters, Holds, IsPiece}
+use Rattle.asm65.specs.Inner.Holding.{Enters, Holds, IsPiece}
 
 -- ---- What waits.
 

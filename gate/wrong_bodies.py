@@ -32,16 +32,27 @@ def edits_of(crate, words, folders):
     return found
 
 
-def over_kept(crate, call):
-    """What a call answers over a copy of what the proof of the crate as it is kept."""
+def kept_by(crate):
+    """Where the proof of the crate as it is kept what it found."""
+    return f"{crate.folder}/out/incremental"
+
+
+def over_kept(rt, crate, call):
+    """What a call answers over a copy of what the proof of the crate as it is kept. Where the kit can, the copy is made of
+    links, as the gate's is: a check replaces such files and changes none, which `main` looks at once all are tried."""
     with tempfile.TemporaryDirectory(prefix="wrong-") as room:
-        shutil.copytree(f"{crate.folder}/out/incremental", f"{room}/kept")
+        getattr(rt, "linked", shutil.copytree)(kept_by(crate), f"{room}/kept")
         return call(f"{room}/kept")
+
+
+def listings(rt, crates):
+    """What tells whether files that proofs kept were changed, by crate."""
+    return {it.name: rt.listing(kept_by(it)) for it in crates} if hasattr(rt, "linked") else {}
 
 
 def is_sound(rt, crate):
     """Whether the crate as it is is proved over what its proof kept; where it isn't, a refusal over that would say nothing."""
-    found = not over_kept(crate, lambda kept: rt.checked(crate, {}, ["--jobs", "1"], kept).returncode)
+    found = not over_kept(rt, crate, lambda kept: rt.checked(crate, {}, ["--jobs", "1"], kept).returncode)
     if not found:
         kit.say(f"{crate.name}: what was kept doesn't prove the crate as it is, so its wrong bodies are tried from nothing")
     return found
@@ -72,7 +83,7 @@ class Earlier:
 def is_refused(rt, crate, edit, has_kept, earlier):
     """Whether the prover refuses an edit. One that can't be read or tried isn't refused."""
     begun, flags = time.time(), ["--jobs", "1"]
-    kind, text = over_kept(crate, lambda kept: rt.must_fail(crate, edit, flags, kept)) if has_kept else rt.must_fail(crate, edit, flags)
+    kind, text = over_kept(rt, crate, lambda kept: rt.must_fail(crate, edit, flags, kept)) if has_kept else rt.must_fail(crate, edit, flags)
     kit.say(f"{text.removeprefix('must-fail ')} ({kit.minutes(time.time() - begun)})")
     earlier.keep(crate, edit, kind, text)
     return means_refused(rt, kind)
@@ -81,6 +92,22 @@ def is_refused(rt, crate, edit, has_kept, earlier):
 def means_refused(rt, kind):
     # (some kits answer a truth value, others a word, of which these two mean yes)
     return kind is True or kind in [getattr(rt, it) for it in ("REFUSED", "AT_LIMIT") if hasattr(rt, it)]
+
+
+def try_all(rt, crates, tries, earlier):
+    """Which of the edits of these crates are refused."""
+    lanes, begun = int(os.environ.get("WRONG_BODIES_JOBS", 0)) or kit.lanes(rt), time.time()
+    kit.say(f"{len(tries)} wrong bodies of {len(crates)} crates, {lanes} at once")
+    before = listings(rt, crates)
+    with ThreadPoolExecutor(lanes) as pool:
+        sound = dict(zip(crates, pool.map(lambda crate: is_sound(rt, crate), crates)))
+        found = pool.map(lambda it: is_refused(rt, *it, sound[it[0]], earlier), tries)
+        refused = dict(zip([edit for _, edit in tries], found))
+    changed = [name for name, files in listings(rt, crates).items() if files != before[name]]
+    for name in changed:
+        kit.say(f"{name}: what its proof kept was changed meanwhile, so its tries count for nothing: try them with --anew")
+    kit.say(f"all were tried after {kit.minutes(time.time() - begun)}")
+    return {edit: refused[edit] and crate.name not in changed for crate, edit in tries}
 
 
 def main(words):
@@ -106,13 +133,7 @@ def main(words):
         kit.say(f"{len(told)} of {len(every)} wrong bodies were tried by earlier runs on this machine, and nothing that they stand on has changed")
     if crates and prove.main([it.name for it in crates]):
         return 1
-    lanes, begun = int(os.environ.get("WRONG_BODIES_JOBS", 0)) or kit.lanes(rt), time.time()
-    kit.say(f"{len(tries)} wrong bodies of {len(crates)} crates, {lanes} at once")
-    with ThreadPoolExecutor(lanes) as pool:
-        sound = dict(zip(crates, pool.map(lambda crate: is_sound(rt, crate), crates)))
-        refused = dict(zip([edit for _, edit in tries], pool.map(lambda it: is_refused(rt, *it, sound[it[0]], earlier), tries)))
-    refused |= {edit: means_refused(rt, kind) for edit, (kind, _) in told.items()}
-    kit.say(f"all were tried after {kit.minutes(time.time() - begun)}")
+    refused = try_all(rt, crates, tries, earlier) | {edit: means_refused(rt, kind) for edit, (kind, _) in told.items()}
     wrong = [edit for _, edit in every if not refused[edit]]
     for it in wrong:
         print(f"not refused: {os.path.relpath(it, kit.ROOT)}")

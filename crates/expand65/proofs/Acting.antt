@@ -1,5 +1,5 @@
 -- What the first line that is left leads to, from what the calls for its parts answer.
-use Rattle.std.proofs.Common.{◌≡◌, ℕ, zero, suc, Bool, true, false, List, [], ◌∷◌, ◌++◌, take, drop, Option, Some, None, IfSome, Result, Ok, Err, ap, refl, sym, subst, ◌∙◌, Global}
+use Rattle.std.proofs.Common.{◌≡◌, ℕ, suc, Bool, true, false, List, [], ◌∷◌, ◌++◌, take, drop, Option, Some, None, IfSome, Result, Ok, Err, ap, refl, sym, subst, ◌∙◌, Global}
 use Rattle.std.specs.declared.rc.Rc.{Rc}
 use Rattle.base65.specs.Outcome.{Unless}
 use Rattle.base65.specs.Store.{Files}
@@ -10,11 +10,11 @@ use Rattle.reader65.specs.Fronts.{front_directive, is_mislabelled, label_len, li
 use Rattle.expand65.specs.Includes.{first_file, include_line, included, included_by, tried}
 use Rattle.reader65.specs.Inside.{left_in, left_of, mark_of, outside, own}
 use Rattle.reader65.specs.Kept.{tokens_in}
-use Rattle.expand65.specs.Macros.{called, called_or_given, macro_at, ordinary}
+use Rattle.expand65.specs.Macros.{called, called_or_given, ordinary}
 use Rattle.expand65.specs.Meaning.{Meaning}
 use Rattle.reader65.specs.Parting.{AreParts}
 use Rattle.reader65.specs.Playing.{definition_of}
-use Rattle.expand65.specs.Rewriting.{Opens, Turns, macros_of, state_of, turned}
+use Rattle.expand65.specs.Rewriting.{Opens, Turns, state_of, turned}
 use Rattle.expand65.specs.Inner.Seeking.{file_of}
 use Rattle.reader65.specs.Left.{Item, written, played, labelled, branch, mark}
 use Rattle.expand65.specs.State.{State, plain, label, Stepped, goes, gives, stops, with_items}

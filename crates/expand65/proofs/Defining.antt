@@ -1,12 +1,12 @@
 -- Macros that are defined, and repeats.
-use Rattle.std.proofs.Common.{◌≡◌, ℕ, ◌-◌, Bool, true, false, List, [], ◌∷◌, ◌++◌, length, map, drop, Option, Some, None, IfSome, Result, Ok, Err, ap, refl, sym, subst, ◌∙◌, arith, Vec, Global}
+use Rattle.std.proofs.Common.{◌≡◌, ℕ, ◌-◌, Bool, true, false, List, [], ◌∷◌, ◌++◌, length, map, drop, Option, Some, None, Result, Ok, Err, ap, refl, sym, subst, ◌∙◌, arith, Vec, Global}
 use Rattle.std.specs.Map.{lookup}
 use Rattle.std.specs.Option.{option_map}
 use Rattle.std.specs.Prelude.{is_some, nat_le, if◌then◌else◌}
 use Rattle.std.specs.Str.{bytes_eq}
 use Rattle.std.specs.declared.rc.Rc.{Rc}
 use Rattle.std.proofs.lemmas.List.{map-append, drop_all, length-map}
-use Rattle.indexmap.specs.IndexMap.{IndexMap, insert_entry, get}
+use Rattle.indexmap.specs.IndexMap.{IndexMap, insert_entry}
 use Rattle.indexmap.proofs.CallerLemmas.{insert_entry-new}
 use Rattle.base65.specs.Outcome.{Unless}
 use Rattle.base65.specs.Store.{Files}
@@ -21,7 +21,7 @@ use Rattle.expand65.specs.Macros.{IsKept, entered, kept, macro_of}
 use Rattle.reader65.specs.Playing.{definition_of, replacing_of}
 use Rattle.reader65.specs.Replacing.{repeating, Definition}
 use Rattle.reader65.specs.Left.{turns, Item, played, Mark, mark, Left, left, Stop, marks}
-use Rattle.expand65.specs.Repeats.{IsRepeated, repeat_mark, repeated}
+use Rattle.expand65.specs.Repeats.{IsRepeated, repeat_mark}
 use Rattle.expand65.specs.Rewriting.{macros_of, state_of}
 use Rattle.expand65.specs.State.{State, Stepped, goes, stops, with_left}
 use Rattle.source65.specs.declared.fault.ExpandFault.{ExpandFault}

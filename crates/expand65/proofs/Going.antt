@@ -1,5 +1,5 @@
 -- Steps one after another, as an expander takes them.
-use Rattle.std.proofs.Common.{◌≡◌, ℕ, refl, sym, ◌∙◌, ap, subst, List, Option, Some, None, Bool, true, false, Result, Ok, Err, IfSome}
+use Rattle.std.proofs.Common.{◌≡◌, refl, sym, ◌∙◌, subst, Option, Some, None, Bool, true, false, Result, Ok, Err, IfSome}
 use Rattle.std.specs.Result.{is_err}
 use Rattle.base65.specs.Outcome.{Unless}
 use Rattle.base65.specs.Store.{Files}
@@ -9,9 +9,9 @@ use Rattle.reader65.specs.Fronts.{front_directive}
 use Rattle.expand65.specs.Conditions.{IsIf}
 use Rattle.reader65.specs.Kept.{tokens_in}
 use Rattle.expand65.specs.Meaning.{Meaning}
-use Rattle.expand65.specs.Rewriting.{Turns, state_of, turned}
-use Rattle.expand65.specs.Standing.{Answered, Comes, FollowsFrom, fronted, is_end, led, place_of, state_in, stated}
-use Rattle.expand65.specs.State.{State, Stepped, goes, gives, ends, stops}
+use Rattle.expand65.specs.Rewriting.{state_of, turned}
+use Rattle.expand65.specs.Standing.{Comes, FollowsFrom, fronted, is_end, led, place_of, state_in, stated}
+use Rattle.expand65.specs.State.{State, Stepped, ends, stops}
 use Rattle.expand65.specs.Step.{IsActed, IsStep}
 use Rattle.reader65.specs.declared.directives.Test.TheVariants.{True}
 use Rattle.expand65.specs.declared.expander.Expander.{Expander}
@@ -20,7 +20,6 @@ use Rattle.expand65.specs.declared.expander.Front.TheVariants.{Nothing, Rest, Br
 use Rattle.expand65.specs.declared.expander.Statement.{Statement}
 use Rattle.source65.specs.declared.fault.ExpandFault.{ExpandFault}
 use Rattle.reader65.specs.declared.line.Line.{Line}
-use Rattle.source65.specs.declared.place.Place.{Place}
 use Rattle.expand65.specs.declared.rewriter.Turn.{Turn}
 
 -- ---- The step by what stands in front of the lines.

@@ -1,6 +1,6 @@
 -- Headers of repeats, lines that are parted, an expansion's own names.
-use Rattle.std.proofs.Common.{◌≡◌, ◌≢◌, ℕ, zero, suc, ◌-◌, Bool, true, false, List, [], ◌∷◌, length, map, take, drop, Option, Some, None, Result, Ok, Err, ap, refl, sym, subst, ◌∙◌, arith}
-use Rattle.std.proofs.lemmas.List.{take-map, drop-map}
+use Rattle.std.proofs.Common.{◌≡◌, ◌≢◌, ℕ, Bool, true, false, List, [], ◌∷◌, length, drop, Option, Some, None, Result, Ok, Err, ap, refl, sym, ◌∙◌, arith}
+use Rattle.std.proofs.lemmas.List.{drop-map}
 use Rattle.syntax65.specs.Expressions.{IsParsed}
 use Rattle.syntax65.specs.Faults.{is_expr_outside}
 use Rattle.base65.specs.Outcome.{Unless, ◌>>=◌}
@@ -10,14 +10,11 @@ use Rattle.syntax65.specs.declared.expressions.fault.ExprFault.{ExprFault}
 use Rattle.syntax65.specs.declared.expressions.fault.ExprFault.TheVariants.{OutOfMemory, OperandExpected, ParenthesisExpected, TooDeep}
 use Rattle.syntax65.specs.declared.lexing.tokens.Token.{Token}
 use Rattle.source65.specs.Faults.{fault_of_parsing, is_outside}
-use Rattle.reader65.specs.Fronts.{is_comma, name_in, is_mislabelled, label_len, understood, ◌>=>◌}
-use Rattle.reader65.specs.Kept.{tokens_in}
-use Rattle.reader65.specs.Parting.{AreParts}
+use Rattle.reader65.specs.Fronts.{understood, ◌>=>◌}
 use Rattle.expand65.specs.Inner.Parts.{is_comma_at, name_at}
 use Rattle.expand65.specs.Repeats.{repeat_header, variable_of}
 use Rattle.source65.specs.declared.fault.ExpandFault.{ExpandFault}
 use Rattle.source65.specs.declared.fault.ExpandFault.TheVariants.{NotUnderstood}
-use Rattle.reader65.specs.declared.line.Line.{Line}
 
 -- ---- The variable.
 

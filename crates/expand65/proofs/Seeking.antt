@@ -1,24 +1,21 @@
 -- Files that are looked for.
-use Rattle.std.proofs.Common.{◌≡◌, ◌≢◌, ◌<◌, ◌≤◌, ℕ, zero, suc, ◌+◌, ◌-◌, Bool, true, false, List, [], ◌∷◌, ◌++◌, length, map, take, drop, get_or, Option, Some, None, Result, Ok, Err, IfSome, ap, refl, sym, subst, ◌∙◌, arith}
+use Rattle.std.proofs.Common.{◌≡◌, ◌≢◌, ◌<◌, ◌≤◌, ℕ, ◌+◌, ◌-◌, Bool, true, false, List, [], ◌∷◌, ◌++◌, length, take, drop, get_or, Option, Some, None, Result, Ok, Err, ap, refl, sym, subst, ◌∙◌, arith}
 use Rattle.std.specs.FinMap as fmap
 use Rattle.std.specs.List.{list_any}
 use Rattle.std.specs.Str.{IsUtf8, is_utf8}
-use Rattle.std.specs.Prelude.{nat_le, nat_eq, unwrap_or, ◌||◌, if◌then◌else◌}
+use Rattle.std.specs.Prelude.{nat_le, unwrap_or, ◌||◌, if◌then◌else◌}
 use Rattle.std.proofs.lemmas.Bool.Decides.{nat_tests}
-use Rattle.std.proofs.lemmas.List.{length-drop, take_all, take_more}
+use Rattle.std.proofs.lemmas.List.{length-drop, take_more}
 use Rattle.std.proofs.lemmas.List.Folds.{list_any-append}
 use Rattle.std.proofs.lemmas.Str.{IsUtf8-from_is_utf8}
 use Rattle.base65.specs.Outcome.{Unless}
-use Rattle.base65.specs.Store.{Files, Fills, ReadsAt}
+use Rattle.base65.specs.Store.{Files, ReadsAt}
 use Rattle.source65.specs.Faults.{is_outside}
-use Rattle.reader65.specs.Left.{numbered}
 use Rattle.expand65.specs.Includes.{file_named, first_file, folder_of, found_or, is_slash}
-use Rattle.reader65.specs.Lines.{lines_of}
-use Rattle.reader65.specs.Reading.{bytes_of, content, left_in_file}
+use Rattle.reader65.specs.Reading.{bytes_of}
 use Rattle.expand65.specs.Inner.Seeking.{file_of, is_there}
 use Rattle.source65.specs.declared.fault.ExpandFault.{ExpandFault}
 use Rattle.source65.specs.declared.fault.ExpandFault.TheVariants.{FileTooLong}
-use Rattle.reader65.specs.declared.file.OpenFile.{OpenFile}
 
 -- ---- A file's length by a read at its limit.
 

@@ -2,7 +2,7 @@
 use Rattle.std.specs.Prelude.{◌≡◌, ℕ, ◌+◌, Bool, true, false, List, [], ◌∷◌, Option, Some, None, Result, Ok, Err}
 use Rattle.base65.specs.Outcome.{Unless}
 use Rattle.base65.specs.Store.{Files}
-use Rattle.expand65.specs.Expansion.{Next, statement, nothing, fault, Reaches}
+use Rattle.expand65.specs.Expansion.{statement, nothing, fault, Reaches}
 use Rattle.source65.specs.Faults.{is_outside}
 use Rattle.reader65.specs.Kept.{tokens_in}
 use Rattle.expand65.specs.Meaning.{Meaning}

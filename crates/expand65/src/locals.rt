@@ -1,26 +1,20 @@
 //! The names of an expansion's own, and leaving an expansion.
 
-ghost use Rattle.std.specs.Prelude.{◌≡◌, ◌≤◌, ◌+◌, ◌++◌, ◌∷◌, [], List, true, false, length, map, IfErr, IfOk, OnOk, Some};
+ghost use Rattle.std.specs.Prelude.{◌≡◌, ◌≤◌, ◌+◌, false, map, IfErr, IfOk};
 ghost use Rattle.std.specs.List.{list_any};
 ghost use Rattle.base65.specs.Outcome.{Gives};
 ghost use Rattle.base65.specs.Store.{Files};
 ghost use Rattle.syntax65.specs.Tokens.{lexemes};
 ghost use Rattle.source65.specs.Faults.{is_failure, is_outside};
 ghost use Rattle.reader65.specs.Fronts.{understood};
-ghost use Rattle.reader65.specs.Inside.{is_call, left_in};
-ghost use Rattle.reader65.specs.Kept.{tokens_in};
-ghost use Rattle.reader65.specs.Left.{localised, Item, Mark, mark};
-ghost use Rattle.reader65.specs.Replacing.{with_locals, own_token};
 ghost use Rattle.expand65.specs.Macros.{exit_macro, is_made, local_line, new_names};
-ghost use Rattle.reader65.specs.Playing.{replacing_of};
 ghost use Rattle.expand65.specs.Rewriting.{Turns, size_of, state_of, weight_of};
 
 use crate::arguments::names_of;
 use crate::rewriter::{Rewriter, Turn};
-use reader65::{Line, Replay, Source};
 use source65::ExpandFault;
-use std::alloc::{AllocError, Global};
-use syntax65::{Token, TokenKind};
+use std::alloc::Global;
+use syntax65::Token;
 
 /// Whether a name was made of one of an expansion's own.
 fn is_made(name: &[u8]) -> bool

@@ -1,6 +1,6 @@
 //! Repeats.
 
-ghost use Rattle.std.specs.Prelude.{◌≡◌, ◌≤◌, ◌+◌, ◌∷◌, [], ℕ, false, length, map, IfErr, IfOk, IfSome, Ok, Result};
+ghost use Rattle.std.specs.Prelude.{◌≡◌, ◌≤◌, ◌+◌, ◌∷◌, [], ℕ, false, map, IfErr, IfOk, IfSome, Ok, Result};
 ghost use Rattle.syntax65.specs.Expressions.{IsParsed};
 ghost use Rattle.base65.specs.Outcome.{Gives};
 ghost use Rattle.base65.specs.Relations.{Answers};

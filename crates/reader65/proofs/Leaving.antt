@@ -1,5 +1,5 @@
 -- Inputs that are left.
-use Rattle.std.proofs.Common.{◌≡◌, ◌≢◌, ℕ, refl, sym, ◌∙◌, ap, subst, arith, List, [], ◌∷◌, ◌++◌, Bool, true, false, Option, Some, None, Ok, Err}
+use Rattle.std.proofs.Common.{◌≡◌, ◌≢◌, ℕ, refl, sym, ◌∙◌, ap, arith, List, [], ◌∷◌, ◌++◌, Bool, true, false, Option, Some, None, Ok, Err}
 use Rattle.std.specs.Prelude.{◌==◌, if◌then◌else◌}
 use Rattle.std.proofs.lemmas.Bool.Decides.{nat_tests}
 use Rattle.base65.specs.Store.{Files}
@@ -9,7 +9,6 @@ use Rattle.reader65.specs.Left.{outside_macro, Item, written, played, labelled, 
 use Rattle.source65.specs.declared.fault.ExpandFault.TheVariants.{NotClosed}
 use Rattle.source65.specs.declared.place.Place.{Place}
 use Rattle.reader65.specs.declared.reader.Input.{Input}
-use Rattle.reader65.specs.declared.reader.MacroEnd.{MacroEnd}
 use Rattle.reader65.specs.declared.reader.Reader.{Reader}
 use Rattle.reader65.proofs.Marks.{AreLines, lines_left, outside_push, own_split}
 

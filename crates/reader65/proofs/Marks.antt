@@ -1,12 +1,12 @@
 -- End marks among the inputs' lines.
-use Rattle.std.proofs.Common.{◌≡◌, ℕ, zero, suc, ◌+◌, ◌-◌, ◌≤◌, ◌<◌, refl, sym, ◌∙◌, ap, subst, arith, List, [], ◌∷◌, ◌++◌, length, map, drop, append_assoc, Some, true, false, Ok, Err}
-use Rattle.std.specs.Prelude.{◌==◌, nat_le}
+use Rattle.std.proofs.Common.{◌≡◌, ℕ, zero, suc, ◌+◌, ◌-◌, ◌≤◌, ◌<◌, refl, sym, ◌∙◌, ap, arith, List, [], ◌∷◌, ◌++◌, length, map, drop, append_assoc, Some, true, false, Ok, Err}
+use Rattle.std.specs.Prelude.{nat_le}
 use Rattle.std.proofs.lemmas.Bool.Decides.{nat_tests}
 use Rattle.std.proofs.lemmas.List.{append-nil}
 use Rattle.base65.specs.Store.{Files}
 use Rattle.syntax65.specs.Tokens.{Lexeme}
 use Rattle.reader65.specs.Entering.{pushed}
-use Rattle.reader65.specs.Left.{numbered, turns, Item, written, played, labelled, branch, mark, Mark, left, marks, innermost, come_back}
+use Rattle.reader65.specs.Left.{numbered, turns, Item, written, played, labelled, branch, mark, Mark, left, marks, innermost}
 use Rattle.reader65.specs.Inside.{left_in, mark_of, own, outside, left_of}
 use Rattle.reader65.specs.Kept.{tokens_in}
 use Rattle.reader65.specs.Lines.{lines_of}

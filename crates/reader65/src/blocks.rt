@@ -1,6 +1,6 @@
 //! Blocks of lines.
 
-ghost use Rattle.std.specs.Prelude.{◌≡◌, ◌∷◌, ◌++◌, [], ◌<◌, ◌↔◌, List, IsTrue, false, drop, map, IfErr, IfOk, IfSome, OnOk};
+ghost use Rattle.std.specs.Prelude.{◌≡◌, ◌∷◌, ◌++◌, [], ◌<◌, ◌↔◌, List, IsTrue, false, drop, map, IfErr, IfSome, OnOk};
 ghost use Rattle.syntax65.specs.Tokens.{Lexeme, lexemes};
 ghost use Rattle.base65.specs.Store.{Passes};
 ghost use Rattle.reader65.specs.Inside.{Answers, left_of, mark_of};

@@ -1,13 +1,13 @@
 //! Open files, read a buffer at a time.
 
-ghost use Rattle.std.specs.Prelude.{◌≡◌, ◌<◌, ◌≤◌, ◌+◌, ◌-◌, ◌++◌, [], not, min, length, take, drop, true, false, IsTrue, IfErr, IfOk, IfSome, List, OnOk, ℕ, map};
+ghost use Rattle.std.specs.Prelude.{◌≡◌, ◌<◌, ◌≤◌, ◌+◌, ◌-◌, ◌++◌, [], min, length, drop, true, false, IsTrue, IfErr, IfOk, IfSome, List, OnOk, ℕ};
 ghost use Rattle.std.specs.FinMap as fmap;
 ghost use Rattle.std.specs.List.{prefix_len};
 ghost use Rattle.base65.specs.Store.{Files, Fills, Passes};
 ghost use Rattle.source65.specs.Faults.{is_failure, is_outside};
 ghost use Rattle.reader65.specs.Left.{numbered};
 ghost use Rattle.reader65.specs.Lines.{lines_of};
-ghost use Rattle.reader65.specs.Reading.{IsPiece, ReadsLine, TakesPiece, bytes_of, ends_in_return, is_inside, left_in_file, rest_of, without_return};
+ghost use Rattle.reader65.specs.Reading.{IsPiece, ReadsLine, TakesPiece, bytes_of, is_inside, left_in_file, rest_of, without_return};
 
 use base65::{Sequence, Store, StoreFault, Text};
 use source65::ExpandFault;

@@ -1,19 +1,14 @@
 //! Where lines come from.
 
-ghost use Rattle.std.specs.Prelude.{◌≡◌, ◌↔◌, ◌<◌, ◌≤◌, ◌+◌, ◌^◌, drop, length, true, false, [], ◌∷◌, Ok, IsTrue, IfErr, IfOk, IfSome, OnOk, Result, List, map};
+ghost use Rattle.std.specs.Prelude.{◌≡◌, ◌↔◌, ◌<◌, ◌≤◌, ◌+◌, ◌^◌, drop, length, true, false, [], ◌∷◌, Ok, IsTrue, IfErr, IfOk, IfSome, OnOk, Result};
 ghost use Rattle.std.specs.List.{prefix_len};
 ghost use Rattle.base65.specs.Store.{Files, Passes};
-ghost use Rattle.base65.specs.Outcome.{Gives};
-ghost use Rattle.base65.specs.Relations.{Answers};
-ghost use Rattle.syntax65.specs.Tokens.{Lexeme, IsRead, lexemes};
 ghost use Rattle.source65.specs.Faults.{is_failure, is_outside};
 ghost use Rattle.reader65.specs.Inside.{ComesNext, IsReady, TakesLine, is_call, left_in, turns_left};
 ghost use Rattle.reader65.specs.Kept.{tokens_in};
 ghost use Rattle.reader65.specs.Playing.{left_to_play, replacing_of};
 ghost use Rattle.reader65.specs.Reading.{is_inside, left_in_file};
 ghost use Rattle.reader65.specs.Replacing.{number_token};
-ghost use Rattle.reader65.specs.Taking.{lexed};
-ghost use Rattle.syntax65.specs.declared.lexing.fault.LexFault.{LexFault};
 
 use crate::file::{OpenFile, line_len};
 use crate::line::Line;

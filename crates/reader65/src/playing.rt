@@ -1,6 +1,6 @@
 //! Bodies of macros and repeats, replayed with names replaced.
 
-ghost use Rattle.std.specs.Prelude.{◌≡◌, ◌<◌, ◌++◌, ◌∷◌, [], length, position, false, IfErr, IfOk, OnOk, unwrap_or, map, Some};
+ghost use Rattle.std.specs.Prelude.{◌≡◌, ◌<◌, ◌++◌, ◌∷◌, [], position, false, IfErr, OnOk, unwrap_or, Some};
 ghost use Rattle.std.specs.Map.{lookup};
 ghost use Rattle.std.specs.Str.{bytes_eq};
 ghost use Rattle.base65.specs.Outcome.{Gives};

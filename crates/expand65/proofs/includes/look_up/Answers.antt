@@ -1,8 +1,7 @@
-use Rattle.std.proofs.Common.{◌≡◌, ◌∙◌, ℕ, List, true, false, Result, Ok, Err, subst, sym, ap}
+use Rattle.std.proofs.Common.{◌≡◌, ◌∙◌, ℕ, List, true, false, Result, Ok, Err, subst, ap}
 use Rattle.std.proofs.lemmas.Result.{err_from_is_err_and}
 use Rattle.std.specs.FinMap as fmap
 use Rattle.base65.specs.Outcome.{Unless}
-use Rattle.base65.specs.Store.{Files}
 use Rattle.source65.specs.Faults.{is_outside}
 use Rattle.expand65.specs.Includes.{file_named, found_or}
 use Rattle.expand65.specs.Inner.Seeking.{file_of, is_there}

@@ -1,4 +1,4 @@
-use Rattle.std.proofs.Common.{◌≡◌, ◌∙◌, List, ap, drop, sym}
+use Rattle.std.proofs.Common.{◌∙◌, List, ap, drop, sym}
 use Rattle.syntax65.specs.Tokens.{lexemes}
 use Rattle.syntax65.specs.declared.lexing.tokens.Token.{Token}
 use Rattle.reader65.specs.Fronts.{front_directive}

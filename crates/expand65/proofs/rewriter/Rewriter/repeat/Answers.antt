@@ -1,9 +1,9 @@
-use Rattle.std.proofs.Common.{◌≡◌, ◌∙◌, ℕ, [], false, None, Ok, ap, map, refl, subst}
+use Rattle.std.proofs.Common.{◌≡◌, ℕ, [], false, None, Ok, map, refl, subst}
 use Rattle.reader65.specs.Blocks.{Block, gathers}
 use Rattle.reader65.specs.Entering.{pushed}
 use Rattle.reader65.specs.Inside.{left_of, turns_left}
 use Rattle.reader65.specs.Kept.{tokens_in}
-use Rattle.expand65.specs.Repeats.{IsRepeated, repeat_mark}
+use Rattle.expand65.specs.Repeats.{IsRepeated}
 use Rattle.expand65.specs.Rewriting.{macros_of, state_of}
 use Rattle.expand65.specs.State.{goes}
 use Rattle.reader65.specs.declared.playing.Body.{Body}

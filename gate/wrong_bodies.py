@@ -2,10 +2,12 @@
 """Tries the wrong bodies that the gate itself doesn't: crates/NAME/wrong-bodies/*.edit, each of which the prover must refuse.
 
 usage: wrong_bodies.py [--all] [--anew] [CRATE[/EDIT]..]    with --all those of must-fail/ too; WRONG_BODIES_JOBS tries so many at once.
-They are tried by the gate's own function, side by side, each over what the proof of the crate as it is kept. Where the kit
+They are tried side by side, each over what the proof of the crate as it is kept: first with the functions of the changed
+modules alone, which takes less time, and where these don't refuse it by the gate's own function. Where the kit
 keeps what came of an edit, an edit is tried once on this machine for the same files of its crate and those below: so a run
 that was stopped goes on where it was. --anew tries all. The last line is 'N refused, M not'."""
 import os
+import re
 import shutil
 import sys
 import tempfile
@@ -80,10 +82,36 @@ class Earlier:
             self.kept.keep_tried(self.name(crate, edit), kind, text)
 
 
+def said_of_modules(rt, crate, edit):
+    """What the prover says against an edit where it looks at the functions of the changed modules alone: the first line that
+    it has on one of them. None where it has none, or where anything else came of it, as an edit that can't be read."""
+    texts = rt.read_edit(edit, crate.folder)[0] or {}
+    modules = [it.removeprefix("src/").removesuffix(".rt").replace("/", "::") for it in texts if re.fullmatch(r"src/.*\.rt", it)]
+    if not modules or len(modules) != len(texts) or "lib" in modules:
+        return None
+    flags = ["--jobs", "1", *(word for it in modules for word in ("--only", it))]
+    ran = over_kept(rt, crate, lambda kept: rt.checked(crate, texts, flags, kept))
+    lines = ran.stdout.rstrip("\n").split("\n")
+    counted = re.fullmatch(r"only=(\d+) proved=(\d+)", lines[-1])
+    if ran.returncode != 1 or not counted or int(counted[2]) >= int(counted[1]) or any(rt.unread(it, texts) for it in lines):
+        return None
+    places = "|".join(re.escape(it) for it in texts)
+    return next((it for it in lines if re.match(rf"(note: )?(\./)?({places}):\d+:\d+: ", it)), None)
+
+
+def tried(rt, crate, edit, has_kept):
+    """What a try of an edit comes to, in the gate's own words, and what to say."""
+    said = said_of_modules(rt, crate, edit) if has_kept and hasattr(rt, "unread") else None
+    if said:
+        return rt.REFUSED, f"{crate.name}/{os.path.basename(edit)}: refused, as it must be, by its modules alone: {said[:160]}"
+    flags = ["--jobs", "1"]
+    return over_kept(rt, crate, lambda kept: rt.must_fail(crate, edit, flags, kept)) if has_kept else rt.must_fail(crate, edit, flags)
+
+
 def is_refused(rt, crate, edit, has_kept, earlier):
     """Whether the prover refuses an edit. One that can't be read or tried isn't refused."""
-    begun, flags = time.time(), ["--jobs", "1"]
-    kind, text = over_kept(rt, crate, lambda kept: rt.must_fail(crate, edit, flags, kept)) if has_kept else rt.must_fail(crate, edit, flags)
+    begun = time.time()
+    kind, text = tried(rt, crate, edit, has_kept)
     kit.say(f"{text.removeprefix('must-fail ')} ({kit.minutes(time.time() - begun)})")
     earlier.keep(crate, edit, kind, text)
     return means_refused(rt, kind)

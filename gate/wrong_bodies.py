@@ -103,7 +103,7 @@ def tried(rt, crate, edit, has_kept):
     """What a try of an edit comes to, in the gate's own words, and what to say."""
     said = said_of_modules(rt, crate, edit) if has_kept and hasattr(rt, "unread") else None
     if said:
-        return rt.REFUSED, f"{crate.name}/{os.path.basename(edit)}: refused, as it must be, by its modules alone: {said[:160]}"
+        return getattr(rt, "REFUSED", True), f"{crate.name}/{os.path.basename(edit)}: refused, as it must be, by its modules alone: {said[:160]}"
     flags = ["--jobs", "1"]
     return over_kept(rt, crate, lambda kept: rt.must_fail(crate, edit, flags, kept)) if has_kept else rt.must_fail(crate, edit, flags)
 

@@ -75,9 +75,23 @@ def prove(rt, crate, jobs):
     return is_proved and not why
 
 
-def in_lanes(rt, crates, lanes):
-    """Proves the crates, each once those below it are proved, and returns how long each took, or None where one isn't proved."""
-    left, proved, failed, running, took = [*crates], set(), [], {}, {}
+def chains(rt, crates):
+    """How many bytes of code are proved from each crate's proof to the end of the longest row of crates that stand on it."""
+    behind = {}
+    for it in reversed(crates):
+        code = [file for file in rt.rtlib.files_of(it.folder) if file.endswith(".rt")]
+        above = [behind[that] for that in behind if it in that.below()]
+        behind[it] = sum(map(os.path.getsize, code)) + max(above, default=0)
+    return behind
+
+
+def in_lanes(rt, crates, processors):
+    """Proves the crates, each once those below it are proved, and returns how long each took, or None where one isn't proved.
+    Two are proved at once, or more on many processors, those with the longest row behind them first. Each may use the
+    processors that the others leave (a proof begins alone, with what it loads), as far as memory holds (6 GB for each)."""
+    lanes, jobs = max(1, min(max(2, processors // 2), rt.free() // 6_000_000_000)), min(4, processors)
+    behind = chains(rt, crates)
+    left, proved, failed, running, took = sorted(crates, key=lambda it: -behind[it]), set(), [], {}, {}
     with ThreadPoolExecutor(lanes) as pool:
         while left or running:
             ready = [it for it in left if {*it.below()} <= proved]
@@ -86,15 +100,12 @@ def in_lanes(rt, crates, lanes):
                 left = [it for it in left if it not in built]
                 proved.update(built)
                 continue
-            for at, crate in enumerate(ready):
-                idle = lanes - sum(jobs for _, _, jobs in running.values())
-                if idle > 0:
-                    left.remove(crate)
-                    jobs = max(1, idle // (len(ready) - at))
-                    kit.say(f"{crate.name}: its proof begins ({len(proved)} of {len(crates)} crates are proved)")
-                    running[pool.submit(prove, rt, crate, jobs)] = crate, time.time(), jobs
+            for crate in ready[: lanes - len(running)]:
+                left.remove(crate)
+                kit.say(f"{crate.name}: its proof begins ({len(proved)} of {len(crates)} crates are proved)")
+                running[pool.submit(prove, rt, crate, jobs)] = crate, time.time()
             for it in wait(running, return_when=FIRST_COMPLETED).done if running else ():
-                crate, begun, _ = running.pop(it)
+                crate, begun = running.pop(it)
                 if not it.result():
                     kit.say(f"{crate.name}: NOT PROVED; {os.path.relpath(crate.folder, kit.ROOT)}/out/prove.log says why")
                     failed.append(crate)

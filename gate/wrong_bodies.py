@@ -96,7 +96,8 @@ def said_of_modules(rt, crate, edit):
     if ran.returncode != 1 or not counted or int(counted[2]) >= int(counted[1]) or any(rt.unread(it, texts) for it in lines):
         return None
     places = "|".join(re.escape(it) for it in texts)
-    return next((it for it in lines if re.match(rf"(note: )?(\./)?({places}):\d+:\d+: ", it)), None)
+    search = "what antt said of a `search` in the proof that rattle made: "
+    return next((it for it in lines if re.match(rf"(note: )?({search})?(\./)?({places}):\d+:\d+: ", it)), None)
 
 
 def tried(rt, crate, edit, has_kept):
@@ -105,7 +106,11 @@ def tried(rt, crate, edit, has_kept):
     if said:
         return getattr(rt, "REFUSED", True), f"{crate.name}/{os.path.basename(edit)}: refused, as it must be, by its modules alone: {said[:160]}"
     flags = ["--jobs", "1"]
-    return over_kept(rt, crate, lambda kept: rt.must_fail(crate, edit, flags, kept)) if has_kept else rt.must_fail(crate, edit, flags)
+    kind, text = over_kept(rt, crate, lambda kept: rt.must_fail(crate, edit, flags, kept)) if has_kept else rt.must_fail(crate, edit, flags)
+    if means_refused(rt, kind) and text.endswith("refused, as it must be"):
+        # (so it is where the borrow checker, say, does not cover the edited function)
+        return None, f"{text}, but nothing that it breaks is named, so no contract was tried"
+    return kind, text
 
 
 def is_refused(rt, crate, edit, has_kept, earlier):

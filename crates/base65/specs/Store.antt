@@ -1,5 +1,5 @@
 -- What the calls of a store do to its files and to its count of failures.
-use Rattle.std.specs.Prelude.{◌≡◌, ℕ, ◌-◌, ◌^◌, ◌<◌, ◌≤◌, min, ◌⊎◌, List, [], ◌++◌, length, take, drop, Option, Some, None, Result, Ok, Err, Bool, true, IsErrOf, IsErrAnd, IfErr, ⊤}
+use Rattle.std.specs.Prelude.{◌≡◌, ℕ, ◌-◌, ◌^◌, ◌<◌, ◌≤◌, min, ◌⊎◌, List, [], ◌++◌, length, take, drop, Option, Some, None, Result, Ok, Err, Bool, true, IsErrOf, IsErrAnd, IfErr, IfSome, ⊤}
 use Rattle.std.specs.Ordering.{nat_cmp}
 use Rattle.std.specs.Cmp.Lexicographic.{slice_cmp}
 use Rattle.std.specs.FinMap.{FinMap, get, insert}
@@ -36,6 +36,21 @@ pub record Counts {T : Type 0} (old new : ℕ) (result : Result T StoreFault) : 
   pub later : old ≤ new
   pub told : HasFailed old new → IsErrOf result FileError
   pub cause : IsErrOf result FileError → HasFailed old new
+
+-- a call that asks the store is refused from outside where the count stands at its last value
+abbrev pub Asks : {T E : Type 0} → (E → Bool) → ℕ → Result T E → Type 0
+Asks is_outside old result = old ≡ last_count → IsErrAnd result (λ e. is_outside e ≡ true)
+
+-- the last failed call asked for this name, where the store tells for which
+abbrev pub IsBlamed : Option (List ℕ) → List ℕ → Type 0
+IsBlamed blamed name = IfSome blamed (λ n. n ≡ name)
+
+-- which name the last failed call asked for, behind a call that asked for this one
+abbrev pub Blames : {T : Type 0} → List ℕ → Option (List ℕ) → Option (List ℕ) → Result T StoreFault → Type 0
+Blames name old new (Err FileError) = IsBlamed new name
+Blames name old new (Err FileNotFound) = new ≡ old
+Blames name old new (Err OutOfMemory) = new ≡ old
+Blames name old new (Ok x) = new ≡ old
 
 -- The first n bytes of the buffer are those of what the file has from there on. There are none only at the
 -- file's end or where the buffer is empty.

@@ -122,6 +122,8 @@ impl Store for MemStore {
 
     ghost failures = { λ _. 0 };
 
+    ghost blamed = { λ _. None };
+
     fn read_at(&mut self, name: &str, at: u64, buf: &mut [u8]) -> Result<usize, StoreFault> {
         let bytes = self.get(name).ok_or(StoreFault::FileNotFound)?;
         let start = (at as usize).min(bytes.len());

@@ -1,9 +1,9 @@
 //! Whole files, up to a limit.
 
-ghost use Rattle.std.specs.Prelude.{◌≡◌, ◌≤◌, ◌<◌, ◌+◌, ◌^◌, IfOk, IfSome, length};
+ghost use Rattle.std.specs.Prelude.{◌≡◌, ◌≤◌, ◌<◌, ◌+◌, ◌^◌, IfOk, IfSome, IsErrOf, length};
 ghost use Rattle.std.specs.FinMap as map;
 ghost use Rattle.base65.specs.Outcome.{Gives};
-ghost use Rattle.base65.specs.Store.{Passes};
+ghost use Rattle.base65.specs.Store.{Asks, IsBlamed, Passes};
 ghost use Rattle.base65.specs.StoreFaults.{is_outside_store};
 ghost use Rattle.base65.specs.Reading.{front_in, ReadsChunk};
 
@@ -26,6 +26,8 @@ fn read_chunk<S: Store>(
     ensures grown { IfOk result (λ n. (n ≤ want) × (length bytes.new.items ≡ length bytes.old.items + n)) }
     ensures files { S.files store.new ≡ S.files store.old }
     ensures count { Passes StoreFault.FileError (S.failures store.old) (S.failures store.new) result }
+    ensures blamed { IsErrOf result StoreFault.FileError → IsBlamed (S.blamed store.new) name.now }
+    ensures asked { Asks is_outside_store (S.failures store.old) result }
 {
     let mut chunk = [0u8; CHUNK];
     let n = read_full(store, name, at, &mut chunk[..want])?;
@@ -44,6 +46,8 @@ pub fn read_front<S: Store>(
     ensures read { IfSome (S.files store.old) (λ m. Gives is_outside_store (λ v. v.items) result (front_in (map.get m name.now) most)) }
     ensures files { S.files store.new ≡ S.files store.old }
     ensures count { Passes StoreFault.FileError (S.failures store.old) (S.failures store.new) result }
+    ensures blamed { IsErrOf result StoreFault.FileError → IsBlamed (S.blamed store.new) name.now }
+    ensures asked { Asks is_outside_store (S.failures store.old) result }
 {
     let mut bytes = Vec::new(alloc);
     'reading: loop {

@@ -1,9 +1,10 @@
 //! Files as the tools see them.
 
-ghost use Rattle.std.specs.Prelude.{◌≡◌, ◌≤◌, ◌<◌, ◌+◌, ◌^◌, ℕ, Option, length, IfOk, IfSome};
+ghost use Rattle.std.specs.Prelude.{◌≡◌, ◌≤◌, ◌<◌, ◌+◌, ◌^◌, ℕ, Option, List, length, IfOk, IfSome, IsErrOf};
 ghost use Rattle.std.specs.FinMap as map;
 ghost use Rattle.base65.specs.declared.store.StoreFault.TheVariants.{OutOfMemory, FileError};
-ghost use Rattle.base65.specs.Store.{Files, Counts, ReadsAt, Creates, Appends, Tells, ReadsFull, Passes};
+ghost use Rattle.base65.specs.StoreFaults.{is_outside_store};
+ghost use Rattle.base65.specs.Store.{Files, Asks, Blames, IsBlamed, Counts, ReadsAt, Creates, Appends, Tells, ReadsFull, Passes};
 
 use std::alloc::{AllocError, AllocFailed};
 use std::fmt;
@@ -55,24 +56,30 @@ pub trait Store {
     /// How often a call has failed.
     ghost failures: { Self → ℕ };
 
+    /// Which name the last failed call asked for, where the store tells it.
+    ghost blamed: { Self → Option (List ℕ) };
+
     /// Reads what a file has from a place on into the front of a buffer, and answers how many bytes it read.
     fn read_at(&mut self, name: &str, at: u64, buf: &mut [u8]) -> Result<usize, StoreFault>
         ensures bound { IfOk result (λ n. n ≤ length buf.new) }
         ensures read { IfSome (files self.old) (λ m. ReadsAt (map.get m name.now) at buf.new result) }
         ensures files { files self.new ≡ files self.old }
-        ensures count { Counts (failures self.old) (failures self.new) result };
+        ensures count { Counts (failures self.old) (failures self.new) result }
+        ensures blamed { Blames name.now (blamed self.old) (blamed self.new) result };
 
     /// Makes a file empty, and begins it where there is none.
     fn create(&mut self, name: &str) -> Result<(), StoreFault>
         ensures created { Tells (λ old new. Creates old name.now new result) (files self.old) (files self.new) }
-        ensures count { Counts (failures self.old) (failures self.new) result };
+        ensures count { Counts (failures self.old) (failures self.new) result }
+        ensures blamed { Blames name.now (blamed self.old) (blamed self.new) result };
 
     /// Adds the first bytes of a piece behind a file's own, and answers how many it added: one at least of a
     /// piece that isn't empty.
     fn append(&mut self, name: &str, piece: &[u8]) -> Result<usize, StoreFault>
         ensures bound { IfOk result (λ n. (n ≤ length piece.now) × (n ≡ 0 → length piece.now ≡ 0)) }
         ensures appended { Tells (λ old new. Appends old name.now piece.now new result) (files self.old) (files self.new) }
-        ensures count { Counts (failures self.old) (failures self.new) result };
+        ensures count { Counts (failures self.old) (failures self.new) result }
+        ensures blamed { Blames name.now (blamed self.old) (blamed self.new) result };
 }
 
 /// Reads until the buffer is full or the file ends.
@@ -87,6 +94,8 @@ pub fn read_full<S: Store>(
     ensures read { IfSome (S.files store.old) (λ m. ReadsFull (map.get m name.now) at buf.new result) }
     ensures files { S.files store.new ≡ S.files store.old }
     ensures count { Passes FileError (S.failures store.old) (S.failures store.new) result }
+    ensures blamed { IsErrOf result FileError → IsBlamed (S.blamed store.new) name.now }
+    ensures asked { Asks is_outside_store (S.failures store.old) result }
 {
     let mut done = 0;
     'fill: loop {

@@ -166,6 +166,8 @@ impl<R: Files> Store for DiskStore<R> {
 
     ghost failures = { λ s. s.failures };
 
+    ghost blamed = { λ _. None };
+
     fn read_at(&mut self, name: &str, at: u64, buf: &mut [u8]) -> Result<usize, StoreFault> {
         if self.failures == u64::MAX {
             return Err(StoreFault::FileError);

@@ -1,6 +1,6 @@
 //! Stores and writers that give little or fail.
 
-ghost use Rattle.std.specs.Prelude.{Some, ◌≡◌, true, false, if◌then◌else◌};
+ghost use Rattle.std.specs.Prelude.{Some, ◌≡◌, true, false, if◌then◌else◌, None};
 ghost use Rattle.std.specs.Option.{ForSome};
 ghost use Rattle.std.specs.Bool.{OnTrue, OnFalse};
 
@@ -22,6 +22,8 @@ impl Store for ByteByByte {
     ghost files = { λ s. Some s.files };
 
     ghost failures = { λ _. 0 };
+
+    ghost blamed = { λ _. None };
 
     fn read_at(&mut self, name: &str, at: u64, buf: &mut [u8]) -> Result<usize, StoreFault> {
         let most = buf.len().min(1);
@@ -50,6 +52,8 @@ impl Store for Counting {
     ghost files = { λ s. Some s.files };
 
     ghost failures = { λ _. 0 };
+
+    ghost blamed = { λ _. None };
 
     fn read_at(&mut self, name: &str, at: u64, buf: &mut [u8]) -> Result<usize, StoreFault> {
         let n = self.files.read_at(name, at, buf)?;
@@ -102,6 +106,8 @@ impl Store for FailsOnce {
     ghost files = { λ s. Some s.files };
 
     ghost failures = { λ s. if s.failed then 1 else 0 };
+
+    ghost blamed = { λ _. None };
 
     fn read_at(&mut self, name: &str, at: u64, buf: &mut [u8]) -> Result<usize, StoreFault> {
         if self.fails() {

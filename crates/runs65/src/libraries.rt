@@ -1,6 +1,6 @@
 //! Links with libraries.
 
-ghost use Rattle.std.specs.Prelude.{Some};
+ghost use Rattle.std.specs.Prelude.{Some, None};
 
 use base65::{MemStore, Store, StoreFault};
 use running65::{S1, first_wrong, run_on, says};
@@ -196,6 +196,8 @@ impl Store for Counting {
     ghost files = { λ s. Some s.files };
 
     ghost failures = { λ _. 0 };
+
+    ghost blamed = { λ _. None };
 
     fn read_at(&mut self, name: &str, at: u64, buf: &mut [u8]) -> Result<usize, StoreFault> {
         let n = self.files.read_at(name, at, buf)?;

@@ -138,6 +138,8 @@ impl Store for Endless {
 
     ghost failures = { λ _. 0 };
 
+    ghost blamed = { λ _. None };
+
     fn read_at(&mut self, _name: &str, at: u64, buf: &mut [u8]) -> Result<usize, StoreFault> {
         for byte in buf.iter_mut() {
             *byte = 0;

@@ -67,6 +67,8 @@ impl Store for Lines {
 
     ghost failures = { λ _. 0 };
 
+    ghost blamed = { λ _. None };
+
     fn read_at(&mut self, _name: &str, at: u64, buf: &mut [u8]) -> Result<usize, StoreFault> {
         let left = self.len.saturating_sub(at);
         let count = (buf.len() as u64).min(left) as usize;

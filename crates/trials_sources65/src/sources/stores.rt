@@ -18,6 +18,8 @@ impl Store for Broken {
 
     ghost failures = { λ _. 18446744073709551615 };
 
+    ghost blamed = { λ _. None };
+
     fn read_at(&mut self, _name: &str, _at: u64, _buf: &mut [u8]) -> Result<usize, StoreFault> {
         Err(StoreFault::FileError)
     }
@@ -39,6 +41,8 @@ impl Store for Endless {
     ghost files = { λ _. None };
 
     ghost failures = { λ _. 0 };
+
+    ghost blamed = { λ _. None };
 
     fn read_at(&mut self, _name: &str, _at: u64, buf: &mut [u8]) -> Result<usize, StoreFault> {
         Ok(buf.len())

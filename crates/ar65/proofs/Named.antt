@@ -1,5 +1,6 @@
 -- What a refusal names where the store failed.
-use Rattle.std.proofs.Common.{◌≡◌, ◌⊎◌, inl, inr, ℕ, List, true, false, Some, slice_get, refl, ap}
+use Rattle.std.proofs.Common.{◌≡◌, ◌⊎◌, inl, inr, ℕ, List, Option, true, false, Some, slice_get, refl, ap}
+use Rattle.base65.specs.Store.{IsBlamed}
 use Rattle.library65.specs.declared.fault.LibraryFault.{LibraryFault}
 use Rattle.library65.specs.declared.fault.LibraryFault.TheVariants.{BadIndex, BadMemberName, CutShort, FileError, FileNotFound, IndexDisagrees, NoSuchMember, NotALibrary, NotAnObject, OutOfMemory}
 use Rattle.line65.specs.declared.line.Operation.TheVariants.{Replace}
@@ -9,42 +10,42 @@ use Rattle.ar65.specs.declared.refusal.Refusal.TheVariants.{File, Library}
 use Rattle.ar65.specs.Naming.{IsOfFiles, IsOfLibrary, IsOfLine, NamesEither, NamesFiles, NamesLibrary, NamesOfLine}
 use Rattle.ar65.specs.Refusals.{is_failure}
 
-pub of_library : (f : LibraryFault) → NamesLibrary (Library f)
-of_library FileError h = refl
-of_library OutOfMemory h = absurd cc
-of_library NotALibrary h = absurd cc
-of_library CutShort h = absurd cc
-of_library BadIndex h = absurd cc
-of_library (NoSuchMember n) h = absurd cc
-of_library NotAnObject h = absurd cc
-of_library IndexDisagrees h = absurd cc
-of_library FileNotFound h = absurd cc
-of_library BadMemberName h = absurd cc
+pub of_library : (blamed : Option (List ℕ)) (library : List ℕ) (f : LibraryFault) → (f ≡ FileError → IsBlamed blamed library) → NamesLibrary blamed library (Library f)
+of_library blamed library FileError asked h = (refl, asked refl)
+of_library blamed library OutOfMemory asked h = absurd cc
+of_library blamed library NotALibrary asked h = absurd cc
+of_library blamed library CutShort asked h = absurd cc
+of_library blamed library BadIndex asked h = absurd cc
+of_library blamed library (NoSuchMember n) asked h = absurd cc
+of_library blamed library NotAnObject asked h = absurd cc
+of_library blamed library IndexDisagrees asked h = absurd cc
+of_library blamed library FileNotFound asked h = absurd cc
+of_library blamed library BadMemberName asked h = absurd cc
 
-pub of_file : (files : List (List ℕ)) (place : ℕ) (name : List ℕ) (f : LibraryFault) → slice_get files place ≡ Some name → NamesFiles files (File place f)
-of_file files place name FileError at h = (place, name, at, refl)
-of_file files place name OutOfMemory at h = absurd cc
-of_file files place name NotALibrary at h = absurd cc
-of_file files place name CutShort at h = absurd cc
-of_file files place name BadIndex at h = absurd cc
-of_file files place name (NoSuchMember n) at h = absurd cc
-of_file files place name NotAnObject at h = absurd cc
-of_file files place name IndexDisagrees at h = absurd cc
-of_file files place name FileNotFound at h = absurd cc
-of_file files place name BadMemberName at h = absurd cc
+pub of_file : (blamed : Option (List ℕ)) (files : List (List ℕ)) (place : ℕ) (name : List ℕ) (f : LibraryFault) → slice_get files place ≡ Some name → (f ≡ FileError → IsBlamed blamed name) → NamesFiles blamed files (File place f)
+of_file blamed files place name FileError at asked h = (place, name, at, refl, asked refl)
+of_file blamed files place name OutOfMemory at asked h = absurd cc
+of_file blamed files place name NotALibrary at asked h = absurd cc
+of_file blamed files place name CutShort at asked h = absurd cc
+of_file blamed files place name BadIndex at asked h = absurd cc
+of_file blamed files place name (NoSuchMember n) at asked h = absurd cc
+of_file blamed files place name NotAnObject at asked h = absurd cc
+of_file blamed files place name IndexDisagrees at asked h = absurd cc
+of_file blamed files place name FileNotFound at asked h = absurd cc
+of_file blamed files place name BadMemberName at asked h = absurd cc
 
-pub either_library : (files : List (List ℕ)) (e : Refusal) → NamesLibrary e → NamesEither files e
-either_library files e named h = inl (named h)
+pub either_library : (blamed : Option (List ℕ)) (a : Archiving) (e : Refusal) → NamesLibrary blamed a.library e → NamesEither blamed a e
+either_library blamed a e named h = inl (named h)
 
-pub either_file : (files : List (List ℕ)) (e : Refusal) → NamesFiles files e → NamesEither files e
-either_file files e named h = inr (named h)
+pub either_file : (blamed : Option (List ℕ)) (a : Archiving) (e : Refusal) → NamesFiles blamed a.files e → NamesEither blamed a e
+either_file blamed a e named h = inr (named h)
 
-pub line_library : (a : Archiving) (e : Refusal) → NamesLibrary e → NamesOfLine a e
-line_library a e named h = inl (named h)
+pub line_library : (blamed : Option (List ℕ)) (a : Archiving) (e : Refusal) → NamesLibrary blamed a.library e → NamesOfLine blamed a e
+line_library blamed a e named h = inl (named h)
 
-pub line_either : (a : Archiving) (e : Refusal) → a.operation ≡ Replace → NamesEither a.files e → NamesOfLine a e
-line_either a e is named h = go (named h)
+pub line_either : (blamed : Option (List ℕ)) (a : Archiving) (e : Refusal) → a.operation ≡ Replace → NamesEither blamed a e → NamesOfLine blamed a e
+line_either blamed a e is named h = go (named h)
   where
-    go : IsOfLibrary e ⊎ IsOfFiles a.files e → IsOfLine a e
+    go : IsOfLibrary blamed a.library e ⊎ IsOfFiles blamed a.files e → IsOfLine blamed a e
     go (inl l) = inl l
     go (inr f) = inr (is, f)

@@ -3,7 +3,7 @@
 ghost use Rattle.std.specs.Prelude.{◌≡◌, IfErr, IfSome};
 ghost use Rattle.std.specs.FinMap as map;
 ghost use Rattle.base65.specs.Outcome.{Gives};
-ghost use Rattle.base65.specs.Store.{PassesBy};
+ghost use Rattle.base65.specs.Store.{Asks, PassesBy};
 ghost use Rattle.line65.specs.Line.{archiving};
 ghost use Rattle.ar65.specs.Librarian.{archived_of, deleted_by, extracted_by, listed_by, replaced_by};
 ghost use Rattle.ar65.specs.Refusals.{is_failure, is_outside};
@@ -43,7 +43,8 @@ fn replace<S: Store>(
         Gives is_outside (λ a. a) result (replaced_by m (archiving line.now))) }
     ensures files { S.files store.new ≡ S.files store.old }
     ensures count { PassesBy is_failure (S.failures store.old) (S.failures store.new) result }
-    ensures named { IfErr result (NamesEither (archiving line.now).files) }
+    ensures named { IfErr result (NamesEither (S.blamed store.new) (archiving line.now)) }
+    ensures asked { Asks is_outside (S.failures store.old) result }
 {
     let mut library = load_or_begin(alloc, store, line.library)?;
     put_files(alloc, store, &mut library, line.files.as_slice())?;
@@ -61,7 +62,8 @@ fn delete<S: Store>(
         Gives is_outside (λ a. a) result (deleted_by m (archiving line.now))) }
     ensures files { S.files store.new ≡ S.files store.old }
     ensures count { PassesBy is_failure (S.failures store.old) (S.failures store.new) result }
-    ensures named { IfErr result NamesLibrary }
+    ensures named { IfErr result (NamesLibrary (S.blamed store.new) (archiving line.now).library) }
+    ensures asked { Asks is_outside (S.failures store.old) result }
 {
     let mut library = Library::load(alloc, store, line.library)?;
     delete_files(&mut library, line.files.as_slice())?;
@@ -75,7 +77,8 @@ fn list<S: Store>(alloc: Global, store: &mut S, line: &ArchiveLine<'_>) -> Resul
         Gives is_outside (λ a. a) result (listed_by m (archiving line.now))) }
     ensures files { S.files store.new ≡ S.files store.old }
     ensures count { PassesBy is_failure (S.failures store.old) (S.failures store.new) result }
-    ensures named { IfErr result NamesLibrary }
+    ensures named { IfErr result (NamesLibrary (S.blamed store.new) (archiving line.now).library) }
+    ensures asked { Asks is_outside (S.failures store.old) result }
 {
     let library = Library::load(alloc, store, line.library)?;
     Ok(Archived::Names(list_names(alloc, &library)?))
@@ -92,7 +95,8 @@ fn extract<S: Store>(
         Gives is_outside (λ a. a) result (extracted_by m (archiving line.now))) }
     ensures files { S.files store.new ≡ S.files store.old }
     ensures count { PassesBy is_failure (S.failures store.old) (S.failures store.new) result }
-    ensures named { IfErr result NamesLibrary }
+    ensures named { IfErr result (NamesLibrary (S.blamed store.new) (archiving line.now).library) }
+    ensures asked { Asks is_outside (S.failures store.old) result }
 {
     let library = Library::load(alloc, store, line.library)?;
     Ok(Archived::Members(extract_files(alloc, &library, line.files.as_slice())?))
@@ -110,7 +114,8 @@ pub fn archive<S: Store>(
         Gives is_outside (λ a. a) result (archived_of m (archiving line.now))) }
     ensures files { S.files store.new ≡ S.files store.old }
     ensures count { PassesBy is_failure (S.failures store.old) (S.failures store.new) result }
-    ensures named { IfErr result (NamesOfLine (archiving line.now)) }
+    ensures named { IfErr result (NamesOfLine (S.blamed store.new) (archiving line.now)) }
+    ensures asked { Asks is_outside (S.failures store.old) result }
 {
     match line.operation {
         Operation::Replace => replace(alloc, store, line),

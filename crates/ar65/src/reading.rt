@@ -1,9 +1,9 @@
 //! Whole files, up to a limit, each read through the same room.
 
-ghost use Rattle.std.specs.Prelude.{◌≡◌, ◌≤◌, ◌<◌, ◌+◌, ◌^◌, IfOk, IfSome, length};
+ghost use Rattle.std.specs.Prelude.{◌≡◌, ◌≤◌, ◌<◌, ◌+◌, ◌^◌, IfOk, IfSome, length, IsErrOf};
 ghost use Rattle.std.specs.FinMap as map;
 ghost use Rattle.base65.specs.Outcome.{Gives};
-ghost use Rattle.base65.specs.Store.{Passes};
+ghost use Rattle.base65.specs.Store.{Passes, IsBlamed};
 ghost use Rattle.base65.specs.StoreFaults.{is_outside_store};
 ghost use Rattle.base65.specs.Reading.{front_in, ReadsChunk};
 
@@ -31,6 +31,7 @@ fn read_chunk<S: Store>(
         (n ≤ length chunk.old) × (length bytes.new.items ≡ length bytes.old.items + n)) }
     ensures files { S.files store.new ≡ S.files store.old }
     ensures count { Passes StoreFault.FileError (S.failures store.old) (S.failures store.new) result }
+    ensures blamed { IsErrOf result StoreFault.FileError → IsBlamed (S.blamed store.new) name.now }
 {
     let n = read_full(store, name, at, chunk)?;
     bytes.extend_from_slice(&chunk[..n])?;
@@ -51,6 +52,7 @@ pub fn read_front<S: Store>(
         Gives is_outside_store (λ v. v.items) result (front_in (map.get m name.now) most)) }
     ensures files { S.files store.new ≡ S.files store.old }
     ensures count { Passes StoreFault.FileError (S.failures store.old) (S.failures store.new) result }
+    ensures blamed { IsErrOf result StoreFault.FileError → IsBlamed (S.blamed store.new) name.now }
 {
     let mut bytes = Vec::new(alloc);
     'reading: loop {

@@ -1,8 +1,8 @@
 //! Objects put into a library.
 
-ghost use Rattle.std.specs.Prelude.{◌≡◌, IfErr, IfSome, map};
+ghost use Rattle.std.specs.Prelude.{◌≡◌, IfErr, IfSome, map, IsErrOf};
 ghost use Rattle.base65.specs.Outcome.{Gives};
-ghost use Rattle.base65.specs.Store.{Passes, PassesBy};
+ghost use Rattle.base65.specs.Store.{Passes, PassesBy, IsBlamed};
 ghost use Rattle.library65.specs.Fault.{is_outside as is_library_outside};
 ghost use Rattle.ar65.specs.Librarian.{with_file, with_files};
 ghost use Rattle.ar65.specs.Refusals.{is_failure, is_outside};
@@ -31,6 +31,7 @@ fn put_file<S: Store>(
         Gives is_library_outside (λ _. library.new) result (with_file m library.old file.now)) }
     ensures files { S.files store.new ≡ S.files store.old }
     ensures count { Passes LibraryFault.FileError (S.failures store.old) (S.failures store.new) result }
+    ensures blamed { IsErrOf result LibraryFault.FileError → IsBlamed (S.blamed store.new) file.now }
 {
     let bytes = read_front(alloc, store, file, FILE_LIMIT + 1, chunk)?;
     library.replace(member_name(file).as_bytes(), &bytes)
@@ -47,7 +48,7 @@ pub fn put_files<S: Store>(
         Gives is_outside (λ _. library.new) result (with_files m library.old 0 (map (λ s. s.now) files.now))) }
     ensures files { S.files store.new ≡ S.files store.old }
     ensures count { PassesBy is_failure (S.failures store.old) (S.failures store.new) result }
-    ensures named { IfErr result (NamesFiles (map (λ s. s.now) files.now)) }
+    ensures named { IfErr result (NamesFiles (S.blamed store.new) (map (λ s. s.now) files.now)) }
 {
     let mut chunk = [0u8; CHUNK];
     for (place, file) in files.iter().enumerate() {

@@ -1,9 +1,9 @@
 //! Fields of an index, read from a file one behind the other.
 
-ghost use Rattle.std.specs.Prelude.{◌≡◌, ◌≤◌, ◌<◌, ◌+◌, length, IfOk, OnOk, IfSome};
+ghost use Rattle.std.specs.Prelude.{◌≡◌, ◌≤◌, ◌<◌, ◌+◌, length, IfOk, OnOk, IfSome, IsErrOf};
 ghost use Rattle.std.specs.FinMap as map;
 ghost use Rattle.base65.specs.Outcome.{Gives};
-ghost use Rattle.base65.specs.Store.{Passes};
+ghost use Rattle.base65.specs.Store.{Passes, Asks, IsBlamed};
 ghost use Rattle.object65.specs.Reading.{file_limit};
 ghost use Rattle.library65.specs.Fault.{is_outside};
 ghost use Rattle.library65.specs.Names.{is_among, is_member_name};
@@ -25,6 +25,8 @@ pub fn read_head<S: Store>(store: &mut S, file: &str) -> Result<(), LibraryFault
     ensures read { IfSome (S.files store.old) (λ m. Gives is_outside (λ u. u) result (in_file (map.get m file.now) head_at)) }
     ensures files { S.files store.new ≡ S.files store.old }
     ensures count { Passes LibraryFault.FileError (S.failures store.old) (S.failures store.new) result }
+    ensures blamed { IsErrOf result LibraryFault.FileError → IsBlamed (S.blamed store.new) file.now }
+    ensures asked { Asks is_outside (S.failures store.old) result }
 {
     let mut head = [0u8; 5];
     let n = read_full(store, file, 0, &mut head)?;
@@ -46,6 +48,8 @@ fn read_field<S: Store>(
     ensures read { IfSome (S.files store.old) (λ m. Gives is_outside (λ _. buf.new) result (in_file (map.get m file.now) (field_at (length buf.old) at))) }
     ensures files { S.files store.new ≡ S.files store.old }
     ensures count { Passes LibraryFault.FileError (S.failures store.old) (S.failures store.new) result }
+    ensures blamed { IsErrOf result LibraryFault.FileError → IsBlamed (S.blamed store.new) file.now }
+    ensures asked { Asks is_outside (S.failures store.old) result }
     ensures limit { OnOk result (at + length buf.old ≤ file_limit) }
 {
     let n = read_full(store, file, at, buf)?;
@@ -65,6 +69,8 @@ pub fn read_number<S: Store>(store: &mut S, file: &str, at: u64) -> Result<u32, 
     ensures read { IfSome (S.files store.old) (λ m. Gives is_outside (λ n. n) result (in_file (map.get m file.now) (number_at at))) }
     ensures files { S.files store.new ≡ S.files store.old }
     ensures count { Passes LibraryFault.FileError (S.failures store.old) (S.failures store.new) result }
+    ensures blamed { IsErrOf result LibraryFault.FileError → IsBlamed (S.blamed store.new) file.now }
+    ensures asked { Asks is_outside (S.failures store.old) result }
     ensures limit { OnOk result (at + 4 ≤ file_limit) }
 {
     let mut bytes = [0u8; 4];
@@ -84,6 +90,8 @@ pub fn read_name<S: Store>(
     ensures read { IfSome (S.files store.old) (λ m. Gives is_outside (λ x. x) result (in_file (map.get m file.now) (name_at at))) }
     ensures files { S.files store.new ≡ S.files store.old }
     ensures count { Passes LibraryFault.FileError (S.failures store.old) (S.failures store.new) result }
+    ensures blamed { IsErrOf result LibraryFault.FileError → IsBlamed (S.blamed store.new) file.now }
+    ensures asked { Asks is_outside (S.failures store.old) result }
     ensures limit { IfOk result (λ x. x.1 ≤ file_limit) }
     ensures later { IfOk result (λ x. at < x.1) }
 {

@@ -1,9 +1,9 @@
 //! The index of a library, read from its file.
 
-ghost use Rattle.std.specs.Prelude.{◌≡◌, ◌≤◌, ◌<◌, ◌+◌, ◌++◌, ◌∷◌, [], ℕ, List, length, map, Ok, IfOk, OnOk, IfSome, false};
+ghost use Rattle.std.specs.Prelude.{◌≡◌, ◌≤◌, ◌<◌, ◌+◌, ◌++◌, ◌∷◌, [], ℕ, List, length, map, Ok, IfOk, OnOk, IfSome, false, IsErrOf};
 ghost use Rattle.std.specs.FinMap as map;
 ghost use Rattle.base65.specs.Outcome.{Gives};
-ghost use Rattle.base65.specs.Store.{Passes};
+ghost use Rattle.base65.specs.Store.{Passes, Asks, IsBlamed};
 ghost use Rattle.object65.specs.Reading.{file_limit};
 ghost use Rattle.library65.specs.Fault.{is_outside};
 ghost use Rattle.library65.specs.Names.{is_among};
@@ -34,6 +34,7 @@ fn read_symbol<S: Store>(
     ensures read { IfSome (S.files store.old) (λ m. Gives is_outside (λ x. x) result (in_file (map.get m file.now) (symbol_at at))) }
     ensures files { S.files store.new ≡ S.files store.old }
     ensures count { Passes LibraryFault.FileError (S.failures store.old) (S.failures store.new) result }
+    ensures blamed { IsErrOf result LibraryFault.FileError → IsBlamed (S.blamed store.new) file.now }
     ensures limit { IfOk result (λ x. x.1 ≤ file_limit) }
     ensures later { IfOk result (λ x. at < x.1) }
 {
@@ -55,6 +56,7 @@ fn read_symbols<S: Store>(
     ensures read { IfSome (S.files store.old) (λ m. Gives is_outside (λ x. x) result (in_file (map.get m file.now) (counted_at at))) }
     ensures files { S.files store.new ≡ S.files store.old }
     ensures count { Passes LibraryFault.FileError (S.failures store.old) (S.failures store.new) result }
+    ensures blamed { IsErrOf result LibraryFault.FileError → IsBlamed (S.blamed store.new) file.now }
     ensures limit { IfOk result (λ x. x.1 ≤ file_limit) }
     ensures later { IfOk result (λ x. at < x.1) }
 {
@@ -83,6 +85,7 @@ fn read_member_name<S: Store>(
     ensures read { IfSome (S.files store.old) (λ m. Gives is_outside (λ x. x) result (in_file (map.get m file.now) (member_name_at (map (λ n. n.items) names.now.keys) at))) }
     ensures files { S.files store.new ≡ S.files store.old }
     ensures count { Passes LibraryFault.FileError (S.failures store.old) (S.failures store.new) result }
+    ensures blamed { IsErrOf result LibraryFault.FileError → IsBlamed (S.blamed store.new) file.now }
     ensures limit { IfOk result (λ x. x.1 ≤ file_limit) }
     ensures later { IfOk result (λ x. at < x.1) }
     ensures new { IfOk result (λ x. is_among (map (λ n. n.items) names.now.keys) x.0 ≡ false) }
@@ -107,6 +110,7 @@ fn read_listing<S: Store>(
     ensures read { IfSome (S.files store.old) (λ m. Gives is_outside (λ x. x) result (in_file (map.get m file.now) (listing_at (map (λ n. n.items) names.now.keys) at))) }
     ensures files { S.files store.new ≡ S.files store.old }
     ensures count { Passes LibraryFault.FileError (S.failures store.old) (S.failures store.new) result }
+    ensures blamed { IsErrOf result LibraryFault.FileError → IsBlamed (S.blamed store.new) file.now }
     ensures limit { IfOk result (λ x. x.1 ≤ file_limit) }
     ensures later { IfOk result (λ x. at < x.1) }
     ensures new { IfOk result (λ x. is_among (map (λ n. n.items) names.now.keys) x.0.name ≡ false) }
@@ -131,6 +135,8 @@ fn read_count<S: Store>(store: &mut S, file: &str) -> Result<u32, LibraryFault>
     ensures read { IfSome (S.files store.old) (λ m. Gives is_outside (λ n. n) result (in_file (map.get m file.now) count_at)) }
     ensures files { S.files store.new ≡ S.files store.old }
     ensures count { Passes LibraryFault.FileError (S.failures store.old) (S.failures store.new) result }
+    ensures blamed { IsErrOf result LibraryFault.FileError → IsBlamed (S.blamed store.new) file.now }
+    ensures asked { Asks is_outside (S.failures store.old) result }
 {
     read_head(store, file)?;
     read_number(store, file, 5)
@@ -145,6 +151,8 @@ pub fn read_list<S: Store>(
     ensures read { IfSome (S.files store.old) (λ m. Gives is_outside (λ x. (x.0.items, x.1)) result (in_file (map.get m file.now) list_at)) }
     ensures files { S.files store.new ≡ S.files store.old }
     ensures count { Passes LibraryFault.FileError (S.failures store.old) (S.failures store.new) result }
+    ensures blamed { IsErrOf result LibraryFault.FileError → IsBlamed (S.blamed store.new) file.now }
+    ensures asked { Asks is_outside (S.failures store.old) result }
     ensures limit { IfOk result (λ x. x.1 ≤ file_limit) }
     ensures some { IfOk result (λ x. 0 < x.1) }
 {

@@ -1,11 +1,11 @@
 //! Libraries as lists of members.
 
-ghost use Rattle.std.specs.Prelude.{◌≡◌, ◌∷◌, [], IfOk, IfSome, OnErr, OnOk, Ok};
+ghost use Rattle.std.specs.Prelude.{◌≡◌, ◌∷◌, [], IfOk, IfSome, OnErr, OnOk, Ok, IsErrOf};
 ghost use Rattle.std.specs.Iterator.{YieldsFirstRef, item_count};
 ghost use Rattle.std.specs.Option.{option_copied};
 ghost use Rattle.base65.specs.Outcome.{Gives};
 ghost use Rattle.std.specs.FinMap as map;
-ghost use Rattle.base65.specs.Store.{Passes};
+ghost use Rattle.base65.specs.Store.{Passes, Asks, IsBlamed};
 ghost use Rattle.library65.specs.Fault.{is_memory, is_outside};
 ghost use Rattle.library65.specs.Reading.{in_file};
 ghost use Rattle.library65.specs.Libraries.{bytes_of, checked, deleted, library_at, member_names, replaced, with_member, without_member, written_behind};
@@ -178,6 +178,8 @@ impl Library {
         ensures read { IfSome (S.files store.old) (λ m. Gives is_outside (λ l. l) result (in_file (map.get m file.now) library_at)) }
         ensures files { S.files store.new ≡ S.files store.old }
         ensures count { Passes LibraryFault.FileError (S.failures store.old) (S.failures store.new) result }
+        ensures blamed { IsErrOf result LibraryFault.FileError → IsBlamed (S.blamed store.new) file.now }
+        ensures asked { Asks is_outside (S.failures store.old) result }
     {
         let members = read_members(alloc, store, file)?;
         Ok(Library {

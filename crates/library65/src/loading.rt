@@ -5,7 +5,7 @@ ghost use Rattle.std.specs.FinMap as map;
 ghost use Rattle.std.specs.List.{AllByRecursion};
 ghost use Rattle.base65.specs.Outcome.{Gives};
 ghost use Rattle.base65.specs.Reading.{ReadsChunk};
-ghost use Rattle.base65.specs.Store.{Passes};
+ghost use Rattle.base65.specs.Store.{Passes, Asks, IsBlamed};
 ghost use Rattle.object65.specs.Reading.{file_limit};
 ghost use Rattle.library65.specs.Fault.{is_memory, is_outside};
 ghost use Rattle.library65.specs.Libraries.{added, agreed, checked, joined, library_at, piece_at};
@@ -47,6 +47,7 @@ fn read_chunk<S: Store>(
     ensures grown { IfOk result (λ n. (n ≤ length chunk.old) × (length bytes.new.items ≡ length bytes.old.items + n)) }
     ensures files { S.files store.new ≡ S.files store.old }
     ensures count { Passes StoreFault.FileError (S.failures store.old) (S.failures store.new) result }
+    ensures blamed { IsErrOf result StoreFault.FileError → IsBlamed (S.blamed store.new) file.now }
 {
     let n = read_full(store, file, at, chunk)?;
     bytes.extend_from_slice(&chunk[..n])?;
@@ -65,6 +66,7 @@ fn read_piece<S: Store>(
     ensures read { IfSome (S.files store.old) (λ m. Gives is_outside (λ v. v.items) result (in_file (map.get m file.now) (piece_at entry.now.size entry.now.place))) }
     ensures files { S.files store.new ≡ S.files store.old }
     ensures count { Passes LibraryFault.FileError (S.failures store.old) (S.failures store.new) result }
+    ensures blamed { IsErrOf result LibraryFault.FileError → IsBlamed (S.blamed store.new) file.now }
 {
     let size = entry.size as usize;
     let mut bytes = Vec::new(alloc);
@@ -134,6 +136,7 @@ fn join_member<S: Store>(
     ensures read { IfSome (S.files store.old) (λ m. Gives is_outside (λ _. members_of loading.new.members) result (in_file (map.get m file.now) (joined (members_of loading.old.members) entry.now))) }
     ensures files { S.files store.new ≡ S.files store.old }
     ensures count { Passes LibraryFault.FileError (S.failures store.old) (S.failures store.new) result }
+    ensures blamed { IsErrOf result LibraryFault.FileError → IsBlamed (S.blamed store.new) file.now }
     ensures sound { OnOk result (IsSound loading.new.members) }
 {
     let bytes = read_piece(loading.alloc, store, file, entry, &mut loading.chunk)?;
@@ -149,6 +152,8 @@ pub fn read_members<S: Store>(
     ensures read { IfSome (S.files store.old) (λ m. Gives is_outside (λ ms. members_of ms) result (in_file (map.get m file.now) library_at)) }
     ensures files { S.files store.new ≡ S.files store.old }
     ensures count { Passes LibraryFault.FileError (S.failures store.old) (S.failures store.new) result }
+    ensures blamed { IsErrOf result LibraryFault.FileError → IsBlamed (S.blamed store.new) file.now }
+    ensures asked { Asks is_outside (S.failures store.old) result }
     ensures sound { IfOk result (λ ms. IsSound ms) }
 {
     let index = read_index(alloc, store, file)?;

@@ -4,7 +4,7 @@ ghost use Rattle.std.specs.Prelude.{◌≡◌, ◌≤◌, ◌<◌, ◌+◌, [], 
 ghost use Rattle.std.specs.FinMap as map;
 ghost use Rattle.std.specs.List.{AllByRecursion};
 ghost use Rattle.base65.specs.Outcome.{Gives};
-ghost use Rattle.base65.specs.Store.{Passes};
+ghost use Rattle.base65.specs.Store.{Passes, Asks, IsBlamed};
 ghost use Rattle.object65.specs.Reading.{file_limit};
 ghost use Rattle.library65.specs.Fault.{is_memory, is_outside};
 ghost use Rattle.library65.specs.Reading.{in_file, entry_at, placed, end_at, index_at};
@@ -68,6 +68,7 @@ fn check_end<S: Store>(store: &mut S, file: &str, end: u64) -> Result<(), Librar
     ensures read { IfSome (S.files store.old) (λ m. Gives is_outside (λ u. u) result (in_file (map.get m file.now) (end_at end))) }
     ensures files { S.files store.new ≡ S.files store.old }
     ensures count { Passes LibraryFault.FileError (S.failures store.old) (S.failures store.new) result }
+    ensures blamed { IsErrOf result LibraryFault.FileError → IsBlamed (S.blamed store.new) file.now }
 {
     let mut last = [0u8; 2];
     let n = read_full(store, file, end - 1, &mut last)?;
@@ -86,6 +87,8 @@ pub fn read_index<S: Store>(alloc: Global, store: &mut S, file: &str) -> Result<
     ensures read { IfSome (S.files store.old) (λ m. Gives is_outside (λ x. x.entries) result (in_file (map.get m file.now) index_at)) }
     ensures files { S.files store.new ≡ S.files store.old }
     ensures count { Passes LibraryFault.FileError (S.failures store.old) (S.failures store.new) result }
+    ensures blamed { IsErrOf result LibraryFault.FileError → IsBlamed (S.blamed store.new) file.now }
+    ensures asked { Asks is_outside (S.failures store.old) result }
     // Also where the store doesn't tell.
     ensures within { IfOk result (λ x. AllByRecursion (λ e. e.place + e.size ≤ file_limit) x.entries) }
 {

@@ -1,9 +1,9 @@
 //! A whole object, read from a file.
 
-ghost use Rattle.std.specs.Prelude.{◌≡◌, ◌≤◌, ◌+◌, length, IfSome, IfOk, true};
+ghost use Rattle.std.specs.Prelude.{◌≡◌, ◌≤◌, ◌+◌, length, IfSome, IfOk, true, IsErrOf};
 ghost use Rattle.std.specs.FinMap as map;
 ghost use Rattle.std.specs.List.{AllByRecursion};
-ghost use Rattle.base65.specs.Store.{Passes};
+ghost use Rattle.base65.specs.Store.{Passes, Asks, IsBlamed};
 ghost use Rattle.object65.specs.Fault.{Gives, is_outside};
 ghost use Rattle.object65.specs.Objects.{is_good_object, section_len, section_limit};
 ghost use Rattle.object65.specs.Reading.{in_file};
@@ -25,6 +25,8 @@ fn read_records<S: Store>(
     ensures read { IfSome (S.files store.old) (λ m. Gives is_outside (λ x. x) result (in_file (map.get m name.now) (λ bytes. records_at (length bytes) start at limit bytes))) }
     ensures files { S.files store.new ≡ S.files store.old }
     ensures count { Passes ObjectFault.FileError (S.failures store.old) (S.failures store.new) result }
+    ensures blamed { IsErrOf result ObjectFault.FileError → IsBlamed (S.blamed store.new) name.now }
+    ensures asked { Asks is_outside (S.failures store.old) result }
 {
     let mut builder = Builder::new(alloc);
     let mut reader = RecordReader::new();
@@ -50,6 +52,8 @@ pub fn read_object<S: Store>(
     ensures read { IfSome (S.files store.old) (λ m. Gives is_outside (λ o. o) result (in_file (map.get m name.now) (object_at at limit))) }
     ensures files { S.files store.new ≡ S.files store.old }
     ensures count { Passes ObjectFault.FileError (S.failures store.old) (S.failures store.new) result }
+    ensures blamed { IsErrOf result ObjectFault.FileError → IsBlamed (S.blamed store.new) name.now }
+    ensures asked { Asks is_outside (S.failures store.old) result }
     // What is read can be written, and so its sections are within their limit, also where the store doesn't tell.
     ensures good { IfOk result (λ o. is_good_object o ≡ true) }
     ensures sized { IfOk result (λ o. AllByRecursion (λ s. section_len s ≤ section_limit) o.sections) }

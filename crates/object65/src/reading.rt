@@ -1,8 +1,9 @@
 //! Reading an object's head and end from a file, and the fronts of its records.
 
-ghost use Rattle.std.specs.Prelude.{◌≡◌, ◌≤◌, ◌+◌, ◌-◌, length, IfOk, IfSome, take};
+ghost use Rattle.std.specs.Prelude.{◌≡◌, ◌≤◌, ◌+◌, ◌-◌, length, IfOk, IfSome, take, IsErrOf};
 ghost use Rattle.std.specs.FinMap as map;
-ghost use Rattle.base65.specs.Store.{Passes};
+ghost use Rattle.base65.specs.Store.{Passes, Asks, IsBlamed};
+ghost use Rattle.base65.specs.StoreFaults.{is_outside_store};
 ghost use Rattle.object65.specs.Fault.{Gives, is_outside};
 ghost use Rattle.object65.specs.Record.{is_record_kind};
 ghost use Rattle.object65.specs.Reading.{in_file, head_at, end_at, room, IsRoomRead, front_of};
@@ -34,6 +35,8 @@ pub fn read_room<S: Store>(
     ensures read { IfSome (S.files store.old) (λ m. IsRoomRead (map.get m name.now) at limit buf.new result) }
     ensures files { S.files store.new ≡ S.files store.old }
     ensures count { Passes StoreFault.FileError (S.failures store.old) (S.failures store.new) result }
+    ensures blamed { IsErrOf result StoreFault.FileError → IsBlamed (S.blamed store.new) name.now }
+    ensures asked { Asks is_outside_store (S.failures store.old) result }
 {
     let room = limit.saturating_sub(at);
     let want = if room < buf.len() as u64 {
@@ -54,6 +57,8 @@ pub fn read_head<S: Store>(
     ensures read { IfSome (S.files store.old) (λ m. Gives is_outside (λ n. n) result (in_file (map.get m name.now) (head_at at limit))) }
     ensures files { S.files store.new ≡ S.files store.old }
     ensures count { Passes ObjectFault.FileError (S.failures store.old) (S.failures store.new) result }
+    ensures blamed { IsErrOf result ObjectFault.FileError → IsBlamed (S.blamed store.new) name.now }
+    ensures asked { Asks is_outside (S.failures store.old) result }
     ensures bound { IfOk result (λ n. (n ≡ at + 5) × (n ≤ limit)) }
 {
     let mut head = [0u8; 5];
@@ -77,6 +82,8 @@ pub fn read_front<S: Store>(
     ensures read { IfSome (S.files store.old) (λ m. Gives is_outside (λ x. x) result (in_file (map.get m name.now) (λ bytes. front_of (take 3 (room bytes at limit))))) }
     ensures files { S.files store.new ≡ S.files store.old }
     ensures count { Passes ObjectFault.FileError (S.failures store.old) (S.failures store.new) result }
+    ensures blamed { IsErrOf result ObjectFault.FileError → IsBlamed (S.blamed store.new) name.now }
+    ensures asked { Asks is_outside (S.failures store.old) result }
     ensures room { IfOk result (λ x. 3 ≤ limit - at) }
     ensures len { IfOk result (λ x. x.1 ≤ body_limit) }
 {
@@ -106,6 +113,8 @@ pub fn check_end<S: Store>(
     ensures read { IfSome (S.files store.old) (λ m. Gives is_outside (λ u. u) result (in_file (map.get m name.now) (end_at at limit))) }
     ensures files { S.files store.new ≡ S.files store.old }
     ensures count { Passes ObjectFault.FileError (S.failures store.old) (S.failures store.new) result }
+    ensures blamed { IsErrOf result ObjectFault.FileError → IsBlamed (S.blamed store.new) name.now }
+    ensures asked { Asks is_outside (S.failures store.old) result }
 {
     let mut next = [0u8; 1];
     let n = read_room(store, name, at, limit, &mut next)?;

@@ -1,8 +1,8 @@
 //! Records, read from a file one after another into one room.
 
-ghost use Rattle.std.specs.Prelude.{◌≡◌, ◌≤◌, ◌+◌, ◌-◌, length, IfOk, IfSome, take};
+ghost use Rattle.std.specs.Prelude.{◌≡◌, ◌≤◌, ◌+◌, ◌-◌, length, IfOk, IfSome, take, IsErrOf};
 ghost use Rattle.std.specs.FinMap as map;
-ghost use Rattle.base65.specs.Store.{Passes};
+ghost use Rattle.base65.specs.Store.{Passes, Asks, IsBlamed};
 ghost use Rattle.object65.specs.Fault.{Gives, is_outside};
 ghost use Rattle.object65.specs.Record.{entry_of};
 ghost use Rattle.object65.specs.Reading.{in_file, record_at, room, whole, file_limit};
@@ -68,6 +68,8 @@ impl RecordReader {
         ensures read { IfSome (S.files store.old) (λ m. Gives is_outside (λ n. (self.new, n)) result (in_file (map.get m name.now) (record_at at limit))) }
         ensures files { S.files store.new ≡ S.files store.old }
         ensures count { Passes ObjectFault.FileError (S.failures store.old) (S.failures store.new) result }
+        ensures blamed { IsErrOf result ObjectFault.FileError → IsBlamed (S.blamed store.new) name.now }
+        ensures asked { Asks is_outside (S.failures store.old) result }
         ensures bound { IfOk result (λ n. (n ≡ at + 3 + length self.new.body) × (n ≤ limit) × (n ≤ file_limit)) }
     {
         let (kind, len) = read_front(store, name, at, limit)?;
@@ -93,6 +95,7 @@ fn read_body<S: Store>(
     ensures read { IfSome (S.files store.old) (λ m. Gives is_outside (λ _. buf.new) result (in_file (map.get m name.now) (λ bytes. whole (length buf.old) (take (length buf.old) (room bytes at limit))))) }
     ensures files { S.files store.new ≡ S.files store.old }
     ensures count { Passes ObjectFault.FileError (S.failures store.old) (S.failures store.new) result }
+    ensures blamed { IsErrOf result ObjectFault.FileError → IsBlamed (S.blamed store.new) name.now }
     ensures room { IfOk result (λ _. length buf.old ≤ limit - at) }
 {
     let len = buf.len();
@@ -125,6 +128,8 @@ pub fn read_record<S: Store>(
     ensures read { IfSome (S.files store.old) (λ m. Gives is_outside (λ x. (entry_of x.0, x.1)) result (in_file (map.get m name.now) (record_at at limit))) }
     ensures files { S.files store.new ≡ S.files store.old }
     ensures count { Passes ObjectFault.FileError (S.failures store.old) (S.failures store.new) result }
+    ensures blamed { IsErrOf result ObjectFault.FileError → IsBlamed (S.blamed store.new) name.now }
+    ensures asked { Asks is_outside (S.failures store.old) result }
     ensures bound { IfOk result (λ x. (x.1 ≡ at + 3 + length x.0.body.items) × (x.1 ≤ limit) × (x.1 ≤ file_limit)) }
 {
     let mut reader = RecordReader::new();

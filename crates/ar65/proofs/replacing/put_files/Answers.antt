@@ -1,4 +1,4 @@
-use Rattle.std.proofs.Common.{◌∙◌, map}
+use Rattle.std.proofs.Common.{◌∙◌, Err, ap, map}
 use Rattle.ar65.proofs.Named.{of_file}
 use Rattle.ar65.proofs.Puts.{file_more, file_none, refused_count, same_count}
 use Rattle.ar65.proofs.Turns.{name_next, name_there}
@@ -21,4 +21,4 @@ loop-place-preserved g c = record {
 pub returns-in-Err-clause-named : goal.returns-in-Err-clause-named
 returns-in-Err-clause-named g c =
     let there = name_there c.args.files.now c.loop-place.place c.loop-place-test.true in
-    of_file (map (λ s. s.now) c.args.files.now) c.loop-place.place there.0 c.in-Err.fault there.1
+    of_file _ (map (λ s. s.now) c.args.files.now) c.loop-place.place there.0 c.in-Err.fault there.1 (λ h. c.in-Err.ensures.blamed (ap (λ f. Err f) h))

@@ -1,8 +1,9 @@
-use Rattle.std.proofs.Common.{◌∙◌, refl, sym, arith}
+use Rattle.std.proofs.Common.{◌≡◌, ◌∙◌, refl, sym, arith}
 use Rattle.std.proofs.lemmas.Result.{err_from_is_err_and}
 use Rattle.std.specs.FinMap.{get}
 use Rattle.object65.specs.Reading.{in_file, record_at}
 use Rattle.object65.specs.Record.{entry_of}
+use Rattle.object65.specs.declared.fault.ObjectFault.TheVariants.{FileError}
 use Rattle.object65.proofs.Records.{begins_in, seen, reading_stops, taking_stops, ends_in, goes_on_in, memory_outside, kept_count, none_passed, not_stored}
 use Rattle.object65.proofs.loading.read_records.Goals as goal
 
@@ -42,3 +43,9 @@ records-preserved g c =
       count = kept_count _ _ _ c.in_ok-next.ensures.count ∙ c.records.invariant.count;
       read = goes_on_in c.args.limit c.args.at c.records.next _ _ c.args.name.now c.records.builder c.take.new.self (entry_of c.record.result.now, c.in_ok-next.next) c.records.invariant.files c.records.invariant.read (seen _ (λ m. in_file (get m c.args.name.now) (record_at c.records.next c.args.limit)) _ _ c.in_ok-next.next c.record.ensures c.in_ok-next.ensures.read) (omega (arith, c.in_ok-next.ensures.bound.0)) c.in_ok-take.ensures.taken (sym c.is_ended.ensures ∙ c.if-is_ended.false);
     }
+
+pub returns-in_err-take-clause-blamed : goal.returns-in_err-take-clause-blamed
+returns-in_err-take-clause-blamed g c =
+    let p = err_from_is_err_and c.from_residual-in_err-take.result c.from_residual-in_err-take.ensures.1 in
+    let e = c.in_err-take.field-0.0 in
+    rw (p.1, p.2) (λ h. (let stored : e ≡ FileError = cc h in absurd (not_stored c.records.builder (entry_of c.record.result.now) e c.in_err-take.ensures.taken stored)))

@@ -1,8 +1,9 @@
 //! Files to a store.
 
-ghost use Rattle.std.specs.Prelude.{◌≡◌, ◌≢◌, ◌<◌, length, OnOk, OnErr, IfErr, IfSome, IsErrOf};
+ghost use Rattle.std.specs.Prelude.{◌≡◌, ◌≢◌, ◌<◌, length, slice_get, [], Some, OnOk, OnErr, IfErr, IfSome, IsErrOf};
 ghost use Rattle.std.specs.FinMap as map;
-ghost use Rattle.base65.specs.Store.{Tells, Passes, PassesBy};
+ghost use Rattle.base65.specs.Store.{IsBlamed, Tells, Passes, PassesBy};
+ghost use Rattle.image65.specs.declared.output.OutputFile.{OutputFile};
 ghost use Rattle.outcomes65.specs.Leaving.{IsPartly, StopsAt, apply, is_failure};
 
 use base65::{Store, StoreFault};
@@ -15,6 +16,7 @@ pub fn write_file<S: Store>(store: &mut S, name: &str, bytes: &[u8]) -> Result<(
     // A file that was begun is there.
     ensures there { IfSome (S.files store.old) (λ m. IsErrOf result StoreFault.FileNotFound → ⊥) }
     ensures count { Passes StoreFault.FileError (S.failures store.old) (S.failures store.new) result }
+    ensures blamed { IsErrOf result StoreFault.FileError → IsBlamed (S.blamed store.new) name.now }
 {
     store.create(name)?;
     let mut rest = bytes;
@@ -40,6 +42,9 @@ pub fn write_outputs<S: Store>(store: &mut S, outputs: &[OutputFile]) -> Result<
     ensures place { IfErr result (λ e. e.place < length outputs.now) }
     ensures there { IfSome (S.files store.old) (λ m. IfErr result (λ e. e.fault ≢ StoreFault.FileNotFound)) }
     ensures count { PassesBy is_failure (S.failures store.old) (S.failures store.new) result }
+    ensures blamed { (file : OutputFile) → IfErr result (λ e. e.fault ≡ StoreFault.FileError →
+        slice_get outputs.now e.place ≡ Some file → IsBlamed (S.blamed store.new) file.name) }
+    ensures untouched { outputs.now ≡ [] → S.blamed store.new ≡ S.blamed store.old }
 {
     for (place, output) in outputs.iter().enumerate() {
         if let Err(fault) = write_file(store, output.name.as_str(), output.bytes.as_slice()) {

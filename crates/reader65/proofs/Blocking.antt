@@ -36,7 +36,7 @@ no_line judge a l e (Err f, t, h) =
     subst P same (a_fault a l f t)
 
 -- a line that is there
-some_line : (l m : Left) (ts : List Lexeme) → TakesInBlock l (Ok (ts, m)) → Takes l (Ok (Some ts, m))
+pub some_line : (l m : Left) (ts : List Lexeme) → TakesInBlock l (Ok (ts, m)) → Takes l (Ok (Some ts, m))
 some_line l m ts (Ok (Some us, n), t, h) =
     let pair : (us, n) ≡ (ts, m) = cc in
     let one : us ≡ ts = ap (λ (p : List Lexeme × Left). p.0) pair in

@@ -9,5 +9,6 @@ pub mod Nexts
 pub mod Opening
 pub mod Plainly
 pub mod Splitting
+pub mod Stopping
 pub mod Tables
 pub mod Turning

@@ -64,7 +64,7 @@ one_refused before after tail n r p f c h t = by (is_outside f) t
 -- ---- Of a reader.
 
 -- all that is left, the innermost input's lines first
-parted : (m : Files) (r : Reader) → own m r.top ++ outside m r.outer.items ≡ left_in m r.top.source ++ (mark (mark_of r.top) ∷ outside m r.outer.items)
+pub parted : (m : Files) (r : Reader) → own m r.top ++ outside m r.outer.items ≡ left_in m r.top.source ++ (mark (mark_of r.top) ∷ outside m r.outer.items)
 parted m r = append_assoc (left_in m r.top.source) (mark (mark_of r.top) ∷ []) (outside m r.outer.items)
 
 pub told_taken : (o : Option Files) (old new : Reader) (mid : Source) (n : NextLine) (line : Line) → IfSome o (λ m. ComesNext (left_in m mid) n) → IfSome o (λ m. left_in m mid ≡ left_in m old.top.source) → (n ≡ AtEnd → ⊥) → IfSome o (λ m. TakesLine (left_in m mid) (Ok line) (left_in m new.top.source)) → mark_of new.top ≡ mark_of old.top → new.outer ≡ old.outer → new.place ≡ moved_by n old.place → suc new.room ≡ old.room → IfSome o (λ m. Takes (left_of m old) (Ok (Some (tokens_in line), left_of m new)))

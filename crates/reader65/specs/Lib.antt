@@ -14,4 +14,5 @@ pub mod Plain
 pub mod Playing
 pub mod Reading
 pub mod Replacing
+pub mod Stopping
 pub mod Taking

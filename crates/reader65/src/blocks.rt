@@ -3,6 +3,7 @@
 ghost use Rattle.std.specs.Prelude.{◌≡◌, ◌∷◌, ◌++◌, [], ◌<◌, ◌↔◌, List, IsTrue, false, drop, map, IfErr, IfSome, OnOk};
 ghost use Rattle.syntax65.specs.Tokens.{Lexeme, lexemes};
 ghost use Rattle.base65.specs.Store.{Passes};
+ghost use Rattle.reader65.specs.Stopping.{StopsAt};
 ghost use Rattle.reader65.specs.Inside.{Answers, left_of, mark_of};
 ghost use Rattle.reader65.specs.Blocks.{Block, collects, gathers, passes, skipping, skips};
 ghost use Rattle.source65.specs.Faults.{is_failure};
@@ -191,6 +192,7 @@ impl Reader {
         ensures outer { self.new.outer ≡ self.old.outer }
         ensures files { S.files store.new ≡ S.files store.old }
         ensures count { Passes ExpandFault.FileError (S.failures store.old) (S.failures store.new) result }
+        ensures stopped { IfSome (S.files store.old) (λ m. StopsAt m self.old self.new result) }
     {
         let mut body = Sequence::new(alloc);
         'lines: loop {
@@ -217,6 +219,7 @@ impl Reader {
         ensures outer { self.new.outer ≡ self.old.outer }
         ensures files { S.files store.new ≡ S.files store.old }
         ensures count { Passes ExpandFault.FileError (S.failures store.old) (S.failures store.new) result }
+        ensures stopped { IfSome (S.files store.old) (λ m. StopsAt m self.old self.new result) }
     {
         let mut body = Sequence::new(alloc);
         let mut depth = 0;
@@ -242,6 +245,7 @@ impl Reader {
         ensures outer { self.new.outer ≡ self.old.outer }
         ensures files { S.files store.new ≡ S.files store.old }
         ensures count { Passes ExpandFault.FileError (S.failures store.old) (S.failures store.new) result }
+        ensures stopped { IfSome (S.files store.old) (λ m. StopsAt m self.old self.new result) }
     {
         let mut depth = 0;
         'lines: loop {
@@ -268,6 +272,7 @@ impl Reader {
         ensures outer { self.new.outer ≡ self.old.outer }
         ensures files { S.files store.new ≡ S.files store.old }
         ensures count { Passes ExpandFault.FileError (S.failures store.old) (S.failures store.new) result }
+        ensures stopped { IfSome (S.files store.old) (λ m. StopsAt m self.old self.new result) }
     {
         let mut depth = 0;
         'lines: loop {

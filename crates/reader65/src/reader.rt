@@ -3,6 +3,7 @@
 ghost use Rattle.std.specs.Prelude.{◌≡◌, ◌<◌, ◌≤◌, ◌-◌, ◌+◌, length, IfErr, IfNone, IfOk, IfSome, IsTrue, OnOk, [], false, option_map};
 ghost use Rattle.base65.specs.Store.{Passes};
 ghost use Rattle.source65.specs.Faults.{is_failure, is_outside};
+ghost use Rattle.reader65.specs.Stopping.{StopsAt, last_read};
 ghost use Rattle.reader65.specs.Inside.{Answers, left_in, left_of, mark_of, moved_by, outside};
 ghost use Rattle.reader65.specs.Kept.{tokens_in};
 ghost use Rattle.base65.specs.Store.{Files};
@@ -73,6 +74,7 @@ impl Reader {
         ensures outer { self.new.outer ≡ self.old.outer }
         ensures files { S.files store.new ≡ S.files store.old }
         ensures count { Passes ExpandFault.FileError (S.failures store.old) (S.failures store.new) result }
+        ensures stopped { IfSome (S.files store.old) (λ m. StopsAt m self.old self.new result) }
     {
         let next = self.top.source.begin_line(alloc, store)?;
         if next.is_end() {
@@ -101,6 +103,7 @@ impl Reader {
         ensures outer { self.new.outer ≡ self.old.outer }
         ensures files { S.files store.new ≡ S.files store.old }
         ensures count { Passes ExpandFault.FileError (S.failures store.old) (S.failures store.new) result }
+        ensures stopped { IfSome (S.files store.old) (λ m. StopsAt m self.old self.new result) }
     {
         match self.next_line(alloc, store)? {
             Some(line) => Ok(line),
@@ -203,6 +206,18 @@ impl Reader {
     {
         if let Some(place) = back {
             self.place = place;
+        }
+    }
+}
+
+impl Reader {
+    /// Goes back to the line that includes a file of which no line was read: it is the one that was read last.
+    pub fn go_back_unread(&mut self)
+        ensures place { self.new.place ≡ last_read self.old.place self.old.top.back }
+    {
+        if self.place.line == 0 {
+            let back = self.top.back.take();
+            self.go_back(back);
         }
     }
 }

@@ -11,6 +11,7 @@ returns-in-Err-clause-done g c =
 
 pub returns-in-Err-clause-failed : goal.returns-in-Err-clause-failed
 returns-in-Err-clause-failed g c =
-    stops_writing _ _ _ _ c.args.outcome.now c.in-Err.unwritten _ _ _ _ _ c.say_unwritten.result _ refl c.in-Err.ensures.count.told
+    stops_writing _ _ _ _ c.args.outcome.now c.in-Err.unwritten _ _ _ _ _ _ c.say_unwritten.result _ refl c.in-Err.ensures.count.told
     (rw c.as_slice-3.ensures at c.in-Err.ensures.err) (rw (c.as_slice.ensures, c.as_slice-2.ensures, c.if-not-say_both.false) at c.say_both.ensures)
     (rw c.as_slice-in-Err.ensures at c.say_unwritten.ensures.failed)
+    (rw c.as_slice-3.ensures at c.in-Err.ensures.blamed)

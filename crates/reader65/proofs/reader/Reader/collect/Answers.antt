@@ -5,14 +5,16 @@ use Rattle.base65.specs.Outcome.{Unless}
 use Rattle.syntax65.specs.Tokens.{Lexeme}
 use Rattle.reader65.specs.BlockLines.{TakesInBlock}
 use Rattle.reader65.specs.Blocks.{collects}
-use Rattle.source65.specs.Faults.{is_outside}
+use Rattle.source65.specs.Faults.{is_failure, is_outside}
 use Rattle.reader65.specs.Inside.{left_of}
+use Rattle.reader65.specs.Stopping.{HasReadTo}
 use Rattle.reader65.specs.Judging.{Judges}
 use Rattle.reader65.specs.Kept.{tokens_in}
 use Rattle.reader65.specs.declared.blocks.BlockStep.{BlockStep}
 use Rattle.reader65.specs.declared.blocks.BlockStep.TheVariants.{Closed}
 use Rattle.reader65.proofs.Blocking.{Leads, line_missing, line_refused, line_closes, line_goes_on, step_goes_on}
 use Rattle.reader65.proofs.Gathering.{moved_to}
+use Rattle.reader65.proofs.Stopping.{line_read, stops_on}
 use Rattle.reader65.proofs.reader.Reader.collect.Goals as goal
 
 pub returns-in_err-line-clause-read : goal.returns-in_err-line-clause-read
@@ -62,5 +64,15 @@ lines-preserved g c =
       room = omega (arith, c.in_ok-line.ensures.room, c.lines.invariant.room);
       files = c.in_ok-line.ensures.files ∙ c.lines.invariant.files;
       count = search rules;
+      reads = line_read o c.args.self.now c.lines.self new (tokens_in line) c.lines.invariant.reads taken;
       so_far = subst P (sym items) more;
     }
+
+pub returns-in_err-line-clause-stopped : goal.returns-in_err-line-clause-stopped
+returns-in_err-line-clause-stopped g c =
+    let p = err_from_is_err_and c.from_residual.result c.from_residual.ensures.1 in
+    let o = g.S.Store.files c.args.store.now in
+    let f = c.in_err-line.field-0.0 in
+    let reads = c.lines.invariant.reads in
+    let stops = moved_to (λ m. is_failure f ≡ true → HasReadTo m c.lines.self c.block_line.new.self) o (g.S.Store.files c.lines.store) c.lines.invariant.files c.in_err-line.ensures.stopped in
+    rw (p.1, p.2) (stops_on o c.args.self.now c.lines.self c.block_line.new.self f reads c.lines.invariant.mark stops)

@@ -6,6 +6,7 @@ use Rattle.reader65.specs.declared.input.NextLine.TheVariants.{AtEnd}
 use Rattle.reader65.specs.declared.reader.Reader.{Reader}
 use Rattle.reader65.proofs.Gathering.{moved_to}
 use Rattle.reader65.proofs.Nexts.{told_taken, told_refused}
+use Rattle.reader65.proofs.Stopping.{begins_there, none_read, stopped_so}
 use Rattle.reader65.proofs.reader.Reader.next_line.Goals as goal
 
 pub returns-in_err-line-clause-read : goal.returns-in_err-line-clause-read
@@ -32,3 +33,18 @@ returns-clause-read g c =
     let taken = moved_to (λ m. TakesLine (left_in m mid) (Ok line) (left_in m c.take_line.new.self)) o (g.S.Store.files c.begin_line.new.store) c.in_ok-next.ensures.files c.in_ok-line.ensures.taken in
     let same = ap (λ b. let k : Mark = record { is_macro = b; conditions = old.top.conditions; back = old.top.back } in k) (c.in_ok-line.ensures.call ∙ c.in_ok-next.ensures.call) in
     told_taken o old new mid c.in_ok-next.next line c.in_ok-next.ensures.comes c.in_ok-next.ensures.same not_end taken same refl c.move_by.ensures more
+
+pub returns-in_err-next-clause-stopped : goal.returns-in_err-next-clause-stopped
+returns-in_err-next-clause-stopped g c =
+    let old = c.args.self.now in
+    let new : Reader = record { top = record { source = c.begin_line.new.self; conditions = old.top.conditions; back = old.top.back }; outer = old.outer; room = old.room; place = old.place } in
+    stopped_so (g.S.Store.files c.args.store.now) old new c.from_residual.result (none_read _ old old.place refl) (ap (λ b. let k : Mark = record { is_macro = b; conditions = old.top.conditions; back = old.top.back } in k) c.in_err-next.ensures.call)
+
+pub returns-in_err-line-clause-stopped : goal.returns-in_err-line-clause-stopped
+returns-in_err-line-clause-stopped g c =
+    let o = g.S.Store.files c.args.store.now in
+    let old = c.args.self.now in
+    let mid = c.begin_line.new.self in
+    let new : Reader = record { top = record { source = c.take_line.new.self; conditions = old.top.conditions; back = old.top.back }; outer = old.outer; room = old.room - 1; place = c.move_by.new.place } in
+    stopped_so o old new c.from_residual-in_err-line.result (begins_there o old mid c.move_by.new.place c.in_ok-next.next c.in_ok-next.ensures.comes c.in_ok-next.ensures.same c.move_by.ensures)
+    (ap (λ b. let k : Mark = record { is_macro = b; conditions = old.top.conditions; back = old.top.back } in k) (c.in_err-line.ensures.call ∙ c.in_ok-next.ensures.call))

@@ -1,15 +1,17 @@
 -- The statements of a source as an expander gives them and an assembler takes them.
-use Rattle.std.proofs.Common.{◌≡◌, ◌∙◌, ℕ, ◌+◌, ◌*◌, ◌≤◌, ◌<◌, Bool, true, false, Option, Some, None, sym, ap, subst, arith}
+use Rattle.std.proofs.Common.{◌≡◌, ◌∙◌, ℕ, ◌+◌, ◌*◌, ◌≤◌, ◌<◌, Bool, true, false, Option, Some, None, refl, sym, ap, subst, arith}
 use Rattle.std.specs.Prelude.{Result, Ok, Err, IfSome, if◌then◌else◌}
 use Rattle.base65.specs.Outcome.{Unless}
 use Rattle.base65.specs.Store.{Files}
 use Rattle.expand65.specs.declared.expander.Statement.{Statement}
 use Rattle.expand65.specs.declared.expander.Statement.TheVariants.{Label, Plain}
 use Rattle.source65.specs.declared.fault.ExpandFault.{ExpandFault}
+use Rattle.source65.specs.declared.fault.ExpandFault.TheVariants as fault_of
 use Rattle.expand65.specs.Expansion.{Reaches, statement, fault, opened_in}
 use Rattle.source65.specs.Faults as expansion
 use Rattle.expand65.specs.Standing.{FollowsFrom, Opens, StandsFor, measure_of, place_of, stated}
 use Rattle.expand65.specs.State as expand
+use Rattle.expand65.specs.Stopping.{IsOnItsWay, StopsOnItsWay}
 use Rattle.language65.specs.declared.fault.AsmFault.{AsmFault}
 use Rattle.language65.specs.declared.fault.AsmFault.TheVariants.{BadScope, Expansion}
 use Rattle.language65.specs.Faults.{is_failure, is_outside}
@@ -113,6 +115,10 @@ RanAll m first now r =
 abbrev pub NextBy : Files → Run → Result (Option Statement) ExpandFault → Run → Type 0
 NextBy m old r mid = (t : State) → IsHeldBy t old → FollowsFrom m (known_at t.symbols t.standing) old.expander r mid.expander
 
+-- where the store failed on the way to it
+abbrev pub StopsBy : Files → Run → Result (Option Statement) ExpandFault → Run → Type 0
+StopsBy m old r mid = (t : State) → IsHeldBy t old → StopsOnItsWay m (known_at t.symbols t.standing) old.expander r mid.expander
+
 pub goes_first : (m : Files) (run : Run) → Goes m run run
 goes_first m run job t opens defined held = (
   t,
@@ -129,6 +135,27 @@ goes_first m run job t opens defined held = (
 same_tokens : (x : Statement) → AreFit (named.tokens_of (stated x)) → AreNamed (tokens_of (stated x))
 same_tokens (Label line) h = are_named _ h
 same_tokens (Plain line) h = are_named _ h
+
+-- a failure of expansion is the store's
+of_store : (e : ExpandFault) → is_failure (Expansion e) ≡ true → expansion.is_failure e ≡ true
+of_store fault_of.FileError h = refl
+of_store fault_of.FailedBefore h = absurd cc
+of_store fault_of.OutOfMemory h = absurd cc
+of_store (fault_of.Syntax f) h = absurd cc
+of_store fault_of.FileNotFound h = absurd cc
+of_store fault_of.NotConstant h = absurd cc
+of_store fault_of.Nested h = absurd cc
+of_store fault_of.TooManyLines h = absurd cc
+of_store fault_of.NotClosed h = absurd cc
+of_store fault_of.NotOpened h = absurd cc
+of_store fault_of.TooManyArguments h = absurd cc
+of_store fault_of.MacroTwice h = absurd cc
+of_store fault_of.MacroInside h = absurd cc
+of_store fault_of.CountOutOfRange h = absurd cc
+of_store fault_of.FileTooLong h = absurd cc
+of_store (fault_of.Error t) h = absurd cc
+of_store fault_of.NotUnderstood h = absurd cc
+of_store fault_of.LineTooLong h = absurd cc
 
 module _ (m : Files) (first old mid : Run) (same : mid.assembler ≡ old.assembler) where
   -- a statement that is taken
@@ -207,15 +234,16 @@ module _ (m : Files) (first old mid : Run) (same : mid.assembler ≡ old.assembl
       by u count holds false runs = (u, runs, (count, holds))
 
   -- the store fails while expansion reads on
-  pub stops_out : (e : ExpandFault) (r : Answer) → r ≡ Err (Expansion e) → Goes m first old → StopsAll m first mid r
-  stops_out e r fails so_far = subst (StopsAll m first mid) (sym fails) (λ failed job begun_so. by job (so_far job begun_so.0 begun_so.1 begun_so.2 begun_so.3))
+  pub stops_out : (e : ExpandFault) (r : Answer) → r ≡ Err (Expansion e) → StopsBy m old (Err e) mid → Goes m first old → StopsAll m first mid r
+  stops_out e r fails where_it_is so_far = subst (StopsAll m first mid) (sym fails) (λ failed job begun_so. by (of_store e failed) job (so_far job begun_so.0 begun_so.1 begun_so.2 begun_so.3))
     where
-      by : (job : Job) → (u : State) × Stays m job old u → StopsBehind m job (record { place = place_of mid.expander; fault = Expansion e }) mid.assembler.texts.out mid.assembler.texts.err
-      by job now =
+      by : expansion.is_failure e ≡ true → (job : Job) → (u : State) × Stays m job old u → StopsBehind m job (record { place = place_of mid.expander; fault = Expansion e }) mid.assembler.texts.out mid.assembler.texts.err
+      by failed job now =
           let u = now.0 in
           let s = now.1 in
           let says = says_held s.held.count u old.assembler mid.assembler same s.held.holds in
-          record { left = s.left; behind = u; taken = s.taken; where_it_is = tt; says_out = says.0; says_err = says.1 }
+          let W : expand.State → Type 0 = λ l. IsOnItsWay m (known_at u.symbols u.standing) l (place_of mid.expander) in
+          record { left = s.left; behind = u; taken = s.taken; where_it_is = subst W s.stands.1 (where_it_is u s.held failed); says_out = says.0; says_err = says.1 }
 
   -- it fails while a statement is taken
   pub stops_wrong : (x : Statement) (new : Run) (e : AsmFault) (r : Answer) → r ≡ Err e → NextBy m old (Ok (Some x)) mid → StopsQuietly mid.assembler new.assembler (Err e) → new.expander ≡ mid.expander → Goes m first old → StopsAll m first new r
@@ -257,9 +285,9 @@ module _ (o p : Option Files) (told : p ≡ o) (first old mid : Run) (same : mid
   all_out e r fails next =
       some_both (λ m. Goes m first old) (λ m. NextBy m old (Err e) mid) (λ m. RanAll m first mid r) o (λ m so n. goes_out m first old mid same e r fails n so) so_far (subst (λ q. IfSome q (λ m. NextBy m old (Err e) mid)) told next)
 
-  pub all_stop : (e : ExpandFault) (r : Answer) → r ≡ Err (Expansion e) → IfSome o (λ m. StopsAll m first mid r)
-  all_stop e r fails =
-      some_then (λ m. Goes m first old) (λ m. StopsAll m first mid r) o (λ m so. stops_out m first old mid same e r fails so) so_far
+  pub all_stop : (e : ExpandFault) (r : Answer) → r ≡ Err (Expansion e) → IfSome p (λ m. StopsBy m old (Err e) mid) → IfSome o (λ m. StopsAll m first mid r)
+  all_stop e r fails stops =
+      some_both (λ m. Goes m first old) (λ m. StopsBy m old (Err e) mid) (λ m. StopsAll m first mid r) o (λ m so s. stops_out m first old mid same e r fails s so) so_far (subst (λ q. IfSome q (λ m. StopsBy m old (Err e) mid)) told stops)
 
   module _ (q : Option Statement) (next : IfSome p (λ m. NextBy m old (Ok q) mid)) where
     given : (x : Option Statement) → q ≡ x → IfSome o (λ m. NextBy m old (Ok x) mid)

@@ -4,6 +4,7 @@ use Rattle.base65.specs.Store.{Files}
 use Rattle.expand65.specs.Expansion.{Reaches, opened_in, statement}
 use Rattle.expand65.specs.Standing.{Opens, place_of}
 use Rattle.expand65.specs.State as expand
+use Rattle.expand65.specs.Stopping.{IsOnItsWay}
 use Rattle.source65.specs.declared.fault.ExpandFault.TheVariants as expansion
 use Rattle.source65.specs.declared.place.Place.{Place}
 use Rattle.language65.specs.declared.fault.AsmFault.{AsmFault}
@@ -36,9 +37,10 @@ pub record IsNextAt (m : Files) (s : expand.State) (t : State) (place : Place) :
   pub reaches : Reaches m (known_at t.symbols t.standing) s (statement stated left)
   pub at : place ≡ left.left.place
 
--- a file that a statement takes bytes of can't be read: that is the next statement
+-- Where the store failed: at the next statement, where it takes bytes of a file that can't be read; else on the way to it.
 abbrev pub IsWhere : Files → expand.State → State → AsmFault → Place → Type 0
 IsWhere m s t FileError place = IsNextAt m s t place
+IsWhere m s t (Expansion e) place = IsOnItsWay m (known_at t.symbols t.standing) s place
 IsWhere m s t _ place = ⊤
 
 -- the store failed behind some of the statements, and what they say was said

@@ -2,10 +2,11 @@
 
 ghost use Rattle.std.specs.Prelude.{◌≡◌, ◌≤◌, false, true, IfErr, IfOk, IfSome, Ok, Some, []};
 ghost use Rattle.base65.specs.Outcome.{Finds};
-ghost use Rattle.base65.specs.Store.{Passes, PassesBy};
+ghost use Rattle.base65.specs.Store.{Asks, Passes, PassesBy};
 ghost use Rattle.object65.specs.Objects.{ObjectFits, is_good_object};
 ghost use Rattle.expand65.specs.Expansion.{opened_in};
 ghost use Rattle.expand65.specs.Standing.{Opens, measure_of, place_of};
+ghost use Rattle.source65.specs.Faults.{is_outside as is_expand_outside};
 ghost use Rattle.language65.specs.Faults.{is_failure, is_outside};
 ghost use Rattle.module65.specs.Machine.{State, Takes, begun, concluded};
 ghost use Rattle.module65.specs.Reading.{AreDefined, Job, no_line};
@@ -149,6 +150,7 @@ fn opened<S: Store>(alloc: Global, store: &mut S, job: &AsmJob<'_>) -> Result<Ex
     ensures files { S.files store.new ≡ S.files store.old }
     ensures size { IfOk result (λ e. measure_of e ≤ 3145729) }
     ensures count { Passes ExpandFault.FileError (S.failures store.old) (S.failures store.new) result }
+    ensures asked { Asks is_expand_outside (S.failures store.old) result }
 {
     let options = folders_of(alloc, job)?;
     Expander::open(alloc, store, job.source, &options)
@@ -192,6 +194,7 @@ fn assembled<S: Store>(
         (λ r. IsAssembled m (job_of job.now) (answer_of result r)) result.result) }
     ensures files { S.files store.new ≡ S.files store.old }
     ensures count { PassesBy has_failed (S.failures store.old) (S.failures store.new) result.result }
+    ensures asked { Asks is_outside_refusal (S.failures store.old) result.result }
     ensures good { IfOk result.result (λ o. is_good_object o ≡ true) }
     ensures numbers { IfOk result.result ObjectFits }
     ensures stopped { IfSome (S.files store.old) (λ m. StopsSo m (job_of job.now) result) }
@@ -223,6 +226,7 @@ pub fn assemble<S: Store>(alloc: Global, store: &mut S, job: &AsmJob<'_>) -> Ass
         (λ r. IsAssembled m (job_of job.now) (answer_of result r)) result.result) }
     ensures files { S.files store.new ≡ S.files store.old }
     ensures count { PassesBy has_failed (S.failures store.old) (S.failures store.new) result.result }
+    ensures asked { Asks is_outside_refusal (S.failures store.old) result.result }
     // An object can be written.
     ensures good { IfOk result.result (λ o. is_good_object o ≡ true) }
     ensures numbers { IfOk result.result ObjectFits }

@@ -3,6 +3,7 @@
 ghost use Rattle.std.specs.Prelude.{◌≡◌, ◌+◌, ◌<◌, ◌≤◌, ℕ, false, IfErr, IfOk, IfSome, Ok, OnOk, Err, if◌then◌else◌};
 ghost use Rattle.base65.specs.Store.{Passes, PassesBy};
 ghost use Rattle.expand65.specs.Expansion.{opened_in};
+ghost use Rattle.expand65.specs.Stopping.{StopsOnItsWay};
 ghost use Rattle.expand65.specs.Standing.{FollowsFrom, Opens, measure_of, place_of, stated};
 ghost use Rattle.language65.specs.declared.fault.AsmFault.TheVariants.{BadScope};
 ghost use Rattle.language65.specs.Faults.{is_failure};
@@ -39,6 +40,8 @@ fn next<S: Store>(run: &mut Run, store: &mut S) -> Result<Option<Statement>, Exp
     requires { IsRunning run.old }
     ensures next { IfSome (S.files store.old) (λ m. (t : State) → IsHeldBy t run.old →
         FollowsFrom m (known_at t.symbols t.standing) run.old.expander result run.new.expander) }
+    ensures stopped { IfSome (S.files store.old) (λ m. (t : State) → IsHeldBy t run.old →
+        StopsOnItsWay m (known_at t.symbols t.standing) run.old.expander result run.new.expander) }
     ensures same { run.new.assembler ≡ run.old.assembler }
     ensures size { IfOk result (λ o. IfSome o (λ _.
         measure_of run.new.expander < measure_of run.old.expander)) }

@@ -48,6 +48,10 @@ step_end m k End s h = (Ok (None, (fronted End s).left), refl, refl)
 abbrev pub Leads : Meaning → Expander → Expander → Files → Type 0
 Leads k i e m = (n : Next) → Reaches m k (state_in m e) n → Reaches m k (state_in m i) n
 
+pub none_led : (o : Option Files) (k : Meaning) (e : Expander) → IfSome o (Leads k e e)
+none_led None k e = tt
+none_led (Some m) k e = λ n r. r
+
 pub goes_on : (o : Option Files) (k : Meaning) (i e mid new : Expander) (t : Turn) → IfSome o (Leads k i e) → IfSome o (λ m. IsStep m k (state_in m e) (turned (state_of m mid.rewriter) t)) → ((m : Files) → turned (state_of m mid.rewriter) t ≡ led (state_in m new) None) → IfSome o (Leads k i new)
 goes_on None k i e mid new t h s f = tt
 goes_on (Some m) k i e mid new t h s f = λ n r. h n (further (state_in m e) (state_in m new) n (subst (IsStep m k (state_in m e)) (f m) s) r)

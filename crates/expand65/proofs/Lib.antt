@@ -7,5 +7,6 @@ pub mod Naming
 pub mod Parting
 pub mod Repeating
 pub mod Seeking
+pub mod Stopping
 pub mod Unique
 pub mod Wholes

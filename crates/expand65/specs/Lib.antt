@@ -11,3 +11,4 @@ pub mod Rewriting
 pub mod Standing
 pub mod State
 pub mod Step
+pub mod Stopping

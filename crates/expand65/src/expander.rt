@@ -1,10 +1,12 @@
 //! The statements of a source, one after another.
 
 ghost use Rattle.std.specs.Prelude.{◌≡◌, ◌<◌, ◌≤◌, ◌+◌, ◌*◌, true, false, length, Err, IfOk, IfSome, OnErr};
-ghost use Rattle.base65.specs.Store.{Files, Passes};
+ghost use Rattle.base65.specs.Store.{Asks, Files, Passes};
 ghost use Rattle.expand65.specs.Standing.{Comes, FollowsFrom, Opens, StandsFor, is_end, led, measure_of, place_of, state_in};
+ghost use Rattle.source65.specs.Faults.{is_outside};
+ghost use Rattle.expand65.specs.Stopping.{StopsOnItsWay, StopsReading};
 ghost use Rattle.expand65.specs.Expansion.{first_left, opened_in};
-ghost use Rattle.reader65.specs.Inside.{left_of};
+ghost use Rattle.reader65.specs.Inside.{left_of, mark_of};
 ghost use Rattle.reader65.specs.Reading.{bytes_of};
 ghost use Rattle.expand65.specs.Rewriting.{Turns, size_of, state_of, turned, weight_of};
 ghost use Rattle.expand65.specs.State.{State};
@@ -85,6 +87,7 @@ impl Expander {
         ensures files { S.files store.new ≡ S.files store.old }
         ensures size { IfOk result (λ e. measure_of e ≤ 3145729) }
         ensures count { Passes ExpandFault.FileError (S.failures store.old) (S.failures store.new) result }
+        ensures asked { Asks is_outside (S.failures store.old) result }
     {
         if !is_there(store, file)? {
             return Err(ExpandFault::FileNotFound);
@@ -118,6 +121,9 @@ impl Expander {
     ) -> Result<Option<Statement>, ExpandFault>
         ensures next { IfSome (S.files store.old) (λ m.
             FollowsFrom m (K.meaning knows.now) self.old result self.new) }
+        // Where the store fails: the place is that of the line that was read last.
+        ensures stopped { IfSome (S.files store.old) (λ m.
+            StopsOnItsWay m (K.meaning knows.now) self.old result self.new) }
         ensures failed { OnErr result (self.new.failed ≡ true) }
         ensures before { self.old.failed ≡ true → result ≡ Err ExpandFault.FailedBefore }
         // Statements end.
@@ -130,6 +136,9 @@ impl Expander {
         }
         let result = self.advance(store, knows);
         self.failed = result.is_err();
+        if matches!(result, Err(ExpandFault::FileError)) {
+            self.rewriter.reader.go_back_unread();
+        }
         result
     }
 
@@ -154,6 +163,8 @@ impl Expander {
     ) -> Result<Option<Statement>, ExpandFault>
         ensures comes { IfSome (S.files store.old) (λ m.
             Comes m (K.meaning knows.now) (state_in m self.old) result (state_in m self.new)) }
+        ensures stopped { IfSome (S.files store.old) (λ m. StopsReading m (K.meaning knows.now)
+            (state_in m self.old) result (mark_of self.new.rewriter.reader.top) (place_of self.new)) }
         ensures size { IfOk result (λ o. IfSome o (λ _. measure_of self.new < measure_of self.old)) }
         ensures files { S.files store.new ≡ S.files store.old }
         ensures count { Passes ExpandFault.FileError (S.failures store.old) (S.failures store.new) result }
@@ -176,6 +187,8 @@ impl Expander {
         ensures turns { IfSome (S.files store.old) (λ m.
             Turns result (state_of m self.new.rewriter)
             (IsStep m (K.meaning knows.now) (state_in m self.old))) }
+        ensures stopped { IfSome (S.files store.old) (λ m. StopsReading m (K.meaning knows.now)
+            (state_in m self.old) result (mark_of self.new.rewriter.reader.top) (place_of self.new)) }
         ensures size { IfOk result (λ t. size_of self.new.rewriter + weight_of t < measure_of self.old) }
         ensures front { OnErr result (self.new.front ≡ Front.Nothing) }
         ensures files { S.files store.new ≡ S.files store.old }

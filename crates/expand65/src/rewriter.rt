@@ -5,6 +5,7 @@ ghost use Rattle.base65.specs.Store.{Files, Passes};
 ghost use Rattle.syntax65.specs.Tokens.{lexemes};
 ghost use Rattle.expand65.specs.Conditions.{IsDecided, IsElse, IsIf, ended_if};
 ghost use Rattle.source65.specs.Faults.{is_failure};
+ghost use Rattle.reader65.specs.Stopping.{StopsAt};
 ghost use Rattle.reader65.specs.Fronts.{front_directive, is_mislabelled, string_of};
 ghost use Rattle.expand65.specs.Includes.{include_line, included};
 ghost use Rattle.reader65.specs.Inside.{left_in, left_of};
@@ -64,6 +65,7 @@ impl Rewriter {
         ensures size { IfOk result (λ t. size_of self.new + weight_of t ≤ size_of self.old + 2) }
         ensures files { S.files store.new ≡ S.files store.old }
         ensures count { Passes ExpandFault.FileError (S.failures store.old) (S.failures store.new) result }
+        ensures stopped { IfSome (S.files store.old) (λ m. StopsAt m self.old.reader self.new.reader result) }
     {
         if holds {
             self.conditions.push(false)?;
@@ -93,6 +95,7 @@ impl Rewriter {
         ensures size { IfOk result (λ t. size_of self.new + weight_of t ≤ size_of self.old + 2) }
         ensures files { S.files store.new ≡ S.files store.old }
         ensures count { Passes ExpandFault.FileError (S.failures store.old) (S.failures store.new) result }
+        ensures stopped { IfSome (S.files store.old) (λ m. StopsAt m self.old.reader self.new.reader result) }
     {
         let holds = condition(self.alloc, knows, test, tokens)?;
         self.decide(store, holds)
@@ -120,6 +123,7 @@ impl Rewriter {
         ensures size { IfOk result (λ t. size_of self.new + weight_of t ≤ size_of self.old + 2) }
         ensures files { S.files store.new ≡ S.files store.old }
         ensures count { Passes ExpandFault.FileError (S.failures store.old) (S.failures store.new) result }
+        ensures stopped { IfSome (S.files store.old) (λ m. StopsAt m self.old.reader self.new.reader result) }
     {
         match self.conditions.pop_above(self.reader.top.conditions) {
             None => Err(ExpandFault::NotOpened),
@@ -144,6 +148,7 @@ impl Rewriter {
         ensures size { IfOk result (λ t. size_of self.new + weight_of t ≤ size_of self.old + 2) }
         ensures files { S.files store.new ≡ S.files store.old }
         ensures count { Passes ExpandFault.FileError (S.failures store.old) (S.failures store.new) result }
+        ensures stopped { IfSome (S.files store.old) (λ m. StopsAt m self.old.reader self.new.reader result) }
     {
         let tokens = line.tokens(self.alloc)?;
         self.begin_if(store, knows, Test::True, tokens.as_slice())
@@ -161,6 +166,7 @@ impl Rewriter {
         ensures size { IfOk result (λ t. size_of self.new + weight_of t ≤ size_of self.old + 2) }
         ensures files { S.files store.new ≡ S.files store.old }
         ensures count { Passes ExpandFault.FileError (S.failures store.old) (S.failures store.new) result }
+        ensures stopped { IfSome (S.files store.old) (λ m. StopsAt m self.old.reader self.new.reader result) }
     {
         let Some(name) = string_of(tokens) else {
             return Err(ExpandFault::NotUnderstood);
@@ -221,6 +227,7 @@ impl Rewriter {
         ensures size { IfOk result (λ t. size_of self.new + weight_of t ≤ size_of self.old + 2) }
         ensures files { S.files store.new ≡ S.files store.old }
         ensures count { Passes ExpandFault.FileError (S.failures store.old) (S.failures store.new) result }
+        ensures stopped { IfSome (S.files store.old) (λ m. StopsAt m self.old.reader self.new.reader result) }
     {
         if !tokens.is_empty() {
             return Err(ExpandFault::NotUnderstood);
@@ -250,6 +257,7 @@ impl Rewriter {
         ensures size { IfOk result (λ t. size_of self.new + weight_of t ≤ size_of self.old + 2) }
         ensures files { S.files store.new ≡ S.files store.old }
         ensures count { Passes ExpandFault.FileError (S.failures store.old) (S.failures store.new) result }
+        ensures stopped { IfSome (S.files store.old) (λ m. StopsAt m self.old.reader self.new.reader result) }
     {
         match directive {
             Directive::Macro => self.begin_macro(store, tokens),
@@ -280,6 +288,7 @@ impl Rewriter {
         ensures size { IfOk result (λ t. size_of self.new + weight_of t ≤ size_of self.old + 2) }
         ensures files { S.files store.new ≡ S.files store.old }
         ensures count { Passes ExpandFault.FileError (S.failures store.old) (S.failures store.new) result }
+        ensures stopped { IfSome (S.files store.old) (λ m. StopsAt m self.old.reader self.new.reader result) }
     {
         match line.directive() {
             Some(directive) => {
@@ -305,6 +314,7 @@ impl Rewriter {
         ensures size { IfOk result (λ t. size_of self.new + weight_of t ≤ size_of self.old + 3) }
         ensures files { S.files store.new ≡ S.files store.old }
         ensures count { Passes ExpandFault.FileError (S.failures store.old) (S.failures store.new) result }
+        ensures stopped { IfSome (S.files store.old) (λ m. StopsAt m self.old.reader self.new.reader result) }
     {
         match line.parted(self.alloc)? {
             Some((label, rest)) => Ok(Turn::Parts(label, rest)),
@@ -340,6 +350,7 @@ impl Rewriter {
         ensures size { IfOk result (λ t. size_of self.new + weight_of t < size_of self.old + 1) }
         ensures files { S.files store.new ≡ S.files store.old }
         ensures count { Passes ExpandFault.FileError (S.failures store.old) (S.failures store.new) result }
+        ensures stopped { IfSome (S.files store.old) (λ m. StopsAt m self.old.reader self.new.reader result) }
     {
         match self.reader.next_line(self.alloc, store)? {
             None => self.end_input(),

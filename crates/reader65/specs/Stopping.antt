@@ -6,7 +6,7 @@ use Rattle.source65.specs.Faults.{is_failure}
 use Rattle.source65.specs.declared.fault.ExpandFault.{ExpandFault}
 use Rattle.source65.specs.declared.place.Place.{Place}
 use Rattle.reader65.specs.Inside.{left_of, mark_of}
-use Rattle.reader65.specs.Left.{Item, Left, come_back}
+use Rattle.reader65.specs.Left.{Item, Left, branch, come_back, labelled, left}
 use Rattle.reader65.specs.Taking.{Takes, reached}
 use Rattle.reader65.specs.declared.reader.Reader.{Reader}
 
@@ -15,6 +15,9 @@ pub data ReadsTo : Left → Place → Type 0 where
   stands : (l : Left) → ReadsTo l l.place
   begins : (l : Left) (i : Item) (is : List Item) → l.items ≡ i ∷ is → ReadsTo l (reached l.place i)
   goes_on : (l m : Left) (ts : List Lexeme) (p : Place) → Takes l (Ok (Some ts, m)) → ReadsTo m p → ReadsTo l p
+  -- what stands behind a label or an `.elseif` was read
+  has_label : (is : List Item) (ts : List Lexeme) (r : ℕ) (q p : Place) → ReadsTo (left is r q) p → ReadsTo (left (labelled ts ∷ is) r q) p
+  has_branch : (is : List Item) (ts : List Lexeme) (r : ℕ) (q p : Place) → ReadsTo (left is r q) p → ReadsTo (left (branch ts ∷ is) r q) p
 
 -- a reader has read on to its place, and the input in which it does is the one in which it began
 pub record HasReadTo (m : Files) (old new : Reader) : Type 0 where

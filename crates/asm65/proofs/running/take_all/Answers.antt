@@ -68,7 +68,7 @@ pub returns-in_err-statement-clause-stopped : goal.returns-in_err-statement-clau
 returns-in_err-statement-clause-stopped g c =
     let p = err_from_is_err_and c.from_residual.result c.from_residual.ensures.1 in
     let e = c.in_err-statement.ensures in
-    all_stop (g.S.Store.files c.args.store.now) (g.S.Store.files c.statements.store) c.statements.invariant.files c.args.run.now c.statements.run c.next.new.run e.same c.statements.invariant.so_far c.in_err-statement.field-0.0 c.from_residual.result (p.1 ∙ ap Err p.2)
+    all_stop (g.S.Store.files c.args.store.now) (g.S.Store.files c.statements.store) c.statements.invariant.files c.args.run.now c.statements.run c.next.new.run e.same c.statements.invariant.so_far c.in_err-statement.field-0.0 c.from_residual.result (p.1 ∙ ap Err p.2) e.stopped
 
 pub returns-in_err-take_next-in-Some-clause-stopped : goal.returns-in_err-take_next-in-Some-clause-stopped
 returns-in_err-take_next-in-Some-clause-stopped g c =

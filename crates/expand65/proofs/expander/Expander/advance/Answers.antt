@@ -1,4 +1,4 @@
-use Rattle.std.proofs.Common.{◌∙◌, ap, arith, sym, rules}
+use Rattle.std.proofs.Common.{◌∙◌, Err, ap, arith, refl, sym, rules}
 use Rattle.std.proofs.lemmas.Result.{err_from_is_err_and}
 use Rattle.base65.specs.Outcome.{Unless}
 use Rattle.source65.specs.Faults.{is_outside}
@@ -6,8 +6,12 @@ use Rattle.expand65.specs.Rewriting.{state_of, turned}
 use Rattle.expand65.specs.Standing.{led, place_of, state_in}
 use Rattle.expand65.specs.State.{stops}
 use Rattle.expand65.specs.Step.{IsStep}
+use Rattle.expand65.specs.Stopping.{StopsReading}
+use Rattle.expand65.specs.declared.rewriter.Turn.{Turn}
+use Rattle.reader65.specs.Inside.{mark_of}
 use Rattle.reader65.proofs.Gathering.{moved_to}
-use Rattle.expand65.proofs.Going.{came_to_end, came_to_fault, gave, goes_on}
+use Rattle.expand65.proofs.Going.{came_to_end, came_to_fault, gave, goes_on, none_led}
+use Rattle.expand65.proofs.Stopping.{gone_on, none_gone, stops_later}
 use Rattle.expand65.proofs.expander.Expander.advance.Goals as goal
 
 pub returns-then-is_end-clause-comes : goal.returns-then-is_end-clause-comes
@@ -49,5 +53,28 @@ steps-preserved g c =
       files = c.in_ok-turn.ensures.files ∙ c.steps.invariant.files;
       count = search rules;
       size = omega (arith, c.steps.invariant.size, c.in_ok-turn.ensures.size, c.follow.ensures.size);
+      gone = gone_on o k c.args.self.now c.steps.self mid new t c.steps.invariant.gone step (λ m. c.follow.ensures.led m ∙ ap (led (state_in m new)) c.in_default.is);
       so_far = goes_on o k c.args.self.now c.steps.self mid new t c.steps.invariant.so_far step (λ m. c.follow.ensures.led m ∙ ap (led (state_in m new)) c.in_default.is);
+    }
+
+pub returns-in_err-turn-clause-stopped : goal.returns-in_err-turn-clause-stopped
+returns-in_err-turn-clause-stopped g c =
+    let p = err_from_is_err_and c.from_residual.result c.from_residual.ensures.1 in
+    let o = g.S.Store.files c.args.store.now in
+    let k = g.K.Knows.meaning c.args.knows.now in
+    let f = c.in_err-turn.field-0.0 in
+    let new = c.turn.new.self in
+    let stopped = moved_to (λ m. StopsReading {A = Turn} m k (state_in m c.steps.self) (Err f) (mark_of new.rewriter.reader.top) (place_of new)) o (g.S.Store.files c.steps.store) c.steps.invariant.files c.in_err-turn.ensures.stopped in
+    stops_later Turn o k c.args.self.now c.steps.self (mark_of new.rewriter.reader.top) (place_of new) c.from_residual.result f (p.1 ∙ ap Err p.2) c.steps.invariant.gone stopped
+
+pub steps-init : goal.steps-init
+steps-init g c =
+    let o = g.S.Store.files c.args.store.now in
+    let k = g.K.Knows.meaning c.args.knows.now in
+    record {
+      files = refl;
+      count = refl;
+      size = omega arith;
+      gone = none_gone o k c.args.self.now;
+      so_far = none_led o k c.args.self.now;
     }

@@ -1,4 +1,4 @@
-use Rattle.std.proofs.Common.{◌≡◌, ◌∙◌, ℕ, Bor, List, Ok, ap, sym}
+use Rattle.std.proofs.Common.{◌≡◌, ◌∙◌, ℕ, Bor, List, Ok, ap, refl, sym}
 use Rattle.std.specs.Option.{option_map}
 use Rattle.syntax65.specs.Tokens.{lexemes}
 use Rattle.expand65.specs.Includes.{first_file, include_line, included, tried}
@@ -6,6 +6,7 @@ use Rattle.expand65.specs.Rewriting.{Turns, state_of}
 use Rattle.expand65.specs.Inner.Seeking.{file_of}
 use Rattle.expand65.proofs.Acting.{include_found, turns_so, where_known}
 use Rattle.expand65.proofs.Seeking.{found_fits}
+use Rattle.expand65.proofs.Stopping.{stood}
 use Rattle.expand65.proofs.rewriter.Rewriter.include.Goals as goal
 
 pub returns-clause-turns : goal.returns-clause-turns
@@ -20,3 +21,6 @@ returns-clause-turns g c =
     let new = c.enter_file.new.self in
     let text = sym c.string_of.ensures ∙ ap (option_map (λ (s : Bor (List ℕ)). s.now)) c.in-Some.is in
     where_known (g.S.Store.files c.args.store.now) (λ m. first_file m (tried beside folders name) ≡ Ok (file_of m file)) (λ m. Turns r (state_of m new) (λ x. x ≡ include_line m (state_of m old) ts)) (λ m h. turns_so r (state_of m new) (λ x. x ≡ included (state_of m old) (Ok (file_of m file))) (λ x. x ≡ include_line m (state_of m old) ts) (λ x e. e ∙ include_found m (state_of m old) ts name beside file folders text c.as_str-beside.ensures c.as_slice.ensures h) (c.enter_file.ensures.turns m (found_fits m (tried beside folders name) file h))) c.in_ok-file.ensures.found
+
+pub returns-in_err-file-clause-stopped : goal.returns-in_err-file-clause-stopped
+returns-in_err-file-clause-stopped g c = stood (g.S.Store.files c.args.store.now) c.args.self.now.reader c.args.self.now.reader c.from_residual.result refl refl

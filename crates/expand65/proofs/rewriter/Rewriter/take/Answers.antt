@@ -5,6 +5,7 @@ use Rattle.std.proofs.lemmas.Result.{err_from_is_err_and}
 use Rattle.base65.specs.Outcome.{Unless}
 use Rattle.source65.specs.Faults.{is_outside}
 use Rattle.reader65.specs.Inside.{left_in, left_of}
+use Rattle.reader65.specs.Stopping.{StopsAt}
 use Rattle.reader65.specs.Fronts.{is_mislabelled}
 use Rattle.reader65.specs.Kept.{tokens_in}
 use Rattle.expand65.specs.Rewriting.{Turns, state_of}
@@ -15,6 +16,7 @@ use Rattle.reader65.specs.declared.line.Line.{Line}
 use Rattle.expand65.specs.declared.rewriter.Rewriter.{Rewriter}
 use Rattle.expand65.proofs.Acting.{refused_step, step_taken, turns_so, where_both, where_known}
 use Rattle.reader65.proofs.Gathering.{moved_to}
+use Rattle.expand65.proofs.Stopping.{stops_behind}
 use Rattle.expand65.proofs.rewriter.Rewriter.take.Goals as goal
 
 pub returns-in_err-next_line-clause-turns : goal.returns-in_err-next_line-clause-turns
@@ -55,3 +57,15 @@ returns-in-Some-clause-turns g c =
     let taken = subst P c.in-Some.is c.in_ok-next_line.ensures.read in
     let begun = moved_to (λ m. Turns r (state_of m end) (IsLabelled m k (state_of m mid) ts (is_mislabelled ts))) o (g.S.Store.files c.next_line.new.store) c.in_ok-next_line.ensures.files c.begin.ensures.turns in
     where_both o (λ m. Takes (left_of m old.reader) (Ok (Some ts, left_of m new))) (λ m. Turns r (state_of m end) (IsLabelled m k (state_of m mid) ts (is_mislabelled ts))) (λ m. Turns r (state_of m end) (IsStep m k (state_of m old))) (λ m h e. turns_so r (state_of m end) (IsLabelled m k (state_of m mid) ts (is_mislabelled ts)) (IsStep m k (state_of m old)) (λ x y. step_taken m k old (Ok (Some ts, left_of m new)) x h y) e) taken begun
+
+pub returns-in-Some-clause-stopped : goal.returns-in-Some-clause-stopped
+returns-in-Some-clause-stopped g c =
+    let old = c.args.self.now in
+    let new = c.next_line.new.self in
+    let o = g.S.Store.files c.args.store.now in
+    let r = c.begin.result in
+    let end = c.begin.new.self in
+    let P : Option Line → Type 0 = λ l. IfSome o (λ m. Takes (left_of m old.reader) (Ok (option_map tokens_in l, left_of m new))) in
+    let taken = subst P c.in-Some.is c.in_ok-next_line.ensures.read in
+    let stopped = moved_to (λ m. StopsAt m new end.reader r) o (g.S.Store.files c.next_line.new.store) c.in_ok-next_line.ensures.files c.begin.ensures.stopped in
+    stops_behind o old.reader new end.reader (tokens_in c.in-Some.line) r taken c.in_ok-next_line.ensures.mark stopped

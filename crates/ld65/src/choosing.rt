@@ -38,7 +38,7 @@ fn index_of<S: Store>(alloc: Global, store: &mut S, input: &Named<'_>) -> Result
     ensures within { IfOk result (λ x. AllByRecursion (λ e. e.place + e.size ≤ file_limit) x.entries) }
     ensures files { S.files store.new ≡ S.files store.old }
     ensures count { PassesBy is_failure (S.failures store.old) (S.failures store.new) result }
-    ensures named { IfErr result (NamesInput input.now.place input.now.name.now) }
+    ensures named { IfErr result (NamesInput (S.blamed store.new) input.now.place input.now.name.now) }
 {
     match read_index(alloc, store, input.name) {
         Ok(index) => Ok(index),
@@ -71,7 +71,7 @@ pub fn choose_members<S: Store>(
     ensures within { IfOk result (λ c. AllByRecursion (λ e. e.place + e.size ≤ file_limit) c.index.entries) }
     ensures files { S.files store.new ≡ S.files store.old }
     ensures count { PassesBy is_failure (S.failures store.old) (S.failures store.new) result }
-    ensures named { IfErr result (NamesInput input.now.place input.now.name.now) }
+    ensures named { IfErr result (NamesInput (S.blamed store.new) input.now.place input.now.name.now) }
 {
     let index = index_of(alloc, store, input)?;
     let places = places_of(alloc, linker, &index)?;

@@ -1,7 +1,7 @@
 //! Objects, fed to a linker record by record.
 
-ghost use Rattle.std.specs.Prelude.{◌≡◌, List, ℕ, OnOk, Option, true, false};
-ghost use Rattle.base65.specs.Store.{Passes};
+ghost use Rattle.std.specs.Prelude.{◌≡◌, List, ℕ, IsErrOf, OnOk, Option, true, false};
+ghost use Rattle.base65.specs.Store.{IsBlamed, Passes};
 ghost use Rattle.object65.specs.declared.fault.ObjectFault.TheVariants.{FileError};
 ghost use Rattle.object65.specs.Taking.{start};
 ghost use Rattle.selection65.specs.declared.entry.Entry as index;
@@ -46,6 +46,8 @@ fn feed_records<S: Store>(
     ensures files { S.files store.new ≡ S.files store.old }
     ensures count { (modules : List Module) (called : List ℕ) (entry : Option index.Entry) → IsFeeding linker.old modules called entry start →
         Passes (Malformed FileError) (S.failures store.old) (S.failures store.new) result }
+    ensures blamed { (modules : List Module) (called : List ℕ) (entry : Option index.Entry) → IsFeeding linker.old modules called entry start →
+        IsErrOf result (Malformed FileError) → IsBlamed (S.blamed store.new) object.now.file.now }
 {
     let mut next = at;
     'records: loop {
@@ -72,6 +74,8 @@ pub fn feed_object<S: Store>(
     ensures files { S.files store.new ≡ S.files store.old }
     ensures count { (modules : List Module) → IsFed linker.old modules →
         Passes (Malformed FileError) (S.failures store.old) (S.failures store.new) result }
+    ensures blamed { (modules : List Module) → IsFed linker.old modules →
+        IsErrOf result (Malformed FileError) → IsBlamed (S.blamed store.new) object.now.file.now }
 {
     let first = read_head(store, object.file, object.begin, object.end)?;
     linker.begin_module(object.name, object.entry)?;

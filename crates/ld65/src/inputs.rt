@@ -1,9 +1,9 @@
 //! The inputs of a line, fed to a linker.
 
-ghost use Rattle.std.specs.Prelude.{◌≡◌, List, OnOk, IfErr, IfSome, Ok, map, false};
+ghost use Rattle.std.specs.Prelude.{◌≡◌, List, OnOk, IfErr, IfSome, IsErrOf, Ok, map, false};
 ghost use Rattle.std.specs.FinMap.{get};
 ghost use Rattle.base65.specs.Outcome.{Gives};
-ghost use Rattle.base65.specs.Store.{Passes, PassesBy};
+ghost use Rattle.base65.specs.Store.{IsBlamed, Passes, PassesBy};
 ghost use Rattle.object65.specs.declared.fault.ObjectFault.TheVariants.{FileError};
 ghost use Rattle.object65.specs.Fault.{is_outside as is_object_outside};
 ghost use Rattle.object65.specs.Reading.{in_file};
@@ -31,6 +31,7 @@ fn is_library<S: Store>(store: &mut S, name: &str) -> Result<bool, ObjectFault>
     ensures read { IfSome (S.files store.old) (λ m. Gives is_object_outside (λ b. b) result (in_file (get m name.now) (λ bytes. Ok (is_library bytes)))) }
     ensures files { S.files store.new ≡ S.files store.old }
     ensures count { Passes FileError (S.failures store.old) (S.failures store.new) result }
+    ensures blamed { IsErrOf result FileError → IsBlamed (S.blamed store.new) name.now }
 {
     let mut front = [0u8; 4];
     let n = read_full(store, name, 0, &mut front)?;
@@ -51,7 +52,8 @@ fn feed_file<S: Store>(
     ensures files { S.files store.new ≡ S.files store.old }
     ensures count { (modules : List Module) → IsFed linker.old modules →
         PassesBy is_failure (S.failures store.old) (S.failures store.new) result }
-    ensures named { IfErr result (NamesInput input.now.place input.now.name.now) }
+    ensures named { (modules : List Module) → IsFed linker.old modules → 
+        IfErr result (NamesInput (S.blamed store.new) input.now.place input.now.name.now) }
 {
     let object = ObjectInput {
         file: input.name,
@@ -81,7 +83,8 @@ fn feed_input<S: Store>(
     ensures files { S.files store.new ≡ S.files store.old }
     ensures count { (modules : List Module) → IsFed linker.old modules →
         PassesBy is_failure (S.failures store.old) (S.failures store.new) result }
-    ensures named { IfErr result (NamesInput input.now.place input.now.name.now) }
+    ensures named { (modules : List Module) → IsFed linker.old modules → 
+        IfErr result (NamesInput (S.blamed store.new) input.now.place input.now.name.now) }
 {
     match is_library(store, input.name) {
         Ok(true) => feed_library(alloc, store, linker, input),
@@ -104,7 +107,8 @@ pub fn feed_inputs<S: Store>(
     ensures files { S.files store.new ≡ S.files store.old }
     ensures count { (modules : List Module) → IsFed linker.old modules →
         PassesBy is_failure (S.failures store.old) (S.failures store.new) result }
-    ensures named { IfErr result (NamesInputs (map (λ s. s.now) inputs.now)) }
+    ensures named { (modules : List Module) → IsFed linker.old modules → 
+        IfErr result (NamesInputs (S.blamed store.new) (map (λ s. s.now) inputs.now)) }
 {
     let mut reader = RecordReader::new();
     for (place, name) in inputs.iter().enumerate() {

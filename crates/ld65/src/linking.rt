@@ -1,15 +1,13 @@
 //! From the files of a line to what they are linked to.
 
-ghost use Rattle.std.specs.Prelude.{◌≡◌, IfErr, IfSome, [], true};
+ghost use Rattle.std.specs.Prelude.{◌≡◌, IfErr, IfSome, []};
 ghost use Rattle.base65.specs.Outcome.{Finds};
-ghost use Rattle.base65.specs.Store.{PassesBy};
+ghost use Rattle.base65.specs.Store.{Asks, PassesBy};
 ghost use Rattle.line65.specs.Line.{linking};
 ghost use Rattle.ld65.specs.Refusals.{is_outside, is_failure};
 ghost use Rattle.ld65.specs.Linkage.{output_of, IsLinkedBy, IsLinked};
 ghost use Rattle.ld65.specs.Inner.Texts.{script_text};
-ghost use Rattle.ld65.specs.Naming.{NamesInputs, NamesOfLine};
-ghost use Rattle.ld65.specs.declared.refusal.Refusal.TheVariants.{ScriptFile};
-ghost use Rattle.base65.specs.declared.store.StoreFault.TheVariants.{FileError};
+ghost use Rattle.ld65.specs.Naming.{NamesInputs, NamesOfLine, NamesScript};
 
 use crate::inputs::feed_inputs;
 use crate::refusal::Refusal;
@@ -39,7 +37,7 @@ fn link_inputs<S: Store>(
     ensures linked { IfSome (S.files store.old) (λ m. Finds is_outside (IsLinkedBy m (linking line.now) script) result) }
     ensures files { S.files store.new ≡ S.files store.old }
     ensures count { PassesBy is_failure (S.failures store.old) (S.failures store.new) result }
-    ensures named { IfErr result (NamesInputs (linking line.now).inputs) }
+    ensures named { IfErr result (NamesInputs (S.blamed store.new) (linking line.now).inputs) }
 {
     let mut linker = Linker::new(alloc, script, output_of(line))?;
     feed_inputs(alloc, store, &mut linker, line.inputs.as_slice())?;
@@ -51,7 +49,8 @@ fn read_text<S: Store>(alloc: Global, store: &mut S, name: &str) -> Result<Seque
     ensures read { IfSome (S.files store.old) (λ m. Finds is_outside (λ r. r ≡ script_text m name.now) result) }
     ensures files { S.files store.new ≡ S.files store.old }
     ensures count { PassesBy is_failure (S.failures store.old) (S.failures store.new) result }
-    ensures named { IfErr result (λ e. is_failure e ≡ true → e ≡ ScriptFile FileError) }
+    ensures named { IfErr result (NamesScript (S.blamed store.new) name.now) }
+    ensures asked { Asks is_outside (S.failures store.old) result }
 {
     Ok(Sequence::from_vec(read_front(alloc, store, name, SCRIPT_LIMIT + 1)?))
 }
@@ -67,7 +66,8 @@ pub fn link_files<S: Store>(
     ensures linked { IfSome (S.files store.old) (λ m. Finds is_outside (IsLinked m (linking line.now)) result) }
     ensures files { S.files store.new ≡ S.files store.old }
     ensures count { PassesBy is_failure (S.failures store.old) (S.failures store.new) result }
-    ensures named { IfErr result (NamesOfLine (linking line.now)) }
+    ensures named { IfErr result (NamesOfLine (S.blamed store.new) (linking line.now)) }
+    ensures asked { Asks is_outside (S.failures store.old) result }
 {
     let text = read_text(alloc, store, line.script)?;
     let script = read_script(alloc, text.as_slice())?;

@@ -59,7 +59,8 @@ fn feed_member<S: Store>(
     ensures files { S.files store.new ≡ S.files store.old }
     ensures count { (modules : List Module) → IsFed linker.old modules →
         PassesBy is_failure (S.failures store.old) (S.failures store.new) result }
-    ensures named { IfErr result (NamesMember member.now.library.now) }
+    ensures named { (modules : List Module) → IsFed linker.old modules → 
+        IfErr result (NamesMember (S.blamed store.new) member.now.library.now) }
 {
     let name = module_name(alloc, member)?;
     let object = ObjectInput {
@@ -105,7 +106,8 @@ fn feed_chosen<S: Store>(
     ensures files { S.files store.new ≡ S.files store.old }
     ensures count { (modules : List Module) → IsFed linker.old modules →
         PassesBy is_failure (S.failures store.old) (S.failures store.new) result }
-    ensures named { IfErr result (NamesMember chosen.now.library.now) }
+    ensures named { (modules : List Module) → IsFed linker.old modules → 
+        IfErr result (NamesMember (S.blamed store.new) chosen.now.library.now) }
 {
     let library = chosen.library;
     match entry_at(chosen.entries, chosen.place) {
@@ -130,7 +132,8 @@ fn feed_members<S: Store>(
     ensures files { S.files store.new ≡ S.files store.old }
     ensures count { (modules : List Module) → IsFed linker.old modules →
         PassesBy is_failure (S.failures store.old) (S.failures store.new) result }
-    ensures named { IfErr result (NamesMember library.now) }
+    ensures named { (modules : List Module) → IsFed linker.old modules → 
+        IfErr result (NamesMember (S.blamed store.new) library.now) }
 {
     let entries = choice.index.entries.as_slice();
     let places = choice.places.as_slice();
@@ -161,7 +164,8 @@ pub fn feed_library<S: Store>(
     ensures files { S.files store.new ≡ S.files store.old }
     ensures count { (modules : List Module) → IsFed linker.old modules →
         PassesBy is_failure (S.failures store.old) (S.failures store.new) result }
-    ensures named { IfErr result (NamesInput input.now.place input.now.name.now) }
+    ensures named { (modules : List Module) → IsFed linker.old modules → 
+        IfErr result (NamesInput (S.blamed store.new) input.now.place input.now.name.now) }
 {
     let choice = choose_members(alloc, store, linker, input)?;
     feed_members(alloc, store, linker, input.name, &choice)

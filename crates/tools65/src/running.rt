@@ -1,12 +1,12 @@
 //! One command.
 
-ghost use Rattle.std.specs.Prelude.{◌≡◌, ◌<◌, ◌≤◌, IfOk, IfSome, map};
-ghost use Rattle.base65.specs.Store.{NoneFailed};
+ghost use Rattle.std.specs.Prelude.{◌≡◌, ◌≤◌, IfOk, IfSome, map};
+ghost use Rattle.base65.specs.Store.{HasFailed, NoneFailed};
 ghost use Rattle.line65.specs.Line.{archive, archiving, assemble, assembling, line_of, link, linking, view};
 ghost use Rattle.line65.specs.Messages.{memory_line};
 ghost use Rattle.tools65.specs.Archives.{Archives};
 ghost use Rattle.tools65.specs.Command.{outcome_of, Ran, Assembles, Does, DoesLine, Commands, line_memory};
-ghost use Rattle.tools65.specs.Failing.{FailsLine, FailsWords, SomeFailed};
+ghost use Rattle.tools65.specs.Failing.{FailsLine, FailsWords};
 ghost use Rattle.tools65.specs.OneProgram.{LineLinksWhole, WordsLinkWhole};
 ghost use Rattle.ld65.specs.Refusals.{memory_message};
 
@@ -57,12 +57,12 @@ fn run_link<S: Store, W: Write, E: Write>(
 ) -> Status
     ensures done { IfSome (S.files store.old) (λ m. NoneFailed (S.failures store.old) (S.failures store.new) →
         Ran (Does (linking line.now)) memory_message m (S.files store.new) (W.contents out.old) (W.contents out.new) (E.contents err.old) (E.contents err.new) result) }
-    ensures failed { IfSome (S.files store.old) (λ m. SomeFailed (S.failures store.old) (S.failures store.new) →
-        FailsLine (link (linking line.now)) m (S.files store.new) (W.contents out.old) (W.contents out.new) (E.contents err.old) (E.contents err.new) result) }
+    ensures failed { IfSome (S.files store.old) (λ m. HasFailed (S.failures store.old) (S.failures store.new) →
+        FailsLine (link (linking line.now)) m (S.files store.new) (S.blamed store.new) (W.contents out.old) (W.contents out.new) (E.contents err.old) (E.contents err.new) result) }
     ensures one_program { IfSome (S.files store.old) (λ m. NoneFailed (S.failures store.old) (S.failures store.new) →
         LineLinksWhole (link (linking line.now)) m (S.files store.new) (W.contents out.old) (W.contents out.new) (E.contents err.old) (E.contents err.new) result) }
     ensures later { S.failures store.old ≤ S.failures store.new }
-    ensures rose { S.failures store.old < S.failures store.new → result ≡ Status.Failure }
+    ensures rose { HasFailed (S.failures store.old) (S.failures store.new) → result ≡ Status.Failure }
 {
     let linked = link_files(alloc, store, line);
     match link_outcome(alloc, line, linked) {
@@ -84,12 +84,12 @@ fn run_assemble<S: Store, W: Write, E: Write>(
 ) -> Status
     ensures done { IfSome (S.files store.old) (λ m. NoneFailed (S.failures store.old) (S.failures store.new) →
         Ran (Assembles (assembling line.now)) (memory_line line.now.source.now) m (S.files store.new) (W.contents out.old) (W.contents out.new) (E.contents err.old) (E.contents err.new) result) }
-    ensures failed { IfSome (S.files store.old) (λ m. SomeFailed (S.failures store.old) (S.failures store.new) →
-        FailsLine (assemble (assembling line.now)) m (S.files store.new) (W.contents out.old) (W.contents out.new) (E.contents err.old) (E.contents err.new) result) }
+    ensures failed { IfSome (S.files store.old) (λ m. HasFailed (S.failures store.old) (S.failures store.new) →
+        FailsLine (assemble (assembling line.now)) m (S.files store.new) (S.blamed store.new) (W.contents out.old) (W.contents out.new) (E.contents err.old) (E.contents err.new) result) }
     ensures one_program { IfSome (S.files store.old) (λ m. NoneFailed (S.failures store.old) (S.failures store.new) →
         LineLinksWhole (assemble (assembling line.now)) m (S.files store.new) (W.contents out.old) (W.contents out.new) (E.contents err.old) (E.contents err.new) result) }
     ensures later { S.failures store.old ≤ S.failures store.new }
-    ensures rose { S.failures store.old < S.failures store.new → result ≡ Status.Failure }
+    ensures rose { HasFailed (S.failures store.old) (S.failures store.new) → result ≡ Status.Failure }
 {
     let Ok(include) = folders_of(alloc, line.include.as_slice()) else {
         say_memory(err, line.source);
@@ -124,12 +124,12 @@ fn run_archive<S: Store, W: Write, E: Write>(
 ) -> Status
     ensures done { IfSome (S.files store.old) (λ m. NoneFailed (S.failures store.old) (S.failures store.new) →
         Ran (Archives (archiving line.now)) (memory_line line.now.library.now) m (S.files store.new) (W.contents out.old) (W.contents out.new) (E.contents err.old) (E.contents err.new) result) }
-    ensures failed { IfSome (S.files store.old) (λ m. SomeFailed (S.failures store.old) (S.failures store.new) →
-        FailsLine (archive (archiving line.now)) m (S.files store.new) (W.contents out.old) (W.contents out.new) (E.contents err.old) (E.contents err.new) result) }
+    ensures failed { IfSome (S.files store.old) (λ m. HasFailed (S.failures store.old) (S.failures store.new) →
+        FailsLine (archive (archiving line.now)) m (S.files store.new) (S.blamed store.new) (W.contents out.old) (W.contents out.new) (E.contents err.old) (E.contents err.new) result) }
     ensures one_program { IfSome (S.files store.old) (λ m. NoneFailed (S.failures store.old) (S.failures store.new) →
         LineLinksWhole (archive (archiving line.now)) m (S.files store.new) (W.contents out.old) (W.contents out.new) (E.contents err.old) (E.contents err.new) result) }
     ensures later { S.failures store.old ≤ S.failures store.new }
-    ensures rose { S.failures store.old < S.failures store.new → result ≡ Status.Failure }
+    ensures rose { HasFailed (S.failures store.old) (S.failures store.new) → result ≡ Status.Failure }
 {
     let archived = archive(alloc, store, line);
     match archive_outcome(alloc, line, archived) {
@@ -152,12 +152,12 @@ pub fn run_line<S: Store, W: Write, E: Write>(
 ) -> Status
     ensures done { IfSome (S.files store.old) (λ m. NoneFailed (S.failures store.old) (S.failures store.new) →
         Ran (DoesLine (view line.now)) (line_memory (view line.now)) m (S.files store.new) (W.contents out.old) (W.contents out.new) (E.contents err.old) (E.contents err.new) result) }
-    ensures failed { IfSome (S.files store.old) (λ m. SomeFailed (S.failures store.old) (S.failures store.new) →
-        FailsLine (view line.now) m (S.files store.new) (W.contents out.old) (W.contents out.new) (E.contents err.old) (E.contents err.new) result) }
+    ensures failed { IfSome (S.files store.old) (λ m. HasFailed (S.failures store.old) (S.failures store.new) →
+        FailsLine (view line.now) m (S.files store.new) (S.blamed store.new) (W.contents out.old) (W.contents out.new) (E.contents err.old) (E.contents err.new) result) }
     ensures one_program { IfSome (S.files store.old) (λ m. NoneFailed (S.failures store.old) (S.failures store.new) →
         LineLinksWhole (view line.now) m (S.files store.new) (W.contents out.old) (W.contents out.new) (E.contents err.old) (E.contents err.new) result) }
     ensures later { S.failures store.old ≤ S.failures store.new }
-    ensures rose { S.failures store.old < S.failures store.new → result ≡ Status.Failure }
+    ensures rose { HasFailed (S.failures store.old) (S.failures store.new) → result ≡ Status.Failure }
 {
     match line {
         Line::Assemble(line) => run_assemble(alloc, line, store, out, err),
@@ -176,12 +176,12 @@ pub fn run<A: AsStr, S: Store, W: Write, E: Write>(
 ) -> Status
     ensures done { IfSome (S.files store.old) (λ m. NoneFailed (S.failures store.old) (S.failures store.new) →
         Commands (map A.text words.now) m (S.files store.new) (W.contents out.old) (W.contents out.new) (E.contents err.old) (E.contents err.new) result) }
-    ensures failed { IfSome (S.files store.old) (λ m. SomeFailed (S.failures store.old) (S.failures store.new) →
-        FailsWords (map A.text words.now) m (S.files store.new) (W.contents out.old) (W.contents out.new) (E.contents err.old) (E.contents err.new) result) }
+    ensures failed { IfSome (S.files store.old) (λ m. HasFailed (S.failures store.old) (S.failures store.new) →
+        FailsWords (map A.text words.now) m (S.files store.new) (S.blamed store.new) (W.contents out.old) (W.contents out.new) (E.contents err.old) (E.contents err.new) result) }
     ensures one_program { IfSome (S.files store.old) (λ m. NoneFailed (S.failures store.old) (S.failures store.new) →
         WordsLinkWhole (line_of (map A.text words.now)) m (S.files store.new) (W.contents out.old) (W.contents out.new) (E.contents err.old) (E.contents err.new) result) }
     ensures later { S.failures store.old ≤ S.failures store.new }
-    ensures rose { S.failures store.old < S.failures store.new → result ≡ Status.Failure }
+    ensures rose { HasFailed (S.failures store.old) (S.failures store.new) → result ≡ Status.Failure }
 {
     match read_line(alloc, words) {
         Ok(line) => run_line(alloc, &line, store, out, err),

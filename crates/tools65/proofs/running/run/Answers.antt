@@ -1,5 +1,5 @@
 use Rattle.std.proofs.Common.{refl, map}
-use Rattle.tools65.proofs.Failing.{failed_words, none_fails}
+use Rattle.tools65.proofs.Failing.{failed_words, refused_fails}
 use Rattle.tools65.proofs.Runs.{line_run, refused_words}
 use Rattle.tools65.proofs.WholeRuns.{words_whole}
 use Rattle.tools65.proofs.running.run.Goals as goal
@@ -12,10 +12,11 @@ returns-in-Err-clause-done g c =
     refused_words _ _ (map g.A.AsStr.text c.args.words.now) c.in-Err.fault _ _ _ c.print.result _ _ refl refl c.in-Err.ensures (rw c.fault_message.ensures at c.print.ensures)
 
 pub returns-in-Ok-clause-failed : goal.returns-in-Ok-clause-failed
-returns-in-Ok-clause-failed g c = failed_words _ _ _ _ (map g.A.AsStr.text c.args.words.now) _ _ _ _ _ _ c.in-Ok.ensures c.run_line.ensures.failed
+returns-in-Ok-clause-failed g c = failed_words _ _ _ _ (map g.A.AsStr.text c.args.words.now) _ _ _ _ _ _ _ c.in-Ok.ensures c.run_line.ensures.failed
 
 pub returns-in-Err-clause-failed : goal.returns-in-Err-clause-failed
-returns-in-Err-clause-failed g c = none_fails _ _ _
+returns-in-Err-clause-failed g c =
+    refused_fails _ _ (map g.A.AsStr.text c.args.words.now) c.in-Err.fault _ _ _ _ c.print.result _ _ refl refl c.in-Err.ensures (rw c.fault_message.ensures at c.print.ensures)
 
 pub returns-in-Ok-clause-one_program : goal.returns-in-Ok-clause-one_program
 returns-in-Ok-clause-one_program g c =

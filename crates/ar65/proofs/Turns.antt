@@ -51,10 +51,10 @@ next_here f (y ∷ ys) (suc k) x h = next_here f ys k x (omega (arith, h))
 pub name_next : {B : Type 0} (f : Bor (List ℕ) → B) (files : List (Bor (List ℕ))) (k : ℕ) (x : Bor (List ℕ)) → k < length files → drop k (map f files) ≡ f (get_or files k x) ∷ drop (k + 1) (map f files)
 name_next f files k x h = rw add-one (next_here f files k x h)
 
-pub name_there : (files : List (Bor (List ℕ))) (k : ℕ) → k < length files → (name : List ℕ) × (slice_get (map (λ s. s.now) files) k ≡ Some name)
-name_there [] k h = absurd (omega arith)
-name_there (y ∷ ys) zero h = (y.now, refl)
-name_there (y ∷ ys) (suc k) h = name_there ys k (omega (arith, h))
+pub name_there : (files : List (Bor (List ℕ))) (k : ℕ) (x : Bor (List ℕ)) → k < length files → slice_get (map (λ s. s.now) files) k ≡ Some (get_or files k x).now
+name_there [] k x h = absurd (omega arith)
+name_there (y ∷ ys) zero x h = refl
+name_there (y ∷ ys) (suc k) x h = name_there ys k x (omega (arith, h))
 
 member_here : (files : List (Bor (List ℕ))) (k : ℕ) (x : Bor (List ℕ)) → k < length files → drop k (map member_name (map (λ s. s.now) files)) ≡ member_name (get_or files k x).now ∷ drop (suc k) (map member_name (map (λ s. s.now) files))
 member_here [] k x h = absurd (omega arith)

@@ -101,12 +101,12 @@ counted_same old a b same before stands = same
 pub kept_by : {T : Type 0} (a b : ℕ) (x : T) → PassesBy is_failure a b (Ok x) → b ≡ a
 kept_by a b x passes = let not_later : a < b → ⊥ = λ h. absurd (passes.told h) in omega (arith, passes.later, not_later)
 
-is_stored_at : (k : ℕ) (e : LinkFault) → is_failure (refusal_at k e) ≡ true → e ≡ link.Malformed object.FileError
+pub is_stored_at : (k : ℕ) (e : LinkFault) → is_failure (refusal_at k e) ≡ true → e ≡ link.Malformed object.FileError
 is_stored_at k (link.Malformed object.FileError) h = refl
 is_stored_at k (link.Malformed f) h = absurd cc
 is_stored_at k e h = absurd cc
 
-is_stored_in : (name : List ℕ) (e : LinkFault) → is_failure (refusal_in name e) ≡ true → e ≡ link.Malformed object.FileError
+pub is_stored_in : (name : List ℕ) (e : LinkFault) → is_failure (refusal_in name e) ≡ true → e ≡ link.Malformed object.FileError
 is_stored_in name (link.Malformed object.FileError) h = refl
 is_stored_in name (link.Malformed f) h = absurd cc
 is_stored_in name e h = absurd cc

@@ -10,3 +10,7 @@ pub returns-clause-count : goal.returns-clause-count
 returns-clause-count g c =
     passes_on _ _ _ c.in_ok-bytes.bytes c.replace.result c.in_ok-bytes.ensures.count
     (not_failed c.args.library.now c.as_bytes.result.now c.deref.result.now c.replace.new.self c.replace.result c.replace.ensures.replaced)
+
+pub returns-clause-blamed : goal.returns-clause-blamed
+returns-clause-blamed g c =
+    λ h. absurd (not_failed c.args.library.now c.as_bytes.result.now c.deref.result.now c.replace.new.self c.replace.result c.replace.ensures.replaced h)

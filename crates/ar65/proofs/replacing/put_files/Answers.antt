@@ -20,5 +20,4 @@ loop-place-preserved g c = record {
 
 pub returns-in-Err-clause-named : goal.returns-in-Err-clause-named
 returns-in-Err-clause-named g c =
-    let there = name_there c.args.files.now c.loop-place.place c.loop-place-test.true in
-    of_file _ (map (λ s. s.now) c.args.files.now) c.loop-place.place there.0 c.in-Err.fault there.1 (λ h. c.in-Err.ensures.blamed (ap (λ f. Err f) h))
+    of_file _ (map (λ s. s.now) c.args.files.now) c.loop-place.place _ c.in-Err.fault (name_there c.args.files.now c.loop-place.place _ c.loop-place-test.true) (λ h. c.in-Err.ensures.blamed (ap (λ f. Err f) h))

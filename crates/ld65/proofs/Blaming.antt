@@ -1,5 +1,5 @@
 -- What a refusal names where the store failed, and what the failed call asked for.
-use Rattle.std.proofs.Common.{◌≡◌, ℕ, List, ◌∷◌, true, false, Option, Some, Result, Ok, Err, refl, ap, slice_get, subst, sym}
+use Rattle.std.proofs.Common.{◌≡◌, ℕ, List, ◌∷◌, true, false, Option, Some, Result, Ok, Err, inl, inr, refl, ap, slice_get, subst, sym}
 use Rattle.std.specs.Prelude.{IsErrOf, IfErr}
 use Rattle.base65.specs.Outcome.{Refuses}
 use Rattle.base65.specs.Store.{Files, IsBlamed}
@@ -17,6 +17,7 @@ use Rattle.linkage65.specs.declared.fault.LinkFault.TheVariants as link
 use Rattle.linkage65.specs.Faults.{is_memory, of_object}
 use Rattle.linkage65.specs.Modules.{Module}
 use Rattle.link65.specs.Standing.{Begins, Continues, Ends, Feeding, IsFed, IsFeeding, whole}
+use Rattle.line65.specs.Line.{Linking}
 use Rattle.ld65.specs.declared.refusal.Refusal.{Refusal}
 use Rattle.ld65.specs.declared.refusal.Refusal.TheVariants.{Library, Link, Member, Object, OutOfMemory, ScriptFile}
 use Rattle.ld65.specs.Inner.Feeding.{FeedsRecords}
@@ -133,3 +134,19 @@ input_named known names k old mid P is so before stands = let p = is before stan
 
 pub inputs_named : (blamed : Option (List ℕ)) (inputs : List (List ℕ)) (place : ℕ) (name : List ℕ) (e : Refusal) → slice_get inputs place ≡ Some name → NamesInput blamed place name e → NamesInputs blamed inputs e
 inputs_named blamed inputs place name e at named failed = (place, name, at, named failed)
+
+pub same_blames : {B : Type 0} (e : LinkFault) (blamed : Option (List ℕ)) (name : List ℕ) (r : Result B LinkFault) {A : Type 0} → r ≡ Err e → (IsErrOf {T = A} (Err e) (link.Malformed object.FileError) → IsBlamed blamed name) → IsErrOf r (link.Malformed object.FileError) → IsBlamed blamed name
+same_blames {B} e blamed name r is asked h =
+    let same : ◌≡◌ {A = Result B LinkFault} (Err e) (Err (link.Malformed object.FileError)) = subst (λ (q : Result B LinkFault). q ≡ Err (link.Malformed object.FileError)) is h in
+    let fault : e ≡ link.Malformed object.FileError = cc same in
+    asked (ap Err fault)
+
+pub of_script : (blamed : Option (List ℕ)) (l : Linking) (e : Refusal) → NamesScript blamed l.script e → NamesOfLine blamed l e
+of_script blamed l e named failed = inl (named failed)
+
+pub of_inputs : (blamed : Option (List ℕ)) (l : Linking) (e : Refusal) → NamesInputs blamed l.inputs e → NamesOfLine blamed l e
+of_inputs blamed l e named failed = inr (named failed)
+
+pub in_place : (blamed : Option (List ℕ)) (place : ℕ) (library : List ℕ) (r : Result (Unit {0}) Refusal) → IfErr r (NamesMember blamed library) → IfErr r (NamesInput blamed place library)
+in_place blamed place library (Ok u) h = tt
+in_place blamed place library (Err e) h = h place

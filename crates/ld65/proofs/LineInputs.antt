@@ -1,5 +1,5 @@
 -- The inputs of a line, one after another.
-use Rattle.std.proofs.Common.{◌≡◌, ◌∙◌, ◌<◌, ◌≤◌, ◌+◌, ℕ, zero, suc, List, [], ◌∷◌, ◌++◌, Bor, drop, length, get_or, map, Bool, true, false, Option, Some, None, Result, Ok, Err, refl, sym, subst, add-one, arith}
+use Rattle.std.proofs.Common.{◌≡◌, ◌∙◌, ◌<◌, ◌≤◌, ◌+◌, ℕ, zero, suc, List, [], ◌∷◌, ◌++◌, Bor, drop, length, get_or, map, slice_get, Bool, true, false, Option, Some, None, Result, Ok, Err, refl, sym, subst, add-one, arith}
 use Rattle.std.specs.Prelude.{IfSome}
 use Rattle.std.specs.FinMap.{get}
 use Rattle.std.specs.Option.{option_map_or}
@@ -114,6 +114,11 @@ name_at inputs k x h = rw add-one (name_here inputs k x h)
 -- ---- The loop, for all modules that the linker stands for.
 
 -- what is left of the inputs comes to the same as all of them, behind what the linker stands for
+pub name_there : (inputs : List (Bor (List ℕ))) (k : ℕ) (x : Bor (List ℕ)) → k < length inputs → slice_get (map (λ s. s.now) inputs) k ≡ Some (get_or inputs k x).now
+name_there [] k x h = absurd (omega arith)
+name_there (y ∷ ys) zero x h = refl
+name_there (y ∷ ys) (suc k) x h = name_there ys k x (omega (arith, h))
+
 abbrev pub IsBehind : Option Files → List (List ℕ) → ℕ → Feeding → Feeding → Type 0
 IsBehind known names k old now =
     (before : List Module) → IsFed old before

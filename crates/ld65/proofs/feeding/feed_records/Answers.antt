@@ -1,10 +1,11 @@
-use Rattle.std.proofs.Common.{◌∙◌, refl, arith}
+use Rattle.std.proofs.Common.{◌∙◌, Err, ap, refl, arith}
 use Rattle.std.proofs.lemmas.Result.{err_from_is_err_and}
 use Rattle.std.specs.FinMap.{get}
 use Rattle.object65.specs.Reading.{in_file, record_at}
 use Rattle.object65.specs.Record.{entry_of}
 use Rattle.object65.proofs.Records.{kept_count}
 use Rattle.ld65.specs.Inner.Feeding.{input_of}
+use Rattle.ld65.proofs.Blaming.{read_blames, record_blames}
 use Rattle.ld65.proofs.Fed.{is_at_first, seen, unread, untaken, ends_there, goes_further, none_passed}
 use Rattle.ld65.proofs.feeding.feed_records.Goals as goal
 
@@ -52,3 +53,13 @@ records-preserved g c =
       };
       stands = goes_further _ (input_of c.args.object.now) c.args.at c.records.next _ c.args.linker.now c.records.linker c.record.new.self (entry_of c.record-record.result.now, c.in_ok-next.next) c.records.invariant.files c.records.invariant.stands read (omega (arith, c.in_ok-next.ensures.bound.0)) c.in_ok-record.ensures.taken c.if-record-eq-END.false;
     }
+
+pub returns-in_err-next-clause-blamed : goal.returns-in_err-next-clause-blamed
+returns-in_err-next-clause-blamed g c =
+    let p = err_from_is_err_and c.from_residual.result c.from_residual.ensures.1 in
+    λ modules called entry stands h. read_blames c.in_err-next.field-0.0 _ _ c.from_residual.result (p.1 ∙ ap Err p.2) c.in_err-next.ensures.blamed h
+
+pub returns-in_err-record-clause-blamed : goal.returns-in_err-record-clause-blamed
+returns-in_err-record-clause-blamed g c =
+    let p = err_from_is_err_and c.from_residual-in_err-record.result c.from_residual-in_err-record.ensures.1 in
+    record_blames _ (input_of c.args.object.now) c.args.at c.records.next c.args.linker.now c.records.linker c.record.new.self (entry_of c.record-record.result.now) c.in_err-record.field-0.0 _ _ c.from_residual-in_err-record.result (p.1 ∙ ap Err p.2) c.records.invariant.stands c.in_err-record.ensures.taken

@@ -1,4 +1,5 @@
 use Rattle.ld65.proofs.Behind.{at_count, fed_count}
+use Rattle.ld65.proofs.Blaming.{file_named}
 use Rattle.ld65.proofs.LineInputs.{file_fed, file_refused}
 use Rattle.ld65.proofs.inputs.feed_file.Goals as goal
 
@@ -16,3 +17,7 @@ returns-in-Err-clause-fed g c =
 pub returns-in-Err-clause-count : goal.returns-in-Err-clause-count
 returns-in-Err-clause-count g c modules stands =
     rw c.of_input.ensures (at_count c.args.input.now.place _ _ c.in-Err.fault (c.in-Err.ensures.count modules stands))
+
+pub returns-in-Err-clause-named : goal.returns-in-Err-clause-named
+returns-in-Err-clause-named g c modules stands =
+    rw c.of_input.ensures (file_named _ c.args.input.now.place c.args.input.now.name.now c.in-Err.fault (c.in-Err.ensures.blamed modules stands))

@@ -1,6 +1,7 @@
 use Rattle.std.proofs.Common.{◌∙◌}
 use Rattle.std.proofs.lemmas.Result.{err_from_is_err_and}
 use Rattle.ld65.proofs.Behind.{fed_count, in_count}
+use Rattle.ld65.proofs.Blaming.{member_named}
 use Rattle.ld65.proofs.Chosen.{member_fed, member_refused, member_unnamed}
 use Rattle.ld65.proofs.members.feed_member.Goals as goal
 
@@ -24,3 +25,7 @@ returns-in-Err-clause-fed g c =
 pub returns-in-Err-clause-count : goal.returns-in-Err-clause-count
 returns-in-Err-clause-count g c modules stands =
     rw c.of_member.ensures (in_count c.in_ok-name.name _ _ c.in-Err.fault (c.in-Err.ensures.count modules stands))
+
+pub returns-in-Err-clause-named : goal.returns-in-Err-clause-named
+returns-in-Err-clause-named g c modules stands =
+    rw c.of_member.ensures (λ place. member_named _ place c.args.member.now.library.now c.args.member.now.entry.now.name c.in_ok-name.name c.in-Err.fault c.in_ok-name.ensures (c.in-Err.ensures.blamed modules stands))

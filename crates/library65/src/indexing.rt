@@ -18,10 +18,6 @@ use indexmap::IndexSet;
 use selection65::has_name;
 use std::alloc::Global;
 
-/// For so many names room is made at once, where the index says that there are as many: most members have few, and
-/// the index may say anything.
-const FEW: usize = 8;
-
 /// Reads the name of an export or an import, and answers where it ends.
 #[tactic(auto, unfolding(crate::specs::Reading::symbol_at))]
 fn read_symbol<S: Store>(
@@ -61,8 +57,8 @@ fn read_symbols<S: Store>(
     ensures later { IfOk result (λ x. at < x.1) }
 {
     let count = read_number(store, file, at)?;
-    let room = Vec::with_capacity(alloc, FEW.min(count as usize))?;
-    let mut names = Sequence::from_vec(room);
+    // The index may say any number, so room grows by the names that are read.
+    let mut names = Sequence::new(alloc);
     let mut end = at + 4;
     for _ in 0..count {
         let (name, next) = read_symbol(alloc, store, file, end)?;

@@ -1,5 +1,6 @@
 -- An expression hangs on the constant that its attempt with final forms needs.
-use Rattle.std.proofs.Common.{◌≡◌, ℕ, ◌<◌, List, length, Option, Some, slice_get, Result, Err, refl, sym, ap, ◌∙◌, subst}
+use Rattle.std.proofs.Common.{◌≡◌, ℕ, ◌<◌, List, length, Option, Some, None, slice_get, Result, Ok, Err, refl, sym, ap, ◌∙◌, subst}
+use Rattle.std.specs.Prelude.{IfSome}
 use Rattle.std.proofs.lemmas.Option.{slice_get_within}
 use Rattle.base65.specs.Outcome.{◌>>=◌}
 use Rattle.syntax65.specs.Trees.{Tree, number, here, name, cheap, forward, backward, unary, binary}
@@ -11,9 +12,9 @@ use Rattle.language65.specs.Norms.{folded, form_of_definition, form_of_value, no
 use Rattle.language65.specs.Symbols as l
 use Rattle.symbols65.specs.declared.resolving.attempt.Source.TheVariants.{Finals}
 use Rattle.symbols65.specs.declared.resolving.attempt.Stop.{Stop}
-use Rattle.symbols65.specs.declared.resolving.attempt.Stop.TheVariants.{Needs}
+use Rattle.symbols65.specs.declared.resolving.attempt.Stop.TheVariants.{Fault, Needs}
 use Rattle.symbols65.specs.declared.table.symbols.Symbols.{Symbols}
-use Rattle.symbols65.specs.Hanging.{ExpressionHangsOn, HangsOn, Leads}
+use Rattle.symbols65.specs.Hanging.{ExpressionHangsOn, HangsOn, Leads, needed_in}
 use Rattle.symbols65.specs.Resolving.{FoundBy, attempt_definition, known_form, meaning_form, operand_form, stopped, tried, tried_by}
 use Rattle.symbols65.specs.Inner.Settling.{MeansFinally, Operands}
 use Rattle.symbols65.specs.Inner.Sources.{known_by}
@@ -54,6 +55,18 @@ module _ (t : Symbols) where
 
   pub needed_hangs : (s : Spot) (e : Tree) (k : ℕ) → Operands (MeansFinally y s) e → tried (known_by t Finals) y s e ≡ Err (Needs k) → ExpressionHangsOn y s e k
   needed_hangs s e k p h = λ z more. leads_from (length y.definitions) z (known_by t Finals) (expression_course z s e) (tried (known_by t Finals) z s e) k (attempt_first (length y.definitions) z (known_by t Finals) (finals_later z more) s e) (tried_same (MeansFinally y s) (operand_form (known_by t Finals) z s) (operand_form (known_by t Finals) y s) s (λ u m. operand_stays s z more u m) e p ∙ h)
+
+  -- so does one by what an attempt at it needs
+  pub needed_is : (s : Spot) (e : Tree) (o : Option ℕ) → Operands (MeansFinally y s) e → o ≡ needed_in (tried (known_by t Finals) y s e) → IfSome o (λ k. ExpressionHangsOn y s e k)
+  needed_is s e o p is = by (tried (known_by t Finals) y s e) refl o is
+    where
+      by : (r : Result Form Stop) → tried (known_by t Finals) y s e ≡ r → (o : Option ℕ) → o ≡ needed_in r → IfSome o (λ k. ExpressionHangsOn y s e k)
+      by (Ok f) at None h = tt
+      by (Ok f) at (Some k) h = absurd cc
+      by (Err (Fault z)) at None h = tt
+      by (Err (Fault z)) at (Some k) h = absurd cc
+      by (Err (Needs j)) at None h = tt
+      by (Err (Needs j)) at (Some k) h = let same : k ≡ j = cc in subst (λ i. ExpressionHangsOn y s e i) (sym same) (needed_hangs s e j p at)
 
 -- a constant hangs on that on which its expression does
 pub constant_hangs : (y : l.Symbols) (j k : ℕ) (d : l.Definition) (e : Tree) → slice_get y.definitions j ≡ Some d → d.value ≡ Some e → ExpressionHangsOn y d.spot e k → HangsOn y j k

@@ -1,5 +1,5 @@
 -- Constants whose faults are those of others, whatever statements follow.
-use Rattle.std.specs.Prelude.{◌≡◌, ℕ, suc, ◌≤◌, List, slice_get, Option, Some, None, Result, Err, ◌⊎◌}
+use Rattle.std.specs.Prelude.{◌≡◌, ℕ, suc, ◌≤◌, List, slice_get, Option, Some, None, Result, Ok, Err, ◌⊎◌}
 use Rattle.syntax65.specs.Trees.{Tree}
 use Rattle.object65.specs.Form.{Form}
 use Rattle.language65.specs.declared.fault.AsmFault.{AsmFault}
@@ -10,6 +10,8 @@ use Rattle.language65.specs.Norms.{form_of_definition, norm}
 use Rattle.language65.specs.Symbols.{Symbols}
 use Rattle.symbols65.specs.declared.resolving.attempt.State.{State}
 use Rattle.symbols65.specs.declared.resolving.attempt.State.TheVariants.{Unknown, Hangs}
+use Rattle.symbols65.specs.declared.resolving.attempt.Stop.{Stop}
+use Rattle.symbols65.specs.declared.resolving.attempt.Stop.TheVariants.{Needs, Fault}
 
 -- what is defined at a place, with at most so many expressions one inside the other
 abbrev pub defined_within : Symbols → ℕ → ℕ → Result Form AsmFault
@@ -40,6 +42,12 @@ Reaches y j k = (j ≡ k) ⊎ HangsOn y j k
 -- each constant that hangs on another in a table of forms does
 abbrev pub AreHung : Symbols → List State → Type 0
 AreHung y states = (j k : ℕ) → slice_get states j ≡ Some (Hangs k) → HangsOn y j k
+
+-- the constant whose form an attempt needs, if it stops for want of one
+abbrev pub needed_in : {A : Type 0} → Result A Stop → Option ℕ
+needed_in (Err (Needs k)) = Some k
+needed_in (Err (Fault e)) = None
+needed_in (Ok x) = None
 
 abbrev pub hung_on : Option State → Option ℕ
 hung_on (Some (Hangs k)) = Some k

@@ -6,6 +6,6 @@ mod forms;
 mod modes;
 mod sizes;
 
-pub use constants::constant;
+pub use constants::{constant, constant_now};
 pub use modes::mode;
 pub use sizes::size;

@@ -12,7 +12,7 @@ mod scopes;
 mod settling;
 mod showing;
 
-pub use attempt::{State, address};
+pub use attempt::{State, Stop, address};
 pub use definitions::definition_of;
 pub use finals::final_form;
 pub use folding::{binary_form, prefix_form};

@@ -8,7 +8,7 @@ ghost use Rattle.symbols65.specs.Resolving.{IsTable};
 ghost use Rattle.symbols65.specs.Views.{table_of};
 
 use super::forms::{literal, pass_on_memory};
-use crate::resolving::{Known, norm};
+use crate::resolving::{Known, Stop, norm, settled};
 use crate::table::Symbols;
 use language65::Spot;
 use std::alloc::{AllocError, Global};
@@ -32,6 +32,29 @@ pub fn constant(
             pass_on_memory(&fault)?;
             // An expression without a form is no constant.
             Ok(None)
+        }
+    }
+}
+
+/// The same where no table of forms is kept: one is made only where the final forms of what the operands mean now aren't
+/// enough.
+pub fn constant_now(
+    alloc: Global,
+    symbols: &Symbols,
+    spot: Spot,
+    value: &Expr,
+) -> Result<Option<i64>, AllocError>
+    ensures { IfOk result (λ v. v ≡ constant_in (table_of symbols.now) (spot_of spot) (tree_of value.now)) }
+{
+    match settled(alloc, symbols, spot, value) {
+        Ok(form) => Ok(literal(&form)),
+        Err(Stop::Fault(fault)) => {
+            pass_on_memory(&fault)?;
+            Ok(None)
+        }
+        Err(Stop::Needs(_)) => {
+            let mut known = Known::unknown(alloc, symbols)?;
+            constant(alloc, symbols, &mut known, spot, value)
         }
     }
 }

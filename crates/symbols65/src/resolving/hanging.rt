@@ -1,40 +1,57 @@
 //! Constants that hang on others: that have each fault of theirs, whatever statements follow.
 
-ghost use Rattle.std.specs.Prelude.{◌≡◌, IfSome, map, slice_get};
+ghost use Rattle.std.specs.Prelude.{◌≡◌, IfOk, IfSome, map, slice_get};
 ghost use Rattle.syntax65.specs.Trees.{tree_of};
 ghost use Rattle.language65.specs.Views.{spot_of};
-ghost use Rattle.symbols65.specs.Hanging.{AreHung, ExpressionHangsOn, HangsOn, Reaches, bare, hung_on};
-ghost use Rattle.symbols65.specs.Resolving.{may_be_looked_for};
+ghost use Rattle.symbols65.specs.declared.resolving.attempt.Source.TheVariants.{Finals};
+ghost use Rattle.symbols65.specs.Hanging.{AreHung, HangsOn, Reaches, bare, hung_on, needed_in};
+ghost use Rattle.symbols65.specs.Inner.Sources.{known_by};
+ghost use Rattle.symbols65.specs.Resolving.{may_be_looked_for, tried};
 ghost use Rattle.symbols65.specs.Views.{Table, table_of};
 
 use super::attempt::{Source, State, Stop, try_norm};
 use super::finals::are_final;
 use crate::table::Symbols;
 use language65::Spot;
-use std::alloc::Global;
+use std::alloc::{AllocError, Global};
 use syntax65::Expr;
 
-/// The constant without whose form an expression has none, whatever statements follow, where that is plain already.
-fn needed_by(alloc: Global, symbols: &Symbols, spot: Spot, value: &Expr) -> Option<usize>
-    ensures { IfSome result (λ k. ExpressionHangsOn (table_of symbols.now) (spot_of spot) (tree_of value.now) k) }
+/// The constant for want of whose final form an expression has none yet, if there is one.
+fn needed_by(
+    alloc: Global,
+    symbols: &Symbols,
+    spot: Spot,
+    value: &Expr,
+) -> Result<Option<usize>, AllocError>
+    ensures { IfOk result (λ o. o ≡ needed_in (tried (known_by symbols.now Finals) (table_of symbols.now) (spot_of spot) (tree_of value.now))) }
 {
-    if !are_final(symbols, spot, value) {
-        return None;
-    }
     match try_norm(alloc, symbols, Source::Finals, spot, value) {
-        Err(Stop::Needs(place)) => Some(place),
-        _ => None,
+        Ok(_) => Ok(None),
+        Err(Stop::Needs(place)) => Ok(Some(place)),
+        Err(Stop::Fault(fault)) => {
+            if fault.is_memory() {
+                return Err(AllocError);
+            }
+            Ok(None)
+        }
     }
 }
 
 /// The constant on which the one at a place hangs, where that is plain already.
-fn needed_at(alloc: Global, symbols: &Symbols, place: usize) -> Option<usize>
-    ensures { IfSome result (λ k. HangsOn (table_of symbols.now) place k) }
+fn needed_at(alloc: Global, symbols: &Symbols, place: usize) -> Result<Option<usize>, AllocError>
+    ensures { IfOk result (λ o. IfSome o (λ k. HangsOn (table_of symbols.now) place k)) }
 {
-    let definition = symbols.definition(place)?;
+    let Some(definition) = symbols.definition(place) else {
+        return Ok(None);
+    };
     match &definition.value {
-        Some(value) => needed_by(alloc, symbols, definition.spot, value),
-        None => None,
+        Some(value) => {
+            if !are_final(symbols, definition.spot, value) {
+                return Ok(None);
+            }
+            needed_by(alloc, symbols, definition.spot, value)
+        }
+        None => Ok(None),
     }
 }
 
@@ -46,26 +63,38 @@ pub fn may_be_looked_for(states: &[State], place: usize) -> bool
 }
 
 /// Lets the constant at a place hang on another, where its form isn't found.
-fn hang(alloc: Global, symbols: &Symbols, states: &mut [State], place: usize)
+fn hang(
+    alloc: Global,
+    symbols: &Symbols,
+    states: &mut [State],
+    place: usize,
+) -> Result<(), AllocError>
     ensures same { map bare states.new ≡ map bare states.old }
     ensures hung { AreHung (table_of symbols.now) states.old → AreHung (table_of symbols.now) states.new }
 {
     if !may_be_looked_for(states, place) {
-        return;
+        return Ok(());
     }
-    if let Some(next) = needed_at(alloc, symbols, place) {
+    if let Some(next) = needed_at(alloc, symbols, place)? {
         states[place] = State::Hangs(next);
     }
+    Ok(())
 }
 
 /// Lets constants hang on others, where their forms aren't found.
-pub fn hang_all(alloc: Global, symbols: &Symbols, states: &mut [State], places: &[usize])
+pub fn hang_all(
+    alloc: Global,
+    symbols: &Symbols,
+    states: &mut [State],
+    places: &[usize],
+) -> Result<(), AllocError>
     ensures same { map bare states.new ≡ map bare states.old }
     ensures hung { AreHung (table_of symbols.now) states.old → AreHung (table_of symbols.now) states.new }
 {
     for place in places {
-        hang(alloc, symbols, states, *place);
+        hang(alloc, symbols, states, *place)?;
     }
+    Ok(())
 }
 
 /// The constant on which the one at a place hangs, if it does.

@@ -96,22 +96,28 @@ impl Known {
     }
 
     /// Lets constants hang on others, where their forms aren't found.
-    fn hang(&mut self, alloc: Global, symbols: &Symbols, places: &[usize])
+    fn hang(&mut self, alloc: Global, symbols: &Symbols, places: &[usize]) -> Result<(), AllocError>
         ensures same { map bare self.new.states.items ≡ map bare self.old.states.items }
         ensures hung { AreHung (table_of symbols.now) self.old.states.items → AreHung (table_of symbols.now) self.new.states.items }
     {
-        hang_all(alloc, symbols, &mut self.states, places);
+        hang_all(alloc, symbols, &mut self.states, places)
     }
 
     /// The last constant waits no more, and those before it hang on others.
-    fn give_up(&mut self, alloc: Global, symbols: &Symbols, waiting: &[usize])
+    fn give_up(
+        &mut self,
+        alloc: Global,
+        symbols: &Symbols,
+        waiting: &[usize],
+    ) -> Result<(), AllocError>
         ensures same { map bare self.new.states.items ≡ map bare (without self.old.states.items waiting.now) }
         ensures hung { AreHung (table_of symbols.now) (without self.old.states.items waiting.now) → AreHung (table_of symbols.now) self.new.states.items }
     {
         self.lose(waiting);
         // The last one's fault is its own.
-        if let Some((_, others)) = waiting.split_last() {
-            self.hang(alloc, symbols, others);
+        match waiting.split_last() {
+            Some((_, others)) => self.hang(alloc, symbols, others),
+            None => Ok(()),
         }
     }
 
@@ -153,13 +159,13 @@ impl Known {
                     Some(last) => self.settle(last, form)?,
                 },
                 Err(Stop::Fault(fault)) => {
-                    self.give_up(alloc, symbols, &waiting);
+                    self.give_up(alloc, symbols, &waiting)?;
                     return Err(fault);
                 }
                 Err(Stop::Needs(place)) => {
                     let next = self.behind(place);
                     if !may_be_looked_for(&self.states, next) {
-                        self.give_up(alloc, symbols, &waiting);
+                        self.give_up(alloc, symbols, &waiting)?;
                         return Err(AsmFault::Circular);
                     }
                     self.wait(next);

@@ -19,7 +19,7 @@ loop-init g c =
       count = kept_count _ _ _ c.in_ok-count.ensures.count;
       limit = c.in_ok-count.ensures.limit;
       later = omega arith;
-      read = rw (c.from_vec-names.ensures, c.in_ok-room.ensures.items) (goes_on c.args.file.now all all (number_at c.args.at) (λ n. symbols_at (n - 0) [] (c.args.at + 4)) (counted_begins c.args.at) _ _ c.in_ok-count.count refl (begins _ c.args.file.now all) c.in_ok-count.ensures.read);
+      read = rw c.new-names.ensures (goes_on c.args.file.now all all (number_at c.args.at) (λ n. symbols_at (n - 0) [] (c.args.at + 4)) (counted_begins c.args.at) _ _ c.in_ok-count.count refl (begins _ c.args.file.now all) c.in_ok-count.ensures.read);
     }
 
 pub returns-in_err-name-clause-read : goal.returns-in_err-name-clause-read

@@ -1,4 +1,6 @@
-use Rattle.std.proofs.Common.{slice_get, sym, ◌∙◌}
+use Rattle.std.proofs.Common.{◌∙◌, Option, ℕ, slice_get, subst, sym}
+use Rattle.std.specs.Prelude.{IfSome}
+use Rattle.symbols65.specs.Hanging.{HangsOn}
 use Rattle.symbols65.specs.Views.{table_of}
 use Rattle.symbols65.proofs.Hanging.{bare_put, hung_put, open_is}
 use Rattle.symbols65.proofs.resolving.hanging.hang.Goals as goal
@@ -10,4 +12,7 @@ returns-in-Some-clause-same c =
     bare_put states c.args.place c.in-Some.next x at free
 
 pub returns-in-Some-clause-hung : goal.returns-in-Some-clause-hung
-returns-in-Some-clause-hung c = λ h. hung_put (table_of c.args.symbols.now) c.args.states.now c.args.place c.in-Some.next h c.in-Some.ensures
+returns-in-Some-clause-hung c = λ h.
+    (let y = table_of c.args.symbols.now in
+    let P : Option ℕ → Type 0 = λ o. IfSome o (λ k. HangsOn y c.args.place k) in
+    hung_put y c.args.states.now c.args.place c.in-Some.next h (subst P c.in-Some.is c.in_ok-next.ensures))

@@ -6,3 +6,6 @@ loop-place-preserved c = (c.hang.ensures.same ∙ c.loop-place.invariant.0, λ h
 
 pub returns-clause-hung : goal.returns-clause-hung
 returns-clause-hung c = c.loop-place.invariant.1
+
+pub returns-in_err-hang-clause-hung : goal.returns-in_err-hang-clause-hung
+returns-in_err-hang-clause-hung c = λ h. c.hang.ensures.hung (c.loop-place.invariant.1 h)

@@ -1,13 +1,13 @@
+use Rattle.std.proofs.Common.{ap, sym, subst}
 use Rattle.base65.specs.Outcome.{Refuses}
 use Rattle.syntax65.specs.Trees.{tree_of}
-use Rattle.std.proofs.Common.{subst}
 use Rattle.language65.specs.Views.{spot_of}
 use Rattle.symbols65.specs.declared.resolving.attempt.Source.TheVariants.{Finals}
 use Rattle.symbols65.specs.declared.resolving.attempt.Stop.{Stop}
+use Rattle.symbols65.specs.Hanging.{needed_in}
 use Rattle.symbols65.specs.Resolving.{lacks_memory, tried}
 use Rattle.symbols65.specs.Inner.Sources.{known_by}
 use Rattle.symbols65.specs.Views.{table_of}
-use Rattle.symbols65.proofs.Needing.{needed_hangs}
 use Rattle.symbols65.proofs.resolving.hanging.needed_by.Goals as goal
 
 pub returns-in-Err-Needs : goal.returns-in-Err-Needs
@@ -16,4 +16,4 @@ returns-in-Err-Needs c =
     let s = spot_of c.args.spot in
     let e = tree_of c.args.value.now in
     let P : Stop → Type 0 = λ q. Refuses lacks_memory q (tried (known_by t Finals) (table_of t) s e) in
-    needed_hangs t s e c.in-Err-Needs.place (c.are_final.ensures c.if-not-are_final.false) (subst P c.in-Err-Needs.field-0-is c.in-Err-Needs.ensures)
+    sym (ap needed_in (subst P c.in-Err-Needs.field-0-is c.in-Err-Needs.ensures))

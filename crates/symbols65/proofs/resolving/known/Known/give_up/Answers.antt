@@ -6,5 +6,5 @@ use Rattle.symbols65.proofs.resolving.known.Known.give_up.Goals as goal
 pub returns-in-Some-clause-hung : goal.returns-in-Some-clause-hung
 returns-in-Some-clause-hung c = λ h. c.hang.ensures.hung (subst (AreHung (table_of c.args.symbols.now)) (sym c.lose.ensures) h)
 
-pub returns-in_default-clause-hung : goal.returns-in_default-clause-hung
-returns-in_default-clause-hung c = λ h. subst (AreHung (table_of c.args.symbols.now)) (sym c.lose.ensures) h
+pub returns-in-None-clause-hung : goal.returns-in-None-clause-hung
+returns-in-None-clause-hung c = λ h. subst (AreHung (table_of c.args.symbols.now)) (sym c.lose.ensures) h

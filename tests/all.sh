@@ -40,6 +40,8 @@ part 'rt ci' python3 gate/watched.py rt ci
 part 'cases' python3 tests/cases.py "$program"
 part 'the program on files' bash tests/program.sh "$program"
 part 'the disk' python3 tests/disk.py "$program"
+part 'refused memory' python3 tests/memory.py "$program"
+part 'a failing disk' python3 tests/failing_disk.py "$program"
 part 'large sizes' python3 tests/large.py "$program"
 part 'one program' python3 tests/one_program.py "$program"
 part 'what a cc65 user writes' python3 tests/migrating.py "$program"

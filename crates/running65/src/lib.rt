@@ -1,9 +1,11 @@
 //! What the trials of commands share: a script and an object, and a run over files and streams in memory.
 #![tactic(auto)]
 
+mod runs;
 mod scenes;
 
 use base65::{MemStore, Store};
+pub use runs::RUNS;
 pub use scenes::first_wrong;
 use std::alloc::{AllocError, Global};
 use tools65::{Status, run};

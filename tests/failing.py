@@ -2,16 +2,13 @@
 
 import os
 import re
-import shutil
-import signal
 import subprocess
 import sys
-import tempfile
+
+import starting
 
 HERE = os.path.dirname(os.path.abspath(__file__))
 ROWS = os.path.join(HERE, "..", "crates", "running65", "src", "runs.rt")
-SECONDS = 10
-REPORT = 100
 
 
 def build(folder):
@@ -25,90 +22,28 @@ def build(folder):
     return library
 
 
-class Ended:
-    """What a run ended with; no status where it was ended by a signal or by its time."""
+class Run:
+    """What a run ended with, and the files behind it."""
 
-    def __init__(self, status, out, err, report, files):
-        self.status, self.out, self.err, self.report, self.files = status, out, err, report, files
+    def __init__(self, ended, files):
+        self.status, self.out, self.err, self.files = ended.status, ended.out, ended.err, files
+        self.report = ended.report.decode()
 
     def answer(self):
         return self.status, self.out, self.err, self.files
 
 
-class Late(Exception):
-    pass
-
-
-def late(_number, _frame):
-    raise Late
-
-
-class Starter:
-    """A folder for runs, and the program that is started in it."""
+class Starter(starting.Starter):
+    """Starts the program with failing.c before it."""
 
     def __init__(self, program):
-        self.program = os.path.abspath(program)
-        shared = "/dev/shm" if os.access("/dev/shm", os.W_OK) else None
-        self.folder = tempfile.mkdtemp(prefix="failing-", dir=shared)
+        super().__init__(program)
         self.library = build(self.folder)
-        self.streams = [os.open(os.path.join(self.folder, name), os.O_RDWR | os.O_CREAT | os.O_APPEND) for name in ("out", "err", "report")]
-        self.nothing = os.open("/dev/null", os.O_RDONLY)
-        targets = zip([self.nothing, *self.streams], (0, 1, 2, REPORT))
-        self.actions = [(os.POSIX_SPAWN_DUP2, source, target) for source, target in targets]
-        self.place = os.path.join(self.folder, "files")
-        os.mkdir(self.place)
-        os.chdir(self.place)
-        signal.signal(signal.SIGALRM, late)
-        self.starts = 0
 
-    def close(self):
-        os.chdir("/")
-        shutil.rmtree(self.folder)
-
-    def ended(self, process):
-        """The process's status: none where it ended by a signal, or didn't end within its seconds."""
-        signal.setitimer(signal.ITIMER_REAL, SECONDS)
-        try:
-            status = os.waitstatus_to_exitcode(os.waitpid(process, 0)[1])
-        except Late:
-            os.kill(process, signal.SIGKILL)
-            os.waitpid(process, 0)
-            return None
-        finally:
-            signal.setitimer(signal.ITIMER_REAL, 0)
-        return status if status >= 0 else None
-
-    def start(self, words, failing):
+    def run(self, words, failing):
         """Runs the program; `failing` is what failing.c is to do."""
-        for stream in self.streams:
-            os.ftruncate(stream, 0)
         environment = {"LD_PRELOAD": self.library, "FAILING": failing} if failing else {}
-        process = os.posix_spawn(self.program, ["bin65", *words], environment, file_actions=self.actions)
-        status = self.ended(process)
-        self.starts += 1
-        out, err, report = (os.pread(stream, 1 << 24, 0) for stream in self.streams)
-        return Ended(status, out, err, report.decode(), self.files())
-
-    def files(self):
-        """All files by name."""
-        found = {}
-        for folder, _, names in os.walk(self.place):
-            for name in names:
-                path = os.path.join(folder, name)
-                with open(path, "rb") as opened:
-                    found[os.path.relpath(path, self.place)] = opened.read()
-        return found
-
-    def restore(self, files):
-        """Leaves these files, and no others."""
-        there = self.files()
-        for name in there.keys() - files.keys():
-            os.remove(name)
-        for name, file in files.items():
-            if there.get(name) != file:
-                os.makedirs(os.path.dirname(os.path.join(self.place, name)), exist_ok=True)
-                with open(name, "wb") as opened:
-                    opened.write(file)
+        return Run(self.start(words, environment), self.files())
 
 
 def scenes():
@@ -158,7 +93,7 @@ class Tests:
         if verb == "$":
             words, wanted = wanted_of(rest)
             self.starter.restore(files)
-            plain = self.starter.start(words, "")
+            plain = self.starter.run(words, "")
             self.check(rest, plain.answer()[:3] != wanted and f"{plain.answer()[:3]}, not {wanted}")
             self.trial(self, rest, words, files, plain)
             return plain.files

@@ -146,9 +146,9 @@ def why_wrong(ended, words, before, plain, calls):
 
 def fail_in_turn(tests, words, before, plain, letters, wanted):
     """Fails each call that is wanted in turn. Answers how many, and what was wrong first."""
-    start, restore = tests.starter.start, tests.starter.restore
+    run, restore = tests.starter.run, tests.starter.restore
     restore(before)
-    ended = start(words, f"d{letters}")
+    ended = run(words, f"d{letters}")
     if ended.answer() != plain.answer():
         return 0, f"{ended.answer()}, not {plain.answer()}"
     calls = calls_of(ended.report)
@@ -156,7 +156,7 @@ def fail_in_turn(tests, words, before, plain, letters, wanted):
     wrong = []
     for number in numbers:
         restore(before)
-        ended = start(words, f"d{number}{letters}")
+        ended = run(words, f"d{number}{letters}")
         why = why_wrong(ended, words, before, plain, calls[:number])
         wrong += [f"call {number}: {why}"] * bool(why)
     if len(calls) < 2:

@@ -35,15 +35,15 @@ def why_wrong(ended, words, before, plain, order):
 
 
 def trial(tests, name, words, before, plain):
-    start, restore = tests.starter.start, tests.starter.restore
+    run, restore = tests.starter.run, tests.starter.restore
     restore(before)
-    order = failing.created(start(words, "d").report)
+    order = failing.created(run(words, "d").report)
     for letter in ("", "a"):
         number, why = 0, None
         while True:
             number += 1
             restore(before)
-            ended = start(words, f"m{number}{letter}")
+            ended = run(words, f"m{number}{letter}")
             if ended.status is not None and not ended.report.endswith("refused\n"):
                 break
             wrong = why_wrong(ended, words, before, plain, order)

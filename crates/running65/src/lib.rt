@@ -6,7 +6,7 @@ mod scenes;
 
 use base65::{MemStore, Store};
 pub use runs::RUNS;
-pub use scenes::first_wrong;
+pub use scenes::{first_wrong, is_right, parts_of, words_of};
 use std::alloc::{AllocError, Global};
 use tools65::{Status, run};
 

@@ -134,3 +134,88 @@ fn stops_with_its_stream(rt: HostRuntime) -> Result<(), Fail> {
     }
     Ok(())
 }
+
+const LINK_WITH_MAP: [&str; 7] = ["bin65", "ld65", "-C", "s.cfg", "-m", "a.map", "a.o"];
+
+/// A script and an object, of which each writing takes one byte and the call behind so many others fails.
+fn written_by_bytes(alloc: Global, left: u64) -> Result<FailsOnce, AllocError> {
+    Ok(FailsOnce::behind(alloc, files(alloc, O1, S1)?, Some(left)).by_bytes())
+}
+
+/// How many calls a link with a map makes before it creates its output.
+fn reading_calls(alloc: Global) -> Result<Option<u64>, AllocError> {
+    let mut store = written_by_bytes(alloc, 10_000)?;
+    run_on(alloc, &mut store, &LINK_WITH_MAP);
+    let map = store.files.get("a.map").map_or(0, |map| map.len());
+    // It creates two files and writes three bytes into one and the map into the other.
+    let writing = (map as u64).saturating_add(5);
+    let calls = 10_000u64.saturating_sub(store.left().unwrap_or(0));
+    Ok(calls.checked_sub(writing))
+}
+
+#[test]
+fn leaves_what_was_written(rt: HostRuntime) -> Result<(), Fail> {
+    let reading = reading_calls(rt.alloc())?.ok_or("too few calls")?;
+    // The second writing fails.
+    let mut store = written_by_bytes(rt.alloc(), reading.saturating_add(2))?;
+    let ran = run_on(rt.alloc(), &mut store, &LINK_WITH_MAP);
+    assert!(rt; says(&ran, "a.out: Error: file error\n"));
+    assert!(rt; matches!(store.files.get("a.out"), Some([0xa9])));
+    assert!(rt; store.files.get("a.map").is_none());
+    // The creation of the map fails.
+    let mut store = written_by_bytes(rt.alloc(), reading.saturating_add(4))?;
+    let ran = run_on(rt.alloc(), &mut store, &LINK_WITH_MAP);
+    assert!(rt; says(&ran, "a.map: Error: file error\n"));
+    assert!(rt; matches!(store.files.get("a.out"), Some([0xa9, 0x00, 0x60])));
+    assert!(rt; store.files.get("a.map").is_none());
+    Ok(())
+}
+
+/// The library of `a.o`.
+const ONE_MEMBER: &[u8] =
+    b"R65l\x01\x01\0\0\0\x03a.o\x1a\0\0\0\0\0\0\0\0\0\0\0R65o\x01\x02\x09\0\x03\0\0\0\0CODE\x03\x03\0\xa9\0\x60\x08\0\0";
+
+#[test]
+fn stops_behind_two_bytes(rt: HostRuntime) -> Result<(), Fail> {
+    let mut store = MemStore::new(rt.alloc());
+    store.put("l.lib", ONE_MEMBER)?;
+    let mut out = Stopping {
+        taken: Vec::new(rt.alloc()),
+        left: 2,
+        fails: true,
+    };
+    let mut err = Vec::new(rt.alloc());
+    let words = ["bin65", "ar65", "t", "l.lib"];
+    let status = run(rt.alloc(), &words, &mut store, &mut out, &mut err);
+    assert!(rt; out.taken.as_slice() == b"a.".as_slice() && err.is_empty());
+    assert_eq!(rt; status, Status::Failure);
+    Ok(())
+}
+
+/// A store that never ends is no source, no script and no library.
+#[test]
+fn refuses_what_never_ends(rt: HostRuntime) {
+    let source = ["bin65", "ca65", "x.s"];
+    assert!(rt;
+        says(
+            &run_on(rt.alloc(), &mut Filling, &source),
+            "x.s: Error: file too long\n"
+        )
+    );
+    let script = ["bin65", "ld65", "-C", "x.cfg", "a.o"];
+    assert!(rt;
+        says(
+            &run_on(rt.alloc(), &mut Filling, &script),
+            "x.cfg:1: Error: script too long\n"
+        )
+    );
+    for letter in ["t", "r", "d", "x"] {
+        let library = ["bin65", "ar65", letter, "x.lib"];
+        assert!(rt;
+            says(
+                &run_on(rt.alloc(), &mut Filling, &library),
+                "x.lib: Error: not a library\n"
+            )
+        );
+    }
+}

@@ -68,7 +68,7 @@ impl Store for Counting {
     }
 }
 
-/// A store that fills every buffer.
+/// A store that fills every buffer, with zeros.
 #[derive(Drop)]
 pub struct Filling;
 
@@ -80,6 +80,9 @@ impl Store for Filling {
     ghost blamed = { λ _. None };
 
     fn read_at(&mut self, _name: &str, _at: u64, buf: &mut [u8]) -> Result<usize, StoreFault> {
+        for byte in buf.iter_mut() {
+            *byte = 0;
+        }
         Ok(buf.len())
     }
 
@@ -111,11 +114,22 @@ impl FailsOnce {
         FailsOnce {
             alloc,
             files,
+            most: usize::MAX,
             left,
             failed: false,
             asked: None,
             created: Vec::new(alloc),
         }
+    }
+
+    /// The same, of which each writing takes one byte.
+    pub fn by_bytes(self) -> FailsOnce {
+        FailsOnce { most: 1, ..self }
+    }
+
+    /// How many calls are left before the one that fails, if it is still to come.
+    pub fn left(&self) -> Option<u64> {
+        self.left
     }
 
     /// Whether this is the call that fails.
@@ -176,7 +190,8 @@ impl Store for FailsOnce {
         if self.fails(name)? {
             return Err(StoreFault::FileError);
         }
-        self.files.append(name, piece)
+        let most = piece.len().min(self.most);
+        self.files.append(name, &piece[..most])
     }
 }
 

@@ -35,6 +35,7 @@ one() {
 }
 
 program=$PWD/crates/bin65/out/bin65
+part 'texts and layout' python3 gate/texts.py
 # The program is the one that rt ci builds.
 part 'rt ci' python3 gate/watched.py rt ci
 part 'cases' python3 tests/cases.py "$program"

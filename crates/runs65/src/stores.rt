@@ -101,6 +101,7 @@ impl Store for Filling {
 pub struct FailsOnce {
     alloc: Global,
     pub files: MemStore,
+    most: usize,
     left: Option<u64>,
     pub failed: bool,
     pub asked: Option<Text>,
@@ -123,8 +124,9 @@ impl FailsOnce {
     }
 
     /// The same, of which each writing takes one byte.
-    pub fn by_bytes(self) -> FailsOnce {
-        FailsOnce { most: 1, ..self }
+    pub fn by_bytes(mut self) -> FailsOnce {
+        self.most = 1;
+        self
     }
 
     /// How many calls are left before the one that fails, if it is still to come.

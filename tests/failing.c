@@ -52,7 +52,7 @@ __attribute__((destructor)) static void end(void) {
 static int fails(char asked, int error) {
     if (kind != asked) return 0;
     seen++;
-    if (seen != failing && !(to_the_end && seen > failing)) return 0;
+    if (!failing || (to_the_end ? seen < failing : seen != failing)) return 0;
     *__errno_location() = error;
     return 1;
 }

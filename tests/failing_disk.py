@@ -1,8 +1,8 @@
 #!/usr/bin/env python3
-"""The real program where its disk and its streams fail: each opening, reading, writing and seeking of each run fails in turn, with
-reads and writes as they come and with one byte at a time; and writes that take nothing. A run names the file that failed, with its
-place where a source is read, has status 1, and leaves its files as they were, or those written before and a first part of one.
-Where a stream stops, nothing further is said and no file written. One byte at a time is the same as all at once.
+"""The real program where its disk and its streams fail: each opening, reading, writing and seeking of each run fails in turn, then
+all from each on; each with one byte moved at a time; and each write takes nothing. A run names the file that failed, with its place
+where a source is read, has status 1, and leaves its files as they were, or those written before and a first part of one. Where a
+stream stops, nothing further is said and no file written. One byte at a time is the same as all at once.
 
 usage: failing_disk.py BIN65    Prints a line a run, and last 'N passed, M failed'.
 """
@@ -134,6 +134,15 @@ def why_file_wrong(ended, words, before, plain, calls):
     return f"{failed.asked} {failed.name} failed, printed {ended.out}, said {ended.err}, the files are {ended.files}"
 
 
+def why_dead_wrong(ended, words, before, plain, calls):
+    """What is wrong with a run of which the last of these calls failed and all behind it: it can say nothing more."""
+    order = [it.name for it in calls if it.asked == "create"]
+    is_said = plain.out.startswith(ended.out) and plain.err.startswith(ended.err)
+    if ended.status != 1 or not is_said or failing.is_written(ended.files, before, plain.files, order) is None:
+        return f"{calls[-1].asked} {calls[-1].name} failed, {ended.answer()}"
+    return None
+
+
 def why_wrong(ended, words, before, plain, calls):
     """What is wrong with a run of which the last of these calls failed."""
     failed = calls[-1]
@@ -157,7 +166,7 @@ def fail_in_turn(tests, words, before, plain, letters, wanted):
     for number in numbers:
         restore(before)
         ended = run(words, f"d{number}{letters}")
-        why = why_wrong(ended, words, before, plain, calls[:number])
+        why = (why_dead_wrong if "a" in letters else why_wrong)(ended, words, before, plain, calls[:number])
         wrong += [f"call {number}: {why}"] * bool(why)
     if len(calls) < 2:
         wrong.append(f"{len(calls)} calls are seen")
@@ -172,7 +181,12 @@ def is_write(call):
     return call.asked == "write"
 
 
-WAYS = (("a call fails", "", is_call), ("a call fails, byte by byte", "b", is_call), ("a write takes nothing", "bz", is_write))
+WAYS = (
+    ("a call fails", "", is_call),
+    ("all calls from one on fail", "a", is_call),
+    ("a call fails, byte by byte", "b", is_call),
+    ("a write takes nothing", "bz", is_write),
+)
 
 
 def trial(tests, name, words, before, plain):
@@ -181,7 +195,7 @@ def trial(tests, name, words, before, plain):
         count, why = fail_in_turn(tests, words, before, plain, letters, wanted)
         tests.check(f"{name}: {way}", why)
         counts.append(count)
-    print(f"{name}: {counts[0]} calls, {counts[1]} byte by byte, {counts[2]} writes", flush=True)
+    print(f"{name}: {counts[0]} calls, {counts[2]} byte by byte, {counts[3]} writes", flush=True)
 
 
 if __name__ == "__main__":

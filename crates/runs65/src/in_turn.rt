@@ -8,25 +8,33 @@ use std::alloc::{AllocError, Global};
 use std::test::Fail;
 use tools65::{Status, run};
 
+/// Adds a name to those that are kept, where it isn't there.
+fn add_name(alloc: Global, names: &mut Vec<Text>, name: &str) -> Result<(), AllocError> {
+    if !names.iter().any(|it| it.as_str() == name) {
+        names.push(Text::copy_of(alloc, name)?)?;
+    }
+    Ok(())
+}
+
 /// The names of files that a scene's rows name.
-fn names_of(alloc: Global, scene: &'static str) -> Result<Vec<&'static str>, AllocError> {
+fn names_of(alloc: Global, scene: &str) -> Result<Vec<Text>, AllocError> {
     let mut names = Vec::new(alloc);
     for row in scene.lines() {
         let (verb, row) = row.split_once(' ').unwrap_or((row, ""));
         let (name, _) = row.split_once(' ').unwrap_or((row, ""));
         if verb != "$" {
-            names.push(name)?;
+            add_name(alloc, &mut names, name)?;
         }
     }
     Ok(names)
 }
 
 /// A copy of a store's files of these names.
-fn copy_of(alloc: Global, files: &MemStore, names: &[&str]) -> Result<MemStore, AllocError> {
+fn copy_of(alloc: Global, files: &MemStore, names: &[Text]) -> Result<MemStore, AllocError> {
     let mut copy = MemStore::new(alloc);
     for name in names {
-        if let Some(file) = files.get(*name) {
-            copy.put(*name, file)?;
+        if let Some(file) = files.get(name.as_str()) {
+            copy.put(name.as_str(), file)?;
         }
     }
     Ok(copy)
@@ -45,7 +53,7 @@ fn begins_with(names: &[Text], front: &[Text]) -> bool {
 #[derive(Clone, Copy)]
 struct Plain<'a> {
     words: &'a [&'a str],
-    names: &'a [&'static str],
+    names: &'a [Text],
     before: &'a MemStore,
     ran: &'a Ran,
     store: &'a FailsOnce,
@@ -62,7 +70,7 @@ impl Plain<'_> {
         }
         match place.rsplit_once(':') {
             Some((file, line)) => {
-                self.names.iter().any(|name| *name == file)
+                self.names.iter().any(|name| name.as_str() == file)
                     && line.bytes().all(|b| b.is_ascii_digit())
             }
             None => false,
@@ -105,14 +113,12 @@ impl Plain<'_> {
             && self
                 .names
                 .iter()
-                .all(|name| self.is_file_left(*name, store))
+                .all(|name| self.is_file_left(name.as_str(), store))
     }
 
     /// Whether all files are as before, or as behind the plain run.
     fn are_files(&self, files: &MemStore, wanted: &MemStore) -> bool {
-        self.names
-            .iter()
-            .all(|name| files.get(*name) == wanted.get(*name))
+        self.names.iter().all(|name| files.get(name.as_str()) == wanted.get(name.as_str()))
     }
 
     /// Whether a run ends as it has to where one of its calls failed; as the plain one where none did.
@@ -207,38 +213,46 @@ impl Plain<'_> {
     }
 }
 
-/// Whether a run ends as it has to where each call fails in turn, and each stream stops behind each byte.
+/// Whether a run, written as a row, ends as it has to: as the row says, where each call fails in turn, and where each stream stops
+/// behind each byte. The files that it creates are added to the names.
 fn is_right_in_turn(
     alloc: Global,
     files: &MemStore,
-    names: &[&'static str],
-    words: &str,
+    names: &mut Vec<Text>,
+    row: &str,
 ) -> Result<bool, AllocError> {
+    let (words, _) = parts_of(row.strip_prefix("$ ").unwrap_or(row));
     let words = words_of(alloc, words)?;
-    let mut store = FailsOnce::behind(alloc, copy_of(alloc, files, names)?, None);
+    let mut store = FailsOnce::behind(alloc, copy_of(alloc, files, names.as_slice())?, None);
     let ran = run_on(alloc, &mut store, words.as_slice());
+    for name in store.created.iter() {
+        add_name(alloc, names, name.as_str())?;
+    }
     let plain = Plain {
         words: words.as_slice(),
-        names,
+        names: names.as_slice(),
         before: files,
         ran: &ran,
         store: &store,
     };
+    let mut copy = copy_of(alloc, files, plain.names)?;
     // A run reads two places of a file at least.
-    let calls = plain.fail_in_turn(alloc)?.unwrap_or(0);
-    Ok(1 < calls && plain.stop_in_turn(alloc)?)
+    Ok(
+        is_right(alloc, &mut copy, row)?
+            && plain.are_files(&copy, &store.files)
+            && 1 < plain.fail_in_turn(alloc)?.unwrap_or(0)
+            && plain.stop_in_turn(alloc)?,
+    )
 }
 
 /// The first row of a scene that isn't so, or not where something fails.
 fn first_wrong_of(alloc: Global, scene: &'static str) -> Result<Option<&'static str>, AllocError> {
-    let names = names_of(alloc, scene)?;
+    let mut names = names_of(alloc, scene)?;
     let mut files = MemStore::new(alloc);
     for row in scene.lines() {
-        if let Some(run) = row.strip_prefix("$ ") {
-            let (words, _) = parts_of(run);
-            if !is_right_in_turn(alloc, &files, names.as_slice(), words)? {
-                return Ok(Some(row));
-            }
+        let is_run = row.starts_with("$ ");
+        if is_run && !is_right_in_turn(alloc, &files, &mut names, row)? {
+            return Ok(Some(row));
         }
         if !is_right(alloc, &mut files, row)? {
             return Ok(Some(row));

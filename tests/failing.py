@@ -4,6 +4,7 @@ import os
 import re
 import subprocess
 import sys
+import tempfile
 
 import starting
 
@@ -38,7 +39,9 @@ class Starter(starting.Starter):
 
     def __init__(self, program):
         super().__init__(program)
-        self.library = build(self.folder)
+        # Not in the folder of the runs, from which no code may come on some machines.
+        self.built = tempfile.TemporaryDirectory(prefix="failing-")
+        self.library = build(self.built.name)
 
     def run(self, words, failing):
         """Runs the program; `failing` is what failing.c is to do."""

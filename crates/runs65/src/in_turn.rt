@@ -60,14 +60,8 @@ struct Plain<'a> {
 }
 
 impl Plain<'_> {
-    /// Whether a place is the name that a failed call asked for, a member of that library, or a line of one of the files.
-    fn is_place(&self, place: &str, store: &FailsOnce) -> bool {
-        if store.failed_for(place) {
-            return true;
-        }
-        if let Some((library, _)) = place.split_once('(') {
-            return store.failed_for(library);
-        }
+    /// Whether a place is a line of one of the files.
+    fn is_line(&self, place: &str) -> bool {
         match place.rsplit_once(':') {
             Some((file, line)) => {
                 self.names.iter().any(|name| name.as_str() == file)
@@ -77,8 +71,26 @@ impl Plain<'_> {
         }
     }
 
-    /// Whether a run says first parts of what the plain one says, and then that the file of the call that failed couldn't be read
-    /// or written.
+    /// Whether a place is the file of the call that failed: by its name, where a library is read perhaps with a member's, and where
+    /// a source is read by a line.
+    fn is_place(&self, place: &str, store: &FailsOnce) -> bool {
+        let (library, member) = place.split_once('(').unwrap_or((place, ""));
+        if store.failed_for(library) {
+            return member.is_empty() || !self.is_written(store);
+        }
+        self.words.get(1) == Some(&"ca65") && !self.is_written(store) && self.is_line(place)
+    }
+
+    /// Whether the call that failed was one of those that write.
+    fn is_written(&self, store: &FailsOnce) -> bool {
+        match self.store.created.first() {
+            Some(first) => !store.created.is_empty() || store.failed_for(first.as_str()),
+            None => false,
+        }
+    }
+
+    /// Whether a run says first parts of what the plain one says, all of it where it was writing, and then that the file of the call
+    /// that failed couldn't be read or written.
     fn is_said(&self, ran: &Ran, store: &FailsOnce) -> bool {
         let Ok(text) = std::str::from_utf8(ran.err.as_slice()) else {
             return false;
@@ -87,7 +99,10 @@ impl Plain<'_> {
             return false;
         };
         let (said, place) = text.rsplit_once('\n').unwrap_or(("", text));
+        let is_all = ran.out.len() == self.ran.out.len()
+            && text.len().checked_sub(place.len()) == Some(self.ran.err.len());
         self.is_place(place, store)
+            && (is_all || !self.is_written(store))
             && self.ran.err.as_slice().starts_with(said.as_bytes())
             && self.ran.out.as_slice().starts_with(ran.out.as_slice())
     }

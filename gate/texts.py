@@ -1,6 +1,6 @@
 #!/usr/bin/env python3
-"""What the gate looks at before it proves anything: texts, layout, and whether each edit of must-fail/ and wrong-bodies/ can be
-applied. Takes half a minute.
+"""What the gate looks at before it proves anything: texts, layout, what the code of the linker and the assembler keeps, and whether
+each edit of must-fail/ and wrong-bodies/ can be applied. Takes half a minute.
 
 usage: texts.py
 The last line is 'N passed, M failed', a crate or an edit each."""
@@ -8,6 +8,7 @@ import os
 import re
 import sys
 
+import kept
 import kit
 
 FOLDERS = ("must-fail", "wrong-bodies")
@@ -36,7 +37,7 @@ def main():
     crates = kit.crates(rt)
     passed = failed = 0
     for crate in crates:
-        faults = [(crate.name, why_stopped(rt, crate, crates))]
+        faults = [(crate.name, why_stopped(rt, crate, crates) or kept.why_kept(crate.name, rt.rtlib.code_of(crate.folder)))]
         for folder in FOLDERS:
             place = f"{crate.folder}/{folder}"
             edits = sorted(os.listdir(place)) if os.path.isdir(place) else []

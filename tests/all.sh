@@ -35,12 +35,17 @@ one() {
 }
 
 program=$PWD/crates/bin65/out/bin65
+part 'texts and layout' python3 gate/texts.py
 # The program is the one that rt ci builds.
 part 'rt ci' python3 gate/watched.py rt ci
 part 'cases' python3 tests/cases.py "$program"
 part 'the program on files' bash tests/program.sh "$program"
 part 'the disk' python3 tests/disk.py "$program"
+part 'refused memory' python3 tests/memory.py "$program"
+part 'a failing disk' python3 tests/failing_disk.py "$program"
+part 'changed inputs' python3 tests/trial.py "$program"
 part 'large sizes' python3 tests/large.py "$program"
+part 'hostile sizes' python3 tests/hostile.py "$program"
 part 'one program' python3 tests/one_program.py "$program"
 part 'what a cc65 user writes' python3 tests/migrating.py "$program"
 part 'a first link' one sh example/first.sh "$program"

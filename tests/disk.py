@@ -179,6 +179,11 @@ def unread(tests):
         ran = tests.run("ca65", "-o", "unread.o", "a.s")
         wanted = 1, said[0], said[1] + b"a.s:3: Error: file error\n"
         tests.check(f"{line.decode()} can't be read", (ran, tests.get("unread.o")), (wanted, None))
+    for operands, fault in ((b"s::n", b"no such scope: s::n"), (b"later", b"operand not constant or out of range"), (b"-1", b"file error")):
+        tests.put("a.s", before + b'.incbin "folder",' + operands + b"\nlater = 1\n")
+        ran = tests.run("ca65", "-o", "unread.o", "a.s")
+        wanted = 1, said[0], said[1] + b"a.s:3: Error: " + fault + b"\n"
+        tests.check(f"{operands.decode()} of a file that can't be read", (ran, tests.get("unread.o")), (wanted, None))
     tests.put("a.s", b'nop\n\n.include "b.inc"\n')
     tests.put("b.inc", b'.repeat 2, i\n.warning "in b"\n.endrepeat\n.macro m\n.incbin "folder"\n.endmacro\nm\n')
     ran = tests.run("ca65", "-o", "unread.o", "a.s")

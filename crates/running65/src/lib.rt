@@ -1,10 +1,12 @@
 //! What the trials of commands share: a script and an object, and a run over files and streams in memory.
 #![tactic(auto)]
 
+mod runs;
 mod scenes;
 
 use base65::{MemStore, Store};
-pub use scenes::first_wrong;
+pub use runs::RUNS;
+pub use scenes::{first_wrong, is_right, parts_of, words_of};
 use std::alloc::{AllocError, Global};
 use tools65::{Status, run};
 

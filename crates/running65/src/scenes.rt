@@ -5,7 +5,7 @@
 //! | `text NAME LINES` | a file of these lines, with ` // ` between them |
 //! | `bytes NAME DIGITS` | a file of these bytes |
 //! | `$ WORDS` | a run that succeeds and says nothing |
-//! | `$ WORDS ==> LINES` | one that says these lines, on standard output where none is a message, else on standard error; it fails where one is an error |
+//! | `$ WORDS ==> LINES` | one that says these lines, warnings and errors on standard error and all others on standard output; it fails where one is an error |
 //! | `is NAME DIGITS` | the file has these bytes |
 //! | `begins NAME DIGITS`, `ends NAME DIGITS` | its first, its last bytes |
 //! | `says NAME LINES` | it has these lines |
@@ -51,57 +51,70 @@ fn lines_of(alloc: Global, lines: &str) -> Result<Vec<u8>, AllocError> {
     Ok(text)
 }
 
-/// What a run has to say, and on which stream: a text, warnings, or an error, with which it fails.
-#[derive(Clone, Copy, PartialEq, Eq)]
-enum Saying {
-    Text,
-    Warnings,
-    Error,
+/// What a run has to say on each stream, and whether it fails.
+#[derive(Drop)]
+struct Saying {
+    out: Vec<u8>,
+    err: Vec<u8>,
+    fails: bool,
 }
 
-/// What lines that a run says are.
-fn kind_of(lines: &str) -> Saying {
-    if lines.contains(": Error: ") {
-        Saying::Error
-    } else if lines.contains(": Warning: ") {
-        Saying::Warnings
-    } else {
-        Saying::Text
+impl Saying {
+    fn add(&mut self, line: &str) -> Result<(), AllocError> {
+        let is_error = line.contains(": Error: ");
+        self.fails = self.fails || is_error;
+        if is_error || line.contains(": Warning: ") {
+            self.err.extend_from_slice(line.as_bytes())?;
+            Ok(self.err.push(b'\n')?)
+        } else {
+            self.out.extend_from_slice(line.as_bytes())?;
+            Ok(self.out.push(b'\n')?)
+        }
     }
 }
 
-/// Whether a run of these words says these lines.
-fn is_run(
-    alloc: Global,
-    store: &mut MemStore,
-    words: &str,
-    said: &[u8],
-    saying: Saying,
-) -> Result<bool, AllocError> {
+/// What a run says that says these lines; nothing where there are none.
+fn saying_of(alloc: Global, lines: Option<&str>) -> Result<Saying, AllocError> {
+    let mut saying = Saying {
+        out: Vec::new(alloc),
+        err: Vec::new(alloc),
+        fails: false,
+    };
+    if let Some(lines) = lines {
+        for line in lines.split(" // ") {
+            saying.add(line)?;
+        }
+    }
+    Ok(saying)
+}
+
+/// The words of a run, written as a row, and the lines that it says, if any.
+pub fn parts_of(row: &str) -> (&str, Option<&str>) {
+    match row.split_once(" ==> ") {
+        None => (row, None),
+        Some((words, lines)) => (words, Some(lines)),
+    }
+}
+
+/// The words of a run, behind the program's name.
+pub fn words_of(alloc: Global, words: &str) -> Result<Vec<&str>, AllocError> {
     let mut list = Vec::new(alloc);
     list.push("bin65")?;
     for word in words.split(' ') {
         list.push(word)?;
     }
-    let ran = run_on(alloc, store, list.as_slice());
-    let is_done = ran.status == Status::Success;
-    let is_quiet = if saying == Saying::Text {
-        ran.err.is_empty() && ran.out.as_slice() == said
-    } else {
-        ran.out.is_empty() && ran.err.as_slice() == said
-    };
-    Ok(is_quiet && is_done == (saying != Saying::Error))
+    Ok(list)
 }
 
 /// Whether a run, written as a row, ends as the row says.
 fn runs(alloc: Global, store: &mut MemStore, row: &str) -> Result<bool, AllocError> {
-    match row.split_once(" ==> ") {
-        None => is_run(alloc, store, row, b"", Saying::Text),
-        Some((words, lines)) => {
-            let said = lines_of(alloc, lines)?;
-            is_run(alloc, store, words, said.as_slice(), kind_of(lines))
-        }
-    }
+    let (words, lines) = parts_of(row);
+    let saying = saying_of(alloc, lines)?;
+    let words = words_of(alloc, words)?;
+    let ran = run_on(alloc, store, words.as_slice());
+    let is_said = ran.out.as_slice() == saying.out.as_slice()
+        && ran.err.as_slice() == saying.err.as_slice();
+    Ok(is_said && (ran.status == Status::Success) != saying.fails)
 }
 
 /// Whether a file is as a row says.
@@ -127,7 +140,7 @@ fn is_found(
 }
 
 /// Whether a step can be done and what it says is so.
-fn is_right(alloc: Global, store: &mut MemStore, row: &str) -> Result<bool, AllocError> {
+pub fn is_right(alloc: Global, store: &mut MemStore, row: &str) -> Result<bool, AllocError> {
     let (verb, row) = row.split_once(' ').unwrap_or((row, ""));
     if verb == "$" {
         return runs(alloc, store, row);

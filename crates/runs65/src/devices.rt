@@ -1,160 +1,11 @@
-//! Stores and writers that give little or fail.
+//! Commands on stores that give little or fail, and with streams that stop.
 
-ghost use Rattle.std.specs.Prelude.{Some, ◌≡◌, true, false, if◌then◌else◌, None};
-ghost use Rattle.std.specs.Option.{ForSome};
-ghost use Rattle.std.specs.Bool.{OnTrue, OnFalse};
-
-use base65::{MemStore, Store, StoreFault};
+use crate::stores::{ByteByByte, Counting, FailsOnce, Filling, Stopping};
+use base65::MemStore;
 use running65::{LINK, O1, S1, files, is_quiet, run_on, says};
 use std::alloc::{AllocError, Global};
-use std::io;
-use std::io::{ErrorKind, Write};
 use std::test::Fail;
 use tools65::{Status, run};
-
-/// Files in memory, of which each call moves one byte at most.
-#[derive(Drop)]
-struct ByteByByte {
-    files: MemStore,
-}
-
-impl Store for ByteByByte {
-    ghost files = { λ s. Some s.files };
-
-    ghost failures = { λ _. 0 };
-
-    ghost blamed = { λ _. None };
-
-    fn read_at(&mut self, name: &str, at: u64, buf: &mut [u8]) -> Result<usize, StoreFault> {
-        let most = buf.len().min(1);
-        self.files.read_at(name, at, &mut buf[..most])
-    }
-
-    fn create(&mut self, name: &str) -> Result<(), StoreFault> {
-        self.files.create(name)
-    }
-
-    fn append(&mut self, name: &str, piece: &[u8]) -> Result<usize, StoreFault> {
-        let most = piece.len().min(1);
-        self.files.append(name, &piece[..most])
-    }
-}
-
-/// Files in memory. The bytes that were read are counted, and the files that were created.
-#[derive(Drop)]
-struct Counting {
-    files: MemStore,
-    read: u64,
-    created: u64,
-}
-
-impl Store for Counting {
-    ghost files = { λ s. Some s.files };
-
-    ghost failures = { λ _. 0 };
-
-    ghost blamed = { λ _. None };
-
-    fn read_at(&mut self, name: &str, at: u64, buf: &mut [u8]) -> Result<usize, StoreFault> {
-        let n = self.files.read_at(name, at, buf)?;
-        self.read = self.read.wrapping_add(n as u64);
-        Ok(n)
-    }
-
-    fn create(&mut self, name: &str) -> Result<(), StoreFault> {
-        self.created = self.created.wrapping_add(1);
-        self.files.create(name)
-    }
-
-    fn append(&mut self, name: &str, piece: &[u8]) -> Result<usize, StoreFault> {
-        self.files.append(name, piece)
-    }
-}
-
-/// Files in memory. One call fails, the one behind so many others, and is counted.
-#[derive(Drop)]
-struct FailsOnce {
-    files: MemStore,
-    left: Option<u64>,
-    failed: bool,
-    ghost once: { ForSome left (λ _. failed ≡ false) },
-}
-
-impl FailsOnce {
-    /// Whether this is the call that fails.
-    fn fails(&mut self) -> bool
-        ensures files { self.new.files ≡ self.old.files }
-        ensures yes { OnTrue result ((self.old.failed ≡ false) × (self.new.failed ≡ true)) }
-        ensures no { OnFalse result (self.new.failed ≡ self.old.failed) }
-    {
-        match self.left {
-            Some(0) => {
-                self.left = None;
-                self.failed = true;
-                true
-            }
-            Some(n) => {
-                self.left = Some(n - 1);
-                false
-            }
-            None => false,
-        }
-    }
-}
-
-impl Store for FailsOnce {
-    ghost files = { λ s. Some s.files };
-
-    ghost failures = { λ s. if s.failed then 1 else 0 };
-
-    ghost blamed = { λ _. None };
-
-    fn read_at(&mut self, name: &str, at: u64, buf: &mut [u8]) -> Result<usize, StoreFault> {
-        if self.fails() {
-            return Err(StoreFault::FileError);
-        }
-        self.files.read_at(name, at, buf)
-    }
-
-    fn create(&mut self, name: &str) -> Result<(), StoreFault> {
-        if self.fails() {
-            return Err(StoreFault::FileError);
-        }
-        self.files.create(name)
-    }
-
-    fn append(&mut self, name: &str, piece: &[u8]) -> Result<usize, StoreFault> {
-        if self.fails() {
-            return Err(StoreFault::FileError);
-        }
-        self.files.append(name, piece)
-    }
-}
-
-/// A writer that stops behind so many bytes.
-#[derive(Drop)]
-struct Stopping {
-    taken: Vec<u8>,
-    left: usize,
-}
-
-impl Write for Stopping {
-    ghost contents = { λ w. Some w.taken.items };
-
-    fn write(&mut self, buf: &[u8]) -> io::Result<usize> {
-        let n = buf.len().min(self.left);
-        if n == 0 && !buf.is_empty() {
-            return Err(io::Error::from(ErrorKind::Other));
-        }
-        self.taken.extend_from_slice(&buf[..n])?;
-        self.left -= n;
-        Ok(n)
-    }
-
-    fn flush(&mut self) -> io::Result<()> {
-        Ok(())
-    }
-}
 
 #[test]
 fn links_byte_by_byte(rt: HostRuntime) -> Result<(), Fail> {
@@ -172,11 +23,7 @@ fn links_byte_by_byte(rt: HostRuntime) -> Result<(), Fail> {
 fn names_each_failure(rt: HostRuntime) -> Result<(), Fail> {
     let mut met = false;
     for k in 0..64 {
-        let mut store = FailsOnce {
-            files: files(rt.alloc(), O1, S1)?,
-            left: Some(k),
-            failed: false,
-        };
+        let mut store = FailsOnce::behind(rt.alloc(), files(rt.alloc(), O1, S1)?, Some(k));
         let ran = run_on(rt.alloc(), &mut store, &LINK);
         if !store.failed {
             // Two reads of the script, seven at least of the object, a creation and a writing.
@@ -201,11 +48,7 @@ fn names_each_failure(rt: HostRuntime) -> Result<(), Fail> {
 /// Whether each call that fails is named, the library's or the object's file, up to the run that meets no failure.
 fn names_all_failures(alloc: Global, words: &[&str]) -> Result<bool, AllocError> {
     for k in 0..64 {
-        let mut store = FailsOnce {
-            files: library(alloc)?,
-            left: Some(k),
-            failed: false,
-        };
+        let mut store = FailsOnce::behind(alloc, library(alloc)?, Some(k));
         let ran = run_on(alloc, &mut store, words);
         if !store.failed {
             return Ok(ran.status == Status::Success && ran.err.is_empty() && k > 5);
@@ -260,6 +103,7 @@ fn stops_within_the_names(rt: HostRuntime) -> Result<(), Fail> {
         let mut out = Stopping {
             taken: Vec::new(rt.alloc()),
             left: k,
+            fails: true,
         };
         let mut err = Vec::new(rt.alloc());
         let words = ["bin65", "ar65", "t", "l.lib"];
@@ -280,6 +124,7 @@ fn stops_with_its_stream(rt: HostRuntime) -> Result<(), Fail> {
         let mut err = Stopping {
             taken: Vec::new(rt.alloc()),
             left: k,
+            fails: true,
         };
         let status = run(rt.alloc(), &LINK, &mut store, &mut out, &mut err);
         assert_eq!(rt; status, Status::Failure);
@@ -288,4 +133,89 @@ fn stops_with_its_stream(rt: HostRuntime) -> Result<(), Fail> {
         assert!(rt; store.get("a.out").is_none());
     }
     Ok(())
+}
+
+const LINK_WITH_MAP: [&str; 7] = ["bin65", "ld65", "-C", "s.cfg", "-m", "a.map", "a.o"];
+
+/// A script and an object, of which each writing takes one byte and the call behind so many others fails.
+fn written_by_bytes(alloc: Global, left: u64) -> Result<FailsOnce, AllocError> {
+    Ok(FailsOnce::behind(alloc, files(alloc, O1, S1)?, Some(left)).by_bytes())
+}
+
+/// How many calls a link with a map makes before it creates its output.
+fn reading_calls(alloc: Global) -> Result<Option<u64>, AllocError> {
+    let mut store = written_by_bytes(alloc, 10_000)?;
+    run_on(alloc, &mut store, &LINK_WITH_MAP);
+    let map = store.files.get("a.map").map_or(0, |map| map.len());
+    // It creates two files and writes three bytes into one and the map into the other.
+    let writing = (map as u64).saturating_add(5);
+    let calls = 10_000u64.saturating_sub(store.left().unwrap_or(0));
+    Ok(calls.checked_sub(writing))
+}
+
+#[test]
+fn leaves_what_was_written(rt: HostRuntime) -> Result<(), Fail> {
+    let reading = reading_calls(rt.alloc())?.ok_or("too few calls")?;
+    // The second writing fails.
+    let mut store = written_by_bytes(rt.alloc(), reading.saturating_add(2))?;
+    let ran = run_on(rt.alloc(), &mut store, &LINK_WITH_MAP);
+    assert!(rt; says(&ran, "a.out: Error: file error\n"));
+    assert!(rt; matches!(store.files.get("a.out"), Some([0xa9])));
+    assert!(rt; store.files.get("a.map").is_none());
+    // The creation of the map fails.
+    let mut store = written_by_bytes(rt.alloc(), reading.saturating_add(4))?;
+    let ran = run_on(rt.alloc(), &mut store, &LINK_WITH_MAP);
+    assert!(rt; says(&ran, "a.map: Error: file error\n"));
+    assert!(rt; matches!(store.files.get("a.out"), Some([0xa9, 0x00, 0x60])));
+    assert!(rt; store.files.get("a.map").is_none());
+    Ok(())
+}
+
+/// The library of `a.o`.
+const ONE_MEMBER: &[u8] =
+    b"R65l\x01\x01\0\0\0\x03a.o\x1a\0\0\0\0\0\0\0\0\0\0\0R65o\x01\x02\x09\0\x03\0\0\0\0CODE\x03\x03\0\xa9\0\x60\x08\0\0";
+
+#[test]
+fn stops_behind_two_bytes(rt: HostRuntime) -> Result<(), Fail> {
+    let mut store = MemStore::new(rt.alloc());
+    store.put("l.lib", ONE_MEMBER)?;
+    let mut out = Stopping {
+        taken: Vec::new(rt.alloc()),
+        left: 2,
+        fails: true,
+    };
+    let mut err = Vec::new(rt.alloc());
+    let words = ["bin65", "ar65", "t", "l.lib"];
+    let status = run(rt.alloc(), &words, &mut store, &mut out, &mut err);
+    assert!(rt; out.taken.as_slice() == b"a.".as_slice() && err.is_empty());
+    assert_eq!(rt; status, Status::Failure);
+    Ok(())
+}
+
+/// A store that never ends is no source, no script and no library.
+#[test]
+fn refuses_what_never_ends(rt: HostRuntime) {
+    let source = ["bin65", "ca65", "x.s"];
+    assert!(rt;
+        says(
+            &run_on(rt.alloc(), &mut Filling, &source),
+            "x.s: Error: file too long\n"
+        )
+    );
+    let script = ["bin65", "ld65", "-C", "x.cfg", "a.o"];
+    assert!(rt;
+        says(
+            &run_on(rt.alloc(), &mut Filling, &script),
+            "x.cfg:1: Error: script too long\n"
+        )
+    );
+    for letter in ["t", "r", "d", "x"] {
+        let library = ["bin65", "ar65", letter, "x.lib"];
+        assert!(rt;
+            says(
+                &run_on(rt.alloc(), &mut Filling, &library),
+                "x.lib: Error: not a library\n"
+            )
+        );
+    }
 }

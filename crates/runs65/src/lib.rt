@@ -9,8 +9,12 @@ mod assembling;
 #[cfg(test)]
 mod devices;
 #[cfg(test)]
+mod in_turn;
+#[cfg(test)]
 mod libraries;
 #[cfg(test)]
 mod lines;
 #[cfg(test)]
 mod linking;
+#[cfg(test)]
+mod stores;

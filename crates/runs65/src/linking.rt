@@ -95,6 +95,15 @@ text m1.s .byte 1 // .align 4 // .byte 5
 $ ca65 m1.s
 $ ld65 -C t.cfg -o c.out m1.o ==> ld65: Warning: segment CODE needs alignment 4
 is c.out 0100000005
+
+text s.cfg MEMORY { ROM: start = $8000, size = $10; } SEGMENTS { CODE: load = ROM, type = ro; DATA: load = ROM, type = ro, optional = yes; } SYMBOLS { f: type = export, value = 1; }
+text b.s .import f // x1 = f+f // x2 = x1+x1 // x3 = x2+x2 // x4 = x3+x3 // x5 = x4+x4 // x6 = x5+x5 // x7 = x6+x6 // .word x7
+$ ca65 b.s
+$ ld65 -C s.cfg b.o
+is a.out 8000
+text b.s .import f // x1 = f+f // x2 = x1+x1 // x3 = x2+x2 // x4 = x3+x3 // x5 = x4+x4 // x6 = x5+x5 // x7 = x6+x6 // x8 = x7+x7 // .word x7
+$ ca65 -o c.o b.s ==> b.s:9: Error: expression too large
+absent c.o
 ";
 
 #[test]

@@ -188,3 +188,24 @@ fn rows(rt: HostRuntime) -> Result<(), Fail> {
     assert_eq!(rt; count, 73);
     Ok(())
 }
+
+/// Whether an expander refuses a call, and then each call.
+fn keeps_to_a_refusal(store: &mut MemStore, expander: &mut Expander) -> bool {
+    let knows = Constants { all: false };
+    let first = expander.next(store, &knows);
+    let second = expander.next(store, &knows);
+    matches!(first, Err(ExpandFault::NotOpened)) && matches!(second, Err(ExpandFault::FailedBefore))
+}
+
+#[test]
+fn answers_failed_before(rt: HostRuntime) -> Result<(), Fail> {
+    let mut store = MemStore::new(rt.alloc());
+    put_lines(rt.alloc(), &mut store, "b.s", ".endif // nop")?;
+    let options = in_folder(rt.alloc(), "d")?;
+    let is_kept = match Expander::open(rt.alloc(), &mut store, "b.s", &options) {
+        Ok(mut expander) => keeps_to_a_refusal(&mut store, &mut expander),
+        Err(_) => false,
+    };
+    assert!(rt; is_kept);
+    Ok(())
+}

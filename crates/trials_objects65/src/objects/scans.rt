@@ -1,8 +1,9 @@
 //! The items of objects that were worked out by hand.
 
 use super::TWO_LITERALS;
+use arrayvec::ArrayVec;
 use base65::MemStore;
-use object65::{Fragment, Item, Node, ObjectFault, Scan, Width, read_head, read_record};
+use object65::{Fragment, Item, Node, ObjectFault, Record, Scan, Width, read_head, read_record};
 use std::alloc::Global;
 use std::test::Fail;
 
@@ -84,4 +85,15 @@ fn refuses_what_a_builder_refuses(rt: HostRuntime) -> Result<(), Fail> {
     let refused = scan_bytes(rt.alloc(), TWO_LITERALS);
     assert!(rt; matches!(refused, Err(ObjectFault::NotCanonical)));
     Ok(())
+}
+
+#[test]
+fn answers_failed_before(rt: HostRuntime) {
+    let mut scan = Scan::new(rt.alloc());
+    let mut body = ArrayVec::new();
+    body.push(0);
+    let end = Record { kind: 8, body };
+    assert!(rt; matches!(scan.take(&end), Err(ObjectFault::BadSize)));
+    assert!(rt; matches!(scan.take(&end), Err(ObjectFault::FailedBefore)));
+    assert_eq!(rt; scan.finish(), Err(ObjectFault::FailedBefore));
 }

@@ -1,0 +1,224 @@
+//! Stores and writers that give little or fail.
+
+ghost use Rattle.std.specs.Prelude.{Some, ◌≡◌, true, false, if◌then◌else◌, None, IfOk, OnErr};
+ghost use Rattle.std.specs.Option.{ForSome};
+ghost use Rattle.std.specs.Bool.{OnTrue, OnFalse};
+
+use base65::{MemStore, Store, StoreFault, Text};
+use std::alloc::{AllocError, Global};
+use std::io;
+use std::io::{ErrorKind, Write};
+
+/// Files in memory, of which each call moves one byte at most.
+#[derive(Drop)]
+pub struct ByteByByte {
+    pub files: MemStore,
+}
+
+impl Store for ByteByByte {
+    ghost files = { λ s. Some s.files };
+
+    ghost failures = { λ _. 0 };
+
+    ghost blamed = { λ _. None };
+
+    fn read_at(&mut self, name: &str, at: u64, buf: &mut [u8]) -> Result<usize, StoreFault> {
+        let most = buf.len().min(1);
+        self.files.read_at(name, at, &mut buf[..most])
+    }
+
+    fn create(&mut self, name: &str) -> Result<(), StoreFault> {
+        self.files.create(name)
+    }
+
+    fn append(&mut self, name: &str, piece: &[u8]) -> Result<usize, StoreFault> {
+        let most = piece.len().min(1);
+        self.files.append(name, &piece[..most])
+    }
+}
+
+/// Files in memory. The bytes that were read are counted, and the files that were created.
+#[derive(Drop)]
+pub struct Counting {
+    pub files: MemStore,
+    pub read: u64,
+    pub created: u64,
+}
+
+impl Store for Counting {
+    ghost files = { λ s. Some s.files };
+
+    ghost failures = { λ _. 0 };
+
+    ghost blamed = { λ _. None };
+
+    fn read_at(&mut self, name: &str, at: u64, buf: &mut [u8]) -> Result<usize, StoreFault> {
+        let n = self.files.read_at(name, at, buf)?;
+        self.read = self.read.wrapping_add(n as u64);
+        Ok(n)
+    }
+
+    fn create(&mut self, name: &str) -> Result<(), StoreFault> {
+        self.created = self.created.wrapping_add(1);
+        self.files.create(name)
+    }
+
+    fn append(&mut self, name: &str, piece: &[u8]) -> Result<usize, StoreFault> {
+        self.files.append(name, piece)
+    }
+}
+
+/// A store that fills every buffer, with zeros.
+#[derive(Drop)]
+pub struct Filling;
+
+impl Store for Filling {
+    ghost files = { λ _. None };
+
+    ghost failures = { λ _. 0 };
+
+    ghost blamed = { λ _. None };
+
+    fn read_at(&mut self, _name: &str, _at: u64, buf: &mut [u8]) -> Result<usize, StoreFault> {
+        for byte in buf.iter_mut() {
+            *byte = 0;
+        }
+        Ok(buf.len())
+    }
+
+    fn create(&mut self, _name: &str) -> Result<(), StoreFault> {
+        Ok(())
+    }
+
+    fn append(&mut self, _name: &str, piece: &[u8]) -> Result<usize, StoreFault> {
+        Ok(piece.len())
+    }
+}
+
+/// Files in memory. One call fails, the one behind so many others, and is counted; those behind it don't. It keeps which file
+/// that call was for, and which files were created, in order.
+#[derive(Drop)]
+pub struct FailsOnce {
+    alloc: Global,
+    pub files: MemStore,
+    most: usize,
+    left: Option<u64>,
+    pub failed: bool,
+    pub asked: Option<Text>,
+    pub created: Vec<Text>,
+    ghost once: { ForSome left (λ _. failed ≡ false) },
+}
+
+impl FailsOnce {
+    /// Files of which no call fails, or the one behind so many others.
+    pub fn behind(alloc: Global, files: MemStore, left: Option<u64>) -> FailsOnce {
+        FailsOnce {
+            alloc,
+            files,
+            most: usize::MAX,
+            left,
+            failed: false,
+            asked: None,
+            created: Vec::new(alloc),
+        }
+    }
+
+    /// The same, of which each writing takes one byte.
+    pub fn by_bytes(mut self) -> FailsOnce {
+        self.most = 1;
+        self
+    }
+
+    /// How many calls are left before the one that fails, if it is still to come.
+    pub fn left(&self) -> Option<u64> {
+        self.left
+    }
+
+    /// Whether this is the call that fails.
+    fn fails(&mut self, name: &str) -> Result<bool, AllocError>
+        ensures files { self.new.files ≡ self.old.files }
+        ensures yes { IfOk result (λ b. OnTrue b ((self.old.failed ≡ false) × (self.new.failed ≡ true))) }
+        ensures no { IfOk result (λ b. OnFalse b (self.new.failed ≡ self.old.failed)) }
+        ensures refused { OnErr result (self.new.failed ≡ self.old.failed) }
+    {
+        match self.left {
+            Some(0) => {
+                let name = Text::copy_of(self.alloc, name)?;
+                self.left = None;
+                self.failed = true;
+                self.asked = Some(name);
+                Ok(true)
+            }
+            Some(n) => {
+                self.left = Some(n - 1);
+                Ok(false)
+            }
+            None => Ok(false),
+        }
+    }
+
+    /// Whether the call that failed was for a file.
+    pub fn failed_for(&self, name: &str) -> bool {
+        match &self.asked {
+            Some(asked) => asked.as_str() == name,
+            None => false,
+        }
+    }
+}
+
+impl Store for FailsOnce {
+    ghost files = { λ s. Some s.files };
+
+    ghost failures = { λ s. if s.failed then 1 else 0 };
+
+    ghost blamed = { λ _. None };
+
+    fn read_at(&mut self, name: &str, at: u64, buf: &mut [u8]) -> Result<usize, StoreFault> {
+        if self.fails(name)? {
+            return Err(StoreFault::FileError);
+        }
+        self.files.read_at(name, at, buf)
+    }
+
+    fn create(&mut self, name: &str) -> Result<(), StoreFault> {
+        if self.fails(name)? {
+            return Err(StoreFault::FileError);
+        }
+        self.created.push(Text::copy_of(self.alloc, name)?)?;
+        self.files.create(name)
+    }
+
+    fn append(&mut self, name: &str, piece: &[u8]) -> Result<usize, StoreFault> {
+        if self.fails(name)? {
+            return Err(StoreFault::FileError);
+        }
+        let most = piece.len().min(self.most);
+        self.files.append(name, &piece[..most])
+    }
+}
+
+/// A writer that stops behind so many bytes: it fails, or takes none of what is left.
+#[derive(Drop)]
+pub struct Stopping {
+    pub taken: Vec<u8>,
+    pub left: usize,
+    pub fails: bool,
+}
+
+impl Write for Stopping {
+    ghost contents = { λ w. Some w.taken.items };
+
+    fn write(&mut self, buf: &[u8]) -> io::Result<usize> {
+        let n = buf.len().min(self.left);
+        if n == 0 && !buf.is_empty() && self.fails {
+            return Err(io::Error::from(ErrorKind::Other));
+        }
+        self.taken.extend_from_slice(&buf[..n])?;
+        self.left -= n;
+        Ok(n)
+    }
+
+    fn flush(&mut self) -> io::Result<()> {
+        Ok(())
+    }
+}

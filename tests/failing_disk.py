@@ -1,0 +1,202 @@
+#!/usr/bin/env python3
+"""The real program where its disk and its streams fail: each opening, reading, writing and seeking of each run fails in turn, then
+all from each on; each with one byte moved at a time; and each write takes nothing. A run names the file that failed, with its place
+where a source is read, has status 1, and leaves its files as they were, or those written before and a first part of one. Where a
+stream stops, nothing further is said and no file written. One byte at a time is the same as all at once.
+
+usage: failing_disk.py BIN65    Prints a line a run, and last 'N passed, M failed'.
+"""
+
+import os
+import sys
+
+import failing
+
+
+class Call:
+    """A call as failing.c reports it: what was asked, of which file, and what came of it. `place` is where in the file a reading or
+    seeking stood, and `known` how many of the file's first bytes had been read before."""
+
+    def __init__(self, line):
+        self.asked, rest = line.split(" ", 1)
+        self.name, answer = rest.rsplit(" ", 1)
+        self.answer = int(answer)
+        self.place = self.known = 0
+
+
+def calls_of(report):
+    calls = [Call(line) for line in report.splitlines()]
+    place, known = {}, {}
+    for call in calls:
+        if call.asked == "open":
+            place[call.name] = 0
+        elif call.asked == "seek":
+            place[call.name] = call.answer
+        call.place, call.known = place.get(call.name, 0), known.get(call.name, 0)
+        if call.asked == "read" and call.answer > 0:
+            place[call.name] = call.place + call.answer
+            known[call.name] = max(call.known, place[call.name])
+    return calls
+
+
+def asking(before, name):
+    """The place of the line that asks for a file."""
+    wanted = f'"{os.path.basename(name)}"'.encode()
+    for file, text in before.items():
+        for number, line in enumerate(text.split(b"\n"), 1):
+            if wanted in line and line.startswith((b".include", b".incbin")):
+                return f"{file}:{number}"
+    return None
+
+
+def source_places(words, before, call):
+    """The places of a call on a file that a source is made of: the line of it that was read last, or that is being read; where there
+    is none yet, the line that asks for it, or the source without a line."""
+    known = before.get(call.name, b"")[: call.known] if call.name.endswith((".s", ".inc")) else b""
+    ended = known.count(b"\n")
+    lines = {ended, ended + (not known.endswith(b"\n") and known != b"")}
+    outside = call.name if call.name == words[-1] else asking(before, call.name)
+    return {f"{call.name}:{line}" if line else outside for line in lines}
+
+
+def input_places(before, call):
+    """The names of a file that ld65 or ar65 reads: of a library also the member that stands where it is read."""
+    file = before.get(call.name, b"")
+    if not file.startswith(b"R65l"):
+        return {call.name}
+    return {call.name, *(f"{call.name}({name})" for name, begin, end in members(file) if begin <= call.place <= end)}
+
+
+def members(library):
+    """The name, the begin and the end of each member."""
+    at = 5
+
+    def number():
+        nonlocal at
+        at += 4
+        return int.from_bytes(library[at - 4 : at], "little")
+
+    def name():
+        nonlocal at
+        at += 1 + library[at]
+        return library[:at]
+
+    found = []
+    for _ in range(number()):
+        begin = at + 1
+        found.append((name()[begin:].decode(), number()))
+        for _ in range(2):
+            for _ in range(number()):
+                name()
+    ends = []
+    for member, size in found:
+        ends.append((member, at, at + size))
+        at += size
+    return ends
+
+
+def messages_of(words, before, calls, failed):
+    """What a run may say where a call failed."""
+    is_written = any(it.asked == "create" for it in calls) or failed.asked == "create"
+    if is_written:
+        places = {failed.name}
+    elif words[0] == "ca65":
+        places = source_places(words, before, failed)
+    else:
+        places = input_places(before, failed)
+    return [f"{place}: Error: file error\n".encode() for place in places]
+
+
+def why_stream_wrong(ended, before, plain, failed):
+    """What is wrong with a run of which a stream stopped."""
+    if failed.name == "out" and ended.err:
+        return f"standard output failed, said {ended.err}"
+    if failed.name == "err" and ended.out != plain.out:
+        return f"standard error failed, printed {ended.out}"
+    if not plain.out.startswith(ended.out) or not plain.err.startswith(ended.err):
+        return f"printed {ended.out}, said {ended.err}"
+    return None if ended.files == before else "a stream failed, and files were written"
+
+
+def why_file_wrong(ended, words, before, plain, calls):
+    """What is wrong with a run of which a call on a file failed, the last of these."""
+    *calls, failed = calls
+    lines = messages_of(words, before, calls, failed)
+    said = next((ended.err[: -len(it)] for it in lines if ended.err.endswith(it)), None)
+    if said is None or not plain.err.startswith(said) or not plain.out.startswith(ended.out):
+        return f"{failed.asked} {failed.name} failed, printed {ended.out}, said {ended.err}, not one of {lines}"
+    order = [it.name for it in [*calls, failed] if it.asked == "create"]
+    if not order:
+        return None if ended.files == before else f"reading {failed.name} failed, and files were written"
+    is_all_said = ended.out == plain.out and said == plain.err
+    if is_all_said and failed.name == order[-1] and failing.is_written(ended.files, before, plain.files, order) is not None:
+        return None
+    return f"{failed.asked} {failed.name} failed, printed {ended.out}, said {ended.err}, the files are {ended.files}"
+
+
+def why_dead_wrong(ended, words, before, plain, calls):
+    """What is wrong with a run of which the last of these calls failed and all behind it: it can say nothing more."""
+    order = [it.name for it in calls if it.asked == "create"]
+    is_said = plain.out.startswith(ended.out) and plain.err.startswith(ended.err)
+    if ended.status != 1 or not is_said or failing.is_written(ended.files, before, plain.files, order) is None:
+        return f"{calls[-1].asked} {calls[-1].name} failed, {ended.answer()}"
+    return None
+
+
+def why_wrong(ended, words, before, plain, calls):
+    """What is wrong with a run of which the last of these calls failed."""
+    failed = calls[-1]
+    if ended.status != 1:
+        return f"{failed.asked} {failed.name} failed, status {ended.status}"
+    if failed.name in ("out", "err"):
+        return why_stream_wrong(ended, before, plain, failed)
+    return why_file_wrong(ended, words, before, plain, calls)
+
+
+def fail_in_turn(tests, words, before, plain, letters, wanted):
+    """Fails each call that is wanted in turn. Answers how many, and what was wrong first."""
+    run, restore = tests.starter.run, tests.starter.restore
+    restore(before)
+    ended = run(words, f"d{letters}")
+    if ended.answer() != plain.answer():
+        return 0, f"{ended.answer()}, not {plain.answer()}"
+    calls = calls_of(ended.report)
+    numbers = [number for number, call in enumerate(calls, 1) if wanted(call)]
+    wrong = []
+    for number in numbers:
+        restore(before)
+        ended = run(words, f"d{number}{letters}")
+        why = (why_dead_wrong if "a" in letters else why_wrong)(ended, words, before, plain, calls[:number])
+        wrong += [f"call {number}: {why}"] * bool(why)
+    if len(calls) < 2:
+        wrong.append(f"{len(calls)} calls are seen")
+    return len(numbers), f"{len(wrong)} times, first {wrong[0]}" if wrong else None
+
+
+def is_call(_call):
+    return True
+
+
+def is_write(call):
+    return call.asked == "write"
+
+
+WAYS = (
+    ("a call fails", "", is_call),
+    ("all calls from one on fail", "a", is_call),
+    ("a call fails, byte by byte", "b", is_call),
+    ("a write takes nothing", "bz", is_write),
+)
+
+
+def trial(tests, name, words, before, plain):
+    counts = []
+    for way, letters, wanted in WAYS:
+        count, why = fail_in_turn(tests, words, before, plain, letters, wanted)
+        tests.check(f"{name}: {way}", why)
+        counts.append(count)
+    print(f"{name}: {counts[0]} calls, {counts[2]} byte by byte, {counts[3]} writes", flush=True)
+
+
+if __name__ == "__main__":
+    failing.Tests(sys.argv[1], trial).run()

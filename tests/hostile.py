@@ -1,0 +1,173 @@
+#!/usr/bin/env python3
+"""The real program on inputs that promise much, nest deep or go on long, each with so much memory as its bytes warrant.
+
+usage: hostile.py BIN65    Prints a line a test, and last 'N passed, M failed'.
+"""
+
+import os
+import resource
+import shutil
+import subprocess
+import sys
+import tempfile
+
+from large import get, literals, number, record
+
+S1 = (
+    "MEMORY { ROM: start = $8000, size = $10; } "
+    "SEGMENTS { CODE: load = ROM, type = ro; DATA: load = ROM, type = ro, optional = yes; }"
+)
+# What a run may take; a list of 20,000 names takes more.
+LITTLE, MUCH = 32 << 20, 256 << 20
+CHAIN = 20000
+
+
+class Tests:
+    def __init__(self, program):
+        self.program, self.passed, self.failed = program, 0, 0
+
+    def run(self, memory, *words):
+        """Runs the program with so much memory, and answers its status and texts."""
+        limit = lambda: resource.setrlimit(resource.RLIMIT_AS, (memory, memory))
+        ran = subprocess.run([self.program, *words], stdin=subprocess.DEVNULL, capture_output=True, timeout=60, preexec_fn=limit)
+        return ran.returncode, ran.stdout, ran.stderr
+
+    def check(self, name, found, wanted):
+        is_right = found == wanted
+        self.passed, self.failed = self.passed + is_right, self.failed + (not is_right)
+        print(f"{name}: " + ("ok" if is_right else f"FAILED: {str(found)[:300]}, not {str(wanted)[:300]}"), flush=True)
+
+    def refused(self, name, message, *words, memory=LITTLE):
+        self.check(name, self.run(memory, *words), (1, b"", message + b"\n"))
+
+
+QUIET = (0, b"", b"")
+
+
+def put(name, file):
+    with open(name, "wb") as opened:
+        opened.write(file.encode() if isinstance(file, str) else file)
+
+
+def linked(tests, name, wanted, *modules, memory=LITTLE):
+    """Assembles modules, links them, and compares the image."""
+    for module in modules:
+        tests.check(f"{name}: {module}.s", tests.run(memory, "ca65", f"{module}.s"), QUIET)
+    ran = tests.run(memory, "ld65", "-C", "s.cfg", *(f"{module}.o" for module in modules))
+    tests.check(name, (ran, get("a.out")), (QUIET, wanted))
+
+
+def section(size):
+    return record(2, number(size, 4) + b"\0CODE")
+
+
+def object_of(*records):
+    return b"R65o\1" + b"".join(records) + record(8, b"")
+
+
+def long_lines(tests):
+    """A line of 2,040 operators is folded to a number, or has too many parts."""
+    put("b.s", ".byte 5" + "+0" * 2040 + "\n")
+    tests.check("2,040 operators", (tests.run(LITTLE, "ca65", "b.s"), get("b.o")), (QUIET, object_of(section(1), literals(b"\5"))))
+    put("b.s", ".import v\n.byte <v" + "+v" * 2039 + "\n")
+    tests.refused("2,039 operators and an import", b"b.s:2: Error: expression too large", "ca65", "b.s")
+    put("b.s", ".byte " + "1||" * 1360 + "0\n.byte " + "1<" * 2040 + "1\n")
+    tests.check("1,360 and 2,040 others", (tests.run(LITTLE, "ca65", "b.s"), get("b.o")), (QUIET, object_of(section(2), literals(b"\1\1"))))
+
+
+def deep_forms(tests):
+    """Forms that fill a record: one operation within the other, 4,085 of them and one more."""
+    leaf = b"\2" + bytes(4)
+    head = [record(1, b"v"), section(2)]
+    for operation in (0x10, 0x11, 0x12, 0x15):
+        for count in (4085, 4086):
+            value = record(5, b"\1" + number(1, 4) + bytes([operation]) * count + leaf)
+            put("a.o", object_of(*head, value))
+            tests.refused(f"{count} operations {operation:x} of a value", b"a.o: Error: not canonical", "ld65", "-C", "s.cfg", "a.o")
+    export = record(6, b"\1e" + number(1, 4) + b"\x10" * 4085 + leaf)
+    put("a.o", object_of(record(1, b"v"), export))
+    tests.refused("4,085 operations of an export", b"a.o: Error: not canonical", "ld65", "-C", "s.cfg", "a.o")
+    tests.refused("the same in a library", b"a.o: Error: member is not an object", "ar65", "r", "l.lib", "a.o")
+    put("a.o", object_of(*head, record(5, b"\1" + number(1, 4) + b"\x27" * 4091)))
+    tests.refused("operations without an end", b"a.o: Error: bad size", "ld65", "-C", "s.cfg", "a.o")
+
+
+def promises(tests):
+    """Counts and sizes of 2^32 - 1 that nothing stands behind."""
+    most = b"\xff" * 4
+    put("main.o", object_of(record(1, b"v"), section(2), record(5, b"\1" + number(1, 4) + b"\2" + bytes(4))))
+    head = b"R65l\1"
+    indexes = {
+        "members": head + most,
+        "exports": head + number(1, 4) + b"\3a.o" + number(8, 4) + most,
+        "imports": head + number(1, 4) + b"\3a.o" + number(8, 4) + number(0, 4) + most,
+        "a name's bytes": head + number(1, 4) + b"\xff",
+    }
+    for what, file in indexes.items():
+        put("l.lib", file)
+        for words in (["ld65", "-C", "s.cfg", "main.o", "l.lib"], ["ar65", "t", "l.lib"], ["ar65", "r", "l.lib", "main.o"]):
+            tests.refused(f"a library that promises {what}: {words[0]} {words[1]}", b"l.lib: Error: library cut short", *words)
+    put("l.lib", head + number(1, 4) + b"\3a.o" + most + bytes(8))
+    tests.refused("a library that promises a member's bytes", b"l.lib: Error: bad index", "ar65", "t", "l.lib")
+    for what, file, fault in (
+        ("a section", object_of(record(2, most + b"\0CODE")), b"bad size"),
+        ("the largest section", b"R65o\1" + section(1 << 24), b"object cut short"),
+        ("room", b"R65o\1" + section(1 << 24) + record(4, most), b"bad size"),
+        ("a record", b"R65o\1\1\0\x10", b"object cut short"),
+        ("a longer record", b"R65o\1\1\1\x10", b"bad size"),
+    ):
+        put("a.o", file)
+        tests.refused(f"an object that promises {what}", b"a.o: Error: " + fault, "ld65", "-C", "s.cfg", "a.o")
+
+
+def large_areas(tests):
+    """An area of 4 GB takes what stands in it; its fill isn't there for want of memory."""
+    put("b.s", "nop\n")
+    tests.check("a source", tests.run(LITTLE, "ca65", "b.s"), QUIET)
+    put("l.cfg", "MEMORY { A: start = 0, size = $FFFFFFFF; } SEGMENTS { CODE: load = A; }")
+    ran = tests.run(LITTLE, "ld65", "-C", "l.cfg", "-o", "image", "b.o")
+    tests.check("an area of 4 GB", (ran, get("image")), (QUIET, b"\xea"))
+    os.remove("image")
+    filled = "MEMORY { A: start = 0, size = $FFFFFFFF, fill = yes; } SEGMENTS { CODE: load = A; }"
+    apart = "MEMORY { A: start = 0, size = $FFFFFFFF; } SEGMENTS { CODE: load = A, start = $FFFFFF00; }"
+    for name, script in (("a filled one", filled), ("one with a row at its end", apart)):
+        put("l.cfg", script)
+        ran = tests.run(LITTLE, "ld65", "-C", "l.cfg", "-o", "image", "b.o")
+        tests.check(name, (ran, get("image")), ((1, b"", b"ld65: Error: out of memory\n"), None))
+
+
+def long_chains(tests):
+    """Constants of a module, and exports of two in turn, each the value of the next."""
+    chain = "".join(f"a{at} = a{at + 1}\n" for at in range(CHAIN))
+    put("b.s", f".byte a0\n{chain}a{CHAIN} = 7\n")
+    linked(tests, "a chain of 20,000 constants", b"\7", "b", memory=MUCH)
+
+    def module(first):
+        lines = []
+        for at in range(first, CHAIN + 1, 2):
+            lines += [f".export a{at}", f"a{at} = 7"] if at == CHAIN else [f".export a{at}", f".import a{at + 1}", f"a{at} = a{at + 1}"]
+        return "".join(line + "\n" for line in lines)
+
+    put("m1.s", module(0))
+    put("m2.s", module(1))
+    put("main.s", ".import a0\n.byte a0\n")
+    linked(tests, "a chain of 20,000 exports", b"\7", "main", "m1", "m2", memory=MUCH)
+
+
+def main():
+    tests = Tests(os.path.abspath(sys.argv[1]))
+    folder = tempfile.mkdtemp(prefix="hostile-")
+    os.chdir(folder)
+    try:
+        put("s.cfg", S1)
+        for part in (long_lines, deep_forms, promises, large_areas, long_chains):
+            part(tests)
+    finally:
+        os.chdir("/")
+        shutil.rmtree(folder)
+    print(f"{tests.passed} passed, {tests.failed} failed")
+    sys.exit(tests.failed != 0)
+
+
+if __name__ == "__main__":
+    main()

@@ -1,13 +1,17 @@
-# bin65: make example proves and builds the program, and assembles and links a first source and three programs with it;
-# make test is the merge gate.
+# bin65: make try gives a first look, unproved; make example proves and builds the program, and assembles and links a first
+# source and three programs with it; make test is the merge gate.
 PREFIX ?= /usr/local
 PROGRAM := crates/bin65/out/bin65
 
-.PHONY: example test program wrong-bodies install bench clean
+.PHONY: try example test program wrong-bodies install bench clean
 
 # The program is built only once every function below it is proved; nothing is done where no source changed.
 program:
 	@python3 gate/prove.py
+
+# A first link within two minutes, of the program as the toolchain runs it unproved.
+try:
+	@sh example/try.sh
 
 example: program
 	@sh example/first.sh $(abspath $(PROGRAM))

@@ -3,7 +3,7 @@
 PREFIX ?= /usr/local
 PROGRAM := crates/bin65/out/bin65
 
-.PHONY: try example test program wrong-bodies install bench clean
+.PHONY: try example test program wrong-bodies install release bench clean
 
 # The program is built only once every function below it is proved; nothing is done where no source changed.
 program:
@@ -31,6 +31,11 @@ bench: program
 
 install: program
 	install -D -m 755 $(PROGRAM) $(DESTDIR)$(PREFIX)/bin/bin65
+	for page in man/*.1; do install -D -m 644 $$page $(DESTDIR)$(PREFIX)/share/man/man1/$${page#man/}; done
+
+# An archive that is installed without the toolchain: docs/RELEASE.md says what is in it and what one trusts with it.
+release: program
+	@python3 gate/release.py $(abspath $(PROGRAM)) release
 
 clean:
-	rm -rf crates/*/out example/out bench-out
+	rm -rf crates/*/out example/out bench-out release

@@ -16,7 +16,7 @@ import pages
 
 # Each machine's script in cc65, the modules that cc65 links with it, and the checksum (CRC 32) of the image that it made.
 STOCK = {
-    "nes": ("nes", ("main", "machine"), 0x635803DE),
+    "nes": ("nes", ("main", "machine"), 0xDD6830D7),
     "c64": ("c64", ("main", "machine"), 0xC4986926),
     "vic20": ("vic20", ("main", "machine"), 0x53D2A8D8),
     "apple2": ("apple2", ("main", "machine"), 0xC738B43D),

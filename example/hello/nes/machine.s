@@ -60,6 +60,8 @@ begin:  lda     #0
 
 .code
 put:    pha
+        lda     #0              ; no picture meanwhile
+        sta     PPUMASK
         lda     #>$21C0         ; the 15th row
         jsr     at_column
         pla

@@ -16,7 +16,7 @@ case_of 1-ca65 ca65 -o "$out/first.o" "$here/first.s"
 case_of 2-ld65 ld65 -C "$here/first.cfg" -o "$out/first.out" "$out/first.o"
 
 echo 'NOTHING IS PROVED HERE: this is a first look, while `make example` proves and builds the program.'
-echo 'The toolchain compiles the program for this run alone: one to two minutes.'
+echo 'The toolchain compiles the program for this run alone: two minutes or so.'
 echo '$ bin65 ca65 -o first.o first.s'
 echo '$ bin65 ld65 -C first.cfg -o first.out first.o'
 cd "$here/../crates/bin65"

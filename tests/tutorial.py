@@ -1,6 +1,6 @@
 #!/usr/bin/env python3
-"""Follows docs/TUTORIAL.md in an empty folder, as it is written: each command has to print what the page shows. Where
-cc65 is installed its tools go the same way beside it, and each image has to be theirs.
+"""Follows README.md and docs/TUTORIAL.md in an empty folder each, as they are written: each command has to print what the
+page shows. Where cc65 is installed its tools go the same way beside it, and each image has to be theirs.
 
 usage: tutorial.py BIN65. The last line is 'N passed, M failed'."""
 import glob
@@ -23,25 +23,36 @@ def images(folder):
     return found
 
 
-def main():
-    passed = failed = 0
+def follow(page, program):
+    """Follows a page, and yields its parts that show something with what is wrong in each."""
     with tempfile.TemporaryDirectory() as top:
         ours, theirs = f"{top}/ours", f"{top}/theirs"
         os.makedirs(ours)
         os.makedirs(theirs)
-        tools = pages.tools_of(os.path.abspath(sys.argv[1]), f"{top}/tools")
+        tools = pages.tools_of(program, f"{top}/tools")
         cc65 = pages.cc65_of(f"{top}/cc65") if all(map(shutil.which, ("ca65", "ld65", "ar65"))) else None
-        for title, text in pages.sections(pages.read("docs/TUTORIAL.md"), "##"):
+        for title, text in pages.sections(pages.read(page), "##"):
             shown = pages.steps(text)
             wrong = pages.carry_out(shown, tools, ours)
             if cc65:
                 pages.carry_out(shown, cc65, theirs)
                 if images(ours) != images(theirs):
                     wrong.append("the images aren't those that cc65 makes")
+            if shown:
+                yield title, wrong
+        if not images(ours):
+            yield page, ["no image was made"]
+
+
+def main():
+    passed = failed = 0
+    for page, parts in (("README.md", 1), ("docs/TUTORIAL.md", 7)):
+        found = list(follow(page, os.path.abspath(sys.argv[1])))
+        for title, wrong in found:
             for it in wrong:
-                print(f"{title}: {it}")
-            passed, failed = passed + (bool(shown) and not wrong), failed + bool(wrong)
-        failed += not images(ours)
+                print(f"{page}, {title}: {it}")
+            passed, failed = passed + (not wrong), failed + bool(wrong)
+        failed += len(found) < parts
     print(f"{passed} passed, {failed} failed")
     sys.exit(failed > 0)
 

@@ -34,6 +34,7 @@ BLOCK = r"\n((?:(?!```).)*)```\n"
 CFG = f"(?:```cfg{BLOCK})?"
 PAIR = re.compile(f"```cc65{BLOCK}```asm{BLOCK}Both place (.*?)\\.\n", re.S)
 OTHER = re.compile(f"{CFG}```cc65{BLOCK}cc65 (.*?), bin65 (.*?)\\.\n{CFG}```asm{BLOCK}Both place (.*?)\\.\n", re.S)
+ROW = re.compile(r"^\| (`[^|]+`) \| (`[^|]+`) \| `([0-9A-F ]+)` \|$", re.M)
 OPCODES = re.compile(r"^\| `(\w+)` \|(.*)\|$", re.M)
 FORMS = ("#1", "$10", "$10,x", "$10,y", "$1234", "$1234,x", "$1234,y", "($10,x)", "($10),y")
 # Texts that have to change, and that no word tells
@@ -58,6 +59,11 @@ def is_said(found, said):
     if not isinstance(found, bytes):
         return said == "refuses it"
     return said.removeprefix("places ") in (f"`{found.hex(' ').upper()}`", f"{len(found)} bytes")
+
+
+def lines_of(cell):
+    """The source whose lines are a table's cell, each in quotes of its own."""
+    return "".join(f"{it}\n" for it in re.findall(r"`([^`]+)`", cell))
 
 
 class Tries:
@@ -123,16 +129,17 @@ def main():
     tries = Tries(os.path.abspath(sys.argv[1]))
     parts = pages.sections(page, "###")
     pairs = [(title, *it.groups()) for title, text in parts for it in PAIR.finditer(text)]
+    rows = [(before, *(lines_of(it) for it in (before, after)), f"`{said}`") for before, after, said in ROW.findall(page)]
     others = [(title, *it.groups()) for title, text in parts for it in OTHER.finditer(text)]
-    for it in pairs:
+    for it in pairs + rows:
         tries.pair(*it)
     for it in others:
         tries.other(*it)
-    tries.search(re.search(r"```sh\n(grep.*?)```", page, re.S)[1], pairs)
+    tries.search(re.search(r"```sh\n(grep.*?)```", page, re.S)[1], pairs + rows)
     tries.opcodes(page)
     if tries.cc65 and stock.is_there():
         tries.files(page)
-    tries.failed += page.count("```cc65\n") != len(pairs) + len(others)
+    tries.failed += page.count("```cc65\n") != len(pairs) + len(others) or not rows
     print(f"{tries.passed} passed, {tries.failed} failed")
     sys.exit(tries.failed > 0)
 

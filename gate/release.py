@@ -1,5 +1,5 @@
 #!/usr/bin/env python3
-"""Packs a release: the program, the commit and the kit that it is built of, what its proofs said, the pages for users, man
+"""Packs a release: the program, the commit and the kit that it is built of, what its proofs said, the pages, the examples, man
 pages, and checksums of all. The same program and logs give the same archive.
 
 usage: release.py PROGRAM FOLDER    puts bin65-VERSION.tar.gz into the folder. The version is CHANGELOG's first."""
@@ -14,8 +14,7 @@ import sys
 import tarfile
 
 ROOT = os.path.dirname(os.path.dirname(os.path.realpath(__file__)))
-PAGES = ("README.md", "CHANGELOG.md", "docs/TUTORIAL.md", "docs/MESSAGES.md", "docs/LANGUAGE.md", "docs/SCRIPTS.md",
-         "docs/MIGRATING.md", "docs/FORMATS.md", "docs/RELEASE.md")
+PAGES = ("README.md", "CHANGELOG.md", "CONTRIBUTING.md", "docs/*.md", "example")
 INSTALL = """# Installs what was released; no toolchain is needed.
 PREFIX ?= /usr/local
 
@@ -50,8 +49,7 @@ def commit():
 def contents(program):
     """The files of a release by their names."""
     files = {"bin65": read(program), "COMMIT": commit().encode(), "KIT": f"{said('rt', 'version')}\n".encode(), "Makefile": INSTALL.encode()}
-    files |= {page: read(f"{ROOT}/{page}") for page in PAGES}
-    files |= {f"man/{os.path.basename(it)}": read(it) for it in glob.glob(f"{ROOT}/man/*.1")}
+    files |= {it: read(f"{ROOT}/{it}") for it in said("git", "ls-files", "man", *PAGES).splitlines()}
     for log in glob.glob(f"{ROOT}/crates/*/out/prove.log"):
         files[f"logs/{log.split('/')[-3]}.log"] = read(log)
     sums = "".join(f"{hashlib.sha256(files[name]).hexdigest()}  {name}\n" for name in sorted(files))
@@ -74,7 +72,7 @@ def main(program, folder):
     os.makedirs(folder, exist_ok=True)
     with open(f"{folder}/{name}.tar.gz", "wb") as it:
         it.write(pack(files, name))
-    print(f"{folder}/{name}.tar.gz has the program, {sum(it.startswith('logs/') for it in files)} logs of proofs and the pages.")
+    print(f"{folder}/{name}.tar.gz has the program, {sum(it.startswith('logs/') for it in files)} logs of proofs, the pages and the examples.")
     print(f"commit  {files['COMMIT'].decode().strip()}")
     print(f"sha256  {hashlib.sha256(files['bin65']).hexdigest()}  bin65")
 

@@ -59,7 +59,7 @@ def missing(page):
     texts = set().union(*(forms(it) for it, _ in pages.sections(page, "###")))
     texts |= set(re.findall(r"`([^`]+)`", page.split("## Texts that no command prints")[1]))
     for text, place in sorted(set(printed())):
-        if text not in texts and not re.fullmatch(r"N*|segment|ld65", text):
+        if text not in texts and not re.fullmatch(r"[N: ]*|segment|ld65", text):
             yield f"{place}: '{text}' isn't on the page"
 
 

@@ -2,8 +2,8 @@
 """Proves what isn't proved yet and builds the program: crates that don't stand on each other side by side.
 
 usage: prove.py [CRATE..]    these libraries and what they stand on; with none, the program and what it stands on.
-It says what it does as it goes, and at the end how long each crate took. What a crate's proof said is in its
-out/prove.log. Where no file changed since the program was built, it does nothing."""
+It says first how long it will take, then each minute how far it is and how much is left, and at the end how long each crate
+took. What a crate's proof said is in its out/prove.log. Where no file changed since the program was built, it does nothing."""
 import copy
 import hashlib
 import os
@@ -14,6 +14,7 @@ import time
 from concurrent.futures import FIRST_COMPLETED, ThreadPoolExecutor, wait
 
 import kit
+import telling
 
 PROGRAM = f"{kit.ROOT}/crates/bin65/out/bin65"
 SUM = f"{PROGRAM}.sum"
@@ -49,25 +50,11 @@ def prove(rt, crate, jobs):
     """Builds a library, and returns whether it is proved and the gate would take it."""
     os.makedirs(f"{crate.folder}/out", exist_ok=True)
     crate, log = copy.copy(crate), f"{crate.folder}/out/prove.log"
-    ended = threading.Event()
-
-    def tell():
-        """Says how far the proof is, each half minute."""
-        while not ended.wait(30):
-            with open(log, errors="replace") as it:
-                far = [line for line in it if line.startswith("so far: ")]
-            kit.say(f"{crate.name}: {far[-1].strip()[len('so far: '):] if far else 'at work'}")
-
     with open(log, "w", errors="replace") as crate.out:
-        teller = threading.Thread(target=tell, daemon=True)
-        teller.start()
         try:
             is_proved = not crate.build_rlib(["--jobs", str(jobs), "--empty-contracts"], anew=False)
         except SystemExit:
             is_proved = False
-        finally:
-            ended.set()
-            teller.join()
     why = why_refused(rt, crate, rt.rtlib.text_of(log) or "")
     if is_proved and why:
         kit.say(f"{crate.name}: the gate would refuse it: {why}")
@@ -85,36 +72,81 @@ def chains(rt, crates):
     return behind
 
 
-def in_lanes(rt, crates, processors):
-    """Proves the crates, each once those below it are proved, and returns how long each took, or None where one isn't proved.
-    Two are proved at once, or more on many processors, those with the longest row behind them first. Each may use the
-    processors that the others leave (a proof begins alone, with what it loads), as far as memory holds (6 GB for each)."""
-    lanes, jobs = max(1, min(max(2, processors // 2), rt.free() // 6_000_000_000)), min(4, processors)
-    behind = chains(rt, crates)
-    left, proved, failed, running, took = sorted(crates, key=lambda it: -behind[it]), set(), [], {}, {}
-    with ThreadPoolExecutor(lanes) as pool:
+def lanes_of(rt, processors):
+    """How many crates are proved at once: two, or more on many processors, as far as memory holds (6 GB for each)."""
+    return max(1, min(max(2, processors // 2), rt.free() // 6_000_000_000))
+
+
+def far(name):
+    """How many functions of a crate are proved, as its log says last."""
+    if not os.path.isfile(log := f"{kit.ROOT}/crates/{name}/out/prove.log"):
+        return ""
+    with open(log, errors="replace") as it:
+        said = [line for line in it if line.startswith("so far: ")]
+    return said[-1].strip()[len("so far: "):].partition(";")[0] if said else ""
+
+
+def tell(told, ended):
+    """Says each minute how far it is and how much is left."""
+    while not ended.wait(60):
+        line = told.line(time.time(), far)
+        if line:
+            kit.say(line)
+
+
+def built(crates):
+    """Those of the crates, lowest first, that earlier runs proved with all that they stand on."""
+    found = set()
+    for it in crates:
+        if {*it.below()} <= found and it.is_built():
+            found.add(it)
+    return found
+
+
+def in_lanes(rt, crates, proved, told, processors):
+    """Proves the crates that aren't proved, each once those below it are, and returns whether all are. They begin in the order
+    that is given. Each may use the processors that the others leave (a proof begins alone, with what it loads)."""
+    left, failed, running = [it for it in crates if it not in proved], [], {}
+    with ThreadPoolExecutor(told.lanes) as pool:
         while left or running:
             ready = [it for it in left if {*it.below()} <= proved]
-            built = [it for it in ready if it.is_built()]
-            if built:
-                left = [it for it in left if it not in built]
-                proved.update(built)
+            same = [it for it in ready if it.is_built()]
+            if same:
+                left = [it for it in left if it not in same]
+                proved.update(same)
+                told.proved.update(it.name for it in same)
                 continue
-            for crate in ready[: lanes - len(running)]:
+            for crate in ready[: told.lanes - len(running)]:
                 left.remove(crate)
-                kit.say(f"{crate.name}: its proof begins ({len(proved)} of {len(crates)} crates are proved)")
-                running[pool.submit(prove, rt, crate, jobs)] = crate, time.time()
+                kit.say(f"{crate.name}: its proof begins")
+                told.begin(crate.name, time.time())
+                running[pool.submit(prove, rt, crate, min(4, processors))] = crate
             for it in wait(running, return_when=FIRST_COMPLETED).done if running else ():
-                crate, begun = running.pop(it)
-                if not it.result():
+                crate = running.pop(it)
+                told.end(crate.name, time.time(), it.result())
+                if it.result():
+                    proved.add(crate)
+                    kit.say(f"{crate.name}: proved after {kit.minutes(told.took[crate.name])}")
+                else:
                     kit.say(f"{crate.name}: NOT PROVED; {os.path.relpath(crate.folder, kit.ROOT)}/out/prove.log says why")
                     failed.append(crate)
                     left = []
-                    continue
-                proved.add(crate)
-                took[crate.name] = time.time() - begun
-                kit.say(f"{crate.name}: proved after {kit.minutes(took[crate.name])}")
-    return None if failed else took
+    return not failed
+
+
+def build(told):
+    """Proves and builds the program, and returns whether it is there."""
+    kit.say("bin65: its proof begins, and then it is compiled")
+    told.begin("bin65", time.time())
+    # (with no arguments the program answers 'bad arguments', which is no fault of the build)
+    folder = f"{kit.ROOT}/crates/bin65"
+    os.makedirs(f"{folder}/out", exist_ok=True)
+    with open(f"{folder}/out/prove.log", "w") as log:
+        subprocess.run(["rt", "run"], cwd=folder, stdin=subprocess.DEVNULL, stdout=log, stderr=subprocess.STDOUT)
+    is_there = os.path.isfile(PROGRAM)
+    told.end("bin65", time.time(), is_there)
+    kit.say("bin65: proved, compiled and linked" if is_there else "bin65: NOT BUILT; crates/bin65/out/prove.log says why")
+    return is_there
 
 
 def main(names):
@@ -132,28 +164,27 @@ def main(names):
     asked = [it for it in crates if it.name in names or not names and it.is_program]
     chosen = [it for it in crates if not it.is_program and (it in asked or any(it in that.below() for that in asked))]
     held = rt.rtlib.lock(crates)
-    took = in_lanes(rt, chosen, rt.processors())
+    behind, proved = chains(rt, crates), built(chosen)
+    order = sorted(chosen, key=lambda it: -behind[it])
+    below = {it.name: [that.name for that in it.below() if that in chosen and that not in proved] for it in chosen}
+    told = telling.Telling([it.name for it in order if it not in proved], below, lanes_of(rt, rt.processors()), rt.processors(), None if names else "bin65")
+    if told.order or not names:
+        kit.say(told.first(time.time()))
+    ended = threading.Event()
+    teller = threading.Thread(target=tell, args=(told, ended), daemon=True)
+    teller.start()
+    is_proved = in_lanes(rt, order, proved, told, rt.processors())
     for it in held:
         os.close(it)
-    if took is None:
-        return 1
-    if not names:
-        begun = time.time()
-        kit.say("bin65: its proof begins, and then it is compiled")
-        # (with no arguments the program answers 'bad arguments', which is no fault of the build)
-        folder = f"{kit.ROOT}/crates/bin65"
-        os.makedirs(f"{folder}/out", exist_ok=True)
-        with open(f"{folder}/out/prove.log", "w") as log:
-            subprocess.run(["rt", "run"], cwd=folder, stdin=subprocess.DEVNULL, stdout=log, stderr=subprocess.STDOUT)
-        if not os.path.isfile(PROGRAM):
-            kit.say("bin65: NOT BUILT; crates/bin65/out/prove.log says why")
-            return 1
-        took["bin65, proved, compiled and linked"] = time.time() - begun
+    is_done = is_proved and (bool(names) or build(told))
+    ended.set()
+    teller.join()
+    if is_done and not names:
         with open(SUM, "w") as it:
             it.write(sum_of_all(rt))
-    if took:
-        kit.table("How long each part took:", took.items())
-    return 0
+    if is_done and told.took:
+        kit.table("How long each part took:", told.took.items())
+    return 0 if is_done else 1
 
 
 if __name__ == "__main__":

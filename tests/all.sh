@@ -48,6 +48,13 @@ part 'large sizes' python3 tests/large.py "$program"
 part 'hostile sizes' python3 tests/hostile.py "$program"
 part 'one program' python3 tests/one_program.py "$program"
 part 'what a cc65 user writes' python3 tests/migrating.py "$program"
+part 'the tutorial' python3 tests/tutorial.py "$program"
+part 'messages' python3 tests/messages.py "$program"
+part 'a Makefile' python3 tests/makefile.py "$program"
+part 'label files' python3 tests/labels.py "$program"
+part 'a release' python3 tests/release.py "$program"
+part 'what is told of proofs' python3 tests/telling.py
+part 'links of pages' python3 tests/links.py
 part 'a first link' one sh example/first.sh "$program"
 part 'three programs' one sh example/programs.sh "$program"
 part 'a library' one sh example/library.sh "$program"

@@ -1,63 +1,111 @@
-"""The stated forms of what the program says."""
+#!/usr/bin/env python3
+"""Checks docs/MESSAGES.md: each example gives what the page shows, of a table's two sources the first is refused and the
+second taken, the headings stand in alphabetical order, and each text that the code can print stands on the page.
 
+usage: messages.py BIN65. The last line is 'N passed, M failed'."""
+import glob
+import os
 import re
+import sys
+import tempfile
 
-WORDS = {
-    "any": "out of memory|file not found|file error",
-    "source": (
-        "bad character|bad number|string not closed|line too long|name too long|not constant|nested over 256|too many lines"
-        "|block not closed|block end without begin|too many arguments|macro defined twice|macro inside macro"
-        "|repeat count out of range|file too long|directive not understood|replaced line too long|statement not understood"
-        "|no such addressing form|(?:defined twice|undefined name|no such scope|scope defined twice|imported and defined"
-        "|export not defined): .+|circular definition|out of range|zero divisor or bad shift count|expression too large"
-        "|section too large|no such unnamed label|bad alignment|popseg without pushseg|operand not constant or out of range"
-        "|incbin out of range|segment size changed|scope not open or not closed"
-    ),
-    "object": (
-        "not an object|unknown version|object cut short|unknown record|record out of order|index out of range|bad size"
-        "|not canonical|bytes after the end"
-    ),
-    "library": (
-        "not a library|library cut short|bad index|no such member: .*|member is not an object|index disagrees with member"
-        "|bad member name"
-    ),
-    "script": (
-        "syntax error|unknown attribute|attribute twice|attribute missing|name twice|no such area|value out of range"
-        "|attributes exclude each other|script too long"
-    ),
-    "link": (
-        "segment has no row: .+|read-only area: .+|start below what is placed: .+|overflow of .+ by [0-9]+ bytes"
-        "|duplicate export: .+|unresolved: .+"
-    ),
-    "value": "circular definition|out of range|zero divisor or bad shift count",
-}
+import pages
+
+# Crates whose texts no command prints: those of tests.
+TESTS = re.compile(r"/crates/(trials_\w+|running65|runs65)/")
+# Functions that make texts, and the texts in them.
+MAKERS = re.compile(r"^(fmt|words|own_words|\w+_words|\w+_message|\w+_warning|row_warnings|data_warning|fault_text|text_of|assertion\w*)$")
+FUNCTION = re.compile(r"^( *)(?:pub )?fn (\w+).*?^\1}$", re.M | re.S)
+TEXT = re.compile(r'b?"((?:[^"\\\n]|\\.)*)"')
+ROW = re.compile(r"^\| [^|]+ \| (`[^|]+`) \| (`[^|]+`) \|$", re.M)
 
 
-def form(text):
-    return re.compile(text.encode(), re.DOTALL)
+def sources():
+    """The code's files that aren't tests."""
+    files = glob.glob(f"{pages.ROOT}/crates/*/src/**/*.rt", recursive=True)
+    return sorted(it for it in files if not TESTS.search(it))
 
 
-ANY, OBJECT, LIBRARY = WORDS["any"], WORDS["object"], WORDS["library"]
-FORMS = {
-    "ca65": form(f"bin65: Error: (bad arguments|out of memory)|.*: Error: ({WORDS['source']}|{ANY})"),
-    "ld65": form(
-        f".*:[0-9]+: Error: ({WORDS['script']}|{WORDS['value']})|ld65: Error: ({WORDS['link']}|out of memory)"
-        f"|.*: Error: ({OBJECT}|{LIBRARY}|file not found|file error)|bin65: Error: (bad arguments|out of memory)"
-    ),
-    "ar65": form(f"bin65: Error: (bad arguments|out of memory)|.*: Error: ({LIBRARY}|{ANY})"),
-}
-# A source and an object hold texts of their own.
-OWN_TEXT = form(r".*:[0-9]+: Error: .*")
-WARNINGS = {
-    "ca65": form(r".*:[0-9]+: Warning: .*"),
-    "ld65": form(r"ld65: Warning: segment .* (does not exist|needs alignment [0-9]+|holds data that is not written)|.*:[0-9]+: Warning: .*"),
-    "ar65": form("a^"),
-}
+def without_comments(text):
+    return re.sub(r"^\s*//.*$", "", text, flags=re.M)
 
 
-def is_message(tool, line, files):
-    if FORMS[tool].fullmatch(line):
-        return True
-    has_texts = tool == "ca65" and any(re.search(rb"(?i)\.(error|assert)", it) for it in files.values())
-    has_asserts = tool == "ld65" and any(b"\x07" in it for it in files.values())
-    return (has_texts or has_asserts) and OWN_TEXT.fullmatch(line) is not None
+def printed():
+    """The texts that the code's functions make, in the page's form, and where each stands."""
+    for file in sources():
+        with open(file, encoding="utf-8") as it:
+            code = without_comments(it.read())
+        for function in FUNCTION.finditer(code):
+            for text in TEXT.findall(function[0]):
+                is_message = re.search(r"\b(Error|Warning)\b", text)
+                if MAKERS.match(function[2]) or is_message:
+                    yield plain(text), f"{os.path.relpath(file, pages.ROOT)}: {function[2]}"
+
+
+def plain(text):
+    """A text without the form around it, and with N and n for what is put in."""
+    text = re.sub(r"^.*?: ?(Error|Warning): ?", "", text.replace("\\n", ""))
+    text = re.sub(r"\{\w+\}", "N", text.replace("{bytes}", "n"))
+    return text.strip(" :,")
+
+
+def forms(heading):
+    """The texts that make a heading: whole, without the name behind it, or without what a warning puts before and behind."""
+    return {heading, heading.split(":")[0], heading.split(",")[0], heading.removeprefix("segment N ").removesuffix(" K")}
+
+
+def missing(page):
+    """The texts of the code that aren't on the page."""
+    texts = set().union(*(forms(it) for it, _ in pages.sections(page, "###")))
+    texts |= set(re.findall(r"`([^`]+)`", page.split("## Texts that no command prints")[1]))
+    for text, place in sorted(set(printed())):
+        if text not in texts and not re.fullmatch(r"[N: ]*|segment|ld65", text):
+            yield f"{place}: '{text}' isn't on the page"
+
+
+def rows_wrong(text, tools, folder):
+    """The rows of a table whose first source isn't refused, or whose second one is."""
+    for refused, taken in ROW.findall(text):
+        for source, wanted in ((refused, "statement not understood"), (taken, None)):
+            pages.put(f"{folder}/row.s", "\n".join(re.findall(r"`([^`]+)`", source)) + "\n")
+            said = pages.run("bin65 ca65 row.s", tools, folder)
+            if not said.endswith(f": {wanted}\n") if wanted else said:
+                yield f"{source} says {said!r}"
+
+
+def check(title, text, before, tools, folder):
+    """What is wrong with the examples of a message."""
+    os.makedirs(folder)
+    shown = pages.steps(text)
+    wrong = pages.carry_out(before, tools, folder) + pages.carry_out(shown, tools, folder)
+    wrong += rows_wrong(text, tools, folder)
+    words = re.escape(title).replace("N", r"\S+").replace(r",\ M,\ \.\.", ".*").replace("K", r"\d+").replace(r"\ n\ ", r" \d+ ")
+    if not any(re.search(rf": {words}$", it[2], re.M) for it in shown if it[0] == "run"):
+        wrong.append("no example gives it")
+    return wrong
+
+
+def main():
+    page = pages.read("docs/MESSAGES.md")
+    found = pages.sections(page.split("\n## Texts of your own")[0], "###")
+    titles = [it for it, _ in found]
+    faults = list(missing(page))
+    faults += ["the headings aren't in alphabetical order"] if titles != sorted(titles, key=str.lower) else []
+    passed, failed = 1 - bool(faults), len(faults)
+    with tempfile.TemporaryDirectory() as top:
+        tools = pages.tools_of(os.path.abspath(sys.argv[1]), f"{top}/tools")
+        before = pages.steps(page.split("\n### ")[0])
+        own = page.split("\n## Texts of your own")[1].split("\n## ")[0]
+        for number, (title, text) in enumerate([*found, ("own texts", own)]):
+            wrong = check(title, text, before, tools, f"{top}/{number}")
+            if title == "own texts":
+                wrong.remove("no example gives it")
+            faults += [f"{title}: {it}" for it in wrong]
+            passed, failed = passed + (not wrong), failed + bool(wrong)
+    for it in faults:
+        print(it)
+    print(f"{passed} passed, {failed} failed")
+    sys.exit(failed > 0 or not found)
+
+
+main()

@@ -20,7 +20,7 @@ import time
 import cases
 import starting
 from changes import changed
-from messages import WARNINGS, is_message
+from message_forms import WARNINGS, is_message
 
 HERE = os.path.dirname(os.path.abspath(__file__))
 KINDS = ("object", "library", "script", "source")

@@ -1,0 +1,60 @@
+#!/usr/bin/env python3
+"""Follows README.md and docs/TUTORIAL.md in an empty folder each, as they are written: each command has to print what the
+page shows. Where cc65 is installed its tools go the same way beside it, and each image has to be theirs.
+
+usage: tutorial.py BIN65. The last line is 'N passed, M failed'."""
+import glob
+import os
+import shutil
+import sys
+import tempfile
+
+import pages
+
+IMAGES = ("*.bin", "*.nes")
+
+
+def images(folder):
+    """The images in a folder, by their names."""
+    found = {}
+    for file in (it for pattern in IMAGES for it in glob.glob(f"{folder}/{pattern}")):
+        with open(file, "rb") as it:
+            found[os.path.basename(file)] = it.read()
+    return found
+
+
+def follow(page, program):
+    """Follows a page, and yields its parts that show something with what is wrong in each."""
+    with tempfile.TemporaryDirectory() as top:
+        ours, theirs = f"{top}/ours", f"{top}/theirs"
+        os.makedirs(ours)
+        os.makedirs(theirs)
+        tools = pages.tools_of(program, f"{top}/tools")
+        cc65 = pages.cc65_of(f"{top}/cc65") if all(map(shutil.which, ("ca65", "ld65", "ar65"))) else None
+        for title, text in pages.sections(pages.read(page), "##"):
+            shown = pages.steps(text)
+            wrong = pages.carry_out(shown, tools, ours)
+            if cc65:
+                pages.carry_out(shown, cc65, theirs)
+                if images(ours) != images(theirs):
+                    wrong.append("the images aren't those that cc65 makes")
+            if shown:
+                yield title, wrong
+        if not images(ours):
+            yield page, ["no image was made"]
+
+
+def main():
+    passed = failed = 0
+    for page, parts in (("README.md", 1), ("docs/TUTORIAL.md", 7)):
+        found = list(follow(page, os.path.abspath(sys.argv[1])))
+        for title, wrong in found:
+            for it in wrong:
+                print(f"{page}, {title}: {it}")
+            passed, failed = passed + (not wrong), failed + bool(wrong)
+        failed += len(found) < parts
+    print(f"{passed} passed, {failed} failed")
+    sys.exit(failed > 0)
+
+
+main()

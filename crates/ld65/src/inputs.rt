@@ -52,7 +52,7 @@ fn feed_file<S: Store>(
     ensures files { S.files store.new ≡ S.files store.old }
     ensures count { (modules : List Module) → IsFed linker.old modules →
         PassesBy is_failure (S.failures store.old) (S.failures store.new) result }
-    ensures named { (modules : List Module) → IsFed linker.old modules → 
+    ensures named { (modules : List Module) → IsFed linker.old modules →
         IfErr result (NamesInput (S.blamed store.new) input.now.place input.now.name.now) }
 {
     let object = ObjectInput {
@@ -83,7 +83,7 @@ fn feed_input<S: Store>(
     ensures files { S.files store.new ≡ S.files store.old }
     ensures count { (modules : List Module) → IsFed linker.old modules →
         PassesBy is_failure (S.failures store.old) (S.failures store.new) result }
-    ensures named { (modules : List Module) → IsFed linker.old modules → 
+    ensures named { (modules : List Module) → IsFed linker.old modules →
         IfErr result (NamesInput (S.blamed store.new) input.now.place input.now.name.now) }
 {
     match is_library(store, input.name) {
@@ -107,7 +107,7 @@ pub fn feed_inputs<S: Store>(
     ensures files { S.files store.new ≡ S.files store.old }
     ensures count { (modules : List Module) → IsFed linker.old modules →
         PassesBy is_failure (S.failures store.old) (S.failures store.new) result }
-    ensures named { (modules : List Module) → IsFed linker.old modules → 
+    ensures named { (modules : List Module) → IsFed linker.old modules →
         IfErr result (NamesInputs (S.blamed store.new) (map (λ s. s.now) inputs.now)) }
 {
     let mut reader = RecordReader::new();

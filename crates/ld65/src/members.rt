@@ -59,7 +59,7 @@ fn feed_member<S: Store>(
     ensures files { S.files store.new ≡ S.files store.old }
     ensures count { (modules : List Module) → IsFed linker.old modules →
         PassesBy is_failure (S.failures store.old) (S.failures store.new) result }
-    ensures named { (modules : List Module) → IsFed linker.old modules → 
+    ensures named { (modules : List Module) → IsFed linker.old modules →
         IfErr result (NamesMember (S.blamed store.new) member.now.library.now) }
 {
     let name = module_name(alloc, member)?;
@@ -106,7 +106,7 @@ fn feed_chosen<S: Store>(
     ensures files { S.files store.new ≡ S.files store.old }
     ensures count { (modules : List Module) → IsFed linker.old modules →
         PassesBy is_failure (S.failures store.old) (S.failures store.new) result }
-    ensures named { (modules : List Module) → IsFed linker.old modules → 
+    ensures named { (modules : List Module) → IsFed linker.old modules →
         IfErr result (NamesMember (S.blamed store.new) chosen.now.library.now) }
 {
     let library = chosen.library;
@@ -132,7 +132,7 @@ fn feed_members<S: Store>(
     ensures files { S.files store.new ≡ S.files store.old }
     ensures count { (modules : List Module) → IsFed linker.old modules →
         PassesBy is_failure (S.failures store.old) (S.failures store.new) result }
-    ensures named { (modules : List Module) → IsFed linker.old modules → 
+    ensures named { (modules : List Module) → IsFed linker.old modules →
         IfErr result (NamesMember (S.blamed store.new) library.now) }
 {
     let entries = choice.index.entries.as_slice();
@@ -164,7 +164,7 @@ pub fn feed_library<S: Store>(
     ensures files { S.files store.new ≡ S.files store.old }
     ensures count { (modules : List Module) → IsFed linker.old modules →
         PassesBy is_failure (S.failures store.old) (S.failures store.new) result }
-    ensures named { (modules : List Module) → IsFed linker.old modules → 
+    ensures named { (modules : List Module) → IsFed linker.old modules →
         IfErr result (NamesInput (S.blamed store.new) input.now.place input.now.name.now) }
 {
     let choice = choose_members(alloc, store, linker, input)?;

@@ -17,10 +17,6 @@ use Rattle.asm65.specs.declared.assembler.Assembler.{Assembler}
 use Rattle.asm65.specs.Inner.Holding.{Holds}
 use Rattle.asm65.specs.Inner.Knowing.{known_where}
 
--- a final form is the one now
-pub final_constant : (y : Symbols) (s : Spot) (e : Tree) (f : Form) → IsFinal y s e f → literal_in (Ok f) ≡ constant_in y s e
-final_constant y s e f h = ap literal_in (sym (h y (extends_same y)))
-
 -- what is known where the next statement stands is what is known behind the state that is held
 pub known_held : (count : ℕ) (t : State) (a : Assembler) (s : Spot) → Holds count t a → s ≡ spot_of (standing_of a.standing) → known_where (table_of a.symbols) s ≡ known_at t.symbols t.standing
 known_held count t a s h at =

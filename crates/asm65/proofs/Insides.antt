@@ -34,7 +34,7 @@ use Rattle.language65.specs.Symbols.{Definition, Key, Scope, Symbols, cheap_in, 
 use Rattle.module65.specs.Pieces as piece
 use Rattle.module65.specs.Pieces.{Made, Purpose, absent_of, as_part, as_said, made_of, used}
 use Rattle.language65.specs.LineFaults.{unless_fault}
-use Rattle.layout65.specs.Measuring.{Measured, measure_of, measured}
+use Rattle.layout65.specs.Measuring.{Measured, measure_of, measured, unread_fault}
 use Rattle.asm65.specs.declared.waiting.Piece.{Piece}
 use Rattle.asm65.specs.declared.waiting.Piece.TheVariants.{Datum, Operand, Constant, Assertion, Import, Demand, Export}
 use Rattle.asm65.specs.Inner.Resolving.{coming, lost}
@@ -397,3 +397,14 @@ inside_unless_fault (Some e) x h = h e refl
 -- what a statement comes to at its line is found, or a fault that is no store's
 pub measured_inside : {X : Type 0} (r : Result X AsmFault) (view : X → Measured) (y : Symbols) (w : Standing) (x : Stated) → Gives is_memory view r (measured y w x) → IsInside r
 measured_inside r view y w x h = inside_from r view (measured y w x) (inside_unless_fault (faults.line_fault y w x) (measure_of y w x) (line_inside y w x)) h
+
+either_inside : (a b : Option AsmFault) → AreInsideFaults a → AreInsideFaults b → AreInsideFaults (faults.or_then a b)
+either_inside (Some e) b h k = h
+either_inside None b h k = k
+
+-- so is what it is refused for whatever a file has
+pub unread_inside : (r : Result (Unit {0}) AsmFault) (y : Symbols) (w : Standing) (start len : Option Tree) → Gives is_memory (λ u. u) r (unless_fault (unread_fault y w start len) tt) → IsInside r
+unread_inside r y w start len h =
+    let part = file_part None start len in
+    let fault = either_inside (faults.lost_scopes y.scopes w.scope (faults.trees_of part)) (faults.operand_fault y (spot_of w) part) (inside_lost_all y.scopes w.scope (faults.trees_of part)) (inside_operand_fault y (spot_of w) part) in
+    inside_from r (λ u. u) (unless_fault (unread_fault y w start len) tt) (inside_unless_fault (unread_fault y w start len) tt fault) h

@@ -5,6 +5,7 @@ pub mod Defines
 pub mod Outcomes
 pub mod NamedFiles
 pub mod WholeFiles
+pub mod UnreadFiles
 pub mod Runs
 pub mod Sources
 pub mod Waitings

@@ -13,7 +13,8 @@ use Rattle.expand65.specs.declared.expander.Statement.TheVariants.{Label, Plain}
 use Rattle.reader65.specs.declared.line.Line.{Line}
 use Rattle.source65.specs.declared.place.Place.{Place}
 use Rattle.language65.specs.declared.fault.AsmFault.{AsmFault}
-use Rattle.language65.specs.Faults.{is_outside}
+use Rattle.language65.specs.declared.fault.AsmFault.TheVariants.{FileError, FileNotFound}
+use Rattle.language65.specs.Faults.{is_failure, is_outside}
 use Rattle.language65.specs.Laid.{Laid, Spot, asks_section}
 use Rattle.language65.specs.Language.{Stated, label, cheap_label, unnamed_label, open_scope, open_proc, segment}
 use Rattle.language65.specs.Layout.{laid}
@@ -24,15 +25,17 @@ use Rattle.statements65.proofs.Sounding.{statement_sound}
 use Rattle.module65.specs.Machine.{Puts, at_once, later, PutsAll, State, Steps, Takes, UnlessFault, asked, entered, known}
 use Rattle.module65.specs.Module.{out_of, warning_of}
 use Rattle.module65.specs.Pieces.{Piece, pieces_of}
-use Rattle.module65.specs.Reading.{Answers, IsGiven, IsLabel, IsLabelled, IsRest}
+use Rattle.module65.specs.Reading.{Answers, IsGiven, IsLabel, IsLabelled, IsRest, with_bytes}
 use Rattle.language65.specs.Contents.{asking}
 use Rattle.module65.proofs.Given.{label_quiet}
 use Rattle.module65.proofs.SoundSources.{label_sound}
 use Rattle.asm65.specs.declared.assembler.Assembler.{Assembler}
 use Rattle.asm65.specs.declared.texts.Texts.{Texts}
+use Rattle.layout65.proofs.Steps.{unless_then}
 use Rattle.layout65.specs.Counting.{opened_by, opening_limit}
 use Rattle.asm65.specs.Inner.Holding.{Holds}
-use Rattle.asm65.specs.Inner.Files.{read_bytes}
+use Rattle.asm65.specs.Inner.Files.{IsRefusedUnread, read_bytes}
+use Rattle.asm65.specs.Unread.{no_files}
 use Rattle.asm65.specs.Inner.Running.{behind, IsRoomy, IsSoundIf, Leaves, SaysAs, StopsQuietly, TakesBy, Told, tokens_of}
 use Rattle.asm65.proofs.WholeFiles.{read_sound, takes_whole}
 
@@ -137,6 +140,34 @@ rest_leaves o place (k ∷ ts) x y old new (Ok v) some is read taken = λ count 
 rest_leaves o place (k ∷ ts) x y old new (Err e) some is read taken = λ count t room h.
     wrong_rest place k ts x y is o (count + 1) t new e read (taken count t room h)
 
+-- a statement that is refused before its file is read
+module _ (place : Place) (x : Stated) (old new : Assembler) (e : AsmFault) (refused : (count : ℕ) (t : State) → Holds count t old → IsRefusedUnread t place x e) (same : new.texts ≡ old.texts) where
+  pub rest_unread : (o : Option Files) (ts : List Lexeme) → (ts ≡ [] → ⊥) → IsStatement ts (Ok x) → TakesBy (AreNamed ts) (RestBy o place ts) 1 old new (Err e)
+  rest_unread o [] some is = absurd (some refl)
+  rest_unread o (k ∷ ts) some is = λ count t room h.
+      fault_first (AreNamed (k ∷ ts)) (RestBy o place (k ∷ ts) t) (count + 1) t new e
+      (unless_then (is_outside e) (λ (all : (m : Files) → Takes t place (with_bytes m place x) (Err e)). told_all o (λ m. IsRest m Takes t place (k ∷ ts) (Err e)) (λ m. (Ok x, is, all m))) (refused count t h).inside)
+      (λ inside. says_same count t old new h same)
+
+  pub rest_stops : (ts : List Lexeme) (r : Answer) → (ts ≡ [] → ⊥) → IsStatement ts (Ok x) → (is_failure e ≡ true → e ≡ FileError) → r ≡ Err e → StopsQuietly (λ t. IsRest no_files Takes t place ts) 1 old new r
+  rest_stops [] r some is only fails = absurd (some refl)
+  rest_stops (k ∷ ts) r some is only fails = subst (StopsQuietly (λ t. IsRest no_files Takes t place (k ∷ ts)) 1 old new) (sym fails)
+      (λ failed. record {
+        fault = only failed;
+        out = ap (λ (s : Texts). s.out) same;
+        err = ap (λ (s : Texts). s.err) same;
+        unread = λ count t room h. (Ok x, is, (refused count t h).failed failed);
+      })
+
+-- what holds what another one does is followed by what that is
+pub takes_from : (AreSo : Type 0) (Is : State → Result State AsmFault → Type 0) (more : ℕ) (old mid new : Assembler) (r : Answer) → ((count : ℕ) (t : State) → Holds count t old → Holds count t mid) → TakesBy AreSo Is more mid new r → TakesBy AreSo Is more old new r
+takes_from AreSo Is more old mid new r held taken = λ count t room h. taken count t room (held count t h)
+
+-- what is no failure of the store
+pub never_stops : (Is : State → Result State AsmFault → Type 0) (more : ℕ) (old new : Assembler) (r : Answer) → IfErr r (λ e. is_failure e ≡ false) → StopsQuietly Is more old new r
+never_stops Is more old new (Ok v) h = tt
+never_stops Is more old new (Err e) h = λ failed. absurd cc
+
 pub some_there : (n : ℕ) → false ≡ (n == 0) → n ≡ 0 → ⊥
 some_there zero h e = absurd cc
 some_there (suc n) h e = absurd cc
@@ -218,7 +249,7 @@ label_room place o old mid v held front =
     (a.3.0, a.0, omega (arith, room, few), a.3.2)
 
 -- a label says nothing, so neither does a failure behind it
-pub label_stops : (place : Place) (ts rest : List Lexeme) (o : Option Stated) (old mid new : Assembler) (v : Unit {0}) (r : Answer) → IsRoomy 2 old → Says ts rest o → FrontBy place o old mid (Ok v) → StopsQuietly mid new r → StopsQuietly old new r
+pub label_stops : (place : Place) (ts rest : List Lexeme) (o : Option Stated) (old mid new : Assembler) (v : Unit {0}) (r : Answer) → IsRoomy 2 old → Says ts rest o → FrontBy place o old mid (Ok v) → StopsQuietly (λ t. IsRest no_files Takes t place rest) 1 mid new r → StopsQuietly (λ t. IsLabel no_files Takes t place ts) 2 old new r
 label_stops place ts rest o old mid new v (Ok w) held says front quiet = tt
 label_stops place ts rest o old mid new v (Err e) held says front quiet = λ failed.
     (let room = held.2 in
@@ -229,7 +260,15 @@ label_stops place ts rest o old mid new v (Err e) held says front quiet = λ fai
     let before = held.3 in
     let behind = a.3.2 in
     let q = quiet failed in
-    (q.0, q.1 ∙ behind.out ∙ same.0 ∙ sym before.out, q.2 ∙ behind.err ∙ same.1 ∙ sym before.err))
+    record {
+      fault = q.fault;
+      out = q.out ∙ behind.out ∙ same.0 ∙ sym before.out;
+      err = q.err ∙ behind.err ∙ same.1 ∙ sym before.err;
+      unread = λ count t space h.
+          (let b = front count t (omega (arith, space)) h in
+          let few = b.3.1 in
+          subst (λ p. LabelAt no_files t place p (Err FileNotFound)) (sym is) (Ok b.0, b.1, q.unread b.3.0 b.0 (omega (arith, space, few)) b.3.2));
+    })
 
 abbrev pub LabelBy : Option Files → Place → List Lexeme → State → Result State AsmFault → Type 0
 LabelBy f place ts = Told f (λ m t. IsLabel m Takes t place ts)
@@ -288,3 +327,24 @@ given_plain f place g line ts old new r is same h =
     let P : Statement → Type 0 = λ g. TakesBy (AreNamed (tokens_of (stated g))) (GivenBy f place (stated g)) 2 old new r in
     let Q : List Lexeme → Type 0 = λ ts. TakesBy (AreNamed ts) (RestBy f place ts) 2 old new r in
     subst P (sym is) (subst Q same (wider (AreNamed ts) (RestBy f place ts) old new r h))
+
+-- ---- Where the store fails.
+
+abbrev pub GivenStops : Place → Statement → Assembler → Assembler → Answer → Type 0
+GivenStops place g old new r = StopsQuietly (λ t. IsGiven no_files Takes t place (stated g)) 2 old new r
+
+pub label_given_stops : (place : Place) (g : Statement) (line : Line) (ts : List Lexeme) (old new : Assembler) (r : Answer) → g ≡ Label line → ts ≡ tokens_in line → StopsQuietly (λ t. IsLabel no_files Takes t place ts) 2 old new r → GivenStops place g old new r
+label_given_stops place g line ts old new r is same h =
+    let Q : List Lexeme → Type 0 = λ ts. StopsQuietly (λ t. IsLabel no_files Takes t place ts) 2 old new r in
+    subst (λ g. GivenStops place g old new r) (sym is) (subst Q same h)
+
+stops_wider : (Is : State → Result State AsmFault → Type 0) (old new : Assembler) (r : Answer) → StopsQuietly Is 1 old new r → StopsQuietly Is 2 old new r
+stops_wider Is old new (Ok v) h = tt
+stops_wider Is old new (Err e) h = λ failed.
+    (let q = h failed in
+    record { fault = q.fault; out = q.out; err = q.err; unread = λ count t room held. q.unread count t (omega (arith, room)) held })
+
+pub plain_given_stops : (place : Place) (g : Statement) (line : Line) (ts : List Lexeme) (old new : Assembler) (r : Answer) → g ≡ Plain line → ts ≡ tokens_in line → StopsQuietly (λ t. IsRest no_files Takes t place ts) 1 old new r → GivenStops place g old new r
+plain_given_stops place g line ts old new r is same h =
+    let Q : List Lexeme → Type 0 = λ ts. StopsQuietly (λ t. IsRest no_files Takes t place ts) 2 old new r in
+    subst (λ g. GivenStops place g old new r) (sym is) (subst Q same (stops_wider _ old new r h))

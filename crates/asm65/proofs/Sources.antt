@@ -32,6 +32,7 @@ use Rattle.asm65.specs.declared.assembler.Assembler.{Assembler}
 use Rattle.asm65.specs.declared.running.Run.{Run}
 use Rattle.layout65.specs.Counting.{opening_limit}
 use Rattle.asm65.specs.Failing.{IsTakenTo, at_first, further, IsWhere, StopsAll, StopsBehind}
+use Rattle.asm65.specs.Unread.{IsUnread, no_files}
 use Rattle.asm65.specs.Inner.Holding.{Holds}
 use Rattle.asm65.specs.Inner.Running.{HoldsWithin, IsHeldBy, IsReachedBy, IsRoomy, IsRunning, Ran, SaysAs, StopsQuietly, TakesBy, running_limit, tokens_of}
 use Rattle.asm65.proofs.Runs.{Answer, GivenBy}
@@ -246,8 +247,8 @@ module _ (m : Files) (first old mid : Run) (same : mid.assembler ≡ old.assembl
           record { left = s.left; behind = u; taken = s.taken; where_it_is = subst W s.stands.1 (where_it_is u s.held failed); says_out = says.0; says_err = says.1 }
 
   -- it fails while a statement is taken
-  pub stops_wrong : (x : Statement) (new : Run) (e : AsmFault) (r : Answer) → r ≡ Err e → NextBy m old (Ok (Some x)) mid → StopsQuietly mid.assembler new.assembler (Err e) → new.expander ≡ mid.expander → Goes m first old → StopsAll m first new r
-  stops_wrong x new e r fails next quiet stays so_far = subst (StopsAll m first new) (sym fails) (λ failed job begun_so. by failed job (so_far job begun_so.0 begun_so.1 begun_so.2 begun_so.3))
+  pub stops_wrong : (x : Statement) (new : Run) (e : AsmFault) (r : Answer) → r ≡ Err e → NextBy m old (Ok (Some x)) mid → measure_of mid.expander < measure_of old.expander → StopsQuietly (λ t. IsGiven no_files Takes t (place_of mid.expander) (stated x)) 2 mid.assembler new.assembler (Err e) → new.expander ≡ mid.expander → Goes m first old → StopsAll m first new r
+  stops_wrong x new e r fails next less quiet stays so_far = subst (StopsAll m first new) (sym fails) (λ failed job begun_so. by failed job (so_far job begun_so.0 begun_so.1 begun_so.2 begun_so.3))
     where
       by : is_failure e ≡ true → (job : Job) → (u : State) × Stays m job old u → StopsBehind m job (record { place = place_of new.expander; fault = e }) new.assembler.texts.out new.assembler.texts.err
       by failed job now =
@@ -257,13 +258,15 @@ module _ (m : Files) (first old mid : Run) (same : mid.assembler ≡ old.assembl
           let says = says_held s.held.count u old.assembler mid.assembler same s.held.holds in
           let a = next u s.held s.left s.stands in
           let at_new : place_of new.expander ≡ a.0.left.place = ap place_of stays ∙ sym (same_place m mid.expander a.0 a.2) in
+          let room = few_opened s.held.count (measure_of old.expander) s.held.room (some_left (measure_of old.expander) (measure_of mid.expander) less) in
+          let unread = q.unread s.held.count u room (holds_same s.held.count u old.assembler mid.assembler same s.held.holds) in
           record {
             left = s.left;
             behind = u;
             taken = s.taken;
-            where_it_is = subst (λ f. IsWhere m s.left u f (place_of new.expander)) (sym q.0) (record { stated = stated x; left = a.0; reaches = a.1; at = at_new });
-            says_out = q.1 ∙ says.0;
-            says_err = q.2 ∙ says.1;
+            where_it_is = subst (λ f. IsWhere m s.left u f (place_of new.expander)) (sym q.fault) (record { stated = stated x; left = a.0; reaches = a.1; at = at_new; unread = subst (λ p. IsUnread u p (stated x)) (ap place_of (sym stays)) unread });
+            says_out = q.out ∙ says.0;
+            says_err = q.err ∙ says.1;
           }
 
 -- nothing of it is a failure of the store
@@ -312,9 +315,9 @@ module _ (o p : Option Files) (told : p ≡ o) (first old mid : Run) (same : mid
           some_both (λ m. Goes m first old × NextBy m old (Ok (Some x)) mid) (TakesIn (Ok v)) (λ m. Goes m first new) o (λ m so t. goes_further m first old mid same x new v less so.1 t stays so.0)
           (some_both (λ m. Goes m first old) (λ m. NextBy m old (Ok (Some x)) mid) (λ m. Goes m first old × NextBy m old (Ok (Some x)) mid) o (λ m so n. (so, n)) so_far (given (Some x) is)) (told_taken (Ok v) taken)
 
-      pub all_stopped : (e : AsmFault) (r : Answer) → r ≡ Err e → StopsQuietly mid.assembler new.assembler (Err e) → IfSome o (λ m. StopsAll m first new r)
+      pub all_stopped : (e : AsmFault) (r : Answer) → r ≡ Err e → StopsQuietly (λ t. IsGiven no_files Takes t (place_of mid.expander) (stated x)) 2 mid.assembler new.assembler (Err e) → IfSome o (λ m. StopsAll m first new r)
       all_stopped e r fails quiet =
-          some_both (λ m. Goes m first old) (λ m. NextBy m old (Ok (Some x)) mid) (λ m. StopsAll m first new r) o (λ m so n. stops_wrong m first old mid same x new e r fails n quiet stays so) so_far (given (Some x) is)
+          some_both (λ m. Goes m first old) (λ m. NextBy m old (Ok (Some x)) mid) (λ m. StopsAll m first new r) o (λ m so n. stops_wrong m first old mid same x new e r fails n less quiet stays so) so_far (given (Some x) is)
 
       pub all_wrong : (e : AsmFault) (r : Answer) → r ≡ Err e → Takes2 old mid same less f x new (Err e) → IfSome o (λ m. RanAll m first new r)
       all_wrong e r fails taken =

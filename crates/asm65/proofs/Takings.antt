@@ -1,6 +1,6 @@
 -- One statement behind the others.
 use Rattle.std.proofs.Common.{◌≡◌, ◌∙◌, ℕ, zero, suc, ◌+◌, ◌≤◌, List, [], ◌∷◌, ◌++◌, refl, sym, ap, subst, append-nil, arith}
-use Rattle.std.specs.Prelude.{Bool, true, false, ◌&&◌, ◌||◌, Option, Some, None, Ok, Err, slice_get, if◌then◌else◌}
+use Rattle.std.specs.Prelude.{Bool, true, false, ◌&&◌, ◌||◌, Option, Some, None, Result, OnOk, Ok, Err, slice_get, if◌then◌else◌}
 use Rattle.std.proofs.lemmas.Bool.Decides.{nat_tests}
 use Rattle.base65.specs.Outcome.{Unless}
 use Rattle.source65.specs.declared.place.Place.{Place}
@@ -142,6 +142,11 @@ holds_known count t a k h table = record {
   out = h.out;
   err = h.err;
 }
+
+-- the same where a call that found forms wasn't refused
+pub held_on : (count : ℕ) (t : State) (a : Assembler) (k : Known) (r : Result (Unit {0}) AsmFault) → Holds count t a → OnOk r (IsTable (table_of a.symbols) k.states.items) → OnOk r (Holds count t (record a { known = k }))
+held_on count t a k (Ok u) h table = holds_known count t a k h table
+held_on count t a k (Err e) h table = tt
 
 pub holds_stepped : (count : ℕ) (t : State) (place : Place) (x : l.Stated) (a : Assembler) (v : code.Standing) (said : Texts) → Holds count (asked_of (spot_of t.standing).segment x t) a → standing_of v ≡ standing_behind t.symbols t.standing x → IsSoundStanding v → AreWithin v.segments.items → IsCounted (count + opened_by x) v → said.out ≡ a.texts.out ++ out_of x → said.err ≡ a.texts.err ++ warning_of place x → Holds (count + opened_by x) (stepped t place x) (record a { standing = v; texts = said })
 holds_stepped count t place x a v said h standing sound ends counted out err =

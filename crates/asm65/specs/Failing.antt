@@ -16,6 +16,7 @@ use Rattle.module65.specs.Places.{PlacedFault}
 use Rattle.module65.specs.Reading.{AreDefined, IsGiven, Job, no_line}
 use Rattle.asm65.specs.Assembly.{has_failed, placed_of}
 use Rattle.asm65.specs.Inner.Running.{IsHeldBy}
+use Rattle.asm65.specs.Unread.{IsUnread}
 use Rattle.asm65.specs.declared.assembly.Assembly.{Assembly}
 use Rattle.asm65.specs.declared.running.Run.{Run}
 
@@ -30,12 +31,13 @@ pub data IsTakenTo (m : Files) (job : Job) : expand.State → State → Type 0 w
       Reaches m (known_at t.symbols t.standing) s (statement x left) →
       IsGiven m Takes t left.left.place x (Ok u) → IsTakenTo m job left u
 
--- expansion gives a statement next, at this place
+-- expansion gives a statement next, at this place, which is refused for nothing before its file is looked at
 pub record IsNextAt (m : Files) (s : expand.State) (t : State) (place : Place) : Type 0 where
   pub stated : expand.Stated
   pub left : expand.State
   pub reaches : Reaches m (known_at t.symbols t.standing) s (statement stated left)
   pub at : place ≡ left.left.place
+  pub unread : IsUnread t place stated
 
 -- Where the store failed: at the next statement, where it takes bytes of a file that can't be read; else on the way to it.
 abbrev pub IsWhere : Files → expand.State → State → AsmFault → Place → Type 0

@@ -1,18 +1,23 @@
 //! The bytes that statements take from files.
 
-ghost use Rattle.std.specs.Prelude.{◌≡◌, ℕ, IfErr, IfOk, IfSome, take, true};
+ghost use Rattle.std.specs.Prelude.{◌≡◌, ℕ, IfErr, IfOk, IfSome, OnOk, take, true};
 ghost use Rattle.std.specs.Option.{option_map};
 ghost use Rattle.base65.specs.Store.{PassesBy};
 ghost use Rattle.expand65.specs.Includes.{beside, file_named};
 ghost use Rattle.language65.specs.declared.fault.AsmFault.TheVariants.{FileError};
 ghost use Rattle.language65.specs.Faults.{is_failure, is_outside};
 ghost use Rattle.language65.specs.Views.{stated_of};
-ghost use Rattle.asm65.specs.Inner.Files.{read_bytes};
+ghost use Rattle.module65.specs.Machine.{State};
+ghost use Rattle.asm65.specs.Inner.Files.{IsRefusedUnread, read_bytes};
+ghost use Rattle.asm65.specs.Inner.Holding.{Holds};
+ghost use Rattle.asm65.specs.Inner.Taking.{IsHeld};
 ghost use Rattle.asm65.specs.Views.{place_in};
 
+use crate::assembler::{Assembler, At};
 use base65::{Sequence, Store, StoreFault, read_front};
 use expand65::name_beside;
-use language65::{AsmFault, Statement};
+use language65::{AsmFault, PartRange, Statement};
+use layout65::{Before, check_unread};
 use std::alloc::Global;
 
 /// How many bytes a file has at most.
@@ -44,23 +49,59 @@ fn bytes_beside<S: Store>(
     }
 }
 
-/// A statement with the bytes that it takes from a file, where it stands in this one.
+impl Assembler {
+    ghost use Rattle.std.specs.Prelude.{OnOk, false};
+    ghost use Rattle.base65.specs.Outcome.{Gives};
+    ghost use Rattle.language65.specs.Faults.{is_memory};
+    ghost use Rattle.language65.specs.LineFaults.{unless_fault};
+    ghost use Rattle.language65.specs.Views.{range_of};
+    ghost use Rattle.layout65.specs.Measuring.{unread_fault};
+
+    /// Refuses a part of a file for what is wrong with it whatever the file has.
+    #[inline(never)]
+    fn check_unread(&mut self, alloc: Global, range: &PartRange) -> Result<(), AsmFault>
+        requires { IsHeld self.old }
+        ensures checked { (count : ℕ) (t : State) → Holds count t self.old →
+            Gives is_memory (λ u. u) result (unless_fault (unread_fault t.symbols t.standing
+            (range_of range.now).0 (range_of range.now).1) tt) }
+        ensures held { (count : ℕ) (t : State) → Holds count t self.old →
+            OnOk result (Holds count t self.new) }
+        ensures texts { self.new.texts ≡ self.old.texts }
+        ensures inside { IfErr result (λ e. is_failure e ≡ false) }
+    {
+        let before = Before {
+            symbols: &self.symbols,
+            standing: &self.standing,
+        };
+        check_unread(alloc, before, &mut self.known, range)
+    }
+}
+
+/// A statement with the bytes that it takes from a file. The file is read only where nothing is wrong with the
+/// statement whatever the file has.
 pub fn with_bytes<S: Store>(
     alloc: Global,
     store: &mut S,
-    file: &str,
+    assembler: &mut Assembler,
+    at: At<'_>,
     statement: Statement,
 ) -> Result<Statement, AsmFault>
-    ensures bytes { IfSome (S.files store.old) (λ m. (line : ℕ) → IfOk result (λ x.
-        stated_of x ≡ read_bytes m (place_in file.entry.now line) (stated_of statement))) }
-    ensures outside { IfErr result (λ e. is_outside e ≡ true) }
+    requires { IsHeld assembler.old }
+    ensures bytes { IfSome (S.files store.old) (λ m. IfOk result (λ x. stated_of x ≡ read_bytes m
+        (place_in at.entry.file.now at.entry.line) (stated_of statement))) }
+    ensures held { (count : ℕ) (t : State) → Holds count t assembler.old →
+        OnOk result (Holds count t assembler.new) }
+    ensures refused { (count : ℕ) (t : State) → Holds count t assembler.old → IfErr result
+        (IsRefusedUnread t (place_in at.entry.file.now at.entry.line) (stated_of statement)) }
+    ensures texts { assembler.new.texts ≡ assembler.old.texts }
     ensures failed { IfErr result (λ e. is_failure e ≡ true → e ≡ FileError) }
     ensures files { S.files store.new ≡ S.files store.old }
     ensures count { PassesBy is_failure (S.failures store.old) (S.failures store.new) result }
 {
     match statement {
         Statement::NamedPart { name, range } => {
-            let bytes = bytes_beside(alloc, store, file, name.as_slice())?;
+            assembler.check_unread(alloc, &range)?;
+            let bytes = bytes_beside(alloc, store, at.file, name.as_slice())?;
             Ok(Statement::FilePart { bytes, range })
         }
         other => Ok(other),

@@ -13,6 +13,7 @@ ghost use Rattle.module65.specs.Knowing.{known_at};
 ghost use Rattle.module65.specs.Machine.{State, Takes, begun};
 ghost use Rattle.module65.specs.Reading.{AreDefined, IsGiven, Job, no_line};
 ghost use Rattle.asm65.specs.Failing.{StopsAll};
+ghost use Rattle.asm65.specs.Unread.{no_files};
 ghost use Rattle.asm65.specs.Inner.Running.{IsHeldBy, IsReachedBy, IsRoomy, IsRunning, Ran, StopsQuietly, TakesBy, Told, tokens_of};
 
 use crate::assembler::{Assembler, At};
@@ -67,7 +68,9 @@ fn take_next<S: Store>(
         (Told (S.files store.old)
         (λ m t. IsGiven m Takes t (place_of run.old.expander) (stated statement.now)))
         2 run.old.assembler run.new.assembler result }
-    ensures stopped { StopsQuietly run.old.assembler run.new.assembler result }
+    ensures stopped { StopsQuietly
+        (λ t. IsGiven no_files Takes t (place_of run.old.expander) (stated statement.now))
+        2 run.old.assembler run.new.assembler result }
     ensures same { run.new.expander ≡ run.old.expander }
     ensures files { S.files store.new ≡ S.files store.old }
     ensures count { PassesBy is_failure (S.failures store.old) (S.failures store.new) result }

@@ -1,6 +1,6 @@
 -- What a part of a file places, or its first fault.
 use Rattle.std.proofs.Common.{◌≡◌, ◌∙◌, ℕ, ◌+◌, nat_le, nat_lt, Bool, true, false, not, List, [], ◌∷◌, length, Option, Some, None, refl, sym, ap, subst}
-use Rattle.std.specs.Prelude.{◌&&◌, ℤ, pos, Result, Ok, Err}
+use Rattle.std.specs.Prelude.{◌&&◌, ◌++◌, ℤ, pos, Result, Ok, Err}
 use Rattle.object65.specs.Objects.{section_limit}
 use Rattle.base65.specs.Outcome.{Unless}
 use Rattle.syntax65.specs.Trees.{Tree}
@@ -10,10 +10,11 @@ use Rattle.language65.specs.Faults.{is_memory}
 use Rattle.language65.specs.Laid.{Spot, from_byte}
 use Rattle.language65.specs.Language.{file_part}
 use Rattle.language65.specs.Layout.{Standing, own_size, spot_of}
-use Rattle.language65.specs.LineFaults.{file_limit, first_fault, is_part, is_there, left_from, part_fault, unless_there, when, unless_fault}
+use Rattle.language65.specs.LineFaults.{file_limit, first_fault, is_part, is_there, left_from, lost_scopes, operand_fault, optional_tree, part_fault, unless_there, when, unless_fault}
 use Rattle.language65.specs.Sizes.{optional_value, part_len, part_start}
 use Rattle.language65.specs.Symbols.{Symbols}
-use Rattle.layout65.specs.Measuring.{IsFound, Measured, or_default, placed, ranged}
+use Rattle.layout65.specs.Measuring.{IsFound, Measured, or_default, placed, ranged, unread_fault}
+use Rattle.layout65.proofs.Measures.{left_behind, refused_first}
 use Rattle.layout65.proofs.Steps.{unless_then}
 
 -- ---- Ranges.
@@ -98,3 +99,42 @@ module _ (y : Symbols) (w : Standing) (start len : Option Tree) (s : Spot) (at :
 
     pub refused : (bytes : List ℕ) (e : AsmFault) → Unless (is_memory e) (ranged (length bytes) v n ≡ Err e) → Unless (is_memory e) (placed y w (file_part (Some bytes) start len) ≡ Err e)
     refused bytes e h = unless_then (is_memory e) (λ p. refused_so bytes e p) h
+
+  -- ---- Whatever the file has.
+
+  abbrev lost : ℕ → Option AsmFault
+  lost scope = lost_scopes y.scopes scope (optional_tree start ++ optional_tree len)
+
+  abbrev checks : Option AsmFault → Result (Unit {0}) AsmFault
+  checks f = unless_fault f tt
+
+  -- a name whose scope isn't there
+  pub unread_lost : (scope : ℕ) (e : AsmFault) → scope ≡ w.scope → Unless (is_memory e) (checks (lost scope) ≡ Err e) → Unless (is_memory e) (checks (unread_fault y w start len) ≡ Err e)
+  unread_lost scope e here h =
+      refused_first e (lost w.scope) (operand_fault y (spot_of w) (file_part None start len)) tt
+      (subst (λ k. Unless (is_memory e) (checks (lost k) ≡ Err e)) here h)
+
+  module _ (scope : ℕ) (here : scope ≡ w.scope) (none : checks (lost scope) ≡ Ok tt) where
+    behind_lost : checks (unread_fault y w start len) ≡ checks (when (not (there y w start len)) BadOperand)
+    behind_lost = ap checks (left_behind (lost w.scope) (operand_fault y (spot_of w) (file_part None start len)) tt tt (subst (λ k. checks (lost k) ≡ Ok tt) here none))
+
+    not_there : (e : AsmFault) → there y w start len ≡ false → e ≡ BadOperand → checks (unread_fault y w start len) ≡ Err e
+    not_there e not_so is = behind_lost ∙ ap (λ b. checks (when (not b) BadOperand)) not_so ∙ ap (λ d. Err d) (sym is)
+
+    -- a start that isn't constant
+    pub unread_start : (e : AsmFault) → IsFound (optional_value y s start) (Err e) → Unless (is_memory e) (checks (unread_fault y w start len) ≡ Err e)
+    unread_start e h =
+        unless_then (is_memory e)
+        (λ f. not_there e (ap (λ k. is_there k && is_there (optional_value y (spot_of w) len (pos 0))) (f.1 (pos 0))) f.0)
+        (found_here start (Err e) h)
+
+    -- a length that isn't
+    pub unread_len : (e : AsmFault) → IsFound (optional_value y s len) (Err e) → Unless (is_memory e) (checks (unread_fault y w start len) ≡ Err e)
+    unread_len e h =
+        unless_then (is_memory e)
+        (λ f. not_there e (and_false (is_there (optional_value y (spot_of w) start (pos 0))) _ (ap is_there (f.1 (pos 0)))) f.0)
+        (found_here len (Err e) h)
+
+    -- nothing is wrong
+    pub unread_well : (v n : Option ℤ) → IsFound (optional_value y s start) (Ok v) → IsFound (optional_value y s len) (Ok n) → checks (unread_fault y w start len) ≡ Ok tt
+    unread_well v n first second = behind_lost ∙ ap (λ b. checks (when (not b) BadOperand)) (both v n first second)

@@ -1,6 +1,7 @@
 -- What is found of a statement at its line, in the parts in which the code finds it.
-use Rattle.std.specs.Prelude.{◌≡◌, ℕ, ◌+◌, ℤ, pos, negsuc, ◌&&◌, nat_le, nat_lt, not, Bool, true, false, List, [], ◌∷◌, Option, Some, None, Result, Ok, Err}
+use Rattle.std.specs.Prelude.{◌≡◌, ℕ, ◌+◌, ℤ, pos, negsuc, ◌&&◌, nat_le, nat_lt, not, Bool, true, false, List, [], ◌∷◌, ◌++◌, Option, Some, None, Result, Ok, Err}
 use Rattle.base65.specs.Outcome.{Unless}
+use Rattle.syntax65.specs.Trees.{Tree}
 use Rattle.syntax65.specs.declared.lexing.tokens.AddressSize.{AddressSize}
 use Rattle.object65.specs.Objects.{section_limit}
 use Rattle.language65.specs.declared.fault.AsmFault.{AsmFault}
@@ -9,7 +10,7 @@ use Rattle.language65.specs.Faults.{is_memory}
 use Rattle.language65.specs.Laid.{Settled, Spot}
 use Rattle.language65.specs.Language.{Stated, align, constant, file_part, instruction, reserve, values}
 use Rattle.language65.specs.Layout.{Standing, multiple_of, own_size, size_stated, spot_of}
-use Rattle.language65.specs.LineFaults.{alignment_fault, block_fault, defined_twice, file_limit, first_fault, form_fault, is_open, is_part, left_from, line_fault, lost_scopes, missing_file, opened_twice, operand_fault, or_then, part_fault, pop_fault, scope_name, size_fault, stands_outside, trees_of, unless_there, when, unless_fault}
+use Rattle.language65.specs.LineFaults.{alignment_fault, block_fault, defined_twice, file_limit, first_fault, form_fault, is_open, is_part, left_from, line_fault, lost_scopes, missing_file, opened_twice, operand_fault, optional_tree, or_then, part_fault, pop_fault, scope_name, size_fault, stands_outside, trees_of, unless_there, when, unless_fault}
 use Rattle.language65.specs.Names.{scope_from, scopes_of, shown}
 use Rattle.language65.specs.Sizes.{counted, length_of, settled_of}
 use Rattle.language65.specs.Symbols.{Scope, Symbols, key_defined}
@@ -104,6 +105,12 @@ abbrev pub IsFound : (ℤ → Option ℤ) → Result (Option ℤ) AsmFault → T
 IsFound value (Ok v) = (default : ℤ) → value default ≡ Some (or_default v default)
 IsFound value (Err e) =
     Unless (is_memory e) ((e ≡ BadOperand) × ((default : ℤ) → value default ≡ None))
+
+-- what a part of a file is refused for whatever the file has
+abbrev pub unread_fault : Symbols → Standing → Option Tree → Option Tree → Option AsmFault
+unread_fault y w start len =
+    or_then (lost_scopes y.scopes w.scope (optional_tree start ++ optional_tree len))
+    (operand_fault y (spot_of w) (file_part None start len))
 
 -- a place among so many, or behind the last one
 abbrev pub is_within : ℕ → ℤ → Bool

@@ -25,6 +25,7 @@ ghost use Rattle.layout65.specs.Views.{settled_in, standing_of};
 
 use self::kinds::place;
 use self::names::{check_defined, check_opened, check_outside};
+pub use self::parts::check_unread;
 use self::trees::check_trees;
 use crate::standing::Standing;
 use language65::{AsmFault, Spot, Statement};

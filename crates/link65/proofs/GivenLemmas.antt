@@ -41,6 +41,14 @@ module_gives s p m =
     let names = map_behind (λ e. e.name) (exported (length p.members)) p.exports m.object.exports in
     ap (λ ys. script_names s ++ ys) names ∙ sym (append_assoc (script_names s) (export_names p) (map (λ e. e.name) m.object.exports))
 
+-- where all names are given, these are all
+pub given_all : (names given : Names) → all_once [] names ≡ Ok given → given ≡ names
+given_all names given h = taken_all (no_name_again (first_again [] names)) names given h
+  where
+    taken_all : (r : Result (Unit {0}) LinkFault) (all given : Names) → (r >>= (λ u. Ok ([] ++ all))) ≡ Ok given → given ≡ all
+    taken_all (Ok u) all given h = cc
+    taken_all (Err e) all given h = absurd cc
+
 -- ---- Names by themselves.
 
 all_passed : (r : Result (Unit {0}) LinkFault) (all given : Names) → (r >>= (λ u. Ok all)) ≡ Ok given → r ≡ Ok tt
@@ -71,18 +79,3 @@ refused_once false s e h =
 -- a script that gives a name twice
 pub script_twice : (s : Script) (e : LinkFault) → Refuses is_memory e (all_once [] (script_names s)) → Refuses is_memory e (names_once s (program_of []))
 script_twice s e h = refused_once (is_memory e) s e h
-
--- ---- Names behind others.
-
-refused_behind : (b : Bool) (xs ys : Names) (e : LinkFault) → Unless b (all_once [] xs ≡ Err e) → Unless b (all_once [] (xs ++ ys) ≡ Err e)
-refused_behind true xs ys e h = tt
-refused_behind false xs ys e h =
-    sym (each_once_all (xs ++ ys) []) ∙ each_behind [] xs ys
-    ∙ ap (λ r. r >>= (λ all. with_each all ys)) (each_once_all xs [] ∙ h)
-
--- a name that is given twice stays so whatever comes behind
-pub refused_first : (xs ys : Names) (e : LinkFault) → Refuses is_memory e (all_once [] xs) → Refuses is_memory e (all_once [] (xs ++ ys))
-refused_first xs ys e h = refused_behind (is_memory e) xs ys e h
-
-pub refused_next : (xs ys given : Names) (e : LinkFault) → all_once [] xs ≡ Ok given → Refuses is_memory e (all_once given ys) → Refuses is_memory e (all_once [] (xs ++ ys))
-refused_next xs ys given e h refused = subst (λ (r : Result Names LinkFault). Refuses is_memory e r) (sym (once_behind given xs ys h)) refused

@@ -1,3 +1,5 @@
+pub mod EndedLemmas
 pub mod Feeds
+pub mod FinishLemmas
 pub mod GivenLemmas
 pub mod ListedLemmas

@@ -1,5 +1,5 @@
 -- What a linker stands for: the modules that it was fed, and the records so far of the one that is open.
-use Rattle.std.specs.Prelude.{◌≡◌, ◌++◌, ◌∷◌, [], ℕ, List, length, Option, Some, None, is_some, Bool, true, false, Result, Ok, Err, OnOk, ◌==◌, if◌then◌else◌}
+use Rattle.std.specs.Prelude.{◌≡◌, ◌++◌, ◌∷◌, [], ℕ, ◌⊎◌, List, length, Option, Some, None, is_some, Bool, true, false, Result, Ok, Err, OnOk, ◌==◌, if◌then◌else◌}
 use Rattle.std.specs.Option.{option_map}
 use Rattle.base65.specs.Outcome.{◌>>=◌, Finds, Gives, Refuses}
 use Rattle.object65.specs.declared.fault.ObjectFault.{ObjectFault}
@@ -73,6 +73,12 @@ pub record IsFeeding (f : Feeding) (modules : List Module) (name : List ℕ) (en
   pub reached : IsReached s
   pub failed : f.failed ≡ false
 
+-- these modules were fed and have ended, whether one is open behind them or none
+abbrev pub HaveEnded : Feeding → List Module → Type 0
+HaveEnded f modules =
+    IsFed f modules
+    ⊎ ((name : List ℕ) × (entry : Option Listing) × (s : State) × IsFeeding f modules name entry s)
+
 abbrev pub module_of : List ℕ → Object → Module
 module_of name object = record { name = name; object = object }
 
@@ -142,9 +148,9 @@ Ends old new r =
 abbrev pub Links : Feeding → Result Linked LinkFault → Type 0
 Links f r = (modules : List Module) → IsFed f modules → Finds is_memory (LinkOf f.output f.script modules) r
 
--- ---- Names, while no module is open.
+-- ---- Names.
 
--- names of the script and of the modules that were fed, unless memory ran out
+-- names of the script and of the modules that have ended, none of one that is open, unless memory ran out
 abbrev pub AreNames : {N : Type 0} → (N → List (List ℕ)) → (Script → Program → List (List ℕ)) → Feeding → Result N LinkFault → Type 0
 AreNames view names_of f r =
-    (modules : List Module) → IsFed f modules → Gives is_memory view r (Ok (names_of f.script (program_of modules)))
+    (modules : List Module) → HaveEnded f modules → Gives is_memory view r (Ok (names_of f.script (program_of modules)))

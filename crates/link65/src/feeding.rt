@@ -1,6 +1,6 @@
 //! The records of the module that is open.
 
-ghost use Rattle.std.specs.Prelude.{◌≡◌, ◌+◌, drop, Ok, OnErr, OnOk, IfErr, IfOk, true};
+ghost use Rattle.std.specs.Prelude.{◌≡◌, ◌+◌, drop, take, Ok, OnErr, OnOk, IfErr, IfOk, true};
 ghost use Rattle.std.specs.Option.{option_map};
 ghost use Rattle.object65.specs.Record.{entry_of};
 ghost use Rattle.object65.specs.Scanning.{outline_of};
@@ -10,6 +10,7 @@ ghost use Rattle.linkage65.specs.Faults.{is_memory};
 ghost use Rattle.linkage65.specs.GivenTwice.{names_in};
 ghost use Rattle.linkage65.specs.Grounds.{AreNamed, growth_in};
 ghost use Rattle.link65.specs.Inner.Fields.{Closes, Grows};
+ghost use Rattle.link65.specs.Refusals.{RefusesBy, is_of_end, is_of_record};
 ghost use Rattle.link65.specs.Standing.{listed_of, values_in};
 
 use crate::listed::{are_listed, listed_of};
@@ -70,12 +71,23 @@ pub fn take_record(
     ensures counted { OnOk result (pending.new ≡ pending.old + values_in (entry_of next.now)) }
     ensures uncounted { OnErr result (pending.new ≡ pending.old) }
     ensures named { OnOk result (AreNamed growing.new) }
+    ensures faults { RefusesBy is_of_record result }
 {
     let count = with_values(*pending, next)?;
     let item = opened.scan.take(next)?;
     take_item(growing, item)?;
     *pending = count;
     Ok(())
+}
+
+/// The exports before a place.
+pub fn before_place(exports: &[Exported], first: usize) -> &[Exported]
+    ensures { result.now ≡ take first exports.now }
+{
+    match exports.get(..first) {
+        Some(before) => before,
+        None => exports,
+    }
 }
 
 /// The exports from a place on.
@@ -97,6 +109,7 @@ pub fn close_module(
     requires { AreNamed growing.old }
     ensures ended { Closes (growth_in growing.old) (growth_in growing.new) (names_in given.old) (names_in given.new) opened.old result }
     ensures named { OnOk result (AreNamed growing.new) }
+    ensures faults { RefusesBy is_of_end result }
 {
     if !opened.scan.is_ended() {
         return Err(LinkFault::from(ObjectFault::CutShort));

@@ -1,30 +1,20 @@
-//! What is kept once all modules are fed.
+//! What is kept of modules: the names that they give, and all that is linked of them.
 
-ghost use Rattle.std.specs.Prelude.{◌≡◌, ◌++◌, [], map};
-ghost use Rattle.base65.specs.Outcome.{Gives};
-ghost use Rattle.linkage65.specs.Faults.{is_memory};
+ghost use Rattle.std.specs.Prelude.{◌≡◌, IfOk, map};
 ghost use Rattle.linkage65.specs.Finishing.{program_from};
-ghost use Rattle.linkage65.specs.GivenTwice.{all_once};
+ghost use Rattle.linkage65.specs.GivenTwice.{names_in};
 ghost use Rattle.linkage65.specs.Grounds.{growth_in};
-ghost use Rattle.linkage65.specs.Names.{script_names};
 
 use base65::Sequence;
-use indexmap::IndexSet;
-use linkage65::{Exported, Given, Growing, Kept, LinkFault};
-use script65::Script;
-use std::alloc::Global;
+use library65::Names;
+use linkage65::{Given, Growing, Kept};
+use std::alloc::AllocError;
 
-/// The names that a script and exports give, none of them twice, or else the first that is.
-pub fn given_names(
-    alloc: Global,
-    script: &Script,
-    exports: &[Exported],
-) -> Result<IndexSet<Vec<u8>>, LinkFault>
-    ensures { Gives is_memory (λ names. map (λ n. n.items) names.keys) result (all_once [] (script_names script.now ++ map (λ e. e.name) exports.now)) }
+/// A copy of the names that are given.
+pub fn copy_of(given: &Given) -> Result<Names, AllocError>
+    ensures { IfOk result (λ names. map (λ n. n.items) names.keys ≡ names_in given.now) }
 {
-    let mut given = Given::of(alloc, script)?;
-    given.add_exports(exports)?;
-    Ok(given.names)
+    given.names.clone()
 }
 
 /// What is kept of the modules.

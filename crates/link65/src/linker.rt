@@ -8,14 +8,16 @@ ghost use Rattle.linkage65.specs.Faults.{is_memory};
 ghost use Rattle.linkage65.specs.Links.{names_once};
 ghost use Rattle.linkage65.specs.Programs.{program_of};
 ghost use Rattle.linkage65.specs.Givers.{given_names, open_names};
+ghost use Rattle.link65.specs.Inner.Fields.{ended_exports};
+ghost use Rattle.link65.specs.Refusals.{RefusesBy, is_of_end, is_of_finish, is_of_record};
 ghost use Rattle.link65.specs.Standing.{AreNames, Begins, Continues, Ends, IsFed, IsRefused, Keeps, Links, is_open, values_in};
 
-use crate::feeding::{close_module, open_module, take_record};
-use crate::keeping::{given_names, kept_of};
+use crate::feeding::{before_place, close_module, open_module, take_record};
+use crate::keeping::{copy_of, kept_of};
 use crate::open::Open;
 use base65::Text;
 use library65::{Entry, Names};
-use linkage65::{Given, Growing, LinkFault, Linked, link, no_module, open_names};
+use linkage65::{Exported, Given, Growing, LinkFault, Linked, link, no_module, open_names};
 use object65::Record;
 use script65::Script;
 use std::alloc::Global;
@@ -103,38 +105,45 @@ impl Linker {
         self.pending
     }
 
-    /// The names that the script or a module needs and neither gives so far, in order of first reference; weak names
-    /// give nothing here.
+    /// The exports of the modules that have ended.
+    fn ended_exports(&self) -> &[Exported]
+        ensures { result.now ≡ ended_exports self.now.opened self.now.growth.program.exports }
+    {
+        let exports = self.growing.exports.as_slice();
+        match &self.opened {
+            Some(opened) => before_place(exports, opened.first_export),
+            None => exports,
+        }
+    }
+
+    /// The names that the script or a module that has ended needs and neither gives, in order of first reference; weak
+    /// names give nothing here, nor does a module that is open.
     pub fn open_names(&self) -> Result<Names, LinkFault>
         ensures open { AreNames (λ names. map (λ n. n.items) names.keys) open_names self.now result }
+        ensures memory { self.now.failed ≡ false → IfErr result (λ e. is_memory e ≡ true) }
         ensures again { self.now.failed ≡ true → result ≡ Err LinkFault.FailedBefore }
     {
         if self.failed {
             return Err(LinkFault::FailedBefore);
         }
-        let alloc = self.growing.alloc;
-        let exports = self.growing.exports.as_slice();
         Ok(open_names(
-            alloc,
+            self.growing.alloc,
             &self.script,
-            exports,
+            self.ended_exports(),
             self.growing.members.as_slice(),
         )?)
     }
 
-    /// The names that the script and the modules give so far, but for weak ones.
+    /// The names that the script and the modules that have ended give, but for weak ones.
     pub fn defined_names(&self) -> Result<Names, LinkFault>
         ensures defined { AreNames (λ names. map (λ n. n.items) names.keys) given_names self.now result }
+        ensures memory { self.now.failed ≡ false → IfErr result (λ e. is_memory e ≡ true) }
         ensures again { self.now.failed ≡ true → result ≡ Err LinkFault.FailedBefore }
     {
         if self.failed {
             return Err(LinkFault::FailedBefore);
         }
-        given_names(
-            self.growing.alloc,
-            &self.script,
-            self.growing.exports.as_slice(),
-        )
+        Ok(copy_of(&self.given)?)
     }
 
     /// Opens a module of this name, where none is open; a member of a library comes with the entry of its index, whose
@@ -169,6 +178,7 @@ impl Linker {
     pub fn record(&mut self, next: &Record) -> Result<(), LinkFault>
         requires { is_open self.old ≡ true }
         ensures taken { Continues (entry_of next.now) self.old self.new result }
+        ensures faults { self.old.failed ≡ false → RefusesBy is_of_record result }
         ensures opened { is_open self.new ≡ true }
         ensures pending { OnOk result (self.new.pending ≡ self.old.pending + values_in (entry_of next.now)) }
         ensures keeps { Keeps self.old self.new }
@@ -198,6 +208,7 @@ impl Linker {
     pub fn end_module(&mut self) -> Result<(), LinkFault>
         requires { is_open self.old ≡ true }
         ensures ended { Ends self.old self.new result }
+        ensures faults { self.old.failed ≡ false → RefusesBy is_of_end result }
         ensures opened { OnOk result (is_open self.new ≡ false) }
         ensures pending { OnOk result (self.new.pending ≡ self.old.pending) }
         ensures keeps { Keeps self.old self.new }
@@ -227,6 +238,7 @@ impl Linker {
     pub fn finish(self) -> Result<Linked, LinkFault>
         requires { is_open self ≡ false }
         ensures linked { Links self result }
+        ensures faults { self.failed ≡ false → RefusesBy is_of_finish result }
         ensures again { self.failed ≡ true → result ≡ Err LinkFault.FailedBefore }
     {
         let Linker {

@@ -123,8 +123,8 @@ fn keeps_to_a_refusal(rt: HostRuntime) -> Result<(), Fail> {
     Ok(())
 }
 
-/// Feeds a module of these imports and exports, where none is open.
-fn feed(
+/// Begins a module, where none is open, and feeds its records, which have these imports and exports.
+fn open(
     alloc: Global,
     linker: &mut Linker,
     imports: &[u8],
@@ -137,6 +137,18 @@ fn feed(
     let bytes = object(alloc, imports, exports)?;
     let records = records_of(alloc, bytes.as_slice())?;
     pending_behind(alloc, linker, records.as_slice())?;
+    Ok(())
+}
+
+/// Feeds a module of these imports and exports, where none is open.
+fn feed(
+    alloc: Global,
+    linker: &mut Linker,
+    imports: &[u8],
+    exports: &[u8],
+    entry: Option<&Entry>,
+) -> Result<(), LinkFault> {
+    open(alloc, linker, imports, exports, entry)?;
     if linker.is_open() {
         linker.end_module()?;
     }
@@ -173,6 +185,20 @@ fn tells_open_and_defined_names(rt: HostRuntime) -> Result<(), Fail> {
     assert!(rt; tells(&linker, b"sgwf", b"eh")?);
     feed(alloc, &mut linker, b"x", b"gs", None)?;
     assert!(rt; tells(&linker, b"wfx", b"ehgs")?);
+    Ok(())
+}
+
+/// A module that is open needs and gives nothing yet, also where it gives a name that is needed and one that is given.
+#[test]
+fn tells_names_of_modules_that_have_ended(rt: HostRuntime) -> Result<(), Fail> {
+    let alloc = rt.alloc();
+    let script = read_script(alloc, SYMBOLS)?;
+    let mut linker = Linker::new(alloc, script, "out")?;
+    feed(alloc, &mut linker, b"g", b"h", None)?;
+    assert!(rt; tells(&linker, b"sg", b"eh")?);
+    open(alloc, &mut linker, b"x", b"sh", None)?;
+    assert!(rt; linker.is_open());
+    assert!(rt; tells(&linker, b"sg", b"eh")?);
     Ok(())
 }
 

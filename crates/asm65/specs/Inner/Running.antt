@@ -8,7 +8,7 @@ use Rattle.expand65.specs.State as expand
 use Rattle.expand65.specs.Standing.{measure_of, place_of}
 use Rattle.source65.specs.declared.place.Place.{Place}
 use Rattle.language65.specs.declared.fault.AsmFault.{AsmFault}
-use Rattle.language65.specs.declared.fault.AsmFault.TheVariants.{FileError}
+use Rattle.language65.specs.declared.fault.AsmFault.TheVariants.{FileError, FileNotFound}
 use Rattle.language65.specs.Faults.{is_failure, is_outside}
 use Rattle.language65.specs.Language.{Stated, constant}
 use Rattle.language65.specs.Sound.{IsSound}
@@ -70,10 +70,21 @@ TakesBy AreSo IsAnswer more old new r =
     (count : ℕ) (t : State) → count + more ≤ opening_limit → Holds count t old →
     Leaves AreSo (IsAnswer t) (count + more) t new r
 
--- where the store failed, that is the fault, and nothing more was said
-abbrev pub StopsQuietly : Assembler → Assembler → Result (Unit {0}) AsmFault → Type 0
-StopsQuietly old new r = IfErr r (λ e. is_failure e ≡ true →
-    (e ≡ FileError) × (new.texts.out ≡ old.texts.out) × (new.texts.err ≡ old.texts.err))
+-- Where the store failed, that is the fault, and nothing more was said. Without any file the answer would be that none
+-- is there, for each state that is held and behind which so much may be opened.
+pub record IsStopped (IsAnswer : State → Result State AsmFault → Type 0) (more : ℕ) (old new : Assembler) (e : AsmFault) : Type 0 where
+  pub fault : e ≡ FileError
+  pub out : new.texts.out ≡ old.texts.out
+  pub err : new.texts.err ≡ old.texts.err
+  pub unread :
+      (count : ℕ) (t : State) → count + more ≤ opening_limit → Holds count t old →
+      IsAnswer t (Err FileNotFound)
+
+abbrev pub StopsQuietly :
+    (State → Result State AsmFault → Type 0) → ℕ → Assembler → Assembler →
+    Result (Unit {0}) AsmFault → Type 0
+StopsQuietly IsAnswer more old new r =
+    IfErr r (λ e. is_failure e ≡ true → IsStopped IsAnswer more old new e)
 
 -- what a label is, if there is one, objects can hold
 abbrev pub IsSoundIf : Option Stated → Type 0

@@ -12,10 +12,11 @@ ghost use Rattle.language65.specs.Sizes.{counted, optional_value};
 ghost use Rattle.language65.specs.Views.{range_of, spot_of};
 ghost use Rattle.symbols65.specs.Resolving.{IsTable};
 ghost use Rattle.symbols65.specs.Views.{table_of};
-ghost use Rattle.layout65.specs.Measuring.{IsFound, is_within, measured_of, or_default, placed, ranged};
+ghost use Rattle.layout65.specs.Measuring.{IsFound, is_within, measured_of, or_default, placed, ranged, unread_fault};
 ghost use Rattle.layout65.specs.Sounds.{IsSoundStanding};
 ghost use Rattle.layout65.specs.Views.{standing_of};
 
+use super::trees::check_range;
 use super::{Before, Measured, Settled, fit};
 use base65::Sequence;
 use language65::{AsmFault, PartRange, Spot};
@@ -46,6 +47,30 @@ fn named(
         Some(value) => Ok(Some(value)),
         None => Err(AsmFault::BadOperand),
     }
+}
+
+/// Refuses a part of a file for what is wrong with it whatever the file has: the file is read where
+/// nothing is.
+#[inline(never)]
+pub fn check_unread(
+    alloc: Global,
+    before: Before<'_>,
+    known: &mut Known,
+    range: &PartRange,
+) -> Result<(), AsmFault>
+    requires table { IsTable (table_of before.symbols.now) known.old.states.items }
+    requires standing { IsSoundStanding before.standing.now }
+    ensures checked { Gives is_memory (λ u. u) result (unless_fault (unread_fault
+        (table_of before.entry.symbols.now) (standing_of before.entry.standing.now)
+        (range_of range.now).0 (range_of range.now).1) tt) }
+    ensures table { OnOk result
+        (IsTable (table_of before.entry.symbols.now) known.new.states.items) }
+{
+    let spot = before.standing.spot();
+    check_range(alloc, before.symbols, spot.scope as usize, range)?;
+    named(alloc, before.symbols, known, spot, &range.start)?;
+    named(alloc, before.symbols, known, spot, &range.len)?;
+    Ok(())
 }
 
 /// A value as a place among so many, or behind the last one.

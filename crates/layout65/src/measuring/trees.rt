@@ -54,7 +54,7 @@ fn check_two(
 }
 
 #[inline(never)]
-fn check_range(
+pub fn check_range(
     alloc: Global,
     symbols: &Symbols,
     scope: usize,

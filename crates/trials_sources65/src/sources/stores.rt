@@ -1,6 +1,6 @@
 //! Stores that fail, that lack the file, or that never end.
 
-ghost use Rattle.std.specs.Prelude.{None};
+ghost use Rattle.std.specs.Prelude.{◌≡◌, ◌+◌, ◌<◌, None};
 
 use super::{alone, in_words};
 use asm65::{AsmRefusal, assemble};
@@ -57,6 +57,56 @@ impl Store for Endless {
     }
 }
 
+/// A store that reads the source `b.s` and fails at every other name. It counts each failure.
+#[derive(Drop)]
+struct Alone {
+    source: &'static [u8],
+    failures: u64,
+}
+
+impl Alone {
+    fn fail(&mut self) -> StoreFault
+        ensures counted { self.old.failures < 18446744073709551615 → self.new.failures ≡ self.old.failures + 1 }
+        ensures last { self.old.failures ≡ 18446744073709551615 → self.new.failures ≡ self.old.failures }
+        ensures fault { result ≡ StoreFault.FileError }
+    {
+        if self.failures < u64::MAX {
+            self.failures += 1;
+        }
+        StoreFault::FileError
+    }
+}
+
+impl Store for Alone {
+    ghost files = { λ _. None };
+
+    ghost failures = { λ s. s.failures };
+
+    ghost blamed = { λ _. None };
+
+    fn read_at(&mut self, name: &str, at: u64, buf: &mut [u8]) -> Result<usize, StoreFault> {
+        if self.failures == u64::MAX || name != "b.s" {
+            return Err(self.fail());
+        }
+        match self.source.get(at as usize..) {
+            Some(rest) => {
+                let n = rest.len().min(buf.len());
+                buf[..n].copy_from_slice(&rest[..n]);
+                Ok(n)
+            }
+            None => Ok(0),
+        }
+    }
+
+    fn create(&mut self, _name: &str) -> Result<(), StoreFault> {
+        Err(self.fail())
+    }
+
+    fn append(&mut self, _name: &str, _piece: &[u8]) -> Result<usize, StoreFault> {
+        Err(self.fail())
+    }
+}
+
 fn assembled_in<S: Store>(alloc: Global, store: &mut S) -> Result<Object, AsmRefusal> {
     assemble(alloc, store, &alone()).result
 }
@@ -75,5 +125,39 @@ fn no_bytes_of_a_source(rt: HostRuntime) -> Result<(), Fail> {
     assert!(rt; refusal_in(rt.alloc(), &mut none)?.as_str() == "file not found");
     assert!(rt; refusal_in(rt.alloc(), &mut Broken)?.as_str() == "file error");
     assert!(rt; refusal_in(rt.alloc(), &mut Endless)?.as_str() == "file too long");
+    Ok(())
+}
+
+/// Sources that take bytes of a file that can't be read, what becomes of each, and how many calls failed.
+const UNREADABLE: [(&[u8], &str, u64); 7] = [
+    (b".incbin \"u\"", "b.s:1: file error", 1),
+    (b"nop\nl: .incbin \"u\",1,2", "b.s:2: file error", 1),
+    (b".incbin \"u\",s::x", "b.s:1: no such scope: s::x", 0),
+    (b".incbin \"u\",0,s::x", "b.s:1: no such scope: s::x", 0),
+    (
+        b".incbin \"u\",x",
+        "b.s:1: operand not constant or out of range",
+        0,
+    ),
+    (
+        b"nop\n.incbin \"u\",1,x",
+        "b.s:2: operand not constant or out of range",
+        0,
+    ),
+    (b"l:\nl: .incbin \"u\"", "b.s:2: defined twice: l", 0),
+];
+
+/// A file is read only where nothing is wrong with the statement that comes before the file in the order of faults.
+#[test]
+fn what_is_wrong_before_a_file(rt: HostRuntime) -> Result<(), Fail> {
+    for (source, wanted, failures) in UNREADABLE {
+        let mut store = Alone {
+            source,
+            failures: 0,
+        };
+        let found = refusal_in(rt.alloc(), &mut store)?;
+        assert!(rt; found.as_str() == wanted, "{wanted}: {found}");
+        assert_eq!(rt; store.failures, failures);
+    }
     Ok(())
 }

@@ -1,16 +1,56 @@
-use Rattle.std.proofs.Common.{◌≡◌, [], length}
+use Rattle.std.proofs.Common.{◌≡◌, ◌∙◌, [], length, ap, sym, subst, Err}
+use Rattle.std.specs.Prelude.{Result}
+use Rattle.std.proofs.lemmas.Result.{err_from_is_err_and}
 use Rattle.syntax65.specs.Tokens.{lexemes}
+use Rattle.language65.specs.Sound.{AreNamed}
 use Rattle.language65.specs.Views.{stated_of}
+use Rattle.module65.specs.Machine.{Takes}
+use Rattle.module65.specs.Reading.{IsRest}
 use Rattle.module65.proofs.Given.{some_tokens}
 use Rattle.asm65.specs.Inner.Files.{read_bytes}
+use Rattle.asm65.specs.Inner.Running.{StopsQuietly, TakesBy}
+use Rattle.asm65.specs.Unread.{no_files}
 use Rattle.asm65.specs.Views.{place_in}
-use Rattle.asm65.proofs.Runs.{rest_leaves, some_there, told_then}
+use Rattle.asm65.proofs.Runs.{Answer, RestBy, never_stops, rest_leaves, rest_stops, rest_unread, some_there, takes_from}
 use Rattle.asm65.proofs.given.take_rest.Goals as goal
+
+pub returns-in_err-statement-clause-taken : goal.returns-in_err-statement-clause-taken
+returns-in_err-statement-clause-taken g c =
+    let r = c.from_residual-in_err-statement.result in
+    let p = err_from_is_err_and r c.from_residual-in_err-statement.ensures.1 in
+    let e = c.in_err-statement.field-0.0 in
+    let place = place_in c.args.at.file.now c.args.at.line in
+    let ts = lexemes c.args.tokens.now in
+    let some : ts ≡ [] → ⊥ = some_tokens c.args.tokens.now (some_there (length c.args.tokens.now) c.if-is_empty.ensures) in
+    let P : Answer → Type 0 = TakesBy (AreNamed ts) (RestBy (g.S.Store.files c.args.store.now) place ts) 1 c.args.assembler.now c.with_bytes-statement.new.assembler in
+    subst P (sym (p.1 ∙ ap Err p.2)) (rest_unread place (stated_of c.in_ok-read.read) c.args.assembler.now c.with_bytes-statement.new.assembler e c.in_err-statement.ensures.refused c.in_err-statement.ensures.texts (g.S.Store.files c.args.store.now) ts some c.in_ok-read.ensures.value)
+
+pub returns-in_err-statement-clause-stopped : goal.returns-in_err-statement-clause-stopped
+returns-in_err-statement-clause-stopped g c =
+    let r = c.from_residual-in_err-statement.result in
+    let p = err_from_is_err_and r c.from_residual-in_err-statement.ensures.1 in
+    let e = c.in_err-statement.field-0.0 in
+    let place = place_in c.args.at.file.now c.args.at.line in
+    let ts = lexemes c.args.tokens.now in
+    let some : ts ≡ [] → ⊥ = some_tokens c.args.tokens.now (some_there (length c.args.tokens.now) c.if-is_empty.ensures) in
+    rest_stops place (stated_of c.in_ok-read.read) c.args.assembler.now c.with_bytes-statement.new.assembler e c.in_err-statement.ensures.refused c.in_err-statement.ensures.texts ts r some c.in_ok-read.ensures.value c.in_err-statement.ensures.failed (p.1 ∙ ap Err p.2)
+
+pub take_sound-requires : goal.take_sound-requires
+take_sound-requires g c =
+    let (count, t, room, h) = c.requires in
+    (count, t, room, c.in_ok-statement.ensures.held count t h)
 
 pub returns-clause-taken : goal.returns-clause-taken
 returns-clause-taken g c =
     let some : lexemes c.args.tokens.now ≡ [] → ⊥ = some_tokens c.args.tokens.now (some_there (length c.args.tokens.now) c.if-is_empty.ensures) in
     let place = place_in c.args.at.file.now c.args.at.line in
+    let ts = lexemes c.args.tokens.now in
     let x = stated_of c.in_ok-read.read in
     let y = stated_of c.in_ok-statement.statement in
-    rest_leaves (g.S.Store.files c.args.store.now) place (lexemes c.args.tokens.now) x y c.args.assembler.now c.take_sound.new.assembler c.take_sound.result some c.in_ok-read.ensures.value (told_then (g.S.Store.files c.args.store.now) _ (λ m. y ≡ read_bytes m place x) (λ m h. h c.args.at.line) c.in_ok-statement.ensures.bytes) c.take_sound.ensures.taken
+    takes_from (AreNamed ts) (RestBy (g.S.Store.files c.args.store.now) place ts) 1 c.args.assembler.now c.with_bytes-statement.new.assembler c.take_sound.new.assembler c.take_sound.result c.in_ok-statement.ensures.held
+    (rest_leaves (g.S.Store.files c.args.store.now) place ts x y c.with_bytes-statement.new.assembler c.take_sound.new.assembler c.take_sound.result some c.in_ok-read.ensures.value c.in_ok-statement.ensures.bytes c.take_sound.ensures.taken)
+
+pub returns-clause-stopped : goal.returns-clause-stopped
+returns-clause-stopped g c =
+    let place = place_in c.args.at.file.now c.args.at.line in
+    never_stops (λ t. IsRest no_files Takes t place (lexemes c.args.tokens.now)) 1 c.args.assembler.now c.take_sound.new.assembler c.take_sound.result c.take_sound.ensures.inside

@@ -4,7 +4,7 @@ use Rattle.expand65.specs.Standing.{place_of, stated}
 use Rattle.language65.specs.Sound.{AreNamed}
 use Rattle.asm65.specs.Inner.Running.{TakesBy, tokens_of}
 use Rattle.asm65.specs.Views.{place_in}
-use Rattle.asm65.proofs.Runs.{GivenBy}
+use Rattle.asm65.proofs.Runs.{GivenBy, GivenStops}
 use Rattle.asm65.proofs.running.take_next.Goals as goal
 
 pub returns-clause-taken : goal.returns-clause-taken
@@ -15,3 +15,11 @@ returns-clause-taken g c =
     let same : place_in c.place-line.result.0.now c.place-line.result.1 ≡ there = ap (λ f. place_in f c.place-line.result.1) at.0 ∙ ap (place_in there.file) at.1 in
     let P : Place → Type 0 = λ p. TakesBy (AreNamed (tokens_of x)) (GivenBy (g.S.Store.files c.args.store.now) p x) 2 c.args.run.now.assembler c.take_given.new.assembler c.take_given.result in
     subst P same c.take_given.ensures.taken
+
+pub returns-clause-stopped : goal.returns-clause-stopped
+returns-clause-stopped g c =
+    let at = c.place-line.ensures.place in
+    let there = place_of c.args.run.now.expander in
+    let same : place_in c.place-line.result.0.now c.place-line.result.1 ≡ there = ap (λ f. place_in f c.place-line.result.1) at.0 ∙ ap (place_in there.file) at.1 in
+    let P : Place → Type 0 = λ p. GivenStops p c.args.statement.now c.args.run.now.assembler c.take_given.new.assembler c.take_given.result in
+    subst P same c.take_given.ensures.stopped

@@ -1,0 +1,31 @@
+use Rattle.std.proofs.Common.{◌≡◌, ap, subst}
+use Rattle.std.specs.Prelude.{Result}
+use Rattle.base65.specs.Outcome.{Gives}
+use Rattle.language65.specs.declared.fault.AsmFault.{AsmFault}
+use Rattle.language65.specs.Faults.{is_memory}
+use Rattle.language65.specs.Layout.{Standing}
+use Rattle.language65.specs.LineFaults.{unless_fault}
+use Rattle.language65.specs.Symbols.{Symbols}
+use Rattle.language65.specs.Views.{range_of}
+use Rattle.symbols65.specs.Views.{table_of}
+use Rattle.layout65.specs.Measuring.{unread_fault}
+use Rattle.layout65.specs.Views.{standing_of}
+use Rattle.asm65.specs.declared.assembler.Assembler.{Assembler}
+use Rattle.asm65.proofs.Insides.{unread_inside}
+use Rattle.asm65.proofs.Takings.{held_on}
+use Rattle.asm65.proofs.assembler.Assembler.check_unread.Goals as goal
+
+pub returns-clause-checked : goal.returns-clause-checked
+returns-clause-checked c = λ count t h.
+    (let range = range_of c.args.range.now in
+    let P : Symbols → Type 0 = λ y. Gives is_memory (λ (u : Unit {0}). u) c.check_unread.result (unless_fault {A = Unit {0}} (unread_fault y (standing_of c.args.self.now.standing) range.0 range.1) tt) in
+    let Q : Standing → Type 0 = λ w. Gives is_memory (λ (u : Unit {0}). u) c.check_unread.result (unless_fault {A = Unit {0}} (unread_fault t.symbols w range.0 range.1) tt) in
+    subst Q h.standing (subst P h.symbols c.check_unread.ensures.checked))
+
+pub returns-clause-held : goal.returns-clause-held
+returns-clause-held c = λ count t h. held_on count t c.args.self.now c.check_unread.new.known c.check_unread.result h c.check_unread.ensures.table
+
+pub returns-clause-inside : goal.returns-clause-inside
+returns-clause-inside c =
+    let range = range_of c.args.range.now in
+    unread_inside c.check_unread.result (table_of c.args.self.now.symbols) (standing_of c.args.self.now.standing) range.0 range.1 c.check_unread.ensures.checked

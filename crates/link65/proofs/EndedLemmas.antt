@@ -14,7 +14,7 @@ use Rattle.link65.proofs.GivenLemmas.{given_all}
 -- their members
 pub their_members : (f : Feeding) (modules : List Module) → HaveEnded f modules → (program_of modules).members ≡ f.growth.program.members
 their_members f modules (inl fed) = ap (λ (g : Growth). g.program.members) (sym fed.growth)
-their_members f modules (inr going) = ap (λ (g : Growth). g.program.members) (sym going.2.2.2.growth)
+their_members f modules (inr going) = ap (λ (g : Growth). g.program.members) (sym going.3.growth)
 
 -- their exports
 pub their_exports : (f : Feeding) (modules : List Module) → HaveEnded f modules → (program_of modules).exports ≡ ended_exports f.opened f.growth.program.exports
@@ -23,8 +23,8 @@ their_exports f modules (inl fed) =
     ∙ ap (λ (o : Option Opened). ended_exports o f.growth.program.exports) (sym fed.opened)
 their_exports f modules (inr going) =
     let p = program_of modules in
-    let s = going.2.2.0 in
-    let h = going.2.2.2 in
+    let s = going.2 in
+    let h = going.3 in
     sym (take-append_seam p.exports (map (exported (length p.members)) s.exports))
     ∙ ap (λ (g : Growth). take (length p.exports) g.program.exports) (sym h.growth)
     ∙ ap (λ (o : Option Opened). ended_exports o f.growth.program.exports) (sym h.opened)
@@ -32,4 +32,4 @@ their_exports f modules (inr going) =
 -- the names that they and the script give
 pub their_names : (f : Feeding) (modules : List Module) → HaveEnded f modules → f.given ≡ given_names f.script (program_of modules)
 their_names f modules (inl fed) = given_all (given_names f.script (program_of modules)) f.given fed.given
-their_names f modules (inr going) = given_all (given_names f.script (program_of modules)) f.given going.2.2.2.given
+their_names f modules (inr going) = given_all (given_names f.script (program_of modules)) f.given going.3.given

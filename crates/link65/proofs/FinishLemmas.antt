@@ -66,7 +66,7 @@ each_so check one (x ∷ xs) = behind (check x) (λ u. each_passes check xs) (on
 fitting_so : (s : Site) (w : Waiting) (v : ℤ) → Refused (fitting s w v)
 fitting_so s w v = go (fits_width w.width v)
   where
-    go : (b : Bool) → Refused (if b then Ok tt else Err (fault.OutOfRange s))
+    go : (b : Bool) → Refused (let fits : Result (Unit {0}) LinkFault = Ok tt in if b then fits else Err (fault.OutOfRange s))
     go true = tt
     go false = refl
 
@@ -104,9 +104,10 @@ asserts_so l members exports (a ∷ rest) =
 
 checked_so : (s : Script) (p : Program) (l : Linkage) (exports : Exports) → Refused (checked s p l exports)
 checked_so s p l exports =
-    behind (each_passes (check_waiting l p.members exports) (waiting_by_row s.rows p.segments)) _ (each_so _ (waiting_so l p.members exports) (waiting_by_row s.rows p.segments))
-    (λ u. behind (each_passes (check_export l p.members exports) p.exports) _ (each_so _ (export_so l p.members exports) p.exports)
-    (λ v. asserts_so l p.members exports p.asserts))
+    let values = each_passes (check_waiting l p.members exports) (waiting_by_row s.rows p.segments) in
+    behind (values >>= (λ u. each_passes (check_export l p.members exports) p.exports)) (λ u. check_asserts l p.members exports p.asserts)
+    (behind values (λ u. each_passes (check_export l p.members exports) p.exports) (each_so (check_waiting l p.members exports) (waiting_so l p.members exports) (waiting_by_row s.rows p.segments)) (λ u. each_so (check_export l p.members exports) (export_so l p.members exports) p.exports))
+    (λ u. asserts_so l p.members exports p.asserts)
 
 -- ---- The whole.
 
@@ -115,13 +116,13 @@ first_so (Ok x) Next e so next h = next x h
 first_so (Err f) Next e so next h = let same : e ≡ f = cc in ap is_of_finish same ∙ so
 
 image_so : (output : List ℕ) (s : Script) (p : Program) (placement : Placement) (l : Linkage) (exports : Exports) (warnings : List ℕ) (e : LinkFault) → IsImaged output s p placement l exports warnings (Err e) → is_of_finish e ≡ true
-image_so output s p placement l exports warnings e h = let never = h.2.1 in absurd cc
+image_so output s p placement l exports warnings e h = let never = h.2 in absurd cc
 
 placed_link_so : (output : List ℕ) (s : Script) (p : Program) (placement : Placement) (e : LinkFault) → IsPlacedLink output s p placement (Err e) → is_of_finish e ≡ true
 placed_link_so output s p placement e h =
     let l = linkage_of s p placement in
     let exports = in_table h.0 in
-    first_so (checked s p l exports) (IsImaged output s p placement l exports) e (checked_so s p l exports) (λ warnings. image_so output s p placement l exports warnings e) h.2.1
+    first_so (checked s p l exports) (IsImaged output s p placement l exports) e (checked_so s p l exports) (λ warnings. image_so output s p placement l exports warnings e) h.2
 
 link_so : (output : List ℕ) (s : Script) (p : Program) (e : LinkFault) → IsProgramLink output s p (Err e) → is_of_finish e ≡ true
 link_so output s p e h = first_so (placed s p) (IsPlacedLink output s p) e (placed_so s p) (λ placement. placed_link_so output s p placement e) h

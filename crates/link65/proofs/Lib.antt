@@ -1,3 +1,4 @@
+pub mod Copies
 pub mod EndedLemmas
 pub mod Feeds
 pub mod FinishLemmas

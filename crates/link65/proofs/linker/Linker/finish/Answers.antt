@@ -6,6 +6,7 @@ use Rattle.linkage65.specs.Finishing.{program_from}
 use Rattle.linkage65.specs.Links.{IsProgramLink}
 use Rattle.link65.specs.Standing.{Feeding}
 use Rattle.link65.proofs.Feeds.{linked}
+use Rattle.link65.proofs.FinishLemmas.{refuses_so}
 use Rattle.link65.proofs.linker.Linker.finish.Goals as goal
 
 pub returns-clause-linked : goal.returns-clause-linked
@@ -18,3 +19,6 @@ returns-clause-linked c = λ modules fed.
     (c.kept_of-kept.ensures ∙ ap (λ (f : Feeding). f.growth.program) c.self.view_is)
     (subst (λ (s : Script). Finds is_memory (IsProgramLink c.args.self.output s kept) c.link.result) script by)
     fed
+
+pub returns-clause-faults : goal.returns-clause-faults
+returns-clause-faults c = λ fresh. refuses_so c.as_str.result.now c.self.inside.script (program_from c.kept_of-kept.result) c.link.result c.link.ensures

@@ -193,7 +193,7 @@ joined_free s modules name o h =
     go (Ok u) free h = cc
     go (Err e) free h = free (let same : e ≡ file_failed = cc in ap Err same)
 
-whole_free : (s : Script) (modules : List Module) (name : List ℕ) (entry : Option Listing) (t : State) → whole s modules name entry t ≡ Err file_failed → ⊥
+pub whole_free : (s : Script) (modules : List Module) (name : List ℕ) (entry : Option Listing) (t : State) → whole s modules name entry t ≡ Err file_failed → ⊥
 whole_free s modules name entry t h =
     free_then (as_link (finished t) >>= agreed entry) (joined s modules name)
     (free_then (as_link (finished t)) (agreed entry) (finished_free t) (agreed_free entry))

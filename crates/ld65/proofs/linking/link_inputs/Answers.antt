@@ -1,6 +1,7 @@
-use Rattle.std.proofs.Common.{◌∙◌, Err, Ok, [], ap, map}
+use Rattle.std.proofs.Common.{◌∙◌, ℕ, List, Err, Ok, [], ap, map, subst}
 use Rattle.std.proofs.lemmas.Result.{err_from_is_err_and}
 use Rattle.line65.specs.Line.{linking}
+use Rattle.ld65.specs.Naming.{NamesInputs}
 use Rattle.ld65.proofs.LinkLemmas.{inputs_refused, inputs_linked, refused_so, passed_on}
 use Rattle.ld65.proofs.linking.link_inputs.Goals as goal
 
@@ -35,3 +36,11 @@ returns-clause-linked g c =
 
 pub returns-clause-count : goal.returns-clause-count
 returns-clause-count g c = passed_on _ _ (Ok c.in_ok-finish.field-0) (c.in_ok-feed_inputs.ensures.count [] c.in_ok-linker.ensures.fed)
+
+pub returns-in_err-feed_inputs-clause-named : goal.returns-in_err-feed_inputs-clause-named
+returns-in_err-feed_inputs-clause-named g c =
+    let p = err_from_is_err_and c.from_residual-in_err-feed_inputs.result c.from_residual-in_err-feed_inputs.ensures.1 in
+    let names = ap (map (λ s. s.now)) c.as_slice.ensures in
+    let e = c.in_err-feed_inputs.field-0.0 in
+    let P : List (List ℕ) → Type 0 = λ ns. NamesInputs (g.S.Store.blamed c.feed_inputs.new.store) ns e in
+    rw (p.1, p.2) (subst P names (c.in_err-feed_inputs.ensures.named [] c.in_ok-linker.ensures.fed))

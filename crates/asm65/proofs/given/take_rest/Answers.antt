@@ -22,8 +22,8 @@ returns-in_err-statement-clause-taken g c =
     let place = place_in c.args.at.file.now c.args.at.line in
     let ts = lexemes c.args.tokens.now in
     let some : ts ≡ [] → ⊥ = some_tokens c.args.tokens.now (some_there (length c.args.tokens.now) c.if-is_empty.ensures) in
-    let P : Answer → Type 0 = TakesBy (AreNamed ts) (RestBy (g.S.Store.files c.args.store.now) place ts) 1 c.args.assembler.now c.with_bytes-statement.new.assembler in
-    subst P (sym (p.1 ∙ ap Err p.2)) (rest_unread place (stated_of c.in_ok-read.read) c.args.assembler.now c.with_bytes-statement.new.assembler e c.in_err-statement.ensures.refused c.in_err-statement.ensures.texts (g.S.Store.files c.args.store.now) ts some c.in_ok-read.ensures.value)
+    let P : Answer → Type 0 = TakesBy (AreNamed ts) (RestBy (g.S.Store.files c.args.store.now) place ts) 1 c.args.assembler.now c.with_bytes.new.assembler in
+    subst P (sym (p.1 ∙ ap Err p.2)) (rest_unread place (stated_of c.in_ok-read.read) c.args.assembler.now c.with_bytes.new.assembler e c.in_err-statement.ensures.refused c.in_err-statement.ensures.texts (g.S.Store.files c.args.store.now) ts some c.in_ok-read.ensures.value)
 
 pub returns-in_err-statement-clause-stopped : goal.returns-in_err-statement-clause-stopped
 returns-in_err-statement-clause-stopped g c =
@@ -33,7 +33,7 @@ returns-in_err-statement-clause-stopped g c =
     let place = place_in c.args.at.file.now c.args.at.line in
     let ts = lexemes c.args.tokens.now in
     let some : ts ≡ [] → ⊥ = some_tokens c.args.tokens.now (some_there (length c.args.tokens.now) c.if-is_empty.ensures) in
-    rest_stops place (stated_of c.in_ok-read.read) c.args.assembler.now c.with_bytes-statement.new.assembler e c.in_err-statement.ensures.refused c.in_err-statement.ensures.texts ts r some c.in_ok-read.ensures.value c.in_err-statement.ensures.failed (p.1 ∙ ap Err p.2)
+    rest_stops place (stated_of c.in_ok-read.read) c.args.assembler.now c.with_bytes.new.assembler e c.in_err-statement.ensures.refused c.in_err-statement.ensures.texts ts r some c.in_ok-read.ensures.value c.in_err-statement.ensures.failed (p.1 ∙ ap Err p.2)
 
 pub take_sound-requires : goal.take_sound-requires
 take_sound-requires g c =
@@ -47,8 +47,8 @@ returns-clause-taken g c =
     let ts = lexemes c.args.tokens.now in
     let x = stated_of c.in_ok-read.read in
     let y = stated_of c.in_ok-statement.statement in
-    takes_from (AreNamed ts) (RestBy (g.S.Store.files c.args.store.now) place ts) 1 c.args.assembler.now c.with_bytes-statement.new.assembler c.take_sound.new.assembler c.take_sound.result c.in_ok-statement.ensures.held
-    (rest_leaves (g.S.Store.files c.args.store.now) place ts x y c.with_bytes-statement.new.assembler c.take_sound.new.assembler c.take_sound.result some c.in_ok-read.ensures.value c.in_ok-statement.ensures.bytes c.take_sound.ensures.taken)
+    takes_from (AreNamed ts) (RestBy (g.S.Store.files c.args.store.now) place ts) 1 c.args.assembler.now c.with_bytes.new.assembler c.take_sound.new.assembler c.take_sound.result c.in_ok-statement.ensures.held
+    (rest_leaves (g.S.Store.files c.args.store.now) place ts x y c.with_bytes.new.assembler c.take_sound.new.assembler c.take_sound.result some c.in_ok-read.ensures.value c.in_ok-statement.ensures.bytes c.take_sound.ensures.taken)
 
 pub returns-clause-stopped : goal.returns-clause-stopped
 returns-clause-stopped g c =

@@ -50,13 +50,36 @@ fn begins_with(names: &[Text], front: &[Text]) -> bool {
 }
 
 /// A run in which nothing fails: its words, the names of all files, the files before it, what it said, and its store behind it.
-#[derive(Clone, Copy)]
+#[derive(Drop)]
 struct Plain<'a> {
-    words: &'a [&'a str],
-    names: &'a [Text],
-    before: &'a MemStore,
-    ran: &'a Ran,
-    store: &'a FailsOnce,
+    words: Vec<&'a str>,
+    names: Vec<Text>,
+    before: MemStore,
+    ran: Ran,
+    store: FailsOnce,
+}
+
+/// A run over files of these names in which nothing fails. The files that it creates are added to the names.
+fn plain_run<'a>(
+    alloc: Global,
+    files: &MemStore,
+    mut names: Vec<Text>,
+    words: &'a str,
+) -> Result<Plain<'a>, AllocError> {
+    let words = words_of(alloc, words)?;
+    let before = copy_of(alloc, files, names.as_slice())?;
+    let mut store = FailsOnce::behind(alloc, copy_of(alloc, files, names.as_slice())?, None);
+    let ran = run_on(alloc, &mut store, words.as_slice());
+    for name in store.created.iter() {
+        add_name(alloc, &mut names, name.as_str())?;
+    }
+    Ok(Plain {
+        words,
+        names,
+        before,
+        ran,
+        store,
+    })
 }
 
 impl Plain<'_> {
@@ -150,9 +173,9 @@ impl Plain<'_> {
     /// How many calls fail in turn, where each run ends as it has to.
     fn fail_in_turn(&self, alloc: Global) -> Result<Option<u64>, AllocError> {
         for k in 0..1000 {
-            let files = copy_of(alloc, self.before, self.names)?;
+            let files = copy_of(alloc, &self.before, self.names.as_slice())?;
             let mut store = FailsOnce::behind(alloc, files, Some(k));
-            let ran = run_on(alloc, &mut store, self.words);
+            let ran = run_on(alloc, &mut store, self.words.as_slice());
             if !self.is_ended(&ran, &store) {
                 return Ok(None);
             }
@@ -165,14 +188,14 @@ impl Plain<'_> {
 
     /// Whether a run whose standard output stops behind so many bytes ends as it has to.
     fn stops_output(&self, alloc: Global, left: usize, fails: bool) -> Result<bool, AllocError> {
-        let mut store = copy_of(alloc, self.before, self.names)?;
+        let mut store = copy_of(alloc, &self.before, self.names.as_slice())?;
         let mut out = Stopping {
             taken: Vec::new(alloc),
             left,
             fails,
         };
         let mut err = Vec::new(alloc);
-        let status = run(alloc, self.words, &mut store, &mut out, &mut err);
+        let status = run(alloc, self.words.as_slice(), &mut store, &mut out, &mut err);
         let text = self.ran.out.as_slice();
         let is_stopped = left < text.len();
         let wanted = if is_stopped {
@@ -185,14 +208,14 @@ impl Plain<'_> {
 
     /// Whether a run whose standard error stops behind so many bytes ends as it has to.
     fn stops_errors(&self, alloc: Global, left: usize, fails: bool) -> Result<bool, AllocError> {
-        let mut store = copy_of(alloc, self.before, self.names)?;
+        let mut store = copy_of(alloc, &self.before, self.names.as_slice())?;
         let mut err = Stopping {
             taken: Vec::new(alloc),
             left,
             fails,
         };
         let mut out = Vec::new(alloc);
-        let status = run(alloc, self.words, &mut store, &mut out, &mut err);
+        let status = run(alloc, self.words.as_slice(), &mut store, &mut out, &mut err);
         let text = self.ran.err.as_slice();
         Ok(out.as_slice() == self.ran.out.as_slice() && self.is_stopped(status, &err, text, &store))
     }
@@ -205,7 +228,7 @@ impl Plain<'_> {
             return stream.left == 0
                 && text.starts_with(taken)
                 && status == Status::Failure
-                && self.are_files(files, self.before);
+                && self.are_files(files, &self.before);
         }
         taken == text && status == self.ran.status && self.are_files(files, &self.store.files)
     }
@@ -228,36 +251,23 @@ impl Plain<'_> {
     }
 }
 
-/// Whether a run, written as a row, ends as it has to: as the row says, where each call fails in turn, and where each stream stops
-/// behind each byte. The files that it creates are added to the names.
-fn is_right_in_turn(
+/// The names of all files behind a run, written as a row, that ends as it has to: as the row says, where each call fails in turn,
+/// and where each stream stops behind each byte; none where it doesn't.
+fn names_behind(
     alloc: Global,
     files: &MemStore,
-    names: &mut Vec<Text>,
+    names: Vec<Text>,
     row: &str,
-) -> Result<bool, AllocError> {
+) -> Result<Option<Vec<Text>>, AllocError> {
     let (words, _) = parts_of(row.strip_prefix("$ ").unwrap_or(row));
-    let words = words_of(alloc, words)?;
-    let mut store = FailsOnce::behind(alloc, copy_of(alloc, files, names.as_slice())?, None);
-    let ran = run_on(alloc, &mut store, words.as_slice());
-    for name in store.created.iter() {
-        add_name(alloc, names, name.as_str())?;
-    }
-    let plain = Plain {
-        words: words.as_slice(),
-        names: names.as_slice(),
-        before: files,
-        ran: &ran,
-        store: &store,
-    };
-    let mut copy = copy_of(alloc, files, plain.names)?;
+    let plain = plain_run(alloc, files, names, words)?;
+    let mut copy = copy_of(alloc, files, plain.names.as_slice())?;
     // A run reads two places of a file at least.
-    Ok(
-        is_right(alloc, &mut copy, row)?
-            && plain.are_files(&copy, &store.files)
-            && 1 < plain.fail_in_turn(alloc)?.unwrap_or(0)
-            && plain.stop_in_turn(alloc)?,
-    )
+    let is_right = is_right(alloc, &mut copy, row)?
+        && plain.are_files(&copy, &plain.store.files)
+        && 1 < plain.fail_in_turn(alloc)?.unwrap_or(0)
+        && plain.stop_in_turn(alloc)?;
+    Ok(is_right.then_some(plain.names))
 }
 
 /// The first row of a scene that isn't so, or not where something fails.
@@ -265,9 +275,11 @@ fn first_wrong_of(alloc: Global, scene: &'static str) -> Result<Option<&'static 
     let mut names = names_of(alloc, scene)?;
     let mut files = MemStore::new(alloc);
     for row in scene.lines() {
-        let is_run = row.starts_with("$ ");
-        if is_run && !is_right_in_turn(alloc, &files, &mut names, row)? {
-            return Ok(Some(row));
+        if row.starts_with("$ ") {
+            match names_behind(alloc, &files, names, row)? {
+                Some(behind) => names = behind,
+                None => return Ok(Some(row)),
+            }
         }
         if !is_right(alloc, &mut files, row)? {
             return Ok(Some(row));

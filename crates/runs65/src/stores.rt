@@ -101,7 +101,7 @@ impl Store for Filling {
 pub struct FailsOnce {
     alloc: Global,
     pub files: MemStore,
-    most: usize,
+    by_bytes: bool,
     left: Option<u64>,
     pub failed: bool,
     pub asked: Option<Text>,
@@ -115,7 +115,7 @@ impl FailsOnce {
         FailsOnce {
             alloc,
             files,
-            most: usize::MAX,
+            by_bytes: false,
             left,
             failed: false,
             asked: None,
@@ -125,7 +125,7 @@ impl FailsOnce {
 
     /// The same, of which each writing takes one byte.
     pub fn by_bytes(mut self) -> FailsOnce {
-        self.most = 1;
+        self.by_bytes = true;
         self
     }
 
@@ -192,8 +192,11 @@ impl Store for FailsOnce {
         if self.fails(name)? {
             return Err(StoreFault::FileError);
         }
-        let most = piece.len().min(self.most);
-        self.files.append(name, &piece[..most])
+        if self.by_bytes {
+            let most = piece.len().min(1);
+            return self.files.append(name, &piece[..most]);
+        }
+        self.files.append(name, piece)
     }
 }
 

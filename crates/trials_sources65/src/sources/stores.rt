@@ -132,15 +132,15 @@ fn no_bytes_of_a_source(rt: HostRuntime) -> Result<(), Fail> {
 const UNREADABLE: [(&[u8], &str, u64); 7] = [
     (b".incbin \"u\"", "b.s:1: file error", 1),
     (b"nop\nl: .incbin \"u\",1,2", "b.s:2: file error", 1),
-    (b".incbin \"u\",s::x", "b.s:1: no such scope: s::x", 0),
-    (b".incbin \"u\",0,s::x", "b.s:1: no such scope: s::x", 0),
+    (b".incbin \"u\",s::n", "b.s:1: no such scope: s::n", 0),
+    (b".incbin \"u\",0,s::n", "b.s:1: no such scope: s::n", 0),
     (
-        b".incbin \"u\",x",
+        b".incbin \"u\",n",
         "b.s:1: operand not constant or out of range",
         0,
     ),
     (
-        b"nop\n.incbin \"u\",1,x",
+        b"nop\n.incbin \"u\",1,n",
         "b.s:2: operand not constant or out of range",
         0,
     ),

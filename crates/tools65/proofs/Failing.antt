@@ -130,17 +130,17 @@ module _ {A E : Type 0} (is_memory is_failure : E → Bool) (memory : List ℕ) 
   pub failed_status : (fo fm fn : ℕ) (r : Result A E) (o : Outcome) (status : Status) → PassesBy is_failure fo fm r → Asks (λ e. is_memory e || is_failure e) fo r → IfErr r (λ e. o.status ≡ Failure) → (fm < fn → status ≡ Failure) → (o.status ≡ Failure → status ≡ Failure) → HasFailed fo fn → status ≡ Failure
   failed_status fo fm fn r o status count asks fails rose failing_so some = by some
     where
-      refused : {P : E → Type 0} (q : Result A E) → IsErrAnd q P → IfErr q (λ e. o.status ≡ Failure) → o.status ≡ Failure
-      refused (Ok x) h f = absurd h
-      refused (Err e) h f = f
+      refused : (P : E → Type 0) (q : Result A E) → IsErrAnd q P → IfErr q (λ e. o.status ≡ Failure) → o.status ≡ Failure
+      refused P (Ok x) h f = absurd h
+      refused P (Err e) h f = f
 
       by_moment : fo < fn → (fo ≡ fm) ⊎ (fo < fm) → status ≡ Failure
-      by_moment later (inr h) = failing_so (refused r (count.told h) fails)
+      by_moment later (inr h) = failing_so (refused (λ e. is_failure e ≡ true) r (count.told h) fails)
       by_moment later (inl e) = rose (omega (arith, e, later))
 
       by : HasFailed fo fn → status ≡ Failure
       by (inl later) = by_moment later (eq-or-lt_of_le count.later)
-      by (inr at) = failing_so (refused r (asks at) fails)
+      by (inr at) = failing_so (refused (λ e. (is_memory e || is_failure e) ≡ true) r (asks at) fails)
 
 -- ---- The commands.
 

@@ -13,6 +13,7 @@ example: program
 	@sh example/first.sh $(abspath $(PROGRAM))
 	@sh example/programs.sh $(abspath $(PROGRAM))
 	@sh example/library.sh $(abspath $(PROGRAM))
+	@sh example/sizes.sh $(abspath $(PROGRAM))
 
 test:
 	@bash tests/all.sh

@@ -1,6 +1,6 @@
 //! Stores that fail, that lack the file, or that never end.
 
-ghost use Rattle.std.specs.Prelude.{◌≡◌, ◌+◌, ◌<◌, None};
+ghost use Rattle.std.specs.Prelude.{◌≡◌, ◌+◌, ◌-◌, ◌^◌, ◌<◌, None};
 
 use super::{alone, in_words};
 use asm65::{AsmRefusal, assemble};
@@ -66,13 +66,11 @@ struct Alone {
 
 impl Alone {
     fn fail(&mut self) -> StoreFault
-        ensures counted { self.old.failures < 18446744073709551615 → self.new.failures ≡ self.old.failures + 1 }
-        ensures last { self.old.failures ≡ 18446744073709551615 → self.new.failures ≡ self.old.failures }
+        requires { self.old.failures < 2 ^ 64 - 1 }
+        ensures counted { self.new.failures ≡ self.old.failures + 1 }
         ensures fault { result ≡ StoreFault.FileError }
     {
-        if self.failures < u64::MAX {
-            self.failures += 1;
-        }
+        self.failures += 1;
         StoreFault::FileError
     }
 }
@@ -85,7 +83,10 @@ impl Store for Alone {
     ghost blamed = { λ _. None };
 
     fn read_at(&mut self, name: &str, at: u64, buf: &mut [u8]) -> Result<usize, StoreFault> {
-        if self.failures == u64::MAX || name != "b.s" {
+        if self.failures == u64::MAX {
+            return Err(StoreFault::FileError);
+        }
+        if name != "b.s" {
             return Err(self.fail());
         }
         match self.source.get(at as usize..) {
@@ -99,10 +100,16 @@ impl Store for Alone {
     }
 
     fn create(&mut self, _name: &str) -> Result<(), StoreFault> {
+        if self.failures == u64::MAX {
+            return Err(StoreFault::FileError);
+        }
         Err(self.fail())
     }
 
     fn append(&mut self, _name: &str, _piece: &[u8]) -> Result<usize, StoreFault> {
+        if self.failures == u64::MAX {
+            return Err(StoreFault::FileError);
+        }
         Err(self.fail())
     }
 }

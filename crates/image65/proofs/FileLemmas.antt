@@ -9,13 +9,14 @@ use Rattle.std.proofs.lemmas.Str.{is_utf8-from_IsUtf8}
 use Rattle.script65.proofs.Eaches.{drop_item}
 use Rattle.script65.proofs.Utf8.{not_utf8}
 use Rattle.image65.proofs.Walks.{drop_suc, there}
-use Rattle.image65.specs.declared.placement.RowPlace.{RowPlace}
+use Rattle.image65.specs.declared.placement.AreaPlace.{AreaPlace}
+use Rattle.image65.specs.declared.placement.Placement.{Placement}
 use Rattle.script65.specs.declared.script.Area.{Area}
 use Rattle.script65.specs.declared.script.AreaFile.{AreaFile}
 use Rattle.script65.specs.declared.script.AreaFile.TheVariants.{Named}
 use Rattle.script65.specs.declared.script.Row.{Row}
 use Rattle.image65.specs.declared.output.OutputFile.{OutputFile}
-use Rattle.image65.specs.Files.{AddsArea, AddsAreas, IsAreaFile, IsFileBy, Placed, RowBytes, file_name, loaded_in, with_bytes}
+use Rattle.image65.specs.Files.{AddsArea, AddsAreas, IsAreaFile, IsFileBy, Placed, RowBytes, area_at, file_name, loaded_in, with_bytes}
 
 pub named_ok : (output name bytes got : List ℕ) (f : AreaFile) → f ≡ Named name → bytes ≡ name → got ≡ bytes → IsUtf8 bytes → got ≡ file_name output f
 named_ok output name bytes got f is same e utf8 = rw (is, sym same, is_utf8-from_IsUtf8 bytes utf8) e
@@ -114,14 +115,15 @@ names_stay bytes os new place lt h = by (slice_get os place) refl
     by (Some o) e = ap names (h o e) ∙ same_name os place o (o.bytes ++ bytes) e
 
 -- one area more
-module _ (output : List ℕ) (bytes : RowBytes) (rows : List Row) (places : List RowPlace) where
+module _ (output : List ℕ) (bytes : RowBytes) (rows : List Row) (p : Placement) where
   abbrev Adds : ℕ → List Area → List OutputFile → List OutputFile → Type 0
-  Adds = AddsAreas output (IsAreaFile rows places bytes)
+  Adds = AddsAreas output (IsAreaFile rows p bytes)
 
-  pub next_area : (areas : List Area) (k : ℕ) (a : Area) (name : List ℕ) (loads : List Placed) (before mid after : List OutputFile) → k < length areas → a ≡ get_or areas k a → name ≡ file_name output a.file → loads ≡ loaded_in k rows places → AddsArea (length name == 0) name (IsFileBy bytes a loads) before mid → Adds (k + 1) (drop (k + 1) areas) mid after → Adds k (drop k areas) before after
-  next_area areas k a name loads before mid after lt is named are adds rest =
-      let so = subst (λ (n : List ℕ). AddsArea (length n == 0) n (IsFileBy bytes a loads) before mid) named adds in
-      let here = subst (λ (ps : List Placed). AddsArea (length (file_name output a.file) == 0) (file_name output a.file) (IsFileBy bytes a ps) before mid) are so in
+  pub next_area : (areas : List Area) (k : ℕ) (a : Area) (name : List ℕ) (place : AreaPlace) (loads : List Placed) (before mid after : List OutputFile) → k < length areas → a ≡ get_or areas k a → name ≡ file_name output a.file → place ≡ area_at p k → loads ≡ loaded_in k rows p.rows → AddsArea (length name == 0) name (IsFileBy bytes a place loads) before mid → Adds (k + 1) (drop (k + 1) areas) mid after → Adds k (drop k areas) before after
+  next_area areas k a name place loads before mid after lt is named stands are adds rest =
+      let so = subst (λ (n : List ℕ). AddsArea (length n == 0) n (IsFileBy bytes a place loads) before mid) named adds in
+      let there = subst (λ (q : AreaPlace). AddsArea (length (file_name output a.file) == 0) (file_name output a.file) (IsFileBy bytes a q loads) before mid) stands so in
+      let here = subst (λ (ps : List Placed). AddsArea (length (file_name output a.file) == 0) (file_name output a.file) (IsFileBy bytes a (area_at p k) ps) before mid) are there in
       subst (λ (l : List Area). Adds k l before after) (sym (drop_item areas k a lt is)) (mid, here, rest)
 
   pub no_area : (areas : List Area) (k : ℕ) (files : List OutputFile) → length areas ≤ k → Adds k (drop k areas) files files

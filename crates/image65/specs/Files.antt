@@ -1,5 +1,5 @@
 -- The files of areas.
-use Rattle.std.specs.Prelude.{◌≡◌, ℕ, ◌+◌, ◌-◌, ◌<◌, ◌==◌, ◌&&◌, Bool, true, false, if◌then◌else◌, List, [], ◌∷◌, ◌++◌, length, get_or, nat_le, nat_lt}
+use Rattle.std.specs.Prelude.{◌≡◌, ℕ, ◌+◌, ◌-◌, ◌<◌, ◌==◌, ◌&&◌, Bool, true, false, if◌then◌else◌, List, [], ◌∷◌, ◌++◌, length, get_or, slice_get, nat_le, nat_lt, unwrap_or}
 use Rattle.std.specs.Str.{bytes_eq, is_utf8}
 use Rattle.script65.specs.Access.{is_written}
 use Rattle.script65.specs.declared.script.Area.{Area}
@@ -7,6 +7,8 @@ use Rattle.script65.specs.declared.script.AreaFile.{AreaFile}
 use Rattle.script65.specs.declared.script.AreaFile.TheVariants as file
 use Rattle.script65.specs.declared.script.Row.{Row}
 use Rattle.image65.specs.declared.output.OutputFile.{OutputFile}
+use Rattle.image65.specs.declared.placement.AreaPlace.{AreaPlace}
+use Rattle.image65.specs.declared.placement.Placement.{Placement}
 use Rattle.image65.specs.declared.placement.RowPlace.{RowPlace}
 
 -- ---- What lies in an area's file.
@@ -48,9 +50,9 @@ abbrev pub end_behind : ℕ → ℕ → List Placed → ℕ
 end_behind start before [] = before
 end_behind start before (p ∷ ps) = end_behind start (if p.place.size == 0 then before else offset_of start p + p.place.size) ps
 
--- the length of an area's file
-abbrev pub file_len : Area → List Placed → ℕ
-file_len a ps = if a.fill then a.size else end_behind a.start 0 ps
+-- the length of the file of an area that is placed so
+abbrev pub file_len : Area → AreaPlace → List Placed → ℕ
+file_len a place ps = if a.fill then place.size else end_behind place.start 0 ps
 
 -- whether a place is one of bytes that begin at another
 abbrev pub is_inside : ℕ → ℕ → List ℕ → Bool
@@ -69,13 +71,21 @@ pub record IsImage (len fill : ℕ) (pieces : List Piece) (image : List ℕ) : T
   pub size : length image ≡ len
   pub bytes : (i : ℕ) → i < len → get_or image i 0 ≡ byte_over pieces i fill
 
--- An area's file, by the rows that are loaded there: byte i is that at the address i behind the area's start.
-abbrev pub IsFileBy : RowBytes → Area → List Placed → List ℕ → Type 0
-IsFileBy bytes a ps image = IsImage (file_len a ps) a.fill_value (area_pieces a.start bytes ps) image
+-- The file of an area that is placed so, by the rows that are loaded there: byte i is that at the address i behind the
+-- area's start.
+abbrev pub IsFileBy : RowBytes → Area → AreaPlace → List Placed → List ℕ → Type 0
+IsFileBy bytes a place ps image = IsImage (file_len a place ps) a.fill_value (area_pieces place.start bytes ps) image
+
+abbrev pub nowhere : AreaPlace
+nowhere = record { start = 0; size = 0; last = 0 }
+
+-- where the area at a place of the script is placed
+abbrev pub area_at : Placement → ℕ → AreaPlace
+area_at p k = unwrap_or (slice_get p.areas k) nowhere
 
 -- that of the area at a place of the script
-abbrev pub IsAreaFile : List Row → List RowPlace → RowBytes → ℕ → Area → List ℕ → Type 0
-IsAreaFile rows places bytes k a image = IsFileBy bytes a (loaded_in k rows places) image
+abbrev pub IsAreaFile : List Row → Placement → RowBytes → ℕ → Area → List ℕ → Type 0
+IsAreaFile rows p bytes k a image = IsFileBy bytes a (area_at p k) (loaded_in k rows p.rows) image
 
 -- ---- Files by name.
 

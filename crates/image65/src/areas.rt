@@ -5,9 +5,9 @@ ghost use Rattle.std.specs.Option.{option_map};
 ghost use Rattle.image65.specs.Inner.Loads.{HoldsLoads};
 ghost use Rattle.image65.specs.Files.{is_loaded};
 
-use crate::placement::RowPlace;
+use crate::placement::{AreaPlace, RowPlace};
 use base65::Sequence;
-use script65::Row;
+use script65::{Area, Row};
 use std::alloc::{AllocError, Global};
 
 /// A row and where it is placed.
@@ -15,6 +15,14 @@ use std::alloc::{AllocError, Global};
 pub struct Load<'a> {
     pub row: &'a Row,
     pub place: RowPlace,
+}
+
+/// An area, where it is placed, and the rows of its file.
+#[derive(Clone, Copy)]
+pub struct Filled<'b, 'a> {
+    pub area: &'b Area,
+    pub place: AreaPlace,
+    pub loads: &'b [Load<'a>],
 }
 
 /// As many empty sequences as there are areas.

@@ -1,19 +1,19 @@
 //! The files of areas.
 
 ghost use Rattle.std.specs.Prelude.{◌≡◌, ◌<◌, ◌++◌, ◌==◌, List, [], IfOk, OnOk, Some, length, map, slice_get, slice_set};
-ghost use Rattle.image65.specs.Files.{AddsArea, AddsAreas, IsAreaFile, IsFileBy, file_name, with_bytes};
+ghost use Rattle.image65.specs.Files.{AddsArea, AddsAreas, IsAreaFile, IsFileBy, area_at, file_name, with_bytes};
 ghost use Rattle.image65.specs.Inner.Loads.{AreNamed, view};
 ghost use Rattle.image65.specs.declared.areas.Load.{Load};
 ghost use Rattle.image65.specs.declared.output.OutputFile.{OutputFile};
 
-use crate::areas::{Load, loads_of};
+use crate::areas::{Filled, Load, loads_of};
 use crate::imaging::area_file;
 use crate::output::OutputFile;
-use crate::placement::RowPlace;
+use crate::placement::{AreaPlace, Placement};
 use crate::rows::RowContents;
 use base65::{Sequence, Text};
 use indexmap::IndexSet;
-use script65::{Area, AreaFile, Script};
+use script65::{AreaFile, Script};
 use std::alloc::{AllocError, Global};
 
 /// The name of an area's file, where the linker's output has a name.
@@ -68,19 +68,18 @@ impl<'a> Files<'a> {
         &mut self,
         alloc: Global,
         name: &'a str,
-        area: &Area,
+        filled: &Filled<'_, '_>,
         contents: &C,
-        loads: &[Load<'_>],
     ) -> Result<(), AllocError>
         requires named { AreNamed self.old }
         requires ready { C.is_ready contents.now }
-        ensures files { OnOk result (AddsArea (length name.entry.now == 0) name.entry.now (IsFileBy (C.row_bytes contents.now) area.now (map view loads.now)) self.old.outputs.items self.new.outputs.items) }
+        ensures files { OnOk result (AddsArea (length name.entry.now == 0) name.entry.now (IsFileBy (C.row_bytes contents.now) filled.now.area.now filled.now.place (map view filled.now.loads.now)) self.old.outputs.items self.new.outputs.items) }
         ensures named { OnOk result (AreNamed self.new) }
     {
         if name.is_empty() {
             return Ok(());
         }
-        let image = area_file(alloc, area, contents, loads)?;
+        let image = area_file(alloc, filled, contents)?;
         self.add(alloc, name, Sequence::from_vec(image))
     }
 }
@@ -92,18 +91,33 @@ fn loads_at<'b, 'a>(loads: &'b Vec<Sequence<Load<'a>>>, k: usize) -> &'b [Load<'
     loads[k].as_slice()
 }
 
-/// The files of all areas, by the places of the script's rows.
+/// Where the area at a place of the script is placed.
+fn area_at(placement: &Placement, k: usize) -> AreaPlace
+    ensures { result ≡ area_at placement.now k }
+{
+    match placement.areas.as_slice().get(k) {
+        Some(place) => *place,
+        None => AreaPlace {
+            start: 0,
+            size: 0,
+            last: 0,
+        },
+    }
+}
+
+/// The files of all areas, by the places of the script's areas and rows.
 pub fn files_of<C: RowContents>(
     alloc: Global,
     output: &str,
     script: &Script,
     contents: &C,
-    places: &[RowPlace],
+    placement: &Placement,
 ) -> Result<Sequence<OutputFile>, AllocError>
     requires { C.is_ready contents.now }
-    ensures { IfOk result (λ files. AddsAreas output.now (IsAreaFile script.now.rows places.now (C.row_bytes contents.now)) 0 script.now.areas [] files) }
+    ensures { IfOk result (λ files. AddsAreas output.now (IsAreaFile script.now.rows placement.now (C.row_bytes contents.now)) 0 script.now.areas [] files) }
 {
     let areas = script.areas.as_slice();
+    let places = placement.rows.as_slice();
     let loads = loads_of(alloc, areas.len(), script.rows.as_slice(), places)?;
     let mut files = Files {
         names: IndexSet::new(alloc),
@@ -111,7 +125,12 @@ pub fn files_of<C: RowContents>(
     };
     for (k, area) in areas.iter().enumerate() {
         let name = file_name(output, &area.file);
-        files.add_area(alloc, name, area, contents, loads_at(&loads, k))?;
+        let filled = Filled {
+            area,
+            place: area_at(placement, k),
+            loads: loads_at(&loads, k),
+        };
+        files.add_area(alloc, name, &filled, contents)?;
     }
     Ok(Sequence::from_vec(files.outputs))
 }

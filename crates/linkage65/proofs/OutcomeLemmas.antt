@@ -51,7 +51,7 @@ areas_once output IsFile once (x ∷ rest) k before a b (m, hm, h) (n, hn, g) =
 
 imaged_once : (output : List ℕ) (s : Script) (p : Program) (placement : Placement) (l : Linkage) (exports : Exports) (warnings : List ℕ) (r q : Result Linked LinkFault) → IsImaged output s p placement l exports warnings r → IsImaged output s p placement l exports warnings q → r ≡ q
 imaged_once output s p placement l exports warnings r q (a, ha, e) (b, hb, f) =
-    let same : a ≡ b = areas_once output (IsAreaFile s.rows placement.rows (row_bytes l exports p.segments)) (λ k x i j hi hj. image_once _ _ _ i j hi hj) s.areas 0 [] a b ha hb in
+    let same : a ≡ b = areas_once output (IsAreaFile s.rows placement (row_bytes l exports p.segments)) (λ k x i j hi hj. image_once _ _ _ i j hi hj) s.areas 0 [] a b ha hb in
     let made : List OutputFile → Result Linked LinkFault = λ fs. Ok (record { files = fs; warnings = warnings_of_rows s.rows p.segments ++ warnings; map = map_text s p placement l exports }) in
     e ∙ ap made same ∙ sym f
 

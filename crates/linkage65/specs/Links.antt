@@ -59,7 +59,7 @@ checked s p l exports =
 -- the files of a placed program
 abbrev pub AreFiles : List ℕ → Script → Program → Placement → Linkage → Exports → List OutputFile → Type 0
 AreFiles output s p placement l exports files =
-    AddsAreas output (IsAreaFile s.rows placement.rows (row_bytes l exports p.segments)) 0 s.areas [] files
+    AddsAreas output (IsAreaFile s.rows placement (row_bytes l exports p.segments)) 0 s.areas [] files
 
 -- what a placed program is linked to, where all is found to pass with these warnings of assertions
 abbrev pub IsImaged : List ℕ → Script → Program → Placement → Linkage → Exports → List ℕ → Result Linked LinkFault → Type 0

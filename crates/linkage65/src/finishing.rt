@@ -84,8 +84,7 @@ fn image(
     let map = map_text(alloc, job, names, held)?;
     let mut warnings = warnings_of(alloc, held.segments, job.script.rows.as_slice())?;
     warnings.extend_from_slice(assertions)?;
-    let places = job.placement.rows.as_slice();
-    let files = files_of(alloc, job.output, job.script, held, places)?;
+    let files = files_of(alloc, job.output, job.script, held, job.placement)?;
     Ok(Linked {
         files,
         warnings,

@@ -4,12 +4,13 @@ use Rattle.std.specs.Prelude.{ℤ, ◌↔◌, ◌==◌}
 use Rattle.std.specs.List.{AllByRecursion}
 use Rattle.base65.specs.Outcome.{◌>>=◌}
 use Rattle.object65.specs.declared.object.Export.{Export}
+use Rattle.image65.specs.declared.placement.Placement.{Placement}
 use Rattle.image65.specs.declared.placement.RowPlace.{RowPlace}
 use Rattle.script65.specs.declared.script.Area.{Area}
 use Rattle.script65.specs.declared.script.Row.{Row}
 use Rattle.language65.specs.Layout.{Layout}
 use Rattle.linkage65.specs.Checks.{check_export, each_passes, site, value_at}
-use Rattle.image65.specs.Files.{AddsArea, AddsAreas, IsAreaFile, IsImage, RowBytes, area_pieces, file_len, file_name, is_loaded, loaded_in, offset_of}
+use Rattle.image65.specs.Files.{AddsArea, AddsAreas, IsAreaFile, IsImage, RowBytes, area_at, area_pieces, file_len, file_name, is_loaded, loaded_in, offset_of}
 use Rattle.linkage65.specs.RowBytes.{row_bytes}
 use Rattle.linkage65.specs.Modules.{Module}
 use Rattle.linkage65.specs.Places.{linkage_of}
@@ -45,8 +46,9 @@ same_pieces start k bytes others (r ∷ rs) (p ∷ ps) h = go (is_loaded k r) (s
         ∙ ap (λ z. record { offset = offset_of start (record { row = r; place = p }); bytes = others r } ∷ z) e
     go false e = e
 
-same_file : (rs : List Row) (ps : List RowPlace) (bytes others : RowBytes) → AllByRecursion (λ r. bytes r ≡ others r) rs → (k : ℕ) (a : Area) (image : List ℕ) → IsAreaFile rs ps bytes k a image → IsAreaFile rs ps others k a image
-same_file rs ps bytes others h k a image f = subst (λ z. IsImage (file_len a (loaded_in k rs ps)) a.fill_value z image) (same_pieces a.start k bytes others rs ps h) f
+same_file : (rs : List Row) (p : Placement) (bytes others : RowBytes) → AllByRecursion (λ r. bytes r ≡ others r) rs → (k : ℕ) (a : Area) (image : List ℕ) → IsAreaFile rs p bytes k a image → IsAreaFile rs p others k a image
+same_file rs p bytes others h k a image f =
+    subst (λ z. IsImage (file_len a (area_at p k) (loaded_in k rs p.rows)) a.fill_value z image) (same_pieces (area_at p k).start k bytes others rs p.rows h) f
 
 module _ (output : List ℕ) (F G : ℕ → Area → List ℕ → Type 0) (up : (k : ℕ) (a : Area) (image : List ℕ) → F k a image → G k a image) where
   adds_one : (k : ℕ) (a : Area) (b : Bool) (name : List ℕ) (before after : List OutputFile) → AddsArea b name (F k a) before after → AddsArea b name (G k a) before after
@@ -65,7 +67,7 @@ pub files_law : FilesLaw
 files_law output s placement ys ms table files h exports =
     let l : Linkage = linkage_of s (linked.program_of ms) placement in
     let written : RowBytes = row_bytes l (in_table table) (linked.program_of ms).segments in (
-      λ k. (let both = (rows_law s placement ys ms table k.bytes h exports).0 k.rows in (both.0, adds_all output (IsAreaFile s.rows placement.rows k.bytes) (IsAreaFile s.rows placement.rows written) (same_file s.rows placement.rows k.bytes written both.1) 0 s.areas [] files k.image)),
+      λ k. (let both = (rows_law s placement ys ms table k.bytes h exports).0 k.rows in (both.0, adds_all output (IsAreaFile s.rows placement k.bytes) (IsAreaFile s.rows placement written) (same_file s.rows placement k.bytes written both.1) 0 s.areas [] files k.image)),
       λ k. record { bytes = written; rows = (rows_law s placement ys ms table written h exports).1 (k.0, all_itself written s.rows); image = k.1 },
     )
 

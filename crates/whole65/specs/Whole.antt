@@ -69,7 +69,7 @@ pub record IsPlaced (output : List ℕ) (s : Script) (ys : List Layout) (placeme
   -- the bytes of each row, whether or not they are in a file
   pub bytes : RowBytes
   pub rows : AllByRecursion (AreRow p ys bytes) s.rows
-  pub image : AddsAreas output (IsAreaFile s.rows placement.rows bytes) 0 s.areas [] files
+  pub image : AddsAreas output (IsAreaFile s.rows placement bytes) 0 s.areas [] files
 
 -- Laid out and evaluated as one program, the modules have this image: a list of files by name.
 pub record Whole (output : List ℕ) (s : Script) (ys : List Layout) (files : List OutputFile) : Type 0 where
@@ -97,4 +97,4 @@ AreForced p (y ∷ ys) = AllByRecursion (IsGiven p) (forced_of y) × AreForced p
 pub record HasImage (output : List ℕ) (s : Script) (ys : List Layout) (placement : Placement) (p : Program) (files : List OutputFile) : Type 0 where
   pub bytes : RowBytes
   pub rows : AllByRecursion (AreRow p ys bytes) s.rows
-  pub image : AddsAreas output (IsAreaFile s.rows placement.rows bytes) 0 s.areas [] files
+  pub image : AddsAreas output (IsAreaFile s.rows placement bytes) 0 s.areas [] files

@@ -43,7 +43,7 @@ fn make(
     placement: &Placement,
     bytes: &[u8],
 ) -> Result<bool, AllocError> {
-    let files = files_of(alloc, "a.out", script, &Names, placement.rows.as_slice())?;
+    let files = files_of(alloc, "a.out", script, &Names, placement)?;
     Ok(is_file(files.as_slice(), "a.out", bytes))
 }
 

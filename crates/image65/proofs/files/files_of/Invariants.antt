@@ -7,5 +7,5 @@ use Rattle.image65.proofs.files.files_of.Given as goal
 abbrev pub invariant-loop-k : goal.invariant-loop-k
 invariant-loop-k g l = record {
   named : AreNamed l.files;
-  rest : (after : List OutputFile) → AddsAreas l.output (IsAreaFile l.script.rows l.places (g.C.RowContents.row_bytes l.contents)) l.k (drop l.k l.areas) l.files.outputs.items after → AddsAreas l.output (IsAreaFile l.script.rows l.places (g.C.RowContents.row_bytes l.contents)) 0 l.areas [] after;
+  rest : (after : List OutputFile) → AddsAreas l.output (IsAreaFile l.script.rows l.placement (g.C.RowContents.row_bytes l.contents)) l.k (drop l.k l.areas) l.files.outputs.items after → AddsAreas l.output (IsAreaFile l.script.rows l.placement (g.C.RowContents.row_bytes l.contents)) 0 l.areas [] after;
 }

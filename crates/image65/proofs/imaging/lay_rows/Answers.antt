@@ -1,4 +1,4 @@
-use Rattle.std.proofs.Common.{◌-◌, ◌∙◌, ap}
+use Rattle.std.proofs.Common.{◌∙◌}
 use Rattle.image65.proofs.ImageLemmas.{next_row, no_row}
 use Rattle.image65.proofs.imaging.lay_rows.Goals as goal
 
@@ -6,7 +6,7 @@ pub loop-load-preserved : goal.loop-load-preserved
 loop-load-preserved g c = λ new h.
     c.loop-load.invariant new
     (next_row c.args.start c.saturating_sub-offset.result (g.C.RowContents.row_bytes c.args.contents.now) c.args.loads.now c.loop-load.load-index c.load-item.result c.as_slice.result.now _ _ new c.loop-load-test.true c.load-item.is
-    (c.saturating_sub-offset.ensures ∙ ap (λ n. c.load-item.result.place.load - n) c.from.ensures)
+    c.saturating_sub-offset.ensures
     (c.as_slice.ensures ∙ c.in_ok-bytes.ensures)
     c.overlay.ensures
     h)

@@ -1,7 +1,9 @@
 -- Lists that are made item by item.
-use Rattle.std.proofs.Common.{◌≡◌, ◌<◌, ◌+◌, ℕ, zero, suc, add-one, get_or, List, [], ◌∷◌, ◌++◌, length, map, drop, slice_get, Option, Some, None, refl, sym, ap, ◌∙◌, Ok, Err}
+use Rattle.std.proofs.Common.{◌≡◌, ◌<◌, ◌≤◌, ◌+◌, ℕ, zero, suc, add-one, get_or, List, [], ◌∷◌, ◌++◌, length, map, drop, slice_get, Option, Some, None, refl, sym, ap, ◌∙◌, Ok, Err}
 use Rattle.std.specs.Prelude.{Result}
 use Rattle.std.specs.Option.{option_map}
+use Rattle.std.proofs.Math.Seq.{drop-cons}
+use Rattle.std.proofs.lemmas.List.{drop_all}
 use Rattle.std.proofs.lemmas.Option.{slice_get_read}
 use Rattle.script65.specs.Outcome.{each, ◌>>=◌}
 
@@ -76,6 +78,28 @@ each_stops f done xs x e inv at h =
 pub each_end : {E A B : Type 0} (f : A → Result B E) (done : List B) (xs : List A) → behind done (each f (drop (length done) xs)) ≡ each f xs → slice_get xs (length done) ≡ None → each f xs ≡ Ok done
 each_end f done xs inv at =
     sym inv ∙ ap (λ l. behind done (each f l)) (drop_end xs (length done) at) ∙ ap Ok (append_none done)
+
+-- the same where a loop goes by the place of an item
+
+pub rest_at : {A : Type 0} (xs : List A) (i : ℕ) (d : A) → i < length xs → drop i xs ≡ get_or xs i d ∷ drop (i + 1) xs
+rest_at xs i d lt = rw add-one (drop-cons xs i d lt)
+
+pub each_next : {E A B : Type 0} (f : A → Result B E) (done : List B) (xs : List A) (i : ℕ) (d : A) (y : B) → i < length xs → behind done (each f (drop i xs)) ≡ each f xs → f (get_or xs i d) ≡ Ok y → behind (done ++ y ∷ []) (each f (drop (i + 1) xs)) ≡ each f xs
+each_next f done xs i d y lt inv e =
+    sym (behind_one done y (each f (drop (i + 1) xs)))
+    ∙ sym (ap (λ r. behind done (r >>= λ y. each f (drop (i + 1) xs) >>= λ ys. Ok (y ∷ ys))) e)
+    ∙ sym (ap (λ l. behind done (each f l)) (rest_at xs i d lt))
+    ∙ inv
+
+pub each_refuses : {E A B : Type 0} (f : A → Result B E) (done : List B) (xs : List A) (i : ℕ) (d : A) (e : E) → i < length xs → behind done (each f (drop i xs)) ≡ each f xs → f (get_or xs i d) ≡ Err e → each f xs ≡ Err e
+each_refuses f done xs i d e lt inv h =
+    sym inv
+    ∙ ap (λ l. behind done (each f l)) (rest_at xs i d lt)
+    ∙ ap (λ r. behind done (r >>= λ y. each f (drop (i + 1) xs) >>= λ ys. Ok (y ∷ ys))) h
+
+pub each_all : {E A B : Type 0} (f : A → Result B E) (done : List B) (xs : List A) (i : ℕ) → length xs ≤ i → behind done (each f (drop i xs)) ≡ each f xs → each f xs ≡ Ok done
+each_all f done xs i le inv =
+    sym inv ∙ ap (λ l. behind done (each f l)) (drop_all i xs le) ∙ ap Ok (append_none done)
 
 -- no item, seen by f
 pub none_mapped : {A B : Type 0} (f : A → B) (o : Option A) (s : Option B) → ((x : A) → o ≡ Some x → ⊥) → option_map f o ≡ s → s ≡ None

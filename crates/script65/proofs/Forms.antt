@@ -7,9 +7,9 @@ use Rattle.script65.specs.declared.reading.token.Form.{Form}
 use Rattle.script65.specs.declared.reading.token.Form.TheVariants as form
 
 end_of_rank : (f g : Form) → (form_rank f == form_rank g) ≡ true → f ≡ form.End → g ≡ form.End
-end_of_rank f g h e = by_rank g (let h' : (10 == form_rank g) ≡ true = rw (ap form_rank e) at h in h')
+end_of_rank f g h e = by_rank g (let h' : (12 == form_rank g) ≡ true = rw (ap form_rank e) at h in h')
   where
-    by_rank : (g : Form) → (10 == form_rank g) ≡ true → g ≡ form.End
+    by_rank : (g : Form) → (12 == form_rank g) ≡ true → g ≡ form.End
     by_rank form.End h = refl
     by_rank form.Word h = cc
     by_rank form.Number h = cc
@@ -19,6 +19,8 @@ end_of_rank f g h e = by_rank g (let h' : (10 == form_rank g) ≡ true = rw (ap 
     by_rank form.Semicolon h = cc
     by_rank form.Comma h = cc
     by_rank form.Equals h = cc
+    by_rank form.Plus h = cc
+    by_rank form.Minus h = cc
     by_rank form.Open h = cc
     by_rank form.Close h = cc
     by_rank form.Bad h = cc

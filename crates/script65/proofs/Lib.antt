@@ -2,6 +2,9 @@ pub mod Digits
 pub mod Eaches
 pub mod Forms
 pub mod Manys
+pub mod NameLemmas
 pub mod OneReading
+pub mod Printed
+pub mod SumLemmas
 pub mod TableLemmas
 pub mod Utf8

@@ -8,7 +8,8 @@ use Rattle.script65.specs.declared.reading.words.Given.{Given}
 use Rattle.script65.specs.Tokens.{token_at}
 use Rattle.script65.specs.declared.fault.Fault.{Fault}
 use Rattle.script65.specs.declared.reading.token.Token.{Token}
-use Rattle.script65.specs.Grammar.{Draft, First, Attributes, IsEntry, added, attribute_at, entry_end, entry_fault, entry_head, more, stops, stands, text_of, unless_fault}
+use Rattle.script65.specs.declared.reading.words.Part.{Part}
+use Rattle.script65.specs.Grammar.{Draft, First, Attributes, IsEntry, Parts, added, ends_sum, entry_end, entry_fault, entry_head, more, signed_part, stops, stands, text_of, unless_fault}
 use Rattle.script65.specs.Outcome.{Finds, Unless, ◌>>=◌}
 
 -- a fault of a part is one of the whole
@@ -26,14 +27,16 @@ finds_map outside view view' P Q e g h = unless_map (P (Err e)) (Q (Err e)) (out
 pub finds_of : {E X A : Type 0} (outside : E → Bool) (view : X → A) (P : Result A E → Type 0) (e : E) → P (Err e) → Finds outside view P (Err e)
 finds_of outside view P e h = unless_of (outside e) h
 
-pub attribute_stops : (bytes : List ℕ) (block : Block) (given : List Given) (at : ℕ) (e : Stop) → stands bytes form.Semicolon at ≡ false → Err e ≡ attribute_at bytes block given at → Attributes bytes block given at (Err e)
-attribute_stops bytes block given at e shut h = stops given at e shut (ap (λ x. x >>= λ g. Ok (given ++ g.0 ∷ [], g.1)) h)
-
-pub attribute_more : (bytes : List ℕ) (block : Block) (given : List Given) (at next : ℕ) (g : Given) (r : Result (List Given × ℕ) Stop) → stands bytes form.Semicolon at ≡ false → Ok (g, next) ≡ attribute_at bytes block given at → Attributes bytes block (given ++ g ∷ []) next r → Attributes bytes block given at r
-attribute_more bytes block given at next g r shut h rest = more given (given ++ g ∷ []) at next r shut (ap (λ x. x >>= λ g. Ok (given ++ g.0 ∷ [], g.1)) h) rest
-
 pub first_ok : {A B : Type 0} (x : A) (head : Result A Stop) (Next : A → Result B Stop → Type 0) (r : Result B Stop) → Ok x ≡ head → Next x r → First head Next r
 first_ok x head Next r e h = subst (λ u. First u Next r) e h
+
+-- a part of a sum
+
+pub part_stops : (bytes : List ℕ) (ps : List Part) (at : ℕ) (e : Stop) → ends_sum bytes at ≡ false → Err e ≡ signed_part bytes at → Parts bytes ps at (Err e)
+part_stops bytes ps at e goes h = stops ps at e goes (ap (λ x. x >>= λ p. Ok (ps ++ p.0 ∷ [], p.1)) h)
+
+pub part_more : (bytes : List ℕ) (ps : List Part) (at next : ℕ) (p : Part) (r : Result (List Part × ℕ) Stop) → ends_sum bytes at ≡ false → Ok (p, next) ≡ signed_part bytes at → Parts bytes (ps ++ p ∷ []) next r → Parts bytes ps at r
+part_more bytes ps at next p r goes h rest = more ps (ps ++ p ∷ []) at next r goes (ap (λ x. x >>= λ p. Ok (ps ++ p.0 ∷ [], p.1)) h) rest
 
 abbrev Reached : Type 0
 Reached = Result (Draft × ℕ) Stop

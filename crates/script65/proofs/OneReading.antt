@@ -1,15 +1,20 @@
 -- A text is one script, or has one first fault.
-use Rattle.std.proofs.Common.{◌≡◌, ℕ, Bool, true, false, List, [], refl, sym, ap, ◌∙◌, subst, Ok, Err}
+use Rattle.std.proofs.Common.{◌≡◌, ℕ, Bool, true, false, List, [], ◌∷◌, refl, sym, ap, ◌∙◌, subst, Ok, Err}
 use Rattle.std.specs.Prelude.{Result}
 use Rattle.script65.specs.declared.fault.Stop.{Stop}
 use Rattle.script65.specs.declared.reading.token.Form.TheVariants as form
 use Rattle.script65.specs.declared.reading.words.Block.{Block}
+use Rattle.script65.specs.declared.reading.words.Part.{Part}
+use Rattle.script65.specs.declared.reading.words.Shape.{Shape}
+use Rattle.script65.specs.declared.reading.words.Shape.TheVariants as shape
+use Rattle.script65.specs.declared.reading.words.Value.{Value}
 use Rattle.script65.specs.declared.script.Script.{Script}
-use Rattle.script65.specs.Grammar.{Many, ends, more, stops, First, Then, IsAttribute, Attributes, IsEntry, Entries, IsBlock, Blocks, Draft, Drafts, entry_head, entry_end, block_head, nothing, stands, sized}
+use Rattle.script65.specs.Grammar.{Many, ends, more, stops, First, Then, IsPart, Parts, IsSum, IsValue, IsAttribute, Attributes, IsEntry, Entries, IsBlock, Blocks, Draft, Drafts, entry_head, entry_end, block_head, nothing, stands, sized, ends_sum, part_at, sum_end, attribute_word, attribute_end, behind}
 use Rattle.script65.specs.Laws.{OneReading}
 use Rattle.script65.specs.Scripts.{Reads, script_of, with_line}
 use Rattle.script65.specs.Outcome.{◌>>=◌}
 use Rattle.script65.specs.Tokens.{token_at}
+use Rattle.script65.specs.Words.{shape_of}
 
 abbrev IsOne : {S : Type 0} → (S → ℕ → Result (S × ℕ) Stop → Type 0) → Type 0
 IsOne {S} P = (s : S) (at : ℕ) (r q : Result (S × ℕ) Stop) → P s at r → P s at q → r ≡ q
@@ -43,8 +48,33 @@ first_one (Err e) Next one r q h k = h ∙ sym k
 then_one : {A B : Type 0} (P : Result A Stop → Type 0) (f : A → Result B Stop) → ((r q : Result A Stop) → P r → P q → r ≡ q) → (r q : Result B Stop) → Then P f r → Then P f q → r ≡ q
 then_one P f one r q h k = h.2 ∙ ap (λ v. v >>= f) (one h.0 k.0 h.1 k.1) ∙ sym k.2
 
+parts_one : (bytes : List ℕ) → IsOne (Parts bytes)
+parts_one bytes = many_one (ends_sum bytes) (IsPart bytes) (λ s at r q h k. h ∙ sym k)
+
+sum_one : (bytes : List ℕ) (at : ℕ) (r q : Result (Value × List Part × ℕ) Stop) → IsSum bytes at r → IsSum bytes at q → r ≡ q
+sum_one bytes at =
+    first_one (part_at bytes false at) (λ p. Then (Parts bytes (p.0 ∷ []) p.1) sum_end)
+    (λ p. then_one (Parts bytes (p.0 ∷ []) p.1) sum_end (parts_one bytes (p.0 ∷ []) p.1))
+
+value_one : (bytes : List ℕ) (s : Shape) (at : ℕ) (r q : Result (Value × List Part × ℕ) Stop) → IsValue bytes s at r → IsValue bytes s at q → r ≡ q
+value_one bytes shape.Sum at r q h k = sum_one bytes at r q h k
+value_one bytes (shape.Number low high) at r q h k = h ∙ sym k
+value_one bytes shape.Byte at r q h k = h ∙ sym k
+value_one bytes shape.Flag at r q h k = h ∙ sym k
+value_one bytes shape.Area at r q h k = h ∙ sym k
+value_one bytes shape.File at r q h k = h ∙ sym k
+value_one bytes shape.AreaAccess at r q h k = h ∙ sym k
+value_one bytes shape.RowAccess at r q h k = h ∙ sym k
+value_one bytes shape.Role at r q h k = h ∙ sym k
+value_one bytes shape.Width at r q h k = h ∙ sym k
+
+attribute_one : (bytes : List ℕ) (block : Block) → IsOne (IsAttribute bytes block)
+attribute_one bytes block given at =
+    first_one (attribute_word bytes block given at) (λ a. Then (IsValue bytes (shape_of block a.0) (behind bytes form.Equals a.1)) (attribute_end bytes given a.0))
+    (λ a. then_one (IsValue bytes (shape_of block a.0) (behind bytes form.Equals a.1)) (attribute_end bytes given a.0) (value_one bytes (shape_of block a.0) (behind bytes form.Equals a.1)))
+
 attributes_one : (bytes : List ℕ) (block : Block) → IsOne (Attributes bytes block)
-attributes_one bytes block = many_one (stands bytes form.Semicolon) (IsAttribute bytes block) (λ s at r q h k. h ∙ sym k)
+attributes_one bytes block = many_one (stands bytes form.Semicolon) (IsAttribute bytes block) (attribute_one bytes block)
 
 entry_one : (bytes : List ℕ) (block : Block) → IsOne (IsEntry bytes block)
 entry_one bytes block d at =

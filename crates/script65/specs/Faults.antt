@@ -1,7 +1,7 @@
 -- The faults of scripts: their texts, and which of them come from memory.
-use Rattle.std.specs.Prelude.{ℕ, Bool, true, false, List, codes}
+use Rattle.std.specs.Prelude.{ℕ, Bool, true, false, if◌then◌else◌, List, ◌++◌, codes, encode_utf8_all}
 use Rattle.script65.specs.declared.fault.Fault.{Fault}
-use Rattle.script65.specs.declared.fault.Fault.TheVariants.{OutOfMemory, SyntaxError, UnknownAttribute, AttributeTwice, AttributeMissing, NameTwice, NoSuchArea, OutOfRange, Excluded, TooLong}
+use Rattle.script65.specs.declared.fault.Fault.TheVariants.{OutOfMemory, SyntaxError, UnknownAttribute, AttributeTwice, AttributeMissing, NameTwice, NoSuchArea, OutOfRange, Excluded, TooLong, NoSuchName, AmbiguousName}
 use Rattle.script65.specs.declared.fault.Stop.{Stop}
 use Rattle.script65.specs.declared.fault.ScriptFault.{ScriptFault}
 
@@ -16,6 +16,19 @@ fault_text NoSuchArea = codes "no such area"
 fault_text OutOfRange = codes "value out of range"
 fault_text Excluded = codes "attributes exclude each other"
 fault_text TooLong = codes "script too long"
+fault_text NoSuchName = codes "no such name"
+fault_text AmbiguousName = codes "ambiguous name"
+
+-- whether a fault is one of a name
+abbrev pub names : Fault → Bool
+names NoSuchName = true
+names AmbiguousName = true
+names _ = false
+
+-- a fault with the name that it is one of, byte by byte, each as the character of its code (so ASCII as it is)
+abbrev pub script_fault_text : ScriptFault → List ℕ
+script_fault_text e =
+    if names e.fault then fault_text e.fault ++ codes ": " ++ encode_utf8_all e.name else fault_text e.fault
 
 abbrev pub is_memory_fault : Fault → Bool
 is_memory_fault OutOfMemory = true

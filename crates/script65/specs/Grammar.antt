@@ -1,7 +1,7 @@
 -- The grammar of scripts, and the first fault of one.
-use Rattle.std.specs.Prelude.{◌≡◌, ℕ, ◌+◌, ◌-◌, ◌^◌, Bool, true, false, ◌==◌, ◌&&◌, not, nat_le, nat_lt, unwrap_or, if◌then◌else◌, List, [], ◌∷◌, ◌++◌, length, Option, Some, None, Result, Ok, Err, find}
+use Rattle.std.specs.Prelude.{◌≡◌, ℕ, ◌+◌, ◌-◌, ◌^◌, Bool, true, false, ◌==◌, ◌&&◌, ◌||◌, not, nat_le, nat_lt, is_some, unwrap_or, if◌then◌else◌, List, [], ◌∷◌, ◌++◌, length, slice_get, Option, Some, None, Result, Ok, Err, find}
 use Rattle.std.specs.List.{list_any}
-use Rattle.std.specs.Option.{option_map, option_and_then}
+use Rattle.std.specs.Option.{option_map, option_map_or, option_and_then}
 use Rattle.std.specs.Str.{bytes_eq}
 use Rattle.script65.specs.declared.fault.Fault.{Fault}
 use Rattle.script65.specs.declared.fault.Fault.TheVariants.{SyntaxError, UnknownAttribute, AttributeTwice, AttributeMissing, NameTwice, OutOfRange, Excluded, TooLong}
@@ -20,9 +20,11 @@ use Rattle.script65.specs.declared.reading.words.Shape.TheVariants as shape
 use Rattle.script65.specs.declared.reading.words.Value.{Value}
 use Rattle.script65.specs.declared.reading.words.Value.TheVariants as value
 use Rattle.script65.specs.declared.reading.words.Given.{Given}
+use Rattle.script65.specs.declared.reading.words.Part.{Part}
 use Rattle.script65.specs.declared.reading.table.Entry.{Entry}
 use Rattle.script65.specs.Numbers.{number_of}
 use Rattle.script65.specs.Outcome.{◌>>=◌}
+use Rattle.script65.specs.Sums.{sum_of}
 use Rattle.script65.specs.Tokens.{token_at, text}
 use Rattle.script65.specs.Words.{block_of, attribute_of, shape_of, area_access_of, row_access_of, flag_of, role_of, is_width}
 
@@ -44,10 +46,12 @@ form_rank form.Colon = 4
 form_rank form.Semicolon = 5
 form_rank form.Comma = 6
 form_rank form.Equals = 7
-form_rank form.Open = 8
-form_rank form.Close = 9
-form_rank form.End = 10
-form_rank form.Bad = 11
+form_rank form.Plus = 8
+form_rank form.Minus = 9
+form_rank form.Open = 10
+form_rank form.Close = 11
+form_rank form.End = 12
+form_rank form.Bad = 13
 
 abbrev pub attribute_rank : Attribute → ℕ
 attribute_rank attribute.Start = 0
@@ -157,6 +161,55 @@ value_at bytes shape.Byte at = byte_at bytes at
 value_at bytes shape.File at = file_at bytes at
 value_at bytes s at = word_at bytes s at
 
+-- sums
+
+-- a number, with a `-` before it or not
+unfoldable pub number_part : List ℕ → Bool → ℕ → Result (Part × ℕ) Stop
+number_part bytes minus at = do
+  t ← expect bytes form.Number at
+  n ← some_or (number_of (text_of bytes t)) OutOfRange t
+  Ok (record { minus = minus; from = t.from; to = t.to; number = Some n }, t.to)
+
+-- a name
+unfoldable pub name_part : List ℕ → Bool → ℕ → Result (Part × ℕ) Stop
+name_part bytes minus at = do
+  t ← expect bytes form.Word at
+  Ok (record { minus = minus; from = t.from; to = t.to; number = None }, t.to)
+
+abbrev pub part_at : List ℕ → Bool → ℕ → Result (Part × ℕ) Stop
+part_at bytes minus at = if stands bytes form.Number at then number_part bytes minus at else name_part bytes minus at
+
+-- a sum ends where no sign stands
+abbrev pub ends_sum : List ℕ → ℕ → Bool
+ends_sum bytes at = not (stands bytes form.Plus at || stands bytes form.Minus at)
+
+-- the part behind a sign
+unfoldable pub signed_part : List ℕ → ℕ → Result (Part × ℕ) Stop
+signed_part bytes at = part_at bytes (stands bytes form.Minus at) (token_at bytes at).to
+
+abbrev pub is_name : Part → Bool
+is_name p = not (is_some p.number)
+
+-- what parts come to that are all numbers
+abbrev pub number_of_parts : List Part → Option ℕ
+number_of_parts ps = sum_of (λ (p : Part). p.minus) (λ (p : Part). unwrap_or p.number 0) ps
+
+-- the value of a sum of parts: a number, where it has no name and is one
+abbrev pub sum_value : List Part → Option Value
+sum_value ps = if list_any is_name ps then Some value.Sum else option_map value.Number (number_of_parts ps)
+
+-- where the last part stands
+abbrev pub last_place : List Part → ℕ
+last_place ps = option_map_or (λ (p : Part). p.from) (slice_get ps (length ps - 1)) 0
+
+-- a sum without names is out of range at its last number
+abbrev pub sum_end : List Part × ℕ → Result (Value × List Part × ℕ) Stop
+sum_end x = valued (sum_value x.0)
+  where
+    valued : Option Value → Result (Value × List Part × ℕ) Stop
+    valued (Some v) = Ok (v, x.0, x.1)
+    valued None = Err (record { fault = OutOfRange; at = last_place x.0 })
+
 -- attributes
 
 -- an attribute's word, which the block knows and which wasn't given yet
@@ -166,12 +219,9 @@ attribute_word bytes block given at = do
   a ← some_or (attribute_of block (text_of bytes t)) UnknownAttribute t
   if has a given then stop AttributeTwice t else Ok (a, t.to)
 
--- an attribute, an `=` if there is one, its value, a `,` if there is one
-unfoldable pub attribute_at : List ℕ → Block → List Given → ℕ → Result (Given × ℕ) Stop
-attribute_at bytes block given at = do
-  a ← attribute_word bytes block given at
-  v ← value_at bytes (shape_of block a.0) (behind bytes form.Equals a.1)
-  Ok (record { attribute = a.0; value = v.0 }, behind bytes form.Comma v.1)
+-- behind the value of an attribute a `,`, if there is one
+abbrev pub attribute_end : List ℕ → List Given → Attribute → Value × List Part × ℕ → Result (List Given × ℕ) Stop
+attribute_end bytes given a v = Ok (given ++ record { attribute = a; value = v.0; parts = v.1 } ∷ [], behind bytes form.Comma v.2)
 
 -- entries
 
@@ -261,8 +311,31 @@ First (Err e) Next r = r ≡ Err e
 abbrev pub Then : {A B : Type 0} → (Result A Stop → Type 0) → (A → Result B Stop) → Result B Stop → Type 0
 Then {A} P f r = (q : Result A Stop) × P q × (r ≡ (q >>= f))
 
+-- a sign and a part behind others
+abbrev pub IsPart : List ℕ → List Part → ℕ → Result (List Part × ℕ) Stop → Type 0
+IsPart bytes ps at r = r ≡ (signed_part bytes at >>= λ p. Ok (ps ++ p.0 ∷ [], p.1))
+
+-- up to where no sign stands
+abbrev pub Parts : List ℕ → List Part → ℕ → Result (List Part × ℕ) Stop → Type 0
+Parts bytes = Many (ends_sum bytes) (IsPart bytes)
+
+-- a part, and then parts with signs: the sum that they are
+abbrev pub IsSum : List ℕ → ℕ → Result (Value × List Part × ℕ) Stop → Type 0
+IsSum bytes at r = First (part_at bytes false at) (λ p. Then (Parts bytes (p.0 ∷ []) p.1) sum_end) r
+
+abbrev pub without_parts : Value × ℕ → Result (Value × List Part × ℕ) Stop
+without_parts v = Ok (v.0, [], v.1)
+
+-- what an attribute takes
+abbrev pub IsValue : List ℕ → Shape → ℕ → Result (Value × List Part × ℕ) Stop → Type 0
+IsValue bytes shape.Sum at r = IsSum bytes at r
+IsValue bytes s at r = r ≡ (value_at bytes s at >>= without_parts)
+
+-- an attribute's word, an `=` if there is one, its value, a `,` if there is one
 abbrev pub IsAttribute : List ℕ → Block → List Given → ℕ → Result (List Given × ℕ) Stop → Type 0
-IsAttribute bytes block given at r = r ≡ (attribute_at bytes block given at >>= λ g. Ok (given ++ g.0 ∷ [], g.1))
+IsAttribute bytes block given at r =
+    First (attribute_word bytes block given at)
+    (λ a. Then (IsValue bytes (shape_of block a.0) (behind bytes form.Equals a.1)) (attribute_end bytes given a.0)) r
 
 -- up to a `;`
 abbrev pub Attributes : List ℕ → Block → List Given → ℕ → Result (List Given × ℕ) Stop → Type 0

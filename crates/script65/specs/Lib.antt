@@ -3,8 +3,11 @@ pub mod Faults
 pub mod Grammar
 pub mod Inner
 pub mod Laws
+pub mod Naming
 pub mod Numbers
 pub mod Outcome
+pub mod Parts
 pub mod Scripts
+pub mod Sums
 pub mod Tokens
 pub mod Words

@@ -1,5 +1,5 @@
 -- The script that the entries of a text make, or the first fault behind its last byte.
-use Rattle.std.specs.Prelude.{◌≡◌, ℕ, Bool, false, ◌==◌, ◌&&◌, ◌||◌, not, is_some, unwrap_or, if◌then◌else◌, List, map, slice_get, position, Option, Some, None, Result, Ok, Err}
+use Rattle.std.specs.Prelude.{◌≡◌, ℕ, Bool, false, ◌==◌, ◌&&◌, ◌||◌, not, nat_le, is_some, unwrap_or, if◌then◌else◌, List, [], map, length, slice_get, position, Option, Some, None, Result, Ok, Err}
 use Rattle.std.specs.Option.{option_map_or, option_and_then}
 use Rattle.std.specs.Str.{bytes_eq}
 use Rattle.script65.specs.declared.fault.Fault.{Fault}
@@ -18,6 +18,7 @@ use Rattle.script65.specs.declared.script.Script.{Script}
 use Rattle.script65.specs.declared.script.Symbol.{Symbol}
 use Rattle.script65.specs.declared.script.SymbolKind.{SymbolKind}
 use Rattle.script65.specs.declared.script.SymbolKind.TheVariants as kind
+use Rattle.script65.specs.declared.script.Term.{Term}
 use Rattle.script65.specs.declared.reading.words.Attribute.{Attribute}
 use Rattle.script65.specs.declared.reading.words.Attribute.TheVariants as attribute
 use Rattle.script65.specs.declared.reading.words.Role.{Role}
@@ -27,9 +28,11 @@ use Rattle.script65.specs.declared.reading.words.Value.TheVariants as value
 use Rattle.script65.specs.declared.reading.words.Given.{Given}
 use Rattle.script65.specs.declared.reading.table.Entry.{Entry}
 use Rattle.script65.specs.Access.{is_read_only, is_written}
+use Rattle.script65.specs.Faults.{names}
 use Rattle.script65.specs.Outcome.{◌>>=◌, each}
-use Rattle.script65.specs.Tokens.{text, line_of}
-use Rattle.script65.specs.Grammar.{Draft, Drafts, value_given, number_given, role_given, Then}
+use Rattle.script65.specs.Tokens.{text, token_at, line_of}
+use Rattle.script65.specs.Grammar.{Draft, Drafts, value_given, number_given, role_given, text_of, Then}
+use Rattle.script65.specs.Naming.{extent_of}
 
 abbrev pub flag_in : Value → Option Bool
 flag_in (value.Flag b) = Some b
@@ -72,17 +75,21 @@ byte_or other given = unwrap_or (option_and_then byte_in (value_given attribute.
 abbrev pub area_file : List ℕ → List Given → AreaFile
 area_file bytes given = option_map_or (file_in bytes) (value_given attribute.File given) Output
 
-abbrev pub area_of : List ℕ → List ℕ × Entry → Area
-area_of bytes e = record {
+abbrev pub area_with : List ℕ → List ℕ × Entry → List Term × List Term → Area
+area_with bytes e extent = record {
   name = e.0;
-  start = number_or 0 attribute.Start e.1.given;
-  size = number_or 0 attribute.Size e.1.given;
+  start = extent.0;
+  size = extent.1;
   read_only = is_read_only (access_given e.1.given);
   file = area_file bytes e.1.given;
   fill = flag_given attribute.Fill e.1.given;
   fill_value = byte_or 0 e.1.given;
   define = flag_given attribute.Define e.1.given;
 }
+
+-- an area, or the first fault of a name in its sums
+abbrev pub area_of : List ℕ → Draft → List ℕ × Entry → Result Area Stop
+area_of bytes d e = extent_of bytes d e.1.given >>= λ x. Ok (area_with bytes e x)
 
 abbrev pub kind_of : Role → ℕ → SymbolKind
 kind_of role.Export n = kind.Export n
@@ -158,20 +165,28 @@ row_areas bytes d e = do
 abbrev pub row_of : List ℕ → Draft → List ℕ × Entry → Result Row Stop
 row_of bytes d e = row_areas bytes d e.1 >>= λ a. Ok (row_with e a.0 a.1 (area_fill d a.0))
 
--- the script of what was read, or the first fault of its rows
+-- the script of what was read, or the first fault of a name in a sum, or else that of a row
 abbrev pub script_of : List ℕ → Draft → Result Script Stop
 script_of bytes d =
-    each (row_of bytes d) d.rows
-    >>= λ rows. Ok (record { areas = map (area_of bytes) d.areas; rows = rows; symbols = map symbol_of d.symbols })
+    each (area_of bytes d) d.areas
+    >>= λ areas. each (row_of bytes d) d.rows
+    >>= λ rows. Ok (record { areas = areas; rows = rows; symbols = map symbol_of d.symbols })
 
 -- the script of a text, or its first fault
 abbrev pub Reads : List ℕ → Result Script Stop → Type 0
 Reads bytes = Then (Drafts bytes) (script_of bytes)
 
--- a fault with its line in place of its place
+-- the token at a place of the text, which may be none
+abbrev pub name_at : List ℕ → ℕ → List ℕ
+name_at bytes at = if nat_le at (length bytes) then text_of bytes (token_at bytes at) else []
+
+-- a fault with its line in place of its place, and with the name that it is one of
+abbrev pub fault_at : List ℕ → Stop → ScriptFault
+fault_at bytes e = record { fault = e.fault; line = line_of bytes e.at; name = if names e.fault then name_at bytes e.at else [] }
+
 abbrev pub with_line : List ℕ → Result Script Stop → Result Script ScriptFault
 with_line bytes (Ok s) = Ok s
-with_line bytes (Err e) = Err (record { fault = e.fault; line = line_of bytes e.at })
+with_line bytes (Err e) = Err (fault_at bytes e)
 
 -- the script of a text, or its first fault with the line of that
 abbrev pub IsScript : List ℕ → Result Script ScriptFault → Type 0

@@ -4,7 +4,7 @@ use Rattle.std.specs.List.{prefix_len, count_by, list_any}
 use Rattle.std.specs.Char.{is_ascii_alphabetic, is_ascii_digit, is_ascii_hexdigit}
 use Rattle.std.specs.Str.{is_utf8}
 use Rattle.script65.specs.declared.reading.token.Class.{Class}
-use Rattle.script65.specs.declared.reading.token.Class.TheVariants.{Letter, Digit, Dollar, Quote, Percent, Colon, Semicolon, Comma, Equals, Open, Close, Other}
+use Rattle.script65.specs.declared.reading.token.Class.TheVariants.{Letter, Digit, Dollar, Quote, Percent, Colon, Semicolon, Comma, Equals, Plus, Minus, Open, Close, Other}
 use Rattle.script65.specs.declared.reading.token.Form.{Form}
 use Rattle.script65.specs.declared.reading.token.Form.TheVariants as form
 use Rattle.script65.specs.declared.reading.token.Token.{Token}
@@ -22,6 +22,8 @@ class_of b =
     else if b == 59 then Semicolon
     else if b == 44 then Comma
     else if b == 61 then Equals
+    else if b == 43 then Plus
+    else if b == 45 then Minus
     else if b == 123 then Open
     else if b == 125 then Close
     else Other
@@ -77,6 +79,8 @@ front_of Colon bs = (form.Colon, 1)
 front_of Semicolon bs = (form.Semicolon, 1)
 front_of Comma bs = (form.Comma, 1)
 front_of Equals bs = (form.Equals, 1)
+front_of Plus bs = (form.Plus, 1)
+front_of Minus bs = (form.Minus, 1)
 front_of Open bs = (form.Open, 1)
 front_of Close bs = (form.Close, 1)
 front_of Other bs = (form.Bad, 1)

@@ -66,10 +66,16 @@ type_shape Memory = shape.AreaAccess
 type_shape Segments = shape.RowAccess
 type_shape Symbols = shape.Role
 
+-- what `start` and `size` take: in an area a sum
+abbrev pub extent_shape : Block → Shape
+extent_shape Memory = shape.Sum
+extent_shape Segments = shape.Number 0 0xffffffff
+extent_shape Symbols = shape.Number 0 0xffffffff
+
 -- what each attribute takes
 abbrev pub shape_of : Block → Attribute → Shape
-shape_of block attribute.Start = shape.Number 0 0xffffffff
-shape_of block attribute.Size = shape.Number 0 0xffffffff
+shape_of block attribute.Start = extent_shape block
+shape_of block attribute.Size = extent_shape block
 shape_of block attribute.Type = type_shape block
 shape_of block attribute.File = shape.File
 shape_of block attribute.Fill = shape.Flag

@@ -3,6 +3,7 @@
 ghost use Rattle.std.specs.Prelude.{◌≡◌, Some};
 ghost use Rattle.script65.specs.declared.fault.Fault.TheVariants.{OutOfMemory};
 
+use crate::sequence::Sequence;
 use std::alloc::{AllocError, AllocFailed};
 use std::error::Error;
 use std::fmt;
@@ -20,6 +21,19 @@ pub enum Fault {
     OutOfRange = 8,
     Excluded = 9,
     TooLong = 10,
+    NoSuchName = 11,
+    AmbiguousName = 12,
+}
+
+impl Fault {
+    ghost use Rattle.script65.specs.Faults.{names};
+
+    /// Whether it is a fault of a name.
+    pub fn names(self) -> bool
+        ensures { result ≡ names self }
+    {
+        matches!(self, Fault::NoSuchName | Fault::AmbiguousName)
+    }
 }
 
 impl fmt::Display for Fault {
@@ -39,29 +53,55 @@ impl fmt::Display for Fault {
             Fault::OutOfRange => f.write_str("value out of range"),
             Fault::Excluded => f.write_str("attributes exclude each other"),
             Fault::TooLong => f.write_str("script too long"),
+            Fault::NoSuchName => f.write_str("no such name"),
+            Fault::AmbiguousName => f.write_str("ambiguous name"),
         }
     }
 }
 
-/// A fault of a script, and the line in which it is found, the first line being 1.
-#[derive(Clone, Copy, Debug)]
+/// A fault of a script, and the line in which it is found, the first line being 1. One of a name has the name, any other
+/// none.
+#[derive(Debug, Drop)]
 pub struct ScriptFault {
     pub fault: Fault,
     pub line: usize,
+    pub name: Sequence<u8>,
 }
 
 impl fmt::Display for ScriptFault {
-    ghost use Rattle.script65.specs.Faults.{fault_text};
+    ghost use Rattle.script65.specs.Faults.{script_fault_text};
 
-    ghost output = { λ x. Some (fault_text x.fault) };
+    ghost output = { λ x. Some (script_fault_text x) };
 
     fn fmt<W: fmt::Write>(&self, f: &mut fmt::Formatter<W>) -> fmt::Result {
         let fault = self.fault;
-        write!(f, "{fault}")
+        if fault.names() {
+            let name = Shown(self.name.as_slice());
+            write!(f, "{fault}: {name}")
+        } else {
+            write!(f, "{fault}")
+        }
     }
 }
 
 impl Error for ScriptFault {}
+
+/// A name as it is printed: each byte is the character of its code.
+#[derive(Clone, Copy)]
+pub struct Shown<'a>(pub &'a [u8]);
+
+impl fmt::Display for Shown<'_> {
+    ghost use Rattle.std.specs.Prelude.{encode_utf8_all};
+
+    ghost output = { λ x. Some (encode_utf8_all x.0.now) };
+
+    fn fmt<W: fmt::Write>(&self, f: &mut fmt::Formatter<W>) -> fmt::Result {
+        for byte in self.0 {
+            f.write_char(char::from(*byte))?;
+        }
+        Ok(())
+    }
+}
 
 /// A fault, and where the token begins at which it is found.
 #[derive(Clone, Copy)]

@@ -1,22 +1,26 @@
 //! Reads scripts.
 
 ghost use Rattle.script65.specs.Faults.{is_outside, is_script_outside};
-ghost use Rattle.script65.specs.Scripts.{IsScript, Reads};
-ghost use Rattle.script65.specs.Outcome.{Finds};
+ghost use Rattle.std.specs.Prelude.{◌≡◌, IfOk};
+ghost use Rattle.script65.specs.Scripts.{IsScript, Reads, fault_at, name_at};
+ghost use Rattle.script65.specs.Outcome.{Finds, Unless};
 
-use crate::fault::{ScriptFault, Stop};
+use crate::fault::{Fault, ScriptFault, Stop};
 use crate::reading::entries::read_entries;
 use crate::reading::making::make_script;
-use crate::reading::scan::line_of;
+use crate::reading::scan::{line_of, text, token_at};
 use crate::script::Script;
-use std::alloc::Global;
+use crate::sequence::Sequence;
+use std::alloc::{AllocError, Global};
 
 mod attributes;
 mod entries;
 mod given;
 mod making;
+mod naming;
 mod number;
 mod scan;
+mod sums;
 mod table;
 mod token;
 mod words;
@@ -29,15 +33,53 @@ fn read_text(alloc: Global, bytes: &[u8]) -> Result<Script, Stop>
     make_script(alloc, bytes, &tables)
 }
 
+// The token at a place of the text, which may be none.
+fn name_at(bytes: &[u8], at: usize) -> &[u8]
+    ensures { result.now ≡ name_at bytes.now at }
+{
+    if at <= bytes.len() {
+        let token = token_at(bytes, at);
+        text(bytes, token.from, token.to)
+    } else {
+        &[]
+    }
+}
+
+// The name that a fault is one of.
+fn fault_name(alloc: Global, bytes: &[u8], stop: Stop) -> Result<Sequence<u8>, AllocError>
+    ensures { IfOk result (λ name. name ≡ (fault_at bytes.now stop).name) }
+{
+    if stop.fault.names() {
+        Sequence::copy_of(alloc, name_at(bytes, stop.at))
+    } else {
+        Ok(Sequence::new(alloc))
+    }
+}
+
+// A fault with its line in place of its place, and with the name that it is one of.
+fn fault_at(alloc: Global, bytes: &[u8], stop: Stop) -> ScriptFault
+    ensures { Unless (is_script_outside result) (result ≡ fault_at bytes.now stop) }
+{
+    match fault_name(alloc, bytes, stop) {
+        Ok(name) => ScriptFault {
+            fault: stop.fault,
+            line: line_of(bytes, stop.at),
+            name,
+        },
+        Err(_) => ScriptFault {
+            fault: Fault::OutOfMemory,
+            line: 1,
+            name: Sequence::new(alloc),
+        },
+    }
+}
+
 /// The script of a text, or its first fault with the line of that. A text has at most 1,048,576 bytes.
 pub fn read_script(alloc: Global, bytes: &[u8]) -> Result<Script, ScriptFault>
     ensures { Finds is_script_outside (λ s. s) (IsScript bytes.now) result }
 {
     match read_text(alloc, bytes) {
         Ok(script) => Ok(script),
-        Err(stop) => Err(ScriptFault {
-            fault: stop.fault,
-            line: line_of(bytes, stop.at),
-        }),
+        Err(stop) => Err(fault_at(alloc, bytes, stop)),
     }
 }

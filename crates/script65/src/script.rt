@@ -12,12 +12,14 @@ pub struct Script {
     pub symbols: Sequence<Symbol>,
 }
 
-/// An area of memory, which spans `size` bytes from the address `start` on.
+/// An area of memory, which spans so many bytes from its first address on.
 #[derive(Drop)]
 pub struct Area {
     pub name: Sequence<u8>,
-    pub start: u32,
-    pub size: u32,
+    /// The terms of the sum that is its first address.
+    pub start: Sequence<Term>,
+    /// The terms of the sum that is the number of its bytes.
+    pub size: Sequence<Term>,
     pub read_only: bool,
     pub file: AreaFile,
     /// Whether the file is as long as the area.
@@ -26,6 +28,75 @@ pub struct Area {
     pub fill_value: u8,
     /// Whether names for the area's start, its size and the first address behind what is placed are defined.
     pub define: bool,
+}
+
+/// A term of a sum.
+#[derive(Clone, Copy, Debug)]
+pub struct Term {
+    /// Whether it is taken from the sum, and not added to it.
+    pub minus: bool,
+    pub operand: Operand,
+}
+
+/// What a term stands for: a number, or a name for a part of an area or a row. These are named by their places in the
+/// script.
+#[derive(Clone, Copy, Debug)]
+pub enum Operand {
+    Number(u32),
+    Area(usize, AreaPart),
+    Row(usize, RowPart),
+}
+
+/// What a name says of an area.
+#[derive(Clone, Copy, Debug)]
+pub enum AreaPart {
+    /// Its first address.
+    Start,
+    /// How many bytes it spans.
+    Size,
+    /// The first address behind what is placed in it.
+    Last,
+}
+
+impl AreaPart {
+    ghost use Rattle.script65.specs.Parts.{area_ending};
+
+    /// What stands behind the area's name, in the name for this part of it.
+    pub fn ending(self) -> &'static [u8]
+        ensures { result.now ≡ area_ending self }
+    {
+        match self {
+            AreaPart::Start => b"_START__",
+            AreaPart::Size => b"_SIZE__",
+            AreaPart::Last => b"_LAST__",
+        }
+    }
+}
+
+/// What a name says of a row.
+#[derive(Clone, Copy, Debug)]
+pub enum RowPart {
+    /// Where its segment is loaded.
+    Load,
+    /// Where its segment runs.
+    Run,
+    /// How many bytes its segment has.
+    Size,
+}
+
+impl RowPart {
+    ghost use Rattle.script65.specs.Parts.{row_ending};
+
+    /// What stands behind the row's name, in the name for this part of it.
+    pub fn ending(self) -> &'static [u8]
+        ensures { result.now ≡ row_ending self }
+    {
+        match self {
+            RowPart::Load => b"_LOAD__",
+            RowPart::Run => b"_RUN__",
+            RowPart::Size => b"_SIZE__",
+        }
+    }
 }
 
 /// The file in which an area's bytes are written.

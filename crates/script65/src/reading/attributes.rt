@@ -1,18 +1,23 @@
 //! Reads attributes.
 
-ghost use Rattle.std.specs.Prelude.{◌≡◌, ◌≢◌, ◌≤◌, ◌<◌, ℕ, IfOk, length};
-ghost use Rattle.script65.specs.Grammar.{stands, expect, behind, number_at, byte_at, text_at, output_at, file_at, word_value, word_at, value_at, attribute_word, attribute_at};
+ghost use Rattle.std.specs.Prelude.{◌≡◌, ◌≢◌, ◌≤◌, ◌<◌, ◌++◌, ◌∷◌, [], ℕ, IfOk, length};
+ghost use Rattle.script65.specs.Faults.{is_outside};
+ghost use Rattle.script65.specs.Outcome.{Finds};
+ghost use Rattle.script65.specs.Grammar.{stands, expect, behind, number_at, byte_at, text_at, output_at, file_at, word_value, word_at, value_at, attribute_word, IsValue, IsAttribute};
 ghost use Rattle.script65.specs.declared.reading.token.Form.TheVariants.{End};
 
 use crate::fault::{Fault, Stop};
 use crate::reading::given::has;
 use crate::reading::number::number_of;
 use crate::reading::scan::{text, token_at};
+use crate::reading::sums::sum;
 use crate::reading::token::{Form, Token};
 use crate::reading::words::{
-    Attribute, Block, Given, Shape, Value, area_access_of, attribute_of, flag_of, is_width,
+    Attribute, Block, Given, Part, Shape, Value, area_access_of, attribute_of, flag_of, is_width,
     role_of, row_access_of, shape_of,
 };
+use crate::sequence::Sequence;
+use std::alloc::Global;
 
 /// Whether a token of this form stands here.
 #[tactic(auto, unfolding(crate::specs::Grammar::stands))]
@@ -130,7 +135,7 @@ fn word_value(shape: Shape, word: &[u8], token: Token) -> Option<Value>
         Shape::RowAccess => row_access_of(word).map(Value::Access),
         Shape::Role => role_of(word).map(Value::Role),
         Shape::Width => is_width(word).then_some(Value::Width),
-        Shape::Number(..) | Shape::Byte | Shape::File => None,
+        Shape::Number(..) | Shape::Byte | Shape::Sum | Shape::File => None,
     }
 }
 
@@ -185,21 +190,46 @@ fn attribute_word(
     }
 }
 
+// The value and the parts of what an attribute takes, and where it ends.
+fn value(
+    alloc: Global,
+    bytes: &[u8],
+    shape: Shape,
+    at: usize,
+) -> Result<(Value, Sequence<Part>, usize), Stop>
+    requires { at ≤ length bytes.now }
+    ensures found { Finds is_outside (λ x. x) (IsValue bytes.now shape at) result }
+    ensures within { IfOk result (λ r. r.2 ≤ length bytes.now) }
+    ensures order { IfOk result (λ r. at < r.2) }
+{
+    if let Shape::Sum = shape {
+        return sum(alloc, bytes, at);
+    }
+    let (value, end) = value_at(bytes, shape, at)?;
+    Ok((value, Sequence::new(alloc), end))
+}
+
 /// An attribute with its value, an `=` before it and a `,` behind it, where they stand.
-#[tactic(auto, unfolding(crate::specs::Grammar::attribute_at))]
-pub fn attribute_at(
+pub fn attribute(
+    alloc: Global,
     bytes: &[u8],
     block: Block,
     given: &[Given],
     at: usize,
 ) -> Result<(Given, usize), Stop>
     requires { at ≤ length bytes.now }
-    ensures value { result ≡ attribute_at bytes.now block given.now at }
+    ensures found { Finds is_outside (λ r. (given.now ++ r.0 ∷ [], r.1))
+        (IsAttribute bytes.now block given.now at) result }
     ensures within { IfOk result (λ r. r.1 ≤ length bytes.now) }
-    ensures start { IfOk result (λ r. at < r.1) }
+    ensures order { IfOk result (λ r. at < r.1) }
 {
     let (attribute, end) = attribute_word(bytes, block, given, at)?;
     let shape = shape_of(block, attribute);
-    let (value, end) = value_at(bytes, shape, behind(bytes, Form::Equals, end))?;
-    Ok((Given { attribute, value }, behind(bytes, Form::Comma, end)))
+    let (value, parts, end) = value(alloc, bytes, shape, behind(bytes, Form::Equals, end))?;
+    let given = Given {
+        attribute,
+        value,
+        parts,
+    };
+    Ok((given, behind(bytes, Form::Comma, end)))
 }

@@ -7,7 +7,7 @@ ghost use Rattle.script65.specs.Outcome.{Finds};
 ghost use Rattle.script65.specs.Inner.Tables.{draft_in};
 
 use crate::fault::{Fault, Stop};
-use crate::reading::attributes::{attribute_at, expect, stands};
+use crate::reading::attributes::{attribute, expect, stands};
 use crate::reading::given::entry_fault;
 use crate::reading::scan::{text, token_at};
 use crate::reading::table::{Entry, Tables};
@@ -31,7 +31,7 @@ fn attributes(
     let mut given = Sequence::new(alloc);
     let mut at = start;
     'attributes: while !stands(bytes, Form::Semicolon, at) {
-        let (next, end) = attribute_at(bytes, block, given.as_slice(), at)?;
+        let (next, end) = attribute(alloc, bytes, block, given.as_slice(), at)?;
         given.push(next)?;
         at = end;
     }

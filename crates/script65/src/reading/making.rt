@@ -2,7 +2,7 @@
 
 ghost use Rattle.std.specs.Prelude.{◌≡◌, IfOk, IfSome, length, map};
 ghost use Rattle.script65.specs.Faults.{is_outside};
-ghost use Rattle.script65.specs.Scripts.{area_file, area_fill, area_of, begin_of, file_in, found, is_excluded, kind_of, load_place, row_areas, row_of, row_with, run_place, script_of, symbol_of};
+ghost use Rattle.script65.specs.Scripts.{area_file, area_fill, area_of, area_with, begin_of, file_in, found, is_excluded, kind_of, load_place, row_areas, row_of, row_with, run_place, script_of, symbol_of};
 ghost use Rattle.script65.specs.Outcome.{Gives, each};
 ghost use Rattle.script65.specs.Inner.Tables.{draft_in, named};
 
@@ -10,10 +10,11 @@ use crate::fault::{Fault, Stop};
 use crate::reading::given::{
     access_given, byte_or, flag_given, name_given, number_given, number_or, role_given, value_given,
 };
+use crate::reading::naming::extent_of;
 use crate::reading::scan::text;
 use crate::reading::table::{Entry, Table, Tables};
 use crate::reading::words::{Attribute, Given, Role, Value};
-use crate::script::{Area, AreaFile, Begin, Row, Script, Symbol, SymbolKind};
+use crate::script::{Area, AreaFile, Begin, Row, Script, Symbol, SymbolKind, Term};
 use crate::sequence::Sequence;
 use std::alloc::{AllocError, Global};
 
@@ -39,20 +40,40 @@ fn area_file(alloc: Global, bytes: &[u8], given: &[Given]) -> Result<AreaFile, A
     }
 }
 
-fn area_of(alloc: Global, bytes: &[u8], name: &[u8], entry: &Entry) -> Result<Area, AllocError>
-    ensures { IfOk result (λ a. a ≡ area_of bytes.now (name.now, entry.now)) }
+fn area_with(
+    alloc: Global,
+    bytes: &[u8],
+    name: &[u8],
+    entry: &Entry,
+    extent: (Sequence<Term>, Sequence<Term>),
+) -> Result<Area, AllocError>
+    ensures { IfOk result (λ a. a ≡ area_with bytes.now (name.now, entry.now) extent) }
 {
     let given = entry.given.as_slice();
+    let (start, size) = extent;
     Ok(Area {
         name: Sequence::copy_of(alloc, name)?,
-        start: number_or(0, Attribute::Start, given),
-        size: number_or(0, Attribute::Size, given),
+        start,
+        size,
         read_only: access_given(given).is_read_only(),
         file: area_file(alloc, bytes, given)?,
         fill: flag_given(Attribute::Fill, given),
         fill_value: byte_or(0, given),
         define: flag_given(Attribute::Define, given),
     })
+}
+
+fn area_of(
+    alloc: Global,
+    bytes: &[u8],
+    tables: &Tables,
+    name: &[u8],
+    entry: &Entry,
+) -> Result<Area, Stop>
+    ensures { Gives is_outside (λ x. x) result (area_of bytes.now (draft_in tables.now) (name.now, entry.now)) }
+{
+    let extent = extent_of(alloc, bytes, tables, entry.given.as_slice())?;
+    Ok(area_with(alloc, bytes, name, entry, extent)?)
 }
 
 fn kind_of(role: Role, value: u32) -> SymbolKind
@@ -192,13 +213,14 @@ fn row_of(
     Ok(row_with(alloc, name, entry, load, run, fill)?)
 }
 
-// The areas of all entries.
-fn areas_of(alloc: Global, bytes: &[u8], table: &Table) -> Result<Sequence<Area>, AllocError>
-    ensures { IfOk result (λ areas. areas ≡ map (area_of bytes.now) (named table.now)) }
+// The areas of all entries, or the first fault of a name in a sum.
+fn areas_of(alloc: Global, bytes: &[u8], tables: &Tables) -> Result<Sequence<Area>, Stop>
+    ensures { Gives is_outside (λ x. x) result
+        (each (area_of bytes.now (draft_in tables.now)) (named tables.now.areas)) }
 {
     let mut areas = Sequence::new(alloc);
-    'areas: while let Some((name, entry)) = table.get(areas.len()) {
-        areas.push(area_of(alloc, bytes, name, entry)?)?;
+    'areas: while let Some((name, entry)) = tables.areas.get(areas.len()) {
+        areas.push(area_of(alloc, bytes, tables, name, entry)?)?;
     }
     Ok(areas)
 }
@@ -226,13 +248,14 @@ fn rows_of(alloc: Global, bytes: &[u8], tables: &Tables) -> Result<Sequence<Row>
     Ok(rows)
 }
 
-/// The script of a text's entries, or the first fault of a row.
+/// The script of a text's entries, or the first fault of a name in a sum or of a row.
 pub fn make_script(alloc: Global, bytes: &[u8], tables: &Tables) -> Result<Script, Stop>
     ensures { Gives is_outside (λ x. x) result (script_of bytes.now (draft_in tables.now)) }
 {
+    let areas = areas_of(alloc, bytes, tables)?;
     let rows = rows_of(alloc, bytes, tables)?;
     Ok(Script {
-        areas: areas_of(alloc, bytes, &tables.areas)?,
+        areas,
         rows,
         symbols: symbols_of(alloc, &tables.symbols)?,
     })

@@ -1,9 +1,10 @@
 //! The words of scripts, and what attributes take.
 
 ghost use Rattle.std.specs.Prelude.{◌≡◌};
-ghost use Rattle.script65.specs.Words.{same_word, block_of, attribute_of, memory_attribute, segment_attribute, symbol_attribute, type_shape, shape_of, area_access_of, row_access_of, flag_of, role_of, is_width};
+ghost use Rattle.script65.specs.Words.{same_word, block_of, attribute_of, memory_attribute, segment_attribute, symbol_attribute, type_shape, extent_shape, shape_of, area_access_of, row_access_of, flag_of, role_of, is_width};
 
 use crate::script::Access;
+use crate::sequence::Sequence;
 
 /// A kind of block.
 #[derive(Clone, Copy)]
@@ -47,6 +48,8 @@ pub enum Shape {
     Number(u32, u32),
     /// A number from 0 to 255.
     Byte,
+    /// Numbers and names, one behind the other with `+` or `-` between them.
+    Sum,
     Flag,
     Area,
     File,
@@ -60,6 +63,8 @@ pub enum Shape {
 #[derive(Clone, Copy)]
 pub enum Value {
     Number(u32),
+    /// A sum in which a name stands.
+    Sum,
     Byte(u8),
     Flag(bool),
     Name(usize, usize),
@@ -70,11 +75,22 @@ pub enum Value {
     Width,
 }
 
-/// An attribute and its value.
+/// A part of a sum, by the places of its first byte and behind its last: a number, or a name that isn't known yet.
 #[derive(Clone, Copy)]
+pub struct Part {
+    /// Whether a `-` stands before it.
+    pub minus: bool,
+    pub from: usize,
+    pub to: usize,
+    pub number: Option<u32>,
+}
+
+/// An attribute and its value, of a sum with its parts.
+#[derive(Drop)]
 pub struct Given {
     pub attribute: Attribute,
     pub value: Value,
+    pub parts: Sequence<Part>,
 }
 
 fn same_word(text: &[u8], word: &str) -> bool
@@ -182,15 +198,23 @@ fn type_shape(block: Block) -> Shape
     }
 }
 
+fn extent_shape(block: Block) -> Shape
+    ensures { result ≡ extent_shape block }
+{
+    match block {
+        Block::Memory => Shape::Sum,
+        Block::Segments | Block::Symbols => Shape::Number(0, 0xffff_ffff),
+    }
+}
+
 /// What an attribute of a block takes.
 pub fn shape_of(block: Block, attribute: Attribute) -> Shape
     ensures { result ≡ shape_of block attribute }
 {
     match attribute {
         Attribute::Type => type_shape(block),
-        Attribute::Start | Attribute::Size | Attribute::Offset | Attribute::Value => {
-            Shape::Number(0, 0xffff_ffff)
-        }
+        Attribute::Start | Attribute::Size => extent_shape(block),
+        Attribute::Offset | Attribute::Value => Shape::Number(0, 0xffff_ffff),
         Attribute::FillValue => Shape::Byte,
         Attribute::Align | Attribute::AlignLoad => Shape::Number(1, 65536),
         Attribute::Fill | Attribute::Define | Attribute::Optional => Shape::Flag,

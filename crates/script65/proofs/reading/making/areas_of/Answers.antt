@@ -1,15 +1,34 @@
-use Rattle.std.proofs.Common.{◌≡◌, length, map, drop, slice_get, subst, sym, ap, ◌∙◌, ◌++◌}
+use Rattle.std.proofs.Common.{◌≡◌, length, drop, slice_get, subst, sym, ap, ◌∙◌, arith, Err}
+use Rattle.std.proofs.lemmas.Option.{slice_get_within}
+use Rattle.std.proofs.lemmas.Result.{err_from_is_err_and}
+use Rattle.script65.specs.Faults.{is_outside}
 use Rattle.script65.specs.Scripts.{area_of}
-use Rattle.script65.specs.Inner.Tables.{named}
-use Rattle.script65.proofs.Eaches.{map_step, map_end, none_mapped}
+use Rattle.script65.specs.Outcome.{each}
+use Rattle.script65.specs.Inner.Tables.{draft_in, named}
+use Rattle.script65.proofs.Eaches.{behind, each_step, each_stops, each_end, none_mapped, longer}
+use Rattle.script65.proofs.Manys.{unless_map}
 use Rattle.script65.proofs.reading.making.areas_of.Goals as goal
 
 pub areas-preserved : goal.areas-preserved
 areas-preserved c =
-    subst (λ s. s ++ map (area_of c.args.bytes.now) (drop (length s) (named c.args.table.now)) ≡ map (area_of c.args.bytes.now) (named c.args.table.now)) (sym c.in_ok-push.ensures.ok)
-    (map_step (area_of c.args.bytes.now) c.areas.areas (named c.args.table.now) (c.in-Some.name.now, c.in-Some.entry.now) _ c.areas.invariant
-    (ap (slice_get (named c.args.table.now)) (sym c.len.ensures) ∙ sym c.in-Some.ensures) c.in_ok-area_of.ensures)
+    subst (λ s. behind s (each (area_of c.args.bytes.now (draft_in c.args.tables.now)) (drop (length s) (named c.args.tables.now.areas))) ≡ each (area_of c.args.bytes.now (draft_in c.args.tables.now)) (named c.args.tables.now.areas)) (sym c.in_ok-push.ensures.ok)
+    (each_step (area_of c.args.bytes.now (draft_in c.args.tables.now)) c.areas.areas (named c.args.tables.now.areas) (c.in-Some.name.now, c.in-Some.entry.now) c.in_ok-area_of.field-0 c.areas.invariant
+    (ap (slice_get (named c.args.tables.now.areas)) (sym c.len.ensures) ∙ sym c.in-Some.ensures) c.in_ok-area_of.ensures)
+
+pub areas-smaller : goal.areas-smaller
+areas-smaller c =
+    let within = slice_get_within (named c.args.tables.now.areas) c.len.result (c.in-Some.name.now, c.in-Some.entry.now) (sym c.in-Some.ensures) in
+    let more = ap length c.in_ok-push.ensures.ok ∙ longer c.areas.areas c.in_ok-area_of.field-0 in
+    omega (arith, within, more, c.len.ensures)
+
+pub returns-in_err-area_of : goal.returns-in_err-area_of
+returns-in_err-area_of c =
+    let p = err_from_is_err_and c.from_residual.result c.from_residual.ensures.1 in
+    let e = c.in_err-area_of.field-0.0 in
+    rw (p.1, p.2) (unless_map (area_of c.args.bytes.now (draft_in c.args.tables.now) (c.in-Some.name.now, c.in-Some.entry.now) ≡ Err e) (each (area_of c.args.bytes.now (draft_in c.args.tables.now)) (named c.args.tables.now.areas) ≡ Err e) (is_outside e)
+    (each_stops (area_of c.args.bytes.now (draft_in c.args.tables.now)) c.areas.areas (named c.args.tables.now.areas) (c.in-Some.name.now, c.in-Some.entry.now) e c.areas.invariant
+    (ap (slice_get (named c.args.tables.now.areas)) (sym c.len.ensures) ∙ sym c.in-Some.ensures)) c.in_err-area_of.ensures)
 
 pub returns : goal.returns
-returns c = map_end (area_of c.args.bytes.now) c.areas.areas (named c.args.table.now) c.areas.invariant
-    (ap (slice_get (named c.args.table.now)) (sym c.len.ensures) ∙ none_mapped _ c.get.result _ c.in_default.not-Some c.get.ensures)
+returns c = each_end (area_of c.args.bytes.now (draft_in c.args.tables.now)) c.areas.areas (named c.args.tables.now.areas) c.areas.invariant
+    (ap (slice_get (named c.args.tables.now.areas)) (sym c.len.ensures) ∙ none_mapped _ c.get.result _ c.in_default.not-Some c.get.ensures)

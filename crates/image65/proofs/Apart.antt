@@ -1,6 +1,5 @@
 -- No two rows of an area overlap, and each lies within it.
 use Rattle.std.proofs.Common.{◌≡◌, ◌≢◌, ◌<◌, ◌≤◌, ℕ, ◌+◌, ◌-◌, Bool, true, false, List, [], ◌∷◌, ◌++◌, map, length, drop, slice_get, Option, Some, None, unwrap_or, refl, sym, ap, ◌∙◌, subst, Ok, Err, arith, nat_lt, add-one}
-use Rattle.std.proofs.Common.{inl, inr, ◌⊎◌}
 use Rattle.std.specs.Prelude.{Result, if◌then◌else◌, ⊤, ◌==◌, ◌&&◌, ◌||◌, not}
 use Rattle.std.proofs.lemmas.Bool.Decides.{nat_tests}
 use Rattle.image65.specs.declared.placement.PlaceFault.{PlaceFault}
@@ -16,9 +15,10 @@ use Rattle.image65.specs.declared.placement.SegmentNeed.{SegmentNeed}
 use Rattle.script65.specs.Access.{is_read_only}
 use Rattle.image65.specs.Laws.{AllWithin, AreApart, AreBehind, AreWithin, NoOverlap, address_in}
 use Rattle.std.proofs.lemmas.Option.{slice_get_within}
-use Rattle.image65.proofs.Walks.{drop_suc, there}
+use Rattle.image65.proofs.AreaLemmas.{Kept, Made, all_hold, bind_ok, bounds_order, get_before, get_last}
+use Rattle.image65.proofs.Placed.{all_placed}
 use Rattle.script65.specs.Outcome.{◌>>=◌}
-use Rattle.image65.specs.Placing.{area_place, areas_from, begin_in, bounds_of, fitted, is_in, moved, place_of, row_after, row_place, rows_exist, rows_from, sized_row, unplaced}
+use Rattle.image65.specs.Placing.{area_place, begin_in, fitted, is_in, moved, row_after, row_place, rows_from, sized_row, standing}
 
 -- where a row stands in an area, by its spot
 abbrev at_in : ℕ → Row → Spot → ℕ
@@ -26,10 +26,6 @@ at_in k r s = address_in k r (row_place s)
 
 abbrev size_in : Spot → ℕ
 size_in s = unwrap_or s.size 0
-
-pub bind_ok : {A B : Type 0} (r : Result A PlaceFault) (f : A → Result B PlaceFault) (y : B) → (r >>= f) ≡ Ok y → (x : A) × (r ≡ Ok x) × (f x ≡ Ok y)
-bind_ok (Ok x) f y h = (x, refl, h)
-bind_ok (Err e) f y h = absurd cc
 
 -- a row in an area
 
@@ -40,7 +36,7 @@ other_test : (x j k : ℕ) → j ≢ k → (x == j) ≡ true → (x == k) ≡ fa
 other_test x j k apart h = grind (arith, nat_tests)
 
 -- an address behind the cursor at which a row was placed
-record Placed (k : ℕ) (b : Bounds) (r : Row) (s : Spot) (cursor : ℕ) (x : Spot × ℕ) : Type 0 where
+pub record Placed (k : ℕ) (b : Bounds) (r : Row) (s : Spot) (cursor : ℕ) (x : Spot × ℕ) : Type 0 where
   pub at : ℕ
   pub spot : x.0 ≡ moved k r at s
   pub end : x.1 ≡ at + size_in s
@@ -66,7 +62,7 @@ sized_placed k a b r s None cursor x e h =
     record { at = cursor; spot = sym (ap (λ y. y.0) same); end = sym (ap (λ y. y.1) same) ∙ omega (arith, size); low = omega arith; high = λ c. (let q = ap (λ y. y.1) same in omega arith) }
 sized_placed k a b r s (Some n) cursor x e h = fitted_placed k a b r s n (begin_in k b r cursor) cursor x e h
 
-row_placed : (k : ℕ) (a : Area) (b : Bounds) (r : Row) (s : Spot) (cursor : ℕ) (x : Spot × ℕ) → row_after k a b r s cursor ≡ Ok x → Placed k b r s cursor x
+pub row_placed : (k : ℕ) (a : Area) (b : Bounds) (r : Row) (s : Spot) (cursor : ℕ) (x : Spot × ℕ) → row_after k a b r s cursor ≡ Ok x → Placed k b r s cursor x
 unfolding row_after
 row_placed k a b r s cursor x h = by (a.read_only && r.run == k && not (is_read_only r.access)) h
   where
@@ -210,68 +206,58 @@ apart_same k (r ∷ rs) [] (t ∷ ts) same h = absurd same
 apart_same k (r ∷ rs) (s ∷ ss) [] same h = absurd same
 apart_same k (r ∷ rs) (s ∷ ss) (t ∷ ts) same h = (behind_same k r s t rs ss ts same.0 same.1 same.2 h.0, apart_same k rs ss ts same.2 h.1)
 
-within_of : (k : ℕ) (a : Area) (rs : List Row) (ts : List Spot) → AllFrom k a.start rs ts → AllTo k (a.start + a.size) rs ts → AreWithin k a rs (map row_place ts)
-within_of k a [] ts f t = tt
-within_of k a (r ∷ rs) [] f t = tt
-within_of k a (r ∷ rs) (s ∷ ss) f t = ((λ i. (f.0 i, t.0 i)), within_of k a rs ss f.1 t.1)
+within_of : (k : ℕ) (place : AreaPlace) (rs : List Row) (ts : List Spot) → AllFrom k place.start rs ts → AllTo k (place.start + place.size) rs ts → AreWithin k place rs (map row_place ts)
+within_of k place [] ts f t = tt
+within_of k place (r ∷ rs) [] f t = tt
+within_of k place (r ∷ rs) (s ∷ ss) f t = ((λ i. (f.0 i, t.0 i)), within_of k place rs ss f.1 t.1)
 
-within_same : (k : ℕ) (a : Area) (rs : List Row) (ss ts : List Spot) → Same k rs ss ts → AreWithin k a rs (map row_place ss) → AreWithin k a rs (map row_place ts)
-within_same k a [] ss ts same h = tt
-within_same k a (r ∷ rs) [] [] same h = tt
-within_same k a (r ∷ rs) [] (t ∷ ts) same h = absurd same
-within_same k a (r ∷ rs) (s ∷ ss) [] same h = absurd same
-within_same k a (r ∷ rs) (s ∷ ss) (t ∷ ts) same h =
-    ((λ i. let w = h.0 i in let e = same.1 i in let z = same.0 in let low = w.0 in let high = w.1 in (omega arith, omega arith)), within_same k a rs ss ts same.2 h.1)
+within_same : (k : ℕ) (place : AreaPlace) (rs : List Row) (ss ts : List Spot) → Same k rs ss ts → AreWithin k place rs (map row_place ss) → AreWithin k place rs (map row_place ts)
+within_same k place [] ss ts same h = tt
+within_same k place (r ∷ rs) [] [] same h = tt
+within_same k place (r ∷ rs) [] (t ∷ ts) same h = absurd same
+within_same k place (r ∷ rs) (s ∷ ss) [] same h = absurd same
+within_same k place (r ∷ rs) (s ∷ ss) (t ∷ ts) same h =
+    ((λ i. let w = h.0 i in let e = same.1 i in let z = same.0 in let low = w.0 in let high = w.1 in (omega arith, omega arith)), within_same k place rs ss ts same.2 h.1)
 
 -- all areas
 
-last_or_before : (j k : ℕ) → j < k + 1 → (j ≡ k) ⊎ (j < k)
-last_or_before j k lt = by (nat_lt j k) refl
-  where
-    by : (t : Bool) → nat_lt j k ≡ t → (j ≡ k) ⊎ (j < k)
-    by true e = inr (grind (arith, nat_tests))
-    by false e = inl (let g : k ≤ j = not_below j k e in omega arith)
+abbrev ApartIn : List Row → ℕ → List AreaPlace → List Spot → Type 0
+ApartIn rows j placed ss = AreApart j rows (map row_place ss)
 
--- what the rows of an area come to, stays so, and holds of each area at the end
-module _ (rows : List Row) (all : List Area) (Q : ℕ → List Spot → Type 0)
-    (made : (k : ℕ) (a : Area) (ss ts : List Spot) (last : ℕ) → slice_get all k ≡ Some a → rows_from k a (bounds_of a) rows ss (bounds_of a).start ≡ Ok (ts, last) → Q k ts)
-    (kept : (j k : ℕ) (a : Area) (ss ts : List Spot) (last : ℕ) → j ≢ k → rows_from k a (bounds_of a) rows ss (bounds_of a).start ≡ Ok (ts, last) → Q j ss → Q j ts) where
-  areas_hold : (areas : List Area) (k : ℕ) (placed : List AreaPlace) (ss : List Spot) (p : Placement) → drop k all ≡ areas → areas_from k rows areas placed ss ≡ Ok p → ((j : ℕ) → j < k → Q j ss) → (us : List Spot) × (p.rows ≡ map row_place us) × ((j : ℕ) → j < k + length areas → Q j us)
-  areas_hold [] k placed ss p left h before =
-      let e : ◌≡◌ {A = Placement} (record { areas = placed; rows = map row_place ss }) p = cc in
-      (ss, sym (ap (λ (q : Placement). q.rows) e), (λ j lt. before j (omega arith)))
-  areas_hold (a ∷ rest) k placed ss p left h before =
-      let f = bind_ok (rows_from k a (bounds_of a) rows ss (bounds_of a).start) (λ x. areas_from (k + 1) rows rest (placed ++ area_place (bounds_of a) x.1 ∷ []) x.0) p h in
-      let x : Reached = f.0 in
-      let g = areas_hold rest (k + 1) (placed ++ area_place (bounds_of a) x.1 ∷ []) x.0 p (rw add-one (drop_suc all k a rest left)) f.2
-      (λ i small. by i x f.1 (last_or_before i k small)) in
-      (g.0, g.1, (λ j lt. g.2 j (omega arith)))
-    where
-      by : (i : ℕ) (x : Reached) → rows_from k a (bounds_of a) rows ss (bounds_of a).start ≡ Ok x → (i ≡ k) ⊎ (i < k) → Q i x.0
-      by i x e (inl same) = subst (λ j. Q j x.0) (sym same) (made k a ss x.0 x.1 (there all k a rest left) e)
-      by i x e (inr less) = kept i k a ss x.0 x.1 (λ q. absurd (omega arith)) e (before i less)
+abbrev WithinIn : List Row → ℕ → List AreaPlace → List Spot → Type 0
+WithinIn rows j placed ss = (place : AreaPlace) → slice_get placed j ≡ Some place → AreWithin j place rows (map row_place ss)
 
-placed_of : (script : Script) (needs : List SegmentNeed) (p : Placement) → place_of script needs ≡ Ok p → areas_from 0 script.rows script.areas [] (map (unplaced needs) script.rows) ≡ Ok p
-placed_of script needs p h = (bind_ok (rows_exist script.rows needs) (λ _. areas_from 0 script.rows script.areas [] (map (unplaced needs) script.rows)) p h).2
+to_place : (b : Bounds) (last k : ℕ) (rows : List Row) (ts : List Spot) → b.start ≤ b.end → AllTo k b.end rows ts → AllTo k ((area_place b last).start + (area_place b last).size) rows ts
+to_place b last k rows ts le h =
+    let P : ℕ → Type 0 = λ n. AllTo k n rows ts in
+    let same : b.end ≡ (area_place b last).start + (area_place b last).size = omega arith in
+    subst P same h
 
-bounds_order : (a : Area) → (bounds_of a).start ≤ (bounds_of a).end
-bounds_order a = omega arith
+apart_made : (script : Script) → Made script (ApartIn script.rows)
+apart_made script k a placed ss ts b last at count made e = (rows_good k a b script.rows ss ts b.start last (bounds_order (standing k script.areas script.rows a placed ss) b made) e).1
+
+apart_kept : (script : Script) → Kept script (ApartIn script.rows)
+apart_kept script j k a placed ss ts b last less count made e q = apart_same j script.rows ss ts (rows_same j k a b script.rows ss ts b.start last (λ same. absurd (omega arith)) e) q
+
+within_made : (script : Script) → Made script (WithinIn script.rows)
+within_made script k a placed ss ts b last at count made e place here =
+    let good = rows_good k a b script.rows ss ts b.start last (bounds_order (standing k script.areas script.rows a placed ss) b made) e in
+    let same : area_place b last ≡ place = (let w : ◌≡◌ {A = Option AreaPlace} (Some (area_place b last)) (Some place) = sym (get_last placed k (area_place b last) count) ∙ here in cc) in
+    subst (λ q. AreWithin k q script.rows (map row_place ts)) same
+    (within_of k (area_place b last) script.rows ts good.0 (to_place b last k script.rows ts (bounds_order (standing k script.areas script.rows a placed ss) b made) good.2))
+
+within_kept : (script : Script) → Kept script (WithinIn script.rows)
+within_kept script j k a placed ss ts b last less count made e q place here =
+    within_same j place script.rows ss ts (rows_same j k a b script.rows ss ts b.start last (λ same. absurd (omega arith)) e)
+    (q place (sym (get_before placed (area_place b last) j (omega (arith, count))) ∙ here))
 
 pub none_overlap : NoOverlap
 none_overlap script needs p h k lt =
-    let g = areas_hold script.rows script.areas (λ j ss. AreApart j script.rows (map row_place ss))
-    (λ k a ss ts last at e. (rows_good k a (bounds_of a) script.rows ss ts (bounds_of a).start last (bounds_order a) e).1)
-    (λ j k a ss ts last apart e q. apart_same j script.rows ss ts (rows_same j k a (bounds_of a) script.rows ss ts (bounds_of a).start last apart e) q)
-    script.areas 0 [] (map (unplaced needs) script.rows) p refl (placed_of script needs p h) (λ j never. absurd (omega arith)) in
-    subst (AreApart k script.rows) (sym g.1) (g.2 k (omega arith))
+    let g = all_hold script needs p (ApartIn script.rows) (apart_made script) (apart_kept script) h in
+    subst (AreApart k script.rows) (sym g.rows) (g.each k lt)
 
 pub all_within : AllWithin
-all_within script needs p h k a at =
-    let g = areas_hold script.rows script.areas (λ j ss. (c : Area) → slice_get script.areas j ≡ Some c → AreWithin j c script.rows (map row_place ss))
-    (λ k a ss ts last at e c here.
-    let same : a ≡ c = (let w : ◌≡◌ {A = Option Area} (Some a) (Some c) = sym at ∙ here in cc) in
-    let good = rows_good k a (bounds_of a) script.rows ss ts (bounds_of a).start last (bounds_order a) e in
-    subst (λ d. AreWithin k d script.rows (map row_place ts)) same (within_of k a script.rows ts good.0 good.2))
-    (λ j k a ss ts last apart e q c here. within_same j c script.rows ss ts (rows_same j k a (bounds_of a) script.rows ss ts (bounds_of a).start last apart e) (q c here))
-    script.areas 0 [] (map (unplaced needs) script.rows) p refl (placed_of script needs p h) (λ j never. absurd (omega arith)) in
-    subst (AreWithin k a script.rows) (sym g.1) (g.2 k (let w = slice_get_within script.areas k a at in omega arith) a at)
+all_within script needs p h k place at =
+    let g = all_hold script needs p (WithinIn script.rows) (within_made script) (within_kept script) h in
+    let inside : k < length script.areas = omega (arith, slice_get_within p.areas k place at, (all_placed script needs p h).0) in
+    subst (AreWithin k place script.rows) (sym g.rows) (g.each k inside place at)

@@ -12,6 +12,8 @@ place_fault_text (place.ReadOnlyArea name) = codes "read-only area: " ++ encode_
 place_fault_text (place.StartBelow name) = codes "start below what is placed: " ++ encode_utf8_all name
 place_fault_text (place.Overflow name n) =
     codes "overflow of " ++ encode_utf8_all name ++ codes " by " ++ decimal n ++ codes " bytes"
+place_fault_text (place.NotPlaced name) = codes "name not yet placed: " ++ encode_utf8_all name
+place_fault_text (place.AreaOutOfRange name) = codes "area value out of range: " ++ encode_utf8_all name
 
 abbrev pub is_place_outside : PlaceFault → Bool
 is_place_outside place.OutOfMemory = true

@@ -3,3 +3,4 @@ pub mod Files
 pub mod Inner
 pub mod Laws
 pub mod Placing
+pub mod Sums

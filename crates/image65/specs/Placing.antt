@@ -19,6 +19,7 @@ use Rattle.image65.specs.declared.placing.site.Bounds.{Bounds}
 use Rattle.image65.specs.declared.placing.site.Spot.{Spot}
 use Rattle.script65.specs.Access.{is_read_only}
 use Rattle.script65.specs.Outcome.{◌>>=◌}
+use Rattle.image65.specs.Sums.{Standing, bounds_in}
 
 -- the needs of segments
 
@@ -33,12 +34,6 @@ has_row rows name = list_any (λ r. bytes_eq r.name name) rows
 abbrev pub rows_exist : List Row → List SegmentNeed → Result (Unit {0}) PlaceFault
 rows_exist rows [] = Ok tt
 rows_exist rows (n ∷ ns) = if has_row rows n.name then rows_exist rows ns else Err (NoRow n.name)
-
--- areas
-
--- the first address of an area, and the one behind its last
-abbrev pub bounds_of : Area → Bounds
-bounds_of a = record { start = a.start; end = a.start + a.size }
 
 -- rows
 
@@ -107,19 +102,32 @@ area_place b last = record { start = b.start; size = b.end - b.start; last = las
 abbrev pub row_place : Spot → RowPlace
 row_place s = record { load = s.load; run = s.run; size = unwrap_or s.size 0 }
 
--- area by area
-abbrev pub areas_from : ℕ → List Row → List Area → List AreaPlace → List Spot → Result Placement PlaceFault
-areas_from k rows [] placed ss = Ok (record { areas = placed; rows = map row_place ss })
-areas_from k rows (a ∷ rest) placed ss =
-    rows_from k a (bounds_of a) rows ss (bounds_of a).start
-    >>= λ x. areas_from (k + 1) rows rest (placed ++ area_place (bounds_of a) x.1 ∷ []) x.0
+-- the area at a place, before which these places of areas and these spots stand
+abbrev pub standing : ℕ → List Area → List Row → Area → List AreaPlace → List Spot → Standing
+standing k areas rows a placed ss = record {
+  k = k;
+  own = a;
+  areas = areas;
+  rows = rows;
+  area_places = placed;
+  row_places = map row_place ss;
+  start = None;
+}
+
+-- area by area, of all that there are those from a place on: first where an area begins and ends, and then its rows
+abbrev pub areas_from : ℕ → List Area → List Row → List Area → List AreaPlace → List Spot → Result Placement PlaceFault
+areas_from k areas rows [] placed ss = Ok (record { areas = placed; rows = map row_place ss })
+areas_from k areas rows (a ∷ rest) placed ss =
+    bounds_in (standing k areas rows a placed ss)
+    >>= λ b. rows_from k a b rows ss b.start
+    >>= λ x. areas_from (k + 1) areas rows rest (placed ++ area_place b x.1 ∷ []) x.0
 
 -- a row before anything is placed
 abbrev pub unplaced : List SegmentNeed → Row → Spot
 unplaced needs r = record { size = size_of needs r.name; run = 0; load = 0 }
 
--- where the rows of a script are placed, or the first fault
+-- where the areas and the rows of a script are placed, or the first fault
 abbrev pub place_of : Script → List SegmentNeed → Result Placement PlaceFault
 place_of script needs =
     rows_exist script.rows needs
-    >>= λ _. areas_from 0 script.rows script.areas [] (map (unplaced needs) script.rows)
+    >>= λ _. areas_from 0 script.areas script.rows script.areas [] (map (unplaced needs) script.rows)

@@ -3,7 +3,7 @@
 ghost use Rattle.std.specs.Prelude.{◌≡◌, Some};
 ghost use Rattle.image65.specs.declared.placement.PlaceFault.TheVariants.{OutOfMemory};
 
-use script65::Sequence;
+use script65::{Sequence, Shown};
 use std::alloc::{AllocError, AllocFailed};
 use std::error::Error;
 use std::fmt;
@@ -52,6 +52,10 @@ pub enum PlaceFault {
     StartBelow(Sequence<u8>),
     /// An area, and how many bytes behind its end a row would end.
     Overflow(Sequence<u8>, u128),
+    /// A name in an area's sum that stands for what is placed later.
+    NotPlaced(Sequence<u8>),
+    /// An area whose start or size is no number below 2 ^ 32, or which ends behind the last address.
+    AreaOutOfRange(Sequence<u8>),
 }
 
 impl fmt::Display for PlaceFault {
@@ -78,28 +82,19 @@ impl fmt::Display for PlaceFault {
                 let name = Shown(name.as_slice());
                 write!(f, "overflow of {name} by {bytes} bytes")
             }
+            PlaceFault::NotPlaced(name) => {
+                let name = Shown(name.as_slice());
+                write!(f, "name not yet placed: {name}")
+            }
+            PlaceFault::AreaOutOfRange(name) => {
+                let name = Shown(name.as_slice());
+                write!(f, "area value out of range: {name}")
+            }
         }
     }
 }
 
 impl Error for PlaceFault {}
-
-/// A name as it is printed: each byte is the character of its code.
-#[derive(Clone, Copy)]
-struct Shown<'a>(&'a [u8]);
-
-impl fmt::Display for Shown<'_> {
-    ghost use Rattle.std.specs.Prelude.{encode_utf8_all};
-
-    ghost output = { λ x. Some (encode_utf8_all x.0.now) };
-
-    fn fmt<W: fmt::Write>(&self, f: &mut fmt::Formatter<W>) -> fmt::Result {
-        for byte in self.0 {
-            f.write_char(char::from(*byte))?;
-        }
-        Ok(())
-    }
-}
 
 impl From<AllocError> for PlaceFault {
     ghost from_gives = { λ _ e. e ≡ OutOfMemory };

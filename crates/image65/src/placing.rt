@@ -15,6 +15,7 @@ mod areas;
 mod members;
 mod needs;
 mod site;
+mod sums;
 
 /// Where the rows of a script are placed, or the first fault. Of two needs of one name the first counts.
 pub fn place(alloc: Global, script: &Script, needs: &[SegmentNeed]) -> Result<Placement, PlaceFault>

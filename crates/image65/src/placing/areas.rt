@@ -8,7 +8,8 @@ ghost use Rattle.image65.specs.declared.placing.site.Spot.{Spot};
 ghost use Rattle.script65.specs.declared.script.Row.{Row};
 
 use crate::placement::{AreaPlace, PlaceFault, RowPlace};
-use crate::placing::site::{Bounds, Site, Spot, bounds_of};
+use crate::placing::site::{Bounds, Site, Spot};
+use crate::placing::sums::{Standing, row_place};
 use script65::{Area, Row, Sequence};
 use std::alloc::{AllocError, Global};
 
@@ -70,7 +71,7 @@ fn area_place(bounds: Bounds, last: u64) -> AreaPlace
     }
 }
 
-/// Places the rows of all areas, each of which has its members, and answers where the areas end.
+/// Places all areas and their rows, each area with its members, and answers where the areas are.
 pub fn place_areas(
     alloc: Global,
     areas: &[Area],
@@ -81,29 +82,29 @@ pub fn place_areas(
     requires members { (k : ℕ) → k < length areas.now → slice_get members.now k ≡ Some (places_in k 0 rows.now) }
     requires count { length spots.old ≡ length rows.now }
     ensures { Gives is_place_outside (λ places. record { areas = places; rows = map row_place spots.new }) result
-        (areas_from 0 rows.now areas.now [] spots.old) }
+        (areas_from 0 areas.now rows.now areas.now [] spots.old) }
 {
     let mut places = Sequence::new(alloc);
     for (place, area) in areas.iter().enumerate() {
+        let bounds = Standing {
+            place,
+            area,
+            areas,
+            rows,
+            area_places: places.as_slice(),
+            spots,
+            start: None,
+        }
+        .bounds(alloc)?;
         let site = Site {
             place,
             area,
-            bounds: bounds_of(area),
+            bounds,
         };
         let last = place_area(alloc, &site, rows, members[place].as_slice(), spots)?;
-        places.push(area_place(site.bounds, last))?;
+        places.push(area_place(bounds, last))?;
     }
     Ok(places)
-}
-
-fn row_place(spot: Spot) -> RowPlace
-    ensures { result ≡ row_place spot }
-{
-    RowPlace {
-        load: spot.load,
-        run: spot.run,
-        size: spot.size.unwrap_or(0),
-    }
 }
 
 /// The places of all rows.

@@ -3,7 +3,7 @@
 ghost use Rattle.std.specs.Prelude.{◌≡◌, ◌≤◌, ◌+◌, IfOk};
 ghost use Rattle.script65.specs.Outcome.{Gives};
 ghost use Rattle.image65.specs.Faults.{is_place_outside};
-ghost use Rattle.image65.specs.Placing.{begin_by, begin_in, bounds_of, fitted, is_in, moved, rounded_up, row_after, sized_row};
+ghost use Rattle.image65.specs.Placing.{begin_by, begin_in, fitted, is_in, moved, rounded_up, row_after, sized_row};
 
 use crate::placement::PlaceFault;
 use script65::{Area, Begin, Row, Sequence};
@@ -30,19 +30,6 @@ pub struct Site<'a> {
     pub place: usize,
     pub area: &'a Area,
     pub bounds: Bounds,
-}
-
-/// The bounds of an area.
-pub fn bounds_of(area: &Area) -> Bounds
-    ensures value { result ≡ bounds_of area.now }
-    ensures order { result.start ≤ result.end }
-    ensures small { result.end ≤ 8589934592 }
-{
-    let start = u64::from(area.start);
-    Bounds {
-        start,
-        end: start + u64::from(area.size),
-    }
 }
 
 /// Whether a row runs or loads in the area at a place of the script.

@@ -7,7 +7,7 @@ use Rattle.object65.specs.declared.fault.ObjectFault.TheVariants as object
 use Rattle.object65.specs.Fault.{fault_text, is_memory as is_object_memory}
 use Rattle.library65.specs.declared.fault.LibraryFault.TheVariants as library
 use Rattle.library65.specs.Fault.{displayed as library_words, is_memory as is_library_memory}
-use Rattle.script65.specs.Faults.{fault_text as script_words, is_memory_fault}
+use Rattle.script65.specs.Faults.{is_memory_fault, script_fault_text as script_words}
 use Rattle.linkage65.specs.declared.fault.LinkFault.{LinkFault}
 use Rattle.linkage65.specs.declared.fault.LinkFault.TheVariants as link
 use Rattle.linkage65.specs.Faults.{fault_text as link_words, is_memory as is_link_memory}
@@ -74,7 +74,7 @@ named inputs k = get_or inputs k []
 abbrev pub cause_message : Linking → Refusal → List ℕ
 cause_message l OutOfMemory = memory_message
 cause_message l (ScriptFile f) = file_message l.script (store_words f)
-cause_message l (Script f) = line_message l.script f.line (script_words f.fault)
+cause_message l (Script f) = line_message l.script f.line (script_words f)
 cause_message l (Object k f) = file_message (named l.inputs k) (fault_text f)
 cause_message l (Library k f) = file_message (named l.inputs k) (library_words f)
 cause_message l (Member name f) = file_message name (fault_text f)

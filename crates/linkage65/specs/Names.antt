@@ -5,6 +5,7 @@ use Rattle.std.specs.List.{flat_map}
 use Rattle.image65.specs.declared.placement.AreaPlace.{AreaPlace}
 use Rattle.image65.specs.declared.placement.Placement.{Placement}
 use Rattle.image65.specs.declared.placement.RowPlace.{RowPlace}
+use Rattle.script65.specs.Parts.{part_name}
 use Rattle.script65.specs.declared.script.Area.{Area}
 use Rattle.script65.specs.declared.script.Row.{Row}
 use Rattle.script65.specs.declared.script.Script.{Script}
@@ -13,10 +14,6 @@ use Rattle.script65.specs.declared.script.SymbolKind.{SymbolKind}
 use Rattle.script65.specs.declared.script.SymbolKind.TheVariants as kind
 use Rattle.linkage65.specs.declared.parts.Definition.{Definition}
 use Rattle.linkage65.specs.Lists.{flat_zip}
-
--- `__N_PART__`
-abbrev pub part_name : List ℕ → List ℕ → List ℕ
-part_name name part = codes "__" ++ name ++ codes "_" ++ part ++ codes "__"
 
 abbrev pub part : List ℕ → List ℕ → ℕ → Definition
 part name word n = record { name = part_name name word; value = cast_signed w64 n }

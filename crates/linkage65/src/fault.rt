@@ -7,6 +7,7 @@ ghost use Rattle.linkage65.specs.declared.fault.LinkFault.TheVariants.{OutOfMemo
 use base65::Sequence;
 use image65::PlaceFault;
 use object65::ObjectFault;
+use script65::Shown;
 use std::alloc::{AllocError, AllocFailed};
 use std::error::Error;
 use std::fmt;
@@ -75,23 +76,6 @@ impl fmt::Display for LinkFault {
 }
 
 impl Error for LinkFault {}
-
-/// A name as it is printed: each byte is the character of its code.
-#[derive(Clone, Copy)]
-struct Shown<'a>(&'a [u8]);
-
-impl fmt::Display for Shown<'_> {
-    ghost use Rattle.std.specs.Prelude.{encode_utf8_all};
-
-    ghost output = { λ x. Some (encode_utf8_all x.0.now) };
-
-    fn fmt<W: fmt::Write>(&self, f: &mut fmt::Formatter<W>) -> fmt::Result {
-        for byte in self.0 {
-            f.write_char(char::from(*byte))?;
-        }
-        Ok(())
-    }
-}
 
 /// Names as they are printed, between commas and blanks.
 #[derive(Clone, Copy)]

@@ -2,7 +2,8 @@
 
 ghost use Rattle.std.specs.Prelude.{◌≡◌, ◌++◌, IfOk, OnOk, slice_get};
 ghost use Rattle.linkage65.specs.Lists.{with_beside};
-ghost use Rattle.linkage65.specs.Names.{area_definitions, areas_definitions, export_definition, part, part_name, row_definitions, rows_definitions, script_definitions, symbol_exports, weak_definition, weak_symbols};
+ghost use Rattle.script65.specs.Parts.{part_name};
+ghost use Rattle.linkage65.specs.Names.{area_definitions, areas_definitions, export_definition, part, row_definitions, rows_definitions, script_definitions, symbol_exports, weak_definition, weak_symbols};
 
 use crate::parts::Definition;
 use crate::texts::join;

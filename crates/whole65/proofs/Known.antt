@@ -6,16 +6,12 @@ use Rattle.std.specs.Str.{bytes_eq}
 use Rattle.std.proofs.lemmas.List.{append-nil, append_assoc, length-append, length-map, map-append}
 use Rattle.std.proofs.lemmas.List.Folds.{list_any-append}
 use Rattle.std.proofs.lemmas.Grind.{flat_map-append}
-use Rattle.image65.proofs.Apart.{bind_ok}
-use Rattle.script65.specs.Outcome.{◌>>=◌}
-use Rattle.image65.specs.Placing.{area_place, areas_from, bounds_of, is_in, place_of, row_after, row_place, rows_exist, rows_from, unplaced}
+use Rattle.image65.proofs.Placed.{all_placed}
+use Rattle.image65.specs.Placing.{place_of}
 use Rattle.image65.specs.declared.placement.AreaPlace.{AreaPlace}
-use Rattle.image65.specs.declared.placement.PlaceFault.{PlaceFault}
 use Rattle.image65.specs.declared.placement.Placement.{Placement}
 use Rattle.image65.specs.declared.placement.RowPlace.{RowPlace}
 use Rattle.image65.specs.declared.placement.SegmentNeed.{SegmentNeed}
-use Rattle.image65.specs.declared.placing.site.Bounds.{Bounds}
-use Rattle.image65.specs.declared.placing.site.Spot.{Spot}
 use Rattle.script65.specs.declared.script.Area.{Area}
 use Rattle.script65.specs.declared.script.Row.{Row}
 use Rattle.script65.specs.declared.script.Script.{Script}
@@ -41,48 +37,6 @@ use Rattle.whole65.specs.Sources.{AreSources}
 use Rattle.whole65.specs.Values as values
 use Rattle.whole65.specs.Values.{by_nobody}
 use Rattle.whole65.specs.Whole.{IsGiven}
-
--- ---- A placement has a place for each area and each row.
-
-abbrev Reached : Type 0
-Reached = List Spot × ℕ
-
-abbrev front : Spot → Result Reached PlaceFault → Result Reached PlaceFault
-front s rest = rest >>= λ y. Ok (s ∷ y.0, y.1)
-
-same_pair : (x y : Reached) → ◌≡◌ {A = Result Reached PlaceFault} (Ok x) (Ok y) → x ≡ y
-same_pair x y h = cc
-
-rows_kept : (k : ℕ) (a : Area) (b : Bounds) (rs : List Row) (ss : List Spot) (cursor : ℕ) (x : Reached) → rows_from k a b rs ss cursor ≡ Ok x → length x.0 ≡ length ss
-rows_kept k a b [] ss cursor x h = ap (λ (z : Reached). length z.0) (sym (same_pair (ss, cursor) x h))
-rows_kept k a b (r ∷ rs) [] cursor x h = ap (λ (z : Reached). length z.0) (sym (same_pair ([], cursor) x h))
-rows_kept k a b (r ∷ rs) (s ∷ ss) cursor x h = by (is_in k r) h (λ c y e. rows_kept k a b rs ss c y e)
-  where
-    by : (t : Bool) → (if t then (row_after k a b r s cursor >>= λ x. front x.0 (rows_from k a b rs ss x.1)) else front s (rows_from k a b rs ss cursor)) ≡ Ok x → ((c : ℕ) (y : Reached) → rows_from k a b rs ss c ≡ Ok y → length y.0 ≡ length ss) → length x.0 ≡ length (s ∷ ss)
-    by true h again =
-        let f = bind_ok (row_after k a b r s cursor) (λ x. front x.0 (rows_from k a b rs ss x.1)) x h in
-        let z : Spot × ℕ = f.0 in
-        let g = bind_ok (rows_from k a b rs ss z.1) (λ y. Ok (z.0 ∷ y.0, y.1)) x f.2 in
-        let y : Reached = g.0 in
-        ap (λ (z : Reached). length z.0) (sym (same_pair (z.0 ∷ y.0, y.1) x g.2)) ∙ ap suc (again z.1 y g.1)
-    by false h again =
-        let g = bind_ok (rows_from k a b rs ss cursor) (λ y. Ok (s ∷ y.0, y.1)) x h in
-        let y : Reached = g.0 in
-        ap (λ (z : Reached). length z.0) (sym (same_pair (s ∷ y.0, y.1) x g.2)) ∙ ap suc (again cursor y g.1)
-
-areas_kept : (rows : List Row) (areas : List Area) (k : ℕ) (before : List AreaPlace) (ss : List Spot) (q : Placement) → areas_from k rows areas before ss ≡ Ok q → (length q.areas ≡ length before + length areas) × (length q.rows ≡ length ss)
-areas_kept rows [] k before ss q h =
-    let same : ◌≡◌ {A = Placement} (record { areas = before; rows = map row_place ss }) q = cc in
-    let none : length before ≡ length before + 0 = omega arith in
-    (ap (λ (z : Placement). length z.areas) (sym same) ∙ none, ap (λ (z : Placement). length z.rows) (sym same) ∙ length-map ss row_place)
-areas_kept rows (a ∷ rest) k before ss q h =
-    let f = bind_ok (rows_from k a (bounds_of a) rows ss (bounds_of a).start) (λ x. areas_from (k + 1) rows rest (before ++ area_place (bounds_of a) x.1 ∷ []) x.0) q h in
-    let x : Reached = f.0 in
-    let g = areas_kept rows rest (k + 1) (before ++ area_place (bounds_of a) x.1 ∷ []) x.0 q f.2 in
-    let longer : length (before ++ area_place (bounds_of a) x.1 ∷ []) ≡ length before + 1 = length-append before (area_place (bounds_of a) x.1 ∷ []) in
-    let more : length q.areas ≡ length (before ++ area_place (bounds_of a) x.1 ∷ []) + length rest = g.0 in
-    let all : length q.areas ≡ length before + suc (length rest) = omega (arith, longer, more) in
-    (all, g.1 ∙ rows_kept k a (bounds_of a) rows ss (bounds_of a).start x f.1)
 
 -- ---- A script's names are those of what it defines.
 
@@ -113,11 +67,9 @@ of_row r q = go r.define
 
 script_named : (s : Script) (needs : List SegmentNeed) (q : Placement) → place_of s needs ≡ Ok q → names_of (script_definitions s q) ≡ script_names s
 script_named s needs q h =
-    let f = bind_ok (rows_exist s.rows needs) (λ u. areas_from 0 s.rows s.areas [] (map (unplaced needs) s.rows)) q h in
-    let kept = areas_kept s.rows s.areas 0 [] (map (unplaced needs) s.rows) q f.2 in
-    let none : 0 + length s.areas ≡ length s.areas = omega arith in
-    let areas : names_of (areas_definitions s.areas q.areas) ≡ flat_map area_names s.areas = zip_names area_definitions area_names of_area s.areas q.areas (kept.0 ∙ none) in
-    let rows : names_of (rows_definitions s.rows q.rows) ≡ flat_map row_names s.rows = zip_names row_definitions row_names of_row s.rows q.rows (kept.1 ∙ length-map s.rows (unplaced needs)) in
+    let all = all_placed s needs q h in
+    let areas : names_of (areas_definitions s.areas q.areas) ≡ flat_map area_names s.areas = zip_names area_definitions area_names of_area s.areas q.areas all.0 in
+    let rows : names_of (rows_definitions s.rows q.rows) ≡ flat_map row_names s.rows = zip_names row_definitions row_names of_row s.rows q.rows all.1 in
     let both : List Definition = areas_definitions s.areas q.areas ++ rows_definitions s.rows q.rows in
     map-append (λ (d : Definition). d.name) both (symbol_exports s.symbols)
     ∙ ap (λ ns. ns ++ names_of (symbol_exports s.symbols)) (

@@ -8,13 +8,9 @@ use Rattle.std.proofs.lemmas.List.{map-append}
 use Rattle.std.proofs.lemmas.List.Folds.{list_any-append}
 use Rattle.object65.specs.declared.object.Object.{Object}
 use Rattle.object65.specs.declared.object.Section.{Section}
-use Rattle.script65.specs.Outcome.{◌>>=◌}
-use Rattle.image65.specs.Placing.{areas_from, has_row, rows_exist, size_of, unplaced}
-use Rattle.image65.specs.declared.placement.PlaceFault.{PlaceFault}
-use Rattle.image65.specs.declared.placement.PlaceFault.TheVariants.{NoRow}
+use Rattle.image65.proofs.Placed.{same_needs}
+use Rattle.image65.specs.Placing.{size_of}
 use Rattle.image65.specs.declared.placement.SegmentNeed.{SegmentNeed}
-use Rattle.image65.specs.declared.placing.site.Spot.{Spot}
-use Rattle.script65.specs.declared.script.Row.{Row}
 use Rattle.language65.proofs.Lists.{bytes_swap, same_bytes}
 use Rattle.language65.specs.declared.contents.Content.{Content}
 use Rattle.language65.specs.Laid.{Laid, asks_section}
@@ -140,15 +136,6 @@ all_modules p (y ∷ ys) (m ∷ ms) h =
 
 -- ---- Needs.
 
-names_exist : List Row → List (List ℕ) → Result (Unit {0}) PlaceFault
-names_exist rows [] = Ok tt
-names_exist rows (n ∷ ns) = cond (has_row rows n) (names_exist rows ns) (Err (NoRow n))
-
-exist_by_name : (rows : List Row) (ns : List SegmentNeed) → rows_exist rows ns ≡ names_exist rows (map (λ n. n.name) ns)
-unfolding names_exist
-exist_by_name rows [] = refl
-exist_by_name rows (n ∷ ns) = ap (λ z. cond (has_row rows n.name) z (Err (NoRow n.name))) (exist_by_name rows ns)
-
 linked_names : (gs : List Segment) → map (λ (n : SegmentNeed). n.name) (map places.need_of gs) ≡ names_of gs
 linked_names [] = refl
 linked_names (g ∷ gs) = ap (λ z. g.name ∷ z) (linked_names gs)
@@ -178,28 +165,14 @@ whole_size ys (n ∷ ns) name = go (bytes_eq n name) refl (whole_size ys ns name
     go true e h = ap (λ z. Some (end_of 0 (items_of ys z))) (same_bytes n name e)
     go false e h = h
 
-abbrev unplaced_by : Option ℕ → Spot
-unplaced_by size = record { size = size; run = 0; load = 0 }
-
-rows_alike : (needs others : List SegmentNeed) → ((name : List ℕ) → size_of needs name ≡ size_of others name) → (rows : List Row) → map (unplaced needs) rows ≡ map (unplaced others) rows
-rows_alike needs others h [] = refl
-rows_alike needs others h (r ∷ rows) =
-    ap (λ z. unplaced_by z ∷ map (unplaced needs) rows) (h r.name)
-    ∙ ap (λ z. unplaced others r ∷ z) (rows_alike needs others h rows)
-
 pub placement_law : PlacementLaw
 placement_law s ys ms h =
     let gs : List Segment = (program_of ms).segments in
     let names : names_of gs ≡ segments_of ys = all_modules no_program ys ms h in
-    let exist : rows_exist s.rows (map places.need_of gs) ≡ rows_exist s.rows (map (need_of ys) (segments_of ys)) =
-    exist_by_name s.rows (map places.need_of gs)
-    ∙ ap (names_exist s.rows) (linked_names gs ∙ names ∙ sym (whole_names ys (segments_of ys)))
-    ∙ sym (exist_by_name s.rows (map (need_of ys) (segments_of ys))) in
     let sizes : (name : List ℕ) → size_of (map places.need_of gs) name ≡ size_of (map (need_of ys) (segments_of ys)) name =
     λ name.
     linked_size gs name
     ∙ ap (λ ns. size_if (list_any (λ n. bytes_eq n name) ns) (linked.end_of gs name)) names
     ∙ ap (size_if (list_any (λ n. bytes_eq n name) (segments_of ys))) (size_law ys ms name h)
     ∙ sym (whole_size ys (segments_of ys) name) in
-    ap (λ r. r >>= (λ u. areas_from 0 s.rows s.areas [] (map (unplaced (map places.need_of gs)) s.rows))) exist
-    ∙ ap (λ ss. rows_exist s.rows (map (need_of ys) (segments_of ys)) >>= (λ u. areas_from 0 s.rows s.areas [] ss)) (rows_alike (map places.need_of gs) (map (need_of ys) (segments_of ys)) sizes s.rows)
+    same_needs s (map places.need_of gs) (map (need_of ys) (segments_of ys)) (linked_names gs ∙ names ∙ sym (whole_names ys (segments_of ys))) sizes

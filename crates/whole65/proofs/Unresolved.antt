@@ -5,9 +5,9 @@ use Rattle.std.specs.Int.{next_multiple_of}
 use Rattle.std.specs.List.{AllByRecursion, flat_map, list_any}
 use Rattle.std.specs.Str.{bytes_eq}
 use Rattle.std.proofs.lemmas.List.Folds.{list_any-append}
-use Rattle.image65.proofs.Apart.{bind_ok}
-use Rattle.image65.specs.Placing.{areas_from, has_row, place_of, rows_exist, unplaced}
-use Rattle.image65.specs.declared.placement.PlaceFault.TheVariants.{NoRow}
+use Rattle.image65.proofs.Placed.{rows_there}
+use Rattle.image65.specs.Placing.{has_row, place_of}
+use Rattle.image65.specs.declared.placement.SegmentNeed.{SegmentNeed}
 use Rattle.image65.specs.declared.placement.Placement.{Placement}
 use Rattle.script65.specs.declared.script.Row.{Row}
 use Rattle.script65.specs.declared.script.Script.{Script}
@@ -64,17 +64,13 @@ given_law s placement ys ms h placed none =
 
 -- ---- A segment with a section has a row.
 
-row_exists : (rows : List Row) (ys : List Layout) (names : List (List ℕ)) (name : List ℕ) → rows_exist rows (map (need_of ys) names) ≡ Ok tt → list_any (λ k. bytes_eq name k) names ≡ true → has_row rows name ≡ true
+row_exists : (rows : List Row) (ys : List Layout) (names : List (List ℕ)) (name : List ℕ) → AllByRecursion (λ (n : SegmentNeed). has_row rows n.name ≡ true) (map (need_of ys) names) → list_any (λ k. bytes_eq name k) names ≡ true → has_row rows name ≡ true
 row_exists rows ys [] name h e = absurd cc
-row_exists rows ys (n ∷ names) name h e = go (has_row rows n) refl h e (row_exists rows ys names name)
+row_exists rows ys (n ∷ names) name h e = by (bytes_eq name n) refl e (row_exists rows ys names name h.1)
   where
-    go : (b : Bool) → has_row rows n ≡ b → cond b (rows_exist rows (map (need_of ys) names)) (Err (NoRow n)) ≡ Ok tt → (bytes_eq name n || list_any (λ k. bytes_eq name k) names) ≡ true → (rows_exist rows (map (need_of ys) names) ≡ Ok tt → list_any (λ k. bytes_eq name k) names ≡ true → has_row rows name ≡ true) → has_row rows name ≡ true
-    go false q h e more = absurd cc
-    go true q h e more = by (bytes_eq name n) refl e
-      where
-        by : (b : Bool) → bytes_eq name n ≡ b → (b || list_any (λ k. bytes_eq name k) names) ≡ true → has_row rows name ≡ true
-        by true same e = ap (has_row rows) (same_bytes name n same) ∙ q
-        by false other e = more h e
+    by : (b : Bool) → bytes_eq name n ≡ b → (b || list_any (λ k. bytes_eq name k) names) ≡ true → (list_any (λ k. bytes_eq name k) names ≡ true → has_row rows name ≡ true) → has_row rows name ≡ true
+    by true same e more = ap (has_row rows) (same_bytes name n same) ∙ h.0
+    by false other e more = more e
 
 any_at : (name : List ℕ) (ys : List Layout) (i : ℕ) (y : Layout) → slice_get ys i ≡ Some y → list_any (λ k. bytes_eq name k) (asked_by y) ≡ true → list_any (λ k. bytes_eq name k) (flat_map asked_by ys) ≡ true
 any_at name [] i y at e = absurd cc
@@ -147,8 +143,7 @@ module _ (s : Script) (placement : Placement) (ys : List Layout) (ms : List Modu
       ∙ any_map (segment_name y) name (map (λ (l : Laid). l.spot.segment) asking)
       ∙ held (λ k. bytes_eq name (segment_name y k)) g (map (λ (l : Laid). l.spot.segment) asking) shown (itself name) in
       let needed : list_any (λ k. bytes_eq name k) (segments_of ys) ≡ true = any_new name (flat_map asked_by ys) [] ∙ any_at name ys owner y at_y by_name in
-      let exist = bind_ok (rows_exist s.rows (needs_of ys)) (λ u. areas_from 0 s.rows s.areas [] (map (unplaced (needs_of ys)) s.rows)) placement placed in
-      let (r, row, called) = row_of (AreRow p ys bytes) s.rows name rows (row_exists s.rows ys (segments_of ys) name exist.1 needed) in
+      let (r, row, called) = row_of (AreRow p ys bytes) s.rows name rows (row_exists s.rows ys (segments_of ys) name (rows_there s (needs_of ys) placement placed) needed) in
       let all : AreBytes p r.fill_value 0 (items_of ys name) (bytes r) = subst (λ n. AreBytes p r.fill_value 0 (items_of ys n) (bytes r)) called row in
       let (at, own, part) = part_bytes p r.fill_value name ys 0 0 owner (bytes r) y at_y all in
       let first : 0 + owner ≡ owner = omega arith in

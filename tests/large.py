@@ -1,7 +1,8 @@
 #!/usr/bin/env python3
 """The real program past all sizes at once: a source of more than 100,000 lines with 5,000 imports, 1,000 sections of 4 MB and
 1 MB of text for each stream; and its link without the imports, by a script of 2,000 areas and 21,000 rows, into an image of 4 MB
-with 1 MB of warnings; and a library of 2,000 members. Whole answers are compared with what is computed here.
+with 1 MB of warnings; a script of 10,000 areas and rows, each area by the one before it; and a library of 2,000 members. Whole
+answers are compared with what is computed here.
 
 usage: large.py BIN65    Prints a line a test, and last 'N passed, M failed'.
 """
@@ -18,6 +19,7 @@ IMPORTS = 5000
 AREAS = 2000
 ABSENT_ROWS = 20000
 MEMBERS = 2000
+CHAINED = 10000
 AREA_SIZE = 4400
 # Lines of data in a section, values of four bytes in a line, texts for each stream in a section.
 LINES, VALUES, TEXTS = 98, 11, 5
@@ -124,6 +126,34 @@ def side():
     return b"".join(bytes([area % 255]) * 64 for area in range(AREAS // 2))
 
 
+def chained():
+    """Areas each of which begins a byte after the one before it does, with a row each, and is as long: by names of both."""
+    parts = ["MEMORY {A0:start=$1000,size=9;"]
+    for at in range(1, CHAINED):
+        before = at - 1
+        parts.append(f"A{at}:start=__A{before}_START__+1,size=__R{before}_RUN__-__A{before}_LAST__+9"
+                     + (",define=yes;" if at == CHAINED - 1 else ";"))
+    parts += ["} SEGMENTS {", *(f"R{at}:load=A{at};" for at in range(CHAINED)), "}"]
+    text = "\n".join(parts)
+    assert len(text) <= 1048576
+    return text
+
+
+def link_chained(tests):
+    """Links one byte into the last of the areas."""
+    put("s.cfg", chained())
+    last = CHAINED - 1
+    with open("c.o", "wb") as opened:
+        opened.write(b"R65o\1" + record(2, number(1, 4) + b"\0R%d" % last) + literals(b"\xea") + record(8, b""))
+    ran = tests.run("ld65", "-C", "s.cfg", "-o", "image", "-m", "map", "c.o")
+    warnings = joined(f"ld65: Warning: segment R{at} does not exist" for at in range(last))
+    start = 0x1000 + last
+    symbols = joined(f"__A{last}_{part}__ {at:016X}" for part, at in (("START", start), ("SIZE", 9), ("LAST", start + 1)))
+    said = [("status", ran.returncode, 0), ("out", ran.stdout, b""), ("err", ran.stderr, warnings)]
+    found = (get("map") or b"").partition(b"SYMBOLS\n")[2]
+    tests.check("10,000 areas, each by the one before", [*said, ("image", get("image"), b"\xea"), ("symbols", found, symbols)])
+
+
 class Tests:
     def __init__(self, program):
         self.program, self.passed, self.failed = program, 0, 0
@@ -218,6 +248,7 @@ def main():
         assert len(image()) > 4 * 2**20 and len(warnings) > 1000000
         said = [("status", ran.returncode, 0), ("out", ran.stdout, b""), ("err", ran.stderr, warnings)]
         tests.check("its link", [*said, ("image", get("image"), image()), ("side", get("side"), side())])
+        link_chained(tests)
         keep_library(tests)
     finally:
         os.chdir("/")

@@ -6,9 +6,11 @@ from whole.sources import Refused
 
 TOKEN = re.compile(
     r"[ \t\r\n]+|#.*|(?P<name>[A-Za-z_]\w*)|(?P<number>\d+|\$[0-9A-Fa-f]+)|\"(?P<string>[^\"\n%]*)\"|(?P<output>%O)"
-    r"|(?P<sign>[{}:;,=])"
+    r"|(?P<sign>[{}:;,=+-])"
 )
 NUMBERS = {"start", "size", "fillval", "align", "align_load", "offset", "value"}
+# What a name says of an area and of a row.
+AREA_PARTS, ROW_PARTS = ("START", "SIZE", "LAST"), ("LOAD", "RUN", "SIZE")
 
 
 def tokens(text):
@@ -23,13 +25,42 @@ def tokens(text):
     return found[::-1]
 
 
+def number(word):
+    found = int(word[1:], 16) if word[0] == "$" else int(word)
+    if found > 0xFFFFFFFF:
+        raise Refused("value out of range")
+    return found
+
+
 def value(attribute, kind, word):
     if attribute in NUMBERS:
-        return int(word[1:], 16) if word[0] == "$" else int(word)
+        return number(word)
     return None if kind == "output" else word if kind == "string" or attribute in ("load", "run") else word.lower()
 
 
-def entries(left):
+def terms(left):
+    """The terms of a sum: each with its sign, and a number or a name."""
+    found, sign = [], 1
+    while True:
+        kind, word = left.pop()
+        if kind not in ("number", "name"):
+            raise Refused("syntax error")
+        found.append((sign, number(word) if kind == "number" else word))
+        if left[-1][1] not in ("+", "-"):
+            break
+        sign = 1 if left.pop()[1] == "+" else -1
+    if all(isinstance(it, int) for _, it in found):
+        in_range(sum(sign * it for sign, it in found), "value out of range")
+    return found
+
+
+def in_range(found, why):
+    if not 0 <= found <= 0xFFFFFFFF:
+        raise Refused(why)
+    return found
+
+
+def entries(left, is_memory):
     """The entries between braces: names and their attributes."""
     found = {}
     left.pop()
@@ -40,10 +71,16 @@ def entries(left):
             attribute = left.pop()[1].lower()
             if left[-1][1] == "=":
                 left.pop()
-            attributes[attribute] = value(attribute, *left.pop())
+            if is_memory and attribute in ("start", "size"):
+                attributes[attribute] = terms(left)
+            else:
+                attributes[attribute] = value(attribute, *left.pop())
             if left[-1][1] == ",":
                 left.pop()
         left.pop()
+        if is_memory and all(isinstance(it, int) for word in ("start", "size") for _, it in attributes[word]):
+            if sum(sign * it for word in ("start", "size") for sign, it in attributes[word]) > 2**32:
+                raise Refused("value out of range")
         found[name] = attributes
     left.pop()
     return found
@@ -51,10 +88,11 @@ def entries(left):
 
 class Area:
     def __init__(self, start, size, type="rw", file=None, fill="no", fillval=0, define="no"):
-        self.start, self.size, self.end = start, size, start + size
+        # The sums, and their values once they are known.
+        self.sums, self.start, self.size = (start, size), None, None
         self.read_only, self.is_filled, self.defines = type == "ro", fill == "yes", define == "yes"
         self.file, self.fill = file, fillval
-        self.last = start
+        self.last = None
 
 
 class Row:
@@ -64,7 +102,8 @@ class Row:
         self.type, self.is_written, self.defines = type, type in ("ro", "rw"), define == "yes"
         self.align, self.align_load, self.start, self.offset = align, align_load, start, offset
         self.fill = self.load_area.fill if fillval is None else fillval
-        self.load = self.run = self.size = 0
+        self.load = self.run = None
+        self.size = 0
 
     def begin_in(self, area, cursor):
         """Where the row begins in an area."""
@@ -81,13 +120,45 @@ class Script:
     def __init__(self, text):
         blocks, left = {"MEMORY": {}, "SEGMENTS": {}, "SYMBOLS": {}}, tokens(text)
         while left:
-            blocks[left.pop()[1].upper()].update(entries(left))
+            word = left.pop()[1].upper()
+            blocks[word].update(entries(left, word == "MEMORY"))
+        symbols = blocks["SYMBOLS"].items()
+        self.check_names(blocks)
         self.areas = {name: Area(**it) for name, it in blocks["MEMORY"].items()}
         self.rows = {name: Row(self.areas, **it) for name, it in blocks["SEGMENTS"].items()}
-        symbols = blocks["SYMBOLS"].items()
         self.exports = {name: it["value"] for name, it in symbols if it["type"] == "export"}
         self.weak = {name: it["value"] for name, it in symbols if it["type"] == "weak"}
         self.imports = [name for name, it in symbols if it["type"] == "import"]
+
+    def check_names(self, blocks):
+        """Refuses the first name in a sum that isn't one of an export, an area's part and a row's part."""
+        exports = [name for name, it in blocks["SYMBOLS"].items() if it["type"] == "export"]
+        areas = [f"__{name}_{part}__" for name in blocks["MEMORY"] for part in AREA_PARTS]
+        rows = [f"__{name}_{part}__" for name in blocks["SEGMENTS"] for part in ROW_PARTS]
+        for it in blocks["MEMORY"].values():
+            for attribute in it:
+                for _, term in it[attribute] if attribute in ("start", "size") else ():
+                    found = isinstance(term, int) or sum(term in names for names in (exports, areas, rows))
+                    if found != 1 and not isinstance(term, int):
+                        raise Refused(f"{'ambiguous name' if found else 'no such name'}: {term}")
+
+    def known(self):
+        """What each name of a sum stands for as far as it is known."""
+        found = dict(self.exports)
+        for name, it in self.areas.items():
+            found.update(zip((f"__{name}_{part}__" for part in AREA_PARTS), (it.start, it.size, it.last)))
+        for name, it in self.rows.items():
+            found.update(zip((f"__{name}_{part}__" for part in ROW_PARTS), (it.load, it.run, it.size)))
+        return found
+
+    def total(self, area_name, sum_of):
+        """What a sum of an area comes to."""
+        found, known = 0, self.known()
+        for sign, term in sum_of:
+            if not isinstance(term, int) and known[term] is None:
+                raise Refused(f"name not yet placed: {term}")
+            found += sign * (term if isinstance(term, int) else known[term])
+        return in_range(found, f"area value out of range: {area_name}")
 
     def names(self):
         """The names that it gives, with their values once the rows are placed."""
@@ -105,14 +176,20 @@ class Script:
         for name in sizes:
             if name not in self.rows:
                 raise Refused(f"segment has no row: {name}")
+        for name, row in self.rows.items():
+            row.size = sizes.get(name, 0)
         for area_name, area in self.areas.items():
+            area.start = self.total(area_name, area.sums[0])
+            area.size = self.total(area_name, area.sums[1])
+            area.end = area.start + area.size
+            if area.end > 2**32:
+                raise Refused(f"area value out of range: {area_name}")
             cursor = area.start
             for name, row in self.rows.items():
                 if area not in (row.load_area, row.run_area):
                     continue
                 if area.read_only and area is row.run_area and row.type != "ro":
                     raise Refused(f"read-only area: {name}")
-                row.size = sizes.get(name, 0)
                 begin = row.begin_in(area, cursor) if name in sizes else cursor
                 if begin < cursor:
                     raise Refused(f"start below what is placed: {name}")

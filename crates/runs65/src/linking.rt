@@ -48,6 +48,22 @@ bytes b.o 5236356F010209000500000002434F4445030100EA0404000300000003010005080000
 $ ld65 -C s.cfg b.o ==> ld65: Warning: segment CODE needs alignment 4
 is a.out EA00000005
 
+text s.cfg MEMORY { ZP: start = $10, size = $20, file = \"\"; RAM: start = __ZP_LAST__, size = TOP - __ZP_LAST__, file = \"\"; ROM: start = $8000, size = $10; } SEGMENTS { ZEROPAGE: load = ZP, type = zp; BSS: load = RAM, type = bss; CODE: load = ROM, type = ro; } SYMBOLS { TOP: type = export, value = $40; }
+text a.s .zeropage // .res 3 // .bss // b: .res 1 // .code // lda b
+$ ca65 a.s
+$ ld65 -C s.cfg a.o
+is a.out AD1300
+text s.cfg MEMORY { RAM: start = __ZP_LAST__, size = TOP - __ZP_LAST__, file = \"\"; ZP: start = $10, size = $20, file = \"\"; ROM: start = $8000, size = $10; } SEGMENTS { ZEROPAGE: load = ZP, type = zp; BSS: load = RAM, type = bss; CODE: load = ROM, type = ro; } SYMBOLS { TOP: type = export, value = $40; }
+$ ld65 -C s.cfg a.o ==> ld65: Error: name not yet placed: __ZP_LAST__
+text s.cfg MEMORY { ZP: start = $10, size = $20, file = \"\"; RAM: start = __ZP_LAST__, size = TOP - __ZP_LAST__, file = \"\"; ROM: start = $8000, size = $10; } SEGMENTS { ZEROPAGE: load = ZP, type = zp; BSS: load = RAM, type = bss; CODE: load = ROM, type = ro; } SYMBOLS { TOP: type = export, value = $12; }
+$ ld65 -C s.cfg a.o ==> ld65: Error: area value out of range: RAM
+text s.cfg MEMORY { ZP: start = $10, size = $20, file = \"\"; RAM: start = __ZP_LAST__, size = TOP - __ZP_LAST__, file = \"\"; ROM: start = $8000, size = $10; } SEGMENTS { ZEROPAGE: load = ZP, type = zp; BSS: load = RAM, type = bss; CODE: load = ROM, type = ro; } SYMBOLS { TOP: type = export, value = $13; }
+$ ld65 -C s.cfg a.o ==> ld65: Error: overflow of RAM by 1 bytes
+text s.cfg MEMORY { ZP: start = $10, size = $20, file = \"\"; RAM: start = __ZP_LAST__, size = FOO - __ZP_LAST__, file = \"\"; ROM: start = $8000, size = $10; } SEGMENTS { ZEROPAGE: load = ZP, type = zp; BSS: load = RAM, type = bss; CODE: load = ROM, type = ro; } SYMBOLS { TOP: type = export, value = $40; }
+$ ld65 -C s.cfg a.o ==> s.cfg:1: Error: no such name: FOO
+text s.cfg MEMORY { ZP: start = $10, size = $20, file = \"\"; RAM: start = __ZP_LAST__, size = __ZP_SIZE__, file = \"\"; ROM: start = $8000, size = $10; } SEGMENTS { ZEROPAGE: load = ZP, type = zp; BSS: load = RAM, type = bss; CODE: load = ROM, type = ro; ZP: load = ROM, optional = yes; } SYMBOLS { TOP: type = export, value = $40; }
+$ ld65 -C s.cfg a.o ==> s.cfg:1: Error: ambiguous name: __ZP_SIZE__
+
 text s.cfg MEMORY { ZP: start = 0, size = $100, file = \"\"; ROM: start = $8000, size = $10; } SEGMENTS { ZEROPAGE: load = ZP, type = zp; CODE: load = ROM, type = ro; }
 text a.s .zeropage // p: .res 1 // .code // lda p // lda q // .zeropage // q: .res 1
 $ ca65 a.s

@@ -1,5 +1,5 @@
 use super::{ROM, fault_of};
-use script65::{Fault, ScriptFault, read_script};
+use script65::{Fault, ScriptFault, Sequence, read_script};
 use std::alloc::Global;
 use std::test::Fail;
 
@@ -42,7 +42,11 @@ fn parts_of_a_script(rt: HostRuntime) {
 
 /// Whether a fault has these words, with a line and without.
 fn has_words(alloc: Global, fault: Fault, words: &str) -> Result<bool, Fail> {
-    let placed = ScriptFault { fault, line: 7 };
+    let placed = ScriptFault {
+        fault,
+        line: 7,
+        name: Sequence::new(alloc),
+    };
     Ok(fault.to_string(alloc)?.as_str() == words && placed.to_string(alloc)?.as_str() == words)
 }
 
@@ -51,5 +55,27 @@ fn has_words(alloc: Global, fault: Fault, words: &str) -> Result<bool, Fail> {
 fn words(rt: HostRuntime) -> Result<(), Fail> {
     assert!(rt; has_words(rt.alloc(), Fault::OutOfMemory, "out of memory")?);
     assert!(rt; has_words(rt.alloc(), Fault::TooLong, "script too long")?);
+    Ok(())
+}
+
+/// A fault of a name has it, in its words too.
+#[test]
+fn names_of_faults(rt: HostRuntime) -> Result<(), Fail> {
+    for (text, words, line) in [
+        ("MEMORY { A: start = 1,\n size = f; }", "no such name: f", 2),
+        (
+            "MEMORY { A: start = 1, size = __A_SIZE__; } SEGMENTS { A: load = A; }",
+            "ambiguous name: __A_SIZE__",
+            1,
+        ),
+    ] {
+        match read_script(rt.alloc(), text.as_bytes()) {
+            Ok(_) => assert!(rt; false),
+            Err(e) => {
+                assert!(rt; e.line == line);
+                assert!(rt; e.to_string(rt.alloc())?.as_str() == words);
+            }
+        }
+    }
     Ok(())
 }

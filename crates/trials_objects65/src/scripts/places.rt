@@ -91,6 +91,48 @@ fn where_rows_begin(rt: HostRuntime) -> Result<(), Fail> {
     Ok(())
 }
 
+const BEHIND: &str =
+    "MEMORY { ZP: start = $10, size = $20; RAM: start = __ZP_LAST__, size = TOP - __ZP_LAST__; } SEGMENTS { Z: load = ZP, type = zp; B: load = RAM, type = bss; } SYMBOLS { TOP: type = export, value = $40; }";
+
+const AHEAD: &str =
+    "MEMORY { RAM: start = __ZP_LAST__, size = 1; ZP: start = $10, size = $20; } SEGMENTS { Z: load = ZP, type = zp; }";
+
+/// An area behind what another one holds, up to an address that the script exports.
+#[test]
+fn areas_by_sums(rt: HostRuntime) -> Result<(), Fail> {
+    let rows = [row(0x10, 0x10, 3), row(0x13, 0x13, 1)];
+    let zp = AreaPlace {
+        start: 0x10,
+        size: 0x20,
+        last: 0x13,
+    };
+    let ram = AreaPlace {
+        start: 0x13,
+        size: 0x2d,
+        last: 0x14,
+    };
+    assert!(rt; places(rt.alloc(), BEHIND, &[("Z", 3), ("B", 1)], &rows, &[zp, ram])?);
+    assert!(rt;
+        refuses(
+            rt.alloc(),
+            BEHIND,
+            &[("Z", 49)],
+            "overflow of ZP by 17 bytes"
+        )?
+    );
+    let small = "MEMORY { A: start = 9, size = e - 4; } SYMBOLS { e: type = export, value = 3; }";
+    assert!(rt; refuses(rt.alloc(), small, &[], "area value out of range: A")?);
+    assert!(rt;
+        refuses(
+            rt.alloc(),
+            AHEAD,
+            &[("Z", 3)],
+            "name not yet placed: __ZP_LAST__"
+        )?
+    );
+    Ok(())
+}
+
 /// What no object asks for, and what can't be placed.
 #[test]
 fn refusals(rt: HostRuntime) -> Result<(), Fail> {

@@ -1,13 +1,30 @@
 //! The parts of whole scripts.
 
 use super::ROM;
-use script65::{Access, Area, AreaFile, Begin, Row, Script, Symbol, SymbolKind, read_script};
+use script65::{
+    Access, Area, AreaFile, AreaPart, Begin, Operand, Row, RowPart, Script, Symbol, SymbolKind,
+    Term, read_script,
+};
 use std::test::Fail;
+
+/// Whether the only term of a sum is this number.
+fn is_number(terms: &[Term], number: u32) -> bool {
+    match terms {
+        [term] => !term.minus && matches!(term.operand, Operand::Number(n) if n == number),
+        _ => false,
+    }
+}
+
+/// Whether an area begins and is as long as these numbers say.
+fn spans(area: &Area, start: u32, size: u32) -> bool {
+    is_number(area.start.as_slice(), start) && is_number(area.size.as_slice(), size)
+}
 
 /// An area of 16 bytes for the output, with what an attribute that isn't there stands for.
 fn is_plain_area(area: &Area) -> bool {
     area.name.as_slice() == b"ROM".as_slice()
-        && (area.start, area.size, area.fill_value) == (0x8000, 0x10, 0)
+        && spans(area, 0x8000, 0x10)
+        && area.fill_value == 0
         && !(area.read_only || area.fill || area.define)
         && matches!(area.file, AreaFile::Output)
 }
@@ -60,12 +77,13 @@ memory { RAM: start = 512, size = 256, type = rw, file = \"\", fill no, define N
 fn are_areas(areas: &[Area]) -> bool {
     match areas {
         [rom, ram, out] => {
-            (rom.start, rom.size, rom.fill_value) == (0x8000, 0x10, 0xff)
+            spans(rom, 0x8000, 0x10)
+                && rom.fill_value == 0xff
                 && rom.read_only
                 && rom.fill
                 && rom.define
                 && is_named(&rom.file, b"rom.bin")
-                && (ram.start, ram.size) == (512, 256)
+                && spans(ram, 512, 256)
                 && is_named(&ram.file, b"")
                 && matches!(out.file, AreaFile::Output)
         }
@@ -113,5 +131,49 @@ fn whole_scripts(rt: HostRuntime) -> Result<(), Fail> {
     assert!(rt; are_areas(script.areas.as_slice()));
     assert!(rt; are_symbols(script.symbols.as_slice()));
     assert!(rt; are_rows(script.rows.as_slice()));
+    Ok(())
+}
+
+/// Sums of which each term is another thing.
+const SUMS: &str =
+    "MEMORY { A: start = 5 - e, size = $20; B: size = e + __A_LAST__ - __S_RUN__ start __A_START__; } SEGMENTS { S: load = A; } SYMBOLS { e: type = export, value = 3; }";
+
+/// Whether the terms are 5 and, taken from it, the export's 3.
+fn is_difference(terms: &[Term]) -> bool {
+    match terms {
+        [five, three] => {
+            !five.minus
+                && three.minus
+                && matches!(five.operand, Operand::Number(5))
+                && matches!(three.operand, Operand::Number(3))
+        }
+        _ => false,
+    }
+}
+
+/// Whether the terms are the export's 3, the end of the first area, and, taken from these, where the first row runs.
+fn has_names(terms: &[Term]) -> bool {
+    match terms {
+        [three, last, run] => {
+            !(three.minus || last.minus)
+                && run.minus
+                && matches!(three.operand, Operand::Number(3))
+                && matches!(last.operand, Operand::Area(0, AreaPart::Last))
+                && matches!(run.operand, Operand::Row(0, RowPart::Run))
+        }
+        _ => false,
+    }
+}
+
+#[test]
+fn sums(rt: HostRuntime) -> Result<(), Fail> {
+    let script = read_script(rt.alloc(), SUMS.as_bytes())?;
+    match script.areas.as_slice() {
+        [a, b] => {
+            assert!(rt; is_difference(a.start.as_slice()));
+            assert!(rt; has_names(b.size.as_slice()));
+        }
+        _ => assert!(rt; false),
+    }
     Ok(())
 }

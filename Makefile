@@ -17,6 +17,7 @@ example: program
 	@sh example/first.sh $(abspath $(PROGRAM))
 	@sh example/programs.sh $(abspath $(PROGRAM))
 	@sh example/library.sh $(abspath $(PROGRAM))
+	@sh example/sizes.sh $(abspath $(PROGRAM))
 	@echo 'The program is $(PROGRAM); make install puts it on the path, and docs/TUTORIAL.md goes on.'
 
 test:

@@ -59,6 +59,7 @@ part 'links of pages' python3 tests/links.py
 part 'a first link' one sh example/first.sh "$program"
 part 'three programs' one sh example/programs.sh "$program"
 part 'a library' one sh example/library.sh "$program"
+part 'three sizes' one sh example/sizes.sh "$program"
 
 printf '\nThe parts:\n%s' "$took"
 echo "$passed passed, $failed failed"

@@ -23,11 +23,11 @@ WORDS = {
     ),
     "script": (
         "syntax error|unknown attribute|attribute twice|attribute missing|name twice|no such area|value out of range"
-        "|attributes exclude each other|script too long"
+        "|attributes exclude each other|script too long|no such name: .+|ambiguous name: .+"
     ),
     "link": (
         "segment has no row: .+|read-only area: .+|start below what is placed: .+|overflow of .+ by [0-9]+ bytes"
-        "|duplicate export: .+|unresolved: .+"
+        "|duplicate export: .+|unresolved: .+|name not yet placed: .+|area value out of range: .+"
     ),
     "value": "circular definition|out of range|zero divisor or bad shift count",
 }

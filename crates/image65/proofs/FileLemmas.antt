@@ -8,9 +8,9 @@ use Rattle.std.proofs.lemmas.List.{drop_all}
 use Rattle.std.proofs.lemmas.Str.{is_utf8-from_IsUtf8}
 use Rattle.script65.proofs.Eaches.{drop_item}
 use Rattle.script65.proofs.Utf8.{not_utf8}
-use Rattle.image65.proofs.Walks.{drop_suc, there}
-use Rattle.image65.specs.declared.placement.AreaPlace.{AreaPlace}
-use Rattle.image65.specs.declared.placement.Placement.{Placement}
+use Rattle.script65.proofs.Walks.{drop_suc, there}
+use Rattle.script65.specs.declared.placement.AreaPlace.{AreaPlace}
+use Rattle.script65.specs.declared.placement.Placement.{Placement}
 use Rattle.script65.specs.declared.script.Area.{Area}
 use Rattle.script65.specs.declared.script.AreaFile.{AreaFile}
 use Rattle.script65.specs.declared.script.AreaFile.TheVariants.{Named}

@@ -1,12 +1,3 @@
-pub mod Apart
-pub mod AreaLemmas
 pub mod FileLemmas
-pub mod Fixed
 pub mod ImageLemmas
 pub mod LoadLemmas
-pub mod Members
-pub mod NeedLemmas
-pub mod Placed
-pub mod Settled
-pub mod SumsHeld
-pub mod Walks

@@ -7,7 +7,7 @@ use Rattle.std.proofs.lemmas.List.{drop_all, map-append}
 use Rattle.std.proofs.lemmas.Option.{slice_get_cases}
 use Rattle.script65.proofs.Eaches.{append_none, drop_at}
 use Rattle.script65.proofs.Eaches.{drop_item}
-use Rattle.image65.specs.declared.placement.RowPlace.{RowPlace}
+use Rattle.script65.specs.declared.placement.RowPlace.{RowPlace}
 use Rattle.script65.specs.declared.script.Row.{Row}
 use Rattle.image65.specs.declared.areas.Load.{Load}
 use Rattle.image65.specs.Inner.Loads.{HoldsLoads, view}

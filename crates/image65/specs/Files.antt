@@ -7,9 +7,9 @@ use Rattle.script65.specs.declared.script.AreaFile.{AreaFile}
 use Rattle.script65.specs.declared.script.AreaFile.TheVariants as file
 use Rattle.script65.specs.declared.script.Row.{Row}
 use Rattle.image65.specs.declared.output.OutputFile.{OutputFile}
-use Rattle.image65.specs.declared.placement.AreaPlace.{AreaPlace}
-use Rattle.image65.specs.declared.placement.Placement.{Placement}
-use Rattle.image65.specs.declared.placement.RowPlace.{RowPlace}
+use Rattle.script65.specs.declared.placement.AreaPlace.{AreaPlace}
+use Rattle.script65.specs.declared.placement.Placement.{Placement}
+use Rattle.script65.specs.declared.placement.RowPlace.{RowPlace}
 
 -- ---- What lies in an area's file.
 

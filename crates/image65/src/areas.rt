@@ -5,9 +5,8 @@ ghost use Rattle.std.specs.Option.{option_map};
 ghost use Rattle.image65.specs.Inner.Loads.{HoldsLoads};
 ghost use Rattle.image65.specs.Files.{is_loaded};
 
-use crate::placement::{AreaPlace, RowPlace};
 use base65::Sequence;
-use script65::{Area, Row};
+use script65::{Area, AreaPlace, Row, RowPlace};
 use std::alloc::{AllocError, Global};
 
 /// A row and where it is placed.

@@ -9,11 +9,10 @@ ghost use Rattle.image65.specs.declared.output.OutputFile.{OutputFile};
 use crate::areas::{Filled, Load, loads_of};
 use crate::imaging::area_file;
 use crate::output::OutputFile;
-use crate::placement::{AreaPlace, Placement};
 use crate::rows::RowContents;
 use base65::{Sequence, Text};
 use indexmap::IndexSet;
-use script65::{AreaFile, Script};
+use script65::{AreaFile, AreaPlace, Placement, Script};
 use std::alloc::{AllocError, Global};
 
 /// The name of an area's file, where the linker's output has a name.

@@ -13,7 +13,7 @@ use Rattle.script65.specs.declared.fault.Fault.TheVariants.{TooLong}
 use Rattle.script65.specs.declared.fault.ScriptFault.{ScriptFault}
 use Rattle.script65.specs.Faults.{is_script_outside}
 use Rattle.script65.specs.Grammar.{First as FirstOf, sized}
-use Rattle.script65.specs.Outcome.{◌>>=◌}
+use Rattle.base65.specs.Outcome.{◌>>=◌}
 use Rattle.script65.specs.Scripts.{IsScript, script_of, with_line}
 use Rattle.linkage65.specs.declared.linked.Linked.{Linked}
 use Rattle.line65.specs.Line.{Linking}

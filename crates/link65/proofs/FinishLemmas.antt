@@ -3,9 +3,9 @@ use Rattle.std.proofs.Common.{◌≡◌, ◌∙◌, ℕ, ℤ, List, [], ◌∷�
 use Rattle.std.specs.Prelude.{IfErr, pos}
 use Rattle.std.specs.Ordering.{int_eq}
 use Rattle.base65.specs.Outcome.{◌>>=◌, Finds, First, Unless}
-use Rattle.image65.specs.declared.placement.PlaceFault.{PlaceFault}
-use Rattle.image65.specs.declared.placement.Placement.{Placement}
-use Rattle.image65.specs.Placing.{place_of}
+use Rattle.script65.specs.declared.placement.PlaceFault.{PlaceFault}
+use Rattle.script65.specs.declared.placement.Placement.{Placement}
+use Rattle.script65.specs.Placing.{place_of}
 use Rattle.object65.specs.declared.object.Action.{Action}
 use Rattle.object65.specs.declared.object.Action.TheVariants as action
 use Rattle.object65.specs.Objects.{fits_width}

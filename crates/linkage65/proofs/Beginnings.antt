@@ -7,7 +7,7 @@ use Rattle.std.specs.Option.{option_map}
 use Rattle.object65.specs.declared.object.Fragment.{Fragment}
 use Rattle.object65.specs.Objects.{fragment_len}
 use Rattle.object65.proofs.Closings.{nil}
-use Rattle.image65.specs.Placing.{rounded_up}
+use Rattle.script65.specs.Placing.{rounded_up}
 use Rattle.linkage65.specs.declared.contents.Content.{Content}
 use Rattle.linkage65.specs.declared.fault.LinkFault.{LinkFault}
 use Rattle.linkage65.specs.declared.growing.Growing.{Growing}

@@ -27,7 +27,7 @@ use Rattle.object65.proofs.Scannings.{IsPlaced}
 use Rattle.object65.specs.Scanning.{outline_of}
 use Rattle.object65.proofs.Builders.{reached_parts}
 use Rattle.object65.proofs.Withins.{led}
-use Rattle.image65.specs.Placing.{rounded_up}
+use Rattle.script65.specs.Placing.{rounded_up}
 use Rattle.linkage65.specs.declared.parts.SectionPlace.{SectionPlace}
 use Rattle.linkage65.specs.declared.parts.Exported.{Exported}
 use Rattle.linkage65.specs.declared.parts.Asserted.{Asserted}

@@ -1,7 +1,7 @@
 -- From a finished program to a placed link.
 use Rattle.std.proofs.Common.{◌≡◌, subst, ap, Bool, true, false, List, ℕ, map, Result, Ok, Err}
 use Rattle.base65.specs.Outcome.{Finds, Unless}
-use Rattle.image65.specs.declared.placement.Placement.{Placement}
+use Rattle.script65.specs.declared.placement.Placement.{Placement}
 use Rattle.script65.specs.declared.script.Script.{Script}
 use Rattle.linkage65.specs.declared.evaluation.mark.Mark.{Mark}
 use Rattle.linkage65.specs.declared.fault.LinkFault.{LinkFault}

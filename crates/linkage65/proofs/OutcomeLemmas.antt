@@ -3,7 +3,7 @@ use Rattle.std.proofs.Common.{◌≡◌, ◌∙◌, ℕ, zero, suc, ◌+◌, ◌
 use Rattle.std.specs.Prelude.{ℤ, ◌==◌}
 use Rattle.base65.specs.Outcome.{First}
 use Rattle.base65.proofs.Outcome.{first_once}
-use Rattle.image65.specs.declared.placement.Placement.{Placement}
+use Rattle.script65.specs.declared.placement.Placement.{Placement}
 use Rattle.script65.specs.declared.script.Area.{Area}
 use Rattle.script65.specs.declared.script.Script.{Script}
 use Rattle.linkage65.specs.declared.fault.LinkFault.{LinkFault}

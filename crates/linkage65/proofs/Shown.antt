@@ -2,7 +2,7 @@
 use Rattle.std.proofs.Common.{◌≡◌, ◌∙◌, ◌<◌, ℕ, ◌+◌, List, [], ◌∷◌, ◌++◌, length, take, get_or, refl, sym, ap, add-one, append_assoc}
 use Rattle.std.specs.Prelude.{codes, encode_utf8, encode_utf8_all}
 use Rattle.script65.proofs.Eaches.{drop_item}
-use Rattle.image65.proofs.Walks.{take_more}
+use Rattle.script65.proofs.Walks.{take_more}
 use Rattle.linkage65.specs.Faults.{listed, separator_behind}
 
 encoded : (a b : List ℕ) → encode_utf8_all (a ++ b) ≡ encode_utf8_all a ++ encode_utf8_all b

@@ -10,8 +10,8 @@ use Rattle.std.specs.List.{flat_map, position_from}
 use Rattle.std.specs.Option.{option_map_or}
 use Rattle.std.specs.Str.{bytes_eq}
 use Rattle.base65.specs.Outcome.{◌>>=◌, First}
-use Rattle.image65.specs.Placing.{place_of}
-use Rattle.image65.specs.declared.placement.Placement.{Placement}
+use Rattle.script65.specs.Placing.{place_of}
+use Rattle.script65.specs.declared.placement.Placement.{Placement}
 use Rattle.script65.specs.declared.script.Script.{Script}
 use Rattle.script65.specs.declared.script.Symbol.{Symbol}
 use Rattle.script65.specs.declared.script.SymbolKind.TheVariants as kind

@@ -1,9 +1,9 @@
 -- What modules come to by a script.
 use Rattle.std.specs.Prelude.{◌≡◌, ℕ, ℤ, List, [], ◌∷◌, ◌++◌, Option, Some, None, Result, Ok, Err}
 use Rattle.base65.specs.Outcome.{◌>>=◌, First}
-use Rattle.image65.specs.Placing.{place_of}
-use Rattle.image65.specs.declared.placement.PlaceFault.{PlaceFault}
-use Rattle.image65.specs.declared.placement.Placement.{Placement}
+use Rattle.script65.specs.Placing.{place_of}
+use Rattle.script65.specs.declared.placement.PlaceFault.{PlaceFault}
+use Rattle.script65.specs.declared.placement.Placement.{Placement}
 use Rattle.script65.specs.declared.script.Script.{Script}
 use Rattle.linkage65.specs.declared.fault.LinkFault.{LinkFault}
 use Rattle.linkage65.specs.declared.fault.LinkFault.TheVariants as fault

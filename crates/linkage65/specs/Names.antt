@@ -2,9 +2,9 @@
 use Rattle.std.specs.Prelude.{ℕ, List, [], ◌∷◌, ◌++◌, map, codes, if◌then◌else◌}
 use Rattle.std.specs.Int.{w64, cast_signed}
 use Rattle.std.specs.List.{flat_map}
-use Rattle.image65.specs.declared.placement.AreaPlace.{AreaPlace}
-use Rattle.image65.specs.declared.placement.Placement.{Placement}
-use Rattle.image65.specs.declared.placement.RowPlace.{RowPlace}
+use Rattle.script65.specs.declared.placement.AreaPlace.{AreaPlace}
+use Rattle.script65.specs.declared.placement.Placement.{Placement}
+use Rattle.script65.specs.declared.placement.RowPlace.{RowPlace}
 use Rattle.script65.specs.Parts.{part_name}
 use Rattle.script65.specs.declared.script.Area.{Area}
 use Rattle.script65.specs.declared.script.Row.{Row}

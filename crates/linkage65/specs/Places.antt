@@ -2,9 +2,9 @@
 use Rattle.std.specs.Prelude.{ℕ, ◌+◌, ◌%◌, ◌^◌, ℤ, List, map, slice_get, Option, Some, None}
 use Rattle.std.specs.Int.{w64, cast_signed}
 use Rattle.std.specs.Option.{option_map_or}
-use Rattle.image65.specs.declared.placement.Placement.{Placement}
-use Rattle.image65.specs.declared.placement.RowPlace.{RowPlace}
-use Rattle.image65.specs.declared.placement.SegmentNeed.{SegmentNeed}
+use Rattle.script65.specs.declared.placement.Placement.{Placement}
+use Rattle.script65.specs.declared.placement.RowPlace.{RowPlace}
+use Rattle.script65.specs.declared.placement.SegmentNeed.{SegmentNeed}
 use Rattle.script65.specs.declared.script.Row.{Row}
 use Rattle.script65.specs.declared.script.Script.{Script}
 use Rattle.linkage65.specs.declared.parts.Member.{Member}

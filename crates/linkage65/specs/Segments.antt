@@ -7,7 +7,7 @@ use Rattle.object65.specs.declared.object.Section.{Section}
 use Rattle.object65.specs.declared.object.Fragment.{Fragment}
 use Rattle.object65.specs.declared.object.Fragment.TheVariants.{Literal, Fill, Value}
 use Rattle.object65.specs.Objects.{section_len}
-use Rattle.image65.specs.Placing.{rounded_up}
+use Rattle.script65.specs.Placing.{rounded_up}
 use Rattle.linkage65.specs.declared.parts.Waiting.{Waiting}
 use Rattle.linkage65.specs.declared.parts.SectionPlace.{SectionPlace}
 

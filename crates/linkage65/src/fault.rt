@@ -5,9 +5,8 @@ ghost use Rattle.linkage65.specs.Faults.{of_object, of_place};
 ghost use Rattle.linkage65.specs.declared.fault.LinkFault.TheVariants.{OutOfMemory};
 
 use base65::Sequence;
-use image65::PlaceFault;
 use object65::ObjectFault;
-use script65::Shown;
+use script65::{PlaceFault, Shown};
 use std::alloc::{AllocError, AllocFailed};
 use std::error::Error;
 use std::fmt;

@@ -20,8 +20,8 @@ use crate::resolving::Names;
 use crate::texts::join;
 use crate::warning::warnings_of;
 use base65::Sequence;
-use image65::{Placement, files_of};
-use script65::Script;
+use image65::files_of;
+use script65::{Placement, Script};
 use std::alloc::{AllocError, Global};
 
 /// By what a program is finished: the name of the linker's output, the script, and where it places the segments.

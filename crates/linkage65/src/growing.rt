@@ -3,7 +3,7 @@
 ghost use Rattle.std.specs.Prelude.{◌≡◌, ◌≤◌, ◌<◌, ◌+◌, ◌-◌, ◌^◌, ◌++◌, ◌∷◌, [], Ok, OnOk, IfErr, IfOk, IfSome, true, None, Some, length, map, max, position, replicate, slice_get, slice_set};
 ghost use Rattle.std.specs.Str.{bytes_eq};
 ghost use Rattle.object65.specs.Objects.{fragment_len};
-ghost use Rattle.image65.specs.Placing.{rounded_up};
+ghost use Rattle.script65.specs.Placing.{rounded_up};
 ghost use Rattle.base65.specs.Outcome.{Gives};
 ghost use Rattle.linkage65.specs.Contents.{cells_of, segment_from, segments_from};
 ghost use Rattle.linkage65.specs.declared.contents.Content.{Content};

@@ -21,8 +21,7 @@ use crate::needs::needs_of;
 use crate::parts::{Definition, Resolved};
 use crate::resolving::{Addresses, Names, resolve_all};
 use crate::tables::Segments;
-use image65::{Placement, place};
-use script65::Script;
+use script65::{Placement, Script, place};
 use std::alloc::Global;
 
 /// What a placed program comes to whose sections lie so and whose imports are given so.

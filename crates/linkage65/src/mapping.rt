@@ -15,8 +15,7 @@ use crate::parts::{Definition, Exported, Member, SectionPlace};
 use crate::resolving::{Names, is_defined};
 use crate::texts::join;
 use base65::Sequence;
-use image65::RowPlace;
-use script65::Row;
+use script65::{Row, RowPlace};
 use std::alloc::{AllocError, Global};
 
 const DIGITS: [u8; 16] = *b"0123456789ABCDEF";

@@ -8,8 +8,7 @@ ghost use Rattle.linkage65.specs.Names.{area_definitions, areas_definitions, exp
 use crate::parts::Definition;
 use crate::texts::join;
 use base65::Sequence;
-use image65::{AreaPlace, Placement, RowPlace};
-use script65::{Area, Row, Script, Symbol, SymbolKind};
+use script65::{Area, AreaPlace, Placement, Row, RowPlace, Script, Symbol, SymbolKind};
 use std::alloc::{AllocError, Global};
 
 /// `__N_PART__`

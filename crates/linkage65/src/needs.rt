@@ -5,8 +5,8 @@ ghost use Rattle.linkage65.specs.Contents.{segments_from};
 ghost use Rattle.linkage65.specs.Places.{need_of};
 
 use crate::contents::Content;
-use image65::SegmentNeed;
-use script65::Sequence;
+use base65::Sequence;
+use script65::SegmentNeed;
 use std::alloc::{AllocError, Global};
 
 /// What each segment needs of its row, in order.

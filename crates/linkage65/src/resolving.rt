@@ -10,9 +10,8 @@ ghost use Rattle.linkage65.specs.declared.parts.Giver.TheVariants.{Nobody};
 
 use crate::parts::{Definition, Exported, Giver, Member, Resolved, SectionPlace};
 use base65::Sequence;
-use image65::RowPlace;
 use indexmap::IndexMap;
-use script65::Row;
+use script65::{Row, RowPlace};
 use std::alloc::{AllocError, Global};
 
 /// The place of the first of names that equals one.

@@ -2,15 +2,15 @@
 use Rattle.std.proofs.Common.{◌≡◌, ℕ, Bool, true, false, List, [], ◌∷◌, ◌++◌, refl, sym, ap, ◌∙◌, subst, Option, Some, None, Ok, Err}
 use Rattle.std.specs.Prelude.{Result}
 use Rattle.script65.specs.declared.fault.Stop.{Stop}
-use Rattle.script65.specs.declared.reading.token.Form.TheVariants as form
 use Rattle.script65.specs.declared.reading.words.Block.{Block}
 use Rattle.script65.specs.declared.reading.words.Given.{Given}
 use Rattle.script65.specs.Tokens.{token_at}
 use Rattle.script65.specs.declared.fault.Fault.{Fault}
 use Rattle.script65.specs.declared.reading.token.Token.{Token}
 use Rattle.script65.specs.declared.reading.words.Part.{Part}
-use Rattle.script65.specs.Grammar.{Draft, First, Attributes, IsEntry, Parts, added, ends_sum, entry_end, entry_fault, entry_head, more, signed_part, stops, stands, text_of, unless_fault}
-use Rattle.script65.specs.Outcome.{Finds, Unless, ◌>>=◌}
+use Rattle.script65.specs.Grammar.{Draft, First, Attributes, IsEntry, Parts, added, ends_sum, entry_end, entry_fault, entry_head, more, signed_part, stops, text_of, unless_fault}
+use Rattle.base65.specs.Outcome.{Unless, ◌>>=◌}
+use Rattle.script65.specs.Outcome.{Finds}
 
 -- a fault of a part is one of the whole
 pub unless_map : (P Q : Type 0) (b : Bool) → (P → Q) → Unless b P → Unless b Q

@@ -1,9 +1,8 @@
 -- The names for parts of areas and rows.
-use Rattle.std.proofs.Common.{◌≡◌, ◌≢◌, ℕ, suc, ◌+◌, ◌-◌, Bool, true, false, cond, nat_lt, List, [], ◌∷◌, ◌++◌, length, take, drop, position, Option, Some, None, MatchOption, refl, sym, ap, ◌∙◌, arith, length-append}
-use Rattle.std.specs.Prelude.{codes, if◌then◌else◌, not}
+use Rattle.std.proofs.Common.{◌≡◌, ◌≢◌, ℕ, ◌-◌, Bool, true, false, cond, nat_lt, List, [], ◌∷◌, ◌++◌, length, take, drop, position, Option, Some, None, MatchOption, refl, sym, ap, ◌∙◌, arith, length-append}
+use Rattle.std.specs.Prelude.{codes}
 use Rattle.std.specs.Bool.{one_answer}
 use Rattle.std.specs.List.{position_or_len}
-use Rattle.std.specs.Option.{option_and_then, option_map}
 use Rattle.std.specs.Str.{bytes_eq}
 use Rattle.std.proofs.lemmas.Bool.Decides.{nat_tests}
 use Rattle.std.proofs.lemmas.List.{append_cancel_right, take-append-drop}

@@ -12,7 +12,7 @@ use Rattle.script65.specs.declared.script.Script.{Script}
 use Rattle.script65.specs.Grammar.{Many, ends, more, stops, First, Then, IsPart, Parts, IsSum, IsValue, IsAttribute, Attributes, IsEntry, Entries, IsBlock, Blocks, Draft, Drafts, entry_head, entry_end, block_head, nothing, stands, sized, ends_sum, part_at, sum_end, attribute_word, attribute_end, behind}
 use Rattle.script65.specs.Laws.{OneReading}
 use Rattle.script65.specs.Scripts.{Reads, script_of, with_line}
-use Rattle.script65.specs.Outcome.{◌>>=◌}
+use Rattle.base65.specs.Outcome.{◌>>=◌}
 use Rattle.script65.specs.Tokens.{token_at}
 use Rattle.script65.specs.Words.{shape_of}
 

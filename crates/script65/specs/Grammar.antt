@@ -23,7 +23,7 @@ use Rattle.script65.specs.declared.reading.words.Given.{Given}
 use Rattle.script65.specs.declared.reading.words.Part.{Part}
 use Rattle.script65.specs.declared.reading.table.Entry.{Entry}
 use Rattle.script65.specs.Numbers.{number_of}
-use Rattle.script65.specs.Outcome.{◌>>=◌}
+use Rattle.base65.specs.Outcome.{◌>>=◌}
 use Rattle.script65.specs.Sums.{sum_of}
 use Rattle.script65.specs.Tokens.{token_at, text}
 use Rattle.script65.specs.Words.{block_of, attribute_of, shape_of, area_access_of, row_access_of, flag_of, role_of, is_width}

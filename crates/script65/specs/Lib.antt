@@ -1,4 +1,5 @@
 pub mod Access
+pub mod AreaSums
 pub mod Faults
 pub mod Grammar
 pub mod Inner
@@ -7,6 +8,9 @@ pub mod Naming
 pub mod Numbers
 pub mod Outcome
 pub mod Parts
+pub mod PlaceFaults
+pub mod Placing
+pub mod PlacingLaws
 pub mod Scripts
 pub mod Sums
 pub mod Tokens

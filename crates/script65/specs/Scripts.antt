@@ -29,7 +29,7 @@ use Rattle.script65.specs.declared.reading.words.Given.{Given}
 use Rattle.script65.specs.declared.reading.table.Entry.{Entry}
 use Rattle.script65.specs.Access.{is_read_only, is_written}
 use Rattle.script65.specs.Faults.{names}
-use Rattle.script65.specs.Outcome.{◌>>=◌, each}
+use Rattle.base65.specs.Outcome.{◌>>=◌, each}
 use Rattle.script65.specs.Tokens.{text, token_at, line_of}
 use Rattle.script65.specs.Grammar.{Draft, Drafts, value_given, number_given, role_given, text_of, Then}
 use Rattle.script65.specs.Naming.{extent_of}

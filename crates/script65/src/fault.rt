@@ -3,7 +3,7 @@
 ghost use Rattle.std.specs.Prelude.{◌≡◌, Some};
 ghost use Rattle.script65.specs.declared.fault.Fault.TheVariants.{OutOfMemory};
 
-use crate::sequence::Sequence;
+use base65::Sequence;
 use std::alloc::{AllocError, AllocFailed};
 use std::error::Error;
 use std::fmt;

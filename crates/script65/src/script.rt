@@ -2,7 +2,7 @@
 
 ghost use Rattle.std.specs.Prelude.{◌≡◌};
 
-use crate::sequence::Sequence;
+use base65::Sequence;
 
 /// A linker script: its areas, rows and symbols, each in the script's order.
 #[derive(Drop)]

@@ -5,8 +5,8 @@ mod files;
 mod places;
 mod scripts;
 
-use image65::{PlaceFault, Placement, SegmentNeed, place};
-use script65::{Script, Sequence, read_script};
+use base65::Sequence;
+use script65::{PlaceFault, Placement, Script, SegmentNeed, place, read_script};
 use std::alloc::{AllocError, Global};
 use std::test::Fail;
 

@@ -9,8 +9,8 @@ use Rattle.std.proofs.lemmas.List.{length-append}
 use Rattle.base65.specs.Values.{wrapped}
 use Rattle.object65.specs.declared.object.Object.{Object}
 use Rattle.object65.specs.declared.object.Section.{Section}
-use Rattle.image65.specs.Placing.{rounded_up}
-use Rattle.image65.specs.declared.placement.Placement.{Placement}
+use Rattle.script65.specs.Placing.{rounded_up}
+use Rattle.script65.specs.declared.placement.Placement.{Placement}
 use Rattle.script65.specs.declared.script.Script.{Script}
 use Rattle.language65.specs.declared.contents.Content.{Content}
 use Rattle.language65.specs.Layout.{Layout}

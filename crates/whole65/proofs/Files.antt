@@ -4,8 +4,8 @@ use Rattle.std.specs.Prelude.{ℤ, ◌↔◌, ◌==◌}
 use Rattle.std.specs.List.{AllByRecursion}
 use Rattle.base65.specs.Outcome.{◌>>=◌}
 use Rattle.object65.specs.declared.object.Export.{Export}
-use Rattle.image65.specs.declared.placement.Placement.{Placement}
-use Rattle.image65.specs.declared.placement.RowPlace.{RowPlace}
+use Rattle.script65.specs.declared.placement.Placement.{Placement}
+use Rattle.script65.specs.declared.placement.RowPlace.{RowPlace}
 use Rattle.script65.specs.declared.script.Area.{Area}
 use Rattle.script65.specs.declared.script.Row.{Row}
 use Rattle.language65.specs.Layout.{Layout}

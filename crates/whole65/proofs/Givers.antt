@@ -10,7 +10,7 @@ use Rattle.syntax65.specs.Trees as tree
 use Rattle.object65.specs.Form.{Form}
 use Rattle.object65.specs.declared.object.Export.{Export}
 use Rattle.object65.specs.declared.object.Object.{Object}
-use Rattle.image65.specs.declared.placement.Placement.{Placement}
+use Rattle.script65.specs.declared.placement.Placement.{Placement}
 use Rattle.script65.specs.declared.script.Script.{Script}
 use Rattle.language65.proofs.Lists.{same_bytes}
 use Rattle.language65.specs.declared.contents.Content.{Content}

@@ -4,7 +4,7 @@ use Rattle.std.specs.Prelude.{ℤ, ◌↔◌}
 use Rattle.std.specs.List.{AllByRecursion, flat_map}
 use Rattle.base65.specs.Outcome.{◌>>=◌}
 use Rattle.syntax65.specs.Trees as tree
-use Rattle.image65.specs.declared.placement.Placement.{Placement}
+use Rattle.script65.specs.declared.placement.Placement.{Placement}
 use Rattle.script65.specs.declared.script.Row.{Row}
 use Rattle.script65.specs.declared.script.Script.{Script}
 use Rattle.language65.specs.Layout.{Layout}

@@ -7,7 +7,7 @@ use Rattle.std.proofs.lemmas.Bool.Decides.{nat_tests}
 use Rattle.std.proofs.lemmas.Int.{ints, int_wrap-add_left}
 use Rattle.syntax65.specs.Trees.{Tree}
 use Rattle.base65.specs.Values.{wrapped}
-use Rattle.image65.specs.declared.placement.Placement.{Placement}
+use Rattle.script65.specs.declared.placement.Placement.{Placement}
 use Rattle.script65.specs.declared.script.Script.{Script}
 use Rattle.linkage65.specs.Places.{run_of}
 use Rattle.language65.specs.declared.fault.AsmFault.{AsmFault}

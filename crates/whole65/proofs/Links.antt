@@ -2,9 +2,9 @@
 use Rattle.std.proofs.Common.{◌≡◌, ℕ, List, [], ◌∷◌, ◌++◌, Result, Ok, Err, refl, sym, ◌∙◌, ap, subst}
 use Rattle.std.specs.Prelude.{ℤ}
 use Rattle.base65.specs.Outcome.{◌>>=◌, First}
-use Rattle.image65.specs.Placing.{place_of}
-use Rattle.image65.specs.declared.placement.PlaceFault.{PlaceFault}
-use Rattle.image65.specs.declared.placement.Placement.{Placement}
+use Rattle.script65.specs.Placing.{place_of}
+use Rattle.script65.specs.declared.placement.PlaceFault.{PlaceFault}
+use Rattle.script65.specs.declared.placement.Placement.{Placement}
 use Rattle.script65.specs.declared.script.Script.{Script}
 use Rattle.linkage65.specs.Checks.{check_asserts, check_export, check_waiting, each_passes, waiting_by_row}
 use Rattle.linkage65.specs.Givers.{unresolved}

@@ -8,9 +8,9 @@ use Rattle.std.proofs.lemmas.List.{map-append}
 use Rattle.std.proofs.lemmas.List.Folds.{list_any-append}
 use Rattle.object65.specs.declared.object.Object.{Object}
 use Rattle.object65.specs.declared.object.Section.{Section}
-use Rattle.image65.proofs.Placed.{same_needs}
-use Rattle.image65.specs.Placing.{size_of}
-use Rattle.image65.specs.declared.placement.SegmentNeed.{SegmentNeed}
+use Rattle.script65.proofs.Placed.{same_needs}
+use Rattle.script65.specs.Placing.{size_of}
+use Rattle.script65.specs.declared.placement.SegmentNeed.{SegmentNeed}
 use Rattle.language65.proofs.Lists.{bytes_swap, same_bytes}
 use Rattle.language65.specs.declared.contents.Content.{Content}
 use Rattle.language65.specs.Laid.{Laid, asks_section}

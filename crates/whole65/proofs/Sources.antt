@@ -5,7 +5,7 @@ use Rattle.std.specs.List.{list_any}
 use Rattle.std.specs.Option.{option_map_or}
 use Rattle.object65.specs.Objects.{section_len}
 use Rattle.object65.specs.declared.object.Object.{Object}
-use Rattle.image65.specs.Placing.{rounded_up}
+use Rattle.script65.specs.Placing.{rounded_up}
 use Rattle.language65.specs.declared.contents.Content.{Content}
 use Rattle.language65.specs.Layout.{Layout}
 use Rattle.language65.specs.Numbering.{import_keys, object_with, section_keys, section_of}

@@ -29,7 +29,7 @@ use Rattle.linkage65.specs.Programs as linked
 use Rattle.linkage65.specs.Places as places
 use Rattle.linkage65.specs.Places.{address_of, linkage_of, run_of}
 use Rattle.linkage65.specs.declared.parts.SectionPlace.{SectionPlace}
-use Rattle.image65.specs.declared.placement.RowPlace.{RowPlace}
+use Rattle.script65.specs.declared.placement.RowPlace.{RowPlace}
 use Rattle.script65.specs.declared.script.Row.{Row}
 use Rattle.base65.specs.Values.{wrapped}
 use Rattle.language65.specs.Sound.{IsSoundLayout, sections_in}
@@ -50,11 +50,11 @@ use Rattle.whole65.specs.Linked.{base_in, objects_of}
 use Rattle.whole65.specs.Keyed.{IsKeyed, IsKeyedContent, linked_objects}
 use Rattle.whole65.specs.Objects.{AreObjects, HasValue, IsGiven, Objects, form_value}
 use Rattle.whole65.specs.Programs.{program_of}
-use Rattle.image65.specs.declared.placement.Placement.{Placement}
+use Rattle.script65.specs.declared.placement.Placement.{Placement}
 use Rattle.script65.specs.declared.script.Script.{Script}
 use Rattle.std.specs.Int.{next_multiple_of}
 use Rattle.std.specs.List.{AllByRecursion, flat_map, list_any}
-use Rattle.image65.specs.Placing.{place_of, rounded_up}
+use Rattle.script65.specs.Placing.{place_of, rounded_up}
 use Rattle.whole65.specs.Values.{Program, Value}
 use Rattle.whole65.specs.Whole.{AreAsserted, AreExported, AreForced, AreRow, HasImage, given_names}
 use Rattle.whole65.specs.Whole as whole

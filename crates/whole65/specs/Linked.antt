@@ -1,7 +1,7 @@
 -- What linking knows of the modules of a placed program.
 use Rattle.std.specs.Prelude.{ℕ, ◌+◌, ℤ, pos, nat_lt, List, [], length, slice_get, Option, Some, None, Result, if◌then◌else◌}
 use Rattle.base65.specs.Values.{wrapped}
-use Rattle.image65.specs.declared.placement.Placement.{Placement}
+use Rattle.script65.specs.declared.placement.Placement.{Placement}
 use Rattle.script65.specs.declared.script.Script.{Script}
 use Rattle.linkage65.specs.Places.{run_of}
 use Rattle.language65.specs.Laid.{Spot}

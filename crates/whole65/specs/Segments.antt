@@ -3,7 +3,7 @@ use Rattle.std.specs.Prelude.{ℕ, suc, ◌+◌, max, Bool, ◌==◌, ◌&&◌, 
 use Rattle.std.specs.List.{flat_map, list_any}
 use Rattle.std.specs.Str.{bytes_eq}
 use Rattle.std.specs.Int.{next_multiple_of}
-use Rattle.image65.specs.declared.placement.SegmentNeed.{SegmentNeed}
+use Rattle.script65.specs.declared.placement.SegmentNeed.{SegmentNeed}
 use Rattle.language65.specs.Laid.{Laid, asks_section}
 use Rattle.language65.specs.Language.{Stated, align}
 use Rattle.language65.specs.Layout.{Layout, multiple_of, segment_at}

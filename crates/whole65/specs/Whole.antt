@@ -4,8 +4,8 @@ use Rattle.std.specs.List.{flat_map, AllByRecursion}
 use Rattle.syntax65.specs.Trees.{name}
 use Rattle.object65.specs.declared.object.Action.{Action}
 use Rattle.object65.specs.declared.object.Action.TheVariants as action
-use Rattle.image65.specs.Placing.{place_of}
-use Rattle.image65.specs.declared.placement.Placement.{Placement}
+use Rattle.script65.specs.Placing.{place_of}
+use Rattle.script65.specs.declared.placement.Placement.{Placement}
 use Rattle.script65.specs.declared.script.Row.{Row}
 use Rattle.script65.specs.declared.script.Script.{Script}
 use Rattle.image65.specs.declared.output.OutputFile.{OutputFile}

@@ -1,7 +1,7 @@
 -- The rows of an area's file, and the files so far, as the code holds them.
 use Rattle.std.specs.Prelude.{◌≡◌, ℕ, List, map, Option, Some}
 use Rattle.image65.specs.declared.files.Files.{Files}
-use Rattle.image65.specs.declared.placement.RowPlace.{RowPlace}
+use Rattle.script65.specs.declared.placement.RowPlace.{RowPlace}
 use Rattle.script65.specs.declared.script.Row.{Row}
 use Rattle.image65.specs.declared.areas.Load.{Load}
 use Rattle.image65.specs.Files.{Placed, loaded_in}

@@ -16,7 +16,7 @@ use crate::reading::words::{
     Attribute, Block, Given, Part, Shape, Value, area_access_of, attribute_of, flag_of, is_width,
     role_of, row_access_of, shape_of,
 };
-use crate::sequence::Sequence;
+use base65::Sequence;
 use std::alloc::Global;
 
 /// Whether a token of this form stands here.

@@ -13,7 +13,7 @@ use crate::reading::scan::{text, token_at};
 use crate::reading::table::{Entry, Tables};
 use crate::reading::token::{Form, Token};
 use crate::reading::words::{Block, Given, block_of};
-use crate::sequence::Sequence;
+use base65::Sequence;
 use std::alloc::Global;
 
 // The attributes up to a `;`, and where that stands.

@@ -3,7 +3,7 @@
 ghost use Rattle.std.specs.Prelude.{◌≡◌, IfOk, IfSome, length, map};
 ghost use Rattle.script65.specs.Faults.{is_outside};
 ghost use Rattle.script65.specs.Scripts.{area_file, area_fill, area_of, area_with, begin_of, file_in, found, is_excluded, kind_of, load_place, row_areas, row_of, row_with, run_place, script_of, symbol_of};
-ghost use Rattle.script65.specs.Outcome.{Gives, each};
+ghost use Rattle.base65.specs.Outcome.{Gives, each};
 ghost use Rattle.script65.specs.Inner.Tables.{draft_in, named};
 
 use crate::fault::{Fault, Stop};
@@ -15,7 +15,7 @@ use crate::reading::scan::text;
 use crate::reading::table::{Entry, Table, Tables};
 use crate::reading::words::{Attribute, Given, Role, Value};
 use crate::script::{Area, AreaFile, Begin, Row, Script, Symbol, SymbolKind, Term};
-use crate::sequence::Sequence;
+use base65::Sequence;
 use std::alloc::{AllocError, Global};
 
 // The file that an area's attribute names.

@@ -4,7 +4,7 @@ ghost use Rattle.std.specs.Prelude.{◌≡◌, ◌≢◌, ◌++◌, ◌∷◌, �
 ghost use Rattle.std.specs.Option.{option_copied, option_map};
 ghost use Rattle.script65.specs.Faults.{is_outside};
 ghost use Rattle.script65.specs.Naming.{area_named, area_part_named, entry_named, export_named, exported, exported_by, extent_of, only, operand_named, operand_of, parts_given, row_named, row_part_named, starts_first, term_of, terms_given};
-ghost use Rattle.script65.specs.Outcome.{Gives, each};
+ghost use Rattle.base65.specs.Outcome.{Gives, each};
 ghost use Rattle.script65.specs.Inner.Tables.{draft_in, named};
 
 use crate::fault::{Fault, Stop};
@@ -13,7 +13,7 @@ use crate::reading::scan::text;
 use crate::reading::table::{Entry, Table, Tables};
 use crate::reading::words::{Attribute, Given, Part, Role};
 use crate::script::{AreaPart, Operand, RowPart, Term};
-use crate::sequence::Sequence;
+use base65::Sequence;
 use std::alloc::Global;
 
 // The entry of a name.

@@ -12,8 +12,8 @@ use crate::reading::number::number_of;
 use crate::reading::scan::{text, token_at};
 use crate::reading::token::Form;
 use crate::reading::words::{Part, Value};
-use crate::sequence::Sequence;
 use crate::sums::difference;
+use base65::Sequence;
 use std::alloc::Global;
 
 #[tactic(auto, unfolding(crate::specs::Grammar::number_part))]

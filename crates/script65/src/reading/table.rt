@@ -7,7 +7,7 @@ ghost use Rattle.script65.specs.Grammar.{added, entries_of, is_taken, nothing};
 ghost use Rattle.script65.specs.Inner.Tables.{draft_in, named};
 
 use crate::reading::words::{Block, Given};
-use crate::sequence::Sequence;
+use base65::Sequence;
 use indexmap::IndexMap;
 use std::alloc::{AllocError, Global};
 

@@ -3,7 +3,7 @@ use Rattle.std.proofs.lemmas.Grind.{common_steps}
 use Rattle.std.proofs.lemmas.Option.{gets}
 use Rattle.script65.specs.declared.script.Area.{Area}
 use Rattle.script65.specs.declared.script.Row.{Row}
-use Rattle.image65.specs.declared.placement.RowPlace.{RowPlace}
+use Rattle.script65.specs.declared.placement.RowPlace.{RowPlace}
 use Rattle.image65.specs.declared.output.OutputFile.{OutputFile}
 use Rattle.image65.specs.Files.{AddsAreas, IsAreaFile}
 use Rattle.image65.specs.Inner.Loads.{HoldsLoads, view}

@@ -1,5 +1,5 @@
 use Rattle.std.proofs.Common.{◌≡◌, ◌∙◌, ap, List, map}
-use Rattle.image65.specs.declared.placement.RowPlace.{RowPlace}
+use Rattle.script65.specs.declared.placement.RowPlace.{RowPlace}
 use Rattle.script65.specs.declared.script.Row.{Row}
 use Rattle.linkage65.specs.declared.parts.Definition.{Definition}
 use Rattle.linkage65.specs.declared.parts.Exported.{Exported}

@@ -1,8 +1,6 @@
-use Rattle.std.proofs.Common.{arith, [], ◌∷◌, ◌++◌, List, ℕ, sym, Err, Ok, subst, ◌∙◌}
-use Rattle.std.specs.Prelude.{Result}
+use Rattle.std.proofs.Common.{arith, [], ◌∷◌, ◌++◌, List, sym, Err, Ok, subst}
 use Rattle.std.proofs.lemmas.Result.{err_from_is_err_and}
 use Rattle.script65.specs.Faults.{is_outside}
-use Rattle.script65.specs.declared.fault.Stop.{Stop}
 use Rattle.script65.specs.Grammar.{Attributes, IsAttribute, ends, more, stops}
 use Rattle.script65.specs.declared.reading.words.Given.{Given}
 use Rattle.script65.proofs.Manys.{unless_map}

@@ -3,7 +3,7 @@ use Rattle.std.proofs.lemmas.Option.{slice_get_within}
 use Rattle.std.proofs.lemmas.Result.{err_from_is_err_and}
 use Rattle.script65.specs.Faults.{is_outside}
 use Rattle.script65.specs.Scripts.{area_of}
-use Rattle.script65.specs.Outcome.{each}
+use Rattle.base65.specs.Outcome.{each}
 use Rattle.script65.specs.Inner.Tables.{draft_in, named}
 use Rattle.script65.proofs.Eaches.{behind, each_step, each_stops, each_end, none_mapped, longer}
 use Rattle.script65.proofs.Manys.{unless_map}

@@ -1,6 +1,6 @@
 use Rattle.std.proofs.Common.{◌≡◌, ◌-◌, length, drop}
 use Rattle.script65.specs.Scripts.{row_of}
-use Rattle.script65.specs.Outcome.{each}
+use Rattle.base65.specs.Outcome.{each}
 use Rattle.script65.specs.Inner.Tables.{draft_in, named}
 use Rattle.script65.proofs.Eaches.{behind}
 use Rattle.script65.proofs.reading.making.rows_of.Given as goal

@@ -1,8 +1,8 @@
-use Rattle.std.proofs.Common.{ℕ, List, ◌++◌, position, ap, ◌∙◌, sym}
+use Rattle.std.proofs.Common.{ℕ, List, ◌++◌, ap, ◌∙◌, sym}
 use Rattle.std.specs.Prelude.{codes}
 use Rattle.std.specs.Option.{option_map}
 use Rattle.script65.specs.Inner.Tables.{named}
-use Rattle.script65.specs.Parts.{area_word, part_name}
+use Rattle.script65.specs.Parts.{area_word}
 use Rattle.script65.specs.declared.script.Operand.TheVariants.{Area}
 use Rattle.script65.proofs.NameLemmas.{named_nowhere, named_there}
 use Rattle.script65.proofs.reading.naming.area_named.Goals as goal

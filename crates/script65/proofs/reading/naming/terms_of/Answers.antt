@@ -1,8 +1,8 @@
-use Rattle.std.proofs.Common.{◌≡◌, ◌+◌, drop, subst, sym, ap, Err}
+use Rattle.std.proofs.Common.{◌≡◌, ◌+◌, drop, subst, sym}
 use Rattle.std.proofs.lemmas.Result.{err_from_is_err_and}
 use Rattle.script65.specs.Faults.{is_outside}
 use Rattle.script65.specs.Naming.{term_of}
-use Rattle.script65.specs.Outcome.{each}
+use Rattle.base65.specs.Outcome.{each}
 use Rattle.script65.specs.Inner.Tables.{draft_in}
 use Rattle.script65.proofs.Eaches.{behind, each_all, each_next, each_refuses}
 use Rattle.script65.proofs.Manys.{unless_of}

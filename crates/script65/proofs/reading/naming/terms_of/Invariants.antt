@@ -1,6 +1,6 @@
 use Rattle.std.proofs.Common.{◌≡◌, drop}
 use Rattle.script65.specs.Naming.{term_of}
-use Rattle.script65.specs.Outcome.{each}
+use Rattle.base65.specs.Outcome.{each}
 use Rattle.script65.specs.Inner.Tables.{draft_in}
 use Rattle.script65.proofs.Eaches.{behind}
 use Rattle.script65.proofs.reading.naming.terms_of.Given as goal

@@ -1,4 +1,4 @@
-use Rattle.std.proofs.Common.{◌+◌, ℕ, Bool, not, ap, ◌∙◌, arith, sym}
+use Rattle.std.proofs.Common.{◌+◌, ℕ, Bool, not, ap, ◌∙◌, arith}
 use Rattle.std.specs.Prelude.{unwrap_or}
 use Rattle.script65.specs.Sums.{come_to, difference}
 use Rattle.script65.specs.declared.reading.words.Part.{Part}

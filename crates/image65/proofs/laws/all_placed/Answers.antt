@@ -1,5 +1,0 @@
-use Rattle.image65.proofs.Placed.{all_placed}
-use Rattle.image65.proofs.laws.all_placed.Goals as goal
-
-pub returns : goal.returns
-returns c = all_placed

@@ -1,5 +1,0 @@
-use Rattle.image65.proofs.Fixed.{only_numbers}
-use Rattle.image65.proofs.laws.only_numbers.Goals as goal
-
-pub returns : goal.returns
-returns c = only_numbers

@@ -1,5 +1,0 @@
-use Rattle.image65.proofs.Placed.{rows_there}
-use Rattle.image65.proofs.laws.rows_there.Goals as goal
-
-pub returns : goal.returns
-returns c = rows_there

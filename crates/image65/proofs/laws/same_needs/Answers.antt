@@ -1,5 +1,0 @@
-use Rattle.image65.proofs.Placed.{same_needs}
-use Rattle.image65.proofs.laws.same_needs.Goals as goal
-
-pub returns : goal.returns
-returns c = same_needs

@@ -1,0 +1,261 @@
+-- No two rows of an area overlap, and each lies within it.
+use Rattle.std.proofs.Common.{◌≡◌, ◌≢◌, ◌<◌, ◌≤◌, ℕ, ◌+◌, ◌-◌, Bool, true, false, List, [], ◌∷◌, map, length, slice_get, Option, Some, None, unwrap_or, refl, sym, ap, ◌∙◌, subst, Ok, Err, arith, nat_lt}
+use Rattle.std.specs.Prelude.{Result, if◌then◌else◌, ⊤, ◌==◌, ◌&&◌, ◌||◌, not}
+use Rattle.std.proofs.lemmas.Bool.Decides.{nat_tests}
+use Rattle.script65.specs.declared.placement.PlaceFault.{PlaceFault}
+use Rattle.script65.specs.declared.placement.PlaceFault.TheVariants.{ReadOnlyArea, StartBelow, Overflow}
+use Rattle.script65.specs.declared.placement.AreaPlace.{AreaPlace}
+use Rattle.script65.specs.declared.placing.site.Bounds.{Bounds}
+use Rattle.script65.specs.declared.placing.site.Spot.{Spot}
+use Rattle.script65.specs.declared.script.Area.{Area}
+use Rattle.script65.specs.declared.script.Row.{Row}
+use Rattle.script65.specs.declared.script.Script.{Script}
+use Rattle.script65.specs.Access.{is_read_only}
+use Rattle.script65.specs.PlacingLaws.{AllWithin, AreApart, AreBehind, AreWithin, NoOverlap, address_in}
+use Rattle.std.proofs.lemmas.Option.{slice_get_within}
+use Rattle.script65.proofs.AreaLemmas.{Kept, Made, all_hold, bind_ok, bounds_order, get_before, get_last}
+use Rattle.script65.proofs.Placed.{all_placed}
+use Rattle.base65.specs.Outcome.{◌>>=◌}
+use Rattle.script65.specs.Placing.{area_place, begin_in, fitted, is_in, moved, row_after, row_place, rows_from, sized_row, standing}
+
+-- where a row stands in an area, by its spot
+abbrev at_in : ℕ → Row → Spot → ℕ
+at_in k r s = address_in k r (row_place s)
+
+abbrev size_in : Spot → ℕ
+size_in s = unwrap_or s.size 0
+
+-- a row in an area
+
+not_below : (x y : ℕ) → nat_lt x y ≡ false → y ≤ x
+not_below x y h = grind (arith, nat_tests)
+
+other_test : (x j k : ℕ) → j ≢ k → (x == j) ≡ true → (x == k) ≡ false
+other_test x j k apart h = grind (arith, nat_tests)
+
+-- an address behind the cursor at which a row was placed
+pub record Placed (k : ℕ) (b : Bounds) (r : Row) (s : Spot) (cursor : ℕ) (x : Spot × ℕ) : Type 0 where
+  pub at : ℕ
+  pub spot : x.0 ≡ moved k r at s
+  pub end : x.1 ≡ at + size_in s
+  pub low : cursor ≤ at
+  pub high : cursor ≤ b.end → x.1 ≤ b.end
+
+fitted_placed : (k : ℕ) (a : Area) (b : Bounds) (r : Row) (s : Spot) (n at cursor : ℕ) (x : Spot × ℕ) → s.size ≡ Some n → fitted k a b r s n at cursor ≡ Ok x → Placed k b r s cursor x
+unfolding fitted
+fitted_placed k a b r s n at cursor x sized h = by (nat_lt at cursor) (nat_lt b.end (at + n)) refl refl h
+  where
+    by : (t u : Bool) → nat_lt at cursor ≡ t → nat_lt b.end (at + n) ≡ u → (if t then Err (StartBelow r.name) else if u then Err (Overflow a.name (at + n - b.end)) else Ok (moved k r at s, at + n)) ≡ Ok x → Placed k b r s cursor x
+    by true u e f h = absurd cc
+    by false true e f h = absurd cc
+    by false false e f h =
+        let same : ◌≡◌ {A = Spot × ℕ} (moved k r at s, at + n) x = cc in
+        let size : size_in s ≡ n = ap (λ o. unwrap_or o 0) sized in
+        record { at = at; spot = sym (ap (λ y. y.0) same); end = sym (ap (λ y. y.1) same) ∙ ap (λ m. at + m) (sym size); low = not_below at cursor e; high = λ c. (let g = not_below b.end (at + n) f in let q = ap (λ y. y.1) same in omega arith) }
+
+sized_placed : (k : ℕ) (a : Area) (b : Bounds) (r : Row) (s : Spot) (o : Option ℕ) (cursor : ℕ) (x : Spot × ℕ) → s.size ≡ o → sized_row k a b r s o cursor ≡ Ok x → Placed k b r s cursor x
+sized_placed k a b r s None cursor x e h =
+    let same : ◌≡◌ {A = Spot × ℕ} (moved k r cursor s, cursor) x = cc in
+    let size : size_in s ≡ 0 = ap (λ o. unwrap_or o 0) e in
+    record { at = cursor; spot = sym (ap (λ y. y.0) same); end = sym (ap (λ y. y.1) same) ∙ omega (arith, size); low = omega arith; high = λ c. (let q = ap (λ y. y.1) same in omega arith) }
+sized_placed k a b r s (Some n) cursor x e h = fitted_placed k a b r s n (begin_in k b r cursor) cursor x e h
+
+pub row_placed : (k : ℕ) (a : Area) (b : Bounds) (r : Row) (s : Spot) (cursor : ℕ) (x : Spot × ℕ) → row_after k a b r s cursor ≡ Ok x → Placed k b r s cursor x
+unfolding row_after
+row_placed k a b r s cursor x h = by (a.read_only && r.run == k && not (is_read_only r.access)) h
+  where
+    by : (t : Bool) → (if t then Err (ReadOnlyArea r.name) else sized_row k a b r s s.size cursor) ≡ Ok x → Placed k b r s cursor x
+    by true h = absurd cc
+    by false h = sized_placed k a b r s s.size cursor x refl h
+
+moved_size : (k at : ℕ) (r : Row) (s : Spot) → (moved k r at s).size ≡ s.size
+unfolding moved
+moved_size k at r s = refl
+
+moved_there : (k at : ℕ) (r : Row) (s : Spot) → is_in k r ≡ true → at_in k r (moved k r at s) ≡ at
+unfolding moved is_in
+moved_there k at r s i = by (r.run == k) (r.load == k) i
+  where
+    by : (t u : Bool) → (t || u) ≡ true → (if t then (if t then at else s.run) else (if u then at else s.load)) ≡ at
+    by true u h = refl
+    by false true h = refl
+    by false false h = absurd cc
+
+moved_elsewhere : (j k at : ℕ) (r : Row) (s : Spot) → j ≢ k → is_in j r ≡ true → at_in j r (moved k r at s) ≡ at_in j r s
+unfolding moved is_in
+moved_elsewhere j k at r s apart i = by (r.run == j) refl i
+  where
+    by : (t : Bool) → (r.run == j) ≡ t → (t || r.load == j) ≡ true → (if t then (if r.run == k then at else s.run) else (if r.load == k then at else s.load)) ≡ (if t then s.run else s.load)
+    by true e h = rw (other_test r.run j k apart e) refl
+    by false e h = rw (other_test r.load j k apart h) refl
+
+-- the rows of one area
+
+abbrev AllFrom : ℕ → ℕ → List Row → List Spot → Type 0
+AllFrom k cursor (r ∷ rs) (s ∷ ss) = (is_in k r ≡ true → cursor ≤ at_in k r s) × AllFrom k cursor rs ss
+AllFrom k cursor _ _ = ⊤
+
+from_lower : (k low high : ℕ) (rs : List Row) (ss : List Spot) → low ≤ high → AllFrom k high rs ss → AllFrom k low rs ss
+from_lower k low high [] ss le h = tt
+from_lower k low high (r ∷ rs) [] le h = tt
+from_lower k low high (r ∷ rs) (s ∷ ss) le h = ((λ i. let g = h.0 i in omega arith), from_lower k low high rs ss le h.1)
+
+abbrev AllTo : ℕ → ℕ → List Row → List Spot → Type 0
+AllTo k end (r ∷ rs) (s ∷ ss) = (is_in k r ≡ true → at_in k r s + size_in s ≤ end) × AllTo k end rs ss
+AllTo k end _ _ = ⊤
+
+behind_from : (k : ℕ) (r : Row) (s : Spot) (end : ℕ) (rs : List Row) (ss : List Spot) → (is_in k r ≡ true → at_in k r s + size_in s ≤ end) → AllFrom k end rs ss → AreBehind k r (row_place s) rs (map row_place ss)
+behind_from k r s end [] ss e h = tt
+behind_from k r s end (later ∷ rs) [] e h = tt
+behind_from k r s end (later ∷ rs) (q ∷ qs) e h = ((λ i j. let a = e i in let b = h.0 j in omega arith), behind_from k r s end rs qs e h.1)
+
+-- rows that lie between a cursor and an end, and apart
+abbrev IsGood : ℕ → ℕ → ℕ → List Row → List Spot → Type 0
+IsGood k cursor end rs ts = AllFrom k cursor rs ts × AreApart k rs (map row_place ts) × AllTo k end rs ts
+
+abbrev Reached : Type 0
+Reached = List Spot × ℕ
+
+abbrev front : Spot → Result Reached PlaceFault → Result Reached PlaceFault
+front s rest = rest >>= λ y. Ok (s ∷ y.0, y.1)
+
+first_of_pair : (x y : Reached) → ◌≡◌ {A = Result Reached PlaceFault} (Ok x) (Ok y) → x ≡ y
+first_of_pair x y h = cc
+
+rows_good : (k : ℕ) (a : Area) (b : Bounds) (rs : List Row) (ss ts : List Spot) (cursor last : ℕ) → cursor ≤ b.end → rows_from k a b rs ss cursor ≡ Ok (ts, last) → IsGood k cursor b.end rs ts
+rows_good k a b [] ss ts cursor last room h = (tt, tt, tt)
+rows_good k a b (r ∷ rs) [] ts cursor last room h =
+    let e = first_of_pair ([], cursor) (ts, last) h in
+    subst (IsGood k cursor b.end (r ∷ rs)) (ap (λ y. y.0) e) (tt, tt, tt)
+rows_good k a b (r ∷ rs) (s ∷ ss) ts cursor last room h = by (is_in k r) refl h (λ c us l small e. rows_good k a b rs ss us c l small e)
+  where
+    by : (t : Bool) → is_in k r ≡ t → (if t then (row_after k a b r s cursor >>= λ x. front x.0 (rows_from k a b rs ss x.1)) else front s (rows_from k a b rs ss cursor)) ≡ Ok (ts, last) → ((c : ℕ) (us : List Spot) (l : ℕ) → c ≤ b.end → rows_from k a b rs ss c ≡ Ok (us, l) → IsGood k c b.end rs us) → IsGood k cursor b.end (r ∷ rs) ts
+    by true i h again =
+        let f = bind_ok (row_after k a b r s cursor) (λ x. front x.0 (rows_from k a b rs ss x.1)) (ts, last) h in
+        let x : Spot × ℕ = f.0 in
+        let g = bind_ok (rows_from k a b rs ss x.1) (λ y. Ok (x.0 ∷ y.0, y.1)) (ts, last) f.2 in
+        let y : Reached = g.0 in
+        let p : Placed k b r s cursor x = row_placed k a b r s cursor x f.1 in
+        let high : x.1 ≤ b.end = p.high room in
+        let good : IsGood k x.1 b.end rs y.0 = again x.1 y.0 y.1 high g.1 in
+        let there : at_in k r x.0 ≡ p.at = ap (at_in k r) p.spot ∙ moved_there k p.at r s i in
+        let size : size_in x.0 ≡ size_in s = ap size_in p.spot ∙ ap (λ o. unwrap_or o 0) (moved_size k p.at r s) in
+        let end : x.1 ≡ p.at + size_in s = p.end in
+        let low : cursor ≤ p.at = p.low in
+        let e = first_of_pair (x.0 ∷ y.0, y.1) (ts, last) g.2 in
+        subst (IsGood k cursor b.end (r ∷ rs)) (ap (λ z. z.0) e) (
+          ((λ j. omega arith), from_lower k cursor x.1 rs y.0 (omega arith) good.0),
+          (behind_from k r x.0 x.1 rs y.0 (λ j. omega arith) good.0, good.1),
+          ((λ j. omega arith), good.2),
+        )
+    by false i h again =
+        let g = bind_ok (rows_from k a b rs ss cursor) (λ y. Ok (s ∷ y.0, y.1)) (ts, last) h in
+        let y : Reached = g.0 in
+        let good : IsGood k cursor b.end rs y.0 = again cursor y.0 y.1 room g.1 in
+        let e = first_of_pair (s ∷ y.0, y.1) (ts, last) g.2 in
+        let never : is_in k r ≡ true → ⊥ = (λ j. let n : true ≡ false = sym j ∙ i in cc) in
+        subst (IsGood k cursor b.end (r ∷ rs)) (ap (λ z. z.0) e)
+        (((λ j. absurd (never j)), good.0), (behind_from k r s cursor rs y.0 (λ j. absurd (never j)) good.0, good.1), ((λ j. absurd (never j)), good.2))
+
+-- the rows of other areas stay
+
+abbrev Same : ℕ → List Row → List Spot → List Spot → Type 0
+Same k (r ∷ rs) (s ∷ ss) (t ∷ ts) = (size_in t ≡ size_in s) × (is_in k r ≡ true → at_in k r t ≡ at_in k r s) × Same k rs ss ts
+Same k (r ∷ rs) (s ∷ ss) [] = ⊥
+Same k (r ∷ rs) [] (t ∷ ts) = ⊥
+Same k (r ∷ rs) [] [] = ⊤
+Same k [] ss ts = ⊤
+
+rows_same : (j k : ℕ) (a : Area) (b : Bounds) (rs : List Row) (ss ts : List Spot) (cursor last : ℕ) → j ≢ k → rows_from k a b rs ss cursor ≡ Ok (ts, last) → Same j rs ss ts
+rows_same j k a b [] ss ts cursor last apart h = tt
+rows_same j k a b (r ∷ rs) [] ts cursor last apart h =
+    let e = first_of_pair ([], cursor) (ts, last) h in
+    subst (Same j (r ∷ rs) []) (ap (λ y. y.0) e) tt
+rows_same j k a b (r ∷ rs) (s ∷ ss) ts cursor last apart h = by (is_in k r) h (λ c us l e. rows_same j k a b rs ss us c l apart e)
+  where
+    by : (t : Bool) → (if t then (row_after k a b r s cursor >>= λ x. front x.0 (rows_from k a b rs ss x.1)) else front s (rows_from k a b rs ss cursor)) ≡ Ok (ts, last) → ((c : ℕ) (us : List Spot) (l : ℕ) → rows_from k a b rs ss c ≡ Ok (us, l) → Same j rs ss us) → Same j (r ∷ rs) (s ∷ ss) ts
+    by true h again =
+        let f = bind_ok (row_after k a b r s cursor) (λ x. front x.0 (rows_from k a b rs ss x.1)) (ts, last) h in
+        let x : Spot × ℕ = f.0 in
+        let g = bind_ok (rows_from k a b rs ss x.1) (λ y. Ok (x.0 ∷ y.0, y.1)) (ts, last) f.2 in
+        let y : Reached = g.0 in
+        let p : Placed k b r s cursor x = row_placed k a b r s cursor x f.1 in
+        let e = first_of_pair (x.0 ∷ y.0, y.1) (ts, last) g.2 in
+        subst (Same j (r ∷ rs) (s ∷ ss)) (ap (λ z. z.0) e)
+        (ap size_in p.spot ∙ ap (λ o. unwrap_or o 0) (moved_size k p.at r s), (λ i. ap (at_in j r) p.spot ∙ moved_elsewhere j k p.at r s apart i), again x.1 y.0 y.1 g.1)
+    by false h again =
+        let g = bind_ok (rows_from k a b rs ss cursor) (λ y. Ok (s ∷ y.0, y.1)) (ts, last) h in
+        let y : Reached = g.0 in
+        let e = first_of_pair (s ∷ y.0, y.1) (ts, last) g.2 in
+        subst (Same j (r ∷ rs) (s ∷ ss)) (ap (λ z. z.0) e) (refl, (λ i. refl), again cursor y.0 y.1 g.1)
+
+behind_same : (k : ℕ) (r : Row) (s t : Spot) (rs : List Row) (ss ts : List Spot) → size_in t ≡ size_in s → (is_in k r ≡ true → at_in k r t ≡ at_in k r s) → Same k rs ss ts → AreBehind k r (row_place s) rs (map row_place ss) → AreBehind k r (row_place t) rs (map row_place ts)
+behind_same k r s t [] ss ts size at same h = tt
+behind_same k r s t (later ∷ rs) [] [] size at same h = tt
+behind_same k r s t (later ∷ rs) [] (u ∷ us) size at same h = absurd same
+behind_same k r s t (later ∷ rs) (q ∷ qs) [] size at same h = absurd same
+behind_same k r s t (later ∷ rs) (q ∷ qs) (u ∷ us) size at same h =
+    ((λ i j. let a = at i in let b = same.1 j in let c = h.0 i j in omega arith), behind_same k r s t rs qs us size at same.2 h.1)
+
+apart_same : (k : ℕ) (rs : List Row) (ss ts : List Spot) → Same k rs ss ts → AreApart k rs (map row_place ss) → AreApart k rs (map row_place ts)
+apart_same k [] ss ts same h = tt
+apart_same k (r ∷ rs) [] [] same h = tt
+apart_same k (r ∷ rs) [] (t ∷ ts) same h = absurd same
+apart_same k (r ∷ rs) (s ∷ ss) [] same h = absurd same
+apart_same k (r ∷ rs) (s ∷ ss) (t ∷ ts) same h = (behind_same k r s t rs ss ts same.0 same.1 same.2 h.0, apart_same k rs ss ts same.2 h.1)
+
+within_of : (k : ℕ) (place : AreaPlace) (rs : List Row) (ts : List Spot) → AllFrom k place.start rs ts → AllTo k (place.start + place.size) rs ts → AreWithin k place rs (map row_place ts)
+within_of k place [] ts f t = tt
+within_of k place (r ∷ rs) [] f t = tt
+within_of k place (r ∷ rs) (s ∷ ss) f t = ((λ i. (f.0 i, t.0 i)), within_of k place rs ss f.1 t.1)
+
+within_same : (k : ℕ) (place : AreaPlace) (rs : List Row) (ss ts : List Spot) → Same k rs ss ts → AreWithin k place rs (map row_place ss) → AreWithin k place rs (map row_place ts)
+within_same k place [] ss ts same h = tt
+within_same k place (r ∷ rs) [] [] same h = tt
+within_same k place (r ∷ rs) [] (t ∷ ts) same h = absurd same
+within_same k place (r ∷ rs) (s ∷ ss) [] same h = absurd same
+within_same k place (r ∷ rs) (s ∷ ss) (t ∷ ts) same h =
+    ((λ i. let w = h.0 i in let e = same.1 i in let z = same.0 in let low = w.0 in let high = w.1 in (omega arith, omega arith)), within_same k place rs ss ts same.2 h.1)
+
+-- all areas
+
+abbrev ApartIn : List Row → ℕ → List AreaPlace → List Spot → Type 0
+ApartIn rows j placed ss = AreApart j rows (map row_place ss)
+
+abbrev WithinIn : List Row → ℕ → List AreaPlace → List Spot → Type 0
+WithinIn rows j placed ss = (place : AreaPlace) → slice_get placed j ≡ Some place → AreWithin j place rows (map row_place ss)
+
+to_place : (b : Bounds) (last k : ℕ) (rows : List Row) (ts : List Spot) → b.start ≤ b.end → AllTo k b.end rows ts → AllTo k ((area_place b last).start + (area_place b last).size) rows ts
+to_place b last k rows ts le h =
+    let P : ℕ → Type 0 = λ n. AllTo k n rows ts in
+    let same : b.end ≡ (area_place b last).start + (area_place b last).size = omega arith in
+    subst P same h
+
+apart_made : (script : Script) → Made script (ApartIn script.rows)
+apart_made script k a placed ss ts b last at count made e = (rows_good k a b script.rows ss ts b.start last (bounds_order (standing k script.areas script.rows a placed ss) b made) e).1
+
+apart_kept : (script : Script) → Kept script (ApartIn script.rows)
+apart_kept script j k a placed ss ts b last less count made e q = apart_same j script.rows ss ts (rows_same j k a b script.rows ss ts b.start last (λ same. absurd (omega arith)) e) q
+
+within_made : (script : Script) → Made script (WithinIn script.rows)
+within_made script k a placed ss ts b last at count made e place here =
+    let good = rows_good k a b script.rows ss ts b.start last (bounds_order (standing k script.areas script.rows a placed ss) b made) e in
+    let same : area_place b last ≡ place = (let w : ◌≡◌ {A = Option AreaPlace} (Some (area_place b last)) (Some place) = sym (get_last placed k (area_place b last) count) ∙ here in cc) in
+    subst (λ q. AreWithin k q script.rows (map row_place ts)) same
+    (within_of k (area_place b last) script.rows ts good.0 (to_place b last k script.rows ts (bounds_order (standing k script.areas script.rows a placed ss) b made) good.2))
+
+within_kept : (script : Script) → Kept script (WithinIn script.rows)
+within_kept script j k a placed ss ts b last less count made e q place here =
+    within_same j place script.rows ss ts (rows_same j k a b script.rows ss ts b.start last (λ same. absurd (omega arith)) e)
+    (q place (sym (get_before placed (area_place b last) j (omega (arith, count))) ∙ here))
+
+pub none_overlap : NoOverlap
+none_overlap script needs p h k lt =
+    let g = all_hold script needs p (ApartIn script.rows) (apart_made script) (apart_kept script) h in
+    subst (AreApart k script.rows) (sym g.rows) (g.each k lt)
+
+pub all_within : AllWithin
+all_within script needs p h k place at =
+    let g = all_hold script needs p (WithinIn script.rows) (within_made script) (within_kept script) h in
+    let inside : k < length script.areas = omega (arith, slice_get_within p.areas k place at, (all_placed script needs p h).0) in
+    subst (AreWithin k place script.rows) (sym g.rows) (g.each k inside place at)

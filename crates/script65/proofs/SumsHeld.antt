@@ -1,0 +1,201 @@
+-- Each area holds its sums, read off the placement itself.
+use Rattle.std.proofs.Common.{◌≡◌, ◌<◌, ◌≤◌, ℕ, ◌+◌, ◌-◌, ◌^◌, Bool, true, false, not, List, [], ◌∷◌, ◌++◌, map, find, length, slice_get, Option, Some, None, is_some, refl, sym, ap, ◌∙◌, subst, Ok, arith, nat_lt, nat_le}
+use Rattle.std.specs.Prelude.{if◌then◌else◌, ◌==◌, ◌&&◌, ◌||◌}
+use Rattle.std.specs.List.{list_all}
+use Rattle.std.specs.Option.{option_map_or}
+use Rattle.std.proofs.lemmas.Bool.Decides.{nat_tests}
+use Rattle.std.proofs.lemmas.List.{append-nil}
+use Rattle.std.proofs.lemmas.Option.{slice_get_within}
+use Rattle.script65.specs.Sums.{come_to, difference}
+use Rattle.script65.specs.declared.script.Area.{Area}
+use Rattle.script65.specs.declared.script.AreaPart.{AreaPart}
+use Rattle.script65.specs.declared.script.AreaPart.TheVariants as area
+use Rattle.script65.specs.declared.script.Operand.{Operand}
+use Rattle.script65.specs.declared.script.Operand.TheVariants as operand
+use Rattle.script65.specs.declared.script.Row.{Row}
+use Rattle.script65.specs.declared.script.Script.{Script}
+use Rattle.script65.specs.declared.script.Term.{Term}
+use Rattle.script65.specs.PlacingLaws.{IsSum, SumsHold}
+use Rattle.script65.specs.Placing.{area_place, row_place, standing}
+use Rattle.script65.specs.AreaSums.{Standing, area_known, area_value, begun, is_known, number_or_fault, operand_known, operand_value, own_place, places_there, sum_by, sum_in, sum_unless, term_value, unknown}
+use Rattle.script65.specs.declared.placement.AreaPlace.{AreaPlace}
+use Rattle.script65.specs.declared.placement.RowPlace.{RowPlace}
+use Rattle.script65.specs.declared.placing.site.Spot.{Spot}
+use Rattle.script65.proofs.AreaLemmas.{Holds, Kept, Made, all_hold, get_before, get_last, summed_of}
+use Rattle.script65.proofs.Settled.{Settled, rows_settled, value_stays}
+
+-- ---- What a sum that is found says.
+
+below : (x k : ℕ) → nat_lt x k ≡ true → x < k
+below x k h = grind (arith, nat_tests)
+
+at_most : (x k : ℕ) → nat_le x k ≡ true → x ≤ k
+at_most x k h = grind (arith, nat_tests)
+
+the_difference : (added taken n : ℕ) → difference added taken ≡ Some n → taken + n ≡ added
+the_difference added taken n h = by (nat_le taken added) (nat_lt (added - taken) (2 ^ 32)) refl h
+  where
+    by : (t u : Bool) → nat_le taken added ≡ t → (if t && u then Some (added - taken) else None) ≡ Some n → taken + n ≡ added
+    by true true e h =
+        let le : taken ≤ added = at_most taken added e in
+        let same : added - taken ≡ n = cc in
+        omega arith
+    by true false e h = absurd cc
+    by false u e h = absurd cc
+
+none_found : (known : Term → Bool) (ts : List Term) → find (λ t. not (known t)) ts ≡ None → list_all known ts ≡ true
+none_found known [] h = refl
+none_found known (t ∷ ts) h = by (known t) refl h (none_found known ts)
+  where
+    by : (b : Bool) → known t ≡ b → (if not b then Some t else find (λ t. not (known t)) ts) ≡ None → (find (λ t. not (known t)) ts ≡ None → list_all known ts ≡ true) → (known t && list_all known ts) ≡ true
+    by true e h rest = ap (λ b. b && list_all known ts) e ∙ rest h
+    by false e h rest = absurd cc
+
+-- all terms are known, and they come to this
+record Found (s : Standing) (ts : List Term) (n : ℕ) : Type 0 where
+  pub known : list_all (is_known s.k (is_some s.start) s.rows) ts ≡ true
+  pub sum : IsSum (places_there s) s.row_places ts n
+
+found_of : (s : Standing) (ts : List Term) (n : ℕ) → sum_in s ts ≡ Ok n → Found s ts n
+found_of s ts n h = by (unknown s ts) refl h
+  where
+    sum_is : (o : Option ℕ) → sum_by (places_there s) s.row_places ts ≡ o → number_or_fault s.own.name o ≡ Ok n → IsSum (places_there s) s.row_places ts n
+    sum_is (Some m) e h =
+        let same : m ≡ n = cc in
+        the_difference (come_to (λ (t : Term). not t.minus) (term_value (places_there s) s.row_places) ts) (come_to (λ (t : Term). t.minus) (term_value (places_there s) s.row_places) ts) n (e ∙ ap Some same)
+    sum_is None e h = absurd cc
+
+    by : (o : Option Term) → unknown s ts ≡ o → sum_unless s ts o ≡ Ok n → Found s ts n
+    by (Some t) e h = absurd cc
+    by None e h = record { known = none_found (is_known s.k (is_some s.start) s.rows) ts e; sum = sum_is (sum_by (places_there s) s.row_places ts) refl h }
+
+-- ---- Terms that are known stay what they are.
+
+-- the sum of terms by other places, where what is known is the same there
+module _ (known : Term → Bool) (v w : Term → ℕ) (same : (t : Term) → known t ≡ true → w t ≡ v t) where
+  come_same : (is : Term → Bool) (ts : List Term) → list_all known ts ≡ true → come_to is w ts ≡ come_to is v ts
+  come_same is [] h = refl
+  come_same is (t ∷ ts) h = by (known t) refl h (come_same is ts)
+    where
+      by : (b : Bool) → known t ≡ b → (b && list_all known ts) ≡ true → (list_all known ts ≡ true → come_to is w ts ≡ come_to is v ts) → (if is t then w t else 0) + come_to is w ts ≡ (if is t then v t else 0) + come_to is v ts
+      by true e h rest = ap (λ n. (if is t then n else 0) + come_to is w ts) (same t e) ∙ ap (λ n. (if is t then v t else 0) + n) (rest h)
+      by false e h rest = absurd cc
+
+-- places of areas that agree on those before a place, and on the start of that one
+record Agree (k : ℕ) (begun : Bool) (ps qs : List AreaPlace) : Type 0 where
+  pub before : (j : ℕ) → j < k → slice_get qs j ≡ slice_get ps j
+  pub own : begun ≡ true → option_map_or (area_value area.Start) (slice_get qs k) 0 ≡ option_map_or (area_value area.Start) (slice_get ps k) 0
+
+area_same : (k : ℕ) (begun : Bool) (ps qs : List AreaPlace) (part : AreaPart) (j : ℕ) → Agree k begun ps qs → area_known k begun part j ≡ true → option_map_or (area_value part) (slice_get qs j) 0 ≡ option_map_or (area_value part) (slice_get ps j) 0
+area_same k begun ps qs area.Start j h known = by (nat_lt j k) refl known
+  where
+    here : (b : Bool) → begun ≡ b → (b && j == k) ≡ true → option_map_or (area_value area.Start) (slice_get qs j) 0 ≡ option_map_or (area_value area.Start) (slice_get ps j) 0
+    here true e g =
+        let same : j ≡ k = grind (arith, nat_tests) in
+        let P : ℕ → Type 0 = λ n. option_map_or (area_value area.Start) (slice_get qs n) 0 ≡ option_map_or (area_value area.Start) (slice_get ps n) 0 in
+        subst P (sym same) (h.own e)
+    here false e g = absurd cc
+
+    by : (b : Bool) → nat_lt j k ≡ b → (b || (begun && j == k)) ≡ true → option_map_or (area_value area.Start) (slice_get qs j) 0 ≡ option_map_or (area_value area.Start) (slice_get ps j) 0
+    by true e g = ap (λ o. option_map_or (area_value area.Start) o 0) (h.before j (below j k e))
+    by false e g = here begun refl g
+area_same k begun ps qs area.Size j h known = ap (λ o. option_map_or (area_value area.Size) o 0) (h.before j (below j k known))
+area_same k begun ps qs area.Last j h known = ap (λ o. option_map_or (area_value area.Last) o 0) (h.before j (below j k known))
+
+operand_same : (k : ℕ) (begun : Bool) (rows : List Row) (ps qs : List AreaPlace) (ss ts : List Spot) (o : Operand) → Agree k begun ps qs → Settled k rows ss ts → operand_known k begun rows o ≡ true → operand_value qs (map row_place ts) o ≡ operand_value ps (map row_place ss) o
+operand_same k begun rows ps qs ss ts (operand.Number n) a s known = refl
+operand_same k begun rows ps qs ss ts (operand.Area j part) a s known = area_same k begun ps qs part j a known
+operand_same k begun rows ps qs ss ts (operand.Row i part) a s known = value_stays k part rows ss ts i s known
+
+sum_same : (k : ℕ) (begun : Bool) (rows : List Row) (ps qs : List AreaPlace) (ss us : List Spot) (ts : List Term) (n : ℕ) → Agree k begun ps qs → Settled k rows ss us → list_all (is_known k begun rows) ts ≡ true → IsSum ps (map row_place ss) ts n → IsSum qs (map row_place us) ts n
+sum_same k begun rows ps qs ss us ts n a s known h =
+    let v : Term → ℕ = term_value ps (map row_place ss) in
+    let w : Term → ℕ = term_value qs (map row_place us) in
+    let same : (t : Term) → is_known k begun rows t ≡ true → w t ≡ v t = λ t e. operand_same k begun rows ps qs ss us t.operand a s e in
+    ap (λ m. m + n) (come_same (is_known k begun rows) v w same (λ (t : Term). t.minus) ts known)
+    ∙ h
+    ∙ sym (come_same (is_known k begun rows) v w same (λ (t : Term). not t.minus) ts known)
+
+-- ---- Area by area.
+
+record SumsSo (k : ℕ) (rows : List Row) (placed : List AreaPlace) (ss : List Spot) (a : Area) (place : AreaPlace) : Type 0 where
+  pub start : IsSum placed (map row_place ss) a.start place.start
+  pub size : IsSum placed (map row_place ss) a.size place.size
+  pub start_known : list_all (is_known k false rows) a.start ≡ true
+  pub size_known : list_all (is_known k true rows) a.size ≡ true
+  pub inside : place.start + place.size ≤ 2 ^ 32
+
+abbrev SumsIn : Script → ℕ → List AreaPlace → List Spot → Type 0
+SumsIn script j placed ss = (a : Area) (place : AreaPlace) → slice_get script.areas j ≡ Some a → slice_get placed j ≡ Some place → SumsSo j script.rows placed ss a place
+
+-- one place more agrees with those before it
+longer_agrees : (k : ℕ) (begun : Bool) (placed : List AreaPlace) (x : AreaPlace) → k < length placed → Agree k begun placed (placed ++ x ∷ [])
+longer_agrees k begun placed x lt = record {
+  before = λ j less. get_before placed x j (omega arith);
+  own = λ e. ap (λ o. option_map_or (area_value area.Start) o 0) (get_before placed x k lt);
+}
+
+first_agrees : (k : ℕ) (placed : List AreaPlace) (x : AreaPlace) → length placed ≡ k → Agree k false (placed ++ own_place None) (placed ++ x ∷ [])
+first_agrees k placed x count = record {
+  before = λ j less. get_before placed x j (omega arith) ∙ sym (ap (λ l. slice_get l j) (append-nil placed));
+  own = λ e. absurd cc;
+}
+
+own_agrees : (k : ℕ) (placed : List AreaPlace) (x : AreaPlace) (start : ℕ) → length placed ≡ k → x.start ≡ start → Agree k true (placed ++ own_place (Some start)) (placed ++ x ∷ [])
+own_agrees k placed x start count same =
+    let own : AreaPlace = record { start = start; size = 0; last = start } in
+    record {
+      before = λ j less. get_before placed x j (omega arith) ∙ sym (get_before placed own j (omega arith));
+      own = λ e. ap (λ o. option_map_or (area_value area.Start) o 0) (get_last placed k x count) ∙ same ∙ sym (ap (λ o. option_map_or (area_value area.Start) o 0) (get_last placed k own count));
+    }
+
+sums_made : (script : Script) → Made script (SumsIn script)
+sums_made script k a placed ss ts b last at count made e c place there here =
+    let same_area : a ≡ c = (let w : ◌≡◌ {A = Option Area} (Some a) (Some c) = sym at ∙ there in cc) in
+    let same_place : area_place b last ≡ place = (let w : ◌≡◌ {A = Option AreaPlace} (Some (area_place b last)) (Some place) = sym (get_last placed k (area_place b last) count) ∙ here in cc) in
+    let g = summed_of (standing k script.areas script.rows a placed ss) b made in
+    let starts : b.start ≡ g.start = g.spans.starts in
+    let ends : b.end ≡ g.start + g.size = g.spans.ends in
+    let inside : b.end ≤ 2 ^ 32 = g.spans.inside in
+    let width : (area_place b last).size ≡ g.size = omega arith in
+    let settled = rows_settled k k a b script.rows ss ts b.start last (omega arith) e in
+    let first = found_of (standing k script.areas script.rows a placed ss) a.start g.start g.starts in
+    let second = found_of (begun (standing k script.areas script.rows a placed ss) g.start) a.size g.size g.sizes in
+    let places : List AreaPlace = placed ++ area_place b last ∷ [] in
+    let start : IsSum places (map row_place ts) a.start g.start = sum_same k false script.rows (placed ++ own_place None) places ss ts a.start g.start (first_agrees k placed (area_place b last) count) settled first.known first.sum in
+    let size : IsSum places (map row_place ts) a.size g.size = sum_same k true script.rows (placed ++ own_place (Some g.start)) places ss ts a.size g.size (own_agrees k placed (area_place b last) g.start count starts) settled second.known second.sum in
+    let so : SumsSo k script.rows places ts a (area_place b last) = record {
+      start = subst (IsSum places (map row_place ts) a.start) (sym starts) start;
+      size = subst (IsSum places (map row_place ts) a.size) (sym width) size;
+      start_known = first.known;
+      size_known = second.known;
+      inside = omega arith;
+    } in
+    subst (λ x. SumsSo k script.rows places ts x place) same_area (subst (SumsSo k script.rows places ts a) same_place so)
+
+sums_kept : (script : Script) → Kept script (SumsIn script)
+sums_kept script j k a placed ss ts b last less count made e q c place there here =
+    let inside : j < length placed = omega arith in
+    let so = q c place there (sym (get_before placed (area_place b last) j inside) ∙ here) in
+    let settled = rows_settled j k a b script.rows ss ts b.start last (omega arith) e in
+    record {
+      start = sum_same j false script.rows placed (placed ++ area_place b last ∷ []) ss ts c.start place.start (longer_agrees j false placed (area_place b last) inside) settled so.start_known so.start;
+      size = sum_same j true script.rows placed (placed ++ area_place b last ∷ []) ss ts c.size place.size (longer_agrees j true placed (area_place b last) inside) settled so.size_known so.size;
+      start_known = so.start_known;
+      size_known = so.size_known;
+      inside = so.inside;
+    }
+
+pub sums_hold : SumsHold
+sums_hold script needs p h k a place at here =
+    let g : Holds (SumsIn script) (length script.areas) p = all_hold script needs p (SumsIn script) (sums_made script) (sums_kept script) h in
+    let so = g.each k (slice_get_within script.areas k a at) a place at here in
+    let P : List RowPlace → Type 0 = λ rs. IsSum p.areas rs a.start place.start in
+    let Q : List RowPlace → Type 0 = λ rs. IsSum p.areas rs a.size place.size in
+    record {
+      start = subst P (sym g.rows) so.start;
+      size = subst Q (sym g.rows) so.size;
+      start_known = so.start_known;
+      size_known = so.size_known;
+      inside = so.inside;
+    }

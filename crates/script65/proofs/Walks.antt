@@ -1,0 +1,220 @@
+-- The rows of an area, one behind the other.
+use Rattle.std.proofs.Common.{◌≡◌, ◌<◌, ℕ, zero, suc, ◌+◌, Bool, true, false, List, [], ◌∷◌, ◌++◌, length, take, drop, get_or, slice_get, slice_set, Some, refl, sym, ap, ◌∙◌, subst, Ok, Err, arith, add-one}
+use Rattle.std.proofs.lemmas.Option.{slice_get-get_or}
+use Rattle.std.specs.Prelude.{Result, if◌then◌else◌}
+use Rattle.script65.specs.declared.placement.PlaceFault.{PlaceFault}
+use Rattle.script65.specs.declared.placing.site.Bounds.{Bounds}
+use Rattle.script65.specs.declared.placing.site.Spot.{Spot}
+use Rattle.script65.specs.declared.script.Area.{Area}
+use Rattle.script65.specs.declared.script.Row.{Row}
+use Rattle.base65.specs.Outcome.{Unless, ◌>>=◌}
+use Rattle.script65.specs.Placing.{is_in, places_in, row_after, rows_from, spots_after}
+use Rattle.script65.proofs.Eaches.{drop_at, regroup}
+use Rattle.script65.proofs.Manys.{unless_map}
+
+-- an item where the rest of a list begins
+
+module _ {A : Type 0} where
+  pub drop_suc : (xs : List A) (p : ℕ) (x : A) (rest : List A) → drop p xs ≡ x ∷ rest → drop (suc p) xs ≡ rest
+  drop_suc [] zero x rest h = absurd cc
+  drop_suc [] (suc p) x rest h = absurd cc
+  drop_suc (y ∷ ys) zero x rest h = cc
+  drop_suc (y ∷ ys) (suc p) x rest h = drop_suc ys p x rest h
+
+  pub take_more : (xs : List A) (p : ℕ) (x : A) (rest : List A) → drop p xs ≡ x ∷ rest → take (suc p) xs ≡ take p xs ++ x ∷ []
+  take_more [] zero x rest h = absurd cc
+  take_more [] (suc p) x rest h = absurd cc
+  take_more (y ∷ ys) zero x rest h = let e : y ≡ x = cc in ap (λ z. z ∷ []) e
+  take_more (y ∷ ys) (suc p) x rest h = ap (λ l. y ∷ l) (take_more ys p x rest h)
+
+  pub within : (xs : List A) (p : ℕ) (x : A) (rest : List A) → drop p xs ≡ x ∷ rest → p < length xs
+  within [] zero x rest h = absurd cc
+  within [] (suc p) x rest h = absurd cc
+  within (y ∷ ys) zero x rest h = omega arith
+  within (y ∷ ys) (suc p) x rest h = let k = within ys p x rest h in omega arith
+
+  pub there : (xs : List A) (p : ℕ) (x : A) (rest : List A) → drop p xs ≡ x ∷ rest → slice_get xs p ≡ Some x
+  there [] zero x rest h = absurd cc
+  there [] (suc p) x rest h = absurd cc
+  there (y ∷ ys) zero x rest h = cc
+  there (y ∷ ys) (suc p) x rest h = there ys p x rest h
+
+  drop_set : (xs : List A) (p : ℕ) (x y : A) (rest : List A) → drop p xs ≡ x ∷ rest → drop (suc p) (slice_set xs p y) ≡ rest
+  drop_set [] zero x y rest h = absurd cc
+  drop_set [] (suc p) x y rest h = absurd cc
+  drop_set (z ∷ zs) zero x y rest h = cc
+  drop_set (z ∷ zs) (suc p) x y rest h = drop_set zs p x y rest h
+
+  take_set : (xs : List A) (p : ℕ) (x y : A) (rest : List A) → drop p xs ≡ x ∷ rest → take (suc p) (slice_set xs p y) ≡ take p xs ++ y ∷ []
+  take_set [] zero x y rest h = absurd cc
+  take_set [] (suc p) x y rest h = absurd cc
+  take_set (z ∷ zs) zero x y rest h = refl
+  take_set (z ∷ zs) (suc p) x y rest h = ap (λ l. z ∷ l) (take_set zs p x y rest h)
+
+  take_drop : (xs : List A) (p : ℕ) → take p xs ++ drop p xs ≡ xs
+  take_drop [] zero = refl
+  take_drop [] (suc p) = refl
+  take_drop (x ∷ xs) zero = refl
+  take_drop (x ∷ xs) (suc p) = ap (λ l. x ∷ l) (take_drop xs p)
+
+-- the rows at the front and then what becomes of the rest
+abbrev pub behind : List Spot → Result (List Spot × ℕ) PlaceFault → Result (List Spot × ℕ) PlaceFault
+behind done rest = rest >>= λ y. Ok (done ++ y.0, y.1)
+
+pub whole_of : (rest : Result (List Spot × ℕ) PlaceFault) → behind [] rest ≡ rest
+whole_of (Ok y) = refl
+whole_of (Err e) = refl
+
+behind_one : (done : List Spot) (s : Spot) (rest : Result (List Spot × ℕ) PlaceFault) → behind done (rest >>= λ y. Ok (s ∷ y.0, y.1)) ≡ behind (done ++ s ∷ []) rest
+behind_one done s (Ok y) = let e = regroup done s y.0 in ap (λ (l : List Spot). let x : List Spot × ℕ = (l, y.1) in let r : Result (List Spot × ℕ) PlaceFault = Ok x in r) (sym e)
+behind_one done s (Err e) = refl
+
+module _ (k : ℕ) (a : Area) (b : Bounds) (rows : List Row) (whole : Result (List Spot × ℕ) PlaceFault) where
+  -- from a place on the rows and their spots are left, and the rest of the members are theirs
+  pub record Walk (spots : List Spot) (cursor : ℕ) (members : List ℕ) : Type 0 where
+    pub place : ℕ
+    pub rs : List Row
+    pub ss : List Spot
+    pub rows_there : drop place rows ≡ rs
+    pub spots_there : drop place spots ≡ ss
+    pub count : length ss ≡ length rs
+    pub rest : members ≡ places_in k place rs
+    pub same : behind (take place spots) (rows_from k a b rs ss cursor) ≡ whole
+
+  -- the row at a place is the next of the area
+  pub record Next (spots : List Spot) (cursor : ℕ) (m : ℕ) (members : List ℕ) : Type 0 where
+    pub r : Row
+    pub s : Spot
+    pub rs : List Row
+    pub ss : List Spot
+    pub rows_there : drop m rows ≡ r ∷ rs
+    pub spots_there : drop m spots ≡ s ∷ ss
+    pub count : length ss ≡ length rs
+    pub inside : is_in k r ≡ true
+    pub rest : members ≡ places_in k (m + 1) rs
+    pub same : behind (take m spots) (row_after k a b r s cursor >>= λ x. rows_from k a b rs ss x.1 >>= λ y. Ok (x.0 ∷ y.0, y.1)) ≡ whole
+
+  next_of : (spots : List Spot) (cursor m : ℕ) (members : List ℕ) (rs : List Row) (ss : List Spot) (p : ℕ) → drop p rows ≡ rs → drop p spots ≡ ss → length ss ≡ length rs → m ∷ members ≡ places_in k p rs → behind (take p spots) (rows_from k a b rs ss cursor) ≡ whole → Next spots cursor m members
+  next_of spots cursor m members [] ss p rt st n e g = absurd cc
+  next_of spots cursor m members (r ∷ rs) [] p rt st n e g = absurd (omega arith)
+  next_of spots cursor m members (r ∷ rs) (s ∷ ss) p rt st n e g = by (is_in k r) refl
+      (λ f h. next_of spots cursor m members rs ss (p + 1) (rw add-one (drop_suc rows p r rs rt)) (rw add-one (drop_suc spots p s ss st)) (omega arith) f h)
+    where
+      by : (t : Bool) → is_in k r ≡ t → (m ∷ members ≡ places_in k (p + 1) rs → behind (take (p + 1) spots) (rows_from k a b rs ss cursor) ≡ whole → Next spots cursor m members) → Next spots cursor m members
+      by true i again =
+          let f : m ∷ members ≡ p ∷ places_in k (p + 1) rs = e ∙ ap (λ t. if t then p ∷ places_in k (p + 1) rs else places_in k (p + 1) rs) i in
+          let here : p ≡ m = cc in
+          let P : ℕ → Type 0 = λ q. drop q rows ≡ r ∷ rs in
+          let Q : ℕ → Type 0 = λ q. drop q spots ≡ s ∷ ss in
+          let members_rest : members ≡ places_in k (p + 1) rs = cc in
+          record {
+            r = r;
+            s = s;
+            rs = rs;
+            ss = ss;
+            rows_there = subst P here rt;
+            spots_there = subst Q here st;
+            count = omega arith;
+            inside = i;
+            rest = members_rest ∙ ap (λ q. places_in k (q + 1) rs) here;
+            same = sym (ap (λ q. behind (take q spots) (row_after k a b r s cursor >>= λ x. rows_from k a b rs ss x.1 >>= λ y. Ok (x.0 ∷ y.0, y.1))) here)
+                ∙ sym (ap (λ t. behind (take p spots) (if t then (row_after k a b r s cursor >>= λ x. rows_from k a b rs ss x.1 >>= λ y. Ok (x.0 ∷ y.0, y.1)) else (rows_from k a b rs ss cursor >>= λ y. Ok (s ∷ y.0, y.1)))) i)
+                ∙ g;
+          }
+      by false i again =
+          let f : m ∷ members ≡ places_in k (p + 1) rs = e ∙ ap (λ t. if t then p ∷ places_in k (p + 1) rs else places_in k (p + 1) rs) i in
+          again f
+          (ap (λ l. behind l (rows_from k a b rs ss cursor)) (rw add-one (take_more spots p s ss st))
+          ∙ sym (behind_one (take p spots) s (rows_from k a b rs ss cursor))
+          ∙ sym (ap (λ t. behind (take p spots) (if t then (row_after k a b r s cursor >>= λ x. rows_from k a b rs ss x.1 >>= λ y. Ok (x.0 ∷ y.0, y.1)) else (rows_from k a b rs ss cursor >>= λ y. Ok (s ∷ y.0, y.1)))) i)
+          ∙ g)
+
+  pub next_member : (spots : List Spot) (cursor m : ℕ) (members : List ℕ) → Walk spots cursor (m ∷ members) → Next spots cursor m members
+  next_member spots cursor m members w = next_of spots cursor m members w.rs w.ss w.place w.rows_there w.spots_there w.count w.rest w.same
+
+  -- the row is placed
+  pub walk_on : (spots : List Spot) (cursor m : ℕ) (members : List ℕ) (n : Next spots cursor m members) (x : Spot × ℕ) → row_after k a b n.r n.s cursor ≡ Ok x → Walk (slice_set spots m x.0) x.1 members
+  walk_on spots cursor m members n x e = record {
+    place = m + 1;
+    rs = n.rs;
+    ss = n.ss;
+    rows_there = rw add-one (drop_suc rows m n.r n.rs n.rows_there);
+    spots_there = rw add-one (drop_set spots m n.s x.0 n.ss n.spots_there);
+    count = n.count;
+    rest = n.rest;
+    same = ap (λ l. behind l (rows_from k a b n.rs n.ss x.1)) (rw add-one (take_set spots m n.s x.0 n.ss n.spots_there))
+        ∙ sym (behind_one (take m spots) x.0 (rows_from k a b n.rs n.ss x.1))
+        ∙ sym (ap (λ t. behind (take m spots) (t >>= λ x. rows_from k a b n.rs n.ss x.1 >>= λ y. Ok (x.0 ∷ y.0, y.1))) e)
+        ∙ n.same;
+  }
+
+  pub walk_stops : (spots : List Spot) (cursor m : ℕ) (members : List ℕ) (n : Next spots cursor m members) (e : PlaceFault) → row_after k a b n.r n.s cursor ≡ Err e → whole ≡ Err e
+  walk_stops spots cursor m members n e h = sym n.same ∙ ap (λ t. behind (take m spots) (t >>= λ x. rows_from k a b n.rs n.ss x.1 >>= λ y. Ok (x.0 ∷ y.0, y.1))) h
+
+  abbrev in_front : Spot → Result (List Spot × ℕ) PlaceFault → Result (List Spot × ℕ) PlaceFault
+  in_front s rest = rest >>= λ y. Ok (s ∷ y.0, y.1)
+
+  -- a row that is in the area or not, and those behind it
+  abbrev taken_or : Row → Spot → List Row → List Spot → ℕ → Bool → Result (List Spot × ℕ) PlaceFault
+  taken_or r s rs ss cursor t = if t then (row_after k a b r s cursor >>= λ x. rows_from k a b rs ss x.1 >>= λ y. Ok (x.0 ∷ y.0, y.1)) else in_front s (rows_from k a b rs ss cursor)
+
+  none_left : (cursor p : ℕ) (rs : List Row) (ss : List Spot) → length ss ≡ length rs → [] ≡ places_in k p rs → rows_from k a b rs ss cursor ≡ Ok (ss, cursor)
+  none_left cursor p [] ss n e = refl
+  none_left cursor p (r ∷ rs) [] n e = absurd (omega arith)
+  none_left cursor p (r ∷ rs) (s ∷ ss) n e = by (is_in k r) refl (λ f. none_left cursor (p + 1) rs ss (omega arith) f)
+    where
+      by : (t : Bool) → is_in k r ≡ t → ([] ≡ places_in k (p + 1) rs → rows_from k a b rs ss cursor ≡ Ok (ss, cursor)) → taken_or r s rs ss cursor (is_in k r) ≡ Ok (s ∷ ss, cursor)
+      by true i again = absurd (let f : [] ≡ p ∷ places_in k (p + 1) rs = e ∙ ap (λ t. if t then p ∷ places_in k (p + 1) rs else places_in k (p + 1) rs) i in cc)
+      by false i again =
+          let f : [] ≡ places_in k (p + 1) rs = e ∙ ap (λ t. if t then p ∷ places_in k (p + 1) rs else places_in k (p + 1) rs) i in
+          ap (taken_or r s rs ss cursor) i
+          ∙ ap (in_front s) (again f)
+
+  pub walk_ends : (spots : List Spot) (cursor : ℕ) → Walk spots cursor [] → whole ≡ Ok (spots, cursor)
+  walk_ends spots cursor w =
+      sym w.same
+      ∙ ap (behind (take w.place spots)) (none_left cursor w.place w.rs w.ss w.count w.rest)
+      ∙ ap (λ (l : List Spot). let x : List Spot × ℕ = (l, cursor) in let r : Result (List Spot × ℕ) PlaceFault = Ok x in r) (ap (λ l. take w.place spots ++ l) (sym w.spots_there) ∙ take_drop spots w.place)
+
+  -- what placing one row gives
+  abbrev pub Steps : List Spot → ℕ → ℕ → Result (List Spot × ℕ) PlaceFault → Type 0
+  Steps spots cursor m given = (r : Row) → (s : Spot) → slice_get rows m ≡ Some r → slice_get spots m ≡ Some s → spots_after k a b r s cursor m spots ≡ given
+
+  abbrev set_in : List Spot → ℕ → Result (Spot × ℕ) PlaceFault → Result (List Spot × ℕ) PlaceFault
+  set_in ss m n = n >>= λ x. Ok (slice_set ss m x.0, x.1)
+
+  got : (n : Result (Spot × ℕ) PlaceFault) (ss : List Spot) (m : ℕ) (spots : List Spot) (cursor : ℕ) → set_in ss m n ≡ Ok (spots, cursor) → (x : Spot × ℕ) × (n ≡ Ok x) × (slice_set ss m x.0 ≡ spots) × (x.1 ≡ cursor)
+  got (Ok x) ss m spots cursor h =
+      let e : ◌≡◌ {A = List Spot × ℕ} (slice_set ss m x.0, x.1) (spots, cursor) = cc in
+      (x, refl, ap (λ y. y.0) e, ap (λ y. y.1) e)
+  got (Err e) ss m spots cursor h = absurd cc
+
+  pub walk_step : (spots after : List Spot) (cursor end m : ℕ) (members : List ℕ) → Walk spots cursor (m ∷ members) → Steps spots cursor m (Ok (after, end)) → Walk after end members
+  walk_step spots after cursor end m members w h =
+      let n = next_member spots cursor m members w in
+      let g = got (row_after k a b n.r n.s cursor) spots m after end (h n.r n.s (there rows m n.r n.rs n.rows_there) (there spots m n.s n.ss n.spots_there)) in
+      let P : List Spot → Type 0 = λ l. Walk l end members in
+      let Q : ℕ → Type 0 = λ c. Walk (slice_set spots m g.0.0) c members in
+      subst P g.2 (subst Q g.3 (walk_on spots cursor m members n g.0 g.1))
+
+  lost : (n : Result (Spot × ℕ) PlaceFault) (ss : List Spot) (m : ℕ) (e : PlaceFault) → set_in ss m n ≡ Err e → n ≡ Err e
+  lost (Ok x) ss m e h = absurd cc
+  lost (Err f) ss m e h = let same : f ≡ e = cc in ap Err same
+
+  -- a refusal of the row is one of the area, unless it came from outside
+  pub walk_refuses : (spots : List Spot) (cursor m : ℕ) (members : List ℕ) (e : PlaceFault) (outside : Bool) → Walk spots cursor (m ∷ members) → ((r : Row) → (s : Spot) → slice_get rows m ≡ Some r → slice_get spots m ≡ Some s → Unless outside (spots_after k a b r s cursor m spots ≡ Err e)) → Unless outside (whole ≡ Err e)
+  walk_refuses spots cursor m members e outside w h =
+      let n = next_member spots cursor m members w in
+      unless_map (spots_after k a b n.r n.s cursor m spots ≡ Err e) (whole ≡ Err e) outside
+      (λ f. walk_stops spots cursor m members n e (lost (row_after k a b n.r n.s cursor) spots m e f))
+      (h n.r n.s (there rows m n.r n.rs n.rows_there) (there spots m n.s n.ss n.spots_there))
+
+  pub row_within : (spots : List Spot) (cursor m : ℕ) (members : List ℕ) → Walk spots cursor (m ∷ members) → m < length rows
+  row_within spots cursor m members w = let n = next_member spots cursor m members w in within rows m n.r n.rs n.rows_there
+
+  pub spot_within : (spots : List Spot) (cursor m : ℕ) (members : List ℕ) → Walk spots cursor (m ∷ members) → m < length spots
+  spot_within spots cursor m members w = let n = next_member spots cursor m members w in within spots m n.s n.ss n.spots_there
+
+-- the rest of some numbers begins with the one at its place
+pub drop_number : (xs : List ℕ) (i : ℕ) → i < length xs → drop i xs ≡ get_or xs i 0 ∷ drop (i + 1) xs
+drop_number xs i lt = rw add-one (drop_at xs i (get_or xs i 0) (slice_get-get_or xs i 0 lt))

@@ -1,0 +1,5 @@
+use Rattle.script65.proofs.Placed.{all_placed}
+use Rattle.script65.proofs.laws.all_placed.Goals as goal
+
+pub returns : goal.returns
+returns c = all_placed

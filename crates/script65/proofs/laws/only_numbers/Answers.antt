@@ -1,0 +1,5 @@
+use Rattle.script65.proofs.Fixed.{only_numbers}
+use Rattle.script65.proofs.laws.only_numbers.Goals as goal
+
+pub returns : goal.returns
+returns c = only_numbers

@@ -1,0 +1,5 @@
+use Rattle.script65.proofs.Placed.{rows_there}
+use Rattle.script65.proofs.laws.rows_there.Goals as goal
+
+pub returns : goal.returns
+returns c = rows_there

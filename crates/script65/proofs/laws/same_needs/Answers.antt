@@ -1,0 +1,5 @@
+use Rattle.script65.proofs.Placed.{same_needs}
+use Rattle.script65.proofs.laws.same_needs.Goals as goal
+
+pub returns : goal.returns
+returns c = same_needs

@@ -1,0 +1,135 @@
+-- What the sums of areas come to.
+use Rattle.std.specs.Prelude.{ℕ, ◌+◌, ◌^◌, ◌==◌, ◌&&◌, ◌||◌, Bool, true, false, not, nat_lt, if◌then◌else◌, List, [], ◌∷◌, ◌++◌, find, is_some, slice_get, Option, Some, None, Result, Ok, Err}
+use Rattle.std.specs.Option.{option_map_or}
+use Rattle.script65.specs.declared.script.Area.{Area}
+use Rattle.script65.specs.declared.script.AreaPart.{AreaPart}
+use Rattle.script65.specs.declared.script.AreaPart.TheVariants as area
+use Rattle.script65.specs.declared.script.Operand.{Operand}
+use Rattle.script65.specs.declared.script.Operand.TheVariants as operand
+use Rattle.script65.specs.declared.script.Row.{Row}
+use Rattle.script65.specs.declared.script.RowPart.{RowPart}
+use Rattle.script65.specs.declared.script.RowPart.TheVariants as row
+use Rattle.script65.specs.declared.script.Term.{Term}
+use Rattle.base65.specs.Outcome.{◌>>=◌}
+use Rattle.script65.specs.Parts.{area_word, part_name, row_word}
+use Rattle.script65.specs.Sums.{sum_of}
+use Rattle.script65.specs.declared.placement.AreaPlace.{AreaPlace}
+use Rattle.script65.specs.declared.placement.PlaceFault.{PlaceFault}
+use Rattle.script65.specs.declared.placement.PlaceFault.TheVariants.{NotPlaced, AreaOutOfRange}
+use Rattle.script65.specs.declared.placement.RowPlace.{RowPlace}
+use Rattle.script65.specs.declared.placing.site.Bounds.{Bounds}
+
+-- ---- What a term comes to, by the places of areas and rows.
+
+abbrev pub area_value : AreaPart → AreaPlace → ℕ
+area_value area.Start p = p.start
+area_value area.Size p = p.size
+area_value area.Last p = p.last
+
+abbrev pub row_value : RowPart → RowPlace → ℕ
+row_value row.Load p = p.load
+row_value row.Run p = p.run
+row_value row.Size p = p.size
+
+abbrev pub operand_value : List AreaPlace → List RowPlace → Operand → ℕ
+operand_value areas rows (operand.Number n) = n
+operand_value areas rows (operand.Area k part) = option_map_or (area_value part) (slice_get areas k) 0
+operand_value areas rows (operand.Row i part) = option_map_or (row_value part) (slice_get rows i) 0
+
+abbrev pub term_value : List AreaPlace → List RowPlace → Term → ℕ
+term_value areas rows t = operand_value areas rows t.operand
+
+-- ---- Where the sums of an area are asked for.
+
+-- the area and its place in the script, the script's areas and rows, where those before it are placed, and its own start, once
+-- that is found
+pub record Standing : Type 0 where
+  pub k : ℕ
+  pub own : Area
+  pub areas : List Area
+  pub rows : List Row
+  pub area_places : List AreaPlace
+  pub row_places : List RowPlace
+  pub start : Option ℕ
+
+abbrev pub own_place : Option ℕ → List AreaPlace
+own_place None = []
+own_place (Some start) = record { start = start; size = 0; last = start } ∷ []
+
+-- the places of the areas before it, and its own start
+abbrev pub places_there : Standing → List AreaPlace
+places_there s = s.area_places ++ own_place s.start
+
+-- ---- What is known there.
+
+-- the areas before it, and its own start once that is found
+abbrev pub area_known : ℕ → Bool → AreaPart → ℕ → Bool
+area_known k begun area.Start j = nat_lt j k || (begun && j == k)
+area_known k begun area.Size j = nat_lt j k
+area_known k begun area.Last j = nat_lt j k
+
+-- the addresses of rows in the areas before it, and the sizes of all rows
+abbrev pub row_known : ℕ → RowPart → Row → Bool
+row_known k row.Load r = nat_lt r.load k
+row_known k row.Run r = nat_lt r.run k
+row_known k row.Size r = true
+
+abbrev pub operand_known : ℕ → Bool → List Row → Operand → Bool
+operand_known k begun rows (operand.Number n) = true
+operand_known k begun rows (operand.Area j part) = area_known k begun part j
+operand_known k begun rows (operand.Row i part) = option_map_or (row_known k part) (slice_get rows i) false
+
+abbrev pub is_known : ℕ → Bool → List Row → Term → Bool
+is_known k begun rows t = operand_known k begun rows t.operand
+
+-- ---- The name that a term was written as.
+
+abbrev pub operand_name : List Area → List Row → Operand → List ℕ
+operand_name areas rows (operand.Number n) = []
+operand_name areas rows (operand.Area k part) = part_name (option_map_or (λ (a : Area). a.name) (slice_get areas k) []) (area_word part)
+operand_name areas rows (operand.Row i part) = part_name (option_map_or (λ (r : Row). r.name) (slice_get rows i) []) (row_word part)
+
+-- ---- Sums.
+
+-- what terms come to: what is added less what is taken
+abbrev pub sum_by : List AreaPlace → List RowPlace → List Term → Option ℕ
+sum_by areas rows ts = sum_of (λ (t : Term). t.minus) (term_value areas rows) ts
+
+abbrev pub number_or_fault : List ℕ → Option ℕ → Result ℕ PlaceFault
+number_or_fault name (Some n) = Ok n
+number_or_fault name None = Err (AreaOutOfRange name)
+
+-- the first term that isn't known
+abbrev pub unknown : Standing → List Term → Option Term
+unknown s ts = find (λ t. not (is_known s.k (is_some s.start) s.rows t)) ts
+
+abbrev pub sum_unless : Standing → List Term → Option Term → Result ℕ PlaceFault
+sum_unless s ts (Some t) = Err (NotPlaced (operand_name s.areas s.rows t.operand))
+sum_unless s ts None = number_or_fault s.own.name (sum_by (places_there s) s.row_places ts)
+
+-- the sum of terms, or the fault of the first that isn't known, or else that of the sum
+abbrev pub sum_in : Standing → List Term → Result ℕ PlaceFault
+sum_in s ts = sum_unless s ts (unknown s ts)
+
+abbrev pub begun : Standing → ℕ → Standing
+begun s start = record {
+  k = s.k;
+  own = s.own;
+  areas = s.areas;
+  rows = s.rows;
+  area_places = s.area_places;
+  row_places = s.row_places;
+  start = Some start;
+}
+
+-- an area ends at the last address or before it
+abbrev pub spanned : List ℕ → ℕ → ℕ → Result Bounds PlaceFault
+spanned name start size =
+    if nat_lt (2 ^ 32) (start + size) then Err (AreaOutOfRange name) else Ok (record { start = start; end = start + size })
+
+-- the first address of an area, and the one behind its last: its start, and then its size, for which its start is known
+abbrev pub bounds_in : Standing → Result Bounds PlaceFault
+bounds_in s =
+    sum_in s s.own.start
+    >>= λ start. sum_in (begun s start) s.own.size
+    >>= λ size. spanned s.own.name start size

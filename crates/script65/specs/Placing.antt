@@ -1,0 +1,133 @@
+-- Where the rows of a script are placed.
+use Rattle.std.specs.Prelude.{ℕ, ◌+◌, ◌-◌, ◌*◌, Bool, ◌==◌, ◌&&◌, ◌||◌, not, nat_lt, if◌then◌else◌, List, [], ◌∷◌, ◌++◌, map, find, slice_set, Option, Some, None, unwrap_or, Result, Ok, Err}
+use Rattle.std.specs.Int.{div_ceil}
+use Rattle.std.specs.List.{list_any}
+use Rattle.std.specs.Option.{option_map}
+use Rattle.std.specs.Str.{bytes_eq}
+use Rattle.script65.specs.declared.script.Area.{Area}
+use Rattle.script65.specs.declared.script.Begin.{Begin}
+use Rattle.script65.specs.declared.script.Begin.TheVariants as begin
+use Rattle.script65.specs.declared.script.Row.{Row}
+use Rattle.script65.specs.declared.script.Script.{Script}
+use Rattle.script65.specs.declared.placement.AreaPlace.{AreaPlace}
+use Rattle.script65.specs.declared.placement.RowPlace.{RowPlace}
+use Rattle.script65.specs.declared.placement.Placement.{Placement}
+use Rattle.script65.specs.declared.placement.PlaceFault.{PlaceFault}
+use Rattle.script65.specs.declared.placement.PlaceFault.TheVariants.{NoRow, ReadOnlyArea, StartBelow, Overflow}
+use Rattle.script65.specs.declared.placement.SegmentNeed.{SegmentNeed}
+use Rattle.script65.specs.declared.placing.site.Bounds.{Bounds}
+use Rattle.script65.specs.declared.placing.site.Spot.{Spot}
+use Rattle.script65.specs.Access.{is_read_only}
+use Rattle.base65.specs.Outcome.{◌>>=◌}
+use Rattle.script65.specs.AreaSums.{Standing, bounds_in}
+
+-- the needs of segments
+
+-- the size of a segment, if a module has it
+unfoldable pub size_of : List SegmentNeed → List ℕ → Option ℕ
+size_of needs name = option_map (λ n. n.size) (find (λ n. bytes_eq n.name name) needs)
+
+unfoldable pub has_row : List Row → List ℕ → Bool
+has_row rows name = list_any (λ r. bytes_eq r.name name) rows
+
+-- each need has a row, or else the first that has none
+abbrev pub rows_exist : List Row → List SegmentNeed → Result (Unit {0}) PlaceFault
+rows_exist rows [] = Ok tt
+rows_exist rows (n ∷ ns) = if has_row rows n.name then rows_exist rows ns else Err (NoRow n.name)
+
+-- rows
+
+-- whether a row runs or loads in the area at a place of the script
+unfoldable pub is_in : ℕ → Row → Bool
+is_in k r = r.run == k || r.load == k
+
+-- the least multiple of an alignment that isn't below an address
+abbrev pub rounded_up : ℕ → ℕ → ℕ
+rounded_up at align = if align == 0 then at else div_ceil at align * align
+
+abbrev pub begin_by : Bounds → Begin → ℕ → ℕ → ℕ
+begin_by b begin.Aligned align cursor = rounded_up cursor align
+begin_by b (begin.Start n) align cursor = n
+begin_by b (begin.Offset n) align cursor = b.start + n
+
+-- where a row begins: a load area that isn't its run area only aligns it
+unfoldable pub begin_in : ℕ → Bounds → Row → ℕ → ℕ
+begin_in k b r cursor = if r.run == k then begin_by b r.begin r.align cursor else rounded_up cursor r.align_load
+
+-- a row that is placed in an area
+unfoldable pub moved : ℕ → Row → ℕ → Spot → Spot
+moved k r at s = record { size = s.size; run = if r.run == k then at else s.run; load = if r.load == k then at else s.load }
+
+-- a row of a size behind the cursor
+unfoldable pub fitted : ℕ → Area → Bounds → Row → Spot → ℕ → ℕ → ℕ → Result (Spot × ℕ) PlaceFault
+fitted k a b r s size at cursor =
+    if nat_lt at cursor then Err (StartBelow r.name)
+    else if nat_lt b.end (at + size) then Err (Overflow a.name (at + size - b.end))
+    else Ok (moved k r at s, at + size)
+
+-- a row that no module has stands at the cursor
+abbrev pub sized_row : ℕ → Area → Bounds → Row → Spot → Option ℕ → ℕ → Result (Spot × ℕ) PlaceFault
+sized_row k a b r s None cursor = Ok (moved k r cursor s, cursor)
+sized_row k a b r s (Some size) cursor = fitted k a b r s size (begin_in k b r cursor) cursor
+
+-- a row of the area behind the cursor, and the cursor behind it, or its first fault
+unfoldable pub row_after : ℕ → Area → Bounds → Row → Spot → ℕ → Result (Spot × ℕ) PlaceFault
+row_after k a b r s cursor =
+    if a.read_only && r.run == k && not (is_read_only r.access) then Err (ReadOnlyArea r.name)
+    else sized_row k a b r s s.size cursor
+
+-- the same in a list of spots, of which it changes the row's
+abbrev pub spots_after : ℕ → Area → Bounds → Row → Spot → ℕ → ℕ → List Spot → Result (List Spot × ℕ) PlaceFault
+spots_after k a b r s cursor i ss = row_after k a b r s cursor >>= λ x. Ok (slice_set ss i x.0, x.1)
+
+-- the places of the rows of an area, from a place on
+abbrev pub places_in : ℕ → ℕ → List Row → List ℕ
+places_in k i [] = []
+places_in k i (r ∷ rs) = if is_in k r then i ∷ places_in k (i + 1) rs else places_in k (i + 1) rs
+
+-- the rows of an area, each behind the cursor that the one before leaves
+abbrev pub rows_from : ℕ → Area → Bounds → List Row → List Spot → ℕ → Result (List Spot × ℕ) PlaceFault
+rows_from k a b [] ss cursor = Ok (ss, cursor)
+rows_from k a b (r ∷ rs) [] cursor = Ok ([], cursor)
+rows_from k a b (r ∷ rs) (s ∷ ss) cursor =
+    if is_in k r
+    then (row_after k a b r s cursor >>= λ x. rows_from k a b rs ss x.1 >>= λ y. Ok (x.0 ∷ y.0, y.1))
+    else (rows_from k a b rs ss cursor >>= λ y. Ok (s ∷ y.0, y.1))
+
+-- placements
+
+abbrev pub area_place : Bounds → ℕ → AreaPlace
+area_place b last = record { start = b.start; size = b.end - b.start; last = last }
+
+abbrev pub row_place : Spot → RowPlace
+row_place s = record { load = s.load; run = s.run; size = unwrap_or s.size 0 }
+
+-- the area at a place, before which these places of areas and these spots stand
+abbrev pub standing : ℕ → List Area → List Row → Area → List AreaPlace → List Spot → Standing
+standing k areas rows a placed ss = record {
+  k = k;
+  own = a;
+  areas = areas;
+  rows = rows;
+  area_places = placed;
+  row_places = map row_place ss;
+  start = None;
+}
+
+-- area by area, of all that there are those from a place on: first where an area begins and ends, and then its rows
+abbrev pub areas_from : ℕ → List Area → List Row → List Area → List AreaPlace → List Spot → Result Placement PlaceFault
+areas_from k areas rows [] placed ss = Ok (record { areas = placed; rows = map row_place ss })
+areas_from k areas rows (a ∷ rest) placed ss =
+    bounds_in (standing k areas rows a placed ss)
+    >>= λ b. rows_from k a b rows ss b.start
+    >>= λ x. areas_from (k + 1) areas rows rest (placed ++ area_place b x.1 ∷ []) x.0
+
+-- a row before anything is placed
+abbrev pub unplaced : List SegmentNeed → Row → Spot
+unplaced needs r = record { size = size_of needs r.name; run = 0; load = 0 }
+
+-- where the areas and the rows of a script are placed, or the first fault
+abbrev pub place_of : Script → List SegmentNeed → Result Placement PlaceFault
+place_of script needs =
+    rows_exist script.rows needs
+    >>= λ _. areas_from 0 script.areas script.rows script.areas [] (map (unplaced needs) script.rows)

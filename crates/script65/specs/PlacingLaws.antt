@@ -1,0 +1,138 @@
+-- What holds of every placement.
+use Rattle.std.specs.Prelude.{◌≡◌, ◌≤◌, ◌<◌, ℕ, ◌+◌, ◌^◌, true, false, not, ◌==◌, if◌then◌else◌, List, [], ◌∷◌, ◌++◌, map, Option, Some, None, Result, Ok, length, slice_get, ⊤}
+use Rattle.std.specs.List.{AllByRecursion, list_all}
+use Rattle.base65.specs.Outcome.{◌>>=◌}
+use Rattle.script65.specs.Sums.{come_to, sum_of}
+use Rattle.script65.specs.declared.script.Area.{Area}
+use Rattle.script65.specs.declared.script.Operand.{Operand}
+use Rattle.script65.specs.declared.script.Operand.TheVariants as operand
+use Rattle.script65.specs.declared.script.Row.{Row}
+use Rattle.script65.specs.declared.script.Script.{Script}
+use Rattle.script65.specs.declared.script.Term.{Term}
+use Rattle.script65.specs.declared.placement.AreaPlace.{AreaPlace}
+use Rattle.script65.specs.declared.placement.PlaceFault.{PlaceFault}
+use Rattle.script65.specs.declared.placement.Placement.{Placement}
+use Rattle.script65.specs.declared.placement.RowPlace.{RowPlace}
+use Rattle.script65.specs.declared.placement.SegmentNeed.{SegmentNeed}
+use Rattle.script65.specs.declared.placing.site.Bounds.{Bounds}
+use Rattle.script65.specs.declared.placing.site.Spot.{Spot}
+use Rattle.script65.specs.Placing.{area_place, has_row, is_in, place_of, row_place, rows_exist, rows_from, size_of, unplaced}
+use Rattle.script65.specs.AreaSums.{is_known, term_value}
+
+-- ---- Rows in their areas.
+
+-- where a row stands in the area at a place of the script, in which it runs or loads
+abbrev pub address_in : ℕ → Row → RowPlace → ℕ
+address_in k r p = if r.run == k then p.run else p.load
+
+-- of two rows of an area the later begins where the earlier ends, or behind it
+abbrev pub IsBehind : ℕ → Row → RowPlace → Row → RowPlace → Type 0
+IsBehind k r p later q = is_in k r ≡ true → is_in k later ≡ true → address_in k r p + p.size ≤ address_in k later q
+
+abbrev pub AreBehind : ℕ → Row → RowPlace → List Row → List RowPlace → Type 0
+AreBehind k r p (later ∷ rs) (q ∷ qs) = IsBehind k r p later q × AreBehind k r p rs qs
+AreBehind k r p _ _ = ⊤
+
+abbrev pub AreApart : ℕ → List Row → List RowPlace → Type 0
+AreApart k (r ∷ rs) (p ∷ ps) = AreBehind k r p rs ps × AreApart k rs ps
+AreApart k _ _ = ⊤
+
+-- no two rows of an area overlap
+abbrev pub NoOverlap : Type 0
+NoOverlap =
+    (script : Script) (needs : List SegmentNeed) (p : Placement) → place_of script needs ≡ Ok p →
+    (k : ℕ) → k < length script.areas → AreApart k script.rows p.rows
+
+-- a row of an area lies between its first address and the one behind its last
+abbrev pub IsWithin : ℕ → AreaPlace → Row → RowPlace → Type 0
+IsWithin k place r p = is_in k r ≡ true → (place.start ≤ address_in k r p) × (address_in k r p + p.size ≤ place.start + place.size)
+
+abbrev pub AreWithin : ℕ → AreaPlace → List Row → List RowPlace → Type 0
+AreWithin k place (r ∷ rs) (p ∷ ps) = IsWithin k place r p × AreWithin k place rs ps
+AreWithin k place _ _ = ⊤
+
+-- each row lies within its areas
+abbrev pub AllWithin : Type 0
+AllWithin =
+    (script : Script) (needs : List SegmentNeed) (p : Placement) → place_of script needs ≡ Ok p →
+    (k : ℕ) (place : AreaPlace) → slice_get p.areas k ≡ Some place → AreWithin k place script.rows p.rows
+
+-- ---- Areas by their sums.
+
+-- with what is taken a number is what is added, the terms read off these places
+abbrev pub IsSum : List AreaPlace → List RowPlace → List Term → ℕ → Type 0
+IsSum areas rows ts n =
+    come_to (λ (t : Term). t.minus) (term_value areas rows) ts + n ≡ come_to (λ (t : Term). not t.minus) (term_value areas rows) ts
+
+-- The area at a place of the script begins where its sum says and spans so many bytes as its sum says, both read off the
+-- placement itself; what they name stands before, but for the area's own start; and it ends at the last address or before it.
+pub record HoldsSums (k : ℕ) (rows : List Row) (p : Placement) (a : Area) (place : AreaPlace) : Type 0 where
+  pub start : IsSum p.areas p.rows a.start place.start
+  pub size : IsSum p.areas p.rows a.size place.size
+  pub start_known : list_all (is_known k false rows) a.start ≡ true
+  pub size_known : list_all (is_known k true rows) a.size ≡ true
+  pub inside : place.start + place.size ≤ 2 ^ 32
+
+-- so each area holds its sums
+abbrev pub SumsHold : Type 0
+SumsHold =
+    (script : Script) (needs : List SegmentNeed) (p : Placement) → place_of script needs ≡ Ok p →
+    (k : ℕ) (a : Area) (place : AreaPlace) → slice_get script.areas k ≡ Some a → slice_get p.areas k ≡ Some place →
+    HoldsSums k script.rows p a place
+
+-- ---- Areas by numbers alone.
+
+abbrev pub number_in : Operand → Option ℕ
+number_in (operand.Number n) = Some n
+number_in _ = None
+
+-- these terms are numbers, which come to this
+pub record AreNumbers (ts : List Term) (n : ℕ) : Type 0 where
+  pub numbers : AllByRecursion (λ (t : Term). (m : ℕ) × (t.operand ≡ operand.Number m)) ts
+  pub sum : sum_of (λ (t : Term). t.minus) (term_value [] []) ts ≡ Some n
+
+-- an area whose sums are numbers, with these bounds
+pub record IsFixed (a : Area) (b : Bounds) : Type 0 where
+  pub size : ℕ
+  pub starts : AreNumbers a.start b.start
+  pub spans : AreNumbers a.size size
+  pub ends : b.end ≡ b.start + size
+  pub inside : b.end ≤ 2 ^ 32
+
+abbrev pub AreFixed : List Area → List Bounds → Type 0
+AreFixed [] [] = ⊤
+AreFixed (a ∷ as') (b ∷ bs) = IsFixed a b × AreFixed as' bs
+AreFixed _ _ = ⊥
+
+-- the rows of areas with such bounds, area by area
+abbrev pub fixed_from : ℕ → List Row → List Area → List Bounds → List AreaPlace → List Spot → Result Placement PlaceFault
+fixed_from k rows (a ∷ rest) (b ∷ bs) placed ss =
+    rows_from k a b rows ss b.start
+    >>= λ x. fixed_from (k + 1) rows rest bs (placed ++ area_place b x.1 ∷ []) x.0
+fixed_from k rows _ _ placed ss = Ok (record { areas = placed; rows = map row_place ss })
+
+-- where all sums are numbers, a script is placed by these: the faults are those of rows
+abbrev pub OnlyNumbers : Type 0
+OnlyNumbers =
+    (script : Script) (needs : List SegmentNeed) (bounds : List Bounds) → AreFixed script.areas bounds →
+    place_of script needs ≡ (rows_exist script.rows needs >>= λ u. fixed_from 0 script.rows script.areas bounds [] (map (unplaced needs) script.rows))
+
+-- ---- What a placement rests on.
+
+-- a placement has a place for each area and for each row
+abbrev pub AllPlaced : Type 0
+AllPlaced =
+    (script : Script) (needs : List SegmentNeed) (p : Placement) → place_of script needs ≡ Ok p →
+    (length p.areas ≡ length script.areas) × (length p.rows ≡ length script.rows)
+
+-- each segment that is needed has a row
+abbrev pub RowsThere : Type 0
+RowsThere =
+    (script : Script) (needs : List SegmentNeed) (p : Placement) → place_of script needs ≡ Ok p →
+    AllByRecursion (λ (n : SegmentNeed). has_row script.rows n.name ≡ true) needs
+
+-- of needs their names count, and their sizes by name
+abbrev pub SameNeeds : Type 0
+SameNeeds =
+    (script : Script) (needs others : List SegmentNeed) → map (λ (n : SegmentNeed). n.name) needs ≡ map (λ (n : SegmentNeed). n.name) others →
+    ((name : List ℕ) → size_of needs name ≡ size_of others name) → place_of script needs ≡ place_of script others

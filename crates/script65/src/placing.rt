@@ -1,0 +1,34 @@
+//! Places the rows of a script.
+
+ghost use Rattle.base65.specs.Outcome.{Gives};
+ghost use Rattle.script65.specs.PlaceFaults.{is_place_outside};
+ghost use Rattle.script65.specs.Placing.{place_of};
+
+use crate::placement::{PlaceFault, Placement, SegmentNeed};
+use crate::placing::areas::{place_areas, row_places};
+use crate::placing::members::members_of;
+use crate::placing::needs::{check_rows, unplaced_rows};
+use crate::script::Script;
+use std::alloc::Global;
+
+mod areas;
+mod members;
+mod needs;
+mod site;
+mod sums;
+
+/// Where the rows of a script are placed, or the first fault. Of two needs of one name the first counts.
+pub fn place(alloc: Global, script: &Script, needs: &[SegmentNeed]) -> Result<Placement, PlaceFault>
+    ensures { Gives is_place_outside (λ p. p) result (place_of script.now needs.now) }
+{
+    let rows = script.rows.as_slice();
+    check_rows(alloc, rows, needs)?;
+    let members = members_of(alloc, script.areas.len(), rows)?;
+    let mut spots = unplaced_rows(alloc, rows, needs)?;
+    let areas = script.areas.as_slice();
+    let areas = place_areas(alloc, areas, rows, members.as_slice(), spots.as_mut_slice())?;
+    Ok(Placement {
+        areas,
+        rows: row_places(alloc, spots.as_slice())?,
+    })
+}

@@ -1,0 +1,169 @@
+//! A row in an area.
+
+ghost use Rattle.std.specs.Prelude.{◌≡◌, ◌≤◌, ◌+◌, IfOk};
+ghost use Rattle.base65.specs.Outcome.{Gives};
+ghost use Rattle.script65.specs.PlaceFaults.{is_place_outside};
+ghost use Rattle.script65.specs.Placing.{begin_by, begin_in, fitted, is_in, moved, rounded_up, row_after, sized_row};
+
+use crate::placement::PlaceFault;
+use crate::script::{Area, Begin, Row};
+use base65::Sequence;
+use std::alloc::Global;
+
+/// The first address of an area, and the one behind its last.
+#[derive(Clone, Copy)]
+pub struct Bounds {
+    pub start: u64,
+    pub end: u64,
+}
+
+/// What is known of a row: its size, if a module has its segment, and where it runs and loads, once it is placed.
+#[derive(Clone, Copy)]
+pub struct Spot {
+    pub size: Option<u64>,
+    pub run: u64,
+    pub load: u64,
+}
+
+/// An area in which rows are placed, by its place in the script.
+#[derive(Clone, Copy)]
+pub struct Site<'a> {
+    pub place: usize,
+    pub area: &'a Area,
+    pub bounds: Bounds,
+}
+
+/// Whether a row runs or loads in the area at a place of the script.
+#[tactic(auto, unfolding(crate::specs::Placing::is_in))]
+pub fn is_in(place: usize, row: &Row) -> bool
+    ensures { result ≡ is_in place row.now }
+{
+    row.run == place || row.load == place
+}
+
+// The least multiple of an alignment that isn't below an address.
+fn rounded_up(at: u64, align: u32) -> u64
+    requires { at ≤ 8589934592 }
+    ensures value { result ≡ rounded_up at align }
+    ensures bound { result ≤ 12884901888 }
+{
+    if align == 0 {
+        at
+    } else {
+        at.div_ceil(u64::from(align)) * u64::from(align)
+    }
+}
+
+fn begin_by(bounds: Bounds, begin: Begin, align: u32, cursor: u64) -> u64
+    requires room { cursor ≤ 8589934592 }
+    requires small { bounds.start ≤ 8589934592 }
+    ensures value { result ≡ begin_by bounds begin align cursor }
+    ensures bound { result ≤ 12884901888 }
+{
+    match begin {
+        Begin::Aligned => rounded_up(cursor, align),
+        Begin::Start(start) => u64::from(start),
+        Begin::Offset(offset) => bounds.start + u64::from(offset),
+    }
+}
+
+// Where a row begins.
+#[tactic(auto, unfolding(crate::specs::Placing::begin_in))]
+fn begin_in(place: usize, bounds: Bounds, row: &Row, cursor: u64) -> u64
+    requires room { cursor ≤ 8589934592 }
+    requires small { bounds.start ≤ 8589934592 }
+    ensures value { result ≡ begin_in place bounds row.now cursor }
+    ensures bound { result ≤ 12884901888 }
+{
+    if row.run == place {
+        begin_by(bounds, row.begin, row.align, cursor)
+    } else {
+        rounded_up(cursor, row.align_load)
+    }
+}
+
+#[tactic(auto, unfolding(crate::specs::Placing::moved))]
+fn moved(place: usize, row: &Row, at: u64, spot: Spot) -> Spot
+    ensures { result ≡ moved place row.now at spot }
+{
+    Spot {
+        size: spot.size,
+        run: if row.run == place { at } else { spot.run },
+        load: if row.load == place { at } else { spot.load },
+    }
+}
+
+impl Site<'_> {
+    // A row of a size, which begins at an address behind the cursor.
+    #[tactic(auto, unfolding(crate::specs::Placing::fitted))]
+    fn fit(
+        &self,
+        alloc: Global,
+        row: &Row,
+        spot: Spot,
+        size: u64,
+        at: u64,
+        cursor: u64,
+    ) -> Result<(Spot, u64), PlaceFault>
+        requires { at ≤ 12884901888 }
+        ensures value { Gives is_place_outside (λ x. x) result
+            (fitted self.now.place self.now.area.now self.now.bounds row.now spot size at cursor) }
+        ensures bound { IfOk result (λ x. x.1 ≤ self.now.bounds.end) }
+    {
+        if at < cursor {
+            return Err(PlaceFault::StartBelow(Sequence::copy_of(alloc, row.name.as_slice())?));
+        }
+        let limit = u128::from(self.bounds.end);
+        let end = u128::from(at) + u128::from(size);
+        if limit < end {
+            let name = Sequence::copy_of(alloc, self.area.name.as_slice())?;
+            return Err(PlaceFault::Overflow(name, end - limit));
+        }
+        Ok((moved(self.place, row, at, spot), at + size))
+    }
+
+    fn place_sized(
+        &self,
+        alloc: Global,
+        row: &Row,
+        spot: Spot,
+        cursor: u64,
+    ) -> Result<(Spot, u64), PlaceFault>
+        requires room { cursor ≤ self.now.bounds.end }
+        requires order { self.now.bounds.start ≤ self.now.bounds.end }
+        requires small { self.now.bounds.end ≤ 8589934592 }
+        ensures value { Gives is_place_outside (λ x. x) result
+            (sized_row self.now.place self.now.area.now self.now.bounds row.now spot spot.size cursor) }
+        ensures bound { IfOk result (λ x. x.1 ≤ self.now.bounds.end) }
+    {
+        match spot.size {
+            None => Ok((moved(self.place, row, cursor, spot), cursor)),
+            Some(size) => {
+                let at = begin_in(self.place, self.bounds, row, cursor);
+                self.fit(alloc, row, spot, size, at, cursor)
+            }
+        }
+    }
+
+    /// A row behind the cursor, and the cursor behind it.
+    #[tactic(auto, unfolding(crate::specs::Placing::row_after))]
+    pub fn place_row(
+        &self,
+        alloc: Global,
+        row: &Row,
+        spot: Spot,
+        cursor: u64,
+    ) -> Result<(Spot, u64), PlaceFault>
+        requires room { cursor ≤ self.now.bounds.end }
+        requires order { self.now.bounds.start ≤ self.now.bounds.end }
+        requires small { self.now.bounds.end ≤ 8589934592 }
+        ensures value { Gives is_place_outside (λ x. x) result
+            (row_after self.now.place self.now.area.now self.now.bounds row.now spot cursor) }
+        ensures bound { IfOk result (λ x. x.1 ≤ self.now.bounds.end) }
+    {
+        if self.area.read_only && row.run == self.place && !row.access.is_read_only() {
+            return Err(PlaceFault::ReadOnlyArea(Sequence::copy_of(alloc, row.name.as_slice())?));
+        }
+        self.place_sized(alloc, row, spot, cursor)
+    }
+}

@@ -1,0 +1,252 @@
+//! What the sums of areas come to.
+
+ghost use Rattle.std.specs.Prelude.{◌≡◌, ◌≤◌, ◌++◌, ◌^◌, [], IfOk, codes, is_some, map, slice_get};
+ghost use Rattle.std.specs.Option.{option_map_or};
+ghost use Rattle.script65.specs.declared.script.Area.{Area};
+ghost use Rattle.script65.specs.declared.script.Row.{Row};
+ghost use Rattle.base65.specs.Outcome.{Gives};
+ghost use Rattle.script65.specs.PlaceFaults.{is_place_outside};
+ghost use Rattle.script65.specs.Inner.Standing.{standing_in};
+ghost use Rattle.script65.specs.Placing.{row_place};
+ghost use Rattle.script65.specs.AreaSums.{area_known, area_value, bounds_in, is_known, operand_name, operand_value, places_there, row_known, row_value, spanned, sum_by, sum_in, unknown};
+
+use crate::placement::{AreaPlace, PlaceFault, RowPlace};
+use crate::placing::site::{Bounds, Spot};
+use crate::script::{Area, AreaPart, Operand, Row, RowPart, Term};
+use crate::sums::difference;
+use base65::Sequence;
+use std::alloc::{AllocError, Global};
+
+/// Where the sums of an area are asked for: the area and its place in the script, the script's areas and rows, where those
+/// before it are placed, and its own start, once that is found.
+#[derive(Clone, Copy)]
+pub struct Standing<'a> {
+    pub place: usize,
+    pub area: &'a Area,
+    pub areas: &'a [Area],
+    pub rows: &'a [Row],
+    pub area_places: &'a [AreaPlace],
+    pub spots: &'a [Spot],
+    pub start: Option<u64>,
+}
+
+pub fn row_place(spot: Spot) -> RowPlace
+    ensures { result ≡ row_place spot }
+{
+    RowPlace {
+        load: spot.load,
+        run: spot.run,
+        size: spot.size.unwrap_or(0),
+    }
+}
+
+fn area_value(part: AreaPart, place: AreaPlace) -> u64
+    ensures { result ≡ area_value part place }
+{
+    match part {
+        AreaPart::Start => place.start,
+        AreaPart::Size => place.size,
+        AreaPart::Last => place.last,
+    }
+}
+
+fn row_value(part: RowPart, place: RowPlace) -> u64
+    ensures { result ≡ row_value part place }
+{
+    match part {
+        RowPart::Load => place.load,
+        RowPart::Run => place.run,
+        RowPart::Size => place.size,
+    }
+}
+
+// Whether a part of the area at another place is known.
+fn area_known(place: usize, begun: bool, part: AreaPart, other: usize) -> bool
+    ensures { result ≡ area_known place begun part other }
+{
+    match part {
+        AreaPart::Start => other < place || (begun && other == place),
+        AreaPart::Size | AreaPart::Last => other < place,
+    }
+}
+
+fn row_known(place: usize, part: RowPart, row: &Row) -> bool
+    ensures { result ≡ row_known place part row.now }
+{
+    match part {
+        RowPart::Load => row.load < place,
+        RowPart::Run => row.run < place,
+        RowPart::Size => true,
+    }
+}
+
+// `__N_PART__`, by what stands behind the name.
+fn part_name(alloc: Global, name: &[u8], ending: &[u8]) -> Result<Sequence<u8>, AllocError>
+    ensures { IfOk result (λ text. text ≡ codes "__" ++ (name.now ++ ending.now)) }
+{
+    let mut text = Vec::from_slice(alloc, b"__")?;
+    text.extend_from_slice(name)?;
+    text.extend_from_slice(ending)?;
+    Sequence::copy_of(alloc, text.as_slice())
+}
+
+// Where an area begins and ends.
+fn spanned(alloc: Global, name: &[u8], start: u32, size: u32) -> Result<Bounds, PlaceFault>
+    ensures value { Gives is_place_outside (λ b. b) result (spanned name.now start size) }
+    ensures order { IfOk result (λ b. b.start ≤ b.end) }
+    ensures small { IfOk result (λ b. b.end ≤ 2 ^ 32) }
+{
+    let start = u64::from(start);
+    let end = start + u64::from(size);
+    if end > 1 << 32 {
+        Err(PlaceFault::AreaOutOfRange(Sequence::copy_of(alloc, name)?))
+    } else {
+        Ok(Bounds { start, end })
+    }
+}
+
+impl Standing<'_> {
+    // Where the area at another place is, as far as that is known.
+    fn area_place(&self, place: usize) -> Option<AreaPlace>
+        ensures { result ≡ slice_get (places_there (standing_in self.now)) place }
+    {
+        match self.start {
+            Some(start) if place == self.area_places.len() => Some(AreaPlace {
+                start,
+                size: 0,
+                last: start,
+            }),
+            _ => self.area_places.get(place).copied(),
+        }
+    }
+
+    fn row_place(&self, row: usize) -> Option<RowPlace>
+        ensures { result ≡ slice_get (map row_place self.now.spots.now) row }
+    {
+        self.spots.get(row).map(|spot| row_place(*spot))
+    }
+
+    fn operand_value(&self, operand: Operand) -> u64
+        ensures { result ≡ operand_value (places_there (standing_in self.now)) (map row_place self.now.spots.now) operand }
+    {
+        match operand {
+            Operand::Number(number) => u64::from(number),
+            Operand::Area(place, part) => match self.area_place(place) {
+                Some(place) => area_value(part, place),
+                None => 0,
+            },
+            Operand::Row(row, part) => match self.row_place(row) {
+                Some(place) => row_value(part, place),
+                None => 0,
+            },
+        }
+    }
+
+    fn is_known(&self, term: Term) -> bool
+        ensures { result ≡ is_known self.now.place (is_some self.now.start) self.now.rows.now term }
+    {
+        match term.operand {
+            Operand::Number(_) => true,
+            Operand::Area(place, part) => area_known(self.place, self.start.is_some(), part, place),
+            Operand::Row(row, part) => match self.rows.get(row) {
+                Some(row) => row_known(self.place, part, row),
+                None => false,
+            },
+        }
+    }
+
+    // The first term that isn't known.
+    fn unknown(&self, terms: &[Term]) -> Option<Term>
+        ensures { result ≡ unknown (standing_in self.now) terms.now }
+    {
+        for term in terms {
+            if !self.is_known(*term) {
+                return Some(*term);
+            }
+        }
+        None
+    }
+
+    fn area_name(&self, place: usize) -> &[u8]
+        ensures { result.now ≡ option_map_or (λ (a : Area). a.name) (slice_get self.now.areas.now place) [] }
+    {
+        match self.areas.get(place) {
+            Some(area) => area.name.as_slice(),
+            None => &[],
+        }
+    }
+
+    fn row_name(&self, place: usize) -> &[u8]
+        ensures { result.now ≡ option_map_or (λ (r : Row). r.name) (slice_get self.now.rows.now place) [] }
+    {
+        match self.rows.get(place) {
+            Some(row) => row.name.as_slice(),
+            None => &[],
+        }
+    }
+
+    // The name that an operand was written as.
+    fn operand_name(&self, alloc: Global, operand: Operand) -> Result<Sequence<u8>, AllocError>
+        ensures { IfOk result (λ name. name ≡ operand_name self.now.areas.now self.now.rows.now operand) }
+    {
+        match operand {
+            Operand::Number(_) => Ok(Sequence::new(alloc)),
+            Operand::Area(place, part) => part_name(alloc, self.area_name(place), part.ending()),
+            Operand::Row(row, part) => part_name(alloc, self.row_name(row), part.ending()),
+        }
+    }
+
+    // What terms come to: what is added less what is taken.
+    fn sum_by(&self, terms: &[Term]) -> Option<u32>
+        ensures { result ≡ sum_by (places_there (standing_in self.now)) (map row_place self.now.spots.now) terms.now }
+    {
+        let mut added = 0u128;
+        let mut taken = 0u128;
+        for term in terms {
+            let value = u128::from(self.operand_value(term.operand));
+            if term.minus {
+                taken += value;
+            } else {
+                added += value;
+            }
+        }
+        difference(added, taken)
+    }
+
+    // The sum of terms, or the fault of the first that isn't known, or else that of the sum.
+    fn sum(&self, alloc: Global, terms: &[Term]) -> Result<u32, PlaceFault>
+        ensures { Gives is_place_outside (λ n. n) result (sum_in (standing_in self.now) terms.now) }
+    {
+        if let Some(term) = self.unknown(terms) {
+            return Err(PlaceFault::NotPlaced(self.operand_name(alloc, term.operand)?));
+        }
+        match self.sum_by(terms) {
+            Some(sum) => Ok(sum),
+            None => {
+                let name = Sequence::copy_of(alloc, self.area.name.as_slice())?;
+                Err(PlaceFault::AreaOutOfRange(name))
+            }
+        }
+    }
+
+    /// The first address of the area, and the one behind its last.
+    pub fn bounds(&self, alloc: Global) -> Result<Bounds, PlaceFault>
+        requires { self.now.start ≡ None }
+        ensures value { Gives is_place_outside (λ b. b) result (bounds_in (standing_in self.now)) }
+        ensures order { IfOk result (λ b. b.start ≤ b.end) }
+        ensures small { IfOk result (λ b. b.end ≤ 2 ^ 32) }
+    {
+        let start = self.sum(alloc, self.area.start.as_slice())?;
+        let begun = Standing {
+            place: self.place,
+            area: self.area,
+            areas: self.areas,
+            rows: self.rows,
+            area_places: self.area_places,
+            spots: self.spots,
+            start: Some(u64::from(start)),
+        };
+        let size = begun.sum(alloc, self.area.size.as_slice())?;
+        spanned(alloc, self.area.name.as_slice(), start, size)
+    }
+}

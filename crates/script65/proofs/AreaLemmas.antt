@@ -6,7 +6,7 @@ use Rattle.base65.specs.Outcome.{◌>>=◌}
 use Rattle.script65.specs.declared.script.Area.{Area}
 use Rattle.script65.specs.declared.script.Script.{Script}
 use Rattle.script65.specs.Placing.{area_place, areas_from, place_of, row_place, rows_exist, rows_from, standing, unplaced}
-use Rattle.script65.specs.AreaSums.{Standing, begun, bounds_in, spanned, sum_in}
+use Rattle.script65.specs.AreaSums.{Standing, bounds_in, spanned, sum_in, with_start}
 use Rattle.script65.specs.declared.placement.AreaPlace.{AreaPlace}
 use Rattle.script65.specs.declared.placement.PlaceFault.{PlaceFault}
 use Rattle.script65.specs.declared.placement.PlaceFault.TheVariants.{AreaOutOfRange}
@@ -48,13 +48,13 @@ pub record Summed (s : Standing) (b : Bounds) : Type 0 where
   pub start : ℕ
   pub size : ℕ
   pub starts : sum_in s s.own.start ≡ Ok start
-  pub sizes : sum_in (begun s start) s.own.size ≡ Ok size
+  pub sizes : sum_in (with_start s start) s.own.size ≡ Ok size
   pub spans : Spans start size b
 
 pub summed_of : (s : Standing) (b : Bounds) → bounds_in s ≡ Ok b → Summed s b
 summed_of s b h =
-    let f = bind_ok (sum_in s s.own.start) (λ start. sum_in (begun s start) s.own.size >>= λ size. spanned s.own.name start size) b h in
-    let g = bind_ok (sum_in (begun s f.0) s.own.size) (λ size. spanned s.own.name f.0 size) b f.2 in
+    let f = bind_ok (sum_in s s.own.start) (λ start. sum_in (with_start s start) s.own.size >>= λ size. spanned s.own.name start size) b h in
+    let g = bind_ok (sum_in (with_start s f.0) s.own.size) (λ size. spanned s.own.name f.0 size) b f.2 in
     record { start = f.0; size = g.0; starts = f.1; sizes = g.1; spans = spans_of s.own.name f.0 g.0 b g.2 }
 
 pub bounds_order : (s : Standing) (b : Bounds) → bounds_in s ≡ Ok b → b.start ≤ b.end

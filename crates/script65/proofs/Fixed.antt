@@ -11,7 +11,7 @@ use Rattle.script65.specs.declared.script.Row.{Row}
 use Rattle.script65.specs.declared.script.Term.{Term}
 use Rattle.script65.specs.PlacingLaws.{AreFixed, AreNumbers, IsFixed, OnlyNumbers, fixed_from}
 use Rattle.script65.specs.Placing.{area_place, areas_from, rows_exist, rows_from, standing, unplaced}
-use Rattle.script65.specs.AreaSums.{Standing, begun, bounds_in, is_known, number_or_fault, operand_known, operand_value, places_there, spanned, sum_by, sum_in, sum_unless, term_value}
+use Rattle.script65.specs.AreaSums.{Standing, bounds_in, is_known, number_or_fault, operand_known, operand_value, places_there, spanned, sum_by, sum_in, sum_unless, term_value, with_start}
 use Rattle.script65.specs.declared.placement.AreaPlace.{AreaPlace}
 use Rattle.script65.specs.declared.placement.PlaceFault.{PlaceFault}
 use Rattle.script65.specs.declared.placement.PlaceFault.TheVariants.{AreaOutOfRange}
@@ -55,8 +55,8 @@ bounds_fixed s b h =
     let ends : b.end ≡ b.start + h.size = h.ends in
     let small : b.start + h.size ≤ 2 ^ 32 = omega (arith, h.inside) in
     let made : Bounds = record { start = b.start; end = b.start + h.size } in
-    ap (λ r. r >>= λ start. sum_in (begun s start) s.own.size >>= λ size. spanned s.own.name start size) (in_fixed s s.own.start b.start h.starts)
-    ∙ ap (λ r. r >>= λ size. spanned s.own.name b.start size) (in_fixed (begun s b.start) s.own.size h.size h.spans)
+    ap (λ r. r >>= λ start. sum_in (with_start s start) s.own.size >>= λ size. spanned s.own.name start size) (in_fixed s s.own.start b.start h.starts)
+    ∙ ap (λ r. r >>= λ size. spanned s.own.name b.start size) (in_fixed (with_start s b.start) s.own.size h.size h.spans)
     ∙ ap (λ t. if t then Err (AreaOutOfRange s.own.name) else Ok made) (not_over (b.start + h.size) small)
     ∙ ap (λ n. let c : Bounds = record { start = b.start; end = n } in let r : Result Bounds PlaceFault = Ok c in r) (sym ends)
 

@@ -7,6 +7,7 @@ pub mod Forms
 pub mod Manys
 pub mod Members
 pub mod NameLemmas
+pub mod Named
 pub mod NeedLemmas
 pub mod OneReading
 pub mod Placed
@@ -15,5 +16,6 @@ pub mod Settled
 pub mod SumLemmas
 pub mod SumsHeld
 pub mod TableLemmas
+pub mod Unnamed
 pub mod Utf8
 pub mod Walks

@@ -15,9 +15,9 @@ use Rattle.script65.specs.declared.script.Operand.TheVariants as operand
 use Rattle.script65.specs.declared.script.Row.{Row}
 use Rattle.script65.specs.declared.script.Script.{Script}
 use Rattle.script65.specs.declared.script.Term.{Term}
-use Rattle.script65.specs.PlacingLaws.{IsSum, SumsHold}
+use Rattle.script65.specs.PlacingLaws.{HasSum, SumsHold}
 use Rattle.script65.specs.Placing.{area_place, row_place, standing}
-use Rattle.script65.specs.AreaSums.{Standing, area_known, area_value, begun, is_known, number_or_fault, operand_known, operand_value, own_place, places_there, sum_by, sum_in, sum_unless, term_value, unknown}
+use Rattle.script65.specs.AreaSums.{Standing, area_known, area_value, is_known, number_or_fault, operand_known, operand_value, own_place, places_there, sum_by, sum_in, sum_unless, term_value, unknown, with_start}
 use Rattle.script65.specs.declared.placement.AreaPlace.{AreaPlace}
 use Rattle.script65.specs.declared.placement.RowPlace.{RowPlace}
 use Rattle.script65.specs.declared.placing.site.Spot.{Spot}
@@ -32,16 +32,17 @@ below x k h = grind (arith, nat_tests)
 at_most : (x k : ℕ) → nat_le x k ≡ true → x ≤ k
 at_most x k h = grind (arith, nat_tests)
 
-the_difference : (added taken n : ℕ) → difference added taken ≡ Some n → taken + n ≡ added
-the_difference added taken n h = by (nat_le taken added) (nat_lt (added - taken) (2 ^ 32)) refl h
+the_difference : (added taken n : ℕ) → difference added taken ≡ Some n → (taken + n ≡ added) × (n < 2 ^ 32)
+the_difference added taken n h = by (nat_le taken added) (nat_lt (added - taken) (2 ^ 32)) refl refl h
   where
-    by : (t u : Bool) → nat_le taken added ≡ t → (if t && u then Some (added - taken) else None) ≡ Some n → taken + n ≡ added
-    by true true e h =
+    by : (t u : Bool) → nat_le taken added ≡ t → nat_lt (added - taken) (2 ^ 32) ≡ u → (if t && u then Some (added - taken) else None) ≡ Some n → (taken + n ≡ added) × (n < 2 ^ 32)
+    by true true e f h =
         let le : taken ≤ added = at_most taken added e in
+        let less : added - taken < 2 ^ 32 = below (added - taken) (2 ^ 32) f in
         let same : added - taken ≡ n = cc in
-        omega arith
-    by true false e h = absurd cc
-    by false u e h = absurd cc
+        (omega arith, omega arith)
+    by true false e f h = absurd cc
+    by false u e f h = absurd cc
 
 none_found : (known : Term → Bool) (ts : List Term) → find (λ t. not (known t)) ts ≡ None → list_all known ts ≡ true
 none_found known [] h = refl
@@ -54,12 +55,13 @@ none_found known (t ∷ ts) h = by (known t) refl h (none_found known ts)
 -- all terms are known, and they come to this
 record Found (s : Standing) (ts : List Term) (n : ℕ) : Type 0 where
   pub known : list_all (is_known s.k (is_some s.start) s.rows) ts ≡ true
-  pub sum : IsSum (places_there s) s.row_places ts n
+  pub sum : HasSum (places_there s) s.row_places ts n
+  pub less : n < 2 ^ 32
 
 found_of : (s : Standing) (ts : List Term) (n : ℕ) → sum_in s ts ≡ Ok n → Found s ts n
 found_of s ts n h = by (unknown s ts) refl h
   where
-    sum_is : (o : Option ℕ) → sum_by (places_there s) s.row_places ts ≡ o → number_or_fault s.own.name o ≡ Ok n → IsSum (places_there s) s.row_places ts n
+    sum_is : (o : Option ℕ) → sum_by (places_there s) s.row_places ts ≡ o → number_or_fault s.own.name o ≡ Ok n → HasSum (places_there s) s.row_places ts n × (n < 2 ^ 32)
     sum_is (Some m) e h =
         let same : m ≡ n = cc in
         the_difference (come_to (λ (t : Term). not t.minus) (term_value (places_there s) s.row_places) ts) (come_to (λ (t : Term). t.minus) (term_value (places_there s) s.row_places) ts) n (e ∙ ap Some same)
@@ -67,7 +69,9 @@ found_of s ts n h = by (unknown s ts) refl h
 
     by : (o : Option Term) → unknown s ts ≡ o → sum_unless s ts o ≡ Ok n → Found s ts n
     by (Some t) e h = absurd cc
-    by None e h = record { known = none_found (is_known s.k (is_some s.start) s.rows) ts e; sum = sum_is (sum_by (places_there s) s.row_places ts) refl h }
+    by None e h =
+        let sum = sum_is (sum_by (places_there s) s.row_places ts) refl h in
+        record { known = none_found (is_known s.k (is_some s.start) s.rows) ts e; sum = sum.0; less = sum.1 }
 
 -- ---- Terms that are known stay what they are.
 
@@ -107,7 +111,7 @@ operand_same k begun rows ps qs ss ts (operand.Number n) a s known = refl
 operand_same k begun rows ps qs ss ts (operand.Area j part) a s known = area_same k begun ps qs part j a known
 operand_same k begun rows ps qs ss ts (operand.Row i part) a s known = value_stays k part rows ss ts i s known
 
-sum_same : (k : ℕ) (begun : Bool) (rows : List Row) (ps qs : List AreaPlace) (ss us : List Spot) (ts : List Term) (n : ℕ) → Agree k begun ps qs → Settled k rows ss us → list_all (is_known k begun rows) ts ≡ true → IsSum ps (map row_place ss) ts n → IsSum qs (map row_place us) ts n
+sum_same : (k : ℕ) (begun : Bool) (rows : List Row) (ps qs : List AreaPlace) (ss us : List Spot) (ts : List Term) (n : ℕ) → Agree k begun ps qs → Settled k rows ss us → list_all (is_known k begun rows) ts ≡ true → HasSum ps (map row_place ss) ts n → HasSum qs (map row_place us) ts n
 sum_same k begun rows ps qs ss us ts n a s known h =
     let v : Term → ℕ = term_value ps (map row_place ss) in
     let w : Term → ℕ = term_value qs (map row_place us) in
@@ -119,10 +123,12 @@ sum_same k begun rows ps qs ss us ts n a s known h =
 -- ---- Area by area.
 
 record SumsSo (k : ℕ) (rows : List Row) (placed : List AreaPlace) (ss : List Spot) (a : Area) (place : AreaPlace) : Type 0 where
-  pub start : IsSum placed (map row_place ss) a.start place.start
-  pub size : IsSum placed (map row_place ss) a.size place.size
+  pub start : HasSum placed (map row_place ss) a.start place.start
+  pub size : HasSum placed (map row_place ss) a.size place.size
   pub start_known : list_all (is_known k false rows) a.start ≡ true
   pub size_known : list_all (is_known k true rows) a.size ≡ true
+  pub start_less : place.start < 2 ^ 32
+  pub size_less : place.size < 2 ^ 32
   pub inside : place.start + place.size ≤ 2 ^ 32
 
 abbrev SumsIn : Script → ℕ → List AreaPlace → List Spot → Type 0
@@ -160,15 +166,17 @@ sums_made script k a placed ss ts b last at count made e c place there here =
     let width : (area_place b last).size ≡ g.size = omega arith in
     let settled = rows_settled k k a b script.rows ss ts b.start last (omega arith) e in
     let first = found_of (standing k script.areas script.rows a placed ss) a.start g.start g.starts in
-    let second = found_of (begun (standing k script.areas script.rows a placed ss) g.start) a.size g.size g.sizes in
+    let second = found_of (with_start (standing k script.areas script.rows a placed ss) g.start) a.size g.size g.sizes in
     let places : List AreaPlace = placed ++ area_place b last ∷ [] in
-    let start : IsSum places (map row_place ts) a.start g.start = sum_same k false script.rows (placed ++ own_place None) places ss ts a.start g.start (first_agrees k placed (area_place b last) count) settled first.known first.sum in
-    let size : IsSum places (map row_place ts) a.size g.size = sum_same k true script.rows (placed ++ own_place (Some g.start)) places ss ts a.size g.size (own_agrees k placed (area_place b last) g.start count starts) settled second.known second.sum in
+    let start : HasSum places (map row_place ts) a.start g.start = sum_same k false script.rows (placed ++ own_place None) places ss ts a.start g.start (first_agrees k placed (area_place b last) count) settled first.known first.sum in
+    let size : HasSum places (map row_place ts) a.size g.size = sum_same k true script.rows (placed ++ own_place (Some g.start)) places ss ts a.size g.size (own_agrees k placed (area_place b last) g.start count starts) settled second.known second.sum in
     let so : SumsSo k script.rows places ts a (area_place b last) = record {
-      start = subst (IsSum places (map row_place ts) a.start) (sym starts) start;
-      size = subst (IsSum places (map row_place ts) a.size) (sym width) size;
+      start = subst (HasSum places (map row_place ts) a.start) (sym starts) start;
+      size = subst (HasSum places (map row_place ts) a.size) (sym width) size;
       start_known = first.known;
       size_known = second.known;
+      start_less = omega (arith, first.less);
+      size_less = omega (arith, second.less);
       inside = omega arith;
     } in
     subst (λ x. SumsSo k script.rows places ts x place) same_area (subst (SumsSo k script.rows places ts a) same_place so)
@@ -183,6 +191,8 @@ sums_kept script j k a placed ss ts b last less count made e q c place there her
       size = sum_same j true script.rows placed (placed ++ area_place b last ∷ []) ss ts c.size place.size (longer_agrees j true placed (area_place b last) inside) settled so.size_known so.size;
       start_known = so.start_known;
       size_known = so.size_known;
+      start_less = so.start_less;
+      size_less = so.size_less;
       inside = so.inside;
     }
 
@@ -190,12 +200,14 @@ pub sums_hold : SumsHold
 sums_hold script needs p h k a place at here =
     let g : Holds (SumsIn script) (length script.areas) p = all_hold script needs p (SumsIn script) (sums_made script) (sums_kept script) h in
     let so = g.each k (slice_get_within script.areas k a at) a place at here in
-    let P : List RowPlace → Type 0 = λ rs. IsSum p.areas rs a.start place.start in
-    let Q : List RowPlace → Type 0 = λ rs. IsSum p.areas rs a.size place.size in
+    let P : List RowPlace → Type 0 = λ rs. HasSum p.areas rs a.start place.start in
+    let Q : List RowPlace → Type 0 = λ rs. HasSum p.areas rs a.size place.size in
     record {
       start = subst P (sym g.rows) so.start;
       size = subst Q (sym g.rows) so.size;
       start_known = so.start_known;
       size_known = so.size_known;
+      start_less = so.start_less;
+      size_less = so.size_less;
       inside = so.inside;
     }

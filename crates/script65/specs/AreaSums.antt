@@ -41,8 +41,8 @@ term_value areas rows t = operand_value areas rows t.operand
 
 -- ---- Where the sums of an area are asked for.
 
--- the area and its place in the script, the script's areas and rows, where those before it are placed, and its own start, once
--- that is found
+-- the area and its place in the script, the script's areas and rows, the places of the areas before it and of all rows (0 of
+-- those that aren't placed), and its own start, once that is found
 pub record Standing : Type 0 where
   pub k : ℕ
   pub own : Area
@@ -52,6 +52,7 @@ pub record Standing : Type 0 where
   pub row_places : List RowPlace
   pub start : Option ℕ
 
+-- its own place as far as it is known there: only the start is read
 abbrev pub own_place : Option ℕ → List AreaPlace
 own_place None = []
 own_place (Some start) = record { start = start; size = 0; last = start } ∷ []
@@ -111,8 +112,9 @@ sum_unless s ts None = number_or_fault s.own.name (sum_by (places_there s) s.row
 abbrev pub sum_in : Standing → List Term → Result ℕ PlaceFault
 sum_in s ts = sum_unless s ts (unknown s ts)
 
-abbrev pub begun : Standing → ℕ → Standing
-begun s start = record {
+-- the same where its own start is found
+abbrev pub with_start : Standing → ℕ → Standing
+with_start s start = record {
   k = s.k;
   own = s.own;
   areas = s.areas;
@@ -131,5 +133,5 @@ spanned name start size =
 abbrev pub bounds_in : Standing → Result Bounds PlaceFault
 bounds_in s =
     sum_in s s.own.start
-    >>= λ start. sum_in (begun s start) s.own.size
+    >>= λ start. sum_in (with_start s start) s.own.size
     >>= λ size. spanned s.own.name start size

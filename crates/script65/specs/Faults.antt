@@ -19,13 +19,13 @@ fault_text TooLong = codes "script too long"
 fault_text NoSuchName = codes "no such name"
 fault_text AmbiguousName = codes "ambiguous name"
 
--- whether a fault is one of a name
+-- whether a fault is told with a name
 abbrev pub names : Fault → Bool
 names NoSuchName = true
 names AmbiguousName = true
 names _ = false
 
--- a fault with the name that it is one of, byte by byte, each as the character of its code (so ASCII as it is)
+-- a fault, of some with the name that they concern, byte by byte, each as the character of its code (so ASCII as it is)
 abbrev pub script_fault_text : ScriptFault → List ℕ
 script_fault_text e =
     if names e.fault then fault_text e.fault ++ codes ": " ++ encode_utf8_all e.name else fault_text e.fault

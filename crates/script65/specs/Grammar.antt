@@ -163,7 +163,7 @@ value_at bytes s at = word_at bytes s at
 
 -- sums
 
--- a number, with a `-` before it or not
+-- a number; the flag says whether the sign before it was a `-`
 unfoldable pub number_part : List ℕ → Bool → ℕ → Result (Part × ℕ) Stop
 number_part bytes minus at = do
   t ← expect bytes form.Number at
@@ -194,7 +194,7 @@ is_name p = not (is_some p.number)
 abbrev pub number_of_parts : List Part → Option ℕ
 number_of_parts ps = sum_of (λ (p : Part). p.minus) (λ (p : Part). unwrap_or p.number 0) ps
 
--- the value of a sum of parts: a number, where it has no name and is one
+-- the value of a sum of parts: its number, where it has no name; none, where that is out of range
 abbrev pub sum_value : List Part → Option Value
 sum_value ps = if list_any is_name ps then Some value.Sum else option_map value.Number (number_of_parts ps)
 
@@ -219,7 +219,7 @@ attribute_word bytes block given at = do
   a ← some_or (attribute_of block (text_of bytes t)) UnknownAttribute t
   if has a given then stop AttributeTwice t else Ok (a, t.to)
 
--- behind the value of an attribute a `,`, if there is one
+-- an attribute behind those that were given, and behind a `,` if one stands there
 abbrev pub attribute_end : List ℕ → List Given → Attribute → Value × List Part × ℕ → Result (List Given × ℕ) Stop
 attribute_end bytes given a v = Ok (given ++ record { attribute = a; value = v.0; parts = v.1 } ∷ [], behind bytes form.Comma v.2)
 

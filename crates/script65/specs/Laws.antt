@@ -1,9 +1,40 @@
 -- What holds of every script.
-use Rattle.std.specs.Prelude.{◌≡◌, ℕ, List, Result}
+use Rattle.std.specs.Prelude.{◌≡◌, ◌<◌, ℕ, List, Result, Ok, length, ⊤}
+use Rattle.std.specs.List.{AllByRecursion}
 use Rattle.script65.specs.declared.fault.ScriptFault.{ScriptFault}
+use Rattle.script65.specs.declared.script.Area.{Area}
+use Rattle.script65.specs.declared.script.Operand.{Operand}
+use Rattle.script65.specs.declared.script.Operand.TheVariants as operand
+use Rattle.script65.specs.declared.script.Row.{Row}
 use Rattle.script65.specs.declared.script.Script.{Script}
+use Rattle.script65.specs.declared.script.Term.{Term}
 use Rattle.script65.specs.Scripts.{IsScript}
 
 -- a text is one script or has one first fault, at most
 abbrev pub OneReading : Type 0
 OneReading = (bytes : List ℕ) (r q : Result Script ScriptFault) → IsScript bytes r → IsScript bytes q → r ≡ q
+
+-- ---- What is named is there.
+
+-- the area or the row that a sum names is one of so many areas and rows
+abbrev pub IsThere : ℕ → ℕ → Operand → Type 0
+IsThere areas rows (operand.Number n) = ⊤
+IsThere areas rows (operand.Area k part) = k < areas
+IsThere areas rows (operand.Row i part) = i < rows
+
+abbrev pub AreThere : ℕ → ℕ → List Term → Type 0
+AreThere areas rows ts = AllByRecursion (λ (t : Term). IsThere areas rows t.operand) ts
+
+-- an area's sums name areas and rows of the script
+abbrev pub HasNames : Script → Area → Type 0
+HasNames s a = AreThere (length s.areas) (length s.rows) a.start × AreThere (length s.areas) (length s.rows) a.size
+
+-- a row loads and runs in areas of the script
+abbrev pub HasAreas : Script → Row → Type 0
+HasAreas s r = (r.load < length s.areas) × (r.run < length s.areas)
+
+-- so it is in each script that is read
+abbrev pub AllThere : Type 0
+AllThere =
+    (bytes : List ℕ) (s : Script) → IsScript bytes (Ok s) →
+    AllByRecursion (HasNames s) s.areas × AllByRecursion (HasAreas s) s.rows

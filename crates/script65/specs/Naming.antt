@@ -42,7 +42,7 @@ exported e = exported_by (role_given e.given) (unwrap_or (number_given attribute
 abbrev pub export_named : List (List ℕ × Entry) → List ℕ → Option Operand
 export_named symbols name = option_and_then exported (entry_named symbols name)
 
--- this part of the area of which a name is the name for it
+-- the area whose name for this part is the given one
 abbrev pub area_named : List (List ℕ × Entry) → List ℕ → AreaPart → Option Operand
 area_named areas name part =
     option_map (λ k. operand.Area k part) (position (λ e. bytes_eq name (part_name e.0 (area_word part))) areas)
@@ -51,7 +51,7 @@ abbrev pub area_part_named : List (List ℕ × Entry) → List ℕ → Option Op
 area_part_named areas name =
     option_or (area_named areas name area.Start) (option_or (area_named areas name area.Size) (area_named areas name area.Last))
 
--- this part of the row of which a name is the name for it
+-- the row whose name for this part is the given one
 abbrev pub row_named : List (List ℕ × Entry) → List ℕ → RowPart → Option Operand
 row_named rows name part =
     option_map (λ k. operand.Row k part) (position (λ e. bytes_eq name (part_name e.0 (row_word part))) rows)
@@ -60,7 +60,7 @@ abbrev pub row_part_named : List (List ℕ × Entry) → List ℕ → Option Ope
 row_part_named rows name =
     option_or (row_named rows name row.Load) (option_or (row_named rows name row.Run) (row_named rows name row.Size))
 
--- the one that there is
+-- what exactly one of the three gives
 abbrev pub only : Option Operand → Option Operand → Option Operand → Result Operand Fault
 only None None None = Err NoSuchName
 only (Some o) None None = Ok o

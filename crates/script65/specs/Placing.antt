@@ -102,7 +102,7 @@ area_place b last = record { start = b.start; size = b.end - b.start; last = las
 abbrev pub row_place : Spot → RowPlace
 row_place s = record { load = s.load; run = s.run; size = unwrap_or s.size 0 }
 
--- the area at a place, before which these places of areas and these spots stand
+-- what the sums of the area at a place are looked up in: these places of the areas before it, and these spots
 abbrev pub standing : ℕ → List Area → List Row → Area → List AreaPlace → List Spot → Standing
 standing k areas rows a placed ss = record {
   k = k;
@@ -114,7 +114,7 @@ standing k areas rows a placed ss = record {
   start = None;
 }
 
--- area by area, of all that there are those from a place on: first where an area begins and ends, and then its rows
+-- the areas from a place on, one by one: first where each begins and ends, and then its rows
 abbrev pub areas_from : ℕ → List Area → List Row → List Area → List AreaPlace → List Spot → Result Placement PlaceFault
 areas_from k areas rows [] placed ss = Ok (record { areas = placed; rows = map row_place ss })
 areas_from k areas rows (a ∷ rest) placed ss =

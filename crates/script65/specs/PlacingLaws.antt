@@ -1,10 +1,14 @@
 -- What holds of every placement.
-use Rattle.std.specs.Prelude.{◌≡◌, ◌≤◌, ◌<◌, ℕ, ◌+◌, ◌^◌, true, false, not, ◌==◌, if◌then◌else◌, List, [], ◌∷◌, ◌++◌, map, Option, Some, None, Result, Ok, length, slice_get, ⊤}
+use Rattle.std.specs.Prelude.{◌≡◌, ◌≤◌, ◌<◌, ℕ, ◌+◌, ◌^◌, true, false, not, ◌==◌, if◌then◌else◌, List, [], ◌∷◌, ◌++◌, map, Some, Result, Ok, length, slice_get, ⊤}
 use Rattle.std.specs.List.{AllByRecursion, list_all}
 use Rattle.base65.specs.Outcome.{◌>>=◌}
-use Rattle.script65.specs.Sums.{come_to, sum_of}
+use Rattle.script65.specs.Grammar.{Draft, Drafts, is_name}
+use Rattle.script65.specs.Naming.{parts_given}
+use Rattle.script65.specs.Scripts.{script_of}
+use Rattle.script65.specs.Sums.{come_to}
+use Rattle.script65.specs.declared.reading.table.Entry.{Entry}
+use Rattle.script65.specs.declared.reading.words.Attribute.TheVariants as attribute
 use Rattle.script65.specs.declared.script.Area.{Area}
-use Rattle.script65.specs.declared.script.Operand.{Operand}
 use Rattle.script65.specs.declared.script.Operand.TheVariants as operand
 use Rattle.script65.specs.declared.script.Row.{Row}
 use Rattle.script65.specs.declared.script.Script.{Script}
@@ -17,7 +21,7 @@ use Rattle.script65.specs.declared.placement.SegmentNeed.{SegmentNeed}
 use Rattle.script65.specs.declared.placing.site.Bounds.{Bounds}
 use Rattle.script65.specs.declared.placing.site.Spot.{Spot}
 use Rattle.script65.specs.Placing.{area_place, has_row, is_in, place_of, row_place, rows_exist, rows_from, size_of, unplaced}
-use Rattle.script65.specs.AreaSums.{is_known, term_value}
+use Rattle.script65.specs.AreaSums.{is_known, sum_by, term_value}
 
 -- ---- Rows in their areas.
 
@@ -59,18 +63,21 @@ AllWithin =
 
 -- ---- Areas by their sums.
 
--- with what is taken a number is what is added, the terms read off these places
-abbrev pub IsSum : List AreaPlace → List RowPlace → List Term → ℕ → Type 0
-IsSum areas rows ts n =
+-- a number and what is taken are together what is added, the terms read off these places
+abbrev pub HasSum : List AreaPlace → List RowPlace → List Term → ℕ → Type 0
+HasSum areas rows ts n =
     come_to (λ (t : Term). t.minus) (term_value areas rows) ts + n ≡ come_to (λ (t : Term). not t.minus) (term_value areas rows) ts
 
 -- The area at a place of the script begins where its sum says and spans so many bytes as its sum says, both read off the
--- placement itself; what they name stands before, but for the area's own start; and it ends at the last address or before it.
+-- placement itself. Their names are known there: of areas that stand before, and rows in these, and the sizes of all rows; in
+-- its size its own start, too. Both are below 2 ^ 32, and the area ends at the last address or before it.
 pub record HoldsSums (k : ℕ) (rows : List Row) (p : Placement) (a : Area) (place : AreaPlace) : Type 0 where
-  pub start : IsSum p.areas p.rows a.start place.start
-  pub size : IsSum p.areas p.rows a.size place.size
+  pub start : HasSum p.areas p.rows a.start place.start
+  pub size : HasSum p.areas p.rows a.size place.size
   pub start_known : list_all (is_known k false rows) a.start ≡ true
   pub size_known : list_all (is_known k true rows) a.size ≡ true
+  pub start_less : place.start < 2 ^ 32
+  pub size_less : place.size < 2 ^ 32
   pub inside : place.start + place.size ≤ 2 ^ 32
 
 -- so each area holds its sums
@@ -82,14 +89,10 @@ SumsHold =
 
 -- ---- Areas by numbers alone.
 
-abbrev pub number_in : Operand → Option ℕ
-number_in (operand.Number n) = Some n
-number_in _ = None
-
 -- these terms are numbers, which come to this
 pub record AreNumbers (ts : List Term) (n : ℕ) : Type 0 where
   pub numbers : AllByRecursion (λ (t : Term). (m : ℕ) × (t.operand ≡ operand.Number m)) ts
-  pub sum : sum_of (λ (t : Term). t.minus) (term_value [] []) ts ≡ Some n
+  pub sum : sum_by [] [] ts ≡ Some n
 
 -- an area whose sums are numbers, with these bounds
 pub record IsFixed (a : Area) (b : Bounds) : Type 0 where
@@ -111,11 +114,23 @@ fixed_from k rows (a ∷ rest) (b ∷ bs) placed ss =
     >>= λ x. fixed_from (k + 1) rows rest bs (placed ++ area_place b x.1 ∷ []) x.0
 fixed_from k rows _ _ placed ss = Ok (record { areas = placed; rows = map row_place ss })
 
--- where all sums are numbers, a script is placed by these: the faults are those of rows
+-- where all sums are numbers, a script is placed by these, and no fault is one of a sum
 abbrev pub OnlyNumbers : Type 0
 OnlyNumbers =
     (script : Script) (needs : List SegmentNeed) (bounds : List Bounds) → AreFixed script.areas bounds →
     place_of script needs ≡ (rows_exist script.rows needs >>= λ u. fixed_from 0 script.rows script.areas bounds [] (map (unplaced needs) script.rows))
+
+-- an area of a text has no name in its sums
+abbrev pub HasNoNames : List ℕ × Entry → Type 0
+HasNoNames e =
+    AllByRecursion (λ p. is_name p ≡ false) (parts_given attribute.Start e.1.given)
+    × AllByRecursion (λ p. is_name p ≡ false) (parts_given attribute.Size e.1.given)
+
+-- a script in whose text no sum has a name has such areas: its sums were looked at as they were read
+abbrev pub NoNamesFixed : Type 0
+NoNamesFixed =
+    (bytes : List ℕ) (d : Draft) (script : Script) → Drafts bytes (Ok d) → script_of bytes d ≡ Ok script →
+    AllByRecursion HasNoNames d.areas → (bounds : List Bounds) × AreFixed script.areas bounds
 
 -- ---- What a placement rests on.
 

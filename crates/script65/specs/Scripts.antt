@@ -109,19 +109,19 @@ abbrev pub stop_at : {A : Type 0} → Fault → Entry → Result A Stop
 stop_at fault e = Err (record { fault = fault; at = e.at })
 
 -- the place of the area of a name
-abbrev pub area_place : Draft → List ℕ → Option ℕ
-area_place d name = position (λ e. bytes_eq name e.0) d.areas
+abbrev pub area_index : Draft → List ℕ → Option ℕ
+area_index d name = position (λ e. bytes_eq name e.0) d.areas
 
 abbrev pub found : Option ℕ → Entry → Result ℕ Stop
 found (Some place) e = Ok place
 found None e = stop_at NoSuchArea e
 
 abbrev pub load_place : List ℕ → Draft → Entry → Result ℕ Stop
-load_place bytes d e = found (option_and_then (area_place d) (name_given bytes attribute.Load e.given)) e
+load_place bytes d e = found (option_and_then (area_index d) (name_given bytes attribute.Load e.given)) e
 
 abbrev pub run_by : Draft → Option (List ℕ) → Entry → ℕ → Result ℕ Stop
 run_by d None e load = Ok load
-run_by d (Some name) e load = found (area_place d name) e
+run_by d (Some name) e load = found (area_index d name) e
 
 -- the area named, or the load area
 abbrev pub run_place : List ℕ → Draft → Entry → ℕ → Result ℕ Stop
@@ -180,7 +180,7 @@ Reads bytes = Then (Drafts bytes) (script_of bytes)
 abbrev pub name_at : List ℕ → ℕ → List ℕ
 name_at bytes at = if nat_le at (length bytes) then text_of bytes (token_at bytes at) else []
 
--- a fault with its line in place of its place, and with the name that it is one of
+-- a fault with its line in place of its place, and of some with the name that they concern
 abbrev pub fault_at : List ℕ → Stop → ScriptFault
 fault_at bytes e = record { fault = e.fault; line = line_of bytes e.at; name = if names e.fault then name_at bytes e.at else [] }
 

@@ -1,11 +1,16 @@
 //! What holds of every script and of every placement by one.
 
-ghost use Rattle.script65.specs.Laws.{OneReading};
-ghost use Rattle.script65.specs.PlacingLaws.{AllPlaced, AllWithin, NoOverlap, OnlyNumbers, RowsThere, SameNeeds, SumsHold};
+ghost use Rattle.script65.specs.Laws.{AllThere, OneReading};
+ghost use Rattle.script65.specs.PlacingLaws.{AllPlaced, AllWithin, NoNamesFixed, NoOverlap, OnlyNumbers, RowsThere, SameNeeds, SumsHold};
 
 /// A text is one script or has one first fault, at most.
 pub fn one_reading()
     ensures { OneReading }
+{}
+
+/// Areas and rows that a script's rows and sums name are there.
+pub fn all_there()
+    ensures { AllThere }
 {}
 
 /// No two rows of an area overlap.
@@ -19,14 +24,19 @@ pub fn all_within()
 {}
 
 /// Each area begins where its sum says and spans so many bytes as its sum says, both read off the placement itself, and
-/// they name what stands before.
+/// what they name is known there.
 pub fn sums_hold()
     ensures { SumsHold }
 {}
 
-/// Where sums are numbers alone, the areas are these, and the faults are those of rows.
+/// Where sums are numbers alone, the areas are these, and no fault is one of a sum.
 pub fn only_numbers()
     ensures { OnlyNumbers }
+{}
+
+/// So it is with each text whose sums have no names.
+pub fn no_names_fixed()
+    ensures { NoNamesFixed }
 {}
 
 /// A placement has a place for each area and for each row.

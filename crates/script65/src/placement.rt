@@ -53,7 +53,7 @@ pub enum PlaceFault {
     StartBelow(Sequence<u8>),
     /// An area, and how many bytes behind its end a row would end.
     Overflow(Sequence<u8>, u128),
-    /// A name in an area's sum that stands for what is placed later.
+    /// A name in an area's sum that stands for what isn't known yet.
     NotPlaced(Sequence<u8>),
     /// An area whose start or size is no number below 2 ^ 32, or which ends behind the last address.
     AreaOutOfRange(Sequence<u8>),

@@ -1,0 +1,305 @@
+-- Sums without names are looked at as they are read: areas of such sums alone are fixed.
+use Rattle.std.proofs.Common.{◌≡◌, ◌≤◌, ◌^◌, ◌+◌, ℕ, Bool, true, false, not, List, [], ◌∷◌, ◌++◌, find, Option, Some, None, is_some, unwrap_or, refl, sym, ap, ◌∙◌, subst, Ok, Err, arith, nat_lt}
+use Rattle.std.specs.Prelude.{Result, if◌then◌else◌, ◌==◌, ◌&&◌, ◌||◌}
+use Rattle.std.specs.List.{AllByRecursion, list_any}
+use Rattle.std.specs.Option.{option_map, option_map_or, option_and_then}
+use Rattle.std.proofs.lemmas.Bool.Decides.{nat_tests}
+use Rattle.base65.specs.Outcome.{each, ◌>>=◌}
+use Rattle.script65.specs.declared.fault.Fault.{Fault}
+use Rattle.script65.specs.declared.fault.Fault.TheVariants.{AttributeMissing, OutOfRange}
+use Rattle.script65.specs.declared.fault.Stop.{Stop}
+use Rattle.script65.specs.declared.placing.site.Bounds.{Bounds}
+use Rattle.script65.specs.declared.reading.table.Entry.{Entry}
+use Rattle.script65.specs.declared.reading.token.Token.{Token}
+use Rattle.script65.specs.declared.reading.token.Form.TheVariants as form
+use Rattle.script65.specs.declared.reading.words.Attribute.{Attribute}
+use Rattle.script65.specs.declared.reading.words.Attribute.TheVariants as attribute
+use Rattle.script65.specs.declared.reading.words.Block.{Block}
+use Rattle.script65.specs.declared.reading.words.Block.TheVariants.{Memory, Segments, Symbols}
+use Rattle.script65.specs.declared.reading.words.Given.{Given}
+use Rattle.script65.specs.declared.reading.words.Part.{Part}
+use Rattle.script65.specs.declared.reading.words.Shape.TheVariants as shape
+use Rattle.script65.specs.declared.reading.words.Value.{Value}
+use Rattle.script65.specs.declared.reading.words.Value.TheVariants as value
+use Rattle.script65.specs.declared.script.Area.{Area}
+use Rattle.script65.specs.declared.script.Operand.TheVariants as operand
+use Rattle.script65.specs.declared.script.Term.{Term}
+use Rattle.script65.specs.AreaSums.{term_value}
+use Rattle.script65.specs.Grammar.{Draft, Drafts, First, IsAttribute, IsBlock, IsEntry, IsSum, IsValue, Many, area_end, attribute_rank, area_fault, attribute_end, attribute_word, behind, block_head, entry_end, entry_fault, entry_head, ends, has, is_name, is_of, more, nothing, number_given, number_in, number_of_parts, part_at, sized, stands, stops, sum_end, sum_value, text_of, unless_fault, value_given}
+use Rattle.script65.specs.Naming.{extent_of, parts_given, term_of, terms_given}
+use Rattle.script65.specs.PlacingLaws.{AreFixed, AreNumbers, HasNoNames, IsFixed, NoNamesFixed}
+use Rattle.script65.specs.Scripts.{area_of, area_with}
+use Rattle.script65.specs.Sums.{come_to, difference}
+use Rattle.script65.specs.Tokens.{token_at}
+use Rattle.script65.specs.Words.{shape_of}
+use Rattle.script65.proofs.Named.{and_then, each_holds, extent_is, made_of, ok_is}
+
+-- ---- What is kept while a script is read.
+
+first_then : {A B : Type 0} (head : Result A Stop) (Next : A → Result B Stop → Type 0) (y : B) → First head Next (Ok y) → (x : A) × (head ≡ Ok x) × Next x (Ok y)
+first_then (Ok x) Next y h = (x, refl, h)
+first_then (Err e) Next y h = absurd cc
+
+-- what each item keeps, all keep
+many_keep : {S : Type 0} (closes : ℕ → Bool) (Item : S → ℕ → Result (S × ℕ) Stop → Type 0) (Keeps : S → Type 0)
+    → ((s t : S) (at next : ℕ) → Keeps s → Item s at (Ok (t, next)) → Keeps t)
+    → (s : S) (at : ℕ) (r : Result (S × ℕ) Stop) → Many closes Item s at r → Keeps s → (x : S × ℕ) → r ≡ Ok x → Keeps x.0
+many_keep closes Item Keeps step _ _ _ (ends s at e) keeps x h = let same : s ≡ x.0 = ap (λ (p : _). p.0) (ok_is (s, at) x h) in subst Keeps same keeps
+many_keep closes Item Keeps step _ _ _ (more s t at next r e g d) keeps x h = many_keep closes Item Keeps step t next r d (step s t at next keeps g) x h
+many_keep closes Item Keeps step _ _ _ (stops s at f e g) keeps x h = absurd cc
+
+abbrev Both : {A : Type 0} → (A → Type 0) → List A → Type 0
+Both P xs = AllByRecursion P xs
+
+put_behind : {A : Type 0} (P : A → Type 0) (xs : List A) (x : A) → AllByRecursion P xs → P x → AllByRecursion P (xs ++ x ∷ [])
+put_behind P [] x h p = (p, tt)
+put_behind P (y ∷ ys) x h p = (h.0, put_behind P ys x h.1 p)
+
+-- ---- Attributes of areas.
+
+-- the value of a sum is that of its parts
+abbrev pub IsSummed : Given → Type 0
+IsSummed g = (shape_of Memory g.attribute ≡ shape.Sum) → sum_value g.parts ≡ Some g.value
+
+abbrev pub AreSummed : List Given → Type 0
+AreSummed given = AllByRecursion IsSummed given
+
+sum_is : (bytes : List ℕ) (at : ℕ) (v : Value × List Part × ℕ) → IsSum bytes at (Ok v) → sum_value v.1 ≡ Some v.0
+sum_is bytes at v h =
+    let p = first_then (part_at bytes false at) _ v h in
+    let parts = and_then p.2.0 sum_end v (sym p.2.2) in
+    by parts.0 v (sum_value parts.0.0) refl parts.2
+  where
+    valued : {x : List Part × ℕ} {w : Value} → sum_value x.0 ≡ Some w → sum_end x ≡ Ok (w, x.0, x.1)
+    valued e = rw e refl
+
+    by : (x : List Part × ℕ) (v : Value × List Part × ℕ) (o : Option Value) → sum_value x.0 ≡ o → sum_end x ≡ Ok v → sum_value v.1 ≡ Some v.0
+    by x v (Some w) e h =
+        let made : (w, x.0, x.1) ≡ v = ok_is {E = Stop} (w, x.0, x.1) v (sym (valued e) ∙ h) in
+        subst (λ (u : Value × List Part × ℕ). sum_value u.1 ≡ Some u.0) made e
+    by x v None e h = absurd cc
+
+value_is : (bytes : List ℕ) (s : _) (at : ℕ) (v : Value × List Part × ℕ) → s ≡ shape.Sum → IsValue bytes s at (Ok v) → sum_value v.1 ≡ Some v.0
+value_is bytes s at v e h = sum_is bytes at v (subst (λ x. IsValue bytes x at (Ok v)) e h)
+
+attribute_summed : (bytes : List ℕ) (given t : List Given) (at next : ℕ) → AreSummed given → IsAttribute bytes Memory given at (Ok (t, next)) → AreSummed t
+attribute_summed bytes given t at next keeps h =
+    let a = first_then (attribute_word bytes Memory given at) _ (t, next) h in
+    let v = and_then a.2.0 (attribute_end bytes given a.0.0) (t, next) (sym a.2.2) in
+    let g : Given = record { attribute = a.0.0; value = v.0.0; parts = v.0.1 } in
+    let same : given ++ g ∷ [] ≡ t = ap (λ (p : List Given × ℕ). p.0) (ok_is _ (t, next) v.2) in
+    subst AreSummed same (put_behind IsSummed given g keeps (λ e. value_is bytes (shape_of Memory a.0.0) (behind bytes form.Equals a.0.1) v.0 e (subst (IsValue bytes (shape_of Memory a.0.0) (behind bytes form.Equals a.0.1)) v.1 a.2.1)))
+
+-- ---- Entries.
+
+-- an area whose sums have their values, and which ends at the last address or before it
+pub record IsGood (e : List ℕ × Entry) : Type 0 where
+  pub summed : AreSummed e.1.given
+  pub ends : area_fault e.1.given ≡ None
+
+abbrev pub AreGood : Draft → Type 0
+AreGood d = AllByRecursion IsGood d.areas
+
+passed : {A : Type 0} (o : Option Fault) (t : Token) (x y : A) → unless_fault o t x ≡ Ok y → (o ≡ None) × (x ≡ y)
+passed None t x y h = (refl, ok_is x y h)
+passed (Some fault) t x y h = absurd cc
+
+entry_good : (bytes : List ℕ) (block : Block) (d t : Draft) (at next : ℕ) → AreGood d → IsEntry bytes block d at (Ok (t, next)) → AreGood t
+unfolding entry_end
+entry_good bytes Memory d t at next keeps h =
+    let name = first_then (entry_head bytes Memory d at) _ (t, next) h in
+    let x = and_then name.2.0 (entry_end bytes Memory name.0.0 d) (t, next) (sym name.2.2) in
+    let summed : AreSummed x.0.0 = many_keep (stands bytes form.Semicolon) (IsAttribute bytes Memory) AreSummed (attribute_summed bytes) [] name.0.1 name.2.0 name.2.1 tt x.0 x.1 in
+    let e : Entry = record { at = name.0.0.from; given = x.0.0 } in
+    let made = passed (area_fault x.0.0) (token_at bytes x.0.1) _ (t, next) x.2 in
+    let good : IsGood (text_of bytes name.0.0, e) = record { summed = summed; ends = made.0 } in
+    subst (λ (p : Draft × ℕ). AreGood p.0) made.1 (put_behind IsGood d.areas (text_of bytes name.0.0, e) keeps good)
+entry_good bytes Segments d t at next keeps h =
+    let name = first_then (entry_head bytes Segments d at) _ (t, next) h in
+    let x = and_then name.2.0 (entry_end bytes Segments name.0.0 d) (t, next) (sym name.2.2) in
+    let made = passed (entry_fault Segments x.0.0) (token_at bytes x.0.1) _ (t, next) x.2 in
+    subst (λ (p : Draft × ℕ). AreGood p.0) made.1 keeps
+entry_good bytes Symbols d t at next keeps h =
+    let name = first_then (entry_head bytes Symbols d at) _ (t, next) h in
+    let x = and_then name.2.0 (entry_end bytes Symbols name.0.0 d) (t, next) (sym name.2.2) in
+    let made = passed (entry_fault Symbols x.0.0) (token_at bytes x.0.1) _ (t, next) x.2 in
+    subst (λ (p : Draft × ℕ). AreGood p.0) made.1 keeps
+
+blocks_good : (bytes : List ℕ) (d t : Draft) (at next : ℕ) → AreGood d → IsBlock bytes d at (Ok (t, next)) → AreGood t
+blocks_good bytes d t at next keeps h =
+    let b = first_then (block_head bytes at) _ (t, next) h in
+    let x = and_then b.2.0 _ (t, next) (sym b.2.2) in
+    let made : AreGood x.0.0 = many_keep (stands bytes form.Close) (IsEntry bytes b.0.0) AreGood (entry_good bytes b.0.0) d b.0.1 b.2.0 b.2.1 keeps x.0 x.1 in
+    let same : x.0.0 ≡ t = ap (λ (p : Draft × ℕ). p.0) (ok_is _ (t, next) x.2) in
+    subst AreGood same made
+
+pub drafts_good : (bytes : List ℕ) (d : Draft) → Drafts bytes (Ok d) → AreGood d
+drafts_good bytes d h =
+    let at = first_then (sized bytes) _ d h in
+    let x = and_then at.2.0 _ d (sym at.2.2) in
+    let made : AreGood x.0.0 = many_keep (stands bytes form.End) (IsBlock bytes) AreGood (blocks_good bytes) nothing at.0 at.2.0 at.2.1 tt x.0 x.1 in
+    subst AreGood (ok_is x.0.0 d x.2) made
+
+-- ---- Sums of numbers.
+
+abbrev NoNames : List Part → Type 0
+NoNames ps = AllByRecursion (λ p. is_name p ≡ false) ps
+
+-- the terms of parts without names are their numbers
+record SameSums (ps : List Part) (ts : List Term) : Type 0 where
+  pub numbers : AllByRecursion (λ (t : Term). (m : ℕ) × (t.operand ≡ operand.Number m)) ts
+  pub added : come_to (λ (t : Term). not t.minus) (term_value [] []) ts ≡ come_to (λ (p : Part). not p.minus) (λ (p : Part). unwrap_or p.number 0) ps
+  pub taken : come_to (λ (t : Term). t.minus) (term_value [] []) ts ≡ come_to (λ (p : Part). p.minus) (λ (p : Part). unwrap_or p.number 0) ps
+
+same_sums : (bytes : List ℕ) (d : Draft) (ps : List Part) (ts : List Term) → NoNames ps → each (term_of bytes d) ps ≡ Ok ts → SameSums ps ts
+same_sums bytes d [] ts n h = subst (SameSums []) (ok_is {E = Stop} [] ts h) (record { numbers = tt; added = refl; taken = refl })
+same_sums bytes d (p ∷ ps) ts n h = by p.number refl (λ us k. same_sums bytes d ps us n.1 k)
+  where
+    by : (o : Option ℕ) → p.number ≡ o → ((us : List Term) → each (term_of bytes d) ps ≡ Ok us → SameSums ps us) → SameSums (p ∷ ps) ts
+    by None e again = let never : true ≡ false = ap (λ o. not (is_some o)) (sym e) ∙ n.0 in cc
+    by (Some m) e again =
+        let t : Term = record { minus = p.minus; operand = operand.Number m } in
+        let first : term_of bytes d p ≡ Ok t = rw e refl in
+        let x = and_then (term_of bytes d p) (λ y. each (term_of bytes d) ps >>= (λ ys. Ok (y ∷ ys))) ts h in
+        let same : t ≡ x.0 = ok_is {E = Stop} t x.0 (sym first ∙ x.1) in
+        let rest = and_then (each (term_of bytes d) ps) (λ ys. Ok (x.0 ∷ ys)) ts x.2 in
+        let more = again rest.0 rest.1 in
+        let all : t ∷ rest.0 ≡ ts = ap (λ t. t ∷ rest.0) same ∙ ok_is {E = Stop} (x.0 ∷ rest.0) ts rest.2 in
+        let number : m ≡ unwrap_or p.number 0 = ap (λ o. unwrap_or o 0) (sym e) in
+        let good : SameSums (p ∷ ps) (t ∷ rest.0) = record {
+          numbers = ((m, refl), more.numbers);
+          added = ap (λ n. (if not p.minus then n else 0) + come_to (λ (t : Term). not t.minus) (term_value [] []) rest.0) number ∙ ap (λ n. (if not p.minus then unwrap_or p.number 0 else 0) + n) more.added;
+          taken = ap (λ n. (if p.minus then n else 0) + come_to (λ (t : Term). t.minus) (term_value [] []) rest.0) number ∙ ap (λ n. (if p.minus then unwrap_or p.number 0 else 0) + n) more.taken;
+        } in
+        subst (SameSums (p ∷ ps)) all good
+
+no_name : (ps : List Part) → NoNames ps → list_any is_name ps ≡ false
+no_name [] n = refl
+no_name (p ∷ ps) n = ap (λ b. b || list_any is_name ps) n.0 ∙ no_name ps n.1
+
+-- what an attribute's sum comes to, where it has no name
+record IsNumber (bytes : List ℕ) (d : Draft) (a : Attribute) (given : List Given) (ts : List Term) : Type 0 where
+  pub number : ℕ
+  pub given_is : number_given a given ≡ Some number
+  pub terms : AreNumbers ts number
+
+find_good : (a : Attribute) (given : List Given) → AreSummed given → list_any (is_of a) given ≡ true → (g : Given) × (find (is_of a) given ≡ Some g) × IsSummed g × (is_of a g ≡ true)
+find_good a [] s h = absurd cc
+find_good a (g ∷ gs) s h = by (is_of a g) refl h (find_good a gs s.1)
+  where
+    by : (b : Bool) → is_of a g ≡ b → (b || list_any (is_of a) gs) ≡ true → (list_any (is_of a) gs ≡ true → (x : Given) × (find (is_of a) gs ≡ Some x) × IsSummed x × (is_of a x ≡ true)) → (x : Given) × ((if b then Some g else find (is_of a) gs) ≡ Some x) × IsSummed x × (is_of a x ≡ true)
+    by true e h again = (g, refl, s.0, e)
+    by false e h again = again h
+
+number_of : (bytes : List ℕ) (d : Draft) (a : Attribute) (given : List Given) (ts : List Term) → ((g : Given) → is_of a g ≡ true → shape_of Memory g.attribute ≡ shape.Sum) → AreSummed given → has a given ≡ true → NoNames (parts_given a given) → terms_given bytes d a given ≡ Ok ts → IsNumber bytes d a given ts
+unfolding has parts_given value_given
+number_of bytes d a given ts takes summed has_a none h =
+    let g = find_good a given summed has_a in
+    let parts : parts_given a given ≡ g.0.parts = ap (λ o. option_map_or (λ (g : Given). g.parts) o []) g.1 in
+    let had : value_given a given ≡ Some g.0.value = ap (option_map (λ (g : Given). g.value)) g.1 in
+    let sum : sum_value g.0.parts ≡ Some g.0.value = g.2 (takes g.0 g.3) in
+    let unnamed : NoNames g.0.parts = subst NoNames parts none in
+    let whole : option_map value.Number (number_of_parts g.0.parts) ≡ Some g.0.value = ap (λ b. if b then Some value.Sum else option_map value.Number (number_of_parts g.0.parts)) (sym (no_name g.0.parts unnamed)) ∙ sum in
+    let same = same_sums bytes d g.0.parts ts unnamed (ap (each (term_of bytes d)) (sym parts) ∙ h) in
+    by g.0.parts g.0.value had (number_of_parts g.0.parts) refl whole same
+  where
+    by : (ps : List Part) (v : Value) → value_given a given ≡ Some v → (o : Option ℕ) → number_of_parts ps ≡ o → option_map value.Number o ≡ Some v → SameSums ps ts → IsNumber bytes d a given ts
+    by ps v e (Some n) f k same =
+        let is : value.Number n ≡ v = cc in
+        record {
+          number = n;
+          given_is = ap (option_and_then number_in) e ∙ ap (λ v. number_in v) (sym is);
+          terms = record {
+            numbers = same.numbers;
+            sum = ap (λ m. difference m (come_to (λ (t : Term). t.minus) (term_value [] []) ts)) same.added ∙ ap (difference (come_to (λ (p : Part). not p.minus) (λ (p : Part). unwrap_or p.number 0) ps)) same.taken ∙ f;
+          };
+        }
+    by ps v e None f k same = absurd cc
+
+starts_in : (g : Given) → is_of attribute.Start g ≡ true → shape_of Memory g.attribute ≡ shape.Sum
+starts_in g h = by g.attribute h
+  where
+    by : (a : Attribute) → (attribute_rank a == 0) ≡ true → shape_of Memory a ≡ shape.Sum
+    by attribute.Start h = refl
+    by attribute.Size h = absurd cc
+    by attribute.Type h = absurd cc
+    by attribute.File h = absurd cc
+    by attribute.Fill h = absurd cc
+    by attribute.FillValue h = absurd cc
+    by attribute.Define h = absurd cc
+    by attribute.Load h = absurd cc
+    by attribute.Run h = absurd cc
+    by attribute.Align h = absurd cc
+    by attribute.AlignLoad h = absurd cc
+    by attribute.Offset h = absurd cc
+    by attribute.Optional h = absurd cc
+    by attribute.Value h = absurd cc
+    by attribute.AddressSize h = absurd cc
+
+sizes_in : (g : Given) → is_of attribute.Size g ≡ true → shape_of Memory g.attribute ≡ shape.Sum
+sizes_in g h = by g.attribute h
+  where
+    by : (a : Attribute) → (attribute_rank a == 1) ≡ true → shape_of Memory a ≡ shape.Sum
+    by attribute.Start h = absurd cc
+    by attribute.Size h = refl
+    by attribute.Type h = absurd cc
+    by attribute.File h = absurd cc
+    by attribute.Fill h = absurd cc
+    by attribute.FillValue h = absurd cc
+    by attribute.Define h = absurd cc
+    by attribute.Load h = absurd cc
+    by attribute.Run h = absurd cc
+    by attribute.Align h = absurd cc
+    by attribute.AlignLoad h = absurd cc
+    by attribute.Offset h = absurd cc
+    by attribute.Optional h = absurd cc
+    by attribute.Value h = absurd cc
+    by attribute.AddressSize h = absurd cc
+
+-- ---- Areas.
+
+-- what an area has at its `;`
+record Ends (given : List Given) : Type 0 where
+  pub start : has attribute.Start given ≡ true
+  pub size : has attribute.Size given ≡ true
+  pub inside : area_end given ≤ 2 ^ 32
+
+not_over : (x : ℕ) → nat_lt (2 ^ 32) x ≡ false → x ≤ 2 ^ 32
+not_over x h = grind (arith, nat_tests)
+
+ends_of : (given : List Given) → area_fault given ≡ None → Ends given
+ends_of given h = by (has attribute.Start given) (has attribute.Size given) (nat_lt (2 ^ 32) (area_end given)) refl refl refl h
+  where
+    by : (b c e : Bool) → has attribute.Start given ≡ b → has attribute.Size given ≡ c → nat_lt (2 ^ 32) (area_end given) ≡ e → (if not (b && c) then Some AttributeMissing else if e then Some OutOfRange else None) ≡ None → Ends given
+    by true true false f g k h = record { start = f; size = g; inside = not_over (area_end given) k }
+    by true true true f g k h = absurd cc
+    by true false e f g k h = absurd cc
+    by false c e f g k h = absurd cc
+
+fixed_of : (bytes : List ℕ) (d : Draft) (e : List ℕ × Entry) (a : Area) → IsGood e × HasNoNames e → area_of bytes d e ≡ Ok a → (b : Bounds) × IsFixed a b
+fixed_of bytes d e a q h =
+    let x = and_then (extent_of bytes d e.1.given) (λ x. Ok (area_with bytes e x)) a h in
+    let g = extent_is bytes d e.1.given x.0 x.1 in
+    let made : area_with bytes e x.0 ≡ a = ok_is {E = Stop} (area_with bytes e x.0) a x.2 in
+    let ends = ends_of e.1.given q.0.ends in
+    let start = number_of bytes d attribute.Start e.1.given x.0.0 starts_in q.0.summed ends.start q.1.0 g.start in
+    let size = number_of bytes d attribute.Size e.1.given x.0.1 sizes_in q.0.summed ends.size q.1.1 g.size in
+    let first : unwrap_or (number_given attribute.Start e.1.given) 0 ≡ start.number = ap (λ o. unwrap_or o 0) start.given_is in
+    let second : unwrap_or (number_given attribute.Size e.1.given) 0 ≡ size.number = ap (λ o. unwrap_or o 0) size.given_is in
+    let inside : start.number + size.number ≤ 2 ^ 32 = omega (arith, ends.inside) in
+    let b : Bounds = record { start = start.number; end = start.number + size.number } in
+    let fixed : IsFixed (area_with bytes e x.0) b = record { size = size.number; starts = start.terms; spans = size.terms; ends = refl; inside = inside } in
+    (b, subst (λ a. IsFixed a b) made fixed)
+
+all_fixed : (areas : List Area) → AllByRecursion (λ a. (b : Bounds) × IsFixed a b) areas → (bounds : List Bounds) × AreFixed areas bounds
+all_fixed [] h = ([], tt)
+all_fixed (a ∷ as') h = let rest = all_fixed as' h.1 in (h.0.0 ∷ rest.0, (h.0.1, rest.1))
+
+both : (es : List (List ℕ × Entry)) → AllByRecursion IsGood es → AllByRecursion HasNoNames es → AllByRecursion (λ e. IsGood e × HasNoNames e) es
+both [] g n = tt
+both (e ∷ es) g n = ((g.0, n.0), both es g.1 n.1)
+
+pub no_names_fixed : NoNamesFixed
+no_names_fixed bytes d script h made without =
+    let m = made_of bytes d script made in
+    all_fixed script.areas (each_holds (area_of bytes d) (λ e. IsGood e × HasNoNames e) (λ a. (b : Bounds) × IsFixed a b) (λ e a q k. fixed_of bytes d e a q k) d.areas script.areas (both d.areas (drafts_good bytes d h) without) m.areas)

@@ -9,8 +9,8 @@ use Rattle.object65.specs.declared.fault.ObjectFault.{ObjectFault}
 use Rattle.object65.specs.declared.object.Object.{Object}
 use Rattle.object65.specs.Reading.{file_limit}
 use Rattle.object65.specs.Whole.{object_at}
-use Rattle.selection65.specs.declared.entry.Entry.{Entry}
-use Rattle.library65.specs.declared.entry.Listing.{Listing}
+use Rattle.library65.specs.declared.index.Entry.{Entry}
+use Rattle.library65.specs.declared.index.Listing.{Listing}
 use Rattle.library65.specs.declared.fault.LibraryFault.{LibraryFault}
 use Rattle.library65.specs.declared.fault.LibraryFault.TheVariants.{FileNotFound, BadIndex, BadMemberName, CutShort, IndexDisagrees, NotALibrary}
 use Rattle.library65.specs.Fault.{is_outside}

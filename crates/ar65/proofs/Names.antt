@@ -12,7 +12,7 @@ use Rattle.std.specs.List.{list_all, AllByRecursion}
 use Rattle.std.specs.Path.{rfind_below, rsplit_once, slash}
 use Rattle.std.specs.Str.{NoCharPasses, bytes_eq, is_utf8}
 use Rattle.library65.specs.declared.contents.Contents.{Contents}
-use Rattle.selection65.specs.declared.entry.Entry.{Entry}
+use Rattle.library65.specs.declared.index.Entry.{Entry}
 use Rattle.library65.specs.Libraries.{agreed, checked, joined, joined_all, library_at, member_names, piece_at, with_member}
 use Rattle.library65.specs.Names.{is_folder, is_member_name, is_plain}
 use Rattle.library65.specs.Reading.{index_at}

@@ -11,7 +11,7 @@ use Rattle.object65.specs.Record.{Entry}
 use Rattle.object65.specs.Taking.{State, start}
 use Rattle.library65.specs.declared.fault.LibraryFault.{LibraryFault}
 use Rattle.library65.specs.declared.fault.LibraryFault.TheVariants as library
-use Rattle.selection65.specs.declared.entry.Entry.{Entry as Listing}
+use Rattle.library65.specs.declared.index.Entry.{Entry as Listing}
 use Rattle.linkage65.specs.declared.fault.LinkFault.{LinkFault}
 use Rattle.linkage65.specs.declared.fault.LinkFault.TheVariants as link
 use Rattle.linkage65.specs.Faults.{is_memory, of_object}

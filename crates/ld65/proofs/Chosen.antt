@@ -6,7 +6,7 @@ use Rattle.script65.proofs.Eaches.{drop_item}
 use Rattle.base65.specs.Outcome.{◌>>=◌, Refuses, Unless}
 use Rattle.base65.specs.Store.{Files, PassesBy}
 use Rattle.base65.proofs.Outcome.{refused-then}
-use Rattle.selection65.specs.declared.entry.Entry.{Entry}
+use Rattle.library65.specs.declared.index.Entry.{Entry}
 use Rattle.script65.specs.declared.script.Script.{Script}
 use Rattle.linkage65.specs.declared.fault.LinkFault.{LinkFault}
 use Rattle.linkage65.specs.Modules.{Module}

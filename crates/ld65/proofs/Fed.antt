@@ -17,7 +17,7 @@ use Rattle.linkage65.specs.declared.fault.LinkFault.{LinkFault}
 use Rattle.linkage65.specs.declared.fault.LinkFault.TheVariants as link
 use Rattle.linkage65.specs.Faults.{is_memory, of_object as as_fault}
 use Rattle.linkage65.specs.Modules.{Module}
-use Rattle.selection65.specs.declared.entry.Entry.{Entry as Listing}
+use Rattle.library65.specs.declared.index.Entry.{Entry as Listing}
 use Rattle.link65.specs.Standing.{Continues, Feeding, IsFeeding, as_link}
 use Rattle.ld65.specs.Inner.Feeding.{FeedsRecords, is_link_outside, records_in}
 use Rattle.ld65.specs.Linkage.{Input}

@@ -15,7 +15,7 @@ use Rattle.object65.specs.Whole.{object_at, records_at}
 use Rattle.linkage65.specs.declared.fault.LinkFault.{LinkFault}
 use Rattle.linkage65.specs.declared.fault.LinkFault.TheVariants as link
 use Rattle.linkage65.specs.Faults.{is_memory, of_object as as_fault}
-use Rattle.selection65.specs.declared.entry.Entry.{Entry as Listing}
+use Rattle.library65.specs.declared.index.Entry.{Entry as Listing}
 use Rattle.linkage65.specs.Givers.{first_again, given_names}
 use Rattle.linkage65.specs.Links.{names_once, no_name_again}
 use Rattle.linkage65.specs.Modules.{Module}

@@ -11,10 +11,10 @@ use Rattle.object65.specs.declared.object.Object.{Object}
 use Rattle.object65.specs.declared.fault.ObjectFault.{ObjectFault}
 use Rattle.object65.specs.Reading.{in_file}
 use Rattle.object65.specs.Whole.{object_at}
-use Rattle.selection65.specs.declared.entry.Entry.{Entry}
+use Rattle.library65.specs.declared.index.Entry.{Entry}
 use Rattle.library65.specs.declared.fault.LibraryFault.{LibraryFault}
 use Rattle.library65.specs.Reading.{index_at, in_file as in_library}
-use Rattle.selection65.specs.Selection.{IsSelection}
+use Rattle.library65.specs.Selection.{IsSelection}
 use Rattle.script65.specs.Scripts.{IsScript}
 use Rattle.script65.specs.declared.fault.ScriptFault.{ScriptFault}
 use Rattle.script65.specs.declared.script.Script.{Script}

@@ -13,8 +13,8 @@ use Rattle.byteorder.specs.Endian.{little_bytes}
 use Rattle.object65.specs.Reading.{file_limit}
 use Rattle.object65.proofs.Numbers.{back}
 use Rattle.base65.specs.Outcome.{◌>>=◌}
-use Rattle.selection65.specs.declared.entry.Entry.{Entry}
-use Rattle.library65.specs.declared.entry.Listing.{Listing}
+use Rattle.library65.specs.declared.index.Entry.{Entry}
+use Rattle.library65.specs.declared.index.Listing.{Listing}
 use Rattle.library65.specs.declared.fault.LibraryFault.{LibraryFault}
 use Rattle.library65.specs.Names.{are_member_names, is_among, is_member_name, is_name}
 use Rattle.library65.specs.Reading.{counted_at, end_at, head_at, entry_at, field_at, index_at, list_at, listing, listing_at, listings_at, member_name_at, name_at, number_at, placed, symbol_at, symbols_at, whole}

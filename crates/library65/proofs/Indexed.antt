@@ -14,8 +14,8 @@ use Rattle.byteorder.specs.Endian.{little_bytes}
 use Rattle.object65.specs.Bytes.{IsBytes}
 use Rattle.object65.specs.Reading.{file_limit}
 use Rattle.base65.specs.Outcome.{◌>>=◌}
-use Rattle.selection65.specs.declared.entry.Entry.{Entry}
-use Rattle.library65.specs.declared.entry.Listing.{Listing}
+use Rattle.library65.specs.declared.index.Entry.{Entry}
+use Rattle.library65.specs.declared.index.Listing.{Listing}
 use Rattle.library65.specs.declared.fault.LibraryFault.TheVariants.{BadIndex, CutShort, NotALibrary}
 use Rattle.library65.specs.Laws.{IndexReadLaw}
 use Rattle.library65.specs.Names.{are_member_names, is_among, is_member_name}

@@ -7,7 +7,7 @@ use Rattle.std.proofs.lemmas.Slice.Eq.{bytes_eq-Decides}
 use Rattle.object65.specs.Reading.{file_limit}
 use Rattle.base65.specs.Outcome.{◌>>=◌}
 use Rattle.library65.specs.declared.contents.Contents.{Contents}
-use Rattle.selection65.specs.declared.entry.Entry.{Entry}
+use Rattle.library65.specs.declared.index.Entry.{Entry}
 use Rattle.library65.specs.declared.fault.LibraryFault.TheVariants.{CutShort}
 use Rattle.library65.specs.Laws.{LibrarySpellingLaw}
 use Rattle.library65.specs.Libraries.{agreed, are_same, checked, contents_from, contents_in, joined, joined_all, library_at, member_names, piece_at, with_member}

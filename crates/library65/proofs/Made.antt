@@ -9,7 +9,7 @@ use Rattle.byteorder.specs.Endian.{little_bytes}
 use Rattle.object65.specs.declared.object.Object.{Object}
 use Rattle.object65.specs.Reading.{file_limit}
 use Rattle.object65.specs.Spelling.{IsObject}
-use Rattle.selection65.specs.declared.entry.Entry.{Entry}
+use Rattle.library65.specs.declared.index.Entry.{Entry}
 use Rattle.library65.specs.declared.fault.LibraryFault.TheVariants.{BadIndex}
 use Rattle.library65.specs.Laws.{WrittenLaw}
 use Rattle.library65.specs.Libraries.{library_bytes, member_listing, member_names, written}

@@ -13,7 +13,7 @@ use Rattle.object65.specs.Whole.{object_at}
 use Rattle.object65.proofs.Numbers.{bytes_drop, bytes_take}
 use Rattle.object65.proofs.Readings.{read_is_object}
 use Rattle.library65.specs.declared.contents.Contents.{Contents}
-use Rattle.selection65.specs.declared.entry.Entry.{Entry}
+use Rattle.library65.specs.declared.index.Entry.{Entry}
 use Rattle.library65.specs.declared.fault.LibraryFault.TheVariants.{CutShort, IndexDisagrees, NoSuchMember}
 use Rattle.library65.specs.Laws.{LibraryReadLaw, StockLaw}
 use Rattle.library65.specs.Libraries.{added, agreed, agrees, are_same, as_member, checked, contents_from, contents_in, deleted, joined, joined_all, library_at, member_names, object_in, piece_at, replaced, with_member, without_member}

@@ -10,7 +10,7 @@ use Rattle.object65.specs.declared.object.Object.{Object}
 use Rattle.object65.specs.Reading.{file_limit, room}
 use Rattle.object65.specs.Spelling.{IsObject}
 use Rattle.object65.proofs.Spellings.{object_is_read}
-use Rattle.selection65.specs.declared.entry.Entry.{Entry}
+use Rattle.library65.specs.declared.index.Entry.{Entry}
 use Rattle.library65.specs.Laws.{OneLibraryLaw}
 use Rattle.library65.specs.Libraries.{contents_from, contents_in, library_bytes, member_listing, or_none}
 use Rattle.library65.specs.Spelling.{AreMembers, IsLibrary, Member, StandFrom, entry_bytes, index_bytes, library_head, listing_bytes}

@@ -4,8 +4,8 @@ use Rattle.std.proofs.Math.Seq.{drop-cons}
 use Rattle.std.proofs.lemmas.List.{map-append}
 use Rattle.std.specs.List.{AllByRecursion}
 use Rattle.base65.specs.Outcome.{◌>>=◌}
-use Rattle.selection65.specs.declared.entry.Entry.{Entry}
-use Rattle.library65.specs.declared.entry.Listing.{Listing}
+use Rattle.library65.specs.declared.index.Entry.{Entry}
+use Rattle.library65.specs.declared.index.Listing.{Listing}
 use Rattle.library65.specs.declared.fault.LibraryFault.{LibraryFault}
 use Rattle.library65.specs.Libraries.{joined, joined_all, library_at}
 use Rattle.library65.specs.Spelling.{Member}

@@ -1,7 +1,7 @@
 -- What holds of indexes and libraries, whatever made them.
 use Rattle.std.specs.Prelude.{◌≡◌, ℕ, List, [], Ok}
 use Rattle.object65.specs.Bytes.{IsBytes}
-use Rattle.selection65.specs.declared.entry.Entry.{Entry}
+use Rattle.library65.specs.declared.index.Entry.{Entry}
 use Rattle.library65.specs.Libraries.{deleted as deleted_of, library_at, replaced as replaced_of, written}
 use Rattle.library65.specs.Reading.{index_at}
 use Rattle.library65.specs.Spelling.{IsIndex, IsLibrary, IsStock, Member}

@@ -11,7 +11,7 @@ use Rattle.object65.specs.declared.object.Object.{Object}
 use Rattle.object65.specs.Reading.{file_limit}
 use Rattle.object65.specs.Whole.{object_at}
 use Rattle.library65.specs.declared.contents.Contents.{Contents}
-use Rattle.selection65.specs.declared.entry.Entry.{Entry}
+use Rattle.library65.specs.declared.index.Entry.{Entry}
 use Rattle.library65.specs.declared.fault.LibraryFault.{LibraryFault}
 use Rattle.library65.specs.declared.fault.LibraryFault.TheVariants.{BadIndex, BadMemberName, CutShort, IndexDisagrees, NoSuchMember, NotAnObject, OutOfMemory}
 use Rattle.library65.specs.Names.{is_among, is_member_name}

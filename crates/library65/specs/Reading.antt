@@ -4,8 +4,8 @@ use Rattle.std.specs.Str.{bytes_eq}
 use Rattle.byteorder.specs.Endian.{little_number}
 use Rattle.object65.specs.Reading.{file_limit}
 use Rattle.base65.specs.Outcome.{◌>>=◌}
-use Rattle.selection65.specs.declared.entry.Entry.{Entry}
-use Rattle.library65.specs.declared.entry.Listing.{Listing}
+use Rattle.library65.specs.declared.index.Entry.{Entry}
+use Rattle.library65.specs.declared.index.Listing.{Listing}
 use Rattle.library65.specs.declared.fault.LibraryFault.{LibraryFault}
 use Rattle.library65.specs.declared.fault.LibraryFault.TheVariants.{NotALibrary, CutShort, BadIndex, FileNotFound}
 use Rattle.library65.specs.Names.{is_among, is_member_name, is_name}

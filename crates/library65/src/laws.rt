@@ -1,6 +1,7 @@
-//! What holds of libraries, whatever made them. Each function's contract is a law.
+//! What holds of libraries and selections, whatever made them. Each function's contract is a law.
 
 ghost use Rattle.library65.specs.Laws.{IndexReadLaw, IndexSpellingLaw, LibraryReadLaw, LibrarySpellingLaw, OneLibraryLaw, StockLaw, WrittenLaw};
+ghost use Rattle.library65.specs.SelectionLaws.{GrowingSelectionLaw, OneSelectionLaw};
 
 /// A library has one spelling.
 pub fn one_spelling()
@@ -35,4 +36,14 @@ pub fn loaded_is_spelled()
 /// The empty library, one that is loaded and what edits leave are of members that make a library.
 pub fn edits_leave_a_library()
     ensures { StockLaw }
+{}
+
+/// What is wanted has one selection at most.
+pub fn one_selection()
+    ensures { OneSelectionLaw }
+{}
+
+/// Where more is wanted, no fewer members are selected.
+pub fn selection_grows()
+    ensures { GrowingSelectionLaw }
 {}

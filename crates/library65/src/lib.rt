@@ -2,9 +2,10 @@
 #![tactic(auto)]
 
 mod contents;
-mod entry;
+mod exporting;
 mod fault;
 mod fields;
+mod index;
 mod indexing;
 pub mod laws;
 mod library;
@@ -12,11 +13,12 @@ mod loading;
 mod naming;
 mod objects;
 mod placing;
+mod searching;
 mod selecting;
 mod writing;
 
 pub use fault::LibraryFault;
+pub use index::{Entry, Index, Names};
 pub use library::{Library, MemberNames};
 pub use placing::read_index;
 pub use selecting::select;
-pub use selection65::{Entry, Index, Names};

@@ -2,10 +2,12 @@
 
 ghost use Rattle.std.specs.Prelude.{◌≡◌, ◌<◌, length, map, IfOk, IfErr};
 ghost use Rattle.std.specs.List.{AllByRecursion};
-ghost use Rattle.selection65.specs.Selection.{IsSelection};
+ghost use Rattle.library65.specs.Selection.{IsSelection};
 
-use crate::{Index, LibraryFault, Names};
-use selection65::needed_members;
+use crate::LibraryFault;
+use crate::exporting::Exporters;
+use crate::index::{Index, Names};
+use crate::searching::{Found, find_all, marked_places};
 use std::alloc::Global;
 
 /// The members that a link needs: those that export first the names of the least set that has what is wanted and
@@ -21,5 +23,8 @@ pub fn select(
     ensures within { IfOk result (λ places. AllByRecursion (λ i. i < length index.now.entries) places.items) }
     ensures memory { IfErr result (λ e. e ≡ LibraryFault.OutOfMemory) }
 {
-    Ok(needed_members(alloc, index, wanted, defined)?)
+    let exporters = Exporters::of(alloc, index.entries.as_slice())?;
+    let mut found = Found::none(alloc, index.entries.len())?;
+    find_all(&exporters, wanted, defined, &mut found)?;
+    Ok(marked_places(alloc, found.marks.as_slice())?)
 }

@@ -1,7 +1,7 @@
 -- What calls lead a linker to.
 use Rattle.std.proofs.Common.{◌≡◌, ◌∙◌, ℕ, List, [], ◌∷◌, ◌++◌, length, map, Option, Some, None, Bool, true, false, Result, Ok, Err, if◌then◌else◌, refl, sym, ap, subst}
 use Rattle.std.specs.Option.{option_map}
-use Rattle.selection65.specs.declared.entry.Entry.{Entry as Listing}
+use Rattle.library65.specs.declared.index.Entry.{Entry as Listing}
 use Rattle.object65.specs.declared.fault.ObjectFault.{ObjectFault}
 use Rattle.object65.specs.declared.item.Item.{Item}
 use Rattle.object65.specs.declared.object.Object.{Object}

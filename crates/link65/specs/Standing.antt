@@ -7,7 +7,7 @@ use Rattle.object65.specs.declared.object.Object.{Object}
 use Rattle.object65.specs.Record.{Entry}
 use Rattle.object65.specs.Scanning.{Outline, outline_of}
 use Rattle.object65.specs.Taking.{IsReached, State, after, finished, start}
-use Rattle.selection65.specs.declared.entry.Entry.{Entry as Listing}
+use Rattle.library65.specs.declared.index.Entry.{Entry as Listing}
 use Rattle.library65.specs.Libraries.{agrees, contents_from}
 use Rattle.script65.specs.declared.script.Script.{Script}
 use Rattle.linkage65.specs.declared.fault.LinkFault.{LinkFault}

@@ -14,7 +14,7 @@ use Rattle.object65.specs.Reading.{file_limit, in_file, room}
 use Rattle.object65.specs.Spelling.{IsObject, object_bytes}
 use Rattle.object65.specs.Whole.{object_at}
 use Rattle.object65.proofs.Spellings.{no_prefix, object_is_read}
-use Rattle.selection65.specs.declared.entry.Entry.{Entry}
+use Rattle.library65.specs.declared.index.Entry.{Entry}
 use Rattle.library65.specs.Libraries.{agrees, are_same, contents_from}
 use Rattle.library65.specs.Reading.{index_at, in_file as in_library}
 use Rattle.library65.specs.Spelling.{AreMembers as AreStored, IsLibrary, Member, index_bytes}

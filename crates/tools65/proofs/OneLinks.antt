@@ -9,8 +9,8 @@ use Rattle.script65.proofs.OneReading.{one_reading}
 use Rattle.script65.specs.Scripts.{IsScript}
 use Rattle.script65.specs.declared.fault.ScriptFault.{ScriptFault}
 use Rattle.script65.specs.declared.script.Script.{Script}
-use Rattle.selection65.proofs.Uniques.{one_selection}
-use Rattle.selection65.specs.declared.entry.Entry.{Entry}
+use Rattle.library65.proofs.Uniques.{one_selection}
+use Rattle.library65.specs.declared.index.Entry.{Entry}
 use Rattle.linkage65.proofs.OutcomeLemmas.{link_once}
 use Rattle.linkage65.specs.Givers.{given_names, open_names}
 use Rattle.linkage65.specs.Links.{LinkOf, names_once}

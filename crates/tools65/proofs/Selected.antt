@@ -5,9 +5,9 @@ use Rattle.base65.specs.Outcome.{◌>>=◌, First}
 use Rattle.base65.specs.Store.{Files}
 use Rattle.object65.specs.declared.fault.ObjectFault.{ObjectFault}
 use Rattle.object65.specs.declared.object.Object.{Object}
-use Rattle.selection65.proofs.Uniques.{one_selection}
-use Rattle.selection65.specs.Selection.{IsSelection}
-use Rattle.selection65.specs.declared.entry.Entry.{Entry}
+use Rattle.library65.proofs.Uniques.{one_selection}
+use Rattle.library65.specs.Selection.{IsSelection}
+use Rattle.library65.specs.declared.index.Entry.{Entry}
 use Rattle.library65.specs.declared.fault.LibraryFault.{LibraryFault}
 use Rattle.script65.specs.declared.script.Script.{Script}
 use Rattle.linkage65.specs.Givers.{first_again, given_names, is_among, open_names}

@@ -5,9 +5,9 @@ use Rattle.std.specs.List.{AllByRecursion}
 use Rattle.base65.specs.Store.{Files}
 use Rattle.object65.specs.Reading.{file_limit}
 use Rattle.object65.specs.Spelling.{IsObject}
-use Rattle.selection65.specs.Selection.{IsSelection}
+use Rattle.library65.specs.Selection.{IsSelection}
 use Rattle.library65.specs.Spelling.{IsMember, Member}
-use Rattle.selection65.specs.declared.entry.Entry.{Entry}
+use Rattle.library65.specs.declared.index.Entry.{Entry}
 use Rattle.linkage65.specs.Modules.{Module}
 use Rattle.script65.specs.Scripts.{IsScript}
 use Rattle.script65.specs.declared.script.Script.{Script}

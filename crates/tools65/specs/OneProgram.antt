@@ -10,8 +10,8 @@ use Rattle.module65.specs.Module as asm
 use Rattle.module65.specs.Reading.{Job}
 use Rattle.asm65.specs.Assembly.{IsAssembled}
 use Rattle.object65.specs.declared.object.Object.{Object}
-use Rattle.selection65.specs.Selection.{IsSelection}
-use Rattle.selection65.specs.declared.entry.Entry.{Entry}
+use Rattle.library65.specs.Selection.{IsSelection}
+use Rattle.library65.specs.declared.index.Entry.{Entry}
 use Rattle.linkage65.specs.Givers.{given_names, open_names}
 use Rattle.linkage65.specs.Modules.{Module}
 use Rattle.linkage65.specs.Programs.{program_of}

@@ -8,8 +8,8 @@ use Rattle.object65.specs.Fault.{is_outside as is_object_outside}
 use Rattle.object65.specs.Reading.{in_file}
 use Rattle.object65.specs.Taking.{State, start}
 use Rattle.object65.specs.Whole.{records_at}
-use Rattle.selection65.specs.declared.entry.Entry.{Entry}
-use Rattle.selection65.specs.Selection.{IsSelection}
+use Rattle.library65.specs.declared.index.Entry.{Entry}
+use Rattle.library65.specs.Selection.{IsSelection}
 use Rattle.linkage65.specs.declared.fault.LinkFault.{LinkFault}
 use Rattle.linkage65.specs.declared.fault.LinkFault.TheVariants as link
 use Rattle.linkage65.specs.Givers.{given_names, open_names}

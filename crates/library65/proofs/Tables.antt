@@ -1,0 +1,50 @@
+-- First exporters by name.
+use Rattle.std.proofs.Common.{◌≡◌, ◌∙◌, ◌<◌, ◌≤◌, ◌-◌, ℕ, suc, nat_eq, ◌+◌, Bool, true, false, ◌||◌, cond, List, [], ◌∷◌, ◌++◌, length, take, drop, get_or, Option, Some, None, refl, sym, ap, arith, add-one, if◌then◌else◌}
+use Rattle.std.specs.List.{position_from}
+use Rattle.std.specs.Str.{bytes_eq}
+use Rattle.std.specs.Cmp.Lexicographic.{pointwise}
+use Rattle.std.proofs.Math.Seq.{drop-cons}
+use Rattle.std.proofs.lemmas.Cmp.{nat_list_eq_equiv}
+use Rattle.std.proofs.lemmas.List.{drop_all, take_more}
+use Rattle.std.proofs.lemmas.List.Folds.{list_any-append}
+use Rattle.library65.specs.declared.index.Entry.{Entry}
+use Rattle.object65.specs.Objects.{is_among}
+use Rattle.library65.specs.Selection.{first_exporter}
+
+-- an item more of a list that is gone over
+pub taken_more : {X : Type 0} (xs : List X) (i : ℕ) (x : X) → i < length xs → x ≡ get_or xs i x → take (i + 1) xs ≡ take i xs ++ x ∷ []
+taken_more xs i x lt at = take_more xs i x lt ∙ ap (λ y. take i xs ++ y ∷ []) (sym at)
+
+joined : (a b c : Bool) (place : ℕ) (old : Option ℕ) → b ≡ c → cond b (Some place) (if a then Some place else old) ≡ (if a || (c || false) then Some place else old)
+joined true true c place old e = refl
+joined true false c place old e = refl
+joined false b true place old e = rw e refl
+joined false b false place old e = rw e refl
+
+-- an export more of one member
+pub export_more : (names : List (List ℕ)) (i : ℕ) (n key name : List ℕ) (place : ℕ) (old mid new : Option ℕ) → i < length names → n ≡ get_or names i n → key ≡ n → new ≡ cond (bytes_eq key name) (Some place) mid → mid ≡ (if is_among (take i names) name then Some place else old) → new ≡ (if is_among (take (i + 1) names) name then Some place else old)
+export_more names i n key name place old mid new lt at is step so_far =
+    step
+    ∙ ap (cond (bytes_eq key name) (Some place)) so_far
+    ∙ joined (is_among (take i names) name) (bytes_eq key name) (pointwise nat_eq name n) place old (ap (λ k. bytes_eq k name) is ∙ nat_list_eq_equiv.symm n name)
+    ∙ ap (λ b. if b then Some place else old) (sym (ap (λ ns. is_among ns name) (taken_more names i n lt at) ∙ list_any-append (pointwise nat_eq name) (take i names) (n ∷ [])))
+
+abbrev pub exports_it : List ℕ → Entry → Bool
+exports_it name e = is_among e.exports name
+
+pub no_exporter : (es : List Entry) (name : List ℕ) → position_from (exports_it name) (length es) (drop (length es) es) ≡ None
+no_exporter es name = ap (position_from (exports_it name) (length es)) (drop_all (length es) es (omega arith))
+
+-- a member more, in front of those so far
+pub member_more : (es : List Entry) (i : ℕ) (e : Entry) (exports : List (List ℕ)) (name : List ℕ) (old new : Option ℕ) → 0 < i → i ≤ length es → e ≡ get_or es (i - 1) e → exports ≡ e.exports → new ≡ (if is_among exports name then Some (i - 1) else old) → old ≡ position_from (exports_it name) i (drop i es) → new ≡ position_from (exports_it name) (i - 1) (drop (i - 1) es)
+member_more es i e exports name old new pos le at is step so_far =
+    let next : i - 1 + 1 ≡ i = omega arith in
+    let lt : i - 1 < length es = omega arith in
+    let there : drop (i - 1) es ≡ e ∷ drop (i - 1 + 1) es = rw (add-one) (drop-cons es (i - 1) e lt ∙ ap (λ x. x ∷ drop (suc (i - 1)) es) (sym at)) in
+    step
+    ∙ ap (λ o. if is_among exports name then Some (i - 1) else o) (so_far ∙ sym (ap (λ j. position_from (exports_it name) j (drop j es)) next))
+    ∙ ap (λ ns. if is_among ns name then Some (i - 1) else position_from (exports_it name) (i - 1 + 1) (drop (i - 1 + 1) es)) is
+    ∙ sym (ap (position_from (exports_it name) (i - 1)) there)
+
+pub all_members : (es : List Entry) (name : List ℕ) → position_from (exports_it name) 0 (drop 0 es) ≡ first_exporter es name
+all_members es name = refl

@@ -1,0 +1,5 @@
+use Rattle.library65.proofs.Uniques.{one_selection}
+use Rattle.library65.proofs.laws.one_selection.Goals as goal
+
+pub returns : goal.returns
+returns c = one_selection

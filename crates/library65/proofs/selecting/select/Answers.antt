@@ -1,0 +1,29 @@
+use Rattle.std.proofs.Common.{◌∙◌, ◌<◌, ◌≤◌, ◌+◌, map, length, sym, subst, ap, arith}
+use Rattle.std.proofs.lemmas.Result.{IfOk-weaker}
+use Rattle.std.specs.List.{AllByRecursion}
+use Rattle.library65.specs.Inner.Searching.{marked_from}
+use Rattle.library65.specs.Selection.{IsSelection}
+use Rattle.library65.proofs.Places.{marked_below}
+use Rattle.library65.proofs.Selections.{searched_selected}
+use Rattle.library65.proofs.selecting.select.Goals as goal
+
+pub returns-clause-selected : goal.returns-clause-selected
+returns-clause-selected c =
+    let wanted = map (λ n. n.items) c.args.wanted.now.keys in
+    let defined = map (λ n. n.items) c.args.defined.now.keys in
+    let es = c.in_ok-exporters.exporters.entries.now in
+    let marks = c.find_all.new.found.marks.items in
+    let found = c.find_all.new.found.places.items in
+    let same = c.in_ok-exporters.ensures.entries ∙ c.as_slice.ensures in
+    IfOk-weaker c.marked_places.result _ _
+    (λ places e. subst (λ xs. IsSelection xs wanted defined places.items) same (searched_selected es wanted defined found marks places.items c.in_ok-find_all.ensures.found c.in_ok-find_all.ensures.sound.marks (e ∙ ap (marked_from 0) c.as_slice-2.ensures.value)))
+    c.marked_places.ensures
+
+pub returns-clause-within : goal.returns-clause-within
+returns-clause-within c =
+    let n = length c.args.index.now.entries in
+    let marks = c.find_all.new.found.marks.items in
+    let all : 0 + length marks ≤ n = omega (arith, c.in_ok-find_all.ensures.marks, c.in_ok-found.ensures.count, c.len.ensures) in
+    IfOk-weaker c.marked_places.result _ _
+    (λ places e. subst (AllByRecursion (λ i. i < n)) (sym (e ∙ ap (marked_from 0) c.as_slice-2.ensures.value)) (marked_below n 0 marks all))
+    c.marked_places.ensures

@@ -1,0 +1,37 @@
+-- Which members of a library a link needs.
+use Rattle.std.specs.Prelude.{◌≡◌, ◌<◌, ℕ, List, [], ◌∷◌, Bool, true, false, Option, Some, nat_eq, slice_get, ⊤}
+use Rattle.std.specs.List.{AllByRecursion, list_any, position_from}
+use Rattle.std.specs.Option.{option_map_or}
+use Rattle.library65.specs.declared.index.Entry.{Entry}
+use Rattle.object65.specs.Objects.{is_among}
+
+-- the place of the first member that exports a name
+abbrev pub first_exporter : List Entry → List ℕ → Option ℕ
+first_exporter es name = position_from (λ e. is_among e.exports name) 0 es
+
+-- what the member at a place imports
+abbrev pub imports_at : List Entry → ℕ → List (List ℕ)
+imports_at es place = option_map_or (λ e. e.imports) (slice_get es place) []
+
+abbrev pub has_place : List ℕ → ℕ → Bool
+has_place places place = list_any (nat_eq place) places
+
+-- A set of names that has those that are wanted and not defined, and with each name what the first member that
+-- exports it imports and isn't defined.
+pub record IsClosed (es : List Entry) (wanted defined : List (List ℕ)) (has : List ℕ → Bool) : Type 0 where
+  pub begins : (name : List ℕ) → is_among wanted name ≡ true → is_among defined name ≡ false → has name ≡ true
+  pub goes_on : (name other : List ℕ) (place : ℕ) → has name ≡ true → first_exporter es name ≡ Some place → is_among (imports_at es place) other ≡ true → is_among defined other ≡ false → has other ≡ true
+
+-- each place is below those behind it
+abbrev pub IsRising : List ℕ → Type 0
+IsRising [] = ⊤
+IsRising (i ∷ is) = AllByRecursion (λ j. i < j) is × IsRising is
+
+-- The places, rising, of the first exporters of the names in the least closed set.
+pub record IsSelection (es : List Entry) (wanted defined : List (List ℕ)) (places : List ℕ) : Type 0 where
+  pub has : List ℕ → Bool
+  pub closed : IsClosed es wanted defined has
+  pub least : (other : List ℕ → Bool) → IsClosed es wanted defined other → (name : List ℕ) → has name ≡ true → other name ≡ true
+  pub exporters : (place : ℕ) → has_place places place ≡ true → (name : List ℕ) × (has name ≡ true) × (first_exporter es name ≡ Some place)
+  pub all : (name : List ℕ) (place : ℕ) → has name ≡ true → first_exporter es name ≡ Some place → has_place places place ≡ true
+  pub rising : IsRising places

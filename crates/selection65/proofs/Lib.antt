@@ -1,5 +1,0 @@
-pub mod Places
-pub mod Searches
-pub mod Selections
-pub mod Tables
-pub mod Uniques

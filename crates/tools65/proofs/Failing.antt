@@ -145,7 +145,7 @@ module _ {A E : Type 0} (is_memory is_failure : E → Bool) (memory : List ℕ) 
 -- ---- The commands.
 
 -- memory ran out before there was an outcome
-pub only_memory_fails : (known new : Option Files) (line : Says) (blamed out err_old err_new : Option (List ℕ)) (whole : Bool) (status : Status) (Q : Type 0) → new ≡ known → status ≡ Failure → Prints err_old err_new (line_memory line) whole → IfSome known (λ m. Q → FailsLine line m new blamed out out err_old err_new status)
+pub only_memory_fails : (known new : Option Files) (line : Says) (blamed out err_old err_new : Option (List ℕ)) (whole : Bool) (status : Status) → new ≡ known → status ≡ Failure → Prints err_old err_new (line_memory line) whole → IfSome known (λ m. Q → FailsLine line m new blamed out out err_old err_new status)
 unfolding FailsLine
 only_memory_fails None new line blamed out err_old err_new whole status Q same e p = tt
 only_memory_fails (Some m) new line blamed out err_old err_new whole status Q same e p = λ _.
@@ -251,22 +251,26 @@ module _ (a : Assembling) (out err : List ℕ) where
 
 -- ---- Words.
 
-pub failed_words : (known new : Option Files) (fo fn : ℕ) (words : List (List ℕ)) (line : Says) (blamed out_old out_new err_old err_new : Option (List ℕ)) (status : Status) → line_of words ≡ Ok line → IfSome known (λ m. HasFailed fo fn → FailsLine line m new blamed out_old out_new err_old err_new status) → IfSome known (λ m. HasFailed fo fn → FailsWords words m new blamed out_old out_new err_old err_new status)
+pub failed_words : (known new : Option Files) (fo fn : ℕ) (words : List (List ℕ)) (line : Says) (blamed out_old out_new err_old err_new : Option (List ℕ)) (status : Status) → line_of words ≡ Ok line → IfSome known (λ m. HasFailed fo fn → FailsLine line m new blamed out_old out_new err_old err_new status) → IfSome known (λ m. HasFailed fo fn → FailsWords fo words m new blamed out_old out_new err_old err_new status)
 unfolding FailsWords
 failed_words None new fo fn words line blamed out_old out_new err_old err_new status e h = tt
 failed_words (Some m) new fo fn words line blamed out_old out_new err_old err_new status e h = λ some. rw e (inl (h some))
 
 -- words that are no line, or for which memory ran out
-pub refused_fails : (known new : Option Files) (words : List (List ℕ)) (e : LineFault) (blamed out err_old err_new : Option (List ℕ)) (whole : Bool) (status : Status) (Q : Type 0) → new ≡ known → status ≡ Failure → Refuses is_line_outside e (line_of words) → Prints err_old err_new (line_message_of e) whole → IfSome known (λ m. Q → FailsWords words m new blamed out out err_old err_new status)
+pub refused_fails : (known new : Option Files) (count : ℕ) (words : List (List ℕ)) (e : LineFault) (blamed out err_old err_new : Option (List ℕ)) (whole : Bool) (status : Status) → new ≡ known → status ≡ Failure → Refuses is_line_outside e (line_of words) → Prints err_old err_new (line_message_of e) whole → IfSome known (λ m. HasFailed count count → FailsWords count words m new blamed out out err_old err_new status)
 unfolding FailsWords
-refused_fails None new words e blamed out err_old err_new whole status Q same f h p = tt
-refused_fails (Some m) new words BadArguments blamed out err_old err_new whole status Q same f h p =
+refused_fails None new count words e blamed out err_old err_new whole status same f h p = tt
+refused_fails (Some m) new count words BadArguments blamed out err_old err_new whole status same f h p =
     λ _. rw h (failing (line_message_of BadArguments), inl refl, inl (says m new out err_old err_new (line_message_of BadArguments) whole status same f p))
-refused_fails (Some m) new words OutOfMemory blamed out err_old err_new whole status Q same f h p = λ _. either (line_of words)
+refused_fails (Some m) new count words OutOfMemory blamed out err_old err_new whole status same f h p = λ some. either (line_of words) (at_last some)
   where
     said : Performs (failing line_memory_message) m new out out err_old err_new status
     said = says m new out err_old err_new line_memory_message whole status same f p
 
-    either : (r : Result Says LineFault) → FailsAs r m new blamed out out err_old err_new status
-    either (Ok line) = inr said
-    either (Err e) = (failing line_memory_message, inr refl, inl said)
+    at_last : HasFailed count count → count ≡ last_count
+    at_last (inl less) = absurd (omega arith)
+    at_last (inr last) = last
+
+    either : (r : Result Says LineFault) → count ≡ last_count → FailsAs count r m new blamed out out err_old err_new status
+    either (Ok line) last = inr (last, said)
+    either (Err e) last = (failing line_memory_message, inr refl, inl said)

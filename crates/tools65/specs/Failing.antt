@@ -1,6 +1,6 @@
 -- What a run leaves where a call of the store fails while it runs.
 use Rattle.std.specs.Prelude.{◌≡◌, ℕ, ◌⊎◌, true, List, [], ◌++◌, Option, Result, Ok, Err}
-use Rattle.base65.specs.Store.{Files}
+use Rattle.base65.specs.Store.{Files, last_count}
 use Rattle.ar65.specs.declared.refusal.Refusal.{Refusal as ArchiveRefusal}
 use Rattle.ar65.specs.Naming.{IsOfLine as IsOfArchive}
 use Rattle.ar65.specs.Refusals as archives
@@ -58,13 +58,14 @@ SaysWhy line m blamed out err = SaysFailure line m blamed out err ⊎ ((out ≡ 
 unfoldable pub FailsLine : Says → Files → Option Files → Option (List ℕ) → Option (List ℕ) → Option (List ℕ) → Option (List ℕ) → Option (List ℕ) → Status → Type 0
 FailsLine line = Fails (DoesLine line) (SaysWhy line)
 
--- Words that are no line ask nothing of the store: what is said of them is said. For a line it may also be said that memory
--- ran out before the words were one.
-abbrev pub FailsAs : Result Says LineFault → Files → Option Files → Option (List ℕ) → Option (List ℕ) → Option (List ℕ) → Option (List ℕ) → Option (List ℕ) → Status → Type 0
-FailsAs (Ok line) m new blamed out_old out_new err_old err_new status =
-    FailsLine line m new blamed out_old out_new err_old err_new status ⊎ Performs (failing line_memory_message) m new out_old out_new err_old err_new status
-FailsAs (Err e) m new blamed out_old out_new err_old err_new status =
+-- Words that are no line ask nothing of the store: what is said of them is said. Where the count of failures stood at its
+-- last value when the run began, it may also be said of a line that memory ran out before the words were one.
+abbrev pub FailsAs : ℕ → Result Says LineFault → Files → Option Files → Option (List ℕ) → Option (List ℕ) → Option (List ℕ) → Option (List ℕ) → Option (List ℕ) → Status → Type 0
+FailsAs count (Ok line) m new blamed out_old out_new err_old err_new status =
+    FailsLine line m new blamed out_old out_new err_old err_new status
+    ⊎ ((count ≡ last_count) × Performs (failing line_memory_message) m new out_old out_new err_old err_new status)
+FailsAs count (Err e) m new blamed out_old out_new err_old err_new status =
     RanWords (Err e) m new out_old out_new err_old err_new status
 
-unfoldable pub FailsWords : List (List ℕ) → Files → Option Files → Option (List ℕ) → Option (List ℕ) → Option (List ℕ) → Option (List ℕ) → Option (List ℕ) → Status → Type 0
-FailsWords words = FailsAs (line_of words)
+unfoldable pub FailsWords : ℕ → List (List ℕ) → Files → Option Files → Option (List ℕ) → Option (List ℕ) → Option (List ℕ) → Option (List ℕ) → Option (List ℕ) → Status → Type 0
+FailsWords count words = FailsAs count (line_of words)

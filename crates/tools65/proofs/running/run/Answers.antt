@@ -16,7 +16,7 @@ returns-in-Ok-clause-failed g c = failed_words _ _ _ _ (map g.A.AsStr.text c.arg
 
 pub returns-in-Err-clause-failed : goal.returns-in-Err-clause-failed
 returns-in-Err-clause-failed g c =
-    refused_fails _ _ (map g.A.AsStr.text c.args.words.now) c.in-Err.fault _ _ _ _ c.print.result _ _ refl refl c.in-Err.ensures (rw c.fault_message.ensures at c.print.ensures)
+    refused_fails _ _ _ (map g.A.AsStr.text c.args.words.now) c.in-Err.fault _ _ _ _ c.print.result _ refl refl c.in-Err.ensures (rw c.fault_message.ensures at c.print.ensures)
 
 pub returns-in-Ok-clause-one_program : goal.returns-in-Ok-clause-one_program
 returns-in-Ok-clause-one_program g c =

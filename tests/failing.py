@@ -9,7 +9,7 @@ import tempfile
 import starting
 
 HERE = os.path.dirname(os.path.abspath(__file__))
-ROWS = os.path.join(HERE, "..", "crates", "running65", "src", "runs.rt")
+ROWS = os.path.join(HERE, "..", "crates", "testkit65", "src", "runs.rt")
 
 
 def build(folder):

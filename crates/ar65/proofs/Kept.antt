@@ -11,9 +11,9 @@ use Rattle.library65.specs.Reading.{in_file}
 use Rattle.library65.specs.Spelling.{IsLibrary, IsStock, Member}
 use Rattle.library65.proofs.Made.{written_is}
 use Rattle.library65.proofs.Read.{library_taken, stock_law}
-use Rattle.line65.specs.declared.line.Operation.{Operation}
-use Rattle.line65.specs.declared.line.Operation.TheVariants as operation
-use Rattle.line65.specs.Line.{Archiving}
+use Rattle.cli65.specs.declared.line.Operation.{Operation}
+use Rattle.cli65.specs.declared.line.Operation.TheVariants as operation
+use Rattle.cli65.specs.Line.{Archiving}
 use Rattle.ar65.specs.declared.archiving.Archived.TheVariants as archived
 use Rattle.ar65.specs.Laws.{HoldBytes, KeptLibraryLaw}
 use Rattle.ar65.specs.Librarian.{as_file, as_library, begun, deleted_by, done, extracted, extracted_by, listed_by, member_name, members_in, replaced_by, rewritten, with_file, with_files, without_files}

@@ -3,8 +3,8 @@ use Rattle.std.proofs.Common.{◌≡◌, ◌⊎◌, inl, inr, ℕ, List, Option,
 use Rattle.base65.specs.Store.{IsBlamed}
 use Rattle.library65.specs.declared.fault.LibraryFault.{LibraryFault}
 use Rattle.library65.specs.declared.fault.LibraryFault.TheVariants.{BadIndex, BadMemberName, CutShort, FileError, FileNotFound, IndexDisagrees, NoSuchMember, NotALibrary, NotAnObject, OutOfMemory}
-use Rattle.line65.specs.declared.line.Operation.TheVariants.{Replace}
-use Rattle.line65.specs.Line.{Archiving}
+use Rattle.cli65.specs.declared.line.Operation.TheVariants.{Replace}
+use Rattle.cli65.specs.Line.{Archiving}
 use Rattle.ar65.specs.declared.refusal.Refusal.{Refusal}
 use Rattle.ar65.specs.declared.refusal.Refusal.TheVariants.{File, Library}
 use Rattle.ar65.specs.Naming.{IsOfFiles, IsOfLibrary, IsOfLine, NamesEither, NamesFiles, NamesLibrary, NamesOfLine}

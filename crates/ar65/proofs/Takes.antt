@@ -10,7 +10,7 @@ use Rattle.library65.specs.Fault.{is_memory as is_library_memory}
 use Rattle.library65.specs.Libraries.{deleted, library_at, member_names}
 use Rattle.library65.specs.Reading.{in_file}
 use Rattle.library65.specs.Spelling.{Member}
-use Rattle.line65.specs.Line.{Archiving}
+use Rattle.cli65.specs.Line.{Archiving}
 use Rattle.ar65.specs.declared.archiving.Archived.TheVariants as archived
 use Rattle.ar65.specs.declared.extracting.MemberFile.{MemberFile}
 use Rattle.ar65.specs.declared.refusal.Refusal.TheVariants as refusal

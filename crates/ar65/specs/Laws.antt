@@ -6,7 +6,7 @@ use Rattle.base65.specs.Store.{Files}
 use Rattle.object65.specs.Bytes.{IsBytes}
 use Rattle.library65.specs.Libraries.{written}
 use Rattle.library65.specs.Spelling.{IsLibrary, Member}
-use Rattle.line65.specs.Line.{Archiving}
+use Rattle.cli65.specs.Line.{Archiving}
 use Rattle.ar65.specs.declared.archiving.Archived.TheVariants as archived
 use Rattle.ar65.specs.declared.extracting.MemberFile.{MemberFile}
 use Rattle.ar65.specs.Librarian.{archived_of, extracted, with_files}

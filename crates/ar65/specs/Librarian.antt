@@ -11,9 +11,9 @@ use Rattle.library65.specs.declared.fault.LibraryFault.TheVariants.{NoSuchMember
 use Rattle.library65.specs.Libraries.{bytes_of, deleted, library_at, member_names, replaced, written}
 use Rattle.library65.specs.Reading.{in_file}
 use Rattle.library65.specs.Spelling.{Member}
-use Rattle.line65.specs.declared.line.Operation.{Operation}
-use Rattle.line65.specs.declared.line.Operation.TheVariants as operation
-use Rattle.line65.specs.Line.{Archiving}
+use Rattle.cli65.specs.declared.line.Operation.{Operation}
+use Rattle.cli65.specs.declared.line.Operation.TheVariants as operation
+use Rattle.cli65.specs.Line.{Archiving}
 use Rattle.ar65.specs.declared.archiving.Archived.{Archived}
 use Rattle.ar65.specs.declared.archiving.Archived.TheVariants as archived
 use Rattle.ar65.specs.declared.extracting.MemberFile.{MemberFile}

@@ -3,8 +3,8 @@
 use Rattle.std.specs.Prelude.{◌≡◌, ℕ, ◌⊎◌, List, slice_get, Option, Some, true}
 use Rattle.base65.specs.Store.{IsBlamed}
 use Rattle.library65.specs.declared.fault.LibraryFault.TheVariants.{FileError}
-use Rattle.line65.specs.declared.line.Operation.TheVariants.{Replace}
-use Rattle.line65.specs.Line.{Archiving}
+use Rattle.cli65.specs.declared.line.Operation.TheVariants.{Replace}
+use Rattle.cli65.specs.Line.{Archiving}
 use Rattle.ar65.specs.declared.refusal.Refusal.{Refusal}
 use Rattle.ar65.specs.declared.refusal.Refusal.TheVariants.{Library, File}
 use Rattle.ar65.specs.Refusals.{is_failure}

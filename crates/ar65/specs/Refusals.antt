@@ -2,8 +2,8 @@
 use Rattle.std.specs.Prelude.{ℕ, List, [], Bool, true, false, ◌||◌, get_or, if◌then◌else◌}
 use Rattle.library65.specs.declared.fault.LibraryFault.TheVariants.{FileError}
 use Rattle.library65.specs.Fault.{fault_text, is_memory as is_library_memory}
-use Rattle.line65.specs.Line.{Archiving}
-use Rattle.line65.specs.Messages.{file_message, memory_line}
+use Rattle.cli65.specs.Line.{Archiving}
+use Rattle.cli65.specs.Messages.{file_message, memory_line}
 use Rattle.ar65.specs.declared.refusal.Refusal.{Refusal}
 use Rattle.ar65.specs.declared.refusal.Refusal.TheVariants.{Library, File}
 

@@ -4,7 +4,7 @@ ghost use Rattle.std.specs.Prelude.{◌≡◌, IfErr, IfSome};
 ghost use Rattle.std.specs.FinMap as map;
 ghost use Rattle.base65.specs.Outcome.{Gives};
 ghost use Rattle.base65.specs.Store.{Asks, PassesBy};
-ghost use Rattle.line65.specs.Line.{archiving};
+ghost use Rattle.cli65.specs.Line.{archiving};
 ghost use Rattle.ar65.specs.Librarian.{archived_of, deleted_by, extracted_by, listed_by, replaced_by};
 ghost use Rattle.ar65.specs.Refusals.{is_failure, is_outside};
 ghost use Rattle.ar65.specs.Naming.{NamesEither, NamesLibrary, NamesOfLine};
@@ -18,7 +18,7 @@ use crate::replacing::put_files;
 use crate::writing::library_bytes;
 use base65::{Sequence, Store};
 use library65::Library;
-use line65::{ArchiveLine, Operation};
+use cli65::{ArchiveLine, Operation};
 use std::alloc::Global;
 
 /// What a line of the librarian comes to.

@@ -2,14 +2,14 @@
 
 ghost use Rattle.std.specs.Prelude.{◌≡◌, IfOk, map};
 ghost use Rattle.library65.specs.Fault.{fault_text};
-ghost use Rattle.line65.specs.Line.{archiving};
+ghost use Rattle.cli65.specs.Line.{archiving};
 ghost use Rattle.library65.specs.declared.fault.LibraryFault.TheVariants.{OutOfMemory};
 ghost use Rattle.ar65.specs.declared.refusal.Refusal.TheVariants.{Library};
 ghost use Rattle.ar65.specs.Refusals.{is_memory, named, refusal_message};
 
 use base65::Sequence;
 use library65::LibraryFault;
-use line65::{ArchiveLine, file_message, join};
+use cli65::{ArchiveLine, file_message, join};
 use std::alloc::{AllocError, Global};
 
 /// Why a line of the librarian is refused.

@@ -17,7 +17,7 @@ use Rattle.linkage65.specs.declared.fault.LinkFault.TheVariants as link
 use Rattle.linkage65.specs.Faults.{is_memory, of_object}
 use Rattle.linkage65.specs.Modules.{Module}
 use Rattle.link65.specs.Standing.{Begins, Continues, Ends, Feeding, IsFed, IsFeeding, whole}
-use Rattle.line65.specs.Line.{Linking}
+use Rattle.cli65.specs.Line.{Linking}
 use Rattle.ld65.specs.declared.refusal.Refusal.{Refusal}
 use Rattle.ld65.specs.declared.refusal.Refusal.TheVariants.{Library, Link, Member, Object, OutOfMemory, ScriptFile}
 use Rattle.ld65.specs.Inner.Feeding.{FeedsRecords}

@@ -11,7 +11,7 @@ use Rattle.linkage65.specs.Links.{LinkOf, names_once}
 use Rattle.linkage65.specs.Modules.{Module}
 use Rattle.linkage65.specs.Programs.{program_of}
 use Rattle.link65.specs.Standing.{Feeding, IsFed, Links}
-use Rattle.line65.specs.Line.{Linking}
+use Rattle.cli65.specs.Line.{Linking}
 use Rattle.ld65.specs.declared.refusal.Refusal.{Refusal}
 use Rattle.ld65.specs.declared.refusal.Refusal.TheVariants as refusal
 use Rattle.ld65.specs.Inner.Feeding.{FeedsInputs}

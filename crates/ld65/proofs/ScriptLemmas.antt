@@ -16,7 +16,7 @@ use Rattle.script65.specs.Grammar.{First as FirstOf, sized}
 use Rattle.base65.specs.Outcome.{◌>>=◌}
 use Rattle.script65.specs.Scripts.{IsScript, script_of, with_line}
 use Rattle.linkage65.specs.declared.linked.Linked.{Linked}
-use Rattle.line65.specs.Line.{Linking}
+use Rattle.cli65.specs.Line.{Linking}
 use Rattle.ld65.specs.declared.refusal.Refusal.{Refusal}
 use Rattle.ld65.specs.declared.refusal.Refusal.TheVariants as refusal
 use Rattle.ld65.specs.Linkage.{IsLinkedBy, IsLinked, as_script, text_of}

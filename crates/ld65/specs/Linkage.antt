@@ -25,8 +25,8 @@ use Rattle.linkage65.specs.Links.{LinkOf, names_once}
 use Rattle.linkage65.specs.Modules.{Module}
 use Rattle.linkage65.specs.Programs.{program_of}
 use Rattle.link65.specs.Standing.{agreed, as_link, joined as joined_to, module_of}
-use Rattle.line65.specs.Line.{Linking}
-use Rattle.line65.specs.Messages.{joined}
+use Rattle.cli65.specs.Line.{Linking}
+use Rattle.cli65.specs.Messages.{joined}
 use Rattle.ld65.specs.declared.refusal.Refusal.{Refusal}
 use Rattle.ld65.specs.declared.refusal.Refusal.TheVariants as refusal
 use Rattle.ld65.specs.Refusals.{refusal_at, refusal_in}

@@ -3,7 +3,7 @@
 use Rattle.std.specs.Prelude.{◌≡◌, ℕ, ◌⊎◌, List, slice_get, Option, Some, true}
 use Rattle.base65.specs.Store.{IsBlamed}
 use Rattle.base65.specs.declared.store.StoreFault.TheVariants as store
-use Rattle.line65.specs.Line.{Linking}
+use Rattle.cli65.specs.Line.{Linking}
 use Rattle.ld65.specs.declared.refusal.Refusal.{Refusal}
 use Rattle.ld65.specs.declared.refusal.Refusal.TheVariants.{OutOfMemory, ScriptFile, Script, Object, Library, Member, Disagrees, Link}
 use Rattle.ld65.specs.Linkage.{member_module}

@@ -11,8 +11,8 @@ use Rattle.script65.specs.Faults.{is_memory_fault, script_fault_text as script_w
 use Rattle.linkage65.specs.declared.fault.LinkFault.{LinkFault}
 use Rattle.linkage65.specs.declared.fault.LinkFault.TheVariants as link
 use Rattle.linkage65.specs.Faults.{fault_text as link_words, is_memory as is_link_memory}
-use Rattle.line65.specs.Line.{Linking}
-use Rattle.line65.specs.Messages.{file_message, line_message}
+use Rattle.cli65.specs.Line.{Linking}
+use Rattle.cli65.specs.Messages.{file_message, line_message}
 use Rattle.ld65.specs.declared.refusal.Refusal.{Refusal}
 use Rattle.ld65.specs.declared.refusal.Refusal.TheVariants.{OutOfMemory, ScriptFile, Script, Object, Library, Member, Disagrees, Link}
 

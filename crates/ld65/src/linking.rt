@@ -3,7 +3,7 @@
 ghost use Rattle.std.specs.Prelude.{◌≡◌, IfErr, IfSome, []};
 ghost use Rattle.base65.specs.Outcome.{Finds};
 ghost use Rattle.base65.specs.Store.{Asks, PassesBy};
-ghost use Rattle.line65.specs.Line.{linking};
+ghost use Rattle.cli65.specs.Line.{linking};
 ghost use Rattle.ld65.specs.Refusals.{is_outside, is_failure};
 ghost use Rattle.ld65.specs.Linkage.{output_of, IsLinkedBy, IsLinked};
 ghost use Rattle.ld65.specs.Inner.Texts.{script_text};
@@ -12,7 +12,7 @@ ghost use Rattle.ld65.specs.Naming.{NamesInputs, NamesOfLine, NamesScript};
 use crate::inputs::feed_inputs;
 use crate::refusal::Refusal;
 use base65::{Sequence, Store, read_front};
-use line65::LinkLine;
+use cli65::LinkLine;
 use link65::{Linked, Linker};
 use script65::{Script, read_script};
 use std::alloc::Global;

@@ -16,7 +16,7 @@ use crate::feeding::{ObjectInput, feed_object};
 use crate::refusal::Refusal;
 use base65::{Sequence, Store};
 use library65::Entry;
-use line65::join;
+use cli65::join;
 use link65::Linker;
 use object65::RecordReader;
 use std::alloc::{AllocError, Global};

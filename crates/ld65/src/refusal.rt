@@ -2,14 +2,14 @@
 
 ghost use Rattle.std.specs.Prelude.{◌≡◌, IfOk, map};
 ghost use Rattle.linkage65.specs.declared.fault.LinkFault.{LinkFault};
-ghost use Rattle.line65.specs.Line.{linking};
-ghost use Rattle.line65.specs.Messages.{file_message};
+ghost use Rattle.cli65.specs.Line.{linking};
+ghost use Rattle.cli65.specs.Messages.{file_message};
 ghost use Rattle.ld65.specs.declared.refusal.Refusal.TheVariants.{OutOfMemory, ScriptFile, Script, Link};
 ghost use Rattle.ld65.specs.Refusals.{cause_message, is_memory, link_message, named, refusal_at, refusal_in, refusal_message};
 
 use base65::{Sequence, StoreFault};
 use library65::LibraryFault;
-use line65::{LinkLine, file_message, join, line_message};
+use cli65::{LinkLine, file_message, join, line_message};
 use link65::{LinkFault, fault_text};
 use object65::ObjectFault;
 use script65::{Fault, ScriptFault};

@@ -23,19 +23,19 @@ use Rattle.language65.specs.Faults.{is_memory}
 use Rattle.module65.specs.Module as asm
 use Rattle.module65.specs.Places.{PlacedFault}
 use Rattle.asm65.specs.Assembly.{IsAssembled}
-use Rattle.line65.specs.declared.line.Operation.{Operation}
-use Rattle.line65.specs.Line.{Archiving, Assembling}
-use Rattle.line65.specs.Messages.{memory_line}
+use Rattle.cli65.specs.declared.line.Operation.{Operation}
+use Rattle.cli65.specs.Line.{Archiving, Assembling}
+use Rattle.cli65.specs.Messages.{memory_line}
 use Rattle.whole65.proofs.Later.{bind_ok}
 use Rattle.ar65.specs.declared.archiving.Archived.TheVariants as archived
 use Rattle.ar65.specs.Librarian.{as_file, as_library, begun, done, member_name, replaced_by, rewritten, with_file, with_files}
-use Rattle.outcomes65.specs.declared.outcome.Outcome.{Outcome}
-use Rattle.outcomes65.specs.declared.outcome.Status.TheVariants.{Failure, Success}
+use Rattle.output65.specs.declared.outcome.Outcome.{Outcome}
+use Rattle.output65.specs.declared.outcome.Status.TheVariants.{Failure, Success}
 use Rattle.tools65.specs.Assembling.{asm_message, job_in}
 use Rattle.tools65.specs.Command.{AssemblesWith, refused_with}
 use Rattle.tools65.specs.Kept.{ArchivedSourcesLaw, AssembledFileLaw, source_in}
 use Rattle.tools65.specs.OneProgram.{Source}
-use Rattle.outcomes65.specs.Outputs.{failing, outputs_of}
+use Rattle.output65.specs.Outputs.{failing, outputs_of}
 use Rattle.tools65.specs.Written.{IsSourceLibrary, IsSourceObject, IsWrittenOf}
 use Rattle.tools65.proofs.Inputs.{written_object}
 use Rattle.tools65.proofs.Selected.{ok_same}

@@ -12,10 +12,10 @@ use Rattle.asm65.specs.Failing.{Stops}
 use Rattle.module65.specs.Places.{PlacedFault}
 use Rattle.module65.specs.Reading.{Job}
 use Rattle.language65.specs.Faults.{is_memory as is_asm_memory}
-use Rattle.line65.specs.Line.{Archiving, Assembling, Linking, Says, assemble, link, archive, line_of}
-use Rattle.line65.specs.Messages.{line_memory_message, line_message_of, memory_line}
-use Rattle.line65.specs.declared.fault.LineFault.{LineFault}
-use Rattle.line65.specs.declared.fault.LineFault.TheVariants.{BadArguments, OutOfMemory}
+use Rattle.cli65.specs.Line.{Archiving, Assembling, Linking, Says, assemble, link, archive, line_of}
+use Rattle.cli65.specs.Messages.{line_memory_message, line_message_of, memory_line}
+use Rattle.cli65.specs.declared.fault.LineFault.{LineFault}
+use Rattle.cli65.specs.declared.fault.LineFault.TheVariants.{BadArguments, OutOfMemory}
 use Rattle.linkage65.specs.declared.linked.Linked.{Linked}
 use Rattle.ld65.specs.declared.refusal.Refusal.{Refusal}
 use Rattle.ld65.specs.Linkage.{IsLinked}
@@ -30,13 +30,13 @@ use Rattle.tools65.specs.Archives.{Archives, archive_outcome}
 use Rattle.tools65.specs.Assembling.{asm_message, job_in}
 use Rattle.tools65.specs.Command.{Assembles, AssemblesWith, line_memory, outcome_of, refused_with}
 use Rattle.tools65.specs.Failing.{Fails, FailsAs, FailsLine, FailsWords, SaysWhy, refusing}
-use Rattle.outcomes65.specs.Leaving.{Performs, Prints}
-use Rattle.outcomes65.specs.Stopping.{StopsWriting}
-use Rattle.outcomes65.specs.Outputs.{failing}
-use Rattle.outcomes65.specs.declared.outcome.Outcome.{Outcome}
-use Rattle.outcomes65.specs.declared.outcome.Status.{Status}
-use Rattle.outcomes65.specs.declared.outcome.Status.TheVariants.{Failure}
-use Rattle.line65.specs.LineFaults.{is_outside as is_line_outside}
+use Rattle.output65.specs.Leaving.{Performs, Prints}
+use Rattle.output65.specs.Stopping.{StopsWriting}
+use Rattle.output65.specs.Outputs.{failing}
+use Rattle.output65.specs.declared.outcome.Outcome.{Outcome}
+use Rattle.output65.specs.declared.outcome.Status.{Status}
+use Rattle.output65.specs.declared.outcome.Status.TheVariants.{Failure}
+use Rattle.cli65.specs.LineFaults.{is_outside as is_line_outside}
 use Rattle.std.proofs.lemmas.Bool.Decides.{nat_tests}
 use Rattle.tools65.proofs.Runs.{Computes, IsArchived, archive_memory, archived_found, asm_memory, does_archive, found, link_memory, no_failure, says, with_texts}
 

@@ -18,7 +18,7 @@ use Rattle.linkage65.specs.Modules.{Module}
 use Rattle.linkage65.specs.Programs.{program_of}
 use Rattle.linkage65.specs.declared.fault.LinkFault.{LinkFault}
 use Rattle.linkage65.specs.declared.linked.Linked.{Linked}
-use Rattle.line65.specs.Line.{Linking}
+use Rattle.cli65.specs.Line.{Linking}
 use Rattle.ld65.specs.declared.refusal.Refusal.{Refusal}
 use Rattle.ld65.specs.declared.refusal.Refusal.TheVariants as refusal
 use Rattle.ld65.specs.Linkage.{AreInputs, AreNeeded, ByKind, IsInput, IsInputLink, IsLibraryInput, IsLinked, IsLinkedBy, LinksTo, as_library, as_refusal, as_script, chosen, index_in, is_library_in, output_of, text_of, with_file, with_members}

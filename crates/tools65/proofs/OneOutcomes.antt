@@ -18,15 +18,15 @@ use Rattle.linkage65.specs.Links.{names_once}
 use Rattle.linkage65.specs.Modules.{Module}
 use Rattle.linkage65.specs.Programs.{program_of}
 use Rattle.linkage65.specs.declared.linked.Linked.{Linked}
-use Rattle.line65.specs.Line.{Assembling, Linking, Says, archive, assemble, link}
+use Rattle.cli65.specs.Line.{Assembling, Linking, Says, archive, assemble, link}
 use Rattle.ld65.specs.Linkage.{AreInputs, AreNeeded, ByKind, IsInput, IsInputLink, IsLibraryInput, IsLinked, IsLinkedBy, LinksTo, as_library, as_refusal, as_script, chosen, index_in, is_library_in, output_of, text_of, with_file, with_members}
 use Rattle.ld65.specs.declared.refusal.Refusal.{Refusal}
 use Rattle.module65.proofs.OneLayouts.{one_answer}
 use Rattle.module65.specs.Places.{PlacedFault}
 use Rattle.object65.specs.declared.object.Object.{Object}
-use Rattle.outcomes65.specs.Outputs.{outputs_of}
-use Rattle.outcomes65.specs.declared.outcome.Outcome.{Outcome}
-use Rattle.outcomes65.specs.declared.outcome.Status.TheVariants.{Success}
+use Rattle.output65.specs.Outputs.{outputs_of}
+use Rattle.output65.specs.declared.outcome.Outcome.{Outcome}
+use Rattle.output65.specs.declared.outcome.Status.TheVariants.{Success}
 use Rattle.tools65.specs.Assembling.{IsOutputName, job_in}
 use Rattle.tools65.specs.Command.{Assembles, AssemblesTo, AssemblesWith, DoesLine, outcome_of}
 use Rattle.tools65.specs.Naming.{IsExtension, IsObjectName}

@@ -5,23 +5,23 @@ use Rattle.base65.specs.Outcome.{Finds, Gives, Refuses, Unless}
 use Rattle.base65.specs.Store.{Files, NoneFailed, HasFailed, PassesBy, last_count}
 use Rattle.linkage65.specs.declared.linked.Linked.{Linked}
 use Rattle.ld65.specs.declared.refusal.Refusal.{Refusal}
-use Rattle.outcomes65.specs.declared.outcome.Outcome.{Outcome}
-use Rattle.outcomes65.specs.declared.outcome.Status.{Status}
-use Rattle.outcomes65.specs.declared.outcome.Status.TheVariants.{Failure}
+use Rattle.output65.specs.declared.outcome.Outcome.{Outcome}
+use Rattle.output65.specs.declared.outcome.Status.{Status}
+use Rattle.output65.specs.declared.outcome.Status.TheVariants.{Failure}
 use Rattle.object65.specs.declared.object.Object.{Object}
 use Rattle.asm65.specs.declared.refusal.AsmRefusal.{AsmRefusal}
 use Rattle.asm65.specs.Assembly.{IsAssembled, has_failed, in_places, is_outside_refusal, placed_of}
 use Rattle.language65.specs.Faults.{is_memory as is_asm_memory}
-use Rattle.outcomes65.specs.Outputs.{failing}
+use Rattle.output65.specs.Outputs.{failing}
 use Rattle.module65.specs.Reading.{Define, Job}
 use Rattle.tools65.specs.Assembling.{define_in, job_in}
 use Rattle.tools65.specs.Command.{outcome_of, Assembles, AssemblesWith, Does, DoesLine, Commands, Ran, RanWords, line_memory, refused_with}
-use Rattle.outcomes65.specs.Leaving.{Prints, SaysBoth, Settles, Performs, StopsShort}
-use Rattle.line65.specs.Line.{Archiving, Assembling, Linking, Says, line_of}
-use Rattle.line65.specs.LineFaults.{is_outside as is_line_outside}
-use Rattle.line65.specs.declared.fault.LineFault.{LineFault}
-use Rattle.line65.specs.declared.fault.LineFault.TheVariants.{OutOfMemory, BadArguments}
-use Rattle.line65.specs.Messages.{line_message_of, line_memory_message, memory_line}
+use Rattle.output65.specs.Leaving.{Prints, SaysBoth, Settles, Performs, StopsShort}
+use Rattle.cli65.specs.Line.{Archiving, Assembling, Linking, Says, line_of}
+use Rattle.cli65.specs.LineFaults.{is_outside as is_line_outside}
+use Rattle.cli65.specs.declared.fault.LineFault.{LineFault}
+use Rattle.cli65.specs.declared.fault.LineFault.TheVariants.{OutOfMemory, BadArguments}
+use Rattle.cli65.specs.Messages.{line_message_of, line_memory_message, memory_line}
 use Rattle.ar65.specs.declared.archiving.Archived.{Archived}
 use Rattle.ar65.specs.declared.refusal.Refusal.{Refusal as ArchiveRefusal}
 use Rattle.ar65.specs.Librarian.{archived_of}

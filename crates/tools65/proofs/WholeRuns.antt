@@ -9,20 +9,20 @@ use Rattle.linkage65.specs.Modules.{Module}
 use Rattle.linkage65.specs.Programs.{program_of}
 use Rattle.linkage65.specs.declared.linked.Linked.{Linked}
 use Rattle.image65.specs.declared.output.OutputFile.{OutputFile}
-use Rattle.line65.specs.Line.{Linking, Says, link, line_of}
-use Rattle.line65.specs.Messages.{line_memory_message}
-use Rattle.line65.specs.declared.fault.LineFault.{LineFault}
+use Rattle.cli65.specs.Line.{Linking, Says, link, line_of}
+use Rattle.cli65.specs.Messages.{line_memory_message}
+use Rattle.cli65.specs.declared.fault.LineFault.{LineFault}
 use Rattle.whole65.specs.Equality.{IsLinkedTo}
 use Rattle.ld65.specs.declared.refusal.Refusal.{Refusal}
 use Rattle.ld65.specs.Linkage.{IsLinked, output_of}
 use Rattle.ld65.specs.Refusals.{memory_message}
 use Rattle.tools65.specs.Command.{Commands, Does, DoesLine, Ran, RanWords, line_memory, outcome_of}
-use Rattle.outcomes65.specs.Leaving.{Performs, Settles, StopsAt, StopsShort, apply}
+use Rattle.output65.specs.Leaving.{Performs, Settles, StopsAt, StopsShort, apply}
 use Rattle.tools65.specs.OneProgram.{DoesWhole, HasFiles, HaveNoImage, IsRefusal, LineLinksWhole, LineRunsLaw, LinksWhole, RunsLaw, SelectsSources, Source, WholeOf, WordsLinkWhole, WritesWhole, WroteFiles}
-use Rattle.outcomes65.specs.Outputs.{failing, with_map}
-use Rattle.outcomes65.specs.declared.outcome.Outcome.{Outcome}
-use Rattle.outcomes65.specs.declared.outcome.Status.{Status}
-use Rattle.outcomes65.specs.declared.outcome.Status.TheVariants.{Failure, Success}
+use Rattle.output65.specs.Outputs.{failing, with_map}
+use Rattle.output65.specs.declared.outcome.Outcome.{Outcome}
+use Rattle.output65.specs.declared.outcome.Status.{Status}
+use Rattle.output65.specs.declared.outcome.Status.TheVariants.{Failure, Success}
 use Rattle.tools65.proofs.OneLinks.{link_found, link_is}
 use Rattle.tools65.proofs.Wholes.{one_program}
 use Rattle.tools65.proofs.Selected.{inputs_selected, names_front, ok_err, selected_inputs, selected_once}

@@ -1,7 +1,7 @@
 -- What a line of the librarian does.
 use Rattle.std.specs.Prelude.{◌≡◌, ℕ, List, [], ◌∷◌, map, Result, Ok, Err}
 use Rattle.base65.specs.Store.{Files}
-use Rattle.line65.specs.Line.{Archiving}
+use Rattle.cli65.specs.Line.{Archiving}
 use Rattle.image65.specs.declared.output.OutputFile.{OutputFile}
 use Rattle.ar65.specs.declared.archiving.Archived.{Archived}
 use Rattle.ar65.specs.declared.archiving.Archived.TheVariants.{Library, Names, Members}
@@ -9,9 +9,9 @@ use Rattle.ar65.specs.declared.extracting.MemberFile.{MemberFile}
 use Rattle.ar65.specs.declared.refusal.Refusal.{Refusal}
 use Rattle.ar65.specs.Librarian.{archived_of}
 use Rattle.ar65.specs.Refusals.{refusal_message}
-use Rattle.outcomes65.specs.declared.outcome.Outcome.{Outcome}
-use Rattle.outcomes65.specs.declared.outcome.Status.TheVariants.{Success}
-use Rattle.outcomes65.specs.Outputs.{failing}
+use Rattle.output65.specs.declared.outcome.Outcome.{Outcome}
+use Rattle.output65.specs.declared.outcome.Status.TheVariants.{Success}
+use Rattle.output65.specs.Outputs.{failing}
 
 -- the library's file, under its name as it stands in the line
 abbrev pub library_file : List ℕ → List ℕ → List OutputFile

@@ -2,9 +2,9 @@
 use Rattle.std.specs.Prelude.{◌≡◌, ℕ, nat_eq, List, map, Option, Some, None, if◌then◌else◌}
 use Rattle.source65.specs.declared.place.Place.{Place}
 use Rattle.language65.specs.Faults.{fault_text}
-use Rattle.line65.specs.Defining.{Defining}
-use Rattle.line65.specs.Line.{Assembling}
-use Rattle.line65.specs.Messages.{file_message, line_message}
+use Rattle.cli65.specs.Defining.{Defining}
+use Rattle.cli65.specs.Line.{Assembling}
+use Rattle.cli65.specs.Messages.{file_message, line_message}
 use Rattle.module65.specs.Places.{PlacedFault}
 use Rattle.module65.specs.Reading.{Define, Job}
 use Rattle.tools65.specs.Naming.{IsObjectName}

@@ -9,18 +9,18 @@ use Rattle.language65.specs.Faults.{is_memory}
 use Rattle.module65.specs.Module as asm
 use Rattle.module65.specs.Places.{PlacedFault}
 use Rattle.tools65.specs.Assembling.{IsOutputName, asm_message, job_in}
-use Rattle.line65.specs.declared.fault.LineFault.{LineFault}
+use Rattle.cli65.specs.declared.fault.LineFault.{LineFault}
 use Rattle.linkage65.specs.declared.linked.Linked.{Linked}
 use Rattle.ld65.specs.declared.refusal.Refusal.{Refusal}
-use Rattle.outcomes65.specs.declared.outcome.Outcome.{Outcome}
-use Rattle.outcomes65.specs.declared.outcome.Status.{Status}
-use Rattle.outcomes65.specs.declared.outcome.Status.TheVariants.{Success, Failure}
-use Rattle.outcomes65.specs.Leaving.{Performs, StopsShort}
-use Rattle.line65.specs.Line.{Assembling, Linking, Says, assemble, link, archive, line_of}
+use Rattle.output65.specs.declared.outcome.Outcome.{Outcome}
+use Rattle.output65.specs.declared.outcome.Status.{Status}
+use Rattle.output65.specs.declared.outcome.Status.TheVariants.{Success, Failure}
+use Rattle.output65.specs.Leaving.{Performs, StopsShort}
+use Rattle.cli65.specs.Line.{Assembling, Linking, Says, assemble, link, archive, line_of}
 use Rattle.ld65.specs.Linkage.{IsLinked}
-use Rattle.outcomes65.specs.Outputs.{failing, outputs_of, with_map}
+use Rattle.output65.specs.Outputs.{failing, outputs_of, with_map}
 use Rattle.tools65.specs.Archives.{Archives}
-use Rattle.line65.specs.Messages.{line_message_of, line_memory_message, memory_line}
+use Rattle.cli65.specs.Messages.{line_message_of, line_memory_message, memory_line}
 use Rattle.ld65.specs.Refusals.{refusal_message, memory_message}
 
 -- what linking does: it warns and writes its files, the map last, or says why there are none

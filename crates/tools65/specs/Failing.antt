@@ -8,19 +8,19 @@ use Rattle.ld65.specs.declared.refusal.Refusal.{Refusal}
 use Rattle.ld65.specs.Naming.{IsOfLine}
 use Rattle.ld65.specs.Refusals.{is_failure, refusal_message}
 use Rattle.language65.specs.Faults as asm
-use Rattle.line65.specs.declared.fault.LineFault.{LineFault}
-use Rattle.line65.specs.Messages.{line_memory_message}
-use Rattle.outcomes65.specs.Outputs.{failing}
-use Rattle.line65.specs.Line.{Says, assemble, link, archive, line_of}
+use Rattle.cli65.specs.declared.fault.LineFault.{LineFault}
+use Rattle.cli65.specs.Messages.{line_memory_message}
+use Rattle.output65.specs.Outputs.{failing}
+use Rattle.cli65.specs.Line.{Says, assemble, link, archive, line_of}
 use Rattle.module65.specs.Places.{PlacedFault}
 use Rattle.asm65.specs.Failing.{Stops}
 use Rattle.tools65.specs.Assembling.{asm_message, job_in}
 use Rattle.tools65.specs.Command.{DoesLine, RanWords, line_memory}
-use Rattle.outcomes65.specs.Leaving.{Performs}
-use Rattle.outcomes65.specs.Stopping.{StopsWriting}
-use Rattle.outcomes65.specs.declared.outcome.Outcome.{Outcome}
-use Rattle.outcomes65.specs.declared.outcome.Status.{Status}
-use Rattle.outcomes65.specs.declared.outcome.Status.TheVariants.{Failure}
+use Rattle.output65.specs.Leaving.{Performs}
+use Rattle.output65.specs.Stopping.{StopsWriting}
+use Rattle.output65.specs.declared.outcome.Outcome.{Outcome}
+use Rattle.output65.specs.declared.outcome.Status.{Status}
+use Rattle.output65.specs.declared.outcome.Status.TheVariants.{Failure}
 
 -- texts for both streams, and failure
 abbrev pub refusing : List ℕ → List ℕ → Outcome

@@ -11,7 +11,7 @@ use Rattle.library65.specs.declared.index.Entry.{Entry}
 use Rattle.linkage65.specs.Modules.{Module}
 use Rattle.script65.specs.Scripts.{IsScript}
 use Rattle.script65.specs.declared.script.Script.{Script}
-use Rattle.line65.specs.Line.{Linking}
+use Rattle.cli65.specs.Line.{Linking}
 use Rattle.ld65.specs.Linkage.{member_input}
 use Rattle.tools65.specs.OneProgram.{AreInputOf, IsModuleOf, IsObjectOf, SelectsSources, Source}
 use Rattle.tools65.specs.Written.{IsOneOf, IsSourceInput, IsWrittenOf}

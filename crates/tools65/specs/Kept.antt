@@ -4,12 +4,12 @@ use Rattle.std.specs.FinMap.{get}
 use Rattle.std.specs.List.{AllByRecursion}
 use Rattle.base65.specs.Store.{Files}
 use Rattle.object65.specs.Reading.{file_limit}
-use Rattle.line65.specs.declared.line.Operation.TheVariants.{Replace}
-use Rattle.line65.specs.Line.{Archiving, Assembling}
+use Rattle.cli65.specs.declared.line.Operation.TheVariants.{Replace}
+use Rattle.cli65.specs.Line.{Archiving, Assembling}
 use Rattle.ar65.specs.declared.archiving.Archived.TheVariants as archived
 use Rattle.ar65.specs.Librarian.{archived_of}
-use Rattle.outcomes65.specs.declared.outcome.Outcome.{Outcome}
-use Rattle.outcomes65.specs.declared.outcome.Status.TheVariants.{Success}
+use Rattle.output65.specs.declared.outcome.Outcome.{Outcome}
+use Rattle.output65.specs.declared.outcome.Status.TheVariants.{Success}
 use Rattle.tools65.specs.Assembling.{job_in}
 use Rattle.tools65.specs.Command.{Assembles}
 use Rattle.tools65.specs.OneProgram.{Source}

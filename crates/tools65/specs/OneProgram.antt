@@ -19,18 +19,18 @@ use Rattle.link65.specs.Standing.{agrees_with, module_of}
 use Rattle.image65.specs.declared.output.OutputFile.{OutputFile}
 use Rattle.whole65.specs.Equality.{IsLinkedTo}
 use Rattle.whole65.specs.Whole.{Whole}
-use Rattle.line65.specs.Line.{Linking, Says, line_of, link}
-use Rattle.line65.specs.Messages.{line_memory_message}
-use Rattle.line65.specs.declared.fault.LineFault.{LineFault}
+use Rattle.cli65.specs.Line.{Linking, Says, line_of, link}
+use Rattle.cli65.specs.Messages.{line_memory_message}
+use Rattle.cli65.specs.declared.fault.LineFault.{LineFault}
 use Rattle.ld65.specs.Linkage.{ByKind, Input, chosen, file_input, index_in, is_library_in, member_input, object_in, output_of}
 use Rattle.ld65.specs.Refusals.{memory_message, refusal_message}
 use Rattle.ld65.specs.declared.refusal.Refusal.{Refusal}
-use Rattle.outcomes65.specs.declared.outcome.Outcome.{Outcome}
-use Rattle.outcomes65.specs.declared.outcome.Status.{Status}
-use Rattle.outcomes65.specs.declared.outcome.Status.TheVariants.{Failure, Success}
+use Rattle.output65.specs.declared.outcome.Outcome.{Outcome}
+use Rattle.output65.specs.declared.outcome.Status.{Status}
+use Rattle.output65.specs.declared.outcome.Status.TheVariants.{Failure, Success}
 use Rattle.tools65.specs.Command.{Commands, Does, DoesLine, Ran, line_memory}
-use Rattle.outcomes65.specs.Leaving.{Performs, apply}
-use Rattle.outcomes65.specs.Outputs.{failing, with_map}
+use Rattle.output65.specs.Leaving.{Performs, apply}
+use Rattle.output65.specs.Outputs.{failing, with_map}
 
 -- ---- Sources, what ca65 writes of them, and what they are as one program.
 

@@ -1,14 +1,14 @@
 //! What a line of the librarian does.
 
 ghost use Rattle.std.specs.Prelude.{◌≡◌, IfOk, map};
-ghost use Rattle.line65.specs.Line.{archiving};
+ghost use Rattle.cli65.specs.Line.{archiving};
 ghost use Rattle.tools65.specs.Archives.{archive_outcome, archived_outcome, library_file, output_of};
 
 use ar65::{Archived, MemberFile, Refusal, refusal_message};
 use base65::{Sequence, Text};
 use ld65::OutputFile;
-use line65::ArchiveLine;
-use outcomes65::{Outcome, Status};
+use cli65::ArchiveLine;
+use output65::{Outcome, Status};
 use std::alloc::{AllocError, Global};
 
 /// The library's file.

@@ -7,8 +7,8 @@ pub mod laws;
 mod running;
 
 pub use ld65::OutputFile;
-pub use line65::{
+pub use cli65::{
     ArchiveLine, AssembleLine, Define, Line, LineFault, LinkLine, Operation, read_line,
 };
-pub use outcomes65::{DiskStore, Outcome, Status, print, write_file};
+pub use output65::{DiskStore, Outcome, Status, print, write_file};
 pub use running::{run, run_line};

@@ -2,8 +2,8 @@
 
 ghost use Rattle.std.specs.Prelude.{◌≡◌, ◌≤◌, IfOk, IfSome, map};
 ghost use Rattle.base65.specs.Store.{HasFailed, NoneFailed};
-ghost use Rattle.line65.specs.Line.{archive, archiving, assemble, assembling, line_of, link, linking, view};
-ghost use Rattle.line65.specs.Messages.{memory_line};
+ghost use Rattle.cli65.specs.Line.{archive, archiving, assemble, assembling, line_of, link, linking, view};
+ghost use Rattle.cli65.specs.Messages.{memory_line};
 ghost use Rattle.tools65.specs.Archives.{Archives};
 ghost use Rattle.tools65.specs.Command.{outcome_of, Ran, Assembles, Does, DoesLine, Commands, line_memory};
 ghost use Rattle.tools65.specs.Failing.{FailsLine, FailsWords};
@@ -17,8 +17,8 @@ use ar65::archive;
 use asm65::{AsmJob, assemble};
 use base65::{Sequence, Store};
 use ld65::{Linked, Refusal, link_files, refusal_message};
-use line65::{ArchiveLine, AssembleLine, Line, LinkLine, fault_message, read_line};
-use outcomes65::{Outcome, Status, perform, print, say_memory, with_map};
+use cli65::{ArchiveLine, AssembleLine, Line, LinkLine, fault_message, read_line};
+use output65::{Outcome, Status, perform, print, say_memory, with_map};
 use std::alloc::{AllocError, Global};
 use std::convert::AsStr;
 use std::io::Write;

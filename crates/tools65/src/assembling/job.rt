@@ -2,12 +2,12 @@
 
 ghost use Rattle.std.specs.Prelude.{◌≡◌, IfOk, map};
 ghost use Rattle.asm65.specs.Assembly.{define_of};
-ghost use Rattle.line65.specs.Defining.{defining};
+ghost use Rattle.cli65.specs.Defining.{defining};
 ghost use Rattle.tools65.specs.Assembling.{define_in};
 
 use asm65::Define;
 use base65::Text;
-use line65::Define as Given;
+use cli65::Define as Given;
 use std::alloc::{AllocError, Global};
 
 /// The folders of a line.

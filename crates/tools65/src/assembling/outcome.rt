@@ -6,15 +6,15 @@ ghost use Rattle.object65.specs.Spelling.{object_bytes};
 ghost use Rattle.tools65.specs.Assembling.{IsOutputName};
 ghost use Rattle.asm65.specs.Assembly.{answer_of, placed_of};
 ghost use Rattle.tools65.specs.Command.{AssemblesTo, refused_with};
-ghost use Rattle.line65.specs.Line.{assembling};
+ghost use Rattle.cli65.specs.Line.{assembling};
 
 use crate::assembling::naming::object_name;
 use crate::assembling::refusal::asm_message;
 use asm65::{AsmRefusal, Assembly};
 use base65::{Sequence, Text};
-use line65::{AssembleLine, join};
+use cli65::{AssembleLine, join};
 use object65::{Object, write_object};
-use outcomes65::{Outcome, Status, outputs_of};
+use output65::{Outcome, Status, outputs_of};
 use std::alloc::{AllocError, Global};
 
 /// The name of the object's file.

@@ -6,7 +6,7 @@ ghost use Rattle.tools65.specs.Assembling.{asm_message};
 
 use asm65::AsmRefusal;
 use base65::Sequence;
-use line65::{file_message, line_message};
+use cli65::{file_message, line_message};
 use std::alloc::{AllocError, Global};
 
 /// The message of a refusal.

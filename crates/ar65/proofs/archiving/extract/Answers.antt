@@ -1,6 +1,6 @@
 use Rattle.std.proofs.Common.{Err, ap, map}
 use Rattle.std.proofs.lemmas.Result.{err_from_is_err_and}
-use Rattle.line65.specs.Line.{archiving}
+use Rattle.cli65.specs.Line.{archiving}
 use Rattle.ar65.proofs.Takes.{extracts, library_count, not_extracted}
 use Rattle.ar65.proofs.archiving.extract.Goals as goal
 

@@ -1,7 +1,7 @@
 use Rattle.std.proofs.Common.{ℕ, List, Ok, Err, subst}
 use Rattle.std.proofs.lemmas.Result.{err_from_is_err_and}
 use Rattle.base65.specs.Outcome.{Unless}
-use Rattle.line65.specs.Line.{linking}
+use Rattle.cli65.specs.Line.{linking}
 use Rattle.script65.specs.Faults.{is_script_outside}
 use Rattle.script65.specs.Scripts.{IsScript}
 use Rattle.ld65.proofs.ScriptLemmas.{script_ok, script_err, script_unread}

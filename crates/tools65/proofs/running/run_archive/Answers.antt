@@ -1,6 +1,6 @@
 use Rattle.std.proofs.Common.{refl}
-use Rattle.line65.specs.Line.{archive, archiving}
-use Rattle.line65.specs.Messages.{memory_line}
+use Rattle.cli65.specs.Line.{archive, archiving}
+use Rattle.cli65.specs.Messages.{memory_line}
 use Rattle.tools65.specs.Archives.{Archives}
 use Rattle.tools65.proofs.Failing.{archive_failed, failed_archive, only_memory_fails}
 use Rattle.tools65.proofs.Runs.{only_memory, archived_run}

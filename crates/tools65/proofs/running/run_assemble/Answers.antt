@@ -1,10 +1,10 @@
 use Rattle.std.proofs.Common.{◌≡◌, refl, map, rules}
-use Rattle.line65.specs.Line.{Assembling, assemble, assembling}
+use Rattle.cli65.specs.Line.{Assembling, assemble, assembling}
 use Rattle.module65.specs.Reading.{Job}
 use Rattle.asm65.specs.Assembly.{define_of}
 use Rattle.tools65.specs.Assembling.{define_in}
 use Rattle.tools65.specs.Command.{Assembles}
-use Rattle.line65.specs.Messages.{memory_line}
+use Rattle.cli65.specs.Messages.{memory_line}
 use Rattle.tools65.proofs.Failing.{assembly_failed, failed_assembly, only_memory_fails, stops_as}
 use Rattle.tools65.proofs.Runs.{as_job, assembled_run, only_memory, same_job}
 use Rattle.tools65.proofs.WholeRuns.{line_whole}

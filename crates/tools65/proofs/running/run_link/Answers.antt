@@ -1,5 +1,5 @@
 use Rattle.std.proofs.Common.{refl}
-use Rattle.line65.specs.Line.{link, linking}
+use Rattle.cli65.specs.Line.{link, linking}
 use Rattle.tools65.specs.Command.{Does}
 use Rattle.ld65.specs.Refusals.{memory_message}
 use Rattle.tools65.proofs.Failing.{failed_link, link_failed, only_memory_fails}

@@ -1,6 +1,6 @@
 use Rattle.std.proofs.Common.{◌≡◌, map, take}
 use Rattle.asm65.specs.Assembly.{define_of}
-use Rattle.line65.specs.Defining.{defining}
+use Rattle.cli65.specs.Defining.{defining}
 use Rattle.tools65.specs.Assembling.{define_in}
 use Rattle.tools65.proofs.assembling.job.defines_of.Given as goal
 

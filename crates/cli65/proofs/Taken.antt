@@ -1,0 +1,48 @@
+-- What clap's clauses say of the one command.
+use Rattle.std.proofs.Common.{◌≡◌, ◌∙◌, ◌⊎◌, List, [], ◌∷◌, Ok, true, refl, sym, ap, subst, inl, inr}
+use Rattle.clap.specs.Words.{App, HasMatchesOf, HasKind, IsAmong, Kinds, Text, fault_of, is_simple, is_simple_and_free, kind_of, subcommand_of, subcommand_rows_of}
+use Rattle.clap.specs.declared.error.Error.{Error}
+use Rattle.clap.specs.declared.error.kind.ErrorKind.{ErrorKind}
+use Rattle.clap.specs.declared.error.kind.ErrorKind.TheVariants as kind
+use Rattle.clap.specs.declared.parser.matches.ArgMatches.{ArgMatches}
+use Rattle.clap.proofs.OnLiterals.{clap_on_literals}
+use Rattle.cli65.specs.CommandLine.{bin65}
+use Rattle.cli65.specs.LineFaults.{of_kind, is_outside}
+use Rattle.base65.specs.Outcome.{Refuses}
+use Rattle.cli65.specs.Line.{taken, unless_kinds}
+
+bin65_simple : is_simple bin65 ≡ true
+unfolding clap_on_literals
+bin65_simple = refl
+
+bin65_free : is_simple_and_free bin65 ≡ true
+unfolding clap_on_literals
+bin65_free = refl
+
+takes_all : {A : Type 0} (ks : Kinds) (x y : A) → ks ≡ [] → y ≡ x → unless_kinds ks x ≡ Ok y
+takes_all ks x y none same = rw (none, same) refl
+
+refuses : {A : Type 0} (ks : Kinds) (x : A) (k : ErrorKind) → (k ≡ kind.OutOfMemory) ⊎ IsAmong k ks → Refuses is_outside (of_kind k) (unless_kinds ks x)
+refuses ks x k (inl e) = rw e tt
+refuses [] x k (inr h) = absurd h
+refuses (y ∷ ks) x kind.OutOfMemory (inr h) = tt
+refuses (y ∷ ks) x k (inr h) = refl
+
+module _ (a : App) (is : a ≡ bin65) (words : List Text) where
+  -- what clap gives is the answer
+  pub takes_words : (m : ArgMatches) → (is_simple_and_free a ≡ true → fault_of a words ≡ []) → HasMatchesOf a words m → taken words ≡ Ok (subcommand_rows_of m)
+  unfolding taken
+  takes_words m none has =
+      let free : is_simple_and_free a ≡ true = ap is_simple_and_free is ∙ bin65_free in
+      let simple : is_simple a ≡ true = ap is_simple is ∙ bin65_simple in
+      takes_all (fault_of bin65 words) (subcommand_of bin65 words) (subcommand_rows_of m)
+      (ap (λ (b : App). fault_of b words) (sym is) ∙ none free)
+      ((has simple).1 ∙ ap (λ (b : App). subcommand_of b words) is)
+
+  -- what clap refuses is refused, unless memory ran out
+  pub refuses_words : (e : Error) → (is_simple_and_free a ≡ true → HasKind (fault_of a words) e) → Refuses is_outside (of_kind (kind_of e)) (taken words)
+  unfolding taken
+  refuses_words e has =
+      let free : is_simple_and_free a ≡ true = ap is_simple_and_free is ∙ bin65_free in
+      let at : HasKind (fault_of bin65 words) e = subst (λ (b : App). HasKind (fault_of b words) e) is (has free) in
+      refuses (fault_of bin65 words) (subcommand_of bin65 words) (kind_of e) at

@@ -1,0 +1,20 @@
+-- What an error of clap is to the program.
+use Rattle.std.specs.Prelude.{ℕ, List, Bool, true, false, codes}
+use Rattle.clap.specs.declared.error.kind.ErrorKind.{ErrorKind}
+use Rattle.clap.specs.declared.error.kind.ErrorKind.TheVariants as kind
+use Rattle.cli65.specs.declared.fault.LineFault.{LineFault}
+use Rattle.cli65.specs.declared.fault.LineFault.TheVariants.{OutOfMemory, BadArguments}
+
+abbrev pub of_kind : ErrorKind → LineFault
+of_kind kind.OutOfMemory = OutOfMemory
+of_kind _ = BadArguments
+
+-- the faults that the words don't decide
+abbrev pub is_outside : LineFault → Bool
+is_outside OutOfMemory = true
+is_outside BadArguments = false
+
+-- why a line is refused
+abbrev pub line_words : LineFault → List ℕ
+line_words OutOfMemory = codes "out of memory"
+line_words BadArguments = codes "bad arguments"

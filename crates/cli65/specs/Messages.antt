@@ -1,0 +1,29 @@
+-- The texts that are printed.
+use Rattle.std.specs.Prelude.{ℕ, List, [], ◌∷◌, codes, decimal}
+use Rattle.std.specs.List.{flat_map}
+use Rattle.cli65.specs.declared.fault.LineFault.{LineFault}
+use Rattle.cli65.specs.declared.fault.LineFault.TheVariants as line
+
+-- texts one behind the other
+abbrev pub joined : List (List ℕ) → List ℕ
+joined parts = flat_map (λ p. p) parts
+
+-- `name: Error: words`
+abbrev pub file_message : List ℕ → List ℕ → List ℕ
+file_message name words = joined (name ∷ codes ": Error: " ∷ words ∷ codes "\n" ∷ [])
+
+-- what is said of want of memory: `name: Error: out of memory`
+abbrev pub memory_line : List ℕ → List ℕ
+memory_line name = joined (name ∷ codes ": Error: out of memory\n" ∷ [])
+
+-- `name:line: Error: words`
+abbrev pub line_message : List ℕ → ℕ → List ℕ → List ℕ
+line_message name line words = joined (name ∷ codes ":" ∷ decimal line ∷ codes ": Error: " ∷ words ∷ codes "\n" ∷ [])
+
+-- why a line is refused
+abbrev pub line_memory_message : List ℕ
+line_memory_message = codes "bin65: Error: out of memory\n"
+
+abbrev pub line_message_of : LineFault → List ℕ
+line_message_of line.OutOfMemory = line_memory_message
+line_message_of line.BadArguments = codes "bin65: Error: bad arguments\n"

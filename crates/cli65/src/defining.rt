@@ -1,0 +1,109 @@
+//! The constants that a line defines.
+
+ghost use Rattle.std.specs.Prelude.{◌≡◌, ◌==◌, ◌<◌, length, IfSome, map};
+ghost use Rattle.std.specs.List.{list_all, position};
+ghost use Rattle.syntax65.specs.Bytes.{is_word};
+ghost use Rattle.base65.specs.Outcome.{Gives, each};
+ghost use Rattle.cli65.specs.Defining.{begins_name, define_of, defining, is_constant_name, named_in, valued_in};
+ghost use Rattle.cli65.specs.LineFaults.{is_outside};
+
+use crate::fault::LineFault;
+use crate::line::Define;
+use crate::numbers::number_in;
+use base65::Sequence;
+use std::alloc::Global;
+use syntax65::{MAX_NAME, is_reserved};
+
+/// The constants that texts define, or the first fault.
+pub fn defines<'a>(alloc: Global, texts: &[&'a str]) -> Result<Sequence<Define<'a>>, LineFault>
+    ensures { Gives is_outside (λ ds. map defining ds) result (each define_of (map (λ t. t.now) texts.now)) }
+{
+    let mut done = Sequence::new(alloc);
+    for text in texts {
+        let one = define(text)?;
+        done.push(one)?;
+    }
+    Ok(done)
+}
+
+/// `NAME[=NUMBER]`: without a number, 0.
+#[tactic(auto, unfolding(crate::specs::Defining::define_of))]
+fn define<'a>(text: &'a str) -> Result<Define<'a>, LineFault>
+    ensures { Gives is_outside defining result (define_of text.entry.now) }
+{
+    let bytes = text.as_bytes();
+    match place_of_equal(bytes) {
+        None => {
+            check_name(bytes)?;
+            Ok(Define {
+                name: bytes,
+                value: 0,
+            })
+        }
+        Some(place) => {
+            let name = bytes.split_at(place).0;
+            check_name(name)?;
+            let value = value_of(bytes.split_at(place + 1).1)?;
+            Ok(Define { name, value })
+        }
+    }
+}
+
+/// Where the first `=` stands.
+fn place_of_equal(bytes: &[u8]) -> Option<usize>
+    ensures place { result ≡ position (λ b. b == 61) bytes.now }
+    ensures inside { IfSome result (λ i. i < length bytes.now) }
+{
+    bytes.iter().position(|b| *b == b'=')
+}
+
+/// Refuses what is no name of a constant.
+fn check_name(name: &[u8]) -> Result<(), LineFault>
+    ensures { Gives is_outside (λ _. name.now) result (named_in name.now) }
+{
+    if !is_constant_name(name) {
+        return Err(LineFault::BadArguments);
+    }
+    Ok(())
+}
+
+/// Whether the bytes are an identifier that isn't reserved.
+#[tactic(auto, unfolding(crate::specs::Defining::is_constant_name))]
+fn is_constant_name(name: &[u8]) -> bool
+    ensures { result ≡ is_constant_name name.now }
+{
+    begins_name(name) && are_word(name) && name.len() <= MAX_NAME && !is_reserved(name)
+}
+
+/// Whether the first byte is a letter or `_`.
+fn begins_name(name: &[u8]) -> bool
+    ensures { result ≡ begins_name name.now }
+{
+    match name.first() {
+        Some(b) => is_word(*b) && !b.is_ascii_digit(),
+        None => false,
+    }
+}
+
+fn are_word(name: &[u8]) -> bool
+    ensures { result ≡ list_all is_word name.now }
+{
+    name.iter().all(|b| is_word(*b))
+}
+
+/// Whether the byte is a letter, a digit or `_`.
+fn is_word(b: u8) -> bool
+    ensures { result ≡ is_word b }
+{
+    matches!(b, b'a'..=b'z' | b'A'..=b'Z' | b'_' | b'0'..=b'9')
+}
+
+/// The value of a number.
+fn value_of(text: &[u8]) -> Result<u32, LineFault>
+    ensures { Gives is_outside (λ n. n) result (valued_in text.now) }
+{
+    match number_in(text) {
+        Some(value) => Ok(value),
+        None => Err(LineFault::BadArguments),
+    }
+}

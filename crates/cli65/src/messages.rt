@@ -1,0 +1,54 @@
+//! The texts that are printed.
+
+ghost use Rattle.std.specs.Prelude.{◌≡◌, ◌<◌, IfOk, map, Some};
+ghost use Rattle.cli65.specs.Messages.{joined, file_message, line_message, line_message_of};
+
+use crate::fault::LineFault;
+use base65::Sequence;
+use itoa::Buffer;
+use std::alloc::{AllocError, Global};
+
+/// Texts one behind the other.
+pub fn join(alloc: Global, parts: &[&[u8]]) -> Result<Sequence<u8>, AllocError>
+    ensures { IfOk result (λ text. text ≡ joined (map (λ p. p.now) parts.now)) }
+{
+    let mut text = Sequence::new(alloc);
+    for part in parts {
+        text.extend_from_slice(part)?;
+    }
+    Ok(text)
+}
+
+/// `name: Error: words`
+pub fn file_message(alloc: Global, name: &[u8], words: &[u8]) -> Result<Sequence<u8>, AllocError>
+    ensures { IfOk result (λ text. text ≡ file_message name.now words.now) }
+{
+    join(alloc, &[name, b": Error: ", words, b"\n"])
+}
+
+/// `name:line: Error: words`
+pub fn line_message(
+    alloc: Global,
+    name: &[u8],
+    line: usize,
+    words: &[u8],
+) -> Result<Sequence<u8>, AllocError>
+    ensures { IfOk result (λ text. text ≡ line_message name.now line words.now) }
+{
+    let mut buffer = Buffer::new();
+    let number = buffer.format(line);
+    join(
+        alloc,
+        &[name, b":", number.as_bytes(), b": Error: ", words, b"\n"],
+    )
+}
+
+/// Why words are no line, as it is printed.
+pub fn fault_message(fault: LineFault) -> &'static [u8]
+    ensures { result.now ≡ line_message_of fault }
+{
+    match fault {
+        LineFault::OutOfMemory => b"bin65: Error: out of memory\n",
+        LineFault::BadArguments => b"bin65: Error: bad arguments\n",
+    }
+}

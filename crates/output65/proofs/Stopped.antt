@@ -1,0 +1,38 @@
+-- Outcomes whose files aren't all written since a call of the store fails.
+use Rattle.std.proofs.Common.{◌≡◌, ℕ, ◌<◌, List, [], Bool, true, false, Option, Some, None, refl, slice_get}
+use Rattle.std.specs.Prelude.{IfSome}
+use Rattle.base65.specs.Store.{Files, IsBlamed, Tells}
+use Rattle.base65.specs.declared.store.StoreFault.{StoreFault}
+use Rattle.base65.specs.declared.store.StoreFault.TheVariants.{OutOfMemory, FileNotFound, FileError}
+use Rattle.image65.specs.declared.output.OutputFile.{OutputFile}
+use Rattle.output65.specs.Leaving.{Prints, SaysBoth, StopsAt, is_failure as is_unwritten_failure}
+use Rattle.output65.specs.Stopping.{StopsWriting, file_error_line}
+use Rattle.output65.specs.declared.outcome.Outcome.{Outcome}
+use Rattle.output65.specs.declared.outcome.Status.{Status}
+use Rattle.output65.specs.declared.outcome.Status.TheVariants.{Failure}
+use Rattle.output65.specs.declared.writing.Unwritten.{Unwritten}
+
+file_error : (u : Unwritten) → is_unwritten_failure u ≡ true → u.fault ≡ FileError
+file_error u = go u.fault refl
+  where
+    go : (f : StoreFault) → u.fault ≡ f → is_unwritten_failure u ≡ true → u.fault ≡ FileError
+    go FileError e h = e
+    go OutOfMemory e h = let no : is_unwritten_failure u ≡ false = rw e refl in cc
+    go FileNotFound e h = let no : is_unwritten_failure u ≡ false = rw e refl in cc
+
+-- where a file isn't written since a call failed
+pub stops_writing : (known new : Option Files) (fm fn : ℕ) (o : Outcome) (u : Unwritten) (blamed out_old out_new err_old err_mid err_new : Option (List ℕ)) (whole : Bool) (status : Status) → status ≡ Failure → (fm < fn → is_unwritten_failure u ≡ true) → Tells (StopsAt o.outputs u.place) known new → SaysBoth out_old out_new o.out err_old err_mid o.err true → ((file : OutputFile) → u.fault ≡ FileError → slice_get o.outputs u.place ≡ Some file → Prints err_mid err_new (file_error_line file.name) whole) → ((file : OutputFile) → u.fault ≡ FileError → slice_get o.outputs u.place ≡ Some file → IsBlamed blamed file.name) → IfSome known (λ m. fm < fn → StopsWriting o m new blamed out_old out_new err_old err_new status)
+stops_writing None new fm fn o u blamed out_old out_new err_old err_mid err_new whole status failed told left said behind asked = tt
+stops_writing (Some m) None fm fn o u blamed out_old out_new err_old err_mid err_new whole status failed told left said behind asked = absurd left
+stops_writing (Some m) (Some n) fm fn o u blamed out_old out_new err_old err_mid err_new whole status failed told left said behind asked = λ rose. record {
+  err_mid = err_mid;
+  said = said;
+  place = u.place;
+  left = left;
+  output = left.0;
+  at = left.1;
+  asked = asked left.0 (file_error u (told rose)) left.1;
+  whole = whole;
+  behind = behind left.0 (file_error u (told rose)) left.1;
+  failed = failed;
+}

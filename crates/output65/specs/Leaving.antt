@@ -1,0 +1,69 @@
+-- What a run leaves: texts on two streams, and files.
+use Rattle.std.specs.Prelude.{◌≡◌, ℕ, ◌<◌, ◌⊎◌, List, [], ◌∷◌, ◌++◌, length, take, slice_get, Option, Some, None, Bool, true, false, ⊤}
+use Rattle.std.specs.FinMap.{insert}
+use Rattle.std.specs.Io.KnownBytes.{Keeps}
+use Rattle.base65.specs.Store.{Files, Tells}
+use Rattle.base65.specs.declared.store.StoreFault.{StoreFault}
+use Rattle.base65.specs.declared.store.StoreFault.TheVariants.{FileError}
+use Rattle.output65.specs.declared.writing.Unwritten.{Unwritten}
+use Rattle.output65.specs.declared.outcome.Outcome.{Outcome}
+use Rattle.image65.specs.declared.output.OutputFile.{OutputFile}
+use Rattle.output65.specs.declared.outcome.Status.{Status}
+use Rattle.output65.specs.declared.outcome.Status.TheVariants.{Failure}
+
+-- a stream has taken all of a text, or a first part of it that isn't all
+abbrev pub Prints : Option (List ℕ) → Option (List ℕ) → List ℕ → Bool → Type 0
+Prints None new text true = ⊤
+Prints None new text false = 0 < length text
+Prints (Some old) None text whole = ⊥
+Prints (Some old) (Some new) text true = new ≡ old ++ text
+Prints (Some old) (Some new) text false = (k : ℕ) × (k < length text) × (new ≡ old ++ take k text)
+
+-- the files behind outputs, each of which sets its name
+abbrev pub apply : List OutputFile → Files → Files
+apply [] m = m
+apply (o ∷ os) m = apply os (insert m o.name o.bytes)
+
+-- a file holds the first part of its bytes, or stays as it was
+abbrev pub IsPartly : Files → List ℕ → List ℕ → Files → Type 0
+IsPartly old name bytes new = (new ≡ old) ⊎ ((k : ℕ) × (new ≡ insert old name (take k bytes)))
+
+-- the outputs before one are applied, and that one is written in part
+abbrev pub StopsAt : List OutputFile → ℕ → Files → Files → Type 0
+StopsAt outputs i old new = (o : OutputFile) × (slice_get outputs i ≡ Some o) × IsPartly (apply (take i outputs) old) o.name o.bytes new
+
+-- a text for each of two streams: both have taken theirs whole, or one stops short and nothing further is said
+abbrev pub SaysBoth : Option (List ℕ) → Option (List ℕ) → List ℕ → Option (List ℕ) → Option (List ℕ) → List ℕ → Bool → Type 0
+SaysBoth out_old out_new out err_old err_new err true = Prints out_old out_new out true × Prints err_old err_new err true
+SaysBoth out_old out_new out err_old err_new err false = (Prints out_old out_new out false × Keeps err_old err_new) ⊎ (Prints out_old out_new out true × Prints err_old err_new err false)
+
+abbrev pub is_file_error : StoreFault → Bool
+is_file_error FileError = true
+is_file_error _ = false
+
+-- the store's failures among those of writing
+abbrev pub is_failure : Unwritten → Bool
+is_failure u = is_file_error u.fault
+
+-- where both texts were taken, the files behind an outcome and its status; else no file is written
+abbrev pub Settles : Outcome → Files → Option Files → Status → Bool → Type 0
+Settles o old new status true = (new ≡ Some (apply o.outputs old)) × (status ≡ o.status)
+Settles o old new status false = (new ≡ Some old) × (status ≡ Failure)
+
+-- A run of an outcome: it says its texts, standard output's first, and then writes its files.
+pub record Performs (o : Outcome) (old : Files) (new : Option Files) (out_old out_new err_old err_new : Option (List ℕ)) (status : Status) : Type 0 where
+  pub whole : Bool
+  pub said : SaysBoth out_old out_new o.out err_old err_new o.err whole
+  pub settled : Settles o old new status whole
+
+-- Memory ran out while an outcome's files were written: its texts were taken whole, and behind them stands what is said
+-- of want of memory, or a first part of that.
+pub record StopsShort (o : Outcome) (memory : List ℕ) (old : Files) (new : Option Files) (out_old out_new err_old err_new : Option (List ℕ)) (status : Status) : Type 0 where
+  -- standard error behind its own text
+  pub err_mid : Option (List ℕ)
+  pub said : SaysBoth out_old out_new o.out err_old err_mid o.err true
+  pub whole : Bool
+  pub behind : Prints err_mid err_new memory whole
+  pub place : ℕ
+  pub left : Tells (StopsAt o.outputs place) (Some old) new
+  pub failed : status ≡ Failure

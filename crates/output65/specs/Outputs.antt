@@ -1,0 +1,18 @@
+-- What commands write.
+use Rattle.std.specs.Prelude.{ℕ, ◌==◌, if◌then◌else◌, List, [], ◌∷◌, ◌++◌, length, Option, Some, None}
+use Rattle.image65.specs.declared.output.OutputFile.{OutputFile}
+use Rattle.output65.specs.declared.outcome.Outcome.{Outcome}
+use Rattle.output65.specs.declared.outcome.Status.TheVariants.{Failure}
+
+-- a command that only says why
+abbrev pub failing : List ℕ → Outcome
+failing message = record { out = []; err = message; outputs = []; status = Failure }
+
+-- the file of a name, or none where the name is empty
+abbrev pub outputs_of : List ℕ → List ℕ → List OutputFile
+outputs_of name bytes = if length name == 0 then [] else record { name = name; bytes = bytes } ∷ []
+
+-- files with the map behind them, where it has a name
+abbrev pub with_map : Option (List ℕ) → List OutputFile → List ℕ → List OutputFile
+with_map None files map = files
+with_map (Some name) files map = files ++ record { name = name; bytes = map } ∷ []

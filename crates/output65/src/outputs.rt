@@ -1,0 +1,40 @@
+//! The files that a command leaves.
+
+ghost use Rattle.std.specs.Prelude.{◌≡◌, IfOk, option_map};
+ghost use Rattle.output65.specs.Outputs.{outputs_of, with_map};
+
+use base65::{Sequence, Text};
+use image65::OutputFile;
+use std::alloc::{AllocError, Global};
+
+/// The file of a name, or none where the name is empty.
+pub fn outputs_of(
+    alloc: Global,
+    name: &str,
+    bytes: Sequence<u8>,
+) -> Result<Sequence<OutputFile>, AllocError>
+    ensures { IfOk result (λ outputs. outputs ≡ outputs_of name.now bytes) }
+{
+    let mut outputs = Sequence::new(alloc);
+    if !name.is_empty() {
+        let name = Text::copy_of(alloc, name)?;
+        outputs.push(OutputFile { name, bytes })?;
+    }
+    Ok(outputs)
+}
+
+/// Files with the map behind them, where it has a name.
+pub fn with_map(
+    alloc: Global,
+    name: Option<&str>,
+    mut files: Sequence<OutputFile>,
+    map: Sequence<u8>,
+) -> Result<Sequence<OutputFile>, AllocError>
+    ensures { IfOk result (λ outputs. outputs ≡ with_map (option_map (λ s. s.now) name.entry) files map) }
+{
+    if let Some(name) = name {
+        let name = Text::copy_of(alloc, name)?;
+        files.push(OutputFile { name, bytes: map })?;
+    }
+    Ok(files)
+}

@@ -1,0 +1,90 @@
+//! Carries an outcome out.
+
+ghost use Rattle.std.specs.Prelude.{◌≡◌, ◌<◌, ◌≤◌, ◌⊎◌, [], slice_get, IfSome, Some};
+ghost use Rattle.base65.specs.Store.{NoneFailed};
+ghost use Rattle.output65.specs.Leaving.{Prints, SaysBoth, Performs, StopsShort};
+ghost use Rattle.cli65.specs.Messages.{memory_line};
+ghost use Rattle.image65.specs.declared.output.OutputFile.{OutputFile};
+ghost use Rattle.output65.specs.Stopping.{StopsWriting, file_error_line};
+
+use crate::outcome::{Outcome, Status};
+use crate::printing::{print, print_all};
+use crate::writing::{Unwritten, write_outputs};
+use base65::{Store, StoreFault};
+use image65::OutputFile;
+use std::io::Write;
+
+/// Says a text on each of two streams, on the second only where the first took all of its own, and answers
+/// whether both did.
+fn say_both<W: Write, E: Write>(out: &mut W, text: &[u8], err: &mut E, error_text: &[u8]) -> bool
+    ensures { SaysBoth (W.contents out.old) (W.contents out.new) text.now (E.contents err.old) (E.contents err.new) error_text.now result }
+{
+    if !print(out, text) {
+        return false;
+    }
+    print(err, error_text)
+}
+
+/// Says that memory ran out, behind a name, and answers whether the stream took all of it.
+pub fn say_memory<E: Write>(err: &mut E, name: &str) -> bool
+    ensures { Prints (E.contents err.old) (E.contents err.new) (memory_line name.now) result }
+{
+    print_all(err, &[name.as_bytes(), b": Error: out of memory\n"])
+}
+
+/// Says why an output isn't written: that memory ran out, or what befell its file. Answers whether the stream
+/// took all of it.
+fn say_unwritten<E: Write>(
+    err: &mut E,
+    outputs: &[OutputFile],
+    unwritten: Unwritten,
+    memory_name: &str,
+) -> bool
+    ensures memory { unwritten.fault ≡ StoreFault.OutOfMemory → Prints (E.contents err.old) (E.contents err.new) (memory_line memory_name.now) result }
+    ensures failed { (file : OutputFile) → unwritten.fault ≡ StoreFault.FileError → slice_get outputs.now unwritten.place ≡ Some file →
+        Prints (E.contents err.old) (E.contents err.new) (file_error_line file.name) result }
+{
+    let words: &[u8] = match unwritten.fault {
+        StoreFault::OutOfMemory => return say_memory(err, memory_name),
+        StoreFault::FileNotFound => b": Error: file not found\n",
+        StoreFault::FileError => b": Error: file error\n",
+    };
+    match outputs.get(unwritten.place) {
+        Some(output) => print_all(err, &[output.name.as_str().as_bytes(), words]),
+        None => false,
+    }
+}
+
+/// Carries an outcome out: says its texts, standard output's first, and then writes its files in order. Where
+/// a stream doesn't take its text nothing further is said or written; where a file isn't written no later one
+/// is, and the cause is said: want of memory behind the name handed in. Both answer failure.
+pub fn perform<S: Store, W: Write, E: Write>(
+    outcome: &Outcome,
+    store: &mut S,
+    out: &mut W,
+    err: &mut E,
+    memory_name: &str,
+) -> Status
+    ensures done { IfSome (S.files store.old) (λ m. NoneFailed (S.failures store.old) (S.failures store.new) →
+        Performs outcome.now m (S.files store.new) (W.contents out.old) (W.contents out.new) (E.contents err.old) (E.contents err.new) result
+        ⊎ StopsShort outcome.now (memory_line memory_name.now) m (S.files store.new) (W.contents out.old) (W.contents out.new) (E.contents err.old) (E.contents err.new) result) }
+    ensures plain { outcome.now.outputs ≡ [] → IfSome (S.files store.old) (λ m.
+        Performs outcome.now m (S.files store.new) (W.contents out.old) (W.contents out.new) (E.contents err.old) (E.contents err.new) result) }
+    ensures untouched { outcome.now.outputs ≡ [] → S.blamed store.new ≡ S.blamed store.old }
+    ensures failed { IfSome (S.files store.old) (λ m. S.failures store.old < S.failures store.new →
+        StopsWriting outcome.now m (S.files store.new) (S.blamed store.new) (W.contents out.old) (W.contents out.new) (E.contents err.old) (E.contents err.new) result) }
+    ensures later { S.failures store.old ≤ S.failures store.new }
+    ensures rose { S.failures store.old < S.failures store.new → result ≡ Status.Failure }
+    ensures failing { outcome.now.status ≡ Status.Failure → result ≡ Status.Failure }
+{
+    if !say_both(out, outcome.out.as_slice(), err, outcome.err.as_slice()) {
+        return Status::Failure;
+    }
+    match write_outputs(store, outcome.outputs.as_slice()) {
+        Ok(()) => outcome.status,
+        Err(unwritten) => {
+            say_unwritten(err, outcome.outputs.as_slice(), unwritten, memory_name);
+            Status::Failure
+        }
+    }
+}

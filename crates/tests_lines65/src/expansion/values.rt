@@ -1,0 +1,49 @@
+//! What is known of names and expressions: numbers and operators, and whether names are defined.
+
+ghost use Rattle.std.specs.Prelude.{◌≡◌};
+ghost use Rattle.syntax65.specs.Trees.{tree_of};
+ghost use Rattle.tests_lines65.specs.Constants.{value_of};
+
+use base65::{apply1, apply2};
+use expand65::Knows;
+use std::alloc::{AllocError, Global};
+use syntax65::{Expr, Name};
+
+/// The value of an expression without names.
+fn value_of(expr: &Expr) -> Option<i64>
+    ensures { result ≡ value_of (tree_of expr.now) }
+{
+    match expr {
+        Expr::Number(value) => Some(*value as i64),
+        Expr::Prefix(op, part) => {
+            let part = value_of(part)?;
+            Some(apply1(*op, part))
+        }
+        Expr::Binary(op, left, right) => {
+            let left = value_of(left)?;
+            let right = value_of(right)?;
+            apply2(*op, left, right)
+        }
+        _ => None,
+    }
+}
+
+/// Expressions without names have values; all names are defined, or none.
+#[derive(Drop)]
+pub struct Constants {
+    pub all: bool,
+}
+
+impl Knows for Constants {
+    ghost use Rattle.tests_lines65.specs.Constants.{meaning_of};
+
+    ghost meaning = { λ k. meaning_of k.all };
+
+    fn value(&self, _alloc: Global, expr: &Expr) -> Result<Option<i64>, AllocError> {
+        Ok(value_of(expr))
+    }
+
+    fn defined(&self, _name: &Name) -> bool {
+        self.all
+    }
+}

@@ -17,8 +17,8 @@ use crate::refusal::Refusal;
 use crate::replacing::put_files;
 use crate::writing::library_bytes;
 use base65::{Sequence, Store};
-use library65::Library;
 use cli65::{ArchiveLine, Operation};
+use library65::Library;
 use std::alloc::Global;
 
 /// What a line of the librarian comes to.

@@ -8,8 +8,8 @@ ghost use Rattle.ar65.specs.declared.refusal.Refusal.TheVariants.{Library};
 ghost use Rattle.ar65.specs.Refusals.{is_memory, named, refusal_message};
 
 use base65::Sequence;
-use library65::LibraryFault;
 use cli65::{ArchiveLine, file_message, join};
+use library65::LibraryFault;
 use std::alloc::{AllocError, Global};
 
 /// Why a line of the librarian is refused.

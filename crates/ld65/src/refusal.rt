@@ -8,8 +8,8 @@ ghost use Rattle.ld65.specs.declared.refusal.Refusal.TheVariants.{OutOfMemory, S
 ghost use Rattle.ld65.specs.Refusals.{cause_message, is_memory, link_message, named, refusal_at, refusal_in, refusal_message};
 
 use base65::{Sequence, StoreFault};
-use library65::LibraryFault;
 use cli65::{LinkLine, file_message, join, line_message};
+use library65::LibraryFault;
 use link65::{LinkFault, fault_text};
 use object65::ObjectFault;
 use script65::{Fault, ScriptFault};

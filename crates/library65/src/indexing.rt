@@ -10,12 +10,11 @@ ghost use Rattle.library65.specs.Names.{is_among};
 ghost use Rattle.library65.specs.Reading.{in_file, symbol_at, counted_at, count_at, member_name_at, listing_at, list_at};
 
 use crate::LibraryFault;
-use crate::index::Listing;
 use crate::fields::{read_head, read_name, read_number};
+use crate::index::{Listing, has_name};
 use crate::naming::{add_name, is_file_name, is_symbol_name};
 use base65::{Sequence, Store};
 use indexmap::IndexSet;
-use crate::index::has_name;
 use std::alloc::Global;
 
 /// Reads the name of an export or an import, and answers where it ends.

@@ -2,9 +2,9 @@
 
 use crate::stores::{ByteByByte, Counting, FailsOnce, Filling, Stopping};
 use base65::MemStore;
-use testkit65::{LINK, O1, S1, files, is_quiet, run_on, says};
 use std::alloc::{AllocError, Global};
 use std::test::Fail;
+use testkit65::{LINK, O1, S1, files, is_quiet, run_on, says};
 use tools65::{Status, run};
 
 #[test]

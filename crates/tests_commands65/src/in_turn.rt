@@ -3,9 +3,9 @@
 
 use crate::stores::{FailsOnce, Stopping};
 use base65::{MemStore, Text};
-use testkit65::{RUNS, Ran, is_right, parts_of, run_on, words_of};
 use std::alloc::{AllocError, Global};
 use std::test::Fail;
+use testkit65::{RUNS, Ran, is_right, parts_of, run_on, words_of};
 use tools65::{Status, run};
 
 /// Adds a name to those that are kept, where it isn't there.

@@ -3,9 +3,9 @@
 ghost use Rattle.std.specs.Prelude.{Some, None};
 
 use base65::{MemStore, Store, StoreFault};
-use testkit65::{S1, first_wrong, run_on, says};
 use std::alloc::{AllocError, Global};
 use std::test::Fail;
+use testkit65::{S1, first_wrong, run_on, says};
 use tools65::Status;
 
 /// Which members are linked where a library stands, and how libraries are refused.

@@ -1,9 +1,9 @@
 //! Command lines on their own.
 
 use base65::{MemStore, Sequence};
-use testkit65::{O1, Ran, S1, files, is_quiet};
 use std::alloc::{AllocError, Global};
 use std::test::Fail;
+use testkit65::{O1, Ran, S1, files, is_quiet};
 use tools65::{
     AssembleLine, Define, Line, LinkLine, Operation, Status, print, read_line, run_line, write_file,
 };

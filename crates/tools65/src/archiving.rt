@@ -6,8 +6,8 @@ ghost use Rattle.tools65.specs.Archives.{archive_outcome, archived_outcome, libr
 
 use ar65::{Archived, MemberFile, Refusal, refusal_message};
 use base65::{Sequence, Text};
-use ld65::OutputFile;
 use cli65::ArchiveLine;
+use ld65::OutputFile;
 use output65::{Outcome, Status};
 use std::alloc::{AllocError, Global};
 

@@ -1,8 +1,8 @@
+use super::{ROM, fault_of};
 use base65::Sequence;
 use script65::{Fault, ScriptFault, read_script};
 use std::alloc::Global;
 use std::test::Fail;
-use super::{ROM, fault_of};
 
 #[test]
 fn faults_with_their_lines(rt: HostRuntime) {

@@ -2,12 +2,12 @@
 
 ghost use Rattle.std.specs.Prelude.{⊤};
 
+use super::placed;
 use base65::Sequence;
 use image65::{OutputFile, RowContents, files_of};
 use script65::{Placement, Row, Script, read_script};
 use std::alloc::{AllocError, Global};
 use std::test::Fail;
-use super::placed;
 
 /// Rows that hold their names.
 #[derive(Drop)]

@@ -1,9 +1,9 @@
 //! Where rows are placed, and why they can't be.
 
+use super::{ROM, place_text};
 use script65::{AreaPlace, RowPlace};
 use std::alloc::Global;
 use std::test::Fail;
-use super::{ROM, place_text};
 
 fn row(load: u64, run: u64, size: u64) -> RowPlace {
     RowPlace { load, run, size }

@@ -15,7 +15,7 @@ use Rattle.script65.specs.Faults.{is_script_outside}
 use Rattle.script65.specs.Grammar.{First as FirstOf, sized}
 use Rattle.base65.specs.Outcome.{◌>>=◌}
 use Rattle.script65.specs.Scripts.{IsScript, script_of, with_line}
-use Rattle.linkage65.specs.declared.linked.Linked.{Linked}
+use Rattle.link65.specs.declared.linked.Linked.{Linked}
 use Rattle.cli65.specs.Line.{Linking}
 use Rattle.ld65.specs.declared.refusal.Refusal.{Refusal}
 use Rattle.ld65.specs.declared.refusal.Refusal.TheVariants as refusal

@@ -18,12 +18,12 @@ use Rattle.library65.specs.Selection.{IsSelection}
 use Rattle.script65.specs.Scripts.{IsScript}
 use Rattle.script65.specs.declared.fault.ScriptFault.{ScriptFault}
 use Rattle.script65.specs.declared.script.Script.{Script}
-use Rattle.linkage65.specs.declared.fault.LinkFault.{LinkFault}
-use Rattle.linkage65.specs.declared.linked.Linked.{Linked}
-use Rattle.linkage65.specs.Givers.{given_names, open_names}
-use Rattle.linkage65.specs.Links.{LinkOf, names_once}
-use Rattle.linkage65.specs.Modules.{Module}
-use Rattle.linkage65.specs.Programs.{program_of}
+use Rattle.link65.specs.declared.fault.LinkFault.{LinkFault}
+use Rattle.link65.specs.declared.linked.Linked.{Linked}
+use Rattle.link65.specs.Givers.{given_names, open_names}
+use Rattle.link65.specs.Links.{LinkOf, names_once}
+use Rattle.link65.specs.Modules.{Module}
+use Rattle.link65.specs.Programs.{program_of}
 use Rattle.link65.specs.Standing.{agreed, as_link, joined as joined_to, module_of}
 use Rattle.cli65.specs.Line.{Linking}
 use Rattle.cli65.specs.Messages.{joined}

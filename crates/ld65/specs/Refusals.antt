@@ -8,9 +8,9 @@ use Rattle.object65.specs.Fault.{fault_text, is_memory as is_object_memory}
 use Rattle.library65.specs.declared.fault.LibraryFault.TheVariants as library
 use Rattle.library65.specs.Fault.{displayed as library_words, is_memory as is_library_memory}
 use Rattle.script65.specs.Faults.{is_memory_fault, script_fault_text as script_words}
-use Rattle.linkage65.specs.declared.fault.LinkFault.{LinkFault}
-use Rattle.linkage65.specs.declared.fault.LinkFault.TheVariants as link
-use Rattle.linkage65.specs.Faults.{fault_text as link_words, is_memory as is_link_memory}
+use Rattle.link65.specs.declared.fault.LinkFault.{LinkFault}
+use Rattle.link65.specs.declared.fault.LinkFault.TheVariants as link
+use Rattle.link65.specs.Faults.{fault_text as link_words, is_memory as is_link_memory}
 use Rattle.cli65.specs.Line.{Linking}
 use Rattle.cli65.specs.Messages.{file_message, line_message}
 use Rattle.ld65.specs.declared.refusal.Refusal.{Refusal}

@@ -1,7 +1,7 @@
 //! Why nothing is linked.
 
 ghost use Rattle.std.specs.Prelude.{◌≡◌, IfOk, map};
-ghost use Rattle.linkage65.specs.declared.fault.LinkFault.{LinkFault};
+ghost use Rattle.link65.specs.declared.fault.LinkFault.{LinkFault};
 ghost use Rattle.cli65.specs.Line.{linking};
 ghost use Rattle.cli65.specs.Messages.{file_message};
 ghost use Rattle.ld65.specs.declared.refusal.Refusal.TheVariants.{OutOfMemory, ScriptFile, Script, Link};

@@ -8,14 +8,14 @@ use Rattle.object65.specs.declared.object.Object.{Object}
 use Rattle.object65.specs.declared.item.Item.TheVariants as item
 use Rattle.object65.specs.declared.fault.ObjectFault.TheVariants as object
 use Rattle.base65.specs.Outcome.{◌>>=◌, Finds, First, Refuses, Unless}
-use Rattle.linkage65.specs.GivenTwice.{all_once}
-use Rattle.linkage65.specs.Givers.{first_again, given_names}
-use Rattle.linkage65.specs.declared.linked.Linked.{Linked}
-use Rattle.linkage65.specs.Links.{IsProgramLink, LinkOf, no_name_again}
-use Rattle.linkage65.specs.declared.parts.Exported.{Exported}
+use Rattle.link65.specs.GivenTwice.{all_once}
+use Rattle.link65.specs.Givers.{first_again, given_names}
+use Rattle.link65.specs.declared.linked.Linked.{Linked}
+use Rattle.link65.specs.Links.{IsProgramLink, LinkOf, no_name_again}
+use Rattle.link65.specs.declared.parts.Exported.{Exported}
 use Rattle.script65.specs.declared.script.Script.{Script}
 use Rattle.std.proofs.Math.Seq.{drop-append_seam}
-use Rattle.link65.proofs.GivenLemmas.{map_behind, module_gives, once_behind, once_of}
+use Rattle.link65.proofs.DefinedLemmas.{map_behind, module_gives, once_behind, once_of}
 use Rattle.std.specs.Prelude.{IfErr, OnOk}
 use Rattle.object65.specs.Items.{with_item}
 use Rattle.object65.specs.Record.{Entry}
@@ -25,14 +25,14 @@ use Rattle.object65.proofs.Builders.{reached_next}
 use Rattle.object65.proofs.Rooms.{bound}
 use Rattle.object65.proofs.Scannings.{Agrees, agrees}
 use Rattle.object65.proofs.Withins.{led}
-use Rattle.linkage65.specs.declared.fault.LinkFault.{LinkFault}
-use Rattle.linkage65.specs.declared.fault.LinkFault.TheVariants as fault
-use Rattle.linkage65.specs.Faults.{is_memory}
-use Rattle.linkage65.specs.Growing.{Growth, at_rest, ended, grown_by}
-use Rattle.linkage65.proofs.GrowingLaw.{growth_law}
-use Rattle.linkage65.specs.Grounds.{IsSmall}
-use Rattle.linkage65.specs.Modules.{Module}
-use Rattle.linkage65.specs.Programs.{Program, exported, program_of, with_module, with_modules}
+use Rattle.link65.specs.declared.fault.LinkFault.{LinkFault}
+use Rattle.link65.specs.declared.fault.LinkFault.TheVariants as fault
+use Rattle.link65.specs.Faults.{is_memory}
+use Rattle.link65.specs.Growing.{Growth, at_rest, ended, grown_by}
+use Rattle.link65.proofs.GrowingLaw.{growth_law}
+use Rattle.link65.specs.Grounds.{IsSmall}
+use Rattle.link65.specs.Modules.{Module}
+use Rattle.link65.specs.Programs.{Program, exported, program_of, with_module, with_modules}
 use Rattle.link65.specs.Inner.Fields.{Comes, are_listed, exports_from, matched}
 use Rattle.link65.specs.Standing.{Feeding, IsFed, IsFeeding, Leads, Opened, agreed, agrees_with, as_link, joined, listed_of, module_of, opening, whole}
 use Rattle.link65.specs.declared.listed.Listed.{Listed}

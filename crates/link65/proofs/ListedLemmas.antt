@@ -3,7 +3,7 @@ use Rattle.std.proofs.Common.{◌≡◌, ◌∙◌, ◌<◌, ◌&&◌, ℕ, suc,
 use Rattle.std.specs.Str.{bytes_eq}
 use Rattle.std.proofs.Math.Seq.{drop-cons}
 use Rattle.library65.specs.Libraries.{are_same}
-use Rattle.linkage65.specs.declared.parts.Exported.{Exported}
+use Rattle.link65.specs.declared.parts.Exported.{Exported}
 
 -- a name and an export that stand at one place differ
 pub differ : (names : List (List ℕ)) (exports : List Exported) (i : ℕ) (x : List ℕ) (y : Exported) → i < length names → i < length exports → x ≡ get_or names i x → y ≡ get_or exports i y → bytes_eq x y.name ≡ false → are_same (drop i names) (map (λ e. e.name) (drop i exports)) ≡ false

@@ -2,9 +2,9 @@
 use Rattle.std.specs.Prelude.{◌≡◌, Bool, true, false, not, ◌||◌, Result, IfErr}
 use Rattle.object65.specs.declared.fault.ObjectFault.TheVariants.{CutShort}
 use Rattle.object65.specs.Fault.{is_memory as is_object_memory}
-use Rattle.linkage65.specs.declared.fault.LinkFault.{LinkFault}
-use Rattle.linkage65.specs.declared.fault.LinkFault.TheVariants as fault
-use Rattle.linkage65.specs.Faults.{is_memory}
+use Rattle.link65.specs.declared.fault.LinkFault.{LinkFault}
+use Rattle.link65.specs.declared.fault.LinkFault.TheVariants as fault
+use Rattle.link65.specs.Faults.{is_memory}
 
 -- a refusal is want of memory or one of the call's own
 abbrev pub RefusesBy : {A : Type 0} → (LinkFault → Bool) → Result A LinkFault → Type 0

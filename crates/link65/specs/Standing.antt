@@ -10,16 +10,16 @@ use Rattle.object65.specs.Taking.{IsReached, State, after, finished, start}
 use Rattle.library65.specs.declared.index.Entry.{Entry as Listing}
 use Rattle.library65.specs.Libraries.{agrees, contents_from}
 use Rattle.script65.specs.declared.script.Script.{Script}
-use Rattle.linkage65.specs.declared.fault.LinkFault.{LinkFault}
-use Rattle.linkage65.specs.declared.fault.LinkFault.TheVariants as fault
-use Rattle.linkage65.specs.Faults.{is_memory}
-use Rattle.linkage65.specs.Growing.{Growth, at_rest, growth_of}
-use Rattle.linkage65.specs.Modules.{Module}
-use Rattle.linkage65.specs.Programs.{Program, program_of}
-use Rattle.linkage65.specs.GivenTwice.{all_once}
-use Rattle.linkage65.specs.Givers.{given_names}
-use Rattle.linkage65.specs.declared.linked.Linked.{Linked}
-use Rattle.linkage65.specs.Links.{LinkOf, names_once}
+use Rattle.link65.specs.declared.fault.LinkFault.{LinkFault}
+use Rattle.link65.specs.declared.fault.LinkFault.TheVariants as fault
+use Rattle.link65.specs.Faults.{is_memory}
+use Rattle.link65.specs.Growing.{Growth, at_rest, growth_of}
+use Rattle.link65.specs.Modules.{Module}
+use Rattle.link65.specs.Programs.{Program, program_of}
+use Rattle.link65.specs.GivenTwice.{all_once}
+use Rattle.link65.specs.Givers.{given_names}
+use Rattle.link65.specs.declared.linked.Linked.{Linked}
+use Rattle.link65.specs.Links.{LinkOf, names_once}
 use Rattle.link65.specs.declared.listed.Listed.{Listed}
 
 -- a module that is open: its name, and what is kept of its records beside what grows

@@ -1,13 +1,15 @@
 //! What is kept of modules: the names that they give, and all that is linked of them.
 
 ghost use Rattle.std.specs.Prelude.{◌≡◌, IfOk, map};
-ghost use Rattle.linkage65.specs.Finishing.{program_from};
-ghost use Rattle.linkage65.specs.GivenTwice.{names_in};
-ghost use Rattle.linkage65.specs.Grounds.{growth_in};
+ghost use Rattle.link65.specs.Finishing.{program_from};
+ghost use Rattle.link65.specs.GivenTwice.{names_in};
+ghost use Rattle.link65.specs.Grounds.{growth_in};
 
+use crate::given::Given;
+use crate::growing::Growing;
+use crate::kept::Kept;
 use base65::Sequence;
 use library65::Names;
-use linkage65::{Given, Growing, Kept};
 use std::alloc::AllocError;
 
 /// A copy of the names that are given.

@@ -4,20 +4,26 @@ ghost use Rattle.std.specs.Prelude.{◌≡◌, ◌+◌, [], Err, IfErr, IfOk, On
 ghost use Rattle.std.specs.Option.{option_map};
 ghost use Rattle.object65.specs.Record.{entry_of};
 ghost use Rattle.base65.specs.Outcome.{Gives};
-ghost use Rattle.linkage65.specs.Faults.{is_memory};
-ghost use Rattle.linkage65.specs.Links.{names_once};
-ghost use Rattle.linkage65.specs.Programs.{program_of};
-ghost use Rattle.linkage65.specs.Givers.{given_names, open_names};
+ghost use Rattle.link65.specs.Faults.{is_memory};
+ghost use Rattle.link65.specs.Links.{names_once};
+ghost use Rattle.link65.specs.Programs.{program_of};
+ghost use Rattle.link65.specs.Givers.{given_names, open_names};
 ghost use Rattle.link65.specs.Inner.Fields.{ended_exports};
 ghost use Rattle.link65.specs.Refusals.{RefusesBy, is_of_end, is_of_finish, is_of_record};
 ghost use Rattle.link65.specs.Standing.{AreNames, Begins, Continues, Ends, IsFed, IsRefused, Keeps, Links, is_open, values_in};
 
+use crate::fault::LinkFault;
 use crate::feeding::{before_place, close_module, open_module, take_record};
+use crate::given::Given;
+use crate::growing::{Growing, no_module};
 use crate::keeping::{copy_of, kept_of};
+use crate::linked::Linked;
+use crate::linking::link;
+use crate::missing::open_names;
 use crate::open::Open;
+use crate::parts::Exported;
 use base65::Text;
 use library65::{Entry, Names};
-use linkage65::{Exported, Given, Growing, LinkFault, Linked, link, no_module, open_names};
 use object65::Record;
 use script65::Script;
 use std::alloc::Global;
@@ -41,8 +47,8 @@ impl Model for Linker {
     ghost use Rattle.std.specs.Prelude.{◌≡◌, false};
     ghost use Rattle.std.specs.Coded.{codes};
     ghost use Rattle.object65.specs.Form.{form_code};
-    ghost use Rattle.linkage65.specs.GivenTwice.{names_in};
-    ghost use Rattle.linkage65.specs.Grounds.{AreNamed, growth_in};
+    ghost use Rattle.link65.specs.GivenTwice.{names_in};
+    ghost use Rattle.link65.specs.Grounds.{AreNamed, growth_in};
     ghost use Rattle.link65.specs.Standing.{Feeding};
     ghost use Rattle.link65.specs.Inner.Fields.{opened_in};
 

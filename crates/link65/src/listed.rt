@@ -6,9 +6,9 @@ ghost use Rattle.library65.specs.Libraries.{are_same};
 ghost use Rattle.link65.specs.Inner.Fields.{are_listed};
 ghost use Rattle.link65.specs.Standing.{listed_of};
 
+use crate::parts::Exported;
 use base65::Sequence;
 use library65::Entry;
-use linkage65::Exported;
 use std::alloc::{AllocError, Global};
 
 /// The names that an index has of a member: what it exports and what it imports, in its order.

@@ -10,14 +10,14 @@ use Rattle.library65.specs.Selection.{IsSelection}
 use Rattle.library65.specs.declared.index.Entry.{Entry}
 use Rattle.library65.specs.declared.fault.LibraryFault.{LibraryFault}
 use Rattle.script65.specs.declared.script.Script.{Script}
-use Rattle.linkage65.specs.Givers.{first_again, given_names, is_among, open_names}
-use Rattle.linkage65.specs.Links.{names_once}
-use Rattle.linkage65.specs.Modules.{Module}
-use Rattle.linkage65.specs.Names.{script_names}
-use Rattle.linkage65.specs.Programs.{exported, program_of}
-use Rattle.linkage65.specs.declared.fault.LinkFault.{LinkFault}
-use Rattle.linkage65.specs.declared.fault.LinkFault.TheVariants.{IndexDisagrees, Malformed}
-use Rattle.linkage65.specs.declared.parts.Exported.{Exported}
+use Rattle.link65.specs.Givers.{first_again, given_names, is_among, open_names}
+use Rattle.link65.specs.Links.{names_once}
+use Rattle.link65.specs.Modules.{Module}
+use Rattle.link65.specs.Names.{script_names}
+use Rattle.link65.specs.Programs.{exported, program_of}
+use Rattle.link65.specs.declared.fault.LinkFault.{LinkFault}
+use Rattle.link65.specs.declared.fault.LinkFault.TheVariants.{IndexDisagrees, Malformed}
+use Rattle.link65.specs.declared.parts.Exported.{Exported}
 use Rattle.link65.specs.Standing.{agreed, agrees_with, as_link, joined as joined_to, module_of}
 use Rattle.whole65.proofs.Given.{none_again}
 use Rattle.whole65.proofs.Givers.{exports_are, linked_exports}

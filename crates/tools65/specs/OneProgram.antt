@@ -12,9 +12,9 @@ use Rattle.asm65.specs.Assembly.{IsAssembled}
 use Rattle.object65.specs.declared.object.Object.{Object}
 use Rattle.library65.specs.Selection.{IsSelection}
 use Rattle.library65.specs.declared.index.Entry.{Entry}
-use Rattle.linkage65.specs.Givers.{given_names, open_names}
-use Rattle.linkage65.specs.Modules.{Module}
-use Rattle.linkage65.specs.Programs.{program_of}
+use Rattle.link65.specs.Givers.{given_names, open_names}
+use Rattle.link65.specs.Modules.{Module}
+use Rattle.link65.specs.Programs.{program_of}
 use Rattle.link65.specs.Standing.{agrees_with, module_of}
 use Rattle.image65.specs.declared.output.OutputFile.{OutputFile}
 use Rattle.whole65.specs.Equality.{IsLinkedTo}

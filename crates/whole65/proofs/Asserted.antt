@@ -19,18 +19,18 @@ use Rattle.language65.specs.Laid.{Laid}
 use Rattle.language65.specs.Layout.{Layout}
 use Rattle.language65.specs.Numbering.{all_said, assert_of, import_keys, numbered, section_keys}
 use Rattle.language65.specs.Symbols.{Symbols}
-use Rattle.linkage65.specs.Checks.{assertion_result, check_assert, check_asserts, site, value_at, value_fault}
-use Rattle.linkage65.specs.Modules.{Module}
-use Rattle.linkage65.specs.Places.{linkage_of}
-use Rattle.linkage65.specs.Programs as linked
-use Rattle.linkage65.specs.Values.{AreExports, Exports, Linkage, exports_through, in_table, value_by}
-use Rattle.linkage65.specs.Warnings.{assertion_warning}
-use Rattle.linkage65.specs.declared.fault.LinkFault.{LinkFault}
-use Rattle.linkage65.specs.declared.fault.LinkFault.TheVariants as fault
-use Rattle.linkage65.specs.declared.fault.Site.{Site}
-use Rattle.linkage65.specs.declared.parts.Asserted.{Asserted}
-use Rattle.linkage65.specs.declared.parts.Member.{Member}
-use Rattle.linkage65.specs.declared.parts.ValueFault.{ValueFault}
+use Rattle.link65.specs.Checks.{assertion_result, check_assert, check_asserts, site, value_at, value_fault}
+use Rattle.link65.specs.Modules.{Module}
+use Rattle.link65.specs.Places.{linkage_of}
+use Rattle.link65.specs.Programs as linked
+use Rattle.link65.specs.Values.{AreExports, Exports, Linkage, exports_through, in_table, value_by}
+use Rattle.link65.specs.Warnings.{assertion_warning}
+use Rattle.link65.specs.declared.fault.LinkFault.{LinkFault}
+use Rattle.link65.specs.declared.fault.LinkFault.TheVariants as fault
+use Rattle.link65.specs.declared.fault.Site.{Site}
+use Rattle.link65.specs.declared.parts.Asserted.{Asserted}
+use Rattle.link65.specs.declared.parts.Member.{Member}
+use Rattle.link65.specs.declared.parts.ValueFault.{ValueFault}
 use Rattle.module65.proofs.SoundForms.{all_append}
 use Rattle.module65.specs.Module.{contents_from}
 use Rattle.whole65.proofs.Asserting.{IsPassed, lines_pass}

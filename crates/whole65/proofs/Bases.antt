@@ -15,14 +15,14 @@ use Rattle.script65.specs.declared.script.Script.{Script}
 use Rattle.language65.specs.declared.contents.Content.{Content}
 use Rattle.language65.specs.Layout.{Layout}
 use Rattle.language65.specs.Numbering.{import_keys, number_of, object_with, section_keys, section_of}
-use Rattle.linkage65.specs.Modules.{Module}
-use Rattle.linkage65.specs.Places.{address_of, linkage_of, resolved, run_of}
-use Rattle.linkage65.specs.Programs.{Program, member, no_program, program_of, with_module, with_modules}
-use Rattle.linkage65.specs.Segments as linked
-use Rattle.linkage65.specs.Segments.{grown, section_place, section_places, segment_of, with_section}
-use Rattle.linkage65.specs.Values.{base_of}
-use Rattle.linkage65.specs.declared.parts.Member.{Member}
-use Rattle.linkage65.specs.declared.parts.SectionPlace.{SectionPlace}
+use Rattle.link65.specs.Modules.{Module}
+use Rattle.link65.specs.Places.{address_of, linkage_of, resolved, run_of}
+use Rattle.link65.specs.Programs.{Program, member, no_program, program_of, with_module, with_modules}
+use Rattle.link65.specs.Segments as linked
+use Rattle.link65.specs.Segments.{grown, section_place, section_places, segment_of, with_section}
+use Rattle.link65.specs.Values.{base_of}
+use Rattle.link65.specs.declared.parts.Member.{Member}
+use Rattle.link65.specs.declared.parts.SectionPlace.{SectionPlace}
 use Rattle.whole65.proofs.Growth.{one_section}
 use Rattle.whole65.proofs.Keys.{AreOnce, held, keys_of, number_first, number_later}
 use Rattle.whole65.proofs.Naming.{Distinct, named}

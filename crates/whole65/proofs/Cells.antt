@@ -5,8 +5,8 @@ use Rattle.std.specs.List.{flat_map}
 use Rattle.std.proofs.lemmas.List.{append-nil, append_assoc}
 use Rattle.object65.specs.declared.object.Fragment.{Fragment}
 use Rattle.object65.specs.declared.object.Fragment.TheVariants.{Literal, Fill, Value}
-use Rattle.linkage65.specs.Segments.{Cell, known, filled, fragment_cells}
-use Rattle.linkage65.specs.Values.{Linkage}
+use Rattle.link65.specs.Segments.{Cell, known, filled, fragment_cells}
+use Rattle.link65.specs.Values.{Linkage}
 use Rattle.whole65.specs.Cells.{AreCells, linked_value}
 use Rattle.whole65.specs.Laws.{CellsLaw}
 use Rattle.whole65.specs.Parts.{AreFragments, IsFragment}

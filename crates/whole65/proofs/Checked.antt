@@ -4,16 +4,16 @@ use Rattle.std.specs.Prelude.{ℤ}
 use Rattle.std.specs.List.{flat_map}
 use Rattle.base65.specs.Outcome.{◌>>=◌}
 use Rattle.object65.specs.Objects.{fits_width, value_bytes}
-use Rattle.linkage65.specs.Checks.{check_waiting, each_passes, fitting, site, value_at, waiting_in}
-use Rattle.linkage65.specs.RowBytes.{cell_bytes, or_zero, stored}
-use Rattle.linkage65.specs.Segments.{Cell, known, filled, waits}
-use Rattle.linkage65.specs.Values.{AreExports, Exports, Linkage, in_table, value_by}
-use Rattle.linkage65.specs.declared.fault.LinkFault.{LinkFault}
-use Rattle.linkage65.specs.declared.fault.LinkFault.TheVariants as fault
-use Rattle.linkage65.specs.declared.fault.Site.{Site}
-use Rattle.linkage65.specs.declared.parts.Member.{Member}
-use Rattle.linkage65.specs.declared.parts.ValueFault.{ValueFault}
-use Rattle.linkage65.specs.declared.parts.Waiting.{Waiting}
+use Rattle.link65.specs.Checks.{check_waiting, each_passes, fitting, site, value_at, waiting_in}
+use Rattle.link65.specs.RowBytes.{cell_bytes, or_zero, stored}
+use Rattle.link65.specs.Segments.{Cell, known, filled, waits}
+use Rattle.link65.specs.Values.{AreExports, Exports, Linkage, in_table, value_by}
+use Rattle.link65.specs.declared.fault.LinkFault.{LinkFault}
+use Rattle.link65.specs.declared.fault.LinkFault.TheVariants as fault
+use Rattle.link65.specs.declared.fault.Site.{Site}
+use Rattle.link65.specs.declared.parts.Member.{Member}
+use Rattle.link65.specs.declared.parts.ValueFault.{ValueFault}
+use Rattle.link65.specs.declared.parts.Waiting.{Waiting}
 use Rattle.whole65.proofs.Evaluated.{table_law}
 use Rattle.whole65.proofs.Later.{bind_ok}
 use Rattle.whole65.specs.Cells.{AreCells, linked_value}

@@ -5,14 +5,14 @@ use Rattle.base65.specs.Outcome.{◌>>=◌}
 use Rattle.base65.specs.Values.{value1, value2}
 use Rattle.object65.specs.Form.{Form, lit, sec, imp, prefix, binary}
 use Rattle.object65.specs.FormValue.{or_none}
-use Rattle.linkage65.proofs.Tries.{exports_grow, form_grows}
-use Rattle.linkage65.proofs.Turns.{Known, further, settles_once}
-use Rattle.linkage65.specs.declared.parts.Exported.{Exported}
-use Rattle.linkage65.specs.declared.parts.Giver.{Giver}
-use Rattle.linkage65.specs.declared.parts.Giver.TheVariants.{ByModule, ByScript, Nobody}
-use Rattle.linkage65.specs.declared.parts.ValueFault.{ValueFault}
-use Rattle.linkage65.specs.declared.parts.ValueFault.TheVariants.{Circular, NoValue, Unresolved}
-use Rattle.linkage65.specs.Values.{AreExports, Exports, Linkage, Settles, base_of, export_value, exports_through, giver_at, import_value, in_table, value_by}
+use Rattle.link65.proofs.Tries.{exports_grow, form_grows}
+use Rattle.link65.proofs.Turns.{Known, further, settles_once}
+use Rattle.link65.specs.declared.parts.Exported.{Exported}
+use Rattle.link65.specs.declared.parts.Giver.{Giver}
+use Rattle.link65.specs.declared.parts.Giver.TheVariants.{ByModule, ByScript, Nobody}
+use Rattle.link65.specs.declared.parts.ValueFault.{ValueFault}
+use Rattle.link65.specs.declared.parts.ValueFault.TheVariants.{Circular, NoValue, Unresolved}
+use Rattle.link65.specs.Values.{AreExports, Exports, Linkage, Settles, base_of, export_value, exports_through, giver_at, import_value, in_table, value_by}
 use Rattle.whole65.proofs.Later.{bind_ok, value_covered}
 use Rattle.whole65.specs.Cells.{linked_value}
 use Rattle.whole65.specs.Laws.{TableLaw}

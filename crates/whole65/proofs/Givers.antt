@@ -23,20 +23,20 @@ use Rattle.language65.specs.Names.{or_else, or_fault}
 use Rattle.language65.specs.Norms.{defined_form, form_of_meaning, norm, norm_of}
 use Rattle.language65.specs.Numbering.{all_said, exports_among, import_keys, numbered, section_keys}
 use Rattle.language65.specs.Symbols.{Symbols, defined, imported, named}
-use Rattle.linkage65.specs.Givers.{by_definition, by_export, defined_at, exported_at, is_among}
-use Rattle.linkage65.specs.Givers as linked
-use Rattle.linkage65.specs.Lists.{position_in}
-use Rattle.linkage65.specs.Modules.{Module}
-use Rattle.linkage65.specs.Names.{script_definitions, weak_symbols}
-use Rattle.linkage65.specs.Places.{linkage_of}
-use Rattle.linkage65.specs.Programs.{Program, exported, no_program, program_of, with_module, with_modules, member}
-use Rattle.linkage65.specs.Values.{Linkage, export_value, exports_through, import_value, value_by}
-use Rattle.linkage65.specs.declared.parts.Definition.{Definition}
-use Rattle.linkage65.specs.declared.parts.Exported as parts
-use Rattle.linkage65.specs.declared.parts.Giver.{Giver}
-use Rattle.linkage65.specs.declared.parts.Giver.TheVariants.{ByModule, ByScript, Nobody}
-use Rattle.linkage65.specs.declared.parts.ValueFault.{ValueFault}
-use Rattle.linkage65.specs.declared.parts.ValueFault.TheVariants.{Circular, NoValue, Unresolved}
+use Rattle.link65.specs.Givers.{by_definition, by_export, defined_at, exported_at, is_among}
+use Rattle.link65.specs.Givers as linked
+use Rattle.link65.specs.Lists.{position_in}
+use Rattle.link65.specs.Modules.{Module}
+use Rattle.link65.specs.Names.{script_definitions, weak_symbols}
+use Rattle.link65.specs.Places.{linkage_of}
+use Rattle.link65.specs.Programs.{Program, exported, no_program, program_of, with_module, with_modules, member}
+use Rattle.link65.specs.Values.{Linkage, export_value, exports_through, import_value, value_by}
+use Rattle.link65.specs.declared.parts.Definition.{Definition}
+use Rattle.link65.specs.declared.parts.Exported as parts
+use Rattle.link65.specs.declared.parts.Giver.{Giver}
+use Rattle.link65.specs.declared.parts.Giver.TheVariants.{ByModule, ByScript, Nobody}
+use Rattle.link65.specs.declared.parts.ValueFault.{ValueFault}
+use Rattle.link65.specs.declared.parts.ValueFault.TheVariants.{Circular, NoValue, Unresolved}
 use Rattle.module65.proofs.SoundForms.{all_append}
 use Rattle.language65.proofs.Segments.{all_more}
 use Rattle.module65.specs.Module.{contents_from}

@@ -8,18 +8,18 @@ use Rattle.script65.specs.declared.placement.Placement.{Placement}
 use Rattle.script65.specs.declared.script.Row.{Row}
 use Rattle.script65.specs.declared.script.Script.{Script}
 use Rattle.language65.specs.Layout.{Layout}
-use Rattle.linkage65.proofs.Passes.{passes_append}
-use Rattle.linkage65.specs.Checks.{check_waiting, each_passes, waiting_by_row, waiting_in, waiting_of}
+use Rattle.link65.proofs.Passes.{passes_append}
+use Rattle.link65.specs.Checks.{check_waiting, each_passes, waiting_by_row, waiting_in, waiting_of}
 use Rattle.image65.specs.Files.{RowBytes}
-use Rattle.linkage65.specs.RowBytes.{cell_bytes, row_bytes, segment_bytes}
-use Rattle.linkage65.specs.Modules.{Module}
-use Rattle.linkage65.specs.Places.{linkage_of}
-use Rattle.linkage65.specs.Programs as linked
-use Rattle.linkage65.specs.Segments.{Segment, segment_of}
-use Rattle.linkage65.specs.Values.{AreExports, Linkage, exports_through, in_table, value_by}
-use Rattle.linkage65.specs.declared.fault.LinkFault.{LinkFault}
-use Rattle.linkage65.specs.declared.parts.ValueFault.{ValueFault}
-use Rattle.linkage65.specs.declared.parts.Waiting.{Waiting}
+use Rattle.link65.specs.RowBytes.{cell_bytes, row_bytes, segment_bytes}
+use Rattle.link65.specs.Modules.{Module}
+use Rattle.link65.specs.Places.{linkage_of}
+use Rattle.link65.specs.Programs as linked
+use Rattle.link65.specs.Segments.{Segment, segment_of}
+use Rattle.link65.specs.Values.{AreExports, Linkage, exports_through, in_table, value_by}
+use Rattle.link65.specs.declared.fault.LinkFault.{LinkFault}
+use Rattle.link65.specs.declared.parts.ValueFault.{ValueFault}
+use Rattle.link65.specs.declared.parts.Waiting.{Waiting}
 use Rattle.whole65.proofs.Checked.{checked_law}
 use Rattle.whole65.proofs.Evaluated.{table_law}
 use Rattle.whole65.proofs.Givers.{IsExportOf, exports_known, export_normal, sources_law}

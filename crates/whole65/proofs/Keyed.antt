@@ -13,15 +13,15 @@ use Rattle.language65.specs.declared.contents.Said.{Said}
 use Rattle.language65.specs.declared.contents.Said.TheVariants.{Exported, Demanded, Checked}
 use Rattle.language65.specs.Numbering.{content_imports, import_keys, imports_in, name_of, number_of, object_with, part_imports, said_imports, section_keys}
 use Rattle.language65.specs.Sound.{IsSoundContent, IsSoundForm, IsSoundPart, IsSoundSaid, sections_in}
-use Rattle.linkage65.specs.Givers.{giver_of}
-use Rattle.linkage65.specs.Names.{script_definitions, weak_symbols}
-use Rattle.linkage65.specs.Places.{linkage_of}
-use Rattle.linkage65.specs.Programs.{program_of}
-use Rattle.linkage65.specs.Values.{base_of, exports_through, giver_at, import_value, Linkage}
-use Rattle.linkage65.specs.declared.parts.Giver.{Giver}
-use Rattle.linkage65.specs.declared.parts.Giver.TheVariants.{Nobody}
-use Rattle.linkage65.specs.declared.parts.ValueFault.{ValueFault}
-use Rattle.linkage65.specs.declared.parts.ValueFault.TheVariants.{NoValue}
+use Rattle.link65.specs.Givers.{giver_of}
+use Rattle.link65.specs.Names.{script_definitions, weak_symbols}
+use Rattle.link65.specs.Places.{linkage_of}
+use Rattle.link65.specs.Programs.{program_of}
+use Rattle.link65.specs.Values.{base_of, exports_through, giver_at, import_value, Linkage}
+use Rattle.link65.specs.declared.parts.Giver.{Giver}
+use Rattle.link65.specs.declared.parts.Giver.TheVariants.{Nobody}
+use Rattle.link65.specs.declared.parts.ValueFault.{ValueFault}
+use Rattle.link65.specs.declared.parts.ValueFault.TheVariants.{NoValue}
 use Rattle.module65.proofs.SoundContents.{sound_contents}
 use Rattle.whole65.proofs.Bases.{resolved_at, section_base_law, source_at}
 use Rattle.whole65.proofs.Fragments.{number_law}

@@ -17,17 +17,17 @@ use Rattle.script65.specs.declared.script.Row.{Row}
 use Rattle.script65.specs.declared.script.Script.{Script}
 use Rattle.language65.proofs.Lists.{same_bytes}
 use Rattle.language65.specs.Layout.{Layout}
-use Rattle.linkage65.specs.Givers.{by_definition, by_export, defined_at, each_once, export_names, exported_at, given_names, is_among, is_given, references, unresolved}
-use Rattle.linkage65.specs.Givers as linked
-use Rattle.linkage65.specs.Lists.{flat_zip}
-use Rattle.linkage65.specs.Modules.{Module}
-use Rattle.linkage65.specs.Names.{area_definitions, area_names, areas_definitions, row_definitions, row_names, rows_definitions, script_definitions, script_names, symbol_exports, symbol_imports, weak_symbols}
-use Rattle.linkage65.specs.Programs.{Program, member, no_program, program_of, with_module, with_modules}
-use Rattle.linkage65.specs.declared.parts.Definition.{Definition}
-use Rattle.linkage65.specs.declared.parts.Exported as parts
-use Rattle.linkage65.specs.declared.parts.Giver.{Giver}
-use Rattle.linkage65.specs.declared.parts.Giver.TheVariants.{Nobody}
-use Rattle.linkage65.specs.declared.parts.Member.{Member}
+use Rattle.link65.specs.Givers.{by_definition, by_export, defined_at, each_once, export_names, exported_at, given_names, is_among, is_given, references, unresolved}
+use Rattle.link65.specs.Givers as linked
+use Rattle.link65.specs.Lists.{flat_zip}
+use Rattle.link65.specs.Modules.{Module}
+use Rattle.link65.specs.Names.{area_definitions, area_names, areas_definitions, row_definitions, row_names, rows_definitions, script_definitions, script_names, symbol_exports, symbol_imports, weak_symbols}
+use Rattle.link65.specs.Programs.{Program, member, no_program, program_of, with_module, with_modules}
+use Rattle.link65.specs.declared.parts.Definition.{Definition}
+use Rattle.link65.specs.declared.parts.Exported as parts
+use Rattle.link65.specs.declared.parts.Giver.{Giver}
+use Rattle.link65.specs.declared.parts.Giver.TheVariants.{Nobody}
+use Rattle.link65.specs.declared.parts.Member.{Member}
 use Rattle.module65.proofs.SoundForms.{all_append}
 use Rattle.language65.proofs.Segments.{all_more}
 use Rattle.whole65.proofs.Givers.{Agree, givers_agree, of_module, of_nobody, of_script}

@@ -6,18 +6,18 @@ use Rattle.script65.specs.Placing.{place_of}
 use Rattle.script65.specs.declared.placement.PlaceFault.{PlaceFault}
 use Rattle.script65.specs.declared.placement.Placement.{Placement}
 use Rattle.script65.specs.declared.script.Script.{Script}
-use Rattle.linkage65.specs.Checks.{check_asserts, check_export, check_waiting, each_passes, waiting_by_row}
-use Rattle.linkage65.specs.Givers.{unresolved}
-use Rattle.linkage65.specs.Links.{AreFiles, IsFinished, IsImaged, IsPlacedLink, IsProgramLink, as_placement, checked, names_once, none_unresolved, placed}
-use Rattle.linkage65.specs.Maps.{map_text}
-use Rattle.linkage65.specs.Places.{linkage_of, needs_of}
-use Rattle.linkage65.specs.Programs.{Program}
-use Rattle.linkage65.specs.Values.{AreExports, Exports, Linkage, in_table}
-use Rattle.linkage65.specs.Warnings.{warnings_of_rows}
-use Rattle.linkage65.specs.declared.fault.LinkFault.{LinkFault}
-use Rattle.linkage65.specs.declared.linked.Linked.{Linked}
+use Rattle.link65.specs.Checks.{check_asserts, check_export, check_waiting, each_passes, waiting_by_row}
+use Rattle.link65.specs.Givers.{unresolved}
+use Rattle.link65.specs.Links.{AreFiles, IsFinished, IsImaged, IsPlacedLink, IsProgramLink, as_placement, checked, names_once, none_unresolved, placed}
+use Rattle.link65.specs.Maps.{map_text}
+use Rattle.link65.specs.Places.{linkage_of, needs_of}
+use Rattle.link65.specs.Programs.{Program}
+use Rattle.link65.specs.Values.{AreExports, Exports, Linkage, in_table}
+use Rattle.link65.specs.Warnings.{warnings_of_rows}
+use Rattle.link65.specs.declared.fault.LinkFault.{LinkFault}
+use Rattle.link65.specs.declared.linked.Linked.{Linked}
 use Rattle.image65.specs.declared.output.OutputFile.{OutputFile}
-use Rattle.linkage65.specs.declared.parts.ValueFault.{ValueFault}
+use Rattle.link65.specs.declared.parts.ValueFault.{ValueFault}
 use Rattle.whole65.proofs.Later.{bind_ok}
 
 -- ---- One thing first, and then another.

@@ -5,7 +5,7 @@ use Rattle.std.specs.List.{AllByRecursion}
 use Rattle.language65.specs.declared.contents.Part.{Part}
 use Rattle.language65.specs.declared.contents.Part.TheVariants.{Known, Filled, Waiting}
 use Rattle.language65.specs.Numbering.{fragment_of, fragments_of, numbered, parts_in}
-use Rattle.linkage65.specs.Values.{Linkage}
+use Rattle.link65.specs.Values.{Linkage}
 use Rattle.whole65.proofs.Cells.{cells_law}
 use Rattle.whole65.proofs.Fragments.{all_joined_are, all_kept, same_parts}
 use Rattle.whole65.proofs.SectionBytes.{section_law}

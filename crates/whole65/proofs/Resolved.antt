@@ -21,9 +21,9 @@ use Rattle.language65.specs.Layout.{Layout}
 use Rattle.language65.specs.Norms.{defined_form, norm}
 use Rattle.language65.specs.Numbering.{all_said, imports_in, name_of, optional_key, key_of, parts_in, segments_asked}
 use Rattle.language65.specs.Symbols.{Symbols, defined, named, with_new}
-use Rattle.linkage65.specs.Modules.{Module}
-use Rattle.linkage65.specs.declared.parts.ValueFault.{ValueFault}
-use Rattle.linkage65.specs.declared.parts.ValueFault.TheVariants.{NoValue}
+use Rattle.link65.specs.Modules.{Module}
+use Rattle.link65.specs.declared.parts.ValueFault.{ValueFault}
+use Rattle.link65.specs.declared.parts.ValueFault.TheVariants.{NoValue}
 use Rattle.module65.proofs.SoundForms.{all_append}
 use Rattle.module65.specs.Module.{contents_from}
 use Rattle.module65.specs.Places.{PlacedFault, at_place}

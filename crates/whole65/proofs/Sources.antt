@@ -9,9 +9,9 @@ use Rattle.script65.specs.Placing.{rounded_up}
 use Rattle.language65.specs.declared.contents.Content.{Content}
 use Rattle.language65.specs.Layout.{Layout}
 use Rattle.language65.specs.Numbering.{import_keys, object_with, section_keys, section_of}
-use Rattle.linkage65.specs.Modules.{Module}
-use Rattle.linkage65.specs.Segments as linked_segments
-use Rattle.linkage65.specs.Segments.{grown, segment_of}
+use Rattle.link65.specs.Modules.{Module}
+use Rattle.link65.specs.Segments as linked_segments
+use Rattle.link65.specs.Segments.{grown, segment_of}
 use Rattle.module65.specs.Module.{contents_from}
 use Rattle.module65.specs.Places.{PlacedFault}
 use Rattle.whole65.proofs.Alignments.{alignment_law}

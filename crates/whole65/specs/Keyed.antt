@@ -13,16 +13,16 @@ use Rattle.language65.specs.declared.contents.Said.TheVariants.{Exported, Demand
 use Rattle.language65.specs.Layout.{Layout}
 use Rattle.language65.specs.Numbering.{imports_in}
 use Rattle.language65.specs.Sound.{sections_in}
-use Rattle.linkage65.specs.Givers.{giver_of}
-use Rattle.linkage65.specs.Modules.{Module}
-use Rattle.linkage65.specs.Names.{script_definitions, weak_symbols}
-use Rattle.linkage65.specs.Places.{linkage_of}
-use Rattle.linkage65.specs.Programs.{Program, program_of}
-use Rattle.linkage65.specs.Values.{exports_through, import_value}
-use Rattle.linkage65.specs.declared.parts.Giver.{Giver}
-use Rattle.linkage65.specs.declared.parts.Giver.TheVariants.{Nobody}
-use Rattle.linkage65.specs.declared.parts.ValueFault.{ValueFault}
-use Rattle.linkage65.specs.declared.parts.ValueFault.TheVariants.{NoValue}
+use Rattle.link65.specs.Givers.{giver_of}
+use Rattle.link65.specs.Modules.{Module}
+use Rattle.link65.specs.Names.{script_definitions, weak_symbols}
+use Rattle.link65.specs.Places.{linkage_of}
+use Rattle.link65.specs.Programs.{Program, program_of}
+use Rattle.link65.specs.Values.{exports_through, import_value}
+use Rattle.link65.specs.declared.parts.Giver.{Giver}
+use Rattle.link65.specs.declared.parts.Giver.TheVariants.{Nobody}
+use Rattle.link65.specs.declared.parts.ValueFault.{ValueFault}
+use Rattle.link65.specs.declared.parts.ValueFault.TheVariants.{NoValue}
 use Rattle.whole65.specs.Linked.{objects_of, symbols_at}
 use Rattle.whole65.specs.Objects.{Objects}
 

@@ -21,28 +21,28 @@ use Rattle.whole65.specs.Modules.{exports_of, table_of}
 use Rattle.object65.specs.FormValue.{value_in}
 use Rattle.object65.specs.Objects.{section_len}
 use Rattle.whole65.specs.Parts.{AreFragments, AreParts, valued_by}
-use Rattle.linkage65.specs.Givers.{export_names, first_again, unresolved}
-use Rattle.linkage65.specs.Links.{AreFiles, names_once}
-use Rattle.linkage65.specs.Names.{symbol_imports}
-use Rattle.linkage65.specs.Modules.{Module}
-use Rattle.linkage65.specs.Programs as linked
-use Rattle.linkage65.specs.Places as places
-use Rattle.linkage65.specs.Places.{address_of, linkage_of, run_of}
-use Rattle.linkage65.specs.declared.parts.SectionPlace.{SectionPlace}
+use Rattle.link65.specs.Givers.{export_names, first_again, unresolved}
+use Rattle.link65.specs.Links.{AreFiles, names_once}
+use Rattle.link65.specs.Names.{symbol_imports}
+use Rattle.link65.specs.Modules.{Module}
+use Rattle.link65.specs.Programs as linked
+use Rattle.link65.specs.Places as places
+use Rattle.link65.specs.Places.{address_of, linkage_of, run_of}
+use Rattle.link65.specs.declared.parts.SectionPlace.{SectionPlace}
 use Rattle.script65.specs.declared.placement.RowPlace.{RowPlace}
 use Rattle.script65.specs.declared.script.Row.{Row}
 use Rattle.base65.specs.Values.{wrapped}
 use Rattle.language65.specs.Sound.{IsSoundLayout, sections_in}
-use Rattle.linkage65.specs.Checks.{check_asserts, check_export, check_waiting, each_passes, waiting_by_row, waiting_in}
+use Rattle.link65.specs.Checks.{check_asserts, check_export, check_waiting, each_passes, waiting_by_row, waiting_in}
 use Rattle.image65.specs.Files.{RowBytes}
-use Rattle.linkage65.specs.RowBytes.{cell_bytes, row_bytes}
-use Rattle.linkage65.specs.declared.parts.Exported.{Exported}
+use Rattle.link65.specs.RowBytes.{cell_bytes, row_bytes}
+use Rattle.link65.specs.declared.parts.Exported.{Exported}
 use Rattle.image65.specs.declared.output.OutputFile.{OutputFile}
-use Rattle.linkage65.specs.declared.parts.Member.{Member}
-use Rattle.linkage65.specs.Segments as grown
-use Rattle.linkage65.specs.Segments.{Cell, fragment_cells, segment_of}
-use Rattle.linkage65.specs.Values.{AreExports, Linkage, base_of, exports_through, in_table, value_by}
-use Rattle.linkage65.specs.declared.parts.ValueFault.{ValueFault}
+use Rattle.link65.specs.declared.parts.Member.{Member}
+use Rattle.link65.specs.Segments as grown
+use Rattle.link65.specs.Segments.{Cell, fragment_cells, segment_of}
+use Rattle.link65.specs.Values.{AreExports, Linkage, base_of, exports_through, in_table, value_by}
+use Rattle.link65.specs.declared.parts.ValueFault.{ValueFault}
 use Rattle.object65.specs.declared.object.Fragment.{Fragment}
 use Rattle.whole65.specs.Cells.{AreCells, IsValuedIn, cells_or, linked_value}
 use Rattle.whole65.specs.Growth.{behind_modules}

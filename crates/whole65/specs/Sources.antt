@@ -2,7 +2,7 @@
 use Rattle.std.specs.Prelude.{◌≡◌, List, [], ◌∷◌, Ok, ⊤}
 use Rattle.language65.specs.Layout.{Layout}
 use Rattle.language65.specs.Sound.{IsSoundLayout}
-use Rattle.linkage65.specs.Modules.{Module}
+use Rattle.link65.specs.Modules.{Module}
 use Rattle.module65.specs.Module.{object_of}
 use Rattle.whole65.specs.Offsets.{IsLaidOut}
 

@@ -6,13 +6,13 @@ use Rattle.object65.specs.Record.{Entry}
 use Rattle.object65.specs.Scanning.{Outline, outline_of}
 use Rattle.object65.specs.Taking.{IsReached, State, after, finished}
 use Rattle.library65.specs.Libraries.{are_same}
-use Rattle.linkage65.specs.declared.fault.LinkFault.{LinkFault}
-use Rattle.linkage65.specs.declared.fault.LinkFault.TheVariants.{IndexDisagrees}
+use Rattle.link65.specs.declared.fault.LinkFault.{LinkFault}
+use Rattle.link65.specs.declared.fault.LinkFault.TheVariants.{IndexDisagrees}
 use Rattle.base65.specs.Outcome.{◌>>=◌}
-use Rattle.linkage65.specs.declared.parts.Exported.{Exported}
-use Rattle.linkage65.specs.GivenTwice.{all_once}
-use Rattle.linkage65.specs.Growing.{Growth, at_rest, growth_of}
-use Rattle.linkage65.specs.Programs.{Program, with_module}
+use Rattle.link65.specs.declared.parts.Exported.{Exported}
+use Rattle.link65.specs.GivenTwice.{all_once}
+use Rattle.link65.specs.Growing.{Growth, at_rest, growth_of}
+use Rattle.link65.specs.Programs.{Program, with_module}
 use Rattle.link65.specs.declared.listed.Listed.{Listed}
 use Rattle.link65.specs.declared.open.Open.{Open}
 use Rattle.link65.specs.Standing.{Leads, Opened, as_link, module_of}

@@ -1,10 +1,10 @@
 use Rattle.std.proofs.Common.{◌≡◌, ◌∙◌, ap, drop, map, refl, sym, subst, OnOk, Ok}
-use Rattle.linkage65.specs.declared.parts.Exported.{Exported}
-use Rattle.linkage65.specs.Faults.{is_memory}
+use Rattle.link65.specs.declared.parts.Exported.{Exported}
+use Rattle.link65.specs.Faults.{is_memory}
 use Rattle.base65.specs.Outcome.{Refuses}
-use Rattle.linkage65.specs.GivenTwice.{all_once, names_in}
-use Rattle.linkage65.specs.Growing.{at_rest, ended}
-use Rattle.linkage65.specs.Grounds.{growth_in}
+use Rattle.link65.specs.GivenTwice.{all_once, names_in}
+use Rattle.link65.specs.Growing.{at_rest, ended}
+use Rattle.link65.specs.Grounds.{growth_in}
 use Rattle.link65.specs.Inner.Fields.{are_listed, exports_from}
 use Rattle.link65.proofs.Feeds.{closed_whole, cut_short, disagrees, given_twice}
 use Rattle.link65.proofs.feeding.close_module.Goals as goal

@@ -1,6 +1,6 @@
 use Rattle.std.proofs.Common.{◌≡◌, ◌∙◌, false, sym, subst, arith}
 use Rattle.std.specs.Str.{bytes_eq}
-use Rattle.linkage65.specs.declared.parts.Exported.{Exported}
+use Rattle.link65.specs.declared.parts.Exported.{Exported}
 use Rattle.library65.proofs.Members.{turned}
 use Rattle.link65.proofs.ListedLemmas.{differ}
 use Rattle.link65.proofs.listed.same_exports.Goals as goal

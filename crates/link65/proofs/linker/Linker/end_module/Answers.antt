@@ -1,6 +1,6 @@
 use Rattle.std.proofs.Common.{◌∙◌, ap, sym, refl}
-use Rattle.linkage65.specs.GivenTwice.{names_in}
-use Rattle.linkage65.specs.Grounds.{growth_in}
+use Rattle.link65.specs.GivenTwice.{names_in}
+use Rattle.link65.specs.Grounds.{growth_in}
 use Rattle.link65.specs.Inner.Fields.{opened_in}
 use Rattle.link65.specs.Standing.{Feeding}
 use Rattle.link65.proofs.Feeds.{ended_next, ended_refused}

@@ -1,12 +1,12 @@
 use Rattle.std.proofs.Common.{◌∙◌, ℕ, List, ap, subst}
 use Rattle.script65.specs.declared.script.Script.{Script}
 use Rattle.base65.specs.Outcome.{Finds}
-use Rattle.linkage65.specs.Faults.{is_memory}
-use Rattle.linkage65.specs.Finishing.{program_from}
-use Rattle.linkage65.specs.Links.{IsProgramLink}
+use Rattle.link65.specs.Faults.{is_memory}
+use Rattle.link65.specs.Finishing.{program_from}
+use Rattle.link65.specs.Links.{IsProgramLink}
 use Rattle.link65.specs.Standing.{Feeding}
 use Rattle.link65.proofs.Feeds.{linked}
-use Rattle.link65.proofs.FinishLemmas.{refuses_so}
+use Rattle.link65.proofs.FinishedLemmas.{refuses_so}
 use Rattle.link65.proofs.linker.Linker.finish.Goals as goal
 
 pub returns-clause-linked : goal.returns-clause-linked

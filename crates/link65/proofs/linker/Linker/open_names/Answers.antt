@@ -1,7 +1,7 @@
 use Rattle.std.proofs.Common.{◌≡◌, ◌∙◌, List, Ok, ap, subst, sym, map}
 use Rattle.script65.specs.declared.script.Script.{Script}
-use Rattle.linkage65.specs.Givers.{open_names}
-use Rattle.linkage65.specs.Programs.{program_of}
+use Rattle.link65.specs.Givers.{open_names}
+use Rattle.link65.specs.Programs.{program_of}
 use Rattle.link65.specs.Standing.{Feeding}
 use Rattle.link65.proofs.EndedLemmas.{their_exports, their_members}
 use Rattle.link65.proofs.linker.Linker.open_names.Goals as goal

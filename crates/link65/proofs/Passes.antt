@@ -1,0 +1,118 @@
+-- Checks in turn, and refusals that pass through.
+use Rattle.std.proofs.Common.{◌≡◌, ◌<◌, ◌≤◌, ℕ, zero, suc, ◌+◌, map, Option, Some, None, Bool, true, false, List, [], ◌∷◌, ◌++◌, length, drop, get_or, refl, sym, ap, ◌∙◌, Result, Ok, Err}
+use Rattle.std.proofs.Common.{append_assoc}
+use Rattle.std.specs.List.{flat_map}
+use Rattle.std.proofs.lemmas.List.{drop_all}
+use Rattle.script65.proofs.Eaches.{drop_item}
+use Rattle.base65.specs.Outcome.{◌>>=◌, Refuses, Unless}
+use Rattle.link65.specs.declared.fault.LinkFault.{LinkFault}
+use Rattle.std.specs.Option.{option_map}
+use Rattle.std.specs.Prelude.{replicate}
+use Rattle.link65.specs.declared.contents.Content.{Content}
+use Rattle.link65.specs.declared.contents.Piece.{Piece}
+use Rattle.link65.specs.declared.contents.Piece.TheVariants.{Known, Filled, Waits}
+use Rattle.link65.specs.declared.parts.Waiting.{Waiting}
+use Rattle.link65.specs.Checks.{each_passes, waiting_in, waiting_of}
+use Rattle.link65.specs.Contents.{cells_of, content_of, piece_cells, piece_waiting, segment_from, segments_from}
+use Rattle.link65.specs.Segments.{Cell, known, filled, segment_of}
+use Rattle.link65.proofs.SegmentLemmas.{found_from}
+use Rattle.link65.specs.Faults.{is_memory}
+
+-- a refusal that is the first one of another reading too
+pub refuses_by : {A B : Type 0} (e : LinkFault) (r : Result A LinkFault) (q : Result B LinkFault) → (r ≡ Err e → q ≡ Err e) → Refuses is_memory e r → Refuses is_memory e q
+refuses_by e r q h k = go (is_memory e) k
+  where
+    go : (b : Bool) → Unless b (r ≡ Err e) → Unless b (q ≡ Err e)
+    go true u = tt
+    go false u = h u
+
+abbrev pub Check : Type 0 → Type 0
+Check A = A → Result (Unit {0}) LinkFault
+
+pub passes_next : {A : Type 0} (check : Check A) (xs : List A) (i : ℕ) (x : A) (u : Unit {0}) (whole : Result (Unit {0}) LinkFault) → i < length xs → x ≡ get_or xs i x → check x ≡ Ok u → each_passes check (drop i xs) ≡ whole → each_passes check (drop (i + 1) xs) ≡ whole
+passes_next check xs i x u whole lt at e inv =
+    sym (ap (λ r. r >>= (λ z. each_passes check (drop (i + 1) xs))) e)
+    ∙ sym (ap (each_passes check) (drop_item xs i x lt at))
+    ∙ inv
+
+pub passes_stops : {A : Type 0} (check : Check A) (xs : List A) (i : ℕ) (x : A) (whole : Result (Unit {0}) LinkFault) (f : LinkFault) → i < length xs → x ≡ get_or xs i x → each_passes check (drop i xs) ≡ whole → Refuses is_memory f (check x) → Refuses is_memory f whole
+passes_stops check xs i x whole f lt at inv k =
+    refuses_by f (check x) whole
+    (λ e. sym inv ∙ ap (each_passes check) (drop_item xs i x lt at) ∙ ap (λ r. r >>= (λ z. each_passes check (drop (i + 1) xs))) e) k
+
+pub passes_end : {A : Type 0} (check : Check A) (xs : List A) (i : ℕ) (whole : Result (Unit {0}) LinkFault) → length xs ≤ i → each_passes check (drop i xs) ≡ whole → whole ≡ Ok tt
+passes_end check xs i whole le inv = sym inv ∙ ap (each_passes check) (drop_all i xs le)
+
+pub passes_append : {A : Type 0} (check : Check A) (xs ys : List A) → each_passes check (xs ++ ys) ≡ (each_passes check xs >>= (λ u. each_passes check ys))
+passes_append check [] ys = refl
+passes_append check (x ∷ xs) ys = go (check x) (passes_append check xs ys)
+  where
+    go : (r : Result (Unit {0}) LinkFault) → each_passes check (xs ++ ys) ≡ (each_passes check xs >>= (λ u. each_passes check ys)) → (r >>= (λ u. each_passes check (xs ++ ys))) ≡ ((r >>= (λ u. each_passes check xs)) >>= (λ u. each_passes check ys))
+    go (Ok u) e = e
+    go (Err z) e = refl
+
+-- ---- Checks of what each item has.
+
+module _ {A B : Type 0} (check : Check B) (f : A → List B) where
+  flat_front : (xs : List A) (i : ℕ) (x : A) → i < length xs → x ≡ get_or xs i x → each_passes check (flat_map f (drop i xs)) ≡ (each_passes check (f x) >>= (λ u. each_passes check (flat_map f (drop (i + 1) xs))))
+  flat_front xs i x lt at = ap (λ l. each_passes check (flat_map f l)) (drop_item xs i x lt at) ∙ passes_append check (f x) (flat_map f (drop (i + 1) xs))
+
+  pub flat_next : (xs : List A) (i : ℕ) (x : A) (u : Unit {0}) (whole : Result (Unit {0}) LinkFault) → i < length xs → x ≡ get_or xs i x → each_passes check (f x) ≡ Ok u → each_passes check (flat_map f (drop i xs)) ≡ whole → each_passes check (flat_map f (drop (i + 1) xs)) ≡ whole
+  flat_next xs i x u whole lt at e inv =
+      sym (ap (λ r. r >>= (λ z. each_passes check (flat_map f (drop (i + 1) xs)))) e) ∙ sym (flat_front xs i x lt at) ∙ inv
+
+  pub flat_stops : (xs : List A) (i : ℕ) (x : A) (whole : Result (Unit {0}) LinkFault) (e : LinkFault) → i < length xs → x ≡ get_or xs i x → each_passes check (flat_map f (drop i xs)) ≡ whole → Refuses is_memory e (each_passes check (f x)) → Refuses is_memory e whole
+  flat_stops xs i x whole e lt at inv k =
+      refuses_by e (each_passes check (f x)) whole
+      (λ q. sym inv ∙ flat_front xs i x lt at ∙ ap (λ r. r >>= (λ z. each_passes check (flat_map f (drop (i + 1) xs)))) q) k
+
+  pub flat_end : (xs : List A) (i : ℕ) (whole : Result (Unit {0}) LinkFault) → length xs ≤ i → each_passes check (flat_map f (drop i xs)) ≡ whole → whole ≡ Ok tt
+  flat_end xs i whole le inv = sym inv ∙ ap (λ l. each_passes check (flat_map f l)) (drop_all i xs le)
+
+-- ---- Texts of assertions.
+
+pub more_text : (text warning : List ℕ) (r : Result (List ℕ) LinkFault) → ((r >>= (λ more. Ok (warning ++ more))) >>= (λ more. Ok (text ++ more))) ≡ (r >>= (λ more. Ok ((text ++ warning) ++ more)))
+more_text text warning (Ok more) = ap Ok (sym (append_assoc text warning more))
+more_text text warning (Err e) = refl
+
+-- ---- Values that wait in pieces.
+
+known_waits : (bytes : List ℕ) → flat_map waiting_in (map known bytes) ≡ []
+known_waits [] = refl
+known_waits (b ∷ bytes) = known_waits bytes
+
+filled_waits : (n : ℕ) → flat_map waiting_in (replicate n filled) ≡ []
+filled_waits zero = refl
+filled_waits (suc n) = filled_waits n
+
+waiting-append : (xs ys : List Cell) → flat_map waiting_in (xs ++ ys) ≡ flat_map waiting_in xs ++ flat_map waiting_in ys
+waiting-append [] ys = refl
+waiting-append (x ∷ xs) ys = ap (λ l. waiting_in x ++ l) (waiting-append xs ys) ∙ sym (append_assoc (waiting_in x) (flat_map waiting_in xs) (flat_map waiting_in ys))
+
+pub cells_wait : (pieces : List Piece) → flat_map waiting_in (cells_of pieces) ≡ flat_map piece_waiting pieces
+cells_wait [] = refl
+cells_wait (p ∷ ps) = waiting-append (piece_cells p) (cells_of ps) ∙ ap (λ l. piece_waiting p ++ l) (cells_wait ps)
+
+pub known_passes : (check : Check Waiting) (p : Piece) (bytes : List ℕ) → p ≡ Known bytes → each_passes check (piece_waiting p) ≡ Ok tt
+known_passes check p bytes is = rw is (ap (each_passes check) (known_waits bytes))
+
+pub filled_passes : (check : Check Waiting) (p : Piece) (n : ℕ) → p ≡ Filled n → each_passes check (piece_waiting p) ≡ Ok tt
+filled_passes check p n is = rw is (ap (each_passes check) (filled_waits n))
+
+pub one_passes : (check : Check Waiting) (p : Piece) (w : Waiting) → p ≡ Waits w → each_passes check (piece_waiting p) ≡ check w
+one_passes check p w is = rw is (go (check w))
+  where
+    go : (r : Result (Unit {0}) LinkFault) → (r >>= (λ u. Ok tt)) ≡ r
+    go (Ok u) = refl
+    go (Err e) = refl
+
+-- the values of a segment, by its content
+pub content_waits : (contents : List Content) (name : List ℕ) (o : Option Content) → o ≡ content_of contents name → waiting_of (segment_of (segments_from contents) name) ≡ waiting_of (option_map segment_from o)
+content_waits contents name o e = ap waiting_of (found_from contents name ∙ ap (option_map segment_from) (sym e))
+
+pub row_waits : (contents : List Content) (name key : List ℕ) (c : Content) → key ≡ name → Some c ≡ content_of contents key → flat_map piece_waiting c.pieces ≡ waiting_of (segment_of (segments_from contents) name)
+row_waits contents name key c same e =
+    sym (content_waits contents name (Some c) (e ∙ ap (content_of contents) same) ∙ cells_wait c.pieces)
+
+pub no_row_waits : (contents : List Content) (name key : List ℕ) → key ≡ name → None ≡ content_of contents key → waiting_of (segment_of (segments_from contents) name) ≡ []
+no_row_waits contents name key same e = content_waits contents name None (e ∙ ap (content_of contents) same)

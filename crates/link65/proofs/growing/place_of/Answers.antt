@@ -1,0 +1,7 @@
+use Rattle.std.proofs.Common.{◌∙◌, sym}
+use Rattle.std.specs.Str.{bytes_eq}
+use Rattle.link65.proofs.PlaceOf.{position_map}
+use Rattle.link65.proofs.growing.place_of.Goals as goal
+
+pub returns-clause-place : goal.returns-clause-place
+returns-clause-place c = c.get_index_of.ensures.index ∙ sym (position_map (bytes_eq c.args.name.now) (λ n. n.items) c.args.names.now.keys)

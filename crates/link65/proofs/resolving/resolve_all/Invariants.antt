@@ -1,0 +1,6 @@
+use Rattle.std.proofs.Common.{◌≡◌, map, take}
+use Rattle.link65.specs.Resolving.{resolved_by}
+use Rattle.link65.proofs.resolving.resolve_all.Given as goal
+
+abbrev pub invariant-loop-member : goal.invariant-loop-member
+invariant-loop-member l = l.all ≡ map (resolved_by l.names l.addresses) (take l.member-index l.members)

@@ -1,0 +1,48 @@
+-- What the code keeps of a program while its modules come.
+use Rattle.std.specs.Prelude.{◌≡◌, ◌≤◌, ℕ, List, [], ◌∷◌, ◌++◌, map, position, replicate, Option, if◌then◌else◌, ⊤}
+use Rattle.std.specs.Str.{bytes_eq}
+use Rattle.object65.specs.declared.item.Item.{Item}
+use Rattle.object65.specs.declared.item.Item.TheVariants as item
+use Rattle.link65.specs.declared.growing.Growing.{Growing}
+use Rattle.link65.specs.Contents.{segments_from}
+use Rattle.link65.specs.Growing.{Growth, with_segments}
+use Rattle.link65.specs.Segments.{Segment, empty_segment, filled}
+
+-- a segment with so many bytes of the fill value behind, that don't count yet
+abbrev pub with_gap : ℕ → Segment → Segment
+with_gap gap g = record { name = g.name; size = g.size; align = g.align; cells = g.cells ++ replicate gap filled }
+
+abbrev pub growth_in : Growing → Growth
+growth_in g = record {
+  program = record { members = g.members; segments = segments_from g.contents.items; exports = g.exports; asserts = g.asserts };
+  sections = g.sections.items;
+  imports = g.imports;
+}
+
+-- segments are found by their names
+pub record AreNamed (g : Growing) : Type 0 where
+  pub names : map (λ n. n.items) g.names.keys ≡ map (λ c. c.name) g.contents.items
+
+-- an alignment that an object may have
+abbrev pub IsSmall : Item → Type 0
+IsSmall (item.Section name size align) = align ≤ 15
+IsSmall (item.Import name) = ⊤
+IsSmall (item.Part k offset f) = ⊤
+IsSmall (item.Export name line form) = ⊤
+IsSmall (item.Assert action line text form) = ⊤
+IsSmall item.End = ⊤
+
+-- segments among which there is one of this name
+abbrev pub with_name : List ℕ → List Segment → List Segment
+with_name name [] = empty_segment name ∷ []
+with_name name (g ∷ gs) = if bytes_eq g.name name then g ∷ gs else g ∷ with_name name gs
+
+-- the place of the segment of a name
+abbrev pub place_in : List ℕ → List (List ℕ) → Option ℕ
+place_in name names = position (λ n. bytes_eq name n) names
+
+abbrev pub names_in : Growing → List (List ℕ)
+names_in g = map (λ n. n.items) g.names.keys
+
+abbrev pub having : Growth → List Segment → Growth
+having g gs = record { program = with_segments g.program gs; sections = g.sections; imports = g.imports }

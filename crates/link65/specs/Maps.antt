@@ -1,0 +1,70 @@
+-- The map: the modules with their sections, the rows with their addresses, the symbols with their values.
+use Rattle.std.specs.Prelude.{ℕ, zero, suc, ◌/◌, ◌%◌, ◌^◌, ◌||◌, is_some, nat_lt, get_or, List, [], ◌∷◌, ◌++◌, codes, if◌then◌else◌}
+use Rattle.std.specs.Int.{w64, cast_unsigned}
+use Rattle.std.specs.List.{flat_map}
+use Rattle.script65.specs.declared.placement.Placement.{Placement}
+use Rattle.script65.specs.declared.placement.RowPlace.{RowPlace}
+use Rattle.script65.specs.declared.script.Row.{Row}
+use Rattle.script65.specs.declared.script.Script.{Script}
+use Rattle.link65.specs.declared.parts.Definition.{Definition}
+use Rattle.link65.specs.declared.parts.Exported.{Exported}
+use Rattle.link65.specs.declared.parts.Member.{Member}
+use Rattle.link65.specs.declared.parts.SectionPlace.{SectionPlace}
+use Rattle.link65.specs.RowBytes.{or_zero}
+use Rattle.link65.specs.Givers.{defined_at, exported_at}
+use Rattle.link65.specs.Lists.{flat_zip}
+use Rattle.link65.specs.Names.{script_definitions, weak_symbols}
+use Rattle.link65.specs.Programs.{Program}
+use Rattle.link65.specs.Values.{Exports, Linkage, value_by}
+use Rattle.link65.specs.Warnings.{joined}
+
+abbrev pub hex_digit : ℕ → ℕ
+hex_digit n = get_or (codes "0123456789ABCDEF") n 0
+
+-- the last so many hex digits of a number
+abbrev pub hex_digits : ℕ → ℕ → List ℕ
+hex_digits zero n = []
+hex_digits (suc count) n = hex_digits count (n / 16) ++ hex_digit (n % 16) ∷ []
+
+-- eight digits, or nine of the address 4,294,967,296
+abbrev pub address_text : ℕ → List ℕ
+address_text n = if nat_lt n (2 ^ 32) then hex_digits 8 n else hex_digits 9 n
+
+-- `  segment offset size`
+abbrev pub section_line : SectionPlace → List ℕ
+section_line p = joined (codes "  " ∷ p.segment ∷ codes " " ∷ address_text p.offset ∷ codes " " ∷ address_text p.size ∷ codes "\n" ∷ [])
+
+-- a module's name, and its sections below it
+abbrev pub member_lines : Member → List ℕ
+member_lines m = joined (m.name ∷ codes "\n" ∷ flat_map section_line m.sections ∷ [])
+
+-- `name run load size`
+abbrev pub row_line : Row → RowPlace → List ℕ
+row_line r p = joined (r.name ∷ codes " " ∷ address_text p.run ∷ codes " " ∷ address_text p.load ∷ codes " " ∷ address_text p.size ∷ codes "\n" ∷ [])
+
+abbrev pub row_lines : List Row → List RowPlace → List ℕ
+row_lines rows places = flat_zip row_line rows places
+
+-- `name value`, the value as sixteen digits of its two's complement
+abbrev pub symbol_line : List ℕ → ℕ → List ℕ
+symbol_line name bits = joined (name ∷ codes " " ∷ hex_digits 16 bits ∷ codes "\n" ∷ [])
+
+abbrev pub definition_line : Definition → List ℕ
+definition_line d = symbol_line d.name (cast_unsigned w64 d.value)
+
+-- an export and its value
+abbrev pub export_line : Linkage → Exports → Exported → List ℕ
+export_line l exports e = symbol_line e.name (cast_unsigned w64 (or_zero (value_by l exports e.owner e.form)))
+
+-- a weak name that nothing else defines
+abbrev pub weak_line : List Definition → List Exported → Definition → List ℕ
+weak_line own exports d = if is_some (defined_at own d.name) || is_some (exported_at exports d.name) then [] else definition_line d
+
+-- all symbols: the script's own, the modules' exports, and the weak names that are left
+abbrev pub symbol_lines : List Definition → List Definition → Linkage → Exports → List ℕ
+symbol_lines own weak l exports =
+    joined (flat_map definition_line own ∷ flat_map (export_line l exports) l.exports ∷ flat_map (weak_line own l.exports) weak ∷ [])
+
+abbrev pub map_text : Script → Program → Placement → Linkage → Exports → List ℕ
+map_text s program p l exports =
+    joined (codes "MODULES\n" ∷ flat_map member_lines program.members ∷ codes "SEGMENTS\n" ∷ row_lines s.rows p.rows ∷ codes "SYMBOLS\n" ∷ symbol_lines (script_definitions s p) (weak_symbols s.symbols) l exports ∷ [])

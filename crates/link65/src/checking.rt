@@ -1,0 +1,171 @@
+//! What is refused once all is placed: data, exports and assertions, in this order.
+
+ghost use Rattle.std.specs.Prelude.{◌≡◌, IfOk, ℕ, [], option_copied, slice_get, map};
+ghost use Rattle.std.specs.List.{flat_map};
+ghost use Rattle.std.specs.Option.{option_map_or};
+ghost use Rattle.base65.specs.Outcome.{Gives};
+ghost use Rattle.link65.specs.Checks.{check_export, check_waiting, each_passes, fitting, site, value_at, waiting_by_row, waiting_of};
+ghost use Rattle.link65.specs.Contents.{AreByName, piece_waiting, segments_from};
+ghost use Rattle.link65.specs.Evaluation.{exports_in, linkage_in};
+ghost use Rattle.link65.specs.Faults.{is_memory};
+ghost use Rattle.link65.specs.Marks.{AllFound};
+ghost use Rattle.link65.specs.Segments.{segment_of};
+
+use crate::contents::Piece;
+use crate::evaluation::{Evaluated, value_in};
+use crate::fault::{LinkFault, Site};
+use crate::parts::{Exported, Member, ValueFault, Waiting};
+use crate::tables::Segments;
+use base65::Sequence;
+use object65::fits;
+use script65::Row;
+use std::alloc::{AllocError, Global};
+
+pub fn name_of(members: &[Member], owner: usize) -> &[u8]
+    ensures { result.now ≡ option_map_or (λ m. m.name) (slice_get members.entry.now owner) [] }
+{
+    match members.get(owner) {
+        Some(member) => member.name.as_slice(),
+        None => &[],
+    }
+}
+
+/// The module and the line of a datum, an export or an assertion.
+pub fn site_of(
+    alloc: Global,
+    members: &[Member],
+    owner: usize,
+    line: u32,
+) -> Result<Site, AllocError>
+    ensures { IfOk result (λ s. s ≡ site members.now owner line) }
+{
+    let module_name = Sequence::copy_of(alloc, name_of(members, owner))?;
+    Ok(Site { module_name, line })
+}
+
+/// A value, or its fault at a place.
+pub fn value_at(
+    alloc: Global,
+    members: &[Member],
+    owner: usize,
+    line: u32,
+    outcome: Result<i64, ValueFault>,
+) -> Result<i64, LinkFault>
+    ensures { Gives is_memory (λ v. v) result (value_at (site members.now owner line) outcome) }
+{
+    match outcome {
+        Ok(value) => Ok(value),
+        Err(ValueFault::Circular) => {
+            Err(LinkFault::Circular(site_of(alloc, members, owner, line)?))
+        }
+        Err(ValueFault::NoValue) => Err(LinkFault::NoValue(site_of(alloc, members, owner, line)?)),
+        Err(ValueFault::Unresolved) => Err(LinkFault::Unresolved(Sequence::new(alloc))),
+    }
+}
+
+/// Refuses a value that doesn't fit.
+fn check_fit(
+    alloc: Global,
+    members: &[Member],
+    waiting: &Waiting,
+    value: i64,
+) -> Result<(), LinkFault>
+    ensures { Gives is_memory (λ u. u) result (fitting (site members.now waiting.now.owner waiting.now.line) waiting.now value) }
+{
+    if !fits(waiting.width, value) {
+        return Err(LinkFault::OutOfRange(site_of(alloc, members, waiting.owner, waiting.line)?));
+    }
+    Ok(())
+}
+
+/// Refuses a datum that has no value, or one that doesn't fit.
+fn check_datum(alloc: Global, program: &Evaluated<'_>, waiting: &Waiting) -> Result<(), LinkFault>
+    requires { AllFound program.now.marks.now }
+    ensures { Gives is_memory (λ u. u) result (check_waiting (linkage_in program.now) program.now.members.now (exports_in program.now) waiting.now) }
+{
+    let outcome = value_in(program, waiting.owner, &waiting.form);
+    let value = value_at(alloc, program.members, waiting.owner, waiting.line, outcome)?;
+    check_fit(alloc, program.members, waiting, value)
+}
+
+/// Refuses the first export that has no value.
+fn check_one_export(
+    alloc: Global,
+    program: &Evaluated<'_>,
+    export: &Exported,
+) -> Result<(), LinkFault>
+    requires { AllFound program.now.marks.now }
+    ensures { Gives is_memory (λ u. u) result (check_export (linkage_in program.now) program.now.members.now (exports_in program.now) export.now) }
+{
+    let outcome = value_in(program, export.owner, &export.form);
+    value_at(alloc, program.members, export.owner, export.line, outcome)?;
+    Ok(())
+}
+
+/// Refuses the first export that has no value, used or not.
+pub fn check_exports(alloc: Global, program: &Evaluated<'_>) -> Result<(), LinkFault>
+    requires { AllFound program.now.marks.now }
+    ensures { Gives is_memory (λ u. u) result (each_passes (check_export (linkage_in program.now) program.now.members.now (exports_in program.now)) program.now.exports.now) }
+{
+    for export in program.exports {
+        check_one_export(alloc, program, export)?;
+    }
+    Ok(())
+}
+
+/// Refuses a piece whose value is missing or doesn't fit.
+fn check_piece(alloc: Global, program: &Evaluated<'_>, piece: &Piece) -> Result<(), LinkFault>
+    requires { AllFound program.now.marks.now }
+    ensures { Gives is_memory (λ u. u) result (each_passes (check_waiting (linkage_in program.now) program.now.members.now (exports_in program.now)) (piece_waiting piece.now)) }
+{
+    match piece {
+        Piece::Waits(waiting) => check_datum(alloc, program, waiting),
+        Piece::Known(_) => Ok(()),
+        Piece::Filled(_) => Ok(()),
+    }
+}
+
+/// Refuses the first of pieces whose value is missing or doesn't fit.
+fn check_pieces(alloc: Global, program: &Evaluated<'_>, pieces: &[Piece]) -> Result<(), LinkFault>
+    requires { AllFound program.now.marks.now }
+    ensures { Gives is_memory (λ u. u) result (each_passes (check_waiting (linkage_in program.now) program.now.members.now (exports_in program.now)) (flat_map piece_waiting pieces.now)) }
+{
+    for piece in pieces {
+        check_piece(alloc, program, piece)?;
+    }
+    Ok(())
+}
+
+/// Refuses the first value of a row's segment that is missing or doesn't fit.
+fn check_row(
+    alloc: Global,
+    program: &Evaluated<'_>,
+    segments: &Segments<'_>,
+    row: &Row,
+) -> Result<(), LinkFault>
+    requires found { AllFound program.now.marks.now }
+    requires table { AreByName segments.now }
+    ensures { Gives is_memory (λ u. u) result (each_passes (check_waiting (linkage_in program.now) program.now.members.now (exports_in program.now)) (waiting_of (segment_of (segments_from segments.now.all.now) row.now.name))) }
+{
+    match segments.get(row.name.as_slice()) {
+        Some(content) => check_pieces(alloc, program, content.pieces.as_slice()),
+        None => Ok(()),
+    }
+}
+
+/// Refuses the first value that is missing or doesn't fit, by row, module and fragment.
+pub fn check_data(
+    alloc: Global,
+    program: &Evaluated<'_>,
+    segments: &Segments<'_>,
+    rows: &[Row],
+) -> Result<(), LinkFault>
+    requires found { AllFound program.now.marks.now }
+    requires table { AreByName segments.now }
+    ensures { Gives is_memory (λ u. u) result (each_passes (check_waiting (linkage_in program.now) program.now.members.now (exports_in program.now)) (waiting_by_row rows.now (segments_from segments.now.all.now))) }
+{
+    for row in rows {
+        check_row(alloc, program, segments, row)?;
+    }
+    Ok(())
+}

@@ -1,0 +1,136 @@
+//! Why nothing is linked.
+
+ghost use Rattle.std.specs.Prelude.{◌≡◌, Some};
+ghost use Rattle.link65.specs.Faults.{of_object, of_place};
+ghost use Rattle.link65.specs.declared.fault.LinkFault.TheVariants.{OutOfMemory};
+
+use base65::Sequence;
+use object65::ObjectFault;
+use script65::{PlaceFault, Shown};
+use std::alloc::{AllocError, AllocFailed};
+use std::error::Error;
+use std::fmt;
+
+/// The module and the line of a datum, an export or an assertion.
+#[derive(Debug, Drop)]
+pub struct Site {
+    pub module_name: Sequence<u8>,
+    pub line: u32,
+}
+
+/// Why nothing is linked.
+#[derive(Debug, Drop)]
+pub enum LinkFault {
+    FailedBefore,
+    OutOfMemory,
+    /// A module that isn't an object.
+    Malformed(ObjectFault),
+    /// A name that is given twice.
+    DuplicateExport(Sequence<u8>),
+    /// All names that nobody gives, in order of first reference.
+    Unresolved(Sequence<Sequence<u8>>),
+    /// Segments that aren't placed.
+    Place(PlaceFault),
+    /// A value that needs itself.
+    Circular(Site),
+    /// A value that doesn't fit.
+    OutOfRange(Site),
+    /// A zero divisor or a bad shift count.
+    NoValue(Site),
+    /// An assertion that fails, and its text.
+    Assertion(Site, Sequence<u8>),
+    /// A member of a library whose names aren't those that the index has.
+    IndexDisagrees,
+}
+
+impl fmt::Display for LinkFault {
+    ghost use Rattle.link65.specs.Faults.{displayed};
+
+    ghost output = { λ e. Some (displayed e) };
+
+    fn fmt<W: fmt::Write>(&self, f: &mut fmt::Formatter<W>) -> fmt::Result {
+        match self {
+            LinkFault::FailedBefore => f.write_str("failed before"),
+            LinkFault::OutOfMemory => f.write_str("out of memory"),
+            LinkFault::Malformed(fault) => write!(f, "{fault}"),
+            LinkFault::DuplicateExport(name) => {
+                let name = Shown(name.as_slice());
+                write!(f, "duplicate export: {name}")
+            }
+            LinkFault::Unresolved(names) => {
+                let names = Listed(names.as_slice());
+                write!(f, "unresolved: {names}")
+            }
+            LinkFault::Place(fault) => write!(f, "{fault}"),
+            LinkFault::Circular(_) => f.write_str("circular definition"),
+            LinkFault::OutOfRange(_) => f.write_str("out of range"),
+            LinkFault::NoValue(_) => f.write_str("zero divisor or bad shift count"),
+            LinkFault::Assertion(_, text) => {
+                let text = Shown(text.as_slice());
+                write!(f, "{text}")
+            }
+            LinkFault::IndexDisagrees => f.write_str("index disagrees with member"),
+        }
+    }
+}
+
+impl Error for LinkFault {}
+
+/// Names as they are printed, between commas and blanks.
+#[derive(Clone, Copy)]
+struct Listed<'a>(&'a [Sequence<u8>]);
+
+impl fmt::Display for Listed<'_> {
+    ghost use Rattle.std.specs.Prelude.{encode_utf8_all};
+    ghost use Rattle.link65.specs.Faults.{listed};
+
+    ghost output = { λ x. Some (encode_utf8_all (listed x.0.now)) };
+
+    fn fmt<W: fmt::Write>(&self, f: &mut fmt::Formatter<W>) -> fmt::Result {
+        let mut separator = "";
+        for name in self.0 {
+            let name = Shown(name.as_slice());
+            write!(f, "{separator}{name}")?;
+            separator = ", ";
+        }
+        Ok(())
+    }
+}
+
+impl From<AllocError> for LinkFault {
+    ghost from_gives = { λ _ e. e ≡ OutOfMemory };
+
+    fn from(_e: AllocError) -> LinkFault {
+        LinkFault::OutOfMemory
+    }
+}
+
+impl<T: Drop> From<AllocFailed<T>> for LinkFault {
+    ghost from_gives = { λ _ e. e ≡ OutOfMemory };
+
+    fn from(_e: AllocFailed<T>) -> LinkFault {
+        LinkFault::OutOfMemory
+    }
+}
+
+impl From<ObjectFault> for LinkFault {
+    ghost from_gives = { λ f e. e ≡ of_object f };
+
+    fn from(fault: ObjectFault) -> LinkFault {
+        match fault {
+            ObjectFault::OutOfMemory => LinkFault::OutOfMemory,
+            fault => LinkFault::Malformed(fault),
+        }
+    }
+}
+
+impl From<PlaceFault> for LinkFault {
+    ghost from_gives = { λ f e. e ≡ of_place f };
+
+    fn from(fault: PlaceFault) -> LinkFault {
+        match fault {
+            PlaceFault::OutOfMemory => LinkFault::OutOfMemory,
+            fault => LinkFault::Place(fault),
+        }
+    }
+}

@@ -1,0 +1,27 @@
+//! What holds of links, whatever the modules and the script are. Each function's contract is a law.
+
+ghost use Rattle.link65.specs.Growing.{GrowthLaw};
+ghost use Rattle.link65.specs.Laws.{OneOutcomeLaw, OneValueLaw, UnusedWeakLaw, UnusedWeakLinks};
+
+/// A form comes to one answer.
+pub fn one_value()
+    ensures { OneValueLaw }
+{}
+
+/// What a scan hands out of a module, item by item, grows a program as the module does; when all has come, the
+/// module stands behind the others.
+pub fn items_grow_a_program()
+    ensures { GrowthLaw }
+{}
+
+/// A link has one outcome.
+pub fn one_outcome()
+    ensures { OneOutcomeLaw }
+{}
+
+/// A weak name that neither the script nor a module imports changes no image: the script links with
+/// it to the same files and warnings, or is refused for the same fault. Only the map may differ.
+pub fn unused_weak_name()
+    ensures same { UnusedWeakLaw }
+    ensures links { UnusedWeakLinks }
+{}

@@ -1,0 +1,252 @@
+//! The map.
+
+ghost use Rattle.std.specs.Prelude.{◌≡◌, ◌%◌, ◌++◌, IfOk, OnOk};
+ghost use Rattle.std.specs.List.{flat_map};
+ghost use Rattle.link65.specs.Evaluation.{exports_in, linkage_in};
+ghost use Rattle.link65.specs.Lists.{with_beside};
+ghost use Rattle.link65.specs.Maps.{address_text, definition_line, export_line, hex_digit, hex_digits, member_lines, row_line, row_lines, section_line, symbol_line, symbol_lines, weak_line};
+ghost use Rattle.link65.specs.Marks.{AllFound};
+ghost use Rattle.link65.specs.Resolving.{AreNames};
+
+use crate::evaluation::{Evaluated, value_in};
+use crate::holding::or_zero;
+use crate::naming::row_place;
+use crate::parts::{Definition, Exported, Member, SectionPlace};
+use crate::resolving::{Names, is_defined};
+use crate::texts::join;
+use base65::Sequence;
+use script65::{Row, RowPlace};
+use std::alloc::{AllocError, Global};
+
+const DIGITS: [u8; 16] = *b"0123456789ABCDEF";
+
+fn hex_digit(number: u64) -> u8
+    ensures { result ≡ hex_digit (number % 16) }
+{
+    DIGITS[(number % 16) as usize]
+}
+
+/// Adds the last so many hex digits of a number.
+#[tactic(auto, using(crate::proofs::HexLemmas::hex_added, crate::proofs::HexLemmas::no_digits))]
+fn add_hex(text: &mut Sequence<u8>, count: u32, number: u64) -> Result<(), AllocError>
+    ensures { OnOk result (text.new ≡ text.old ++ hex_digits count number) }
+{
+    if count == 0 {
+        return Ok(());
+    }
+    add_hex(text, count - 1, number / 16)?;
+    text.push(hex_digit(number))
+}
+
+/// Eight digits, or nine of what doesn't fit.
+fn address_text(alloc: Global, number: u64) -> Result<Sequence<u8>, AllocError>
+    ensures { IfOk result (λ text. text ≡ address_text number) }
+{
+    let mut text = Sequence::new(alloc);
+    let count = if number < 4_294_967_296 { 8 } else { 9 };
+    add_hex(&mut text, count, number)?;
+    Ok(text)
+}
+
+fn value_text(alloc: Global, bits: u64) -> Result<Sequence<u8>, AllocError>
+    ensures { IfOk result (λ text. text ≡ hex_digits 16 bits) }
+{
+    let mut text = Sequence::new(alloc);
+    add_hex(&mut text, 16, bits)?;
+    Ok(text)
+}
+
+/// `  segment offset size`
+fn section_line(alloc: Global, place: &SectionPlace) -> Result<Sequence<u8>, AllocError>
+    ensures { IfOk result (λ text. text ≡ section_line place.now) }
+{
+    let offset = address_text(alloc, place.offset)?;
+    let size = address_text(alloc, place.size)?;
+    join(
+        alloc,
+        &[
+            b"  ",
+            place.segment.as_slice(),
+            b" ",
+            offset.as_slice(),
+            b" ",
+            size.as_slice(),
+            b"\n",
+        ],
+    )
+}
+
+fn section_lines(alloc: Global, places: &[SectionPlace]) -> Result<Sequence<u8>, AllocError>
+    ensures { IfOk result (λ text. text ≡ flat_map section_line places.now) }
+{
+    let mut text = Sequence::new(alloc);
+    for place in places {
+        text.extend_from_slice(section_line(alloc, place)?.as_slice())?;
+    }
+    Ok(text)
+}
+
+/// A module's name, and its sections below it.
+fn member_lines(alloc: Global, member: &Member) -> Result<Sequence<u8>, AllocError>
+    ensures { IfOk result (λ text. text ≡ member_lines member.now) }
+{
+    let sections = section_lines(alloc, member.sections.as_slice())?;
+    join(alloc, &[member.name.as_slice(), b"\n", sections.as_slice()])
+}
+
+/// The modules and their sections.
+pub fn members_text(alloc: Global, members: &[Member]) -> Result<Sequence<u8>, AllocError>
+    ensures { IfOk result (λ text. text ≡ flat_map member_lines members.now) }
+{
+    let mut text = Sequence::new(alloc);
+    for member in members {
+        text.extend_from_slice(member_lines(alloc, member)?.as_slice())?;
+    }
+    Ok(text)
+}
+
+/// `name run load size`
+fn row_line(alloc: Global, row: &Row, place: RowPlace) -> Result<Sequence<u8>, AllocError>
+    ensures { IfOk result (λ text. text ≡ row_line row.now place) }
+{
+    let run = address_text(alloc, place.run)?;
+    let load = address_text(alloc, place.load)?;
+    let size = address_text(alloc, place.size)?;
+    join(
+        alloc,
+        &[
+            row.name.as_slice(),
+            b" ",
+            run.as_slice(),
+            b" ",
+            load.as_slice(),
+            b" ",
+            size.as_slice(),
+            b"\n",
+        ],
+    )
+}
+
+fn row_line_at(
+    alloc: Global,
+    row: &Row,
+    place: Option<RowPlace>,
+) -> Result<Sequence<u8>, AllocError>
+    ensures { IfOk result (λ text. text ≡ with_beside row_line row.now place) }
+{
+    match place {
+        Some(place) => row_line(alloc, row, place),
+        None => Ok(Sequence::new(alloc)),
+    }
+}
+
+/// The rows and where they are placed.
+pub fn rows_text(
+    alloc: Global,
+    rows: &[Row],
+    places: &[RowPlace],
+) -> Result<Sequence<u8>, AllocError>
+    ensures { IfOk result (λ text. text ≡ row_lines rows.now places.now) }
+{
+    let mut text = Sequence::new(alloc);
+    for (i, row) in rows.iter().enumerate() {
+        let line = row_line_at(alloc, row, row_place(places, i))?;
+        text.extend_from_slice(line.as_slice())?;
+    }
+    Ok(text)
+}
+
+/// `name value`
+fn symbol_line(alloc: Global, name: &[u8], bits: u64) -> Result<Sequence<u8>, AllocError>
+    ensures { IfOk result (λ text. text ≡ symbol_line name.now bits) }
+{
+    let digits = value_text(alloc, bits)?;
+    join(alloc, &[name, b" ", digits.as_slice(), b"\n"])
+}
+
+fn definition_line(alloc: Global, definition: &Definition) -> Result<Sequence<u8>, AllocError>
+    ensures { IfOk result (λ text. text ≡ definition_line definition.now) }
+{
+    let bits = definition.value.cast_unsigned();
+    symbol_line(alloc, definition.name.as_slice(), bits)
+}
+
+fn definition_lines(alloc: Global, definitions: &[Definition]) -> Result<Sequence<u8>, AllocError>
+    ensures { IfOk result (λ text. text ≡ flat_map definition_line definitions.now) }
+{
+    let mut text = Sequence::new(alloc);
+    for definition in definitions {
+        text.extend_from_slice(definition_line(alloc, definition)?.as_slice())?;
+    }
+    Ok(text)
+}
+
+/// An export and its value.
+fn export_line(
+    alloc: Global,
+    program: &Evaluated<'_>,
+    export: &Exported,
+) -> Result<Sequence<u8>, AllocError>
+    requires { AllFound program.now.marks.now }
+    ensures { IfOk result (λ text. text ≡ export_line (linkage_in program.now) (exports_in program.now) export.now) }
+{
+    let value = or_zero(value_in(program, export.owner, &export.form));
+    symbol_line(alloc, export.name.as_slice(), value.cast_unsigned())
+}
+
+fn export_lines(alloc: Global, program: &Evaluated<'_>) -> Result<Sequence<u8>, AllocError>
+    requires { AllFound program.now.marks.now }
+    ensures { IfOk result (λ text. text ≡ flat_map (export_line (linkage_in program.now) (exports_in program.now)) program.now.exports.now) }
+{
+    let mut text = Sequence::new(alloc);
+    for export in program.exports {
+        text.extend_from_slice(export_line(alloc, program, export)?.as_slice())?;
+    }
+    Ok(text)
+}
+
+/// A weak name, where nothing else defines it.
+fn weak_line(
+    alloc: Global,
+    names: &Names<'_>,
+    weak: &Definition,
+) -> Result<Sequence<u8>, AllocError>
+    requires { AreNames names.now }
+    ensures { IfOk result (λ text. text ≡ weak_line names.now.own.now names.now.exports.now weak.now) }
+{
+    if is_defined(names, weak.name.as_slice()) {
+        return Ok(Sequence::new(alloc));
+    }
+    definition_line(alloc, weak)
+}
+
+fn weak_lines(alloc: Global, names: &Names<'_>) -> Result<Sequence<u8>, AllocError>
+    requires { AreNames names.now }
+    ensures { IfOk result (λ text. text ≡ flat_map (weak_line names.now.own.now names.now.exports.now) names.now.weak.now) }
+{
+    let mut text = Sequence::new(alloc);
+    for weak in names.weak {
+        text.extend_from_slice(weak_line(alloc, names, weak)?.as_slice())?;
+    }
+    Ok(text)
+}
+
+/// All symbols and their values.
+pub fn symbols_text(
+    alloc: Global,
+    names: &Names<'_>,
+    program: &Evaluated<'_>,
+) -> Result<Sequence<u8>, AllocError>
+    requires found { AllFound program.now.marks.now }
+    requires names { AreNames names.now }
+    requires same { names.now.exports.now ≡ program.now.exports.now }
+    ensures { IfOk result (λ text. text ≡ symbol_lines names.now.own.now names.now.weak.now (linkage_in program.now) (exports_in program.now)) }
+{
+    let own = definition_lines(alloc, names.own)?;
+    let exports = export_lines(alloc, program)?;
+    let weak = weak_lines(alloc, names)?;
+    join(
+        alloc,
+        &[own.as_slice(), exports.as_slice(), weak.as_slice()],
+    )
+}

@@ -1,0 +1,224 @@
+//! The names that a script gives.
+
+ghost use Rattle.std.specs.Prelude.{◌≡◌, ◌++◌, IfOk, OnOk, slice_get};
+ghost use Rattle.link65.specs.Lists.{with_beside};
+ghost use Rattle.script65.specs.Parts.{part_name};
+ghost use Rattle.link65.specs.Names.{area_definitions, areas_definitions, export_definition, part, row_definitions, rows_definitions, script_definitions, symbol_exports, weak_definition, weak_symbols};
+
+use crate::parts::Definition;
+use crate::texts::join;
+use base65::Sequence;
+use script65::{Area, AreaPlace, Placement, Row, RowPlace, Script, Symbol, SymbolKind};
+use std::alloc::{AllocError, Global};
+
+/// `__N_PART__`
+pub fn part_name(alloc: Global, name: &[u8], part: &[u8]) -> Result<Sequence<u8>, AllocError>
+    ensures { IfOk result (λ text. text ≡ part_name name.now part.now) }
+{
+    join(alloc, &[b"__", name, b"_", part, b"__"])
+}
+
+/// A part of an area or of a row, by its name.
+fn part_of(alloc: Global, name: &[u8], word: &[u8], number: u64) -> Result<Definition, AllocError>
+    ensures { IfOk result (λ d. d ≡ part name.now word.now number) }
+{
+    Ok(Definition {
+        name: part_name(alloc, name, word)?,
+        value: number.cast_signed(),
+    })
+}
+
+/// Adds what an area defines.
+fn add_area(
+    alloc: Global,
+    definitions: &mut Sequence<Definition>,
+    area: &Area,
+    place: AreaPlace,
+) -> Result<(), AllocError>
+    ensures { OnOk result (definitions.new ≡ definitions.old ++ area_definitions area.now place) }
+{
+    if area.define {
+        let name = area.name.as_slice();
+        definitions.push(part_of(alloc, name, b"START", place.start)?)?;
+        definitions.push(part_of(alloc, name, b"SIZE", place.size)?)?;
+        definitions.push(part_of(alloc, name, b"LAST", place.last)?)?;
+    }
+    Ok(())
+}
+
+/// Adds what an area defines, where it is placed.
+fn add_area_at(
+    alloc: Global,
+    definitions: &mut Sequence<Definition>,
+    area: &Area,
+    place: Option<AreaPlace>,
+) -> Result<(), AllocError>
+    ensures { OnOk result (definitions.new ≡ definitions.old ++ with_beside area_definitions area.now place) }
+{
+    match place {
+        Some(place) => add_area(alloc, definitions, area, place),
+        None => Ok(()),
+    }
+}
+
+/// Adds what a row defines.
+fn add_row(
+    alloc: Global,
+    definitions: &mut Sequence<Definition>,
+    row: &Row,
+    place: RowPlace,
+) -> Result<(), AllocError>
+    ensures { OnOk result (definitions.new ≡ definitions.old ++ row_definitions row.now place) }
+{
+    if row.define {
+        let name = row.name.as_slice();
+        definitions.push(part_of(alloc, name, b"LOAD", place.load)?)?;
+        definitions.push(part_of(alloc, name, b"RUN", place.run)?)?;
+        definitions.push(part_of(alloc, name, b"SIZE", place.size)?)?;
+    }
+    Ok(())
+}
+
+/// Adds what a row defines, where it is placed.
+fn add_row_at(
+    alloc: Global,
+    definitions: &mut Sequence<Definition>,
+    row: &Row,
+    place: Option<RowPlace>,
+) -> Result<(), AllocError>
+    ensures { OnOk result (definitions.new ≡ definitions.old ++ with_beside row_definitions row.now place) }
+{
+    match place {
+        Some(place) => add_row(alloc, definitions, row, place),
+        None => Ok(()),
+    }
+}
+
+/// Adds a symbol that the script exports.
+fn add_export(
+    alloc: Global,
+    definitions: &mut Sequence<Definition>,
+    symbol: &Symbol,
+) -> Result<(), AllocError>
+    ensures { OnOk result (definitions.new ≡ definitions.old ++ export_definition symbol.now.kind symbol.now.name) }
+{
+    match symbol.kind {
+        SymbolKind::Export(number) => definitions.push(Definition {
+            name: Sequence::copy_of(alloc, symbol.name.as_slice())?,
+            value: u64::from(number).cast_signed(),
+        }),
+        SymbolKind::Weak(_) => Ok(()),
+        SymbolKind::Import => Ok(()),
+    }
+}
+
+/// Adds a symbol that the script defines where nothing else does.
+fn add_weak(
+    alloc: Global,
+    definitions: &mut Sequence<Definition>,
+    symbol: &Symbol,
+) -> Result<(), AllocError>
+    ensures { OnOk result (definitions.new ≡ definitions.old ++ weak_definition symbol.now.kind symbol.now.name) }
+{
+    match symbol.kind {
+        SymbolKind::Weak(number) => definitions.push(Definition {
+            name: Sequence::copy_of(alloc, symbol.name.as_slice())?,
+            value: u64::from(number).cast_signed(),
+        }),
+        SymbolKind::Export(_) => Ok(()),
+        SymbolKind::Import => Ok(()),
+    }
+}
+
+fn area_place(places: &[AreaPlace], i: usize) -> Option<AreaPlace>
+    ensures { result ≡ slice_get places.now i }
+{
+    places.get(i).copied()
+}
+
+/// Where the row at a place stands, if it is placed.
+pub fn row_place(places: &[RowPlace], i: usize) -> Option<RowPlace>
+    ensures { result ≡ slice_get places.now i }
+{
+    places.get(i).copied()
+}
+
+/// Adds what areas define.
+fn add_areas(
+    alloc: Global,
+    definitions: &mut Sequence<Definition>,
+    areas: &[Area],
+    places: &[AreaPlace],
+) -> Result<(), AllocError>
+    ensures { OnOk result (definitions.new ≡ definitions.old ++ areas_definitions areas.now places.now) }
+{
+    for (i, area) in areas.iter().enumerate() {
+        add_area_at(alloc, definitions, area, area_place(places, i))?;
+    }
+    Ok(())
+}
+
+/// Adds what rows define.
+fn add_rows(
+    alloc: Global,
+    definitions: &mut Sequence<Definition>,
+    rows: &[Row],
+    places: &[RowPlace],
+) -> Result<(), AllocError>
+    ensures { OnOk result (definitions.new ≡ definitions.old ++ rows_definitions rows.now places.now) }
+{
+    for (i, row) in rows.iter().enumerate() {
+        add_row_at(alloc, definitions, row, row_place(places, i))?;
+    }
+    Ok(())
+}
+
+/// Adds the symbols that the script exports.
+pub fn add_exports(
+    alloc: Global,
+    definitions: &mut Sequence<Definition>,
+    symbols: &[Symbol],
+) -> Result<(), AllocError>
+    ensures { OnOk result (definitions.new ≡ definitions.old ++ symbol_exports symbols.now) }
+{
+    for symbol in symbols {
+        add_export(alloc, definitions, symbol)?;
+    }
+    Ok(())
+}
+
+/// The symbols that the script defines where nothing else does.
+pub fn weak_symbols(alloc: Global, symbols: &[Symbol]) -> Result<Sequence<Definition>, AllocError>
+    ensures { IfOk result (λ ds. ds ≡ weak_symbols symbols.now) }
+{
+    let mut definitions = Sequence::new(alloc);
+    for symbol in symbols {
+        add_weak(alloc, &mut definitions, symbol)?;
+    }
+    Ok(definitions)
+}
+
+/// What a script defines by itself, in the map's order.
+pub fn definitions_of(
+    alloc: Global,
+    script: &Script,
+    placement: &Placement,
+) -> Result<Sequence<Definition>, AllocError>
+    ensures { IfOk result (λ ds. ds ≡ script_definitions script.now placement.now) }
+{
+    let mut definitions = Sequence::new(alloc);
+    add_areas(
+        alloc,
+        &mut definitions,
+        script.areas.as_slice(),
+        placement.areas.as_slice(),
+    )?;
+    add_rows(
+        alloc,
+        &mut definitions,
+        script.rows.as_slice(),
+        placement.rows.as_slice(),
+    )?;
+    add_exports(alloc, &mut definitions, script.symbols.as_slice())?;
+    Ok(definitions)
+}

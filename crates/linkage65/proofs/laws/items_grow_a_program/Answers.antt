@@ -1,5 +1,0 @@
-use Rattle.linkage65.proofs.GrowingLaw.{growth_law}
-use Rattle.linkage65.proofs.laws.items_grow_a_program.Goals as goal
-
-pub returns : goal.returns
-returns c = growth_law

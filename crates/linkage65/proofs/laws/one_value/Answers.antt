@@ -1,7 +1,0 @@
-use Rattle.linkage65.specs.Values.{exports_through, value_by}
-use Rattle.linkage65.proofs.Turns.{settles_once}
-use Rattle.linkage65.proofs.Tries.{form_grows}
-use Rattle.linkage65.proofs.laws.one_value.Goals as goal
-
-pub returns : goal.returns
-returns c = λ l owner f r q h k. settles_once (λ n. value_by l (exports_through l n) owner f) r q (form_grows l owner f) h k

@@ -1,7 +1,0 @@
-use Rattle.std.proofs.Common.{◌≡◌, ◌++◌, drop}
-use Rattle.std.specs.List.{flat_map}
-use Rattle.linkage65.specs.Maps.{member_lines}
-use Rattle.linkage65.proofs.mapping.members_text.Given as goal
-
-abbrev pub invariant-loop-member : goal.invariant-loop-member
-invariant-loop-member l = l.text ++ flat_map member_lines (drop l.member-index l.members) ≡ flat_map member_lines l.members

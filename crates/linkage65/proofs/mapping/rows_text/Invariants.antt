@@ -1,7 +1,0 @@
-use Rattle.std.proofs.Common.{◌≡◌, ◌++◌, drop}
-use Rattle.linkage65.specs.Lists.{flat_zip}
-use Rattle.linkage65.specs.Maps.{row_line}
-use Rattle.linkage65.proofs.mapping.rows_text.Given as goal
-
-abbrev pub invariant-loop-i : goal.invariant-loop-i
-invariant-loop-i l = l.text ++ flat_zip row_line (drop l.i l.rows) (drop l.i l.places) ≡ flat_zip row_line l.rows l.places

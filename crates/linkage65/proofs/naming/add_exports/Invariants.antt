@@ -1,6 +1,0 @@
-use Rattle.std.proofs.Common.{◌≡◌, ◌++◌, drop}
-use Rattle.linkage65.specs.Names.{symbol_exports}
-use Rattle.linkage65.proofs.naming.add_exports.Given as goal
-
-abbrev pub invariant-loop-symbol : goal.invariant-loop-symbol
-invariant-loop-symbol l = l.definitions ++ symbol_exports (drop l.symbol-index l.symbols) ≡ l.fn.definitions ++ symbol_exports l.symbols

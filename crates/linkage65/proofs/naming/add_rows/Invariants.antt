@@ -1,7 +1,0 @@
-use Rattle.std.proofs.Common.{◌≡◌, ◌++◌, drop}
-use Rattle.linkage65.specs.Lists.{flat_zip}
-use Rattle.linkage65.specs.Names.{row_definitions}
-use Rattle.linkage65.proofs.naming.add_rows.Given as goal
-
-abbrev pub invariant-loop-i : goal.invariant-loop-i
-invariant-loop-i l = l.definitions ++ flat_zip row_definitions (drop l.i l.rows) (drop l.i l.places) ≡ l.fn.definitions ++ flat_zip row_definitions l.rows l.places

@@ -1,6 +1,0 @@
-use Rattle.std.proofs.Common.{◌≡◌, ◌++◌, drop}
-use Rattle.linkage65.specs.Names.{weak_symbols}
-use Rattle.linkage65.proofs.naming.weak_symbols.Given as goal
-
-abbrev pub invariant-loop-symbol : goal.invariant-loop-symbol
-invariant-loop-symbol l = l.definitions ++ weak_symbols (drop l.symbol-index l.symbols) ≡ weak_symbols l.symbols

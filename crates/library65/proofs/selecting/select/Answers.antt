@@ -14,16 +14,15 @@ returns-clause-selected c =
     let es = c.in_ok-exporters.exporters.entries.now in
     let marks = c.find_all.new.found.marks.items in
     let found = c.find_all.new.found.places.items in
+    let places = c.in_ok-marked_places.field-0.items in
     let same = c.in_ok-exporters.ensures.entries ∙ c.as_slice.ensures in
-    IfOk-weaker c.marked_places.result _ _
-    (λ places e. subst (λ xs. IsSelection xs wanted defined places.items) same (searched_selected es wanted defined found marks places.items c.in_ok-find_all.ensures.found c.in_ok-find_all.ensures.sound.marks (e ∙ ap (marked_from 0) c.as_slice-2.ensures.value)))
-    c.marked_places.ensures
+    let marked = c.in_ok-marked_places.ensures ∙ ap (marked_from 0) c.as_slice-2.ensures.value in
+    subst (λ xs. IsSelection xs wanted defined places) same (searched_selected es wanted defined found marks places c.in_ok-find_all.ensures.found c.in_ok-find_all.ensures.sound.marks marked)
 
 pub returns-clause-within : goal.returns-clause-within
 returns-clause-within c =
     let n = length c.args.index.now.entries in
     let marks = c.find_all.new.found.marks.items in
     let all : 0 + length marks ≤ n = omega (arith, c.in_ok-find_all.ensures.marks, c.in_ok-found.ensures.count, c.len.ensures) in
-    IfOk-weaker c.marked_places.result _ _
-    (λ places e. subst (AllByRecursion (λ i. i < n)) (sym (e ∙ ap (marked_from 0) c.as_slice-2.ensures.value)) (marked_below n 0 marks all))
-    c.marked_places.ensures
+    let marked = c.in_ok-marked_places.ensures ∙ ap (marked_from 0) c.as_slice-2.ensures.value in
+    subst (AllByRecursion (λ i. i < n)) (sym marked) (marked_below n 0 marks all)

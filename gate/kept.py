@@ -4,7 +4,7 @@ module and no source whole. The code shows it: the names that it may not use, an
 import re
 
 # A linker that is fed record by record makes no object of a module, and keeps none of its records or items.
-LINKER = ("link65", "linkage65")
+LINKER = ("link65",)
 # An assembler in one pass keeps of a statement what waits for names, and no list of statements.
 ASSEMBLER = ("asm65", "symbols65", "sections65", "layout65")
 

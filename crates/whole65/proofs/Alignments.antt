@@ -9,7 +9,7 @@ use Rattle.whole65.proofs.Numbers.{equal}
 use Rattle.whole65.proofs.Offsets.{placed}
 use Rattle.whole65.proofs.Positions.{powers_at}
 use Rattle.whole65.proofs.Shifts.{largest_power}
-use Rattle.whole65.specs.Laws.{AlignmentLaw}
+use Rattle.whole65.specs.Inner.Steps.{AlignmentLaw}
 use Rattle.whole65.specs.Offsets.{IsPower, lines_at}
 use Rattle.whole65.specs.Segments.{Line, largest_multiple, lines_behind}
 

@@ -40,9 +40,9 @@ use Rattle.whole65.proofs.Givers.{keyed_said, sources_law}
 use Rattle.whole65.proofs.Keyed.{form_law, keyed_law}
 use Rattle.whole65.proofs.Later.{bind_ok}
 use Rattle.whole65.proofs.Sources.{HasContents, contents_of}
-use Rattle.whole65.specs.Keyed.{IsKeyed, IsKeyedSaid, linked_objects}
-use Rattle.whole65.specs.Laws.{AssertionsLaw}
-use Rattle.whole65.specs.Linked.{spot_in, symbols_at}
+use Rattle.whole65.specs.Inner.Keyed.{IsKeyed, IsKeyedSaid, linked_objects}
+use Rattle.whole65.specs.Inner.Steps.{AssertionsLaw}
+use Rattle.whole65.specs.Inner.Linked.{spot_in, symbols_at}
 use Rattle.whole65.specs.Modules.{global_spot, spot_or, table_of}
 use Rattle.whole65.specs.Objects.{HasValue, Objects, form_value}
 use Rattle.whole65.specs.Programs as whole

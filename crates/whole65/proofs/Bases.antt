@@ -32,9 +32,9 @@ use Rattle.whole65.proofs.Positions.{itself}
 use Rattle.whole65.proofs.Sections.{name_at}
 use Rattle.whole65.proofs.Shifts.{end_of-append}
 use Rattle.whole65.proofs.Sources.{in_segment, section_begin, same_object, size_law, size_or}
-use Rattle.whole65.specs.Growth.{or_empty}
-use Rattle.whole65.specs.Laws.{SectionBaseLaw}
-use Rattle.whole65.specs.Linked.{begin_in}
+use Rattle.whole65.specs.Inner.Growth.{or_empty}
+use Rattle.whole65.specs.Inner.Steps.{SectionBaseLaw}
+use Rattle.whole65.specs.Inner.Linked.{begin_in}
 use Rattle.whole65.specs.Modules.{table_of}
 use Rattle.whole65.specs.Offsets.{IsLaidOut, begin_from, begin_of, lines_at}
 use Rattle.whole65.specs.Segments.{end_of, has_section, items_from, items_of, largest_multiple, lines_behind, lines_in, part_of, segment_name}

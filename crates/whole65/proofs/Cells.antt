@@ -7,9 +7,9 @@ use Rattle.object65.specs.declared.object.Fragment.{Fragment}
 use Rattle.object65.specs.declared.object.Fragment.TheVariants.{Literal, Fill, Value}
 use Rattle.link65.specs.Segments.{Cell, known, filled, fragment_cells}
 use Rattle.link65.specs.Values.{Linkage}
-use Rattle.whole65.specs.Cells.{AreCells, linked_value}
-use Rattle.whole65.specs.Laws.{CellsLaw}
-use Rattle.whole65.specs.Parts.{AreFragments, IsFragment}
+use Rattle.whole65.specs.Inner.Cells.{AreCells, linked_value}
+use Rattle.whole65.specs.Inner.Steps.{CellsLaw}
+use Rattle.whole65.specs.Inner.Parts.{AreFragments, IsFragment}
 
 module _ (l : Linkage) (fill : ℕ) where
   abbrev pub BothCells : List Cell → List Cell → List ℕ → Type 0

@@ -16,8 +16,8 @@ use Rattle.link65.specs.declared.parts.ValueFault.{ValueFault}
 use Rattle.link65.specs.declared.parts.Waiting.{Waiting}
 use Rattle.whole65.proofs.Evaluated.{table_law}
 use Rattle.whole65.proofs.Later.{bind_ok}
-use Rattle.whole65.specs.Cells.{AreCells, linked_value}
-use Rattle.whole65.specs.Laws.{CheckedLaw}
+use Rattle.whole65.specs.Inner.Cells.{AreCells, linked_value}
+use Rattle.whole65.specs.Inner.Steps.{CheckedLaw}
 
 -- a value that fits
 abbrev Fits : Waiting → Result ℤ ValueFault → Type 0

@@ -7,7 +7,7 @@ use Rattle.language65.specs.Laid.{Laid}
 use Rattle.language65.specs.Layout.{Layout}
 use Rattle.language65.specs.Names as names
 use Rattle.language65.specs.Symbols.{Definition, Key, definition_with, definitions_of, key_defined, value_defined}
-use Rattle.whole65.specs.Linked.{or_first, place_in, symbols_at}
+use Rattle.whole65.specs.Inner.Linked.{or_first, place_in, symbols_at}
 use Rattle.whole65.specs.Modules.{defining_from, definition_at, import_named, meaning_by, spot_at, statement_at, table_of}
 use Rattle.whole65.specs.Objects.{definition_shown, import_shown, value_shown}
 use Rattle.whole65.specs.Values.{Meaning}

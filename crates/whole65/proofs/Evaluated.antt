@@ -14,8 +14,8 @@ use Rattle.link65.specs.declared.parts.ValueFault.{ValueFault}
 use Rattle.link65.specs.declared.parts.ValueFault.TheVariants.{Circular, NoValue, Unresolved}
 use Rattle.link65.specs.Values.{AreExports, Exports, Linkage, Settles, base_of, export_value, exports_through, giver_at, import_value, in_table, value_by}
 use Rattle.whole65.proofs.Later.{bind_ok, value_covered}
-use Rattle.whole65.specs.Cells.{linked_value}
-use Rattle.whole65.specs.Laws.{TableLaw}
+use Rattle.whole65.specs.Inner.Cells.{linked_value}
+use Rattle.whole65.specs.Inner.Steps.{TableLaw}
 
 known_ok : (r s : Result ℤ ValueFault) (v : ℤ) → Known r s → r ≡ Ok v → s ≡ Ok v
 known_ok (Ok w) s v h e = h ∙ e

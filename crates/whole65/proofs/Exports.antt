@@ -35,7 +35,7 @@ use Rattle.module65.specs.Places.{PlacedFault, at_place}
 use Rattle.whole65.proofs.Later.{bind_ok}
 use Rattle.whole65.proofs.SectionBytes.{content_is, placed_ok}
 use Rattle.whole65.proofs.Sources.{contents_of}
-use Rattle.whole65.specs.Laws.{ExportNamesLaw}
+use Rattle.whole65.specs.Inner.Steps.{ExportNamesLaw}
 use Rattle.whole65.specs.Modules.{exported_by, exports_of, table_of}
 use Rattle.whole65.specs.Sources.{AreSources, IsSource}
 

@@ -26,7 +26,7 @@ use Rattle.whole65.proofs.Exports.{source_exports}
 use Rattle.whole65.proofs.Givers.{exports_are, linked_exports}
 use Rattle.whole65.proofs.Images.{export_value_law, rows_law}
 use Rattle.whole65.proofs.Later.{bind_ok}
-use Rattle.whole65.specs.Laws.{ExportsLaw, FilesLaw}
+use Rattle.whole65.specs.Inner.Steps.{ExportsLaw, FilesLaw}
 use Rattle.whole65.specs.Modules.{exports_of}
 use Rattle.whole65.specs.Programs as whole
 use Rattle.whole65.specs.Sources.{AreSources}

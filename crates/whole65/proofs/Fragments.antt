@@ -11,8 +11,8 @@ use Rattle.object65.specs.declared.object.Fragment.TheVariants.{Literal, Fill, V
 use Rattle.language65.specs.declared.contents.Part.{Part}
 use Rattle.language65.specs.declared.contents.Part.TheVariants.{Known, Filled, Waiting}
 use Rattle.language65.specs.Numbering.{all_joined, fragment_of, fragments_of, is_empty, joined, number_of, numbered}
-use Rattle.whole65.specs.Laws.{FragmentsLaw, NumberLaw}
-use Rattle.whole65.specs.Parts.{AreFragments, AreParts, ArePart, IsFragment, Valuing, valued_by}
+use Rattle.whole65.specs.Inner.Steps.{FragmentsLaw, NumberLaw}
+use Rattle.whole65.specs.Inner.Parts.{AreFragments, AreParts, ArePart, IsFragment, Valuing, valued_by}
 
 pub number_law : (E : Type 0) → NumberLaw E
 number_law E none bases values ss is (lit v) = refl

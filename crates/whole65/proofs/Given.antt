@@ -14,7 +14,7 @@ use Rattle.link65.specs.Programs.{program_of}
 use Rattle.module65.proofs.SoundForms.{all_append}
 use Rattle.whole65.proofs.Exports.{export_names_law}
 use Rattle.whole65.proofs.Later.{bind_ok}
-use Rattle.whole65.specs.Laws.{NamesLaw, ValuedImportsLaw}
+use Rattle.whole65.specs.Inner.Steps.{NamesLaw, ValuedImportsLaw}
 
 pub valued_imports_law : (E : Type 0) → ValuedImportsLaw E
 valued_imports_law E none bases values (lit n) v e = tt

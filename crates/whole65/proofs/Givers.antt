@@ -45,9 +45,9 @@ use Rattle.whole65.proofs.Keyed.{form_law, keyed_law}
 use Rattle.whole65.proofs.Linked.{linked_law}
 use Rattle.whole65.proofs.Positions.{all_get}
 use Rattle.whole65.proofs.Sources.{contents_of}
-use Rattle.whole65.specs.Keyed.{IsKeyed, IsKeyedContent, IsKeyedSaid, giver_named, imports_linked, linked_objects}
-use Rattle.whole65.specs.Laws.{SourcesLaw}
-use Rattle.whole65.specs.Linked.{spot_in, symbols_at}
+use Rattle.whole65.specs.Inner.Keyed.{IsKeyed, IsKeyedContent, IsKeyedSaid, giver_named, imports_linked, linked_objects}
+use Rattle.whole65.specs.Inner.Steps.{SourcesLaw}
+use Rattle.whole65.specs.Inner.Linked.{spot_in, symbols_at}
 use Rattle.whole65.specs.Modules.{global_spot, spot_or, table_of}
 use Rattle.whole65.specs.Objects.{IsExport, IsGiven, IsGivenBy, Objects}
 use Rattle.whole65.specs.Offsets.{IsLaidOut}

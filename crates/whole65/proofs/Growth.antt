@@ -8,8 +8,8 @@ use Rattle.link65.specs.Modules.{Module}
 use Rattle.link65.specs.Programs.{Program, member, no_program, with_module, with_modules}
 use Rattle.link65.specs.Segments.{Segment, grown, segment_of, with_section, with_sections}
 use Rattle.whole65.proofs.Positions.{itself}
-use Rattle.whole65.specs.Growth.{behind_modules, behind_sections, or_empty}
-use Rattle.whole65.specs.Laws.{SegmentLaw}
+use Rattle.whole65.specs.Inner.Growth.{behind_modules, behind_sections, or_empty}
+use Rattle.whole65.specs.Inner.Steps.{SegmentLaw}
 
 -- a segment, if it is the one of the name, or else another
 abbrev first : List ℕ → Segment → Option Segment → Option Segment

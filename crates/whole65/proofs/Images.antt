@@ -28,8 +28,8 @@ use Rattle.whole65.proofs.Later.{bind_ok}
 use Rattle.whole65.proofs.Positions.{all_get}
 use Rattle.whole65.proofs.Rows.{linked_bytes_law}
 use Rattle.whole65.proofs.SameValues.{same_values_law}
-use Rattle.whole65.specs.Cells.{cells_or}
-use Rattle.whole65.specs.Keyed.{linked_objects}
+use Rattle.whole65.specs.Inner.Cells.{cells_or}
+use Rattle.whole65.specs.Inner.Keyed.{linked_objects}
 use Rattle.whole65.specs.Laws.{ExportValueLaw, RowsLaw}
 use Rattle.whole65.specs.Modules.{table_of}
 use Rattle.whole65.specs.Objects.{form_value}

@@ -29,9 +29,9 @@ use Rattle.whole65.proofs.Keys.{any_once, number_first, number_later}
 use Rattle.whole65.proofs.Numbers.{equal}
 use Rattle.whole65.proofs.OwnParts.{own_parts_law}
 use Rattle.whole65.proofs.Sources.{same_object}
-use Rattle.whole65.specs.Keyed.{IsKeyed, IsKeyedContent, IsKeyedPart, IsKeyedSaid, giver_named, imports_linked}
-use Rattle.whole65.specs.Laws.{FormLaw, KeyedLaw}
-use Rattle.whole65.specs.Linked.{base_in, symbols_at}
+use Rattle.whole65.specs.Inner.Keyed.{IsKeyed, IsKeyedContent, IsKeyedPart, IsKeyedSaid, giver_named, imports_linked}
+use Rattle.whole65.specs.Inner.Steps.{FormLaw, KeyedLaw}
+use Rattle.whole65.specs.Inner.Linked.{base_in, symbols_at}
 use Rattle.whole65.specs.Modules.{table_of}
 use Rattle.whole65.specs.Sources.{IsSource}
 

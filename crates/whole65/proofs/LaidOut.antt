@@ -16,7 +16,7 @@ use Rattle.language65.specs.Symbols.{symbols_of}
 use Rattle.statements65.specs.Parsing.{label_of}
 use Rattle.module65.specs.Laying.{IsLaid, laying}
 use Rattle.module65.specs.Reading.{AreDefined, AreTaken, Define, Follows, IsBegun, IsGiven, IsLabelled, IsRest, Job, Reached, no_line, taken, faulty, refused, ended, with_bytes}
-use Rattle.whole65.specs.Laws.{LaidOutLaw}
+use Rattle.whole65.specs.Inner.Steps.{LaidOutLaw}
 use Rattle.whole65.specs.Offsets.{IsLaidOut, begun, behind}
 
 one : (y z : Layout) (place : Place) (x : Stated) → IsLaidOut y → IsLaid y place x (Ok z) → IsLaidOut z

@@ -28,7 +28,7 @@ use Rattle.module65.specs.Places.{PlacedFault, at_place}
 use Rattle.whole65.proofs.Later.{bind_ok}
 use Rattle.whole65.proofs.LineEnds.{EndsAt, all_end}
 use Rattle.whole65.proofs.SectionBytes.{IsContent, content_is, placed_ok}
-use Rattle.whole65.specs.Laws.{LengthLaw}
+use Rattle.whole65.specs.Inner.Steps.{LengthLaw}
 use Rattle.whole65.specs.Modules.{table_of}
 use Rattle.whole65.specs.Offsets.{lines_at}
 use Rattle.whole65.specs.Segments.{Line, end_of, line, line_end, line_of, lines_behind}

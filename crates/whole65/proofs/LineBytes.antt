@@ -22,9 +22,9 @@ use Rattle.whole65.proofs.Later.{bind_ok}
 use Rattle.whole65.proofs.SameValues.{same_values_law}
 use Rattle.whole65.proofs.Stored.{HasBytes, of_operand, of_stored}
 use Rattle.whole65.specs.Contents.{AreInstruction, AreItem, AreItems, AreLine, AreOperand, code_bytes, filling}
-use Rattle.whole65.specs.Laws.{PartsLaw}
+use Rattle.whole65.specs.Inner.Steps.{PartsLaw}
 use Rattle.whole65.specs.Objects.{AreObjects, HasValue, Objects}
-use Rattle.whole65.specs.Parts.{ArePart, AreParts}
+use Rattle.whole65.specs.Inner.Parts.{ArePart, AreParts}
 use Rattle.whole65.specs.Segments.{Line, line_end}
 use Rattle.whole65.specs.Values.{Program, Value}
 

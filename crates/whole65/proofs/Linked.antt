@@ -20,8 +20,8 @@ use Rattle.whole65.proofs.Defining.{none_shown, same_meaning, same_spot, shown_b
 use Rattle.whole65.proofs.Naming.{named}
 use Rattle.whole65.proofs.Positions.{all_get, position_law}
 use Rattle.whole65.proofs.Unasked.{at_end, no_offset}
-use Rattle.whole65.specs.Laws.{LinkedLaw}
-use Rattle.whole65.specs.Linked.{base_in, begin_in, objects_of, place_in, spot_in, symbols_at}
+use Rattle.whole65.specs.Inner.Steps.{LinkedLaw}
+use Rattle.whole65.specs.Inner.Linked.{base_in, begin_in, objects_of, place_in, spot_in, symbols_at}
 use Rattle.whole65.specs.Modules.{global_spot, spot_or}
 use Rattle.whole65.specs.Objects.{meaning_shown}
 use Rattle.whole65.specs.Offsets.{IsLaidOut, begin_of}

@@ -9,10 +9,10 @@ use Rattle.link65.specs.Values.{Linkage}
 use Rattle.whole65.proofs.Cells.{cells_law}
 use Rattle.whole65.proofs.Fragments.{all_joined_are, all_kept, same_parts}
 use Rattle.whole65.proofs.SectionBytes.{section_law}
-use Rattle.whole65.specs.Cells.{IsValuedIn, linked_value}
-use Rattle.whole65.specs.Laws.{ModuleLaw}
+use Rattle.whole65.specs.Inner.Cells.{IsValuedIn, linked_value}
+use Rattle.whole65.specs.Inner.Steps.{ModuleLaw}
 use Rattle.whole65.specs.Objects.{HasValue, Objects}
-use Rattle.whole65.specs.Parts.{ArePart, AreParts, Valuing}
+use Rattle.whole65.specs.Inner.Parts.{ArePart, AreParts, Valuing}
 
 module _ {E : Type 0} (o : Objects E) (l : Linkage) (owner fill : ℕ) (sections imports : List ℕ) where
   of_part : (q : Part) (bytes : List ℕ) → IsValuedIn o l owner sections imports q → ArePart (HasValue o owner) fill q bytes ↔ ArePart (λ f v. linked_value l owner (numbered sections imports f) v) fill q bytes

@@ -9,7 +9,7 @@ use Rattle.object65.specs.Form.{lit, sec, imp, prefix, binary}
 use Rattle.object65.specs.FormValue.{or_none, value_in}
 use Rattle.language65.specs.Numbering.{imports_in}
 use Rattle.language65.specs.Sound.{sections_in}
-use Rattle.whole65.specs.Laws.{BaseLaw, OwnPartsLaw}
+use Rattle.whole65.specs.Inner.Steps.{BaseLaw, OwnPartsLaw}
 
 first_of : {A : Type 0} (P : A → Type 0) (xs ys : List A) → AllByRecursion P (xs ++ ys) → AllByRecursion P xs
 first_of P [] ys h = tt

@@ -14,7 +14,7 @@ use Rattle.whole65.proofs.Multiples.{larger, multiple_of_multiple, power_positiv
 use Rattle.whole65.proofs.Naming.{Distinct, named}
 use Rattle.whole65.proofs.Offsets.{largest_push, placed}
 use Rattle.whole65.proofs.Shifts.{end_of-append, largest_power, shift_law}
-use Rattle.whole65.specs.Laws.{PositionLaw}
+use Rattle.whole65.specs.Inner.Steps.{PositionLaw}
 use Rattle.whole65.specs.Offsets.{ArePowers, IsLaidOut, IsMultiple, begin_from, lines_at}
 use Rattle.whole65.specs.Segments.{Item, Line, end_of, has_section, items_before, items_from, largest_multiple, line, line_of, lines_behind, lines_in, part_of, rounding, segment_name, stands_in}
 

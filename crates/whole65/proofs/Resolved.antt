@@ -40,8 +40,8 @@ use Rattle.whole65.proofs.Needs.{any_new}
 use Rattle.whole65.proofs.SameValues.{same_values_law}
 use Rattle.whole65.proofs.SectionBytes.{content_is, in_middle, placed_ok}
 use Rattle.whole65.proofs.Sources.{contents_of}
-use Rattle.whole65.specs.Keyed.{linked_objects}
-use Rattle.whole65.specs.Linked.{spot_in, symbols_at}
+use Rattle.whole65.specs.Inner.Keyed.{linked_objects}
+use Rattle.whole65.specs.Inner.Linked.{spot_in, symbols_at}
 use Rattle.whole65.specs.Modules.{exports_of, forced_of, global_spot, spot_or, table_of}
 use Rattle.whole65.specs.Objects.{AreObjects, HasNone, HasValue, IsGivenBy, Objects}
 use Rattle.whole65.specs.Objects as objects

@@ -27,12 +27,12 @@ use Rattle.whole65.proofs.Growth.{segment_law}
 use Rattle.whole65.proofs.Keyed.{form_law, keyed_law}
 use Rattle.whole65.proofs.ModuleBytes.{module_law}
 use Rattle.whole65.proofs.Sources.{Behind, begin_is_multiple, behind_source, contents_of, grows, no_part, part_end, section_begin, size_or, size_or_empty, unchanged, whole_part}
-use Rattle.whole65.specs.Cells.{AreCells, IsValuedIn, cells_or}
+use Rattle.whole65.specs.Inner.Cells.{AreCells, IsValuedIn, cells_or}
 use Rattle.whole65.specs.Contents.{AreBytes}
-use Rattle.whole65.specs.Growth.{behind_modules, behind_sections, or_empty}
-use Rattle.whole65.specs.Keyed.{IsKeyedContent, IsKeyedPart, linked_objects}
-use Rattle.whole65.specs.Laws.{LinkedBytesLaw}
-use Rattle.whole65.specs.Linked.{spot_in, symbols_at}
+use Rattle.whole65.specs.Inner.Growth.{behind_modules, behind_sections, or_empty}
+use Rattle.whole65.specs.Inner.Keyed.{IsKeyedContent, IsKeyedPart, linked_objects}
+use Rattle.whole65.specs.Inner.Steps.{LinkedBytesLaw}
+use Rattle.whole65.specs.Inner.Linked.{spot_in, symbols_at}
 use Rattle.whole65.specs.Modules.{global_spot, spot_or, table_of}
 use Rattle.whole65.specs.Objects.{AreObjects, Objects}
 use Rattle.whole65.specs.Offsets.{IsMultiple, lines_at}

@@ -21,10 +21,10 @@ use Rattle.whole65.proofs.LineEnds.{EndsAt, all_end, ends_moved}
 use Rattle.whole65.proofs.Offsets.{placed}
 use Rattle.whole65.proofs.Positions.{powers_at}
 use Rattle.whole65.specs.Contents.{AreBytes, AreLine}
-use Rattle.whole65.specs.Laws.{SectionLaw}
+use Rattle.whole65.specs.Inner.Steps.{SectionLaw}
 use Rattle.whole65.specs.Objects.{AreObjects, HasValue, Objects}
 use Rattle.whole65.specs.Offsets.{ArePowers, lines_at}
-use Rattle.whole65.specs.Parts.{AreParts, Valuing}
+use Rattle.whole65.specs.Inner.Parts.{AreParts, Valuing}
 use Rattle.whole65.specs.Segments.{Line, line, line_end, line_of, lines_behind}
 use Rattle.whole65.specs.Values.{Program}
 

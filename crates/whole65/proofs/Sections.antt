@@ -15,7 +15,7 @@ use Rattle.link65.specs.Segments as linked
 use Rattle.whole65.proofs.Keys.{AreOnce, alike, neither}
 use Rattle.whole65.proofs.Naming.{Distinct}
 use Rattle.whole65.proofs.Positions.{itself}
-use Rattle.whole65.specs.Growth.{behind_sections, or_empty}
+use Rattle.whole65.specs.Inner.Growth.{behind_sections, or_empty}
 use Rattle.whole65.specs.Segments.{segment_name}
 
 pub name_at : (gs : List Segment) (g : ℕ) → g < length gs → numbering.segment_name (slice_get gs g) ≡ (segment_at gs g).name

@@ -4,7 +4,7 @@ use Rattle.std.proofs.Math.Nat.{add_assoc}
 use Rattle.language65.specs.Laid.{Laid}
 use Rattle.language65.specs.Language.{Stated, align}
 use Rattle.whole65.proofs.Multiples.{Larger, larger, multiple_of_multiple, round_shift}
-use Rattle.whole65.specs.Laws.{ShiftLaw}
+use Rattle.whole65.specs.Inner.Steps.{ShiftLaw}
 use Rattle.whole65.specs.Offsets.{ArePowers, IsMultiple, IsPower}
 use Rattle.whole65.specs.Segments.{Item, Line, end_behind, end_of, largest_multiple, line, line_end}
 

@@ -26,8 +26,8 @@ use Rattle.whole65.proofs.Positions.{by_number, powers_at}
 use Rattle.whole65.proofs.Rounding.{rounding_law}
 use Rattle.whole65.proofs.Sections.{its_section, none_there, one_there}
 use Rattle.whole65.proofs.Shifts.{end_of-append, largest_power, shift_law}
-use Rattle.whole65.specs.Growth.{behind_modules, behind_sections, or_empty}
-use Rattle.whole65.specs.Laws.{SizeLaw}
+use Rattle.whole65.specs.Inner.Growth.{behind_modules, behind_sections, or_empty}
+use Rattle.whole65.specs.Inner.Steps.{SizeLaw}
 use Rattle.whole65.specs.Modules.{table_of}
 use Rattle.whole65.specs.Offsets.{IsLaidOut, IsMultiple, lines_at}
 use Rattle.whole65.specs.Segments.{Line, end_of, has_section, items_from, largest_multiple, line, lines_behind, lines_in, part_of, rounding, segment_name}

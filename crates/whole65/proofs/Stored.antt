@@ -21,7 +21,7 @@ use Rattle.language65.specs.Laid.{Spot}
 use Rattle.whole65.proofs.Later.{bind_ok, folded_ok}
 use Rattle.whole65.specs.Contents.{AreStored, counted_from}
 use Rattle.whole65.specs.Objects.{HasValue, Objects, form_value}
-use Rattle.whole65.specs.Parts.{ArePart}
+use Rattle.whole65.specs.Inner.Parts.{ArePart}
 
 -- the bytes of a form's value
 abbrev pub HasBytes : {E : Type 0} → Objects E → ℕ → Width → Form → List ℕ → Type 0

@@ -18,8 +18,8 @@ use Rattle.whole65.proofs.Givers.{IsExportOf, export_normal, exports_are, export
 use Rattle.whole65.proofs.Keyed.{form_law}
 use Rattle.whole65.proofs.Positions.{all_get}
 use Rattle.whole65.proofs.SameValues.{same_values_law}
-use Rattle.whole65.specs.Keyed.{linked_objects}
-use Rattle.whole65.specs.Laws.{ExportTableLaw}
+use Rattle.whole65.specs.Inner.Keyed.{linked_objects}
+use Rattle.whole65.specs.Inner.Steps.{ExportTableLaw}
 use Rattle.whole65.specs.Modules.{table_of}
 use Rattle.whole65.specs.Programs as whole
 use Rattle.whole65.specs.Sources.{AreSources}

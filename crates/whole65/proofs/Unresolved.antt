@@ -34,13 +34,13 @@ use Rattle.whole65.proofs.Rows.{bytes_split}
 use Rattle.whole65.proofs.SectionBytes.{section_law}
 use Rattle.whole65.proofs.Sources.{begin_is_multiple, contents_of, whole_part}
 use Rattle.whole65.specs.Contents.{AreBytes}
-use Rattle.whole65.specs.Keyed.{linked_objects}
-use Rattle.whole65.specs.Laws.{GivenLaw, ResolvedLaw}
-use Rattle.whole65.specs.Linked.{spot_in, symbols_at}
+use Rattle.whole65.specs.Inner.Keyed.{linked_objects}
+use Rattle.whole65.specs.Inner.Steps.{GivenLaw, ResolvedLaw}
+use Rattle.whole65.specs.Inner.Linked.{spot_in, symbols_at}
 use Rattle.whole65.specs.Modules.{global_spot, spot_or, table_of}
 use Rattle.whole65.specs.Objects.{HasValue, Objects}
 use Rattle.whole65.specs.Offsets.{lines_at}
-use Rattle.whole65.specs.Parts.{AreParts}
+use Rattle.whole65.specs.Inner.Parts.{AreParts}
 use Rattle.whole65.specs.Programs as whole
 use Rattle.whole65.specs.Segments.{Line, asked_by, end_of, has_section, items_from, items_of, largest_multiple, line, lines_behind, need_of, needs_of, part_of, rounding, segment_name, segments_of}
 use Rattle.whole65.specs.Sources.{AreSources, IsSource}

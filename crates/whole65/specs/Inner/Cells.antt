@@ -8,7 +8,7 @@ use Rattle.language65.specs.declared.contents.Part.{Part}
 use Rattle.language65.specs.declared.contents.Part.TheVariants.{Known, Filled, Waiting}
 use Rattle.whole65.specs.Contents.{AreStored}
 use Rattle.whole65.specs.Objects.{HasValue, Objects}
-use Rattle.whole65.specs.Parts.{Valuing, valued_by}
+use Rattle.whole65.specs.Inner.Parts.{Valuing, valued_by}
 
 -- the value of a form of a linked module, through some number of exports
 abbrev pub linked_value : Linkage → ℕ → Valuing

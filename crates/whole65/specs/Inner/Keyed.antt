@@ -23,7 +23,7 @@ use Rattle.link65.specs.declared.parts.Giver.{Giver}
 use Rattle.link65.specs.declared.parts.Giver.TheVariants.{Nobody}
 use Rattle.link65.specs.declared.parts.ValueFault.{ValueFault}
 use Rattle.link65.specs.declared.parts.ValueFault.TheVariants.{NoValue}
-use Rattle.whole65.specs.Linked.{objects_of, symbols_at}
+use Rattle.whole65.specs.Inner.Linked.{objects_of, symbols_at}
 use Rattle.whole65.specs.Objects.{Objects}
 
 -- ---- What imports come to.

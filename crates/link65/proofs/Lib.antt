@@ -1,10 +1,12 @@
 pub mod Beginnings
 pub mod Chain
 pub mod Copies
+pub mod DefinedLemmas
 pub mod EndedLemmas
 pub mod ExportTables
 pub mod Feeds
 pub mod FinishLemmas
+pub mod FinishedLemmas
 pub mod GivenLemmas
 pub mod GrowingLaw
 pub mod HexLemmas

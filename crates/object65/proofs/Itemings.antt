@@ -28,3 +28,12 @@ one_step s es (Err e) (Ok x) a rest = absurd a
 pub items_make : ItemsLaw
 items_make s [] = refl
 items_make s (e ∷ es) = one_step s es (after s e) (scanned (outline_of s) e) (agrees s e) (λ t. items_make t es)
+
+-- what a record leads to is what its item makes, where a scan gives one
+pub after_is : (s : State) (e : Entry) → after s e ≡ (scanned (outline_of s) e >>= (λ x. Ok (with_item s x.1)))
+after_is s e = go (after s e) (scanned (outline_of s) e) (agrees s e) where
+  go : (r : Result State ObjectFault) (q : Result (Outline × Item) ObjectFault) → Agrees s r q → r ≡ (q >>= (λ x. Ok (with_item s x.1)))
+  go (Ok t) (Ok x) a = ap (λ (u : State). Ok u) a.1
+  go (Err e) (Err f) a = ap (λ (g : ObjectFault). Err g) a
+  go (Ok t) (Err f) a = absurd a
+  go (Err e) (Ok x) a = absurd a

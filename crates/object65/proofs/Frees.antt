@@ -1,22 +1,25 @@
 -- Taking a record gives no fault of a store.
-use Rattle.std.proofs.Common.{◌≡◌, ℕ, zero, suc, ◌+◌, ◌-◌, ◌%◌, List, [], ◌∷◌, ◌++◌, length, map, Bool, true, false, cond, not, ◌&&◌, ◌||◌, ◌==◌, nat_le, Option, Some, None, Result, Ok, Err}
+use Rattle.std.proofs.Common.{◌≡◌, ℕ, zero, suc, ◌-◌, List, [], ◌∷◌, length, Bool, true, false, cond, not, ◌&&◌, ◌||◌, ◌==◌, nat_le, Option, Some, None, Result, Ok, Err}
 use Rattle.byteorder.specs.Endian.{little_number}
 use Rattle.object65.specs.declared.object.Action.TheVariants as action
-use Rattle.object65.specs.declared.object.Fragment.TheVariants.{Fill}
 use Rattle.object65.specs.declared.object.Width.TheVariants.{Byte, Word, HighFirst, Dword, Branch}
 use Rattle.object65.specs.Folding.{is_within, is_normal, is_literal, node_limit}
 use Rattle.object65.specs.Objects.{is_name, is_among, width_len}
-use Rattle.object65.specs.Spelling.{body_limit}
 use Rattle.object65.specs.declared.fault.ObjectFault.{ObjectFault}
 use Rattle.object65.specs.declared.fault.ObjectFault.TheVariants.{FailedBefore, FileError, OutOfOrder, IndexOutOfRange, BadSize, NotCanonical}
-use Rattle.object65.specs.declared.draft.Draft.{Draft}
+use Rattle.object65.specs.declared.object.Fragment.{Fragment}
+use Rattle.object65.specs.declared.room.Room.{Room}
+use Rattle.std.specs.Prelude.{slice_get}
+use Rattle.std.specs.List.{list_all, prefix_len}
 use Rattle.base65.specs.declared.values.Op1.{Op1}
 use Rattle.base65.specs.declared.values.Op2.{Op2}
 use Rattle.object65.specs.Bodies
 use Rattle.object65.specs.Fault.{◌>>=◌}
 use Rattle.object65.specs.Form.{Form, nodes}
 use Rattle.object65.specs.Record.{Entry}
-use Rattle.object65.specs.Taking
+use Rattle.object65.specs.Scanning
+use Rattle.object65.specs.Items.{State, is_none}
+use Rattle.object65.specs.Taking.{after}
 
 abbrev pub IsFree : {A : Type 0} → Result A ObjectFault → Type 0
 IsFree r = r ≡ Err FileError → ⊥
@@ -41,10 +44,10 @@ astray e = cc
 failed : {A : Type 0} → IsFree {A = A} (Err FailedBefore)
 failed e = cc
 
-wants_astray : (b : Bool) → IsFree (Taking.wants b OutOfOrder)
+wants_astray : (b : Bool) → IsFree (Scanning.wants b OutOfOrder)
 wants_astray b = chosen b (Ok tt) (Err OutOfOrder) (ok tt) astray
 
-wants_size : (b : Bool) → IsFree (Taking.wants b BadSize)
+wants_size : (b : Bool) → IsFree (Scanning.wants b BadSize)
 wants_size b = chosen b (Ok tt) (Err BadSize) (ok tt) bad
 
 away : {A : Type 0} → IsFree {A = A} (Err IndexOutOfRange)
@@ -53,10 +56,10 @@ away e = cc
 loose : {A : Type 0} → IsFree {A = A} (Err NotCanonical)
 loose e = cc
 
-wants_index : (b : Bool) → IsFree (Taking.wants b IndexOutOfRange)
+wants_index : (b : Bool) → IsFree (Scanning.wants b IndexOutOfRange)
 wants_index b = chosen b (Ok tt) (Err IndexOutOfRange) (ok tt) away
 
-wants_canonical : (b : Bool) → IsFree (Taking.wants b NotCanonical)
+wants_canonical : (b : Bool) → IsFree (Scanning.wants b NotCanonical)
 wants_canonical b = chosen b (Ok tt) (Err NotCanonical) (ok tt) loose
 
 number_free : (len : ℕ) (bytes : List ℕ) → IsFree (Bodies.number_at len bytes)
@@ -121,19 +124,19 @@ fill_free body = chosen (not (length body == 4) || little_number 4 body == 0) _ 
 end_free : (body : List ℕ) → IsFree (Bodies.end_of body)
 end_free body = chosen (length body == 0) _ _ (ok tt) bad
 
-room_free : (d : Draft) (len : ℕ) → IsFree (Taking.has_room d len)
-room_free d len = wants_size (nat_le len (d.size - d.filled))
+room_free : (r : Room) (len : ℕ) → IsFree (Scanning.room_for r len)
+room_free r len = wants_size (nat_le len (r.size - r.filled))
 
-known_free : (n i : ℕ) (f : Form) → IsFree (Taking.known n i f)
+known_free : (n i : ℕ) (f : Form) → IsFree (Scanning.known n i f)
 known_free n i f = wants_index (is_within n i f)
 
-name_free : (names : List (List ℕ)) (name : List ℕ) → IsFree (Taking.new_name names name)
+name_free : (names : List (List ℕ)) (name : List ℕ) → IsFree (Scanning.new_name names name)
 name_free names name = wants_canonical (is_name name && not (is_among names name))
 
-canonical_free : (f : Form) → IsFree (Taking.canonical f)
+canonical_free : (f : Form) → IsFree (Scanning.canonical f)
 canonical_free f = wants_canonical (is_normal f && nat_le (nodes f) node_limit)
 
-open_free : (f : Form) → IsFree (Taking.canonical_open f)
+open_free : (f : Form) → IsFree (Scanning.canonical_open f)
 open_free f = wants_canonical (is_normal f && nat_le (nodes f) node_limit && not (is_literal f))
 
 section_free : (body : List ℕ) → IsFree (Bodies.section_of body)
@@ -151,60 +154,62 @@ assert_free : (body : List ℕ) → IsFree (Bodies.assert_of body)
 unfolding Bodies.assert_of
 assert_free body = bound _ _ (number_free 1 body) (λ c. bound _ _ (action_free c.0) (λ a. bound _ _ (number_free 4 c.1) (λ l. bound _ _ (counted_free l.1) (λ t. bound _ _ (all_free t.1) (λ f. ok _)))))
 
-drafted_free : (body : List ℕ) → IsFree (Taking.drafted body)
-drafted_free body = bound _ _ (section_free body) (λ h. ok _)
+room_literal_free : (body : List ℕ) (r : Room) → IsFree (Scanning.room_literal body r)
+unfolding Scanning.room_literal
+room_literal_free body r = bound _ _ (literal_free body) (λ b. bound _ _ (room_free r (length b)) (λ u. bound _ _ (wants_canonical (not (Scanning.is_short r.last))) (λ v. ok _)))
 
-with_literal_free : (body : List ℕ) (d : Draft) → IsFree (Taking.with_literal body d)
-unfolding Taking.with_literal
-with_literal_free body d = bound _ _ (literal_free body) (λ b. bound _ _ (room_free d (length b)) (λ u. bound _ _ (wants_canonical (length d.literal % body_limit == 0)) (λ v. ok (record d { filled = d.filled + length b; literal = d.literal ++ b }))))
+room_fill_free : (body : List ℕ) (r : Room) → IsFree (Scanning.room_fill body r)
+unfolding Scanning.room_fill
+room_fill_free body r = bound _ _ (fill_free body) (λ n. bound _ _ (room_free r n) (λ u. bound _ _ (wants_canonical (not (Scanning.is_fill r.last))) (λ v. ok _)))
 
-with_fill_free : (body : List ℕ) (d : Draft) → IsFree (Taking.with_fill body d)
-unfolding Taking.with_fill
-with_fill_free body d = bound _ _ (fill_free body) (λ n. bound _ _ (room_free d n) (λ u. bound _ _ (wants_canonical (not (Taking.ends_in_fill (Taking.closed d)))) (λ v. ok (Taking.with_fragment d n (Fill n)))))
+room_value_free : (n i : ℕ) (body : List ℕ) (r : Room) → IsFree (Scanning.room_value n i body r)
+unfolding Scanning.room_value
+room_value_free n i body r = bound _ _ (value_free body) (λ x. bound _ _ (room_free r (width_len x.0)) (λ u. bound _ _ (known_free n i x.2) (λ v. bound _ _ (open_free x.2) (λ y. ok _))))
 
-with_value_free : (n i : ℕ) (body : List ℕ) (d : Draft) → IsFree (Taking.with_value n i body d)
-unfolding Taking.with_value
-with_value_free n i body d = bound _ _ (value_free body) (λ x. bound _ _ (room_free d (width_len x.0)) (λ u. bound _ _ (known_free n i x.2) (λ v. bound _ _ (open_free x.2) (λ y. ok _))))
+room_at_free : (k : ℕ) (r : Option Room) → IsFree (Scanning.room_at k r)
+room_at_free k None = astray
+room_at_free k (Some r) = ok _
 
-first_free : (grow : Draft → Result Draft ObjectFault) (ds : List Draft) → ((d : Draft) → IsFree (grow d)) → IsFree (Taking.in_first_open grow ds)
-first_free grow [] h = astray
-first_free grow (d ∷ ds) h = chosen _ _ _ (bound _ _ (first_free grow ds h) (λ es. ok _)) (bound _ _ (h d) (λ x. ok _))
+part_free : (o : Scanning.Outline) (grow : Room → Result (Room × Fragment) ObjectFault) → ((r : Room) → IsFree (grow r)) → IsFree (Scanning.scan_part o grow)
+unfolding Scanning.scan_part
+part_free o grow h = bound _ _ (room_at_free (prefix_len Scanning.is_filled o.rooms) (slice_get o.rooms (prefix_len Scanning.is_filled o.rooms))) (λ p. bound _ _ (h p.1) (λ g. ok _))
 
-part_free : (s : Taking.State) (grow : Draft → Result Draft ObjectFault) → ((d : Draft) → IsFree (grow d)) → IsFree (Taking.with_part s grow)
-part_free s grow h = bound _ _ (first_free grow s.drafts h) (λ ds. ok _)
+import_free : (o : Scanning.Outline) (body : List ℕ) → IsFree (Scanning.scan_import o body)
+unfolding Scanning.scan_import
+import_free o body = bound _ _ (wants_astray (is_none o.rooms && is_none o.exports && not o.asserting)) (λ u. bound _ _ (name_free o.imports body) (λ v. ok _))
 
-with_import_free : (s : Taking.State) (body : List ℕ) → IsFree (Taking.with_import s body)
-unfolding Taking.with_import
-with_import_free s body = bound _ _ (wants_astray (Taking.import_stands s)) (λ u. bound _ _ (name_free s.imports body) (λ v. ok _))
+heading_free : (o : Scanning.Outline) (body : List ℕ) → IsFree (Scanning.scan_section o body)
+unfolding Scanning.scan_section
+heading_free o body = bound _ _ (wants_astray (not o.begun && is_none o.exports && not o.asserting)) (λ u. bound _ _ (section_free body) (λ h. bound _ _ (name_free o.sections h.name) (λ v. bound _ _ (wants_canonical (nat_le h.align 15)) (λ w. ok _))))
 
-with_section_free : (s : Taking.State) (body : List ℕ) → IsFree (Taking.with_section s body)
-unfolding Taking.with_section
-with_section_free s body = bound _ _ (wants_astray (Taking.section_stands s)) (λ u. bound _ _ (drafted_free body) (λ d. bound _ _ (name_free (map (λ x. x.name) s.drafts) d.name) (λ v. bound _ _ (wants_canonical (nat_le d.align 15)) (λ w. ok _))))
+scan_export_free : (o : Scanning.Outline) (body : List ℕ) → IsFree (Scanning.scan_export o body)
+unfolding Scanning.scan_export
+scan_export_free o body = bound _ _ (wants_astray (list_all Scanning.is_filled o.rooms && not o.asserting)) (λ u. bound _ _ (export_free body) (λ x. bound _ _ (known_free (length o.rooms) (length o.imports) x.form) (λ v. bound _ _ (name_free o.exports x.name) (λ w. bound _ _ (canonical_free x.form) (λ y. ok _)))))
 
-with_export_free : (s : Taking.State) (body : List ℕ) → IsFree (Taking.with_export s body)
-unfolding Taking.with_export
-with_export_free s body = bound _ _ (wants_astray (Taking.export_stands s)) (λ u. bound _ _ (export_free body) (λ x. bound _ _ (known_free (length s.drafts) (length s.imports) x.form) (λ v. bound _ _ (name_free (map (λ y. y.name) s.exports) x.name) (λ w. bound _ _ (canonical_free x.form) (λ y. ok _)))))
+scan_assert_free : (o : Scanning.Outline) (body : List ℕ) → IsFree (Scanning.scan_assert o body)
+unfolding Scanning.scan_assert
+scan_assert_free o body = bound _ _ (wants_astray (list_all Scanning.is_filled o.rooms)) (λ u. bound _ _ (assert_free body) (λ a. bound _ _ (known_free (length o.rooms) (length o.imports) a.form) (λ v. bound _ _ (open_free a.form) (λ y. ok _))))
 
-with_assert_free : (s : Taking.State) (body : List ℕ) → IsFree (Taking.with_assert s body)
-unfolding Taking.with_assert
-with_assert_free s body = bound _ _ (wants_astray (Taking.assert_stands s)) (λ u. bound _ _ (assert_free body) (λ a. bound _ _ (known_free (length s.drafts) (length s.imports) a.form) (λ v. bound _ _ (open_free a.form) (λ y. ok _))))
+last_free : (o : Scanning.Outline) (body : List ℕ) → IsFree (Scanning.scan_last o body)
+unfolding Scanning.scan_last
+last_free o body = bound _ _ (wants_astray (list_all Scanning.is_filled o.rooms)) (λ u. bound _ _ (end_free body) (λ v. ok _))
 
-with_end_free : (s : Taking.State) (body : List ℕ) → IsFree (Taking.with_end s body)
-unfolding Taking.with_end
-with_end_free s body = bound _ _ (wants_astray (Taking.assert_stands s)) (λ u. bound _ _ (end_free body) (λ v. ok _))
-
-taken_free : (s : Taking.State) (x : Entry) → IsFree (Taking.taken s x)
-unfolding Taking.taken
-taken_free s x =
+entry_free : (o : Scanning.Outline) (x : Entry) → IsFree (Scanning.scan_entry o x)
+unfolding Scanning.scan_entry
+entry_free o x =
     chosen _ _ _ astray
-    (chosen _ _ _ (with_import_free s x.body)
-    (chosen _ _ _ (with_section_free s x.body)
-    (chosen _ _ _ (part_free s (Taking.with_literal x.body) (with_literal_free x.body))
-    (chosen _ _ _ (part_free s (Taking.with_fill x.body) (with_fill_free x.body))
-    (chosen _ _ _ (part_free s (Taking.with_value (length s.drafts) (length s.imports) x.body) (with_value_free (length s.drafts) (length s.imports) x.body))
-    (chosen _ _ _ (with_export_free s x.body)
-    (chosen _ _ _ (with_assert_free s x.body) (with_end_free s x.body))))))))
+    (chosen _ _ _ (import_free o x.body)
+    (chosen _ _ _ (heading_free o x.body)
+    (chosen _ _ _ (part_free o (Scanning.room_literal x.body) (room_literal_free x.body))
+    (chosen _ _ _ (part_free o (Scanning.room_fill x.body) (room_fill_free x.body))
+    (chosen _ _ _ (part_free o (Scanning.room_value (length o.rooms) (length o.imports) x.body) (room_value_free (length o.rooms) (length o.imports) x.body))
+    (chosen _ _ _ (scan_export_free o x.body)
+    (chosen _ _ _ (scan_assert_free o x.body) (last_free o x.body))))))))
 
-pub after_free : (s : Taking.State) (x : Entry) → IsFree (Taking.after s x)
-unfolding Taking.after
-after_free s x = chosen _ _ _ failed (chosen _ _ _ astray (taken_free s x))
+scanned_free : (o : Scanning.Outline) (x : Entry) → IsFree (Scanning.scanned o x)
+unfolding Scanning.scanned
+scanned_free o x = chosen _ _ _ failed (chosen _ _ _ astray (entry_free o x))
+
+pub after_free : (s : State) (x : Entry) → IsFree (after s x)
+unfolding after
+after_free s x = bound _ _ (scanned_free (Scanning.outline_of s) x) (λ y. ok _)

@@ -1,4 +1,4 @@
--- Taking a record gives no fault of a store.
+-- What a record is asked for gives no fault of a store.
 use Rattle.std.proofs.Common.{◌≡◌, ℕ, zero, suc, ◌-◌, List, [], ◌∷◌, length, Bool, true, false, cond, not, ◌&&◌, ◌||◌, ◌==◌, nat_le, Option, Some, None, Result, Ok, Err}
 use Rattle.byteorder.specs.Endian.{little_number}
 use Rattle.object65.specs.declared.object.Action.TheVariants as action
@@ -24,27 +24,27 @@ use Rattle.object65.specs.Taking.{after}
 abbrev pub IsFree : {A : Type 0} → Result A ObjectFault → Type 0
 IsFree r = r ≡ Err FileError → ⊥
 
-bound : {A B : Type 0} (r : Result A ObjectFault) (f : A → Result B ObjectFault) → IsFree r → ((x : A) → IsFree (f x)) → IsFree (r >>= f)
+pub bound : {A B : Type 0} (r : Result A ObjectFault) (f : A → Result B ObjectFault) → IsFree r → ((x : A) → IsFree (f x)) → IsFree (r >>= f)
 bound (Ok x) f h k e = k x e
 bound (Err fault) f h k e = h (let same : fault ≡ FileError = cc in λ i. Err (same i))
 
-chosen : {A : Type 0} (b : Bool) (x y : Result A ObjectFault) → IsFree x → IsFree y → IsFree (cond b x y)
+pub chosen : {A : Type 0} (b : Bool) (x y : Result A ObjectFault) → IsFree x → IsFree y → IsFree (cond b x y)
 chosen true x y h k = h
 chosen false x y h k = k
 
-ok : {A : Type 0} (x : A) → IsFree (Ok x)
+pub ok : {A : Type 0} (x : A) → IsFree (Ok x)
 ok x e = cc
 
-bad : {A : Type 0} → IsFree {A = A} (Err BadSize)
+pub bad : {A : Type 0} → IsFree {A = A} (Err BadSize)
 bad e = cc
 
-astray : {A : Type 0} → IsFree {A = A} (Err OutOfOrder)
+pub astray : {A : Type 0} → IsFree {A = A} (Err OutOfOrder)
 astray e = cc
 
-failed : {A : Type 0} → IsFree {A = A} (Err FailedBefore)
+pub failed : {A : Type 0} → IsFree {A = A} (Err FailedBefore)
 failed e = cc
 
-wants_astray : (b : Bool) → IsFree (Scanning.wants b OutOfOrder)
+pub wants_astray : (b : Bool) → IsFree (Scanning.wants b OutOfOrder)
 wants_astray b = chosen b (Ok tt) (Err OutOfOrder) (ok tt) astray
 
 wants_size : (b : Bool) → IsFree (Scanning.wants b BadSize)
@@ -59,7 +59,7 @@ loose e = cc
 wants_index : (b : Bool) → IsFree (Scanning.wants b IndexOutOfRange)
 wants_index b = chosen b (Ok tt) (Err IndexOutOfRange) (ok tt) away
 
-wants_canonical : (b : Bool) → IsFree (Scanning.wants b NotCanonical)
+pub wants_canonical : (b : Bool) → IsFree (Scanning.wants b NotCanonical)
 wants_canonical b = chosen b (Ok tt) (Err NotCanonical) (ok tt) loose
 
 number_free : (len : ℕ) (bytes : List ℕ) → IsFree (Bodies.number_at len bytes)
@@ -115,101 +115,41 @@ width_free code = chosen (code == 0) _ _ (ok Byte) (chosen (code == 1) _ _ (ok W
 action_free : (code : ℕ) → IsFree (Bodies.action_of code)
 action_free code = chosen (code == 0) _ _ (ok action.Warning) (chosen (code == 1) _ _ (ok action.Error) bad)
 
-literal_free : (body : List ℕ) → IsFree (Bodies.literal_of body)
+pub literal_free : (body : List ℕ) → IsFree (Bodies.literal_of body)
 literal_free body = chosen (length body == 0) _ _ bad (ok body)
 
-fill_free : (body : List ℕ) → IsFree (Bodies.fill_of body)
+pub fill_free : (body : List ℕ) → IsFree (Bodies.fill_of body)
 fill_free body = chosen (not (length body == 4) || little_number 4 body == 0) _ _ bad (ok (little_number 4 body))
 
-end_free : (body : List ℕ) → IsFree (Bodies.end_of body)
+pub end_free : (body : List ℕ) → IsFree (Bodies.end_of body)
 end_free body = chosen (length body == 0) _ _ (ok tt) bad
 
-room_free : (r : Room) (len : ℕ) → IsFree (Scanning.room_for r len)
+pub room_free : (r : Room) (len : ℕ) → IsFree (Scanning.room_for r len)
 room_free r len = wants_size (nat_le len (r.size - r.filled))
 
-known_free : (n i : ℕ) (f : Form) → IsFree (Scanning.known n i f)
+pub known_free : (n i : ℕ) (f : Form) → IsFree (Scanning.known n i f)
 known_free n i f = wants_index (is_within n i f)
 
-name_free : (names : List (List ℕ)) (name : List ℕ) → IsFree (Scanning.new_name names name)
+pub name_free : (names : List (List ℕ)) (name : List ℕ) → IsFree (Scanning.new_name names name)
 name_free names name = wants_canonical (is_name name && not (is_among names name))
 
-canonical_free : (f : Form) → IsFree (Scanning.canonical f)
+pub canonical_free : (f : Form) → IsFree (Scanning.canonical f)
 canonical_free f = wants_canonical (is_normal f && nat_le (nodes f) node_limit)
 
-open_free : (f : Form) → IsFree (Scanning.canonical_open f)
+pub open_free : (f : Form) → IsFree (Scanning.canonical_open f)
 open_free f = wants_canonical (is_normal f && nat_le (nodes f) node_limit && not (is_literal f))
 
-section_free : (body : List ℕ) → IsFree (Bodies.section_of body)
+pub section_free : (body : List ℕ) → IsFree (Bodies.section_of body)
 section_free body = chosen _ _ _ bad (chosen _ _ _ bad (ok _))
 
-value_free : (body : List ℕ) → IsFree (Bodies.value_of body)
+pub value_free : (body : List ℕ) → IsFree (Bodies.value_of body)
 unfolding Bodies.value_of
 value_free body = bound _ _ (number_free 1 body) (λ c. bound _ _ (width_free c.0) (λ w. bound _ _ (number_free 4 c.1) (λ l. bound _ _ (all_free l.1) (λ f. ok _))))
 
-export_free : (body : List ℕ) → IsFree (Bodies.export_of body)
+pub export_free : (body : List ℕ) → IsFree (Bodies.export_of body)
 unfolding Bodies.export_of
 export_free body = bound _ _ (counted_free body) (λ n. bound _ _ (number_free 4 n.1) (λ l. bound _ _ (all_free l.1) (λ f. ok _)))
 
-assert_free : (body : List ℕ) → IsFree (Bodies.assert_of body)
+pub assert_free : (body : List ℕ) → IsFree (Bodies.assert_of body)
 unfolding Bodies.assert_of
 assert_free body = bound _ _ (number_free 1 body) (λ c. bound _ _ (action_free c.0) (λ a. bound _ _ (number_free 4 c.1) (λ l. bound _ _ (counted_free l.1) (λ t. bound _ _ (all_free t.1) (λ f. ok _)))))
-
-room_literal_free : (body : List ℕ) (r : Room) → IsFree (Scanning.room_literal body r)
-unfolding Scanning.room_literal
-room_literal_free body r = bound _ _ (literal_free body) (λ b. bound _ _ (room_free r (length b)) (λ u. bound _ _ (wants_canonical (not (Scanning.is_short r.last))) (λ v. ok _)))
-
-room_fill_free : (body : List ℕ) (r : Room) → IsFree (Scanning.room_fill body r)
-unfolding Scanning.room_fill
-room_fill_free body r = bound _ _ (fill_free body) (λ n. bound _ _ (room_free r n) (λ u. bound _ _ (wants_canonical (not (Scanning.is_fill r.last))) (λ v. ok _)))
-
-room_value_free : (n i : ℕ) (body : List ℕ) (r : Room) → IsFree (Scanning.room_value n i body r)
-unfolding Scanning.room_value
-room_value_free n i body r = bound _ _ (value_free body) (λ x. bound _ _ (room_free r (width_len x.0)) (λ u. bound _ _ (known_free n i x.2) (λ v. bound _ _ (open_free x.2) (λ y. ok _))))
-
-room_at_free : (k : ℕ) (r : Option Room) → IsFree (Scanning.room_at k r)
-room_at_free k None = astray
-room_at_free k (Some r) = ok _
-
-part_free : (o : Scanning.Outline) (grow : Room → Result (Room × Fragment) ObjectFault) → ((r : Room) → IsFree (grow r)) → IsFree (Scanning.scan_part o grow)
-unfolding Scanning.scan_part
-part_free o grow h = bound _ _ (room_at_free (prefix_len Scanning.is_filled o.rooms) (slice_get o.rooms (prefix_len Scanning.is_filled o.rooms))) (λ p. bound _ _ (h p.1) (λ g. ok _))
-
-import_free : (o : Scanning.Outline) (body : List ℕ) → IsFree (Scanning.scan_import o body)
-unfolding Scanning.scan_import
-import_free o body = bound _ _ (wants_astray (is_none o.rooms && is_none o.exports && not o.asserting)) (λ u. bound _ _ (name_free o.imports body) (λ v. ok _))
-
-heading_free : (o : Scanning.Outline) (body : List ℕ) → IsFree (Scanning.scan_section o body)
-unfolding Scanning.scan_section
-heading_free o body = bound _ _ (wants_astray (not o.begun && is_none o.exports && not o.asserting)) (λ u. bound _ _ (section_free body) (λ h. bound _ _ (name_free o.sections h.name) (λ v. bound _ _ (wants_canonical (nat_le h.align 15)) (λ w. ok _))))
-
-scan_export_free : (o : Scanning.Outline) (body : List ℕ) → IsFree (Scanning.scan_export o body)
-unfolding Scanning.scan_export
-scan_export_free o body = bound _ _ (wants_astray (list_all Scanning.is_filled o.rooms && not o.asserting)) (λ u. bound _ _ (export_free body) (λ x. bound _ _ (known_free (length o.rooms) (length o.imports) x.form) (λ v. bound _ _ (name_free o.exports x.name) (λ w. bound _ _ (canonical_free x.form) (λ y. ok _)))))
-
-scan_assert_free : (o : Scanning.Outline) (body : List ℕ) → IsFree (Scanning.scan_assert o body)
-unfolding Scanning.scan_assert
-scan_assert_free o body = bound _ _ (wants_astray (list_all Scanning.is_filled o.rooms)) (λ u. bound _ _ (assert_free body) (λ a. bound _ _ (known_free (length o.rooms) (length o.imports) a.form) (λ v. bound _ _ (open_free a.form) (λ y. ok _))))
-
-last_free : (o : Scanning.Outline) (body : List ℕ) → IsFree (Scanning.scan_last o body)
-unfolding Scanning.scan_last
-last_free o body = bound _ _ (wants_astray (list_all Scanning.is_filled o.rooms)) (λ u. bound _ _ (end_free body) (λ v. ok _))
-
-entry_free : (o : Scanning.Outline) (x : Entry) → IsFree (Scanning.scan_entry o x)
-unfolding Scanning.scan_entry
-entry_free o x =
-    chosen _ _ _ astray
-    (chosen _ _ _ (import_free o x.body)
-    (chosen _ _ _ (heading_free o x.body)
-    (chosen _ _ _ (part_free o (Scanning.room_literal x.body) (room_literal_free x.body))
-    (chosen _ _ _ (part_free o (Scanning.room_fill x.body) (room_fill_free x.body))
-    (chosen _ _ _ (part_free o (Scanning.room_value (length o.rooms) (length o.imports) x.body) (room_value_free (length o.rooms) (length o.imports) x.body))
-    (chosen _ _ _ (scan_export_free o x.body)
-    (chosen _ _ _ (scan_assert_free o x.body) (last_free o x.body))))))))
-
-scanned_free : (o : Scanning.Outline) (x : Entry) → IsFree (Scanning.scanned o x)
-unfolding Scanning.scanned
-scanned_free o x = chosen _ _ _ failed (chosen _ _ _ astray (entry_free o x))
-
-pub after_free : (s : State) (x : Entry) → IsFree (after s x)
-unfolding after
-after_free s x = bound _ _ (scanned_free (Scanning.outline_of s) x) (λ y. ok _)

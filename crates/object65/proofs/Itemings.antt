@@ -1,5 +1,5 @@
 -- The items of records make what the records make.
-use Rattle.std.proofs.Common.{◌≡◌, ◌∙◌, List, [], ◌∷◌, Result, Ok, Err, refl, ap}
+use Rattle.std.proofs.Common.{◌≡◌, ◌∙◌, List, [], ◌∷◌, Bool, ◌==◌, Result, Ok, Err, refl, ap}
 use Rattle.object65.specs.declared.fault.ObjectFault.{ObjectFault}
 use Rattle.object65.specs.declared.item.Item.{Item}
 use Rattle.object65.specs.Fault.{◌>>=◌}
@@ -14,14 +14,14 @@ regrouped : (s : State) (i : Item) (r : Result (List Item) ObjectFault) → ((r 
 regrouped s i (Ok is) = refl
 regrouped s i (Err e) = refl
 
-one_step : (s : State) (es : List Entry) (q : Result (Outline × Item) ObjectFault) → Leads s q → ((t : State) → (items_of (outline_of t) es >>= (λ is. Ok (with_items t is))) ≡ after_all t es) → ((q >>= (λ x. items_of x.0 es >>= (λ is. Ok (x.1 ∷ is)))) >>= (λ is. Ok (with_items s is))) ≡ ((q >>= (λ x. Ok (with_item s x.1))) >>= (λ t. after_all t es))
-one_step s es (Ok x) a rest =
+one_step : (s : State) (es : List Entry) (last : Bool) (q : Result (Outline × Item) ObjectFault) → Leads s last q → ((t : State) → (items_of (outline_of t) es >>= (λ is. Ok (with_items t is))) ≡ after_all t es) → ((q >>= (λ x. items_of x.0 es >>= (λ is. Ok (x.1 ∷ is)))) >>= (λ is. Ok (with_items s is))) ≡ ((q >>= (λ x. Ok (with_item s x.1))) >>= (λ t. after_all t es))
+one_step s es last (Ok x) a rest =
     regrouped s x.1 (items_of x.0 es)
     ∙ ap (λ (o : Outline). items_of o es >>= (λ is. Ok (with_items (with_item s x.1) is))) a.0
     ∙ rest (with_item s x.1)
-one_step s es (Err e) a rest = refl
+one_step s es last (Err e) a rest = refl
 
 pub items_make : ItemsLaw
 unfolding after
 items_make s [] = refl
-items_make s (e ∷ es) = one_step s es (scanned (outline_of s) e) (leads s e) (λ t. items_make t es)
+items_make s (e ∷ es) = one_step s es (e.kind == 8) (scanned (outline_of s) e) (leads s e) (λ t. items_make t es)

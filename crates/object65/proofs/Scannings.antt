@@ -1,5 +1,5 @@
 -- What a scan keeps behind a record is what it keeps of what the item makes.
-use Rattle.std.proofs.Common.{◌≡◌, ◌∙◌, ◌+◌, ◌%◌, ℕ, zero, suc, List, [], ◌∷◌, ◌++◌, length, map, Some, Bool, true, false, ◌&&◌, not, nat_le, ◌==◌, if◌then◌else◌, Result, Ok, Err, refl, sym, ap, arith, ◌⊎◌, inl, inr, length-append}
+use Rattle.std.proofs.Common.{◌≡◌, ◌∙◌, ◌+◌, ◌%◌, ℕ, zero, suc, List, [], ◌∷◌, ◌++◌, length, map, Some, Bool, true, false, ◌&&◌, not, nat_le, ◌==◌, if◌then◌else◌, Result, Ok, Err, refl, sym, ap, subst, arith, ◌⊎◌, inl, inr, length-append}
 use Rattle.std.specs.List.{list_all}
 use Rattle.std.specs.Prelude.{slice_get, slice_set}
 use Rattle.std.proofs.Math.Nat.{mod-add-mod}
@@ -7,7 +7,7 @@ use Rattle.std.proofs.lemmas.Bool.Decides.{nat_tests}
 use Rattle.std.proofs.lemmas.List.{map-append, map-set}
 use Rattle.object65.specs.declared.draft.Draft.{Draft}
 use Rattle.object65.specs.declared.fault.ObjectFault.{ObjectFault}
-use Rattle.object65.specs.declared.fault.ObjectFault.TheVariants.{OutOfOrder, BadSize, NotCanonical}
+use Rattle.object65.specs.declared.fault.ObjectFault.TheVariants.{FailedBefore, FileError, OutOfOrder, BadSize, NotCanonical}
 use Rattle.object65.specs.declared.item.Item.{Item}
 use Rattle.object65.specs.declared.item.Item.TheVariants as item
 use Rattle.object65.specs.declared.object.Fragment.{Fragment}
@@ -25,6 +25,7 @@ use Rattle.object65.specs.Record.{Entry, is_record_kind}
 use Rattle.object65.specs.Scanning
 use Rattle.object65.specs.Spelling.{body_limit}
 use Rattle.object65.proofs.Closings.{nil, longer, closing_is, fill_last, last_push, last_joins}
+use Rattle.object65.proofs.Frees.{IsFree, astray, assert_free, canonical_free, end_free, export_free, failed, fill_free, known_free, literal_free, name_free, open_free, room_free, section_free, value_free, wants_astray, wants_canonical}
 use Rattle.object65.proofs.Openings.{Split, draft_there, grown_name, is_full, none_open, opens, room_there, seek}
 
 -- a fragment stands behind what was taken of its section
@@ -36,78 +37,86 @@ IsPlaced ds (item.Export name line form) = Unit {0}
 IsPlaced ds (item.Assert action line text form) = Unit {0}
 IsPlaced ds item.End = Unit {0}
 
--- what is kept behind a record is kept of what its item makes, which has its place
-abbrev pub Leads : State → Result (Scanning.Outline × Item) ObjectFault → Type 0
-Leads s (Ok x) = (x.0 ≡ Scanning.outline_of (with_item s x.1)) × IsPlaced s.drafts x.1
-Leads s (Err e) = Unit {0}
+abbrev pub is_end : Item → Bool
+is_end item.End = true
+is_end _ = false
 
-read : {A : Type 0} (s : State) (r : Result A ObjectFault) (g : A → Result (Scanning.Outline × Item) ObjectFault) → ((a : A) → Leads s (g a)) → Leads s (r >>= g)
-read s (Ok a) g h = h a
-read s (Err e) g h = tt
+-- What is kept behind a record is kept of what its item makes, which has its place and ends the object, or not.
+-- A fault is none of a store.
+abbrev pub Leads : State → Bool → Result (Scanning.Outline × Item) ObjectFault → Type 0
+Leads s last (Ok x) = (x.0 ≡ Scanning.outline_of (with_item s x.1)) × IsPlaced s.drafts x.1 × (is_end x.1 ≡ last)
+Leads s last (Err e) = e ≡ FileError → ⊥
 
-either : (s : State) (b : Bool) (q v : Result (Scanning.Outline × Item) ObjectFault) → Leads s q → Leads s v → Leads s (if b then q else v)
-either s true q v h k = h
-either s false q v h k = k
+refused : {A : Type 0} (e : ObjectFault) → IsFree {A = A} (Err e) → e ≡ FileError → ⊥
+refused e free is = free (λ i. Err (is i))
+
+read : {A : Type 0} (s : State) (last : Bool) (r : Result A ObjectFault) (g : A → Result (Scanning.Outline × Item) ObjectFault) → IsFree r → ((a : A) → Leads s last (g a)) → Leads s last (r >>= g)
+read s last (Ok a) g free h = h a
+read s last (Err e) g free h = refused e free
+
+either : (s : State) (last b : Bool) (q v : Result (Scanning.Outline × Item) ObjectFault) → (b ≡ true → Leads s last q) → (b ≡ false → Leads s last v) → Leads s last (if b then q else v)
+either s last true q v h k = h refl
+either s last false q v h k = k refl
 
 some_push : {A : Type 0} (xs : List A) (x : A) → is_none (xs ++ x ∷ []) ≡ false
 some_push xs x = let n = length-append xs (x ∷ []) in grind (arith, nat_tests, n)
 
 -- ---- Names and the end.
 
-import_leads : (s : State) (body : List ℕ) → Leads s (Scanning.scan_import (Scanning.outline_of s) body)
+import_leads : (s : State) (body : List ℕ) → Leads s false (Scanning.scan_import (Scanning.outline_of s) body)
 unfolding Scanning.scan_import
 import_leads s body =
     let o = Scanning.outline_of s in
-    read s (Scanning.wants (is_none o.rooms && is_none o.exports && not o.asserting) OutOfOrder) _ (λ u.
-    read s (Scanning.new_name o.imports body) _ (λ v. (refl, tt)))
+    read s false _ _ (wants_astray (is_none o.rooms && is_none o.exports && not o.asserting)) (λ u.
+    read s false _ _ (name_free o.imports body) (λ v. (refl, tt, refl)))
 
-section_leads : (s : State) (body : List ℕ) → Leads s (Scanning.scan_section (Scanning.outline_of s) body)
+section_leads : (s : State) (body : List ℕ) → Leads s false (Scanning.scan_section (Scanning.outline_of s) body)
 unfolding Scanning.scan_section
 section_leads s body =
     let o = Scanning.outline_of s in
-    read s (Scanning.wants (not o.begun && is_none o.exports && not o.asserting) OutOfOrder) _ (λ u.
-    read s (section_of body) _ (λ h.
-    read s (Scanning.new_name o.sections h.name) _ (λ v.
-    read s (Scanning.wants (nat_le h.align 15) NotCanonical) _ (λ w.
-    (rw (map-append (λ d. d.name) s.drafts (empty_draft h.name h.size h.align ∷ []), map-append Scanning.room_of s.drafts (empty_draft h.name h.size h.align ∷ [])) refl, tt)))))
+    read s false _ _ (wants_astray (not o.begun && is_none o.exports && not o.asserting)) (λ u.
+    read s false _ _ (section_free body) (λ h.
+    read s false _ _ (name_free o.sections h.name) (λ v.
+    read s false _ _ (wants_canonical (nat_le h.align 15)) (λ w.
+    (rw (map-append (λ d. d.name) s.drafts (empty_draft h.name h.size h.align ∷ []), map-append Scanning.room_of s.drafts (empty_draft h.name h.size h.align ∷ [])) refl, tt, refl)))))
 
-export_leads : (s : State) (body : List ℕ) → Leads s (Scanning.scan_export (Scanning.outline_of s) body)
+export_leads : (s : State) (body : List ℕ) → Leads s false (Scanning.scan_export (Scanning.outline_of s) body)
 unfolding Scanning.scan_export
 export_leads s body =
     let o = Scanning.outline_of s in
-    read s (Scanning.wants (list_all Scanning.is_filled o.rooms && not o.asserting) OutOfOrder) _ (λ u.
-    read s (export_of body) _ (λ e.
-    read s (Scanning.known (length o.rooms) (length o.imports) e.form) _ (λ v.
-    read s (Scanning.new_name o.exports e.name) _ (λ w.
-    read s (Scanning.canonical e.form) _ (λ x.
-    (rw (map-append (λ x. x.name) s.exports (e ∷ [])) refl, tt))))))
+    read s false _ _ (wants_astray (list_all Scanning.is_filled o.rooms && not o.asserting)) (λ u.
+    read s false _ _ (export_free body) (λ e.
+    read s false _ _ (known_free (length o.rooms) (length o.imports) e.form) (λ v.
+    read s false _ _ (name_free o.exports e.name) (λ w.
+    read s false _ _ (canonical_free e.form) (λ x.
+    (rw (map-append (λ x. x.name) s.exports (e ∷ [])) refl, tt, refl))))))
 
-assert_leads : (s : State) (body : List ℕ) → Leads s (Scanning.scan_assert (Scanning.outline_of s) body)
+assert_leads : (s : State) (body : List ℕ) → Leads s false (Scanning.scan_assert (Scanning.outline_of s) body)
 unfolding Scanning.scan_assert
 assert_leads s body =
     let o = Scanning.outline_of s in
-    read s (Scanning.wants (list_all Scanning.is_filled o.rooms) OutOfOrder) _ (λ u.
-    read s (assert_of body) _ (λ a.
-    read s (Scanning.known (length o.rooms) (length o.imports) a.form) _ (λ v.
-    read s (Scanning.canonical_open a.form) _ (λ w.
-    (rw (some_push s.asserts a) refl, tt)))))
+    read s false _ _ (wants_astray (list_all Scanning.is_filled o.rooms)) (λ u.
+    read s false _ _ (assert_free body) (λ a.
+    read s false _ _ (known_free (length o.rooms) (length o.imports) a.form) (λ v.
+    read s false _ _ (open_free a.form) (λ w.
+    (rw (some_push s.asserts a) refl, tt, refl)))))
 
-end_leads : (s : State) (body : List ℕ) → Leads s (Scanning.scan_last (Scanning.outline_of s) body)
+end_leads : (s : State) (body : List ℕ) → Leads s true (Scanning.scan_last (Scanning.outline_of s) body)
 unfolding Scanning.scan_last
 end_leads s body =
-    read s (Scanning.wants (list_all Scanning.is_filled (Scanning.outline_of s).rooms) OutOfOrder) _ (λ u.
-    read s (end_of body) _ (λ v. (refl, tt)))
+    read s true _ _ (wants_astray (list_all Scanning.is_filled (Scanning.outline_of s).rooms)) (λ u.
+    read s true _ _ (end_free body) (λ v. (refl, tt, refl)))
 
 -- ---- Fragments.
 
 -- the room behind a record is that of the section with the fragment
 abbrev LeadsIn : Draft → Result (Room × Fragment) ObjectFault → Type 0
 LeadsIn d (Ok x) = x.0 ≡ Scanning.room_of (grown d x.1)
-LeadsIn d (Err e) = Unit {0}
+LeadsIn d (Err e) = e ≡ FileError → ⊥
 
-in_read : {A : Type 0} (d : Draft) (r : Result A ObjectFault) (g : A → Result (Room × Fragment) ObjectFault) → ((a : A) → r ≡ Ok a → LeadsIn d (g a)) → LeadsIn d (r >>= g)
-in_read d (Ok a) g h = h a refl
-in_read d (Err e) g h = tt
+in_read : {A : Type 0} (d : Draft) (r : Result A ObjectFault) (g : A → Result (Room × Fragment) ObjectFault) → IsFree r → ((a : A) → r ≡ Ok a → LeadsIn d (g a)) → LeadsIn d (r >>= g)
+in_read d (Ok a) g free h = h a refl
+in_read d (Err e) g free h = refused e free
 
 pub wanted : (b : Bool) (f : ObjectFault) (u : Unit {0}) → Scanning.wants b f ≡ Ok u → b ≡ true
 wanted true f u e = refl
@@ -191,9 +200,9 @@ literal_leads : (body : List ℕ) (d : Draft) → LeadsIn d (Scanning.room_liter
 unfolding Scanning.room_literal
 literal_leads body d =
     let r = Scanning.room_of d in
-    in_read d (literal_of body) _ (λ bytes is.
-    in_read d (Scanning.room_for r (length bytes)) _ (λ u room.
-    in_read d (Scanning.wants (not (Scanning.is_short r.last)) NotCanonical) _ (λ v full.
+    in_read d _ _ (literal_free body) (λ bytes is.
+    in_read d _ _ (room_free r (length bytes)) (λ u room.
+    in_read d _ _ (wants_canonical (not (Scanning.is_short r.last))) (λ v full.
     ap (λ (l : Last). Scanning.room_behind (Scanning.room_of d) (length bytes) l)
     (behind_literal d bytes (literal_some body bytes is) (sym (short_is d) ∙ wanted (not (Scanning.is_short (Scanning.last_of d))) NotCanonical v full)))))
 
@@ -201,18 +210,18 @@ fill_leads : (body : List ℕ) (d : Draft) → LeadsIn d (Scanning.room_fill bod
 unfolding Scanning.room_fill
 fill_leads body d =
     let r = Scanning.room_of d in
-    in_read d (fill_of body) _ (λ n is.
-    in_read d (Scanning.room_for r n) _ (λ u room.
-    in_read d (Scanning.wants (not (Scanning.is_fill r.last)) NotCanonical) _ (λ v alone.
+    in_read d _ _ (fill_free body) (λ n is.
+    in_read d _ _ (room_free r n) (λ u room.
+    in_read d _ _ (wants_canonical (not (Scanning.is_fill r.last))) (λ v alone.
     ap (λ (l : Last). Scanning.room_behind (Scanning.room_of d) n l) (behind_fill d n))))
 
 value_leads : (n i : ℕ) (body : List ℕ) (d : Draft) → LeadsIn d (Scanning.room_value n i body (Scanning.room_of d))
 unfolding Scanning.room_value
 value_leads n i body d =
-    in_read d (value_of body) _ (λ x is.
-    in_read d (Scanning.room_for (Scanning.room_of d) (width_len x.0)) _ (λ u room.
-    in_read d (Scanning.known n i x.2) _ (λ v there.
-    in_read d (Scanning.canonical_open x.2) _ (λ w fine.
+    in_read d _ _ (value_free body) (λ x is.
+    in_read d _ _ (room_free (Scanning.room_of d) (width_len x.0)) (λ u room.
+    in_read d _ _ (known_free n i x.2) (λ v there.
+    in_read d _ _ (open_free x.2) (λ w fine.
     ap (λ (l : Last). Scanning.room_behind (Scanning.room_of d) (width_len x.0) l) (behind_value d x.0 x.1 x.2)))))
 
 names_stay : (ds : List Draft) (k : ℕ) (d e : Draft) → slice_get ds k ≡ Some d → e.name ≡ d.name → map (λ x. x.name) (slice_set ds k e) ≡ map (λ x. x.name) ds
@@ -220,19 +229,19 @@ names_stay [] k d e there same = refl
 names_stay (x ∷ ds) zero d e there same = let is : x ≡ d = cc in ap (λ n. n ∷ map (λ y. y.name) ds) (same ∙ sym (ap (λ (y : Draft). y.name) is))
 names_stay (x ∷ ds) (suc k) d e there same = ap (λ ns. x.name ∷ ns) (names_stay ds k d e there same)
 
-grown_leads : (s : State) (k : ℕ) (d : Draft) → slice_get s.drafts k ≡ Some d → slice_get (map Scanning.room_of s.drafts) k ≡ Some (Scanning.room_of d) → (q : Result (Room × Fragment) ObjectFault) → LeadsIn d q → Leads s (q >>= (λ x. Ok (record (Scanning.outline_of s) { rooms = slice_set (map Scanning.room_of s.drafts) k x.0; begun = true }, item.Part k d.filled x.1)))
+grown_leads : (s : State) (k : ℕ) (d : Draft) → slice_get s.drafts k ≡ Some d → slice_get (map Scanning.room_of s.drafts) k ≡ Some (Scanning.room_of d) → (q : Result (Room × Fragment) ObjectFault) → LeadsIn d q → Leads s false (q >>= (λ x. Ok (record (Scanning.outline_of s) { rooms = slice_set (map Scanning.room_of s.drafts) k x.0; begun = true }, item.Part k d.filled x.1)))
 grown_leads s k d there room (Ok x) h =
     let e = grown d x.1 in
     let names = names_stay s.drafts k d e there (grown_name d x.1) in
     let rooms = map-set Scanning.room_of s.drafts k e in
-    (rw (there, names, rooms, h) refl, (d, there, room, refl))
-grown_leads s k d there room (Err e) h = tt
+    (rw (there, names, rooms, h) refl, (d, there, room, refl), refl)
+grown_leads s k d there room (Err e) h = h
 
-part_leads : (s : State) (grow : Room → Result (Room × Fragment) ObjectFault) → ((d : Draft) → LeadsIn d (grow (Scanning.room_of d))) → Leads s (Scanning.scan_part (Scanning.outline_of s) grow)
+part_leads : (s : State) (grow : Room → Result (Room × Fragment) ObjectFault) → ((d : Draft) → LeadsIn d (grow (Scanning.room_of d))) → Leads s false (Scanning.scan_part (Scanning.outline_of s) grow)
 unfolding Scanning.scan_part
 part_leads s grow h = go (seek s.drafts) where
-  go : (list_all is_full s.drafts ≡ true) ⊎ Split s.drafts → Leads s (Scanning.scan_part (Scanning.outline_of s) grow)
-  go (inl full) = rw (none_open s.drafts full) tt
+  go : (list_all is_full s.drafts ≡ true) ⊎ Split s.drafts → Leads s false (Scanning.scan_part (Scanning.outline_of s) grow)
+  go (inl full) = rw (none_open s.drafts full) (refused {A = Item} OutOfOrder astray)
   go (inr p) =
       let k = length p.front in
       let there : slice_get s.drafts k ≡ Some p.draft = ap (λ ds. slice_get ds k) p.all ∙ draft_there p.front p.draft p.behind in
@@ -242,18 +251,29 @@ part_leads s grow h = go (seek s.drafts) where
 
 -- ---- Any record.
 
-entry_leads : (s : State) (e : Entry) → Leads s (Scanning.scan_entry (Scanning.outline_of s) e)
+last_of_all : (k : ℕ) → not (is_record_kind k) ≡ false → (k == 1) ≡ false → (k == 2) ≡ false → (k == 3) ≡ false → (k == 4) ≡ false → (k == 5) ≡ false → (k == 6) ≡ false → (k == 7) ≡ false → true ≡ (k == 8)
+last_of_all k a b c d e f g h = grind (arith, nat_tests)
+
+entry_leads : (s : State) (e : Entry) → Leads s (e.kind == 8) (Scanning.scan_entry (Scanning.outline_of s) e)
 unfolding Scanning.scan_entry
 entry_leads s e =
-    either s (not (is_record_kind e.kind)) _ _ tt
-    (either s (e.kind == 1) _ _ (import_leads s e.body)
-    (either s (e.kind == 2) _ _ (section_leads s e.body)
-    (either s (e.kind == 3) _ _ (part_leads s (Scanning.room_literal e.body) (literal_leads e.body))
-    (either s (e.kind == 4) _ _ (part_leads s (Scanning.room_fill e.body) (fill_leads e.body))
-    (either s (e.kind == 5) _ _ (part_leads s (Scanning.room_value (length (map Scanning.room_of s.drafts)) (length s.imports) e.body) (value_leads (length (map Scanning.room_of s.drafts)) (length s.imports) e.body))
-    (either s (e.kind == 6) _ _ (export_leads s e.body)
-    (either s (e.kind == 7) _ _ (assert_leads s e.body) (end_leads s e.body))))))))
+    let rooms = map Scanning.room_of s.drafts in
+    either s _ (not (is_record_kind e.kind)) _ _ (λ h. refused {A = Item} OutOfOrder astray) (λ a.
+    either s _ (e.kind == 1) _ _ (goes_on 1 _ refl (import_leads s e.body)) (λ b.
+    either s _ (e.kind == 2) _ _ (goes_on 2 _ refl (section_leads s e.body)) (λ c.
+    either s _ (e.kind == 3) _ _ (goes_on 3 _ refl (part_leads s (Scanning.room_literal e.body) (literal_leads e.body))) (λ d.
+    either s _ (e.kind == 4) _ _ (goes_on 4 _ refl (part_leads s (Scanning.room_fill e.body) (fill_leads e.body))) (λ f.
+    either s _ (e.kind == 5) _ _ (goes_on 5 _ refl (part_leads s (Scanning.room_value (length rooms) (length s.imports) e.body) (value_leads (length rooms) (length s.imports) e.body))) (λ g.
+    either s _ (e.kind == 6) _ _ (goes_on 6 _ refl (export_leads s e.body)) (λ h.
+    either s _ (e.kind == 7) _ _ (goes_on 7 _ refl (assert_leads s e.body)) (λ i.
+    subst (λ last. Leads s last (Scanning.scan_last (Scanning.outline_of s) e.body)) (last_of_all e.kind a b c d f g h i) (end_leads s e.body)))))))))
+  where
+    -- a record of another kind is no END
+    goes_on : (k : ℕ) (q : Result (Scanning.Outline × Item) ObjectFault) → (k == 8) ≡ false → Leads s false q → (e.kind == k) ≡ true → Leads s (e.kind == 8) q
+    goes_on k q differs h is =
+        let same : e.kind ≡ k = grind (arith, nat_tests) in
+        subst (λ last. Leads s last q) (sym (ap (λ n. n == 8) same ∙ differs)) h
 
-pub leads : (s : State) (e : Entry) → Leads s (Scanning.scanned (Scanning.outline_of s) e)
+pub leads : (s : State) (e : Entry) → Leads s (e.kind == 8) (Scanning.scanned (Scanning.outline_of s) e)
 unfolding Scanning.scanned
-leads s e = either s s.failed _ _ tt (either s s.ended _ _ tt (entry_leads s e))
+leads s e = either s _ s.failed _ _ (λ h. refused {A = Item} FailedBefore failed) (λ h. either s _ s.ended _ _ (λ k. refused {A = Item} OutOfOrder astray) (λ k. entry_leads s e))

@@ -1,12 +1,12 @@
 -- What the items of records keep to.
-use Rattle.std.proofs.Common.{◌≡◌, ◌∙◌, ◌+◌, ◌≤◌, ℕ, zero, suc, List, [], ◌∷◌, ◌++◌, length, Option, Some, Bool, true, false, if◌then◌else◌, Result, Ok, Err, refl, sym, ap, subst, arith}
+use Rattle.std.proofs.Common.{◌≡◌, ◌∙◌, ◌+◌, ◌≤◌, ℕ, zero, suc, List, [], ◌∷◌, ◌++◌, length, Option, Some, Bool, true, false, ◌==◌, if◌then◌else◌, Result, Ok, Err, refl, sym, ap, subst, arith}
 use Rattle.std.specs.Prelude.{slice_get, slice_set, IfOk}
 use Rattle.std.proofs.lemmas.Bool.Decides.{nat_tests}
 use Rattle.std.specs.List.{AllByRecursion, list_all}
 use Rattle.std.proofs.lemmas.List.Folds.{list_all-append}
 use Rattle.object65.specs.declared.draft.Draft.{Draft}
 use Rattle.object65.specs.declared.fault.ObjectFault.{ObjectFault}
-use Rattle.object65.specs.declared.fault.ObjectFault.TheVariants.{FailedBefore, OutOfOrder}
+use Rattle.object65.specs.declared.fault.ObjectFault.TheVariants.{FailedBefore, FileError, OutOfOrder}
 use Rattle.object65.specs.declared.item.Item.{Item}
 use Rattle.object65.specs.declared.item.Item.TheVariants as item
 use Rattle.object65.specs.declared.object.Fragment.{Fragment}
@@ -24,8 +24,10 @@ use Rattle.object65.specs.Taking.{IsReached, after}
 use Rattle.base65.specs.Outcome.{Unless}
 use Rattle.object65.proofs.Builders.{reached_next, reached_parts}
 use Rattle.object65.proofs.Goods.{and}
+use Rattle.object65.proofs.Rooms.{bound}
 use Rattle.object65.proofs.Reached.{GoodState, GoodDraft}
-use Rattle.object65.proofs.Scannings.{IsPlaced, Leads, leads}
+use Rattle.object65.proofs.Scannings.{IsPlaced, Leads, is_end, leads}
+use Rattle.object65.proofs.Trails.{going}
 
 -- ---- A call's answer.
 
@@ -34,8 +36,33 @@ pub led : (s : State) (o : Scanning.Outline) (e : Entry) (x : Scanning.Outline �
 unfolding after
 led s o e x same h =
     let here : Scanning.scanned (Scanning.outline_of s) e ≡ Ok x = subst (λ p. Scanning.scanned p e ≡ Ok x) same h in
-    let l : Leads s (Ok x) = subst (Leads s) here (leads s e) in
+    let l : Leads s (e.kind == 8) (Ok x) = subst (Leads s (e.kind == 8)) here (leads s e) in
     (ap (λ r. r >>= (λ y. Ok (with_item s y.1))) here, l.0, l.1)
+
+-- an object has come to its end exactly behind a record of the kind END
+pub ended_by : (s t : State) (e : Entry) → after s e ≡ Ok t → t.ended ≡ (e.kind == 8)
+unfolding after
+ended_by s t e h =
+    let x = bound (Scanning.scanned (Scanning.outline_of s) e) _ _ h in
+    let l : Leads s (e.kind == 8) (Ok x.0) = subst (Leads s (e.kind == 8)) x.1 (leads s e) in
+    let made : with_item s x.0.1 ≡ t = (let z = x.2 in cc) in
+    ap (λ (u : State). u.ended) (sym made) ∙ ends s x.0.1 (going (Scanning.outline_of s) e x.0 x.1) ∙ l.2
+  where
+    ends : (s : State) (i : Item) → s.ended ≡ false → (with_item s i).ended ≡ is_end i
+    ends s item.End going = refl
+    ends s (item.Import name) going = going
+    ends s (item.Section name size align) going = going
+    ends s (item.Part k offset f) going = going
+    ends s (item.Export name line form) going = going
+    ends s (item.Assert action line text form) going = going
+
+-- no record gives a fault of a store
+pub after_free : (s : State) (e : Entry) → after s e ≡ Err FileError → ⊥
+unfolding after
+after_free s e = go (Scanning.scanned (Scanning.outline_of s) e) (leads s e) where
+  go : (q : Result (Scanning.Outline × Item) ObjectFault) → Leads s (e.kind == 8) q → (q >>= (λ y. Ok (with_item s y.1))) ≡ Err FileError → ⊥
+  go (Ok x) l h = cc
+  go (Err f) l h = let is : f ≡ FileError = cc in l is
 
 unless : (b : Bool) {P Q : Type 0} → (P → Q) → Unless b P → Unless b Q
 unless true h p = tt

@@ -4,22 +4,16 @@ use Rattle.byteorder.specs.Endian.{little_number}
 use Rattle.object65.specs.declared.object.Action.TheVariants as action
 use Rattle.object65.specs.declared.object.Width.TheVariants.{Byte, Word, HighFirst, Dword, Branch}
 use Rattle.object65.specs.Folding.{is_within, is_normal, is_literal, node_limit}
-use Rattle.object65.specs.Objects.{is_name, is_among, width_len}
+use Rattle.object65.specs.Objects.{is_name, is_among}
 use Rattle.object65.specs.declared.fault.ObjectFault.{ObjectFault}
 use Rattle.object65.specs.declared.fault.ObjectFault.TheVariants.{FailedBefore, FileError, OutOfOrder, IndexOutOfRange, BadSize, NotCanonical}
-use Rattle.object65.specs.declared.object.Fragment.{Fragment}
 use Rattle.object65.specs.declared.room.Room.{Room}
-use Rattle.std.specs.Prelude.{slice_get}
-use Rattle.std.specs.List.{list_all, prefix_len}
 use Rattle.base65.specs.declared.values.Op1.{Op1}
 use Rattle.base65.specs.declared.values.Op2.{Op2}
 use Rattle.object65.specs.Bodies
 use Rattle.object65.specs.Fault.{◌>>=◌}
 use Rattle.object65.specs.Form.{Form, nodes}
-use Rattle.object65.specs.Record.{Entry}
 use Rattle.object65.specs.Scanning
-use Rattle.object65.specs.Items.{State, is_none}
-use Rattle.object65.specs.Taking.{after}
 
 abbrev pub IsFree : {A : Type 0} → Result A ObjectFault → Type 0
 IsFree r = r ≡ Err FileError → ⊥

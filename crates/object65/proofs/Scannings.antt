@@ -16,7 +16,7 @@ use Rattle.object65.specs.declared.object.Width.{Width}
 use Rattle.object65.specs.declared.room.Last.{Last}
 use Rattle.object65.specs.declared.room.Last.TheVariants as last
 use Rattle.object65.specs.declared.room.Room.{Room}
-use Rattle.object65.specs.Bodies.{section_of, literal_of, fill_of, value_of, export_of, assert_of, end_of}
+use Rattle.object65.specs.Bodies.{literal_of}
 use Rattle.object65.specs.Fault.{◌>>=◌}
 use Rattle.object65.specs.Form.{Form}
 use Rattle.object65.specs.Items.{State, closed, closing, empty_draft, grown, is_none, with_item}

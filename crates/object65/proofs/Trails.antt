@@ -1,5 +1,5 @@
 -- The list of records that stand one after another up to the END.
-use Rattle.std.proofs.Common.{◌≡◌, ◌∙◌, ℕ, zero, suc, ◌+◌, ◌<◌, ◌≤◌, List, [], ◌∷◌, ◌++◌, length, get_or, Bool, true, false, if◌then◌else◌, Result, Ok, Err, refl, sym, ap, arith, append_assoc, length-append, ◌⊎◌, inl, inr, subst}
+use Rattle.std.proofs.Common.{◌≡◌, ◌∙◌, ℕ, zero, suc, ◌+◌, ◌<◌, ◌≤◌, List, [], ◌∷◌, ◌++◌, length, get_or, Bool, true, false, if◌then◌else◌, Result, Ok, refl, sym, ap, arith, append_assoc, length-append, ◌⊎◌, inl, inr, subst}
 use Rattle.std.specs.List.{flat_map, AllByRecursion}
 use Rattle.byteorder.specs.Endian.{little_bytes}
 use Rattle.object65.specs.declared.fault.ObjectFault.{ObjectFault}

@@ -73,6 +73,7 @@ fn body_at(bytes: &[u8], at: usize, len: usize) -> Result<&[u8], ObjectFault>
         (whole len (take len (room bytes.entry.now at (length bytes.entry.now)))) }
     ensures len { IfOk result (λ body. length body.now ≡ len) }
     ensures within { IfOk result (λ body. at + len ≤ length bytes.entry.now) }
+    ensures plain { IfErr result (λ e. is_outside e ≡ false) }
 {
     let rest = &bytes[at..];
     if rest.len() < len {
@@ -101,6 +102,7 @@ pub fn decode_record(space: &mut Record, bytes: &[u8], at: usize) -> Result<usiz
         (record_at at (length bytes.now) bytes.now) }
     ensures bound { IfOk result (λ n.
         (n ≡ at + 3 + length space.new.body.items) × (n ≤ length bytes.now)) }
+    ensures plain { IfErr result (λ e. is_outside e ≡ false) }
 {
     let (kind, len) = decode_front(&bytes[at..])?;
     let body = body_at(bytes, at + 3, len)?;

@@ -12,7 +12,7 @@ use Rattle.object65.specs.Reading.{in_file, record_at}
 use Rattle.object65.specs.Record.{Entry}
 use Rattle.object65.specs.Taking.{State, after, start}
 use Rattle.object65.proofs.Records.{GoesIn, all_in, reading_stops, taking_stops, ends_in, goes_on_in, begins_in}
-use Rattle.object65.proofs.Frees.{after_free}
+use Rattle.object65.proofs.Withins.{after_free, ended_by}
 use Rattle.link65.specs.declared.fault.LinkFault.{LinkFault}
 use Rattle.link65.specs.declared.fault.LinkFault.TheVariants as link
 use Rattle.link65.specs.Faults.{is_memory, of_object as as_fault}
@@ -21,7 +21,6 @@ use Rattle.library65.specs.declared.index.Entry.{Entry as Listing}
 use Rattle.link65.specs.Standing.{Continues, Feeding, IsFeeding, as_link}
 use Rattle.ld65.specs.Inner.Feeding.{FeedsRecords, is_link_outside, records_in}
 use Rattle.ld65.specs.Linkage.{Input}
-use Rattle.ld65.proofs.Endings.{ended_by}
 
 -- ---- Faults.
 

@@ -1,4 +1,3 @@
-pub mod Endings
 pub mod Fed
 pub mod Objects
 pub mod Behind

@@ -21,9 +21,8 @@ use Rattle.object65.specs.Items.{with_item}
 use Rattle.object65.specs.Record.{Entry}
 use Rattle.object65.specs.Scanning.{IsWithin, Outline, outline_of, scanned}
 use Rattle.object65.specs.Taking
-use Rattle.object65.proofs.Builders.{reached_next}
+use Rattle.object65.proofs.Builders.{reached_next, reached_parts}
 use Rattle.object65.proofs.Rooms.{bound}
-use Rattle.object65.proofs.Scannings.{Agrees, agrees}
 use Rattle.object65.proofs.Withins.{led}
 use Rattle.link65.specs.declared.fault.LinkFault.{LinkFault}
 use Rattle.link65.specs.declared.fault.LinkFault.TheVariants as fault
@@ -50,28 +49,8 @@ small_item o item.End w = tt
 
 -- ---- No records lead to a state that failed.
 
-item_fails : (s : Taking.State) (i : Item) → (with_item s i).failed ≡ s.failed
-item_fails s (item.Import name) = refl
-item_fails s (item.Section name size align) = refl
-item_fails s (item.Part k offset f) = refl
-item_fails s (item.Export name line form) = refl
-item_fails s (item.Assert action line text form) = refl
-item_fails s item.End = refl
-
-agreed_fails : (s t : Taking.State) (r : Result Taking.State ObjectFault) (q : Result (Outline × Item) ObjectFault) → Agrees s r q → r ≡ Ok t → t.failed ≡ s.failed
-agreed_fails s t (Ok u) (Ok x) a h = let same : u ≡ t = cc in ap (λ (v : Taking.State). v.failed) (sym same ∙ a.1) ∙ item_fails s x.1
-agreed_fails s t (Ok u) (Err f) a h = absurd a
-agreed_fails s t (Err f) q a h = absurd cc
-
-next_fails : (s t : Taking.State) (e : Entry) → Taking.after s e ≡ Ok t → t.failed ≡ s.failed
-next_fails s t e h = agreed_fails s t (Taking.after s e) (scanned (outline_of s) e) (agrees s e) h
-
-all_fails : (s t : Taking.State) (es : List Entry) → Taking.after_all s es ≡ Ok t → t.failed ≡ s.failed
-all_fails s t [] h = let same : s ≡ t = cc in ap (λ (v : Taking.State). v.failed) (sym same)
-all_fails s t (e ∷ es) h = let u = bound (Taking.after s e) _ _ h in all_fails u.0 t es u.2 ∙ next_fails s u.0 e u.1
-
 pub reached_runs : (s : Taking.State) → Taking.IsReached s → s.failed ≡ false
-reached_runs s r = all_fails Taking.start s r.records r.stands
+reached_runs s r = (reached_parts s r).failed
 
 -- ---- Modules.
 

@@ -54,17 +54,17 @@ pub record IsLonger (owner : ℕ) (f : Fragment) (s t : Section) : Type 0 where
   pub len : section_len t ≡ section_len s + fragment_len f
   pub cells : flat_map (Segments.fragment_cells owner) t.fragments ≡ flat_map (Segments.fragment_cells owner) s.fragments ++ Segments.fragment_cells owner f
 
-closing_cells : (owner : ℕ) (bytes : List ℕ) → flat_map (Segments.fragment_cells owner) (Taking.closing bytes) ≡ map Segments.known bytes
+closing_cells : (owner : ℕ) (bytes : List ℕ) → flat_map (Segments.fragment_cells owner) (Items.closing bytes) ≡ map Segments.known bytes
 closing_cells owner [] = refl
 closing_cells owner (b ∷ bytes) = ap (flat_map (Segments.fragment_cells owner)) (closing_is (b ∷ bytes) (closings.longer b bytes)) ∙ nil (map Segments.known (b ∷ bytes))
 
-shut_cells : (owner : ℕ) (fs : List Fragment) (bytes : List ℕ) → flat_map (Segments.fragment_cells owner) (fs ++ Taking.closing bytes) ≡ flat_map (Segments.fragment_cells owner) fs ++ map Segments.known bytes
-shut_cells owner fs bytes = flat_map-append (Segments.fragment_cells owner) fs (Taking.closing bytes) ∙ ap (λ cs. flat_map (Segments.fragment_cells owner) fs ++ cs) (closing_cells owner bytes)
+shut_cells : (owner : ℕ) (fs : List Fragment) (bytes : List ℕ) → flat_map (Segments.fragment_cells owner) (fs ++ Items.closing bytes) ≡ flat_map (Segments.fragment_cells owner) fs ++ map Segments.known bytes
+shut_cells owner fs bytes = flat_map-append (Segments.fragment_cells owner) fs (Items.closing bytes) ∙ ap (λ cs. flat_map (Segments.fragment_cells owner) fs ++ cs) (closing_cells owner bytes)
 
-longer_by : (owner : ℕ) (d : Draft) (f : Fragment) → IsLonger owner f (Taking.section_from d) (Taking.section_from (Taking.with_fragment d (fragment_len f) f))
+longer_by : (owner : ℕ) (d : Draft) (f : Fragment) → IsLonger owner f (Taking.section_from d) (Taking.section_from (Items.with_fragment d (fragment_len f) f))
 longer_by owner d f =
     let cells = Segments.fragment_cells owner in
-    let fs = Taking.closed d in
+    let fs = Items.closed d in
     record {
       name = refl;
       align = refl;

@@ -1,7 +1,7 @@
 -- The records of an object lead to a state that stands for it.
 use Rattle.std.proofs.Common.{◌≡◌, ◌∙◌, ℕ, zero, suc, ◌+◌, ◌-◌, ◌%◌, ◌^◌, ◌<◌, ◌≤◌, List, [], ◌∷◌, ◌++◌, length, take, drop, map, Bool, true, false, ◌&&◌, ◌||◌, not, nat_lt, nat_le, nat_eq, ◌==◌, Result, Ok, refl, sym, ap, subst, arith, append_assoc, length-append, inl, inr}
 use Rattle.std.proofs.lemmas.Bool.Decides.{nat_tests}
-use Rattle.std.proofs.lemmas.List.{map-append, length-take, length-drop, take-append-drop}
+use Rattle.std.proofs.lemmas.List.{length-map, map-append, length-take, length-drop, take-append-drop}
 use Rattle.std.specs.Cmp.{nat_eq_equiv}
 use Rattle.std.specs.Cmp.Lexicographic.{pointwise, lists_equiv}
 use Rattle.std.specs.List.{flat_map, list_all, sum_by, AllByRecursion}
@@ -13,6 +13,8 @@ use Rattle.object65.specs.declared.fault.ObjectFault.{ObjectFault}
 use Rattle.object65.specs.declared.object.Assert.{Assert}
 use Rattle.object65.specs.declared.object.Export.{Export}
 use Rattle.object65.specs.declared.object.Fragment.{Fragment}
+use Rattle.object65.specs.declared.room.Last.TheVariants as last
+use Rattle.object65.specs.declared.room.Room.{Room}
 use Rattle.object65.specs.declared.object.Fragment.TheVariants.{Literal, Fill, Value}
 use Rattle.object65.specs.declared.object.Object.{Object}
 use Rattle.object65.specs.declared.object.Section.{Section}
@@ -26,20 +28,24 @@ use Rattle.object65.specs.Objects.{is_name, is_among, are_names, section_len, se
 use Rattle.object65.specs.Record.{Entry}
 use Rattle.object65.specs.Small.{is_small_text}
 use Rattle.object65.specs.Spelling.{import_entry, section_entry, fragment_entries, literal_entry, literal_entries, fill_entry, value_entry, export_entry, assert_entry, end_entry, entries_of, body_limit}
-use Rattle.object65.specs.Taking
+use Rattle.object65.specs.Items.{State, closing, grown, section_from, start, with_fragment, with_item}
+use Rattle.object65.specs.Scanning
+use Rattle.object65.specs.Taking.{after, after_all, finished}
 use Rattle.object65.proofs.Closings.{turned, nil, longer, closing_is, last_joins, last_push, apart_last, fill_last, shut_len}
 use Rattle.object65.proofs.Fields.{fill_again, value_again, export_again, assert_again}
 use Rattle.object65.proofs.Goods.{left, right, and, parts}
 use Rattle.object65.proofs.Numbers.{back}
+use Rattle.object65.proofs.Openings.{all_full, is_full, opens, piece_there}
 use Rattle.object65.proofs.Pieces.{more_pieces, one_piece}
 use Rattle.object65.proofs.Reached.{either}
+use Rattle.object65.proofs.Scannings.{fill_is, short_is}
 
 -- a state with these parts
-abbrev pub holding : List (List ℕ) → Bool → List Draft → List Export → List Assert → Taking.State
+abbrev pub holding : List (List ℕ) → Bool → List Draft → List Export → List Assert → State
 holding imports begun ds exports asserts = record { imports = imports; drafts = ds; begun = begun; exports = exports; asserts = asserts; ended = false; failed = false }
 
 -- a state of imports and sections
-abbrev pub sectioned : List (List ℕ) → Bool → List Draft → Taking.State
+abbrev pub sectioned : List (List ℕ) → Bool → List Draft → State
 sectioned imports begun ds = holding imports begun ds [] []
 
 -- a section of a heading, with these of its fragments and a literal behind them
@@ -73,18 +79,18 @@ name_in (x ∷ xs) ys n e =
 new_again : (xs ys : List (List ℕ)) (n : List ℕ) → are_names (xs ++ n ∷ ys) ≡ true → (is_name n && not (is_among xs n)) ≡ true
 new_again xs ys n e = let name = name_in xs ys n e in and (is_name n) (not (is_among xs n)) name.0 (ap not name.1)
 
-take_import : (done : List (List ℕ)) (name : List ℕ) (others : List (List ℕ)) → are_names (done ++ name ∷ others) ≡ true → Taking.after (sectioned done false []) (import_entry name) ≡ Ok (sectioned (done ++ name ∷ []) false [])
-unfolding Taking.after Taking.taken Taking.with_import
+take_import : (done : List (List ℕ)) (name : List ℕ) (others : List (List ℕ)) → are_names (done ++ name ∷ others) ≡ true → after (sectioned done false []) (import_entry name) ≡ Ok (sectioned (done ++ name ∷ []) false [])
+unfolding after Scanning.scanned Scanning.scan_entry Scanning.scan_import
 take_import done name others names = rw (new_again done others name names) refl
 
 -- all imports in turn
-take_imports : (names done : List (List ℕ)) (rest : List Entry) → are_names (done ++ names) ≡ true → Taking.after_all (sectioned done false []) (map import_entry names ++ rest) ≡ Taking.after_all (sectioned (done ++ names) false []) rest
-take_imports [] done rest good = ap (λ xs. Taking.after_all (sectioned xs false []) rest) (sym (nil done))
+take_imports : (names done : List (List ℕ)) (rest : List Entry) → are_names (done ++ names) ≡ true → after_all (sectioned done false []) (map import_entry names ++ rest) ≡ after_all (sectioned (done ++ names) false []) rest
+take_imports [] done rest good = ap (λ xs. after_all (sectioned xs false []) rest) (sym (nil done))
 take_imports (n ∷ names) done rest good =
     let more = append_assoc done (n ∷ []) names in
-    ap (λ r. r >>= (λ t. Taking.after_all t (map import_entry names ++ rest))) (take_import done n names good)
+    ap (λ r. r >>= (λ t. after_all t (map import_entry names ++ rest))) (take_import done n names good)
     ∙ take_imports names (done ++ n ∷ []) rest (ap are_names more ∙ good)
-    ∙ ap (λ xs. Taking.after_all (sectioned xs false []) rest) more
+    ∙ ap (λ xs. after_all (sectioned xs false []) rest) more
 
 -- ---- Headings.
 
@@ -120,62 +126,63 @@ heading_again n align name small =
     let within : nat_lt 16777216 n ≡ false = grind (arith, nat_tests) in
     rw (long, number, within) refl
 
-take_section : (n i : ℕ) (imports : List (List ℕ)) (ds : List Draft) (s : Section) (others : List (List ℕ)) → IsGood n i s → are_names (map (λ (d : Draft). d.name) ds ++ s.name ∷ others) ≡ true → Taking.after (sectioned imports false ds) (section_entry s) ≡ Ok (sectioned imports false (ds ++ empty_draft s ∷ []))
-unfolding Taking.after Taking.taken Taking.with_section
+take_section : (n i : ℕ) (imports : List (List ℕ)) (ds : List Draft) (s : Section) (others : List (List ℕ)) → IsGood n i s → are_names (map (λ (d : Draft). d.name) ds ++ s.name ∷ others) ≡ true → after (sectioned imports false ds) (section_entry s) ≡ Ok (sectioned imports false (ds ++ empty_draft s ∷ []))
+unfolding after Scanning.scanned Scanning.scan_entry Scanning.scan_section
 take_section n i imports ds s others good names =
-    let heading : Taking.drafted (section_entry s).body ≡ Ok (empty_draft s) = ap (λ r. r >>= (λ h. Ok (Taking.draft_of h))) (heading_again (section_len s) s.align s.name good.size) in
-    rw (heading, new_again (map (λ (d : Draft). d.name) ds) others s.name names, good.align) refl
+    rw (heading_again (section_len s) s.align s.name good.size, new_again (map (λ (d : Draft). d.name) ds) others s.name names, good.align) refl
 
 -- all headings in turn
-take_headings : (n i : ℕ) (imports : List (List ℕ)) (ss : List Section) (ds : List Draft) (rest : List Entry) → AllByRecursion (IsGood n i) ss → are_names (map (λ (d : Draft). d.name) ds ++ map (λ (s : Section). s.name) ss) ≡ true → Taking.after_all (sectioned imports false ds) (map section_entry ss ++ rest) ≡ Taking.after_all (sectioned imports false (ds ++ map empty_draft ss)) rest
-take_headings n i imports [] ds rest good names = ap (λ xs. Taking.after_all (sectioned imports false xs) rest) (sym (nil ds))
+take_headings : (n i : ℕ) (imports : List (List ℕ)) (ss : List Section) (ds : List Draft) (rest : List Entry) → AllByRecursion (IsGood n i) ss → are_names (map (λ (d : Draft). d.name) ds ++ map (λ (s : Section). s.name) ss) ≡ true → after_all (sectioned imports false ds) (map section_entry ss ++ rest) ≡ after_all (sectioned imports false (ds ++ map empty_draft ss)) rest
+take_headings n i imports [] ds rest good names = ap (λ xs. after_all (sectioned imports false xs) rest) (sym (nil ds))
 take_headings n i imports (s ∷ ss) ds rest good names =
     let one = take_section n i imports ds s (map (λ (x : Section). x.name) ss) good.0 names in
     let more : map (λ (d : Draft). d.name) (ds ++ empty_draft s ∷ []) ++ map (λ (x : Section). x.name) ss ≡ map (λ (d : Draft). d.name) ds ++ s.name ∷ map (λ (x : Section). x.name) ss = ap (λ xs. xs ++ map (λ (x : Section). x.name) ss) (map-append (λ (d : Draft). d.name) ds (empty_draft s ∷ [])) ∙ append_assoc (map (λ (d : Draft). d.name) ds) (s.name ∷ []) (map (λ (x : Section). x.name) ss) in
-    ap (λ r. r >>= (λ t. Taking.after_all t (map section_entry ss ++ rest))) one
+    ap (λ r. r >>= (λ t. after_all t (map section_entry ss ++ rest))) one
     ∙ take_headings n i imports ss (ds ++ empty_draft s ∷ []) rest good.1 (ap are_names more ∙ names)
-    ∙ ap (λ xs. Taking.after_all (sectioned imports false xs) rest) (append_assoc ds (empty_draft s ∷ []) (map empty_draft ss))
+    ∙ ap (λ xs. after_all (sectioned imports false xs) rest) (append_assoc ds (empty_draft s ∷ []) (map empty_draft ss))
 
 -- ---- A literal.
 
-grow_at : (grow : Draft → Result Draft ObjectFault) (full : List Draft) (d e : Draft) (more : List Draft) → list_all Taking.is_full full ≡ true → Taking.is_full d ≡ false → grow d ≡ Ok e → Taking.in_first_open grow (full ++ d ∷ more) ≡ Ok (full ++ e ∷ more)
-grow_at grow [] d e more all begun h = rw (begun, h) refl
-grow_at grow (x ∷ xs) d e more all begun h =
-    let one = left (Taking.is_full x) (list_all Taking.is_full xs) all in
-    let rest = grow_at grow xs d e more (right (Taking.is_full x) (list_all Taking.is_full xs) all) begun h in
-    rw (one, rest) refl
+-- a fragment goes to the first section that isn't full
+part_again : (imports : List (List ℕ)) (begun : Bool) (full : List Draft) (d e : Draft) (more : List Draft) (grow : Room → Result (Room × Fragment) ObjectFault) (y : Room × Fragment) → list_all is_full full ≡ true → is_full d ≡ false → grow (Scanning.room_of d) ≡ Ok y → grown d y.1 ≡ e → (Scanning.scan_part (Scanning.outline_of (sectioned imports begun (full ++ d ∷ more))) grow >>= (λ x. Ok (with_item (sectioned imports begun (full ++ d ∷ more)) x.1))) ≡ Ok (sectioned imports true (full ++ e ∷ more))
+unfolding Scanning.scan_part
+part_again imports begun full d e more grow y all free h is =
+    rw (opens full d more all free, h, piece_there full d more y.1, is) refl
 
-literal_again : (s : Section) (fs : List Fragment) (bytes body : List ℕ) → 0 < length body → (sum_by fragment_len fs + length bytes) + length body ≤ section_len s → length bytes % body_limit ≡ 0 → Taking.with_literal body (drafting s fs bytes) ≡ Ok (drafting s fs (bytes ++ body))
-unfolding Taking.with_literal
+literal_again : (s : Section) (fs : List Fragment) (bytes body : List ℕ) → 0 < length body → (sum_by fragment_len fs + length bytes) + length body ≤ section_len s → length bytes % body_limit ≡ 0 → Scanning.room_literal body (Scanning.room_of (drafting s fs bytes)) ≡ Ok (Scanning.room_behind (Scanning.room_of (drafting s fs bytes)) (length body) (Scanning.last_behind (length body)), Literal body)
+unfolding Scanning.room_literal
 literal_again s fs bytes body some within full =
     let none : (length body == 0) ≡ false = grind (arith, nat_tests) in
     let room : nat_le (length body) (section_len s - (sum_by fragment_len fs + length bytes)) ≡ true = (let less : length body ≤ section_len s - (sum_by fragment_len fs + length bytes) = omega arith in grind (arith, nat_tests)) in
     let even : (length bytes % body_limit == 0) ≡ true = grind (arith, nat_tests) in
+    rw (none, room, short_is (drafting s fs bytes), even) refl
+
+literal_joined : (s : Section) (fs : List Fragment) (bytes body : List ℕ) → grown (drafting s fs bytes) (Literal body) ≡ drafting s fs (bytes ++ body)
+literal_joined s fs bytes body =
     let sum : (sum_by fragment_len fs + length bytes) + length body ≡ sum_by fragment_len fs + length (bytes ++ body) = omega (arith, length-append bytes body) in
-    rw (none, room, even) (ap (λ k. Ok (record { name = s.name; align = s.align; size = section_len s; filled = k; fragments = fs; literal = bytes ++ body })) sum)
+    ap (λ k. record { name = s.name; align = s.align; size = section_len s; filled = k; fragments = fs; literal = bytes ++ body }) sum
 
 -- a section that has room isn't full
-not_full : (s : Section) (fs : List Fragment) (bytes : List ℕ) (len : ℕ) → 0 < len → (sum_by fragment_len fs + length bytes) + len ≤ section_len s → Taking.is_full (drafting s fs bytes) ≡ false
+not_full : (s : Section) (fs : List Fragment) (bytes : List ℕ) (len : ℕ) → 0 < len → (sum_by fragment_len fs + length bytes) + len ≤ section_len s → is_full (drafting s fs bytes) ≡ false
 not_full s fs bytes len some within = let less : sum_by fragment_len fs + length bytes < section_len s = omega arith in grind (arith, nat_tests)
 
-take_piece : (imports : List (List ℕ)) (begun : Bool) (full more : List Draft) (s : Section) (fs : List Fragment) (bytes body : List ℕ) → list_all Taking.is_full full ≡ true → 0 < length body → (sum_by fragment_len fs + length bytes) + length body ≤ section_len s → length bytes % body_limit ≡ 0 → Taking.after (sectioned imports begun (full ++ drafting s fs bytes ∷ more)) (literal_entry body) ≡ Ok (sectioned imports true (full ++ drafting s fs (bytes ++ body) ∷ more))
-unfolding Taking.after Taking.taken
+take_piece : (imports : List (List ℕ)) (begun : Bool) (full more : List Draft) (s : Section) (fs : List Fragment) (bytes body : List ℕ) → list_all is_full full ≡ true → 0 < length body → (sum_by fragment_len fs + length bytes) + length body ≤ section_len s → length bytes % body_limit ≡ 0 → after (sectioned imports begun (full ++ drafting s fs bytes ∷ more)) (literal_entry body) ≡ Ok (sectioned imports true (full ++ drafting s fs (bytes ++ body) ∷ more))
+unfolding after Scanning.scanned Scanning.scan_entry
 take_piece imports begun full more s fs bytes body all some within even =
-    let goes = grow_at (Taking.with_literal body) full (drafting s fs bytes) (drafting s fs (bytes ++ body)) more all (not_full s fs bytes (length body) some within) (literal_again s fs bytes body some within even) in
-    ap (λ r. r >>= (λ ds. Ok (record (sectioned imports begun (full ++ drafting s fs bytes ∷ more)) { drafts = ds; begun = true }))) goes
+    part_again imports begun full (drafting s fs bytes) (drafting s fs (bytes ++ body)) more (Scanning.room_literal body) _ all (not_full s fs bytes (length body) some within) (literal_again s fs bytes body some within even) (literal_joined s fs bytes body)
 
 -- some records lead to these sections
-pub record Goes (before : Taking.State) (imports : List (List ℕ)) (es rest : List Entry) (ds : List Draft) : Type 0 where
+pub record Goes (before : State) (imports : List (List ℕ)) (es rest : List Entry) (ds : List Draft) : Type 0 where
   pub begun : Bool
-  pub same : Taking.after_all before (es ++ rest) ≡ Taking.after_all (sectioned imports begun ds) rest
+  pub same : after_all before (es ++ rest) ≡ after_all (sectioned imports begun ds) rest
 
 front_len : (bytes : List ℕ) → body_limit < length bytes → length (take body_limit bytes) ≡ body_limit
 front_len bytes over = omega (arith, length-take body_limit bytes)
 
 abbrev Piecewise : ℕ → Type 0
-Piecewise n = (imports : List (List ℕ)) (begun : Bool) (full more : List Draft) (s : Section) (fs : List Fragment) (done bytes : List ℕ) (rest : List Entry) → length bytes ≤ n → list_all Taking.is_full full ≡ true → (sum_by fragment_len fs + length done) + length bytes ≤ section_len s → length done % body_limit ≡ 0 → Goes (sectioned imports begun (full ++ drafting s fs done ∷ more)) imports (literal_entries bytes) rest (full ++ drafting s fs (done ++ bytes) ∷ more)
+Piecewise n = (imports : List (List ℕ)) (begun : Bool) (full more : List Draft) (s : Section) (fs : List Fragment) (done bytes : List ℕ) (rest : List Entry) → length bytes ≤ n → list_all is_full full ≡ true → (sum_by fragment_len fs + length done) + length bytes ≤ section_len s → length done % body_limit ≡ 0 → Goes (sectioned imports begun (full ++ drafting s fs done ∷ more)) imports (literal_entries bytes) rest (full ++ drafting s fs (done ++ bytes) ∷ more)
 
-split : (n : ℕ) (imports : List (List ℕ)) (begun : Bool) (full more : List Draft) (s : Section) (fs : List Fragment) (done bytes : List ℕ) (rest : List Entry) → 0 < length bytes → length bytes ≤ suc n → list_all Taking.is_full full ≡ true → (sum_by fragment_len fs + length done) + length bytes ≤ section_len s → length done % body_limit ≡ 0 → Piecewise n → Goes (sectioned imports begun (full ++ drafting s fs done ∷ more)) imports (literal_entries bytes) rest (full ++ drafting s fs (done ++ bytes) ∷ more)
+split : (n : ℕ) (imports : List (List ℕ)) (begun : Bool) (full more : List Draft) (s : Section) (fs : List Fragment) (done bytes : List ℕ) (rest : List Entry) → 0 < length bytes → length bytes ≤ suc n → list_all is_full full ≡ true → (sum_by fragment_len fs + length done) + length bytes ≤ section_len s → length done % body_limit ≡ 0 → Piecewise n → Goes (sectioned imports begun (full ++ drafting s fs done ∷ more)) imports (literal_entries bytes) rest (full ++ drafting s fs (done ++ bytes) ∷ more)
 split n imports begun full more s fs done bytes rest some long all sum even others =
     elim (either (nat_le (length bytes) body_limit)) [
       | inl short ↦
@@ -183,8 +190,8 @@ split n imports begun full more s fs done bytes rest some long all sum even othe
           record {
             begun = true;
             same =
-                ap (λ es. Taking.after_all (sectioned imports begun (full ++ drafting s fs done ∷ more)) (es ++ rest)) (one_piece bytes some within)
-                ∙ ap (λ r. r >>= (λ t. Taking.after_all t rest)) (take_piece imports begun full more s fs done bytes all some sum even);
+                ap (λ es. after_all (sectioned imports begun (full ++ drafting s fs done ∷ more)) (es ++ rest)) (one_piece bytes some within)
+                ∙ ap (λ r. r >>= (λ t. after_all t rest)) (take_piece imports begun full more s fs done bytes all some sum even);
           }
       | inr long_one ↦
           let over : body_limit < length bytes = grind (arith, nat_tests) in
@@ -197,17 +204,17 @@ split n imports begun full more s fs done bytes rest some long all sum even othe
           record {
             begun = next.begun;
             same =
-                ap (λ es. Taking.after_all (sectioned imports begun (full ++ drafting s fs done ∷ more)) (es ++ rest)) (more_pieces bytes some)
-                ∙ ap (λ r. r >>= (λ t. Taking.after_all t (literal_entries back_part ++ rest))) (take_piece imports begun full more s fs done front all (omega arith) (omega arith) even)
+                ap (λ es. after_all (sectioned imports begun (full ++ drafting s fs done ∷ more)) (es ++ rest)) (more_pieces bytes some)
+                ∙ ap (λ r. r >>= (λ t. after_all t (literal_entries back_part ++ rest))) (take_piece imports begun full more s fs done front all (omega arith) (omega arith) even)
                 ∙ next.same
-                ∙ ap (λ xs. Taking.after_all (sectioned imports next.begun (full ++ drafting s fs xs ∷ more)) rest) (append_assoc done front back_part ∙ ap (λ xs. done ++ xs) (take-append-drop body_limit bytes));
+                ∙ ap (λ xs. after_all (sectioned imports next.begun (full ++ drafting s fs xs ∷ more)) rest) (append_assoc done front back_part ∙ ap (λ xs. done ++ xs) (take-append-drop body_limit bytes));
           }
     ]
 
 take_literal : (n : ℕ) → Piecewise n
 take_literal n imports begun full more s fs done [] rest long all sum even = record {
   begun = begun;
-  same = ap (λ xs. Taking.after_all (sectioned imports begun (full ++ drafting s fs xs ∷ more)) rest) (sym (nil done));
+  same = ap (λ xs. after_all (sectioned imports begun (full ++ drafting s fs xs ∷ more)) rest) (sym (nil done));
 }
 take_literal zero imports begun full more s fs done (b ∷ bytes) rest long all sum even = absurd (omega arith)
 take_literal (suc n) imports begun full more s fs done (b ∷ bytes) rest long all sum even = split n imports begun full more s fs done (b ∷ bytes) rest (omega arith) (omega arith) all sum even (take_literal n)
@@ -215,20 +222,21 @@ take_literal (suc n) imports begun full more s fs done (b ∷ bytes) rest long a
 -- ---- A fill and a value.
 
 -- the section with one more fragment, which is no literal
-added : (s : Section) (fs : List Fragment) (bytes : List ℕ) (f : Fragment) → Taking.with_fragment (drafting s fs bytes) (fragment_len f) f ≡ drafting s ((fs ++ Taking.closing bytes) ++ f ∷ []) []
+added : (s : Section) (fs : List Fragment) (bytes : List ℕ) (f : Fragment) → with_fragment (drafting s fs bytes) (fragment_len f) f ≡ drafting s ((fs ++ closing bytes) ++ f ∷ []) []
 added s fs bytes f =
-    let sum : (sum_by fragment_len fs + length bytes) + fragment_len f ≡ sum_by fragment_len ((fs ++ Taking.closing bytes) ++ f ∷ []) + 0 = omega (arith, shut_len fs bytes, sum_by-append fragment_len (fs ++ Taking.closing bytes) (f ∷ [])) in
-    ap (λ k. record { name = s.name; align = s.align; size = section_len s; filled = k; fragments = (fs ++ Taking.closing bytes) ++ f ∷ []; literal = [] }) sum
+    let sum : (sum_by fragment_len fs + length bytes) + fragment_len f ≡ sum_by fragment_len ((fs ++ closing bytes) ++ f ∷ []) + 0 = omega (arith, shut_len fs bytes, sum_by-append fragment_len (fs ++ closing bytes) (f ∷ [])) in
+    ap (λ k. record { name = s.name; align = s.align; size = section_len s; filled = k; fragments = (fs ++ closing bytes) ++ f ∷ []; literal = [] }) sum
 
 room_again : (s : Section) (fs : List Fragment) (bytes : List ℕ) (len : ℕ) → (sum_by fragment_len fs + length bytes) + len ≤ section_len s → nat_le len (section_len s - (sum_by fragment_len fs + length bytes)) ≡ true
 room_again s fs bytes len within = let less : len ≤ section_len s - (sum_by fragment_len fs + length bytes) = omega arith in grind (arith, nat_tests)
 
-take_fill : (imports : List (List ℕ)) (begun : Bool) (full more : List Draft) (s : Section) (fs : List Fragment) (bytes : List ℕ) (n : ℕ) → list_all Taking.is_full full ≡ true → 0 < n → n < 2 ^ 32 → (sum_by fragment_len fs + length bytes) + n ≤ section_len s → Taking.ends_in_fill (fs ++ Taking.closing bytes) ≡ false → Taking.after (sectioned imports begun (full ++ drafting s fs bytes ∷ more)) (fill_entry n) ≡ Ok (sectioned imports true (full ++ drafting s ((fs ++ Taking.closing bytes) ++ Fill n ∷ []) [] ∷ more))
-unfolding Taking.after Taking.taken Taking.with_fill
+take_fill : (imports : List (List ℕ)) (begun : Bool) (full more : List Draft) (s : Section) (fs : List Fragment) (bytes : List ℕ) (n : ℕ) → list_all is_full full ≡ true → 0 < n → n < 2 ^ 32 → (sum_by fragment_len fs + length bytes) + n ≤ section_len s → Scanning.ends_in_fill (fs ++ closing bytes) ≡ false → after (sectioned imports begun (full ++ drafting s fs bytes ∷ more)) (fill_entry n) ≡ Ok (sectioned imports true (full ++ drafting s ((fs ++ closing bytes) ++ Fill n ∷ []) [] ∷ more))
+unfolding after Scanning.scanned Scanning.scan_entry Scanning.room_fill
 take_fill imports begun full more s fs bytes n all some fits within alone =
-    let grown : Taking.with_fill (fill_entry n).body (drafting s fs bytes) ≡ Ok (drafting s ((fs ++ Taking.closing bytes) ++ Fill n ∷ []) []) = rw (fill_again n some fits, room_again s fs bytes n within, alone) (ap (λ d. Ok d) (added s fs bytes (Fill n))) in
-    let goes = grow_at (Taking.with_fill (fill_entry n).body) full (drafting s fs bytes) (drafting s ((fs ++ Taking.closing bytes) ++ Fill n ∷ []) []) more all (not_full s fs bytes n some within) grown in
-    ap (λ r. r >>= (λ ds. Ok (record (sectioned imports begun (full ++ drafting s fs bytes ∷ more)) { drafts = ds; begun = true }))) goes
+    let d = drafting s fs bytes in
+    let y : Room × Fragment = (Scanning.room_behind (Scanning.room_of d) n last.Fill, Fill n) in
+    let takes : Scanning.room_fill (fill_entry n).body (Scanning.room_of d) ≡ Ok y = rw (fill_again n some fits, room_again s fs bytes n within, fill_is d, alone) refl in
+    part_again imports begun full d (drafting s ((fs ++ closing bytes) ++ Fill n ∷ []) []) more (Scanning.room_fill (fill_entry n).body) y all (not_full s fs bytes n some within) takes (added s fs bytes (Fill n))
 
 -- what makes a form good in a value or an assertion
 form_parts : (n i : ℕ) (f : Form) → (is_good_form n i f && not (is_literal f)) ≡ true → (is_within n i f ≡ true) × ((is_normal f && nat_le (nodes f) node_limit && not (is_literal f)) ≡ true) × (is_normal f ≡ true)
@@ -241,16 +249,18 @@ form_parts n i f good =
       normal,
     )
 
-take_value : (n i : ℕ) (imports : List (List ℕ)) (begun : Bool) (full more : List Draft) (s : Section) (fs : List Fragment) (bytes : List ℕ) (w : Width) (line : ℕ) (form : Form) → list_all Taking.is_full full ≡ true → length (full ++ drafting s fs bytes ∷ more) ≡ n → length imports ≡ i → (line < 2 ^ 32) × FitsBits form → (is_good_form n i form && not (is_literal form)) ≡ true → (sum_by fragment_len fs + length bytes) + width_len w ≤ section_len s → Taking.after (sectioned imports begun (full ++ drafting s fs bytes ∷ more)) (value_entry w line form) ≡ Ok (sectioned imports true (full ++ drafting s ((fs ++ Taking.closing bytes) ++ Value w line form ∷ []) [] ∷ more))
-unfolding Taking.after Taking.taken Taking.with_value
+take_value : (n i : ℕ) (imports : List (List ℕ)) (begun : Bool) (full more : List Draft) (s : Section) (fs : List Fragment) (bytes : List ℕ) (w : Width) (line : ℕ) (form : Form) → list_all is_full full ≡ true → length (full ++ drafting s fs bytes ∷ more) ≡ n → length imports ≡ i → (line < 2 ^ 32) × FitsBits form → (is_good_form n i form && not (is_literal form)) ≡ true → (sum_by fragment_len fs + length bytes) + width_len w ≤ section_len s → after (sectioned imports begun (full ++ drafting s fs bytes ∷ more)) (value_entry w line form) ≡ Ok (sectioned imports true (full ++ drafting s ((fs ++ closing bytes) ++ Value w line form ∷ []) [] ∷ more))
+unfolding after Scanning.scanned Scanning.scan_entry Scanning.room_value
 take_value n i imports begun full more s fs bytes w line form all count there fits good within =
     let fine = form_parts n i form good in
     let some : 0 < width_len w = width_some w in
-    let next = drafting s ((fs ++ Taking.closing bytes) ++ Value w line form ∷ []) [] in
-    let grown : Taking.with_value n i (value_entry w line form).body (drafting s fs bytes) ≡ Ok next = rw (value_again w line form fits.0 fits.1 fine.2, room_again s fs bytes (width_len w) within, fine.0, fine.1) (ap (λ d. Ok d) (added s fs bytes (Value w line form))) in
-    let counted = grown_at n i (length (full ++ drafting s fs bytes ∷ more)) (length imports) (value_entry w line form).body (drafting s fs bytes) next count there grown in
-    let goes = grow_at (Taking.with_value (length (full ++ drafting s fs bytes ∷ more)) (length imports) (value_entry w line form).body) full (drafting s fs bytes) next more all (not_full s fs bytes (width_len w) some within) counted in
-    ap (λ r. r >>= (λ ds. Ok (record (sectioned imports begun (full ++ drafting s fs bytes ∷ more)) { drafts = ds; begun = true }))) goes
+    let d = drafting s fs bytes in
+    let body = (value_entry w line form).body in
+    let y : Room × Fragment = (Scanning.room_behind (Scanning.room_of d) (width_len w) last.Other, Value w line form) in
+    let takes : Scanning.room_value n i body (Scanning.room_of d) ≡ Ok y = rw (value_again w line form fits.0 fits.1 fine.2, room_again s fs bytes (width_len w) within, fine.0, fine.1) refl in
+    let m = length (map Scanning.room_of (full ++ d ∷ more)) in
+    let counted = takes_at n i m (length imports) body (Scanning.room_of d) y (length-map (full ++ d ∷ more) Scanning.room_of ∙ count) there takes in
+    part_again imports begun full d (drafting s ((fs ++ closing bytes) ++ Value w line form ∷ []) []) more (Scanning.room_value m (length imports) body) y all (not_full s fs bytes (width_len w) some within) counted (added s fs bytes (Value w line form))
   where
     width_some : (w : Width) → 0 < width_len w
     width_some Byte = omega arith
@@ -259,95 +269,95 @@ take_value n i imports begun full more s fs bytes w line form all count there fi
     width_some Dword = omega arith
     width_some Branch = omega arith
 
-    grown_at : (n i m j : ℕ) (body : List ℕ) (d x : Draft) → m ≡ n → j ≡ i → Taking.with_value n i body d ≡ Ok x → Taking.with_value m j body d ≡ Ok x
-    grown_at n i m j body d x p q h = (λ k. Taking.with_value (p k) (q k) body d) ∙ h
+    takes_at : (n i m j : ℕ) (body : List ℕ) (r : Room) (y : Room × Fragment) → m ≡ n → j ≡ i → Scanning.room_value n i body r ≡ Ok y → Scanning.room_value m j body r ≡ Ok y
+    takes_at n i m j body r y p q h = (λ k. Scanning.room_value (p k) (q k) body r) ∙ h
 
 -- ---- The fragments of a section.
 
 -- some records lead to this section, with all its fragments
-pub record Fills (before : Taking.State) (imports : List (List ℕ)) (es rest : List Entry) (full more : List Draft) (s : Section) (all : List Fragment) : Type 0 where
+pub record Fills (before : State) (imports : List (List ℕ)) (es rest : List Entry) (full more : List Draft) (s : Section) (all : List Fragment) : Type 0 where
   pub fragments : List Fragment
   pub literal : List ℕ
-  pub whole : fragments ++ Taking.closing literal ≡ all
-  pub is_full : Taking.is_full (drafting s fragments literal) ≡ true
+  pub whole : fragments ++ closing literal ≡ all
+  pub is_full : is_full (drafting s fragments literal) ≡ true
   pub begun : Bool
-  pub same : Taking.after_all before (es ++ rest) ≡ Taking.after_all (sectioned imports begun (full ++ drafting s fragments literal ∷ more)) rest
+  pub same : after_all before (es ++ rest) ≡ after_all (sectioned imports begun (full ++ drafting s fragments literal ∷ more)) rest
 
 -- one fragment, and then the others
-fills_next : (before : Taking.State) (imports : List (List ℕ)) (first others rest : List Entry) (full more : List Draft) (s : Section) (begun : Bool) (d : Draft) (all now : List Fragment) → now ≡ all → Taking.after_all before (first ++ (others ++ rest)) ≡ Taking.after_all (sectioned imports begun (full ++ d ∷ more)) (others ++ rest) → Fills (sectioned imports begun (full ++ d ∷ more)) imports others rest full more s now → Fills before imports (first ++ others) rest full more s all
+fills_next : (before : State) (imports : List (List ℕ)) (first others rest : List Entry) (full more : List Draft) (s : Section) (begun : Bool) (d : Draft) (all now : List Fragment) → now ≡ all → after_all before (first ++ (others ++ rest)) ≡ after_all (sectioned imports begun (full ++ d ∷ more)) (others ++ rest) → Fills (sectioned imports begun (full ++ d ∷ more)) imports others rest full more s now → Fills before imports (first ++ others) rest full more s all
 fills_next before imports first others rest full more s begun d all now same one next = record {
   fragments = next.fragments;
   literal = next.literal;
   whole = next.whole ∙ same;
   is_full = next.is_full;
   begun = next.begun;
-  same = ap (λ es. Taking.after_all before es) (append_assoc first others rest) ∙ one ∙ next.same;
+  same = ap (λ es. after_all before es) (append_assoc first others rest) ∙ one ∙ next.same;
 }
 
-take_fragments : (n i : ℕ) (imports : List (List ℕ)) (gs : List Fragment) (begun : Bool) (full more : List Draft) (s : Section) (fs : List Fragment) (bytes : List ℕ) (rest : List Entry) → list_all Taking.is_full full ≡ true → length full + suc (length more) ≡ n → length imports ≡ i → list_all (is_good_fragment n i) gs ≡ true → AllByRecursion FragmentFits gs → are_apart ((fs ++ Taking.closing bytes) ++ gs) ≡ true → (sum_by fragment_len fs + length bytes) + sum_by fragment_len gs ≡ section_len s → Fills (sectioned imports begun (full ++ drafting s fs bytes ∷ more)) imports (flat_map fragment_entries gs) rest full more s ((fs ++ Taking.closing bytes) ++ gs)
+take_fragments : (n i : ℕ) (imports : List (List ℕ)) (gs : List Fragment) (begun : Bool) (full more : List Draft) (s : Section) (fs : List Fragment) (bytes : List ℕ) (rest : List Entry) → list_all is_full full ≡ true → length full + suc (length more) ≡ n → length imports ≡ i → list_all (is_good_fragment n i) gs ≡ true → AllByRecursion FragmentFits gs → are_apart ((fs ++ closing bytes) ++ gs) ≡ true → (sum_by fragment_len fs + length bytes) + sum_by fragment_len gs ≡ section_len s → Fills (sectioned imports begun (full ++ drafting s fs bytes ∷ more)) imports (flat_map fragment_entries gs) rest full more s ((fs ++ closing bytes) ++ gs)
 take_fragments n i imports [] begun full more s fs bytes rest all count there good fits apart sum = record {
   fragments = fs;
   literal = bytes;
-  whole = sym (nil (fs ++ Taking.closing bytes));
+  whole = sym (nil (fs ++ closing bytes));
   is_full = (let same : sum_by fragment_len fs + length bytes ≡ section_len s = omega arith in grind (arith, nat_tests));
   begun = begun;
   same = refl;
 }
 take_fragments n i imports (Literal body ∷ gs) begun full more s fs (b ∷ bytes) rest all count there good fits apart sum =
-    let alone = apart_last (fs ++ Taking.closing (b ∷ bytes)) (Literal body) gs apart in
-    let joined : last_joins (fs ++ Taking.closing (b ∷ bytes)) (Literal body) ≡ true = ap (λ xs. last_joins (fs ++ xs) (Literal body)) (closing_is (b ∷ bytes) (longer b bytes)) ∙ last_push fs (Literal (b ∷ bytes)) (Literal body) in
-    absurd (both (last_joins (fs ++ Taking.closing (b ∷ bytes)) (Literal body)) joined alone)
+    let alone = apart_last (fs ++ closing (b ∷ bytes)) (Literal body) gs apart in
+    let joined : last_joins (fs ++ closing (b ∷ bytes)) (Literal body) ≡ true = ap (λ xs. last_joins (fs ++ xs) (Literal body)) (closing_is (b ∷ bytes) (longer b bytes)) ∙ last_push fs (Literal (b ∷ bytes)) (Literal body) in
+    absurd (both (last_joins (fs ++ closing (b ∷ bytes)) (Literal body)) joined alone)
   where
     both : (x : Bool) → x ≡ true → x ≡ false → ⊥
     both x p q = cc
 take_fragments n i imports (Literal [] ∷ gs) begun full more s fs [] rest all count there good fits apart sum = let none : nat_lt 0 0 ≡ false = refl in cc
 take_fragments n i imports (Literal (c ∷ body) ∷ gs) begun full more s fs [] rest all count there good fits apart sum =
-    let whole : (fs ++ Taking.closing (c ∷ body)) ++ gs ≡ (fs ++ Taking.closing []) ++ Literal (c ∷ body) ∷ gs = ap (λ xs. (fs ++ xs) ++ gs) (closing_is (c ∷ body) (longer c body)) ∙ append_assoc fs (Literal (c ∷ body) ∷ []) gs ∙ ap (λ xs. xs ++ Literal (c ∷ body) ∷ gs) (sym (nil fs)) in
+    let whole : (fs ++ closing (c ∷ body)) ++ gs ≡ (fs ++ closing []) ++ Literal (c ∷ body) ∷ gs = ap (λ xs. (fs ++ xs) ++ gs) (closing_is (c ∷ body) (longer c body)) ∙ append_assoc fs (Literal (c ∷ body) ∷ []) gs ∙ ap (λ xs. xs ++ Literal (c ∷ body) ∷ gs) (sym (nil fs)) in
     let first = sum_by-cons fragment_len (Literal (c ∷ body)) gs in
     let one = take_literal (length (c ∷ body)) imports begun full more s fs [] (c ∷ body) (flat_map fragment_entries gs ++ rest) (omega arith) all (omega (arith, sum, first)) refl in
-    fills_next (sectioned imports begun (full ++ drafting s fs [] ∷ more)) imports (literal_entries (c ∷ body)) (flat_map fragment_entries gs) rest full more s one.begun (drafting s fs (c ∷ body)) ((fs ++ Taking.closing []) ++ Literal (c ∷ body) ∷ gs) ((fs ++ Taking.closing (c ∷ body)) ++ gs) whole one.same
+    fills_next (sectioned imports begun (full ++ drafting s fs [] ∷ more)) imports (literal_entries (c ∷ body)) (flat_map fragment_entries gs) rest full more s one.begun (drafting s fs (c ∷ body)) ((fs ++ closing []) ++ Literal (c ∷ body) ∷ gs) ((fs ++ closing (c ∷ body)) ++ gs) whole one.same
     (take_fragments n i imports gs one.begun full more s fs (c ∷ body) rest all count there (right (is_good_fragment n i (Literal (c ∷ body))) (list_all (is_good_fragment n i) gs) good) fits.1 (ap are_apart whole ∙ apart) (omega (arith, sum, first)))
 take_fragments n i imports (Fill k ∷ gs) begun full more s fs bytes rest all count there good fits apart sum =
-    let now = fs ++ Taking.closing bytes in
+    let now = fs ++ closing bytes in
     let first = sum_by-cons fragment_len (Fill k) gs in
     let some : 0 < k = (let t = left (is_good_fragment n i (Fill k)) (list_all (is_good_fragment n i) gs) good in grind (arith, nat_tests)) in
-    let alone : Taking.ends_in_fill now ≡ false = fill_last now k ∙ apart_last now (Fill k) gs apart in
-    let whole : ((now ++ Fill k ∷ []) ++ Taking.closing []) ++ gs ≡ now ++ Fill k ∷ gs = ap (λ xs. xs ++ gs) (nil (now ++ Fill k ∷ [])) ∙ append_assoc now (Fill k ∷ []) gs in
+    let alone : Scanning.ends_in_fill now ≡ false = fill_last now k ∙ apart_last now (Fill k) gs apart in
+    let whole : ((now ++ Fill k ∷ []) ++ closing []) ++ gs ≡ now ++ Fill k ∷ gs = ap (λ xs. xs ++ gs) (nil (now ++ Fill k ∷ [])) ∙ append_assoc now (Fill k ∷ []) gs in
     let one = take_fill imports begun full more s fs bytes k all some fits.0 (omega (arith, sum, first)) alone in
-    fills_next (sectioned imports begun (full ++ drafting s fs bytes ∷ more)) imports (fill_entry k ∷ []) (flat_map fragment_entries gs) rest full more s true (drafting s (now ++ Fill k ∷ []) []) (now ++ Fill k ∷ gs) (((now ++ Fill k ∷ []) ++ Taking.closing []) ++ gs) whole (ap (λ r. r >>= (λ t. Taking.after_all t (flat_map fragment_entries gs ++ rest))) one)
+    fills_next (sectioned imports begun (full ++ drafting s fs bytes ∷ more)) imports (fill_entry k ∷ []) (flat_map fragment_entries gs) rest full more s true (drafting s (now ++ Fill k ∷ []) []) (now ++ Fill k ∷ gs) (((now ++ Fill k ∷ []) ++ closing []) ++ gs) whole (ap (λ r. r >>= (λ t. after_all t (flat_map fragment_entries gs ++ rest))) one)
     (take_fragments n i imports gs true full more s (now ++ Fill k ∷ []) [] rest all count there (right (is_good_fragment n i (Fill k)) (list_all (is_good_fragment n i) gs) good) fits.1 (ap are_apart whole ∙ apart) (omega (arith, sum, first, shut_len fs bytes, sum_by-append fragment_len now (Fill k ∷ []))))
 take_fragments n i imports (Value w line form ∷ gs) begun full more s fs bytes rest all count there good fits apart sum =
-    let now = fs ++ Taking.closing bytes in
+    let now = fs ++ closing bytes in
     let f = Value w line form in
     let fine = left (is_good_fragment n i f) (list_all (is_good_fragment n i) gs) good in
-    let whole : ((now ++ f ∷ []) ++ Taking.closing []) ++ gs ≡ now ++ f ∷ gs = ap (λ xs. xs ++ gs) (nil (now ++ f ∷ [])) ∙ append_assoc now (f ∷ []) gs in
+    let whole : ((now ++ f ∷ []) ++ closing []) ++ gs ≡ now ++ f ∷ gs = ap (λ xs. xs ++ gs) (nil (now ++ f ∷ [])) ∙ append_assoc now (f ∷ []) gs in
     let first = sum_by-cons fragment_len f gs in
     let size : length (full ++ drafting s fs bytes ∷ more) ≡ n = length-append full (drafting s fs bytes ∷ more) ∙ count in
     let one = take_value n i imports begun full more s fs bytes w line form all size there fits.0 fine (omega (arith, sum, first)) in
-    fills_next (sectioned imports begun (full ++ drafting s fs bytes ∷ more)) imports (value_entry w line form ∷ []) (flat_map fragment_entries gs) rest full more s true (drafting s (now ++ f ∷ []) []) (now ++ f ∷ gs) (((now ++ f ∷ []) ++ Taking.closing []) ++ gs) whole (ap (λ r. r >>= (λ t. Taking.after_all t (flat_map fragment_entries gs ++ rest))) one)
+    fills_next (sectioned imports begun (full ++ drafting s fs bytes ∷ more)) imports (value_entry w line form ∷ []) (flat_map fragment_entries gs) rest full more s true (drafting s (now ++ f ∷ []) []) (now ++ f ∷ gs) (((now ++ f ∷ []) ++ closing []) ++ gs) whole (ap (λ r. r >>= (λ t. after_all t (flat_map fragment_entries gs ++ rest))) one)
     (take_fragments n i imports gs true full more s (now ++ f ∷ []) [] rest all count there (right (is_good_fragment n i f) (list_all (is_good_fragment n i) gs) good) fits.1 (ap are_apart whole ∙ apart) (omega (arith, sum, first, shut_len fs bytes, sum_by-append fragment_len now (f ∷ []))))
 
 -- ---- All contents in turn.
 
-pub record Contents (before : Taking.State) (imports : List (List ℕ)) (es rest : List Entry) (full : List Draft) (ss : List Section) : Type 0 where
+pub record Contents (before : State) (imports : List (List ℕ)) (es rest : List Entry) (full : List Draft) (ss : List Section) : Type 0 where
   pub drafts : List Draft
   pub begun : Bool
-  pub all_full : list_all Taking.is_full (full ++ drafts) ≡ true
-  pub sections : map Taking.section_from drafts ≡ ss
-  pub same : Taking.after_all before (es ++ rest) ≡ Taking.after_all (sectioned imports begun (full ++ drafts)) rest
+  pub all_full : list_all is_full (full ++ drafts) ≡ true
+  pub sections : map section_from drafts ≡ ss
+  pub same : after_all before (es ++ rest) ≡ after_all (sectioned imports begun (full ++ drafts)) rest
 
-full_push : (full : List Draft) (d : Draft) → list_all Taking.is_full full ≡ true → Taking.is_full d ≡ true → list_all Taking.is_full (full ++ d ∷ []) ≡ true
-full_push full d all one = list_all-append Taking.is_full full (d ∷ []) ∙ rw (all, one) refl
+full_push : (full : List Draft) (d : Draft) → list_all is_full full ≡ true → is_full d ≡ true → list_all is_full (full ++ d ∷ []) ≡ true
+full_push full d all one = list_all-append is_full full (d ∷ []) ∙ rw (all, one) refl
 
 length_map : {A B : Type 0} (f : A → B) (xs : List A) → length (map f xs) ≡ length xs
 length_map f [] = refl
 length_map f (x ∷ xs) = omega (arith, length_map f xs)
 
-take_contents : (n i : ℕ) (imports : List (List ℕ)) (ss : List Section) (begun : Bool) (full : List Draft) (rest : List Entry) → AllByRecursion (IsGood n i) ss → list_all Taking.is_full full ≡ true → length full + length ss ≡ n → length imports ≡ i → Contents (sectioned imports begun (full ++ map empty_draft ss)) imports (flat_map (λ (s : Section). flat_map fragment_entries s.fragments) ss) rest full ss
+take_contents : (n i : ℕ) (imports : List (List ℕ)) (ss : List Section) (begun : Bool) (full : List Draft) (rest : List Entry) → AllByRecursion (IsGood n i) ss → list_all is_full full ≡ true → length full + length ss ≡ n → length imports ≡ i → Contents (sectioned imports begun (full ++ map empty_draft ss)) imports (flat_map (λ (s : Section). flat_map fragment_entries s.fragments) ss) rest full ss
 take_contents n i imports [] begun full rest good all count there = record {
   drafts = [];
   begun = begun;
-  all_full = ap (list_all Taking.is_full) (nil full) ∙ all;
+  all_full = ap (list_all is_full) (nil full) ∙ all;
   sections = refl;
   same = refl;
 }
@@ -363,72 +373,74 @@ take_contents n i imports (s ∷ ss) begun full rest good all count there =
     record {
       drafts = d ∷ others.drafts;
       begun = others.begun;
-      all_full = ap (list_all Taking.is_full) (sym regroup) ∙ others.all_full;
+      all_full = ap (list_all is_full) (sym regroup) ∙ others.all_full;
       sections = (λ k. record { name = s.name; align = s.align; fragments = one.whole k } ∷ others.sections k);
       same =
-          ap (λ es. Taking.after_all (sectioned imports begun (full ++ empty_draft s ∷ map empty_draft ss)) es) (append_assoc mine theirs rest)
+          ap (λ es. after_all (sectioned imports begun (full ++ empty_draft s ∷ map empty_draft ss)) es) (append_assoc mine theirs rest)
           ∙ one.same
-          ∙ ap (λ xs. Taking.after_all (sectioned imports one.begun xs) (theirs ++ rest)) (sym (append_assoc full (d ∷ []) (map empty_draft ss)))
+          ∙ ap (λ xs. after_all (sectioned imports one.begun xs) (theirs ++ rest)) (sym (append_assoc full (d ∷ []) (map empty_draft ss)))
           ∙ others.same
-          ∙ ap (λ xs. Taking.after_all (sectioned imports others.begun xs) rest) regroup;
+          ∙ ap (λ xs. after_all (sectioned imports others.begun xs) rest) regroup;
     }
 
 -- ---- Exports.
 
-take_export : (imports : List (List ℕ)) (begun : Bool) (ds : List Draft) (done : List Export) (x : Export) (others : List (List ℕ)) → list_all Taking.is_full ds ≡ true → are_names (map (λ (e : Export). e.name) done ++ x.name ∷ others) ≡ true → is_good_form (length ds) (length imports) x.form ≡ true → (x.line < 2 ^ 32) × FitsBits x.form → Taking.after (holding imports begun ds done []) (export_entry x) ≡ Ok (holding imports begun ds (done ++ x ∷ []) [])
-unfolding Taking.after Taking.taken Taking.with_export
+take_export : (imports : List (List ℕ)) (begun : Bool) (ds : List Draft) (done : List Export) (x : Export) (others : List (List ℕ)) → list_all is_full ds ≡ true → are_names (map (λ (e : Export). e.name) done ++ x.name ∷ others) ≡ true → is_good_form (length ds) (length imports) x.form ≡ true → (x.line < 2 ^ 32) × FitsBits x.form → after (holding imports begun ds done []) (export_entry x) ≡ Ok (holding imports begun ds (done ++ x ∷ []) [])
+unfolding after Scanning.scanned Scanning.scan_entry Scanning.scan_export
 take_export imports begun ds done x others all names good fits =
     let n = length ds in
     let i = length imports in
     let two = left (is_within n i x.form && is_normal x.form) (nat_le (nodes x.form) node_limit) good in
     let normal = right (is_within n i x.form) (is_normal x.form) two in
     let fine : (is_normal x.form && nat_le (nodes x.form) node_limit) ≡ true = and (is_normal x.form) (nat_le (nodes x.form) node_limit) normal (right (is_within n i x.form && is_normal x.form) (nat_le (nodes x.form) node_limit) good) in
-    rw (all, export_again x fits.0 fits.1 normal, left (is_within n i x.form) (is_normal x.form) two, new_again (map (λ (e : Export). e.name) done) others x.name names, fine) refl
+    let filled = all_full ds ∙ all in
+    rw (filled, length-map ds Scanning.room_of, export_again x fits.0 fits.1 normal, left (is_within n i x.form) (is_normal x.form) two, new_again (map (λ (e : Export). e.name) done) others x.name names, fine) refl
 
-take_exports : (imports : List (List ℕ)) (begun : Bool) (ds : List Draft) (xs done : List Export) (rest : List Entry) → list_all Taking.is_full ds ≡ true → are_names (map (λ (e : Export). e.name) done ++ map (λ (e : Export). e.name) xs) ≡ true → list_all (λ (e : Export). is_good_form (length ds) (length imports) e.form) xs ≡ true → AllByRecursion (λ (e : Export). (e.line < 2 ^ 32) × FitsBits e.form) xs → Taking.after_all (holding imports begun ds done []) (map export_entry xs ++ rest) ≡ Taking.after_all (holding imports begun ds (done ++ xs) []) rest
-take_exports imports begun ds [] done rest all names good fits = ap (λ ys. Taking.after_all (holding imports begun ds ys []) rest) (sym (nil done))
+take_exports : (imports : List (List ℕ)) (begun : Bool) (ds : List Draft) (xs done : List Export) (rest : List Entry) → list_all is_full ds ≡ true → are_names (map (λ (e : Export). e.name) done ++ map (λ (e : Export). e.name) xs) ≡ true → list_all (λ (e : Export). is_good_form (length ds) (length imports) e.form) xs ≡ true → AllByRecursion (λ (e : Export). (e.line < 2 ^ 32) × FitsBits e.form) xs → after_all (holding imports begun ds done []) (map export_entry xs ++ rest) ≡ after_all (holding imports begun ds (done ++ xs) []) rest
+take_exports imports begun ds [] done rest all names good fits = ap (λ ys. after_all (holding imports begun ds ys []) rest) (sym (nil done))
 take_exports imports begun ds (x ∷ xs) done rest all names good fits =
     let name_of = λ (e : Export). e.name in
     let fine = λ (e : Export). is_good_form (length ds) (length imports) e.form in
     let one = take_export imports begun ds done x (map name_of xs) all names (left (fine x) (list_all fine xs) good) fits.0 in
     let more : map name_of (done ++ x ∷ []) ++ map name_of xs ≡ map name_of done ++ x.name ∷ map name_of xs = ap (λ ys. ys ++ map name_of xs) (map-append name_of done (x ∷ [])) ∙ append_assoc (map name_of done) (x.name ∷ []) (map name_of xs) in
-    ap (λ r. r >>= (λ t. Taking.after_all t (map export_entry xs ++ rest))) one
+    ap (λ r. r >>= (λ t. after_all t (map export_entry xs ++ rest))) one
     ∙ take_exports imports begun ds xs (done ++ x ∷ []) rest all (ap are_names more ∙ names) (right (fine x) (list_all fine xs) good) fits.1
-    ∙ ap (λ ys. Taking.after_all (holding imports begun ds ys []) rest) (append_assoc done (x ∷ []) xs)
+    ∙ ap (λ ys. after_all (holding imports begun ds ys []) rest) (append_assoc done (x ∷ []) xs)
 
 -- ---- Assertions.
 
-take_assert : (imports : List (List ℕ)) (begun : Bool) (ds : List Draft) (exports : List Export) (done : List Assert) (x : Assert) → list_all Taking.is_full ds ≡ true → is_good_assert (length ds) (length imports) x ≡ true → (x.line < 2 ^ 32) × FitsBits x.form → Taking.after (holding imports begun ds exports done) (assert_entry x) ≡ Ok (holding imports begun ds exports (done ++ x ∷ []))
-unfolding Taking.after Taking.taken Taking.with_assert
+take_assert : (imports : List (List ℕ)) (begun : Bool) (ds : List Draft) (exports : List Export) (done : List Assert) (x : Assert) → list_all is_full ds ≡ true → is_good_assert (length ds) (length imports) x ≡ true → (x.line < 2 ^ 32) × FitsBits x.form → after (holding imports begun ds exports done) (assert_entry x) ≡ Ok (holding imports begun ds exports (done ++ x ∷ []))
+unfolding after Scanning.scanned Scanning.scan_entry Scanning.scan_assert
 take_assert imports begun ds exports done x all good fits =
     let n = length ds in
     let i = length imports in
     let small = left (is_small_text x.text && is_good_form n i x.form) (not (is_literal x.form)) good in
     let fine = form_parts n i x.form (and (is_good_form n i x.form) (not (is_literal x.form)) (right (is_small_text x.text) (is_good_form n i x.form) small) (right (is_small_text x.text && is_good_form n i x.form) (not (is_literal x.form)) good)) in
-    rw (all, assert_again x fits.0 fits.1 fine.2, fine.0, fine.1) refl
+    let filled = all_full ds ∙ all in
+    rw (filled, length-map ds Scanning.room_of, assert_again x fits.0 fits.1 fine.2, fine.0, fine.1) refl
 
-take_asserts : (imports : List (List ℕ)) (begun : Bool) (ds : List Draft) (exports : List Export) (xs done : List Assert) (rest : List Entry) → list_all Taking.is_full ds ≡ true → list_all (is_good_assert (length ds) (length imports)) xs ≡ true → AllByRecursion (λ (a : Assert). (a.line < 2 ^ 32) × FitsBits a.form) xs → Taking.after_all (holding imports begun ds exports done) (map assert_entry xs ++ rest) ≡ Taking.after_all (holding imports begun ds exports (done ++ xs)) rest
-take_asserts imports begun ds exports [] done rest all good fits = ap (λ ys. Taking.after_all (holding imports begun ds exports ys) rest) (sym (nil done))
+take_asserts : (imports : List (List ℕ)) (begun : Bool) (ds : List Draft) (exports : List Export) (xs done : List Assert) (rest : List Entry) → list_all is_full ds ≡ true → list_all (is_good_assert (length ds) (length imports)) xs ≡ true → AllByRecursion (λ (a : Assert). (a.line < 2 ^ 32) × FitsBits a.form) xs → after_all (holding imports begun ds exports done) (map assert_entry xs ++ rest) ≡ after_all (holding imports begun ds exports (done ++ xs)) rest
+take_asserts imports begun ds exports [] done rest all good fits = ap (λ ys. after_all (holding imports begun ds exports ys) rest) (sym (nil done))
 take_asserts imports begun ds exports (x ∷ xs) done rest all good fits =
     let fine = is_good_assert (length ds) (length imports) in
     let one = take_assert imports begun ds exports done x all (left (fine x) (list_all fine xs) good) fits.0 in
-    ap (λ r. r >>= (λ t. Taking.after_all t (map assert_entry xs ++ rest))) one
+    ap (λ r. r >>= (λ t. after_all t (map assert_entry xs ++ rest))) one
     ∙ take_asserts imports begun ds exports xs (done ++ x ∷ []) rest all (right (fine x) (list_all fine xs) good) fits.1
-    ∙ ap (λ ys. Taking.after_all (holding imports begun ds exports ys) rest) (append_assoc done (x ∷ []) xs)
+    ∙ ap (λ ys. after_all (holding imports begun ds exports ys) rest) (append_assoc done (x ∷ []) xs)
 
 -- ---- The END.
 
-take_end : (imports : List (List ℕ)) (begun : Bool) (ds : List Draft) (exports : List Export) (asserts : List Assert) → list_all Taking.is_full ds ≡ true → Taking.after (holding imports begun ds exports asserts) end_entry ≡ Ok (record (holding imports begun ds exports asserts) { ended = true })
-unfolding Taking.after Taking.taken Taking.with_end
-take_end imports begun ds exports asserts all = rw all refl
+take_end : (imports : List (List ℕ)) (begun : Bool) (ds : List Draft) (exports : List Export) (asserts : List Assert) → list_all is_full ds ≡ true → after (holding imports begun ds exports asserts) end_entry ≡ Ok (record (holding imports begun ds exports asserts) { ended = true })
+unfolding after Scanning.scanned Scanning.scan_entry Scanning.scan_last
+take_end imports begun ds exports asserts all = let filled = all_full ds ∙ all in rw filled refl
 
 -- ---- All records in turn.
 
 pub record Again (o : Object) : Type 0 where
-  pub state : Taking.State
-  pub taken : Taking.after_all Taking.start (entries_of o) ≡ Ok state
+  pub state : State
+  pub taken : after_all start (entries_of o) ≡ Ok state
   pub ended : state.ended ≡ true
-  pub object : Taking.finished state ≡ Ok o
+  pub object : finished state ≡ Ok o
 
 pub all_again : (o : Object) → is_good_object o ≡ true → ObjectFits o → Again o
 all_again o good fits =
@@ -444,20 +456,20 @@ all_again o good fits =
     let sections = good_sections n i o.sections p.sections fits.sections in
     let contents = take_contents n i o.imports o.sections false [] (d ++ (f ++ last)) sections refl (omega arith) refl in
     let ds = contents.drafts in
-    let count : n ≡ length ds = ap length (sym contents.sections) ∙ length_map Taking.section_from ds in
+    let count : n ≡ length ds = ap length (sym contents.sections) ∙ length_map section_from ds in
     let exports = subst (λ k. list_all (λ (e : Export). is_good_form k i e.form) o.exports ≡ true) count p.exports in
     let asserts = subst (λ k. list_all (is_good_assert k i) o.asserts ≡ true) count p.asserts in
     let regroup : entries_of o ≡ a ++ (b ++ (c ++ (d ++ (f ++ last)))) = append_assoc (((a ++ b) ++ c) ++ d) f last ∙ append_assoc ((a ++ b) ++ c) d (f ++ last) ∙ append_assoc (a ++ b) c (d ++ (f ++ last)) ∙ append_assoc a b (c ++ (d ++ (f ++ last))) in
     record {
       state = record (holding o.imports contents.begun ds o.exports o.asserts) { ended = true };
       taken =
-          ap (Taking.after_all Taking.start) regroup
+          ap (after_all start) regroup
           ∙ take_imports o.imports [] (b ++ (c ++ (d ++ (f ++ last)))) p.imports
           ∙ take_headings n i o.imports o.sections [] (c ++ (d ++ (f ++ last))) sections p.section_names
           ∙ contents.same
           ∙ take_exports o.imports contents.begun ds o.exports [] (f ++ last) contents.all_full p.export_names exports fits.exports
           ∙ take_asserts o.imports contents.begun ds o.exports o.asserts [] last contents.all_full asserts fits.asserts
-          ∙ ap (λ r. r >>= (λ t. Taking.after_all t [])) (take_end o.imports contents.begun ds o.exports o.asserts contents.all_full);
+          ∙ ap (λ r. r >>= (λ t. after_all t [])) (take_end o.imports contents.begun ds o.exports o.asserts contents.all_full);
       ended = refl;
       object = (λ k. Ok (record { imports = o.imports; sections = contents.sections k; exports = o.exports; asserts = o.asserts }));
     }

@@ -12,7 +12,8 @@ use Rattle.object65.specs.declared.object.Width.{Width}
 use Rattle.object65.specs.Form.{Form}
 use Rattle.object65.specs.Objects.{fragment_len, is_good_fragment, joins, are_apart, FragmentFits}
 use Rattle.object65.specs.Spelling.{fragment_entries, literal_entries}
-use Rattle.object65.specs.Taking.{closing, is_none, is_some_fill, ends_in_fill}
+use Rattle.object65.specs.Items.{closing, is_none}
+use Rattle.object65.specs.Scanning.{is_some_fill, ends_in_fill}
 use Rattle.object65.proofs.Goods.{left, right, and}
 
 pub turned : (b : Bool) → not b ≡ true → b ≡ false

@@ -1,50 +1,47 @@
--- Taking a record gives no fault of a store.
-use Rattle.std.proofs.Common.{◌≡◌, ℕ, zero, suc, ◌+◌, ◌-◌, ◌%◌, List, [], ◌∷◌, ◌++◌, length, map, Bool, true, false, cond, not, ◌&&◌, ◌||◌, ◌==◌, nat_le, Option, Some, None, Result, Ok, Err}
+-- What a record is asked for gives no fault of a store.
+use Rattle.std.proofs.Common.{◌≡◌, ℕ, zero, suc, ◌-◌, List, [], ◌∷◌, length, Bool, true, false, cond, not, ◌&&◌, ◌||◌, ◌==◌, nat_le, Option, Some, None, Result, Ok, Err}
 use Rattle.byteorder.specs.Endian.{little_number}
 use Rattle.object65.specs.declared.object.Action.TheVariants as action
-use Rattle.object65.specs.declared.object.Fragment.TheVariants.{Fill}
 use Rattle.object65.specs.declared.object.Width.TheVariants.{Byte, Word, HighFirst, Dword, Branch}
 use Rattle.object65.specs.Folding.{is_within, is_normal, is_literal, node_limit}
-use Rattle.object65.specs.Objects.{is_name, is_among, width_len}
-use Rattle.object65.specs.Spelling.{body_limit}
+use Rattle.object65.specs.Objects.{is_name, is_among}
 use Rattle.object65.specs.declared.fault.ObjectFault.{ObjectFault}
 use Rattle.object65.specs.declared.fault.ObjectFault.TheVariants.{FailedBefore, FileError, OutOfOrder, IndexOutOfRange, BadSize, NotCanonical}
-use Rattle.object65.specs.declared.draft.Draft.{Draft}
+use Rattle.object65.specs.declared.room.Room.{Room}
 use Rattle.base65.specs.declared.values.Op1.{Op1}
 use Rattle.base65.specs.declared.values.Op2.{Op2}
 use Rattle.object65.specs.Bodies
 use Rattle.object65.specs.Fault.{◌>>=◌}
 use Rattle.object65.specs.Form.{Form, nodes}
-use Rattle.object65.specs.Record.{Entry}
-use Rattle.object65.specs.Taking
+use Rattle.object65.specs.Scanning
 
 abbrev pub IsFree : {A : Type 0} → Result A ObjectFault → Type 0
 IsFree r = r ≡ Err FileError → ⊥
 
-bound : {A B : Type 0} (r : Result A ObjectFault) (f : A → Result B ObjectFault) → IsFree r → ((x : A) → IsFree (f x)) → IsFree (r >>= f)
+pub bound : {A B : Type 0} (r : Result A ObjectFault) (f : A → Result B ObjectFault) → IsFree r → ((x : A) → IsFree (f x)) → IsFree (r >>= f)
 bound (Ok x) f h k e = k x e
 bound (Err fault) f h k e = h (let same : fault ≡ FileError = cc in λ i. Err (same i))
 
-chosen : {A : Type 0} (b : Bool) (x y : Result A ObjectFault) → IsFree x → IsFree y → IsFree (cond b x y)
+pub chosen : {A : Type 0} (b : Bool) (x y : Result A ObjectFault) → IsFree x → IsFree y → IsFree (cond b x y)
 chosen true x y h k = h
 chosen false x y h k = k
 
-ok : {A : Type 0} (x : A) → IsFree (Ok x)
+pub ok : {A : Type 0} (x : A) → IsFree (Ok x)
 ok x e = cc
 
-bad : {A : Type 0} → IsFree {A = A} (Err BadSize)
+pub bad : {A : Type 0} → IsFree {A = A} (Err BadSize)
 bad e = cc
 
-astray : {A : Type 0} → IsFree {A = A} (Err OutOfOrder)
+pub astray : {A : Type 0} → IsFree {A = A} (Err OutOfOrder)
 astray e = cc
 
-failed : {A : Type 0} → IsFree {A = A} (Err FailedBefore)
+pub failed : {A : Type 0} → IsFree {A = A} (Err FailedBefore)
 failed e = cc
 
-wants_astray : (b : Bool) → IsFree (Taking.wants b OutOfOrder)
+pub wants_astray : (b : Bool) → IsFree (Scanning.wants b OutOfOrder)
 wants_astray b = chosen b (Ok tt) (Err OutOfOrder) (ok tt) astray
 
-wants_size : (b : Bool) → IsFree (Taking.wants b BadSize)
+wants_size : (b : Bool) → IsFree (Scanning.wants b BadSize)
 wants_size b = chosen b (Ok tt) (Err BadSize) (ok tt) bad
 
 away : {A : Type 0} → IsFree {A = A} (Err IndexOutOfRange)
@@ -53,10 +50,10 @@ away e = cc
 loose : {A : Type 0} → IsFree {A = A} (Err NotCanonical)
 loose e = cc
 
-wants_index : (b : Bool) → IsFree (Taking.wants b IndexOutOfRange)
+wants_index : (b : Bool) → IsFree (Scanning.wants b IndexOutOfRange)
 wants_index b = chosen b (Ok tt) (Err IndexOutOfRange) (ok tt) away
 
-wants_canonical : (b : Bool) → IsFree (Taking.wants b NotCanonical)
+pub wants_canonical : (b : Bool) → IsFree (Scanning.wants b NotCanonical)
 wants_canonical b = chosen b (Ok tt) (Err NotCanonical) (ok tt) loose
 
 number_free : (len : ℕ) (bytes : List ℕ) → IsFree (Bodies.number_at len bytes)
@@ -112,99 +109,41 @@ width_free code = chosen (code == 0) _ _ (ok Byte) (chosen (code == 1) _ _ (ok W
 action_free : (code : ℕ) → IsFree (Bodies.action_of code)
 action_free code = chosen (code == 0) _ _ (ok action.Warning) (chosen (code == 1) _ _ (ok action.Error) bad)
 
-literal_free : (body : List ℕ) → IsFree (Bodies.literal_of body)
+pub literal_free : (body : List ℕ) → IsFree (Bodies.literal_of body)
 literal_free body = chosen (length body == 0) _ _ bad (ok body)
 
-fill_free : (body : List ℕ) → IsFree (Bodies.fill_of body)
+pub fill_free : (body : List ℕ) → IsFree (Bodies.fill_of body)
 fill_free body = chosen (not (length body == 4) || little_number 4 body == 0) _ _ bad (ok (little_number 4 body))
 
-end_free : (body : List ℕ) → IsFree (Bodies.end_of body)
+pub end_free : (body : List ℕ) → IsFree (Bodies.end_of body)
 end_free body = chosen (length body == 0) _ _ (ok tt) bad
 
-room_free : (d : Draft) (len : ℕ) → IsFree (Taking.has_room d len)
-room_free d len = wants_size (nat_le len (d.size - d.filled))
+pub room_free : (r : Room) (len : ℕ) → IsFree (Scanning.room_for r len)
+room_free r len = wants_size (nat_le len (r.size - r.filled))
 
-known_free : (n i : ℕ) (f : Form) → IsFree (Taking.known n i f)
+pub known_free : (n i : ℕ) (f : Form) → IsFree (Scanning.known n i f)
 known_free n i f = wants_index (is_within n i f)
 
-name_free : (names : List (List ℕ)) (name : List ℕ) → IsFree (Taking.new_name names name)
+pub name_free : (names : List (List ℕ)) (name : List ℕ) → IsFree (Scanning.new_name names name)
 name_free names name = wants_canonical (is_name name && not (is_among names name))
 
-canonical_free : (f : Form) → IsFree (Taking.canonical f)
+pub canonical_free : (f : Form) → IsFree (Scanning.canonical f)
 canonical_free f = wants_canonical (is_normal f && nat_le (nodes f) node_limit)
 
-open_free : (f : Form) → IsFree (Taking.canonical_open f)
+pub open_free : (f : Form) → IsFree (Scanning.canonical_open f)
 open_free f = wants_canonical (is_normal f && nat_le (nodes f) node_limit && not (is_literal f))
 
-section_free : (body : List ℕ) → IsFree (Bodies.section_of body)
+pub section_free : (body : List ℕ) → IsFree (Bodies.section_of body)
 section_free body = chosen _ _ _ bad (chosen _ _ _ bad (ok _))
 
-value_free : (body : List ℕ) → IsFree (Bodies.value_of body)
+pub value_free : (body : List ℕ) → IsFree (Bodies.value_of body)
 unfolding Bodies.value_of
 value_free body = bound _ _ (number_free 1 body) (λ c. bound _ _ (width_free c.0) (λ w. bound _ _ (number_free 4 c.1) (λ l. bound _ _ (all_free l.1) (λ f. ok _))))
 
-export_free : (body : List ℕ) → IsFree (Bodies.export_of body)
+pub export_free : (body : List ℕ) → IsFree (Bodies.export_of body)
 unfolding Bodies.export_of
 export_free body = bound _ _ (counted_free body) (λ n. bound _ _ (number_free 4 n.1) (λ l. bound _ _ (all_free l.1) (λ f. ok _)))
 
-assert_free : (body : List ℕ) → IsFree (Bodies.assert_of body)
+pub assert_free : (body : List ℕ) → IsFree (Bodies.assert_of body)
 unfolding Bodies.assert_of
 assert_free body = bound _ _ (number_free 1 body) (λ c. bound _ _ (action_free c.0) (λ a. bound _ _ (number_free 4 c.1) (λ l. bound _ _ (counted_free l.1) (λ t. bound _ _ (all_free t.1) (λ f. ok _)))))
-
-drafted_free : (body : List ℕ) → IsFree (Taking.drafted body)
-drafted_free body = bound _ _ (section_free body) (λ h. ok _)
-
-with_literal_free : (body : List ℕ) (d : Draft) → IsFree (Taking.with_literal body d)
-unfolding Taking.with_literal
-with_literal_free body d = bound _ _ (literal_free body) (λ b. bound _ _ (room_free d (length b)) (λ u. bound _ _ (wants_canonical (length d.literal % body_limit == 0)) (λ v. ok (record d { filled = d.filled + length b; literal = d.literal ++ b }))))
-
-with_fill_free : (body : List ℕ) (d : Draft) → IsFree (Taking.with_fill body d)
-unfolding Taking.with_fill
-with_fill_free body d = bound _ _ (fill_free body) (λ n. bound _ _ (room_free d n) (λ u. bound _ _ (wants_canonical (not (Taking.ends_in_fill (Taking.closed d)))) (λ v. ok (Taking.with_fragment d n (Fill n)))))
-
-with_value_free : (n i : ℕ) (body : List ℕ) (d : Draft) → IsFree (Taking.with_value n i body d)
-unfolding Taking.with_value
-with_value_free n i body d = bound _ _ (value_free body) (λ x. bound _ _ (room_free d (width_len x.0)) (λ u. bound _ _ (known_free n i x.2) (λ v. bound _ _ (open_free x.2) (λ y. ok _))))
-
-first_free : (grow : Draft → Result Draft ObjectFault) (ds : List Draft) → ((d : Draft) → IsFree (grow d)) → IsFree (Taking.in_first_open grow ds)
-first_free grow [] h = astray
-first_free grow (d ∷ ds) h = chosen _ _ _ (bound _ _ (first_free grow ds h) (λ es. ok _)) (bound _ _ (h d) (λ x. ok _))
-
-part_free : (s : Taking.State) (grow : Draft → Result Draft ObjectFault) → ((d : Draft) → IsFree (grow d)) → IsFree (Taking.with_part s grow)
-part_free s grow h = bound _ _ (first_free grow s.drafts h) (λ ds. ok _)
-
-with_import_free : (s : Taking.State) (body : List ℕ) → IsFree (Taking.with_import s body)
-unfolding Taking.with_import
-with_import_free s body = bound _ _ (wants_astray (Taking.import_stands s)) (λ u. bound _ _ (name_free s.imports body) (λ v. ok _))
-
-with_section_free : (s : Taking.State) (body : List ℕ) → IsFree (Taking.with_section s body)
-unfolding Taking.with_section
-with_section_free s body = bound _ _ (wants_astray (Taking.section_stands s)) (λ u. bound _ _ (drafted_free body) (λ d. bound _ _ (name_free (map (λ x. x.name) s.drafts) d.name) (λ v. bound _ _ (wants_canonical (nat_le d.align 15)) (λ w. ok _))))
-
-with_export_free : (s : Taking.State) (body : List ℕ) → IsFree (Taking.with_export s body)
-unfolding Taking.with_export
-with_export_free s body = bound _ _ (wants_astray (Taking.export_stands s)) (λ u. bound _ _ (export_free body) (λ x. bound _ _ (known_free (length s.drafts) (length s.imports) x.form) (λ v. bound _ _ (name_free (map (λ y. y.name) s.exports) x.name) (λ w. bound _ _ (canonical_free x.form) (λ y. ok _)))))
-
-with_assert_free : (s : Taking.State) (body : List ℕ) → IsFree (Taking.with_assert s body)
-unfolding Taking.with_assert
-with_assert_free s body = bound _ _ (wants_astray (Taking.assert_stands s)) (λ u. bound _ _ (assert_free body) (λ a. bound _ _ (known_free (length s.drafts) (length s.imports) a.form) (λ v. bound _ _ (open_free a.form) (λ y. ok _))))
-
-with_end_free : (s : Taking.State) (body : List ℕ) → IsFree (Taking.with_end s body)
-unfolding Taking.with_end
-with_end_free s body = bound _ _ (wants_astray (Taking.assert_stands s)) (λ u. bound _ _ (end_free body) (λ v. ok _))
-
-taken_free : (s : Taking.State) (x : Entry) → IsFree (Taking.taken s x)
-unfolding Taking.taken
-taken_free s x =
-    chosen _ _ _ astray
-    (chosen _ _ _ (with_import_free s x.body)
-    (chosen _ _ _ (with_section_free s x.body)
-    (chosen _ _ _ (part_free s (Taking.with_literal x.body) (with_literal_free x.body))
-    (chosen _ _ _ (part_free s (Taking.with_fill x.body) (with_fill_free x.body))
-    (chosen _ _ _ (part_free s (Taking.with_value (length s.drafts) (length s.imports) x.body) (with_value_free (length s.drafts) (length s.imports) x.body))
-    (chosen _ _ _ (with_export_free s x.body)
-    (chosen _ _ _ (with_assert_free s x.body) (with_end_free s x.body))))))))
-
-pub after_free : (s : Taking.State) (x : Entry) → IsFree (Taking.after s x)
-unfolding Taking.after
-after_free s x = chosen _ _ _ failed (chosen _ _ _ astray (taken_free s x))

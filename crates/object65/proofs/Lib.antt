@@ -10,6 +10,8 @@ pub mod Goods
 pub mod Numbers
 pub mod Fields
 pub mod Closings
+pub mod Openings
+pub mod Scannings
 pub mod Rooms
 pub mod Trails
 pub mod Reached
@@ -18,7 +20,6 @@ pub mod Readings
 pub mod Shorts
 pub mod Again
 pub mod Spellings
-pub mod Scannings
 pub mod Builders
 pub mod Withins
 pub mod Itemings

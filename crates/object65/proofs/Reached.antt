@@ -1,5 +1,5 @@
 -- What the state behind a list of records says of them.
-use Rattle.std.proofs.Common.{◌≡◌, ◌∙◌, ℕ, ◌+◌, ◌-◌, ◌%◌, ◌^◌, ◌<◌, ◌≤◌, List, [], ◌∷◌, ◌++◌, length, drop, map, get_or, Bool, true, false, ◌&&◌, ◌||◌, not, nat_lt, nat_le, nat_eq, ◌==◌, if◌then◌else◌, Result, Ok, Err, refl, sym, ap, arith, append_assoc, length-append, ◌⊎◌, inl, inr, subst}
+use Rattle.std.proofs.Common.{◌≡◌, ◌∙◌, ℕ, ◌+◌, ◌-◌, ◌%◌, ◌^◌, ◌<◌, ◌≤◌, List, [], ◌∷◌, ◌++◌, length, drop, map, get_or, Bool, true, false, ◌&&◌, ◌||◌, not, nat_lt, nat_le, nat_eq, ◌==◌, if◌then◌else◌, Ok, refl, sym, ap, arith, append_assoc, length-append, ◌⊎◌, inl, inr, subst}
 use Rattle.std.proofs.lemmas.Bool.Decides.{nat_tests}
 use Rattle.std.proofs.lemmas.Grind.{flat_map-append}
 use Rattle.std.proofs.lemmas.List.Folds.{list_any-append, list_all-append}
@@ -9,28 +9,30 @@ use Rattle.std.specs.Cmp.Lexicographic.{pointwise, lists_equiv}
 use Rattle.std.specs.List.{flat_map, list_all, sum_by, AllByRecursion}
 use Rattle.byteorder.specs.Endian.{little_number, little_bytes}
 use Rattle.object65.specs.declared.draft.Draft.{Draft}
-use Rattle.object65.specs.declared.fault.ObjectFault.{ObjectFault}
-use Rattle.object65.specs.declared.fault.ObjectFault.TheVariants.{OutOfOrder, BadSize, NotCanonical, IndexOutOfRange}
+use Rattle.object65.specs.declared.fault.ObjectFault.TheVariants.{BadSize, NotCanonical, IndexOutOfRange}
 use Rattle.object65.specs.declared.object.Export.{Export}
 use Rattle.object65.specs.declared.object.Assert.{Assert}
 use Rattle.object65.specs.declared.object.Fragment.{Fragment}
 use Rattle.object65.specs.declared.object.Fragment.TheVariants.{Literal, Fill, Value}
+use Rattle.object65.specs.declared.room.Room.{Room}
 use Rattle.object65.specs.Bodies.{Heading, section_of, literal_of, fill_of, value_of}
 use Rattle.object65.specs.Bytes.{IsBytes}
-use Rattle.object65.specs.Fault.{◌>>=◌}
 use Rattle.object65.specs.Folding.{is_within, is_normal, is_literal, node_limit}
 use Rattle.object65.specs.Form.{Form, nodes}
 use Rattle.object65.specs.Objects.{is_name, is_among, are_names, section_limit, fragment_len, width_len, is_good_form, is_good_fragment, joins, are_apart, FragmentFits, FitsBits}
 use Rattle.object65.specs.Record.{Entry}
 use Rattle.object65.specs.Small.{is_small_text}
 use Rattle.object65.specs.Spelling.{import_entry, literal_entry, literal_entries, fragment_entries, export_entry, assert_entry, end_entry, body_limit}
-use Rattle.object65.specs.Taking.{State, is_full, is_none, wants, drafted, draft_of, has_room, known, canonical_open, closed, ends_in_fill, with_literal, with_fill, with_value, with_fragment, in_first_open}
+use Rattle.object65.specs.Items.{State, closed, grown, is_none, with_fragment, with_piece}
+use Rattle.object65.specs.Scanning.{canonical_open, ends_in_fill, is_fill, is_short, known, last_of, room_fill, room_for, room_literal, room_of, room_value, wants}
 use Rattle.object65.proofs.Closings.{turned, nil, all_push, last_joins, last_push, apart_push, value_apart, fill_last, shut_entries, shut_len, shut_good, shut_apart, shut_fits}
 use Rattle.object65.proofs.Fields.{fill_reads, value_reads}
 use Rattle.object65.proofs.Goods.{left, right, and}
 use Rattle.object65.proofs.Numbers.{front}
+use Rattle.object65.proofs.Openings.{Opened, is_full, piece_there}
 use Rattle.object65.proofs.Pieces.{joined_piece}
 use Rattle.object65.proofs.Rooms.{bound, passes}
+use Rattle.object65.proofs.Scannings.{fill_is, short_is, wanted, whole}
 use Rattle.object65.proofs.Trails.{IsReadEntry}
 
 -- the record that began a section
@@ -109,9 +111,10 @@ pub record Reached (s : State) (es : List Entry) : Type 0 where
 
 -- ---- Small things.
 
-pub wanted : (b : Bool) (f : ObjectFault) (u : Unit {0}) → wants b f ≡ Ok u → b ≡ true
-wanted true f u e = refl
-wanted false f u e = cc
+-- none of these is none of those
+pub none_of : {A B : Type 0} (f : A → B) (xs : List A) → is_none (map f xs) ≡ true → xs ≡ []
+none_of f [] e = refl
+none_of f (x ∷ xs) e = let longer : is_none (map f (x ∷ xs)) ≡ false = grind (arith, nat_tests) in cc
 
 pub either : (b : Bool) → (b ≡ true) ⊎ (b ≡ false)
 either true = inl refl
@@ -173,9 +176,9 @@ names_push (x ∷ xs) name good fine new =
     second_false false b e = e
 
 -- a section as it is read
-pub record ReadsHeading (body : List ℕ) (d : Draft) : Type 0 where
+pub record ReadsHeading (body : List ℕ) (h : Heading) : Type 0 where
   pub long : 5 ≤ length body
-  pub fresh : d ≡ draft_of (record { size = little_number 4 body; align = get_or body 4 0; name = drop 5 body })
+  pub fresh : h ≡ record { size = little_number 4 body; align = get_or body 4 0; name = drop 5 body }
   pub small : little_number 4 body ≤ section_limit
 
 five : (body : List ℕ) → IsBytes body → 5 ≤ length body → little_bytes 4 (little_number 4 body) ++ get_or body 4 0 ∷ drop 5 body ≡ body
@@ -186,22 +189,20 @@ five (a ∷ b ∷ c ∷ []) is long = absurd (omega arith)
 five (a ∷ b ∷ c ∷ d ∷ []) is long = absurd (omega arith)
 five (a ∷ b ∷ c ∷ d ∷ e ∷ body) is long = ap (λ xs. xs ++ e ∷ body) (front 4 (a ∷ b ∷ c ∷ d ∷ e ∷ body) is (omega arith))
 
-pub heading_read : (body : List ℕ) (d : Draft) → drafted body ≡ Ok d → ReadsHeading body d
-heading_read body d e =
-    let h = bound (section_of body) (λ x. Ok (draft_of x)) d e in
-    let a = passes (nat_lt (length body) 5) BadSize _ _ h.1 in
+pub heading_read : (body : List ℕ) (h : Heading) → section_of body ≡ Ok h → ReadsHeading body h
+heading_read body h e =
+    let a = passes (nat_lt (length body) 5) BadSize _ _ e in
     let b = passes (nat_lt section_limit (little_number 4 body)) BadSize _ _ a.1 in
-    let heading : ◌≡◌ {A = Heading} (record { size = little_number 4 body; align = get_or body 4 0; name = drop 5 body }) h.0 = cc (b.1) in
-    let d_is : ◌≡◌ {A = Draft} (draft_of (record { size = little_number 4 body; align = get_or body 4 0; name = drop 5 body })) d = ap draft_of heading ∙ cc (h.2) in
+    let is : ◌≡◌ {A = Heading} (record { size = little_number 4 body; align = get_or body 4 0; name = drop 5 body }) h = cc (b.1) in
     record {
       long = (let t = a.0 in grind (arith, nat_tests));
-      fresh = sym d_is;
+      fresh = sym is;
       small = (let t = b.0 in grind (arith, nat_tests));
     }
 
 -- it is spelled so
-pub heading_spelled : (body : List ℕ) (d : Draft) → IsBytes body → ReadsHeading body d → little_bytes 4 d.size ++ d.align ∷ d.name ≡ body
-heading_spelled body d is reads = ap (λ (x : Draft). little_bytes 4 x.size ++ x.align ∷ x.name) reads.fresh ∙ five body is reads.long
+pub heading_spelled : (body : List ℕ) (h : Heading) → IsBytes body → ReadsHeading body h → little_bytes 4 h.size ++ h.align ∷ h.name ≡ body
+heading_spelled body h is reads = ap (λ (x : Heading). little_bytes 4 x.size ++ x.align ∷ x.name) reads.fresh ∙ five body is reads.long
 
 -- ---- A fragment in its section.
 
@@ -213,21 +214,23 @@ pub record Grows (n i : ℕ) (e : Entry) (d x : Draft) : Type 0 where
   pub contents : IsReadEntry e → content_entries x ≡ content_entries d ++ e ∷ []
   pub fits : IsReadEntry e → FitDraft d → FitDraft x
 
-room_left : (d : Draft) (len : ℕ) (u : Unit {0}) → has_room d len ≡ Ok u → len ≤ d.size - d.filled
+room_left : (d : Draft) (len : ℕ) (u : Unit {0}) → room_for (room_of d) len ≡ Ok u → len ≤ d.size - d.filled
 room_left d len u e = let room = wanted (nat_le len (d.size - d.filled)) BadSize u e in grind (arith, nat_tests)
 
-pub literal_grows : (n i : ℕ) (e : Entry) (d x : Draft) → e.kind ≡ 3 → GoodDraft n i d → with_literal e.body d ≡ Ok x → 0 < length e.body → Grows n i e d x
-unfolding with_literal
-literal_grows n i e d x kind good h some =
+pub literal_grows : (n i : ℕ) (e : Entry) (d : Draft) (x : Room × Fragment) → e.kind ≡ 3 → GoodDraft n i d → room_literal e.body (room_of d) ≡ Ok x → Grows n i e d (grown d x.1)
+unfolding room_literal
+literal_grows n i e d x kind good h =
     let b = bound (literal_of e.body) _ _ h in
     let a = passes (length e.body == 0) BadSize _ _ b.1 in
+    let some : 0 < length e.body = (let t = a.0 in grind (arith, nat_tests)) in
     let same : e.body ≡ b.0 = cc (a.1) in
-    let u = bound (has_room d (length b.0)) _ _ b.2 in
+    let u = bound (room_for (room_of d) (length b.0)) _ _ b.2 in
     let within = room_left d (length b.0) u.0 u.1 in
-    let v = bound (wants (length d.literal % body_limit == 0) NotCanonical) _ _ u.2 in
-    let full = wanted (length d.literal % body_limit == 0) NotCanonical v.0 v.1 in
+    let v = bound (wants (not (is_short (last_of d))) NotCanonical) _ _ u.2 in
+    let full : whole d.literal ≡ true = sym (short_is d) ∙ wanted (not (is_short (last_of d))) NotCanonical v.0 v.1 in
     let even : length d.literal % body_limit ≡ 0 = grind (arith, nat_tests) in
-    let x_is : ◌≡◌ {A = Draft} (record d { filled = d.filled + length e.body; literal = d.literal ++ e.body }) x = ap (λ (xs : List ℕ). record d { filled = d.filled + length xs; literal = d.literal ++ xs }) same ∙ cc (v.2) in
+    let item : Literal b.0 ≡ x.1 = (let z = v.2 in cc) in
+    let x_is : grown d (Literal e.body) ≡ grown d x.1 = ap (λ (f : Fragment). grown d f) (ap (λ (xs : List ℕ). Literal xs) same ∙ item) in
     let e_is : literal_entry e.body ≡ e = (λ k. record { kind = sym kind k; body = e.body }) in
     rw (← x_is) (record {
       good = record {
@@ -247,14 +250,6 @@ literal_grows n i e d x kind good h some =
           ∙ ap (λ y. (flat_map fragment_entries d.fragments ++ literal_entries d.literal) ++ y ∷ []) e_is;
       fits = λ read fits. fits;
     })
-
--- a literal that is taken has some bytes
-pub literal_some : (body : List ℕ) (d x : Draft) → with_literal body d ≡ Ok x → 0 < length body
-unfolding with_literal
-literal_some body d x h =
-    let b = bound (literal_of body) _ _ h in
-    let a = passes (length body == 0) BadSize _ _ b.1 in
-    (let t = a.0 in grind (arith, nat_tests))
 
 fragment_grows : (n i : ℕ) (e : Entry) (d : Draft) (f : Fragment) → GoodDraft n i d → fragment_len f ≤ d.size - d.filled → is_good_fragment n i f ≡ true → last_joins (closed d) f ≡ false → ((bytes : List ℕ) → joins f (Literal bytes) ≡ false) → (IsReadEntry e → (fragment_entries f ≡ e ∷ []) × FragmentFits f) → Grows n i e d (with_fragment d (fragment_len f) f)
 fragment_grows n i e d f good room fine apart bare read = record {
@@ -286,14 +281,15 @@ fill_some body n e =
     above true m n e is = cc
     above false m n e is = grind (arith, nat_tests)
 
-pub fill_grows : (n i : ℕ) (e : Entry) (d x : Draft) → e.kind ≡ 4 → GoodDraft n i d → with_fill e.body d ≡ Ok x → Grows n i e d x
-unfolding with_fill
+pub fill_grows : (n i : ℕ) (e : Entry) (d : Draft) (x : Room × Fragment) → e.kind ≡ 4 → GoodDraft n i d → room_fill e.body (room_of d) ≡ Ok x → Grows n i e d (grown d x.1)
+unfolding room_fill
 fill_grows n i e d x kind good h =
     let c = bound (fill_of e.body) _ _ h in
-    let u = bound (has_room d c.0) _ _ c.2 in
-    let v = bound (wants (not (ends_in_fill (closed d))) NotCanonical) _ _ u.2 in
-    let alone = turned (ends_in_fill (closed d)) (wanted (not (ends_in_fill (closed d))) NotCanonical v.0 v.1) in
-    let x_is : ◌≡◌ {A = Draft} (with_fragment d c.0 (Fill c.0)) x = cc (v.2) in
+    let u = bound (room_for (room_of d) c.0) _ _ c.2 in
+    let v = bound (wants (not (is_fill (last_of d))) NotCanonical) _ _ u.2 in
+    let alone : ends_in_fill (closed d) ≡ false = sym (fill_is d) ∙ turned (is_fill (last_of d)) (wanted (not (is_fill (last_of d))) NotCanonical v.0 v.1) in
+    let item : Fill c.0 ≡ x.1 = (let z = v.2 in cc) in
+    let x_is : grown d (Fill c.0) ≡ grown d x.1 = ap (λ (f : Fragment). grown d f) item in
     let some : nat_lt 0 c.0 ≡ true = (let t = fill_some e.body c.0 c.1 in grind (arith, nat_tests)) in
     rw (← x_is) (fragment_grows n i e d (Fill c.0) good (room_left d c.0 u.0 u.1) some (sym (fill_last (closed d) c.0) ∙ alone) (λ bytes. refl)
     (λ read. let is = fill_reads e.body c.0 read.bytes c.1 in ((λ k. record { kind = sym kind k; body = sym is.0 k } ∷ []), is.1)))
@@ -308,14 +304,15 @@ open_form n i f u v k c =
     (and (is_within n i f && is_normal f) (nat_le (nodes f) node_limit) (and (is_within n i f) (is_normal f) there (left (is_normal f) (nat_le (nodes f) node_limit) two)) (right (is_normal f) (nat_le (nodes f) node_limit) two))
     (right (is_normal f && nat_le (nodes f) node_limit) (not (is_literal f)) fine)
 
-pub value_grows : (n i : ℕ) (e : Entry) (d x : Draft) → e.kind ≡ 5 → GoodDraft n i d → with_value n i e.body d ≡ Ok x → Grows n i e d x
-unfolding with_value
+pub value_grows : (n i : ℕ) (e : Entry) (d : Draft) (x : Room × Fragment) → e.kind ≡ 5 → GoodDraft n i d → room_value n i e.body (room_of d) ≡ Ok x → Grows n i e d (grown d x.1)
+unfolding room_value
 value_grows n i e d x kind good h =
     let c = bound (value_of e.body) _ _ h in
-    let u = bound (has_room d (width_len c.0.0)) _ _ c.2 in
+    let u = bound (room_for (room_of d) (width_len c.0.0)) _ _ c.2 in
     let v = bound (known n i c.0.2) _ _ u.2 in
     let w = bound (canonical_open c.0.2) _ _ v.2 in
-    let x_is : ◌≡◌ {A = Draft} (with_fragment d (width_len c.0.0) (Value c.0.0 c.0.1 c.0.2)) x = cc (w.2) in
+    let item : Value c.0.0 c.0.1 c.0.2 ≡ x.1 = (let z = w.2 in cc) in
+    let x_is : grown d (Value c.0.0 c.0.1 c.0.2) ≡ grown d x.1 = ap (λ (f : Fragment). grown d f) item in
     rw (← x_is) (fragment_grows n i e d (Value c.0.0 c.0.1 c.0.2) good (room_left d (width_len c.0.0) u.0 u.1) (open_form n i c.0.2 v.0 w.0 v.1 w.1) (value_apart (closed d) c.0.0 c.0.1 c.0.2) (λ bytes. refl)
     (λ read. let is = value_reads e.body c.0 read.bytes c.1 in ((λ k. record { kind = sym kind k; body = sym is.0 k } ∷ []), (is.1, is.2))))
 
@@ -355,33 +352,18 @@ here n i e d x ds goods empties grows =
       filling = (λ h. empties, empties_fill ds empties);
     }
 
-pub goes : (n i : ℕ) (e : Entry) (grow : Draft → Result Draft ObjectFault) (ds es : List Draft) → ((d x : Draft) → GoodDraft n i d → grow d ≡ Ok x → Grows n i e d x) → AllByRecursion (GoodDraft n i) ds → Filling ds → in_first_open grow ds ≡ Ok es → Goes n i e ds es
-goes n i e grow [] es grows goods filling h = cc
-goes n i e grow (d ∷ ds) es grows goods filling h =
-    elim (either (is_full d)) [
-      | inl full ↦
-          let r = bound (in_first_open grow ds) _ _ (full_first d full (in_first_open grow ds >>= (λ xs. Ok (d ∷ xs))) _ es h) in
-          let es_is : d ∷ r.0 ≡ es = cc (r.2) in
-          subst (Goes n i e (d ∷ ds)) es_is (past n i e d ds r.0 goods.0 full (goes n i e grow ds r.0 grows goods.1 filling.1 r.1))
-      | inr not_full ↦
-          let r = bound (grow d) _ _ (open_first d not_full _ (grow d >>= (λ x. Ok (x ∷ ds))) es h) in
-          let es_is : r.0 ∷ ds ≡ es = cc (r.2) in
-          subst (Goes n i e (d ∷ ds)) es_is (here n i e d r.0 ds goods.1 (filling.0 not_full) (grows d r.0 goods.0 r.1))
-    ]
-  where
-    full_first : (d : Draft) → is_full d ≡ true → (x y : Result (List Draft) ObjectFault) (es : List Draft) → (if is_full d then x else y) ≡ Ok es → x ≡ Ok es
-    full_first d full x y es h = rw full at h
+-- with a fragment more in the first section that isn't full
+goes : (n i : ℕ) (e : Entry) (front : List Draft) (d x : Draft) (behind : List Draft) → list_all is_full front ≡ true → is_full d ≡ false → AllByRecursion (GoodDraft n i) (front ++ d ∷ behind) → Filling (front ++ d ∷ behind) → (GoodDraft n i d → Grows n i e d x) → Goes n i e (front ++ d ∷ behind) (front ++ x ∷ behind)
+goes n i e [] d x behind full free goods filling grows = here n i e d x behind goods.1 (filling.0 free) (grows goods.0)
+goes n i e (y ∷ front) d x behind full free goods filling grows =
+    past n i e y (front ++ d ∷ behind) (front ++ x ∷ behind) goods.0 (left (is_full y) (list_all is_full front) full)
+    (goes n i e front d x behind (right (is_full y) (list_all is_full front) full) free goods.1 filling.1 grows)
 
-    open_first : (d : Draft) → is_full d ≡ false → (x y : Result (List Draft) ObjectFault) (es : List Draft) → (if is_full d then x else y) ≡ Ok es → y ≡ Ok es
-    open_first d full x y es h = rw full at h
-
--- no section is both full and open for a fragment
-pub none_full : (grow : Draft → Result Draft ObjectFault) (ds es : List Draft) → in_first_open grow ds ≡ Ok es → list_all is_full ds ≡ true → ⊥
-none_full grow ds es h full = cc (full_nowhere grow ds full)
-  where
-    full_nowhere : (grow : Draft → Result Draft ObjectFault) (ds : List Draft) → list_all is_full ds ≡ true → in_first_open grow ds ≡ Err OutOfOrder
-    full_nowhere grow [] full = refl
-    full_nowhere grow (d ∷ ds) full =
-        let one = left (is_full d) (list_all is_full ds) full in
-        let others = full_nowhere grow ds (right (is_full d) (list_all is_full ds) full) in
-        rw (one, others) refl
+pub goes_in : (n i : ℕ) (e : Entry) (ds : List Draft) (place : ℕ × Room) (f : Fragment) (o : Opened ds place) → AllByRecursion (GoodDraft n i) ds → Filling ds → (GoodDraft n i o.split.draft → Grows n i e o.split.draft (grown o.split.draft f)) → Goes n i e ds (with_piece ds place.0 f)
+goes_in n i e ds place f o goods filling grows =
+    let p = o.split in
+    let k = length p.front in
+    let at : k ≡ place.0 = ap (λ (x : ℕ × Room). x.0) o.here in
+    let ok : Goes n i e (p.front ++ p.draft ∷ p.behind) (p.front ++ grown p.draft f ∷ p.behind) = goes n i e p.front p.draft (grown p.draft f) p.behind p.full p.free (subst (AllByRecursion (GoodDraft n i)) p.all goods) (subst Filling p.all filling) grows in
+    let put : with_piece ds place.0 f ≡ p.front ++ grown p.draft f ∷ p.behind = ap (λ j. with_piece ds j f) (sym at) ∙ ap (λ xs. with_piece xs k f) p.all ∙ piece_there p.front p.draft p.behind f in
+    subst (λ (xs : List Draft). Goes n i e xs (with_piece ds place.0 f)) (sym p.all) (subst (λ (ys : List Draft). Goes n i e (p.front ++ p.draft ∷ p.behind) ys) (sym put) ok)

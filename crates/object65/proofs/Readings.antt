@@ -19,7 +19,9 @@ use Rattle.object65.specs.Reading.{room, head_of, head_at, end_at}
 use Rattle.object65.specs.Record.{Entry}
 use Rattle.object65.specs.Small.{is_small_text}
 use Rattle.object65.specs.Spelling.{magic, object_head, entry_bytes, entries_of, import_entry, section_entry, fragment_entries, export_entry, assert_entry, IsObject}
-use Rattle.object65.specs.Taking.{State, start, closed, is_full, section_from, object_from, finished}
+use Rattle.object65.specs.Items.{State, start, closed, section_from, object_from}
+use Rattle.object65.specs.Taking.{finished}
+use Rattle.object65.proofs.Openings.{is_full}
 use Rattle.object65.specs.Whole.{records_at, object_at}
 use Rattle.object65.proofs.Goods.{left, right, and}
 use Rattle.object65.proofs.Closings.{nil, shut_entries, shut_len, shut_good, shut_apart, shut_fits}

@@ -13,7 +13,7 @@ use Rattle.object65.specs.Taking.{State, start, after, finished}
 use Rattle.object65.specs.Whole.{records_at, object_at}
 use Rattle.base65.specs.Outcome.{Unless}
 use Rattle.base65.proofs.Outcome.{refused-then}
-use Rattle.object65.proofs.Frees.{after_free}
+use Rattle.object65.proofs.Withins.{after_free}
 
 pub cut : (at limit : ℕ) (bytes : List ℕ) → length bytes ≤ at → record_at at limit bytes ≡ Err CutShort
 unfolding record_at

@@ -1,17 +1,20 @@
 -- The list of records that stand one after another up to the END.
-use Rattle.std.proofs.Common.{◌≡◌, ◌∙◌, ℕ, zero, suc, ◌+◌, ◌<◌, ◌≤◌, List, [], ◌∷◌, ◌++◌, length, get_or, Bool, true, false, if◌then◌else◌, Result, Ok, Err, refl, sym, ap, arith, append_assoc, length-append, ◌⊎◌, inl, inr, subst}
+use Rattle.std.proofs.Common.{◌≡◌, ◌∙◌, ℕ, zero, suc, ◌+◌, ◌<◌, ◌≤◌, List, [], ◌∷◌, ◌++◌, length, get_or, Bool, true, false, if◌then◌else◌, Result, Ok, refl, sym, ap, arith, append_assoc, length-append, ◌⊎◌, inl, inr, subst}
 use Rattle.std.specs.List.{flat_map, AllByRecursion}
 use Rattle.byteorder.specs.Endian.{little_bytes}
 use Rattle.object65.specs.declared.fault.ObjectFault.{ObjectFault}
 use Rattle.object65.specs.declared.fault.ObjectFault.TheVariants.{OutOfOrder, FailedBefore}
+use Rattle.object65.specs.declared.item.Item.{Item}
 use Rattle.object65.specs.Bytes.{IsBytes}
 use Rattle.object65.specs.Fault.{◌>>=◌}
 use Rattle.object65.specs.Record.{Entry, is_record_kind}
 use Rattle.object65.specs.Reading.{room, record_at, file_limit}
 use Rattle.object65.specs.Spelling.{entry_bytes, body_limit}
-use Rattle.object65.specs.Taking.{State, after, after_all, taken}
+use Rattle.object65.specs.Items.{State}
+use Rattle.object65.specs.Scanning.{Outline, outline_of, scanned}
+use Rattle.object65.specs.Taking.{after, after_all}
 use Rattle.object65.specs.Whole.{records_at}
-use Rattle.object65.proofs.Rooms.{bound, record_takes, record_again, TakesRecord}
+use Rattle.object65.proofs.Rooms.{bound, passes, record_takes, record_again, TakesRecord}
 
 -- a record that was read
 pub record IsReadEntry (e : Entry) : Type 0 where
@@ -100,12 +103,15 @@ trail (suc left) bytes limit at s t end is e =
     ]
 
 -- behind an END nothing is taken
+pub going : (o : Outline) (e : Entry) (x : Outline × Item) → scanned o e ≡ Ok x → o.ended ≡ false
+unfolding scanned
+going o e x h = let a = passes o.failed FailedBefore _ _ h in (passes o.ended OutOfOrder _ _ a.1).0
+
 pub ended_stops : (s : State) (e : Entry) (u : State) → s.ended ≡ true → after s e ≡ Ok u → ⊥
 unfolding after
-ended_stops s e u over h = refused s.failed (ap (λ b. if s.failed then Err FailedBefore else (if b then Err OutOfOrder else taken s e)) (sym over) ∙ h) where
-  refused : (b : Bool) → (if b then Err FailedBefore else Err OutOfOrder) ≡ Ok u → ⊥
-  refused true e = cc
-  refused false e = cc
+ended_stops s e u over h = let x = bound (scanned (outline_of s) e) _ _ h in both s.ended over (going (outline_of s) e x.0 x.1) where
+  both : (b : Bool) → b ≡ true → b ≡ false → ⊥
+  both b p q = cc
 
 -- records that may follow each other and stand there are read
 pub trail_again : (es : List Entry) (left : ℕ) (bytes : List ℕ) (limit at : ℕ) (s t : State) (rest : List ℕ) → length es ≤ left → after_all s es ≡ Ok t → s.ended ≡ false → t.ended ≡ true → room bytes at limit ≡ flat_map entry_bytes es ++ rest → AllByRecursion (λ e. (is_record_kind e.kind ≡ true) × (length e.body ≤ body_limit)) es → at + length (flat_map entry_bytes es) ≤ file_limit → (end : ℕ) × (records_at left s at limit bytes ≡ Ok (t, end)) × (room bytes end limit ≡ rest)

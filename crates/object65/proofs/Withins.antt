@@ -1,63 +1,79 @@
 -- What the items of records keep to.
-use Rattle.std.proofs.Common.{◌≡◌, ◌∙◌, ◌+◌, ◌≤◌, ℕ, zero, suc, List, [], ◌∷◌, ◌++◌, length, Option, Some, Bool, true, false, if◌then◌else◌, Result, Ok, Err, refl, sym, ap, subst, arith}
+use Rattle.std.proofs.Common.{◌≡◌, ◌∙◌, ◌+◌, ◌≤◌, ℕ, zero, suc, List, [], ◌∷◌, ◌++◌, length, Option, Some, Bool, true, false, ◌==◌, if◌then◌else◌, Result, Ok, Err, refl, sym, ap, subst, arith}
 use Rattle.std.specs.Prelude.{slice_get, slice_set, IfOk}
 use Rattle.std.proofs.lemmas.Bool.Decides.{nat_tests}
 use Rattle.std.specs.List.{AllByRecursion, list_all}
 use Rattle.std.proofs.lemmas.List.Folds.{list_all-append}
 use Rattle.object65.specs.declared.draft.Draft.{Draft}
 use Rattle.object65.specs.declared.fault.ObjectFault.{ObjectFault}
-use Rattle.object65.specs.declared.fault.ObjectFault.TheVariants.{FailedBefore, OutOfOrder}
+use Rattle.object65.specs.declared.fault.ObjectFault.TheVariants.{FailedBefore, FileError, OutOfOrder}
 use Rattle.object65.specs.declared.item.Item.{Item}
 use Rattle.object65.specs.declared.item.Item.TheVariants as item
 use Rattle.object65.specs.declared.object.Fragment.{Fragment}
 use Rattle.object65.specs.declared.object.Fragment.TheVariants.{Literal, Fill, Value}
 use Rattle.object65.specs.declared.object.Assert.{Assert}
 use Rattle.object65.specs.declared.parts.Parts.{Parts}
-use Rattle.object65.specs.Fault.{Gives, is_memory}
-use Rattle.object65.specs.Items.{grown, with_item, with_piece, with_piece_in, empty_draft, has_small_text}
+use Rattle.object65.specs.Fault.{◌>>=◌, Gives, is_memory}
+use Rattle.object65.specs.Items.{State, grown, with_item, with_piece, with_piece_in, empty_draft, has_small_text}
 use Rattle.object65.specs.Objects.{fragment_len, section_limit}
 use Rattle.object65.specs.Record.{Entry}
 use Rattle.object65.specs.Scanning
 use Rattle.object65.specs.Small.{is_small_text}
 use Rattle.object65.specs.Inner.Sound.{HasRoom, IsWhole, Stands, state_in, state_of, unmarked}
-use Rattle.object65.specs.Taking
+use Rattle.object65.specs.Taking.{IsReached, after}
 use Rattle.base65.specs.Outcome.{Unless}
 use Rattle.object65.proofs.Builders.{reached_next, reached_parts}
 use Rattle.object65.proofs.Goods.{and}
+use Rattle.object65.proofs.Rooms.{bound}
 use Rattle.object65.proofs.Reached.{GoodState, GoodDraft}
-use Rattle.object65.proofs.Scannings.{Agrees, IsPlaced, agrees}
+use Rattle.object65.proofs.Scannings.{IsPlaced, Leads, is_end, leads}
+use Rattle.object65.proofs.Trails.{going}
 
 -- ---- A call's answer.
 
-ok_agrees : (s : Taking.State) (r : Result Taking.State ObjectFault) (q : Result (Scanning.Outline × Item) ObjectFault) (x : Scanning.Outline × Item) → Agrees s r q → q ≡ Ok x → (r ≡ Ok (with_item s x.1)) × (x.0 ≡ Scanning.outline_of (with_item s x.1)) × IsPlaced s.drafts x.1
-ok_agrees s (Ok t) (Ok y) x a k =
-    let same : y ≡ x = cc in
-    let P : Scanning.Outline × Item → Type 0 = λ z. (◌≡◌ {A = Result Taking.State ObjectFault} (Ok t) (Ok (with_item s z.1))) × (z.0 ≡ Scanning.outline_of (with_item s z.1)) × IsPlaced s.drafts z.1 in
-    let given : ◌≡◌ {A = Result Taking.State ObjectFault} (Ok t) (Ok (with_item s y.1)) = ap Ok a.1 in
-    subst P same (given, a.0 ∙ ap Scanning.outline_of a.1, a.2)
-ok_agrees s (Err e) (Ok y) x a k = absurd a
-ok_agrees s (Ok t) (Err f) x a k = absurd a
-ok_agrees s (Err e) (Err f) x a k = cc
-
-err_agrees : (s : Taking.State) (r : Result Taking.State ObjectFault) (q : Result (Scanning.Outline × Item) ObjectFault) (e : ObjectFault) → Agrees s r q → q ≡ Err e → r ≡ Err e
-err_agrees s (Err f) (Err g) e a k = let same : g ≡ e = cc in ap Err (a ∙ same)
-err_agrees s (Ok t) (Ok y) e a k = cc
-err_agrees s (Err f) (Ok y) e a k = absurd a
-err_agrees s (Ok t) (Err g) e a k = absurd a
-
 -- what was kept of a state, behind a record
-pub led : (s : Taking.State) (o : Scanning.Outline) (e : Entry) (x : Scanning.Outline × Item) → o ≡ Scanning.outline_of s → Scanning.scanned o e ≡ Ok x → (Taking.after s e ≡ Ok (with_item s x.1)) × (x.0 ≡ Scanning.outline_of (with_item s x.1)) × IsPlaced s.drafts x.1
-led s o e x same h = ok_agrees s (Taking.after s e) (Scanning.scanned (Scanning.outline_of s) e) x (agrees s e) (subst (λ p. Scanning.scanned p e ≡ Ok x) same h)
+pub led : (s : State) (o : Scanning.Outline) (e : Entry) (x : Scanning.Outline × Item) → o ≡ Scanning.outline_of s → Scanning.scanned o e ≡ Ok x → (after s e ≡ Ok (with_item s x.1)) × (x.0 ≡ Scanning.outline_of (with_item s x.1)) × IsPlaced s.drafts x.1
+unfolding after
+led s o e x same h =
+    let here : Scanning.scanned (Scanning.outline_of s) e ≡ Ok x = subst (λ p. Scanning.scanned p e ≡ Ok x) same h in
+    let l : Leads s (e.kind == 8) (Ok x) = subst (Leads s (e.kind == 8)) here (leads s e) in
+    (ap (λ r. r >>= (λ y. Ok (with_item s y.1))) here, l.0, l.1)
+
+-- an object has come to its end exactly behind a record of the kind END
+pub ended_by : (s t : State) (e : Entry) → after s e ≡ Ok t → t.ended ≡ (e.kind == 8)
+unfolding after
+ended_by s t e h =
+    let x = bound (Scanning.scanned (Scanning.outline_of s) e) _ _ h in
+    let l : Leads s (e.kind == 8) (Ok x.0) = subst (Leads s (e.kind == 8)) x.1 (leads s e) in
+    let made : with_item s x.0.1 ≡ t = (let z = x.2 in cc) in
+    ap (λ (u : State). u.ended) (sym made) ∙ ends s x.0.1 (going (Scanning.outline_of s) e x.0 x.1) ∙ l.2
+  where
+    ends : (s : State) (i : Item) → s.ended ≡ false → (with_item s i).ended ≡ is_end i
+    ends s item.End going = refl
+    ends s (item.Import name) going = going
+    ends s (item.Section name size align) going = going
+    ends s (item.Part k offset f) going = going
+    ends s (item.Export name line form) going = going
+    ends s (item.Assert action line text form) going = going
+
+-- no record gives a fault of a store
+pub after_free : (s : State) (e : Entry) → after s e ≡ Err FileError → ⊥
+unfolding after
+after_free s e = go (Scanning.scanned (Scanning.outline_of s) e) (leads s e) where
+  go : (q : Result (Scanning.Outline × Item) ObjectFault) → Leads s (e.kind == 8) q → (q >>= (λ y. Ok (with_item s y.1))) ≡ Err FileError → ⊥
+  go (Ok x) l h = cc
+  go (Err f) l h = let is : f ≡ FileError = cc in l is
 
 unless : (b : Bool) {P Q : Type 0} → (P → Q) → Unless b P → Unless b Q
 unless true h p = tt
 unless false h p = h p
 
-pub taken_from : (s : Taking.State) (o : Scanning.Outline) (e : Entry) (new : Scanning.Outline) (result : Result Item ObjectFault) → o ≡ Scanning.outline_of s → Gives is_memory (λ i. (new, i)) result (Scanning.scanned o e) → Gives is_memory (λ i. with_item s i) result (Taking.after s e)
+pub taken_from : (s : State) (o : Scanning.Outline) (e : Entry) (new : Scanning.Outline) (result : Result Item ObjectFault) → o ≡ Scanning.outline_of s → Gives is_memory (λ i. (new, i)) result (Scanning.scanned o e) → Gives is_memory (λ i. with_item s i) result (after s e)
+unfolding after
 taken_from s o e new (Ok i) same h = (led s o e (new, i) same h).0
-taken_from s o e new (Err f) same h = unless (is_memory f) (λ k. err_agrees s (Taking.after s e) (Scanning.scanned (Scanning.outline_of s) e) f (agrees s e) (subst (λ p. Scanning.scanned p e ≡ Err f) same k)) h
+taken_from s o e new (Err f) same h = unless (is_memory f) (λ k. ap (λ r. r >>= (λ y. Ok (with_item s y.1))) (subst (λ p. Scanning.scanned p e ≡ Err f) same k)) h
 
-pub kept_from : (s : Taking.State) (o : Scanning.Outline) (e : Entry) (new : Scanning.Outline) (result : Result Item ObjectFault) → o ≡ Scanning.outline_of s → Gives is_memory (λ i. (new, i)) result (Scanning.scanned o e) → IfOk result (λ i. new ≡ Scanning.outline_of (with_item s i))
+pub kept_from : (s : State) (o : Scanning.Outline) (e : Entry) (new : Scanning.Outline) (result : Result Item ObjectFault) → o ≡ Scanning.outline_of s → Gives is_memory (λ i. (new, i)) result (Scanning.scanned o e) → IfOk result (λ i. new ≡ Scanning.outline_of (with_item s i))
 kept_from s o e new (Ok i) same h = (led s o e (new, i) same h).1
 kept_from s o e new (Err f) same h = tt
 
@@ -83,7 +99,7 @@ same_size d (Fill n) = refl
 same_size d (Value w line form) = refl
 
 -- the section that a fragment went to
-piece_good : (s : Taking.State) (k offset : ℕ) (f : Fragment) (d : Draft) → slice_get s.drafts k ≡ Some d → GoodState (with_item s (item.Part k offset f)) → (d.filled + fragment_len f ≤ d.size) × (d.size ≤ section_limit)
+piece_good : (s : State) (k offset : ℕ) (f : Fragment) (d : Draft) → slice_get s.drafts k ≡ Some d → GoodState (with_item s (item.Part k offset f)) → (d.filled + fragment_len f ≤ d.size) × (d.size ≤ section_limit)
 piece_good s k offset f d there good =
     let n = length (with_piece s.drafts k f) in
     let i = length s.imports in
@@ -91,7 +107,7 @@ piece_good s k offset f d there good =
     let g = all_at (GoodDraft n i) s.drafts k d (grown d f) there (subst P there good.drafts) in
     (omega (arith, g.within, more_filled d f, same_size d f), omega (arith, g.size, same_size d f))
 
-pub room_of_item : (s : Taking.State) (i : Item) → IsPlaced s.drafts i → GoodState (with_item s i) → HasRoom s.drafts i
+pub room_of_item : (s : State) (i : Item) → IsPlaced s.drafts i → GoodState (with_item s i) → HasRoom s.drafts i
 room_of_item s (item.Part k offset f) placed good = record { draft = placed.0; there = placed.1; within = (piece_good s k offset f placed.0 placed.1 good).0 }
 room_of_item s (item.Import name) placed good = tt
 room_of_item s (item.Section name size align) placed good = tt
@@ -99,7 +115,7 @@ room_of_item s (item.Export name line form) placed good = tt
 room_of_item s (item.Assert action line text form) placed good = tt
 room_of_item s item.End placed good = tt
 
-within_of_item : (s : Taking.State) (i : Item) → IsPlaced s.drafts i → GoodState (with_item s i) → has_small_text i ≡ true → Scanning.IsWithin (Scanning.outline_of s) i
+within_of_item : (s : State) (i : Item) → IsPlaced s.drafts i → GoodState (with_item s i) → has_small_text i ≡ true → Scanning.IsWithin (Scanning.outline_of s) i
 within_of_item s (item.Part k offset f) placed good small =
     let d = placed.0 in
     let g = piece_good s k offset f d placed.1 good in
@@ -134,12 +150,12 @@ within_next o e x st h small =
 
 -- ---- A builder.
 
-pub room_next : (s : Taking.State) (o : Scanning.Outline) (e : Entry) (x : Scanning.Outline × Item) → Taking.IsReached s → o ≡ Scanning.outline_of s → Scanning.scanned o e ≡ Ok x → HasRoom s.drafts x.1
+pub room_next : (s : State) (o : Scanning.Outline) (e : Entry) (x : Scanning.Outline × Item) → IsReached s → o ≡ Scanning.outline_of s → Scanning.scanned o e ≡ Ok x → HasRoom s.drafts x.1
 room_next s o e x r same h =
     let l = led s o e x same h in
     room_of_item s x.1 l.2 (reached_parts (with_item s x.1) (reached_next s (with_item s x.1) e r l.0))
 
-texts_next : (s : Taking.State) (o : Scanning.Outline) (i : Item) → list_all (λ a. is_small_text a.text) s.asserts ≡ true → Scanning.IsWithin o i → list_all (λ a. is_small_text a.text) (with_item s i).asserts ≡ true
+texts_next : (s : State) (o : Scanning.Outline) (i : Item) → list_all (λ a. is_small_text a.text) s.asserts ≡ true → Scanning.IsWithin o i → list_all (λ a. is_small_text a.text) (with_item s i).asserts ≡ true
 texts_next s o (item.Assert action line text form) small h =
     let a : Assert = record { action = action; line = line; text = text; form = form } in
     list_all-append (λ b. is_small_text b.text) s.asserts (a ∷ []) ∙ and (list_all (λ b. is_small_text b.text) s.asserts) (list_all (λ b. is_small_text b.text) (a ∷ [])) small (and (is_small_text text) true h refl)
@@ -149,12 +165,12 @@ texts_next s o (item.Part k offset f) small h = small
 texts_next s o (item.Export name line form) small h = small
 texts_next s o item.End small h = small
 
-abbrev marked : Taking.State → Scanning.Outline → Taking.State
+abbrev marked : State → Scanning.Outline → State
 marked s o = record s { begun = o.begun; ended = o.ended }
 
 -- what the parts and the scan beside them stand for behind an item
 pub joined_next : (p q : Parts) (o n : Scanning.Outline) (i : Item) → state_of q ≡ unmarked (with_item (state_of p) i) → n ≡ Scanning.outline_of (with_item (state_in p o) i) → state_in q n ≡ with_item (state_in p o) i
-joined_next p q o n i parts scan = ap (λ (u : Taking.State). marked u n) parts ∙ ap (λ (m : Scanning.Outline). marked (unmarked (with_item (state_of p) i)) m) scan ∙ go i where
+joined_next p q o n i parts scan = ap (λ (u : State). marked u n) parts ∙ ap (λ (m : Scanning.Outline). marked (unmarked (with_item (state_of p) i)) m) scan ∙ go i where
   go : (i : Item) → (record (unmarked (with_item (state_of p) i)) { begun = (with_item (state_in p o) i).begun; ended = (with_item (state_in p o) i).ended }) ≡ with_item (state_in p o) i
   go (item.Import name) = refl
   go (item.Section name size align) = refl
@@ -163,7 +179,7 @@ joined_next p q o n i parts scan = ap (λ (u : Taking.State). marked u n) parts 
   go (item.Assert action line text form) = refl
   go item.End = refl
 
-pub whole_next : (p q : Parts) (o n : Scanning.Outline) (e : Entry) (i : Item) → IsWhole p o → Scanning.scanned o e ≡ Ok (n, i) → Scanning.IsWithin o i → ◌≡◌ {A = Result Taking.State ObjectFault} (Ok (unmarked (with_item (state_of p) i))) (Ok (state_of q)) → IsWhole q n
+pub whole_next : (p q : Parts) (o n : Scanning.Outline) (e : Entry) (i : Item) → IsWhole p o → Scanning.scanned o e ≡ Ok (n, i) → Scanning.IsWithin o i → ◌≡◌ {A = Result State ObjectFault} (Ok (unmarked (with_item (state_of p) i))) (Ok (state_of q)) → IsWhole q n
 whole_next p q o n e i w h within added =
     let parts : state_of q ≡ unmarked (with_item (state_of p) i) = cc in
     let s = state_in p o in
@@ -171,6 +187,6 @@ whole_next p q o n e i w h within added =
     let same = joined_next p q o n i parts l.1 in
     record {
       scanned = l.1 ∙ ap Scanning.outline_of (sym same);
-      reached = subst Taking.IsReached (sym same) (reached_next s (with_item s i) e w.reached l.0);
-      texts = ap (λ (t : Taking.State). list_all (λ a. is_small_text a.text) t.asserts) same ∙ texts_next s o i w.texts within;
+      reached = subst IsReached (sym same) (reached_next s (with_item s i) e w.reached l.0);
+      texts = ap (λ (t : State). list_all (λ a. is_small_text a.text) t.asserts) same ∙ texts_next s o i w.texts within;
     }

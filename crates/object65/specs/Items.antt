@@ -1,13 +1,46 @@
--- What an object in the making becomes by an item.
-use Rattle.std.specs.Prelude.{ℕ, ◌+◌, List, [], ◌∷◌, ◌++◌, length, slice_get, slice_set, Option, Some, None, Bool, true}
+-- An object in the making, and what it becomes by an item.
+use Rattle.std.specs.Prelude.{ℕ, ◌+◌, List, [], ◌∷◌, ◌++◌, length, map, slice_get, slice_set, Option, Some, None, Bool, true, false, ◌==◌, if◌then◌else◌}
 use Rattle.object65.specs.declared.draft.Draft.{Draft}
 use Rattle.object65.specs.declared.item.Item.{Item}
 use Rattle.object65.specs.declared.item.Item.TheVariants.{Import, Section, Part, Export, Assert, End}
+use Rattle.object65.specs.declared.object.Assert as assert
+use Rattle.object65.specs.declared.object.Export as export
 use Rattle.object65.specs.declared.object.Fragment.{Fragment}
 use Rattle.object65.specs.declared.object.Fragment.TheVariants.{Literal, Fill, Value}
+use Rattle.object65.specs.declared.object.Object.{Object}
+use Rattle.object65.specs.declared.object.Section as section
 use Rattle.object65.specs.Objects.{fragment_len}
 use Rattle.object65.specs.Small.{is_small_text}
-use Rattle.object65.specs.Taking.{State, with_fragment}
+
+-- an object in the making
+pub record State : Type 0 where
+  pub imports : List (List ℕ)
+  pub drafts : List Draft
+  -- whether a fragment was taken
+  pub begun : Bool
+  pub exports : List export.Export
+  pub asserts : List assert.Assert
+  pub ended : Bool
+  pub failed : Bool
+
+abbrev pub start : State
+start = record { imports = []; drafts = []; begun = false; exports = []; asserts = []; ended = false; failed = false }
+
+-- ---- A section and its fragments.
+
+abbrev pub is_none : {A : Type 0} → List A → Bool
+is_none xs = length xs == 0
+
+abbrev pub closing : List ℕ → List Fragment
+closing bytes = if is_none bytes then [] else Literal bytes ∷ []
+
+-- the fragments, with the literal behind them
+abbrev pub closed : Draft → List Fragment
+closed d = d.fragments ++ closing d.literal
+
+-- the draft with one more fragment, which is no literal
+abbrev pub with_fragment : Draft → ℕ → Fragment → Draft
+with_fragment d len f = record d { filled = d.filled + len; fragments = closed d ++ f ∷ []; literal = [] }
 
 -- a section with one fragment more; a literal joins the one before it
 abbrev pub grown : Draft → Fragment → Draft
@@ -27,6 +60,8 @@ with_piece ds k f = with_piece_in ds k f (slice_get ds k)
 abbrev pub empty_draft : List ℕ → ℕ → ℕ → Draft
 empty_draft name size align = record { name = name; align = align; size = size; filled = 0; fragments = []; literal = [] }
 
+-- ---- One item, and many.
+
 -- the object in the making with an item behind what was taken
 abbrev pub with_item : State → Item → State
 with_item s (Import name) = record s { imports = s.imports ++ name ∷ [] }
@@ -45,3 +80,11 @@ with_items s (i ∷ is) = with_items (with_item s i) is
 abbrev pub has_small_text : Item → Bool
 has_small_text (Assert action line text form) = is_small_text text
 has_small_text _ = true
+
+-- ---- The object that is made.
+
+abbrev pub section_from : Draft → section.Section
+section_from d = record { name = d.name; align = d.align; fragments = closed d }
+
+abbrev pub object_from : State → Object
+object_from s = record { imports = s.imports; sections = map section_from s.drafts; exports = s.exports; asserts = s.asserts }

@@ -10,10 +10,10 @@ pub mod Record
 pub mod Spelling
 pub mod Reading
 pub mod Bodies
-pub mod Taking
-pub mod Whole
 pub mod Small
 pub mod Items
 pub mod Scanning
+pub mod Taking
+pub mod Whole
 pub mod Bytes
 pub mod Laws

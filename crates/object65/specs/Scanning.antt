@@ -1,8 +1,8 @@
--- What a scan becomes by one record after another: what it keeps of an object in the making, and each record's item.
+-- What a record says in its turn: its item or the first fault, by what is kept of the records before it.
 use Rattle.std.specs.Prelude.{◌≡◌, ℕ, ◌+◌, ◌-◌, ◌%◌, ◌≤◌, List, [], ◌∷◌, ◌++◌, length, map, slice_get, slice_set, Option, Some, None, Bool, true, false, Result, Ok, Err, nat_le, ◌==◌, ◌&&◌, not, if◌then◌else◌, ⊤}
 use Rattle.std.specs.List.{list_all, prefix_len}
 use Rattle.object65.specs.declared.fault.ObjectFault.{ObjectFault}
-use Rattle.object65.specs.declared.fault.ObjectFault.TheVariants.{FailedBefore, CutShort, OutOfOrder, BadSize, NotCanonical}
+use Rattle.object65.specs.declared.fault.ObjectFault.TheVariants.{FailedBefore, CutShort, OutOfOrder, IndexOutOfRange, BadSize, NotCanonical}
 use Rattle.object65.specs.declared.draft.Draft.{Draft}
 use Rattle.object65.specs.declared.item.Item.{Item}
 use Rattle.object65.specs.declared.item.Item.TheVariants.{Import, Section, Part, Export, Assert, End}
@@ -13,13 +13,43 @@ use Rattle.object65.specs.declared.room.Last.TheVariants as last
 use Rattle.object65.specs.declared.room.Room.{Room}
 use Rattle.object65.specs.Bodies.{Heading, section_of, literal_of, fill_of, value_of, export_of, assert_of, end_of}
 use Rattle.object65.specs.Fault.{◌>>=◌}
-use Rattle.object65.specs.Objects.{fragment_len, section_limit, width_len}
+use Rattle.object65.specs.Folding.{is_within, is_normal, is_literal, node_limit}
+use Rattle.object65.specs.Form.{Form, nodes}
+use Rattle.object65.specs.Items.{State, is_none, closed}
+use Rattle.object65.specs.Objects.{is_name, is_among, fragment_len, section_limit, width_len}
 use Rattle.object65.specs.Record.{Entry, is_record_kind}
 use Rattle.object65.specs.Spelling.{body_limit}
 use Rattle.object65.specs.Small.{is_small_text}
-use Rattle.object65.specs.Taking.{State, is_none, wants, new_name, known, canonical, canonical_open, closed, ends_in_fill}
+
+-- ---- What is asked.
+
+abbrev pub wants : Bool → ObjectFault → Result (Unit {0}) ObjectFault
+wants b fault = if b then Ok tt else Err fault
+
+-- a good name that no other of its kind has
+abbrev pub new_name : List (List ℕ) → List ℕ → Result (Unit {0}) ObjectFault
+new_name names name = wants (is_name name && not (is_among names name)) NotCanonical
+
+-- its sections and imports are there, of so many
+abbrev pub known : ℕ → ℕ → Form → Result (Unit {0}) ObjectFault
+known sections imports f = wants (is_within sections imports f) IndexOutOfRange
+
+-- it can't be folded and isn't too large
+abbrev pub canonical : Form → Result (Unit {0}) ObjectFault
+canonical f = wants (is_normal f && nat_le (nodes f) node_limit) NotCanonical
+
+-- moreover it is no literal
+abbrev pub canonical_open : Form → Result (Unit {0}) ObjectFault
+canonical_open f = wants (is_normal f && nat_le (nodes f) node_limit && not (is_literal f)) NotCanonical
 
 -- ---- What is kept.
+
+abbrev pub is_some_fill : Option Fragment → Bool
+is_some_fill (Some (Fill n)) = true
+is_some_fill _ = false
+
+abbrev pub ends_in_fill : List Fragment → Bool
+ends_in_fill fs = is_some_fill (slice_get fs (length fs - 1))
 
 -- a record of a literal that isn't full stands last, or a fill
 abbrev pub last_of : Draft → Last
@@ -110,6 +140,7 @@ room_value sections imports body r = do
 
 -- ---- One record.
 
+-- imports stand before everything else
 unfoldable pub scan_import : Outline → List ℕ → Result (Outline × Item) ObjectFault
 scan_import o body = do
   u ← wants (is_none o.rooms && is_none o.exports && not o.asserting) OutOfOrder
@@ -120,6 +151,7 @@ scan_import o body = do
 abbrev pub empty_room : ℕ → Room
 empty_room size = record { size = size; filled = 0; last = last.Other }
 
+-- sections stand before all fragments
 unfoldable pub scan_section : Outline → List ℕ → Result (Outline × Item) ObjectFault
 scan_section o body = do
   u ← wants (not o.begun && is_none o.exports && not o.asserting) OutOfOrder
@@ -135,6 +167,7 @@ scan_part o grow = do
   grown ← grow place.1
   Ok (record o { rooms = slice_set o.rooms place.0 grown.0; begun = true }, Part place.0 place.1.filled grown.1)
 
+-- exports stand behind the last fragment, before all assertions
 unfoldable pub scan_export : Outline → List ℕ → Result (Outline × Item) ObjectFault
 scan_export o body = do
   u ← wants (list_all is_filled o.rooms && not o.asserting) OutOfOrder
@@ -144,6 +177,7 @@ scan_export o body = do
   x ← canonical e.form
   Ok (record o { exports = o.exports ++ e.name ∷ [] }, Export e.name e.line e.form)
 
+-- assertions and the END stand behind the last fragment
 unfoldable pub scan_assert : Outline → List ℕ → Result (Outline × Item) ObjectFault
 scan_assert o body = do
   u ← wants (list_all is_filled o.rooms) OutOfOrder

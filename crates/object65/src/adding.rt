@@ -2,10 +2,9 @@
 
 ghost use Rattle.std.specs.Prelude.{◌≡◌, ◌≤◌, ◌<◌, ◌+◌, [], Ok, OnOk, length, get_or};
 ghost use Rattle.object65.specs.Fault.{Gives, is_memory};
-ghost use Rattle.object65.specs.Items.{grown, with_item, with_piece};
+ghost use Rattle.object65.specs.Items.{closed, grown, with_fragment, with_item, with_piece};
 ghost use Rattle.object65.specs.Objects.{fragment_len};
 ghost use Rattle.object65.specs.Inner.Sound.{HasPlace, HasRoom, state_of, unmarked};
-ghost use Rattle.object65.specs.Taking.{closed, with_fragment};
 
 use crate::draft::Draft;
 use crate::filling::width_size;

@@ -70,7 +70,7 @@ impl Builder {
     }
 
     /// Takes the next record. After a refusal each call answers that it failed before.
-    #[tactic(auto, unfolding(crate::specs::Taking::after))]
+    #[tactic(auto, unfolding(crate::specs::Taking::after, crate::specs::Scanning::scanned))]
     pub fn take(&mut self, next: &Record) -> Result<(), ObjectFault>
         ensures taken { Gives is_memory (λ _. self.new) result (after self.old (entry_of next.now)) }
         ensures failed { OnErr result (self.new.failed ≡ true) }

@@ -4,8 +4,7 @@ ghost use Rattle.std.specs.Prelude.{◌≡◌, ◌≤◌, ◌+◌, ◌%◌, Ok};
 ghost use Rattle.object65.specs.Bodies.{fill_of, value_of, width_of};
 ghost use Rattle.object65.specs.Fault.{Gives, is_memory};
 ghost use Rattle.object65.specs.Objects.{width_len};
-ghost use Rattle.object65.specs.Scanning.{room_for, room_behind, room_literal, room_fill, room_value};
-ghost use Rattle.object65.specs.Taking.{known, canonical, canonical_open};
+ghost use Rattle.object65.specs.Scanning.{canonical, canonical_open, known, room_for, room_behind, room_literal, room_fill, room_value};
 
 use crate::forming::{byte_at, form_of, u32_at};
 use crate::normal::{are_there, is_folded, is_limited, is_number};

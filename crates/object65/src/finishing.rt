@@ -3,7 +3,7 @@
 ghost use Rattle.std.specs.Prelude.{◌≡◌, Ok, map};
 ghost use Rattle.object65.specs.Fault.{Gives, is_memory};
 ghost use Rattle.object65.specs.Inner.Sound.{state_of};
-ghost use Rattle.object65.specs.Taking.{section_from, object_from};
+ghost use Rattle.object65.specs.Items.{section_from, object_from};
 
 use crate::draft::Draft;
 use crate::parts::Parts;

@@ -3,6 +3,7 @@
 
 mod adding;
 mod builder;
+mod decoding;
 mod draft;
 mod fault;
 mod filling;
@@ -28,6 +29,7 @@ mod taking;
 mod writing;
 
 pub use builder::Builder;
+pub use decoding::{decode_head, decode_record};
 pub use fault::ObjectFault;
 pub use folding::FormFault;
 pub use form::{Node, Norm};

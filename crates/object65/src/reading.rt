@@ -5,22 +5,12 @@ ghost use Rattle.std.specs.FinMap as map;
 ghost use Rattle.base65.specs.Store.{Passes, Asks, IsBlamed};
 ghost use Rattle.base65.specs.StoreFaults.{is_outside_store};
 ghost use Rattle.object65.specs.Fault.{Gives, is_outside};
-ghost use Rattle.object65.specs.Record.{is_record_kind};
 ghost use Rattle.object65.specs.Reading.{in_file, head_at, end_at, room, IsRoomRead, front_of};
 ghost use Rattle.object65.specs.Spelling.{body_limit};
 
 use crate::ObjectFault;
-use crate::record::{END, IMPORT};
+use crate::decoding::{decode_front, decode_head};
 use base65::{Store, StoreFault, read_full};
-use byteorder::{ByteOrder, LittleEndian};
-
-/// With these bytes an object begins.
-const MAGIC: [u8; 4] = [0x52, 0x36, 0x35, 0x6f];
-
-const VERSION: u8 = 1;
-
-/// The body of a record has at most so many bytes.
-pub const LARGEST_BODY: usize = 4096;
 
 /// Reads a member's bytes from a place on, up to the end of its room, until the buffer is full.
 pub fn read_room<S: Store>(
@@ -63,13 +53,7 @@ pub fn read_head<S: Store>(
 {
     let mut head = [0u8; 5];
     let n = read_room(store, name, at, limit, &mut head)?;
-    if n < 5 || head[..4] != MAGIC[..] {
-        return Err(ObjectFault::NotAnObject);
-    }
-    if head[4] != VERSION {
-        return Err(ObjectFault::UnknownVersion);
-    }
-    Ok(at + 5)
+    decode_head(&head[..n], at)
 }
 
 /// Reads the front of a record: its kind and the length of its body.
@@ -89,18 +73,7 @@ pub fn read_front<S: Store>(
 {
     let mut front = [0u8; 3];
     let n = read_room(store, name, at, limit, &mut front)?;
-    if n < 3 {
-        return Err(ObjectFault::CutShort);
-    }
-    let kind = front[0];
-    if !is_kind(kind) {
-        return Err(ObjectFault::UnknownRecord);
-    }
-    let len = LittleEndian::read_u16(&front[1..]) as usize;
-    if len > LARGEST_BODY {
-        return Err(ObjectFault::BadSize);
-    }
-    Ok((kind, len))
+    decode_front(&front[..n])
 }
 
 /// Refuses bytes behind an object.
@@ -122,11 +95,4 @@ pub fn check_end<S: Store>(
         return Err(ObjectFault::BytesAfterEnd);
     }
     Ok(())
-}
-
-/// Whether there are records of this kind.
-pub fn is_kind(kind: u8) -> bool
-    ensures { result ≡ is_record_kind kind }
-{
-    IMPORT <= kind && kind <= END
 }

@@ -6,16 +6,13 @@ ghost use Rattle.base65.specs.Store.{Passes, Asks, IsBlamed};
 ghost use Rattle.object65.specs.Fault.{Gives, is_outside};
 ghost use Rattle.object65.specs.Record.{entry_of};
 ghost use Rattle.object65.specs.Reading.{in_file, record_at, room, whole, file_limit};
-ghost use Rattle.object65.specs.Spelling.{body_limit};
 
-use crate::reading::{LARGEST_BODY, read_front, read_room};
+use crate::decoding::{FILE_LIMIT, LARGEST_BODY, fill};
+use crate::reading::{read_front, read_room};
 use crate::{ObjectFault, Record};
 use arrayvec::ArrayVec;
 use base65::Store;
 use std::marker::Model;
-
-/// An object or library file has at most so many bytes.
-const FILE_LIMIT: u64 = 1_073_741_824;
 
 /// Reads records one by one into a record of its own, whose room is made once: most records are far shorter than
 /// the longest, for which the room is.
@@ -104,18 +101,6 @@ fn read_body<S: Store>(
         return Err(ObjectFault::CutShort);
     }
     Ok(())
-}
-
-/// Puts bytes in place of a body.
-fn fill(body: &mut ArrayVec<u8, 4096>, bytes: &[u8])
-    requires { length bytes.now ≤ body_limit }
-    ensures { body.new.items ≡ bytes.now }
-{
-    body.clear();
-    match body.try_extend_from_slice(bytes) {
-        Ok(()) => {}
-        Err(_) => unreachable!(),
-    }
 }
 
 /// Reads a record, and answers where the next begins. For one record: a `RecordReader` reads many with less work.

@@ -9,13 +9,13 @@ ghost use Rattle.object65.specs.Objects.{is_name, is_printed, is_among};
 ghost use Rattle.object65.specs.Record.{entry_of};
 ghost use Rattle.object65.specs.Inner.Sound.{outline_in, IsSound};
 ghost use Rattle.object65.specs.declared.room.Room.{Room};
-ghost use Rattle.object65.specs.Scanning.{is_filled, open_room, empty_room, room_literal, room_fill, room_value, scan_section, scan_part, scan_last, scan_entry, heading};
-ghost use Rattle.object65.specs.Taking.{is_none, wants, new_name};
+ghost use Rattle.object65.specs.Scanning.{is_filled, open_room, empty_room, new_name, room_literal, room_fill, room_value, scan_section, scan_part, scan_last, scan_entry, heading, wants};
+ghost use Rattle.object65.specs.Items.{is_none};
 
+use crate::decoding::is_kind;
 use crate::filling::{room_with_fill, room_with_literal, room_with_value};
 use crate::kept::Kept;
 use crate::naming::{take_assert, take_export, take_import};
-use crate::reading::is_kind;
 use crate::record::{ASSERT, EXPORT, FILL, IMPORT, LITERAL, SECTION, VALUE};
 use crate::room::{Last, Room};
 use crate::{Item, ObjectFault, Record};

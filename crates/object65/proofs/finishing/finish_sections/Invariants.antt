@@ -1,6 +1,6 @@
 use Rattle.std.proofs.Common.{◌≡◌, ◌++◌, map}
 use Rattle.std.specs.Vec.Iter.{into_iter_items}
-use Rattle.object65.specs.Taking.{section_from}
+use Rattle.object65.specs.Items.{section_from}
 use Rattle.object65.proofs.finishing.finish_sections.Given as goal
 
 abbrev pub invariant-loop-draft : goal.invariant-loop-draft

@@ -1,0 +1,116 @@
+//! Decodes an object's head and its records from bytes that are there, wherever they were read from.
+
+ghost use Rattle.std.specs.Prelude.{◌≡◌, ◌≤◌, ◌+◌, ◌<◌, ◌^◌, false, length, take, IfErr, IfOk};
+ghost use Rattle.object65.specs.Fault.{Gives, is_memory, is_outside};
+ghost use Rattle.object65.specs.Reading.{front_of, head_of, record_at, room, whole};
+ghost use Rattle.object65.specs.Record.{entry_of, is_record_kind};
+ghost use Rattle.object65.specs.Spelling.{body_limit};
+
+use crate::record::{END, IMPORT};
+use crate::{ObjectFault, Record};
+use arrayvec::ArrayVec;
+use byteorder::{ByteOrder, LittleEndian};
+
+/// With these bytes an object begins.
+const MAGIC: [u8; 4] = [0x52, 0x36, 0x35, 0x6f];
+
+const VERSION: u8 = 1;
+
+/// The body of a record has at most so many bytes.
+pub const LARGEST_BODY: usize = 4096;
+
+/// An object or library file has at most so many bytes.
+pub const FILE_LIMIT: u64 = 1_073_741_824;
+
+/// Where the records begin, behind the head that stands at a place and of which these bytes are there.
+pub fn decode_head(bytes: &[u8], at: u64) -> Result<u64, ObjectFault>
+    requires { at + length bytes.now < 2 ^ 64 }
+    ensures read { result ≡ head_of at (take 5 bytes.now) }
+    ensures within { IfOk result (λ n. (n ≡ at + 5) × (5 ≤ length bytes.now)) }
+    ensures plain { IfErr result (λ e. is_outside e ≡ false) }
+{
+    if bytes.len() < 5 || bytes[..4] != MAGIC[..] {
+        return Err(ObjectFault::NotAnObject);
+    }
+    if bytes[4] != VERSION {
+        return Err(ObjectFault::UnknownVersion);
+    }
+    Ok(at + 5)
+}
+
+/// Whether there are records of this kind.
+pub fn is_kind(kind: u8) -> bool
+    ensures { result ≡ is_record_kind kind }
+{
+    IMPORT <= kind && kind <= END
+}
+
+/// The kind of the record with which the bytes begin, and the length of its body.
+pub fn decode_front(bytes: &[u8]) -> Result<(u8, usize), ObjectFault>
+    ensures read { result ≡ front_of (take 3 bytes.now) }
+    ensures room { IfOk result (λ x. 3 ≤ length bytes.now) }
+    ensures len { IfOk result (λ x. x.1 ≤ body_limit) }
+    ensures plain { IfErr result (λ e. is_outside e ≡ false) }
+{
+    if bytes.len() < 3 {
+        return Err(ObjectFault::CutShort);
+    }
+    let kind = bytes[0];
+    if !is_kind(kind) {
+        return Err(ObjectFault::UnknownRecord);
+    }
+    let len = LittleEndian::read_u16(&bytes[1..3]) as usize;
+    if len > LARGEST_BODY {
+        return Err(ObjectFault::BadSize);
+    }
+    Ok((kind, len))
+}
+
+/// The body that stands at a place.
+fn body_at(bytes: &[u8], at: usize, len: usize) -> Result<&[u8], ObjectFault>
+    requires { at ≤ length bytes.now }
+    ensures read { Gives is_memory (λ body. body.now) result
+        (whole len (take len (room bytes.entry.now at (length bytes.entry.now)))) }
+    ensures len { IfOk result (λ body. length body.now ≡ len) }
+    ensures within { IfOk result (λ body. at + len ≤ length bytes.entry.now) }
+    ensures plain { IfErr result (λ e. is_outside e ≡ false) }
+{
+    let rest = &bytes[at..];
+    if rest.len() < len {
+        return Err(ObjectFault::CutShort);
+    }
+    Ok(&rest[..len])
+}
+
+/// Puts bytes in place of a body.
+pub fn fill(body: &mut ArrayVec<u8, 4096>, bytes: &[u8])
+    requires { length bytes.now ≤ body_limit }
+    ensures { body.new.items ≡ bytes.now }
+{
+    body.clear();
+    match body.try_extend_from_slice(bytes) {
+        Ok(()) => {}
+        Err(_) => unreachable!(),
+    }
+}
+
+/// Decodes the record at a place into the space, and answers where the next begins.
+#[tactic(auto, unfolding(crate::specs::Reading::record_at))]
+pub fn decode_record(space: &mut Record, bytes: &[u8], at: usize) -> Result<usize, ObjectFault>
+    requires { at ≤ length bytes.now }
+    ensures read { Gives is_memory (λ n. (entry_of space.new, n)) result
+        (record_at at (length bytes.now) bytes.now) }
+    ensures bound { IfOk result (λ n.
+        (n ≡ at + 3 + length space.new.body.items) × (n ≤ length bytes.now)) }
+    ensures plain { IfErr result (λ e. is_outside e ≡ false) }
+{
+    let (kind, len) = decode_front(&bytes[at..])?;
+    let body = body_at(bytes, at + 3, len)?;
+    let next = at + 3 + len;
+    if next as u64 > FILE_LIMIT {
+        return Err(ObjectFault::BadSize);
+    }
+    space.kind = kind;
+    fill(&mut space.body, body);
+    Ok(next)
+}

@@ -102,11 +102,11 @@ def after_changes(trial):
     trial.edit("hello/lib/print.s", "bne     @next", "bne     @next\n        nop")
     status, said = trial.make("TARGET=c64")
     trial.check("a source of the library", status == 0 and b"\xd0\xf6\xea\x60" in trial.image("c64") and " ar65 r " in said, said)
-    trial.edit("hello/c64/c64.cfg", "$C7F3", "$0010")
+    trial.edit("hello/c64/c64.cfg", "__HIMEM__ - __HEADER_LAST__", "$0010")
     kept = trial.image("c64")
     status, said = trial.make("TARGET=c64")
     trial.check("a script that is refused", status != 0 and "overflow of MAIN" in said and trial.image("c64") == kept, said)
-    trial.edit("hello/c64/c64.cfg", "$0010", "$C7F3")
+    trial.edit("hello/c64/c64.cfg", "$0010", "__HIMEM__ - __HEADER_LAST__")
     trial.check("and mended", trial.make("TARGET=c64")[0] == 0)
 
 

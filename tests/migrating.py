@@ -34,6 +34,7 @@ BLOCK = r"\n((?:(?!```).)*)```\n"
 CFG = f"(?:```cfg{BLOCK})?"
 PAIR = re.compile(f"```cc65{BLOCK}```asm{BLOCK}Both place (.*?)\\.\n", re.S)
 OTHER = re.compile(f"{CFG}```cc65{BLOCK}cc65 (.*?), bin65 (.*?)\\.\n{CFG}```asm{BLOCK}Both place (.*?)\\.\n", re.S)
+SUMS = re.compile(f"(?:```cfg65{BLOCK})?```cfg{BLOCK}```asm{BLOCK}Both place (.*?)\\.\n", re.S)
 ROW = re.compile(r"^\| (`[^|]+`) \| (`[^|]+`) \| `([0-9A-F ]+)` \|$", re.M)
 OPCODES = re.compile(r"^\| `(\w+)` \|(.*)\|$", re.M)
 FORMS = ("#1", "$10", "$10,x", "$10,y", "$1234", "$1234,x", "$1234,y", "($10,x)", "($10),y")
@@ -96,6 +97,14 @@ class Tries:
             good = good and image(*self.cc65, after, script_after or script) == found[1]
         self.check(title, good, found)
 
+    def script(self, before, after, source, said):
+        """A script that both take, and cc65's before it was edited, give the same image."""
+        found = image(*self.ours, source, after)
+        good = is_said(found, said)
+        if self.cc65:
+            good = good and image(*self.cc65, source, before or after) == found == image(*self.cc65, source, after)
+        self.check(f"a script, {said}", good, found)
+
     def search(self, command, pairs):
         """The search finds what has to change, and nothing in what stands in its place."""
         for title, before, after, _ in pairs:
@@ -137,11 +146,14 @@ def main():
         tries.pair(*it)
     for it in others:
         tries.other(*it)
+    sums = SUMS.findall(dict(parts)["Sums of areas"])
+    for it in sums:
+        tries.script(*it)
     tries.search(re.search(r"```sh\n(grep.*?)```", page, re.S)[1], pairs + rows)
     tries.opcodes(page)
     if tries.cc65 and stock.is_there():
         tries.files(page)
-    tries.failed += page.count("```cc65\n") != len(pairs) + len(others) or not rows
+    tries.failed += page.count("```cc65\n") != len(pairs) + len(others) or not rows or not sums
     print(f"{tries.passed} passed, {tries.failed} failed")
     sys.exit(tries.failed > 0)
 

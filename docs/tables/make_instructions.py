@@ -78,6 +78,57 @@ impl Mnemonic {{
 '''
 
 
+def letter_rt(letter, names):
+    arms = "".join(f"        (b'{n[1]}', b'{n[2]}') => Some(Mnemonic::{n.capitalize()}),\n" for n in names)
+    return f'''
+/// The mnemonic of `{letter}` and two small letters.
+fn with_{letter}(second: u8, third: u8) -> Option<Mnemonic>
+    ensures {{ IsNamed ({ord(letter)} ∷ second ∷ third ∷ []) result }}
+{{
+    match (second, third) {{
+{arms}        _ => None,
+    }}
+}}
+'''
+
+
+def lookup_rt(names):
+    letters = sorted({n[0] for n in names})
+    arms = "".join(f"        b'{letter}' => with_{letter}(second, third),\n" for letter in letters)
+    functions = "".join(letter_rt(letter, [n for n in names if n[0] == letter]) for letter in letters)
+    return f'''//! The mnemonic that bytes spell.
+
+ghost use Rattle.std.specs.Prelude.{{◌≡◌, ◌∷◌, []}};
+ghost use Rattle.syntax65.specs.Mnemonics.{{IsNamed, IsSpelled, mnemonic_of}};
+
+use super::names::Mnemonic;
+
+/// The mnemonic that these bytes spell, in either case.
+pub fn mnemonic(bytes: &[u8]) -> Option<Mnemonic>
+    ensures value {{ result ≡ mnemonic_of bytes.now }}
+    ensures spelled {{ IsSpelled bytes.now result }}
+{{
+    match bytes {{
+        [first, second, third] => of_letters(
+            first.to_ascii_lowercase(),
+            second.to_ascii_lowercase(),
+            third.to_ascii_lowercase(),
+        ),
+        _ => None,
+    }}
+}}
+
+/// The mnemonic of three small letters.
+fn of_letters(first: u8, second: u8, third: u8) -> Option<Mnemonic>
+    ensures {{ IsNamed (first ∷ second ∷ third ∷ []) result }}
+{{
+    match first {{
+{arms}        _ => None,
+    }}
+}}
+{functions}'''
+
+
 def names_antt(names):
     variants = ", ".join(n.capitalize() for n in names)
     rows = "".join(f'name_of {n.capitalize()} = codes "{n}"\n' for n in names)
@@ -100,6 +151,11 @@ Spells bytes m = map to_ascii_lowercase bytes ≡ name_of m
 abbrev pub IsSpelled : List ℕ → Option Mnemonic → Type 0
 IsSpelled bytes None = (m : Mnemonic) → Spells bytes m → ⊥
 IsSpelled bytes (Some m) = Spells bytes m
+
+-- this mnemonic has the name, or none has it
+abbrev pub IsNamed : List ℕ → Option Mnemonic → Type 0
+IsNamed name None = (m : Mnemonic) → name ≡ name_of m → ⊥
+IsNamed name (Some m) = name ≡ name_of m
 
 -- the mnemonic that the bytes spell
 unfoldable pub mnemonic_of : List ℕ → Option Mnemonic
@@ -209,6 +265,7 @@ def main():
     names = sorted({name for name, _ in table})
     assert len(names) == 56
     write("src/instructions/names.rt", names_rt(names))
+    write("src/instructions/lookup.rt", lookup_rt(names))
     write("src/instructions/codes.rt", codes_rt(table, names))
     write("specs/Mnemonics.antt", names_antt(names))
     write("specs/Opcodes.antt", codes_antt(table, names))

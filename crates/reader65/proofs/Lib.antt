@@ -4,6 +4,7 @@ pub mod Gathering
 pub mod Labels
 pub mod Leaving
 pub mod Lists
+pub mod LineEnds
 pub mod Marks
 pub mod Nexts
 pub mod Opening

@@ -4,7 +4,7 @@ use Rattle.std.specs.Prelude.{if◌then◌else◌, ◌&&◌, slice_get}
 use Rattle.syntax65.specs.Tokens.{Lexeme}
 use Rattle.reader65.specs.Blocks.{Verdict, on, collecting, collects, gathering, gathers, passes, passing, skips, skipping, mislabelled}
 use Rattle.reader65.specs.Fronts.{is_colon, is_label_name, is_mislabelled, label_len, line_directive, directive_in}
-use Rattle.reader65.specs.Kept.{cut}
+use Rattle.reader65.specs.Kept.{behind_word, cut}
 use Rattle.reader65.specs.Passing.{directive_of_first, is_colon_there}
 use Rattle.reader65.specs.Plain.{IsColonAt, IsPlain}
 use Rattle.reader65.specs.declared.directives.Directive.{Directive}
@@ -17,14 +17,16 @@ no_name false = refl
 pub no_label : (ws : List Word) (bs : List ℕ) (a b : Bool) → IsColonAt ws 0 a → IsColonAt ws 1 b → a ≡ false → not b ≡ true → label_len (cut ws bs) ≡ 0
 no_label [] bs a b e f h k = refl
 no_label (w ∷ []) bs a b e f h k =
-    let first : is_colon (w.kind, take w.len bs) ≡ false = sym (e (take w.len bs)) ∙ h in
-    rw first (no_name (is_label_name (w.kind, take w.len bs)))
+    let text = take w.len (drop w.blanks bs) in
+    let first : is_colon (w.kind, text) ≡ false = sym (e text) ∙ h in
+    rw first (no_name (is_label_name (w.kind, text)))
 no_label (w ∷ v ∷ ws) bs a true e f h k = absurd (cc)
 no_label (w ∷ v ∷ ws) bs a false e f h k =
-    let rest = drop w.len bs in
-    let first : is_colon (w.kind, take w.len bs) ≡ false = sym (e (take w.len bs)) ∙ h in
-    let second : is_colon (v.kind, take v.len rest) ≡ false = sym (f (take v.len rest)) in
-    rw (first, second) (no_name (is_label_name (w.kind, take w.len bs)))
+    let text = take w.len (drop w.blanks bs) in
+    let next = take v.len (drop v.blanks (behind_word w bs)) in
+    let first : is_colon (w.kind, text) ≡ false = sym (e text) ∙ h in
+    let second : is_colon (v.kind, next) ≡ false = sym (f next) in
+    rw (first, second) (no_name (is_label_name (w.kind, text)))
 
 right : (ts : List Lexeme) → label_len ts ≡ 0 → is_mislabelled ts ≡ false
 right ts e = rw e refl

@@ -1,13 +1,13 @@
 -- Where lines were being read when the store failed.
-use Rattle.std.proofs.Common.{◌≡◌, ◌∙◌, ℕ, true, List, [], ◌∷◌, ◌++◌, refl, sym, ap, subst, Option, Some, None, IfSome, Bool, false, Result, Ok, Err}
+use Rattle.std.proofs.Common.{◌≡◌, ◌∙◌, true, List, ◌∷◌, ◌++◌, sym, ap, subst, Option, Some, None, IfSome, false, Result, Ok, Err}
 use Rattle.base65.specs.Store.{Files}
 use Rattle.syntax65.specs.Tokens.{Lexeme}
 use Rattle.source65.specs.declared.fault.ExpandFault.{ExpandFault}
 use Rattle.source65.specs.Faults.{is_failure}
 use Rattle.source65.specs.declared.place.Place.{Place}
 use Rattle.reader65.specs.BlockLines.{TakesInBlock}
-use Rattle.reader65.specs.Inside.{ComesNext, left_in, left_of, mark_of, moved_by, outside, own}
-use Rattle.reader65.specs.Left.{Item, Left, mark, moved, played, written}
+use Rattle.reader65.specs.Inside.{ComesNext, left_in, left_of, mark_of, moved_by, outside}
+use Rattle.reader65.specs.Left.{Item, Left, mark, written}
 use Rattle.reader65.specs.Passing.{Plainly, no_line, a_line}
 use Rattle.reader65.specs.Stopping.{HasReadTo, ReadsTo, StopsAt, stands, begins, goes_on}
 use Rattle.reader65.specs.declared.input.NextLine.{NextLine}

@@ -10,6 +10,7 @@ ghost use Rattle.reader65.specs.Lines.{lines_of};
 ghost use Rattle.reader65.specs.Reading.{IsPiece, ReadsLine, TakesPiece, bytes_of, is_inside, left_in_file, rest_of, without_return};
 
 use base65::{Sequence, Store, StoreFault, Text};
+use memchr::memchr;
 use source65::ExpandFault;
 use std::alloc::Global;
 use std::mem;
@@ -229,5 +230,5 @@ pub fn line_len(bytes: &[u8]) -> usize
     ensures count { result ≡ prefix_len is_inside bytes.now }
     ensures within { result ≤ length bytes.now }
 {
-    bytes.iter().take_while(|b| **b != b'\n').count()
+    memchr(b'\n', bytes).unwrap_or(bytes.len())
 }

@@ -6,7 +6,7 @@ ghost use Rattle.syntax65.specs.Tokens.{IsRead, Lexeme, lexeme_of, lexemes};
 ghost use Rattle.syntax65.specs.declared.lexing.fault.LexFault.{LexFault};
 ghost use Rattle.source65.specs.Faults.{is_failure, is_outside};
 ghost use Rattle.reader65.specs.Fronts.{front_directive, label_len};
-ghost use Rattle.reader65.specs.Kept.{AreKept, tokens_in};
+ghost use Rattle.reader65.specs.Kept.{behind_word, text_of, tokens_in};
 ghost use Rattle.reader65.specs.Plain.{IsColon, IsColonAt, IsPlain};
 ghost use Rattle.reader65.specs.Parting.{IsParted};
 ghost use Rattle.reader65.specs.Taking.{lexed};
@@ -18,14 +18,15 @@ use source65::ExpandFault;
 use std::alloc::{AllocError, Global};
 use syntax65::{Lexer, Mark, Token, TokenKind};
 
-/// What a token of a line is, and how many of the line's bytes are its own.
+/// What a token of a line is, how many of the line's bytes part it from the token before, and how many are its own.
 #[derive(Clone, Copy)]
 pub struct Word {
     pub kind: TokenKind,
-    pub len: usize,
+    pub blanks: u32,
+    pub len: u32,
 }
 
-/// The tokens of a line, with their bytes one behind the other.
+/// The tokens of a line, with its bytes up to the last token's end.
 #[derive(Drop)]
 pub struct Line {
     pub words: Sequence<Word>,
@@ -33,6 +34,29 @@ pub struct Line {
 }
 
 impl Word {
+    /// A token of so many bytes, behind so many others.
+    #[inline(always)]
+    fn new(kind: TokenKind, blanks: usize, len: usize) -> Result<Word, AllocError>
+        ensures { IfOk result (λ w. (w.kind ≡ kind) × (w.blanks ≡ blanks) × (w.len ≡ len)) }
+    {
+        let (Ok(blanks), Ok(len)) = (u32::try_from(blanks), u32::try_from(len)) else {
+            return Err(AllocError);
+        };
+        Ok(Word { kind, blanks, len })
+    }
+
+    /// The token of the word at the front of some bytes, and what stands behind it.
+    #[inline(always)]
+    fn token<'a>(&self, bytes: &'a [u8]) -> (Token<'a>, &'a [u8])
+        ensures token { lexeme_of result.0 ≡ text_of self.now bytes.now }
+        ensures behind { result.1.now ≡ behind_word self.now bytes.now }
+    {
+        let (_, here) = bytes.split_at((self.blanks as usize).min(bytes.len()));
+        let (text, behind) = here.split_at((self.len as usize).min(here.len()));
+        let kind = self.kind;
+        (Token { kind, text }, behind)
+    }
+
     fn is_colon(&self) -> bool
         ensures { IsColon self.now result }
     {
@@ -50,10 +74,7 @@ impl Line {
         // A token has some four bytes.
         let mut bytes = Vec::with_capacity(alloc, tokens.len().saturating_mul(4))?;
         for token in tokens {
-            words.push(Word {
-                kind: token.kind,
-                len: token.text.len(),
-            })?;
+            words.push(Word::new(token.kind, 0, token.text.len())?)?;
             bytes.extend_from_slice(token.text)?;
         }
         Ok(Line {
@@ -72,11 +93,17 @@ impl Line {
         let mut lexer = Lexer::new(bytes)?;
         // Room for most lines, and not more: those of a macro stay as they are.
         let mut words = Vec::with_capacity(alloc, (bytes.len() / 2 + 1).min(8))?;
-        let mut kept = Vec::with_capacity(alloc, bytes.len().min(32))?;
         'tokens: loop {
+            let left = lexer.rest.len();
             match lexer.next()? {
-                Some(token) => keep(&mut words, &mut kept, token)?,
+                Some(token) => {
+                    let len = token.text.len();
+                    let blanks = left - lexer.rest.len() - len;
+                    words.push(Word::new(token.kind, blanks, len)?)?;
+                }
                 None => {
+                    let (front, _) = bytes.split_at(bytes.len() - left);
+                    let kept = Vec::from_slice(alloc, front)?;
                     return Ok(Line {
                         words: Sequence::from_vec(words),
                         bytes: Sequence::from_vec(kept),
@@ -92,11 +119,8 @@ impl Line {
     {
         let mut rest = self.bytes.as_slice();
         for word in self.words.as_slice() {
-            let (text, behind) = rest.split_at(word.len.min(rest.len()));
-            tokens.push(Token {
-                kind: word.kind,
-                text,
-            })?;
+            let (token, behind) = word.token(rest);
+            tokens.push(token)?;
             rest = behind;
         }
         Ok(())
@@ -107,12 +131,8 @@ impl Line {
         ensures { option_map lexeme_of result ≡ slice_get (tokens_in self.now) 0 }
     {
         let word = self.words.as_slice().first()?;
-        let bytes = self.bytes.as_slice();
-        let (text, _) = bytes.split_at(word.len.min(bytes.len()));
-        Some(Token {
-            kind: word.kind,
-            text,
-        })
+        let (token, _) = word.token(self.bytes.as_slice());
+        Some(token)
     }
 
     /// The directive of expansion at the front.
@@ -174,20 +194,6 @@ impl Line {
         self.add_to(&mut tokens)?;
         Ok(tokens)
     }
-}
-
-/// Keeps a token behind others.
-#[inline(always)]
-fn keep(words: &mut Vec<Word>, bytes: &mut Vec<u8>, token: Token<'_>) -> Result<(), AllocError>
-    ensures { OnOk result ((ts : List Lexeme) → AreKept words.old.items bytes.old.items ts →
-        AreKept words.new.items bytes.new.items (ts ++ lexeme_of token.entry ∷ [])) }
-{
-    words.push(Word {
-        kind: token.kind,
-        len: token.text.len(),
-    })?;
-    bytes.extend_from_slice(token.text)?;
-    Ok(())
 }
 
 /// The label at the front of tokens and what stands behind it, if there is a label.

@@ -1,11 +1,13 @@
 -- The tokens of a line, one after the other.
-use Rattle.std.proofs.Common.{◌≡◌, ℕ, zero, suc, ◌+◌, ◌<◌, ◌≤◌, Bool, true, false, cond, List, [], ◌∷◌, ◌++◌, length, take, drop, Option, Some, refl, ap, arith, append_assoc}
+use Rattle.std.proofs.Common.{◌≡◌, ℕ, zero, suc, ◌+◌, ◌<◌, ◌≤◌, Bool, true, false, cond, List, [], ◌∷◌, ◌++◌, length, take, drop, Option, Some, refl, sym, ap, ◌∙◌, arith, append_assoc}
+use Rattle.std.proofs.lemmas.List.{take-append-drop}
 use Rattle.std.specs.List.{prefix_len}
 use Rattle.std.specs.Prelude.{Err}
 use Rattle.syntax65.specs.Bytes.{is_blank, is_blank_class}
 use Rattle.syntax65.specs.Forms.{Begins, IsToken, FaultAt}
 use Rattle.syntax65.specs.Faults.{is_lex_outside}
 use Rattle.base65.specs.Outcome.{Unless}
+use Rattle.syntax65.specs.Lexing.{IsCutOff}
 use Rattle.syntax65.specs.Tokens.{Lexeme, after_blanks, Reads, IsRead}
 use Rattle.syntax65.specs.declared.lexing.classes.Class.TheVariants.{Blank}
 use Rattle.syntax65.specs.declared.lexing.tokens.TokenKind.{TokenKind}
@@ -50,3 +52,10 @@ refuse first line here ts NameTooLong short h reads = (short, (ts, reads))
 pub token_size : (first : Bool) (k : TokenKind) (n : ℕ) (here : List ℕ) → IsToken first k n here → 0 < n
 token_size first k zero here h = absurd (h.longest.stands.form)
 token_size first k (suc n) here h = omega arith
+
+-- a token that stands behind blanks is cut off
+pub cut_off : (rest here text left : List ℕ) (n : ℕ) → here ≡ after_blanks rest → text ≡ take n here → left ≡ drop n here → IsCutOff rest text left
+cut_off rest here text left n e front back =
+    let k = prefix_len is_blank rest in
+    let whole : after_blanks rest ≡ text ++ left = sym e ∙ sym (take-append-drop n here) ∙ rw (front, back) refl in
+    (take k rest, sym (take-append-drop k rest) ∙ ap (λ l. take k rest ++ l) whole)

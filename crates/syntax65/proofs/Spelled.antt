@@ -1,10 +1,11 @@
 -- A mnemonic is found exactly where the bytes spell it.
-use Rattle.std.proofs.Common.{◌≡◌, ◌∙◌, ℕ, zero, suc, ◌<◌, Bool, true, false, cond, List, [], ◌∷◌, length, map, find, slice_get, Option, Some, None, MatchOption, get_or, refl, sym, ap, subst, arith}
+use Rattle.std.proofs.Common.{◌≡◌, ◌≢◌, ◌∙◌, ℕ, zero, suc, ◌<◌, Bool, true, false, cond, List, [], ◌∷◌, length, map, find, Option, Some, None, MatchOption, get_or, refl, sym, ap, subst, arith}
 use Rattle.std.specs.Prelude.{nat_eq}
 use Rattle.std.specs.Char.{to_ascii_lowercase}
 use Rattle.std.specs.Str.{str_eq_ignore_ascii_case}
+use Rattle.std.proofs.lemmas.List.{length-map}
 use Rattle.std.specs.Cmp.Lexicographic.{pointwise, same_text, other_text}
-use Rattle.syntax65.specs.Mnemonics.{Spells, IsSpelled, name_of, mnemonic_of}
+use Rattle.syntax65.specs.Mnemonics.{IsNamed, Spells, IsSpelled, name_of, mnemonic_of}
 use Rattle.syntax65.specs.declared.instructions.names.Mnemonic.{Mnemonic}
 use Rattle.syntax65.specs.declared.instructions.names.Mnemonic.TheVariants.{Adc}
 use Rattle.syntax65.specs.declared.instructions.names.TheConstants.Mnemonic.{ALL}
@@ -60,18 +61,39 @@ pub spelled_both_ways : (bytes : List ℕ) → IsSpelled bytes (mnemonic_of byte
 unfolding mnemonic_of
 spelled_both_ways bytes = both (mnemonic_of bytes) bytes refl
 
-pub spelled_answer : (r : Option Mnemonic) (bytes : List ℕ) → r ≡ mnemonic_of bytes → IsSpelled bytes r
-spelled_answer r bytes e = subst (λ (o : Option Mnemonic). IsSpelled bytes o) (sym e) (spelled_both_ways bytes)
-
--- what is found among those that begin with the first letter is found among all
-pub found_among : (r : Option Mnemonic) (bytes : List ℕ) (letter : ℕ) (group : List Mnemonic) → Some letter ≡ slice_get bytes 0 → ((rest : List ℕ) → find (is_spelled (letter ∷ rest)) group ≡ find (is_spelled (letter ∷ rest)) ALL) → r ≡ find (is_spelled bytes) group → r ≡ mnemonic_of bytes
+found_name : (m : Mnemonic) → mnemonic_of (name_of m) ≡ Some m
 unfolding mnemonic_of
-found_among r [] letter group h same e = absurd cc
-found_among r (b ∷ bs) letter group h same e =
-    let k : letter ≡ b = cc in
-    e ∙ subst (λ l. find (is_spelled (l ∷ bs)) group ≡ find (is_spelled (l ∷ bs)) ALL) k (same bs)
+found_name Adc = refl
+found_name _ = refl
 
-pub none_spelled : (bytes : List ℕ) → slice_get bytes 0 ≡ None → None ≡ mnemonic_of bytes
-unfolding mnemonic_of
-none_spelled [] h = refl
-none_spelled (b ∷ bs) h = absurd cc
+one_spelled : (r q : Option Mnemonic) (bytes : List ℕ) → IsSpelled bytes r → IsSpelled bytes q → r ≡ q
+one_spelled None None bytes h k = refl
+one_spelled None (Some n) bytes h k = absurd (h n k)
+one_spelled (Some m) None bytes h k = absurd (k m h)
+one_spelled (Some m) (Some n) bytes h k = sym (found_name m) ∙ ap mnemonic_of (sym h ∙ k) ∙ found_name n
+
+-- what the bytes spell is found
+pub is_found : (r : Option Mnemonic) (bytes : List ℕ) → IsSpelled bytes r → r ≡ mnemonic_of bytes
+is_found r bytes h = one_spelled r (mnemonic_of bytes) bytes h (spelled_both_ways bytes)
+
+spelled_by_name : (r : Option Mnemonic) (bytes : List ℕ) → IsNamed (map to_ascii_lowercase bytes) r → IsSpelled bytes r
+spelled_by_name None bytes h = h
+spelled_by_name (Some m) bytes h = h
+
+-- the mnemonic of three letters is found
+pub of_three : (r : Option Mnemonic) (bytes : List ℕ) (a b c : ℕ) → length bytes ≡ 3 → a ≡ to_ascii_lowercase (get_or bytes 0 0) → b ≡ to_ascii_lowercase (get_or bytes 1 0) → c ≡ to_ascii_lowercase (get_or bytes 2 0) → IsNamed (a ∷ b ∷ c ∷ []) r → r ≡ mnemonic_of bytes
+of_three r [] a b c len ea eb ec h = absurd (omega (arith, len))
+of_three r (x ∷ []) a b c len ea eb ec h = absurd (omega (arith, len))
+of_three r (x ∷ y ∷ []) a b c len ea eb ec h = absurd (omega (arith, len))
+of_three r (x ∷ y ∷ z ∷ []) a b c len ea eb ec h =
+    let same : a ∷ b ∷ c ∷ [] ≡ map to_ascii_lowercase (x ∷ y ∷ z ∷ []) = cc in
+    is_found r _ (spelled_by_name r (x ∷ y ∷ z ∷ []) (subst (λ l. IsNamed l r) same h))
+of_three r (x ∷ y ∷ z ∷ w ∷ l) a b c len ea eb ec h = absurd (omega (arith, len))
+
+three_letters : (m : Mnemonic) → length (name_of m) ≡ 3
+three_letters Adc = refl
+three_letters _ = refl
+
+-- no other bytes spell one
+pub of_others : (bytes : List ℕ) → length bytes ≢ 3 → None ≡ mnemonic_of bytes
+of_others bytes len = is_found None bytes (λ m h. len (sym (length-map bytes to_ascii_lowercase) ∙ ap length h ∙ three_letters m))

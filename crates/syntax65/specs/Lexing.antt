@@ -1,5 +1,5 @@
 -- A line that is read token by token.
-use Rattle.std.specs.Prelude.{◌≡◌, ◌<◌, ◌≤◌, ℕ, Bool, true, List, [], ◌∷◌, length, Option, Some, None, Result, Ok, Err}
+use Rattle.std.specs.Prelude.{◌≡◌, ◌<◌, ◌≤◌, ℕ, Bool, true, List, [], ◌∷◌, ◌++◌, length, Option, Some, None, Result, Ok, Err}
 use Rattle.syntax65.specs.Tokens.{Lexeme, lexeme_of, Reads}
 use Rattle.syntax65.specs.declared.lexing.fault.LexFault.{LexFault}
 use Rattle.syntax65.specs.declared.lexing.fault.LexFault.TheVariants.{LineTooLong}
@@ -16,3 +16,7 @@ abbrev pub IsNext : Bool → List ℕ → Result (Option Token) LexFault → Boo
 IsNext first rest (Ok None) after left = Reads first rest [] None
 IsNext first rest (Ok (Some t)) after left = (us : List Lexeme) (end : Option LexFault) → Reads after left us end → Reads first rest (lexeme_of t ∷ us) end
 IsNext first rest (Err fault) after left = Reads first rest [] (Some fault)
+
+-- what is left of a line begins with blanks or nothing, and this text; and what is left behind it
+abbrev pub IsCutOff : List ℕ → List ℕ → List ℕ → Type 0
+IsCutOff rest text left = (blanks : List ℕ) × (rest ≡ blanks ++ (text ++ left))

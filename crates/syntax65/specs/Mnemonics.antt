@@ -74,6 +74,11 @@ abbrev pub IsSpelled : List ℕ → Option Mnemonic → Type 0
 IsSpelled bytes None = (m : Mnemonic) → Spells bytes m → ⊥
 IsSpelled bytes (Some m) = Spells bytes m
 
+-- this mnemonic has the name, or none has it
+abbrev pub IsNamed : List ℕ → Option Mnemonic → Type 0
+IsNamed name None = (m : Mnemonic) → name ≡ name_of m → ⊥
+IsNamed name (Some m) = name ≡ name_of m
+
 -- the mnemonic that the bytes spell
 unfoldable pub mnemonic_of : List ℕ → Option Mnemonic
 mnemonic_of bytes = find (λ m. str_eq_ignore_ascii_case bytes (name_of m)) ALL

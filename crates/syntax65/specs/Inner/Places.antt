@@ -1,6 +1,8 @@
 -- What stands at a place, and what the readers of one class of tokens need.
-use Rattle.std.specs.Prelude.{◌≢◌, ◌⊎◌, ℕ, Bool, List, [], ◌∷◌, drop, Option, Some, None, Result, Ok, Err, ⊤}
-use Rattle.syntax65.specs.Bytes.{class_of}
+use Rattle.std.specs.Prelude.{◌≡◌, ◌≢◌, ◌⊎◌, ◌+◌, ℕ, Bool, List, [], ◌∷◌, take, drop, Option, Some, None, Result, Ok, Err, ⊤}
+use Rattle.std.specs.List.{prefix_len}
+use Rattle.syntax65.specs.Bytes.{class_of, is_word}
+use Rattle.syntax65.specs.Numbers.{digits, number_of}
 use Rattle.syntax65.specs.Forms.{StartsNumber, Begins, Stands, IsToken, FaultAt}
 use Rattle.syntax65.specs.declared.lexing.classes.Class.TheVariants.{At, Dot, Colon, Other}
 use Rattle.syntax65.specs.declared.lexing.tokens.AddressSize.{AddressSize}
@@ -42,3 +44,11 @@ IsPrefixAt first here (Some s) = Stands first (SizePrefix s) 2 here
 abbrev pub IsLongMarkAt : List ℕ → Option Mark → Type 0
 IsLongMarkAt here None = (m : Mark) (first : Bool) → Stands first (Symbol m) 2 here → ⊥
 IsLongMarkAt here (Some m) = (first : Bool) → Stands first (Symbol m) 2 here
+
+-- so many digits stand in front of what is no letter, digit or `_`, and have this value
+abbrev pub AreDigitsAhead : ℕ → List ℕ → ℕ → ℕ → Type 0
+AreDigitsAhead radix bytes v n = (n ≡ prefix_len is_word bytes) × (digits radix (take n bytes) ≡ Some v)
+
+-- so many bytes are a number's, up to the first that is no letter, digit or `_`, and have this value
+abbrev pub IsPlainNumber : List ℕ → ℕ → ℕ → Type 0
+IsPlainNumber here v n = (n ≡ 1 + prefix_len is_word (drop 1 here)) × (number_of (take n here) ≡ Some v)

@@ -1,7 +1,7 @@
 //! The tokens of a line, one after the other.
 
 ghost use Rattle.std.specs.Prelude.{◌<◌, IfOk, IfSome, length};
-ghost use Rattle.syntax65.specs.Lexing.{IsNext, IsStart};
+ghost use Rattle.syntax65.specs.Lexing.{IsCutOff, IsNext, IsStart};
 
 use super::fault::LexFault;
 use super::lines::{MAX_LINE, is_end, skip_blanks};
@@ -42,6 +42,7 @@ impl<'a> Lexer<'a> {
     #[inline(always)]
     pub fn next(&mut self) -> Result<Option<Token<'a>>, LexFault>
         ensures next { IsNext self.old.first self.old.rest.now result self.new.first self.new.rest.now }
+        ensures cut { IfOk result (λ t. IfSome t (λ t. IsCutOff self.old.rest.now t.text.now self.new.rest.now)) }
         ensures less { IfOk result (λ t. IfSome t (λ _. length self.new.rest.now < length self.old.rest.now)) }
     {
         let here = skip_blanks(self.rest);

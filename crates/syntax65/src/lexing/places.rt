@@ -9,7 +9,7 @@ ghost use Rattle.syntax65.specs.declared.lexing.classes.Class.TheVariants.{Lette
 use super::classes::{Class, class_of};
 use super::fault::LexFault;
 use super::marks::{mark_of_one, mark_of_two};
-use super::numbers::number_of;
+use super::numbers::{number_of, plain_digits};
 use super::scanning::{run_len, text_len, word_len};
 use super::tokens::{AddressSize, Mark, TokenKind};
 
@@ -118,6 +118,17 @@ fn begins_name(bytes: &[u8]) -> bool
 }
 
 fn number_at(here: &[u8]) -> Result<(TokenKind, usize), LexFault>
+    requires { BeginsNumber here.now }
+    ensures { (first : Bool) → IsAt first here.now result }
+{
+    match plain_digits(here) {
+        Some((value, len)) => Ok((TokenKind::Number(value), len)),
+        None => spelled_number_at(here),
+    }
+}
+
+/// A number whose value is found once its end is.
+fn spelled_number_at(here: &[u8]) -> Result<(TokenKind, usize), LexFault>
     requires { BeginsNumber here.now }
     ensures { (first : Bool) → IsAt first here.now result }
 {

@@ -1,4 +1,4 @@
-use Rattle.std.proofs.Common.{◌≤◌, ◌++◌, List, Option, length, true}
+use Rattle.std.proofs.Common.{◌≡◌, ℕ, ◌≤◌, ◌++◌, List, Option, length, true}
 use Rattle.syntax65.specs.Tokens.{Lexeme, Reads}
 use Rattle.syntax65.specs.declared.lexing.fault.LexFault.{LexFault}
 use Rattle.reader65.specs.Kept.{AreKept}
@@ -7,7 +7,7 @@ use Rattle.reader65.proofs.line.Line.read.Given as goal
 abbrev pub invariant-tokens : goal.invariant-tokens
 invariant-tokens l = record {
   short : length l.bytes ≤ 4096;
-  so_far : (ts : List Lexeme) × AreKept l.words.items l.kept.items ts × ((us : List Lexeme) (end : Option LexFault) → Reads l.lexer.first l.lexer.rest.now us end → Reads true l.bytes (ts ++ us) end);
+  so_far : (ts : List Lexeme) × ((front : List ℕ) × (l.bytes ≡ front ++ l.lexer.rest.now) × AreKept l.words.items front ts) × ((us : List Lexeme) (end : Option LexFault) → Reads l.lexer.first l.lexer.rest.now us end → Reads true l.bytes (ts ++ us) end);
 }
 
 abbrev pub decreases-tokens : goal.decreases-tokens

@@ -1,15 +1,12 @@
-use Rattle.std.proofs.Common.{sym}
-use Rattle.syntax65.proofs.Spelled.{found_among, none_spelled, spelled_answer}
+use Rattle.std.proofs.Common.{arith}
+use Rattle.syntax65.proofs.Spelled.{of_three, of_others}
 use Rattle.syntax65.proofs.instructions.lookup.mnemonic.Goals as goal
 
-pub returns-in-Some-clause-value : goal.returns-in-Some-clause-value
-returns-in-Some-clause-value c =
-    found_among c.first_spelled.result c.args.bytes.now c.in-Some.letter.now c.beginning_with.result.now c.in-Some.ensures.value c.beginning_with.ensures c.first_spelled.ensures
+pub returns-in-len3-clause-value : goal.returns-in-len3-clause-value
+returns-in-len3-clause-value c = of_three c.of_letters.result c.args.bytes.now _ _ _ (omega arith) c.to_ascii_lowercase.ensures.value c.to_ascii_lowercase-in-len3.ensures.value c.to_ascii_lowercase-in-len3-2.ensures.value c.of_letters.ensures
 
-pub returns-in-Some-clause-spelled : goal.returns-in-Some-clause-spelled
-returns-in-Some-clause-spelled c =
-    spelled_answer c.first_spelled.result c.args.bytes.now
-    (found_among c.first_spelled.result c.args.bytes.now c.in-Some.letter.now c.beginning_with.result.now c.in-Some.ensures.value c.beginning_with.ensures c.first_spelled.ensures)
+pub returns-in_default-clause-value : goal.returns-in_default-clause-value
+returns-in_default-clause-value c = of_others c.args.bytes.now (λ e. absurd (omega (arith, e)))
 
-pub returns-in-None-clause-value : goal.returns-in-None-clause-value
-returns-in-None-clause-value c = none_spelled c.args.bytes.now (sym c.in-None.ensures.value)
+pub returns-in_default-2-clause-value : goal.returns-in_default-2-clause-value
+returns-in_default-2-clause-value c = of_others c.args.bytes.now (λ e. absurd (omega (arith, e)))

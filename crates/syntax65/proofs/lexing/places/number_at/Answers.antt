@@ -1,20 +1,10 @@
-use Rattle.std.proofs.Common.{◌≡◌, ◌+◌, ◌∙◌, ap, sym, arith, take, Some}
-use Rattle.std.proofs.lemmas.List.{take_rest}
-use Rattle.syntax65.specs.Numbers.{number_of}
-use Rattle.syntax65.specs.Forms.{IsLongest}
-use Rattle.syntax65.specs.declared.lexing.tokens.TokenKind.TheVariants.{Number}
+use Rattle.std.proofs.Common.{arith}
 use Rattle.syntax65.proofs.Fronts.{number_here}
 use Rattle.syntax65.proofs.lexing.places.number_at.Goals as goal
 
 pub returns-in-Some : goal.returns-in-Some
-returns-in-Some c = λ first.
-    let tail = take_rest c.args.here.now 1 in
-    let longest : IsLongest first (Number c.in-Some.value) (1 + c.word_len-len.result) c.args.here.now = number_here first c.args.here.now c.in-Some.value (1 + c.word_len-len.result) c.requires (ap (λ n. 1 + n) (rw tail at c.word_len-len.ensures.count)) in
-    let value : number_of (take (1 + c.word_len-len.result) c.args.here.now) ≡ Some c.in-Some.value = sym c.number_of.ensures ∙ c.in-Some.is in
-    record { longest = longest; short = omega arith; value = value }
-
-pub returns-in-None : goal.returns-in-None
-returns-in-None c = λ first.
-    let tail = take_rest c.args.here.now 1 in
-    let longest : IsLongest first (Number 0) (1 + c.word_len-len.result) c.args.here.now = number_here first c.args.here.now 0 (1 + c.word_len-len.result) c.requires (ap (λ n. 1 + n) (rw tail at c.word_len-len.ensures.count)) in
-    (0, 1 + c.word_len-len.result, longest, sym c.number_of.ensures ∙ c.in-None.is)
+returns-in-Some c = λ first. record {
+  longest = number_here first c.args.here.now c.in-Some.value c.in-Some.len c.requires c.in-Some.ensures.0;
+  short = omega arith;
+  value = c.in-Some.ensures.1;
+}

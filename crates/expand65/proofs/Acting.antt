@@ -8,7 +8,7 @@ use Rattle.expand65.specs.Arguments.{arguments_of}
 use Rattle.source65.specs.Faults.{is_outside}
 use Rattle.reader65.specs.Fronts.{front_directive, is_mislabelled, label_len, line_directive, string_of}
 use Rattle.expand65.specs.Includes.{first_file, include_line, included, included_by, tried}
-use Rattle.reader65.specs.Inside.{left_in, left_of, mark_of, outside, own}
+use Rattle.reader65.specs.Inside.{left_in, left_of, mark_of, outside}
 use Rattle.reader65.specs.Kept.{tokens_in}
 use Rattle.expand65.specs.Macros.{called, called_or_given, ordinary}
 use Rattle.expand65.specs.Meaning.{Meaning}
@@ -93,7 +93,7 @@ mislabelled m k s ts f h = by (is_outside f) h
 
 -- ---- The first line that is left of the inputs.
 
-abbrev BeginsPlain : List Item → Type 0
+abbrev pub BeginsPlain : List Item → Type 0
 BeginsPlain (labelled ts ∷ is) = ⊥
 BeginsPlain (branch ts ∷ is) = ⊥
 BeginsPlain _ = Unit {0}
@@ -106,6 +106,11 @@ begins_plain (labelled ts ∷ is) js h k = absurd h
 begins_plain (branch ts ∷ is) js h k = absurd h
 begins_plain (mark x ∷ is) js h k = absurd h
 
+pub begins_at_line : (m : Files) (r : Rewriter) → BeginsPlain (left_of m r.reader).items
+begins_at_line m r =
+    let js = mark (mark_of r.reader.top) ∷ outside m r.reader.outer.items in
+    subst BeginsPlain (sym (own_split m r.reader.top (outside m r.reader.outer.items))) (begins_plain (left_in m r.reader.top.source) js (lines_left m r.reader.top.source) tt)
+
 step_from : (m : Files) (k : Meaning) (s : State) (is : List Item) (x : Stepped) → BeginsPlain is → ((t : Taken) × Takes s.left t × IsStepBehind m k s t x) → IsStepFrom m k s is x
 step_from m k s [] x b h = h
 step_from m k s (written n bytes ∷ is) x b h = h
@@ -117,10 +122,7 @@ step_from m k s (branch ts ∷ is) x b h = absurd b
 -- the step of a state in which a line or an end mark comes first
 pub step_taken : (m : Files) (k : Meaning) (r : Rewriter) (t : Taken) (x : Stepped) → Takes (left_of m r.reader) t → IsStepBehind m k (state_of m r) t x → IsStep m k (state_of m r) x
 unfolding IsStep
-step_taken m k r t x h b =
-    let js = mark (mark_of r.reader.top) ∷ outside m r.reader.outer.items in
-    let begins : BeginsPlain (own m r.reader.top ++ outside m r.reader.outer.items) = subst BeginsPlain (sym (own_split m r.reader.top (outside m r.reader.outer.items))) (begins_plain (left_in m r.reader.top.source) js (lines_left m r.reader.top.source) tt) in
-    step_from m k (state_of m r) (left_of m r.reader).items x begins (t, h, b)
+step_taken m k r t x h b = step_from m k (state_of m r) (left_of m r.reader).items x (begins_at_line m r) (t, h, b)
 
 -- a line that begins with a directive
 pub acted_by : (m : Files) (k : Meaning) (s : State) (ts us : List Lexeme) (d : Directive) (x : Stepped) → front_directive ts ≡ Some d → us ≡ drop 1 ts → IsDirected m k s d us x → IsActed m k s ts (front_directive ts) x

@@ -1,83 +1,118 @@
 -- Where expansion was when the store failed.
-use Rattle.std.proofs.Common.{◌≡◌, ◌∙◌, List, Bool, true, false, Option, Some, None, Result, Ok, Err, IfSome, refl, sym, ap, subst}
+use Rattle.std.proofs.Common.{◌≡◌, ◌∙◌, ◌∷◌, [], List, Bool, drop, false, inr, Option, Some, None, Result, Ok, Err, IfSome, refl, sym, ap, subst}
 use Rattle.base65.specs.Store.{Files}
 use Rattle.syntax65.specs.Tokens.{Lexeme}
 use Rattle.source65.specs.Faults.{is_failure}
 use Rattle.source65.specs.declared.fault.ExpandFault.{ExpandFault}
 use Rattle.source65.specs.declared.place.Place.{Place}
+use Rattle.reader65.specs.Blocks.{passes}
+use Rattle.reader65.specs.Fronts.{front_directive}
 use Rattle.reader65.specs.Inside.{left_of, mark_of}
 use Rattle.reader65.specs.Kept.{tokens_in}
-use Rattle.reader65.specs.Left.{Mark, innermost}
-use Rattle.reader65.specs.Stopping.{HasReadTo, ReadsTo, StopsAt, goes_on, has_branch, has_label, last_read, stands}
+use Rattle.reader65.specs.Left.{Item, Mark, branch, innermost, labelled, mark as end_mark, played, written}
+use Rattle.reader65.specs.Stopping.{FailsInBlock, StopsAt, last_read}
 use Rattle.reader65.specs.Taking.{Takes}
+use Rattle.reader65.specs.declared.directives.Directive.{Directive}
+use Rattle.reader65.specs.declared.directives.Test.TheVariants.{True}
 use Rattle.reader65.specs.declared.line.Line.{Line}
 use Rattle.reader65.specs.declared.reader.Reader.{Reader}
 use Rattle.reader65.proofs.Marks.{innermost_is}
+use Rattle.expand65.specs.Failing.{FailsActing, FailsAt, FailsAtElse, FailsAtIf, FailsBy, FailsFrom, FailsTaking, FailsUnlabelled}
+use Rattle.expand65.specs.Conditions.{popped}
 use Rattle.expand65.specs.Meaning.{Meaning}
 use Rattle.expand65.specs.Rewriting.{state_of, turned}
 use Rattle.expand65.specs.Standing.{fronted, led, place_of, state_in}
-use Rattle.expand65.specs.State.{State, goes}
-use Rattle.expand65.specs.Step.{IsStep}
-use Rattle.expand65.specs.Stopping.{Goes, IsOnItsWay, Reading, StopsOnItsWay, StopsReading, back_of, no_step, one_more}
+use Rattle.expand65.specs.State.{State, goes, with_left}
+use Rattle.expand65.specs.Step.{IsStep, last_condition}
+use Rattle.expand65.specs.Stopping.{Goes, Reading, StopsOnItsWay, StopsReading, back_of, no_step, one_more}
 use Rattle.expand65.specs.declared.expander.Expander.{Expander}
 use Rattle.expand65.specs.declared.expander.Front.{Front}
 use Rattle.expand65.specs.declared.expander.Front.TheVariants.{Nothing, Rest, Branch}
+use Rattle.expand65.specs.declared.rewriter.Rewriter.{Rewriter}
 use Rattle.expand65.specs.declared.rewriter.Turn.{Turn}
+use Rattle.expand65.proofs.Acting.{BeginsPlain, begins_at_line}
+use Rattle.expand65.proofs.Innermost.{last_is}
 
 -- ---- Of a reader.
 
--- where nothing was read
-pub stood : {A : Type 0} (o : Option Files) (old new : Reader) (r : Result A ExpandFault) → new.place ≡ old.place → mark_of new.top ≡ mark_of old.top → IfSome o (λ m. StopsAt m old new r)
-stood None old new r p k = tt
-stood (Some m) old new (Ok x) p k = tt
-stood (Some m) old new (Err f) p k = λ failed. (let P : Place → Type 0 = λ q. ReadsTo (left_of m old) q in record { reads = subst P (sym p) (stands (left_of m old)); mark = k })
+pub stops_so : {A : Type 0} (o : Option Files) (P Q : Files → Place → Type 0) (old new : Reader) (r : Result A ExpandFault) → ((m : Files) (p : Place) → P m p → Q m p) → IfSome o (λ m. StopsAt (P m) old new r) → IfSome o (λ m. StopsAt (Q m) old new r)
+stops_so None P Q old new r f h = tt
+stops_so (Some m) P Q old new (Ok x) f h = tt
+stops_so (Some m) P Q old new (Err e) f h = λ failed. (let so = h failed in record { there = f m new.place so.there; mark = so.mark })
 
--- a fault that isn't the store's
-pub not_stopped : {A : Type 0} (o : Option Files) (old new : Reader) (r : Result A ExpandFault) (f : ExpandFault) → r ≡ Err f → is_failure f ≡ false → IfSome o (λ m. StopsAt m old new r)
-not_stopped None old new r f is h = tt
-not_stopped {A} (Some m) old new r f is h = (let P : Result A ExpandFault → Type 0 = λ q. StopsAt m old new q in subst P (sym is) (λ failed. absurd cc))
+-- where nothing was read
+pub stood : {A : Type 0} (o : Option Files) (P : Files → Place → Type 0) (reader : Reader) (r : Result A ExpandFault) → ((m : Files) → P m reader.place) → IfSome o (λ m. StopsAt (P m) reader reader r)
+stood None P reader r h = tt
+stood (Some m) P reader (Ok x) h = tt
+stood (Some m) P reader (Err f) h = λ failed. record { there = h m; mark = refl }
 
 -- behind a line
-pub stops_behind : {A : Type 0} (o : Option Files) (old mid new : Reader) (ts : List Lexeme) (r : Result A ExpandFault) → IfSome o (λ m. Takes (left_of m old) (Ok (Some ts, left_of m mid))) → mark_of mid.top ≡ mark_of old.top → IfSome o (λ m. StopsAt m mid new r) → IfSome o (λ m. StopsAt m old new r)
-stops_behind None old mid new ts r t k h = tt
-stops_behind (Some m) old mid new ts (Ok x) t k h = tt
-stops_behind (Some m) old mid new ts (Err f) t k h = λ failed. (let so = h failed in record { reads = goes_on (left_of m old) (left_of m mid) ts new.place t so.reads; mark = so.mark ∙ k })
+pub stops_behind : {A : Type 0} (o : Option Files) (k : Meaning) (old mid : Rewriter) (new : Reader) (ts : List Lexeme) (r : Result A ExpandFault) → IfSome o (λ m. Takes (left_of m old.reader) (Ok (Some ts, left_of m mid.reader))) → ((m : Files) → state_of m mid ≡ with_left (state_of m old) (left_of m mid.reader)) → mark_of mid.reader.top ≡ mark_of old.reader.top → IfSome o (λ m. StopsAt (FailsUnlabelled k (state_of m mid) ts) mid.reader new r) → IfSome o (λ m. StopsAt (FailsTaking k (state_of m old)) old.reader new r)
+stops_behind None k old mid new ts r t e same h = tt
+stops_behind (Some m) k old mid new ts (Ok x) t e same h = tt
+stops_behind (Some m) k old mid new ts (Err f) t e same h = λ failed.
+    let so = h failed in
+    let there : FailsUnlabelled k (with_left (state_of m old) (left_of m mid.reader)) ts new.place = subst (λ s. FailsUnlabelled k s ts new.place) (e m) so.there in
+    record { there = inr (ts, (left_of m mid.reader, t, there)); mark = so.mark ∙ same }
+
+-- ---- Of one line.
+
+-- the branches behind one that was taken are passed over
+pub stops_at_else : {A : Type 0} (o : Option Files) (old : Rewriter) (new : Reader) (cs : List Bool) (r : Result A ExpandFault) → popped old.conditions old.reader.top.conditions ≡ Some (false, cs) → IfSome o (λ m. StopsAt (FailsInBlock passes 0 (left_of m old.reader)) old.reader new r) → IfSome o (λ m. StopsAt (FailsAtElse (state_of m old) (last_condition (state_of m old))) old.reader new r)
+stops_at_else o old new cs r e h =
+    let Q : Files → Place → Option (Bool × List Bool) → Type 0 = λ m p x. FailsAtElse (state_of m old) x p in
+    stops_so o (λ m. FailsInBlock passes 0 (left_of m old.reader)) (λ m. FailsAtElse (state_of m old) (last_condition (state_of m old))) old.reader new r (λ m p k. subst (Q m p) (sym (last_is m old ∙ e)) k) h
+
+pub stops_acting : {A : Type 0} (o : Option Files) (k : Meaning) (old : Rewriter) (new : Reader) (ts us : List Lexeme) (d : Directive) (r : Result A ExpandFault) → front_directive ts ≡ Some d → us ≡ drop 1 ts → IfSome o (λ m. StopsAt (FailsBy k (state_of m old) d us) old.reader new r) → IfSome o (λ m. StopsAt (FailsActing k (state_of m old) ts (front_directive ts)) old.reader new r)
+stops_acting o k old new ts us d r e u h =
+    let P : Files → Place → Option Directive → Type 0 = λ m p x. FailsActing k (state_of m old) ts x p in
+    let Q : Files → Place → List Lexeme → Type 0 = λ m p l. FailsBy k (state_of m old) d l p in
+    stops_so o (λ m. FailsBy k (state_of m old) d us) (λ m. FailsActing k (state_of m old) ts (front_directive ts)) old.reader new r (λ m p w. subst (P m p) (sym e) (subst (Q m p) u w)) h
 
 -- ---- Of one step, by what stands in front of the lines.
 
-reading_from : (m : Files) (k : Meaning) (s : State) (old new : Reader) → ReadsTo s.left new.place → innermost s.left.items ≡ innermost (left_of m old).items → mark_of new.top ≡ mark_of old.top → Reading m k s (mark_of new.top) new.place
-reading_from m k s old new reads same mark = record {
-  state = s;
-  goes = no_step s;
-  reads = reads;
-  within = same ∙ innermost_is m old ∙ ap Some (sym mark);
-}
+fails_from : (k : Meaning) (s : State) (is : List Item) (p : Place) → BeginsPlain is → FailsTaking k s p → FailsFrom k s is p
+fails_from k s [] p b h = h
+fails_from k s (written n bytes ∷ is) p b h = h
+fails_from k s (played e ts ∷ is) p b h = h
+fails_from k s (end_mark y ∷ is) p b h = h
+fails_from k s (labelled ts ∷ is) p b h = absurd b
+fails_from k s (branch ts ∷ is) p b h = absurd b
 
-pub stops_plain : {A : Type 0} (o : Option Files) (k : Meaning) (old : Expander) (new : Reader) (r : Result A ExpandFault) → old.front ≡ Nothing → IfSome o (λ m. StopsAt m old.rewriter.reader new r) → IfSome o (λ m. StopsReading m k (state_in m old) r (mark_of new.top) new.place)
-stops_plain None k old new r is h = tt
-stops_plain (Some m) k old new (Ok x) is h = tt
-stops_plain (Some m) k old new (Err f) is h = λ failed.
-    let so = h failed in
-    let P : Front → Type 0 = λ b. Reading m k (fronted b (state_of m old.rewriter)) (mark_of new.top) new.place in
-    subst P (sym is) (reading_from m k (fronted Nothing (state_of m old.rewriter)) old.rewriter.reader new so.reads refl so.mark)
+fails_plain : (m : Files) (k : Meaning) (r : Rewriter) (p : Place) → FailsTaking k (state_of m r) p → FailsAt k (fronted Nothing (state_of m r)) p
+unfolding FailsAt
+fails_plain m k r p h = fails_from k (state_of m r) (left_of m r.reader).items p (begins_at_line m r) h
 
-pub stops_rest : {A : Type 0} (o : Option Files) (k : Meaning) (old : Expander) (new : Reader) (line : Line) (r : Result A ExpandFault) → old.front ≡ Rest line → IfSome o (λ m. StopsAt m old.rewriter.reader new r) → IfSome o (λ m. StopsReading m k (state_in m old) r (mark_of new.top) new.place)
-stops_rest None k old new line r is h = tt
-stops_rest (Some m) k old new line (Ok x) is h = tt
-stops_rest (Some m) k old new line (Err f) is h = λ failed.
-    let so = h failed in
-    let l = left_of m old.rewriter.reader in
-    let P : Front → Type 0 = λ b. Reading m k (fronted b (state_of m old.rewriter)) (mark_of new.top) new.place in
-    subst P (sym is) (reading_from m k (fronted (Rest line) (state_of m old.rewriter)) old.rewriter.reader new (has_label l.items (tokens_in line) l.room l.place new.place so.reads) refl so.mark)
+fails_rest : (m : Files) (k : Meaning) (r : Rewriter) (line : Line) (p : Place) → FailsActing k (state_of m r) (tokens_in line) (front_directive (tokens_in line)) p → FailsAt k (fronted (Rest line) (state_of m r)) p
+unfolding FailsAt
+fails_rest m k r line p h = h
 
-pub stops_branch : {A : Type 0} (o : Option Files) (k : Meaning) (old : Expander) (new : Reader) (line : Line) (r : Result A ExpandFault) → old.front ≡ Branch line → IfSome o (λ m. StopsAt m old.rewriter.reader new r) → IfSome o (λ m. StopsReading m k (state_in m old) r (mark_of new.top) new.place)
-stops_branch None k old new line r is h = tt
-stops_branch (Some m) k old new line (Ok x) is h = tt
-stops_branch (Some m) k old new line (Err f) is h = λ failed.
+fails_branch : (m : Files) (k : Meaning) (r : Rewriter) (line : Line) (p : Place) → FailsAtIf k (state_of m r) True (tokens_in line) p → FailsAt k (fronted (Branch line) (state_of m r)) p
+unfolding FailsAt
+fails_branch m k r line p h = h
+
+stops_in : {A : Type 0} (o : Option Files) (k : Meaning) (old : Expander) (new : Reader) (r : Result A ExpandFault) (front : Front) (P : Files → Place → Type 0) → old.front ≡ front → ((m : Files) → innermost (fronted front (state_of m old.rewriter)).left.items ≡ innermost (left_of m old.rewriter.reader).items) → ((m : Files) (p : Place) → P m p → FailsAt k (fronted front (state_of m old.rewriter)) p) → IfSome o (λ m. StopsAt (P m) old.rewriter.reader new r) → IfSome o (λ m. StopsReading m k (state_in m old) r (mark_of new.top) new.place)
+stops_in None k old new r front P is same f h = tt
+stops_in (Some m) k old new (Ok x) front P is same f h = tt
+stops_in (Some m) k old new (Err e) front P is same f h = λ failed.
     let so = h failed in
-    let l = left_of m old.rewriter.reader in
-    let P : Front → Type 0 = λ b. Reading m k (fronted b (state_of m old.rewriter)) (mark_of new.top) new.place in
-    subst P (sym is) (reading_from m k (fronted (Branch line) (state_of m old.rewriter)) old.rewriter.reader new (has_branch l.items (tokens_in line) l.room l.place new.place so.reads) refl so.mark)
+    let s = fronted front (state_of m old.rewriter) in
+    let Q : Front → Type 0 = λ b. Reading m k (fronted b (state_of m old.rewriter)) (mark_of new.top) new.place in
+    subst Q (sym is) (record {
+      state = s;
+      goes = no_step s;
+      fails = f m new.place so.there;
+      within = same m ∙ innermost_is m old.rewriter.reader ∙ ap Some (sym so.mark);
+    })
+
+pub stops_plain : {A : Type 0} (o : Option Files) (k : Meaning) (old : Expander) (new : Reader) (r : Result A ExpandFault) → old.front ≡ Nothing → IfSome o (λ m. StopsAt (FailsTaking k (state_of m old.rewriter)) old.rewriter.reader new r) → IfSome o (λ m. StopsReading m k (state_in m old) r (mark_of new.top) new.place)
+stops_plain o k old new r is h = stops_in o k old new r Nothing (λ m. FailsTaking k (state_of m old.rewriter)) is (λ m. refl) (λ m p. fails_plain m k old.rewriter p) h
+
+pub stops_rest : {A : Type 0} (o : Option Files) (k : Meaning) (old : Expander) (new : Reader) (line : Line) (r : Result A ExpandFault) → old.front ≡ Rest line → IfSome o (λ m. StopsAt (FailsActing k (state_of m old.rewriter) (tokens_in line) (front_directive (tokens_in line))) old.rewriter.reader new r) → IfSome o (λ m. StopsReading m k (state_in m old) r (mark_of new.top) new.place)
+stops_rest o k old new line r is h = stops_in o k old new r (Rest line) (λ m. FailsActing k (state_of m old.rewriter) (tokens_in line) (front_directive (tokens_in line))) is (λ m. refl) (λ m p. fails_rest m k old.rewriter line p) h
+
+pub stops_branch : {A : Type 0} (o : Option Files) (k : Meaning) (old : Expander) (new : Reader) (line : Line) (r : Result A ExpandFault) → old.front ≡ Branch line → IfSome o (λ m. StopsAt (FailsAtIf k (state_of m old.rewriter) True (tokens_in line)) old.rewriter.reader new r) → IfSome o (λ m. StopsReading m k (state_in m old) r (mark_of new.top) new.place)
+stops_branch o k old new line r is h = stops_in o k old new r (Branch line) (λ m. FailsAtIf k (state_of m old.rewriter) True (tokens_in line)) is (λ m. refl) (λ m p. fails_branch m k old.rewriter line p) h
 
 -- ---- Of steps one after another.
 
@@ -103,7 +138,7 @@ stops_later {A} B (Some m) k i e mark place r f is h s =
     subst P (sym is) (λ failed. (let so = s failed in record {
       state = so.state;
       goes = goes_over m k (state_in m i) (state_in m e) so.state h so.goes;
-      reads = so.reads;
+      fails = so.fails;
       within = so.within;
     }))
 
@@ -116,7 +151,7 @@ goes_back (Some m) k old mid new (Err f) h e = λ failed. (let so = h failed in 
   state = so.state;
   reading = place_of mid;
   goes = so.goes;
-  reads = so.reads;
+  fails = so.fails;
   at = e ∙ ap (λ b. last_read (place_of mid) b) (sym (ap back_of so.within));
 })
 

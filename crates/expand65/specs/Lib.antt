@@ -1,6 +1,7 @@
 pub mod Arguments
 pub mod Conditions
 pub mod Expansion
+pub mod Failing
 pub mod Includes
 pub mod Inner
 pub mod Laws

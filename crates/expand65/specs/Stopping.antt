@@ -1,13 +1,14 @@
 -- Where expansion was when the store failed.
 use Rattle.std.specs.Prelude.{◌≡◌, true, Option, Some, None, Result, IfErr}
 use Rattle.base65.specs.Store.{Files}
+use Rattle.expand65.specs.Failing.{FailsAt}
 use Rattle.expand65.specs.Meaning.{Meaning}
 use Rattle.expand65.specs.Standing.{place_of, state_in}
 use Rattle.expand65.specs.State.{State, goes}
 use Rattle.expand65.specs.Step.{IsStep}
 use Rattle.expand65.specs.declared.expander.Expander.{Expander}
 use Rattle.reader65.specs.Left.{Mark, innermost}
-use Rattle.reader65.specs.Stopping.{ReadsTo, last_read}
+use Rattle.reader65.specs.Stopping.{last_read}
 use Rattle.source65.specs.Faults.{is_failure}
 use Rattle.source65.specs.declared.fault.ExpandFault.{ExpandFault}
 use Rattle.source65.specs.declared.place.Place.{Place}
@@ -22,12 +23,13 @@ abbrev pub back_of : Option Mark → Option Place
 back_of None = None
 back_of (Some k) = k.back
 
--- From a state expansion was on its way to the next statement, and this is the place of the line that was read last.
+-- From a state expansion was on its way to the next statement, and in a step of it the store failed; this is the place
+-- of the line that was read last.
 pub record IsOnItsWay (m : Files) (k : Meaning) (s : State) (place : Place) : Type 0 where
   pub state : State
   pub reading : Place
   pub goes : Goes m k s state
-  pub reads : ReadsTo state.left reading
+  pub fails : FailsAt k state reading
   pub at : place ≡ last_read reading (back_of (innermost state.left.items))
 
 -- the place of an expander that was refused since the store failed
@@ -41,7 +43,7 @@ StopsOnItsWay m k old result new =
 pub record Reading (m : Files) (k : Meaning) (s : State) (mark : Mark) (place : Place) : Type 0 where
   pub state : State
   pub goes : Goes m k s state
-  pub reads : ReadsTo state.left place
+  pub fails : FailsAt k state place
   pub within : innermost state.left.items ≡ Some mark
 
 abbrev pub StopsReading : {A : Type 0} → Files → Meaning → State → Result A ExpandFault → Mark → Place → Type 0

@@ -1,7 +1,7 @@
 //! The statements of a source, one after another.
 
-ghost use Rattle.std.specs.Prelude.{◌≡◌, ◌<◌, ◌≤◌, ◌+◌, ◌*◌, true, false, length, Err, IfOk, IfSome, OnErr};
-ghost use Rattle.base65.specs.Store.{Asks, Files, Passes};
+ghost use Rattle.std.specs.Prelude.{◌≡◌, ◌<◌, ◌≤◌, ◌+◌, ◌*◌, true, false, length, Err, IfOk, IfSome, IsErrOf, OnErr};
+ghost use Rattle.base65.specs.Store.{Asks, Files, IsBlamed, Passes};
 ghost use Rattle.expand65.specs.Standing.{Comes, FollowsFrom, Opens, StandsFor, is_end, led, measure_of, place_of, state_in};
 ghost use Rattle.source65.specs.Faults.{is_outside};
 ghost use Rattle.expand65.specs.Stopping.{StopsOnItsWay, StopsReading};
@@ -87,6 +87,7 @@ impl Expander {
         ensures files { S.files store.new ≡ S.files store.old }
         ensures size { IfOk result (λ e. measure_of e ≤ 3145729) }
         ensures count { Passes ExpandFault.FileError (S.failures store.old) (S.failures store.new) result }
+        ensures blamed { IsErrOf result ExpandFault.FileError → IsBlamed (S.blamed store.new) file.now }
         ensures asked { Asks is_outside (S.failures store.old) result }
     {
         if !is_there(store, file)? {

@@ -1,10 +1,10 @@
 //! Files that are included, and where they are looked for.
 
-ghost use Rattle.std.specs.Prelude.{◌≡◌, ◌<◌, ◌+◌, ◌^◌, ◌++◌, ◌∷◌, [], if◌then◌else◌, true, false, map, IfNone, IfOk, IfSome, List, ℕ, Result};
+ghost use Rattle.std.specs.Prelude.{◌≡◌, ◌<◌, ◌+◌, ◌^◌, ◌++◌, ◌∷◌, [], if◌then◌else◌, true, false, map, IfNone, IfOk, IfSome, IsErrOf, List, ℕ, Result};
 ghost use Rattle.std.specs.FinMap as fmap;
 ghost use Rattle.std.specs.Str.{is_utf8};
 ghost use Rattle.base65.specs.Outcome.{Gives};
-ghost use Rattle.base65.specs.Store.{Asks, Passes};
+ghost use Rattle.base65.specs.Store.{Asks, IsBlamed, Passes};
 ghost use Rattle.source65.specs.Faults.{is_outside};
 ghost use Rattle.expand65.specs.Includes.{as_text, begins_with_slash, beside, file_named, first_file, folder_of, found_or, is_slash, tried, within};
 ghost use Rattle.expand65.specs.Inner.Seeking.{Tries, file_of, is_there};
@@ -70,6 +70,7 @@ pub fn is_there<S: Store>(store: &mut S, name: &str) -> Result<bool, ExpandFault
         Gives is_outside (λ b. b) result (is_there (fmap.get m name.now))) }
     ensures files { S.files store.new ≡ S.files store.old }
     ensures count { Passes ExpandFault.FileError (S.failures store.old) (S.failures store.new) result }
+    ensures blamed { IsErrOf result ExpandFault.FileError → IsBlamed (S.blamed store.new) name.now }
     ensures asked { Asks is_outside (S.failures store.old) result }
 {
     let mut byte = [0u8; 1];

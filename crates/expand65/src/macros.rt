@@ -5,6 +5,7 @@ ghost use Rattle.base65.specs.Outcome.{Gives};
 ghost use Rattle.base65.specs.Store.{Files, Passes};
 ghost use Rattle.syntax65.specs.Tokens.{lexeme_of, lexemes};
 ghost use Rattle.source65.specs.Faults.{is_failure, is_outside};
+ghost use Rattle.expand65.specs.Failing.{FailsDefining};
 ghost use Rattle.reader65.specs.Stopping.{StopsAt};
 ghost use Rattle.reader65.specs.Fronts.{understood};
 ghost use Rattle.expand65.specs.Arguments.{arguments_of};
@@ -101,7 +102,9 @@ impl Rewriter {
         ensures size { IfOk result (λ t. size_of self.new + weight_of t ≤ size_of self.old + 2) }
         ensures files { S.files store.new ≡ S.files store.old }
         ensures count { Passes ExpandFault.FileError (S.failures store.old) (S.failures store.new) result }
-        ensures stopped { IfSome (S.files store.old) (λ m. StopsAt m self.old.reader self.new.reader result) }
+        ensures stopped { IfSome (S.files store.old) (λ m. StopsAt
+            (FailsDefining (state_of m self.old) (header_of (lexemes tokens.now)))
+            self.old.reader self.new.reader result) }
     {
         let header = header_of(self.alloc, tokens)?;
         self.keep_macro(store, header.name, header.params)
@@ -120,7 +123,9 @@ impl Rewriter {
         ensures size { IfOk result (λ t. size_of self.new + weight_of t ≤ size_of self.old + 2) }
         ensures files { S.files store.new ≡ S.files store.old }
         ensures count { Passes ExpandFault.FileError (S.failures store.old) (S.failures store.new) result }
-        ensures stopped { IfSome (S.files store.old) (λ m. StopsAt m self.old.reader self.new.reader result) }
+        ensures stopped { IfSome (S.files store.old) (λ m. StopsAt
+            (FailsDefining (state_of m self.old) (Some (name.items, map (λ k. k.items) params.keys)))
+            self.old.reader self.new.reader result) }
     {
         if self.has_macro(name.as_slice()) {
             return Err(ExpandFault::MacroTwice);

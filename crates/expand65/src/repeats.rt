@@ -9,6 +9,7 @@ ghost use Rattle.syntax65.specs.Tokens.{lexemes};
 ghost use Rattle.syntax65.specs.Trees.{Tree, tree_of};
 ghost use Rattle.syntax65.specs.declared.expressions.fault.ExprFault.{ExprFault};
 ghost use Rattle.source65.specs.Faults.{is_failure, is_outside};
+ghost use Rattle.expand65.specs.Failing.{FailsAtRepeat, FailsRepeating};
 ghost use Rattle.reader65.specs.Stopping.{StopsAt};
 ghost use Rattle.reader65.specs.Fronts.{understood};
 ghost use Rattle.expand65.specs.Repeats.{IsRepeat, IsRepeated, repeat_header, turns_of, variable_of};
@@ -103,7 +104,9 @@ impl Rewriter {
         ensures size { IfOk result (λ t. size_of self.new + weight_of t ≤ size_of self.old + 2) }
         ensures files { S.files store.new ≡ S.files store.old }
         ensures count { Passes ExpandFault.FileError (S.failures store.old) (S.failures store.new) result }
-        ensures stopped { IfSome (S.files store.old) (λ m. StopsAt m self.old.reader self.new.reader result) }
+        ensures stopped { IfSome (S.files store.old) (λ m. StopsAt
+            (FailsAtRepeat (K.meaning knows.now) (state_of m self.old) (lexemes tokens.now))
+            self.old.reader self.new.reader result) }
     {
         let header = header_of(self.alloc, tokens)?;
         let count = turns_of(knows.value(self.alloc, &header.count)?)?;
@@ -123,7 +126,9 @@ impl Rewriter {
         ensures size { IfOk result (λ t. size_of self.new + weight_of t ≤ size_of self.old + 2) }
         ensures files { S.files store.new ≡ S.files store.old }
         ensures count { Passes ExpandFault.FileError (S.failures store.old) (S.failures store.new) result }
-        ensures stopped { IfSome (S.files store.old) (λ m. StopsAt m self.old.reader self.new.reader result) }
+        ensures stopped { IfSome (S.files store.old) (λ m. StopsAt
+            (FailsRepeating (state_of m self.old) (Ok (count, map (λ k. k.items) variable.keys)))
+            self.old.reader self.new.reader result) }
     {
         let lines = self.reader.gather(self.alloc, store)?;
         let at = lines.len();

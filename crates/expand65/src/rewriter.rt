@@ -4,6 +4,7 @@ ghost use Rattle.std.specs.Prelude.{◌≡◌, ◌≤◌, ◌<◌, ◌+◌, [], 
 ghost use Rattle.base65.specs.Store.{Files, Passes};
 ghost use Rattle.syntax65.specs.Tokens.{lexemes};
 ghost use Rattle.expand65.specs.Conditions.{IsDecided, IsElse, IsIf, ended_if};
+ghost use Rattle.expand65.specs.Failing.{FailsActing, FailsAlone, FailsAtElse, FailsAtIf, FailsBy, FailsDeciding, FailsIncluding, FailsTaking, FailsUnlabelled};
 ghost use Rattle.source65.specs.Faults.{is_failure};
 ghost use Rattle.reader65.specs.Stopping.{StopsAt};
 ghost use Rattle.reader65.specs.Fronts.{front_directive, is_mislabelled, string_of};
@@ -65,7 +66,9 @@ impl Rewriter {
         ensures size { IfOk result (λ t. size_of self.new + weight_of t ≤ size_of self.old + 2) }
         ensures files { S.files store.new ≡ S.files store.old }
         ensures count { Passes ExpandFault.FileError (S.failures store.old) (S.failures store.new) result }
-        ensures stopped { IfSome (S.files store.old) (λ m. StopsAt m self.old.reader self.new.reader result) }
+        ensures stopped { IfSome (S.files store.old) (λ m. StopsAt
+            (FailsDeciding (state_of m self.old) (Ok holds))
+            self.old.reader self.new.reader result) }
     {
         if holds {
             self.conditions.push(false)?;
@@ -95,7 +98,9 @@ impl Rewriter {
         ensures size { IfOk result (λ t. size_of self.new + weight_of t ≤ size_of self.old + 2) }
         ensures files { S.files store.new ≡ S.files store.old }
         ensures count { Passes ExpandFault.FileError (S.failures store.old) (S.failures store.new) result }
-        ensures stopped { IfSome (S.files store.old) (λ m. StopsAt m self.old.reader self.new.reader result) }
+        ensures stopped { IfSome (S.files store.old) (λ m. StopsAt
+            (FailsAtIf (K.meaning knows.now) (state_of m self.old) test (lexemes tokens.now))
+            self.old.reader self.new.reader result) }
     {
         let holds = condition(self.alloc, knows, test, tokens)?;
         self.decide(store, holds)
@@ -123,7 +128,9 @@ impl Rewriter {
         ensures size { IfOk result (λ t. size_of self.new + weight_of t ≤ size_of self.old + 2) }
         ensures files { S.files store.new ≡ S.files store.old }
         ensures count { Passes ExpandFault.FileError (S.failures store.old) (S.failures store.new) result }
-        ensures stopped { IfSome (S.files store.old) (λ m. StopsAt m self.old.reader self.new.reader result) }
+        ensures stopped { IfSome (S.files store.old) (λ m. StopsAt
+            (FailsAtElse (state_of m self.old) (last_condition (state_of m self.old)))
+            self.old.reader self.new.reader result) }
     {
         match self.conditions.pop_above(self.reader.top.conditions) {
             None => Err(ExpandFault::NotOpened),
@@ -148,7 +155,9 @@ impl Rewriter {
         ensures size { IfOk result (λ t. size_of self.new + weight_of t ≤ size_of self.old + 2) }
         ensures files { S.files store.new ≡ S.files store.old }
         ensures count { Passes ExpandFault.FileError (S.failures store.old) (S.failures store.new) result }
-        ensures stopped { IfSome (S.files store.old) (λ m. StopsAt m self.old.reader self.new.reader result) }
+        ensures stopped { IfSome (S.files store.old) (λ m. StopsAt
+            (FailsAtIf (K.meaning knows.now) (state_of m self.old) Test.True (tokens_in line.now))
+            self.old.reader self.new.reader result) }
     {
         let tokens = line.tokens(self.alloc)?;
         self.begin_if(store, knows, Test::True, tokens.as_slice())
@@ -166,7 +175,9 @@ impl Rewriter {
         ensures size { IfOk result (λ t. size_of self.new + weight_of t ≤ size_of self.old + 2) }
         ensures files { S.files store.new ≡ S.files store.old }
         ensures count { Passes ExpandFault.FileError (S.failures store.old) (S.failures store.new) result }
-        ensures stopped { IfSome (S.files store.old) (λ m. StopsAt m self.old.reader self.new.reader result) }
+        ensures stopped { IfSome (S.files store.old) (λ m. StopsAt
+            (FailsIncluding (state_of m self.old) (string_of (lexemes tokens.now)))
+            self.old.reader self.new.reader result) }
     {
         let Some(name) = string_of(tokens) else {
             return Err(ExpandFault::NotUnderstood);
@@ -227,7 +238,9 @@ impl Rewriter {
         ensures size { IfOk result (λ t. size_of self.new + weight_of t ≤ size_of self.old + 2) }
         ensures files { S.files store.new ≡ S.files store.old }
         ensures count { Passes ExpandFault.FileError (S.failures store.old) (S.failures store.new) result }
-        ensures stopped { IfSome (S.files store.old) (λ m. StopsAt m self.old.reader self.new.reader result) }
+        ensures stopped { IfSome (S.files store.old) (λ m. StopsAt
+            (FailsAlone (state_of m self.old) directive (lexemes tokens.now))
+            self.old.reader self.new.reader result) }
     {
         if !tokens.is_empty() {
             return Err(ExpandFault::NotUnderstood);
@@ -257,7 +270,9 @@ impl Rewriter {
         ensures size { IfOk result (λ t. size_of self.new + weight_of t ≤ size_of self.old + 2) }
         ensures files { S.files store.new ≡ S.files store.old }
         ensures count { Passes ExpandFault.FileError (S.failures store.old) (S.failures store.new) result }
-        ensures stopped { IfSome (S.files store.old) (λ m. StopsAt m self.old.reader self.new.reader result) }
+        ensures stopped { IfSome (S.files store.old) (λ m. StopsAt
+            (FailsBy (K.meaning knows.now) (state_of m self.old) directive (lexemes tokens.now))
+            self.old.reader self.new.reader result) }
     {
         match directive {
             Directive::Macro => self.begin_macro(store, tokens),
@@ -288,7 +303,9 @@ impl Rewriter {
         ensures size { IfOk result (λ t. size_of self.new + weight_of t ≤ size_of self.old + 2) }
         ensures files { S.files store.new ≡ S.files store.old }
         ensures count { Passes ExpandFault.FileError (S.failures store.old) (S.failures store.new) result }
-        ensures stopped { IfSome (S.files store.old) (λ m. StopsAt m self.old.reader self.new.reader result) }
+        ensures stopped { IfSome (S.files store.old) (λ m. StopsAt
+            (FailsActing (K.meaning knows.now) (state_of m self.old) (tokens_in line)
+            (front_directive (tokens_in line))) self.old.reader self.new.reader result) }
     {
         match line.directive() {
             Some(directive) => {
@@ -314,7 +331,9 @@ impl Rewriter {
         ensures size { IfOk result (λ t. size_of self.new + weight_of t ≤ size_of self.old + 3) }
         ensures files { S.files store.new ≡ S.files store.old }
         ensures count { Passes ExpandFault.FileError (S.failures store.old) (S.failures store.new) result }
-        ensures stopped { IfSome (S.files store.old) (λ m. StopsAt m self.old.reader self.new.reader result) }
+        ensures stopped { IfSome (S.files store.old) (λ m. StopsAt
+            (FailsUnlabelled (K.meaning knows.now) (state_of m self.old) (tokens_in line))
+            self.old.reader self.new.reader result) }
     {
         match line.parted(self.alloc)? {
             Some((label, rest)) => Ok(Turn::Parts(label, rest)),
@@ -350,7 +369,9 @@ impl Rewriter {
         ensures size { IfOk result (λ t. size_of self.new + weight_of t < size_of self.old + 1) }
         ensures files { S.files store.new ≡ S.files store.old }
         ensures count { Passes ExpandFault.FileError (S.failures store.old) (S.failures store.new) result }
-        ensures stopped { IfSome (S.files store.old) (λ m. StopsAt m self.old.reader self.new.reader result) }
+        ensures stopped { IfSome (S.files store.old) (λ m. StopsAt
+            (FailsTaking (K.meaning knows.now) (state_of m self.old))
+            self.old.reader self.new.reader result) }
     {
         match self.reader.next_line(self.alloc, store)? {
             None => self.end_input(),

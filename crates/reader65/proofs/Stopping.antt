@@ -1,80 +1,95 @@
 -- Where lines were being read when the store failed.
-use Rattle.std.proofs.Common.{◌≡◌, ◌∙◌, true, List, ◌∷◌, ◌++◌, sym, ap, subst, Option, Some, None, IfSome, false, Result, Ok, Err}
+use Rattle.std.proofs.Common.{◌≡◌, ◌∙◌, ℕ, true, List, [], ◌∷◌, ◌++◌, refl, sym, ap, subst, Option, Some, None, IfSome, false, Ok}
 use Rattle.base65.specs.Store.{Files}
 use Rattle.syntax65.specs.Tokens.{Lexeme}
 use Rattle.source65.specs.declared.fault.ExpandFault.{ExpandFault}
 use Rattle.source65.specs.Faults.{is_failure}
 use Rattle.source65.specs.declared.place.Place.{Place}
 use Rattle.reader65.specs.BlockLines.{TakesInBlock}
-use Rattle.reader65.specs.Inside.{ComesNext, left_in, left_of, mark_of, moved_by, outside}
-use Rattle.reader65.specs.Left.{Item, Left, mark, written}
+use Rattle.reader65.specs.Blocks.{Verdict, on}
+use Rattle.reader65.specs.Inside.{ComesNext, IsFile, is_call, left_in, left_of, mark_of, moved_by, outside}
+use Rattle.reader65.specs.Left.{Item, Left, Mark, mark, numbered, played}
+use Rattle.reader65.specs.Lines.{lines_of}
 use Rattle.reader65.specs.Passing.{Plainly, no_line, a_line}
-use Rattle.reader65.specs.Stopping.{HasReadTo, ReadsTo, StopsAt, stands, begins, goes_on}
+use Rattle.reader65.specs.Plain.{IsPlain}
+use Rattle.reader65.specs.Reading.{rest_of}
+use Rattle.reader65.specs.Replacing.{Replacing}
+use Rattle.reader65.specs.Stopping.{FailsAtLine, FailsInBlock, HasStopped, IsAsked, at_line, before, behind_line, within}
 use Rattle.reader65.specs.declared.input.NextLine.{NextLine}
 use Rattle.reader65.specs.declared.input.NextLine.TheVariants.{AtEnd, Numbered, Replayed}
 use Rattle.reader65.specs.declared.input.Source.{Source}
+use Rattle.reader65.specs.declared.input.Source.TheVariants as source
 use Rattle.reader65.specs.declared.reader.Reader.{Reader}
 use Rattle.reader65.proofs.Blocking.{some_line}
 use Rattle.reader65.proofs.Nexts.{parted}
 
--- where reading comes to from a reader, it comes to from the first
-abbrev pub ReadsOn : Reader → Reader → Files → Type 0
-ReadsOn reader first m = (p : Place) → ReadsTo (left_of m reader) p → ReadsTo (left_of m first) p
+-- ---- The next line.
 
-pub not_read : (o : Option Files) (r : Reader) → IfSome o (ReadsOn r r)
-not_read None r = tt
-not_read (Some m) r = λ p h. h
+asked_numbered : (n : ℕ) (lines : List (List ℕ)) (k : Mark) (is : List Item) → k.is_macro ≡ false → IsAsked (numbered n lines ++ mark k ∷ is)
+asked_numbered n [] k is h = h
+asked_numbered n (line ∷ lines) k is h = tt
 
-pub stands_there : (m : Files) (old : Reader) (p : Place) → p ≡ old.place → ReadsTo (left_of m old) p
-stands_there m old p same = let P : Place → Type 0 = λ q. ReadsTo (left_of m old) q in subst P (sym same) (stands (left_of m old))
+asked_in : (m : Files) (s : Source) (k : Mark) (is : List Item) → k.is_macro ≡ is_call s → IsFile s → IsAsked (left_in m s ++ mark k ∷ is)
+asked_in m (source.File f) k is e h = asked_numbered f.line (lines_of (rest_of m f)) k is e
+asked_in m (source.Call r) k is e h = absurd h
+asked_in m (source.Repeat r next count) k is e h = absurd h
 
--- the line that comes next
-item_next : (before tail : List Item) (n : NextLine) (l : Left) → ComesNext before n → l.items ≡ before ++ tail → ReadsTo l (moved_by n l.place)
-item_next before tail AtEnd l c same = stands l
-item_next before tail (Numbered n) l (bytes, (others, e)) same = begins l (written n bytes) (others ++ tail) (same ∙ ap (λ is. is ++ tail) e)
-item_next before tail Replayed l c same = stands l
+pub fails_before : (o : Option Files) (old : Reader) → IsFile old.top.source → IfSome o (λ m. FailsAtLine (left_of m old) old.place)
+fails_before None old h = tt
+fails_before (Some m) old h =
+    let is = outside m old.outer.items in
+    before (subst IsAsked (sym (parted m old)) (asked_in m old.top.source (mark_of old.top) is refl h))
 
-pub begins_there : (o : Option Files) (old : Reader) (mid : Source) (place : Place) (n : NextLine) → IfSome o (λ m. ComesNext (left_in m mid) n) → IfSome o (λ m. left_in m mid ≡ left_in m old.top.source) → place ≡ moved_by n old.place → IfSome o (λ m. ReadsTo (left_of m old) place)
-begins_there None old mid place n c s p = tt
-begins_there (Some m) old mid place n c s p =
+none_played : (n : ℕ) (lines : List (List ℕ)) (e : Replacing) (ts : List Lexeme) (is : List Item) → numbered n lines ≡ played e ts ∷ is → ⊥
+none_played n [] e ts is h = absurd cc
+none_played n (line ∷ lines) e ts is h = absurd cc
+
+-- the line of a file that comes next
+within_next : (m : Files) (s : Source) (tail : List Item) (n : NextLine) (l : Left) → IsFile s → ComesNext (left_in m s) n → (n ≡ AtEnd → ⊥) → l.items ≡ left_in m s ++ tail → FailsAtLine l (moved_by n l.place)
+within_next m (source.File f) tail AtEnd l h c more same = absurd (more refl)
+within_next m (source.File f) tail (Numbered n) l h (bytes, (others, e)) more same = within n bytes (others ++ tail) (same ∙ ap (λ is. is ++ tail) e)
+within_next m (source.File f) tail Replayed l h (e, (ts, (others, is))) more same = absurd (none_played f.line (lines_of (rest_of m f)) e ts others is)
+within_next m (source.Call r) tail n l h c more same = absurd h
+within_next m (source.Repeat r next count) tail n l h c more same = absurd h
+
+pub fails_within : (o : Option Files) (old : Reader) (mid : Source) (place : Place) (n : NextLine) → IsFile mid → IfSome o (λ m. ComesNext (left_in m mid) n) → IfSome o (λ m. left_in m mid ≡ left_in m old.top.source) → (n ≡ AtEnd → ⊥) → place ≡ moved_by n old.place → IfSome o (λ m. FailsAtLine (left_of m old) place)
+fails_within None old mid place n h c s more p = tt
+fails_within (Some m) old mid place n h c s more p =
     let tail = mark (mark_of old.top) ∷ outside m old.outer.items in
     let items : (left_of m old).items ≡ left_in m mid ++ tail = parted m old ∙ ap (λ is. is ++ tail) (sym s) in
-    let P : Place → Type 0 = λ q. ReadsTo (left_of m old) q in
-    subst P (sym p) (item_next (left_in m mid) tail n (left_of m old) c items)
-
--- a line of a block
-pub line_read : (o : Option Files) (first reader new : Reader) (ts : List Lexeme) → IfSome o (ReadsOn reader first) → IfSome o (λ m. TakesInBlock (left_of m reader) (Ok (ts, left_of m new))) → IfSome o (ReadsOn new first)
-line_read None first reader new ts h t = tt
-line_read (Some m) first reader new ts h t = λ p k. h p (goes_on (left_of m reader) (left_of m new) ts p (some_line (left_of m reader) (left_of m new) ts t) k)
-
-over_plainly : (l n : Left) (p : Place) → Plainly l n → ReadsTo n p → ReadsTo l p
-over_plainly _ _ p (no_line l) h = h
-over_plainly _ _ p (a_line l m n before (ts, taken, plain)) h = over_plainly l m p before (goes_on m n ts p taken h)
-
-pub plainly_read : (o : Option Files) (first reader new : Reader) → IfSome o (ReadsOn reader first) → ((m : Files) → Plainly (left_of m reader) (left_of m new)) → IfSome o (ReadsOn new first)
-plainly_read None first reader new h passed = tt
-plainly_read (Some m) first reader new h passed = λ p k. h p (over_plainly (left_of m reader) (left_of m new) p (passed m) k)
-
-pub read_to : (o : Option Files) (first reader : Reader) (place : Place) → IfSome o (ReadsOn reader first) → IfSome o (λ m. ReadsTo (left_of m reader) place) → IfSome o (λ m. ReadsTo (left_of m first) place)
-read_to None first reader place h k = tt
-read_to (Some m) first reader place h k = h place k
+    let P : Place → Type 0 = λ q. FailsAtLine (left_of m old) q in
+    subst P (sym p) (within_next m mid tail n (left_of m old) h c more items)
 
 -- a reader that stopped there
-pub stopped_so : {A : Type 0} (o : Option Files) (old new : Reader) (r : Result A ExpandFault) → IfSome o (λ m. ReadsTo (left_of m old) new.place) → mark_of new.top ≡ mark_of old.top → IfSome o (λ m. StopsAt m old new r)
-stopped_so None old new r h k = tt
-stopped_so (Some m) old new (Ok x) h k = tt
-stopped_so (Some m) old new (Err f) h k = λ failed. record { reads = h; mark = k }
+pub stopped_so : (o : Option Files) (IsThere : Files → Place → Type 0) (old new : Reader) (f : ExpandFault) → mark_of new.top ≡ mark_of old.top → (is_failure f ≡ true → IfSome o (λ m. IsThere m new.place)) → IfSome o (λ m. is_failure f ≡ true → HasStopped (IsThere m) old new)
+stopped_so None IsThere old new f k h = tt
+stopped_so (Some m) IsThere old new f k h = λ failed. record { there = h failed; mark = k }
 
--- one that stopped behind lines of a block
-pub stops_on : (o : Option Files) (first reader new : Reader) (f : ExpandFault) → IfSome o (ReadsOn reader first) → mark_of reader.top ≡ mark_of first.top → IfSome o (λ m. is_failure f ≡ true → HasReadTo m reader new) → IfSome o (λ m. is_failure f ≡ true → HasReadTo m first new)
-stops_on None first reader new f h k s = tt
-stops_on (Some m) first reader new f h k s = λ failed. (let so = s failed in record { reads = h new.place so.reads; mark = so.mark ∙ k })
+-- ---- Blocks.
+
+-- where the store fails in the rest of a block, it fails in the block
+abbrev pub Fails : {A B : Type 0} → (A → List Lexeme → Verdict A B) → A → Reader → A → Reader → Files → Type 0
+Fails judge a reader a0 first m = (p : Place) → FailsInBlock judge a (left_of m reader) p → FailsInBlock judge a0 (left_of m first) p
+
+pub line_read : {A B : Type 0} (judge : A → List Lexeme → Verdict A B) (o : Option Files) (first reader new : Reader) (a0 a c : A) (ts : List Lexeme) → IfSome o (Fails judge a reader a0 first) → IfSome o (λ m. TakesInBlock (left_of m reader) (Ok (ts, left_of m new))) → judge a ts ≡ on c → IfSome o (Fails judge c new a0 first)
+line_read judge None first reader new a0 a c ts h t j = tt
+line_read judge (Some m) first reader new a0 a c ts h t j = λ p k. h p (behind_line a c (left_of m reader) (left_of m new) ts p (some_line (left_of m reader) (left_of m new) ts t) j k)
+
+-- lines that change nothing
+over_plainly : {A B : Type 0} (judge : A → List Lexeme → Verdict A B) (a : A) (l n : Left) (p : Place) → ((ts : List Lexeme) → IsPlain ts → judge a ts ≡ on a) → Plainly l n → FailsInBlock judge a n p → FailsInBlock judge a l p
+over_plainly judge a _ _ p same (no_line l) h = h
+over_plainly judge a _ _ p same (a_line l m n passed (ts, taken, plain)) h = over_plainly judge a l m p same passed (behind_line a a m n ts p taken (same ts plain) h)
+
+pub plainly_read : {A B : Type 0} (judge : A → List Lexeme → Verdict A B) (o : Option Files) (first reader new : Reader) (a0 a : A) → ((ts : List Lexeme) → IsPlain ts → judge a ts ≡ on a) → ((m : Files) → Plainly (left_of m reader) (left_of m new)) → IfSome o (Fails judge a reader a0 first) → IfSome o (Fails judge a new a0 first)
+plainly_read judge None first reader new a0 a same passed h = tt
+plainly_read judge (Some m) first reader new a0 a same passed h = λ p k. h p (over_plainly judge a (left_of m reader) (left_of m new) p same (passed m) k)
+
+-- a reader that stopped at a line of a block
+pub stops_on : {A B : Type 0} (judge : A → List Lexeme → Verdict A B) (o : Option Files) (first reader new : Reader) (a0 a : A) (f : ExpandFault) → IfSome o (Fails judge a reader a0 first) → mark_of reader.top ≡ mark_of first.top → IfSome o (λ m. is_failure f ≡ true → HasStopped (FailsAtLine (left_of m reader)) reader new) → IfSome o (λ m. is_failure f ≡ true → HasStopped (FailsInBlock judge a0 (left_of m first)) first new)
+stops_on judge None first reader new a0 a f h k s = tt
+stops_on judge (Some m) first reader new a0 a f h k s = λ failed. (let so = s failed in record { there = h new.place (at_line a (left_of m reader) new.place so.there); mark = so.mark ∙ k })
 
 -- a fault that isn't the store's
-pub not_stopped : (o : Option Files) (first new : Reader) (f : ExpandFault) → is_failure f ≡ false → IfSome o (λ m. is_failure f ≡ true → HasReadTo m first new)
-not_stopped None first new f h = tt
-not_stopped (Some m) first new f h = λ failed. absurd cc
-
-pub none_read : (o : Option Files) (old : Reader) (p : Place) → p ≡ old.place → IfSome o (λ m. ReadsTo (left_of m old) p)
-none_read None old p same = tt
-none_read (Some m) old p same = stands_there m old p same
+pub not_stopped : (o : Option Files) (IsThere : Files → Place → Type 0) (first new : Reader) (f : ExpandFault) → is_failure f ≡ false → IfSome o (λ m. is_failure f ≡ true → HasStopped (IsThere m) first new)
+not_stopped None IsThere first new f h = tt
+not_stopped (Some m) IsThere first new f h = λ failed. absurd cc

@@ -1,5 +1,5 @@
 -- The lines that open files, expansions and repeats still have.
-use Rattle.std.specs.Prelude.{◌≡◌, ℕ, ◌-◌, Bool, true, false, List, [], ◌∷◌, ◌++◌, ◌<◌, length, map, Result, Ok, Err}
+use Rattle.std.specs.Prelude.{◌≡◌, ℕ, ◌-◌, Bool, true, false, List, [], ◌∷◌, ◌++◌, ◌<◌, length, map, Result, Ok, Err, ⊤}
 use Rattle.base65.specs.Outcome.{Unless}
 use Rattle.base65.specs.Store.{Files}
 use Rattle.syntax65.specs.Tokens.{Lexeme}
@@ -34,6 +34,10 @@ left_in m (source.Repeat r next count) = turns_left r next count
 abbrev pub is_call : Source → Bool
 is_call (source.Call r) = true
 is_call _ = false
+
+abbrev pub IsFile : Source → Type 0
+IsFile (source.File f) = ⊤
+IsFile _ = ⊥
 
 -- a line is at hand
 abbrev pub IsReady : Source → Type 0

@@ -3,7 +3,7 @@
 ghost use Rattle.std.specs.Prelude.{◌≡◌, ◌∷◌, ◌++◌, [], ◌<◌, ◌↔◌, List, IsTrue, false, drop, map, IfErr, IfSome, OnOk};
 ghost use Rattle.syntax65.specs.Tokens.{Lexeme, lexemes};
 ghost use Rattle.base65.specs.Store.{Passes};
-ghost use Rattle.reader65.specs.Stopping.{StopsAt};
+ghost use Rattle.reader65.specs.Stopping.{FailsInBlock, StopsAt};
 ghost use Rattle.reader65.specs.Inside.{Answers, left_of, mark_of};
 ghost use Rattle.reader65.specs.Blocks.{Block, collects, gathers, passes, skipping, skips};
 ghost use Rattle.source65.specs.Faults.{is_failure};
@@ -192,7 +192,8 @@ impl Reader {
         ensures outer { self.new.outer ≡ self.old.outer }
         ensures files { S.files store.new ≡ S.files store.old }
         ensures count { Passes ExpandFault.FileError (S.failures store.old) (S.failures store.new) result }
-        ensures stopped { IfSome (S.files store.old) (λ m. StopsAt m self.old self.new result) }
+        ensures stopped { IfSome (S.files store.old) (λ m. StopsAt
+            (FailsInBlock collects [] (left_of m self.old)) self.old self.new result) }
     {
         let mut body = Sequence::new(alloc);
         'lines: loop {
@@ -219,7 +220,8 @@ impl Reader {
         ensures outer { self.new.outer ≡ self.old.outer }
         ensures files { S.files store.new ≡ S.files store.old }
         ensures count { Passes ExpandFault.FileError (S.failures store.old) (S.failures store.new) result }
-        ensures stopped { IfSome (S.files store.old) (λ m. StopsAt m self.old self.new result) }
+        ensures stopped { IfSome (S.files store.old) (λ m. StopsAt
+            (FailsInBlock gathers (0, []) (left_of m self.old)) self.old self.new result) }
     {
         let mut body = Sequence::new(alloc);
         let mut depth = 0;
@@ -245,7 +247,8 @@ impl Reader {
         ensures outer { self.new.outer ≡ self.old.outer }
         ensures files { S.files store.new ≡ S.files store.old }
         ensures count { Passes ExpandFault.FileError (S.failures store.old) (S.failures store.new) result }
-        ensures stopped { IfSome (S.files store.old) (λ m. StopsAt m self.old self.new result) }
+        ensures stopped { IfSome (S.files store.old) (λ m. StopsAt
+            (FailsInBlock passes 0 (left_of m self.old)) self.old self.new result) }
     {
         let mut depth = 0;
         'lines: loop {
@@ -272,7 +275,8 @@ impl Reader {
         ensures outer { self.new.outer ≡ self.old.outer }
         ensures files { S.files store.new ≡ S.files store.old }
         ensures count { Passes ExpandFault.FileError (S.failures store.old) (S.failures store.new) result }
-        ensures stopped { IfSome (S.files store.old) (λ m. StopsAt m self.old self.new result) }
+        ensures stopped { IfSome (S.files store.old) (λ m. StopsAt
+            (FailsInBlock skips 0 (left_of m self.old)) self.old self.new result) }
     {
         let mut depth = 0;
         'lines: loop {

@@ -4,7 +4,7 @@ ghost use Rattle.std.specs.Prelude.{◌≡◌, ◌↔◌, ◌<◌, ◌≤◌, �
 ghost use Rattle.std.specs.List.{prefix_len};
 ghost use Rattle.base65.specs.Store.{Files, Passes};
 ghost use Rattle.source65.specs.Faults.{is_failure, is_outside};
-ghost use Rattle.reader65.specs.Inside.{ComesNext, IsReady, TakesLine, is_call, left_in, turns_left};
+ghost use Rattle.reader65.specs.Inside.{ComesNext, IsFile, IsReady, TakesLine, is_call, left_in, turns_left};
 ghost use Rattle.reader65.specs.Kept.{tokens_in};
 ghost use Rattle.reader65.specs.Playing.{left_to_play, replacing_of};
 ghost use Rattle.reader65.specs.Reading.{is_inside, left_in_file};
@@ -227,6 +227,7 @@ impl Source {
         ensures same { IfSome (S.files store.old) (λ m. OnOk result (left_in m self.new ≡ left_in m self.old)) }
         ensures ready { IfOk result (λ n. (n ≡ NextLine.AtEnd → ⊥) → IsReady self.new) }
         ensures call { is_call self.new ≡ is_call self.old }
+        ensures file { IfErr result (λ e. is_failure e ≡ true → IsFile self.old) }
         ensures outside { IfErr result (λ e. is_outside e ≡ true) }
         ensures files { S.files store.new ≡ S.files store.old }
         ensures count { Passes ExpandFault.FileError (S.failures store.old) (S.failures store.new) result }
@@ -244,6 +245,7 @@ impl Source {
         ensures taken { IfSome (S.files store.old) (λ m.
             TakesLine (left_in m self.old) result (left_in m self.new)) }
         ensures call { is_call self.new ≡ is_call self.old }
+        ensures file { IfErr result (λ e. is_failure e ≡ true → IsFile self.old) }
         ensures files { S.files store.new ≡ S.files store.old }
         ensures count { Passes ExpandFault.FileError (S.failures store.old) (S.failures store.new) result }
     {

@@ -3,7 +3,7 @@
 ghost use Rattle.std.specs.Prelude.{◌≡◌, ◌<◌, ◌≤◌, ◌-◌, ◌+◌, length, IfErr, IfNone, IfOk, IfSome, IsTrue, OnOk, [], false, option_map};
 ghost use Rattle.base65.specs.Store.{Passes};
 ghost use Rattle.source65.specs.Faults.{is_failure, is_outside};
-ghost use Rattle.reader65.specs.Stopping.{StopsAt, last_read};
+ghost use Rattle.reader65.specs.Stopping.{FailsAtLine, StopsAt, last_read};
 ghost use Rattle.reader65.specs.Inside.{Answers, left_in, left_of, mark_of, moved_by, outside};
 ghost use Rattle.reader65.specs.Kept.{tokens_in};
 ghost use Rattle.base65.specs.Store.{Files};
@@ -74,7 +74,8 @@ impl Reader {
         ensures outer { self.new.outer ≡ self.old.outer }
         ensures files { S.files store.new ≡ S.files store.old }
         ensures count { Passes ExpandFault.FileError (S.failures store.old) (S.failures store.new) result }
-        ensures stopped { IfSome (S.files store.old) (λ m. StopsAt m self.old self.new result) }
+        ensures stopped { IfSome (S.files store.old) (λ m.
+            StopsAt (FailsAtLine (left_of m self.old)) self.old self.new result) }
     {
         let next = self.top.source.begin_line(alloc, store)?;
         if next.is_end() {
@@ -103,7 +104,8 @@ impl Reader {
         ensures outer { self.new.outer ≡ self.old.outer }
         ensures files { S.files store.new ≡ S.files store.old }
         ensures count { Passes ExpandFault.FileError (S.failures store.old) (S.failures store.new) result }
-        ensures stopped { IfSome (S.files store.old) (λ m. StopsAt m self.old self.new result) }
+        ensures stopped { IfSome (S.files store.old) (λ m.
+            StopsAt (FailsAtLine (left_of m self.old)) self.old self.new result) }
     {
         match self.next_line(alloc, store)? {
             Some(line) => Ok(line),

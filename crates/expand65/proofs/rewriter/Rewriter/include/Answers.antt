@@ -1,6 +1,9 @@
-use Rattle.std.proofs.Common.{◌≡◌, ◌∙◌, ℕ, Bor, List, Ok, ap, refl, sym}
+use Rattle.std.proofs.Common.{◌≡◌, ◌∙◌, ℕ, Bor, List, Ok, Option, ap, refl, subst, sym}
 use Rattle.std.specs.Option.{option_map}
+use Rattle.base65.specs.Store.{Files}
 use Rattle.syntax65.specs.Tokens.{lexemes}
+use Rattle.reader65.specs.Fronts.{string_of}
+use Rattle.expand65.specs.Failing.{FailsIncluding}
 use Rattle.expand65.specs.Includes.{first_file, include_line, included, tried}
 use Rattle.expand65.specs.Rewriting.{Turns, state_of}
 use Rattle.expand65.specs.Inner.Seeking.{file_of}
@@ -23,4 +26,9 @@ returns-clause-turns g c =
     where_known (g.S.Store.files c.args.store.now) (λ m. first_file m (tried beside folders name) ≡ Ok (file_of m file)) (λ m. Turns r (state_of m new) (λ x. x ≡ include_line m (state_of m old) ts)) (λ m h. turns_so r (state_of m new) (λ x. x ≡ included (state_of m old) (Ok (file_of m file))) (λ x. x ≡ include_line m (state_of m old) ts) (λ x e. e ∙ include_found m (state_of m old) ts name beside file folders text c.as_str-beside.ensures c.as_slice.ensures h) (c.enter_file.ensures.turns m (found_fits m (tried beside folders name) file h))) c.in_ok-file.ensures.found
 
 pub returns-in_err-file-clause-stopped : goal.returns-in_err-file-clause-stopped
-returns-in_err-file-clause-stopped g c = stood (g.S.Store.files c.args.store.now) c.args.self.now.reader c.args.self.now.reader c.from_residual.result refl refl
+returns-in_err-file-clause-stopped g c =
+    let old = c.args.self.now in
+    let ts = lexemes c.args.tokens.now in
+    let text = sym c.string_of.ensures ∙ ap (option_map (λ (s : Bor (List ℕ)). s.now)) c.in-Some.is in
+    let Q : Files → Option (List ℕ) → Type 0 = λ m t. FailsIncluding (state_of m old) t old.reader.place in
+    stood (g.S.Store.files c.args.store.now) (λ m. FailsIncluding (state_of m old) (string_of ts)) old.reader c.from_residual.result (λ m. subst (Q m) (sym text) refl)

@@ -1,5 +1,8 @@
+use Rattle.std.proofs.Common.{Err}
 use Rattle.std.proofs.lemmas.Result.{err_from_is_err_and}
 use Rattle.expand65.proofs.Innermost.{else_passed, else_refused, else_none, else_twice}
+use Rattle.expand65.proofs.Stopping.{stops_at_else}
+use Rattle.expand65.specs.declared.rewriter.Turn.{Turn}
 use Rattle.expand65.proofs.rewriter.Rewriter.pass_else.Goals as goal
 
 pub returns-in_err-pass-in-Some-false-clause-turns : goal.returns-in_err-pass-in-Some-false-clause-turns
@@ -20,3 +23,9 @@ pub returns-in-Some-true-clause-turns : goal.returns-in-Some-true-clause-turns
 returns-in-Some-true-clause-turns g c =
     let popped = rw c.in-Some-true.field-0-test at c.in-Some-true.ensures.pops in
     else_twice (g.S.Store.files c.args.store.now) c.args.self.now c.pop_above.new.self popped
+
+pub returns-in_err-pass-in-Some-false-clause-stopped : goal.returns-in_err-pass-in-Some-false-clause-stopped
+returns-in_err-pass-in-Some-false-clause-stopped g c =
+    let p = err_from_is_err_and c.from_residual.result c.from_residual.ensures.1 in
+    let popped = rw c.in-Some-false.field-0-test at c.in-Some-false.ensures.pops in
+    rw (p.1, p.2) (stops_at_else {A = Turn} (g.S.Store.files c.args.store.now) c.args.self.now c.pass.new.self c.pop_above.new.self (Err c.in_err-pass-in-Some-false.field-0.0) popped c.in_err-pass-in-Some-false.ensures.stopped)

@@ -1,4 +1,4 @@
-use Rattle.std.proofs.Common.{◌≡◌, [], Option, None, Some, IfSome, Ok, Err, subst}
+use Rattle.std.proofs.Common.{◌≡◌, [], Option, None, Some, IfSome, Ok, Err, refl, subst}
 use Rattle.std.specs.Option.{option_map}
 use Rattle.std.specs.Prelude.{IfNone}
 use Rattle.std.proofs.lemmas.Result.{err_from_is_err_and}
@@ -8,6 +8,7 @@ use Rattle.reader65.specs.Inside.{left_in, left_of}
 use Rattle.reader65.specs.Stopping.{StopsAt}
 use Rattle.reader65.specs.Fronts.{is_mislabelled}
 use Rattle.reader65.specs.Kept.{tokens_in}
+use Rattle.expand65.specs.Failing.{FailsUnlabelled}
 use Rattle.expand65.specs.Rewriting.{Turns, state_of}
 use Rattle.expand65.specs.Step.{IsLabelled, IsStep, at_mark}
 use Rattle.expand65.specs.State.{stops}
@@ -63,9 +64,12 @@ returns-in-Some-clause-stopped g c =
     let old = c.args.self.now in
     let new = c.next_line.new.self in
     let o = g.S.Store.files c.args.store.now in
+    let k = g.K.Knows.meaning c.args.knows.now in
+    let mid : Rewriter = record { alloc = old.alloc; reader = new; macros = old.macros; conditions = old.conditions; expansions = old.expansions; folders = old.folders } in
+    let ts = tokens_in c.in-Some.line in
     let r = c.begin.result in
     let end = c.begin.new.self in
     let P : Option Line → Type 0 = λ l. IfSome o (λ m. Takes (left_of m old.reader) (Ok (option_map tokens_in l, left_of m new))) in
     let taken = subst P c.in-Some.is c.in_ok-next_line.ensures.read in
-    let stopped = moved_to (λ m. StopsAt m new end.reader r) o (g.S.Store.files c.next_line.new.store) c.in_ok-next_line.ensures.files c.begin.ensures.stopped in
-    stops_behind o old.reader new end.reader (tokens_in c.in-Some.line) r taken c.in_ok-next_line.ensures.mark stopped
+    let stopped = moved_to (λ m. StopsAt (FailsUnlabelled k (state_of m mid) ts) new end.reader r) o (g.S.Store.files c.next_line.new.store) c.in_ok-next_line.ensures.files c.begin.ensures.stopped in
+    stops_behind o k old mid end.reader ts r taken (λ m. refl) c.in_ok-next_line.ensures.mark stopped

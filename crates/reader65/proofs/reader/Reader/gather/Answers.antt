@@ -7,13 +7,13 @@ use Rattle.reader65.specs.BlockLines.{TakesInBlock}
 use Rattle.reader65.specs.Blocks.{gathers}
 use Rattle.source65.specs.Faults.{is_failure, is_outside}
 use Rattle.reader65.specs.Inside.{left_of}
-use Rattle.reader65.specs.Stopping.{HasReadTo}
+use Rattle.reader65.specs.Stopping.{FailsAtLine, HasStopped}
 use Rattle.reader65.specs.Judging.{Judges}
 use Rattle.reader65.specs.Kept.{tokens_in}
 use Rattle.reader65.specs.declared.blocks.BlockStep.{BlockStep}
 use Rattle.reader65.proofs.Blocking.{Leads, line_missing, line_refused, line_closes, line_goes_on}
 use Rattle.reader65.proofs.Gathering.{moved_to}
-use Rattle.reader65.proofs.Stopping.{line_read, stops_on}
+use Rattle.reader65.proofs.Stopping.{Fails, line_read, stops_on}
 use Rattle.reader65.proofs.reader.Reader.gather.Goals as goal
 
 pub returns-in_err-line-clause-read : goal.returns-in_err-line-clause-read
@@ -59,13 +59,15 @@ lines-preserved g c =
     let more = line_goes_on gathers o c.args.self.now c.lines.self new (0, []) (c.lines.depth, body) (c.in-On.deeper, body ++ tokens_in line ∷ []) (tokens_in line) c.lines.invariant.so_far taken goes in
     let items : map tokens_in c.push.new.self ≡ body ++ tokens_in line ∷ [] = ap (map tokens_in) c.in_ok-push-in-On.ensures.ok ∙ map-append tokens_in c.lines.body (line ∷ []) in
     let Q : List (List Lexeme) → Type 0 = λ b. IfSome o (Leads gathers (c.in-On.deeper, b) new (0, []) c.args.self.now) in
+    let reads = line_read gathers o c.args.self.now c.lines.self new (0, []) (c.lines.depth, body) (c.in-On.deeper, body ++ tokens_in line ∷ []) (tokens_in line) c.lines.invariant.reads taken goes in
+    let R : List (List Lexeme) → Type 0 = λ b. IfSome o (Fails gathers (c.in-On.deeper, b) new (0, []) c.args.self.now) in
     record {
       outer = c.in_ok-line.ensures.outer ∙ c.lines.invariant.outer;
       mark = c.in_ok-line.ensures.mark ∙ c.lines.invariant.mark;
       room = omega (arith, c.in_ok-line.ensures.room, c.lines.invariant.room);
       files = c.in_ok-line.ensures.files ∙ c.lines.invariant.files;
       count = search rules;
-      reads = line_read o c.args.self.now c.lines.self new (tokens_in line) c.lines.invariant.reads taken;
+      reads = subst R (sym items) reads;
       so_far = subst Q (sym items) more;
     }
 
@@ -75,5 +77,5 @@ returns-in_err-line-clause-stopped g c =
     let o = g.S.Store.files c.args.store.now in
     let f = c.in_err-line.field-0.0 in
     let reads = c.lines.invariant.reads in
-    let stops = moved_to (λ m. is_failure f ≡ true → HasReadTo m c.lines.self c.block_line.new.self) o (g.S.Store.files c.lines.store) c.lines.invariant.files c.in_err-line.ensures.stopped in
-    rw (p.1, p.2) (stops_on o c.args.self.now c.lines.self c.block_line.new.self f reads c.lines.invariant.mark stops)
+    let stops = moved_to (λ m. is_failure f ≡ true → HasStopped (FailsAtLine (left_of m c.lines.self)) c.lines.self c.block_line.new.self) o (g.S.Store.files c.lines.store) c.lines.invariant.files c.in_err-line.ensures.stopped in
+    rw (p.1, p.2) (stops_on gathers o c.args.self.now c.lines.self c.block_line.new.self (0, []) (c.lines.depth, map tokens_in c.lines.body) f reads c.lines.invariant.mark stops)

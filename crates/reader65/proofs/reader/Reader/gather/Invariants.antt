@@ -4,7 +4,7 @@ use Rattle.reader65.specs.Blocks.{gathers}
 use Rattle.reader65.specs.Inside.{mark_of}
 use Rattle.reader65.specs.Kept.{tokens_in}
 use Rattle.reader65.proofs.Blocking.{Leads}
-use Rattle.reader65.proofs.Stopping.{ReadsOn}
+use Rattle.reader65.proofs.Stopping.{Fails}
 use Rattle.reader65.proofs.reader.Reader.gather.Given as goal
 
 abbrev pub invariant-lines : goal.invariant-lines
@@ -14,7 +14,7 @@ invariant-lines g l = record {
   room : l.self.room ≤ l.fn.self.room;
   files : g.S.Store.files l.store ≡ g.S.Store.files l.fn.store;
   count : g.S.Store.failures l.store ≡ g.S.Store.failures l.fn.store;
-  reads : IfSome (g.S.Store.files l.fn.store) (ReadsOn l.self l.fn.self);
+  reads : IfSome (g.S.Store.files l.fn.store) (Fails gathers (l.depth, map tokens_in l.body) l.self (0, []) l.fn.self);
   so_far : IfSome (g.S.Store.files l.fn.store) (Leads gathers (l.depth, map tokens_in l.body) l.self (0, []) l.fn.self);
 }
 

@@ -1,12 +1,13 @@
 use Rattle.std.proofs.Common.{◌≡◌, ◌∙◌, ap, refl, suc, arith, ◌-◌, true, Ok, Err}
 use Rattle.std.proofs.lemmas.Result.{err_from_is_err_and}
-use Rattle.reader65.specs.Inside.{TakesLine, left_in}
+use Rattle.reader65.specs.Inside.{TakesLine, left_in, left_of}
 use Rattle.reader65.specs.Left.{Mark}
+use Rattle.reader65.specs.Stopping.{FailsAtLine}
 use Rattle.reader65.specs.declared.input.NextLine.TheVariants.{AtEnd}
 use Rattle.reader65.specs.declared.reader.Reader.{Reader}
 use Rattle.reader65.proofs.Gathering.{moved_to}
 use Rattle.reader65.proofs.Nexts.{told_taken, told_refused}
-use Rattle.reader65.proofs.Stopping.{begins_there, none_read, stopped_so}
+use Rattle.reader65.proofs.Stopping.{fails_before, fails_within, stopped_so}
 use Rattle.reader65.proofs.reader.Reader.next_line.Goals as goal
 
 pub returns-in_err-line-clause-read : goal.returns-in_err-line-clause-read
@@ -36,15 +37,20 @@ returns-clause-read g c =
 
 pub returns-in_err-next-clause-stopped : goal.returns-in_err-next-clause-stopped
 returns-in_err-next-clause-stopped g c =
+    let p = err_from_is_err_and c.from_residual.result c.from_residual.ensures.1 in
+    let o = g.S.Store.files c.args.store.now in
     let old = c.args.self.now in
     let new : Reader = record { top = record { source = c.begin_line.new.self; conditions = old.top.conditions; back = old.top.back }; outer = old.outer; room = old.room; place = old.place } in
-    stopped_so (g.S.Store.files c.args.store.now) old new c.from_residual.result (none_read _ old old.place refl) (ap (λ b. let k : Mark = record { is_macro = b; conditions = old.top.conditions; back = old.top.back } in k) c.in_err-next.ensures.call)
+    let same = ap (λ b. let k : Mark = record { is_macro = b; conditions = old.top.conditions; back = old.top.back } in k) c.in_err-next.ensures.call in
+    rw (p.1, p.2) (stopped_so o (λ m. FailsAtLine (left_of m old)) old new c.in_err-next.field-0.0 same (λ failed. fails_before o old (c.in_err-next.ensures.file failed)))
 
 pub returns-in_err-line-clause-stopped : goal.returns-in_err-line-clause-stopped
 returns-in_err-line-clause-stopped g c =
+    let p = err_from_is_err_and c.from_residual-in_err-line.result c.from_residual-in_err-line.ensures.1 in
     let o = g.S.Store.files c.args.store.now in
     let old = c.args.self.now in
     let mid = c.begin_line.new.self in
     let new : Reader = record { top = record { source = c.take_line.new.self; conditions = old.top.conditions; back = old.top.back }; outer = old.outer; room = old.room - 1; place = c.move_by.new.place } in
-    stopped_so o old new c.from_residual-in_err-line.result (begins_there o old mid c.move_by.new.place c.in_ok-next.next c.in_ok-next.ensures.comes c.in_ok-next.ensures.same c.move_by.ensures)
-    (ap (λ b. let k : Mark = record { is_macro = b; conditions = old.top.conditions; back = old.top.back } in k) (c.in_err-line.ensures.call ∙ c.in_ok-next.ensures.call))
+    let not_end : c.in_ok-next.next ≡ AtEnd → ⊥ = λ e. let t : c.is_end.result ≡ true = c.is_end.ensures.1 e in let u = c.if-is_end.false in absurd cc in
+    let same = ap (λ b. let k : Mark = record { is_macro = b; conditions = old.top.conditions; back = old.top.back } in k) (c.in_err-line.ensures.call ∙ c.in_ok-next.ensures.call) in
+    rw (p.1, p.2) (stopped_so o (λ m. FailsAtLine (left_of m old)) old new c.in_err-line.field-0.0 same (λ failed. fails_within o old mid c.move_by.new.place c.in_ok-next.next (c.in_err-line.ensures.file failed) c.in_ok-next.ensures.comes c.in_ok-next.ensures.same not_end c.move_by.ensures))

@@ -3,7 +3,7 @@ use Rattle.std.specs.Prelude.{IfSome}
 use Rattle.reader65.specs.Blocks.{skips}
 use Rattle.reader65.specs.Inside.{mark_of}
 use Rattle.reader65.proofs.Blocking.{Leads}
-use Rattle.reader65.proofs.Stopping.{ReadsOn}
+use Rattle.reader65.proofs.Stopping.{Fails}
 use Rattle.reader65.proofs.reader.Reader.skip.Given as goal
 
 abbrev pub invariant-lines : goal.invariant-lines
@@ -13,7 +13,7 @@ invariant-lines g l = record {
   room : l.self.room ≤ l.fn.self.room;
   files : g.S.Store.files l.store ≡ g.S.Store.files l.fn.store;
   count : g.S.Store.failures l.store ≡ g.S.Store.failures l.fn.store;
-  reads : IfSome (g.S.Store.files l.fn.store) (ReadsOn l.self l.fn.self);
+  reads : IfSome (g.S.Store.files l.fn.store) (Fails skips l.depth l.self 0 l.fn.self);
   so_far : IfSome (g.S.Store.files l.fn.store) (Leads skips l.depth l.self 0 l.fn.self);
 }
 

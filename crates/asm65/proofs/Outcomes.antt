@@ -38,7 +38,7 @@ use Rattle.asm65.specs.declared.assembly.Assembly.{Assembly}
 use Rattle.asm65.specs.declared.refusal.AsmRefusal.{AsmRefusal}
 use Rattle.asm65.specs.declared.running.Run.{Run}
 use Rattle.asm65.specs.Assembly.{Concludes, IsAssembled, answer_of, has_failed, is_from_memory, is_from_outside, is_outside_refusal, placed_of}
-use Rattle.asm65.specs.Failing.{Stops, StopsAll, StopsAsked, StopsAskedSo, StopsBehind, StopsFrom, StopsSo}
+use Rattle.asm65.specs.Failing.{StopsAll, Stops, StopsSo, StopsBehind, StopsFrom}
 use Rattle.asm65.specs.Inner.Holding.{Holds}
 use Rattle.asm65.specs.Inner.Running.{HoldsWithin, IsHeldBy, IsReached, at_first, behind, IsReachedBy, IsRunning, Leaves, Ran, SaysAs, running_limit}
 use Rattle.asm65.proofs.Sources.{RanAll, some_all, some_both, some_then}
@@ -254,23 +254,15 @@ memory_silent (Ok o) P f h = absurd cc
 memory_silent (Err e) P f h = f (memory_outside e.fault h)
 
 -- the store didn't fail
-never_so : (m : Files) (blamed : Option (List ℕ)) (job : Job) (a : Assembly) → IfErr a.result (λ e. has_failed e ≡ false) → StopsAskedSo m blamed job a
+never_so : (m : Files) (blamed : Option (List ℕ)) (job : Job) (a : Assembly) → IfErr a.result (λ e. has_failed e ≡ false) → StopsSo m blamed job a
 never_so m blamed job a none = by a.result none
   where
-    by : (r : Found) → IfErr r (λ e. has_failed e ≡ false) → IfErr r (λ e. has_failed e ≡ true → StopsAsked m blamed job (placed_of e) a.out a.err)
+    by : (r : Found) → IfErr r (λ e. has_failed e ≡ false) → IfErr r (λ e. has_failed e ≡ true → Stops m blamed job (placed_of e) a.out a.err)
     by (Ok o) h = tt
     by (Err e) h = λ yes. absurd (let both : true ≡ false = sym yes ∙ h in cc)
 
-pub stops_never_so : (o : Option Files) (blamed : Option (List ℕ)) (job : Job) (a : Assembly) → IfErr a.result (λ e. has_failed e ≡ false) → IfSome o (λ m. StopsAskedSo m blamed job a)
-stops_never_so o blamed job a none = some_all (λ m. StopsAskedSo m blamed job a) o (λ m. never_so m blamed job a none)
-
--- whatever the store asked for
-pub stops_so : (o : Option Files) (blamed : Option (List ℕ)) (job : Job) (a : Assembly) → IfSome o (λ m. StopsAskedSo m blamed job a) → IfSome o (λ m. StopsSo m job a)
-stops_so o blamed job a = some_then (λ m. StopsAskedSo m blamed job a) (λ m. StopsSo m job a) o (λ m. by m a.result)
-  where
-    by : (m : Files) (r : Found) → IfErr r (λ e. has_failed e ≡ true → StopsAsked m blamed job (placed_of e) a.out a.err) → IfErr r (λ e. has_failed e ≡ true → Stops m job (placed_of e) a.out a.err)
-    by m (Ok x) h = tt
-    by m (Err e) h = λ failed. (blamed, h failed)
+pub stops_never_so : (o : Option Files) (blamed : Option (List ℕ)) (job : Job) (a : Assembly) → IfErr a.result (λ e. has_failed e ≡ false) → IfSome o (λ m. StopsSo m blamed job a)
+stops_never_so o blamed job a none = some_all (λ m. StopsSo m blamed job a) o (λ m. never_so m blamed job a none)
 
 pub stops_never_from : (o : Option Files) (blamed : Option (List ℕ)) (first : Run) (a : Assembly) → IfErr a.result (λ e. has_failed e ≡ false) → IfSome o (λ m. StopsFrom m blamed first a)
 stops_never_from o blamed first a none = some_all (λ m. StopsFrom m blamed first a) o (λ m job begins. never_so m blamed job a none)
@@ -284,10 +276,10 @@ as_memory (Ok o) h = tt
 as_memory (Err x) h = ap is_failure h
 
 -- it failed before a line was read
-pub stops_first : (o : Option Files) (blamed : Option (List ℕ)) (job : Job) (e : ExpandFault) (a : Assembly) → IfErr a.result (λ x. has_failed x ≡ is_failure (Expansion e)) → (is_failure (Expansion e) ≡ true → IfErr a.result (λ x. (x.fault ≡ Expansion e) × (x.line ≡ 0))) → (is_from_outside a.result ≡ true → (a.out ≡ []) × (a.err ≡ [])) → (e ≡ FileError → IsBlamed blamed job.source) → IfSome o (λ m. StopsAskedSo m blamed job a)
-stops_first o blamed job e a failed first silent asked = some_all (λ m. StopsAskedSo m blamed job a) o (λ m. by m a.result failed first silent)
+pub stops_first : (o : Option Files) (blamed : Option (List ℕ)) (job : Job) (e : ExpandFault) (a : Assembly) → IfErr a.result (λ x. has_failed x ≡ is_failure (Expansion e)) → (is_failure (Expansion e) ≡ true → IfErr a.result (λ x. (x.fault ≡ Expansion e) × (x.line ≡ 0))) → (is_from_outside a.result ≡ true → (a.out ≡ []) × (a.err ≡ [])) → (e ≡ FileError → IsBlamed blamed job.source) → IfSome o (λ m. StopsSo m blamed job a)
+stops_first o blamed job e a failed first silent asked = some_all (λ m. StopsSo m blamed job a) o (λ m. by m a.result failed first silent)
   where
-    by : (m : Files) (r : Found) → IfErr r (λ x. has_failed x ≡ is_failure (Expansion e)) → (is_failure (Expansion e) ≡ true → IfErr r (λ x. (x.fault ≡ Expansion e) × (x.line ≡ 0))) → (is_from_outside r ≡ true → (a.out ≡ []) × (a.err ≡ [])) → IfErr r (λ x. has_failed x ≡ true → StopsAsked m blamed job (placed_of x) a.out a.err)
+    by : (m : Files) (r : Found) → IfErr r (λ x. has_failed x ≡ is_failure (Expansion e)) → (is_failure (Expansion e) ≡ true → IfErr r (λ x. (x.fault ≡ Expansion e) × (x.line ≡ 0))) → (is_from_outside r ≡ true → (a.out ≡ []) × (a.err ≡ [])) → IfErr r (λ x. has_failed x ≡ true → Stops m blamed job (placed_of x) a.out a.err)
     by m (Ok x) failed first silent = tt
     by m (Err x) failed first silent = λ yes.
         (let is : is_failure (Expansion e) ≡ true = sym failed ∙ yes in
@@ -306,7 +298,7 @@ stops_here o blamed first now e a failed placed out err all =
     at : PlacedFault
     at = record { place = place_of now.expander; fault = e }
 
-    by : (m : Files) (job : Job) (r : Found) → StoppedAt (place_of now.expander) e r → StopsBehind m blamed job (record { place = place_of now.expander; fault = e }) now.assembler.texts.out now.assembler.texts.err → IfErr r (λ x. has_failed x ≡ true → StopsAsked m blamed job (placed_of x) a.out a.err)
+    by : (m : Files) (job : Job) (r : Found) → StoppedAt (place_of now.expander) e r → StopsBehind m blamed job (record { place = place_of now.expander; fault = e }) now.assembler.texts.out now.assembler.texts.err → IfErr r (λ x. has_failed x ≡ true → Stops m blamed job (placed_of x) a.out a.err)
     by m job (Ok x) p h = tt
     by m job (Err x) p h = λ yes.
         inr (subst (λ (q : PlacedFault). StopsBehind m blamed job q a.out a.err) (sym p) (subst (λ (t : List ℕ). StopsBehind m blamed job at t a.err) (sym out) (subst (λ (t : List ℕ). StopsBehind m blamed job at now.assembler.texts.out t) (sym err) h)))
@@ -324,6 +316,6 @@ stops_behind o blamed first now e a same stopped said all = by (is_failure e) re
     by false is = stops_never_from o blamed first a (as_fault a.result e is same)
 
 -- what an opened source comes to behind its constants
-pub run_stops : (o : Option Files) (blamed : Option (List ℕ)) (job : Job) (x : Expander) (b : Assembler) (v : Unit {0}) (a : Assembly) → AreLeft job b v → measure_of x ≤ 3145729 → IfSome o (λ m. Opens m (Ok x) (opened_in m job.source job.include)) → IfSome o (λ m. StopsFrom m blamed (record { expander = x; assembler = b }) a) → IfSome o (λ m. StopsAskedSo m blamed job a)
+pub run_stops : (o : Option Files) (blamed : Option (List ℕ)) (job : Job) (x : Expander) (b : Assembler) (v : Unit {0}) (a : Assembly) → AreLeft job b v → measure_of x ≤ 3145729 → IfSome o (λ m. Opens m (Ok x) (opened_in m job.source job.include)) → IfSome o (λ m. StopsFrom m blamed (record { expander = x; assembler = b }) a) → IfSome o (λ m. StopsSo m blamed job a)
 run_stops o blamed job x b v a left size opens all =
-    some_both (λ m. Opens m (Ok x) (opened_in m job.source job.include)) (λ m. StopsFrom m blamed (record { expander = x; assembler = b }) a) (λ m. StopsAskedSo m blamed job a) o (λ m q r. r job (left.0, q, left.1, first_held x b left.0 (record { expander = x; assembler = b }) refl size left.3)) opens all
+    some_both (λ m. Opens m (Ok x) (opened_in m job.source job.include)) (λ m. StopsFrom m blamed (record { expander = x; assembler = b }) a) (λ m. StopsSo m blamed job a) o (λ m q r. r job (left.0, q, left.1, first_held x b left.0 (record { expander = x; assembler = b }) refl size left.3)) opens all

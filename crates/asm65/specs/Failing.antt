@@ -63,21 +63,13 @@ pub record StopsFirst (blamed : Option (List ℕ)) (job : Job) (e : PlacedFault)
   pub no_err : err ≡ []
 
 -- where the store failed, which asked last for a name that it may tell
-abbrev pub StopsAsked : Files → Option (List ℕ) → Job → PlacedFault → (out err : List ℕ) → Type 0
-StopsAsked m blamed job e out err = StopsFirst blamed job e out err ⊎ StopsBehind m blamed job e out err
-
--- the same, whatever it asked for
-abbrev pub Stops : Files → Job → PlacedFault → (out err : List ℕ) → Type 0
-Stops m job e out err = (blamed : Option (List ℕ)) × StopsAsked m blamed job e out err
+abbrev pub Stops : Files → Option (List ℕ) → Job → PlacedFault → (out err : List ℕ) → Type 0
+Stops m blamed job e out err = StopsFirst blamed job e out err ⊎ StopsBehind m blamed job e out err
 
 -- an assembly that is refused since the store failed
-abbrev pub StopsAskedSo : Files → Option (List ℕ) → Job → Assembly → Type 0
-StopsAskedSo m blamed job a =
-    IfErr a.result (λ e. has_failed e ≡ true → StopsAsked m blamed job (placed_of e) a.out a.err)
-
-abbrev pub StopsSo : Files → Job → Assembly → Type 0
-StopsSo m job a =
-    IfErr a.result (λ e. has_failed e ≡ true → Stops m job (placed_of e) a.out a.err)
+abbrev pub StopsSo : Files → Option (List ℕ) → Job → Assembly → Type 0
+StopsSo m blamed job a =
+    IfErr a.result (λ e. has_failed e ≡ true → Stops m blamed job (placed_of e) a.out a.err)
 
 -- ---- While statements are taken.
 
@@ -95,4 +87,4 @@ StopsAll m blamed first now r = IfErr r (λ e. is_failure e ≡ true → (job : 
 
 -- what such a beginning comes to
 abbrev pub StopsFrom : Files → Option (List ℕ) → Run → Assembly → Type 0
-StopsFrom m blamed first a = (job : Job) → Begins m job first → StopsAskedSo m blamed job a
+StopsFrom m blamed first a = (job : Job) → Begins m job first → StopsSo m blamed job a

@@ -11,7 +11,7 @@ ghost use Rattle.language65.specs.Faults.{is_failure, is_outside};
 ghost use Rattle.module65.specs.Machine.{State, Takes, begun, concluded};
 ghost use Rattle.module65.specs.Reading.{AreDefined, Job, no_line};
 ghost use Rattle.asm65.specs.Assembly.{Concludes, IsAssembled, answer_of, has_failed, is_from_memory, is_from_outside, is_outside_refusal, job_of, placed_of};
-ghost use Rattle.asm65.specs.Failing.{StopsAskedSo, StopsFrom, StopsSo};
+ghost use Rattle.asm65.specs.Failing.{StopsSo, StopsFrom};
 ghost use Rattle.asm65.specs.Inner.Holding.{Holds};
 ghost use Rattle.asm65.specs.Inner.Running.{IsHeldBy, IsRunning, SaysAs};
 ghost use Rattle.asm65.specs.Views.{place_in};
@@ -200,7 +200,7 @@ fn assembled<S: Store>(
     ensures good { IfOk result.result (λ o. is_good_object o ≡ true) }
     ensures numbers { IfOk result.result ObjectFits }
     ensures stopped { IfSome (S.files store.old) (λ m.
-        StopsAskedSo m (S.blamed store.new) (job_of job.now) result) }
+        StopsSo m (S.blamed store.new) (job_of job.now) result) }
     ensures silent { is_from_memory result.result ≡ true → (result.out ≡ []) × (result.err ≡ []) }
 {
     let mut assembler = assembler;
@@ -233,11 +233,10 @@ pub fn assemble<S: Store>(alloc: Global, store: &mut S, job: &AsmJob<'_>) -> Ass
     // An object can be written.
     ensures good { IfOk result.result (λ o. is_good_object o ≡ true) }
     ensures numbers { IfOk result.result ObjectFits }
-    // Where the store fails, what the statements before say is said, and where it was.
-    ensures stopped { IfSome (S.files store.old) (λ m. StopsSo m (job_of job.now) result) }
-    // The same, where the store tells for which name its last failed call asked.
-    ensures blamed { IfSome (S.files store.old) (λ m.
-        StopsAskedSo m (S.blamed store.new) (job_of job.now) result) }
+    // Where the store fails, what the statements before say is said, and where it was, by the name that its last failed call
+    // asked for where the store tells that.
+    ensures stopped { IfSome (S.files store.old) (λ m.
+        StopsSo m (S.blamed store.new) (job_of job.now) result) }
     // Where memory runs out nothing is said.
     ensures silent { is_from_memory result.result ≡ true → (result.out ≡ []) × (result.err ≡ []) }
 {

@@ -207,13 +207,13 @@ module _ (a : Assembling) (out err : List ℕ) where
   Is m r = IsAssembled m (job_in a) (record { result = in_places r; out = out; err = err })
 
   abbrev StopsFor : Job → Files → Option (List ℕ) → AsmRefusal → Type 0
-  StopsFor j m blamed e = Stops m j (placed_of e) out err
+  StopsFor j m blamed e = Stops m blamed j (placed_of e) out err
 
   -- by the same job, whose folders and constants are those of a line
-  pub stops_as : (known : Option Files) (j : Job) (r : Result Object AsmRefusal) → j ≡ job_in a → IfSome known (λ m. IfErr r (λ e. has_failed e ≡ true → Stops m j (placed_of e) out err)) → IfSome known (λ m. IfErr r (λ e. has_failed e ≡ true → Stops m (job_in a) (placed_of e) out err))
-  stops_as known j r same h = subst (λ (k : Job). IfSome known (λ m. IfErr r (λ e. has_failed e ≡ true → Stops m k (placed_of e) out err))) same h
+  pub stops_as : (known : Option Files) (asked : Option (List ℕ)) (j : Job) (r : Result Object AsmRefusal) → j ≡ job_in a → IfSome known (λ m. IfErr r (λ e. has_failed e ≡ true → Stops m asked j (placed_of e) out err)) → IfSome known (λ m. IfErr r (λ e. has_failed e ≡ true → Stops m asked (job_in a) (placed_of e) out err))
+  stops_as known asked j r same h = subst (λ (k : Job). IfSome known (λ m. IfErr r (λ e. has_failed e ≡ true → Stops m asked k (placed_of e) out err))) same h
 
-  refusal_why : (m : Files) (blamed : Option (List ℕ)) (e : AsmRefusal) (o : Outcome) → has_failed e ≡ true → Stops m (job_in a) (placed_of e) out err → Comes (Err e) o → (said : List ℕ) × (text : List ℕ) × SaysWhy (assemble a) m blamed said text × (o ≡ refusing said text)
+  refusal_why : (m : Files) (blamed : Option (List ℕ)) (e : AsmRefusal) (o : Outcome) → has_failed e ≡ true → Stops m blamed (job_in a) (placed_of e) out err → Comes (Err e) o → (said : List ℕ) × (text : List ℕ) × SaysWhy (assemble a) m blamed said text × (o ≡ refusing said text)
   refusal_why m blamed e o failed stops is = by_memory (is_asm_memory e.fault) refl
     where
       by_memory : (b : Bool) → is_asm_memory e.fault ≡ b → (said : List ℕ) × (text : List ℕ) × SaysWhy (assemble a) m blamed said text × (o ≡ refusing said text)
@@ -229,7 +229,7 @@ module _ (a : Assembling) (out err : List ℕ) where
   assembles : (m : Files) (o : Outcome) → ((r : Result Object AsmRefusal) × Is m r × Comes r o) → Assembles a m o
   assembles m o h = with_texts a out err m o h
 
-  pub failed_assembly : (known mid new : Option Files) (fo fm fn : ℕ) (r : Result Object AsmRefusal) (o : Outcome) (asked blamed out_old out_new err_old err_new : Option (List ℕ)) (status : Status) → mid ≡ known → PassesBy has_failed fo fm r → Asks is_outside_refusal fo r → AssemblesWith a out err (in_places r) o → IfSome known (λ m. IfErr r (λ e. has_failed e ≡ true → Stops m (job_in a) (placed_of e) out err)) → IfSome known (λ m. Finds is_outside_refusal (Is m) r) → (o.outputs ≡ [] → IfSome mid (λ m. Performs o m new out_old out_new err_old err_new status)) → (o.outputs ≡ [] → blamed ≡ asked) → IfSome mid (λ m. fm < fn → StopsWriting o m new blamed out_old out_new err_old err_new status) → IfSome known (λ m. HasFailed fo fn → FailsLine (assemble a) m new blamed out_old out_new err_old err_new status)
+  pub failed_assembly : (known mid new : Option Files) (fo fm fn : ℕ) (r : Result Object AsmRefusal) (o : Outcome) (asked blamed out_old out_new err_old err_new : Option (List ℕ)) (status : Status) → mid ≡ known → PassesBy has_failed fo fm r → Asks is_outside_refusal fo r → AssemblesWith a out err (in_places r) o → IfSome known (λ m. IfErr r (λ e. has_failed e ≡ true → Stops m asked (job_in a) (placed_of e) out err)) → IfSome known (λ m. Finds is_outside_refusal (Is m) r) → (o.outputs ≡ [] → IfSome mid (λ m. Performs o m new out_old out_new err_old err_new status)) → (o.outputs ≡ [] → blamed ≡ asked) → IfSome mid (λ m. fm < fn → StopsWriting o m new blamed out_old out_new err_old err_new status) → IfSome known (λ m. HasFailed fo fn → FailsLine (assemble a) m new blamed out_old out_new err_old err_new status)
   unfolding FailsLine
   failed_assembly known mid new fo fm fn r o asked blamed out_old out_new err_old err_new status same count asks comes stopped finds performs kept stops =
       fails_as _ (Assembles a) (SaysWhy (assemble a)) assembles known new fo fn blamed out_old out_new err_old err_new status

@@ -45,7 +45,7 @@ Fails does Why m new blamed out_old out_new err_old err_new status =
 -- script, an input or a member of one; the library or a FILE that is put in).
 abbrev pub SaysFailure : Says → Files → Option (List ℕ) → List ℕ → List ℕ → Type 0
 SaysFailure (assemble a) m blamed out err =
-    (e : PlacedFault) × (before : List ℕ) × (asm.is_failure e.fault ≡ true) × Stops m (job_in a) e out before × (err ≡ before ++ asm_message a.source e)
+    (e : PlacedFault) × (before : List ℕ) × (asm.is_failure e.fault ≡ true) × Stops m blamed (job_in a) e out before × (err ≡ before ++ asm_message a.source e)
 SaysFailure (link l) m blamed out err =
     (e : Refusal) × (is_failure e ≡ true) × IsOfLine blamed l e × (out ≡ []) × (err ≡ refusal_message l e)
 SaysFailure (archive a) m blamed out err =

@@ -41,7 +41,7 @@ returns-in-Ok-asm_outcome-clause-failed g c =
     let include : c.as_slice-3.result.now ≡ a.include = search rules in
     let defines : map define_of c.as_slice-4.result.now ≡ map define_in a.defines = search rules in
     let assembly = c.assemble-assembly.result in
-    failed_assembly a assembly.out assembly.err _ _ _ _ _ _ assembly.result c.in-Ok-asm_outcome.outcome _ _ _ _ _ _ _ c.assemble-assembly.ensures.files c.assemble-assembly.ensures.count c.assemble-assembly.ensures.asked c.in-Ok-asm_outcome.ensures (stops_as a assembly.out assembly.err _ j assembly.result (same_job a _ _ include defines) c.assemble-assembly.ensures.stopped) (as_job _ j a assembly.out assembly.err assembly.result (same_job a _ _ include defines) c.assemble-assembly.ensures.assembled) c.perform.ensures.plain c.perform.ensures.untouched c.perform.ensures.failed
+    failed_assembly a assembly.out assembly.err _ _ _ _ _ _ assembly.result c.in-Ok-asm_outcome.outcome _ _ _ _ _ _ _ c.assemble-assembly.ensures.files c.assemble-assembly.ensures.count c.assemble-assembly.ensures.asked c.in-Ok-asm_outcome.ensures (stops_as a assembly.out assembly.err _ _ j assembly.result (same_job a _ _ include defines) c.assemble-assembly.ensures.stopped) (as_job _ j a assembly.out assembly.err assembly.result (same_job a _ _ include defines) c.assemble-assembly.ensures.assembled) c.perform.ensures.plain c.perform.ensures.untouched c.perform.ensures.failed
 
 pub returns-clause-failed : goal.returns-clause-failed
 returns-clause-failed g c = only_memory_fails _ _ (assemble (assembling c.args.line.now)) _ _ _ _ c.say_memory-in-Err.result _ _ c.assemble-assembly.ensures.files refl c.say_memory-in-Err.ensures

@@ -145,7 +145,7 @@ module _ {A E : Type 0} (is_memory is_failure : E → Bool) (memory : List ℕ) 
 -- ---- The commands.
 
 -- memory ran out before there was an outcome
-pub only_memory_fails : (known new : Option Files) (line : Says) (blamed out err_old err_new : Option (List ℕ)) (whole : Bool) (status : Status) → new ≡ known → status ≡ Failure → Prints err_old err_new (line_memory line) whole → IfSome known (λ m. Q → FailsLine line m new blamed out out err_old err_new status)
+pub only_memory_fails : (known new : Option Files) (line : Says) (blamed out err_old err_new : Option (List ℕ)) (whole : Bool) (status : Status) (Q : Type 0) → new ≡ known → status ≡ Failure → Prints err_old err_new (line_memory line) whole → IfSome known (λ m. Q → FailsLine line m new blamed out out err_old err_new status)
 unfolding FailsLine
 only_memory_fails None new line blamed out err_old err_new whole status Q same e p = tt
 only_memory_fails (Some m) new line blamed out err_old err_new whole status Q same e p = λ _.

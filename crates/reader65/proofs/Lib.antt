@@ -5,6 +5,7 @@ pub mod Labels
 pub mod Leaving
 pub mod Lists
 pub mod Marks
+pub mod Naming
 pub mod Nexts
 pub mod Opening
 pub mod Plainly

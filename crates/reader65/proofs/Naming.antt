@@ -1,10 +1,11 @@
 -- Under which names open files are read.
-use Rattle.std.proofs.Common.{◌≡◌, ◌∙◌, List, [], ◌∷◌, ◌++◌, Option, None, Some, ap, refl, reverse, sym, subst}
+use Rattle.std.proofs.Common.{◌≡◌, ◌∙◌, List, [], ◌∷◌, ◌++◌, Option, None, Some, ap, refl, reverse, sym, subst, true}
 use Rattle.std.proofs.lemmas.List.{reverse-append}
 use Rattle.source65.specs.declared.place.Place.{Place}
-use Rattle.reader65.specs.Inside.{moved_by}
+use Rattle.reader65.specs.Inside.{is_call, moved_by}
 use Rattle.reader65.specs.Left.{come_back}
 use Rattle.reader65.specs.Naming.{AreNamed, IsNamed, NamesFiles, open_in}
+use Rattle.reader65.specs.declared.file.OpenFile.{OpenFile}
 use Rattle.reader65.specs.declared.input.NextLine.{NextLine}
 use Rattle.reader65.specs.declared.input.NextLine.TheVariants.{AtEnd, Numbered, Replayed}
 use Rattle.reader65.specs.declared.input.Source.{Source}
@@ -88,3 +89,15 @@ goes_back mid new p t o e h =
 pub named_in : (r : Reader) → NamesFiles r → AreNamed (open_in r) r.place
 unfolding NamesFiles
 named_in r h = h
+
+pub call_named : (s : Source) (p : Place) → is_call s ≡ true → IsNamed s p
+call_named (source.File f) p h = absurd cc
+call_named (source.Call r) p h = tt
+call_named (source.Repeat r next count) p h = tt
+
+-- a source that is opened
+pub source_named : (r : Reader) (f : OpenFile) → r.top.source ≡ source.File f → r.top.back ≡ None → r.outer.items ≡ [] → f.name ≡ r.place.file → NamesFiles r
+unfolding NamesFiles
+source_named r f s b o n =
+    let named : IsNamed r.top.source r.place = subst (λ x. IsNamed x r.place) (sym s) n in
+    subst (λ (is : List Input). AreNamed (r.top ∷ reverse is) r.place) (sym o) (named, b)

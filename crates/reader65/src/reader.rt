@@ -123,6 +123,7 @@ impl Reader {
             (λ r. r ≡ pushed (left_in m input.source) (mark_of input) (left_of m self.old)) }
         ensures room { self.new.room ≡ self.old.room }
         ensures outer { OnOk result (length self.new.outer.items ≡ length self.old.outer.items + 1) }
+        ensures place { self.new.place ≡ self.old.place }
         ensures named { (p : Place) → IsNamed input.source p → come_back p input.back ≡ self.old.place →
             NamesFiles self.old → OnOk result (AreNamed (open_in self.new) p) }
         ensures inside { IfErr result (λ e. is_failure e ≡ false) }

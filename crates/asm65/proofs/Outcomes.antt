@@ -2,7 +2,7 @@
 use Rattle.std.proofs.Common.{◌≡◌, ◌∙◌, ℕ, ◌+◌, ◌*◌, ◌≤◌, ◌<◌, inl, inr, arith, nat_lt, Bool, true, false, List, [], Option, Some, None, refl, sym, ap, subst}
 use Rattle.std.specs.Prelude.{Result, Ok, Err, IfOk, IfErr, IfSome, ⊤, ◌||◌}
 use Rattle.base65.specs.Outcome.{Finds, Unless, ◌>>=◌}
-use Rattle.base65.specs.Store.{Files, Passes, PassesBy}
+use Rattle.base65.specs.Store.{Files, IsBlamed, Passes, PassesBy}
 use Rattle.std.proofs.lemmas.Bool.Decides.{nat_tests}
 use Rattle.source65.specs.declared.fault.ExpandFault.TheVariants.{FileError}
 use Rattle.expand65.specs.declared.expander.Expander.{Expander}
@@ -38,7 +38,7 @@ use Rattle.asm65.specs.declared.assembly.Assembly.{Assembly}
 use Rattle.asm65.specs.declared.refusal.AsmRefusal.{AsmRefusal}
 use Rattle.asm65.specs.declared.running.Run.{Run}
 use Rattle.asm65.specs.Assembly.{Concludes, IsAssembled, answer_of, has_failed, is_from_memory, is_from_outside, is_outside_refusal, placed_of}
-use Rattle.asm65.specs.Failing.{Stops, StopsAll, StopsBehind, StopsFrom, StopsSo}
+use Rattle.asm65.specs.Failing.{Stops, StopsAll, StopsAsked, StopsAskedSo, StopsBehind, StopsFrom, StopsSo}
 use Rattle.asm65.specs.Inner.Holding.{Holds}
 use Rattle.asm65.specs.Inner.Running.{HoldsWithin, IsHeldBy, IsReached, at_first, behind, IsReachedBy, IsRunning, Leaves, Ran, SaysAs, running_limit}
 use Rattle.asm65.proofs.Sources.{RanAll, some_all, some_both, some_then}
@@ -244,24 +244,36 @@ expansion_error : (e : ExpandFault) → is_failure (Expansion e) ≡ true → Ex
 expansion_error FileError h = refl
 expansion_error _ h = absurd cc
 
+only_error : (e : ExpandFault) → is_failure (Expansion e) ≡ true → e ≡ FileError
+only_error FileError h = refl
+only_error _ h = absurd cc
+
 -- where memory runs out nothing is said, if nothing is where it comes from outside
 pub memory_silent : (r : Found) (P : Type 0) → (is_from_outside r ≡ true → P) → is_from_memory r ≡ true → P
 memory_silent (Ok o) P f h = absurd cc
 memory_silent (Err e) P f h = f (memory_outside e.fault h)
 
 -- the store didn't fail
-never_so : (m : Files) (job : Job) (a : Assembly) → IfErr a.result (λ e. has_failed e ≡ false) → StopsSo m job a
-never_so m job a none = by a.result none
+never_so : (m : Files) (blamed : Option (List ℕ)) (job : Job) (a : Assembly) → IfErr a.result (λ e. has_failed e ≡ false) → StopsAskedSo m blamed job a
+never_so m blamed job a none = by a.result none
   where
-    by : (r : Found) → IfErr r (λ e. has_failed e ≡ false) → IfErr r (λ e. has_failed e ≡ true → Stops m job (placed_of e) a.out a.err)
+    by : (r : Found) → IfErr r (λ e. has_failed e ≡ false) → IfErr r (λ e. has_failed e ≡ true → StopsAsked m blamed job (placed_of e) a.out a.err)
     by (Ok o) h = tt
     by (Err e) h = λ yes. absurd (let both : true ≡ false = sym yes ∙ h in cc)
 
-pub stops_never_so : (o : Option Files) (job : Job) (a : Assembly) → IfErr a.result (λ e. has_failed e ≡ false) → IfSome o (λ m. StopsSo m job a)
-stops_never_so o job a none = some_all (λ m. StopsSo m job a) o (λ m. never_so m job a none)
+pub stops_never_so : (o : Option Files) (blamed : Option (List ℕ)) (job : Job) (a : Assembly) → IfErr a.result (λ e. has_failed e ≡ false) → IfSome o (λ m. StopsAskedSo m blamed job a)
+stops_never_so o blamed job a none = some_all (λ m. StopsAskedSo m blamed job a) o (λ m. never_so m blamed job a none)
 
-pub stops_never_from : (o : Option Files) (first : Run) (a : Assembly) → IfErr a.result (λ e. has_failed e ≡ false) → IfSome o (λ m. StopsFrom m first a)
-stops_never_from o first a none = some_all (λ m. StopsFrom m first a) o (λ m job begins. never_so m job a none)
+-- whatever the store asked for
+pub stops_so : (o : Option Files) (blamed : Option (List ℕ)) (job : Job) (a : Assembly) → IfSome o (λ m. StopsAskedSo m blamed job a) → IfSome o (λ m. StopsSo m job a)
+stops_so o blamed job a = some_then (λ m. StopsAskedSo m blamed job a) (λ m. StopsSo m job a) o (λ m. by m a.result)
+  where
+    by : (m : Files) (r : Found) → IfErr r (λ e. has_failed e ≡ true → StopsAsked m blamed job (placed_of e) a.out a.err) → IfErr r (λ e. has_failed e ≡ true → Stops m job (placed_of e) a.out a.err)
+    by m (Ok x) h = tt
+    by m (Err e) h = λ failed. (blamed, h failed)
+
+pub stops_never_from : (o : Option Files) (blamed : Option (List ℕ)) (first : Run) (a : Assembly) → IfErr a.result (λ e. has_failed e ≡ false) → IfSome o (λ m. StopsFrom m blamed first a)
+stops_never_from o blamed first a none = some_all (λ m. StopsFrom m blamed first a) o (λ m job begins. never_so m blamed job a none)
 
 pub as_fault : (r : Found) (e : AsmFault) → is_failure e ≡ false → IfErr r (λ x. has_failed x ≡ is_failure e) → IfErr r (λ x. has_failed x ≡ false)
 as_fault (Ok o) e inside h = tt
@@ -272,46 +284,46 @@ as_memory (Ok o) h = tt
 as_memory (Err x) h = ap is_failure h
 
 -- it failed before a line was read
-pub stops_first : (o : Option Files) (job : Job) (e : ExpandFault) (a : Assembly) → IfErr a.result (λ x. has_failed x ≡ is_failure (Expansion e)) → (is_failure (Expansion e) ≡ true → IfErr a.result (λ x. (x.fault ≡ Expansion e) × (x.line ≡ 0))) → (is_from_outside a.result ≡ true → (a.out ≡ []) × (a.err ≡ [])) → IfSome o (λ m. StopsSo m job a)
-stops_first o job e a failed first silent = some_all (λ m. StopsSo m job a) o (λ m. by m a.result failed first silent)
+pub stops_first : (o : Option Files) (blamed : Option (List ℕ)) (job : Job) (e : ExpandFault) (a : Assembly) → IfErr a.result (λ x. has_failed x ≡ is_failure (Expansion e)) → (is_failure (Expansion e) ≡ true → IfErr a.result (λ x. (x.fault ≡ Expansion e) × (x.line ≡ 0))) → (is_from_outside a.result ≡ true → (a.out ≡ []) × (a.err ≡ [])) → (e ≡ FileError → IsBlamed blamed job.source) → IfSome o (λ m. StopsAskedSo m blamed job a)
+stops_first o blamed job e a failed first silent asked = some_all (λ m. StopsAskedSo m blamed job a) o (λ m. by m a.result failed first silent)
   where
-    by : (m : Files) (r : Found) → IfErr r (λ x. has_failed x ≡ is_failure (Expansion e)) → (is_failure (Expansion e) ≡ true → IfErr r (λ x. (x.fault ≡ Expansion e) × (x.line ≡ 0))) → (is_from_outside r ≡ true → (a.out ≡ []) × (a.err ≡ [])) → IfErr r (λ x. has_failed x ≡ true → Stops m job (placed_of x) a.out a.err)
+    by : (m : Files) (r : Found) → IfErr r (λ x. has_failed x ≡ is_failure (Expansion e)) → (is_failure (Expansion e) ≡ true → IfErr r (λ x. (x.fault ≡ Expansion e) × (x.line ≡ 0))) → (is_from_outside r ≡ true → (a.out ≡ []) × (a.err ≡ [])) → IfErr r (λ x. has_failed x ≡ true → StopsAsked m blamed job (placed_of x) a.out a.err)
     by m (Ok x) failed first silent = tt
     by m (Err x) failed first silent = λ yes.
         (let is : is_failure (Expansion e) ≡ true = sym failed ∙ yes in
         let there = first is in
         let nothing = silent (failure_outside x.fault yes) in
-        inl (record { fault = there.0 ∙ expansion_error e is; line = there.1; no_out = nothing.0; no_err = nothing.1 }))
+        inl (record { source = asked (only_error e is); fault = there.0 ∙ expansion_error e is; line = there.1; no_out = nothing.0; no_err = nothing.1 }))
 
 abbrev pub StoppedAt : Place → AsmFault → Found → Type 0
 StoppedAt place e r = IfErr r (λ x. placed_of x ≡ record { place = place; fault = e })
 
 -- it failed behind some statements
-pub stops_here : (o : Option Files) (first now : Run) (e : AsmFault) (a : Assembly) → is_failure e ≡ true → StoppedAt (place_of now.expander) e a.result → a.out ≡ now.assembler.texts.out → a.err ≡ now.assembler.texts.err → IfSome o (λ m. StopsAll m first now (Err e)) → IfSome o (λ m. StopsFrom m first a)
-stops_here o first now e a failed placed out err all =
-    some_then (λ m. StopsAll m first now (Err e)) (λ m. StopsFrom m first a) o (λ m h job begins. by m job a.result placed (h failed job begins)) all
+pub stops_here : (o : Option Files) (blamed : Option (List ℕ)) (first now : Run) (e : AsmFault) (a : Assembly) → is_failure e ≡ true → StoppedAt (place_of now.expander) e a.result → a.out ≡ now.assembler.texts.out → a.err ≡ now.assembler.texts.err → IfSome o (λ m. StopsAll m blamed first now (Err e)) → IfSome o (λ m. StopsFrom m blamed first a)
+stops_here o blamed first now e a failed placed out err all =
+    some_then (λ m. StopsAll m blamed first now (Err e)) (λ m. StopsFrom m blamed first a) o (λ m h job begins. by m job a.result placed (h failed job begins)) all
   where
     at : PlacedFault
     at = record { place = place_of now.expander; fault = e }
 
-    by : (m : Files) (job : Job) (r : Found) → StoppedAt (place_of now.expander) e r → StopsBehind m job (record { place = place_of now.expander; fault = e }) now.assembler.texts.out now.assembler.texts.err → IfErr r (λ x. has_failed x ≡ true → Stops m job (placed_of x) a.out a.err)
+    by : (m : Files) (job : Job) (r : Found) → StoppedAt (place_of now.expander) e r → StopsBehind m blamed job (record { place = place_of now.expander; fault = e }) now.assembler.texts.out now.assembler.texts.err → IfErr r (λ x. has_failed x ≡ true → StopsAsked m blamed job (placed_of x) a.out a.err)
     by m job (Ok x) p h = tt
     by m job (Err x) p h = λ yes.
-        inr (subst (λ (q : PlacedFault). StopsBehind m job q a.out a.err) (sym p) (subst (λ (t : List ℕ). StopsBehind m job at t a.err) (sym out) (subst (λ (t : List ℕ). StopsBehind m job at now.assembler.texts.out t) (sym err) h)))
+        inr (subst (λ (q : PlacedFault). StopsBehind m blamed job q a.out a.err) (sym p) (subst (λ (t : List ℕ). StopsBehind m blamed job at t a.err) (sym out) (subst (λ (t : List ℕ). StopsBehind m blamed job at now.assembler.texts.out t) (sym err) h)))
 
 pub stopped_silent : (r : Found) (place : Place) (e : AsmFault) (P : Type 0) → is_failure e ≡ true → StoppedAt place e r → is_from_memory r ≡ true → P
 stopped_silent (Ok o) place e P failed p h = absurd cc
 stopped_silent (Err x) place e P failed p h = absurd (let both : true ≡ false = sym h ∙ ap (λ (q : PlacedFault). is_memory q.fault) p ∙ failure_inside e failed in cc)
 
 -- a fault behind some statements, which may be a failure of the store
-pub stops_behind : (o : Option Files) (first now : Run) (e : AsmFault) (a : Assembly) → IfErr a.result (λ x. has_failed x ≡ is_failure e) → (is_failure e ≡ true → StoppedAt (place_of now.expander) e a.result) → (is_failure e ≡ true → (a.out ≡ now.assembler.texts.out) × (a.err ≡ now.assembler.texts.err)) → IfSome o (λ m. StopsAll m first now (Err e)) → IfSome o (λ m. StopsFrom m first a)
-stops_behind o first now e a same stopped said all = by (is_failure e) refl
+pub stops_behind : (o : Option Files) (blamed : Option (List ℕ)) (first now : Run) (e : AsmFault) (a : Assembly) → IfErr a.result (λ x. has_failed x ≡ is_failure e) → (is_failure e ≡ true → StoppedAt (place_of now.expander) e a.result) → (is_failure e ≡ true → (a.out ≡ now.assembler.texts.out) × (a.err ≡ now.assembler.texts.err)) → IfSome o (λ m. StopsAll m blamed first now (Err e)) → IfSome o (λ m. StopsFrom m blamed first a)
+stops_behind o blamed first now e a same stopped said all = by (is_failure e) refl
   where
-    by : (b : Bool) → is_failure e ≡ b → IfSome o (λ m. StopsFrom m first a)
-    by true is = stops_here o first now e a is (stopped is) (said is).0 (said is).1 all
-    by false is = stops_never_from o first a (as_fault a.result e is same)
+    by : (b : Bool) → is_failure e ≡ b → IfSome o (λ m. StopsFrom m blamed first a)
+    by true is = stops_here o blamed first now e a is (stopped is) (said is).0 (said is).1 all
+    by false is = stops_never_from o blamed first a (as_fault a.result e is same)
 
 -- what an opened source comes to behind its constants
-pub run_stops : (o : Option Files) (job : Job) (x : Expander) (b : Assembler) (v : Unit {0}) (a : Assembly) → AreLeft job b v → measure_of x ≤ 3145729 → IfSome o (λ m. Opens m (Ok x) (opened_in m job.source job.include)) → IfSome o (λ m. StopsFrom m (record { expander = x; assembler = b }) a) → IfSome o (λ m. StopsSo m job a)
-run_stops o job x b v a left size opens all =
-    some_both (λ m. Opens m (Ok x) (opened_in m job.source job.include)) (λ m. StopsFrom m (record { expander = x; assembler = b }) a) (λ m. StopsSo m job a) o (λ m q r. r job (left.0, q, left.1, first_held x b left.0 (record { expander = x; assembler = b }) refl size left.3)) opens all
+pub run_stops : (o : Option Files) (blamed : Option (List ℕ)) (job : Job) (x : Expander) (b : Assembler) (v : Unit {0}) (a : Assembly) → AreLeft job b v → measure_of x ≤ 3145729 → IfSome o (λ m. Opens m (Ok x) (opened_in m job.source job.include)) → IfSome o (λ m. StopsFrom m blamed (record { expander = x; assembler = b }) a) → IfSome o (λ m. StopsAskedSo m blamed job a)
+run_stops o blamed job x b v a left size opens all =
+    some_both (λ m. Opens m (Ok x) (opened_in m job.source job.include)) (λ m. StopsFrom m blamed (record { expander = x; assembler = b }) a) (λ m. StopsAskedSo m blamed job a) o (λ m q r. r job (left.0, q, left.1, first_held x b left.0 (record { expander = x; assembler = b }) refl size left.3)) opens all

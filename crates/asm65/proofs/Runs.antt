@@ -35,7 +35,7 @@ use Rattle.layout65.proofs.Steps.{unless_then}
 use Rattle.layout65.specs.Counting.{opened_by, opening_limit}
 use Rattle.asm65.specs.Inner.Holding.{Holds}
 use Rattle.asm65.specs.Inner.Files.{IsRefusedUnread, read_bytes}
-use Rattle.asm65.specs.Unread.{no_files}
+use Rattle.asm65.specs.Unread.{Without}
 use Rattle.asm65.specs.Inner.Running.{behind, IsRoomy, IsSoundIf, Leaves, SaysAs, StopsQuietly, TakesBy, Told, tokens_of}
 use Rattle.asm65.proofs.WholeFiles.{read_sound, takes_whole}
 
@@ -141,7 +141,7 @@ rest_leaves o place (k ∷ ts) x y old new (Err e) some is read taken = λ count
     wrong_rest place k ts x y is o (count + 1) t new e read (taken count t room h)
 
 -- a statement that is refused before its file is read
-module _ (place : Place) (x : Stated) (old new : Assembler) (e : AsmFault) (refused : (count : ℕ) (t : State) → Holds count t old → IsRefusedUnread t place x e) (same : new.texts ≡ old.texts) where
+module _ (blamed : Option (List ℕ)) (place : Place) (x : Stated) (old new : Assembler) (e : AsmFault) (refused : (count : ℕ) (t : State) → Holds count t old → IsRefusedUnread blamed t place x e) (same : new.texts ≡ old.texts) where
   pub rest_unread : (o : Option Files) (ts : List Lexeme) → (ts ≡ [] → ⊥) → IsStatement ts (Ok x) → TakesBy (AreNamed ts) (RestBy o place ts) 1 old new (Err e)
   rest_unread o [] some is = absurd (some refl)
   rest_unread o (k ∷ ts) some is = λ count t room h.
@@ -149,14 +149,14 @@ module _ (place : Place) (x : Stated) (old new : Assembler) (e : AsmFault) (refu
       (unless_then (is_outside e) (λ (all : (m : Files) → Takes t place (with_bytes m place x) (Err e)). told_all o (λ m. IsRest m Takes t place (k ∷ ts) (Err e)) (λ m. (Ok x, is, all m))) (refused count t h).inside)
       (λ inside. says_same count t old new h same)
 
-  pub rest_stops : (ts : List Lexeme) (r : Answer) → (ts ≡ [] → ⊥) → IsStatement ts (Ok x) → (is_failure e ≡ true → e ≡ FileError) → r ≡ Err e → StopsQuietly (λ t. IsRest no_files Takes t place ts) 1 old new r
+  pub rest_stops : (ts : List Lexeme) (r : Answer) → (ts ≡ [] → ⊥) → IsStatement ts (Ok x) → (is_failure e ≡ true → e ≡ FileError) → r ≡ Err e → StopsQuietly (Without blamed (λ m t. IsRest m Takes t place ts)) 1 old new r
   rest_stops [] r some is only fails = absurd (some refl)
-  rest_stops (k ∷ ts) r some is only fails = subst (StopsQuietly (λ t. IsRest no_files Takes t place (k ∷ ts)) 1 old new) (sym fails)
+  rest_stops (k ∷ ts) r some is only fails = subst (StopsQuietly (Without blamed (λ m t. IsRest m Takes t place (k ∷ ts))) 1 old new) (sym fails)
       (λ failed. record {
         fault = only failed;
         out = ap (λ (s : Texts). s.out) same;
         err = ap (λ (s : Texts). s.err) same;
-        unread = λ count t room h. (Ok x, is, (refused count t h).failed failed);
+        unread = λ count t room h. (let w = (refused count t h).failed failed in (w.0, w.1, λ m none. (Ok x, is, w.2 m none)));
       })
 
 -- what holds what another one does is followed by what that is
@@ -249,9 +249,9 @@ label_room place o old mid v held front =
     (a.3.0, a.0, omega (arith, room, few), a.3.2)
 
 -- a label says nothing, so neither does a failure behind it
-pub label_stops : (place : Place) (ts rest : List Lexeme) (o : Option Stated) (old mid new : Assembler) (v : Unit {0}) (r : Answer) → IsRoomy 2 old → Says ts rest o → FrontBy place o old mid (Ok v) → StopsQuietly (λ t. IsRest no_files Takes t place rest) 1 mid new r → StopsQuietly (λ t. IsLabel no_files Takes t place ts) 2 old new r
-label_stops place ts rest o old mid new v (Ok w) held says front quiet = tt
-label_stops place ts rest o old mid new v (Err e) held says front quiet = λ failed.
+pub label_stops : (blamed : Option (List ℕ)) (place : Place) (ts rest : List Lexeme) (o : Option Stated) (old mid new : Assembler) (v : Unit {0}) (r : Answer) → IsRoomy 2 old → Says ts rest o → FrontBy place o old mid (Ok v) → StopsQuietly (Without blamed (λ m t. IsRest m Takes t place rest)) 1 mid new r → StopsQuietly (Without blamed (λ m t. IsLabel m Takes t place ts)) 2 old new r
+label_stops blamed place ts rest o old mid new v (Ok w) held says front quiet = tt
+label_stops blamed place ts rest o old mid new v (Err e) held says front quiet = λ failed.
     (let room = held.2 in
     let a = front held.0 held.1 (omega (arith, room)) held.3 in
     let is = parted ts rest o says in
@@ -267,7 +267,8 @@ label_stops place ts rest o old mid new v (Err e) held says front quiet = λ fai
       unread = λ count t space h.
           (let b = front count t (omega (arith, space)) h in
           let few = b.3.1 in
-          subst (λ p. LabelAt no_files t place p (Err FileNotFound)) (sym is) (Ok b.0, b.1, q.unread b.3.0 b.0 (omega (arith, space, few)) b.3.2));
+          let w = q.unread b.3.0 b.0 (omega (arith, space, few)) b.3.2 in
+          (w.0, w.1, λ m none. subst (λ p. LabelAt m t place p (Err FileNotFound)) (sym is) (Ok b.0, b.1, w.2 m none)));
     })
 
 abbrev pub LabelBy : Option Files → Place → List Lexeme → State → Result State AsmFault → Type 0
@@ -330,13 +331,13 @@ given_plain f place g line ts old new r is same h =
 
 -- ---- Where the store fails.
 
-abbrev pub GivenStops : Place → Statement → Assembler → Assembler → Answer → Type 0
-GivenStops place g old new r = StopsQuietly (λ t. IsGiven no_files Takes t place (stated g)) 2 old new r
+abbrev pub GivenStops : Option (List ℕ) → Place → Statement → Assembler → Assembler → Answer → Type 0
+GivenStops blamed place g old new r = StopsQuietly (Without blamed (λ m t. IsGiven m Takes t place (stated g))) 2 old new r
 
-pub label_given_stops : (place : Place) (g : Statement) (line : Line) (ts : List Lexeme) (old new : Assembler) (r : Answer) → g ≡ Label line → ts ≡ tokens_in line → StopsQuietly (λ t. IsLabel no_files Takes t place ts) 2 old new r → GivenStops place g old new r
-label_given_stops place g line ts old new r is same h =
-    let Q : List Lexeme → Type 0 = λ ts. StopsQuietly (λ t. IsLabel no_files Takes t place ts) 2 old new r in
-    subst (λ g. GivenStops place g old new r) (sym is) (subst Q same h)
+pub label_given_stops : (blamed : Option (List ℕ)) (place : Place) (g : Statement) (line : Line) (ts : List Lexeme) (old new : Assembler) (r : Answer) → g ≡ Label line → ts ≡ tokens_in line → StopsQuietly (Without blamed (λ m t. IsLabel m Takes t place ts)) 2 old new r → GivenStops blamed place g old new r
+label_given_stops blamed place g line ts old new r is same h =
+    let Q : List Lexeme → Type 0 = λ ts. StopsQuietly (Without blamed (λ m t. IsLabel m Takes t place ts)) 2 old new r in
+    subst (λ g. GivenStops blamed place g old new r) (sym is) (subst Q same h)
 
 stops_wider : (Is : State → Result State AsmFault → Type 0) (old new : Assembler) (r : Answer) → StopsQuietly Is 1 old new r → StopsQuietly Is 2 old new r
 stops_wider Is old new (Ok v) h = tt
@@ -344,7 +345,7 @@ stops_wider Is old new (Err e) h = λ failed.
     (let q = h failed in
     record { fault = q.fault; out = q.out; err = q.err; unread = λ count t room held. q.unread count t (omega (arith, room)) held })
 
-pub plain_given_stops : (place : Place) (g : Statement) (line : Line) (ts : List Lexeme) (old new : Assembler) (r : Answer) → g ≡ Plain line → ts ≡ tokens_in line → StopsQuietly (λ t. IsRest no_files Takes t place ts) 1 old new r → GivenStops place g old new r
-plain_given_stops place g line ts old new r is same h =
-    let Q : List Lexeme → Type 0 = λ ts. StopsQuietly (λ t. IsRest no_files Takes t place ts) 2 old new r in
-    subst (λ g. GivenStops place g old new r) (sym is) (subst Q same (stops_wider _ old new r h))
+pub plain_given_stops : (blamed : Option (List ℕ)) (place : Place) (g : Statement) (line : Line) (ts : List Lexeme) (old new : Assembler) (r : Answer) → g ≡ Plain line → ts ≡ tokens_in line → StopsQuietly (Without blamed (λ m t. IsRest m Takes t place ts)) 1 old new r → GivenStops blamed place g old new r
+plain_given_stops blamed place g line ts old new r is same h =
+    let Q : List Lexeme → Type 0 = λ ts. StopsQuietly (Without blamed (λ m t. IsRest m Takes t place ts)) 2 old new r in
+    subst (λ g. GivenStops blamed place g old new r) (sym is) (subst Q same (stops_wider _ old new r h))

@@ -1,5 +1,5 @@
 -- The statements of a source as an expander gives them and an assembler takes them.
-use Rattle.std.proofs.Common.{◌≡◌, ◌∙◌, ℕ, ◌+◌, ◌*◌, ◌≤◌, ◌<◌, Bool, true, false, Option, Some, None, refl, sym, ap, subst, arith}
+use Rattle.std.proofs.Common.{◌≡◌, List, ◌∙◌, ℕ, ◌+◌, ◌*◌, ◌≤◌, ◌<◌, Bool, true, false, Option, Some, None, refl, sym, ap, subst, arith}
 use Rattle.std.specs.Prelude.{Result, Ok, Err, IfSome, if◌then◌else◌}
 use Rattle.base65.specs.Outcome.{Unless}
 use Rattle.base65.specs.Store.{Files}
@@ -32,7 +32,7 @@ use Rattle.asm65.specs.declared.assembler.Assembler.{Assembler}
 use Rattle.asm65.specs.declared.running.Run.{Run}
 use Rattle.layout65.specs.Counting.{opening_limit}
 use Rattle.asm65.specs.Failing.{IsTakenTo, at_first, further, IsWhere, StopsAll, StopsBehind}
-use Rattle.asm65.specs.Unread.{IsUnread, no_files}
+use Rattle.asm65.specs.Unread.{IsUnread, Without}
 use Rattle.asm65.specs.Inner.Holding.{Holds}
 use Rattle.asm65.specs.Inner.Running.{HoldsWithin, IsHeldBy, IsReachedBy, IsRoomy, IsRunning, Ran, SaysAs, StopsQuietly, TakesBy, running_limit, tokens_of}
 use Rattle.asm65.proofs.Runs.{Answer, GivenBy}
@@ -235,10 +235,10 @@ module _ (m : Files) (first old mid : Run) (same : mid.assembler ≡ old.assembl
       by u count holds false runs = (u, runs, (count, holds))
 
   -- the store fails while expansion reads on
-  pub stops_out : (e : ExpandFault) (r : Answer) → r ≡ Err (Expansion e) → StopsBy m old (Err e) mid → Goes m first old → StopsAll m first mid r
-  stops_out e r fails where_it_is so_far = subst (StopsAll m first mid) (sym fails) (λ failed job begun_so. by (of_store e failed) job (so_far job begun_so.0 begun_so.1 begun_so.2 begun_so.3))
+  pub stops_out : (blamed : Option (List ℕ)) (e : ExpandFault) (r : Answer) → r ≡ Err (Expansion e) → StopsBy m old (Err e) mid → Goes m first old → StopsAll m blamed first mid r
+  stops_out blamed e r fails where_it_is so_far = subst (StopsAll m blamed first mid) (sym fails) (λ failed job begun_so. by (of_store e failed) job (so_far job begun_so.0 begun_so.1 begun_so.2 begun_so.3))
     where
-      by : expansion.is_failure e ≡ true → (job : Job) → (u : State) × Stays m job old u → StopsBehind m job (record { place = place_of mid.expander; fault = Expansion e }) mid.assembler.texts.out mid.assembler.texts.err
+      by : expansion.is_failure e ≡ true → (job : Job) → (u : State) × Stays m job old u → StopsBehind m blamed job (record { place = place_of mid.expander; fault = Expansion e }) mid.assembler.texts.out mid.assembler.texts.err
       by failed job now =
           let u = now.0 in
           let s = now.1 in
@@ -247,10 +247,10 @@ module _ (m : Files) (first old mid : Run) (same : mid.assembler ≡ old.assembl
           record { left = s.left; behind = u; taken = s.taken; where_it_is = subst W s.stands.1 (where_it_is u s.held failed); says_out = says.0; says_err = says.1 }
 
   -- it fails while a statement is taken
-  pub stops_wrong : (x : Statement) (new : Run) (e : AsmFault) (r : Answer) → r ≡ Err e → NextBy m old (Ok (Some x)) mid → measure_of mid.expander < measure_of old.expander → StopsQuietly (λ t. IsGiven no_files Takes t (place_of mid.expander) (stated x)) 2 mid.assembler new.assembler (Err e) → new.expander ≡ mid.expander → Goes m first old → StopsAll m first new r
-  stops_wrong x new e r fails next less quiet stays so_far = subst (StopsAll m first new) (sym fails) (λ failed job begun_so. by failed job (so_far job begun_so.0 begun_so.1 begun_so.2 begun_so.3))
+  pub stops_wrong : (blamed : Option (List ℕ)) (x : Statement) (new : Run) (e : AsmFault) (r : Answer) → r ≡ Err e → NextBy m old (Ok (Some x)) mid → measure_of mid.expander < measure_of old.expander → StopsQuietly (Without blamed (λ m t. IsGiven m Takes t (place_of mid.expander) (stated x))) 2 mid.assembler new.assembler (Err e) → new.expander ≡ mid.expander → Goes m first old → StopsAll m blamed first new r
+  stops_wrong blamed x new e r fails next less quiet stays so_far = subst (StopsAll m blamed first new) (sym fails) (λ failed job begun_so. by failed job (so_far job begun_so.0 begun_so.1 begun_so.2 begun_so.3))
     where
-      by : is_failure e ≡ true → (job : Job) → (u : State) × Stays m job old u → StopsBehind m job (record { place = place_of new.expander; fault = e }) new.assembler.texts.out new.assembler.texts.err
+      by : is_failure e ≡ true → (job : Job) → (u : State) × Stays m job old u → StopsBehind m blamed job (record { place = place_of new.expander; fault = e }) new.assembler.texts.out new.assembler.texts.err
       by failed job now =
           let u = now.0 in
           let s = now.1 in
@@ -264,16 +264,16 @@ module _ (m : Files) (first old mid : Run) (same : mid.assembler ≡ old.assembl
             left = s.left;
             behind = u;
             taken = s.taken;
-            where_it_is = subst (λ f. IsWhere m s.left u f (place_of new.expander)) (sym q.fault) (record { stated = stated x; left = a.0; reaches = a.1; at = at_new; unread = subst (λ p. IsUnread u p (stated x)) (ap place_of (sym stays)) unread });
+            where_it_is = subst (λ f. IsWhere m blamed s.left u f (place_of new.expander)) (sym q.fault) (record { stated = stated x; left = a.0; reaches = a.1; at = at_new; unread = subst (λ p. IsUnread blamed u p (stated x)) (ap place_of (sym stays)) unread });
             says_out = q.out ∙ says.0;
             says_err = q.err ∙ says.1;
           }
 
 -- nothing of it is a failure of the store
-pub stops_never : (m : Files) (first now : Run) (r : Answer) → r ≡ (if is_open now.assembler.standing.scope then Err BadScope else Ok tt) → StopsAll m first now r
-stops_never m first now r is = subst (StopsAll m first now) (sym is) (by (is_open now.assembler.standing.scope))
+pub stops_never : (m : Files) (blamed : Option (List ℕ)) (first now : Run) (r : Answer) → r ≡ (if is_open now.assembler.standing.scope then Err BadScope else Ok tt) → StopsAll m blamed first now r
+stops_never m blamed first now r is = subst (StopsAll m blamed first now) (sym is) (by (is_open now.assembler.standing.scope))
   where
-    by : (b : Bool) → StopsAll m first now (if b then Err BadScope else Ok tt)
+    by : (b : Bool) → StopsAll m blamed first now (if b then Err BadScope else Ok tt)
     by true = λ failed job begun_so. absurd cc
     by false = tt
 
@@ -288,9 +288,9 @@ module _ (o p : Option Files) (told : p ≡ o) (first old mid : Run) (same : mid
   all_out e r fails next =
       some_both (λ m. Goes m first old) (λ m. NextBy m old (Err e) mid) (λ m. RanAll m first mid r) o (λ m so n. goes_out m first old mid same e r fails n so) so_far (subst (λ q. IfSome q (λ m. NextBy m old (Err e) mid)) told next)
 
-  pub all_stop : (e : ExpandFault) (r : Answer) → r ≡ Err (Expansion e) → IfSome p (λ m. StopsBy m old (Err e) mid) → IfSome o (λ m. StopsAll m first mid r)
-  all_stop e r fails stops =
-      some_both (λ m. Goes m first old) (λ m. StopsBy m old (Err e) mid) (λ m. StopsAll m first mid r) o (λ m so s. stops_out m first old mid same e r fails s so) so_far (subst (λ q. IfSome q (λ m. StopsBy m old (Err e) mid)) told stops)
+  pub all_stop : (blamed : Option (List ℕ)) (e : ExpandFault) (r : Answer) → r ≡ Err (Expansion e) → IfSome p (λ m. StopsBy m old (Err e) mid) → IfSome o (λ m. StopsAll m blamed first mid r)
+  all_stop blamed e r fails stops =
+      some_both (λ m. Goes m first old) (λ m. StopsBy m old (Err e) mid) (λ m. StopsAll m blamed first mid r) o (λ m so s. stops_out m first old mid same blamed e r fails s so) so_far (subst (λ q. IfSome q (λ m. StopsBy m old (Err e) mid)) told stops)
 
   module _ (q : Option Statement) (next : IfSome p (λ m. NextBy m old (Ok q) mid)) where
     given : (x : Option Statement) → q ≡ x → IfSome o (λ m. NextBy m old (Ok x) mid)
@@ -315,9 +315,9 @@ module _ (o p : Option Files) (told : p ≡ o) (first old mid : Run) (same : mid
           some_both (λ m. Goes m first old × NextBy m old (Ok (Some x)) mid) (TakesIn (Ok v)) (λ m. Goes m first new) o (λ m so t. goes_further m first old mid same x new v less so.1 t stays so.0)
           (some_both (λ m. Goes m first old) (λ m. NextBy m old (Ok (Some x)) mid) (λ m. Goes m first old × NextBy m old (Ok (Some x)) mid) o (λ m so n. (so, n)) so_far (given (Some x) is)) (told_taken (Ok v) taken)
 
-      pub all_stopped : (e : AsmFault) (r : Answer) → r ≡ Err e → StopsQuietly (λ t. IsGiven no_files Takes t (place_of mid.expander) (stated x)) 2 mid.assembler new.assembler (Err e) → IfSome o (λ m. StopsAll m first new r)
-      all_stopped e r fails quiet =
-          some_both (λ m. Goes m first old) (λ m. NextBy m old (Ok (Some x)) mid) (λ m. StopsAll m first new r) o (λ m so n. stops_wrong m first old mid same x new e r fails n less quiet stays so) so_far (given (Some x) is)
+      pub all_stopped : (blamed : Option (List ℕ)) (e : AsmFault) (r : Answer) → r ≡ Err e → StopsQuietly (Without blamed (λ m t. IsGiven m Takes t (place_of mid.expander) (stated x))) 2 mid.assembler new.assembler (Err e) → IfSome o (λ m. StopsAll m blamed first new r)
+      all_stopped blamed e r fails quiet =
+          some_both (λ m. Goes m first old) (λ m. NextBy m old (Ok (Some x)) mid) (λ m. StopsAll m blamed first new r) o (λ m so n. stops_wrong m first old mid same blamed x new e r fails n less quiet stays so) so_far (given (Some x) is)
 
       pub all_wrong : (e : AsmFault) (r : Answer) → r ≡ Err e → Takes2 old mid same less f x new (Err e) → IfSome o (λ m. RanAll m first new r)
       all_wrong e r fails taken =

@@ -1,10 +1,8 @@
 -- A statement that takes bytes from a file that isn't read.
-use Rattle.std.proofs.Common.{◌≡◌, ℕ, Bool, true, false, List, [], ◌∷◌, Option, Some, None, refl, sym, subst}
-use Rattle.std.specs.FinMap as fmap
-use Rattle.std.specs.Prelude.{Result, Ok, Err, if◌then◌else◌}
-use Rattle.std.specs.Str.{is_utf8}
+use Rattle.std.proofs.Common.{◌≡◌, ℕ, true, false, List, ◌∷◌, Option, Some, None, refl, sym, subst}
+use Rattle.std.specs.Prelude.{Ok, Err}
 use Rattle.base65.specs.Outcome.{Unless}
-use Rattle.base65.specs.Store.{Files}
+use Rattle.base65.specs.Store.{Files, IsBlamed}
 use Rattle.syntax65.specs.Trees.{Tree}
 use Rattle.source65.specs.declared.place.Place.{Place}
 use Rattle.expand65.specs.Includes.{beside, file_named}
@@ -20,7 +18,6 @@ use Rattle.layout65.specs.Measuring.{unread_fault}
 use Rattle.module65.specs.Machine.{State, Takes}
 use Rattle.module65.specs.Reading.{bytes_for, with_bytes}
 use Rattle.asm65.specs.Inner.Files.{IsRefusedUnread}
-use Rattle.asm65.specs.Unread.{no_files}
 use Rattle.asm65.proofs.Takings.{takes_refused, unless_either}
 
 -- ---- The first fault.
@@ -51,13 +48,6 @@ module _ (y : Symbols) (w : Standing) (start len : Option Tree) where
 
 -- ---- A statement.
 
-nowhere : (name : List ℕ) → file_named no_files name ≡ None
-nowhere name = by (is_utf8 name)
-  where
-    by : (b : Bool) → (if b then fmap.get no_files name else None) ≡ None
-    by true = fmap.get-empty _ name
-    by false = refl
-
 fault_there : (f : Option AsmFault) (e : AsmFault) → unless_fault {A = Unit {0}} f tt ≡ Err e → f ≡ Some e
 fault_there None e h = absurd cc
 fault_there (Some d) e h = let same : d ≡ e = cc in subst (λ k. Some d ≡ Some k) same refl
@@ -75,22 +65,22 @@ module _ (t : State) (place : Place) (name : List ℕ) (start len : Option Tree)
       subst (λ z. Takes t place (with_bytes m place z) (Err e)) (sym is)
       (takes_refused t place (file_part (bytes_for m place name) start len) e (unread_refused t.symbols t.standing start len (bytes_for m place name) e h))
 
-  without : found ≡ None → Takes t place (with_bytes no_files place x) (Err FileNotFound)
-  without h =
-      subst (λ z. Takes t place (with_bytes no_files place z) (Err FileNotFound)) (sym is)
-      (subst (λ b. Takes t place (file_part b start len) (Err FileNotFound)) (sym (nowhere (beside place.file name)))
+  without : found ≡ None → (m : Files) → file_named m (beside place.file name) ≡ None → Takes t place (with_bytes m place x) (Err FileNotFound)
+  without h m none =
+      subst (λ z. Takes t place (with_bytes m place z) (Err FileNotFound)) (sym is)
+      (subst (λ b. Takes t place (file_part b start len) (Err FileNotFound)) (sym none)
       (takes_refused t place (file_part None start len) FileNotFound (unread_missing t.symbols t.standing start len h)))
 
   -- it is refused whatever the file has
-  pub refused_unread : is_failure e ≡ false → Unless (is_memory e) (unless_fault {A = Unit {0}} found tt ≡ Err e) → IsRefusedUnread t place x e
-  refused_unread inside h = record {
+  pub refused_unread : (blamed : Option (List ℕ)) → is_failure e ≡ false → Unless (is_memory e) (unless_fault {A = Unit {0}} found tt ≡ Err e) → IsRefusedUnread blamed t place x e
+  refused_unread blamed inside h = record {
     inside = unless_then (is_outside e) (λ p. whatever (fault_there found e p)) (unless_either _ (is_memory e) (is_failure e) h);
     failed = λ so. absurd cc;
   }
 
   -- its file can't be read
-  pub failed_unread : (u : Unit {0}) → is_outside e ≡ true → unless_fault {A = Unit {0}} found tt ≡ Ok u → IsRefusedUnread t place x e
-  failed_unread u outside h = record {
+  pub failed_unread : (blamed : Option (List ℕ)) (u : Unit {0}) → is_outside e ≡ true → (is_failure e ≡ true → IsBlamed blamed (beside place.file name)) → unless_fault {A = Unit {0}} found tt ≡ Ok u → IsRefusedUnread blamed t place x e
+  failed_unread blamed u outside asked h = record {
     inside = subst (λ b. Unless b ((m : Files) → Takes t place (with_bytes m place x) (Err e))) (sym outside) tt;
-    failed = λ so. without (fault_none found u h);
+    failed = λ so. (beside place.file name, asked so, without (fault_none found u h));
   }

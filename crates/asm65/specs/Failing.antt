@@ -1,6 +1,6 @@
 -- The store fails while a source is read: what was taken of it, and where that is.
-use Rattle.std.specs.Prelude.{◌≡◌, ◌⊎◌, ℕ, true, List, [], IfErr, Result, Ok, ⊤}
-use Rattle.base65.specs.Store.{Files}
+use Rattle.std.specs.Prelude.{◌≡◌, ◌⊎◌, ℕ, true, List, [], IfErr, Option, Result, Ok}
+use Rattle.base65.specs.Store.{Files, IsBlamed}
 use Rattle.expand65.specs.Expansion.{Reaches, opened_in, statement}
 use Rattle.expand65.specs.Standing.{Opens, place_of}
 use Rattle.expand65.specs.State as expand
@@ -31,40 +31,50 @@ pub data IsTakenTo (m : Files) (job : Job) : expand.State → State → Type 0 w
       Reaches m (known_at t.symbols t.standing) s (statement x left) →
       IsGiven m Takes t left.left.place x (Ok u) → IsTakenTo m job left u
 
--- expansion gives a statement next, at this place, which is refused for nothing before its file is looked at
-pub record IsNextAt (m : Files) (s : expand.State) (t : State) (place : Place) : Type 0 where
+-- expansion gives a statement next, at this place, whose file was asked for; for nothing is it refused before that
+pub record IsNextAt (m : Files) (blamed : Option (List ℕ)) (s : expand.State) (t : State) (place : Place) : Type 0 where
   pub stated : expand.Stated
   pub left : expand.State
   pub reaches : Reaches m (known_at t.symbols t.standing) s (statement stated left)
   pub at : place ≡ left.left.place
-  pub unread : IsUnread t place stated
+  pub unread : IsUnread blamed t place stated
 
 -- Where the store failed: at the next statement, where it takes bytes of a file that can't be read; else on the way to it.
-abbrev pub IsWhere : Files → expand.State → State → AsmFault → Place → Type 0
-IsWhere m s t FileError place = IsNextAt m s t place
-IsWhere m s t (Expansion e) place = IsOnItsWay m (known_at t.symbols t.standing) s place
-IsWhere m s t _ place = ⊤
+abbrev pub IsWhere : Files → Option (List ℕ) → expand.State → State → AsmFault → Place → Type 0
+IsWhere m blamed s t FileError place = IsNextAt m blamed s t place
+IsWhere m blamed s t (Expansion e) place = IsOnItsWay m (known_at t.symbols t.standing) s place
+IsWhere m blamed s t _ place = ⊥
 
 -- the store failed behind some of the statements, and what they say was said
-pub record StopsBehind (m : Files) (job : Job) (e : PlacedFault) (out err : List ℕ) : Type 0 where
+pub record StopsBehind (m : Files) (blamed : Option (List ℕ)) (job : Job) (e : PlacedFault) (out err : List ℕ) : Type 0 where
   pub left : expand.State
   pub behind : State
   pub taken : IsTakenTo m job left behind
-  pub where_it_is : IsWhere m left behind e.fault e.place
+  pub where_it_is : IsWhere m blamed left behind e.fault e.place
   pub says_out : out ≡ behind.out
   pub says_err : err ≡ behind.err
 
--- it failed before a line was read, and nothing was said
-pub record StopsFirst (e : PlacedFault) (out err : List ℕ) : Type 0 where
+-- It failed where the source itself was asked for, before a line was read, and nothing was said.
+pub record StopsFirst (blamed : Option (List ℕ)) (job : Job) (e : PlacedFault) (out err : List ℕ) : Type 0 where
+  pub source : IsBlamed blamed job.source
   pub fault : e.fault ≡ Expansion expansion.FileError
   pub line : e.place.line ≡ 0
   pub no_out : out ≡ []
   pub no_err : err ≡ []
 
+-- where the store failed, which asked last for a name that it may tell
+abbrev pub StopsAsked : Files → Option (List ℕ) → Job → PlacedFault → (out err : List ℕ) → Type 0
+StopsAsked m blamed job e out err = StopsFirst blamed job e out err ⊎ StopsBehind m blamed job e out err
+
+-- the same, whatever it asked for
 abbrev pub Stops : Files → Job → PlacedFault → (out err : List ℕ) → Type 0
-Stops m job e out err = StopsFirst e out err ⊎ StopsBehind m job e out err
+Stops m job e out err = (blamed : Option (List ℕ)) × StopsAsked m blamed job e out err
 
 -- an assembly that is refused since the store failed
+abbrev pub StopsAskedSo : Files → Option (List ℕ) → Job → Assembly → Type 0
+StopsAskedSo m blamed job a =
+    IfErr a.result (λ e. has_failed e ≡ true → StopsAsked m blamed job (placed_of e) a.out a.err)
+
 abbrev pub StopsSo : Files → Job → Assembly → Type 0
 StopsSo m job a =
     IfErr a.result (λ e. has_failed e ≡ true → Stops m job (placed_of e) a.out a.err)
@@ -78,11 +88,11 @@ Begins m job run =
     × AreDefined Takes begun (no_line job.source) job.defines (Ok t) × IsHeldBy t run
 
 -- where the store fails behind such a beginning
-abbrev pub StopsAll : Files → Run → Run → Result (Unit {0}) AsmFault → Type 0
-StopsAll m first now r = IfErr r (λ e. is_failure e ≡ true → (job : Job) → Begins m job first →
-    StopsBehind m job (record { place = place_of now.expander; fault = e })
+abbrev pub StopsAll : Files → Option (List ℕ) → Run → Run → Result (Unit {0}) AsmFault → Type 0
+StopsAll m blamed first now r = IfErr r (λ e. is_failure e ≡ true → (job : Job) → Begins m job first →
+    StopsBehind m blamed job (record { place = place_of now.expander; fault = e })
     now.assembler.texts.out now.assembler.texts.err)
 
 -- what such a beginning comes to
-abbrev pub StopsFrom : Files → Run → Assembly → Type 0
-StopsFrom m first a = (job : Job) → Begins m job first → StopsSo m job a
+abbrev pub StopsFrom : Files → Option (List ℕ) → Run → Assembly → Type 0
+StopsFrom m blamed first a = (job : Job) → Begins m job first → StopsAskedSo m blamed job a

@@ -1,8 +1,8 @@
 //! From a source to its object.
 
-ghost use Rattle.std.specs.Prelude.{◌≡◌, ◌≤◌, false, true, IfErr, IfOk, IfSome, Ok, Some, []};
+ghost use Rattle.std.specs.Prelude.{◌≡◌, ◌≤◌, false, true, IfErr, IfOk, IfSome, IsErrOf, Ok, Some, []};
 ghost use Rattle.base65.specs.Outcome.{Finds};
-ghost use Rattle.base65.specs.Store.{Asks, Passes, PassesBy};
+ghost use Rattle.base65.specs.Store.{Asks, IsBlamed, Passes, PassesBy};
 ghost use Rattle.object65.specs.Objects.{ObjectFits, is_good_object};
 ghost use Rattle.expand65.specs.Expansion.{opened_in};
 ghost use Rattle.expand65.specs.Standing.{Opens, measure_of, place_of};
@@ -11,7 +11,7 @@ ghost use Rattle.language65.specs.Faults.{is_failure, is_outside};
 ghost use Rattle.module65.specs.Machine.{State, Takes, begun, concluded};
 ghost use Rattle.module65.specs.Reading.{AreDefined, Job, no_line};
 ghost use Rattle.asm65.specs.Assembly.{Concludes, IsAssembled, answer_of, has_failed, is_from_memory, is_from_outside, is_outside_refusal, job_of, placed_of};
-ghost use Rattle.asm65.specs.Failing.{StopsFrom, StopsSo};
+ghost use Rattle.asm65.specs.Failing.{StopsAskedSo, StopsFrom, StopsSo};
 ghost use Rattle.asm65.specs.Inner.Holding.{Holds};
 ghost use Rattle.asm65.specs.Inner.Running.{IsHeldBy, IsRunning, SaysAs};
 ghost use Rattle.asm65.specs.Views.{place_in};
@@ -150,6 +150,8 @@ fn opened<S: Store>(alloc: Global, store: &mut S, job: &AsmJob<'_>) -> Result<Ex
     ensures files { S.files store.new ≡ S.files store.old }
     ensures size { IfOk result (λ e. measure_of e ≤ 3145729) }
     ensures count { Passes ExpandFault.FileError (S.failures store.old) (S.failures store.new) result }
+    ensures blamed { IsErrOf result ExpandFault.FileError →
+        IsBlamed (S.blamed store.new) (job_of job.now).source }
     ensures asked { Asks is_expand_outside (S.failures store.old) result }
 {
     let options = folders_of(alloc, job)?;
@@ -167,7 +169,7 @@ fn finished<S: Store>(alloc: Global, store: &mut S, run: Run) -> Assembly
     ensures count { PassesBy has_failed (S.failures store.old) (S.failures store.new) result.result }
     ensures good { IfOk result.result (λ o. is_good_object o ≡ true) }
     ensures numbers { IfOk result.result ObjectFits }
-    ensures stopped { IfSome (S.files store.old) (λ m. StopsFrom m run result) }
+    ensures stopped { IfSome (S.files store.old) (λ m. StopsFrom m (S.blamed store.new) run result) }
     ensures silent { is_from_memory result.result ≡ true → (result.out ≡ []) × (result.err ≡ []) }
 {
     let mut run = run;
@@ -197,7 +199,8 @@ fn assembled<S: Store>(
     ensures asked { Asks is_outside_refusal (S.failures store.old) result.result }
     ensures good { IfOk result.result (λ o. is_good_object o ≡ true) }
     ensures numbers { IfOk result.result ObjectFits }
-    ensures stopped { IfSome (S.files store.old) (λ m. StopsSo m (job_of job.now) result) }
+    ensures stopped { IfSome (S.files store.old) (λ m.
+        StopsAskedSo m (S.blamed store.new) (job_of job.now) result) }
     ensures silent { is_from_memory result.result ≡ true → (result.out ≡ []) × (result.err ≡ []) }
 {
     let mut assembler = assembler;
@@ -232,6 +235,9 @@ pub fn assemble<S: Store>(alloc: Global, store: &mut S, job: &AsmJob<'_>) -> Ass
     ensures numbers { IfOk result.result ObjectFits }
     // Where the store fails, what the statements before say is said, and where it was.
     ensures stopped { IfSome (S.files store.old) (λ m. StopsSo m (job_of job.now) result) }
+    // The same, where the store tells for which name its last failed call asked.
+    ensures blamed { IfSome (S.files store.old) (λ m.
+        StopsAskedSo m (S.blamed store.new) (job_of job.now) result) }
     // Where memory runs out nothing is said.
     ensures silent { is_from_memory result.result ≡ true → (result.out ≡ []) × (result.err ≡ []) }
 {

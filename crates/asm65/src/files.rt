@@ -2,7 +2,7 @@
 
 ghost use Rattle.std.specs.Prelude.{◌≡◌, ℕ, IfErr, IfOk, IfSome, OnOk, take, true};
 ghost use Rattle.std.specs.Option.{option_map};
-ghost use Rattle.base65.specs.Store.{PassesBy};
+ghost use Rattle.base65.specs.Store.{IsBlamed, PassesBy};
 ghost use Rattle.expand65.specs.Includes.{beside, file_named};
 ghost use Rattle.language65.specs.declared.fault.AsmFault.TheVariants.{FileError};
 ghost use Rattle.language65.specs.Faults.{is_failure, is_outside};
@@ -36,6 +36,8 @@ fn bytes_beside<S: Store>(
         bytes ≡ option_map (take 16777217) (file_named m (beside file.now name.now)))) }
     ensures outside { IfErr result (λ e. is_outside e ≡ true) }
     ensures failed { IfErr result (λ e. is_failure e ≡ true → e ≡ FileError) }
+    ensures blamed { IfErr result (λ e. is_failure e ≡ true →
+        IsBlamed (S.blamed store.new) (beside file.now name.now)) }
     ensures files { S.files store.new ≡ S.files store.old }
     ensures count { PassesBy is_failure (S.failures store.old) (S.failures store.new) result }
 {
@@ -92,7 +94,8 @@ pub fn with_bytes<S: Store>(
     ensures held { (count : ℕ) (t : State) → Holds count t assembler.old →
         OnOk result (Holds count t assembler.new) }
     ensures refused { (count : ℕ) (t : State) → Holds count t assembler.old → IfErr result
-        (IsRefusedUnread t (place_in at.entry.file.now at.entry.line) (stated_of statement)) }
+        (IsRefusedUnread (S.blamed store.new) t (place_in at.entry.file.now at.entry.line)
+        (stated_of statement)) }
     ensures texts { assembler.new.texts ≡ assembler.old.texts }
     ensures failed { IfErr result (λ e. is_failure e ≡ true → e ≡ FileError) }
     ensures files { S.files store.new ≡ S.files store.old }

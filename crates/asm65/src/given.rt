@@ -11,7 +11,7 @@ ghost use Rattle.language65.specs.Views.{stated_of};
 ghost use Rattle.module65.specs.Machine.{Takes};
 ghost use Rattle.module65.specs.Reading.{IsGiven, IsLabel, IsLabelled, IsRest};
 ghost use Rattle.asm65.specs.Inner.Running.{IsRoomy, IsSoundIf, StopsQuietly, TakesBy, Told, tokens_of};
-ghost use Rattle.asm65.specs.Unread.{no_files};
+ghost use Rattle.asm65.specs.Unread.{Without};
 ghost use Rattle.asm65.specs.Views.{place_in};
 
 use crate::assembler::{Assembler, At};
@@ -67,8 +67,8 @@ fn take_rest<S: Store>(
     ensures taken { TakesBy (AreNamed (lexemes tokens.now)) (Told (S.files store.old)
         (λ m t. IsRest m Takes t (place_in at.entry.file.now at.entry.line) (lexemes tokens.now)))
         1 assembler.old assembler.new result }
-    ensures stopped { StopsQuietly (λ t. IsRest no_files Takes t
-        (place_in at.entry.file.now at.entry.line) (lexemes tokens.now))
+    ensures stopped { StopsQuietly (Without (S.blamed store.new)
+        (λ m t. IsRest m Takes t (place_in at.entry.file.now at.entry.line) (lexemes tokens.now)))
         1 assembler.old assembler.new result }
     ensures files { S.files store.new ≡ S.files store.old }
     ensures count { PassesBy is_failure (S.failures store.old) (S.failures store.new) result }
@@ -113,8 +113,8 @@ fn take_label<S: Store>(
     ensures taken { TakesBy (AreNamed (lexemes tokens.now)) (Told (S.files store.old)
         (λ m t. IsLabel m Takes t (place_in at.entry.file.now at.entry.line) (lexemes tokens.now)))
         2 assembler.old assembler.new result }
-    ensures stopped { StopsQuietly (λ t. IsLabel no_files Takes t
-        (place_in at.entry.file.now at.entry.line) (lexemes tokens.now))
+    ensures stopped { StopsQuietly (Without (S.blamed store.new)
+        (λ m t. IsLabel m Takes t (place_in at.entry.file.now at.entry.line) (lexemes tokens.now)))
         2 assembler.old assembler.new result }
     ensures files { S.files store.new ≡ S.files store.old }
     ensures count { PassesBy is_failure (S.failures store.old) (S.failures store.new) result }
@@ -136,8 +136,8 @@ pub fn take_given<S: Store>(
     ensures taken { TakesBy (AreNamed (tokens_of (stated given.now))) (Told (S.files store.old)
         (λ m t. IsGiven m Takes t (place_in at.entry.file.now at.entry.line) (stated given.now)))
         2 assembler.old assembler.new result }
-    ensures stopped { StopsQuietly (λ t. IsGiven no_files Takes t
-        (place_in at.entry.file.now at.entry.line) (stated given.now))
+    ensures stopped { StopsQuietly (Without (S.blamed store.new)
+        (λ m t. IsGiven m Takes t (place_in at.entry.file.now at.entry.line) (stated given.now)))
         2 assembler.old assembler.new result }
     ensures files { S.files store.new ≡ S.files store.old }
     ensures count { PassesBy is_failure (S.failures store.old) (S.failures store.new) result }

@@ -13,7 +13,7 @@ ghost use Rattle.module65.specs.Knowing.{known_at};
 ghost use Rattle.module65.specs.Machine.{State, Takes, begun};
 ghost use Rattle.module65.specs.Reading.{AreDefined, IsGiven, Job, no_line};
 ghost use Rattle.asm65.specs.Failing.{StopsAll};
-ghost use Rattle.asm65.specs.Unread.{no_files};
+ghost use Rattle.asm65.specs.Unread.{Without};
 ghost use Rattle.asm65.specs.Inner.Running.{IsHeldBy, IsReachedBy, IsRoomy, IsRunning, Ran, StopsQuietly, TakesBy, Told, tokens_of};
 
 use crate::assembler::{Assembler, At};
@@ -68,8 +68,8 @@ fn take_next<S: Store>(
         (Told (S.files store.old)
         (λ m t. IsGiven m Takes t (place_of run.old.expander) (stated statement.now)))
         2 run.old.assembler run.new.assembler result }
-    ensures stopped { StopsQuietly
-        (λ t. IsGiven no_files Takes t (place_of run.old.expander) (stated statement.now))
+    ensures stopped { StopsQuietly (Without (S.blamed store.new)
+        (λ m t. IsGiven m Takes t (place_of run.old.expander) (stated statement.now)))
         2 run.old.assembler run.new.assembler result }
     ensures same { run.new.expander ≡ run.old.expander }
     ensures files { S.files store.new ≡ S.files store.old }
@@ -98,7 +98,8 @@ pub fn take_all<S: Store>(alloc: Global, store: &mut S, run: &mut Run) -> Result
         Opens m (Ok run.old.expander) (opened_in m job.source job.include) →
         AreDefined Takes begun (no_line job.source) job.defines (Ok t) →
         IsHeldBy t run.old → Ran m job run.new result) }
-    ensures stopped { IfSome (S.files store.old) (λ m. StopsAll m run.old run.new result) }
+    ensures stopped { IfSome (S.files store.old) (λ m.
+        StopsAll m (S.blamed store.new) run.old run.new result) }
     ensures held { OnOk result (IsReachedBy run.new.assembler) }
     ensures files { S.files store.new ≡ S.files store.old }
     ensures count { PassesBy is_failure (S.failures store.old) (S.failures store.new) result }

@@ -1,5 +1,5 @@
 -- What is read of the files whose bytes statements take.
-use Rattle.std.specs.Prelude.{◌≡◌, true, take, Err}
+use Rattle.std.specs.Prelude.{◌≡◌, ℕ, List, Option, true, take, Err}
 use Rattle.std.specs.Option.{option_map}
 use Rattle.base65.specs.Outcome.{Unless}
 use Rattle.base65.specs.Store.{Files}
@@ -10,7 +10,7 @@ use Rattle.language65.specs.Faults.{is_failure, is_outside}
 use Rattle.language65.specs.Language.{Stated, file_part, part_named}
 use Rattle.module65.specs.Machine.{State, Takes}
 use Rattle.module65.specs.Reading.{bytes_for, with_bytes}
-use Rattle.asm65.specs.Unread.{no_files}
+use Rattle.asm65.specs.Unread.{Without}
 
 -- a statement with the bytes of its file up to the limit, or up to one more, where there are more
 abbrev pub read_bytes : Files → Place → Stated → Stated
@@ -19,7 +19,7 @@ read_bytes m place (part_named name start len) =
 read_bytes m place x = x
 
 -- A statement is refused before its file is read for what is wrong with it whatever the files have; where the store
--- fails nothing is, so without any file the answer would be that none is there.
-pub record IsRefusedUnread (t : State) (place : Place) (x : Stated) (e : AsmFault) : Type 0 where
+-- fails nothing is, so without its file the answer would be that it isn't there.
+pub record IsRefusedUnread (blamed : Option (List ℕ)) (t : State) (place : Place) (x : Stated) (e : AsmFault) : Type 0 where
   pub inside : Unless (is_outside e) ((m : Files) → Takes t place (with_bytes m place x) (Err e))
-  pub failed : is_failure e ≡ true → Takes t place (with_bytes no_files place x) (Err FileNotFound)
+  pub failed : is_failure e ≡ true → Without blamed (λ m t. Takes t place (with_bytes m place x)) t (Err FileNotFound)

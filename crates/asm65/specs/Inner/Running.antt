@@ -70,8 +70,8 @@ TakesBy AreSo IsAnswer more old new r =
     (count : ℕ) (t : State) → count + more ≤ opening_limit → Holds count t old →
     Leaves AreSo (IsAnswer t) (count + more) t new r
 
--- Where the store failed, that is the fault, and nothing more was said. Without any file the answer would be that none
--- is there, for each state that is held and behind which so much may be opened.
+-- Where the store failed, that is the fault, and nothing more was said. Without its file the answer would be that it
+-- isn't there, for each state that is held and behind which so much may be opened.
 pub record IsStopped (IsAnswer : State → Result State AsmFault → Type 0) (more : ℕ) (old new : Assembler) (e : AsmFault) : Type 0 where
   pub fault : e ≡ FileError
   pub out : new.texts.out ≡ old.texts.out

@@ -1,4 +1,4 @@
-use Rattle.std.proofs.Common.{◌≡◌, true, subst}
+use Rattle.std.proofs.Common.{◌≡◌, Err, ap, true, subst}
 use Rattle.std.specs.Prelude.{IfSome, Option}
 use Rattle.base65.specs.Store.{Files}
 use Rattle.object65.specs.Objects.{ObjectFits, is_good_object}
@@ -37,7 +37,7 @@ pub returns-in-Ok-define_all-clause-count : goal.returns-in-Ok-define_all-clause
 returns-in-Ok-define_all-clause-count g c = passed_through _ _ _ c.in-Ok.expander c.finished.result.result c.in-Ok.ensures.count c.finished.ensures.count
 
 pub returns-in-Err-clause-stopped : goal.returns-in-Err-clause-stopped
-returns-in-Err-clause-stopped g c = stops_first (g.S.Store.files c.args.store.now) (job_of c.args.job.now) c.in-Err.fault c.refused.result c.refused.ensures.failed c.refused.ensures.first c.refused.ensures.silent
+returns-in-Err-clause-stopped g c = stops_first (g.S.Store.files c.args.store.now) (g.S.Store.blamed c.opened.new.store) (job_of c.args.job.now) c.in-Err.fault c.refused.result c.refused.ensures.failed c.refused.ensures.first c.refused.ensures.silent (λ same. c.in-Err.ensures.blamed (ap Err same))
 
 pub returns-in-Err-clause-silent : goal.returns-in-Err-clause-silent
 returns-in-Err-clause-silent g c = memory_silent c.refused.result.result _ c.refused.ensures.silent
@@ -45,7 +45,7 @@ returns-in-Err-clause-silent g c = memory_silent c.refused.result.result _ c.ref
 pub returns-in-Err-define_all-clause-stopped : goal.returns-in-Err-define_all-clause-stopped
 returns-in-Err-define_all-clause-stopped g c =
     let a = c.refused-in-Err-define_all.result in
-    stops_never_so (g.S.Store.files c.args.store.now) (job_of c.args.job.now) a (as_fault a.result c.in-Err-define_all.fault c.in-Err-define_all.ensures.inside c.refused-in-Err-define_all.ensures.failed)
+    stops_never_so (g.S.Store.files c.args.store.now) (g.S.Store.blamed c.opened.new.store) (job_of c.args.job.now) a (as_fault a.result c.in-Err-define_all.fault c.in-Err-define_all.ensures.inside c.refused-in-Err-define_all.ensures.failed)
 
 pub returns-in-Err-define_all-clause-silent : goal.returns-in-Err-define_all-clause-silent
 returns-in-Err-define_all-clause-silent g c = memory_silent c.refused-in-Err-define_all.result.result _ c.refused-in-Err-define_all.ensures.silent
@@ -53,5 +53,5 @@ returns-in-Err-define_all-clause-silent g c = memory_silent c.refused-in-Err-def
 pub returns-in-Ok-define_all-clause-stopped : goal.returns-in-Ok-define_all-clause-stopped
 returns-in-Ok-define_all-clause-stopped g c =
     let run : Run = record { expander = c.in-Ok.expander; assembler = c.define_all.new.assembler } in
-    let P : Option Files → Type 0 = λ o. IfSome o (λ m. StopsFrom m run c.finished.result) in
-    run_stops (g.S.Store.files c.args.store.now) (job_of c.args.job.now) c.in-Ok.expander c.define_all.new.assembler c.in-Ok-define_all.field-0 c.finished.result c.in-Ok-define_all.ensures.defined c.in-Ok.ensures.size c.in-Ok.ensures.opened (subst P c.in-Ok.ensures.files c.finished.ensures.stopped)
+    let P : Option Files → Type 0 = λ o. IfSome o (λ m. StopsFrom m (g.S.Store.blamed c.finished.new.store) run c.finished.result) in
+    run_stops (g.S.Store.files c.args.store.now) (g.S.Store.blamed c.finished.new.store) (job_of c.args.job.now) c.in-Ok.expander c.define_all.new.assembler c.in-Ok-define_all.field-0 c.finished.result c.in-Ok-define_all.ensures.defined c.in-Ok.ensures.size c.in-Ok.ensures.opened (subst P c.in-Ok.ensures.files c.finished.ensures.stopped)

@@ -14,7 +14,7 @@ pub returns-in-Ok-clause-good : goal.returns-in-Ok-clause-good
 returns-in-Ok-clause-good g c = good_answer c.conclude.result c.take_all-ran.new.run.assembler c.in-Ok.ensures.held c.conclude.ensures.concluded
 
 pub returns-in-Ok-clause-stopped : goal.returns-in-Ok-clause-stopped
-returns-in-Ok-clause-stopped g c = stops_never_from (g.S.Store.files c.args.store.now) c.args.run c.conclude.result c.conclude.ensures.inside
+returns-in-Ok-clause-stopped g c = stops_never_from (g.S.Store.files c.args.store.now) (g.S.Store.blamed c.take_all-ran.new.store) c.args.run c.conclude.result c.conclude.ensures.inside
 
 pub returns-in-Ok-clause-silent : goal.returns-in-Ok-clause-silent
 returns-in-Ok-clause-silent g c = memory_silent c.conclude.result.result _ c.conclude.ensures.silent
@@ -35,4 +35,4 @@ returns-in-Err-clause-numbers g c = not_answered ObjectFits c.refused_behind.res
 
 pub returns-in-Err-clause-stopped : goal.returns-in-Err-clause-stopped
 returns-in-Err-clause-stopped g c =
-    stops_behind (g.S.Store.files c.args.store.now) c.args.run c.take_all-ran.new.run c.in-Err.fault c.refused_behind.result c.refused_behind.ensures.failed c.refused_behind.ensures.stopped c.refused_behind.ensures.said c.in-Err.ensures.stopped
+    stops_behind (g.S.Store.files c.args.store.now) (g.S.Store.blamed c.take_all-ran.new.store) c.args.run c.take_all-ran.new.run c.in-Err.fault c.refused_behind.result c.refused_behind.ensures.failed c.refused_behind.ensures.stopped c.refused_behind.ensures.said c.in-Err.ensures.stopped

@@ -23,4 +23,4 @@ returns-clause-taken g c =
 
 pub returns-clause-stopped : goal.returns-clause-stopped
 returns-clause-stopped g c =
-    label_stops (place_in c.args.at.file.now c.args.at.line) (lexemes c.args.tokens.now) (lexemes c.in_ok-label.rest.now) (option_map stated_of c.in_ok-label.label) c.args.assembler.now c.take_front.new.assembler c.take_rest.new.assembler c.in_ok-take_front.field-0 c.take_rest.result c.requires c.in_ok-label.ensures.value c.in_ok-take_front.ensures.taken c.take_rest.ensures.stopped
+    label_stops (g.S.Store.blamed c.take_rest.new.store) (place_in c.args.at.file.now c.args.at.line) (lexemes c.args.tokens.now) (lexemes c.in_ok-label.rest.now) (option_map stated_of c.in_ok-label.label) c.args.assembler.now c.take_front.new.assembler c.take_rest.new.assembler c.in_ok-take_front.field-0 c.take_rest.result c.requires c.in_ok-label.ensures.value c.in_ok-take_front.ensures.taken c.take_rest.ensures.stopped

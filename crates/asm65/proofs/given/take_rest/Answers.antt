@@ -9,7 +9,7 @@ use Rattle.module65.specs.Reading.{IsRest}
 use Rattle.module65.proofs.Given.{some_tokens}
 use Rattle.asm65.specs.Inner.Files.{read_bytes}
 use Rattle.asm65.specs.Inner.Running.{StopsQuietly, TakesBy}
-use Rattle.asm65.specs.Unread.{no_files}
+use Rattle.asm65.specs.Unread.{Without}
 use Rattle.asm65.specs.Views.{place_in}
 use Rattle.asm65.proofs.Runs.{Answer, RestBy, never_stops, rest_leaves, rest_stops, rest_unread, some_there, takes_from}
 use Rattle.asm65.proofs.given.take_rest.Goals as goal
@@ -23,7 +23,7 @@ returns-in_err-statement-clause-taken g c =
     let ts = lexemes c.args.tokens.now in
     let some : ts ≡ [] → ⊥ = some_tokens c.args.tokens.now (some_there (length c.args.tokens.now) c.if-is_empty.ensures) in
     let P : Answer → Type 0 = TakesBy (AreNamed ts) (RestBy (g.S.Store.files c.args.store.now) place ts) 1 c.args.assembler.now c.with_bytes.new.assembler in
-    subst P (sym (p.1 ∙ ap Err p.2)) (rest_unread place (stated_of c.in_ok-read.read) c.args.assembler.now c.with_bytes.new.assembler e c.in_err-statement.ensures.refused c.in_err-statement.ensures.texts (g.S.Store.files c.args.store.now) ts some c.in_ok-read.ensures.value)
+    subst P (sym (p.1 ∙ ap Err p.2)) (rest_unread (g.S.Store.blamed c.with_bytes.new.store) place (stated_of c.in_ok-read.read) c.args.assembler.now c.with_bytes.new.assembler e c.in_err-statement.ensures.refused c.in_err-statement.ensures.texts (g.S.Store.files c.args.store.now) ts some c.in_ok-read.ensures.value)
 
 pub returns-in_err-statement-clause-stopped : goal.returns-in_err-statement-clause-stopped
 returns-in_err-statement-clause-stopped g c =
@@ -33,7 +33,7 @@ returns-in_err-statement-clause-stopped g c =
     let place = place_in c.args.at.file.now c.args.at.line in
     let ts = lexemes c.args.tokens.now in
     let some : ts ≡ [] → ⊥ = some_tokens c.args.tokens.now (some_there (length c.args.tokens.now) c.if-is_empty.ensures) in
-    rest_stops place (stated_of c.in_ok-read.read) c.args.assembler.now c.with_bytes.new.assembler e c.in_err-statement.ensures.refused c.in_err-statement.ensures.texts ts r some c.in_ok-read.ensures.value c.in_err-statement.ensures.failed (p.1 ∙ ap Err p.2)
+    rest_stops (g.S.Store.blamed c.with_bytes.new.store) place (stated_of c.in_ok-read.read) c.args.assembler.now c.with_bytes.new.assembler e c.in_err-statement.ensures.refused c.in_err-statement.ensures.texts ts r some c.in_ok-read.ensures.value c.in_err-statement.ensures.failed (p.1 ∙ ap Err p.2)
 
 pub take_sound-requires : goal.take_sound-requires
 take_sound-requires g c =
@@ -53,4 +53,4 @@ returns-clause-taken g c =
 pub returns-clause-stopped : goal.returns-clause-stopped
 returns-clause-stopped g c =
     let place = place_in c.args.at.file.now c.args.at.line in
-    never_stops (λ t. IsRest no_files Takes t place (lexemes c.args.tokens.now)) 1 c.args.assembler.now c.take_sound.new.assembler c.take_sound.result c.take_sound.ensures.inside
+    never_stops (Without (g.S.Store.blamed c.with_bytes.new.store) (λ m t. IsRest m Takes t place (lexemes c.args.tokens.now))) 1 c.args.assembler.now c.take_sound.new.assembler c.take_sound.result c.take_sound.ensures.inside

@@ -68,7 +68,7 @@ pub returns-in_err-statement-clause-stopped : goal.returns-in_err-statement-clau
 returns-in_err-statement-clause-stopped g c =
     let p = err_from_is_err_and c.from_residual.result c.from_residual.ensures.1 in
     let e = c.in_err-statement.ensures in
-    all_stop (g.S.Store.files c.args.store.now) (g.S.Store.files c.statements.store) c.statements.invariant.files c.args.run.now c.statements.run c.next.new.run e.same c.statements.invariant.so_far c.in_err-statement.field-0.0 c.from_residual.result (p.1 ∙ ap Err p.2) e.stopped
+    all_stop (g.S.Store.files c.args.store.now) (g.S.Store.files c.statements.store) c.statements.invariant.files c.args.run.now c.statements.run c.next.new.run e.same c.statements.invariant.so_far (g.S.Store.blamed c.next.new.store) c.in_err-statement.field-0.0 c.from_residual.result (p.1 ∙ ap Err p.2) e.stopped
 
 pub returns-in_err-take_next-in-Some-clause-stopped : goal.returns-in_err-take_next-in-Some-clause-stopped
 returns-in_err-take_next-in-Some-clause-stopped g c =
@@ -78,8 +78,8 @@ returns-in_err-take_next-in-Some-clause-stopped g c =
     let mid = c.next.new.run in
     let e = c.in_ok-statement.ensures in
     let less = less_given c.in_ok-statement.field-0 c.in-Some.statement (measure_of mid.expander) (measure_of old.expander) c.in-Some.is e.size in
-    all_stopped (g.S.Store.files c.args.store.now) (g.S.Store.files c.statements.store) c.statements.invariant.files c.args.run.now old mid e.same c.statements.invariant.so_far c.in_ok-statement.field-0 e.next c.in-Some.statement c.in-Some.is less c.take_next.new.run c.in_err-take_next-in-Some.ensures.same (g.S.Store.files c.next.new.store) (e.files ∙ c.statements.invariant.files) c.in_err-take_next-in-Some.field-0.0 r (p.1 ∙ ap Err p.2) c.in_err-take_next-in-Some.ensures.stopped
+    all_stopped (g.S.Store.files c.args.store.now) (g.S.Store.files c.statements.store) c.statements.invariant.files c.args.run.now old mid e.same c.statements.invariant.so_far c.in_ok-statement.field-0 e.next c.in-Some.statement c.in-Some.is less c.take_next.new.run c.in_err-take_next-in-Some.ensures.same (g.S.Store.files c.next.new.store) (e.files ∙ c.statements.invariant.files) (g.S.Store.blamed c.take_next.new.store) c.in_err-take_next-in-Some.field-0.0 r (p.1 ∙ ap Err p.2) c.in_err-take_next-in-Some.ensures.stopped
 
 pub returns-in-None-clause-stopped : goal.returns-in-None-clause-stopped
 returns-in-None-clause-stopped g c =
-    some_all (λ m. StopsAll m c.args.run.now c.next.new.run c.check_closed.result) (g.S.Store.files c.args.store.now) (λ m. stops_never m c.args.run.now c.next.new.run c.check_closed.result c.check_closed.ensures)
+    some_all (λ m. StopsAll m (g.S.Store.blamed c.next.new.store) c.args.run.now c.next.new.run c.check_closed.result) (g.S.Store.files c.args.store.now) (λ m. stops_never m (g.S.Store.blamed c.next.new.store) c.args.run.now c.next.new.run c.check_closed.result c.check_closed.ensures)

@@ -21,5 +21,5 @@ returns-clause-stopped g c =
     let at = c.place-line.ensures.place in
     let there = place_of c.args.run.now.expander in
     let same : place_in c.place-line.result.0.now c.place-line.result.1 ≡ there = ap (λ f. place_in f c.place-line.result.1) at.0 ∙ ap (place_in there.file) at.1 in
-    let P : Place → Type 0 = λ p. GivenStops p c.args.statement.now c.args.run.now.assembler c.take_given.new.assembler c.take_given.result in
+    let P : Place → Type 0 = λ p. GivenStops (g.S.Store.blamed c.take_given.new.store) p c.args.statement.now c.args.run.now.assembler c.take_given.new.assembler c.take_given.result in
     subst P same c.take_given.ensures.stopped

@@ -128,8 +128,8 @@ impl Rewriter {
         ensures files { S.files store.new ≡ S.files store.old }
         ensures count { Passes ExpandFault.FileError (S.failures store.old) (S.failures store.new) result }
         ensures stopped { NamesFiles self.old.reader → IfSome (S.files store.old) (λ m. StopsAt
-            (FailsDefining (S.blamed store.new) (state_of m self.old) (Some (name.items, map
-            (λ k. k.items) params.keys)))
+            (FailsDefining (S.blamed store.new) (state_of m self.old)
+            (Some (name.items, map (λ k. k.items) params.keys)))
             self.old.reader self.new.reader result) }
     {
         if self.has_macro(name.as_slice()) {

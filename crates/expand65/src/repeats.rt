@@ -131,8 +131,8 @@ impl Rewriter {
         ensures files { S.files store.new ≡ S.files store.old }
         ensures count { Passes ExpandFault.FileError (S.failures store.old) (S.failures store.new) result }
         ensures stopped { NamesFiles self.old.reader → IfSome (S.files store.old) (λ m. StopsAt
-            (FailsRepeating (S.blamed store.new) (state_of m self.old) (Ok (count, map
-            (λ k. k.items) variable.keys)))
+            (FailsRepeating (S.blamed store.new) (state_of m self.old)
+            (Ok (count, map (λ k. k.items) variable.keys)))
             self.old.reader self.new.reader result) }
     {
         let lines = self.reader.gather(self.alloc, store)?;

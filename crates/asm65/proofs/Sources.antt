@@ -11,7 +11,7 @@ use Rattle.expand65.specs.Expansion.{Reaches, statement, fault, opened_in}
 use Rattle.source65.specs.Faults as expansion
 use Rattle.expand65.specs.Standing.{FollowsFrom, Opens, StandsFor, measure_of, place_of, stated}
 use Rattle.expand65.specs.State as expand
-use Rattle.expand65.specs.Stopping.{IsOnItsWay, StopsOnItsWay}
+use Rattle.expand65.specs.Stopping.{StopsOnItsWay}
 use Rattle.language65.specs.declared.fault.AsmFault.{AsmFault}
 use Rattle.language65.specs.declared.fault.AsmFault.TheVariants.{BadScope, Expansion}
 use Rattle.language65.specs.Faults.{is_failure, is_outside}
@@ -117,8 +117,8 @@ abbrev pub NextBy : Files → Run → Result (Option Statement) ExpandFault → 
 NextBy m old r mid = (t : State) → IsHeldBy t old → FollowsFrom m (known_at t.symbols t.standing) old.expander r mid.expander
 
 -- where the store failed on the way to it
-abbrev pub StopsBy : Files → Run → Result (Option Statement) ExpandFault → Run → Type 0
-StopsBy m old r mid = (t : State) → IsHeldBy t old → StopsOnItsWay m (known_at t.symbols t.standing) old.expander r mid.expander
+abbrev pub StopsBy : Files → Option (List ℕ) → Run → Result (Option Statement) ExpandFault → Run → Type 0
+StopsBy m blamed old r mid = (t : State) → IsHeldBy t old → StopsOnItsWay m blamed (known_at t.symbols t.standing) old.expander r mid.expander
 
 pub goes_first : (m : Files) (run : Run) → Goes m run run
 goes_first m run job t opens defined held = (
@@ -235,7 +235,7 @@ module _ (m : Files) (first old mid : Run) (same : mid.assembler ≡ old.assembl
       by u count holds false runs = (u, runs, (count, holds))
 
   -- the store fails while expansion reads on
-  pub stops_out : (blamed : Option (List ℕ)) (e : ExpandFault) (r : Answer) → r ≡ Err (Expansion e) → StopsBy m old (Err e) mid → Goes m first old → StopsAll m blamed first mid r
+  pub stops_out : (blamed : Option (List ℕ)) (e : ExpandFault) (r : Answer) → r ≡ Err (Expansion e) → StopsBy m blamed old (Err e) mid → Goes m first old → StopsAll m blamed first mid r
   stops_out blamed e r fails where_it_is so_far = subst (StopsAll m blamed first mid) (sym fails) (λ failed job begun_so. by (of_store e failed) job (so_far job begun_so.0 begun_so.1 begun_so.2 begun_so.3))
     where
       by : expansion.is_failure e ≡ true → (job : Job) → (u : State) × Stays m job old u → StopsBehind m blamed job (record { place = place_of mid.expander; fault = Expansion e }) mid.assembler.texts.out mid.assembler.texts.err
@@ -243,8 +243,7 @@ module _ (m : Files) (first old mid : Run) (same : mid.assembler ≡ old.assembl
           let u = now.0 in
           let s = now.1 in
           let says = says_held s.held.count u old.assembler mid.assembler same s.held.holds in
-          let W : expand.State → Type 0 = λ l. IsOnItsWay m (known_at u.symbols u.standing) l (place_of mid.expander) in
-          record { left = s.left; behind = u; taken = s.taken; where_it_is = subst W s.stands.1 (where_it_is u s.held failed); says_out = says.0; says_err = says.1 }
+          record { left = s.left; behind = u; taken = s.taken; where_it_is = where_it_is u s.held s.left s.stands failed; says_out = says.0; says_err = says.1 }
 
   -- it fails while a statement is taken
   pub stops_wrong : (blamed : Option (List ℕ)) (x : Statement) (new : Run) (e : AsmFault) (r : Answer) → r ≡ Err e → NextBy m old (Ok (Some x)) mid → measure_of mid.expander < measure_of old.expander → StopsQuietly (Without blamed (λ m t. IsGiven m Takes t (place_of mid.expander) (stated x))) 2 mid.assembler new.assembler (Err e) → new.expander ≡ mid.expander → Goes m first old → StopsAll m blamed first new r
@@ -288,9 +287,9 @@ module _ (o p : Option Files) (told : p ≡ o) (first old mid : Run) (same : mid
   all_out e r fails next =
       some_both (λ m. Goes m first old) (λ m. NextBy m old (Err e) mid) (λ m. RanAll m first mid r) o (λ m so n. goes_out m first old mid same e r fails n so) so_far (subst (λ q. IfSome q (λ m. NextBy m old (Err e) mid)) told next)
 
-  pub all_stop : (blamed : Option (List ℕ)) (e : ExpandFault) (r : Answer) → r ≡ Err (Expansion e) → IfSome p (λ m. StopsBy m old (Err e) mid) → IfSome o (λ m. StopsAll m blamed first mid r)
+  pub all_stop : (blamed : Option (List ℕ)) (e : ExpandFault) (r : Answer) → r ≡ Err (Expansion e) → IfSome p (λ m. StopsBy m blamed old (Err e) mid) → IfSome o (λ m. StopsAll m blamed first mid r)
   all_stop blamed e r fails stops =
-      some_both (λ m. Goes m first old) (λ m. StopsBy m old (Err e) mid) (λ m. StopsAll m blamed first mid r) o (λ m so s. stops_out m first old mid same blamed e r fails s so) so_far (subst (λ q. IfSome q (λ m. StopsBy m old (Err e) mid)) told stops)
+      some_both (λ m. Goes m first old) (λ m. StopsBy m blamed old (Err e) mid) (λ m. StopsAll m blamed first mid r) o (λ m so s. stops_out m first old mid same blamed e r fails s so) so_far (subst (λ q. IfSome q (λ m. StopsBy m blamed old (Err e) mid)) told stops)
 
   module _ (q : Option Statement) (next : IfSome p (λ m. NextBy m old (Ok q) mid)) where
     given : (x : Option Statement) → q ≡ x → IfSome o (λ m. NextBy m old (Ok x) mid)

@@ -42,7 +42,7 @@ pub record IsNextAt (m : Files) (blamed : Option (List ℕ)) (s : expand.State) 
 -- Where the store failed: at the next statement, where it takes bytes of a file that can't be read; else on the way to it.
 abbrev pub IsWhere : Files → Option (List ℕ) → expand.State → State → AsmFault → Place → Type 0
 IsWhere m blamed s t FileError place = IsNextAt m blamed s t place
-IsWhere m blamed s t (Expansion e) place = IsOnItsWay m (known_at t.symbols t.standing) s place
+IsWhere m blamed s t (Expansion e) place = IsOnItsWay m blamed (known_at t.symbols t.standing) s place
 IsWhere m blamed s t _ place = ⊥
 
 -- the store failed behind some of the statements, and what they say was said

@@ -42,7 +42,8 @@ fn next<S: Store>(run: &mut Run, store: &mut S) -> Result<Option<Statement>, Exp
     ensures next { IfSome (S.files store.old) (λ m. (t : State) → IsHeldBy t run.old →
         FollowsFrom m (known_at t.symbols t.standing) run.old.expander result run.new.expander) }
     ensures stopped { IfSome (S.files store.old) (λ m. (t : State) → IsHeldBy t run.old →
-        StopsOnItsWay m (known_at t.symbols t.standing) run.old.expander result run.new.expander) }
+        StopsOnItsWay m (S.blamed store.new) (known_at t.symbols t.standing)
+        run.old.expander result run.new.expander) }
     ensures same { run.new.assembler ≡ run.old.assembler }
     ensures size { IfOk result (λ o. IfSome o (λ _.
         measure_of run.new.expander < measure_of run.old.expander)) }

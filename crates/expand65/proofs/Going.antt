@@ -1,5 +1,6 @@
 -- Steps one after another, as an expander takes them.
 use Rattle.std.proofs.Common.{◌≡◌, refl, sym, ◌∙◌, subst, Option, Some, None, Bool, true, false, Result, Ok, Err, IfSome}
+use Rattle.std.specs.Prelude.{OnOk}
 use Rattle.std.specs.Result.{is_err}
 use Rattle.base65.specs.Outcome.{Unless}
 use Rattle.base65.specs.Store.{Files}
@@ -7,6 +8,7 @@ use Rattle.expand65.specs.Expansion.{Next, statement, nothing, fault, Reaches, f
 use Rattle.source65.specs.Faults.{is_outside}
 use Rattle.reader65.specs.Fronts.{front_directive}
 use Rattle.expand65.specs.Conditions.{IsIf}
+use Rattle.reader65.specs.Naming.{NamesFiles}
 use Rattle.reader65.specs.Kept.{tokens_in}
 use Rattle.expand65.specs.Meaning.{Meaning}
 use Rattle.expand65.specs.Rewriting.{state_of, turned}
@@ -78,8 +80,8 @@ pub failed_before : (o : Option Files) (k : Meaning) (old new : Expander) (r : R
 failed_before None k old new r e = tt
 failed_before (Some m) k old new r e = λ s h. absurd (let a : old.failed ≡ false = h.0 in let b : true ≡ false = sym e ∙ a in cc)
 
-pub answered : (o : Option Files) (k : Meaning) (old new : Expander) (r : Result (Option Statement) ExpandFault) → new.failed ≡ is_err r → IfSome o (λ m. Comes m k (state_in m old) r (state_in m new)) → IfSome o (λ m. FollowsFrom m k old r new)
-answered None k old new r e h = tt
-answered (Some m) k old new (Ok None) e h = λ s t. let P : State → Type 0 = λ z. Reaches m k z (nothing (state_in m new)) in (state_in m new, subst P t.1 h, (e, refl))
-answered (Some m) k old new (Ok (Some x)) e h = λ s t. let P : State → Type 0 = λ z. Reaches m k z (statement (stated x) (state_in m new)) in (state_in m new, subst P t.1 h, (e, refl))
-answered (Some m) k old new (Err f) e h = λ s t. let P : State → Type 0 = λ z. Unless (is_outside f) (Reaches m k z (fault (f, place_of new))) in subst P t.1 h
+pub answered : (o : Option Files) (k : Meaning) (old new : Expander) (r : Result (Option Statement) ExpandFault) → new.failed ≡ is_err r → (NamesFiles old.rewriter.reader → OnOk r (NamesFiles new.rewriter.reader)) → IfSome o (λ m. Comes m k (state_in m old) r (state_in m new)) → IfSome o (λ m. FollowsFrom m k old r new)
+answered None k old new r e n h = tt
+answered (Some m) k old new (Ok None) e n h = λ s t. let P : State → Type 0 = λ z. Reaches m k z (nothing (state_in m new)) in (state_in m new, subst P t.1 h, (e, refl, n t.2))
+answered (Some m) k old new (Ok (Some x)) e n h = λ s t. let P : State → Type 0 = λ z. Reaches m k z (statement (stated x) (state_in m new)) in (state_in m new, subst P t.1 h, (e, refl, n t.2))
+answered (Some m) k old new (Err f) e n h = λ s t. let P : State → Type 0 = λ z. Unless (is_outside f) (Reaches m k z (fault (f, place_of new))) in subst P t.1 h

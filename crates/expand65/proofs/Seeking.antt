@@ -1,5 +1,5 @@
 -- Files that are looked for.
-use Rattle.std.proofs.Common.{◌≡◌, ◌≢◌, ◌<◌, ◌≤◌, ℕ, ◌+◌, ◌-◌, Bool, true, false, List, [], ◌∷◌, ◌++◌, length, take, drop, get_or, Option, Some, None, Result, Ok, Err, ap, refl, sym, subst, ◌∙◌, arith}
+use Rattle.std.proofs.Common.{◌≡◌, ◌≢◌, ◌<◌, ◌≤◌, ℕ, ◌+◌, ◌-◌, Bool, true, false, List, [], ◌∷◌, ◌++◌, length, take, drop, get_or, Option, Some, None, Result, Ok, Err, ap, refl, sym, subst, ◌∙◌, arith, inl, inr, map, suc, zero}
 use Rattle.std.specs.FinMap as fmap
 use Rattle.std.specs.List.{list_any}
 use Rattle.std.specs.Str.{IsUtf8, is_utf8}
@@ -9,8 +9,9 @@ use Rattle.std.proofs.lemmas.List.{length-drop, take_more}
 use Rattle.std.proofs.lemmas.List.Folds.{list_any-append}
 use Rattle.std.proofs.lemmas.Str.{IsUtf8-from_is_utf8}
 use Rattle.base65.specs.Outcome.{Unless}
-use Rattle.base65.specs.Store.{Files, ReadsAt}
+use Rattle.base65.specs.Store.{Files, IsBlamed, ReadsAt}
 use Rattle.source65.specs.Faults.{is_outside}
+use Rattle.expand65.specs.Failing.{IsAmong}
 use Rattle.expand65.specs.Includes.{file_named, first_file, folder_of, found_or, is_slash}
 use Rattle.reader65.specs.Reading.{bytes_of}
 use Rattle.expand65.specs.Inner.Seeking.{file_of, is_there}
@@ -140,3 +141,10 @@ is_refused m name others f u h = out (is_outside f) h
             few : (b : Bool) → nat_le (length bytes) 16777216 ≡ b → (if b then Ok true else Err FileTooLong) ≡ Err f → found_or name (Some bytes) others ≡ Err f
             few true k h = absurd (cc)
             few false k h = let same : FileTooLong ≡ f = cc in rw k (ap (λ (x : ExpandFault). Err x) same)
+
+-- ---- The name that was asked for.
+
+pub among_at : (blamed : Option (List ℕ)) (f : List ℕ → List ℕ) (l : List (List ℕ)) (i : ℕ) (d : List ℕ) → i < length l → IsBlamed blamed (f (get_or l i d)) → IsAmong blamed (map f l)
+among_at blamed f [] i d h k = absurd (omega (arith, h))
+among_at blamed f (x ∷ l) zero d h k = inl k
+among_at blamed f (x ∷ l) (suc i) d h k = inr (among_at blamed f l i d (omega (arith, h)) k)

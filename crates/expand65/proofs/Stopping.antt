@@ -1,13 +1,15 @@
 -- Where expansion was when the store failed.
-use Rattle.std.proofs.Common.{◌≡◌, ◌∙◌, ◌∷◌, [], List, Bool, drop, false, inr, Option, Some, None, Result, Ok, Err, IfSome, refl, sym, ap, subst}
+use Rattle.std.proofs.Common.{◌≡◌, ℕ, ◌∙◌, ◌∷◌, [], List, Bool, drop, true, false, inr, Option, Some, None, Result, Ok, Err, IfSome, refl, sym, ap, subst}
 use Rattle.base65.specs.Store.{Files}
 use Rattle.syntax65.specs.Tokens.{Lexeme}
 use Rattle.source65.specs.Faults.{is_failure}
 use Rattle.source65.specs.declared.fault.ExpandFault.{ExpandFault}
+use Rattle.source65.specs.declared.fault.ExpandFault.TheVariants.{FileError}
 use Rattle.source65.specs.declared.place.Place.{Place}
 use Rattle.reader65.specs.Blocks.{passes}
 use Rattle.reader65.specs.Fronts.{front_directive}
 use Rattle.reader65.specs.Inside.{left_of, mark_of}
+use Rattle.reader65.specs.Naming.{NamesFiles}
 use Rattle.reader65.specs.Kept.{tokens_in}
 use Rattle.reader65.specs.Left.{Item, Mark, branch, innermost, labelled, mark as end_mark, played, written}
 use Rattle.reader65.specs.Stopping.{FailsInBlock, StopsAt, last_read}
@@ -24,7 +26,7 @@ use Rattle.expand65.specs.Rewriting.{state_of, turned}
 use Rattle.expand65.specs.Standing.{fronted, led, place_of, state_in}
 use Rattle.expand65.specs.State.{State, goes, with_left}
 use Rattle.expand65.specs.Step.{IsStep, last_condition}
-use Rattle.expand65.specs.Stopping.{Goes, Reading, StopsOnItsWay, StopsReading, back_of, no_step, one_more}
+use Rattle.expand65.specs.Stopping.{Goes, IsOnItsWay, Reading, StopsOnItsWay, StopsReading, back_of, no_step, one_more}
 use Rattle.expand65.specs.declared.expander.Expander.{Expander}
 use Rattle.expand65.specs.declared.expander.Front.{Front}
 use Rattle.expand65.specs.declared.expander.Front.TheVariants.{Nothing, Rest, Branch}
@@ -41,63 +43,66 @@ stops_so (Some m) P Q old new (Ok x) f h = tt
 stops_so (Some m) P Q old new (Err e) f h = λ failed. (let so = h failed in record { there = f m new.place so.there; mark = so.mark })
 
 -- where nothing was read
-pub stood : {A : Type 0} (o : Option Files) (P : Files → Place → Type 0) (reader : Reader) (r : Result A ExpandFault) → ((m : Files) → P m reader.place) → IfSome o (λ m. StopsAt (P m) reader reader r)
-stood None P reader r h = tt
-stood (Some m) P reader (Ok x) h = tt
-stood (Some m) P reader (Err f) h = λ failed. record { there = h m; mark = refl }
+pub stood : (A : Type 0) (o : Option Files) (P : Files → Place → Type 0) (reader : Reader) (f : ExpandFault) → ((m : Files) → is_failure f ≡ true → P m reader.place) → IfSome o (λ m. StopsAt {A = A} (P m) reader reader (Err f))
+stood A None P reader f h = tt
+stood A (Some m) P reader f h = λ failed. record { there = h m failed; mark = refl }
+
+pub only_error : (f : ExpandFault) → is_failure f ≡ true → f ≡ FileError
+only_error FileError h = refl
+only_error _ h = absurd cc
 
 -- behind a line
-pub stops_behind : {A : Type 0} (o : Option Files) (k : Meaning) (old mid : Rewriter) (new : Reader) (ts : List Lexeme) (r : Result A ExpandFault) → IfSome o (λ m. Takes (left_of m old.reader) (Ok (Some ts, left_of m mid.reader))) → ((m : Files) → state_of m mid ≡ with_left (state_of m old) (left_of m mid.reader)) → mark_of mid.reader.top ≡ mark_of old.reader.top → IfSome o (λ m. StopsAt (FailsUnlabelled k (state_of m mid) ts) mid.reader new r) → IfSome o (λ m. StopsAt (FailsTaking k (state_of m old)) old.reader new r)
-stops_behind None k old mid new ts r t e same h = tt
-stops_behind (Some m) k old mid new ts (Ok x) t e same h = tt
-stops_behind (Some m) k old mid new ts (Err f) t e same h = λ failed.
+pub stops_behind : {A : Type 0} (o : Option Files) (blamed : Option (List ℕ)) (k : Meaning) (old mid : Rewriter) (new : Reader) (ts : List Lexeme) (r : Result A ExpandFault) → IfSome o (λ m. Takes (left_of m old.reader) (Ok (Some ts, left_of m mid.reader))) → ((m : Files) → state_of m mid ≡ with_left (state_of m old) (left_of m mid.reader)) → mark_of mid.reader.top ≡ mark_of old.reader.top → IfSome o (λ m. StopsAt (FailsUnlabelled blamed k (state_of m mid) ts) mid.reader new r) → IfSome o (λ m. StopsAt (FailsTaking blamed k (state_of m old)) old.reader new r)
+stops_behind None blamed k old mid new ts r t e same h = tt
+stops_behind (Some m) blamed k old mid new ts (Ok x) t e same h = tt
+stops_behind (Some m) blamed k old mid new ts (Err f) t e same h = λ failed.
     let so = h failed in
-    let there : FailsUnlabelled k (with_left (state_of m old) (left_of m mid.reader)) ts new.place = subst (λ s. FailsUnlabelled k s ts new.place) (e m) so.there in
+    let there : FailsUnlabelled blamed k (with_left (state_of m old) (left_of m mid.reader)) ts new.place = subst (λ s. FailsUnlabelled blamed k s ts new.place) (e m) so.there in
     record { there = inr (ts, (left_of m mid.reader, t, there)); mark = so.mark ∙ same }
 
 -- ---- Of one line.
 
 -- the branches behind one that was taken are passed over
-pub stops_at_else : {A : Type 0} (o : Option Files) (old : Rewriter) (new : Reader) (cs : List Bool) (r : Result A ExpandFault) → popped old.conditions old.reader.top.conditions ≡ Some (false, cs) → IfSome o (λ m. StopsAt (FailsInBlock passes 0 (left_of m old.reader)) old.reader new r) → IfSome o (λ m. StopsAt (FailsAtElse (state_of m old) (last_condition (state_of m old))) old.reader new r)
-stops_at_else o old new cs r e h =
-    let Q : Files → Place → Option (Bool × List Bool) → Type 0 = λ m p x. FailsAtElse (state_of m old) x p in
-    stops_so o (λ m. FailsInBlock passes 0 (left_of m old.reader)) (λ m. FailsAtElse (state_of m old) (last_condition (state_of m old))) old.reader new r (λ m p k. subst (Q m p) (sym (last_is m old ∙ e)) k) h
+pub stops_at_else : {A : Type 0} (o : Option Files) (blamed : Option (List ℕ)) (old : Rewriter) (new : Reader) (cs : List Bool) (r : Result A ExpandFault) → popped old.conditions old.reader.top.conditions ≡ Some (false, cs) → IfSome o (λ m. StopsAt (FailsInBlock blamed passes 0 (left_of m old.reader)) old.reader new r) → IfSome o (λ m. StopsAt (FailsAtElse blamed (state_of m old) (last_condition (state_of m old))) old.reader new r)
+stops_at_else o blamed old new cs r e h =
+    let Q : Files → Place → Option (Bool × List Bool) → Type 0 = λ m p x. FailsAtElse blamed (state_of m old) x p in
+    stops_so o (λ m. FailsInBlock blamed passes 0 (left_of m old.reader)) (λ m. FailsAtElse blamed (state_of m old) (last_condition (state_of m old))) old.reader new r (λ m p k. subst (Q m p) (sym (last_is m old ∙ e)) k) h
 
-pub stops_acting : {A : Type 0} (o : Option Files) (k : Meaning) (old : Rewriter) (new : Reader) (ts us : List Lexeme) (d : Directive) (r : Result A ExpandFault) → front_directive ts ≡ Some d → us ≡ drop 1 ts → IfSome o (λ m. StopsAt (FailsBy k (state_of m old) d us) old.reader new r) → IfSome o (λ m. StopsAt (FailsActing k (state_of m old) ts (front_directive ts)) old.reader new r)
-stops_acting o k old new ts us d r e u h =
-    let P : Files → Place → Option Directive → Type 0 = λ m p x. FailsActing k (state_of m old) ts x p in
-    let Q : Files → Place → List Lexeme → Type 0 = λ m p l. FailsBy k (state_of m old) d l p in
-    stops_so o (λ m. FailsBy k (state_of m old) d us) (λ m. FailsActing k (state_of m old) ts (front_directive ts)) old.reader new r (λ m p w. subst (P m p) (sym e) (subst (Q m p) u w)) h
+pub stops_acting : {A : Type 0} (o : Option Files) (blamed : Option (List ℕ)) (k : Meaning) (old : Rewriter) (new : Reader) (ts us : List Lexeme) (d : Directive) (r : Result A ExpandFault) → front_directive ts ≡ Some d → us ≡ drop 1 ts → IfSome o (λ m. StopsAt (FailsBy blamed k (state_of m old) d us) old.reader new r) → IfSome o (λ m. StopsAt (FailsActing blamed k (state_of m old) ts (front_directive ts)) old.reader new r)
+stops_acting o blamed k old new ts us d r e u h =
+    let P : Files → Place → Option Directive → Type 0 = λ m p x. FailsActing blamed k (state_of m old) ts x p in
+    let Q : Files → Place → List Lexeme → Type 0 = λ m p l. FailsBy blamed k (state_of m old) d l p in
+    stops_so o (λ m. FailsBy blamed k (state_of m old) d us) (λ m. FailsActing blamed k (state_of m old) ts (front_directive ts)) old.reader new r (λ m p w. subst (P m p) (sym e) (subst (Q m p) u w)) h
 
 -- ---- Of one step, by what stands in front of the lines.
 
-fails_from : (k : Meaning) (s : State) (is : List Item) (p : Place) → BeginsPlain is → FailsTaking k s p → FailsFrom k s is p
-fails_from k s [] p b h = h
-fails_from k s (written n bytes ∷ is) p b h = h
-fails_from k s (played e ts ∷ is) p b h = h
-fails_from k s (end_mark y ∷ is) p b h = h
-fails_from k s (labelled ts ∷ is) p b h = absurd b
-fails_from k s (branch ts ∷ is) p b h = absurd b
+fails_from : (blamed : Option (List ℕ)) (k : Meaning) (s : State) (is : List Item) (p : Place) → BeginsPlain is → FailsTaking blamed k s p → FailsFrom blamed k s is p
+fails_from blamed k s [] p b h = h
+fails_from blamed k s (written n bytes ∷ is) p b h = h
+fails_from blamed k s (played e ts ∷ is) p b h = h
+fails_from blamed k s (end_mark y ∷ is) p b h = h
+fails_from blamed k s (labelled ts ∷ is) p b h = absurd b
+fails_from blamed k s (branch ts ∷ is) p b h = absurd b
 
-fails_plain : (m : Files) (k : Meaning) (r : Rewriter) (p : Place) → FailsTaking k (state_of m r) p → FailsAt k (fronted Nothing (state_of m r)) p
+fails_plain : (blamed : Option (List ℕ)) (m : Files) (k : Meaning) (r : Rewriter) (p : Place) → FailsTaking blamed k (state_of m r) p → FailsAt blamed k (fronted Nothing (state_of m r)) p
 unfolding FailsAt
-fails_plain m k r p h = fails_from k (state_of m r) (left_of m r.reader).items p (begins_at_line m r) h
+fails_plain blamed m k r p h = fails_from blamed k (state_of m r) (left_of m r.reader).items p (begins_at_line m r) h
 
-fails_rest : (m : Files) (k : Meaning) (r : Rewriter) (line : Line) (p : Place) → FailsActing k (state_of m r) (tokens_in line) (front_directive (tokens_in line)) p → FailsAt k (fronted (Rest line) (state_of m r)) p
+fails_rest : (blamed : Option (List ℕ)) (m : Files) (k : Meaning) (r : Rewriter) (line : Line) (p : Place) → FailsActing blamed k (state_of m r) (tokens_in line) (front_directive (tokens_in line)) p → FailsAt blamed k (fronted (Rest line) (state_of m r)) p
 unfolding FailsAt
-fails_rest m k r line p h = h
+fails_rest blamed m k r line p h = h
 
-fails_branch : (m : Files) (k : Meaning) (r : Rewriter) (line : Line) (p : Place) → FailsAtIf k (state_of m r) True (tokens_in line) p → FailsAt k (fronted (Branch line) (state_of m r)) p
+fails_branch : (blamed : Option (List ℕ)) (m : Files) (k : Meaning) (r : Rewriter) (line : Line) (p : Place) → FailsAtIf blamed k (state_of m r) True (tokens_in line) p → FailsAt blamed k (fronted (Branch line) (state_of m r)) p
 unfolding FailsAt
-fails_branch m k r line p h = h
+fails_branch blamed m k r line p h = h
 
-stops_in : {A : Type 0} (o : Option Files) (k : Meaning) (old : Expander) (new : Reader) (r : Result A ExpandFault) (front : Front) (P : Files → Place → Type 0) → old.front ≡ front → ((m : Files) → innermost (fronted front (state_of m old.rewriter)).left.items ≡ innermost (left_of m old.rewriter.reader).items) → ((m : Files) (p : Place) → P m p → FailsAt k (fronted front (state_of m old.rewriter)) p) → IfSome o (λ m. StopsAt (P m) old.rewriter.reader new r) → IfSome o (λ m. StopsReading m k (state_in m old) r (mark_of new.top) new.place)
-stops_in None k old new r front P is same f h = tt
-stops_in (Some m) k old new (Ok x) front P is same f h = tt
-stops_in (Some m) k old new (Err e) front P is same f h = λ failed.
+stops_in : {A : Type 0} (o : Option Files) (blamed : Option (List ℕ)) (k : Meaning) (old : Expander) (new : Reader) (r : Result A ExpandFault) (front : Front) (P : Files → Place → Type 0) → old.front ≡ front → ((m : Files) → innermost (fronted front (state_of m old.rewriter)).left.items ≡ innermost (left_of m old.rewriter.reader).items) → ((m : Files) (p : Place) → P m p → FailsAt blamed k (fronted front (state_of m old.rewriter)) p) → IfSome o (λ m. StopsAt (P m) old.rewriter.reader new r) → IfSome o (λ m. StopsReading m blamed k (state_in m old) r (mark_of new.top) new.place)
+stops_in None blamed k old new r front P is same f h = tt
+stops_in (Some m) blamed k old new (Ok x) front P is same f h = tt
+stops_in (Some m) blamed k old new (Err e) front P is same f h = λ failed.
     let so = h failed in
     let s = fronted front (state_of m old.rewriter) in
-    let Q : Front → Type 0 = λ b. Reading m k (fronted b (state_of m old.rewriter)) (mark_of new.top) new.place in
+    let Q : Front → Type 0 = λ b. Reading m blamed k (fronted b (state_of m old.rewriter)) (mark_of new.top) new.place in
     subst Q (sym is) (record {
       state = s;
       goes = no_step s;
@@ -105,14 +110,14 @@ stops_in (Some m) k old new (Err e) front P is same f h = λ failed.
       within = same m ∙ innermost_is m old.rewriter.reader ∙ ap Some (sym so.mark);
     })
 
-pub stops_plain : {A : Type 0} (o : Option Files) (k : Meaning) (old : Expander) (new : Reader) (r : Result A ExpandFault) → old.front ≡ Nothing → IfSome o (λ m. StopsAt (FailsTaking k (state_of m old.rewriter)) old.rewriter.reader new r) → IfSome o (λ m. StopsReading m k (state_in m old) r (mark_of new.top) new.place)
-stops_plain o k old new r is h = stops_in o k old new r Nothing (λ m. FailsTaking k (state_of m old.rewriter)) is (λ m. refl) (λ m p. fails_plain m k old.rewriter p) h
+pub stops_plain : {A : Type 0} (o : Option Files) (blamed : Option (List ℕ)) (k : Meaning) (old : Expander) (new : Reader) (r : Result A ExpandFault) → old.front ≡ Nothing → IfSome o (λ m. StopsAt (FailsTaking blamed k (state_of m old.rewriter)) old.rewriter.reader new r) → IfSome o (λ m. StopsReading m blamed k (state_in m old) r (mark_of new.top) new.place)
+stops_plain o blamed k old new r is h = stops_in o blamed k old new r Nothing (λ m. FailsTaking blamed k (state_of m old.rewriter)) is (λ m. refl) (λ m p. fails_plain blamed m k old.rewriter p) h
 
-pub stops_rest : {A : Type 0} (o : Option Files) (k : Meaning) (old : Expander) (new : Reader) (line : Line) (r : Result A ExpandFault) → old.front ≡ Rest line → IfSome o (λ m. StopsAt (FailsActing k (state_of m old.rewriter) (tokens_in line) (front_directive (tokens_in line))) old.rewriter.reader new r) → IfSome o (λ m. StopsReading m k (state_in m old) r (mark_of new.top) new.place)
-stops_rest o k old new line r is h = stops_in o k old new r (Rest line) (λ m. FailsActing k (state_of m old.rewriter) (tokens_in line) (front_directive (tokens_in line))) is (λ m. refl) (λ m p. fails_rest m k old.rewriter line p) h
+pub stops_rest : {A : Type 0} (o : Option Files) (blamed : Option (List ℕ)) (k : Meaning) (old : Expander) (new : Reader) (line : Line) (r : Result A ExpandFault) → old.front ≡ Rest line → IfSome o (λ m. StopsAt (FailsActing blamed k (state_of m old.rewriter) (tokens_in line) (front_directive (tokens_in line))) old.rewriter.reader new r) → IfSome o (λ m. StopsReading m blamed k (state_in m old) r (mark_of new.top) new.place)
+stops_rest o blamed k old new line r is h = stops_in o blamed k old new r (Rest line) (λ m. FailsActing blamed k (state_of m old.rewriter) (tokens_in line) (front_directive (tokens_in line))) is (λ m. refl) (λ m p. fails_rest blamed m k old.rewriter line p) h
 
-pub stops_branch : {A : Type 0} (o : Option Files) (k : Meaning) (old : Expander) (new : Reader) (line : Line) (r : Result A ExpandFault) → old.front ≡ Branch line → IfSome o (λ m. StopsAt (FailsAtIf k (state_of m old.rewriter) True (tokens_in line)) old.rewriter.reader new r) → IfSome o (λ m. StopsReading m k (state_in m old) r (mark_of new.top) new.place)
-stops_branch o k old new line r is h = stops_in o k old new r (Branch line) (λ m. FailsAtIf k (state_of m old.rewriter) True (tokens_in line)) is (λ m. refl) (λ m p. fails_branch m k old.rewriter line p) h
+pub stops_branch : {A : Type 0} (o : Option Files) (blamed : Option (List ℕ)) (k : Meaning) (old : Expander) (new : Reader) (line : Line) (r : Result A ExpandFault) → old.front ≡ Branch line → IfSome o (λ m. StopsAt (FailsAtIf blamed k (state_of m old.rewriter) True (tokens_in line)) old.rewriter.reader new r) → IfSome o (λ m. StopsReading m blamed k (state_in m old) r (mark_of new.top) new.place)
+stops_branch o blamed k old new line r is h = stops_in o blamed k old new r (Branch line) (λ m. FailsAtIf blamed k (state_of m old.rewriter) True (tokens_in line)) is (λ m. refl) (λ m p. fails_branch blamed m k old.rewriter line p) h
 
 -- ---- Of steps one after another.
 
@@ -131,10 +136,10 @@ goes_over : (m : Files) (k : Meaning) (s t u : State) → Goes m k s t → Goes 
 goes_over m k s _ _ g (no_step t) = g
 goes_over m k s t _ g (one_more _ v u h step) = one_more s v u (goes_over m k s t v g h) step
 
-pub stops_later : {A : Type 0} (B : Type 0) (o : Option Files) (k : Meaning) (i e : Expander) (mark : Mark) (place : Place) (r : Result A ExpandFault) (f : ExpandFault) → r ≡ Err f → IfSome o (HasGone k i e) → IfSome o (λ m. StopsReading {A = B} m k (state_in m e) (Err f) mark place) → IfSome o (λ m. StopsReading m k (state_in m i) r mark place)
-stops_later B None k i e mark place r f is h s = tt
-stops_later {A} B (Some m) k i e mark place r f is h s =
-    let P : Result A ExpandFault → Type 0 = λ q. StopsReading m k (state_in m i) q mark place in
+pub stops_later : {A : Type 0} (B : Type 0) (o : Option Files) (blamed : Option (List ℕ)) (k : Meaning) (i e : Expander) (mark : Mark) (place : Place) (r : Result A ExpandFault) (f : ExpandFault) → r ≡ Err f → IfSome o (HasGone k i e) → IfSome o (λ m. StopsReading {A = B} m blamed k (state_in m e) (Err f) mark place) → IfSome o (λ m. StopsReading m blamed k (state_in m i) r mark place)
+stops_later B None blamed k i e mark place r f is h s = tt
+stops_later {A} B (Some m) blamed k i e mark place r f is h s =
+    let P : Result A ExpandFault → Type 0 = λ q. StopsReading m blamed k (state_in m i) q mark place in
     subst P (sym is) (λ failed. (let so = s failed in record {
       state = so.state;
       goes = goes_over m k (state_in m i) (state_in m e) so.state h so.goes;
@@ -144,18 +149,20 @@ stops_later {A} B (Some m) k i e mark place r f is h s =
 
 -- ---- At the place of the line that was read last.
 
-pub goes_back : {A : Type 0} (o : Option Files) (k : Meaning) (old mid new : Expander) (r : Result A ExpandFault) → IfSome o (λ m. StopsReading m k (state_in m old) r (mark_of mid.rewriter.reader.top) (place_of mid)) → place_of new ≡ last_read (place_of mid) mid.rewriter.reader.top.back → IfSome o (λ m. StopsOnItsWay m k old r new)
-goes_back None k old mid new r h e = tt
-goes_back (Some m) k old mid new (Ok x) h e = tt
-goes_back (Some m) k old mid new (Err f) h e = λ failed. (let so = h failed in record {
-  state = so.state;
-  reading = place_of mid;
-  goes = so.goes;
-  fails = so.fails;
-  at = e ∙ ap (λ b. last_read (place_of mid) b) (sym (ap back_of so.within));
-})
+pub goes_back : {A : Type 0} (o : Option Files) (blamed : Option (List ℕ)) (k : Meaning) (old mid new : Expander) (r : Result A ExpandFault) → (NamesFiles old.rewriter.reader → IfSome o (λ m. StopsReading m blamed k (state_in m old) r (mark_of mid.rewriter.reader.top) (place_of mid))) → place_of new ≡ last_read (place_of mid) mid.rewriter.reader.top.back → IfSome o (λ m. StopsOnItsWay m blamed k old r new)
+goes_back None blamed k old mid new r h e = tt
+goes_back (Some m) blamed k old mid new (Ok x) h e = λ s stands. tt
+goes_back (Some m) blamed k old mid new (Err f) h e = λ s stands failed.
+    let so = h stands.2 failed in
+    subst (λ t. IsOnItsWay m blamed k t (place_of new)) stands.1 (record {
+      state = so.state;
+      reading = place_of mid;
+      goes = so.goes;
+      fails = so.fails;
+      at = e ∙ ap (λ b. last_read (place_of mid) b) (sym (ap back_of so.within));
+    })
 
-pub not_on_its_way : {A : Type 0} (o : Option Files) (k : Meaning) (old new : Expander) (r : Result A ExpandFault) → ((f : ExpandFault) → r ≡ Err f → is_failure f ≡ false) → IfSome o (λ m. StopsOnItsWay m k old r new)
-not_on_its_way None k old new r h = tt
-not_on_its_way (Some m) k old new (Ok x) h = tt
-not_on_its_way (Some m) k old new (Err f) h = λ failed. (let no : is_failure f ≡ false = h f refl in absurd cc)
+pub not_on_its_way : {A : Type 0} (o : Option Files) (blamed : Option (List ℕ)) (k : Meaning) (old new : Expander) (r : Result A ExpandFault) → ((f : ExpandFault) → r ≡ Err f → is_failure f ≡ false) → IfSome o (λ m. StopsOnItsWay m blamed k old r new)
+not_on_its_way None blamed k old new r h = tt
+not_on_its_way (Some m) blamed k old new (Ok x) h = λ s stands. tt
+not_on_its_way (Some m) blamed k old new (Err f) h = λ s stands failed. (let no : is_failure f ≡ false = h f refl in absurd cc)

@@ -7,6 +7,7 @@ use Rattle.source65.specs.Faults.{is_outside}
 use Rattle.reader65.specs.Kept.{tokens_in}
 use Rattle.expand65.specs.Meaning.{Meaning}
 use Rattle.expand65.specs.Rewriting.{state_of, size_of}
+use Rattle.reader65.specs.Naming.{NamesFiles}
 use Rattle.reader65.specs.Left.{Item, labelled, branch}
 use Rattle.expand65.specs.State.{State, with_items, Stated, label, plain, Stepped, goes, gives}
 use Rattle.expand65.specs.declared.expander.Expander.{Expander}
@@ -38,9 +39,9 @@ fronted f s = with_items s (in_front f s.left.items)
 abbrev pub state_in : Files → Expander → State
 state_in m e = fronted e.front (state_of m e.rewriter)
 
--- an expander that hasn't failed stands for one state
+-- an expander that hasn't failed stands for one state; the files that it has open are read under the names of their places
 abbrev pub StandsFor : Files → Expander → State → Type 0
-StandsFor m e s = (e.failed ≡ false) × (state_in m e ≡ s)
+StandsFor m e s = (e.failed ≡ false) × (state_in m e ≡ s) × NamesFiles e.rewriter.reader
 
 -- the place of the line that was read last
 abbrev pub place_of : Expander → Place

@@ -1,11 +1,12 @@
 //! The statements of a source, one after another.
 
-ghost use Rattle.std.specs.Prelude.{◌≡◌, ◌<◌, ◌≤◌, ◌+◌, ◌*◌, true, false, length, Err, IfOk, IfSome, IsErrOf, OnErr};
+ghost use Rattle.std.specs.Prelude.{◌≡◌, ◌<◌, ◌≤◌, ◌+◌, ◌*◌, true, false, length, Err, IfOk, IfSome, IsErrOf, OnErr, OnOk};
 ghost use Rattle.base65.specs.Store.{Asks, Files, IsBlamed, Passes};
 ghost use Rattle.expand65.specs.Standing.{Comes, FollowsFrom, Opens, StandsFor, is_end, led, measure_of, place_of, state_in};
 ghost use Rattle.source65.specs.Faults.{is_outside};
 ghost use Rattle.expand65.specs.Stopping.{StopsOnItsWay, StopsReading};
 ghost use Rattle.expand65.specs.Expansion.{first_left, opened_in};
+ghost use Rattle.reader65.specs.Naming.{NamesFiles};
 ghost use Rattle.reader65.specs.Inside.{left_of, mark_of};
 ghost use Rattle.reader65.specs.Reading.{bytes_of};
 ghost use Rattle.expand65.specs.Rewriting.{Turns, size_of, state_of, turned, weight_of};
@@ -124,7 +125,7 @@ impl Expander {
             FollowsFrom m (K.meaning knows.now) self.old result self.new) }
         // Where the store fails: the place is that of the line that was read last.
         ensures stopped { IfSome (S.files store.old) (λ m.
-            StopsOnItsWay m (K.meaning knows.now) self.old result self.new) }
+            StopsOnItsWay m (S.blamed store.new) (K.meaning knows.now) self.old result self.new) }
         ensures failed { OnErr result (self.new.failed ≡ true) }
         ensures before { self.old.failed ≡ true → result ≡ Err ExpandFault.FailedBefore }
         // Statements end.
@@ -164,8 +165,11 @@ impl Expander {
     ) -> Result<Option<Statement>, ExpandFault>
         ensures comes { IfSome (S.files store.old) (λ m.
             Comes m (K.meaning knows.now) (state_in m self.old) result (state_in m self.new)) }
-        ensures stopped { IfSome (S.files store.old) (λ m. StopsReading m (K.meaning knows.now)
-            (state_in m self.old) result (mark_of self.new.rewriter.reader.top) (place_of self.new)) }
+        ensures named { NamesFiles self.old.rewriter.reader →
+            OnOk result (NamesFiles self.new.rewriter.reader) }
+        ensures stopped { NamesFiles self.old.rewriter.reader → IfSome (S.files store.old) (λ m.
+            StopsReading m (S.blamed store.new) (K.meaning knows.now) (state_in m self.old) result
+            (mark_of self.new.rewriter.reader.top) (place_of self.new)) }
         ensures size { IfOk result (λ o. IfSome o (λ _. measure_of self.new < measure_of self.old)) }
         ensures files { S.files store.new ≡ S.files store.old }
         ensures count { Passes ExpandFault.FileError (S.failures store.old) (S.failures store.new) result }
@@ -188,8 +192,11 @@ impl Expander {
         ensures turns { IfSome (S.files store.old) (λ m.
             Turns result (state_of m self.new.rewriter)
             (IsStep m (K.meaning knows.now) (state_in m self.old))) }
-        ensures stopped { IfSome (S.files store.old) (λ m. StopsReading m (K.meaning knows.now)
-            (state_in m self.old) result (mark_of self.new.rewriter.reader.top) (place_of self.new)) }
+        ensures named { NamesFiles self.old.rewriter.reader →
+            OnOk result (NamesFiles self.new.rewriter.reader) }
+        ensures stopped { NamesFiles self.old.rewriter.reader → IfSome (S.files store.old) (λ m.
+            StopsReading m (S.blamed store.new) (K.meaning knows.now) (state_in m self.old) result
+            (mark_of self.new.rewriter.reader.top) (place_of self.new)) }
         ensures size { IfOk result (λ t. size_of self.new.rewriter + weight_of t < measure_of self.old) }
         ensures front { OnErr result (self.new.front ≡ Front.Nothing) }
         ensures files { S.files store.new ≡ S.files store.old }
@@ -208,6 +215,7 @@ impl Expander {
     fn follow(&mut self, turn: Turn) -> Option<Statement>
         ensures led { (m : Files) →
             turned (state_of m self.old.rewriter) turn ≡ led (state_in m self.new) result }
+        ensures named { NamesFiles self.old.rewriter.reader → NamesFiles self.new.rewriter.reader }
         ensures size { measure_of self.new ≡ size_of self.old.rewriter + weight_of turn }
     {
         let (front, statement) = match turn {
@@ -227,6 +235,7 @@ fn reader_of(alloc: Global, file: &str) -> Result<Reader, AllocError>
     ensures lines { IfOk result (λ r. (m : Files) →
         length (bytes_of m file.now) ≤ 16777216 → left_of m r ≡ first_left file.now
         (bytes_of m file.now)) }
+    ensures named { IfOk result NamesFiles }
     ensures size { IfOk result (λ r. 3 * r.room + length r.outer.items ≤ 3145728) }
 {
     let top = Input {

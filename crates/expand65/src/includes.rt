@@ -6,6 +6,7 @@ ghost use Rattle.std.specs.Str.{is_utf8};
 ghost use Rattle.base65.specs.Outcome.{Gives};
 ghost use Rattle.base65.specs.Store.{Asks, IsBlamed, Passes};
 ghost use Rattle.source65.specs.Faults.{is_outside};
+ghost use Rattle.expand65.specs.Failing.{IsAmong};
 ghost use Rattle.expand65.specs.Includes.{as_text, begins_with_slash, beside, file_named, first_file, folder_of, found_or, is_slash, tried, within};
 ghost use Rattle.expand65.specs.Inner.Seeking.{Tries, file_of, is_there};
 
@@ -114,6 +115,7 @@ fn look_up<S: Store>(alloc: Global, store: &mut S, name: &[u8]) -> Result<Option
     ensures tries { IfSome (S.files store.old) (λ m.
         (others : Result (List ℕ × List ℕ) ExpandFault) → Tries m result others
         (found_or name.now (file_named m name.now) others)) }
+    ensures blamed { IsErrOf result ExpandFault.FileError → IsBlamed (S.blamed store.new) name.now }
     ensures files { S.files store.new ≡ S.files store.old }
     ensures count { Passes ExpandFault.FileError (S.failures store.old) (S.failures store.new) result }
 {
@@ -137,6 +139,8 @@ fn find_in_folders<S: Store>(
 ) -> Result<Text, ExpandFault>
     ensures found { IfSome (S.files store.old) (λ m.
         Gives is_outside (file_of m) result (first_file m (map (within name.now) folders.now))) }
+    ensures blamed { IsErrOf result ExpandFault.FileError →
+        IsAmong (S.blamed store.new) (map (within name.now) folders.now) }
     ensures files { S.files store.new ≡ S.files store.old }
     ensures count { Passes ExpandFault.FileError (S.failures store.old) (S.failures store.new) result }
 {
@@ -159,6 +163,8 @@ pub fn find_file<S: Store>(
 ) -> Result<Text, ExpandFault>
     ensures found { IfSome (S.files store.old) (λ m.
         Gives is_outside (file_of m) result (first_file m (tried file.now folders.now name.now))) }
+    ensures blamed { IsErrOf result ExpandFault.FileError →
+        IsAmong (S.blamed store.new) (tried file.now folders.now name.now) }
     ensures files { S.files store.new ≡ S.files store.old }
     ensures count { Passes ExpandFault.FileError (S.failures store.old) (S.failures store.new) result }
 {
@@ -176,6 +182,8 @@ pub fn find_file<S: Store>(
 fn find_as_given<S: Store>(alloc: Global, store: &mut S, name: &[u8]) -> Result<Text, ExpandFault>
     ensures found { IfSome (S.files store.old) (λ m.
         Gives is_outside (file_of m) result (first_file m (name.now ∷ []))) }
+    ensures blamed { IsErrOf result ExpandFault.FileError →
+        IsAmong (S.blamed store.new) (name.now ∷ []) }
     ensures files { S.files store.new ≡ S.files store.old }
     ensures count { Passes ExpandFault.FileError (S.failures store.old) (S.failures store.new) result }
 {

@@ -1,6 +1,6 @@
 //! The names of an expansion's own, and leaving an expansion.
 
-ghost use Rattle.std.specs.Prelude.{◌≡◌, ◌≤◌, ◌+◌, false, map, IfErr, IfOk};
+ghost use Rattle.std.specs.Prelude.{◌≡◌, ◌≤◌, ◌+◌, false, map, IfErr, IfOk, OnOk};
 ghost use Rattle.std.specs.List.{list_any};
 ghost use Rattle.base65.specs.Outcome.{Gives};
 ghost use Rattle.base65.specs.Store.{Files};
@@ -9,6 +9,7 @@ ghost use Rattle.source65.specs.Faults.{is_failure, is_outside};
 ghost use Rattle.reader65.specs.Fronts.{understood};
 ghost use Rattle.expand65.specs.Macros.{exit_macro, is_made, local_line, new_names};
 ghost use Rattle.expand65.specs.Rewriting.{Turns, size_of, state_of, weight_of};
+ghost use Rattle.reader65.specs.Naming.{NamesFiles};
 
 use crate::arguments::names_of;
 use crate::rewriter::{Rewriter, Turn};
@@ -56,6 +57,7 @@ impl Rewriter {
         ensures turns { (m : Files) →
             Turns result (state_of m self.new)
             (λ r. r ≡ local_line (state_of m self.old) (lexemes tokens.now)) }
+        ensures named { NamesFiles self.old.reader → OnOk result (NamesFiles self.new.reader) }
         ensures size { IfOk result (λ t. size_of self.new + weight_of t ≤ size_of self.old + 2) }
         ensures inside { IfErr result (λ e. is_failure e ≡ false) }
     {
@@ -74,6 +76,7 @@ impl Rewriter {
     pub fn exit_macro(&mut self) -> Result<Turn, ExpandFault>
         ensures turns { (m : Files) →
             Turns result (state_of m self.new) (λ r. r ≡ exit_macro (state_of m self.old)) }
+        ensures named { NamesFiles self.old.reader → OnOk result (NamesFiles self.new.reader) }
         ensures size { IfOk result (λ t. size_of self.new + weight_of t ≤ size_of self.old + 2) }
         ensures inside { IfErr result (λ e. is_failure e ≡ false) }
     {

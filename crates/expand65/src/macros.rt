@@ -1,6 +1,6 @@
 //! Macros: their definitions and their calls.
 
-ghost use Rattle.std.specs.Prelude.{◌≡◌, ◌≤◌, ◌+◌, ◌∷◌, [], false, is_some, length, map, IfErr, IfOk, IfSome, Ok, Some};
+ghost use Rattle.std.specs.Prelude.{◌≡◌, ◌≤◌, ◌+◌, ◌∷◌, [], false, is_some, length, map, IfErr, IfOk, IfSome, Ok, Some, OnOk};
 ghost use Rattle.base65.specs.Outcome.{Gives};
 ghost use Rattle.base65.specs.Store.{Files, Passes};
 ghost use Rattle.syntax65.specs.Tokens.{lexeme_of, lexemes};
@@ -14,6 +14,7 @@ ghost use Rattle.expand65.specs.Macros.{IsDefined, IsMacro, called, distinct_of,
 ghost use Rattle.reader65.specs.Playing.{definition_of};
 ghost use Rattle.reader65.specs.Replacing.{number_token};
 ghost use Rattle.expand65.specs.Rewriting.{MacroFound, Opens, Turns, macros_of, size_of, state_of, weight_of};
+ghost use Rattle.reader65.specs.Naming.{NamesFiles};
 
 use crate::arguments::{arguments_of, names_of};
 use crate::rewriter::{Rewriter, Turn};
@@ -99,11 +100,13 @@ impl Rewriter {
         ensures turns { IfSome (S.files store.old) (λ m.
             Turns result (state_of m self.new)
             (IsMacro (state_of m self.old) (lexemes tokens.now))) }
+        ensures named { NamesFiles self.old.reader → OnOk result (NamesFiles self.new.reader) }
         ensures size { IfOk result (λ t. size_of self.new + weight_of t ≤ size_of self.old + 2) }
         ensures files { S.files store.new ≡ S.files store.old }
         ensures count { Passes ExpandFault.FileError (S.failures store.old) (S.failures store.new) result }
-        ensures stopped { IfSome (S.files store.old) (λ m. StopsAt
-            (FailsDefining (state_of m self.old) (header_of (lexemes tokens.now)))
+        ensures stopped { NamesFiles self.old.reader → IfSome (S.files store.old) (λ m. StopsAt
+            (FailsDefining (S.blamed store.new) (state_of m self.old) (header_of
+            (lexemes tokens.now)))
             self.old.reader self.new.reader result) }
     {
         let header = header_of(self.alloc, tokens)?;
@@ -120,11 +123,13 @@ impl Rewriter {
         ensures turns { IfSome (S.files store.old) (λ m.
             Turns result (state_of m self.new)
             (IsDefined (state_of m self.old) (Some (name.items, map (λ k. k.items) params.keys)))) }
+        ensures named { NamesFiles self.old.reader → OnOk result (NamesFiles self.new.reader) }
         ensures size { IfOk result (λ t. size_of self.new + weight_of t ≤ size_of self.old + 2) }
         ensures files { S.files store.new ≡ S.files store.old }
         ensures count { Passes ExpandFault.FileError (S.failures store.old) (S.failures store.new) result }
-        ensures stopped { IfSome (S.files store.old) (λ m. StopsAt
-            (FailsDefining (state_of m self.old) (Some (name.items, map (λ k. k.items) params.keys)))
+        ensures stopped { NamesFiles self.old.reader → IfSome (S.files store.old) (λ m. StopsAt
+            (FailsDefining (S.blamed store.new) (state_of m self.old)
+            (Some (name.items, map (λ k. k.items) params.keys)))
             self.old.reader self.new.reader result) }
     {
         if self.has_macro(name.as_slice()) {
@@ -166,6 +171,7 @@ impl Rewriter {
             Turns result (state_of m self.new)
             (λ r. r ≡ called (state_of m self.old) (definition_of body.value)
             (arguments_of (lexemes tokens.now))) }
+        ensures named { NamesFiles self.old.reader → OnOk result (NamesFiles self.new.reader) }
         ensures size { IfOk result (λ t. size_of self.new + weight_of t ≤ size_of self.old + 2) }
         ensures inside { IfErr result (λ e. is_failure e ≡ false) }
     {
@@ -183,6 +189,7 @@ impl Rewriter {
             Turns result (state_of m self.new)
             (λ r. r ≡ called (state_of m self.old) (definition_of body.value)
             (map tokens_in arguments)) }
+        ensures named { NamesFiles self.old.reader → OnOk result (NamesFiles self.new.reader) }
         ensures size { IfOk result (λ t. size_of self.new + weight_of t ≤ size_of self.old + 2) }
         ensures inside { IfErr result (λ e. is_failure e ≡ false) }
     {
@@ -212,6 +219,7 @@ impl Rewriter {
         ensures turns { (m : Files) →
             Turns result (state_of m self.new)
             (λ r. r ≡ ordinary (state_of m self.old) (tokens_in line)) }
+        ensures named { NamesFiles self.old.reader → OnOk result (NamesFiles self.new.reader) }
         ensures size { IfOk result (λ t. size_of self.new + weight_of t ≤ size_of self.old + 2) }
         ensures inside { IfErr result (λ e. is_failure e ≡ false) }
     {

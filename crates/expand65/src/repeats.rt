@@ -1,6 +1,6 @@
 //! Repeats.
 
-ghost use Rattle.std.specs.Prelude.{◌≡◌, ◌≤◌, ◌+◌, ◌∷◌, [], ℕ, false, map, IfErr, IfOk, IfSome, Ok, Result};
+ghost use Rattle.std.specs.Prelude.{◌≡◌, ◌≤◌, ◌+◌, ◌∷◌, [], ℕ, false, map, IfErr, IfOk, IfSome, Ok, Result, OnOk};
 ghost use Rattle.syntax65.specs.Expressions.{IsParsed};
 ghost use Rattle.base65.specs.Outcome.{Gives};
 ghost use Rattle.base65.specs.Relations.{Answers};
@@ -14,6 +14,7 @@ ghost use Rattle.reader65.specs.Stopping.{StopsAt};
 ghost use Rattle.reader65.specs.Fronts.{understood};
 ghost use Rattle.expand65.specs.Repeats.{IsRepeat, IsRepeated, repeat_header, turns_of, variable_of};
 ghost use Rattle.expand65.specs.Rewriting.{Turns, size_of, state_of, weight_of};
+ghost use Rattle.reader65.specs.Naming.{NamesFiles};
 
 use crate::arguments::{is_comma_at, name_at};
 use crate::knows::Knows;
@@ -101,11 +102,13 @@ impl Rewriter {
         ensures turns { IfSome (S.files store.old) (λ m.
             Turns result (state_of m self.new)
             (IsRepeat (K.meaning knows.now) (state_of m self.old) (lexemes tokens.now))) }
+        ensures named { NamesFiles self.old.reader → OnOk result (NamesFiles self.new.reader) }
         ensures size { IfOk result (λ t. size_of self.new + weight_of t ≤ size_of self.old + 2) }
         ensures files { S.files store.new ≡ S.files store.old }
         ensures count { Passes ExpandFault.FileError (S.failures store.old) (S.failures store.new) result }
-        ensures stopped { IfSome (S.files store.old) (λ m. StopsAt
-            (FailsAtRepeat (K.meaning knows.now) (state_of m self.old) (lexemes tokens.now))
+        ensures stopped { NamesFiles self.old.reader → IfSome (S.files store.old) (λ m. StopsAt
+            (FailsAtRepeat (S.blamed store.new) (K.meaning knows.now) (state_of m self.old)
+            (lexemes tokens.now))
             self.old.reader self.new.reader result) }
     {
         let header = header_of(self.alloc, tokens)?;
@@ -123,11 +126,13 @@ impl Rewriter {
         ensures turns { IfSome (S.files store.old) (λ m.
             Turns result (state_of m self.new)
             (IsRepeated (state_of m self.old) (Ok (count, map (λ k. k.items) variable.keys)))) }
+        ensures named { NamesFiles self.old.reader → OnOk result (NamesFiles self.new.reader) }
         ensures size { IfOk result (λ t. size_of self.new + weight_of t ≤ size_of self.old + 2) }
         ensures files { S.files store.new ≡ S.files store.old }
         ensures count { Passes ExpandFault.FileError (S.failures store.old) (S.failures store.new) result }
-        ensures stopped { IfSome (S.files store.old) (λ m. StopsAt
-            (FailsRepeating (state_of m self.old) (Ok (count, map (λ k. k.items) variable.keys)))
+        ensures stopped { NamesFiles self.old.reader → IfSome (S.files store.old) (λ m. StopsAt
+            (FailsRepeating (S.blamed store.new) (state_of m self.old)
+            (Ok (count, map (λ k. k.items) variable.keys)))
             self.old.reader self.new.reader result) }
     {
         let lines = self.reader.gather(self.alloc, store)?;

@@ -1,6 +1,6 @@
 //! Lines rewritten one after another.
 
-ghost use Rattle.std.specs.Prelude.{◌≡◌, ◌≤◌, ◌<◌, ◌+◌, [], true, false, length, IfErr, IfOk, IfSome, Ok};
+ghost use Rattle.std.specs.Prelude.{◌≡◌, ◌≤◌, ◌<◌, ◌+◌, [], true, false, length, IfErr, IfOk, IfSome, Ok, OnOk};
 ghost use Rattle.base65.specs.Store.{Files, Passes};
 ghost use Rattle.syntax65.specs.Tokens.{lexemes};
 ghost use Rattle.expand65.specs.Conditions.{IsDecided, IsElse, IsIf, ended_if};
@@ -16,6 +16,7 @@ ghost use Rattle.reader65.specs.Reading.{bytes_of};
 ghost use Rattle.expand65.specs.Rewriting.{Turns, size_of, stands_alone, state_of, weight_of};
 ghost use Rattle.expand65.specs.Inner.Seeking.{file_of};
 ghost use Rattle.expand65.specs.Step.{IsActed, IsDirected, IsLabelled, IsStep, at_mark, error_by, last_condition};
+ghost use Rattle.reader65.specs.Naming.{NamesFiles};
 
 use crate::conditions::{Conditions, condition};
 use crate::includes::find_file;
@@ -63,11 +64,12 @@ impl Rewriter {
     fn decide<S: Store>(&mut self, store: &mut S, holds: bool) -> Result<Turn, ExpandFault>
         ensures turns { IfSome (S.files store.old) (λ m.
             Turns result (state_of m self.new) (IsDecided (state_of m self.old) (Ok holds))) }
+        ensures named { NamesFiles self.old.reader → OnOk result (NamesFiles self.new.reader) }
         ensures size { IfOk result (λ t. size_of self.new + weight_of t ≤ size_of self.old + 2) }
         ensures files { S.files store.new ≡ S.files store.old }
         ensures count { Passes ExpandFault.FileError (S.failures store.old) (S.failures store.new) result }
-        ensures stopped { IfSome (S.files store.old) (λ m. StopsAt
-            (FailsDeciding (state_of m self.old) (Ok holds))
+        ensures stopped { NamesFiles self.old.reader → IfSome (S.files store.old) (λ m. StopsAt
+            (FailsDeciding (S.blamed store.new) (state_of m self.old) (Ok holds))
             self.old.reader self.new.reader result) }
     {
         if holds {
@@ -95,11 +97,13 @@ impl Rewriter {
         ensures turns { IfSome (S.files store.old) (λ m.
             Turns result (state_of m self.new)
             (IsIf (K.meaning knows.now) (state_of m self.old) test (lexemes tokens.now))) }
+        ensures named { NamesFiles self.old.reader → OnOk result (NamesFiles self.new.reader) }
         ensures size { IfOk result (λ t. size_of self.new + weight_of t ≤ size_of self.old + 2) }
         ensures files { S.files store.new ≡ S.files store.old }
         ensures count { Passes ExpandFault.FileError (S.failures store.old) (S.failures store.new) result }
-        ensures stopped { IfSome (S.files store.old) (λ m. StopsAt
-            (FailsAtIf (K.meaning knows.now) (state_of m self.old) test (lexemes tokens.now))
+        ensures stopped { NamesFiles self.old.reader → IfSome (S.files store.old) (λ m. StopsAt
+            (FailsAtIf (S.blamed store.new) (K.meaning knows.now) (state_of m self.old) test
+            (lexemes tokens.now))
             self.old.reader self.new.reader result) }
     {
         let holds = condition(self.alloc, knows, test, tokens)?;
@@ -111,6 +115,7 @@ impl Rewriter {
         ensures turns { (m : Files) →
             Turns result (state_of m self.new)
             (λ r. r ≡ ended_if (state_of m self.old) (last_condition (state_of m self.old))) }
+        ensures named { NamesFiles self.old.reader → OnOk result (NamesFiles self.new.reader) }
         ensures size { IfOk result (λ t. size_of self.new + weight_of t ≤ size_of self.old + 2) }
         ensures inside { IfErr result (λ e. is_failure e ≡ false) }
     {
@@ -125,11 +130,13 @@ impl Rewriter {
         ensures turns { IfSome (S.files store.old) (λ m.
             Turns result (state_of m self.new)
             (IsElse (state_of m self.old) (last_condition (state_of m self.old)))) }
+        ensures named { NamesFiles self.old.reader → OnOk result (NamesFiles self.new.reader) }
         ensures size { IfOk result (λ t. size_of self.new + weight_of t ≤ size_of self.old + 2) }
         ensures files { S.files store.new ≡ S.files store.old }
         ensures count { Passes ExpandFault.FileError (S.failures store.old) (S.failures store.new) result }
-        ensures stopped { IfSome (S.files store.old) (λ m. StopsAt
-            (FailsAtElse (state_of m self.old) (last_condition (state_of m self.old)))
+        ensures stopped { NamesFiles self.old.reader → IfSome (S.files store.old) (λ m. StopsAt
+            (FailsAtElse (S.blamed store.new) (state_of m self.old) (last_condition
+            (state_of m self.old)))
             self.old.reader self.new.reader result) }
     {
         match self.conditions.pop_above(self.reader.top.conditions) {
@@ -152,11 +159,13 @@ impl Rewriter {
         ensures turns { IfSome (S.files store.old) (λ m.
             Turns result (state_of m self.new)
             (IsIf (K.meaning knows.now) (state_of m self.old) Test.True (tokens_in line.now))) }
+        ensures named { NamesFiles self.old.reader → OnOk result (NamesFiles self.new.reader) }
         ensures size { IfOk result (λ t. size_of self.new + weight_of t ≤ size_of self.old + 2) }
         ensures files { S.files store.new ≡ S.files store.old }
         ensures count { Passes ExpandFault.FileError (S.failures store.old) (S.failures store.new) result }
-        ensures stopped { IfSome (S.files store.old) (λ m. StopsAt
-            (FailsAtIf (K.meaning knows.now) (state_of m self.old) Test.True (tokens_in line.now))
+        ensures stopped { NamesFiles self.old.reader → IfSome (S.files store.old) (λ m. StopsAt
+            (FailsAtIf (S.blamed store.new) (K.meaning knows.now) (state_of m self.old) Test.True
+            (tokens_in line.now))
             self.old.reader self.new.reader result) }
     {
         let tokens = line.tokens(self.alloc)?;
@@ -172,11 +181,13 @@ impl Rewriter {
         ensures turns { IfSome (S.files store.old) (λ m.
             Turns result (state_of m self.new)
             (λ r. r ≡ include_line m (state_of m self.old) (lexemes tokens.now))) }
+        ensures named { NamesFiles self.old.reader → OnOk result (NamesFiles self.new.reader) }
         ensures size { IfOk result (λ t. size_of self.new + weight_of t ≤ size_of self.old + 2) }
         ensures files { S.files store.new ≡ S.files store.old }
         ensures count { Passes ExpandFault.FileError (S.failures store.old) (S.failures store.new) result }
-        ensures stopped { IfSome (S.files store.old) (λ m. StopsAt
-            (FailsIncluding (state_of m self.old) (string_of (lexemes tokens.now)))
+        ensures stopped { NamesFiles self.old.reader → IfSome (S.files store.old) (λ m. StopsAt
+            (FailsIncluding (S.blamed store.new) (state_of m self.old) (string_of
+            (lexemes tokens.now)))
             self.old.reader self.new.reader result) }
     {
         let Some(name) = string_of(tokens) else {
@@ -192,6 +203,7 @@ impl Rewriter {
         ensures turns { (m : Files) →
             length (bytes_of m file) ≤ 16777216 → Turns result (state_of m self.new)
             (λ r. r ≡ included (state_of m self.old) (Ok (file_of m file))) }
+        ensures named { NamesFiles self.old.reader → OnOk result (NamesFiles self.new.reader) }
         ensures size { IfOk result (λ t. size_of self.new + weight_of t ≤ size_of self.old + 2) }
         ensures inside { IfErr result (λ e. is_failure e ≡ false) }
     {
@@ -214,6 +226,7 @@ impl Rewriter {
         ensures turns { (m : Files) →
             Turns result (state_of m self.new)
             (λ r. r ≡ error_by (state_of m self.old) (string_of (lexemes tokens.now))) }
+        ensures named { NamesFiles self.old.reader → OnOk result (NamesFiles self.new.reader) }
         ensures size { IfOk result (λ t. size_of self.new + weight_of t ≤ size_of self.old + 2) }
         ensures inside { IfErr result (λ e. is_failure e ≡ false) }
     {
@@ -235,11 +248,12 @@ impl Rewriter {
         ensures turns { IfSome (S.files store.old) (λ m.
             (k : Meaning) → Turns result (state_of m self.new)
             (IsDirected m k (state_of m self.old) directive (lexemes tokens.now))) }
+        ensures named { NamesFiles self.old.reader → OnOk result (NamesFiles self.new.reader) }
         ensures size { IfOk result (λ t. size_of self.new + weight_of t ≤ size_of self.old + 2) }
         ensures files { S.files store.new ≡ S.files store.old }
         ensures count { Passes ExpandFault.FileError (S.failures store.old) (S.failures store.new) result }
-        ensures stopped { IfSome (S.files store.old) (λ m. StopsAt
-            (FailsAlone (state_of m self.old) directive (lexemes tokens.now))
+        ensures stopped { NamesFiles self.old.reader → IfSome (S.files store.old) (λ m. StopsAt
+            (FailsAlone (S.blamed store.new) (state_of m self.old) directive (lexemes tokens.now))
             self.old.reader self.new.reader result) }
     {
         if !tokens.is_empty() {
@@ -267,11 +281,13 @@ impl Rewriter {
             Turns result (state_of m self.new)
             (IsDirected m (K.meaning knows.now) (state_of m self.old) directive
             (lexemes tokens.now))) }
+        ensures named { NamesFiles self.old.reader → OnOk result (NamesFiles self.new.reader) }
         ensures size { IfOk result (λ t. size_of self.new + weight_of t ≤ size_of self.old + 2) }
         ensures files { S.files store.new ≡ S.files store.old }
         ensures count { Passes ExpandFault.FileError (S.failures store.old) (S.failures store.new) result }
-        ensures stopped { IfSome (S.files store.old) (λ m. StopsAt
-            (FailsBy (K.meaning knows.now) (state_of m self.old) directive (lexemes tokens.now))
+        ensures stopped { NamesFiles self.old.reader → IfSome (S.files store.old) (λ m. StopsAt
+            (FailsBy (S.blamed store.new) (K.meaning knows.now) (state_of m self.old) directive
+            (lexemes tokens.now))
             self.old.reader self.new.reader result) }
     {
         match directive {
@@ -300,11 +316,13 @@ impl Rewriter {
             Turns result (state_of m self.new)
             (IsActed m (K.meaning knows.now) (state_of m self.old) (tokens_in line)
             (front_directive (tokens_in line)))) }
+        ensures named { NamesFiles self.old.reader → OnOk result (NamesFiles self.new.reader) }
         ensures size { IfOk result (λ t. size_of self.new + weight_of t ≤ size_of self.old + 2) }
         ensures files { S.files store.new ≡ S.files store.old }
         ensures count { Passes ExpandFault.FileError (S.failures store.old) (S.failures store.new) result }
-        ensures stopped { IfSome (S.files store.old) (λ m. StopsAt
-            (FailsActing (K.meaning knows.now) (state_of m self.old) (tokens_in line)
+        ensures stopped { NamesFiles self.old.reader → IfSome (S.files store.old) (λ m. StopsAt
+            (FailsActing (S.blamed store.new) (K.meaning knows.now) (state_of m self.old)
+            (tokens_in line)
             (front_directive (tokens_in line))) self.old.reader self.new.reader result) }
     {
         match line.directive() {
@@ -328,11 +346,13 @@ impl Rewriter {
             Turns result (state_of m self.new)
             (IsLabelled m (K.meaning knows.now) (state_of m self.old) (tokens_in line)
             (is_mislabelled (tokens_in line)))) }
+        ensures named { NamesFiles self.old.reader → OnOk result (NamesFiles self.new.reader) }
         ensures size { IfOk result (λ t. size_of self.new + weight_of t ≤ size_of self.old + 3) }
         ensures files { S.files store.new ≡ S.files store.old }
         ensures count { Passes ExpandFault.FileError (S.failures store.old) (S.failures store.new) result }
-        ensures stopped { IfSome (S.files store.old) (λ m. StopsAt
-            (FailsUnlabelled (K.meaning knows.now) (state_of m self.old) (tokens_in line))
+        ensures stopped { NamesFiles self.old.reader → IfSome (S.files store.old) (λ m. StopsAt
+            (FailsUnlabelled (S.blamed store.new) (K.meaning knows.now) (state_of m self.old)
+            (tokens_in line))
             self.old.reader self.new.reader result) }
     {
         match line.parted(self.alloc)? {
@@ -346,6 +366,7 @@ impl Rewriter {
         ensures turns { (m : Files) →
             left_in m self.old.reader.top.source ≡ [] → Turns result (state_of m self.new)
             (λ r. r ≡ at_mark (state_of m self.old) (left_of m self.old.reader).items) }
+        ensures named { NamesFiles self.old.reader → OnOk result (NamesFiles self.new.reader) }
         ensures size { IfOk result (λ t. size_of self.new + weight_of t < size_of self.old + 1) }
         ensures inside { IfErr result (λ e. is_failure e ≡ false) }
     {
@@ -366,11 +387,12 @@ impl Rewriter {
         ensures turns { IfSome (S.files store.old) (λ m.
             Turns result (state_of m self.new)
             (IsStep m (K.meaning knows.now) (state_of m self.old))) }
+        ensures named { NamesFiles self.old.reader → OnOk result (NamesFiles self.new.reader) }
         ensures size { IfOk result (λ t. size_of self.new + weight_of t < size_of self.old + 1) }
         ensures files { S.files store.new ≡ S.files store.old }
         ensures count { Passes ExpandFault.FileError (S.failures store.old) (S.failures store.new) result }
-        ensures stopped { IfSome (S.files store.old) (λ m. StopsAt
-            (FailsTaking (K.meaning knows.now) (state_of m self.old))
+        ensures stopped { NamesFiles self.old.reader → IfSome (S.files store.old) (λ m. StopsAt
+            (FailsTaking (S.blamed store.new) (K.meaning knows.now) (state_of m self.old))
             self.old.reader self.new.reader result) }
     {
         match self.reader.next_line(self.alloc, store)? {

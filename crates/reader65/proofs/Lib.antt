@@ -6,6 +6,7 @@ pub mod Leaving
 pub mod Lists
 pub mod LineEnds
 pub mod Marks
+pub mod Naming
 pub mod Nexts
 pub mod Opening
 pub mod Plainly

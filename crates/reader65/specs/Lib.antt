@@ -8,6 +8,7 @@ pub mod Judging
 pub mod Kept
 pub mod Left
 pub mod Lines
+pub mod Naming
 pub mod Parting
 pub mod Passing
 pub mod Plain

@@ -9,6 +9,7 @@ ghost use Rattle.reader65.specs.Blocks.{Block, collects, gathers, passes, skippi
 ghost use Rattle.source65.specs.Faults.{is_failure};
 ghost use Rattle.reader65.specs.Judging.{IsDeeper, IsSkipDeeper, Judges, JudgesSkip, alone_or, branch_of};
 ghost use Rattle.reader65.specs.Fronts.{is_nothing};
+ghost use Rattle.reader65.specs.Naming.{NamesFiles};
 ghost use Rattle.reader65.specs.Kept.{tokens_in};
 
 use crate::directives::Directive;
@@ -192,8 +193,10 @@ impl Reader {
         ensures outer { self.new.outer ≡ self.old.outer }
         ensures files { S.files store.new ≡ S.files store.old }
         ensures count { Passes ExpandFault.FileError (S.failures store.old) (S.failures store.new) result }
-        ensures stopped { IfSome (S.files store.old) (λ m. StopsAt
-            (FailsInBlock collects [] (left_of m self.old)) self.old self.new result) }
+        ensures named { NamesFiles self.old → NamesFiles self.new }
+        ensures stopped { NamesFiles self.old → IfSome (S.files store.old) (λ m. StopsAt
+            (FailsInBlock (S.blamed store.new) collects []
+            (left_of m self.old)) self.old self.new result) }
     {
         let mut body = Sequence::new(alloc);
         'lines: loop {
@@ -220,8 +223,10 @@ impl Reader {
         ensures outer { self.new.outer ≡ self.old.outer }
         ensures files { S.files store.new ≡ S.files store.old }
         ensures count { Passes ExpandFault.FileError (S.failures store.old) (S.failures store.new) result }
-        ensures stopped { IfSome (S.files store.old) (λ m. StopsAt
-            (FailsInBlock gathers (0, []) (left_of m self.old)) self.old self.new result) }
+        ensures named { NamesFiles self.old → NamesFiles self.new }
+        ensures stopped { NamesFiles self.old → IfSome (S.files store.old) (λ m. StopsAt
+            (FailsInBlock (S.blamed store.new) gathers (0, [])
+            (left_of m self.old)) self.old self.new result) }
     {
         let mut body = Sequence::new(alloc);
         let mut depth = 0;
@@ -247,8 +252,10 @@ impl Reader {
         ensures outer { self.new.outer ≡ self.old.outer }
         ensures files { S.files store.new ≡ S.files store.old }
         ensures count { Passes ExpandFault.FileError (S.failures store.old) (S.failures store.new) result }
-        ensures stopped { IfSome (S.files store.old) (λ m. StopsAt
-            (FailsInBlock passes 0 (left_of m self.old)) self.old self.new result) }
+        ensures named { NamesFiles self.old → NamesFiles self.new }
+        ensures stopped { NamesFiles self.old → IfSome (S.files store.old) (λ m. StopsAt
+            (FailsInBlock (S.blamed store.new) passes 0
+            (left_of m self.old)) self.old self.new result) }
     {
         let mut depth = 0;
         'lines: loop {
@@ -275,8 +282,10 @@ impl Reader {
         ensures outer { self.new.outer ≡ self.old.outer }
         ensures files { S.files store.new ≡ S.files store.old }
         ensures count { Passes ExpandFault.FileError (S.failures store.old) (S.failures store.new) result }
-        ensures stopped { IfSome (S.files store.old) (λ m. StopsAt
-            (FailsInBlock skips 0 (left_of m self.old)) self.old self.new result) }
+        ensures named { NamesFiles self.old → NamesFiles self.new }
+        ensures stopped { NamesFiles self.old → IfSome (S.files store.old) (λ m. StopsAt
+            (FailsInBlock (S.blamed store.new) skips 0
+            (left_of m self.old)) self.old self.new result) }
     {
         let mut depth = 0;
         'lines: loop {

@@ -3,7 +3,7 @@
 ghost use Rattle.std.specs.Prelude.{◌≡◌, ◌<◌, ◌≤◌, ◌+◌, ◌-◌, ◌++◌, [], min, length, drop, true, false, IsTrue, IfErr, IfOk, IfSome, List, OnOk, ℕ};
 ghost use Rattle.std.specs.FinMap as fmap;
 ghost use Rattle.std.specs.List.{prefix_len};
-ghost use Rattle.base65.specs.Store.{Files, Fills, Passes};
+ghost use Rattle.base65.specs.Store.{Files, Fills, IsBlamed, Passes};
 ghost use Rattle.source65.specs.Faults.{is_failure, is_outside};
 ghost use Rattle.reader65.specs.Left.{numbered};
 ghost use Rattle.reader65.specs.Lines.{lines_of};
@@ -47,6 +47,7 @@ fn read_some<S: Store>(
     ensures read { IfSome (S.files store.old) (λ m.
         IfOk result (λ n. Fills (drop at (bytes_of m name.now)) n buffer.new)) }
     ensures outside { IfErr result (λ e. is_outside e ≡ true) }
+    ensures blamed { IfErr result (λ e. is_failure e ≡ true → IsBlamed (S.blamed store.new) name.now) }
     ensures files { S.files store.new ≡ S.files store.old }
     ensures count { Passes ExpandFault.FileError (S.failures store.old) (S.failures store.new) result }
 {
@@ -70,6 +71,7 @@ fn read_piece<S: Store>(
         IfOk result (λ n. IsPiece (drop at (bytes_of m name.now)) want n bytes.new.items)) }
     ensures few { IfOk result (λ n. (n ≤ want) × (length bytes.new.items ≡ n)) }
     ensures outside { IfErr result (λ e. is_outside e ≡ true) }
+    ensures blamed { IfErr result (λ e. is_failure e ≡ true → IsBlamed (S.blamed store.new) name.now) }
     ensures files { S.files store.new ≡ S.files store.old }
     ensures count { Passes ExpandFault.FileError (S.failures store.old) (S.failures store.new) result }
 {
@@ -90,7 +92,8 @@ fn wanted(at: u64) -> usize
 impl OpenFile {
     /// A file that is there, before its first line.
     pub fn new(alloc: Global, name: Text) -> Self
-        ensures { (m : Files) →
+        ensures name { result.name ≡ name }
+        ensures lines { (m : Files) →
             length (bytes_of m name) ≤ 16777216 → left_in_file m result ≡ numbered 0
             (lines_of (bytes_of m name)) }
     {
@@ -114,6 +117,7 @@ impl OpenFile {
         ensures outside { IfErr result (λ e. is_outside e ≡ true) }
         ensures line { self.new.line ≡ self.old.line }
         ensures name { self.new.name ≡ self.old.name }
+        ensures blamed { IfErr result (λ e. is_failure e ≡ true → IsBlamed (S.blamed store.new) self.old.name) }
         ensures files { S.files store.new ≡ S.files store.old }
         ensures count { Passes ExpandFault.FileError (S.failures store.old) (S.failures store.new) result }
     {
@@ -134,6 +138,7 @@ impl OpenFile {
         ensures outside { IfErr result (λ e. is_outside e ≡ true) }
         ensures line { self.new.line ≡ self.old.line }
         ensures name { self.new.name ≡ self.old.name }
+        ensures blamed { IfErr result (λ e. is_failure e ≡ true → IsBlamed (S.blamed store.new) self.old.name) }
         ensures files { S.files store.new ≡ S.files store.old }
         ensures count { Passes ExpandFault.FileError (S.failures store.old) (S.failures store.new) result }
     {
@@ -200,6 +205,7 @@ impl OpenFile {
             ReadsLine (lines_of (rest_of m self.old)) result (lines_of (rest_of m self.new))) }
         ensures line { self.new.line ≡ self.old.line }
         ensures name { self.new.name ≡ self.old.name }
+        ensures blamed { IfErr result (λ e. is_failure e ≡ true → IsBlamed (S.blamed store.new) self.old.name) }
         ensures files { S.files store.new ≡ S.files store.old }
         ensures count { Passes ExpandFault.FileError (S.failures store.old) (S.failures store.new) result }
     {

@@ -2,10 +2,12 @@
 
 ghost use Rattle.std.specs.Prelude.{◌≡◌, ◌↔◌, ◌<◌, ◌≤◌, ◌+◌, ◌^◌, drop, length, true, false, [], ◌∷◌, Ok, IsTrue, IfErr, IfOk, IfSome, OnOk, Result};
 ghost use Rattle.std.specs.List.{prefix_len};
-ghost use Rattle.base65.specs.Store.{Files, Passes};
+ghost use Rattle.base65.specs.Store.{Files, IsBlamed, Passes};
 ghost use Rattle.source65.specs.Faults.{is_failure, is_outside};
 ghost use Rattle.reader65.specs.Inside.{ComesNext, IsFile, IsReady, TakesLine, is_call, left_in, turns_left};
 ghost use Rattle.reader65.specs.Kept.{tokens_in};
+ghost use Rattle.reader65.specs.Naming.{IsNamed};
+ghost use Rattle.source65.specs.declared.place.Place.{Place};
 ghost use Rattle.reader65.specs.Playing.{left_to_play, replacing_of};
 ghost use Rattle.reader65.specs.Reading.{is_inside, left_in_file};
 ghost use Rattle.reader65.specs.Replacing.{number_token};
@@ -69,6 +71,8 @@ impl OpenFile {
         ensures more { IfOk result (λ n. (n ≡ NextLine.AtEnd →
             ⊥) → self.new.at < length self.new.buffer.items) }
         ensures outside { IfErr result (λ e. is_outside e ≡ true) }
+        ensures name { self.new.name ≡ self.old.name }
+        ensures blamed { IfErr result (λ e. is_failure e ≡ true → IsBlamed (S.blamed store.new) self.old.name) }
         ensures files { S.files store.new ≡ S.files store.old }
         ensures count { Passes ExpandFault.FileError (S.failures store.old) (S.failures store.new) result }
     {
@@ -87,6 +91,7 @@ impl OpenFile {
         requires end { len ≡ prefix_len is_inside (drop self.old.at self.old.buffer.items) }
         requires within { len < length (drop self.old.at self.old.buffer.items) }
         ensures taken { (m : Files) → TakesLine (left_in_file m self.old) result (left_in_file m self.new) }
+        ensures name { self.new.name ≡ self.old.name }
         ensures inside { IfErr result (λ e. is_failure e ≡ false) }
     {
         let (_, rest) = self.buffer.split_at(self.at);
@@ -107,6 +112,8 @@ impl OpenFile {
         requires { self.old.at < length self.old.buffer.items }
         ensures taken { IfSome (S.files store.old) (λ m.
             TakesLine (left_in_file m self.old) result (left_in_file m self.new)) }
+        ensures name { self.new.name ≡ self.old.name }
+        ensures blamed { IfErr result (λ e. is_failure e ≡ true → IsBlamed (S.blamed store.new) self.old.name) }
         ensures files { S.files store.new ≡ S.files store.old }
         ensures count { Passes ExpandFault.FileError (S.failures store.old) (S.failures store.new) result }
     {
@@ -229,6 +236,9 @@ impl Source {
         ensures call { is_call self.new ≡ is_call self.old }
         ensures file { IfErr result (λ e. is_failure e ≡ true → IsFile self.old) }
         ensures outside { IfErr result (λ e. is_outside e ≡ true) }
+        ensures named { (p : Place) → IsNamed self.old p → IsNamed self.new p }
+        ensures blamed { (p : Place) → IsNamed self.old p →
+            IfErr result (λ e. is_failure e ≡ true → IsBlamed (S.blamed store.new) p.file) }
         ensures files { S.files store.new ≡ S.files store.old }
         ensures count { Passes ExpandFault.FileError (S.failures store.old) (S.failures store.new) result }
     {
@@ -246,6 +256,9 @@ impl Source {
             TakesLine (left_in m self.old) result (left_in m self.new)) }
         ensures call { is_call self.new ≡ is_call self.old }
         ensures file { IfErr result (λ e. is_failure e ≡ true → IsFile self.old) }
+        ensures named { (p : Place) → IsNamed self.old p → IsNamed self.new p }
+        ensures blamed { (p : Place) → IsNamed self.old p →
+            IfErr result (λ e. is_failure e ≡ true → IsBlamed (S.blamed store.new) p.file) }
         ensures files { S.files store.new ≡ S.files store.old }
         ensures count { Passes ExpandFault.FileError (S.failures store.old) (S.failures store.new) result }
     {

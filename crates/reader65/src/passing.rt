@@ -6,6 +6,8 @@ ghost use Rattle.base65.specs.Store.{Files};
 ghost use Rattle.syntax65.specs.Tokens.{Lexeme, lexeme_of};
 ghost use Rattle.std.specs.Option.{option_map};
 ghost use Rattle.reader65.specs.Inside.{is_call, left_in, left_of, mark_of};
+ghost use Rattle.source65.specs.declared.place.Place.{Place};
+ghost use Rattle.reader65.specs.Naming.{IsNamed, NamesFiles};
 ghost use Rattle.reader65.specs.Passing.{IsPlainLine, PassesLine, PassesPlain, Plainly, directive_of_first, is_colon_there, IsPlainFront};
 ghost use Rattle.reader65.specs.Plain.{IsPlain};
 ghost use Rattle.reader65.specs.Reading.{left_in_file, without_return};
@@ -92,6 +94,7 @@ impl OpenFile {
     fn pass_line(&mut self) -> Option<u32>
         ensures passed { (m : Files) →
             IfSome result (λ n. PassesLine (left_in_file m self.old) n (left_in_file m self.new)) }
+        ensures name { self.new.name ≡ self.old.name }
         ensures none { IfNone result (self.new ≡ self.old) }
     {
         if self.at >= self.buffer.len() {
@@ -111,6 +114,7 @@ impl Source {
     fn pass_line(&mut self) -> Option<u32>
         ensures passed { (m : Files) →
             IfSome result (λ n. PassesLine (left_in m self.old) n (left_in m self.new)) }
+        ensures named { (p : Place) → IsNamed self.old p → IsNamed self.new p }
         ensures call { is_call self.new ≡ is_call self.old }
         ensures none { IfNone result (self.new ≡ self.old) }
     {
@@ -128,6 +132,7 @@ impl Reader {
         ensures room { IsTrue result → self.new.room < self.old.room }
         ensures mark { mark_of self.new.top ≡ mark_of self.old.top }
         ensures outer { self.new.outer ≡ self.old.outer }
+        ensures named { NamesFiles self.old → NamesFiles self.new }
         ensures none { result ≡ false → self.new ≡ self.old }
     {
         if self.room == 0 {
@@ -149,6 +154,7 @@ impl Reader {
         ensures room { self.new.room ≤ self.old.room }
         ensures mark { mark_of self.new.top ≡ mark_of self.old.top }
         ensures outer { self.new.outer ≡ self.old.outer }
+        ensures named { NamesFiles self.old → NamesFiles self.new }
     {
         'lines: loop {
             if !self.pass_line() {

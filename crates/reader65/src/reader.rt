@@ -5,6 +5,7 @@ ghost use Rattle.base65.specs.Store.{Passes};
 ghost use Rattle.source65.specs.Faults.{is_failure, is_outside};
 ghost use Rattle.reader65.specs.Stopping.{FailsAtLine, StopsAt, last_read};
 ghost use Rattle.reader65.specs.Inside.{Answers, left_in, left_of, mark_of, moved_by, outside};
+ghost use Rattle.reader65.specs.Naming.{AreNamed, IsNamed, NamesFiles, open_in};
 ghost use Rattle.reader65.specs.Kept.{tokens_in};
 ghost use Rattle.base65.specs.Store.{Files};
 ghost use Rattle.reader65.specs.Entering.{closed, end_of, exit_of, if_more, pushed};
@@ -74,8 +75,9 @@ impl Reader {
         ensures outer { self.new.outer ≡ self.old.outer }
         ensures files { S.files store.new ≡ S.files store.old }
         ensures count { Passes ExpandFault.FileError (S.failures store.old) (S.failures store.new) result }
-        ensures stopped { IfSome (S.files store.old) (λ m.
-            StopsAt (FailsAtLine (left_of m self.old)) self.old self.new result) }
+        ensures named { NamesFiles self.old → NamesFiles self.new }
+        ensures stopped { NamesFiles self.old → IfSome (S.files store.old) (λ m. StopsAt
+            (FailsAtLine (S.blamed store.new) (left_of m self.old)) self.old self.new result) }
     {
         let next = self.top.source.begin_line(alloc, store)?;
         if next.is_end() {
@@ -104,8 +106,9 @@ impl Reader {
         ensures outer { self.new.outer ≡ self.old.outer }
         ensures files { S.files store.new ≡ S.files store.old }
         ensures count { Passes ExpandFault.FileError (S.failures store.old) (S.failures store.new) result }
-        ensures stopped { IfSome (S.files store.old) (λ m.
-            StopsAt (FailsAtLine (left_of m self.old)) self.old self.new result) }
+        ensures named { NamesFiles self.old → NamesFiles self.new }
+        ensures stopped { NamesFiles self.old → IfSome (S.files store.old) (λ m. StopsAt
+            (FailsAtLine (S.blamed store.new) (left_of m self.old)) self.old self.new result) }
     {
         match self.next_line(alloc, store)? {
             Some(line) => Ok(line),
@@ -120,6 +123,9 @@ impl Reader {
             (λ r. r ≡ pushed (left_in m input.source) (mark_of input) (left_of m self.old)) }
         ensures room { self.new.room ≡ self.old.room }
         ensures outer { OnOk result (length self.new.outer.items ≡ length self.old.outer.items + 1) }
+        ensures place { self.new.place ≡ self.old.place }
+        ensures named { (p : Place) → IsNamed input.source p → come_back p input.back ≡ self.old.place →
+            NamesFiles self.old → OnOk result (AreNamed (open_in self.new) p) }
         ensures inside { IfErr result (λ e. is_failure e ≡ false) }
     {
         if self.outer.len() >= MAX_NESTING {
@@ -137,6 +143,8 @@ impl Reader {
             if_more result (left_of m self.new).items ≡ outside m self.old.outer.items }
         ensures back { (p : Place) → come_back p back.new ≡ come_back (come_back p back.old) self.old.top.back }
         ensures place { self.new.place ≡ self.old.place }
+        ensures named { (p : Place) → AreNamed (open_in self.old) (come_back p back.old) →
+            AreNamed (open_in self.new) (come_back p back.new) }
         ensures room { self.new.room ≡ self.old.room }
         ensures outer { IsTrue result → length self.new.outer.items < length self.old.outer.items }
         ensures fewer { length self.new.outer.items ≤ length self.old.outer.items }
@@ -160,6 +168,7 @@ impl Reader {
             left_in m self.old.top.source ≡ [] → Answers
             (λ more. (if_more more (left_of m self.new).items, self.new.place)) self.new.place
             result (λ r. r ≡ closed conditions self.old.place (left_of m self.old).items) }
+        ensures named { NamesFiles self.old → OnOk result (NamesFiles self.new) }
         ensures room { self.new.room ≡ self.old.room }
         ensures outer { IfOk result (λ more. IsTrue more →
             length self.new.outer.items < length self.old.outer.items) }
@@ -181,6 +190,7 @@ impl Reader {
             exit_of (outside_macro (left_of m self.old).items self.old.place) ≡ end_of result
             (left_of m self.new).items self.new.place }
         ensures none { IfNone result (self.new.place ≡ self.old.place) }
+        ensures named { NamesFiles self.old → IfSome result (λ _. NamesFiles self.new) }
         ensures room { self.new.room ≡ self.old.room }
         ensures fewer { length self.new.outer.items ≤ length self.old.outer.items }
     {

@@ -19,5 +19,6 @@ pub returns-clause-stopped : goal.returns-clause-stopped
 returns-clause-stopped g c =
     let a = c.args.run.now.assembler in
     let here = known_where (table_of a.symbols) (spot_of c.spot.result) in
-    some_then (λ m. StopsOnItsWay m here c.args.run.now.expander c.next.result c.next.new.self) (λ m. StopsBy m c.args.run.now c.next.result (record { expander = c.next.new.self; assembler = a })) (g.S.Store.files c.args.store.now)
-    (λ m stops t held. subst (λ k. StopsOnItsWay m k c.args.run.now.expander c.next.result c.next.new.self) (known_held held.count t a (spot_of c.spot.result) held.holds c.spot.ensures) stops) c.next.ensures.stopped
+    let blamed = g.S.Store.blamed c.next.new.store in
+    some_then (λ m. StopsOnItsWay m blamed here c.args.run.now.expander c.next.result c.next.new.self) (λ m. StopsBy m blamed c.args.run.now c.next.result (record { expander = c.next.new.self; assembler = a })) (g.S.Store.files c.args.store.now)
+    (λ m stops t held. subst (λ k. StopsOnItsWay m blamed k c.args.run.now.expander c.next.result c.next.new.self) (known_held held.count t a (spot_of c.spot.result) held.holds c.spot.ensures) stops) c.next.ensures.stopped

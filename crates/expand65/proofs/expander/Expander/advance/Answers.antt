@@ -53,19 +53,21 @@ steps-preserved g c =
       files = c.in_ok-turn.ensures.files ∙ c.steps.invariant.files;
       count = search rules;
       size = omega (arith, c.steps.invariant.size, c.in_ok-turn.ensures.size, c.follow.ensures.size);
+      named = λ h. c.follow.ensures.named (c.in_ok-turn.ensures.named (c.steps.invariant.named h));
       gone = gone_on o k c.args.self.now c.steps.self mid new t c.steps.invariant.gone step (λ m. c.follow.ensures.led m ∙ ap (led (state_in m new)) c.in_default.is);
       so_far = goes_on o k c.args.self.now c.steps.self mid new t c.steps.invariant.so_far step (λ m. c.follow.ensures.led m ∙ ap (led (state_in m new)) c.in_default.is);
     }
 
 pub returns-in_err-turn-clause-stopped : goal.returns-in_err-turn-clause-stopped
-returns-in_err-turn-clause-stopped g c =
-    let p = err_from_is_err_and c.from_residual.result c.from_residual.ensures.1 in
+returns-in_err-turn-clause-stopped g c = λ names.
+    (let p = err_from_is_err_and c.from_residual.result c.from_residual.ensures.1 in
     let o = g.S.Store.files c.args.store.now in
     let k = g.K.Knows.meaning c.args.knows.now in
     let f = c.in_err-turn.field-0.0 in
     let new = c.turn.new.self in
-    let stopped = moved_to (λ m. StopsReading {A = Turn} m k (state_in m c.steps.self) (Err f) (mark_of new.rewriter.reader.top) (place_of new)) o (g.S.Store.files c.steps.store) c.steps.invariant.files c.in_err-turn.ensures.stopped in
-    stops_later Turn o k c.args.self.now c.steps.self (mark_of new.rewriter.reader.top) (place_of new) c.from_residual.result f (p.1 ∙ ap Err p.2) c.steps.invariant.gone stopped
+    let blamed = g.S.Store.blamed c.turn.new.store in
+    let stopped = moved_to (λ m. StopsReading {A = Turn} m blamed k (state_in m c.steps.self) (Err f) (mark_of new.rewriter.reader.top) (place_of new)) o (g.S.Store.files c.steps.store) c.steps.invariant.files (c.in_err-turn.ensures.stopped (c.steps.invariant.named names)) in
+    stops_later Turn o blamed k c.args.self.now c.steps.self (mark_of new.rewriter.reader.top) (place_of new) c.from_residual.result f (p.1 ∙ ap Err p.2) c.steps.invariant.gone stopped)
 
 pub steps-init : goal.steps-init
 steps-init g c =
@@ -75,6 +77,7 @@ steps-init g c =
       files = refl;
       count = refl;
       size = omega arith;
+      named = λ h. h;
       gone = none_gone o k c.args.self.now;
       so_far = none_led o k c.args.self.now;
     }

@@ -30,13 +30,13 @@ returns-in-Branch-clause-turns g c =
     where_known (g.S.Store.files c.args.store.now) (λ m. Turns c.begin_branch.result (state_of m new) (IsIf k (state_of m old.rewriter) True ts)) (λ m. Turns c.begin_branch.result (state_of m new) (IsStep m k (state_in m old))) (λ m h. turns_so c.begin_branch.result (state_of m new) (IsIf k (state_of m old.rewriter) True ts) (IsStep m k (state_in m old)) (λ x s. step_branch m k old line x (sym c.replace.ensures.value ∙ c.in-Branch.is) s) h) c.begin_branch.ensures.turns
 
 pub returns-in-Nothing-clause-stopped : goal.returns-in-Nothing-clause-stopped
-returns-in-Nothing-clause-stopped g c =
-    stops_plain (g.S.Store.files c.args.store.now) (g.K.Knows.meaning c.args.knows.now) c.args.self.now c.take.new.self.reader c.take.result (sym c.replace.ensures.value ∙ c.in-Nothing.is) c.take.ensures.stopped
+returns-in-Nothing-clause-stopped g c = λ names.
+    stops_plain (g.S.Store.files c.args.store.now) (g.S.Store.blamed c.take.new.store) (g.K.Knows.meaning c.args.knows.now) c.args.self.now c.take.new.self.reader c.take.result (sym c.replace.ensures.value ∙ c.in-Nothing.is) (c.take.ensures.stopped names)
 
 pub returns-in-Rest-clause-stopped : goal.returns-in-Rest-clause-stopped
-returns-in-Rest-clause-stopped g c =
-    stops_rest (g.S.Store.files c.args.store.now) (g.K.Knows.meaning c.args.knows.now) c.args.self.now c.act.new.self.reader c.in-Rest.line c.act.result (sym c.replace.ensures.value ∙ c.in-Rest.is) c.act.ensures.stopped
+returns-in-Rest-clause-stopped g c = λ names.
+    stops_rest (g.S.Store.files c.args.store.now) (g.S.Store.blamed c.act.new.store) (g.K.Knows.meaning c.args.knows.now) c.args.self.now c.act.new.self.reader c.in-Rest.line c.act.result (sym c.replace.ensures.value ∙ c.in-Rest.is) (c.act.ensures.stopped names)
 
 pub returns-in-Branch-clause-stopped : goal.returns-in-Branch-clause-stopped
-returns-in-Branch-clause-stopped g c =
-    stops_branch (g.S.Store.files c.args.store.now) (g.K.Knows.meaning c.args.knows.now) c.args.self.now c.begin_branch.new.self.reader c.in-Branch.line c.begin_branch.result (sym c.replace.ensures.value ∙ c.in-Branch.is) c.begin_branch.ensures.stopped
+returns-in-Branch-clause-stopped g c = λ names.
+    stops_branch (g.S.Store.files c.args.store.now) (g.S.Store.blamed c.begin_branch.new.store) (g.K.Knows.meaning c.args.knows.now) c.args.self.now c.begin_branch.new.self.reader c.in-Branch.line c.begin_branch.result (sym c.replace.ensures.value ∙ c.in-Branch.is) (c.begin_branch.ensures.stopped names)

@@ -1,15 +1,17 @@
-use Rattle.std.proofs.Common.{◌≡◌, ◌∙◌, ℕ, Bor, List, Ok, Option, ap, refl, subst, sym}
+use Rattle.std.proofs.Common.{◌≡◌, ◌∙◌, ℕ, Bor, List, Err, Ok, Option, ap, refl, subst, sym}
 use Rattle.std.specs.Option.{option_map}
 use Rattle.base65.specs.Store.{Files}
 use Rattle.syntax65.specs.Tokens.{lexemes}
 use Rattle.reader65.specs.Fronts.{string_of}
-use Rattle.expand65.specs.Failing.{FailsIncluding}
+use Rattle.std.proofs.lemmas.Result.{err_from_is_err_and}
+use Rattle.expand65.specs.Failing.{FailsIncluding, IsAmong}
+use Rattle.expand65.specs.declared.rewriter.Turn.{Turn}
 use Rattle.expand65.specs.Includes.{first_file, include_line, included, tried}
 use Rattle.expand65.specs.Rewriting.{Turns, state_of}
 use Rattle.expand65.specs.Inner.Seeking.{file_of}
 use Rattle.expand65.proofs.Acting.{include_found, turns_so, where_known}
 use Rattle.expand65.proofs.Seeking.{found_fits}
-use Rattle.expand65.proofs.Stopping.{stood}
+use Rattle.expand65.proofs.Stopping.{only_error, stood}
 use Rattle.expand65.proofs.rewriter.Rewriter.include.Goals as goal
 
 pub returns-clause-turns : goal.returns-clause-turns
@@ -26,9 +28,14 @@ returns-clause-turns g c =
     where_known (g.S.Store.files c.args.store.now) (λ m. first_file m (tried beside folders name) ≡ Ok (file_of m file)) (λ m. Turns r (state_of m new) (λ x. x ≡ include_line m (state_of m old) ts)) (λ m h. turns_so r (state_of m new) (λ x. x ≡ included (state_of m old) (Ok (file_of m file))) (λ x. x ≡ include_line m (state_of m old) ts) (λ x e. e ∙ include_found m (state_of m old) ts name beside file folders text c.as_str-beside.ensures c.as_slice.ensures h) (c.enter_file.ensures.turns m (found_fits m (tried beside folders name) file h))) c.in_ok-file.ensures.found
 
 pub returns-in_err-file-clause-stopped : goal.returns-in_err-file-clause-stopped
-returns-in_err-file-clause-stopped g c =
+returns-in_err-file-clause-stopped g c = λ names.
+    (let p = err_from_is_err_and c.from_residual.result c.from_residual.ensures.1 in
     let old = c.args.self.now in
     let ts = lexemes c.args.tokens.now in
+    let name = c.in-Some.name.now in
+    let f = c.in_err-file.field-0.0 in
+    let blamed = g.S.Store.blamed c.find_file.new.store in
     let text = sym c.string_of.ensures ∙ ap (option_map (λ (s : Bor (List ℕ)). s.now)) c.in-Some.is in
-    let Q : Files → Option (List ℕ) → Type 0 = λ m t. FailsIncluding (state_of m old) t old.reader.place in
-    stood (g.S.Store.files c.args.store.now) (λ m. FailsIncluding (state_of m old) (string_of ts)) old.reader c.from_residual.result (λ m. subst (Q m) (sym text) refl)
+    let Q : Files → Option (List ℕ) → Type 0 = λ m t. FailsIncluding blamed (state_of m old) t old.reader.place in
+    let P : List ℕ → List (List ℕ) → Type 0 = λ beside folders. IsAmong blamed (tried beside folders name) in
+    rw (p.1, p.2) (stood Turn (g.S.Store.files c.args.store.now) (λ m. FailsIncluding blamed (state_of m old) (string_of ts)) old.reader f (λ m failed. subst (Q m) (sym text) (refl, subst (P old.reader.place.file) c.as_slice.ensures (subst (λ b. P b c.as_slice.result.now) c.as_str-beside.ensures (c.in_err-file.ensures.blamed (ap Err (only_error f failed))))))))

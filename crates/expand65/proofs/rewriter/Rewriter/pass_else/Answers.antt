@@ -25,7 +25,7 @@ returns-in-Some-true-clause-turns g c =
     else_twice (g.S.Store.files c.args.store.now) c.args.self.now c.pop_above.new.self popped
 
 pub returns-in_err-pass-in-Some-false-clause-stopped : goal.returns-in_err-pass-in-Some-false-clause-stopped
-returns-in_err-pass-in-Some-false-clause-stopped g c =
-    let p = err_from_is_err_and c.from_residual.result c.from_residual.ensures.1 in
+returns-in_err-pass-in-Some-false-clause-stopped g c = λ names.
+    (let p = err_from_is_err_and c.from_residual.result c.from_residual.ensures.1 in
     let popped = rw c.in-Some-false.field-0-test at c.in-Some-false.ensures.pops in
-    rw (p.1, p.2) (stops_at_else {A = Turn} (g.S.Store.files c.args.store.now) c.args.self.now c.pass.new.self c.pop_above.new.self (Err c.in_err-pass-in-Some-false.field-0.0) popped c.in_err-pass-in-Some-false.ensures.stopped)
+    rw (p.1, p.2) (stops_at_else {A = Turn} (g.S.Store.files c.args.store.now) (g.S.Store.blamed c.pass.new.store) c.args.self.now c.pass.new.self c.pop_above.new.self (Err c.in_err-pass-in-Some-false.field-0.0) popped (c.in_err-pass-in-Some-false.ensures.stopped names)))

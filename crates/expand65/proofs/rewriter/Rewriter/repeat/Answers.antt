@@ -10,6 +10,7 @@ use Rattle.reader65.specs.declared.playing.Body.{Body}
 use Rattle.reader65.specs.declared.playing.Replay.{Replay}
 use Rattle.expand65.proofs.Acting.{where_known}
 use Rattle.expand65.proofs.Defining.{repeated_one, rewritten, turns_ready}
+use Rattle.reader65.proofs.Naming.{goes_back}
 use Rattle.expand65.proofs.rewriter.Rewriter.repeat.Goals as goal
 
 pub returns-clause-turns : goal.returns-clause-turns
@@ -24,3 +25,9 @@ returns-clause-turns g c =
     let params = map (λ k. k.items) c.args.variable.keys in
     let ready = turns_ready replay body n c.in_ok-body.ensures.ok c.len-at.ensures c.new-arguments.ensures refl c.new-locals.ensures.empty refl in
     where_known (g.S.Store.files c.args.store.now) (λ m. Block gathers (0, []) (left_of m old.reader) (Ok (map tokens_in lines, left_of m rd))) (λ m. IsRepeated (state_of m old) (Ok (n, params)) (goes (rewritten m old new (macros_of old)))) (λ m h. let P : ℕ → Type 0 = λ i. Ok (left_of m new) ≡ pushed (turns_left replay 0 n) (record { is_macro = false; conditions = i; back = None }) (left_of m rd) in repeated_one m old rd new replay body n h ready (subst P c.len.ensures (c.in_ok-enter.ensures.entered m))) c.in_ok-lines.ensures.read
+
+pub returns-clause-named : goal.returns-clause-named
+returns-clause-named g c = λ h.
+    (let mid = c.gather.new.self in
+    let new = c.enter.new.self in
+    goes_back new new mid.place refl refl c.enter.ensures.place (c.in_ok-enter.ensures.named mid.place tt refl (c.in_ok-lines.ensures.named h)))

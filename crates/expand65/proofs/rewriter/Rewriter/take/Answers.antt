@@ -60,8 +60,8 @@ returns-in-Some-clause-turns g c =
     where_both o (λ m. Takes (left_of m old.reader) (Ok (Some ts, left_of m new))) (λ m. Turns r (state_of m end) (IsLabelled m k (state_of m mid) ts (is_mislabelled ts))) (λ m. Turns r (state_of m end) (IsStep m k (state_of m old))) (λ m h e. turns_so r (state_of m end) (IsLabelled m k (state_of m mid) ts (is_mislabelled ts)) (IsStep m k (state_of m old)) (λ x y. step_taken m k old (Ok (Some ts, left_of m new)) x h y) e) taken begun
 
 pub returns-in-Some-clause-stopped : goal.returns-in-Some-clause-stopped
-returns-in-Some-clause-stopped g c =
-    let old = c.args.self.now in
+returns-in-Some-clause-stopped g c = λ names.
+    (let old = c.args.self.now in
     let new = c.next_line.new.self in
     let o = g.S.Store.files c.args.store.now in
     let k = g.K.Knows.meaning c.args.knows.now in
@@ -70,6 +70,7 @@ returns-in-Some-clause-stopped g c =
     let r = c.begin.result in
     let end = c.begin.new.self in
     let P : Option Line → Type 0 = λ l. IfSome o (λ m. Takes (left_of m old.reader) (Ok (option_map tokens_in l, left_of m new))) in
+    let blamed = g.S.Store.blamed c.begin.new.store in
     let taken = subst P c.in-Some.is c.in_ok-next_line.ensures.read in
-    let stopped = moved_to (λ m. StopsAt (FailsUnlabelled k (state_of m mid) ts) new end.reader r) o (g.S.Store.files c.next_line.new.store) c.in_ok-next_line.ensures.files c.begin.ensures.stopped in
-    stops_behind o k old mid end.reader ts r taken (λ m. refl) c.in_ok-next_line.ensures.mark stopped
+    let stopped = moved_to (λ m. StopsAt (FailsUnlabelled blamed k (state_of m mid) ts) new end.reader r) o (g.S.Store.files c.next_line.new.store) c.in_ok-next_line.ensures.files (c.begin.ensures.stopped (c.in_ok-next_line.ensures.named names)) in
+    stops_behind o blamed k old mid end.reader ts r taken (λ m. refl) c.in_ok-next_line.ensures.mark stopped)

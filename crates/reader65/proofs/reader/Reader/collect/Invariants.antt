@@ -3,6 +3,7 @@ use Rattle.std.specs.Prelude.{IfSome}
 use Rattle.reader65.specs.Blocks.{collects}
 use Rattle.reader65.specs.Inside.{mark_of}
 use Rattle.reader65.specs.Kept.{tokens_in}
+use Rattle.reader65.specs.Naming.{NamesFiles}
 use Rattle.reader65.proofs.Blocking.{Leads}
 use Rattle.reader65.proofs.Stopping.{Fails}
 use Rattle.reader65.proofs.reader.Reader.collect.Given as goal
@@ -14,6 +15,7 @@ invariant-lines g l = record {
   room : l.self.room ≤ l.fn.self.room;
   files : g.S.Store.files l.store ≡ g.S.Store.files l.fn.store;
   count : g.S.Store.failures l.store ≡ g.S.Store.failures l.fn.store;
+  named : NamesFiles l.fn.self → NamesFiles l.self;
   reads : IfSome (g.S.Store.files l.fn.store) (Fails collects (map tokens_in l.body) l.self [] l.fn.self);
   so_far : IfSome (g.S.Store.files l.fn.store) (Leads collects (map tokens_in l.body) l.self [] l.fn.self);
 }

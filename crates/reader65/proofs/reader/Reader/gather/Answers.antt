@@ -67,15 +67,16 @@ lines-preserved g c =
       room = omega (arith, c.in_ok-line.ensures.room, c.lines.invariant.room);
       files = c.in_ok-line.ensures.files ∙ c.lines.invariant.files;
       count = search rules;
+      named = λ h. c.in_ok-line.ensures.named (c.lines.invariant.named h);
       reads = subst R (sym items) reads;
       so_far = subst Q (sym items) more;
     }
 
 pub returns-in_err-line-clause-stopped : goal.returns-in_err-line-clause-stopped
-returns-in_err-line-clause-stopped g c =
-    let p = err_from_is_err_and c.from_residual.result c.from_residual.ensures.1 in
+returns-in_err-line-clause-stopped g c = λ names.
+    (let p = err_from_is_err_and c.from_residual.result c.from_residual.ensures.1 in
     let o = g.S.Store.files c.args.store.now in
     let f = c.in_err-line.field-0.0 in
     let reads = c.lines.invariant.reads in
-    let stops = moved_to (λ m. is_failure f ≡ true → HasStopped (FailsAtLine (left_of m c.lines.self)) c.lines.self c.block_line.new.self) o (g.S.Store.files c.lines.store) c.lines.invariant.files c.in_err-line.ensures.stopped in
-    rw (p.1, p.2) (stops_on gathers o c.args.self.now c.lines.self c.block_line.new.self (0, []) (c.lines.depth, map tokens_in c.lines.body) f reads c.lines.invariant.mark stops)
+    let stops = moved_to (λ m. is_failure f ≡ true → HasStopped (FailsAtLine (g.S.Store.blamed c.block_line.new.store) (left_of m c.lines.self)) c.lines.self c.block_line.new.self) o (g.S.Store.files c.lines.store) c.lines.invariant.files (c.in_err-line.ensures.stopped (c.lines.invariant.named names)) in
+    rw (p.1, p.2) (stops_on (g.S.Store.blamed c.block_line.new.store) gathers o c.args.self.now c.lines.self c.block_line.new.self (0, []) (c.lines.depth, map tokens_in c.lines.body) f reads c.lines.invariant.mark stops))

@@ -2,6 +2,7 @@ use Rattle.std.proofs.Common.{◌≡◌, ◌≤◌}
 use Rattle.std.specs.Prelude.{IfSome}
 use Rattle.reader65.specs.Blocks.{passes}
 use Rattle.reader65.specs.Inside.{mark_of}
+use Rattle.reader65.specs.Naming.{NamesFiles}
 use Rattle.reader65.proofs.Blocking.{Leads}
 use Rattle.reader65.proofs.Stopping.{Fails}
 use Rattle.reader65.proofs.reader.Reader.pass.Given as goal
@@ -13,6 +14,7 @@ invariant-lines g l = record {
   room : l.self.room ≤ l.fn.self.room;
   files : g.S.Store.files l.store ≡ g.S.Store.files l.fn.store;
   count : g.S.Store.failures l.store ≡ g.S.Store.failures l.fn.store;
+  named : NamesFiles l.fn.self → NamesFiles l.self;
   reads : IfSome (g.S.Store.files l.fn.store) (Fails passes l.depth l.self 0 l.fn.self);
   so_far : IfSome (g.S.Store.files l.fn.store) (Leads passes l.depth l.self 0 l.fn.self);
 }

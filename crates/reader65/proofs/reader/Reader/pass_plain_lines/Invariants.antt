@@ -1,6 +1,7 @@
 use Rattle.std.proofs.Common.{◌≡◌, ◌≤◌}
 use Rattle.base65.specs.Store.{Files}
 use Rattle.reader65.specs.Inside.{left_of, mark_of}
+use Rattle.reader65.specs.Naming.{NamesFiles}
 use Rattle.reader65.specs.Passing.{Plainly}
 use Rattle.reader65.proofs.reader.Reader.pass_plain_lines.Given as goal
 
@@ -9,6 +10,7 @@ invariant-lines l = record {
   outer : l.self.outer ≡ l.fn.self.outer;
   mark : mark_of l.self.top ≡ mark_of l.fn.self.top;
   room : l.self.room ≤ l.fn.self.room;
+  named : NamesFiles l.fn.self → NamesFiles l.self;
   so_far : (m : Files) → Plainly (left_of m l.fn.self) (left_of m l.self);
 }
 

@@ -62,20 +62,21 @@ lines-preserved g c =
       room = omega (arith, c.in_ok-line.ensures.room, c.pass_plain_lines.ensures.room, c.lines.invariant.room);
       files = c.in_ok-line.ensures.files ∙ c.lines.invariant.files;
       count = search rules;
+      named = λ h. c.in_ok-line.ensures.named (c.pass_plain_lines.ensures.named (c.lines.invariant.named h));
       reads = line_read skips o c.args.self.now c.pass_plain_lines.new.self new 0 c.lines.depth c.in-On.deeper (tokens_in line) (plainly_read skips o c.args.self.now c.lines.self c.pass_plain_lines.new.self 0 c.lines.depth (λ ts p. plain_skipped c.lines.depth ts p) c.pass_plain_lines.ensures.passed c.lines.invariant.reads) taken goes;
       so_far = more;
     }
 
 pub returns-in_err-line-clause-stopped : goal.returns-in_err-line-clause-stopped
-returns-in_err-line-clause-stopped g c =
-    let p = err_from_is_err_and c.from_residual.result c.from_residual.ensures.1 in
+returns-in_err-line-clause-stopped g c = λ names.
+    (let p = err_from_is_err_and c.from_residual.result c.from_residual.ensures.1 in
     let o = g.S.Store.files c.args.store.now in
     let f = c.in_err-line.field-0.0 in
     let reads = plainly_read skips o c.args.self.now c.lines.self c.pass_plain_lines.new.self 0 c.lines.depth (λ ts p. plain_skipped c.lines.depth ts p) c.pass_plain_lines.ensures.passed c.lines.invariant.reads in
-    let stops = moved_to (λ m. is_failure f ≡ true → HasStopped (FailsAtLine (left_of m c.pass_plain_lines.new.self)) c.pass_plain_lines.new.self c.block_line.new.self) o (g.S.Store.files c.lines.store) c.lines.invariant.files c.in_err-line.ensures.stopped in
-    rw (p.1, p.2) (stops_on skips o c.args.self.now c.pass_plain_lines.new.self c.block_line.new.self 0 c.lines.depth f reads (c.pass_plain_lines.ensures.mark ∙ c.lines.invariant.mark) stops)
+    let stops = moved_to (λ m. is_failure f ≡ true → HasStopped (FailsAtLine (g.S.Store.blamed c.block_line.new.store) (left_of m c.pass_plain_lines.new.self)) c.pass_plain_lines.new.self c.block_line.new.self) o (g.S.Store.files c.lines.store) c.lines.invariant.files (c.in_err-line.ensures.stopped (c.pass_plain_lines.ensures.named (c.lines.invariant.named names))) in
+    rw (p.1, p.2) (stops_on (g.S.Store.blamed c.block_line.new.store) skips o c.args.self.now c.pass_plain_lines.new.self c.block_line.new.self 0 c.lines.depth f reads (c.pass_plain_lines.ensures.mark ∙ c.lines.invariant.mark) stops))
 
 pub returns-in_err-branch-clause-stopped : goal.returns-in_err-branch-clause-stopped
-returns-in_err-branch-clause-stopped g c =
-    let p = err_from_is_err_and c.from_residual-in_err-branch.result c.from_residual-in_err-branch.ensures.1 in
-    rw (p.1, p.2) (not_stopped (g.S.Store.files c.args.store.now) (λ m. FailsInBlock skips 0 (left_of m c.args.self.now)) c.args.self.now c.block_line.new.self c.in_err-branch.field-0.0 c.in_err-branch.ensures.inside)
+returns-in_err-branch-clause-stopped g c = λ names.
+    (let p = err_from_is_err_and c.from_residual-in_err-branch.result c.from_residual-in_err-branch.ensures.1 in
+    rw (p.1, p.2) (not_stopped (g.S.Store.files c.args.store.now) (λ m. FailsInBlock (g.S.Store.blamed c.block_line.new.store) skips 0 (left_of m c.args.self.now)) c.args.self.now c.block_line.new.self c.in_err-branch.field-0.0 c.in_err-branch.ensures.inside))

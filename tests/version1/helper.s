@@ -1,0 +1,2 @@
+        .export helper
+helper: rts

@@ -1,0 +1,3 @@
+        .export tick
+tick:   dex
+        rts

@@ -1,0 +1,5 @@
+        .export wait
+        .import tick
+wait:   jsr     tick
+        bne     wait
+        rts

@@ -18,7 +18,7 @@ main:   lda     #<table
         jmp     (vector)
 .rodata
 table:  .word   main, wait, table_end - table
-        .byte   colour, <(colour * 2), WIDTH
+        .byte   <colour, <(colour * 2), WIDTH
 vector: .addr   main + 3
 .assert buffer < $0400, error, "buffer too high"
 .assert colour = 7, warning, "colour isn't 7"

@@ -10,6 +10,7 @@ use Rattle.object65.specs.declared.object.Action.{Action}
 use Rattle.object65.specs.declared.object.Action.TheVariants as action
 use Rattle.object65.specs.declared.object.Assert.{Assert}
 use Rattle.object65.specs.declared.object.Export.{Export}
+use Rattle.object65.specs.declared.object.Origin.{Origin}
 use Rattle.object65.specs.declared.object.Width.{Width}
 use Rattle.object65.specs.declared.object.Width.TheVariants.{Byte, Word, HighFirst, Dword, Branch}
 use Rattle.object65.specs.Fault.{◌>>=◌}
@@ -120,30 +121,47 @@ literal_of body = if length body == 0 then Err BadSize else Ok body
 abbrev pub fill_of : List ℕ → Result ℕ ObjectFault
 fill_of body = if not (length body == 4) || little_number 4 body == 0 then Err BadSize else Ok (little_number 4 body)
 
--- a value's width, its line and its form
-unfoldable pub value_of : List ℕ → Result (Width × ℕ × Form) ObjectFault
-value_of body = do
+-- a line alone
+unfoldable pub line_at : List ℕ → Result (Origin × List ℕ) ObjectFault
+line_at bytes = do
+  line ← number_at 4 bytes
+  Ok (record { file = None; line = line.0 }, line.1)
+
+-- the place of a file, and a line
+unfoldable pub file_line_at : List ℕ → Result (Origin × List ℕ) ObjectFault
+file_line_at bytes = do
+  file ← number_at 4 bytes
+  line ← number_at 4 file.1
+  Ok (record { file = Some file.0; line = line.0 }, line.1)
+
+-- an origin: in version 1 the line alone
+abbrev pub origin_at : ℕ → List ℕ → Result (Origin × List ℕ) ObjectFault
+origin_at version bytes = if version == 1 then line_at bytes else file_line_at bytes
+
+-- a value's width, its origin and its form
+unfoldable pub value_of : ℕ → List ℕ → Result (Width × Origin × Form) ObjectFault
+value_of version body = do
   code ← number_at 1 body
   width ← width_of code.0
-  line ← number_at 4 code.1
-  form ← form_of_all line.1
-  Ok (width, line.0, form)
+  origin ← origin_at version code.1
+  form ← form_of_all origin.1
+  Ok (width, origin.0, form)
 
-unfoldable pub export_of : List ℕ → Result Export ObjectFault
-export_of body = do
+unfoldable pub export_of : ℕ → List ℕ → Result Export ObjectFault
+export_of version body = do
   name ← counted_at body
-  line ← number_at 4 name.1
-  form ← form_of_all line.1
-  Ok (record { name = name.0; line = line.0; form = form })
+  origin ← origin_at version name.1
+  form ← form_of_all origin.1
+  Ok (record { name = name.0; origin = origin.0; form = form })
 
-unfoldable pub assert_of : List ℕ → Result Assert ObjectFault
-assert_of body = do
+unfoldable pub assert_of : ℕ → List ℕ → Result Assert ObjectFault
+assert_of version body = do
   code ← number_at 1 body
   action ← action_of code.0
-  line ← number_at 4 code.1
-  text ← counted_at line.1
+  origin ← origin_at version code.1
+  text ← counted_at origin.1
   form ← form_of_all text.1
-  Ok (record { action = action; line = line.0; text = text.0; form = form })
+  Ok (record { action = action; origin = origin.0; text = text.0; form = form })
 
 abbrev pub end_of : List ℕ → Result (Unit {0}) ObjectFault
 end_of body = if length body == 0 then Ok tt else Err BadSize

@@ -2,7 +2,7 @@
 use Rattle.std.specs.Prelude.{ℕ, ◌+◌, List, [], ◌∷◌, ◌++◌, length, map, slice_get, slice_set, Option, Some, None, Bool, true, false, ◌==◌, if◌then◌else◌}
 use Rattle.object65.specs.declared.draft.Draft.{Draft}
 use Rattle.object65.specs.declared.item.Item.{Item}
-use Rattle.object65.specs.declared.item.Item.TheVariants.{Import, Section, Part, Export, Assert, End}
+use Rattle.object65.specs.declared.item.Item.TheVariants.{File, Import, Section, Part, Export, Assert, End}
 use Rattle.object65.specs.declared.object.Assert as assert
 use Rattle.object65.specs.declared.object.Export as export
 use Rattle.object65.specs.declared.object.Fragment.{Fragment}
@@ -14,6 +14,9 @@ use Rattle.object65.specs.Small.{is_small_text}
 
 -- an object in the making
 pub record State : Type 0 where
+  pub version : ℕ
+  -- the names of the files
+  pub files : List (List ℕ)
   pub imports : List (List ℕ)
   pub drafts : List Draft
   -- whether a fragment was taken
@@ -23,8 +26,9 @@ pub record State : Type 0 where
   pub ended : Bool
   pub failed : Bool
 
-abbrev pub start : State
-start = record { imports = []; drafts = []; begun = false; exports = []; asserts = []; ended = false; failed = false }
+-- an object of this version of which nothing was taken
+abbrev pub start : ℕ → State
+start version = record { version = version; files = []; imports = []; drafts = []; begun = false; exports = []; asserts = []; ended = false; failed = false }
 
 -- ---- A section and its fragments.
 
@@ -46,7 +50,7 @@ with_fragment d len f = record d { filled = d.filled + len; fragments = closed d
 abbrev pub grown : Draft → Fragment → Draft
 grown d (Literal bytes) = record d { filled = d.filled + length bytes; literal = d.literal ++ bytes }
 grown d (Fill n) = with_fragment d n (Fill n)
-grown d (Value width line form) = with_fragment d (fragment_len (Value width line form)) (Value width line form)
+grown d (Value width origin form) = with_fragment d (fragment_len (Value width origin form)) (Value width origin form)
 
 abbrev pub with_piece_in : List Draft → ℕ → Fragment → Option Draft → List Draft
 with_piece_in ds k f None = ds
@@ -64,11 +68,12 @@ empty_draft name size align = record { name = name; align = align; size = size; 
 
 -- the object in the making with an item behind what was taken
 abbrev pub with_item : State → Item → State
+with_item s (File name) = record s { files = s.files ++ name ∷ [] }
 with_item s (Import name) = record s { imports = s.imports ++ name ∷ [] }
 with_item s (Section name size align) = record s { drafts = s.drafts ++ empty_draft name size align ∷ [] }
 with_item s (Part k offset f) = record s { drafts = with_piece s.drafts k f; begun = true }
-with_item s (Export name line form) = record s { exports = s.exports ++ (record { name = name; line = line; form = form }) ∷ [] }
-with_item s (Assert action line text form) = record s { asserts = s.asserts ++ (record { action = action; line = line; text = text; form = form }) ∷ [] }
+with_item s (Export name origin form) = record s { exports = s.exports ++ (record { name = name; origin = origin; form = form }) ∷ [] }
+with_item s (Assert action origin text form) = record s { asserts = s.asserts ++ (record { action = action; origin = origin; text = text; form = form }) ∷ [] }
 with_item s End = record s { ended = true }
 
 -- the object in the making with these items one behind the other
@@ -78,7 +83,7 @@ with_items s (i ∷ is) = with_items (with_item s i) is
 
 -- the text of an assertion had its length in a byte
 abbrev pub has_small_text : Item → Bool
-has_small_text (Assert action line text form) = is_small_text text
+has_small_text (Assert action origin text form) = is_small_text text
 has_small_text _ = true
 
 -- ---- The object that is made.
@@ -87,4 +92,4 @@ abbrev pub section_from : Draft → section.Section
 section_from d = record { name = d.name; align = d.align; fragments = closed d }
 
 abbrev pub object_from : State → Object
-object_from s = record { imports = s.imports; sections = map section_from s.drafts; exports = s.exports; asserts = s.asserts }
+object_from s = record { version = s.version; files = s.files; imports = s.imports; sections = map section_from s.drafts; exports = s.exports; asserts = s.asserts }

@@ -15,5 +15,6 @@ pub mod Items
 pub mod Scanning
 pub mod Taking
 pub mod Whole
+pub mod Versions
 pub mod Bytes
 pub mod Laws

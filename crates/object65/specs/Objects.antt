@@ -1,11 +1,13 @@
 -- Objects as values: what their parts take up, which of them are in the grammar.
-use Rattle.std.specs.Prelude.{ℕ, ◌<◌, ◌^◌, ℤ, pos, negsuc, List, [], ◌∷◌, length, map, sum_by, Bool, true, false, nat_eq, nat_lt, nat_le, int_le, ◌&&◌, not, FitsSigned, ⊤}
+use Rattle.std.specs.Prelude.{◌≡◌, ℕ, ◌<◌, ◌^◌, ℤ, pos, negsuc, List, [], ◌∷◌, length, map, sum_by, Option, Some, None, IfSome, Bool, true, false, nat_eq, nat_lt, nat_le, int_le, ◌==◌, ◌&&◌, not, if◌then◌else◌, FitsSigned, ⊤}
 use Rattle.std.specs.List.{list_all, list_any, AllByRecursion}
 use Rattle.std.specs.Int.{w64, cast_unsigned}
 use Rattle.std.specs.Cmp.Lexicographic.{pointwise}
+use Rattle.std.specs.Str.{is_utf8}
 use Rattle.byteorder.specs.Endian.{little_bytes, big_bytes}
 use Rattle.object65.specs.declared.object.Object.{Object}
 use Rattle.object65.specs.declared.object.Section.{Section}
+use Rattle.object65.specs.declared.object.Origin.{Origin}
 use Rattle.object65.specs.declared.object.Assert.{Assert}
 use Rattle.object65.specs.declared.object.Fragment.{Fragment}
 use Rattle.object65.specs.declared.object.Fragment.TheVariants.{Literal, Fill, Value}
@@ -13,6 +15,7 @@ use Rattle.object65.specs.declared.object.Width.{Width}
 use Rattle.object65.specs.declared.object.Width.TheVariants.{Byte, Word, HighFirst, Dword, Branch}
 use Rattle.object65.specs.Form.{Form, lit, sec, imp, prefix, binary, nodes}
 use Rattle.object65.specs.Folding.{is_normal, is_within, is_literal, node_limit}
+use Rattle.object65.specs.Record.{is_version}
 
 -- ---- Values.
 
@@ -45,7 +48,7 @@ value_bytes width v = little_bytes (width_len width) (cast_unsigned w64 v)
 abbrev pub fragment_len : Fragment → ℕ
 fragment_len (Literal bytes) = length bytes
 fragment_len (Fill n) = n
-fragment_len (Value width line form) = width_len width
+fragment_len (Value width origin form) = width_len width
 
 abbrev pub section_len : Section → ℕ
 section_len s = sum_by fragment_len s.fragments
@@ -71,6 +74,41 @@ abbrev pub are_names : List (List ℕ) → Bool
 are_names [] = true
 are_names (name ∷ names) = is_name name && not (is_among names name) && are_names names
 
+-- ---- Files and origins.
+
+-- the name of a file has at most so many bytes
+abbrev pub file_name_limit : ℕ
+file_name_limit = 4096
+
+-- names of files, none twice; any bytes stand in them, also none
+abbrev pub are_file_names : List (List ℕ) → Bool
+are_file_names [] = true
+are_file_names (name ∷ names) = nat_le (length name) file_name_limit && not (is_among names name) && are_file_names names
+
+-- version 1 has no files
+abbrev pub are_files_of : ℕ → List (List ℕ) → Bool
+are_files_of version files = if version == 1 then length files == 0 else are_file_names files
+
+-- the file of an origin is there, of so many, where it has one
+abbrev pub has_file : ℕ → Option ℕ → Bool
+has_file files None = true
+has_file files (Some k) = nat_lt k files
+
+-- each origin has a file but for those of version 1
+abbrev pub has_file_by : ℕ → Option ℕ → Bool
+has_file_by version None = version == 1
+has_file_by version (Some k) = not (version == 1)
+
+-- an origin in an object of this version with so many files
+abbrev pub is_good_origin : ℕ → ℕ → Origin → Bool
+is_good_origin version files origin = has_file_by version origin.file && has_file files origin.file
+
+-- likewise a fragment, of which values alone have an origin
+abbrev pub has_good_origin : ℕ → ℕ → Fragment → Bool
+has_good_origin version files (Literal bytes) = true
+has_good_origin version files (Fill n) = true
+has_good_origin version files (Value width origin form) = is_good_origin version files origin
+
 -- ---- Forms.
 
 -- a form of an object with so many sections and imports
@@ -91,7 +129,7 @@ FitsBits (binary op f g) = FitsBits f × FitsBits g
 abbrev pub is_good_fragment : ℕ → ℕ → Fragment → Bool
 is_good_fragment sections imports (Literal bytes) = nat_lt 0 (length bytes)
 is_good_fragment sections imports (Fill n) = nat_lt 0 n
-is_good_fragment sections imports (Value width line form) = is_good_form sections imports form && not (is_literal form)
+is_good_fragment sections imports (Value width origin form) = is_good_form sections imports form && not (is_literal form)
 
 -- neighbours that would be one fragment
 abbrev pub joins : Fragment → Fragment → Bool
@@ -110,9 +148,9 @@ is_good_section sections imports s = nat_le s.align 15 && nat_le (section_len s)
 abbrev pub is_good_assert : ℕ → ℕ → Assert → Bool
 is_good_assert sections imports a = nat_lt (length a.text) 256 && is_good_form sections imports a.form && not (is_literal a.form)
 
--- what has a spelling
-abbrev pub is_good_object : Object → Bool
-is_good_object o =
+-- what is the same in both versions
+abbrev pub has_good_parts : Object → Bool
+has_good_parts o =
     let sections = length o.sections in
     let imports = length o.imports in
     are_names o.imports && are_names (map (λ s. s.name) o.sections) && are_names (map (λ e. e.name) o.exports)
@@ -120,13 +158,29 @@ is_good_object o =
     && list_all (λ e. is_good_form sections imports e.form) o.exports
     && list_all (is_good_assert sections imports) o.asserts
 
+abbrev pub has_good_origins : Object → Bool
+has_good_origins o =
+    let is_good = is_good_origin o.version (length o.files) in
+    list_all (λ s. list_all (has_good_origin o.version (length o.files)) s.fragments) o.sections
+    && list_all (λ e. is_good e.origin) o.exports
+    && list_all (λ a. is_good a.origin) o.asserts
+
+-- what has a spelling
+abbrev pub is_good_object : Object → Bool
+is_good_object o = is_version o.version && are_files_of o.version o.files && has_good_origins o && has_good_parts o
+
+abbrev pub OriginFits : Origin → Type 0
+OriginFits origin = IfSome origin.file (λ k. k < 2 ^ 32) × (origin.line < 2 ^ 32)
+
 abbrev pub FragmentFits : Fragment → Type 0
 FragmentFits (Literal bytes) = ⊤
 FragmentFits (Fill n) = n < 2 ^ 32
-FragmentFits (Value width line form) = (line < 2 ^ 32) × FitsBits form
+FragmentFits (Value width origin form) = OriginFits origin × FitsBits form
 
--- the numbers of an object are those of their types
+-- the numbers and texts of an object are those of their types
 pub record ObjectFits (o : Object) : Type 0 where
+  -- files have names that are texts
+  pub files : AllByRecursion (λ name. is_utf8 name ≡ true) o.files
   pub sections : AllByRecursion (λ s. AllByRecursion FragmentFits s.fragments) o.sections
-  pub exports : AllByRecursion (λ e. (e.line < 2 ^ 32) × FitsBits e.form) o.exports
-  pub asserts : AllByRecursion (λ a. (a.line < 2 ^ 32) × FitsBits a.form) o.asserts
+  pub exports : AllByRecursion (λ e. OriginFits e.origin × FitsBits e.form) o.exports
+  pub asserts : AllByRecursion (λ a. OriginFits a.origin × FitsBits a.form) o.asserts

@@ -5,7 +5,7 @@ use Rattle.byteorder.specs.Endian.{little_number}
 use Rattle.object65.specs.declared.fault.ObjectFault.{ObjectFault}
 use Rattle.object65.specs.declared.fault.ObjectFault.TheVariants.{NotAnObject, UnknownVersion, CutShort, UnknownRecord, BadSize, FileNotFound, BytesAfterEnd}
 use Rattle.object65.specs.Fault.{◌>>=◌}
-use Rattle.object65.specs.Record.{Entry, is_record_kind}
+use Rattle.object65.specs.Record.{Entry, is_record_kind, is_version}
 use Rattle.object65.specs.Spelling.{magic, body_limit}
 use Rattle.base65.specs.declared.store.StoreFault.{StoreFault}
 use Rattle.base65.specs.declared.store.StoreFault.TheVariants as store
@@ -19,12 +19,12 @@ abbrev pub in_file : {A : Type 0} → Option (List ℕ) → (List ℕ → Result
 in_file None read = Err FileNotFound
 in_file (Some bytes) read = read bytes
 
--- where the records begin, by the first five bytes
-abbrev pub head_of : ℕ → List ℕ → Result ℕ ObjectFault
+-- the version, and where the records begin, by the first five bytes
+abbrev pub head_of : ℕ → List ℕ → Result (ℕ × ℕ) ObjectFault
 head_of at head =
-    if nat_lt (length head) 5 || not (bytes_eq (take 4 head) magic) then Err NotAnObject else if get_or head 4 0 == 1 then Ok (at + 5) else Err UnknownVersion
+    if nat_lt (length head) 5 || not (bytes_eq (take 4 head) magic) then Err NotAnObject else if is_version (get_or head 4 0) then Ok (get_or head 4 0, at + 5) else Err UnknownVersion
 
-abbrev pub head_at : ℕ → ℕ → List ℕ → Result ℕ ObjectFault
+abbrev pub head_at : ℕ → ℕ → List ℕ → Result (ℕ × ℕ) ObjectFault
 head_at at limit bytes = head_of at (take 5 (room bytes at limit))
 
 -- an object or library file has at most so many bytes
@@ -32,9 +32,9 @@ abbrev pub file_limit : ℕ
 file_limit = 1073741824
 
 -- the kind and the length of the body, by the first three bytes
-abbrev pub front_of : List ℕ → Result (ℕ × ℕ) ObjectFault
-front_of front =
-    if nat_lt (length front) 3 then Err CutShort else if not (is_record_kind (get_or front 0 0)) then Err UnknownRecord else if nat_lt body_limit (little_number 2 (drop 1 front)) then Err BadSize else Ok (get_or front 0 0, little_number 2 (drop 1 front))
+abbrev pub front_of : ℕ → List ℕ → Result (ℕ × ℕ) ObjectFault
+front_of version front =
+    if nat_lt (length front) 3 then Err CutShort else if not (is_record_kind version (get_or front 0 0)) then Err UnknownRecord else if nat_lt body_limit (little_number 2 (drop 1 front)) then Err BadSize else Ok (get_or front 0 0, little_number 2 (drop 1 front))
 
 -- the body, where all its bytes are there
 abbrev pub whole : ℕ → List ℕ → Result (List ℕ) ObjectFault
@@ -44,9 +44,10 @@ whole len body = if nat_lt (length body) len then Err CutShort else Ok body
 abbrev pub ending : ℕ → ℕ → ℕ → List ℕ → Result (Entry × ℕ) ObjectFault
 ending at kind len body = if nat_lt file_limit (at + 3 + len) then Err BadSize else Ok (record { kind = kind; body = body }, at + 3 + len)
 
-unfoldable pub record_at : ℕ → ℕ → List ℕ → Result (Entry × ℕ) ObjectFault
-record_at at limit bytes = do
-  front ← front_of (take 3 (room bytes at limit))
+-- a record of an object of this version, and where the next begins
+unfoldable pub record_at : ℕ → ℕ → ℕ → List ℕ → Result (Entry × ℕ) ObjectFault
+record_at version at limit bytes = do
+  front ← front_of version (take 3 (room bytes at limit))
   body ← whole front.1 (take front.1 (room bytes (at + 3) limit))
   ending at front.0 front.1 body
 

@@ -1,12 +1,14 @@
 -- What a record says in its turn: its item or the first fault, by what is kept of the records before it.
 use Rattle.std.specs.Prelude.{◌≡◌, ℕ, ◌+◌, ◌-◌, ◌%◌, ◌≤◌, List, [], ◌∷◌, ◌++◌, length, map, slice_get, slice_set, Option, Some, None, Bool, true, false, Result, Ok, Err, nat_le, ◌==◌, ◌&&◌, not, if◌then◌else◌, ⊤}
 use Rattle.std.specs.List.{list_all, prefix_len}
+use Rattle.std.specs.Str.{is_utf8}
 use Rattle.object65.specs.declared.fault.ObjectFault.{ObjectFault}
 use Rattle.object65.specs.declared.fault.ObjectFault.TheVariants.{FailedBefore, CutShort, OutOfOrder, IndexOutOfRange, BadSize, NotCanonical}
 use Rattle.object65.specs.declared.draft.Draft.{Draft}
 use Rattle.object65.specs.declared.item.Item.{Item}
-use Rattle.object65.specs.declared.item.Item.TheVariants.{Import, Section, Part, Export, Assert, End}
+use Rattle.object65.specs.declared.item.Item.TheVariants.{File, Import, Section, Part, Export, Assert, End}
 use Rattle.object65.specs.declared.object.Fragment.{Fragment}
+use Rattle.object65.specs.declared.object.Origin.{Origin}
 use Rattle.object65.specs.declared.object.Fragment.TheVariants.{Literal, Fill, Value}
 use Rattle.object65.specs.declared.room.Last.{Last}
 use Rattle.object65.specs.declared.room.Last.TheVariants as last
@@ -16,7 +18,7 @@ use Rattle.object65.specs.Fault.{◌>>=◌}
 use Rattle.object65.specs.Folding.{is_within, is_normal, is_literal, node_limit}
 use Rattle.object65.specs.Form.{Form, nodes}
 use Rattle.object65.specs.Items.{State, is_none, closed}
-use Rattle.object65.specs.Objects.{is_name, is_among, fragment_len, section_limit, width_len}
+use Rattle.object65.specs.Objects.{is_name, is_among, file_name_limit, fragment_len, has_file, section_limit, width_len}
 use Rattle.object65.specs.Record.{Entry, is_record_kind}
 use Rattle.object65.specs.Spelling.{body_limit}
 use Rattle.object65.specs.Small.{is_small_text}
@@ -29,6 +31,14 @@ wants b fault = if b then Ok tt else Err fault
 -- a good name that no other of its kind has
 abbrev pub new_name : List (List ℕ) → List ℕ → Result (Unit {0}) ObjectFault
 new_name names name = wants (is_name name && not (is_among names name)) NotCanonical
+
+-- a text that no other file has as its name
+abbrev pub new_file : List (List ℕ) → List ℕ → Result (Unit {0}) ObjectFault
+new_file names name = wants (is_utf8 name && not (is_among names name)) NotCanonical
+
+-- its file is there, of so many, where it has one
+abbrev pub known_file : ℕ → Origin → Result (Unit {0}) ObjectFault
+known_file files origin = wants (has_file files origin.file) IndexOutOfRange
 
 -- its sections and imports are there, of so many
 abbrev pub known : ℕ → ℕ → Form → Result (Unit {0}) ObjectFault
@@ -61,6 +71,9 @@ room_of d = record { size = d.size; filled = d.filled; last = last_of d }
 
 -- an object in the making without its fragments and forms
 pub record Outline : Type 0 where
+  pub version : ℕ
+  -- the names of the files
+  pub files : List (List ℕ)
   pub imports : List (List ℕ)
   -- the names of the sections
   pub sections : List (List ℕ)
@@ -75,7 +88,7 @@ pub record Outline : Type 0 where
   pub failed : Bool
 
 abbrev pub outline_of : State → Outline
-outline_of s = record { imports = s.imports; sections = map (λ d. d.name) s.drafts; rooms = map room_of s.drafts; begun = s.begun; exports = map (λ e. e.name) s.exports; asserting = not (is_none s.asserts); ended = s.ended; failed = s.failed }
+outline_of s = record { version = s.version; files = s.files; imports = s.imports; sections = map (λ d. d.name) s.drafts; rooms = map room_of s.drafts; begun = s.begun; exports = map (λ e. e.name) s.exports; asserting = not (is_none s.asserts); ended = s.ended; failed = s.failed }
 
 -- what a SECTION says
 abbrev pub heading : ℕ → ℕ → List ℕ → Heading
@@ -130,17 +143,27 @@ room_fill body r = do
   v ← wants (not (is_fill r.last)) NotCanonical
   Ok (room_behind r count last.Fill, Fill count)
 
-unfoldable pub room_value : ℕ → ℕ → List ℕ → Room → Result (Room × Fragment) ObjectFault
-room_value sections imports body r = do
-  value ← value_of body
+-- a value in an object of this version with so many files, sections and imports
+unfoldable pub room_value : ℕ → ℕ → ℕ → ℕ → List ℕ → Room → Result (Room × Fragment) ObjectFault
+room_value version files sections imports body r = do
+  value ← value_of version body
   u ← room_for r (width_len value.0)
+  t ← known_file files value.1
   v ← known sections imports value.2
   w ← canonical_open value.2
   Ok (room_behind r (width_len value.0) last.Other, Value value.0 value.1 value.2)
 
 -- ---- One record.
 
--- imports stand before everything else
+-- files stand before everything else, and a body of any bytes names one
+unfoldable pub scan_file : Outline → List ℕ → Result (Outline × Item) ObjectFault
+scan_file o body = do
+  u ← wants (is_none o.imports && is_none o.rooms && is_none o.exports && not o.asserting) OutOfOrder
+  t ← wants (nat_le (length body) file_name_limit) BadSize
+  v ← new_file o.files body
+  Ok (record o { files = o.files ++ body ∷ [] }, File body)
+
+-- imports stand before everything else but files
 unfoldable pub scan_import : Outline → List ℕ → Result (Outline × Item) ObjectFault
 scan_import o body = do
   u ← wants (is_none o.rooms && is_none o.exports && not o.asserting) OutOfOrder
@@ -171,20 +194,22 @@ scan_part o grow = do
 unfoldable pub scan_export : Outline → List ℕ → Result (Outline × Item) ObjectFault
 scan_export o body = do
   u ← wants (list_all is_filled o.rooms && not o.asserting) OutOfOrder
-  e ← export_of body
+  e ← export_of o.version body
+  t ← known_file (length o.files) e.origin
   v ← known (length o.rooms) (length o.imports) e.form
   w ← new_name o.exports e.name
   x ← canonical e.form
-  Ok (record o { exports = o.exports ++ e.name ∷ [] }, Export e.name e.line e.form)
+  Ok (record o { exports = o.exports ++ e.name ∷ [] }, Export e.name e.origin e.form)
 
 -- assertions and the END stand behind the last fragment
 unfoldable pub scan_assert : Outline → List ℕ → Result (Outline × Item) ObjectFault
 scan_assert o body = do
   u ← wants (list_all is_filled o.rooms) OutOfOrder
-  a ← assert_of body
+  a ← assert_of o.version body
+  t ← known_file (length o.files) a.origin
   v ← known (length o.rooms) (length o.imports) a.form
   w ← canonical_open a.form
-  Ok (record o { asserting = true }, Assert a.action a.line a.text a.form)
+  Ok (record o { asserting = true }, Assert a.action a.origin a.text a.form)
 
 unfoldable pub scan_last : Outline → List ℕ → Result (Outline × Item) ObjectFault
 scan_last o body = do
@@ -194,14 +219,15 @@ scan_last o body = do
 
 unfoldable pub scan_entry : Outline → Entry → Result (Outline × Item) ObjectFault
 scan_entry o e =
-    if not (is_record_kind e.kind) then Err OutOfOrder
+    if not (is_record_kind o.version e.kind) then Err OutOfOrder
     else if e.kind == 1 then scan_import o e.body
     else if e.kind == 2 then scan_section o e.body
     else if e.kind == 3 then scan_part o (room_literal e.body)
     else if e.kind == 4 then scan_part o (room_fill e.body)
-    else if e.kind == 5 then scan_part o (room_value (length o.rooms) (length o.imports) e.body)
+    else if e.kind == 5 then scan_part o (room_value o.version (length o.files) (length o.rooms) (length o.imports) e.body)
     else if e.kind == 6 then scan_export o e.body
     else if e.kind == 7 then scan_assert o e.body
+    else if e.kind == 9 then scan_file o e.body
     else scan_last o e.body
 
 -- what is kept behind the record and the item that it gives, or the first fault
@@ -227,9 +253,10 @@ pub record FitsIn (room : Room) (place : ℕ) (f : Fragment) : Type 0 where
 
 -- the numbers of an item are within their limits
 abbrev pub IsWithin : Outline → Item → Type 0
+IsWithin o (File name) = ⊤
 IsWithin o (Import name) = ⊤
 IsWithin o (Section name size align) = (size ≤ section_limit) × (align ≤ 15)
 IsWithin o (Part k offset f) = (room : Room) × (slice_get o.rooms k ≡ Some room) × FitsIn room offset f
-IsWithin o (Export name line form) = ⊤
-IsWithin o (Assert action line text form) = is_small_text text ≡ true
+IsWithin o (Export name origin form) = ⊤
+IsWithin o (Assert action origin text form) = is_small_text text ≡ true
 IsWithin o End = ⊤

@@ -9,16 +9,19 @@ use Rattle.object65.specs.declared.object.Fragment.{Fragment}
 use Rattle.object65.specs.declared.object.Fragment.TheVariants.{Literal, Fill, Value}
 use Rattle.object65.specs.Folding.{node_limit}
 use Rattle.object65.specs.Form.{Form, nodes}
-use Rattle.object65.specs.Objects.{section_len, section_limit}
+use Rattle.object65.specs.Objects.{file_name_limit, section_len, section_limit}
 
 abbrev pub is_small_text : List ℕ → Bool
 is_small_text text = nat_lt (length text) 256
+
+abbrev pub is_small_file : List ℕ → Bool
+is_small_file name = nat_le (length name) file_name_limit
 
 abbrev pub is_small_form : Form → Bool
 is_small_form f = nat_le (nodes f) node_limit
 
 abbrev pub is_small_fragment : Fragment → Bool
-is_small_fragment (Value width line form) = is_small_form form
+is_small_fragment (Value width origin form) = is_small_form form
 is_small_fragment (Literal bytes) = true
 is_small_fragment (Fill n) = true
 
@@ -32,4 +35,4 @@ abbrev pub is_small_assert : Assert → Bool
 is_small_assert a = is_small_text a.text && is_small_form a.form
 
 abbrev pub is_small : Object → Bool
-is_small o = list_all is_small_text o.imports && list_all is_small_section o.sections && list_all is_small_export o.exports && list_all is_small_assert o.asserts
+is_small o = list_all is_small_file o.files && list_all is_small_text o.imports && list_all is_small_section o.sections && list_all is_small_export o.exports && list_all is_small_assert o.asserts

@@ -1,5 +1,5 @@
 -- The bytes of an object, record by record.
-use Rattle.std.specs.Prelude.{◌≡◌, ℕ, zero, suc, ◌+◌, ◌/◌, List, [], ◌∷◌, ◌++◌, length, take, drop, map, true}
+use Rattle.std.specs.Prelude.{◌≡◌, ℕ, zero, suc, ◌+◌, ◌/◌, List, [], ◌∷◌, ◌++◌, length, take, drop, map, Option, Some, None, true}
 use Rattle.std.specs.List.{flat_map}
 use Rattle.std.specs.Int.{w64, cast_unsigned}
 use Rattle.byteorder.specs.Endian.{little_bytes}
@@ -11,6 +11,7 @@ use Rattle.object65.specs.declared.object.Export.{Export}
 use Rattle.object65.specs.declared.object.Assert.{Assert}
 use Rattle.object65.specs.declared.object.Action.{Action}
 use Rattle.object65.specs.declared.object.Action.TheVariants as action
+use Rattle.object65.specs.declared.object.Origin.{Origin}
 use Rattle.object65.specs.declared.object.Fragment.{Fragment}
 use Rattle.object65.specs.declared.object.Fragment.TheVariants.{Literal, Fill, Value}
 use Rattle.object65.specs.declared.object.Width.{Width}
@@ -66,13 +67,25 @@ literal_entries bytes = map literal_entry (pieces ((length bytes + 4095) / body_
 abbrev pub fill_entry : ℕ → Entry
 fill_entry n = record { kind = 4; body = little_bytes 4 n }
 
-abbrev pub value_entry : Width → ℕ → Form → Entry
-value_entry width line form = record { kind = 5; body = width_code width ∷ (little_bytes 4 line ++ form_bytes form) }
+-- the place of a file, where there is one
+abbrev pub file_bytes : Option ℕ → List ℕ
+file_bytes None = []
+file_bytes (Some k) = little_bytes 4 k
+
+-- a file if there is one, and a line
+abbrev pub origin_bytes : Origin → List ℕ
+origin_bytes origin = file_bytes origin.file ++ little_bytes 4 origin.line
+
+abbrev pub value_entry : Width → Origin → Form → Entry
+value_entry width origin form = record { kind = 5; body = width_code width ∷ (origin_bytes origin ++ form_bytes form) }
 
 abbrev pub fragment_entries : Fragment → List Entry
 fragment_entries (Literal bytes) = literal_entries bytes
 fragment_entries (Fill n) = fill_entry n ∷ []
-fragment_entries (Value width line form) = value_entry width line form ∷ []
+fragment_entries (Value width origin form) = value_entry width origin form ∷ []
+
+abbrev pub file_entry : List ℕ → Entry
+file_entry name = record { kind = 9; body = name }
 
 abbrev pub import_entry : List ℕ → Entry
 import_entry name = record { kind = 1; body = name }
@@ -81,17 +94,17 @@ abbrev pub section_entry : Section → Entry
 section_entry s = record { kind = 2; body = little_bytes 4 (section_len s) ++ s.align ∷ s.name }
 
 abbrev pub export_entry : Export → Entry
-export_entry e = record { kind = 6; body = length e.name ∷ (e.name ++ little_bytes 4 e.line ++ form_bytes e.form) }
+export_entry e = record { kind = 6; body = length e.name ∷ (e.name ++ origin_bytes e.origin ++ form_bytes e.form) }
 
 abbrev pub assert_entry : Assert → Entry
-assert_entry a = record { kind = 7; body = action_code a.action ∷ (little_bytes 4 a.line ++ length a.text ∷ (a.text ++ form_bytes a.form)) }
+assert_entry a = record { kind = 7; body = action_code a.action ∷ (origin_bytes a.origin ++ length a.text ∷ (a.text ++ form_bytes a.form)) }
 
 abbrev pub end_entry : Entry
 end_entry = record { kind = 8; body = [] }
 
--- the records of an object
-abbrev pub entries_of : Object → List Entry
-entries_of o =
+-- the records of an object behind those of its files
+abbrev pub entries_behind : Object → List Entry
+entries_behind o =
     map import_entry o.imports
     ++ map section_entry o.sections
     ++ flat_map (λ s. flat_map fragment_entries s.fragments) o.sections
@@ -99,18 +112,23 @@ entries_of o =
     ++ map assert_entry o.asserts
     ++ end_entry ∷ []
 
+-- the records of an object
+abbrev pub entries_of : Object → List Entry
+entries_of o = map file_entry o.files ++ entries_behind o
+
 abbrev pub entry_bytes : Entry → List ℕ
 entry_bytes e = e.kind ∷ (little_bytes 2 (length e.body) ++ e.body)
 
 abbrev pub magic : List ℕ
 magic = 0x52 ∷ 0x36 ∷ 0x35 ∷ 0x6f ∷ []
 
-abbrev pub object_head : List ℕ
-object_head = magic ++ 0x01 ∷ []
+-- with these bytes an object of a version begins
+abbrev pub object_head : ℕ → List ℕ
+object_head version = magic ++ version ∷ []
 
 -- the one spelling of an object
 abbrev pub object_bytes : Object → List ℕ
-object_bytes o = object_head ++ flat_map entry_bytes (entries_of o)
+object_bytes o = object_head o.version ++ flat_map entry_bytes (entries_of o)
 
 -- the bytes spell the object
 pub record IsObject (bytes : List ℕ) (o : Object) : Type 0 where

@@ -1,12 +1,12 @@
 -- What a builder becomes by one record after another: what the items make that a scan gives.
-use Rattle.std.specs.Prelude.{◌≡◌, List, [], ◌∷◌, Result, Ok, Err, if◌then◌else◌}
+use Rattle.std.specs.Prelude.{◌≡◌, List, [], ◌∷◌, true, Result, Ok, Err, if◌then◌else◌}
 use Rattle.object65.specs.declared.fault.ObjectFault.{ObjectFault}
 use Rattle.object65.specs.declared.fault.ObjectFault.TheVariants.{FailedBefore, CutShort}
 use Rattle.object65.specs.declared.object.Object.{Object}
 use Rattle.object65.specs.Fault.{◌>>=◌}
 use Rattle.object65.specs.Items.{with_item}
 pub use Rattle.object65.specs.Items.{State, start, section_from, object_from}
-use Rattle.object65.specs.Record.{Entry}
+use Rattle.object65.specs.Record.{Entry, is_version}
 use Rattle.object65.specs.Scanning.{outline_of, scanned}
 
 -- the state behind a record, or the first fault
@@ -19,12 +19,13 @@ abbrev pub after_all : State → List Entry → Result State ObjectFault
 after_all s [] = Ok s
 after_all s (e ∷ es) = after s e >>= (λ t. after_all t es)
 
--- a state stands for the records that lead to it
+-- a state stands for the records that lead to it from an empty object of its version
 abbrev pub StandsFor : State → List Entry → Type 0
-StandsFor s es = after_all start es ≡ Ok s
+StandsFor s es = after_all (start s.version) es ≡ Ok s
 
--- some records lead to it
+-- some records of a version that is there lead to it
 pub record IsReached (s : State) : Type 0 where
+  pub version : is_version s.version ≡ true
   pub records : List Entry
   pub stands : StandsFor s records
 

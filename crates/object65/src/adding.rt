@@ -54,11 +54,19 @@ fn grow(alloc: Global, draft: &mut Draft, fragment: Fragment) -> Result<(), Obje
             Ok(())
         }
         Fragment::Fill(count) => push_fragment(alloc, draft, count, Fragment::Fill(count)),
-        Fragment::Value { width, line, form } => push_fragment(
+        Fragment::Value {
+            width,
+            origin,
+            form,
+        } => push_fragment(
             alloc,
             draft,
             width_size(width),
-            Fragment::Value { width, line, form },
+            Fragment::Value {
+                width,
+                origin,
+                form,
+            },
         ),
     }
 }
@@ -96,13 +104,14 @@ pub fn add_item(parts: &mut Parts, item: Item) -> Result<(), ObjectFault>
     ensures { Gives is_memory (λ _. state_of parts.new) result (Ok (unmarked (with_item (state_of parts.old) item))) }
 {
     match item {
+        Item::File(name) => parts.files.push(name)?,
         Item::Import(name) => parts.imports.push(name)?,
         Item::Section(name, size, align) => add_draft(parts, name, size, align)?,
         Item::Part(at, _, fragment) => add_piece(parts, at, fragment)?,
-        Item::Export(name, line, form) => parts.exports.push(Export { name, line, form })?,
-        Item::Assert(action, line, text, form) => parts.asserts.push(Assert {
+        Item::Export(name, origin, form) => parts.exports.push(Export { name, origin, form })?,
+        Item::Assert(action, origin, text, form) => parts.asserts.push(Assert {
             action,
-            line,
+            origin,
             text,
             form,
         })?,

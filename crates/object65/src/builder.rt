@@ -3,7 +3,7 @@
 ghost use Rattle.std.specs.Prelude.{◌≡◌, ◌≤◌, OnErr, IfOk, Err, true};
 ghost use Rattle.object65.specs.Fault.{Gives, is_memory};
 ghost use Rattle.object65.specs.Objects.{is_good_object, section_len, section_limit};
-ghost use Rattle.object65.specs.Record.{entry_of};
+ghost use Rattle.object65.specs.Record.{entry_of, is_version};
 ghost use Rattle.std.specs.List.{AllByRecursion};
 ghost use Rattle.object65.specs.Taking.{start, after, finished};
 
@@ -52,14 +52,17 @@ impl Drop for Builder {
 }
 
 impl Builder {
-    /// A builder that has taken no record.
-    pub fn new(alloc: Global) -> Self
-        ensures { result ≡ start }
+    /// A builder of an object of this version that has taken no record.
+    pub fn new(alloc: Global, version: u8) -> Self
+        requires { is_version version ≡ true }
+        ensures { result ≡ start version }
     {
         Builder {
-            scan: Scan::new(alloc),
+            scan: Scan::new(alloc, version),
             parts: Parts {
                 alloc,
+                version,
+                files: Sequence::new(alloc),
                 imports: Sequence::new(alloc),
                 drafts: Vec::new(alloc),
                 exports: Sequence::new(alloc),

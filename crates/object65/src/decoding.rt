@@ -1,12 +1,12 @@
 //! Decodes an object's head and its records from bytes that are there, wherever they were read from.
 
-ghost use Rattle.std.specs.Prelude.{◌≡◌, ◌≤◌, ◌+◌, ◌<◌, ◌^◌, false, length, take, IfErr, IfOk};
+ghost use Rattle.std.specs.Prelude.{◌≡◌, ◌≤◌, ◌+◌, ◌<◌, ◌^◌, true, false, length, take, IfErr, IfOk};
 ghost use Rattle.object65.specs.Fault.{Gives, is_memory, is_outside};
 ghost use Rattle.object65.specs.Reading.{front_of, head_of, record_at, room, whole};
-ghost use Rattle.object65.specs.Record.{entry_of, is_record_kind};
+ghost use Rattle.object65.specs.Record.{entry_of, is_record_kind, is_version};
 ghost use Rattle.object65.specs.Spelling.{body_limit};
 
-use crate::record::{END, IMPORT};
+use crate::record::{END, FILE, IMPORT};
 use crate::{ObjectFault, Record};
 use arrayvec::ArrayVec;
 use byteorder::{ByteOrder, LittleEndian};
@@ -14,7 +14,10 @@ use byteorder::{ByteOrder, LittleEndian};
 /// With these bytes an object begins.
 const MAGIC: [u8; 4] = [0x52, 0x36, 0x35, 0x6f];
 
-const VERSION: u8 = 1;
+/// Without files.
+const VERSION_ONE: u8 = 1;
+
+const VERSION_TWO: u8 = 2;
 
 /// The body of a record has at most so many bytes.
 pub const LARGEST_BODY: usize = 4096;
@@ -22,32 +25,36 @@ pub const LARGEST_BODY: usize = 4096;
 /// An object or library file has at most so many bytes.
 pub const FILE_LIMIT: u64 = 1_073_741_824;
 
-/// Where the records begin, behind the head that stands at a place and of which these bytes are there.
-pub fn decode_head(bytes: &[u8], at: u64) -> Result<u64, ObjectFault>
+/// The version, and where the records begin, behind the head that stands at a place and of which these bytes are
+/// there.
+pub fn decode_head(bytes: &[u8], at: u64) -> Result<(u8, u64), ObjectFault>
     requires { at + length bytes.now < 2 ^ 64 }
     ensures read { result ≡ head_of at (take 5 bytes.now) }
-    ensures within { IfOk result (λ n. (n ≡ at + 5) × (5 ≤ length bytes.now)) }
+    ensures version { IfOk result (λ x. is_version x.0 ≡ true) }
+    ensures within { IfOk result (λ x. (x.1 ≡ at + 5) × (5 ≤ length bytes.now)) }
     ensures plain { IfErr result (λ e. is_outside e ≡ false) }
 {
     if bytes.len() < 5 || bytes[..4] != MAGIC[..] {
         return Err(ObjectFault::NotAnObject);
     }
-    if bytes[4] != VERSION {
+    let version = bytes[4];
+    if version != VERSION_ONE && version != VERSION_TWO {
         return Err(ObjectFault::UnknownVersion);
     }
-    Ok(at + 5)
+    Ok((version, at + 5))
 }
 
-/// Whether there are records of this kind.
-pub fn is_kind(kind: u8) -> bool
-    ensures { result ≡ is_record_kind kind }
+/// Whether there are records of this kind in objects of this version.
+pub fn is_kind(version: u8, kind: u8) -> bool
+    ensures { result ≡ is_record_kind version kind }
 {
-    IMPORT <= kind && kind <= END
+    let last = if version == VERSION_ONE { END } else { FILE };
+    IMPORT <= kind && kind <= last
 }
 
 /// The kind of the record with which the bytes begin, and the length of its body.
-pub fn decode_front(bytes: &[u8]) -> Result<(u8, usize), ObjectFault>
-    ensures read { result ≡ front_of (take 3 bytes.now) }
+pub fn decode_front(version: u8, bytes: &[u8]) -> Result<(u8, usize), ObjectFault>
+    ensures read { result ≡ front_of version (take 3 bytes.now) }
     ensures room { IfOk result (λ x. 3 ≤ length bytes.now) }
     ensures len { IfOk result (λ x. x.1 ≤ body_limit) }
     ensures plain { IfErr result (λ e. is_outside e ≡ false) }
@@ -56,7 +63,7 @@ pub fn decode_front(bytes: &[u8]) -> Result<(u8, usize), ObjectFault>
         return Err(ObjectFault::CutShort);
     }
     let kind = bytes[0];
-    if !is_kind(kind) {
+    if !is_kind(version, kind) {
         return Err(ObjectFault::UnknownRecord);
     }
     let len = LittleEndian::read_u16(&bytes[1..3]) as usize;
@@ -94,17 +101,22 @@ pub fn fill(body: &mut ArrayVec<u8, 4096>, bytes: &[u8])
     }
 }
 
-/// Decodes the record at a place into the space, and answers where the next begins.
+/// Decodes the record of an object of this version at a place into the space, and answers where the next begins.
 #[tactic(auto, unfolding(crate::specs::Reading::record_at))]
-pub fn decode_record(space: &mut Record, bytes: &[u8], at: usize) -> Result<usize, ObjectFault>
+pub fn decode_record(
+    space: &mut Record,
+    version: u8,
+    bytes: &[u8],
+    at: usize,
+) -> Result<usize, ObjectFault>
     requires { at ≤ length bytes.now }
     ensures read { Gives is_memory (λ n. (entry_of space.new, n)) result
-        (record_at at (length bytes.now) bytes.now) }
+        (record_at version at (length bytes.now) bytes.now) }
     ensures bound { IfOk result (λ n.
         (n ≡ at + 3 + length space.new.body.items) × (n ≤ length bytes.now)) }
     ensures plain { IfErr result (λ e. is_outside e ≡ false) }
 {
-    let (kind, len) = decode_front(&bytes[at..])?;
+    let (kind, len) = decode_front(version, &bytes[at..])?;
     let body = body_at(bytes, at + 3, len)?;
     let next = at + 3 + len;
     if next as u64 > FILE_LIMIT {

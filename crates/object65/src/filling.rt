@@ -1,16 +1,17 @@
 //! Adds fragments to a section without its bytes.
 
-ghost use Rattle.std.specs.Prelude.{◌≡◌, ◌≤◌, ◌+◌, ◌%◌, Ok};
+ghost use Rattle.std.specs.Prelude.{◌≡◌, ◌≤◌, ◌+◌, ◌%◌, length, Ok};
 ghost use Rattle.object65.specs.Bodies.{fill_of, value_of, width_of};
 ghost use Rattle.object65.specs.Fault.{Gives, is_memory};
-ghost use Rattle.object65.specs.Objects.{width_len};
-ghost use Rattle.object65.specs.Scanning.{canonical, canonical_open, known, room_for, room_behind, room_literal, room_fill, room_value};
+ghost use Rattle.object65.specs.Objects.{has_file, width_len};
+ghost use Rattle.object65.specs.Scanning.{canonical, canonical_open, known, known_file, room_for, room_behind, room_literal, room_fill, room_value};
 
-use crate::forming::{byte_at, form_of, u32_at};
+use crate::forming::{byte_at, form_of, origin_at};
 use crate::normal::{are_there, is_folded, is_limited, is_number};
 use crate::room::{Last, Room};
+use crate::kept::Kept;
 use crate::taking::check;
-use crate::{Fragment, Norm, ObjectFault, Width};
+use crate::{Fragment, Norm, ObjectFault, Origin, Width};
 use base65::Sequence;
 use byteorder::{ByteOrder, LittleEndian};
 use std::alloc::Global;
@@ -37,6 +38,17 @@ fn room_behind(room: Room, len: u32, last: Last) -> Room
         filled: room.filled + len,
         last,
     }
+}
+
+/// Refuses an origin whose file isn't there, of so many.
+pub fn check_file(origin: Origin, files: usize) -> Result<(), ObjectFault>
+    ensures { result ≡ known_file files origin }
+{
+    let is_there = match origin.file {
+        None => true,
+        Some(file) => (file as usize) < files,
+    };
+    check(is_there, ObjectFault::IndexOutOfRange)
 }
 
 /// Refuses a form whose sections or imports aren't there.
@@ -141,34 +153,42 @@ pub fn width_size(width: Width) -> u32
     }
 }
 
-/// The width, the line and the form in the body of a VALUE.
+/// The width, the origin and the form in the body of a VALUE.
 #[tactic(auto, unfolding(crate::specs::Bodies::value_of))]
-fn read_value(alloc: Global, body: &[u8]) -> Result<(Width, u32, Norm), ObjectFault>
-    ensures { Gives is_memory (λ x. x) result (value_of body.now) }
+fn read_value(
+    alloc: Global,
+    version: u8,
+    body: &[u8],
+) -> Result<(Width, Origin, Norm), ObjectFault>
+    ensures { Gives is_memory (λ x. x) result (value_of version body.now) }
 {
     let (code, rest) = byte_at(body)?;
     let width = width_at(code)?;
-    let (line, rest) = u32_at(rest)?;
+    let (origin, rest) = origin_at(version, rest)?;
     let form = form_of(alloc, rest)?;
-    Ok((width, line, form))
+    Ok((width, origin, form))
 }
 
-/// Adds a VALUE to a section of an object with so many sections and imports.
+/// Adds a VALUE to a section of the object of which this is kept.
 #[tactic(auto, unfolding(crate::specs::Scanning::room_value))]
 pub fn room_with_value(
-    alloc: Global,
+    kept: &Kept,
     room: Room,
     body: &[u8],
-    sections: usize,
-    imports: usize,
 ) -> Result<(Room, Fragment), ObjectFault>
-    ensures { Gives is_memory (λ x. x) result (room_value sections imports body.now room) }
+    ensures { Gives is_memory (λ x. x) result (room_value kept.now.version (length kept.now.files.keys) (length kept.now.rooms.items) (length kept.now.imports.keys) body.now room) }
 {
-    let (width, line, form) = read_value(alloc, body)?;
+    let (width, origin, form) = read_value(kept.alloc, kept.version, body)?;
     let len = width_size(width);
     check_room(room, len)?;
-    check_places(&form, sections, imports)?;
+    check_file(origin, kept.files.len())?;
+    check_places(&form, kept.rooms.len(), kept.imports.len())?;
     check_open_form(&form)?;
     let grown = room_behind(room, len, Last::Other);
-    Ok((grown, Fragment::Value { width, line, form }))
+    let value = Fragment::Value {
+        width,
+        origin,
+        form,
+    };
+    Ok((grown, value))
 }

@@ -50,6 +50,8 @@ pub fn finish_object(parts: Parts) -> Result<Object, ObjectFault>
 {
     let sections = finish_sections(parts.alloc, parts.drafts)?;
     Ok(Object {
+        version: parts.version,
+        files: parts.files,
         imports: parts.imports,
         sections: Sequence::from_vec(sections),
         exports: parts.exports,

@@ -2,10 +2,10 @@
 
 ghost use Rattle.std.specs.Prelude.{◌≡◌, ◌≤◌, ◌+◌, length, Ok, IfOk, IfSome, take, drop};
 ghost use Rattle.std.specs.Int.{w64, cast_signed};
-ghost use Rattle.object65.specs.Bodies.{number_at, text_at, counted_at, op1_at, op2_at, lit_at, sec_at, imp_at, prefix_at, binary_at, operation_at, form_of_code, form_at, form_of_all, signed_at};
+ghost use Rattle.object65.specs.Bodies.{number_at, text_at, counted_at, op1_at, op2_at, lit_at, sec_at, imp_at, prefix_at, binary_at, operation_at, form_of_code, form_at, form_of_all, signed_at, line_at, file_line_at, origin_at};
 ghost use Rattle.object65.specs.Fault.{Gives, is_memory};
 
-use crate::{Node, Norm, ObjectFault};
+use crate::{Node, Norm, ObjectFault, Origin};
 use base65::{Op1, Op2};
 use byteorder::{ByteOrder, LittleEndian};
 use std::alloc::Global;
@@ -30,6 +30,38 @@ pub fn u32_at(bytes: &[u8]) -> Result<(u32, &[u8]), ObjectFault>
     }
     let (front, rest) = bytes.split_at(4);
     Ok((LittleEndian::read_u32(front), rest))
+}
+
+#[tactic(auto, unfolding(crate::specs::Bodies::line_at))]
+fn line_at(bytes: &[u8]) -> Result<(Origin, &[u8]), ObjectFault>
+    ensures { Gives is_memory (λ x. (x.0, x.1.now)) result (line_at bytes.now) }
+{
+    let (line, rest) = u32_at(bytes)?;
+    Ok((Origin { file: None, line }, rest))
+}
+
+#[tactic(auto, unfolding(crate::specs::Bodies::file_line_at))]
+fn file_line_at(bytes: &[u8]) -> Result<(Origin, &[u8]), ObjectFault>
+    ensures { Gives is_memory (λ x. (x.0, x.1.now)) result (file_line_at bytes.now) }
+{
+    let (file, rest) = u32_at(bytes)?;
+    let (line, rest) = u32_at(rest)?;
+    let origin = Origin {
+        file: Some(file),
+        line,
+    };
+    Ok((origin, rest))
+}
+
+/// The origin at the front of bytes in an object of this version, and what follows.
+pub fn origin_at(version: u8, bytes: &[u8]) -> Result<(Origin, &[u8]), ObjectFault>
+    ensures { Gives is_memory (λ x. (x.0, x.1.now)) result (origin_at version bytes.now) }
+{
+    if version == 1 {
+        line_at(bytes)
+    } else {
+        file_line_at(bytes)
+    }
 }
 
 /// The number of eight bytes in two's complement at the front, and what follows.

@@ -8,6 +8,9 @@ use std::alloc::Global;
 #[derive(Drop)]
 pub struct Kept {
     pub alloc: Global,
+    pub version: u8,
+    /// The names of the files.
+    pub files: IndexSet<Vec<u8>>,
     /// The names of the imports.
     pub imports: IndexSet<Vec<u8>>,
     /// The names of the sections.

@@ -6,6 +6,10 @@ use base65::Sequence;
 /// A module in parts.
 #[derive(Drop)]
 pub struct Object {
+    /// The version of its bytes, 1 or 2.
+    pub version: u8,
+    /// The names of the files in which its parts stand; origins name them by their places here. Version 1 has none.
+    pub files: Sequence<Sequence<u8>>,
     /// The names that the module uses and doesn't define; forms name them by their places here.
     pub imports: Sequence<Sequence<u8>>,
     /// Forms name sections by their places here.
@@ -31,8 +35,20 @@ pub enum Fragment {
     Literal(Sequence<u8>),
     /// So many bytes of the linker's fill value.
     Fill(u32),
-    /// A value that the linker computes, and the line of its statement.
-    Value { width: Width, line: u32, form: Norm },
+    /// A value that the linker computes, and where its statement stands.
+    Value {
+        width: Width,
+        origin: Origin,
+        form: Norm,
+    },
+}
+
+/// Where a part of an object stands in its sources.
+#[derive(Clone, Copy)]
+pub struct Origin {
+    /// The place of the file among the object's files. In version 1 there is none.
+    pub file: Option<u32>,
+    pub line: u32,
 }
 
 /// How a value is stored.
@@ -50,11 +66,11 @@ pub enum Width {
     Branch = 4,
 }
 
-/// A name that a module defines for others, and the line that says so.
+/// A name that a module defines for others, and where that is said.
 #[derive(Drop)]
 pub struct Export {
     pub name: Sequence<u8>,
-    pub line: u32,
+    pub origin: Origin,
     pub form: Norm,
 }
 
@@ -62,7 +78,7 @@ pub struct Export {
 #[derive(Drop)]
 pub struct Assert {
     pub action: Action,
-    pub line: u32,
+    pub origin: Origin,
     /// What is printed where the form is 0.
     pub text: Sequence<u8>,
     pub form: Norm,

@@ -9,6 +9,8 @@ use std::alloc::Global;
 #[derive(Drop)]
 pub struct Parts {
     pub alloc: Global,
+    pub version: u8,
+    pub files: Sequence<Sequence<u8>>,
     pub imports: Sequence<Sequence<u8>>,
     pub drafts: Vec<Draft>,
     pub exports: Sequence<Export>,

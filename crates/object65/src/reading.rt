@@ -1,11 +1,12 @@
 //! Reading an object's head and end from a file, and the fronts of its records.
 
-ghost use Rattle.std.specs.Prelude.{◌≡◌, ◌≤◌, ◌+◌, ◌-◌, length, IfOk, IfSome, take, IsErrOf};
+ghost use Rattle.std.specs.Prelude.{◌≡◌, ◌≤◌, ◌+◌, ◌-◌, true, length, IfOk, IfSome, take, IsErrOf};
 ghost use Rattle.std.specs.FinMap as map;
 ghost use Rattle.base65.specs.Store.{Passes, Asks, IsBlamed};
 ghost use Rattle.base65.specs.StoreFaults.{is_outside_store};
 ghost use Rattle.object65.specs.Fault.{Gives, is_outside};
 ghost use Rattle.object65.specs.Reading.{in_file, head_at, end_at, room, IsRoomRead, front_of};
+ghost use Rattle.object65.specs.Record.{is_version};
 ghost use Rattle.object65.specs.Spelling.{body_limit};
 
 use crate::ObjectFault;
@@ -37,19 +38,20 @@ pub fn read_room<S: Store>(
     read_full(store, name, at, &mut buf[..want])
 }
 
-/// Reads the head of an object, and answers where its records begin.
+/// Reads the head of an object, and answers its version and where its records begin.
 pub fn read_head<S: Store>(
     store: &mut S,
     name: &str,
     at: u64,
     limit: u64,
-) -> Result<u64, ObjectFault>
-    ensures read { IfSome (S.files store.old) (λ m. Gives is_outside (λ n. n) result (in_file (map.get m name.now) (head_at at limit))) }
+) -> Result<(u8, u64), ObjectFault>
+    ensures read { IfSome (S.files store.old) (λ m. Gives is_outside (λ x. x) result (in_file (map.get m name.now) (head_at at limit))) }
     ensures files { S.files store.new ≡ S.files store.old }
     ensures count { Passes ObjectFault.FileError (S.failures store.old) (S.failures store.new) result }
     ensures blamed { IsErrOf result ObjectFault.FileError → IsBlamed (S.blamed store.new) name.now }
     ensures asked { Asks is_outside (S.failures store.old) result }
-    ensures bound { IfOk result (λ n. (n ≡ at + 5) × (n ≤ limit)) }
+    ensures version { IfOk result (λ x. is_version x.0 ≡ true) }
+    ensures bound { IfOk result (λ x. (x.1 ≡ at + 5) × (x.1 ≤ limit)) }
 {
     let mut head = [0u8; 5];
     let n = read_room(store, name, at, limit, &mut head)?;
@@ -60,10 +62,11 @@ pub fn read_head<S: Store>(
 pub fn read_front<S: Store>(
     store: &mut S,
     name: &str,
+    version: u8,
     at: u64,
     limit: u64,
 ) -> Result<(u8, usize), ObjectFault>
-    ensures read { IfSome (S.files store.old) (λ m. Gives is_outside (λ x. x) result (in_file (map.get m name.now) (λ bytes. front_of (take 3 (room bytes at limit))))) }
+    ensures read { IfSome (S.files store.old) (λ m. Gives is_outside (λ x. x) result (in_file (map.get m name.now) (λ bytes. front_of version (take 3 (room bytes at limit))))) }
     ensures files { S.files store.new ≡ S.files store.old }
     ensures count { Passes ObjectFault.FileError (S.failures store.old) (S.failures store.new) result }
     ensures blamed { IsErrOf result ObjectFault.FileError → IsBlamed (S.blamed store.new) name.now }
@@ -73,7 +76,7 @@ pub fn read_front<S: Store>(
 {
     let mut front = [0u8; 3];
     let n = read_room(store, name, at, limit, &mut front)?;
-    decode_front(&front[..n])
+    decode_front(version, &front[..n])
 }
 
 /// Refuses bytes behind an object.

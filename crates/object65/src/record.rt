@@ -19,6 +19,8 @@ pub const ASSERT: u8 = 7;
 
 pub const END: u8 = 8;
 
+pub const FILE: u8 = 9;
+
 /// One record of an object.
 #[derive(Drop)]
 pub struct Record {

@@ -53,23 +53,24 @@ impl RecordReader {
         &self.record
     }
 
-    /// Reads the record at a place of a file, and answers where the next begins.
+    /// Reads the record of an object of this version at a place of a file, and answers where the next begins.
     #[tactic(auto, unfolding(crate::specs::Reading::record_at))]
     pub fn read<S: Store>(
         &mut self,
         store: &mut S,
         name: &str,
+        version: u8,
         at: u64,
         limit: u64,
     ) -> Result<u64, ObjectFault>
-        ensures read { IfSome (S.files store.old) (λ m. Gives is_outside (λ n. (self.new, n)) result (in_file (map.get m name.now) (record_at at limit))) }
+        ensures read { IfSome (S.files store.old) (λ m. Gives is_outside (λ n. (self.new, n)) result (in_file (map.get m name.now) (record_at version at limit))) }
         ensures files { S.files store.new ≡ S.files store.old }
         ensures count { Passes ObjectFault.FileError (S.failures store.old) (S.failures store.new) result }
         ensures blamed { IsErrOf result ObjectFault.FileError → IsBlamed (S.blamed store.new) name.now }
         ensures asked { Asks is_outside (S.failures store.old) result }
         ensures bound { IfOk result (λ n. (n ≡ at + 3 + length self.new.body) × (n ≤ limit) × (n ≤ file_limit)) }
     {
-        let (kind, len) = read_front(store, name, at, limit)?;
+        let (kind, len) = read_front(store, name, version, at, limit)?;
         self.record.kind = kind;
         read_body(store, name, at + 3, limit, &mut self.bytes[..len])?;
         fill(&mut self.record.body, &self.bytes[..len]);
@@ -103,14 +104,16 @@ fn read_body<S: Store>(
     Ok(())
 }
 
-/// Reads a record, and answers where the next begins. For one record: a `RecordReader` reads many with less work.
+/// Reads a record of an object of this version, and answers where the next begins. For one record: a
+/// `RecordReader` reads many with less work.
 pub fn read_record<S: Store>(
     store: &mut S,
     name: &str,
+    version: u8,
     at: u64,
     limit: u64,
 ) -> Result<(Record, u64), ObjectFault>
-    ensures read { IfSome (S.files store.old) (λ m. Gives is_outside (λ x. (entry_of x.0, x.1)) result (in_file (map.get m name.now) (record_at at limit))) }
+    ensures read { IfSome (S.files store.old) (λ m. Gives is_outside (λ x. (entry_of x.0, x.1)) result (in_file (map.get m name.now) (record_at version at limit))) }
     ensures files { S.files store.new ≡ S.files store.old }
     ensures count { Passes ObjectFault.FileError (S.failures store.old) (S.failures store.new) result }
     ensures blamed { IsErrOf result ObjectFault.FileError → IsBlamed (S.blamed store.new) name.now }
@@ -118,6 +121,6 @@ pub fn read_record<S: Store>(
     ensures bound { IfOk result (λ x. (x.1 ≡ at + 3 + length x.0.body.items) × (x.1 ≤ limit) × (x.1 ≤ file_limit)) }
 {
     let mut reader = RecordReader::new();
-    let next = reader.read(store, name, at, limit)?;
+    let next = reader.read(store, name, version, at, limit)?;
     Ok((reader.record, next))
 }

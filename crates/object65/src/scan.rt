@@ -3,7 +3,7 @@
 ghost use Rattle.std.specs.Prelude.{◌≡◌, OnErr, IfOk, Err, true};
 ghost use Rattle.object65.specs.Fault.{Gives, is_memory};
 ghost use Rattle.object65.specs.Items.{with_item};
-ghost use Rattle.object65.specs.Record.{entry_of};
+ghost use Rattle.object65.specs.Record.{entry_of, is_version};
 ghost use Rattle.object65.specs.Scanning.{IsWithin, outline_of, scan_end, scanned};
 ghost use Rattle.object65.specs.Taking.{State, after, start};
 
@@ -43,13 +43,16 @@ impl Drop for Scan {
 }
 
 impl Scan {
-    /// A scan that has taken no record.
-    pub fn new(alloc: Global) -> Self
-        ensures { result ≡ outline_of start }
+    /// A scan of an object of this version that has taken no record.
+    pub fn new(alloc: Global, version: u8) -> Self
+        requires { is_version version ≡ true }
+        ensures { result ≡ outline_of (start version) }
     {
         Scan {
             kept: Kept {
                 alloc,
+                version,
+                files: IndexSet::new(alloc),
                 imports: IndexSet::new(alloc),
                 sections: IndexSet::new(alloc),
                 rooms: Vec::new(alloc),

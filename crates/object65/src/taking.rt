@@ -2,6 +2,7 @@
 
 ghost use Rattle.std.specs.Prelude.{◌≡◌, ◌≤◌, ◌<◌, ◌+◌, ◌++◌, ◌∷◌, [], ◌&&◌, ◌-◌, ◌%◌, not, length, nat_le, nat_lt, take, get_or, slice_get, slice_set, IfOk, IfErr, OnOk, Result, Ok, Err, true, false, map};
 ghost use Rattle.std.specs.List.{list_all, prefix_len};
+ghost use Rattle.std.specs.Str.{is_utf8};
 ghost use Rattle.object65.specs.Bodies.{section_of};
 ghost use Rattle.object65.specs.Fault.{Gives, is_memory};
 ghost use Rattle.object65.specs.Items.{has_small_text};
@@ -9,14 +10,14 @@ ghost use Rattle.object65.specs.Objects.{is_name, is_printed, is_among};
 ghost use Rattle.object65.specs.Record.{entry_of};
 ghost use Rattle.object65.specs.Inner.Sound.{outline_in, IsSound};
 ghost use Rattle.object65.specs.declared.room.Room.{Room};
-ghost use Rattle.object65.specs.Scanning.{is_filled, open_room, empty_room, new_name, room_literal, room_fill, room_value, scan_section, scan_part, scan_last, scan_entry, heading, wants};
+ghost use Rattle.object65.specs.Scanning.{is_filled, open_room, empty_room, new_file, new_name, room_literal, room_fill, room_value, scan_section, scan_part, scan_last, scan_entry, heading, wants};
 ghost use Rattle.object65.specs.Items.{is_none};
 
 use crate::decoding::is_kind;
 use crate::filling::{room_with_fill, room_with_literal, room_with_value};
 use crate::kept::Kept;
-use crate::naming::{take_assert, take_export, take_import};
-use crate::record::{ASSERT, EXPORT, FILL, IMPORT, LITERAL, SECTION, VALUE};
+use crate::naming::{take_assert, take_export, take_file, take_import};
+use crate::record::{ASSERT, EXPORT, FILE, FILL, IMPORT, LITERAL, SECTION, VALUE};
 use crate::room::{Last, Room};
 use crate::{Item, ObjectFault, Record};
 use base65::Sequence;
@@ -47,6 +48,15 @@ fn is_good_name(name: &[u8]) -> bool
     !name.is_empty() && name.len() < 256 && is_printed_name(name)
 }
 
+fn is_text(bytes: &[u8]) -> bool
+    ensures { result ≡ is_utf8 bytes.now }
+{
+    match std::str::from_utf8(bytes) {
+        Ok(_) => true,
+        Err(_) => false,
+    }
+}
+
 fn has_name(names: &IndexSet<Vec<u8>>, name: &[u8]) -> bool
     ensures { result ≡ is_among (map (λ n. n.items) names.now.keys) name.now }
 {
@@ -59,6 +69,16 @@ pub fn check_name(names: &IndexSet<Vec<u8>>, name: &[u8]) -> Result<(), ObjectFa
 {
     check(
         is_good_name(name) && !has_name(names, name),
+        ObjectFault::NotCanonical,
+    )
+}
+
+/// Refuses a file's name that is no text and one that is there.
+pub fn check_file_name(names: &IndexSet<Vec<u8>>, name: &[u8]) -> Result<(), ObjectFault>
+    ensures { result ≡ new_file (map (λ n. n.items) names.now.keys) name.now }
+{
+    check(
+        is_text(name) && !has_name(names, name),
         ObjectFault::NotCanonical,
     )
 }
@@ -169,14 +189,12 @@ fn take_fill(kept: &mut Kept, body: &[u8]) -> Result<Item, ObjectFault>
 #[tactic(auto, unfolding(crate::specs::Scanning::scan_part))]
 fn take_value(kept: &mut Kept, body: &[u8]) -> Result<Item, ObjectFault>
     requires { IsSound kept.old }
-    ensures taken { Gives is_memory (λ i. (outline_in kept.new, i)) result (scan_part (outline_in kept.old) (room_value (length kept.old.rooms.items) (length (map (λ n. n.items) kept.old.imports.keys)) body.now)) }
+    ensures taken { Gives is_memory (λ i. (outline_in kept.new, i)) result (scan_part (outline_in kept.old) (room_value kept.old.version (length (map (λ n. n.items) kept.old.files.keys)) (length kept.old.rooms.items) (length (map (λ n. n.items) kept.old.imports.keys)) body.now)) }
     ensures small { IfOk result (λ i. has_small_text i ≡ true) }
     ensures sound { OnOk result (IsSound kept.new) }
 {
-    let sections = kept.rooms.len();
-    let imports = kept.imports.len();
     let (at, room) = next_room(kept)?;
-    let (grown, fragment) = room_with_value(kept.alloc, room, body, sections, imports)?;
+    let (grown, fragment) = room_with_value(kept, room, body)?;
     put_room(kept, at, grown);
     Ok(Item::Part(at, room.filled, fragment))
 }
@@ -264,7 +282,7 @@ pub fn take_record(kept: &mut Kept, next: &Record) -> Result<Item, ObjectFault>
     ensures small { IfOk result (λ i. has_small_text i ≡ true) }
     ensures sound { OnOk result (IsSound kept.new) }
 {
-    if !is_kind(next.kind) {
+    if !is_kind(kept.version, next.kind) {
         return Err(ObjectFault::OutOfOrder);
     }
     let body = next.body.as_slice();
@@ -276,6 +294,7 @@ pub fn take_record(kept: &mut Kept, next: &Record) -> Result<Item, ObjectFault>
         VALUE => take_value(kept, body),
         EXPORT => take_export(kept, body),
         ASSERT => take_assert(kept, body),
+        FILE => take_file(kept, body),
         _ => take_end(kept, body),
     }
 }

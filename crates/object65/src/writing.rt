@@ -7,17 +7,19 @@ ghost use Rattle.byteorder.specs.Endian.{little_bytes};
 ghost use Rattle.object65.specs.Form.{nodes, sec};
 ghost use Rattle.object65.specs.Objects.{is_good_object, fragment_len, section_len, section_limit};
 ghost use Rattle.object65.specs.Operators.{number2};
-ghost use Rattle.object65.specs.Small.{is_small_text, is_small_form, is_small_fragment, is_small_section, is_small_export, is_small_assert};
-ghost use Rattle.object65.specs.Spelling.{code1, form_bytes, width_code, action_code, body_limit, entry_bytes, literal_entries, fragment_entries, fill_entry, value_entry, import_entry, section_entry, export_entry, assert_entry, entries_of, object_bytes};
+ghost use Rattle.object65.specs.Small.{is_small_file, is_small_text, is_small_form, is_small_fragment, is_small_section, is_small_export, is_small_assert};
+ghost use Rattle.object65.specs.Spelling.{code1, form_bytes, width_code, action_code, body_limit, entry_bytes, literal_entries, fragment_entries, fill_entry, value_entry, origin_bytes, file_entry, import_entry, section_entry, export_entry, assert_entry, entries_of, object_bytes};
 
-use crate::record::{ASSERT, END, EXPORT, FILL, IMPORT, LITERAL, SECTION, VALUE};
-use crate::{Action, Assert, Export, Fragment, Node, Norm, Object, ObjectFault, Section, Width};
+use crate::record::{ASSERT, END, EXPORT, FILE, FILL, IMPORT, LITERAL, SECTION, VALUE};
+use crate::{
+    Action, Assert, Export, Fragment, Node, Norm, Object, ObjectFault, Origin, Section, Width,
+};
 use base65::{Op1, Op2, Sequence};
 use byteorder::{ByteOrder, LittleEndian};
 use std::alloc::{AllocError, Global};
 
-/// With these bytes an object begins.
-const HEAD: [u8; 5] = [0x52, 0x36, 0x35, 0x6f, 0x01];
+/// With these bytes and its version an object begins.
+const MAGIC: [u8; 4] = [0x52, 0x36, 0x35, 0x6f];
 
 const LARGEST_BODY: usize = 4096;
 
@@ -137,20 +139,30 @@ fn put_form(out: &mut Vec<u8>, form: &Norm) -> Result<(), AllocError>
     }
 }
 
+/// Adds the file of an origin, where there is one, and the line.
+fn put_origin(out: &mut Vec<u8>, origin: Origin) -> Result<(), AllocError>
+    ensures { OnOk result (out.new.items ≡ out.old.items ++ origin_bytes origin) }
+{
+    if let Some(file) = origin.file {
+        put_u32(out, file)?;
+    }
+    put_u32(out, origin.line)
+}
+
 /// Adds a VALUE.
 fn put_value(
     alloc: Global,
     out: &mut Vec<u8>,
     width: Width,
-    line: u32,
+    origin: Origin,
     form: &Norm,
 ) -> Result<(), AllocError>
     requires { is_small_form form.now ≡ true }
-    ensures { OnOk result (out.new.items ≡ out.old.items ++ entry_bytes (value_entry width line form.now)) }
+    ensures { OnOk result (out.new.items ≡ out.old.items ++ entry_bytes (value_entry width origin form.now)) }
 {
     let mut body = Vec::new(alloc);
     body.push(width as u8)?;
-    put_u32(&mut body, line)?;
+    put_origin(&mut body, origin)?;
     put_form(&mut body, form)?;
     put_record(out, VALUE, &body)
 }
@@ -188,7 +200,11 @@ fn put_fragment(alloc: Global, out: &mut Vec<u8>, fragment: &Fragment) -> Result
     match fragment {
         Fragment::Literal(bytes) => put_literal(out, bytes.as_slice()),
         Fragment::Fill(count) => put_fill(out, *count),
-        Fragment::Value { width, line, form } => put_value(alloc, out, *width, *line, form),
+        Fragment::Value {
+            width,
+            origin,
+            form,
+        } => put_value(alloc, out, *width, *origin, form),
     }
 }
 
@@ -208,6 +224,16 @@ fn put_contents(alloc: Global, out: &mut Vec<u8>, sections: &[Section]) -> Resul
 {
     for section in sections {
         put_fragments(alloc, out, section.fragments.as_slice())?;
+    }
+    Ok(())
+}
+
+fn put_files(out: &mut Vec<u8>, files: &[Sequence<u8>]) -> Result<(), AllocError>
+    requires { list_all is_small_file files.now ≡ true }
+    ensures { OnOk result (out.new.items ≡ out.old.items ++ flat_map entry_bytes (map file_entry files.now)) }
+{
+    for name in files {
+        put_record(out, FILE, name.as_slice())?;
     }
     Ok(())
 }
@@ -279,7 +305,7 @@ fn put_export(alloc: Global, out: &mut Vec<u8>, export: &Export) -> Result<(), A
     let mut body = Vec::new(alloc);
     body.push(export.name.len() as u8)?;
     body.extend_from_slice(export.name.as_slice())?;
-    put_u32(&mut body, export.line)?;
+    put_origin(&mut body, export.origin)?;
     put_form(&mut body, &export.form)?;
     put_record(out, EXPORT, &body)
 }
@@ -301,7 +327,7 @@ fn put_assert(alloc: Global, out: &mut Vec<u8>, assert: &Assert) -> Result<(), A
 {
     let mut body = Vec::new(alloc);
     body.push(assert.action as u8)?;
-    put_u32(&mut body, assert.line)?;
+    put_origin(&mut body, assert.origin)?;
     body.push(assert.text.len() as u8)?;
     body.extend_from_slice(assert.text.as_slice())?;
     put_form(&mut body, &assert.form)?;
@@ -320,13 +346,16 @@ fn put_asserts(alloc: Global, out: &mut Vec<u8>, asserts: &[Assert]) -> Result<(
 
 /// Adds the records of an object.
 fn put_object(alloc: Global, out: &mut Vec<u8>, object: &Object) -> Result<(), AllocError>
+    requires files { list_all is_small_file object.now.files ≡ true }
     requires imports { list_all is_small_text object.now.imports ≡ true }
     requires sections { list_all is_small_section object.now.sections ≡ true }
     requires exports { list_all is_small_export object.now.exports ≡ true }
     requires asserts { list_all is_small_assert object.now.asserts ≡ true }
     ensures { OnOk result (out.new.items ≡ out.old.items ++ object_bytes object.now) }
 {
-    out.extend_from_slice(&HEAD)?;
+    out.extend_from_slice(&MAGIC)?;
+    out.push(object.version)?;
+    put_files(out, object.files.as_slice())?;
     put_imports(out, object.imports.as_slice())?;
     put_sections(alloc, out, object.sections.as_slice())?;
     put_contents(alloc, out, object.sections.as_slice())?;

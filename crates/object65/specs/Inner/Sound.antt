@@ -5,7 +5,7 @@ use Rattle.object65.specs.declared.kept.Kept.{Kept}
 use Rattle.object65.specs.declared.parts.Parts.{Parts}
 use Rattle.object65.specs.declared.draft.Draft.{Draft}
 use Rattle.object65.specs.declared.item.Item.{Item}
-use Rattle.object65.specs.declared.item.Item.TheVariants.{Import, Section, Part, Export, Assert, End}
+use Rattle.object65.specs.declared.item.Item.TheVariants.{File, Import, Section, Part, Export, Assert, End}
 use Rattle.object65.specs.declared.object.Fragment.{Fragment}
 use Rattle.object65.specs.Objects.{fragment_len}
 use Rattle.object65.specs.Scanning.{Outline, is_filled, outline_of}
@@ -15,7 +15,7 @@ use Rattle.object65.specs.Taking.{State, IsReached}
 -- ---- A scan.
 
 abbrev pub outline_in : Kept → Outline
-outline_in k = record { imports = map (λ n. n.items) k.imports.keys; sections = map (λ n. n.items) k.sections.keys; rooms = k.rooms.items; begun = k.begun; exports = map (λ n. n.items) k.exports.keys; asserting = k.asserting; ended = k.ended; failed = false }
+outline_in k = record { version = k.version; files = map (λ n. n.items) k.files.keys; imports = map (λ n. n.items) k.imports.keys; sections = map (λ n. n.items) k.sections.keys; rooms = k.rooms.items; begun = k.begun; exports = map (λ n. n.items) k.exports.keys; asserting = k.asserting; ended = k.ended; failed = false }
 
 -- all sections before the one being filled are full
 pub record IsSound (k : Kept) : Type 0 where
@@ -35,7 +35,7 @@ pub record IsIntact (k : Kept) : Type 0 where
 -- ---- A builder.
 
 abbrev pub state_of : Parts → State
-state_of p = record { imports = p.imports; drafts = p.drafts.items; begun = false; exports = p.exports; asserts = p.asserts; ended = false; failed = false }
+state_of p = record { version = p.version; files = p.files; imports = p.imports; drafts = p.drafts.items; begun = false; exports = p.exports; asserts = p.asserts; ended = false; failed = false }
 
 -- without what the scan beside it knows
 abbrev pub unmarked : State → State
@@ -53,10 +53,11 @@ pub record HasPlace (ds : List Draft) (k : ℕ) (f : Fragment) : Type 0 where
 
 abbrev pub HasRoom : List Draft → Item → Type 0
 HasRoom ds (Part k offset f) = HasPlace ds k f
+HasRoom ds (File name) = ⊤
 HasRoom ds (Import name) = ⊤
 HasRoom ds (Section name size align) = ⊤
-HasRoom ds (Export name line form) = ⊤
-HasRoom ds (Assert action line text form) = ⊤
+HasRoom ds (Export name origin form) = ⊤
+HasRoom ds (Assert action origin text form) = ⊤
 HasRoom ds End = ⊤
 
 -- what holds of a builder that hasn't failed

@@ -8,9 +8,10 @@ use Rattle.std.specs.Prelude.{slice_get}
 use Rattle.std.specs.List.{flat_map, list_all, sum_by, AllByRecursion}
 use Rattle.object65.specs.declared.object.Fragment.{Fragment}
 use Rattle.object65.specs.declared.object.Fragment.TheVariants.{Literal, Fill, Value}
+use Rattle.object65.specs.declared.object.Origin.{Origin}
 use Rattle.object65.specs.declared.object.Width.{Width}
 use Rattle.object65.specs.Form.{Form}
-use Rattle.object65.specs.Objects.{fragment_len, is_good_fragment, joins, are_apart, FragmentFits}
+use Rattle.object65.specs.Objects.{fragment_len, has_good_origin, is_good_fragment, joins, are_apart, FragmentFits}
 use Rattle.object65.specs.Spelling.{fragment_entries, literal_entries}
 use Rattle.object65.specs.Items.{closing, is_none}
 use Rattle.object65.specs.Scanning.{is_some_fill, ends_in_fill}
@@ -52,12 +53,12 @@ last_push (x ∷ []) f g = refl
 last_push (x ∷ y ∷ xs) f g = last_push (y ∷ xs) f g
 
 -- a value joins nothing
-pub value_apart : (xs : List Fragment) (w : Width) (line : ℕ) (form : Form) → last_joins xs (Value w line form) ≡ false
-value_apart [] w line form = refl
-value_apart (Literal bytes ∷ []) w line form = refl
-value_apart (Fill n ∷ []) w line form = refl
-value_apart (Value v l f ∷ []) w line form = refl
-value_apart (x ∷ y ∷ xs) w line form = value_apart (y ∷ xs) w line form
+pub value_apart : (xs : List Fragment) (w : Width) (origin : Origin) (form : Form) → last_joins xs (Value w origin form) ≡ false
+value_apart [] w origin form = refl
+value_apart (Literal bytes ∷ []) w origin form = refl
+value_apart (Fill n ∷ []) w origin form = refl
+value_apart (Value v l f ∷ []) w origin form = refl
+value_apart (x ∷ y ∷ xs) w origin form = value_apart (y ∷ xs) w origin form
 
 pub fill_last : (xs : List Fragment) (n : ℕ) → ends_in_fill xs ≡ last_joins xs (Fill n)
 fill_last [] n = refl
@@ -98,6 +99,10 @@ shut_good s i fs (b ∷ bytes) good =
     let some : nat_lt 0 (length (b ∷ bytes)) ≡ true = grind (arith, nat_tests) in
     let one : list_all (is_good_fragment s i) (Literal (b ∷ bytes) ∷ []) ≡ true = and (is_good_fragment s i (Literal (b ∷ bytes))) true some refl in
     ap (λ xs. list_all (is_good_fragment s i) (fs ++ xs)) (closing_is (b ∷ bytes) (longer b bytes)) ∙ list_all-append (is_good_fragment s i) fs (Literal (b ∷ bytes) ∷ []) ∙ and (list_all (is_good_fragment s i) fs) (list_all (is_good_fragment s i) (Literal (b ∷ bytes) ∷ [])) good one
+
+pub shut_origins : (v n : ℕ) (fs : List Fragment) (bytes : List ℕ) → list_all (has_good_origin v n) fs ≡ true → list_all (has_good_origin v n) (fs ++ closing bytes) ≡ true
+shut_origins v n fs [] good = ap (list_all (has_good_origin v n)) (nil fs) ∙ good
+shut_origins v n fs (b ∷ bytes) good = ap (λ xs. list_all (has_good_origin v n) (fs ++ xs)) (closing_is (b ∷ bytes) (longer b bytes)) ∙ list_all-append (has_good_origin v n) fs (Literal (b ∷ bytes) ∷ []) ∙ and (list_all (has_good_origin v n) fs) true good refl
 
 pub shut_apart : (fs : List Fragment) (bytes : List ℕ) → are_apart fs ≡ true → ((xs : List ℕ) → last_joins fs (Literal xs) ≡ false) → are_apart (fs ++ closing bytes) ≡ true
 shut_apart fs [] apart bare = ap are_apart (nil fs) ∙ apart

@@ -5,7 +5,7 @@ use Rattle.std.proofs.lemmas.List.{take-append-drop, take_at, drop_at}
 use Rattle.std.proofs.Math.Facts.{Fits-of_z, Fits-lt-pow, Fits-of_lt, sfits_to_z}
 use Rattle.std.proofs.lemmas.Int.{to_z-of_z, of_z-to_z}
 use Rattle.std.specs.Int.{w64, cast_signed, cast_unsigned}
-use Rattle.std.specs.Prelude.{FitsSigned}
+use Rattle.std.specs.Prelude.{FitsSigned, IfSome}
 use Rattle.byteorder.specs.Endian.{little_number, little_bytes}
 use Rattle.byteorder.specs.Numbers.{length-bytes_low_first, little_from-lt}
 use Rattle.object65.specs.declared.fault.ObjectFault.{ObjectFault}
@@ -18,6 +18,7 @@ use Rattle.object65.specs.declared.object.Action.{Action}
 use Rattle.object65.specs.declared.object.Action.TheVariants as action
 use Rattle.object65.specs.declared.object.Assert.{Assert}
 use Rattle.object65.specs.declared.object.Export.{Export}
+use Rattle.object65.specs.declared.object.Origin.{Origin}
 use Rattle.object65.specs.declared.object.Width.{Width}
 use Rattle.object65.specs.declared.object.Width.TheVariants.{Byte, Word, HighFirst, Dword, Branch}
 use Rattle.object65.specs.Bodies
@@ -25,9 +26,9 @@ use Rattle.object65.specs.Bytes.{IsBytes}
 use Rattle.object65.specs.Fault.{◌>>=◌}
 use Rattle.object65.specs.Folding.{is_normal, folds1, folds2}
 use Rattle.object65.specs.Form.{Form, lit, sec, imp, prefix, binary, nodes}
-use Rattle.object65.specs.Objects.{FitsBits}
+use Rattle.object65.specs.Objects.{FitsBits, OriginFits, has_file_by}
 use Rattle.object65.specs.Operators.{op1_of, op2_of, number2}
-use Rattle.object65.specs.Spelling.{code1, form_bytes, width_code, action_code, value_entry, export_entry, assert_entry, fill_entry}
+use Rattle.object65.specs.Spelling.{code1, form_bytes, origin_bytes, width_code, action_code, value_entry, export_entry, assert_entry, fill_entry}
 use Rattle.object65.proofs.Goods.{left, right}
 use Rattle.object65.proofs.Numbers.{bytes_drop, front, back}
 use Rattle.object65.proofs.Rooms.{bound, passes}
@@ -349,61 +350,147 @@ action_spelled code a e =
     one : (n : ℕ) → (n == 1) ≡ true → n ≡ 1
     one n e = grind (arith, nat_tests)
 
-pub value_reads : (body : List ℕ) (x : Width × ℕ × Form) → IsBytes body → Bodies.value_of body ≡ Ok x → (body ≡ (value_entry x.0 x.1 x.2).body) × (x.1 < 2 ^ 32) × FitsBits x.2
+-- the origin stands at the front, and then the rest
+record ReadsOrigin (bytes : List ℕ) (x : Origin × List ℕ) : Type 0 where
+  pub spelled : bytes ≡ origin_bytes x.0 ++ x.1
+  pub fits : OriginFits x.0
+  pub rest : IsBytes x.1
+
+line_reads : (bytes : List ℕ) (x : Origin × List ℕ) → IsBytes bytes → Bodies.line_at bytes ≡ Ok x → ReadsOrigin bytes x
+unfolding Bodies.line_at
+line_reads bytes x is e =
+    let l = bound (Bodies.number_at 4 bytes) _ _ e in
+    let line = number_reads 4 bytes l.0 is l.1 in
+    let x_is : ◌≡◌ {A = Origin × List ℕ} (record { file = None; line = l.0.0 }, l.0.1) x = cc (l.2) in
+    rw (← x_is) (record { spelled = line.spelled; fits = (tt, omega (arith, line.fits)); rest = line.rest })
+
+file_line_reads : (bytes : List ℕ) (x : Origin × List ℕ) → IsBytes bytes → Bodies.file_line_at bytes ≡ Ok x → ReadsOrigin bytes x
+unfolding Bodies.file_line_at
+file_line_reads bytes x is e =
+    let k = bound (Bodies.number_at 4 bytes) _ _ e in
+    let file = number_reads 4 bytes k.0 is k.1 in
+    let l = bound (Bodies.number_at 4 k.0.1) _ _ k.2 in
+    let line = number_reads 4 k.0.1 l.0 file.rest l.1 in
+    let x_is : ◌≡◌ {A = Origin × List ℕ} (record { file = Some k.0.0; line = l.0.0 }, l.0.1) x = cc (l.2) in
+    rw (← x_is) (record {
+      spelled = file.spelled ∙ ap (λ xs. little_bytes 4 k.0.0 ++ xs) line.spelled ∙ sym (append_assoc (little_bytes 4 k.0.0) (little_bytes 4 l.0.0) l.0.1);
+      fits = (omega (arith, file.fits), omega (arith, line.fits));
+      rest = line.rest;
+    })
+
+origin_reads : (v : ℕ) (bytes : List ℕ) (x : Origin × List ℕ) → IsBytes bytes → Bodies.origin_at v bytes ≡ Ok x → ReadsOrigin bytes x
+origin_reads v bytes x is e = go (v == 1) e where
+  go : (b : Bool) → (if b then Bodies.line_at bytes else Bodies.file_line_at bytes) ≡ Ok x → ReadsOrigin bytes x
+  go true e = line_reads bytes x is e
+  go false e = file_line_reads bytes x is e
+
+line_by : (v : ℕ) (bytes : List ℕ) (x : Origin × List ℕ) → (v == 1) ≡ true → Bodies.line_at bytes ≡ Ok x → has_file_by v x.0.file ≡ true
+unfolding Bodies.line_at
+line_by v bytes x one e =
+    let l = bound (Bodies.number_at 4 bytes) _ _ e in
+    let x_is : ◌≡◌ {A = Origin × List ℕ} (record { file = None; line = l.0.0 }, l.0.1) x = cc (l.2) in
+    rw (← x_is) one
+
+file_line_by : (v : ℕ) (bytes : List ℕ) (x : Origin × List ℕ) → (v == 1) ≡ false → Bodies.file_line_at bytes ≡ Ok x → has_file_by v x.0.file ≡ true
+unfolding Bodies.file_line_at
+file_line_by v bytes x two e =
+    let k = bound (Bodies.number_at 4 bytes) _ _ e in
+    let l = bound (Bodies.number_at 4 k.0.1) _ _ k.2 in
+    let x_is : ◌≡◌ {A = Origin × List ℕ} (record { file = Some k.0.0; line = l.0.0 }, l.0.1) x = cc (l.2) in
+    rw (← x_is) (ap not two)
+
+-- an origin that is read has a file or none as its version says
+origin_by : (v : ℕ) (bytes : List ℕ) (x : Origin × List ℕ) → Bodies.origin_at v bytes ≡ Ok x → has_file_by v x.0.file ≡ true
+origin_by v bytes x e = go (v == 1) refl e where
+  go : (b : Bool) → (v == 1) ≡ b → (if b then Bodies.line_at bytes else Bodies.file_line_at bytes) ≡ Ok x → has_file_by v x.0.file ≡ true
+  go true one e = line_by v bytes x one e
+  go false two e = file_line_by v bytes x two e
+
+pub value_by : (v : ℕ) (body : List ℕ) (x : Width × Origin × Form) → Bodies.value_of v body ≡ Ok x → has_file_by v x.1.file ≡ true
 unfolding Bodies.value_of
-value_reads body x is e =
+value_by v body x e =
+    let c = bound (Bodies.number_at 1 body) _ _ e in
+    let w = bound (Bodies.width_of c.0.0) _ _ c.2 in
+    let l = bound (Bodies.origin_at v c.0.1) _ _ w.2 in
+    let f = bound (Bodies.form_of_all l.0.1) _ _ l.2 in
+    let x_is : ◌≡◌ {A = Width × Origin × Form} (w.0, l.0.0, f.0) x = cc (f.2) in
+    rw (← x_is) (origin_by v c.0.1 l.0 l.1)
+
+pub export_by : (v : ℕ) (body : List ℕ) (x : Export) → Bodies.export_of v body ≡ Ok x → has_file_by v x.origin.file ≡ true
+unfolding Bodies.export_of
+export_by v body x e =
+    let t = bound (Bodies.counted_at body) _ _ e in
+    let l = bound (Bodies.origin_at v t.0.1) _ _ t.2 in
+    let f = bound (Bodies.form_of_all l.0.1) _ _ l.2 in
+    let x_is : ◌≡◌ {A = Export} (record { name = t.0.0; origin = l.0.0; form = f.0 }) x = cc (f.2) in
+    rw (← x_is) (origin_by v t.0.1 l.0 l.1)
+
+pub assert_by : (v : ℕ) (body : List ℕ) (x : Assert) → Bodies.assert_of v body ≡ Ok x → has_file_by v x.origin.file ≡ true
+unfolding Bodies.assert_of
+assert_by v body x e =
+    let c = bound (Bodies.number_at 1 body) _ _ e in
+    let a = bound (Bodies.action_of c.0.0) _ _ c.2 in
+    let l = bound (Bodies.origin_at v c.0.1) _ _ a.2 in
+    let t = bound (Bodies.counted_at l.0.1) _ _ l.2 in
+    let f = bound (Bodies.form_of_all t.0.1) _ _ t.2 in
+    let x_is : ◌≡◌ {A = Assert} (record { action = a.0; origin = l.0.0; text = t.0.0; form = f.0 }) x = cc (f.2) in
+    rw (← x_is) (origin_by v c.0.1 l.0 l.1)
+
+pub value_reads : (v : ℕ) (body : List ℕ) (x : Width × Origin × Form) → IsBytes body → Bodies.value_of v body ≡ Ok x → (body ≡ (value_entry x.0 x.1 x.2).body) × OriginFits x.1 × FitsBits x.2
+unfolding Bodies.value_of
+value_reads v body x is e =
     let c = bound (Bodies.number_at 1 body) _ _ e in
     let code = byte_reads body c.0 is c.1 in
     let w = bound (Bodies.width_of c.0.0) _ _ c.2 in
-    let l = bound (Bodies.number_at 4 c.0.1) _ _ w.2 in
-    let line = number_reads 4 c.0.1 l.0 code.2 l.1 in
+    let l = bound (Bodies.origin_at v c.0.1) _ _ w.2 in
+    let origin = origin_reads v c.0.1 l.0 code.2 l.1 in
     let f = bound (Bodies.form_of_all l.0.1) _ _ l.2 in
-    let form = all_reads l.0.1 f.0 line.rest f.1 in
-    let x_is : ◌≡◌ {A = Width × ℕ × Form} (w.0, l.0.0, f.0) x = cc (f.2) in
+    let form = all_reads l.0.1 f.0 origin.rest f.1 in
+    let x_is : ◌≡◌ {A = Width × Origin × Form} (w.0, l.0.0, f.0) x = cc (f.2) in
     rw (← x_is) (
-      code.0 ∙ (λ i. width_spelled c.0.0 w.0 w.1 i ∷ (line.spelled ∙ ap (λ xs. little_bytes 4 l.0.0 ++ xs) form.0) i),
-      omega (arith, line.fits),
+      code.0 ∙ (λ i. width_spelled c.0.0 w.0 w.1 i ∷ (origin.spelled ∙ ap (λ xs. origin_bytes l.0.0 ++ xs) form.0) i),
+      origin.fits,
       form.1,
     )
 
-pub export_reads : (body : List ℕ) (x : Export) → IsBytes body → Bodies.export_of body ≡ Ok x → (body ≡ (export_entry x).body) × (x.line < 2 ^ 32) × FitsBits x.form
+pub export_reads : (v : ℕ) (body : List ℕ) (x : Export) → IsBytes body → Bodies.export_of v body ≡ Ok x → (body ≡ (export_entry x).body) × OriginFits x.origin × FitsBits x.form
 unfolding Bodies.export_of
-export_reads body x is e =
+export_reads v body x is e =
     let t = bound (Bodies.counted_at body) _ _ e in
     let name = counted_reads body t.0 is t.1 in
-    let l = bound (Bodies.number_at 4 t.0.1) _ _ t.2 in
-    let line = number_reads 4 t.0.1 l.0 name.rest l.1 in
+    let l = bound (Bodies.origin_at v t.0.1) _ _ t.2 in
+    let origin = origin_reads v t.0.1 l.0 name.rest l.1 in
     let f = bound (Bodies.form_of_all l.0.1) _ _ l.2 in
-    let form = all_reads l.0.1 f.0 line.rest f.1 in
-    let x_is : ◌≡◌ {A = Export} (record { name = t.0.0; line = l.0.0; form = f.0 }) x = cc (f.2) in
+    let form = all_reads l.0.1 f.0 origin.rest f.1 in
+    let x_is : ◌≡◌ {A = Export} (record { name = t.0.0; origin = l.0.0; form = f.0 }) x = cc (f.2) in
     rw (← x_is) (
-      name.spelled ∙ ap (λ xs. length t.0.0 ∷ (t.0.0 ++ xs)) (line.spelled ∙ ap (λ xs. little_bytes 4 l.0.0 ++ xs) form.0) ∙ ap (λ xs. length t.0.0 ∷ xs) (sym (append_assoc t.0.0 (little_bytes 4 l.0.0) (form_bytes f.0))),
-      omega (arith, line.fits),
+      name.spelled ∙ ap (λ xs. length t.0.0 ∷ (t.0.0 ++ xs)) (origin.spelled ∙ ap (λ xs. origin_bytes l.0.0 ++ xs) form.0) ∙ ap (λ xs. length t.0.0 ∷ xs) (sym (append_assoc t.0.0 (origin_bytes l.0.0) (form_bytes f.0))),
+      origin.fits,
       form.1,
     )
 
 pub record ReadsAssert (body : List ℕ) (x : Assert) : Type 0 where
   pub spelled : body ≡ (assert_entry x).body
-  pub line : x.line < 2 ^ 32
+  pub origin : OriginFits x.origin
   pub form : FitsBits x.form
   pub text : length x.text < 256
 
-pub assert_reads : (body : List ℕ) (x : Assert) → IsBytes body → Bodies.assert_of body ≡ Ok x → ReadsAssert body x
+pub assert_reads : (v : ℕ) (body : List ℕ) (x : Assert) → IsBytes body → Bodies.assert_of v body ≡ Ok x → ReadsAssert body x
 unfolding Bodies.assert_of
-assert_reads body x is e =
+assert_reads v body x is e =
     let c = bound (Bodies.number_at 1 body) _ _ e in
     let code = byte_reads body c.0 is c.1 in
     let a = bound (Bodies.action_of c.0.0) _ _ c.2 in
-    let l = bound (Bodies.number_at 4 c.0.1) _ _ a.2 in
-    let line = number_reads 4 c.0.1 l.0 code.2 l.1 in
+    let l = bound (Bodies.origin_at v c.0.1) _ _ a.2 in
+    let origin = origin_reads v c.0.1 l.0 code.2 l.1 in
     let t = bound (Bodies.counted_at l.0.1) _ _ l.2 in
-    let text = counted_reads l.0.1 t.0 line.rest t.1 in
+    let text = counted_reads l.0.1 t.0 origin.rest t.1 in
     let f = bound (Bodies.form_of_all t.0.1) _ _ t.2 in
     let form = all_reads t.0.1 f.0 text.rest f.1 in
-    let x_is : ◌≡◌ {A = Assert} (record { action = a.0; line = l.0.0; text = t.0.0; form = f.0 }) x = cc (f.2) in
+    let x_is : ◌≡◌ {A = Assert} (record { action = a.0; origin = l.0.0; text = t.0.0; form = f.0 }) x = cc (f.2) in
     rw (← x_is) (record {
-      spelled = code.0 ∙ (λ i. action_spelled c.0.0 a.0 a.1 i ∷ (line.spelled ∙ ap (λ xs. little_bytes 4 l.0.0 ++ xs) (text.spelled ∙ ap (λ xs. length t.0.0 ∷ (t.0.0 ++ xs)) form.0)) i);
-      line = omega (arith, line.fits);
+      spelled = code.0 ∙ (λ i. action_spelled c.0.0 a.0 a.1 i ∷ (origin.spelled ∙ ap (λ xs. origin_bytes l.0.0 ++ xs) (text.spelled ∙ ap (λ xs. length t.0.0 ∷ (t.0.0 ++ xs)) form.0)) i);
+      origin = origin.fits;
       form = form.1;
       text = text.short;
     })
@@ -533,17 +620,36 @@ action_again : (a : Action) → Bodies.action_of (action_code a) ≡ Ok a
 action_again action.Warning = refl
 action_again action.Error = refl
 
-pub value_again : (w : Width) (line : ℕ) (f : Form) → line < 2 ^ 32 → FitsBits f → is_normal f ≡ true → Bodies.value_of (value_entry w line f).body ≡ Ok (w, line, f)
+line_again : (line : ℕ) (rest : List ℕ) → line < 2 ^ 32 → Bodies.line_at (little_bytes 4 line ++ rest) ≡ Ok (record { file = None; line = line }, rest)
+unfolding Bodies.line_at
+line_again line rest within = rw (number_again 4 line rest (omega (arith, within))) refl
+
+file_line_again : (k line : ℕ) (rest : List ℕ) → k < 2 ^ 32 → line < 2 ^ 32 → Bodies.file_line_at ((little_bytes 4 k ++ little_bytes 4 line) ++ rest) ≡ Ok (record { file = Some k; line = line }, rest)
+unfolding Bodies.file_line_at
+file_line_again k line rest file within =
+    rw (append_assoc (little_bytes 4 k) (little_bytes 4 line) rest, number_again 4 k (little_bytes 4 line ++ rest) (omega (arith, file)), number_again 4 line rest (omega (arith, within))) refl
+
+origin_again : (v : ℕ) (o : Origin) (rest : List ℕ) → has_file_by v o.file ≡ true → OriginFits o → Bodies.origin_at v (origin_bytes o ++ rest) ≡ Ok (o, rest)
+origin_again v o rest by fits = go o.file o.line by fits.0 fits.1 where
+  turned_off : (b : Bool) → not b ≡ true → b ≡ false
+  turned_off true e = cc
+  turned_off false e = refl
+
+  go : (file : Option ℕ) (line : ℕ) → has_file_by v file ≡ true → IfSome file (λ k. k < 2 ^ 32) → line < 2 ^ 32 → Bodies.origin_at v (origin_bytes (record { file = file; line = line }) ++ rest) ≡ Ok (record { file = file; line = line }, rest)
+  go None line by file within = chosen (v == 1) _ _ by ∙ line_again line rest within
+  go (Some k) line by file within = other (v == 1) _ _ (turned_off (v == 1) by) ∙ file_line_again k line rest file within
+
+pub value_again : (v : ℕ) (w : Width) (o : Origin) (f : Form) → has_file_by v o.file ≡ true → OriginFits o → FitsBits f → is_normal f ≡ true → Bodies.value_of v (value_entry w o f).body ≡ Ok (w, o, f)
 unfolding Bodies.value_of
-value_again w line f within fits normal =
-    rw (byte_again (width_code w) (little_bytes 4 line ++ form_bytes f), width_again w, number_again 4 line (form_bytes f) (omega (arith, within)), all_again f fits normal) refl
+value_again v w o f by within fits normal =
+    rw (byte_again (width_code w) (origin_bytes o ++ form_bytes f), width_again w, origin_again v o (form_bytes f) by within, all_again f fits normal) refl
 
-pub export_again : (x : Export) → x.line < 2 ^ 32 → FitsBits x.form → is_normal x.form ≡ true → Bodies.export_of (export_entry x).body ≡ Ok x
+pub export_again : (v : ℕ) (x : Export) → has_file_by v x.origin.file ≡ true → OriginFits x.origin → FitsBits x.form → is_normal x.form ≡ true → Bodies.export_of v (export_entry x).body ≡ Ok x
 unfolding Bodies.export_of
-export_again x within fits normal =
-    rw (append_assoc x.name (little_bytes 4 x.line) (form_bytes x.form), text_again x.name (little_bytes 4 x.line ++ form_bytes x.form), number_again 4 x.line (form_bytes x.form) (omega (arith, within)), all_again x.form fits normal) refl
+export_again v x by within fits normal =
+    rw (append_assoc x.name (origin_bytes x.origin) (form_bytes x.form), text_again x.name (origin_bytes x.origin ++ form_bytes x.form), origin_again v x.origin (form_bytes x.form) by within, all_again x.form fits normal) refl
 
-pub assert_again : (x : Assert) → x.line < 2 ^ 32 → FitsBits x.form → is_normal x.form ≡ true → Bodies.assert_of (assert_entry x).body ≡ Ok x
+pub assert_again : (v : ℕ) (x : Assert) → has_file_by v x.origin.file ≡ true → OriginFits x.origin → FitsBits x.form → is_normal x.form ≡ true → Bodies.assert_of v (assert_entry x).body ≡ Ok x
 unfolding Bodies.assert_of
-assert_again x within fits normal =
-    rw (byte_again (action_code x.action) (little_bytes 4 x.line ++ length x.text ∷ (x.text ++ form_bytes x.form)), action_again x.action, number_again 4 x.line (length x.text ∷ (x.text ++ form_bytes x.form)) (omega (arith, within)), text_again x.text (form_bytes x.form), all_again x.form fits normal) refl
+assert_again v x by within fits normal =
+    rw (byte_again (action_code x.action) (origin_bytes x.origin ++ length x.text ∷ (x.text ++ form_bytes x.form)), action_again x.action, origin_again v x.origin (length x.text ∷ (x.text ++ form_bytes x.form)) by within, text_again x.text (form_bytes x.form), all_again x.form fits normal) refl

@@ -1,5 +1,5 @@
 -- How long a form is.
-use Rattle.std.proofs.Common.{◌≡◌, ◌≤◌, ◌<◌, ℕ, zero, suc, [], ◌∷◌, ◌-◌, take, drop, get_or, ◌+◌, ◌*◌, ◌++◌, List, length, Bool, true, false, ◌&&◌, arith, ap, refl, length-append}
+use Rattle.std.proofs.Common.{◌≡◌, ◌≤◌, ◌<◌, ℕ, zero, suc, [], ◌∷◌, ◌-◌, take, drop, get_or, ◌+◌, ◌*◌, ◌++◌, List, length, Bool, true, false, ◌&&◌, arith, ap, refl, length-append, Option, Some, None}
 use Rattle.std.proofs.lemmas.Bool.Decides.{nat_tests}
 use Rattle.object65.specs.declared.object.Assert.{Assert}
 use Rattle.object65.specs.declared.object.Export.{Export}
@@ -11,7 +11,8 @@ use Rattle.base65.specs.declared.values.Op1.{Op1}
 use Rattle.base65.specs.declared.values.Op1.TheVariants.{Plus, Negate, BitNot, LowByte, HighByte, BankByte, Not}
 use Rattle.object65.specs.Form.{Form, lit, sec, imp, prefix, binary, nodes}
 use Rattle.object65.specs.Bodies.{form_at, form_of_code}
-use Rattle.object65.specs.Spelling.{form_bytes, code1}
+use Rattle.object65.specs.declared.object.Origin.{Origin}
+use Rattle.object65.specs.Spelling.{file_bytes, form_bytes, code1, origin_bytes}
 
 code1_len : (op : Op1) → length (code1 op) ≤ 1
 code1_len Plus = omega arith
@@ -28,6 +29,13 @@ form_len (sec k a) = omega (arith, length-append (little_bytes 4 k) (little_byte
 form_len (imp j) = omega (arith, length-bytes_low_first 0 4 j)
 form_len (prefix op f) = omega (arith, length-append (code1 op) (form_bytes f), code1_len op, form_len f)
 form_len (binary op f g) = omega (arith, length-append (form_bytes f) (form_bytes g), form_len f, form_len g)
+
+file_len : (file : Option ℕ) → length (file_bytes file) ≤ 4
+file_len None = omega arith
+file_len (Some k) = omega (arith, length-bytes_low_first 0 4 k)
+
+pub origin_len : (o : Origin) → length (origin_bytes o) ≤ 8
+origin_len o = omega (arith, length-append (file_bytes o.file) (little_bytes 4 o.line), length-bytes_low_first 0 4 o.line, file_len o.file)
 
 pub small_form : (f : Form) → is_small_form f ≡ true → length (form_bytes f) ≤ 3315
 small_form f small = let few : nodes f ≤ 255 = grind (arith, nat_tests) in omega (arith, form_len f, few)

@@ -4,7 +4,8 @@ use Rattle.byteorder.specs.Endian.{little_number}
 use Rattle.object65.specs.declared.object.Action.TheVariants as action
 use Rattle.object65.specs.declared.object.Width.TheVariants.{Byte, Word, HighFirst, Dword, Branch}
 use Rattle.object65.specs.Folding.{is_within, is_normal, is_literal, node_limit}
-use Rattle.object65.specs.Objects.{is_name, is_among}
+use Rattle.object65.specs.Objects.{has_file, is_name, is_among}
+use Rattle.object65.specs.declared.object.Origin.{Origin}
 use Rattle.object65.specs.declared.fault.ObjectFault.{ObjectFault}
 use Rattle.object65.specs.declared.fault.ObjectFault.TheVariants.{FailedBefore, FileError, OutOfOrder, IndexOutOfRange, BadSize, NotCanonical}
 use Rattle.object65.specs.declared.room.Room.{Room}
@@ -41,7 +42,7 @@ failed e = cc
 pub wants_astray : (b : Bool) → IsFree (Scanning.wants b OutOfOrder)
 wants_astray b = chosen b (Ok tt) (Err OutOfOrder) (ok tt) astray
 
-wants_size : (b : Bool) → IsFree (Scanning.wants b BadSize)
+pub wants_size : (b : Bool) → IsFree (Scanning.wants b BadSize)
 wants_size b = chosen b (Ok tt) (Err BadSize) (ok tt) bad
 
 away : {A : Type 0} → IsFree {A = A} (Err IndexOutOfRange)
@@ -121,6 +122,9 @@ end_free body = chosen (length body == 0) _ _ (ok tt) bad
 pub room_free : (r : Room) (len : ℕ) → IsFree (Scanning.room_for r len)
 room_free r len = wants_size (nat_le len (r.size - r.filled))
 
+pub known_file_free : (n : ℕ) (o : Origin) → IsFree (Scanning.known_file n o)
+known_file_free n o = wants_index (has_file n o.file)
+
 pub known_free : (n i : ℕ) (f : Form) → IsFree (Scanning.known n i f)
 known_free n i f = wants_index (is_within n i f)
 
@@ -136,14 +140,25 @@ open_free f = wants_canonical (is_normal f && nat_le (nodes f) node_limit && not
 pub section_free : (body : List ℕ) → IsFree (Bodies.section_of body)
 section_free body = chosen _ _ _ bad (chosen _ _ _ bad (ok _))
 
-pub value_free : (body : List ℕ) → IsFree (Bodies.value_of body)
+line_free : (bytes : List ℕ) → IsFree (Bodies.line_at bytes)
+unfolding Bodies.line_at
+line_free bytes = bound _ _ (number_free 4 bytes) (λ l. ok _)
+
+file_line_free : (bytes : List ℕ) → IsFree (Bodies.file_line_at bytes)
+unfolding Bodies.file_line_at
+file_line_free bytes = bound _ _ (number_free 4 bytes) (λ f. bound _ _ (number_free 4 f.1) (λ l. ok _))
+
+origin_free : (v : ℕ) (bytes : List ℕ) → IsFree (Bodies.origin_at v bytes)
+origin_free v bytes = chosen (v == 1) _ _ (line_free bytes) (file_line_free bytes)
+
+pub value_free : (v : ℕ) (body : List ℕ) → IsFree (Bodies.value_of v body)
 unfolding Bodies.value_of
-value_free body = bound _ _ (number_free 1 body) (λ c. bound _ _ (width_free c.0) (λ w. bound _ _ (number_free 4 c.1) (λ l. bound _ _ (all_free l.1) (λ f. ok _))))
+value_free v body = bound _ _ (number_free 1 body) (λ c. bound _ _ (width_free c.0) (λ w. bound _ _ (origin_free v c.1) (λ l. bound _ _ (all_free l.1) (λ f. ok _))))
 
-pub export_free : (body : List ℕ) → IsFree (Bodies.export_of body)
+pub export_free : (v : ℕ) (body : List ℕ) → IsFree (Bodies.export_of v body)
 unfolding Bodies.export_of
-export_free body = bound _ _ (counted_free body) (λ n. bound _ _ (number_free 4 n.1) (λ l. bound _ _ (all_free l.1) (λ f. ok _)))
+export_free v body = bound _ _ (counted_free body) (λ n. bound _ _ (origin_free v n.1) (λ l. bound _ _ (all_free l.1) (λ f. ok _)))
 
-pub assert_free : (body : List ℕ) → IsFree (Bodies.assert_of body)
+pub assert_free : (v : ℕ) (body : List ℕ) → IsFree (Bodies.assert_of v body)
 unfolding Bodies.assert_of
-assert_free body = bound _ _ (number_free 1 body) (λ c. bound _ _ (action_free c.0) (λ a. bound _ _ (number_free 4 c.1) (λ l. bound _ _ (counted_free l.1) (λ t. bound _ _ (all_free t.1) (λ f. ok _)))))
+assert_free v body = bound _ _ (number_free 1 body) (λ c. bound _ _ (action_free c.0) (λ a. bound _ _ (origin_free v c.1) (λ l. bound _ _ (counted_free l.1) (λ t. bound _ _ (all_free t.1) (λ f. ok _)))))

@@ -1,5 +1,6 @@
 -- An object of the grammar has small parts.
-use Rattle.std.proofs.Common.{◌≡◌, ℕ, List, [], ◌∷◌, length, map, Bool, true, false, ◌&&◌, not, nat_lt, nat_le, refl}
+use Rattle.std.proofs.Common.{◌≡◌, ℕ, List, [], ◌∷◌, length, map, Bool, true, false, ◌&&◌, not, nat_lt, nat_le, ◌==◌, if◌then◌else◌, arith, refl}
+use Rattle.std.proofs.lemmas.Bool.Decides.{nat_tests}
 use Rattle.std.specs.List.{list_all}
 use Rattle.object65.specs.declared.object.Object.{Object}
 use Rattle.object65.specs.declared.object.Section.{Section}
@@ -9,8 +10,9 @@ use Rattle.object65.specs.declared.object.Fragment.{Fragment}
 use Rattle.object65.specs.declared.object.Fragment.TheVariants.{Literal, Fill, Value}
 use Rattle.object65.specs.Folding.{is_normal, is_within, is_literal}
 use Rattle.object65.specs.Form.{Form}
-use Rattle.object65.specs.Objects.{is_name, is_printed, is_among, are_names, is_good_form, is_good_fragment, is_good_section, is_good_assert, is_good_object, are_apart, section_len, section_limit}
-use Rattle.object65.specs.Small.{is_small_text, is_small_form, is_small_fragment, is_small_section, is_small_export, is_small_assert}
+use Rattle.object65.specs.Objects.{is_name, is_printed, is_among, are_names, is_good_form, is_good_fragment, is_good_section, is_good_assert, is_good_object, are_apart, are_file_names, are_files_of, file_name_limit, has_good_origin, has_good_origins, has_good_parts, is_good_origin, section_len, section_limit}
+use Rattle.object65.specs.Record.{is_version}
+use Rattle.object65.specs.Small.{is_small_file, is_small_text, is_small_form, is_small_fragment, is_small_section, is_small_export, is_small_assert}
 
 -- what holds of two holds of each
 pub left : (a b : Bool) → (a && b) ≡ true → a ≡ true
@@ -49,7 +51,7 @@ good_form_small s i f e = right (is_within s i f && is_normal f) (is_small_form 
 good_fragment_small : (s i : ℕ) (f : Fragment) → is_good_fragment s i f ≡ true → is_small_fragment f ≡ true
 good_fragment_small s i (Literal bytes) e = refl
 good_fragment_small s i (Fill n) e = refl
-good_fragment_small s i (Value width line form) e = good_form_small s i form (left (is_good_form s i form) (not (is_literal form)) e)
+good_fragment_small s i (Value width origin form) e = good_form_small s i form (left (is_good_form s i form) (not (is_literal form)) e)
 
 good_section_small : (s i : ℕ) (x : Section) → is_small_text x.name ≡ true → is_good_section s i x ≡ true → is_small_section x ≡ true
 good_section_small s i x name e =
@@ -82,6 +84,11 @@ good_assert_small s i a e =
 
 -- the parts of an object of the grammar
 pub record Parts (o : Object) : Type 0 where
+  pub version : is_version o.version ≡ true
+  pub files : are_files_of o.version o.files ≡ true
+  pub values : list_all (λ s. list_all (has_good_origin o.version (length o.files)) s.fragments) o.sections ≡ true
+  pub export_origins : list_all (λ e. is_good_origin o.version (length o.files) e.origin) o.exports ≡ true
+  pub assert_origins : list_all (λ a. is_good_origin o.version (length o.files) a.origin) o.asserts ≡ true
   pub imports : are_names o.imports ≡ true
   pub section_names : are_names (map (λ s. s.name) o.sections) ≡ true
   pub export_names : are_names (map (λ e. e.name) o.exports) ≡ true
@@ -99,18 +106,46 @@ parts o e =
     let d = list_all (is_good_section s i) o.sections in
     let f = list_all (λ x. is_good_form s i x.form) o.exports in
     let g = list_all (is_good_assert s i) o.asserts in
-    let e4 = left (a && b && c && d && f) g e in
+    let values = list_all (λ x. list_all (has_good_origin o.version (length o.files)) x.fragments) o.sections in
+    let said = list_all (λ x. is_good_origin o.version (length o.files) x.origin) o.exports in
+    let asked = list_all (λ x. is_good_origin o.version (length o.files) x.origin) o.asserts in
+    let front = left (is_version o.version && are_files_of o.version o.files && has_good_origins o) (has_good_parts o) e in
+    let whole = right (is_version o.version && are_files_of o.version o.files && has_good_origins o) (has_good_parts o) e in
+    let heads = left (is_version o.version && are_files_of o.version o.files) (has_good_origins o) front in
+    let origins = right (is_version o.version && are_files_of o.version o.files) (has_good_origins o) front in
+    let e4 = left (a && b && c && d && f) g whole in
     let e3 = left (a && b && c && d) f e4 in
     let e2 = left (a && b && c) d e3 in
     let e1 = left (a && b) c e2 in
     record {
+      version = left (is_version o.version) (are_files_of o.version o.files) heads;
+      files = right (is_version o.version) (are_files_of o.version o.files) heads;
+      values = left values said (left (values && said) asked origins);
+      export_origins = right values said (left (values && said) asked origins);
+      assert_origins = right (values && said) asked origins;
       imports = left a b e1;
       section_names = right a b e1;
       export_names = right (a && b) c e2;
       sections = right (a && b && c) d e3;
       exports = right (a && b && c && d) f e4;
-      asserts = right (a && b && c && d && f) g e;
+      asserts = right (a && b && c && d && f) g whole;
     }
+
+pub small_names_of : (names : List (List ℕ)) → are_file_names names ≡ true → list_all is_small_file names ≡ true
+small_names_of [] e = refl
+small_names_of (name ∷ names) e =
+    let front = left (is_small_file name && not (is_among names name)) (are_file_names names) e in
+    and (is_small_file name) (list_all is_small_file names) (left (is_small_file name) (not (is_among names name)) front) (small_names_of names (right (is_small_file name && not (is_among names name)) (are_file_names names) e))
+
+pub small_files : (version : ℕ) (files : List (List ℕ)) → are_files_of version files ≡ true → list_all is_small_file files ≡ true
+small_files version files e = go (version == 1) files e where
+  go : (b : Bool) (files : List (List ℕ)) → (if b then length files == 0 else are_file_names files) ≡ true → list_all is_small_file files ≡ true
+  go true [] e = refl
+  go true (name ∷ files) e = let some : (length (name ∷ files) == 0) ≡ false = grind (arith, nat_tests) in cc
+  go false files e = small_names_of files e
+
+pub good_files : (o : Object) → is_good_object o ≡ true → list_all is_small_file o.files ≡ true
+good_files o e = small_files o.version o.files (parts o e).files
 
 pub good_imports : (o : Object) → is_good_object o ≡ true → list_all is_small_text o.imports ≡ true
 good_imports o e = small_names o.imports (parts o e).imports

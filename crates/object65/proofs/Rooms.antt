@@ -37,22 +37,17 @@ room_on bytes at n limit =
     let less : limit - (at + n) ≡ limit - at - n = omega arith in
     rw (less, ← drop-drop n at bytes) (sym (drop_taken n (limit - at) (drop at bytes)))
 
-front_takes : (xs : List ℕ) (f : ℕ × ℕ) → IsBytes xs → front_of (take 3 xs) ≡ Ok f → (xs ≡ f.0 ∷ (little_bytes 2 f.1 ++ drop 3 xs)) × (is_record_kind f.0 ≡ true) × (f.1 ≤ body_limit)
-front_takes [] f bytes e = cc
-front_takes (a ∷ []) f bytes e = cc
-front_takes (a ∷ b ∷ []) f bytes e = cc
-front_takes (a ∷ b ∷ c ∷ xs) f bytes e =
-    let k = passes (not (is_record_kind a)) UnknownRecord _ _ e in
+front_takes : (v : ℕ) (xs : List ℕ) (f : ℕ × ℕ) → IsBytes xs → front_of v (take 3 xs) ≡ Ok f → (xs ≡ f.0 ∷ (little_bytes 2 f.1 ++ drop 3 xs)) × (f.1 ≤ body_limit)
+front_takes v [] f bytes e = cc
+front_takes v (a ∷ []) f bytes e = cc
+front_takes v (a ∷ b ∷ []) f bytes e = cc
+front_takes v (a ∷ b ∷ c ∷ xs) f bytes e =
+    let k = passes (not (is_record_kind v a)) UnknownRecord _ _ e in
     let l = passes (nat_lt 4096 (little_number 2 (b ∷ c ∷ []))) BadSize _ _ k.1 in
     let is : (a, little_number 2 (b ∷ c ∷ [])) ≡ f = cc (l.1) in (
       rw (← is) (ap (λ ys. a ∷ (ys ++ xs)) (sym (two_bytes b c (bytes 1) (bytes 2)))),
-      rw (← is) (turned (is_record_kind a) k.0),
       rw (← is) (ltb-false _ _ l.0),
     )
-  where
-    turned : (b : Bool) → not b ≡ false → b ≡ true
-    turned true e = refl
-    turned false e = cc
 
 taken_all : (n : ℕ) (xs : List ℕ) → nat_lt (length (take n xs)) n ≡ false → length (take n xs) ≡ n
 taken_all n xs h = omega (arith, ltb-false _ _ h, length-take n xs)
@@ -60,12 +55,11 @@ taken_all n xs h = omega (arith, ltb-false _ _ h, length-take n xs)
 -- what a record that is read has taken of the room
 pub record TakesRecord (bytes : List ℕ) (at limit : ℕ) (x : Entry × ℕ) : Type 0 where
   pub spelled : room bytes at limit ≡ entry_bytes x.0 ++ room bytes x.1 limit
-  pub kind : is_record_kind x.0.kind ≡ true
   pub short : length x.0.body ≤ body_limit
 
-joined : (bytes : List ℕ) (at limit : ℕ) (f : ℕ × ℕ) (body : List ℕ) (x : Entry × ℕ) → IsBytes (room bytes at limit) → front_of (take 3 (room bytes at limit)) ≡ Ok f → whole f.1 (take f.1 (room bytes (at + 3) limit)) ≡ Ok body → ending at f.0 f.1 body ≡ Ok x → TakesRecord bytes at limit x
-joined bytes at limit f body x is e g h =
-    let front = front_takes (room bytes at limit) f is e in
+joined : (v : ℕ) (bytes : List ℕ) (at limit : ℕ) (f : ℕ × ℕ) (body : List ℕ) (x : Entry × ℕ) → IsBytes (room bytes at limit) → front_of v (take 3 (room bytes at limit)) ≡ Ok f → whole f.1 (take f.1 (room bytes (at + 3) limit)) ≡ Ok body → ending at f.0 f.1 body ≡ Ok x → TakesRecord bytes at limit x
+joined v bytes at limit f body x is e g h =
+    let front = front_takes v (room bytes at limit) f is e in
     let w = passes (nat_lt (length (take f.1 (room bytes (at + 3) limit))) f.1) CutShort _ _ g in
     let body_is : body ≡ take f.1 (room bytes (at + 3) limit) = sym (cc (w.1)) in
     let len : length body ≡ f.1 = ap length body_is ∙ taken_all f.1 (room bytes (at + 3) limit) w.0 in
@@ -75,19 +69,18 @@ joined bytes at limit f body x is e g h =
     sym (room_on bytes at 3 limit) ∙ sym (take-append-drop f.1 (room bytes (at + 3) limit)) ∙ rw (← body_is, ← room_on bytes (at + 3) f.1 limit) refl in
     rw (← x_is) (record {
       spelled = front.0 ∙ ap (λ ys. f.0 ∷ (little_bytes 2 f.1 ++ ys)) after ∙ ap (λ n. f.0 ∷ (little_bytes 2 n ++ (body ++ room bytes (at + 3 + f.1) limit))) (sym len);
-      kind = front.1;
-      short = omega (arith, len, front.2);
+      short = omega (arith, len, front.1);
     })
 
-pub record_takes : (bytes : List ℕ) (at limit : ℕ) (x : Entry × ℕ) → IsBytes (room bytes at limit) → record_at at limit bytes ≡ Ok x → TakesRecord bytes at limit x
+pub record_takes : (v : ℕ) (bytes : List ℕ) (at limit : ℕ) (x : Entry × ℕ) → IsBytes (room bytes at limit) → record_at v at limit bytes ≡ Ok x → TakesRecord bytes at limit x
 unfolding record_at
-record_takes bytes at limit x is e =
-    let f = bound (front_of (take 3 (room bytes at limit))) _ _ e in
+record_takes v bytes at limit x is e =
+    let f = bound (front_of v (take 3 (room bytes at limit))) _ _ e in
     let b = bound (whole f.0.1 (take f.0.1 (room bytes (at + 3) limit))) _ _ f.2 in
-    joined bytes at limit f.0 b.0 x is f.1 b.1 b.2
+    joined v bytes at limit f.0 b.0 x is f.1 b.1 b.2
 
-front_again : (kind n : ℕ) (ys : List ℕ) → is_record_kind kind ≡ true → n ≤ body_limit → front_of (take 3 (kind ∷ (little_bytes 2 n ++ ys))) ≡ Ok (kind, n)
-front_again kind n ys known short =
+front_again : (v kind n : ℕ) (ys : List ℕ) → is_record_kind v kind ≡ true → n ≤ body_limit → front_of v (take 3 (kind ∷ (little_bytes 2 n ++ ys))) ≡ Ok (kind, n)
+front_again v kind n ys known short =
     let number : little_number 2 (little_bytes 2 n) ≡ n = back 2 n [] (omega arith) in
     let within : nat_lt body_limit n ≡ false = grind (arith, nat_tests) in
     rw (known, number, within) refl
@@ -99,12 +92,12 @@ whole_again body rest =
     rw (all, enough) refl
 
 -- a record that stands in the room is read, and what follows it is left
-pub record_again : (bytes : List ℕ) (at limit : ℕ) (e : Entry) (rest : List ℕ) → room bytes at limit ≡ entry_bytes e ++ rest → is_record_kind e.kind ≡ true → length e.body ≤ body_limit → at + 3 + length e.body ≤ file_limit → (record_at at limit bytes ≡ Ok (e, at + 3 + length e.body)) × (room bytes (at + 3 + length e.body) limit ≡ rest)
+pub record_again : (v : ℕ) (bytes : List ℕ) (at limit : ℕ) (e : Entry) (rest : List ℕ) → room bytes at limit ≡ entry_bytes e ++ rest → is_record_kind v e.kind ≡ true → length e.body ≤ body_limit → at + 3 + length e.body ≤ file_limit → (record_at v at limit bytes ≡ Ok (e, at + 3 + length e.body)) × (room bytes (at + 3 + length e.body) limit ≡ rest)
 unfolding record_at
-record_again bytes at limit e rest is known short within =
+record_again v bytes at limit e rest is known short within =
     let n = length e.body in
     let inside : room bytes at limit ≡ e.kind ∷ (little_bytes 2 n ++ (e.body ++ rest)) = is in
-    let front : front_of (take 3 (room bytes at limit)) ≡ Ok (e.kind, n) = ap (λ xs. front_of (take 3 xs)) inside ∙ front_again e.kind n (e.body ++ rest) known short in
+    let front : front_of v (take 3 (room bytes at limit)) ≡ Ok (e.kind, n) = ap (λ xs. front_of v (take 3 xs)) inside ∙ front_again v e.kind n (e.body ++ rest) known short in
     let after : room bytes (at + 3) limit ≡ e.body ++ rest = room_on bytes at 3 limit ∙ ap (drop 3) inside in
     let body : whole n (take n (room bytes (at + 3) limit)) ≡ Ok e.body = ap (λ xs. whole n (take n xs)) after ∙ whole_again e.body rest in
     let end : nat_lt file_limit (at + 3 + n) ≡ false = grind (arith, nat_tests) in

@@ -1,5 +1,5 @@
 -- The records of an object are of known kinds, and no body is too long.
-use Rattle.std.proofs.Common.{◌≡◌, ℕ, zero, suc, ◌+◌, ◌/◌, ◌≤◌, List, [], ◌∷◌, ◌++◌, length, drop, map, Bool, true, ◌&&◌, refl, arith, length-append}
+use Rattle.std.proofs.Common.{◌≡◌, ℕ, zero, suc, ◌+◌, ◌/◌, ◌≤◌, List, [], ◌∷◌, ◌++◌, length, drop, map, Bool, true, false, ◌&&◌, ◌==◌, if◌then◌else◌, refl, ap, arith, length-append}
 use Rattle.std.proofs.lemmas.List.{length-take}
 use Rattle.std.specs.List.{flat_map, list_all, AllByRecursion}
 use Rattle.byteorder.specs.Endian.{little_bytes}
@@ -10,78 +10,99 @@ use Rattle.object65.specs.declared.object.Fragment.{Fragment}
 use Rattle.object65.specs.declared.object.Fragment.TheVariants.{Literal, Fill, Value}
 use Rattle.object65.specs.declared.object.Object.{Object}
 use Rattle.object65.specs.declared.object.Section.{Section}
-use Rattle.object65.specs.Objects.{is_good_object, section_len, section_limit}
+use Rattle.object65.specs.Objects.{are_file_names, are_files_of, is_good_object, section_len, section_limit}
 use Rattle.object65.specs.Record.{Entry, is_record_kind}
-use Rattle.object65.specs.Small.{is_small_text, is_small_fragment, is_small_section, is_small_export, is_small_assert}
-use Rattle.object65.specs.Spelling.{entries_of, import_entry, section_entry, fragment_entries, literal_entry, export_entry, assert_entry, end_entry, pieces, form_bytes, body_limit}
-use Rattle.object65.proofs.Forms.{small_text, small_form, small_export, small_assert}
-use Rattle.object65.proofs.Goods.{left, right, good_imports, good_sections, good_exports, good_asserts}
+use Rattle.object65.specs.Small.{is_small_file, is_small_text, is_small_fragment, is_small_section, is_small_export, is_small_assert}
+use Rattle.object65.specs.Spelling.{entries_of, file_entry, import_entry, origin_bytes, section_entry, fragment_entries, literal_entry, export_entry, assert_entry, end_entry, pieces, form_bytes, body_limit}
+use Rattle.object65.proofs.Forms.{origin_len, small_text, small_form, small_export, small_assert}
+use Rattle.object65.proofs.Goods.{left, right, parts, small_names_of, good_imports, good_sections, good_exports, good_asserts}
 use Rattle.std.specs.Prelude.{nat_le}
+use Rattle.std.proofs.lemmas.Bool.Decides.{nat_tests}
 
-abbrev pub IsShortEntry : Entry → Type 0
-IsShortEntry e = (is_record_kind e.kind ≡ true) × (length e.body ≤ body_limit)
+-- a record that an object of this version may have
+abbrev pub IsShortEntry : ℕ → Entry → Type 0
+IsShortEntry v e = (is_record_kind v e.kind ≡ true) × (length e.body ≤ body_limit)
+
+-- the kinds of both versions
+kinds : (v k : ℕ) → 1 ≤ k → k ≤ 8 → is_record_kind v k ≡ true
+kinds v k low high = go (v == 1) where
+  go : (b : Bool) → (nat_le 1 k && nat_le k (if b then 8 else 9)) ≡ true
+  go true = grind (arith, nat_tests)
+  go false = grind (arith, nat_tests)
 
 both_all : {X : Type 0} (P : X → Type 0) (xs ys : List X) → AllByRecursion P xs → AllByRecursion P ys → AllByRecursion P (xs ++ ys)
 both_all P [] ys a b = b
 both_all P (x ∷ xs) ys a b = (a.0, both_all P xs ys a.1 b)
 
 -- what each of some small things is spelled by
-all_short : {X : Type 0} (small : X → Bool) (f : X → Entry) (xs : List X) → ((x : X) → small x ≡ true → IsShortEntry (f x)) → list_all small xs ≡ true → AllByRecursion IsShortEntry (map f xs)
-all_short small f [] h e = tt
-all_short small f (x ∷ xs) h e = (h x (left (small x) (list_all small xs) e), all_short small f xs h (right (small x) (list_all small xs) e))
+all_short : (v : ℕ) {X : Type 0} (small : X → Bool) (f : X → Entry) (xs : List X) → ((x : X) → small x ≡ true → IsShortEntry v (f x)) → list_all small xs ≡ true → AllByRecursion (IsShortEntry v) (map f xs)
+all_short v small f [] h e = tt
+all_short v small f (x ∷ xs) h e = (h x (left (small x) (list_all small xs) e), all_short v small f xs h (right (small x) (list_all small xs) e))
 
-import_short : (name : List ℕ) → is_small_text name ≡ true → IsShortEntry (import_entry name)
-import_short name small = (refl, omega (arith, small_text name small))
+import_short : (v : ℕ) (name : List ℕ) → is_small_text name ≡ true → IsShortEntry v (import_entry name)
+import_short v name small = (kinds v 1 (omega arith) (omega arith), omega (arith, small_text name small))
 
-section_short : (s : Section) → is_small_section s ≡ true → IsShortEntry (section_entry s)
-section_short s small =
+section_short : (v : ℕ) (s : Section) → is_small_section s ≡ true → IsShortEntry v (section_entry s)
+section_short v s small =
     let name = left (is_small_text s.name) (nat_le (section_len s) section_limit) (left (is_small_text s.name && nat_le (section_len s) section_limit) (list_all is_small_fragment s.fragments) small) in
-    (refl, omega (arith, length-append (little_bytes 4 (section_len s)) (s.align ∷ s.name), length-bytes_low_first 0 4 (section_len s), small_text s.name name))
+    (kinds v 2 (omega arith) (omega arith), omega (arith, length-append (little_bytes 4 (section_len s)) (s.align ∷ s.name), length-bytes_low_first 0 4 (section_len s), small_text s.name name))
 
-export_short : (x : Export) → is_small_export x ≡ true → IsShortEntry (export_entry x)
-export_short x small =
+export_short : (v : ℕ) (x : Export) → is_small_export x ≡ true → IsShortEntry v (export_entry x)
+export_short v x small =
     let parts = small_export x small in
-    (refl, omega (arith, length-append (x.name ++ little_bytes 4 x.line) (form_bytes x.form), length-append x.name (little_bytes 4 x.line), length-bytes_low_first 0 4 x.line, parts.0, parts.1))
+    (kinds v 6 (omega arith) (omega arith), omega (arith, length-append (x.name ++ origin_bytes x.origin) (form_bytes x.form), length-append x.name (origin_bytes x.origin), origin_len x.origin, parts.0, parts.1))
 
-assert_short : (x : Assert) → is_small_assert x ≡ true → IsShortEntry (assert_entry x)
-assert_short x small =
+assert_short : (v : ℕ) (x : Assert) → is_small_assert x ≡ true → IsShortEntry v (assert_entry x)
+assert_short v x small =
     let parts = small_assert x small in
-    (refl, omega (arith, length-append (little_bytes 4 x.line) (length x.text ∷ (x.text ++ form_bytes x.form)), length-append x.text (form_bytes x.form), length-bytes_low_first 0 4 x.line, parts.0, parts.1))
+    (kinds v 7 (omega arith) (omega arith), omega (arith, length-append (origin_bytes x.origin) (length x.text ∷ (x.text ++ form_bytes x.form)), length-append x.text (form_bytes x.form), origin_len x.origin, parts.0, parts.1))
 
-pieces_short : (n : ℕ) (bytes : List ℕ) → AllByRecursion IsShortEntry (map literal_entry (pieces n bytes))
-pieces_short zero bytes = tt
-pieces_short (suc n) bytes = ((refl, omega (arith, length-take body_limit bytes)), pieces_short n (drop body_limit bytes))
+pieces_short : (v : ℕ) (n : ℕ) (bytes : List ℕ) → AllByRecursion (IsShortEntry v) (map literal_entry (pieces n bytes))
+pieces_short v zero bytes = tt
+pieces_short v (suc n) bytes = ((kinds v 3 (omega arith) (omega arith), omega (arith, length-take body_limit bytes)), pieces_short v n (drop body_limit bytes))
 
-fragment_short : (f : Fragment) → is_small_fragment f ≡ true → AllByRecursion IsShortEntry (fragment_entries f)
-fragment_short (Literal bytes) small = pieces_short ((length bytes + 4095) / body_limit) bytes
-fragment_short (Fill n) small = ((refl, omega (arith, length-bytes_low_first 0 4 n)), tt)
-fragment_short (Value width line form) small = ((refl, omega (arith, length-append (little_bytes 4 line) (form_bytes form), length-bytes_low_first 0 4 line, small_form form small)), tt)
+fragment_short : (v : ℕ) (f : Fragment) → is_small_fragment f ≡ true → AllByRecursion (IsShortEntry v) (fragment_entries f)
+fragment_short v (Literal bytes) small = pieces_short v ((length bytes + 4095) / body_limit) bytes
+fragment_short v (Fill n) small = ((kinds v 4 (omega arith) (omega arith), omega (arith, length-bytes_low_first 0 4 n)), tt)
+fragment_short v (Value width origin form) small = ((kinds v 5 (omega arith) (omega arith), omega (arith, length-append (origin_bytes origin) (form_bytes form), origin_len origin, small_form form small)), tt)
 
-fragments_short : (fs : List Fragment) → list_all is_small_fragment fs ≡ true → AllByRecursion IsShortEntry (flat_map fragment_entries fs)
-fragments_short [] small = tt
-fragments_short (f ∷ fs) small = both_all IsShortEntry (fragment_entries f) (flat_map fragment_entries fs) (fragment_short f (left (is_small_fragment f) (list_all is_small_fragment fs) small)) (fragments_short fs (right (is_small_fragment f) (list_all is_small_fragment fs) small))
+fragments_short : (v : ℕ) (fs : List Fragment) → list_all is_small_fragment fs ≡ true → AllByRecursion (IsShortEntry v) (flat_map fragment_entries fs)
+fragments_short v [] small = tt
+fragments_short v (f ∷ fs) small = both_all (IsShortEntry v) (fragment_entries f) (flat_map fragment_entries fs) (fragment_short v f (left (is_small_fragment f) (list_all is_small_fragment fs) small)) (fragments_short v fs (right (is_small_fragment f) (list_all is_small_fragment fs) small))
 
-contents_short : (ss : List Section) → list_all is_small_section ss ≡ true → AllByRecursion IsShortEntry (flat_map (λ (s : Section). flat_map fragment_entries s.fragments) ss)
-contents_short [] small = tt
-contents_short (s ∷ ss) small =
+contents_short : (v : ℕ) (ss : List Section) → list_all is_small_section ss ≡ true → AllByRecursion (IsShortEntry v) (flat_map (λ (s : Section). flat_map fragment_entries s.fragments) ss)
+contents_short v [] small = tt
+contents_short v (s ∷ ss) small =
     let one = left (is_small_section s) (list_all is_small_section ss) small in
-    both_all IsShortEntry (flat_map fragment_entries s.fragments) (flat_map (λ (x : Section). flat_map fragment_entries x.fragments) ss)
-    (fragments_short s.fragments (right (is_small_text s.name && nat_le (section_len s) section_limit) (list_all is_small_fragment s.fragments) one))
-    (contents_short ss (right (is_small_section s) (list_all is_small_section ss) small))
+    both_all (IsShortEntry v) (flat_map fragment_entries s.fragments) (flat_map (λ (x : Section). flat_map fragment_entries x.fragments) ss)
+    (fragments_short v s.fragments (right (is_small_text s.name && nat_le (section_len s) section_limit) (list_all is_small_fragment s.fragments) one))
+    (contents_short v ss (right (is_small_section s) (list_all is_small_section ss) small))
 
-pub short_entries : (o : Object) → is_good_object o ≡ true → AllByRecursion IsShortEntry (entries_of o)
+-- version 1 has no files
+files_short : (v : ℕ) (files : List (List ℕ)) → are_files_of v files ≡ true → AllByRecursion (IsShortEntry v) (map file_entry files)
+files_short v files good = go (v == 1) refl files good where
+  go : (b : Bool) → (v == 1) ≡ b → (files : List (List ℕ)) → (if b then length files == 0 else are_file_names files) ≡ true → AllByRecursion (IsShortEntry v) (map file_entry files)
+  go true is [] e = tt
+  go true is (name ∷ files) e = let some : (length (name ∷ files) == 0) ≡ false = grind (arith, nat_tests) in cc
+  go false is files e = all_short v is_small_file file_entry files (λ name small. (ap (λ b. nat_le 9 (if b then 8 else 9)) is, (let t = small in grind (arith, nat_tests)))) (small_names_of files e)
+
+pub short_entries : (o : Object) → is_good_object o ≡ true → AllByRecursion (IsShortEntry o.version) (entries_of o)
 short_entries o good =
+    let v = o.version in
+    let z = map file_entry o.files in
     let a = map import_entry o.imports in
     let b = map section_entry o.sections in
     let c = flat_map (λ (s : Section). flat_map fragment_entries s.fragments) o.sections in
     let d = map export_entry o.exports in
     let f = map assert_entry o.asserts in
-    both_all IsShortEntry ((((a ++ b) ++ c) ++ d) ++ f) (end_entry ∷ [])
-    (both_all IsShortEntry (((a ++ b) ++ c) ++ d) f
-    (both_all IsShortEntry ((a ++ b) ++ c) d
-    (both_all IsShortEntry (a ++ b) c
-    (both_all IsShortEntry a b (all_short is_small_text import_entry o.imports import_short (good_imports o good)) (all_short is_small_section section_entry o.sections section_short (good_sections o good)))
-    (contents_short o.sections (good_sections o good)))
-    (all_short is_small_export export_entry o.exports export_short (good_exports o good)))
-    (all_short is_small_assert assert_entry o.asserts assert_short (good_asserts o good)))
-    ((refl, omega arith), tt)
+    both_all (IsShortEntry v) z (((((a ++ b) ++ c) ++ d) ++ f) ++ end_entry ∷ [])
+    (files_short v o.files (parts o good).files)
+    (both_all (IsShortEntry v) ((((a ++ b) ++ c) ++ d) ++ f) (end_entry ∷ [])
+    (both_all (IsShortEntry v) (((a ++ b) ++ c) ++ d) f
+    (both_all (IsShortEntry v) ((a ++ b) ++ c) d
+    (both_all (IsShortEntry v) (a ++ b) c
+    (both_all (IsShortEntry v) a b (all_short v is_small_text import_entry o.imports (import_short v) (good_imports o good)) (all_short v is_small_section section_entry o.sections (section_short v) (good_sections o good)))
+    (contents_short v o.sections (good_sections o good)))
+    (all_short v is_small_export export_entry o.exports (export_short v) (good_exports o good)))
+    (all_short v is_small_assert assert_entry o.asserts (assert_short v) (good_asserts o good)))
+    ((kinds v 8 (omega arith) (omega arith), omega arith), tt))

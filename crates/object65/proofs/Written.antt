@@ -39,20 +39,20 @@ one_more_written f xs i x old out new within is kept added =
     ∙ ap (λ ys. flat_map entry_bytes (map f (take i xs)) ++ ys) (nil (entry_bytes (f x))) in
     added ∙ ap (λ ys. ys ++ entry_bytes (f x)) kept ∙ append_assoc old (flat_map entry_bytes (map f (take i xs))) (entry_bytes (f x)) ∙ ap (λ ys. old ++ ys) (sym all)
 
-regroup : (old h a b c d e z : List ℕ) → (((((((old ++ h) ++ a) ++ b) ++ c) ++ d) ++ e) ++ z) ≡ old ++ (h ++ (((((a ++ b) ++ c) ++ d) ++ e) ++ z))
-regroup old h a b c d e z = simp append_assoc
+regroup : (old h y a b c d e z : List ℕ) → ((((((((old ++ h) ++ y) ++ a) ++ b) ++ c) ++ d) ++ e) ++ z) ≡ old ++ (h ++ (y ++ (((((a ++ b) ++ c) ++ d) ++ e) ++ z)))
+regroup old h y a b c d e z = simp append_assoc
 
-spread : (a b c d e z : List Entry) → flat_map entry_bytes (((((a ++ b) ++ c) ++ d) ++ e) ++ z) ≡ ((((flat_map entry_bytes a ++ flat_map entry_bytes b) ++ flat_map entry_bytes c) ++ flat_map entry_bytes d) ++ flat_map entry_bytes e) ++ flat_map entry_bytes z
-spread a b c d e z = simp flat_map-append
+spread : (y a b c d e z : List Entry) → flat_map entry_bytes (y ++ (((((a ++ b) ++ c) ++ d) ++ e) ++ z)) ≡ flat_map entry_bytes y ++ (((((flat_map entry_bytes a ++ flat_map entry_bytes b) ++ flat_map entry_bytes c) ++ flat_map entry_bytes d) ++ flat_map entry_bytes e) ++ flat_map entry_bytes z)
+spread y a b c d e z = simp flat_map-append
 
 -- all records of an object, kind by kind
-pub written_object : (old h o0 o1 o2 o3 o4 o5 new : List ℕ) (a b c d e : List Entry) (z : Entry) → o0 ≡ old ++ h → o1 ≡ o0 ++ flat_map entry_bytes a → o2 ≡ o1 ++ flat_map entry_bytes b → o3 ≡ o2 ++ flat_map entry_bytes c → o4 ≡ o3 ++ flat_map entry_bytes d → o5 ≡ o4 ++ flat_map entry_bytes e → new ≡ o5 ++ entry_bytes z → new ≡ old ++ (h ++ flat_map entry_bytes (((((a ++ b) ++ c) ++ d) ++ e) ++ z ∷ []))
-written_object old h o0 o1 o2 o3 o4 o5 new a b c d e z p0 p1 p2 p3 p4 p5 last =
+pub written_object : (old h oy o0 o1 o2 o3 o4 o5 new : List ℕ) (y a b c d e : List Entry) (z : Entry) → oy ≡ old ++ h → o0 ≡ oy ++ flat_map entry_bytes y → o1 ≡ o0 ++ flat_map entry_bytes a → o2 ≡ o1 ++ flat_map entry_bytes b → o3 ≡ o2 ++ flat_map entry_bytes c → o4 ≡ o3 ++ flat_map entry_bytes d → o5 ≡ o4 ++ flat_map entry_bytes e → new ≡ o5 ++ entry_bytes z → new ≡ old ++ (h ++ flat_map entry_bytes (y ++ (((((a ++ b) ++ c) ++ d) ++ e) ++ z ∷ [])))
+written_object old h oy o0 o1 o2 o3 o4 o5 new y a b c d e z py p0 p1 p2 p3 p4 p5 last =
     last
-    ∙ ap (λ xs. xs ++ entry_bytes z) (p5 ∙ ap (λ xs. xs ++ flat_map entry_bytes e) (p4 ∙ ap (λ xs. xs ++ flat_map entry_bytes d) (p3 ∙ ap (λ xs. xs ++ flat_map entry_bytes c) (p2 ∙ ap (λ xs. xs ++ flat_map entry_bytes b) (p1 ∙ ap (λ xs. xs ++ flat_map entry_bytes a) p0)))))
-    ∙ regroup old h (flat_map entry_bytes a) (flat_map entry_bytes b) (flat_map entry_bytes c) (flat_map entry_bytes d) (flat_map entry_bytes e) (entry_bytes z)
-    ∙ ap (λ xs. old ++ (h ++ (((((flat_map entry_bytes a ++ flat_map entry_bytes b) ++ flat_map entry_bytes c) ++ flat_map entry_bytes d) ++ flat_map entry_bytes e) ++ xs))) (sym (nil (entry_bytes z)))
-    ∙ ap (λ xs. old ++ (h ++ xs)) (sym (spread a b c d e (z ∷ [])))
+    ∙ ap (λ xs. xs ++ entry_bytes z) (p5 ∙ ap (λ xs. xs ++ flat_map entry_bytes e) (p4 ∙ ap (λ xs. xs ++ flat_map entry_bytes d) (p3 ∙ ap (λ xs. xs ++ flat_map entry_bytes c) (p2 ∙ ap (λ xs. xs ++ flat_map entry_bytes b) (p1 ∙ ap (λ xs. xs ++ flat_map entry_bytes a) (p0 ∙ ap (λ xs. xs ++ flat_map entry_bytes y) py))))))
+    ∙ regroup old h (flat_map entry_bytes y) (flat_map entry_bytes a) (flat_map entry_bytes b) (flat_map entry_bytes c) (flat_map entry_bytes d) (flat_map entry_bytes e) (entry_bytes z)
+    ∙ ap (λ xs. old ++ (h ++ (flat_map entry_bytes y ++ (((((flat_map entry_bytes a ++ flat_map entry_bytes b) ++ flat_map entry_bytes c) ++ flat_map entry_bytes d) ++ flat_map entry_bytes e) ++ xs)))) (sym (nil (entry_bytes z)))
+    ∙ ap (λ xs. old ++ (h ++ xs)) (sym (spread y a b c d e (z ∷ [])))
 
 -- what all pass, each passes
 pub passes : {X : Type 0} (p : X → Bool) (xs : List X) (i : ℕ) (x : X) → i < length xs → x ≡ get_or xs i x → list_all p xs ≡ true → p x ≡ true

@@ -1,10 +1,11 @@
-use Rattle.object65.proofs.Goods.{good_imports, good_sections, good_exports, good_asserts}
+use Rattle.object65.proofs.Goods.{good_files, good_imports, good_sections, good_exports, good_asserts}
 use Rattle.object65.proofs.writing.write_object.Goals as goal
 
 pub put_object-requires : goal.put_object-requires
 put_object-requires c =
     let o = c.args.object.now in
     record {
+      files = good_files o c.requires;
       imports = good_imports o c.requires;
       sections = good_sections o c.requires;
       exports = good_exports o c.requires;

@@ -627,7 +627,9 @@ line_again line rest within = rw (number_again 4 line rest (omega (arith, within
 file_line_again : (k line : ℕ) (rest : List ℕ) → k < 2 ^ 32 → line < 2 ^ 32 → Bodies.file_line_at ((little_bytes 4 k ++ little_bytes 4 line) ++ rest) ≡ Ok (record { file = Some k; line = line }, rest)
 unfolding Bodies.file_line_at
 file_line_again k line rest file within =
-    rw (append_assoc (little_bytes 4 k) (little_bytes 4 line) rest, number_again 4 k (little_bytes 4 line ++ rest) (omega (arith, file)), number_again 4 line rest (omega (arith, within))) refl
+    ap Bodies.file_line_at (append_assoc (little_bytes 4 k) (little_bytes 4 line) rest)
+    ∙ ap (λ r. r >>= (λ x. Bodies.number_at 4 x.1 >>= (λ y. Ok (record { file = Some x.0; line = y.0 }, y.1)))) (number_again 4 k (little_bytes 4 line ++ rest) (omega (arith, file)))
+    ∙ ap (λ r. r >>= (λ y. Ok (record { file = Some k; line = y.0 }, y.1))) (number_again 4 line rest (omega (arith, within)))
 
 origin_again : (v : ℕ) (o : Origin) (rest : List ℕ) → has_file_by v o.file ≡ true → OriginFits o → Bodies.origin_at v (origin_bytes o ++ rest) ≡ Ok (o, rest)
 origin_again v o rest by fits = go o.file o.line by fits.0 fits.1 where

@@ -1,5 +1,6 @@
 -- What a record is asked for gives no fault of a store.
 use Rattle.std.proofs.Common.{◌≡◌, ℕ, zero, suc, ◌-◌, List, [], ◌∷◌, length, Bool, true, false, cond, not, ◌&&◌, ◌||◌, ◌==◌, nat_le, Option, Some, None, Result, Ok, Err}
+use Rattle.std.specs.Str.{is_utf8}
 use Rattle.byteorder.specs.Endian.{little_number}
 use Rattle.object65.specs.declared.object.Action.TheVariants as action
 use Rattle.object65.specs.declared.object.Width.TheVariants.{Byte, Word, HighFirst, Dword, Branch}
@@ -127,6 +128,9 @@ known_file_free n o = wants_index (has_file n o.file)
 
 pub known_free : (n i : ℕ) (f : Form) → IsFree (Scanning.known n i f)
 known_free n i f = wants_index (is_within n i f)
+
+pub file_free : (names : List (List ℕ)) (name : List ℕ) → IsFree (Scanning.new_file names name)
+file_free names name = wants_canonical (is_utf8 name && not (is_among names name))
 
 pub name_free : (names : List (List ℕ)) (name : List ℕ) → IsFree (Scanning.new_name names name)
 name_free names name = wants_canonical (is_name name && not (is_among names name))

@@ -10,9 +10,9 @@ use Rattle.object65.specs.declared.object.Fragment.{Fragment}
 use Rattle.object65.specs.declared.object.Fragment.TheVariants.{Literal, Fill, Value}
 use Rattle.object65.specs.Folding.{is_normal, is_within, is_literal}
 use Rattle.object65.specs.Form.{Form}
-use Rattle.object65.specs.Objects.{is_name, is_printed, is_among, are_names, is_good_form, is_good_fragment, is_good_section, is_good_assert, is_good_object, are_apart, are_file_names, are_files_of, file_name_limit, has_good_origin, has_good_origins, has_good_parts, is_good_origin, section_len, section_limit}
+use Rattle.object65.specs.Objects.{is_file_name, is_name, is_printed, is_among, are_names, is_good_form, is_good_fragment, is_good_section, is_good_assert, is_good_object, are_apart, are_distinct, are_files_of, has_good_origin, has_good_origins, has_good_parts, is_good_origin, section_len, section_limit}
 use Rattle.object65.specs.Record.{is_version}
-use Rattle.object65.specs.Small.{is_small_file, is_small_text, is_small_form, is_small_fragment, is_small_section, is_small_export, is_small_assert}
+use Rattle.object65.specs.Small.{is_small_text, is_small_form, is_small_fragment, is_small_section, is_small_export, is_small_assert}
 
 -- what holds of two holds of each
 pub left : (a b : Bool) → (a && b) ≡ true → a ≡ true
@@ -131,20 +131,20 @@ parts o e =
       asserts = right (a && b && c && d && f) g whole;
     }
 
-pub small_names_of : (names : List (List ℕ)) → are_file_names names ≡ true → list_all is_small_file names ≡ true
+pub small_names_of : (names : List (List ℕ)) → are_distinct is_file_name names ≡ true → list_all is_file_name names ≡ true
 small_names_of [] e = refl
 small_names_of (name ∷ names) e =
-    let front = left (is_small_file name && not (is_among names name)) (are_file_names names) e in
-    and (is_small_file name) (list_all is_small_file names) (left (is_small_file name) (not (is_among names name)) front) (small_names_of names (right (is_small_file name && not (is_among names name)) (are_file_names names) e))
+    let front = left (is_file_name name && not (is_among names name)) (are_distinct is_file_name names) e in
+    and (is_file_name name) (list_all is_file_name names) (left (is_file_name name) (not (is_among names name)) front) (small_names_of names (right (is_file_name name && not (is_among names name)) (are_distinct is_file_name names) e))
 
-pub small_files : (version : ℕ) (files : List (List ℕ)) → are_files_of version files ≡ true → list_all is_small_file files ≡ true
+pub small_files : (version : ℕ) (files : List (List ℕ)) → are_files_of version files ≡ true → list_all is_file_name files ≡ true
 small_files version files e = go (version == 1) files e where
-  go : (b : Bool) (files : List (List ℕ)) → (if b then length files == 0 else are_file_names files) ≡ true → list_all is_small_file files ≡ true
+  go : (b : Bool) (files : List (List ℕ)) → (if b then length files == 0 else are_distinct is_file_name files) ≡ true → list_all is_file_name files ≡ true
   go true [] e = refl
   go true (name ∷ files) e = let some : (length (name ∷ files) == 0) ≡ false = grind (arith, nat_tests) in cc
   go false files e = small_names_of files e
 
-pub good_files : (o : Object) → is_good_object o ≡ true → list_all is_small_file o.files ≡ true
+pub good_files : (o : Object) → is_good_object o ≡ true → list_all is_file_name o.files ≡ true
 good_files o e = small_files o.version o.files (parts o e).files
 
 pub good_imports : (o : Object) → is_good_object o ≡ true → list_all is_small_text o.imports ≡ true

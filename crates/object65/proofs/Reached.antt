@@ -1,5 +1,5 @@
 -- What the state behind a list of records says of them.
-use Rattle.std.proofs.Common.{◌≡◌, ◌∙◌, ℕ, ◌+◌, ◌-◌, ◌%◌, ◌^◌, ◌<◌, ◌≤◌, List, [], ◌∷◌, ◌++◌, length, drop, map, get_or, Bool, true, false, ◌&&◌, ◌||◌, not, nat_lt, nat_le, nat_eq, ◌==◌, if◌then◌else◌, Ok, refl, sym, ap, arith, append_assoc, length-append, ◌⊎◌, inl, inr, subst}
+use Rattle.std.proofs.Common.{◌≡◌, ◌∙◌, ℕ, zero, suc, Option, Some, None, ◌+◌, ◌-◌, ◌%◌, ◌^◌, ◌<◌, ◌≤◌, List, [], ◌∷◌, ◌++◌, length, drop, map, get_or, Bool, true, false, ◌&&◌, ◌||◌, not, nat_lt, nat_le, nat_eq, ◌==◌, if◌then◌else◌, Ok, refl, sym, ap, arith, append_assoc, length-append, ◌⊎◌, inl, inr, subst}
 use Rattle.std.proofs.lemmas.Bool.Decides.{nat_tests}
 use Rattle.std.proofs.lemmas.Grind.{flat_map-append}
 use Rattle.std.proofs.lemmas.List.Folds.{list_any-append, list_all-append}
@@ -7,6 +7,8 @@ use Rattle.std.proofs.lemmas.List.Sums.{sum_by-append}
 use Rattle.std.specs.Cmp.{nat_eq_equiv}
 use Rattle.std.specs.Cmp.Lexicographic.{pointwise, lists_equiv}
 use Rattle.std.specs.List.{flat_map, list_all, sum_by, AllByRecursion}
+use Rattle.std.specs.Prelude.{slice_get, slice_set}
+use Rattle.std.specs.Str.{is_utf8}
 use Rattle.byteorder.specs.Endian.{little_number, little_bytes}
 use Rattle.object65.specs.declared.draft.Draft.{Draft}
 use Rattle.object65.specs.declared.fault.ObjectFault.TheVariants.{BadSize, NotCanonical, IndexOutOfRange}
@@ -19,14 +21,14 @@ use Rattle.object65.specs.Bodies.{Heading, section_of, literal_of, fill_of, valu
 use Rattle.object65.specs.Bytes.{IsBytes}
 use Rattle.object65.specs.Folding.{is_within, is_normal, is_literal, node_limit}
 use Rattle.object65.specs.Form.{Form, nodes}
-use Rattle.object65.specs.Objects.{is_name, is_among, are_names, section_limit, fragment_len, width_len, is_good_form, is_good_fragment, joins, are_apart, FragmentFits, FitsBits}
-use Rattle.object65.specs.Record.{Entry}
+use Rattle.object65.specs.Objects.{is_name, is_among, are_distinct, are_files_of, are_names, has_file, has_file_by, has_good_origin, is_good_origin, section_limit, fragment_len, width_len, is_good_form, is_good_fragment, joins, are_apart, FragmentFits, FitsBits, OriginFits}
+use Rattle.object65.specs.Record.{Entry, is_version}
 use Rattle.object65.specs.Small.{is_small_text}
-use Rattle.object65.specs.Spelling.{import_entry, literal_entry, literal_entries, fragment_entries, export_entry, assert_entry, end_entry, body_limit}
-use Rattle.object65.specs.Items.{State, closed, grown, is_none, with_fragment, with_piece}
-use Rattle.object65.specs.Scanning.{canonical_open, ends_in_fill, is_fill, is_short, known, last_of, room_fill, room_for, room_literal, room_of, room_value, wants}
-use Rattle.object65.proofs.Closings.{turned, nil, all_push, last_joins, last_push, apart_push, value_apart, fill_last, shut_entries, shut_len, shut_good, shut_apart, shut_fits}
-use Rattle.object65.proofs.Fields.{fill_reads, value_reads}
+use Rattle.object65.specs.Spelling.{file_entry, import_entry, literal_entry, literal_entries, fragment_entries, export_entry, assert_entry, end_entry, body_limit}
+use Rattle.object65.specs.Items.{State, closed, grown, is_none, with_fragment, with_piece, with_piece_in}
+use Rattle.object65.specs.Scanning.{canonical_open, ends_in_fill, is_fill, is_short, known, known_file, last_of, room_fill, room_for, room_literal, room_of, room_value, wants}
+use Rattle.object65.proofs.Closings.{turned, nil, all_push, last_joins, last_push, apart_push, value_apart, fill_last, shut_entries, shut_len, shut_good, shut_apart, shut_fits, shut_origins}
+use Rattle.object65.proofs.Fields.{fill_reads, value_by, value_reads}
 use Rattle.object65.proofs.Goods.{left, right, and}
 use Rattle.object65.proofs.Numbers.{front}
 use Rattle.object65.proofs.Openings.{Opened, is_full, piece_there}
@@ -66,8 +68,17 @@ Filling (d ∷ ds) = (is_full d ≡ false → AllByRecursion IsEmptyDraft ds) ×
 abbrev pub is_open_form : ℕ → ℕ → Form → Bool
 is_open_form n i f = is_good_form n i f && not (is_literal f)
 
+-- its values stand where the version says
+abbrev pub has_good_values : ℕ → ℕ → Draft → Bool
+has_good_values v m d = list_all (has_good_origin v m) d.fragments
+
 -- the parts of a state that was reached by records, whichever
 pub record GoodState (s : State) : Type 0 where
+  pub version : is_version s.version ≡ true
+  pub files : are_files_of s.version s.files ≡ true
+  pub values : list_all (has_good_values s.version (length s.files)) s.drafts ≡ true
+  pub export_origins : list_all (λ e. is_good_origin s.version (length s.files) e.origin) s.exports ≡ true
+  pub assert_origins : list_all (λ a. is_good_origin s.version (length s.files) a.origin) s.asserts ≡ true
   pub imports : are_names s.imports ≡ true
   pub names : are_names (map (λ d. d.name) s.drafts) ≡ true
   pub export_names : are_names (map (λ e. e.name) s.exports) ≡ true
@@ -86,10 +97,10 @@ abbrev pub FitDraft : Draft → Type 0
 FitDraft d = AllByRecursion FragmentFits d.fragments
 
 abbrev pub FitExport : Export → Type 0
-FitExport e = (e.line < 2 ^ 32) × FitsBits e.form
+FitExport e = OriginFits e.origin × FitsBits e.form
 
 abbrev pub FitAssert : Assert → Type 0
-FitAssert a = (a.line < 2 ^ 32) × FitsBits a.form
+FitAssert a = OriginFits a.origin × FitsBits a.form
 
 -- six lists of records one behind the other
 abbrev pub rows : (a b c d f g : List Entry) → List Entry
@@ -98,12 +109,14 @@ rows a b c d f g = ((((a ++ b) ++ c) ++ d) ++ f) ++ g
 abbrev pub end_entries : Bool → List Entry
 end_entries ended = if ended then end_entry ∷ [] else []
 
+-- those behind the files
 abbrev pub entries_so_far : State → List Entry
 entries_so_far s = rows (map import_entry s.imports) (map heading_entry s.drafts) (flat_map content_entries s.drafts) (map export_entry s.exports) (map assert_entry s.asserts) (end_entries s.ended)
 
 -- these records led there
 pub record Reached (s : State) (es : List Entry) : Type 0 where
-  pub entries : es ≡ entries_so_far s
+  pub entries : es ≡ map file_entry s.files ++ entries_so_far s
+  pub files : AllByRecursion (λ name. is_utf8 name ≡ true) s.files
   pub drafts : AllByRecursion FitDraft s.drafts
   pub exports : AllByRecursion FitExport s.exports
   pub asserts : AllByRecursion FitAssert s.asserts
@@ -155,17 +168,17 @@ empties_fit (d ∷ ds) all = (subst (AllByRecursion FragmentFits) (sym all.0.fra
 -- ---- A SECTION.
 
 -- a new good name goes behind good names
-pub names_push : (names : List (List ℕ)) (name : List ℕ) → are_names names ≡ true → is_name name ≡ true → is_among names name ≡ false → are_names (names ++ name ∷ []) ≡ true
-names_push [] name good fine new = rw fine refl
-names_push (x ∷ xs) name good fine new =
+pub distinct_push : (p : List ℕ → Bool) (names : List (List ℕ)) (name : List ℕ) → are_distinct p names ≡ true → p name ≡ true → is_among names name ≡ false → are_distinct p (names ++ name ∷ []) ≡ true
+distinct_push p [] name good fine new = rw fine refl
+distinct_push p (x ∷ xs) name good fine new =
     let apart : pointwise nat_eq name x ≡ false = first_false (pointwise nat_eq name x) (is_among xs name) new in
     let others : is_among xs name ≡ false = second_false (pointwise nat_eq name x) (is_among xs name) new in
     let flipped : pointwise nat_eq x name ≡ false = (lists_equiv nat_eq_equiv).symm x name ∙ apart in
-    let front = left (is_name x && not (is_among xs x)) (are_names xs) good in
-    let new_there : is_among (xs ++ name ∷ []) x ≡ false = list_any-append (λ n. pointwise nat_eq x n) xs (name ∷ []) ∙ rw (turned (is_among xs x) (right (is_name x) (not (is_among xs x)) front), flipped) refl in
-    and (is_name x && not (is_among (xs ++ name ∷ []) x)) (are_names (xs ++ name ∷ []))
-    (and (is_name x) (not (is_among (xs ++ name ∷ []) x)) (left (is_name x) (not (is_among xs x)) front) (ap not new_there))
-    (names_push xs name (right (is_name x && not (is_among xs x)) (are_names xs) good) fine others)
+    let front = left (p x && not (is_among xs x)) (are_distinct p xs) good in
+    let new_there : is_among (xs ++ name ∷ []) x ≡ false = list_any-append (λ n. pointwise nat_eq x n) xs (name ∷ []) ∙ rw (turned (is_among xs x) (right (p x) (not (is_among xs x)) front), flipped) refl in
+    and (p x && not (is_among (xs ++ name ∷ []) x)) (are_distinct p (xs ++ name ∷ []))
+    (and (p x) (not (is_among (xs ++ name ∷ []) x)) (left (p x) (not (is_among xs x)) front) (ap not new_there))
+    (distinct_push p xs name (right (p x && not (is_among xs x)) (are_distinct p xs) good) fine others)
   where
     first_false : (a b : Bool) → (a || b) ≡ false → a ≡ false
     first_false true b e = cc
@@ -174,6 +187,9 @@ names_push (x ∷ xs) name good fine new =
     second_false : (a b : Bool) → (a || b) ≡ false → b ≡ false
     second_false true b e = cc
     second_false false b e = e
+
+pub names_push : (names : List (List ℕ)) (name : List ℕ) → are_names names ≡ true → is_name name ≡ true → is_among names name ≡ false → are_names (names ++ name ∷ []) ≡ true
+names_push = distinct_push is_name
 
 -- a section as it is read
 pub record ReadsHeading (body : List ℕ) (h : Heading) : Type 0 where
@@ -304,17 +320,74 @@ open_form n i f u v k c =
     (and (is_within n i f && is_normal f) (nat_le (nodes f) node_limit) (and (is_within n i f) (is_normal f) there (left (is_normal f) (nat_le (nodes f) node_limit) two)) (right (is_normal f) (nat_le (nodes f) node_limit) two))
     (right (is_normal f && nat_le (nodes f) node_limit) (not (is_literal f)) fine)
 
-pub value_grows : (n i : ℕ) (e : Entry) (d : Draft) (x : Room × Fragment) → e.kind ≡ 5 → GoodDraft n i d → room_value n i e.body (room_of d) ≡ Ok x → Grows n i e d (grown d x.1)
+pub value_grows : (v m n i : ℕ) (e : Entry) (d : Draft) (x : Room × Fragment) → e.kind ≡ 5 → GoodDraft n i d → room_value v m n i e.body (room_of d) ≡ Ok x → Grows n i e d (grown d x.1)
 unfolding room_value
-value_grows n i e d x kind good h =
-    let c = bound (value_of e.body) _ _ h in
+value_grows v m n i e d x kind good h =
+    let c = bound (value_of v e.body) _ _ h in
     let u = bound (room_for (room_of d) (width_len c.0.0)) _ _ c.2 in
-    let v = bound (known n i c.0.2) _ _ u.2 in
-    let w = bound (canonical_open c.0.2) _ _ v.2 in
+    let t = bound (known_file m c.0.1) _ _ u.2 in
+    let k = bound (known n i c.0.2) _ _ t.2 in
+    let w = bound (canonical_open c.0.2) _ _ k.2 in
     let item : Value c.0.0 c.0.1 c.0.2 ≡ x.1 = (let z = w.2 in cc) in
     let x_is : grown d (Value c.0.0 c.0.1 c.0.2) ≡ grown d x.1 = ap (λ (f : Fragment). grown d f) item in
-    rw (← x_is) (fragment_grows n i e d (Value c.0.0 c.0.1 c.0.2) good (room_left d (width_len c.0.0) u.0 u.1) (open_form n i c.0.2 v.0 w.0 v.1 w.1) (value_apart (closed d) c.0.0 c.0.1 c.0.2) (λ bytes. refl)
-    (λ read. let is = value_reads e.body c.0 read.bytes c.1 in ((λ k. record { kind = sym kind k; body = sym is.0 k } ∷ []), (is.1, is.2))))
+    rw (← x_is) (fragment_grows n i e d (Value c.0.0 c.0.1 c.0.2) good (room_left d (width_len c.0.0) u.0 u.1) (open_form n i c.0.2 k.0 w.0 k.1 w.1) (value_apart (closed d) c.0.0 c.0.1 c.0.2) (λ bytes. refl)
+    (λ read. let is = value_reads v e.body c.0 read.bytes c.1 in ((λ k. record { kind = sym kind k; body = sym is.0 k } ∷ []), (is.1, is.2))))
+
+-- ---- Where values stand.
+
+pub literal_placed : (v m : ℕ) (body : List ℕ) (r : Room) (y : Room × Fragment) → room_literal body r ≡ Ok y → has_good_origin v m y.1 ≡ true
+unfolding room_literal
+literal_placed v m body r y h =
+    let b = bound (literal_of body) _ _ h in
+    let u = bound (room_for r (length b.0)) _ _ b.2 in
+    let w = bound (wants (not (is_short r.last)) NotCanonical) _ _ u.2 in
+    let item : Literal b.0 ≡ y.1 = (let z = w.2 in cc) in
+    ap (has_good_origin v m) (sym item)
+
+pub fill_placed : (v m : ℕ) (body : List ℕ) (r : Room) (y : Room × Fragment) → room_fill body r ≡ Ok y → has_good_origin v m y.1 ≡ true
+unfolding room_fill
+fill_placed v m body r y h =
+    let c = bound (fill_of body) _ _ h in
+    let u = bound (room_for r c.0) _ _ c.2 in
+    let w = bound (wants (not (is_fill r.last)) NotCanonical) _ _ u.2 in
+    let item : Fill c.0 ≡ y.1 = (let z = w.2 in cc) in
+    ap (has_good_origin v m) (sym item)
+
+pub value_placed : (v m n i : ℕ) (body : List ℕ) (r : Room) (y : Room × Fragment) → room_value v m n i body r ≡ Ok y → has_good_origin v m y.1 ≡ true
+unfolding room_value
+value_placed v m n i body r y h =
+    let c = bound (value_of v body) _ _ h in
+    let u = bound (room_for r (width_len c.0.0)) _ _ c.2 in
+    let t = bound (known_file m c.0.1) _ _ u.2 in
+    let k = bound (known n i c.0.2) _ _ t.2 in
+    let w = bound (canonical_open c.0.2) _ _ k.2 in
+    let item : Value c.0.0 c.0.1 c.0.2 ≡ y.1 = (let z = w.2 in cc) in
+    ap (has_good_origin v m) (sym item) ∙ and (has_file_by v c.0.1.file) (has_file m c.0.1.file) (value_by v body c.0 c.1) (wanted (has_file m c.0.1.file) IndexOutOfRange t.0 t.1)
+
+values_grown : (v m : ℕ) (d : Draft) (f : Fragment) → has_good_values v m d ≡ true → has_good_origin v m f ≡ true → has_good_values v m (grown d f) ≡ true
+values_grown v m d (Literal bytes) good fine = good
+values_grown v m d (Fill n) good fine = list_all-append (has_good_origin v m) (closed d) (Fill n ∷ []) ∙ and (list_all (has_good_origin v m) (closed d)) true (shut_origins v m d.fragments d.literal good) refl
+values_grown v m d (Value w o form) good fine = list_all-append (has_good_origin v m) (closed d) (Value w o form ∷ []) ∙ and (list_all (has_good_origin v m) (closed d)) (is_good_origin v m o && true) (shut_origins v m d.fragments d.literal good) (and (is_good_origin v m o) true fine refl)
+
+-- with a fragment more in one of the sections
+pub values_with_piece : (v m : ℕ) (f : Fragment) → has_good_origin v m f ≡ true → (ds : List Draft) (k : ℕ) → list_all (has_good_values v m) ds ≡ true → list_all (has_good_values v m) (with_piece ds k f) ≡ true
+values_with_piece v m f fine ds k good = go (slice_get ds k) refl where
+  there : (ds : List Draft) (k : ℕ) (d : Draft) → slice_get ds k ≡ Some d → list_all (λ x. has_good_values v m x) ds ≡ true → list_all (λ x. has_good_values v m x) (slice_set ds k (grown d f)) ≡ true
+  there [] k d is all = all
+  there (x ∷ ds) zero d is all =
+      let same : x ≡ d = cc in
+      let one = left (has_good_values v m x) (list_all (λ y. has_good_values v m y) ds) all in
+      and (has_good_values v m (grown d f)) (list_all (λ y. has_good_values v m y) ds)
+      (values_grown v m d f (ap (λ (y : Draft). has_good_values v m y) (sym same) ∙ one) fine)
+      (right (has_good_values v m x) (list_all (λ y. has_good_values v m y) ds) all)
+  there (x ∷ ds) (suc k) d is all =
+      and (has_good_values v m x) (list_all (λ y. has_good_values v m y) (slice_set ds k (grown d f)))
+      (left (has_good_values v m x) (list_all (λ y. has_good_values v m y) ds) all)
+      (there ds k d is (right (has_good_values v m x) (list_all (λ y. has_good_values v m y) ds) all))
+
+  go : (o : Option Draft) → slice_get ds k ≡ o → list_all (has_good_values v m) (with_piece_in ds k f o) ≡ true
+  go None is = good
+  go (Some d) is = there ds k d is good
 
 -- ---- A fragment among the sections.
 

@@ -13,22 +13,22 @@ use Rattle.object65.specs.declared.object.Section.{Section}
 use Rattle.object65.specs.declared.object.Export.{Export}
 use Rattle.object65.specs.declared.object.Assert.{Assert}
 use Rattle.object65.specs.Bytes.{IsBytes}
-use Rattle.object65.specs.Objects.{are_names, section_len, section_limit, is_good_form, is_good_fragment, is_good_section, is_good_assert, is_good_object, are_apart, ObjectFits, FragmentFits}
+use Rattle.object65.specs.Objects.{are_files_of, are_names, has_good_origin, has_good_origins, has_good_parts, is_good_origin, section_len, section_limit, is_good_form, is_good_fragment, is_good_section, is_good_assert, is_good_object, are_apart, ObjectFits, FragmentFits}
 use Rattle.object65.specs.Folding.{is_literal}
 use Rattle.object65.specs.Reading.{room, head_of, head_at, end_at}
-use Rattle.object65.specs.Record.{Entry}
+use Rattle.object65.specs.Record.{Entry, is_version}
 use Rattle.object65.specs.Small.{is_small_text}
-use Rattle.object65.specs.Spelling.{magic, object_head, entry_bytes, entries_of, import_entry, section_entry, fragment_entries, export_entry, assert_entry, IsObject}
+use Rattle.object65.specs.Spelling.{magic, object_head, entry_bytes, entries_of, file_entry, import_entry, section_entry, fragment_entries, export_entry, assert_entry, IsObject}
 use Rattle.object65.specs.Items.{State, start, closed, section_from, object_from}
 use Rattle.object65.specs.Taking.{finished}
 use Rattle.object65.proofs.Openings.{is_full}
 use Rattle.object65.specs.Whole.{records_at, object_at}
 use Rattle.object65.proofs.Goods.{left, right, and}
-use Rattle.object65.proofs.Closings.{nil, shut_entries, shut_len, shut_good, shut_apart, shut_fits}
-use Rattle.object65.proofs.Reached.{Reached, GoodState, GoodDraft, FitDraft, is_open_form, heading_entry, content_entries, end_entries, rows}
+use Rattle.object65.proofs.Closings.{nil, shut_entries, shut_len, shut_good, shut_apart, shut_fits, shut_origins}
+use Rattle.object65.proofs.Reached.{Reached, GoodState, GoodDraft, FitDraft, is_open_form, has_good_values, heading_entry, content_entries, end_entries, rows}
 use Rattle.object65.proofs.Rooms.{bound, passes, room_on}
 use Rattle.object65.proofs.Steps.{after_steps, good_start, at_start}
-use Rattle.object65.proofs.Trails.{trail}
+use Rattle.object65.proofs.Trails.{trail, versions_kept}
 use Rattle.object65.proofs.Numbers.{bytes_drop}
 
 -- ---- The sections.
@@ -74,6 +74,13 @@ sections_fit : (ds : List Draft) → AllByRecursion FitDraft ds → AllByRecursi
 sections_fit [] fits = tt
 sections_fit (d ∷ ds) fits = (shut_fits d.fragments d.literal fits.0, sections_fit ds fits.1)
 
+sections_placed : (v m : ℕ) (ds : List Draft) → list_all (has_good_values v m) ds ≡ true → list_all (λ (s : Section). list_all (has_good_origin v m) s.fragments) (map section_from ds) ≡ true
+sections_placed v m [] good = refl
+sections_placed v m (d ∷ ds) good =
+    and (list_all (has_good_origin v m) (closed d)) (list_all (λ (s : Section). list_all (has_good_origin v m) s.fragments) (map section_from ds))
+    (shut_origins v m d.fragments d.literal (left (has_good_values v m d) (list_all (has_good_values v m) ds) good))
+    (sections_placed v m ds (right (has_good_values v m d) (list_all (has_good_values v m) ds) good))
+
 asserts_good : (n i : ℕ) (xs : List Assert) → list_all (λ a. is_open_form n i a.form) xs ≡ true → list_all (λ a. is_small_text a.text) xs ≡ true → list_all (is_good_assert n i) xs ≡ true
 asserts_good n i [] good small = refl
 asserts_good n i (x ∷ xs) good small =
@@ -90,11 +97,11 @@ asserts_good n i (x ∷ xs) good small =
 
 pub finished_entries : (t : State) (es : List Entry) → GoodState t → Reached t es → t.ended ≡ true → entries_of (object_from t) ≡ es
 finished_entries t es good r ended =
-    (λ k. rows (map import_entry t.imports) (headings (length t.drafts) (length t.imports) t.drafts good.drafts (good.full ended) k) (contents t.drafts k) (map export_entry t.exports) (map assert_entry t.asserts) (end_entries (sym ended k)))
+    ap (λ xs. map file_entry t.files ++ xs) (λ k. rows (map import_entry t.imports) (headings (length t.drafts) (length t.imports) t.drafts good.drafts (good.full ended) k) (contents t.drafts k) (map export_entry t.exports) (map assert_entry t.asserts) (end_entries (sym ended k)))
     ∙ sym r.entries
 
-pub finished_good : (t : State) → GoodState t → list_all (λ a. is_small_text a.text) t.asserts ≡ true → t.ended ≡ true → is_good_object (object_from t) ≡ true
-finished_good t r texts ended =
+finished_parts : (t : State) → GoodState t → list_all (λ a. is_small_text a.text) t.asserts ≡ true → t.ended ≡ true → has_good_parts (object_from t) ≡ true
+finished_parts t r texts ended =
     let n = length (map section_from t.drafts) in
     let m = length t.drafts in
     let i = length t.imports in
@@ -113,8 +120,27 @@ finished_good t r texts ended =
     (subst (λ k. list_all (λ (e : Export). is_good_form k i e.form) t.exports ≡ true) count r.exports))
     (subst (λ k. list_all (is_good_assert k i) t.asserts ≡ true) count (asserts_good m i t.asserts r.asserts texts))
 
+finished_origins : (t : State) → GoodState t → has_good_origins (object_from t) ≡ true
+finished_origins t r =
+    let v = t.version in
+    let m = length t.files in
+    let a = list_all (λ (s : Section). list_all (has_good_origin v m) s.fragments) (map section_from t.drafts) in
+    let b = list_all (λ (e : Export). is_good_origin v m e.origin) t.exports in
+    let c = list_all (λ (e : Assert). is_good_origin v m e.origin) t.asserts in
+    and (a && b) c (and a b (sections_placed v m t.drafts r.values) r.export_origins) r.assert_origins
+
+pub finished_good : (t : State) → GoodState t → list_all (λ a. is_small_text a.text) t.asserts ≡ true → t.ended ≡ true → is_good_object (object_from t) ≡ true
+finished_good t r texts ended =
+    let v = is_version t.version in
+    let f = are_files_of t.version t.files in
+    let o = has_good_origins (object_from t) in
+    and (v && f && o) (has_good_parts (object_from t))
+    (and (v && f) o (and v f r.version r.files) (finished_origins t r))
+    (finished_parts t r texts ended)
+
 pub finished_fits : (t : State) (es : List Entry) → Reached t es → ObjectFits (object_from t)
 finished_fits t es r = record {
+  files = r.files;
   sections = sections_fit t.drafts r.drafts;
   exports = r.exports;
   asserts = r.asserts;
@@ -122,7 +148,7 @@ finished_fits t es r = record {
 
 -- ---- The head and the end.
 
-head_read : (at first : ℕ) (xs : List ℕ) → head_of at (take 5 xs) ≡ Ok first → (first ≡ at + 5) × (xs ≡ object_head ++ drop 5 xs)
+head_read : (at : ℕ) (first : ℕ × ℕ) (xs : List ℕ) → head_of at (take 5 xs) ≡ Ok first → (is_version first.0 ≡ true) × (first.1 ≡ at + 5) × (xs ≡ object_head first.0 ++ drop 5 xs)
 head_read at first [] e = cc
 head_read at first (a ∷ []) e = cc
 head_read at first (a ∷ b ∷ []) e = cc
@@ -131,15 +157,15 @@ head_read at first (a ∷ b ∷ c ∷ d ∷ []) e = cc
 head_read at first (a ∷ b ∷ c ∷ d ∷ v ∷ xs) e =
     let k = passes (not (bytes_eq (a ∷ b ∷ c ∷ d ∷ []) magic)) NotAnObject _ _ e in
     let same : a ∷ b ∷ c ∷ d ∷ [] ≡ magic = (bytes_decides (a ∷ b ∷ c ∷ d ∷ []) magic).0 (turned (bytes_eq (a ∷ b ∷ c ∷ d ∷ []) magic) k.0) in
-    let w = version (v == 1) (at + 5) first k.1 in
-    let one : v ≡ 1 = (let t = w.0 in grind (arith, nat_tests)) in
-    (sym w.1, λ i. same i ++ (one i ∷ xs))
+    let w = version (is_version v) (v, at + 5) first k.1 in
+    let v_is : v ≡ first.0 = ap (λ (p : ℕ × ℕ). p.0) w.1 in
+    (ap is_version (sym v_is) ∙ w.0, sym (ap (λ (p : ℕ × ℕ). p.1) w.1), λ i. same i ++ (v_is i ∷ xs))
   where
     turned : (b : Bool) → not b ≡ false → b ≡ true
     turned true e = refl
     turned false e = cc
 
-    version : (b : Bool) (n first : ℕ) → (if b then Ok n else Err UnknownVersion) ≡ Ok first → (b ≡ true) × (n ≡ first)
+    version : (b : Bool) (n first : ℕ × ℕ) → (if b then Ok n else Err UnknownVersion) ≡ Ok first → (b ≡ true) × (n ≡ first)
     version true n first e = (refl, cc)
     version false n first e = cc
 
@@ -154,17 +180,19 @@ pub read_is_object : (bytes : List ℕ) (at limit : ℕ) (o : Object) → IsByte
 unfolding object_at
 read_is_object bytes at limit o is e =
     let h = bound (head_at at limit bytes) _ _ e in
-    let r = bound (records_at (length bytes) start h.0 limit bytes) _ _ h.2 in
+    let begun = start h.0.0 in
+    let r = bound (records_at (length bytes) begun h.0.1 limit bytes) _ _ h.2 in
     let v = bound (end_at r.0.1 limit bytes) _ _ r.2 in
     let head = head_read at h.0 (room bytes at limit) h.1 in
-    let on : room bytes h.0 limit ≡ drop 5 (room bytes at limit) = ap (λ n. room bytes n limit) head.0 ∙ room_on bytes at 5 limit in
-    let t = trail (length bytes) bytes limit h.0 start r.0.0 r.0.1 (subst IsBytes (sym on) (bytes_drop 5 (room bytes at limit) is)) r.1 in
-    let steps = after_steps t.0 start r.0.0 [] good_start at_start t.1.each t.1.taken in
+    let on : room bytes h.0.1 limit ≡ drop 5 (room bytes at limit) = ap (λ n. room bytes n limit) head.1 ∙ room_on bytes at 5 limit in
+    let t = trail (length bytes) bytes limit h.0.1 begun r.0.0 r.0.1 (subst IsBytes (sym on) (bytes_drop 5 (room bytes at limit) is)) r.1 in
+    let steps = after_steps t.0 begun r.0.0 [] (good_start h.0.0 head.0) (at_start h.0.0) t.1.each t.1.taken in
+    let version : h.0.0 ≡ r.0.0.version = sym (versions_kept t.0 begun r.0.0 t.1.taken) in
     let none = end_read (room bytes r.0.1 limit) v.0 v.1 in
     let o_is = finish_read r.0.0 o steps.0.failed t.1.ended v.2 in
     subst (IsObject (room bytes at limit)) o_is (record {
       good = finished_good r.0.0 steps.0 steps.1.texts t.1.ended;
       numbers = finished_fits r.0.0 t.0 steps.1;
       spelled =
-          head.1 ∙ ap (λ xs. object_head ++ xs) (sym on ∙ t.1.spelled ∙ ap (λ xs. flat_map entry_bytes t.0 ++ xs) none ∙ nil (flat_map entry_bytes t.0) ∙ ap (flat_map entry_bytes) (sym (finished_entries r.0.0 t.0 steps.0 steps.1 t.1.ended)));
+          head.2 ∙ ap (λ v. object_head v ++ drop 5 (room bytes at limit)) version ∙ ap (λ xs. object_head r.0.0.version ++ xs) (sym on ∙ t.1.spelled ∙ ap (λ xs. flat_map entry_bytes t.0 ++ xs) none ∙ nil (flat_map entry_bytes t.0) ∙ ap (flat_map entry_bytes) (sym (finished_entries r.0.0 t.0 steps.0 steps.1 t.1.ended)));
     })

@@ -12,6 +12,7 @@ use Rattle.object65.specs.declared.item.Item.{Item}
 use Rattle.object65.specs.declared.item.Item.TheVariants as item
 use Rattle.object65.specs.declared.object.Fragment.{Fragment}
 use Rattle.object65.specs.declared.object.Fragment.TheVariants.{Literal, Fill, Value}
+use Rattle.object65.specs.declared.object.Origin.{Origin}
 use Rattle.object65.specs.declared.object.Width.{Width}
 use Rattle.object65.specs.declared.room.Last.{Last}
 use Rattle.object65.specs.declared.room.Last.TheVariants as last
@@ -20,21 +21,22 @@ use Rattle.object65.specs.Bodies.{literal_of}
 use Rattle.object65.specs.Fault.{◌>>=◌}
 use Rattle.object65.specs.Form.{Form}
 use Rattle.object65.specs.Items.{State, closed, closing, empty_draft, grown, is_none, with_item}
-use Rattle.object65.specs.Objects.{width_len}
+use Rattle.object65.specs.Objects.{is_file_name, width_len}
 use Rattle.object65.specs.Record.{Entry, is_record_kind}
 use Rattle.object65.specs.Scanning
 use Rattle.object65.specs.Spelling.{body_limit}
 use Rattle.object65.proofs.Closings.{nil, longer, closing_is, fill_last, last_push, last_joins}
-use Rattle.object65.proofs.Frees.{IsFree, astray, assert_free, canonical_free, end_free, export_free, failed, fill_free, known_free, literal_free, name_free, open_free, room_free, section_free, value_free, wants_astray, wants_canonical}
+use Rattle.object65.proofs.Frees.{IsFree, astray, assert_free, canonical_free, end_free, export_free, failed, file_free, fill_free, known_file_free, known_free, literal_free, name_free, open_free, room_free, section_free, value_free, wants_astray, wants_canonical, wants_size}
 use Rattle.object65.proofs.Openings.{Split, draft_there, grown_name, is_full, none_open, opens, room_there, seek}
 
 -- a fragment stands behind what was taken of its section
 abbrev pub IsPlaced : List Draft → Item → Type 0
 IsPlaced ds (item.Part k offset f) = (d : Draft) × (slice_get ds k ≡ Some d) × (slice_get (map Scanning.room_of ds) k ≡ Some (Scanning.room_of d)) × (offset ≡ d.filled)
+IsPlaced ds (item.File name) = Unit {0}
 IsPlaced ds (item.Import name) = Unit {0}
 IsPlaced ds (item.Section name size align) = Unit {0}
-IsPlaced ds (item.Export name line form) = Unit {0}
-IsPlaced ds (item.Assert action line text form) = Unit {0}
+IsPlaced ds (item.Export name origin form) = Unit {0}
+IsPlaced ds (item.Assert action origin text form) = Unit {0}
 IsPlaced ds item.End = Unit {0}
 
 abbrev pub is_end : Item → Bool
@@ -63,6 +65,14 @@ some_push xs x = let n = length-append xs (x ∷ []) in grind (arith, nat_tests,
 
 -- ---- Names and the end.
 
+file_leads : (s : State) (body : List ℕ) → Leads s false (Scanning.scan_file (Scanning.outline_of s) body)
+unfolding Scanning.scan_file
+file_leads s body =
+    let o = Scanning.outline_of s in
+    read s false _ _ (wants_astray (is_none o.imports && is_none o.rooms && is_none o.exports && not o.asserting)) (λ u.
+    read s false _ _ (wants_size (is_file_name body)) (λ t.
+    read s false _ _ (file_free o.files body) (λ v. (refl, tt, refl))))
+
 import_leads : (s : State) (body : List ℕ) → Leads s false (Scanning.scan_import (Scanning.outline_of s) body)
 unfolding Scanning.scan_import
 import_leads s body =
@@ -85,21 +95,23 @@ unfolding Scanning.scan_export
 export_leads s body =
     let o = Scanning.outline_of s in
     read s false _ _ (wants_astray (list_all Scanning.is_filled o.rooms && not o.asserting)) (λ u.
-    read s false _ _ (export_free body) (λ e.
+    read s false _ _ (export_free s.version body) (λ e.
+    read s false _ _ (known_file_free (length s.files) e.origin) (λ t.
     read s false _ _ (known_free (length o.rooms) (length o.imports) e.form) (λ v.
     read s false _ _ (name_free o.exports e.name) (λ w.
     read s false _ _ (canonical_free e.form) (λ x.
-    (rw (map-append (λ x. x.name) s.exports (e ∷ [])) refl, tt, refl))))))
+    (rw (map-append (λ x. x.name) s.exports (e ∷ [])) refl, tt, refl)))))))
 
 assert_leads : (s : State) (body : List ℕ) → Leads s false (Scanning.scan_assert (Scanning.outline_of s) body)
 unfolding Scanning.scan_assert
 assert_leads s body =
     let o = Scanning.outline_of s in
     read s false _ _ (wants_astray (list_all Scanning.is_filled o.rooms)) (λ u.
-    read s false _ _ (assert_free body) (λ a.
+    read s false _ _ (assert_free s.version body) (λ a.
+    read s false _ _ (known_file_free (length s.files) a.origin) (λ t.
     read s false _ _ (known_free (length o.rooms) (length o.imports) a.form) (λ v.
     read s false _ _ (open_free a.form) (λ w.
-    (rw (some_push s.asserts a) refl, tt, refl)))))
+    (rw (some_push s.asserts a) refl, tt, refl))))))
 
 end_leads : (s : State) (body : List ℕ) → Leads s true (Scanning.scan_last (Scanning.outline_of s) body)
 unfolding Scanning.scan_last
@@ -184,10 +196,10 @@ behind_fill d n =
     let fill : Scanning.ends_in_fill (fs ++ []) ≡ true = ap Scanning.ends_in_fill (nil fs) ∙ ends_push (closed d) (Fill n) in
     rw fill refl
 
-behind_value : (d : Draft) (w : Width) (line : ℕ) (form : Form) → last.Other ≡ Scanning.last_of (grown d (Value w line form))
-behind_value d w line form =
-    let fs = closed d ++ Value w line form ∷ [] in
-    let no_fill : Scanning.ends_in_fill (fs ++ []) ≡ false = ap Scanning.ends_in_fill (nil fs) ∙ ends_push (closed d) (Value w line form) in
+behind_value : (d : Draft) (w : Width) (origin : Origin) (form : Form) → last.Other ≡ Scanning.last_of (grown d (Value w origin form))
+behind_value d w origin form =
+    let fs = closed d ++ Value w origin form ∷ [] in
+    let no_fill : Scanning.ends_in_fill (fs ++ []) ≡ false = ap Scanning.ends_in_fill (nil fs) ∙ ends_push (closed d) (Value w origin form) in
     rw no_fill refl
 
 pub literal_some : (body bytes : List ℕ) → literal_of body ≡ Ok bytes → is_none bytes ≡ false
@@ -215,14 +227,15 @@ fill_leads body d =
     in_read d _ _ (wants_canonical (not (Scanning.is_fill r.last))) (λ v alone.
     ap (λ (l : Last). Scanning.room_behind (Scanning.room_of d) n l) (behind_fill d n))))
 
-value_leads : (n i : ℕ) (body : List ℕ) (d : Draft) → LeadsIn d (Scanning.room_value n i body (Scanning.room_of d))
+value_leads : (v m n i : ℕ) (body : List ℕ) (d : Draft) → LeadsIn d (Scanning.room_value v m n i body (Scanning.room_of d))
 unfolding Scanning.room_value
-value_leads n i body d =
-    in_read d _ _ (value_free body) (λ x is.
+value_leads v m n i body d =
+    in_read d _ _ (value_free v body) (λ x is.
     in_read d _ _ (room_free (Scanning.room_of d) (width_len x.0)) (λ u room.
-    in_read d _ _ (known_free n i x.2) (λ v there.
+    in_read d _ _ (known_file_free m x.1) (λ t here.
+    in_read d _ _ (known_free n i x.2) (λ y there.
     in_read d _ _ (open_free x.2) (λ w fine.
-    ap (λ (l : Last). Scanning.room_behind (Scanning.room_of d) (width_len x.0) l) (behind_value d x.0 x.1 x.2)))))
+    ap (λ (l : Last). Scanning.room_behind (Scanning.room_of d) (width_len x.0) l) (behind_value d x.0 x.1 x.2))))))
 
 names_stay : (ds : List Draft) (k : ℕ) (d e : Draft) → slice_get ds k ≡ Some d → e.name ≡ d.name → map (λ x. x.name) (slice_set ds k e) ≡ map (λ x. x.name) ds
 names_stay [] k d e there same = refl
@@ -251,22 +264,26 @@ part_leads s grow h = go (seek s.drafts) where
 
 -- ---- Any record.
 
-last_of_all : (k : ℕ) → not (is_record_kind k) ≡ false → (k == 1) ≡ false → (k == 2) ≡ false → (k == 3) ≡ false → (k == 4) ≡ false → (k == 5) ≡ false → (k == 6) ≡ false → (k == 7) ≡ false → true ≡ (k == 8)
-last_of_all k a b c d e f g h = grind (arith, nat_tests)
+last_of_all : (v k : ℕ) → not (is_record_kind v k) ≡ false → (k == 1) ≡ false → (k == 2) ≡ false → (k == 3) ≡ false → (k == 4) ≡ false → (k == 5) ≡ false → (k == 6) ≡ false → (k == 7) ≡ false → (k == 9) ≡ false → true ≡ (k == 8)
+last_of_all v k a b c d e f g h i = go (v == 1) a where
+  go : (one : Bool) → not (nat_le 1 k && nat_le k (if one then 8 else 9)) ≡ false → true ≡ (k == 8)
+  go true a = grind (arith, nat_tests)
+  go false a = grind (arith, nat_tests)
 
 entry_leads : (s : State) (e : Entry) → Leads s (e.kind == 8) (Scanning.scan_entry (Scanning.outline_of s) e)
 unfolding Scanning.scan_entry
 entry_leads s e =
     let rooms = map Scanning.room_of s.drafts in
-    either s _ (not (is_record_kind e.kind)) _ _ (λ h. refused {A = Item} OutOfOrder astray) (λ a.
+    either s _ (not (is_record_kind s.version e.kind)) _ _ (λ h. refused {A = Item} OutOfOrder astray) (λ a.
     either s _ (e.kind == 1) _ _ (goes_on 1 _ refl (import_leads s e.body)) (λ b.
     either s _ (e.kind == 2) _ _ (goes_on 2 _ refl (section_leads s e.body)) (λ c.
     either s _ (e.kind == 3) _ _ (goes_on 3 _ refl (part_leads s (Scanning.room_literal e.body) (literal_leads e.body))) (λ d.
     either s _ (e.kind == 4) _ _ (goes_on 4 _ refl (part_leads s (Scanning.room_fill e.body) (fill_leads e.body))) (λ f.
-    either s _ (e.kind == 5) _ _ (goes_on 5 _ refl (part_leads s (Scanning.room_value (length rooms) (length s.imports) e.body) (value_leads (length rooms) (length s.imports) e.body))) (λ g.
+    either s _ (e.kind == 5) _ _ (goes_on 5 _ refl (part_leads s (Scanning.room_value s.version (length s.files) (length rooms) (length s.imports) e.body) (value_leads s.version (length s.files) (length rooms) (length s.imports) e.body))) (λ g.
     either s _ (e.kind == 6) _ _ (goes_on 6 _ refl (export_leads s e.body)) (λ h.
     either s _ (e.kind == 7) _ _ (goes_on 7 _ refl (assert_leads s e.body)) (λ i.
-    subst (λ last. Leads s last (Scanning.scan_last (Scanning.outline_of s) e.body)) (last_of_all e.kind a b c d f g h i) (end_leads s e.body)))))))))
+    either s _ (e.kind == 9) _ _ (goes_on 9 _ refl (file_leads s e.body)) (λ j.
+    subst (λ last. Leads s last (Scanning.scan_last (Scanning.outline_of s) e.body)) (last_of_all s.version e.kind a b c d f g h i j) (end_leads s e.body))))))))))
   where
     -- a record of another kind is no END
     goes_on : (k : ℕ) (q : Result (Scanning.Outline × Item) ObjectFault) → (k == 8) ≡ false → Leads s false q → (e.kind == k) ≡ true → Leads s (e.kind == 8) q

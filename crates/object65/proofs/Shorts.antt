@@ -10,9 +10,9 @@ use Rattle.object65.specs.declared.object.Fragment.{Fragment}
 use Rattle.object65.specs.declared.object.Fragment.TheVariants.{Literal, Fill, Value}
 use Rattle.object65.specs.declared.object.Object.{Object}
 use Rattle.object65.specs.declared.object.Section.{Section}
-use Rattle.object65.specs.Objects.{are_file_names, are_files_of, is_good_object, section_len, section_limit}
+use Rattle.object65.specs.Objects.{are_distinct, is_file_name, are_files_of, is_good_object, section_len, section_limit}
 use Rattle.object65.specs.Record.{Entry, is_record_kind}
-use Rattle.object65.specs.Small.{is_small_file, is_small_text, is_small_fragment, is_small_section, is_small_export, is_small_assert}
+use Rattle.object65.specs.Small.{is_small_text, is_small_fragment, is_small_section, is_small_export, is_small_assert}
 use Rattle.object65.specs.Spelling.{entries_of, file_entry, import_entry, origin_bytes, section_entry, fragment_entries, literal_entry, export_entry, assert_entry, end_entry, pieces, form_bytes, body_limit}
 use Rattle.object65.proofs.Forms.{origin_len, small_text, small_form, small_export, small_assert}
 use Rattle.object65.proofs.Goods.{left, right, parts, small_names_of, good_imports, good_sections, good_exports, good_asserts}
@@ -81,10 +81,10 @@ contents_short v (s ∷ ss) small =
 -- version 1 has no files
 files_short : (v : ℕ) (files : List (List ℕ)) → are_files_of v files ≡ true → AllByRecursion (IsShortEntry v) (map file_entry files)
 files_short v files good = go (v == 1) refl files good where
-  go : (b : Bool) → (v == 1) ≡ b → (files : List (List ℕ)) → (if b then length files == 0 else are_file_names files) ≡ true → AllByRecursion (IsShortEntry v) (map file_entry files)
+  go : (b : Bool) → (v == 1) ≡ b → (files : List (List ℕ)) → (if b then length files == 0 else are_distinct is_file_name files) ≡ true → AllByRecursion (IsShortEntry v) (map file_entry files)
   go true is [] e = tt
   go true is (name ∷ files) e = let some : (length (name ∷ files) == 0) ≡ false = grind (arith, nat_tests) in cc
-  go false is files e = all_short v is_small_file file_entry files (λ name small. (ap (λ b. nat_le 9 (if b then 8 else 9)) is, (let t = small in grind (arith, nat_tests)))) (small_names_of files e)
+  go false is files e = all_short v is_file_name file_entry files (λ name small. (ap (λ b. nat_le 9 (if b then 8 else 9)) is, (let t = small in grind (arith, nat_tests)))) (small_names_of files e)
 
 pub short_entries : (o : Object) → is_good_object o ≡ true → AllByRecursion (IsShortEntry o.version) (entries_of o)
 short_entries o good =

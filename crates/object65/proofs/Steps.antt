@@ -4,9 +4,10 @@ use Rattle.std.proofs.lemmas.Bool.Decides.{nat_tests}
 use Rattle.std.proofs.lemmas.List.{length-map, map-append}
 use Rattle.std.proofs.lemmas.List.Folds.{list_all-append}
 use Rattle.std.specs.List.{flat_map, list_all, AllByRecursion}
+use Rattle.std.specs.Str.{is_utf8}
 use Rattle.object65.specs.declared.draft.Draft.{Draft}
 use Rattle.object65.specs.declared.fault.ObjectFault.{ObjectFault}
-use Rattle.object65.specs.declared.fault.ObjectFault.TheVariants.{FailedBefore, OutOfOrder, NotCanonical, IndexOutOfRange}
+use Rattle.object65.specs.declared.fault.ObjectFault.TheVariants.{FailedBefore, OutOfOrder, NotCanonical, IndexOutOfRange, BadSize}
 use Rattle.object65.specs.declared.object.Export.{Export}
 use Rattle.object65.specs.declared.object.Assert.{Assert}
 use Rattle.object65.specs.declared.item.Item.{Item}
@@ -16,17 +17,17 @@ use Rattle.object65.specs.declared.room.Room.{Room}
 use Rattle.object65.specs.Bodies.{Heading, section_of, end_of, export_of, assert_of}
 use Rattle.object65.specs.Folding.{is_within, is_normal, node_limit}
 use Rattle.object65.specs.Form.{Form, nodes}
-use Rattle.object65.specs.Objects.{is_name, is_among, are_names, is_good_form}
-use Rattle.object65.specs.Record.{Entry, is_record_kind}
+use Rattle.object65.specs.Objects.{are_distinct, are_files_of, has_file, has_file_by, has_good_origin, is_file_name, is_good_origin, is_name, is_among, are_names, is_good_form}
+use Rattle.object65.specs.Record.{Entry, is_record_kind, is_version}
 use Rattle.object65.specs.Small.{is_small_text}
-use Rattle.object65.specs.Spelling.{import_entry, export_entry, assert_entry, end_entry}
+use Rattle.object65.specs.Spelling.{file_entry, import_entry, export_entry, assert_entry, end_entry}
 use Rattle.object65.specs.Items.{State, empty_draft, grown, is_none, start, with_item, with_piece}
 use Rattle.object65.specs.Scanning
 use Rattle.object65.specs.Taking.{after, after_all}
 use Rattle.object65.proofs.Closings.{turned, nil, all_push}
-use Rattle.object65.proofs.Fields.{export_reads, assert_reads}
+use Rattle.object65.proofs.Fields.{export_by, export_reads, assert_by, assert_reads}
 use Rattle.object65.proofs.Goods.{left, right, and}
-use Rattle.object65.proofs.Reached.{Reached, GoodState, GoodDraft, IsEmptyDraft, FitExport, FitAssert, Grows, is_open_form, heading_entry, content_entries, end_entries, rows, either, none_is, none_of, empties_none, empties_fill, empties_good, empties_fit, names_push, heading_read, heading_spelled, literal_grows, fill_grows, value_grows, open_form, goes_in}
+use Rattle.object65.proofs.Reached.{Reached, GoodState, GoodDraft, IsEmptyDraft, FitExport, FitAssert, Grows, is_open_form, heading_entry, content_entries, distinct_push, end_entries, entries_so_far, fill_placed, has_good_values, literal_placed, rows, value_placed, values_with_piece, either, none_is, none_of, empties_none, empties_fill, empties_good, empties_fit, names_push, heading_read, heading_spelled, literal_grows, fill_grows, value_grows, open_form, goes_in}
 use Rattle.object65.proofs.Openings.{all_full, none_open, opened}
 use Rattle.object65.proofs.Rooms.{bound, passes}
 use Rattle.object65.proofs.Scannings.{wanted}
@@ -67,7 +68,11 @@ row_6 a b c d f e = ap (λ xs. xs ++ e) (nil ((((a ++ b) ++ c) ++ d) ++ f))
 known_in : (s : State) (f : Form) (u : Unit {0}) → Scanning.known (length (map Scanning.room_of s.drafts)) (length s.imports) f ≡ Ok u → Scanning.known (length s.drafts) (length s.imports) f ≡ Ok u
 known_in s f u h = ap (λ n. Scanning.known n (length s.imports) f) (sym (length-map s.drafts Scanning.room_of)) ∙ h
 
--- ---- An IMPORT.
+-- one record more behind the files
+behind : (files rows now es : List Entry) (e : Entry) → es ≡ files ++ rows → rows ++ e ∷ [] ≡ now → es ++ e ∷ [] ≡ files ++ now
+behind files rows now es e was more = ap (λ xs. xs ++ e ∷ []) was ∙ append_assoc files rows (e ∷ []) ∙ ap (λ xs. files ++ xs) more
+
+-- ---- A FILE.
 
 -- the item that was given
 item_is : (o : Scanning.Outline) (i : Item) (x : Scanning.Outline × Item) → ◌≡◌ {A = Result (Scanning.Outline × Item) ObjectFault} (Ok (o, i)) (Ok x) → i ≡ x.1
@@ -83,6 +88,70 @@ none_asserted s h = none_is s.asserts (turned_twice (is_none s.asserts) h) where
   turned_twice : (b : Bool) → not (not b) ≡ true → b ≡ true
   turned_twice true e = refl
   turned_twice false e = cc
+
+file_step : (s : State) (e : Entry) (x : Scanning.Outline × Item) → e.kind ≡ 9 → is_record_kind s.version 9 ≡ true → GoodState s → s.ended ≡ false → Scanning.scan_file (Scanning.outline_of s) e.body ≡ Ok x → Step s (with_item s x.1) e
+unfolding Scanning.scan_file
+file_step s e x kind known r running h =
+    let o = Scanning.outline_of s in
+    let u = bound (Scanning.wants (is_none o.imports && is_none o.rooms && is_none o.exports && not o.asserting) OutOfOrder) _ _ h in
+    let stands = wanted (is_none o.imports && is_none o.rooms && is_none o.exports && not o.asserting) OutOfOrder u.0 u.1 in
+    let three = left (is_none o.imports && is_none o.rooms && is_none o.exports) (not o.asserting) stands in
+    let two = left (is_none o.imports && is_none o.rooms) (is_none o.exports) three in
+    let no_imports = none_is s.imports (left (is_none o.imports) (is_none o.rooms) two) in
+    let no_drafts = none_of Scanning.room_of s.drafts (right (is_none o.imports) (is_none o.rooms) two) in
+    let no_exports = none_of (λ (y : Export). y.name) s.exports (right (is_none o.imports && is_none o.rooms) (is_none o.exports) three) in
+    let no_asserts = none_asserted s (right (is_none o.imports && is_none o.rooms && is_none o.exports) (not o.asserting) stands) in
+    let t = bound (Scanning.wants (is_file_name e.body) BadSize) _ _ u.2 in
+    let short = wanted (is_file_name e.body) BadSize t.0 t.1 in
+    let v = bound (Scanning.new_file s.files e.body) _ _ t.2 in
+    let named = wanted (is_utf8 e.body && not (is_among s.files e.body)) NotCanonical v.0 v.1 in
+    let files = s.files ++ e.body ∷ [] in
+    let item = item_is _ (item.File e.body) x v.2 in
+    let e_is : e ≡ file_entry e.body = (λ k. record { kind = kind k; body = e.body }) in
+    let old = map file_entry s.files in
+    let none : entries_so_far s ≡ [] = (λ k. rows (map import_entry (no_imports k)) (map heading_entry (no_drafts k)) (flat_map content_entries (no_drafts k)) (map export_entry (no_exports k)) (map assert_entry (no_asserts k)) (end_entries (running k))) in
+    subst (λ (i : Item). Step s (with_item s i) e) item (record {
+      good = record {
+        version = r.version;
+        files = files_push s.version s.files e.body known r.files short (turned (is_among s.files e.body) (right (is_utf8 e.body) (not (is_among s.files e.body)) named));
+        values = ap (λ (ds : List Draft). list_all (has_good_values s.version (length files)) ds) no_drafts;
+        export_origins = ap (λ (xs : List Export). list_all (λ x. is_good_origin s.version (length files) x.origin) xs) no_exports;
+        assert_origins = ap (λ (xs : List Assert). list_all (λ x. is_good_origin s.version (length files) x.origin) xs) no_asserts;
+        imports = r.imports;
+        names = r.names;
+        export_names = r.export_names;
+        drafts = r.drafts;
+        filling = r.filling;
+        begun = r.begun;
+        exported = r.exported;
+        asserted = r.asserted;
+        full = r.full;
+        exports = r.exports;
+        asserts = r.asserts;
+        failed = r.failed;
+      };
+      reached = λ es was read. record {
+        entries =
+            ap (λ xs. xs ++ e ∷ []) (was.entries ∙ ap (λ xs. old ++ xs) none ∙ nil old)
+            ∙ ap (λ y. old ++ y ∷ []) e_is
+            ∙ sym (map-append file_entry s.files (e.body ∷ []))
+            ∙ sym (nil (map file_entry files))
+            ∙ ap (λ xs. map file_entry files ++ xs) (sym none);
+        files = all_push (λ name. is_utf8 name ≡ true) s.files e.body was.files (left (is_utf8 e.body) (not (is_among s.files e.body)) named);
+        drafts = was.drafts;
+        exports = was.exports;
+        asserts = was.asserts;
+        texts = was.texts;
+      };
+    })
+  where
+    files_push : (v : ℕ) (files : List (List ℕ)) (name : List ℕ) → is_record_kind v 9 ≡ true → are_files_of v files ≡ true → is_file_name name ≡ true → is_among files name ≡ false → are_files_of v (files ++ name ∷ []) ≡ true
+    files_push v files name known good short new = go (v == 1) known good where
+      go : (b : Bool) → nat_le 9 (if b then 8 else 9) ≡ true → (if b then length files == 0 else are_distinct is_file_name files) ≡ true → (if b then length (files ++ name ∷ []) == 0 else are_distinct is_file_name (files ++ name ∷ [])) ≡ true
+      go true known good = cc
+      go false known good = distinct_push is_file_name files name good short new
+
+-- ---- An IMPORT.
 
 import_step : (s : State) (e : Entry) (x : Scanning.Outline × Item) → e.kind ≡ 1 → GoodState s → s.ended ≡ false → Scanning.scan_import (Scanning.outline_of s) e.body ≡ Ok x → Step s (with_item s x.1) e
 unfolding Scanning.scan_import
@@ -101,6 +170,11 @@ import_step s e x kind r running h =
     let e_is : e ≡ import_entry e.body = (λ k. record { kind = kind k; body = e.body }) in
     subst (λ (i : Item). Step s (with_item s i) e) item (record {
       good = record {
+        version = r.version;
+        files = r.files;
+        values = r.values;
+        export_origins = r.export_origins;
+        assert_origins = r.assert_origins;
         imports = names_push s.imports e.body r.imports (left (is_name e.body) (not (is_among s.imports e.body)) named) (turned (is_among s.imports e.body) (right (is_name e.body) (not (is_among s.imports e.body)) named));
         names = r.names;
         export_names = r.export_names;
@@ -116,11 +190,13 @@ import_step s e x kind r running h =
       };
       reached = λ es was read. record {
         entries =
-            ap (λ xs. xs ++ e ∷ []) (was.entries ∙ (λ k. rows (map import_entry s.imports) (map heading_entry (no_drafts k)) (flat_map content_entries (no_drafts k)) (map export_entry (no_exports k)) (map assert_entry (no_asserts k)) (end_entries (running k))))
+            behind (map file_entry s.files) (entries_so_far s) _ es e was.entries
+            (ap (λ xs. xs ++ e ∷ []) (λ k. rows (map import_entry s.imports) (map heading_entry (no_drafts k)) (flat_map content_entries (no_drafts k)) (map export_entry (no_exports k)) (map assert_entry (no_asserts k)) (end_entries (running k)))
             ∙ row_1 (map import_entry s.imports) (e ∷ [])
             ∙ ap (λ x. rows (map import_entry s.imports ++ x ∷ []) [] [] [] [] []) e_is
             ∙ ap (λ xs. rows xs [] [] [] [] []) (sym (map-append import_entry s.imports (e.body ∷ [])))
-            ∙ sym (λ k. rows (map import_entry names) (map heading_entry (no_drafts k)) (flat_map content_entries (no_drafts k)) (map export_entry (no_exports k)) (map assert_entry (no_asserts k)) (end_entries (running k)));
+            ∙ sym (λ k. rows (map import_entry names) (map heading_entry (no_drafts k)) (flat_map content_entries (no_drafts k)) (map export_entry (no_exports k)) (map assert_entry (no_asserts k)) (end_entries (running k))));
+        files = was.files;
         drafts = was.drafts;
         exports = was.exports;
         asserts = was.asserts;
@@ -156,6 +232,11 @@ section_step s e x kind r running h =
     let item = item_is _ (item.Section d.name d.size d.align) x w.2 in
     subst (λ (j : Item). Step s (with_item s j) e) item (record {
       good = record {
+        version = r.version;
+        files = r.files;
+        values = list_all-append (has_good_values s.version (length s.files)) s.drafts (d ∷ []) ∙ and (list_all (has_good_values s.version (length s.files)) s.drafts) true r.values refl;
+        export_origins = r.export_origins;
+        assert_origins = r.assert_origins;
         imports = r.imports;
         names = ap are_names (map-append (λ x. x.name) s.drafts (d ∷ [])) ∙ names_push o.sections d.name r.names (left (is_name d.name) (not (is_among o.sections d.name)) named) (turned (is_among o.sections d.name) (right (is_name d.name) (not (is_among o.sections d.name)) named));
         export_names = r.export_names;
@@ -182,11 +263,13 @@ section_step s e x kind r running h =
           let imports = map import_entry s.imports in
           record {
             entries =
-                ap (λ xs. xs ++ e ∷ []) (was.entries ∙ (λ k. rows imports (map heading_entry s.drafts) (empties_none s.drafts empties k) (map export_entry (no_exports k)) (map assert_entry (no_asserts k)) (end_entries (running k))))
+                behind (map file_entry s.files) (entries_so_far s) _ es e was.entries
+                (ap (λ xs. xs ++ e ∷ []) (λ k. rows imports (map heading_entry s.drafts) (empties_none s.drafts empties k) (map export_entry (no_exports k)) (map assert_entry (no_asserts k)) (end_entries (running k)))
                 ∙ row_2 imports (map heading_entry s.drafts) (e ∷ [])
                 ∙ ap (λ x. rows imports (map heading_entry s.drafts ++ x ∷ []) [] [] [] []) e_is
                 ∙ ap (λ xs. rows imports xs [] [] [] []) (sym (map-append heading_entry s.drafts (d ∷ [])))
-                ∙ sym (λ k. rows imports (map heading_entry ds) (empties_none ds now_empties k) (map export_entry (no_exports k)) (map assert_entry (no_asserts k)) (end_entries (running k)));
+                ∙ sym (λ k. rows imports (map heading_entry ds) (empties_none ds now_empties k) (map export_entry (no_exports k)) (map assert_entry (no_asserts k)) (end_entries (running k))));
+            files = was.files;
             drafts = empties_fit ds now_empties;
             exports = was.exports;
             asserts = was.asserts;
@@ -196,9 +279,9 @@ section_step s e x kind r running h =
 
 -- ---- A fragment.
 
-part_step : (s : State) (e : Entry) (x : Scanning.Outline × Item) (grow : Room → Result (Room × Fragment) ObjectFault) → ((d : Draft) (y : Room × Fragment) → GoodDraft (length s.drafts) (length s.imports) d → grow (Scanning.room_of d) ≡ Ok y → Grows (length s.drafts) (length s.imports) e d (grown d y.1)) → GoodState s → s.ended ≡ false → Scanning.scan_part (Scanning.outline_of s) grow ≡ Ok x → Step s (with_item s x.1) e
+part_step : (s : State) (e : Entry) (x : Scanning.Outline × Item) (grow : Room → Result (Room × Fragment) ObjectFault) → ((d : Draft) (y : Room × Fragment) → GoodDraft (length s.drafts) (length s.imports) d → grow (Scanning.room_of d) ≡ Ok y → Grows (length s.drafts) (length s.imports) e d (grown d y.1)) → ((d : Draft) (y : Room × Fragment) → grow (Scanning.room_of d) ≡ Ok y → has_good_origin s.version (length s.files) y.1 ≡ true) → GoodState s → s.ended ≡ false → Scanning.scan_part (Scanning.outline_of s) grow ≡ Ok x → Step s (with_item s x.1) e
 unfolding Scanning.scan_part
-part_step s e x grow grows r running h =
+part_step s e x grow grows placed r running h =
     let n = length s.drafts in
     let i = length s.imports in
     let place = bound (Scanning.open_room (map Scanning.room_of s.drafts)) _ _ h in
@@ -215,6 +298,11 @@ part_step s e x grow grows r running h =
     let item = item_is _ (item.Part place.0.0 place.0.1.filled g.0.1) x g.2 in
     subst (λ (j : Item). Step s (with_item s j) e) item (record {
       good = record {
+        version = r.version;
+        files = r.files;
+        values = values_with_piece s.version (length s.files) g.0.1 (placed d g.0 here) s.drafts place.0.0 r.values;
+        export_origins = r.export_origins;
+        assert_origins = r.assert_origins;
         imports = r.imports;
         names = ap are_names now.names ∙ r.names;
         export_names = r.export_names;
@@ -232,9 +320,11 @@ part_step s e x grow grows r running h =
           let imports = map import_entry s.imports in
           record {
             entries =
-                ap (λ xs. xs ++ e ∷ []) (was.entries ∙ (λ k. rows imports (map heading_entry s.drafts) (flat_map content_entries s.drafts) (map export_entry (no_exports k)) (map assert_entry (no_asserts k)) (end_entries (running k))))
+                behind (map file_entry s.files) (entries_so_far s) _ es e was.entries
+                (ap (λ xs. xs ++ e ∷ []) (λ k. rows imports (map heading_entry s.drafts) (flat_map content_entries s.drafts) (map export_entry (no_exports k)) (map assert_entry (no_asserts k)) (end_entries (running k)))
                 ∙ row_3 imports (map heading_entry s.drafts) (flat_map content_entries s.drafts) (e ∷ [])
-                ∙ sym (λ k. rows imports (now.headings k) (now.contents read k) (map export_entry (no_exports k)) (map assert_entry (no_asserts k)) (end_entries (running k)));
+                ∙ sym (λ k. rows imports (now.headings k) (now.contents read k) (map export_entry (no_exports k)) (map assert_entry (no_asserts k)) (end_entries (running k))));
+            files = was.files;
             drafts = now.fits read was.drafts;
             exports = was.exports;
             asserts = was.asserts;
@@ -259,8 +349,10 @@ export_step s e x kind r running h =
     let stands = wanted (list_all Scanning.is_filled o.rooms && not o.asserting) OutOfOrder u.0 u.1 in
     let full = sym (all_full s.drafts) ∙ left (list_all Scanning.is_filled o.rooms) (not o.asserting) stands in
     let no_asserts = none_asserted s (right (list_all Scanning.is_filled o.rooms) (not o.asserting) stands) in
-    let a = bound (export_of e.body) _ _ u.2 in
-    let v = bound (Scanning.known (length o.rooms) i a.0.form) _ _ a.2 in
+    let a = bound (export_of s.version e.body) _ _ u.2 in
+    let t = bound (Scanning.known_file (length s.files) a.0.origin) _ _ a.2 in
+    let origin : is_good_origin s.version (length s.files) a.0.origin ≡ true = and (has_file_by s.version a.0.origin.file) (has_file (length s.files) a.0.origin.file) (export_by s.version e.body a.0 a.1) (wanted (has_file (length s.files) a.0.origin.file) IndexOutOfRange t.0 t.1) in
+    let v = bound (Scanning.known (length o.rooms) i a.0.form) _ _ t.2 in
     let there = wanted (is_within n i a.0.form) IndexOutOfRange v.0 (known_in s a.0.form v.0 v.1) in
     let w = bound (Scanning.new_name names a.0.name) _ _ v.2 in
     let named = wanted (is_name a.0.name && not (is_among names a.0.name)) NotCanonical w.0 w.1 in
@@ -269,9 +361,15 @@ export_step s e x kind r running h =
     let form : is_good_form n i a.0.form ≡ true = and (is_within n i a.0.form && is_normal a.0.form) (nat_le (nodes a.0.form) node_limit) (and (is_within n i a.0.form) (is_normal a.0.form) there (left (is_normal a.0.form) (nat_le (nodes a.0.form) node_limit) fine)) (right (is_normal a.0.form) (nat_le (nodes a.0.form) node_limit) fine) in
     let xs = s.exports ++ a.0 ∷ [] in
     let good_one = λ (z : Export). is_good_form n i z.form in
-    let item = item_is _ (item.Export a.0.name a.0.line a.0.form) x y.2 in
+    let placed = λ (z : Export). is_good_origin s.version (length s.files) z.origin in
+    let item = item_is _ (item.Export a.0.name a.0.origin a.0.form) x y.2 in
     subst (λ (j : Item). Step s (with_item s j) e) item (record {
       good = record {
+        version = r.version;
+        files = r.files;
+        values = r.values;
+        export_origins = list_all-append placed s.exports (a.0 ∷ []) ∙ and (list_all placed s.exports) (list_all placed (a.0 ∷ [])) r.export_origins (and (placed a.0) true origin refl);
+        assert_origins = r.assert_origins;
         imports = r.imports;
         names = r.names;
         export_names = ap are_names (map-append (λ (z : Export). z.name) s.exports (a.0 ∷ [])) ∙ names_push names a.0.name r.export_names (left (is_name a.0.name) (not (is_among names a.0.name)) named) (turned (is_among names a.0.name) (right (is_name a.0.name) (not (is_among names a.0.name)) named));
@@ -286,18 +384,20 @@ export_step s e x kind r running h =
         failed = r.failed;
       };
       reached = λ es was read.
-          let is = export_reads e.body a.0 read.bytes a.1 in
+          let is = export_reads s.version e.body a.0 read.bytes a.1 in
           let e_is : e ≡ export_entry a.0 = (λ k. record { kind = kind k; body = is.0 k }) in
           let imports = map import_entry s.imports in
           let b = map heading_entry s.drafts in
           let c = flat_map content_entries s.drafts in
           record {
             entries =
-                ap (λ ys. ys ++ e ∷ []) (was.entries ∙ (λ k. rows imports b c (map export_entry s.exports) (map assert_entry (no_asserts k)) (end_entries (running k))))
+                behind (map file_entry s.files) (entries_so_far s) _ es e was.entries
+                (ap (λ ys. ys ++ e ∷ []) (λ k. rows imports b c (map export_entry s.exports) (map assert_entry (no_asserts k)) (end_entries (running k)))
                 ∙ row_4 imports b c (map export_entry s.exports) (e ∷ [])
                 ∙ ap (λ z. rows imports b c (map export_entry s.exports ++ z ∷ []) [] []) e_is
                 ∙ ap (λ ys. rows imports b c ys [] []) (sym (map-append export_entry s.exports (a.0 ∷ [])))
-                ∙ sym (λ k. rows imports b c (map export_entry xs) (map assert_entry (no_asserts k)) (end_entries (running k)));
+                ∙ sym (λ k. rows imports b c (map export_entry xs) (map assert_entry (no_asserts k)) (end_entries (running k))));
+            files = was.files;
             drafts = was.drafts;
             exports = all_push FitExport s.exports a.0 was.exports (is.1, is.2);
             asserts = was.asserts;
@@ -315,16 +415,24 @@ assert_step s e x kind r running h =
     let i = length s.imports in
     let u = bound (Scanning.wants (list_all Scanning.is_filled o.rooms) OutOfOrder) _ _ h in
     let full = sym (all_full s.drafts) ∙ wanted (list_all Scanning.is_filled o.rooms) OutOfOrder u.0 u.1 in
-    let g = bound (assert_of e.body) _ _ u.2 in
-    let v = bound (Scanning.known (length o.rooms) i g.0.form) _ _ g.2 in
+    let g = bound (assert_of s.version e.body) _ _ u.2 in
+    let t = bound (Scanning.known_file (length s.files) g.0.origin) _ _ g.2 in
+    let origin : is_good_origin s.version (length s.files) g.0.origin ≡ true = and (has_file_by s.version g.0.origin.file) (has_file (length s.files) g.0.origin.file) (assert_by s.version e.body g.0 g.1) (wanted (has_file (length s.files) g.0.origin.file) IndexOutOfRange t.0 t.1) in
+    let v = bound (Scanning.known (length o.rooms) i g.0.form) _ _ t.2 in
     let w = bound (Scanning.canonical_open g.0.form) _ _ v.2 in
     let form = open_form n i g.0.form v.0 w.0 (known_in s g.0.form v.0 v.1) w.1 in
     let xs = s.asserts ++ g.0 ∷ [] in
     let good_one = λ (z : Assert). is_open_form n i z.form in
     let small_one = λ (z : Assert). is_small_text z.text in
-    let item = item_is _ (item.Assert g.0.action g.0.line g.0.text g.0.form) x w.2 in
+    let placed = λ (z : Assert). is_good_origin s.version (length s.files) z.origin in
+    let item = item_is _ (item.Assert g.0.action g.0.origin g.0.text g.0.form) x w.2 in
     subst (λ (j : Item). Step s (with_item s j) e) item (record {
       good = record {
+        version = r.version;
+        files = r.files;
+        values = r.values;
+        export_origins = r.export_origins;
+        assert_origins = list_all-append placed s.asserts (g.0 ∷ []) ∙ and (list_all placed s.asserts) (list_all placed (g.0 ∷ [])) r.assert_origins (and (placed g.0) true origin refl);
         imports = r.imports;
         names = r.names;
         export_names = r.export_names;
@@ -339,7 +447,7 @@ assert_step s e x kind r running h =
         failed = r.failed;
       };
       reached = λ es was read.
-          let is = assert_reads e.body g.0 read.bytes g.1 in
+          let is = assert_reads s.version e.body g.0 read.bytes g.1 in
           let e_is : e ≡ assert_entry g.0 = (λ k. record { kind = kind k; body = is.spelled k }) in
           let small : is_small_text g.0.text ≡ true = short g.0.text is.text in
           let a = map import_entry s.imports in
@@ -348,14 +456,16 @@ assert_step s e x kind r running h =
           let d = map export_entry s.exports in
           record {
             entries =
-                ap (λ ys. ys ++ e ∷ []) (was.entries ∙ (λ k. rows a b c d (map assert_entry s.asserts) (end_entries (running k))))
+                behind (map file_entry s.files) (entries_so_far s) _ es e was.entries
+                (ap (λ ys. ys ++ e ∷ []) (λ k. rows a b c d (map assert_entry s.asserts) (end_entries (running k)))
                 ∙ row_5 a b c d (map assert_entry s.asserts) (e ∷ [])
                 ∙ ap (λ z. rows a b c d (map assert_entry s.asserts ++ z ∷ []) []) e_is
                 ∙ ap (λ ys. rows a b c d ys []) (sym (map-append assert_entry s.asserts (g.0 ∷ [])))
-                ∙ sym (λ k. rows a b c d (map assert_entry xs) (end_entries (running k)));
+                ∙ sym (λ k. rows a b c d (map assert_entry xs) (end_entries (running k))));
+            files = was.files;
             drafts = was.drafts;
             exports = was.exports;
-            asserts = all_push FitAssert s.asserts g.0 was.asserts (is.line, is.form);
+            asserts = all_push FitAssert s.asserts g.0 was.asserts (is.origin, is.form);
             texts = list_all-append small_one s.asserts (g.0 ∷ []) ∙ and (list_all small_one s.asserts) (list_all small_one (g.0 ∷ [])) was.texts (and (small_one g.0) true small refl);
           };
     })
@@ -381,6 +491,11 @@ end_step s e x kind r running h =
     let f = map assert_entry s.asserts in
     subst (λ (j : Item). Step s (with_item s j) e) item (record {
       good = record {
+        version = r.version;
+        files = r.files;
+        values = r.values;
+        export_origins = r.export_origins;
+        assert_origins = r.assert_origins;
         imports = r.imports;
         names = r.names;
         export_names = r.export_names;
@@ -395,7 +510,10 @@ end_step s e x kind r running h =
         failed = r.failed;
       };
       reached = λ es was read. record {
-        entries = ap (λ xs. xs ++ e ∷ []) (was.entries ∙ ap (λ x. rows a b c d f (end_entries x)) running) ∙ row_6 a b c d f (e ∷ []) ∙ ap (λ x. rows a b c d f (x ∷ [])) e_is;
+        entries =
+            behind (map file_entry s.files) (entries_so_far s) _ es e was.entries
+            (ap (λ xs. xs ++ e ∷ []) (ap (λ x. rows a b c d f (end_entries x)) running) ∙ row_6 a b c d f (e ∷ []) ∙ ap (λ x. rows a b c d f (x ∷ [])) e_is);
+        files = was.files;
         drafts = was.drafts;
         exports = was.exports;
         asserts = was.asserts;
@@ -423,11 +541,13 @@ same k j e = grind (arith, nat_tests)
 entry_step : (s : State) (e : Entry) (x : Scanning.Outline × Item) → GoodState s → s.ended ≡ false → Scanning.scan_entry (Scanning.outline_of s) e ≡ Ok x → Step s (with_item s x.1) e
 unfolding Scanning.scan_entry
 entry_step s e x r running h =
+    let m = length s.files in
     let n = length s.drafts in
     let i = length s.imports in
     let rooms = map Scanning.room_of s.drafts in
     let count : length rooms ≡ n = length-map s.drafts Scanning.room_of in
-    let known = passes (not (is_record_kind e.kind)) OutOfOrder _ _ h in
+    let known = passes (not (is_record_kind s.version e.kind)) OutOfOrder _ _ h in
+    let there = is_true (is_record_kind s.version e.kind) known.0 in
     let h1 = known.1 in
     elim (either (e.kind == 1)) [
       | inl is ↦ import_step s e x (same e.kind 1 is) r running (sym (chosen (e.kind == 1) _ _ is) ∙ h1)
@@ -436,20 +556,25 @@ entry_step s e x r running h =
         | inr not_2 ↦ let h3 = sym (other (e.kind == 2) _ _ not_2) ∙ h2 in elim (either (e.kind == 3)) [
           | inl is ↦
               let kind = same e.kind 3 is in
-              part_step s e x (Scanning.room_literal e.body) (λ d y good is. literal_grows n i e d y kind good is) r running (sym (chosen (e.kind == 3) _ _ is) ∙ h3)
+              part_step s e x (Scanning.room_literal e.body) (λ d y good is. literal_grows n i e d y kind good is) (λ d y is. literal_placed s.version m e.body (Scanning.room_of d) y is) r running (sym (chosen (e.kind == 3) _ _ is) ∙ h3)
           | inr not_3 ↦ let h4 = sym (other (e.kind == 3) _ _ not_3) ∙ h3 in elim (either (e.kind == 4)) [
             | inl is ↦
                 let kind = same e.kind 4 is in
-                part_step s e x (Scanning.room_fill e.body) (λ d y good is. fill_grows n i e d y kind good is) r running (sym (chosen (e.kind == 4) _ _ is) ∙ h4)
+                part_step s e x (Scanning.room_fill e.body) (λ d y good is. fill_grows n i e d y kind good is) (λ d y is. fill_placed s.version m e.body (Scanning.room_of d) y is) r running (sym (chosen (e.kind == 4) _ _ is) ∙ h4)
             | inr not_4 ↦ let h5 = sym (other (e.kind == 4) _ _ not_4) ∙ h4 in elim (either (e.kind == 5)) [
               | inl is ↦
                   let kind = same e.kind 5 is in
-                  part_step s e x (Scanning.room_value (length rooms) i e.body) (λ d y good is. value_grows n i e d y kind good (ap (λ m. Scanning.room_value m i e.body (Scanning.room_of d)) (sym count) ∙ is)) r running (sym (chosen (e.kind == 5) _ _ is) ∙ h5)
+                  part_step s e x (Scanning.room_value s.version m (length rooms) i e.body) (λ d y good is. value_grows s.version m n i e d y kind good (ap (λ k. Scanning.room_value s.version m k i e.body (Scanning.room_of d)) (sym count) ∙ is)) (λ d y is. value_placed s.version m (length rooms) i e.body (Scanning.room_of d) y is) r running (sym (chosen (e.kind == 5) _ _ is) ∙ h5)
               | inr not_5 ↦ let h6 = sym (other (e.kind == 5) _ _ not_5) ∙ h5 in elim (either (e.kind == 6)) [
                 | inl is ↦ export_step s e x (same e.kind 6 is) r running (sym (chosen (e.kind == 6) _ _ is) ∙ h6)
                 | inr not_6 ↦ let h7 = sym (other (e.kind == 6) _ _ not_6) ∙ h6 in elim (either (e.kind == 7)) [
                   | inl is ↦ assert_step s e x (same e.kind 7 is) r running (sym (chosen (e.kind == 7) _ _ is) ∙ h7)
-                  | inr not_7 ↦ end_step s e x (eight e.kind (is_true (is_record_kind e.kind) known.0) not_1 not_2 not_3 not_4 not_5 not_6 not_7) r running (sym (other (e.kind == 7) _ _ not_7) ∙ h7)
+                  | inr not_7 ↦ let h8 = sym (other (e.kind == 7) _ _ not_7) ∙ h7 in elim (either (e.kind == 9)) [
+                    | inl is ↦
+                        let kind = same e.kind 9 is in
+                        file_step s e x kind (ap (is_record_kind s.version) (sym kind) ∙ there) r running (sym (chosen (e.kind == 9) _ _ is) ∙ h8)
+                    | inr not_9 ↦ end_step s e x (eight s.version e.kind there not_1 not_2 not_3 not_4 not_5 not_6 not_7 not_9) r running (sym (other (e.kind == 9) _ _ not_9) ∙ h8)
+                  ]
                 ]
               ]
             ]
@@ -462,15 +587,21 @@ entry_step s e x r running h =
     is_true true e = refl
     is_true false e = cc
 
-    bounds : (k : ℕ) → is_record_kind k ≡ true → (1 ≤ k) × (k ≤ 8)
-    bounds k known =
-        let low = left (nat_le 1 k) (nat_le k 8) known in
-        let high = right (nat_le 1 k) (nat_le k 8) known in
-        (grind (arith, nat_tests), grind (arith, nat_tests))
+    bounds : (v k : ℕ) → is_record_kind v k ≡ true → (1 ≤ k) × (k ≤ 9)
+    bounds v k known = go (v == 1) known where
+      go : (b : Bool) → (nat_le 1 k && nat_le k (if b then 8 else 9)) ≡ true → (1 ≤ k) × (k ≤ 9)
+      go true known =
+          let low = left (nat_le 1 k) (nat_le k 8) known in
+          let high = right (nat_le 1 k) (nat_le k 8) known in
+          (grind (arith, nat_tests), grind (arith, nat_tests))
+      go false known =
+          let low = left (nat_le 1 k) (nat_le k 9) known in
+          let high = right (nat_le 1 k) (nat_le k 9) known in
+          (grind (arith, nat_tests), grind (arith, nat_tests))
 
-    eight : (k : ℕ) → is_record_kind k ≡ true → (k == 1) ≡ false → (k == 2) ≡ false → (k == 3) ≡ false → (k == 4) ≡ false → (k == 5) ≡ false → (k == 6) ≡ false → (k == 7) ≡ false → k ≡ 8
-    eight k known a b c d f g h =
-        let ends = bounds k known in
+    eight : (v k : ℕ) → is_record_kind v k ≡ true → (k == 1) ≡ false → (k == 2) ≡ false → (k == 3) ≡ false → (k == 4) ≡ false → (k == 5) ≡ false → (k == 6) ≡ false → (k == 7) ≡ false → (k == 9) ≡ false → k ≡ 8
+    eight v k known a b c d f g h j =
+        let ends = bounds v k known in
         let low = ends.0 in
         let high = ends.1 in
         grind (arith, nat_tests)
@@ -497,8 +628,13 @@ after_steps (e ∷ rest) s t es good r all h =
     let step = after_step s u.0 e good u.1 in
     rw (← append_assoc es (e ∷ []) rest) (after_steps rest u.0 t (es ++ e ∷ []) step.good (step.reached es r all.0) all.1 u.2)
 
-pub good_start : GoodState start
-good_start = record {
+pub good_start : (v : ℕ) → is_version v ≡ true → GoodState (start v)
+good_start v known = record {
+  version = known;
+  files = none_of_any (v == 1);
+  values = refl;
+  export_origins = refl;
+  assert_origins = refl;
   imports = refl;
   names = refl;
   export_names = refl;
@@ -512,6 +648,10 @@ good_start = record {
   asserts = refl;
   failed = refl;
 }
+  where
+    none_of_any : (b : Bool) → (if b then (let none : List (List ℕ) = [] in length none) == 0 else true) ≡ true
+    none_of_any true = refl
+    none_of_any false = refl
 
-pub at_start : Reached start []
-at_start = record { entries = refl; drafts = tt; exports = tt; asserts = tt; texts = refl }
+pub at_start : (v : ℕ) → Reached (start v) []
+at_start v = record { entries = refl; files = tt; drafts = tt; exports = tt; asserts = tt; texts = refl }

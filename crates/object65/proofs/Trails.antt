@@ -5,12 +5,13 @@ use Rattle.byteorder.specs.Endian.{little_bytes}
 use Rattle.object65.specs.declared.fault.ObjectFault.{ObjectFault}
 use Rattle.object65.specs.declared.fault.ObjectFault.TheVariants.{OutOfOrder, FailedBefore}
 use Rattle.object65.specs.declared.item.Item.{Item}
+use Rattle.object65.specs.declared.item.Item.TheVariants as item
 use Rattle.object65.specs.Bytes.{IsBytes}
 use Rattle.object65.specs.Fault.{◌>>=◌}
 use Rattle.object65.specs.Record.{Entry, is_record_kind}
 use Rattle.object65.specs.Reading.{room, record_at, file_limit}
 use Rattle.object65.specs.Spelling.{entry_bytes, body_limit}
-use Rattle.object65.specs.Items.{State}
+use Rattle.object65.specs.Items.{State, with_item}
 use Rattle.object65.specs.Scanning.{Outline, outline_of, scanned}
 use Rattle.object65.specs.Taking.{after, after_all}
 use Rattle.object65.specs.Whole.{records_at}
@@ -18,7 +19,6 @@ use Rattle.object65.proofs.Rooms.{bound, passes, record_takes, record_again, Tak
 
 -- a record that was read
 pub record IsReadEntry (e : Entry) : Type 0 where
-  pub kind : is_record_kind e.kind ≡ true
   pub short : length e.body ≤ body_limit
   pub bytes : IsBytes e.body
 
@@ -60,7 +60,6 @@ read_entry : (bytes : List ℕ) (limit at : ℕ) (x : Entry × ℕ) → IsBytes 
 read_entry bytes limit at x is read =
     let inside : IsBytes (entry_bytes x.0 ++ room bytes x.1 limit) = λ i. subst (λ (ys : List ℕ). get_or ys i 0 < 256) read.spelled (is i) in
     record {
-      kind = read.kind;
       short = read.short;
       bytes = bytes_back (x.0.kind ∷ little_bytes 2 (length x.0.body)) x.0.body (bytes_front (entry_bytes x.0) (room bytes x.1 limit) inside);
     }
@@ -88,9 +87,9 @@ one_more bytes limit at end s t u x es one read h rest = record {
 pub trail : (left : ℕ) (bytes : List ℕ) (limit at : ℕ) (s t : State) (end : ℕ) → IsBytes (room bytes at limit) → records_at left s at limit bytes ≡ Ok (t, end) → (es : List Entry) × Trail bytes limit at end s t es
 trail zero bytes limit at s t end is e = cc
 trail (suc left) bytes limit at s t end is e =
-    let r = bound (record_at at limit bytes) _ _ e in
+    let r = bound (record_at s.version at limit bytes) _ _ e in
     let u = bound (after s r.0.0) _ _ r.2 in
-    let read = record_takes bytes at limit r.0 is r.1 in
+    let read = record_takes s.version bytes at limit r.0 is r.1 in
     let one = read_entry bytes limit at r.0 is read in
     elim (either u.0.ended) [
       | inl over ↦
@@ -113,32 +112,54 @@ ended_stops s e u over h = let x = bound (scanned (outline_of s) e) _ _ h in bot
   both : (b : Bool) → b ≡ true → b ≡ false → ⊥
   both b p q = cc
 
+-- a record leaves the version
+pub version_kept : (s u : State) (e : Entry) → after s e ≡ Ok u → u.version ≡ s.version
+unfolding after
+version_kept s u e h =
+    let x = bound (scanned (outline_of s) e) _ _ h in
+    let made : with_item s x.0.1 ≡ u = (let z = x.2 in cc) in
+    ap (λ (v : State). v.version) (sym made) ∙ keeps x.0.1
+  where
+    keeps : (i : Item) → (with_item s i).version ≡ s.version
+    keeps (item.File name) = refl
+    keeps (item.Import name) = refl
+    keeps (item.Section name size align) = refl
+    keeps (item.Part k offset f) = refl
+    keeps (item.Export name origin form) = refl
+    keeps (item.Assert action origin text form) = refl
+    keeps item.End = refl
+
+pub versions_kept : (es : List Entry) (s t : State) → after_all s es ≡ Ok t → t.version ≡ s.version
+versions_kept [] s t h = let here : s ≡ t = cc in ap (λ (u : State). u.version) (sym here)
+versions_kept (e ∷ es) s t h = let u = bound (after s e) _ _ h in versions_kept es u.0 t u.2 ∙ version_kept s u.0 e u.1
+
 -- records that may follow each other and stand there are read
-pub trail_again : (es : List Entry) (left : ℕ) (bytes : List ℕ) (limit at : ℕ) (s t : State) (rest : List ℕ) → length es ≤ left → after_all s es ≡ Ok t → s.ended ≡ false → t.ended ≡ true → room bytes at limit ≡ flat_map entry_bytes es ++ rest → AllByRecursion (λ e. (is_record_kind e.kind ≡ true) × (length e.body ≤ body_limit)) es → at + length (flat_map entry_bytes es) ≤ file_limit → (end : ℕ) × (records_at left s at limit bytes ≡ Ok (t, end)) × (room bytes end limit ≡ rest)
-trail_again [] left bytes limit at s t rest long taken running ended spelled each within =
+pub trail_again : (v : ℕ) (es : List Entry) (left : ℕ) (bytes : List ℕ) (limit at : ℕ) (s t : State) (rest : List ℕ) → s.version ≡ v → length es ≤ left → after_all s es ≡ Ok t → s.ended ≡ false → t.ended ≡ true → room bytes at limit ≡ flat_map entry_bytes es ++ rest → AllByRecursion (λ e. (is_record_kind v e.kind ≡ true) × (length e.body ≤ body_limit)) es → at + length (flat_map entry_bytes es) ≤ file_limit → (end : ℕ) × (records_at left s at limit bytes ≡ Ok (t, end)) × (room bytes end limit ≡ rest)
+trail_again v [] left bytes limit at s t rest same_version long taken running ended spelled each within =
     let same : s ≡ t = cc in
     cc (ap (λ (v : State). v.ended) same)
-trail_again (e ∷ es) zero bytes limit at s t rest long taken running ended spelled each within = absurd (omega arith)
-trail_again (e ∷ es) (suc left) bytes limit at s t rest long taken running ended spelled each within =
+trail_again v (e ∷ es) zero bytes limit at s t rest same_version long taken running ended spelled each within = absurd (omega arith)
+trail_again v (e ∷ es) (suc left) bytes limit at s t rest same_version long taken running ended spelled each within =
     let u = bound (after s e) _ _ taken in
     let n = length (flat_map entry_bytes es) in
     let whole_len : length (flat_map entry_bytes (e ∷ es)) ≡ 3 + length e.body + n = omega (arith, length-append (entry_bytes e) (flat_map entry_bytes es)) in
     let inside : room bytes at limit ≡ entry_bytes e ++ (flat_map entry_bytes es ++ rest) = spelled ∙ append_assoc (entry_bytes e) (flat_map entry_bytes es) rest in
-    let one = record_again bytes at limit e (flat_map entry_bytes es ++ rest) inside each.0.0 each.0.1 (omega arith) in
+    let again = record_again v bytes at limit e (flat_map entry_bytes es ++ rest) inside each.0.0 each.0.1 (omega arith) in
+    let read : record_at s.version at limit bytes ≡ Ok (e, at + 3 + length e.body) = ap (λ k. record_at k at limit bytes) same_version ∙ again.0 in
     elim (either u.0.ended) [
       | inl over ↦
           let last = no_more es u.0 t over u.2 in (
             at + 3 + length e.body,
-            ap (λ r. r >>= (λ x. after s x.0 >>= (λ v. if v.ended then Ok (v, x.1) else records_at left v x.1 limit bytes))) one.0
+            ap (λ r. r >>= (λ x. after s x.0 >>= (λ v. if v.ended then Ok (v, x.1) else records_at left v x.1 limit bytes))) read
                 ∙ ap (λ r. r >>= (λ v. if v.ended then Ok (v, at + 3 + length e.body) else records_at left v (at + 3 + length e.body) limit bytes)) u.1
                 ∙ chosen u.0.ended _ _ over
                 ∙ ap (λ v. Ok (v, at + 3 + length e.body)) last.1,
-            one.1 ∙ ap (λ xs. flat_map entry_bytes xs ++ rest) last.0,
+            again.1 ∙ ap (λ xs. flat_map entry_bytes xs ++ rest) last.0,
           )
       | inr not_yet ↦
-          let more = trail_again es left bytes limit (at + 3 + length e.body) u.0 t rest (omega arith) u.2 not_yet ended one.1 each.1 (omega arith) in (
+          let more = trail_again v es left bytes limit (at + 3 + length e.body) u.0 t rest (version_kept s u.0 e u.1 ∙ same_version) (omega arith) u.2 not_yet ended again.1 each.1 (omega arith) in (
             more.0,
-            ap (λ r. r >>= (λ x. after s x.0 >>= (λ v. if v.ended then Ok (v, x.1) else records_at left v x.1 limit bytes))) one.0
+            ap (λ r. r >>= (λ x. after s x.0 >>= (λ v. if v.ended then Ok (v, x.1) else records_at left v x.1 limit bytes))) read
                 ∙ ap (λ r. r >>= (λ v. if v.ended then Ok (v, at + 3 + length e.body) else records_at left v (at + 3 + length e.body) limit bytes)) u.1
                 ∙ other u.0.ended _ _ not_yet
                 ∙ more.1,

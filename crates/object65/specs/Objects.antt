@@ -69,10 +69,14 @@ is_name name = nat_lt 0 (length name) && nat_lt (length name) 256 && list_all is
 abbrev pub is_among : List (List ℕ) → List ℕ → Bool
 is_among names name = list_any (λ n. pointwise nat_eq name n) names
 
+-- names that pass, none twice
+abbrev pub are_distinct : (List ℕ → Bool) → List (List ℕ) → Bool
+are_distinct passes [] = true
+are_distinct passes (name ∷ names) = passes name && not (is_among names name) && are_distinct passes names
+
 -- good names, none twice
 abbrev pub are_names : List (List ℕ) → Bool
-are_names [] = true
-are_names (name ∷ names) = is_name name && not (is_among names name) && are_names names
+are_names names = are_distinct is_name names
 
 -- ---- Files and origins.
 
@@ -80,14 +84,13 @@ are_names (name ∷ names) = is_name name && not (is_among names name) && are_na
 abbrev pub file_name_limit : ℕ
 file_name_limit = 4096
 
--- names of files, none twice; any bytes stand in them, also none
-abbrev pub are_file_names : List (List ℕ) → Bool
-are_file_names [] = true
-are_file_names (name ∷ names) = nat_le (length name) file_name_limit && not (is_among names name) && are_file_names names
+-- any bytes, also none
+abbrev pub is_file_name : List ℕ → Bool
+is_file_name name = nat_le (length name) file_name_limit
 
--- version 1 has no files
+-- version 1 has no files, and no other has two of one name
 abbrev pub are_files_of : ℕ → List (List ℕ) → Bool
-are_files_of version files = if version == 1 then length files == 0 else are_file_names files
+are_files_of version files = if version == 1 then length files == 0 else are_distinct is_file_name files
 
 -- the file of an origin is there, of so many, where it has one
 abbrev pub has_file : ℕ → Option ℕ → Bool

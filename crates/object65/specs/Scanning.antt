@@ -18,7 +18,7 @@ use Rattle.object65.specs.Fault.{◌>>=◌}
 use Rattle.object65.specs.Folding.{is_within, is_normal, is_literal, node_limit}
 use Rattle.object65.specs.Form.{Form, nodes}
 use Rattle.object65.specs.Items.{State, is_none, closed}
-use Rattle.object65.specs.Objects.{is_name, is_among, file_name_limit, fragment_len, has_file, section_limit, width_len}
+use Rattle.object65.specs.Objects.{is_name, is_among, is_file_name, fragment_len, has_file, section_limit, width_len}
 use Rattle.object65.specs.Record.{Entry, is_record_kind}
 use Rattle.object65.specs.Spelling.{body_limit}
 use Rattle.object65.specs.Small.{is_small_text}
@@ -159,7 +159,7 @@ room_value version files sections imports body r = do
 unfoldable pub scan_file : Outline → List ℕ → Result (Outline × Item) ObjectFault
 scan_file o body = do
   u ← wants (is_none o.imports && is_none o.rooms && is_none o.exports && not o.asserting) OutOfOrder
-  t ← wants (nat_le (length body) file_name_limit) BadSize
+  t ← wants (is_file_name body) BadSize
   v ← new_file o.files body
   Ok (record o { files = o.files ++ body ∷ [] }, File body)
 

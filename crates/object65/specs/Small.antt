@@ -9,13 +9,10 @@ use Rattle.object65.specs.declared.object.Fragment.{Fragment}
 use Rattle.object65.specs.declared.object.Fragment.TheVariants.{Literal, Fill, Value}
 use Rattle.object65.specs.Folding.{node_limit}
 use Rattle.object65.specs.Form.{Form, nodes}
-use Rattle.object65.specs.Objects.{file_name_limit, section_len, section_limit}
+use Rattle.object65.specs.Objects.{is_file_name, section_len, section_limit}
 
 abbrev pub is_small_text : List ℕ → Bool
 is_small_text text = nat_lt (length text) 256
-
-abbrev pub is_small_file : List ℕ → Bool
-is_small_file name = nat_le (length name) file_name_limit
 
 abbrev pub is_small_form : Form → Bool
 is_small_form f = nat_le (nodes f) node_limit
@@ -35,4 +32,4 @@ abbrev pub is_small_assert : Assert → Bool
 is_small_assert a = is_small_text a.text && is_small_form a.form
 
 abbrev pub is_small : Object → Bool
-is_small o = list_all is_small_file o.files && list_all is_small_text o.imports && list_all is_small_section o.sections && list_all is_small_export o.exports && list_all is_small_assert o.asserts
+is_small o = list_all is_file_name o.files && list_all is_small_text o.imports && list_all is_small_section o.sections && list_all is_small_export o.exports && list_all is_small_assert o.asserts

@@ -5,9 +5,9 @@ ghost use Rattle.std.specs.List.{flat_map, list_all};
 ghost use Rattle.std.specs.Int.{w64, cast_unsigned};
 ghost use Rattle.byteorder.specs.Endian.{little_bytes};
 ghost use Rattle.object65.specs.Form.{nodes, sec};
-ghost use Rattle.object65.specs.Objects.{is_good_object, fragment_len, section_len, section_limit};
+ghost use Rattle.object65.specs.Objects.{is_file_name, is_good_object, fragment_len, section_len, section_limit};
 ghost use Rattle.object65.specs.Operators.{number2};
-ghost use Rattle.object65.specs.Small.{is_small_file, is_small_text, is_small_form, is_small_fragment, is_small_section, is_small_export, is_small_assert};
+ghost use Rattle.object65.specs.Small.{is_small_text, is_small_form, is_small_fragment, is_small_section, is_small_export, is_small_assert};
 ghost use Rattle.object65.specs.Spelling.{code1, form_bytes, width_code, action_code, body_limit, entry_bytes, literal_entries, fragment_entries, fill_entry, value_entry, origin_bytes, file_entry, import_entry, section_entry, export_entry, assert_entry, entries_of, object_bytes};
 
 use crate::record::{ASSERT, END, EXPORT, FILE, FILL, IMPORT, LITERAL, SECTION, VALUE};
@@ -229,7 +229,7 @@ fn put_contents(alloc: Global, out: &mut Vec<u8>, sections: &[Section]) -> Resul
 }
 
 fn put_files(out: &mut Vec<u8>, files: &[Sequence<u8>]) -> Result<(), AllocError>
-    requires { list_all is_small_file files.now ≡ true }
+    requires { list_all is_file_name files.now ≡ true }
     ensures { OnOk result (out.new.items ≡ out.old.items ++ flat_map entry_bytes (map file_entry files.now)) }
 {
     for name in files {
@@ -346,7 +346,7 @@ fn put_asserts(alloc: Global, out: &mut Vec<u8>, asserts: &[Assert]) -> Result<(
 
 /// Adds the records of an object.
 fn put_object(alloc: Global, out: &mut Vec<u8>, object: &Object) -> Result<(), AllocError>
-    requires files { list_all is_small_file object.now.files ≡ true }
+    requires files { list_all is_file_name object.now.files ≡ true }
     requires imports { list_all is_small_text object.now.imports ≡ true }
     requires sections { list_all is_small_section object.now.sections ≡ true }
     requires exports { list_all is_small_export object.now.exports ≡ true }

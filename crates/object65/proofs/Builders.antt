@@ -8,7 +8,7 @@ use Rattle.object65.specs.declared.object.Section.{Section}
 use Rattle.std.specs.Prelude.{IfOk}
 use Rattle.object65.specs.Fault.{◌>>=◌, Gives, is_memory}
 use Rattle.object65.specs.Objects.{is_good_object, is_good_section, is_good_fragment, are_apart, section_len, section_limit}
-use Rattle.object65.specs.Record.{Entry}
+use Rattle.object65.specs.Record.{Entry, is_version}
 use Rattle.object65.specs.Small.{is_small_text}
 use Rattle.object65.specs.Taking
 use Rattle.object65.proofs.Goods.{left, right, parts}
@@ -16,6 +16,7 @@ use Rattle.object65.proofs.Readings.{finished_good}
 use Rattle.object65.proofs.Reached.{GoodState}
 use Rattle.object65.proofs.Rooms.{bound}
 use Rattle.object65.proofs.Steps.{good_after, good_start}
+use Rattle.object65.proofs.Trails.{version_kept}
 
 after_last : (s t u : Taking.State) (es : List Entry) (e : Entry) → Taking.after_all s es ≡ Ok t → Taking.after t e ≡ Ok u → Taking.after_all s (es ++ e ∷ []) ≡ Ok u
 after_last s t u [] e h k = let same : s ≡ t = cc in ap (λ r. r >>= (λ v. Ok v)) (ap (λ (v : Taking.State). Taking.after v e) same ∙ k)
@@ -25,20 +26,23 @@ after_last s t u (x ∷ es) e h k =
 
 -- what a record leads to is reached
 pub reached_next : (s t : Taking.State) (e : Entry) → Taking.IsReached s → Taking.after s e ≡ Ok t → Taking.IsReached t
-reached_next s t e r h = record {
-  records = r.records ++ e ∷ [];
-  stands = after_last Taking.start s t r.records e r.stands h;
-}
+reached_next s t e r h =
+    let same = version_kept s t e h in
+    record {
+      version = ap is_version same ∙ r.version;
+      records = r.records ++ e ∷ [];
+      stands = ap (λ v. Taking.after_all (Taking.start v) (r.records ++ e ∷ [])) same ∙ after_last (Taking.start s.version) s t r.records e r.stands h;
+    }
 
-pub reached_start : Taking.IsReached Taking.start
-reached_start = record { records = []; stands = refl }
+pub reached_start : (v : ℕ) → is_version v ≡ true → Taking.IsReached (Taking.start v)
+reached_start v known = record { version = known; records = []; stands = refl }
 
 good_all : (s t : Taking.State) (es : List Entry) → GoodState s → Taking.after_all s es ≡ Ok t → GoodState t
 good_all s t [] g h = let same : s ≡ t = cc in subst GoodState same g
 good_all s t (e ∷ es) g h = let u = bound (Taking.after s e) _ _ h in good_all u.0 t es (good_after s u.0 e g u.1) u.2
 
 pub reached_parts : (s : Taking.State) → Taking.IsReached s → GoodState s
-reached_parts s r = good_all Taking.start s r.records good_start r.stands
+reached_parts s r = good_all (Taking.start s.version) s r.records (good_start s.version r.version) r.stands
 
 pub reached_good : (s : Taking.State) → Taking.IsReached s → list_all (λ a. is_small_text a.text) s.asserts ≡ true → s.ended ≡ true → is_good_object (Taking.object_from s) ≡ true
 reached_good s r texts ended = finished_good s (reached_parts s r) texts ended

@@ -123,11 +123,15 @@ end_free body = chosen (length body == 0) _ _ (ok tt) bad
 pub room_free : (r : Room) (len : ℕ) → IsFree (Scanning.room_for r len)
 room_free r len = wants_size (nat_le len (r.size - r.filled))
 
-pub known_file_free : (n : ℕ) (o : Origin) → IsFree (Scanning.known_file n o)
+known_file_free : (n : ℕ) (o : Origin) → IsFree (Scanning.known_file n o)
 known_file_free n o = wants_index (has_file n o.file)
 
-pub known_free : (n i : ℕ) (f : Form) → IsFree (Scanning.known n i f)
+known_free : (n i : ℕ) (f : Form) → IsFree (Scanning.known n i f)
 known_free n i f = wants_index (is_within n i f)
+
+pub parts_free : (m n i : ℕ) (o : Origin) (f : Form) → IsFree (Scanning.known_parts m n i o f)
+unfolding Scanning.known_parts
+parts_free m n i o f = bound _ _ (known_file_free m o) (λ u. known_free n i f)
 
 pub file_free : (names : List (List ℕ)) (name : List ℕ) → IsFree (Scanning.new_file names name)
 file_free names name = wants_canonical (is_utf8 name && not (is_among names name))

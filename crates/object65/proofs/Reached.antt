@@ -15,6 +15,7 @@ use Rattle.object65.specs.declared.fault.ObjectFault.TheVariants.{BadSize, NotCa
 use Rattle.object65.specs.declared.object.Export.{Export}
 use Rattle.object65.specs.declared.object.Assert.{Assert}
 use Rattle.object65.specs.declared.object.Fragment.{Fragment}
+use Rattle.object65.specs.declared.object.Origin.{Origin}
 use Rattle.object65.specs.declared.object.Fragment.TheVariants.{Literal, Fill, Value}
 use Rattle.object65.specs.declared.room.Room.{Room}
 use Rattle.object65.specs.Bodies.{Heading, section_of, literal_of, fill_of, value_of}
@@ -26,7 +27,7 @@ use Rattle.object65.specs.Record.{Entry, is_version}
 use Rattle.object65.specs.Small.{is_small_text}
 use Rattle.object65.specs.Spelling.{file_entry, import_entry, literal_entry, literal_entries, fragment_entries, export_entry, assert_entry, end_entry, body_limit}
 use Rattle.object65.specs.Items.{State, closed, grown, is_none, with_fragment, with_piece, with_piece_in}
-use Rattle.object65.specs.Scanning.{canonical_open, ends_in_fill, is_fill, is_short, known, known_file, last_of, room_fill, room_for, room_literal, room_of, room_value, wants}
+use Rattle.object65.specs.Scanning.{canonical_open, ends_in_fill, is_fill, is_short, known, known_file, known_parts, last_of, room_fill, room_for, room_literal, room_of, room_value, wants}
 use Rattle.object65.proofs.Closings.{turned, nil, all_push, last_joins, last_push, apart_push, value_apart, fill_last, shut_entries, shut_len, shut_good, shut_apart, shut_fits, shut_origins}
 use Rattle.object65.proofs.Fields.{fill_reads, value_by, value_reads}
 use Rattle.object65.proofs.Goods.{left, right, and}
@@ -310,6 +311,11 @@ fill_grows n i e d x kind good h =
     rw (← x_is) (fragment_grows n i e d (Fill c.0) good (room_left d c.0 u.0 u.1) some (sym (fill_last (closed d) c.0) ∙ alone) (λ bytes. refl)
     (λ read. let is = fill_reads e.body c.0 read.bytes c.1 in ((λ k. record { kind = sym kind k; body = sym is.0 k } ∷ []), is.1)))
 
+-- a part names what is there
+pub parts_known : (m n i : ℕ) (o : Origin) (f : Form) (u : Unit {0}) → known_parts m n i o f ≡ Ok u → (has_file m o.file ≡ true) × (known n i f ≡ Ok u)
+unfolding known_parts
+parts_known m n i o f u h = let t = bound (known_file m o) _ _ h in (wanted (has_file m o.file) IndexOutOfRange t.0 t.1, t.2)
+
 -- what is known of a form that a value or an assertion holds
 pub open_form : (n i : ℕ) (f : Form) (u v : Unit {0}) → known n i f ≡ Ok u → canonical_open f ≡ Ok v → is_open_form n i f ≡ true
 open_form n i f u v k c =
@@ -325,12 +331,11 @@ unfolding room_value
 value_grows v m n i e d x kind good h =
     let c = bound (value_of v e.body) _ _ h in
     let u = bound (room_for (room_of d) (width_len c.0.0)) _ _ c.2 in
-    let t = bound (known_file m c.0.1) _ _ u.2 in
-    let k = bound (known n i c.0.2) _ _ t.2 in
+    let k = bound (known_parts m n i c.0.1 c.0.2) _ _ u.2 in
     let w = bound (canonical_open c.0.2) _ _ k.2 in
     let item : Value c.0.0 c.0.1 c.0.2 ≡ x.1 = (let z = w.2 in cc) in
     let x_is : grown d (Value c.0.0 c.0.1 c.0.2) ≡ grown d x.1 = ap (λ (f : Fragment). grown d f) item in
-    rw (← x_is) (fragment_grows n i e d (Value c.0.0 c.0.1 c.0.2) good (room_left d (width_len c.0.0) u.0 u.1) (open_form n i c.0.2 k.0 w.0 k.1 w.1) (value_apart (closed d) c.0.0 c.0.1 c.0.2) (λ bytes. refl)
+    rw (← x_is) (fragment_grows n i e d (Value c.0.0 c.0.1 c.0.2) good (room_left d (width_len c.0.0) u.0 u.1) (open_form n i c.0.2 k.0 w.0 (parts_known m n i c.0.1 c.0.2 k.0 k.1).1 w.1) (value_apart (closed d) c.0.0 c.0.1 c.0.2) (λ bytes. refl)
     (λ read. let is = value_reads v e.body c.0 read.bytes c.1 in ((λ k. record { kind = sym kind k; body = sym is.0 k } ∷ []), (is.1, is.2))))
 
 -- ---- Where values stand.
@@ -358,11 +363,10 @@ unfolding room_value
 value_placed v m n i body r y h =
     let c = bound (value_of v body) _ _ h in
     let u = bound (room_for r (width_len c.0.0)) _ _ c.2 in
-    let t = bound (known_file m c.0.1) _ _ u.2 in
-    let k = bound (known n i c.0.2) _ _ t.2 in
+    let k = bound (known_parts m n i c.0.1 c.0.2) _ _ u.2 in
     let w = bound (canonical_open c.0.2) _ _ k.2 in
     let item : Value c.0.0 c.0.1 c.0.2 ≡ y.1 = (let z = w.2 in cc) in
-    ap (has_good_origin v m) (sym item) ∙ and (has_file_by v c.0.1.file) (has_file m c.0.1.file) (value_by v body c.0 c.1) (wanted (has_file m c.0.1.file) IndexOutOfRange t.0 t.1)
+    ap (has_good_origin v m) (sym item) ∙ and (has_file_by v c.0.1.file) (has_file m c.0.1.file) (value_by v body c.0 c.1) (parts_known m n i c.0.1 c.0.2 k.0 k.1).0
 
 values_grown : (v m : ℕ) (d : Draft) (f : Fragment) → has_good_values v m d ≡ true → has_good_origin v m f ≡ true → has_good_values v m (grown d f) ≡ true
 values_grown v m d (Literal bytes) good fine = good

@@ -26,7 +26,7 @@ use Rattle.object65.specs.Record.{Entry, is_record_kind}
 use Rattle.object65.specs.Scanning
 use Rattle.object65.specs.Spelling.{body_limit}
 use Rattle.object65.proofs.Closings.{nil, longer, closing_is, fill_last, last_push, last_joins}
-use Rattle.object65.proofs.Frees.{IsFree, astray, assert_free, canonical_free, end_free, export_free, failed, file_free, fill_free, known_file_free, known_free, literal_free, name_free, open_free, room_free, section_free, value_free, wants_astray, wants_canonical, wants_size}
+use Rattle.object65.proofs.Frees.{IsFree, astray, assert_free, canonical_free, end_free, export_free, failed, file_free, fill_free, parts_free, literal_free, name_free, open_free, room_free, section_free, value_free, wants_astray, wants_canonical, wants_size}
 use Rattle.object65.proofs.Openings.{Split, draft_there, grown_name, is_full, none_open, opens, room_there, seek}
 
 -- a fragment stands behind what was taken of its section
@@ -96,11 +96,10 @@ export_leads s body =
     let o = Scanning.outline_of s in
     read s false _ _ (wants_astray (list_all Scanning.is_filled o.rooms && not o.asserting)) (λ u.
     read s false _ _ (export_free s.version body) (λ e.
-    read s false _ _ (known_file_free (length s.files) e.origin) (λ t.
-    read s false _ _ (known_free (length o.rooms) (length o.imports) e.form) (λ v.
+    read s false _ _ (parts_free (length o.files) (length o.rooms) (length o.imports) e.origin e.form) (λ v.
     read s false _ _ (name_free o.exports e.name) (λ w.
     read s false _ _ (canonical_free e.form) (λ x.
-    (rw (map-append (λ x. x.name) s.exports (e ∷ [])) refl, tt, refl)))))))
+    (rw (map-append (λ x. x.name) s.exports (e ∷ [])) refl, tt, refl))))))
 
 assert_leads : (s : State) (body : List ℕ) → Leads s false (Scanning.scan_assert (Scanning.outline_of s) body)
 unfolding Scanning.scan_assert
@@ -108,10 +107,9 @@ assert_leads s body =
     let o = Scanning.outline_of s in
     read s false _ _ (wants_astray (list_all Scanning.is_filled o.rooms)) (λ u.
     read s false _ _ (assert_free s.version body) (λ a.
-    read s false _ _ (known_file_free (length s.files) a.origin) (λ t.
-    read s false _ _ (known_free (length o.rooms) (length o.imports) a.form) (λ v.
+    read s false _ _ (parts_free (length o.files) (length o.rooms) (length o.imports) a.origin a.form) (λ v.
     read s false _ _ (open_free a.form) (λ w.
-    (rw (some_push s.asserts a) refl, tt, refl))))))
+    (rw (some_push s.asserts a) refl, tt, refl)))))
 
 end_leads : (s : State) (body : List ℕ) → Leads s true (Scanning.scan_last (Scanning.outline_of s) body)
 unfolding Scanning.scan_last
@@ -232,10 +230,9 @@ unfolding Scanning.room_value
 value_leads v m n i body d =
     in_read d _ _ (value_free v body) (λ x is.
     in_read d _ _ (room_free (Scanning.room_of d) (width_len x.0)) (λ u room.
-    in_read d _ _ (known_file_free m x.1) (λ t here.
-    in_read d _ _ (known_free n i x.2) (λ y there.
+    in_read d _ _ (parts_free m n i x.1 x.2) (λ y there.
     in_read d _ _ (open_free x.2) (λ w fine.
-    ap (λ (l : Last). Scanning.room_behind (Scanning.room_of d) (width_len x.0) l) (behind_value d x.0 x.1 x.2))))))
+    ap (λ (l : Last). Scanning.room_behind (Scanning.room_of d) (width_len x.0) l) (behind_value d x.0 x.1 x.2)))))
 
 names_stay : (ds : List Draft) (k : ℕ) (d e : Draft) → slice_get ds k ≡ Some d → e.name ≡ d.name → map (λ x. x.name) (slice_set ds k e) ≡ map (λ x. x.name) ds
 names_stay [] k d e there same = refl

@@ -27,7 +27,7 @@ use Rattle.object65.specs.Taking.{after, after_all}
 use Rattle.object65.proofs.Closings.{turned, nil, all_push}
 use Rattle.object65.proofs.Fields.{export_by, export_reads, assert_by, assert_reads}
 use Rattle.object65.proofs.Goods.{left, right, and}
-use Rattle.object65.proofs.Reached.{Reached, GoodState, GoodDraft, IsEmptyDraft, FitExport, FitAssert, Grows, is_open_form, heading_entry, content_entries, distinct_push, end_entries, entries_so_far, fill_placed, has_good_values, literal_placed, rows, value_placed, values_with_piece, either, none_is, none_of, empties_none, empties_fill, empties_good, empties_fit, names_push, heading_read, heading_spelled, literal_grows, fill_grows, value_grows, open_form, goes_in}
+use Rattle.object65.proofs.Reached.{Reached, GoodState, GoodDraft, IsEmptyDraft, FitExport, FitAssert, Grows, is_open_form, heading_entry, content_entries, distinct_push, end_entries, entries_so_far, fill_placed, has_good_values, literal_placed, rows, value_placed, values_with_piece, either, none_is, none_of, empties_none, empties_fill, empties_good, empties_fit, names_push, heading_read, heading_spelled, parts_known, literal_grows, fill_grows, value_grows, open_form, goes_in}
 use Rattle.object65.proofs.Openings.{all_full, none_open, opened}
 use Rattle.object65.proofs.Rooms.{bound, passes}
 use Rattle.object65.proofs.Scannings.{wanted}
@@ -350,10 +350,10 @@ export_step s e x kind r running h =
     let full = sym (all_full s.drafts) ∙ left (list_all Scanning.is_filled o.rooms) (not o.asserting) stands in
     let no_asserts = none_asserted s (right (list_all Scanning.is_filled o.rooms) (not o.asserting) stands) in
     let a = bound (export_of s.version e.body) _ _ u.2 in
-    let t = bound (Scanning.known_file (length s.files) a.0.origin) _ _ a.2 in
-    let origin : is_good_origin s.version (length s.files) a.0.origin ≡ true = and (has_file_by s.version a.0.origin.file) (has_file (length s.files) a.0.origin.file) (export_by s.version e.body a.0 a.1) (wanted (has_file (length s.files) a.0.origin.file) IndexOutOfRange t.0 t.1) in
-    let v = bound (Scanning.known (length o.rooms) i a.0.form) _ _ t.2 in
-    let there = wanted (is_within n i a.0.form) IndexOutOfRange v.0 (known_in s a.0.form v.0 v.1) in
+    let v = bound (Scanning.known_parts (length s.files) (length o.rooms) i a.0.origin a.0.form) _ _ a.2 in
+    let parts = parts_known (length s.files) (length o.rooms) i a.0.origin a.0.form v.0 v.1 in
+    let origin : is_good_origin s.version (length s.files) a.0.origin ≡ true = and (has_file_by s.version a.0.origin.file) (has_file (length s.files) a.0.origin.file) (export_by s.version e.body a.0 a.1) parts.0 in
+    let there = wanted (is_within n i a.0.form) IndexOutOfRange v.0 (known_in s a.0.form v.0 parts.1) in
     let w = bound (Scanning.new_name names a.0.name) _ _ v.2 in
     let named = wanted (is_name a.0.name && not (is_among names a.0.name)) NotCanonical w.0 w.1 in
     let y = bound (Scanning.canonical a.0.form) _ _ w.2 in
@@ -416,11 +416,11 @@ assert_step s e x kind r running h =
     let u = bound (Scanning.wants (list_all Scanning.is_filled o.rooms) OutOfOrder) _ _ h in
     let full = sym (all_full s.drafts) ∙ wanted (list_all Scanning.is_filled o.rooms) OutOfOrder u.0 u.1 in
     let g = bound (assert_of s.version e.body) _ _ u.2 in
-    let t = bound (Scanning.known_file (length s.files) g.0.origin) _ _ g.2 in
-    let origin : is_good_origin s.version (length s.files) g.0.origin ≡ true = and (has_file_by s.version g.0.origin.file) (has_file (length s.files) g.0.origin.file) (assert_by s.version e.body g.0 g.1) (wanted (has_file (length s.files) g.0.origin.file) IndexOutOfRange t.0 t.1) in
-    let v = bound (Scanning.known (length o.rooms) i g.0.form) _ _ t.2 in
+    let v = bound (Scanning.known_parts (length s.files) (length o.rooms) i g.0.origin g.0.form) _ _ g.2 in
+    let parts = parts_known (length s.files) (length o.rooms) i g.0.origin g.0.form v.0 v.1 in
+    let origin : is_good_origin s.version (length s.files) g.0.origin ≡ true = and (has_file_by s.version g.0.origin.file) (has_file (length s.files) g.0.origin.file) (assert_by s.version e.body g.0 g.1) parts.0 in
     let w = bound (Scanning.canonical_open g.0.form) _ _ v.2 in
-    let form = open_form n i g.0.form v.0 w.0 (known_in s g.0.form v.0 v.1) w.1 in
+    let form = open_form n i g.0.form v.0 w.0 (known_in s g.0.form v.0 parts.1) w.1 in
     let xs = s.asserts ++ g.0 ∷ [] in
     let good_one = λ (z : Assert). is_open_form n i z.form in
     let small_one = λ (z : Assert). is_small_text z.text in

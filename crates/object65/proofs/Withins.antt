@@ -50,11 +50,12 @@ ended_by s t e h =
   where
     ends : (s : State) (i : Item) → s.ended ≡ false → (with_item s i).ended ≡ is_end i
     ends s item.End going = refl
+    ends s (item.File name) going = going
     ends s (item.Import name) going = going
     ends s (item.Section name size align) going = going
     ends s (item.Part k offset f) going = going
-    ends s (item.Export name line form) going = going
-    ends s (item.Assert action line text form) going = going
+    ends s (item.Export name origin form) going = going
+    ends s (item.Assert action origin text form) going = going
 
 -- no record gives a fault of a store
 pub after_free : (s : State) (e : Entry) → after s e ≡ Err FileError → ⊥
@@ -91,12 +92,12 @@ all_last P (y ∷ xs) x all = all_last P xs x all.1
 more_filled : (d : Draft) (f : Fragment) → (grown d f).filled ≡ d.filled + fragment_len f
 more_filled d (Literal bytes) = refl
 more_filled d (Fill n) = refl
-more_filled d (Value w line form) = refl
+more_filled d (Value w origin form) = refl
 
 same_size : (d : Draft) (f : Fragment) → (grown d f).size ≡ d.size
 same_size d (Literal bytes) = refl
 same_size d (Fill n) = refl
-same_size d (Value w line form) = refl
+same_size d (Value w origin form) = refl
 
 -- the section that a fragment went to
 piece_good : (s : State) (k offset : ℕ) (f : Fragment) (d : Draft) → slice_get s.drafts k ≡ Some d → GoodState (with_item s (item.Part k offset f)) → (d.filled + fragment_len f ≤ d.size) × (d.size ≤ section_limit)
@@ -109,10 +110,11 @@ piece_good s k offset f d there good =
 
 pub room_of_item : (s : State) (i : Item) → IsPlaced s.drafts i → GoodState (with_item s i) → HasRoom s.drafts i
 room_of_item s (item.Part k offset f) placed good = record { draft = placed.0; there = placed.1; within = (piece_good s k offset f placed.0 placed.1 good).0 }
+room_of_item s (item.File name) placed good = tt
 room_of_item s (item.Import name) placed good = tt
 room_of_item s (item.Section name size align) placed good = tt
-room_of_item s (item.Export name line form) placed good = tt
-room_of_item s (item.Assert action line text form) placed good = tt
+room_of_item s (item.Export name origin form) placed good = tt
+room_of_item s (item.Assert action origin text form) placed good = tt
 room_of_item s item.End placed good = tt
 
 within_of_item : (s : State) (i : Item) → IsPlaced s.drafts i → GoodState (with_item s i) → has_small_text i ≡ true → Scanning.IsWithin (Scanning.outline_of s) i
@@ -125,9 +127,10 @@ within_of_item s (item.Section name size align) placed good small =
     let g = all_last (GoodDraft (length (s.drafts ++ d ∷ [])) (length s.imports)) s.drafts d good.drafts in
     let low = g.align in
     (g.size, grind (arith, nat_tests))
+within_of_item s (item.File name) placed good small = tt
 within_of_item s (item.Import name) placed good small = tt
-within_of_item s (item.Export name line form) placed good small = tt
-within_of_item s (item.Assert action line text form) placed good small = small
+within_of_item s (item.Export name origin form) placed good small = tt
+within_of_item s (item.Assert action origin text form) placed good small = small
 within_of_item s item.End placed good small = tt
 
 -- ---- A scan.
@@ -156,13 +159,14 @@ room_next s o e x r same h =
     room_of_item s x.1 l.2 (reached_parts (with_item s x.1) (reached_next s (with_item s x.1) e r l.0))
 
 texts_next : (s : State) (o : Scanning.Outline) (i : Item) → list_all (λ a. is_small_text a.text) s.asserts ≡ true → Scanning.IsWithin o i → list_all (λ a. is_small_text a.text) (with_item s i).asserts ≡ true
-texts_next s o (item.Assert action line text form) small h =
-    let a : Assert = record { action = action; line = line; text = text; form = form } in
+texts_next s o (item.Assert action origin text form) small h =
+    let a : Assert = record { action = action; origin = origin; text = text; form = form } in
     list_all-append (λ b. is_small_text b.text) s.asserts (a ∷ []) ∙ and (list_all (λ b. is_small_text b.text) s.asserts) (list_all (λ b. is_small_text b.text) (a ∷ [])) small (and (is_small_text text) true h refl)
+texts_next s o (item.File name) small h = small
 texts_next s o (item.Import name) small h = small
 texts_next s o (item.Section name size align) small h = small
 texts_next s o (item.Part k offset f) small h = small
-texts_next s o (item.Export name line form) small h = small
+texts_next s o (item.Export name origin form) small h = small
 texts_next s o item.End small h = small
 
 abbrev marked : State → Scanning.Outline → State
@@ -172,11 +176,12 @@ marked s o = record s { begun = o.begun; ended = o.ended }
 pub joined_next : (p q : Parts) (o n : Scanning.Outline) (i : Item) → state_of q ≡ unmarked (with_item (state_of p) i) → n ≡ Scanning.outline_of (with_item (state_in p o) i) → state_in q n ≡ with_item (state_in p o) i
 joined_next p q o n i parts scan = ap (λ (u : State). marked u n) parts ∙ ap (λ (m : Scanning.Outline). marked (unmarked (with_item (state_of p) i)) m) scan ∙ go i where
   go : (i : Item) → (record (unmarked (with_item (state_of p) i)) { begun = (with_item (state_in p o) i).begun; ended = (with_item (state_in p o) i).ended }) ≡ with_item (state_in p o) i
+  go (item.File name) = refl
   go (item.Import name) = refl
   go (item.Section name size align) = refl
   go (item.Part k offset f) = refl
-  go (item.Export name line form) = refl
-  go (item.Assert action line text form) = refl
+  go (item.Export name origin form) = refl
+  go (item.Assert action origin text form) = refl
   go item.End = refl
 
 pub whole_next : (p q : Parts) (o n : Scanning.Outline) (e : Entry) (i : Item) → IsWhole p o → Scanning.scanned o e ≡ Ok (n, i) → Scanning.IsWithin o i → ◌≡◌ {A = Result State ObjectFault} (Ok (unmarked (with_item (state_of p) i))) (Ok (state_of q)) → IsWhole q n

@@ -44,6 +44,12 @@ known_file files origin = wants (has_file files origin.file) IndexOutOfRange
 abbrev pub known : ℕ → ℕ → Form → Result (Unit {0}) ObjectFault
 known sections imports f = wants (is_within sections imports f) IndexOutOfRange
 
+-- all that it names is there, of so many files, sections and imports
+unfoldable pub known_parts : ℕ → ℕ → ℕ → Origin → Form → Result (Unit {0}) ObjectFault
+known_parts files sections imports origin f = do
+  u ← known_file files origin
+  known sections imports f
+
 -- it can't be folded and isn't too large
 abbrev pub canonical : Form → Result (Unit {0}) ObjectFault
 canonical f = wants (is_normal f && nat_le (nodes f) node_limit) NotCanonical
@@ -148,8 +154,7 @@ unfoldable pub room_value : ℕ → ℕ → ℕ → ℕ → List ℕ → Room �
 room_value version files sections imports body r = do
   value ← value_of version body
   u ← room_for r (width_len value.0)
-  t ← known_file files value.1
-  v ← known sections imports value.2
+  v ← known_parts files sections imports value.1 value.2
   w ← canonical_open value.2
   Ok (room_behind r (width_len value.0) last.Other, Value value.0 value.1 value.2)
 
@@ -195,8 +200,7 @@ unfoldable pub scan_export : Outline → List ℕ → Result (Outline × Item) O
 scan_export o body = do
   u ← wants (list_all is_filled o.rooms && not o.asserting) OutOfOrder
   e ← export_of o.version body
-  t ← known_file (length o.files) e.origin
-  v ← known (length o.rooms) (length o.imports) e.form
+  v ← known_parts (length o.files) (length o.rooms) (length o.imports) e.origin e.form
   w ← new_name o.exports e.name
   x ← canonical e.form
   Ok (record o { exports = o.exports ++ e.name ∷ [] }, Export e.name e.origin e.form)
@@ -206,8 +210,7 @@ unfoldable pub scan_assert : Outline → List ℕ → Result (Outline × Item) O
 scan_assert o body = do
   u ← wants (list_all is_filled o.rooms) OutOfOrder
   a ← assert_of o.version body
-  t ← known_file (length o.files) a.origin
-  v ← known (length o.rooms) (length o.imports) a.form
+  v ← known_parts (length o.files) (length o.rooms) (length o.imports) a.origin a.form
   w ← canonical_open a.form
   Ok (record o { asserting = true }, Assert a.action a.origin a.text a.form)
 

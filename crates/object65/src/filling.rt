@@ -4,7 +4,7 @@ ghost use Rattle.std.specs.Prelude.{◌≡◌, ◌≤◌, ◌+◌, ◌%◌, leng
 ghost use Rattle.object65.specs.Bodies.{fill_of, value_of, width_of};
 ghost use Rattle.object65.specs.Fault.{Gives, is_memory};
 ghost use Rattle.object65.specs.Objects.{has_file, width_len};
-ghost use Rattle.object65.specs.Scanning.{canonical, canonical_open, known, known_file, room_for, room_behind, room_literal, room_fill, room_value};
+ghost use Rattle.object65.specs.Scanning.{canonical, canonical_open, known, known_file, known_parts, room_for, room_behind, room_literal, room_fill, room_value};
 
 use crate::forming::{byte_at, form_of, origin_at};
 use crate::normal::{are_there, is_folded, is_limited, is_number};
@@ -41,7 +41,7 @@ fn room_behind(room: Room, len: u32, last: Last) -> Room
 }
 
 /// Refuses an origin whose file isn't there, of so many.
-pub fn check_file(origin: Origin, files: usize) -> Result<(), ObjectFault>
+fn check_file(origin: Origin, files: usize) -> Result<(), ObjectFault>
     ensures { result ≡ known_file files origin }
 {
     let is_there = match origin.file {
@@ -52,13 +52,22 @@ pub fn check_file(origin: Origin, files: usize) -> Result<(), ObjectFault>
 }
 
 /// Refuses a form whose sections or imports aren't there.
-pub fn check_places(form: &Norm, sections: usize, imports: usize) -> Result<(), ObjectFault>
+fn check_places(form: &Norm, sections: usize, imports: usize) -> Result<(), ObjectFault>
     ensures { result ≡ known sections imports form.now }
 {
     check(
         are_there(form, sections, imports),
         ObjectFault::IndexOutOfRange,
     )
+}
+
+/// Refuses a part that names what isn't there in the object of which this is kept.
+#[tactic(auto, unfolding(crate::specs::Scanning::known_parts))]
+pub fn check_parts(kept: &Kept, origin: Origin, form: &Norm) -> Result<(), ObjectFault>
+    ensures { result ≡ known_parts (length kept.now.files.keys) (length kept.now.rooms.items) (length kept.now.imports.keys) origin form.now }
+{
+    check_file(origin, kept.files.len())?;
+    check_places(form, kept.rooms.len(), kept.imports.len())
 }
 
 /// Refuses a form that can be folded or is too large.
@@ -181,8 +190,7 @@ pub fn room_with_value(
     let (width, origin, form) = read_value(kept.alloc, kept.version, body)?;
     let len = width_size(width);
     check_room(room, len)?;
-    check_file(origin, kept.files.len())?;
-    check_places(&form, kept.rooms.len(), kept.imports.len())?;
+    check_parts(kept, origin, &form)?;
     check_open_form(&form)?;
     let grown = room_behind(room, len, Last::Other);
     let value = Fragment::Value {

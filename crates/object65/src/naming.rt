@@ -10,7 +10,7 @@ ghost use Rattle.object65.specs.Small.{is_small_text};
 ghost use Rattle.object65.specs.Scanning.{scan_file, scan_import, scan_export, scan_assert};
 ghost use Rattle.object65.specs.Inner.Sound.{outline_in, IsSound};
 
-use crate::filling::{check_file, check_form, check_open_form, check_places};
+use crate::filling::{check_form, check_open_form, check_parts};
 use crate::forming::{byte_at, form_of, origin_at, text_of};
 use crate::kept::Kept;
 use crate::taking::{add_name, all_full, check, check_file_name, check_name};
@@ -81,8 +81,7 @@ pub fn take_export(kept: &mut Kept, body: &[u8]) -> Result<Item, ObjectFault>
     let full = all_full(kept);
     check(full && !kept.asserting, ObjectFault::OutOfOrder)?;
     let Export { name, origin, form } = read_export(kept.alloc, kept.version, body)?;
-    check_file(origin, kept.files.len())?;
-    check_places(&form, kept.rooms.len(), kept.imports.len())?;
+    check_parts(kept, origin, &form)?;
     check_name(&kept.exports, name.as_slice())?;
     check_form(&form)?;
     add_name(kept.alloc, &mut kept.exports, name.as_slice())?;
@@ -135,8 +134,7 @@ pub fn take_assert(kept: &mut Kept, body: &[u8]) -> Result<Item, ObjectFault>
         text,
         form,
     } = read_assert(kept.alloc, kept.version, body)?;
-    check_file(origin, kept.files.len())?;
-    check_places(&form, kept.rooms.len(), kept.imports.len())?;
+    check_parts(kept, origin, &form)?;
     check_open_form(&form)?;
     kept.asserting = true;
     Ok(Item::Assert(action, origin, text, form))

@@ -1,8 +1,9 @@
 -- The records of an object lead to a state that stands for it.
-use Rattle.std.proofs.Common.{◌≡◌, ◌∙◌, ℕ, zero, suc, ◌+◌, ◌-◌, ◌%◌, ◌^◌, ◌<◌, ◌≤◌, List, [], ◌∷◌, ◌++◌, length, take, drop, map, Bool, true, false, ◌&&◌, ◌||◌, not, nat_lt, nat_le, nat_eq, ◌==◌, Result, Ok, refl, sym, ap, subst, arith, append_assoc, length-append, inl, inr}
+use Rattle.std.proofs.Common.{◌≡◌, ◌∙◌, ℕ, zero, suc, ◌+◌, ◌-◌, ◌%◌, ◌^◌, ◌<◌, ◌≤◌, List, [], ◌∷◌, ◌++◌, length, take, drop, map, Bool, true, false, ◌&&◌, ◌||◌, not, nat_lt, nat_le, nat_eq, ◌==◌, if◌then◌else◌, Result, Ok, refl, sym, ap, subst, arith, append_assoc, length-append, inl, inr}
 use Rattle.std.proofs.lemmas.Bool.Decides.{nat_tests}
 use Rattle.std.proofs.lemmas.List.{length-map, map-append, length-take, length-drop, take-append-drop}
 use Rattle.std.specs.Cmp.{nat_eq_equiv}
+use Rattle.std.specs.Str.{is_utf8}
 use Rattle.std.specs.Cmp.Lexicographic.{pointwise, lists_equiv}
 use Rattle.std.specs.List.{flat_map, list_all, sum_by, AllByRecursion}
 use Rattle.std.proofs.lemmas.List.Folds.{list_any-append, list_all-append}
@@ -17,6 +18,7 @@ use Rattle.object65.specs.declared.room.Last.TheVariants as last
 use Rattle.object65.specs.declared.room.Room.{Room}
 use Rattle.object65.specs.declared.object.Fragment.TheVariants.{Literal, Fill, Value}
 use Rattle.object65.specs.declared.object.Object.{Object}
+use Rattle.object65.specs.declared.object.Origin.{Origin}
 use Rattle.object65.specs.declared.object.Section.{Section}
 use Rattle.object65.specs.declared.object.Width.{Width}
 use Rattle.object65.specs.declared.object.Width.TheVariants.{Byte, Word, HighFirst, Dword, Branch}
@@ -24,10 +26,10 @@ use Rattle.object65.specs.Bodies.{section_of}
 use Rattle.object65.specs.Fault.{◌>>=◌}
 use Rattle.object65.specs.Folding.{is_within, is_normal, is_literal, node_limit}
 use Rattle.object65.specs.Form.{Form, nodes}
-use Rattle.object65.specs.Objects.{is_name, is_among, are_names, section_len, section_limit, fragment_len, width_len, is_good_form, is_good_fragment, is_good_section, is_good_assert, is_good_object, are_apart, FragmentFits, FitsBits, ObjectFits}
+use Rattle.object65.specs.Objects.{are_distinct, are_files_of, has_file, has_file_by, has_good_origin, is_file_name, is_good_origin, is_name, is_among, are_names, section_len, section_limit, fragment_len, width_len, is_good_form, is_good_fragment, is_good_section, is_good_assert, is_good_object, are_apart, FragmentFits, FitsBits, ObjectFits, OriginFits}
 use Rattle.object65.specs.Record.{Entry}
 use Rattle.object65.specs.Small.{is_small_text}
-use Rattle.object65.specs.Spelling.{import_entry, section_entry, fragment_entries, literal_entry, literal_entries, fill_entry, value_entry, export_entry, assert_entry, end_entry, entries_of, body_limit}
+use Rattle.object65.specs.Spelling.{file_entry, import_entry, section_entry, fragment_entries, literal_entry, literal_entries, fill_entry, value_entry, export_entry, assert_entry, end_entry, entries_behind, entries_of, body_limit}
 use Rattle.object65.specs.Items.{State, closing, grown, section_from, start, with_fragment, with_item}
 use Rattle.object65.specs.Scanning
 use Rattle.object65.specs.Taking.{after, after_all, finished}
@@ -40,29 +42,12 @@ use Rattle.object65.proofs.Pieces.{more_pieces, one_piece}
 use Rattle.object65.proofs.Reached.{either}
 use Rattle.object65.proofs.Scannings.{fill_is, short_is}
 
--- a state with these parts
-abbrev pub holding : List (List ℕ) → Bool → List Draft → List Export → List Assert → State
-holding imports begun ds exports asserts = record { imports = imports; drafts = ds; begun = begun; exports = exports; asserts = asserts; ended = false; failed = false }
-
--- a state of imports and sections
-abbrev pub sectioned : List (List ℕ) → Bool → List Draft → State
-sectioned imports begun ds = holding imports begun ds [] []
-
--- a section of a heading, with these of its fragments and a literal behind them
-abbrev pub drafting : Section → List Fragment → List ℕ → Draft
-drafting s fs bytes = record { name = s.name; align = s.align; size = section_len s; filled = sum_by fragment_len fs + length bytes; fragments = fs; literal = bytes }
-
-abbrev pub empty_draft : Section → Draft
-empty_draft s = drafting s [] []
-
--- ---- Imports.
-
--- a name among good names is good, and none before it is the same
-pub name_in : (xs ys : List (List ℕ)) (n : List ℕ) → are_names (xs ++ n ∷ ys) ≡ true → (is_name n ≡ true) × (is_among xs n ≡ false)
-name_in [] ys n e = (left (is_name n) (not (is_among ys n)) (left (is_name n && not (is_among ys n)) (are_names ys) e), refl)
-name_in (x ∷ xs) ys n e =
-    let rest = name_in xs ys n (right (is_name x && not (is_among (xs ++ n ∷ ys) x)) (are_names (xs ++ n ∷ ys)) e) in
-    let none = turned (is_among (xs ++ n ∷ ys) x) (right (is_name x) (not (is_among (xs ++ n ∷ ys) x)) (left (is_name x && not (is_among (xs ++ n ∷ ys) x)) (are_names (xs ++ n ∷ ys)) e)) in
+-- a name among distinct names that pass passes, and none before it is the same
+name_among : (p : List ℕ → Bool) (xs ys : List (List ℕ)) (n : List ℕ) → are_distinct p (xs ++ n ∷ ys) ≡ true → (p n ≡ true) × (is_among xs n ≡ false)
+name_among p [] ys n e = (left (p n) (not (is_among ys n)) (left (p n && not (is_among ys n)) (are_distinct p ys) e), refl)
+name_among p (x ∷ xs) ys n e =
+    let rest = name_among p xs ys n (right (p x && not (is_among (xs ++ n ∷ ys) x)) (are_distinct p (xs ++ n ∷ ys)) e) in
+    let none = turned (is_among (xs ++ n ∷ ys) x) (right (p x) (not (is_among (xs ++ n ∷ ys) x)) (left (p x && not (is_among (xs ++ n ∷ ys) x)) (are_distinct p (xs ++ n ∷ ys)) e)) in
     let split : (is_among xs x || (pointwise nat_eq x n || is_among ys x)) ≡ false = sym (list_any-append (λ m. pointwise nat_eq x m) xs (n ∷ ys)) ∙ none in
     let apart = first_false (pointwise nat_eq x n) (is_among ys x) (second_false (is_among xs x) (pointwise nat_eq x n || is_among ys x) split) in
     let flipped : pointwise nat_eq n x ≡ false = (lists_equiv nat_eq_equiv).symm n x ∙ apart in
@@ -76,374 +61,440 @@ name_in (x ∷ xs) ys n e =
     second_false true b e = cc
     second_false false b e = e
 
-new_again : (xs ys : List (List ℕ)) (n : List ℕ) → are_names (xs ++ n ∷ ys) ≡ true → (is_name n && not (is_among xs n)) ≡ true
-new_again xs ys n e = let name = name_in xs ys n e in and (is_name n) (not (is_among xs n)) name.0 (ap not name.1)
+pub name_in : (xs ys : List (List ℕ)) (n : List ℕ) → are_names (xs ++ n ∷ ys) ≡ true → (is_name n ≡ true) × (is_among xs n ≡ false)
+name_in = name_among is_name
 
-take_import : (done : List (List ℕ)) (name : List ℕ) (others : List (List ℕ)) → are_names (done ++ name ∷ others) ≡ true → after (sectioned done false []) (import_entry name) ≡ Ok (sectioned (done ++ name ∷ []) false [])
-unfolding after Scanning.scanned Scanning.scan_entry Scanning.scan_import
-take_import done name others names = rw (new_again done others name names) refl
+-- an origin of an object has a file or none as its version says, and one that is there
+origin_parts : (v m : ℕ) (o : Origin) → is_good_origin v m o ≡ true → (has_file_by v o.file ≡ true) × (has_file m o.file ≡ true)
+origin_parts v m o good = (left (has_file_by v o.file) (has_file m o.file) good, right (has_file_by v o.file) (has_file m o.file) good)
 
--- all imports in turn
-take_imports : (names done : List (List ℕ)) (rest : List Entry) → are_names (done ++ names) ≡ true → after_all (sectioned done false []) (map import_entry names ++ rest) ≡ after_all (sectioned (done ++ names) false []) rest
-take_imports [] done rest good = ap (λ xs. after_all (sectioned xs false []) rest) (sym (nil done))
-take_imports (n ∷ names) done rest good =
+parts_again : (m n i : ℕ) (o : Origin) (f : Form) → has_file m o.file ≡ true → is_within n i f ≡ true → Scanning.known_parts m n i o f ≡ Ok tt
+unfolding Scanning.known_parts
+parts_again m n i o f file places = rw (file, places) refl
+
+-- ---- Files.
+
+-- a state of files
+abbrev naming : ℕ → List (List ℕ) → State
+naming v files = record (start v) { files = files }
+
+take_file : (v : ℕ) (done : List (List ℕ)) (name : List ℕ) (others : List (List ℕ)) → (v == 1) ≡ false → are_distinct is_file_name (done ++ name ∷ others) ≡ true → is_utf8 name ≡ true → after (naming v done) (file_entry name) ≡ Ok (naming v (done ++ name ∷ []))
+unfolding after Scanning.scanned Scanning.scan_entry Scanning.scan_file
+take_file v done name others two names text =
+    let n = name_among is_file_name done others name names in
+    rw (two, n.0, text, n.1) refl
+
+-- all files in turn
+take_files : (v : ℕ) (names done : List (List ℕ)) (rest : List Entry) → (v == 1) ≡ false → are_distinct is_file_name (done ++ names) ≡ true → AllByRecursion (λ name. is_utf8 name ≡ true) names → after_all (naming v done) (map file_entry names ++ rest) ≡ after_all (naming v (done ++ names)) rest
+take_files v [] done rest two good texts = ap (λ xs. after_all (naming v xs) rest) (sym (nil done))
+take_files v (n ∷ names) done rest two good texts =
     let more = append_assoc done (n ∷ []) names in
-    ap (λ r. r >>= (λ t. after_all t (map import_entry names ++ rest))) (take_import done n names good)
-    ∙ take_imports names (done ++ n ∷ []) rest (ap are_names more ∙ good)
-    ∙ ap (λ xs. after_all (sectioned xs false []) rest) more
+    ap (λ r. r >>= (λ t. after_all t (map file_entry names ++ rest))) (take_file v done n names two good texts.0)
+    ∙ take_files v names (done ++ n ∷ []) rest two (ap (are_distinct is_file_name) more ∙ good) texts.1
+    ∙ ap (λ xs. after_all (naming v xs) rest) more
 
--- ---- Headings.
+-- those of an object of either version
+files_taken : (v : ℕ) (files : List (List ℕ)) (rest : List Entry) → are_files_of v files ≡ true → AllByRecursion (λ name. is_utf8 name ≡ true) files → after_all (start v) (map file_entry files ++ rest) ≡ after_all (naming v files) rest
+files_taken v files rest good texts = go (v == 1) refl files good texts where
+  go : (b : Bool) → (v == 1) ≡ b → (files : List (List ℕ)) → (if b then length files == 0 else are_distinct is_file_name files) ≡ true → AllByRecursion (λ name. is_utf8 name ≡ true) files → after_all (start v) (map file_entry files ++ rest) ≡ after_all (naming v files) rest
+  go true one [] good texts = refl
+  go true one (n ∷ files) good texts = let some : (length (n ∷ files) == 0) ≡ false = grind (arith, nat_tests) in cc
+  go false two files good texts = take_files v files [] rest two good texts
 
--- what a section has to be
-pub record IsGood (n i : ℕ) (s : Section) : Type 0 where
-  pub align : nat_le s.align 15 ≡ true
-  pub size : section_len s ≤ section_limit
-  pub good : list_all (is_good_fragment n i) s.fragments ≡ true
-  pub apart : are_apart s.fragments ≡ true
-  pub fits : AllByRecursion FragmentFits s.fragments
+module _ (v : ℕ) (files : List (List ℕ)) where
+  -- a state with these parts
+  abbrev pub holding : List (List ℕ) → Bool → List Draft → List Export → List Assert → State
+  holding imports begun ds exports asserts = record { version = v; files = files; imports = imports; drafts = ds; begun = begun; exports = exports; asserts = asserts; ended = false; failed = false }
 
-good_sections : (n i : ℕ) (ss : List Section) → list_all (is_good_section n i) ss ≡ true → AllByRecursion (λ s. AllByRecursion FragmentFits s.fragments) ss → AllByRecursion (IsGood n i) ss
-good_sections n i [] good fits = tt
-good_sections n i (s ∷ ss) good fits =
-    let one = left (is_good_section n i s) (list_all (is_good_section n i) ss) good in
-    let three = left (nat_le s.align 15 && nat_le (section_len s) section_limit && list_all (is_good_fragment n i) s.fragments) (are_apart s.fragments) one in
-    let two = left (nat_le s.align 15 && nat_le (section_len s) section_limit) (list_all (is_good_fragment n i) s.fragments) three in
-    let size = right (nat_le s.align 15) (nat_le (section_len s) section_limit) two in (
+  -- a state of imports and sections
+  abbrev pub sectioned : List (List ℕ) → Bool → List Draft → State
+  sectioned imports begun ds = holding imports begun ds [] []
+
+  -- a section of a heading, with these of its fragments and a literal behind them
+  abbrev pub drafting : Section → List Fragment → List ℕ → Draft
+  drafting s fs bytes = record { name = s.name; align = s.align; size = section_len s; filled = sum_by fragment_len fs + length bytes; fragments = fs; literal = bytes }
+
+  abbrev pub empty_draft : Section → Draft
+  empty_draft s = drafting s [] []
+
+  -- ---- Imports.
+
+  new_again : (xs ys : List (List ℕ)) (n : List ℕ) → are_names (xs ++ n ∷ ys) ≡ true → (is_name n && not (is_among xs n)) ≡ true
+  new_again xs ys n e = let name = name_in xs ys n e in and (is_name n) (not (is_among xs n)) name.0 (ap not name.1)
+
+  take_import : (done : List (List ℕ)) (name : List ℕ) (others : List (List ℕ)) → are_names (done ++ name ∷ others) ≡ true → after (sectioned done false []) (import_entry name) ≡ Ok (sectioned (done ++ name ∷ []) false [])
+  unfolding after Scanning.scanned Scanning.scan_entry Scanning.scan_import
+  take_import done name others names = rw (new_again done others name names) refl
+
+  -- all imports in turn
+  take_imports : (names done : List (List ℕ)) (rest : List Entry) → are_names (done ++ names) ≡ true → after_all (sectioned done false []) (map import_entry names ++ rest) ≡ after_all (sectioned (done ++ names) false []) rest
+  take_imports [] done rest good = ap (λ xs. after_all (sectioned xs false []) rest) (sym (nil done))
+  take_imports (n ∷ names) done rest good =
+      let more = append_assoc done (n ∷ []) names in
+      ap (λ r. r >>= (λ t. after_all t (map import_entry names ++ rest))) (take_import done n names good)
+      ∙ take_imports names (done ++ n ∷ []) rest (ap are_names more ∙ good)
+      ∙ ap (λ xs. after_all (sectioned xs false []) rest) more
+
+  -- ---- Headings.
+
+  -- what a section has to be
+  pub record IsGood (n i : ℕ) (s : Section) : Type 0 where
+    pub align : nat_le s.align 15 ≡ true
+    pub size : section_len s ≤ section_limit
+    pub good : list_all (is_good_fragment n i) s.fragments ≡ true
+    pub apart : are_apart s.fragments ≡ true
+    pub fits : AllByRecursion FragmentFits s.fragments
+
+  good_sections : (n i : ℕ) (ss : List Section) → list_all (is_good_section n i) ss ≡ true → AllByRecursion (λ s. AllByRecursion FragmentFits s.fragments) ss → AllByRecursion (IsGood n i) ss
+  good_sections n i [] good fits = tt
+  good_sections n i (s ∷ ss) good fits =
+      let one = left (is_good_section n i s) (list_all (is_good_section n i) ss) good in
+      let three = left (nat_le s.align 15 && nat_le (section_len s) section_limit && list_all (is_good_fragment n i) s.fragments) (are_apart s.fragments) one in
+      let two = left (nat_le s.align 15 && nat_le (section_len s) section_limit) (list_all (is_good_fragment n i) s.fragments) three in
+      let size = right (nat_le s.align 15) (nat_le (section_len s) section_limit) two in (
+        record {
+          align = left (nat_le s.align 15) (nat_le (section_len s) section_limit) two;
+          size = grind (arith, nat_tests);
+          good = right (nat_le s.align 15 && nat_le (section_len s) section_limit) (list_all (is_good_fragment n i) s.fragments) three;
+          apart = right (nat_le s.align 15 && nat_le (section_len s) section_limit && list_all (is_good_fragment n i) s.fragments) (are_apart s.fragments) one;
+          fits = fits.0;
+        },
+        good_sections n i ss (right (is_good_section n i s) (list_all (is_good_section n i) ss) good) fits.1,
+      )
+
+  heading_again : (n align : ℕ) (name : List ℕ) → n ≤ 16777216 → section_of (little_bytes 4 n ++ align ∷ name) ≡ Ok (record { size = n; align = align; name = name })
+  heading_again n align name small =
+      let number : little_number 4 (little_bytes 4 n ++ align ∷ name) ≡ n = back 4 n (align ∷ name) (omega arith) in
+      let long : nat_lt (length (little_bytes 4 n ++ align ∷ name)) 5 ≡ false = grind (arith, nat_tests) in
+      let within : nat_lt 16777216 n ≡ false = grind (arith, nat_tests) in
+      rw (long, number, within) refl
+
+  take_section : (n i : ℕ) (imports : List (List ℕ)) (ds : List Draft) (s : Section) (others : List (List ℕ)) → IsGood n i s → are_names (map (λ (d : Draft). d.name) ds ++ s.name ∷ others) ≡ true → after (sectioned imports false ds) (section_entry s) ≡ Ok (sectioned imports false (ds ++ empty_draft s ∷ []))
+  unfolding after Scanning.scanned Scanning.scan_entry Scanning.scan_section
+  take_section n i imports ds s others good names =
+      rw (heading_again (section_len s) s.align s.name good.size, new_again (map (λ (d : Draft). d.name) ds) others s.name names, good.align) refl
+
+  -- all headings in turn
+  take_headings : (n i : ℕ) (imports : List (List ℕ)) (ss : List Section) (ds : List Draft) (rest : List Entry) → AllByRecursion (IsGood n i) ss → are_names (map (λ (d : Draft). d.name) ds ++ map (λ (s : Section). s.name) ss) ≡ true → after_all (sectioned imports false ds) (map section_entry ss ++ rest) ≡ after_all (sectioned imports false (ds ++ map empty_draft ss)) rest
+  take_headings n i imports [] ds rest good names = ap (λ xs. after_all (sectioned imports false xs) rest) (sym (nil ds))
+  take_headings n i imports (s ∷ ss) ds rest good names =
+      let one = take_section n i imports ds s (map (λ (x : Section). x.name) ss) good.0 names in
+      let more : map (λ (d : Draft). d.name) (ds ++ empty_draft s ∷ []) ++ map (λ (x : Section). x.name) ss ≡ map (λ (d : Draft). d.name) ds ++ s.name ∷ map (λ (x : Section). x.name) ss = ap (λ xs. xs ++ map (λ (x : Section). x.name) ss) (map-append (λ (d : Draft). d.name) ds (empty_draft s ∷ [])) ∙ append_assoc (map (λ (d : Draft). d.name) ds) (s.name ∷ []) (map (λ (x : Section). x.name) ss) in
+      ap (λ r. r >>= (λ t. after_all t (map section_entry ss ++ rest))) one
+      ∙ take_headings n i imports ss (ds ++ empty_draft s ∷ []) rest good.1 (ap are_names more ∙ names)
+      ∙ ap (λ xs. after_all (sectioned imports false xs) rest) (append_assoc ds (empty_draft s ∷ []) (map empty_draft ss))
+
+  -- ---- A literal.
+
+  -- a fragment goes to the first section that isn't full
+  part_again : (imports : List (List ℕ)) (begun : Bool) (full : List Draft) (d e : Draft) (more : List Draft) (grow : Room → Result (Room × Fragment) ObjectFault) (y : Room × Fragment) → list_all is_full full ≡ true → is_full d ≡ false → grow (Scanning.room_of d) ≡ Ok y → grown d y.1 ≡ e → (Scanning.scan_part (Scanning.outline_of (sectioned imports begun (full ++ d ∷ more))) grow >>= (λ x. Ok (with_item (sectioned imports begun (full ++ d ∷ more)) x.1))) ≡ Ok (sectioned imports true (full ++ e ∷ more))
+  unfolding Scanning.scan_part
+  part_again imports begun full d e more grow y all free h is =
+      rw (opens full d more all free, h, piece_there full d more y.1, is) refl
+
+  literal_again : (s : Section) (fs : List Fragment) (bytes body : List ℕ) → 0 < length body → (sum_by fragment_len fs + length bytes) + length body ≤ section_len s → length bytes % body_limit ≡ 0 → Scanning.room_literal body (Scanning.room_of (drafting s fs bytes)) ≡ Ok (Scanning.room_behind (Scanning.room_of (drafting s fs bytes)) (length body) (Scanning.last_behind (length body)), Literal body)
+  unfolding Scanning.room_literal
+  literal_again s fs bytes body some within full =
+      let none : (length body == 0) ≡ false = grind (arith, nat_tests) in
+      let room : nat_le (length body) (section_len s - (sum_by fragment_len fs + length bytes)) ≡ true = (let less : length body ≤ section_len s - (sum_by fragment_len fs + length bytes) = omega arith in grind (arith, nat_tests)) in
+      let even : (length bytes % body_limit == 0) ≡ true = grind (arith, nat_tests) in
+      rw (none, room, short_is (drafting s fs bytes), even) refl
+
+  literal_joined : (s : Section) (fs : List Fragment) (bytes body : List ℕ) → grown (drafting s fs bytes) (Literal body) ≡ drafting s fs (bytes ++ body)
+  literal_joined s fs bytes body =
+      let sum : (sum_by fragment_len fs + length bytes) + length body ≡ sum_by fragment_len fs + length (bytes ++ body) = omega (arith, length-append bytes body) in
+      ap (λ k. record { name = s.name; align = s.align; size = section_len s; filled = k; fragments = fs; literal = bytes ++ body }) sum
+
+  -- a section that has room isn't full
+  not_full : (s : Section) (fs : List Fragment) (bytes : List ℕ) (len : ℕ) → 0 < len → (sum_by fragment_len fs + length bytes) + len ≤ section_len s → is_full (drafting s fs bytes) ≡ false
+  not_full s fs bytes len some within = let less : sum_by fragment_len fs + length bytes < section_len s = omega arith in grind (arith, nat_tests)
+
+  take_piece : (imports : List (List ℕ)) (begun : Bool) (full more : List Draft) (s : Section) (fs : List Fragment) (bytes body : List ℕ) → list_all is_full full ≡ true → 0 < length body → (sum_by fragment_len fs + length bytes) + length body ≤ section_len s → length bytes % body_limit ≡ 0 → after (sectioned imports begun (full ++ drafting s fs bytes ∷ more)) (literal_entry body) ≡ Ok (sectioned imports true (full ++ drafting s fs (bytes ++ body) ∷ more))
+  unfolding after Scanning.scanned Scanning.scan_entry
+  take_piece imports begun full more s fs bytes body all some within even =
+      part_again imports begun full (drafting s fs bytes) (drafting s fs (bytes ++ body)) more (Scanning.room_literal body) _ all (not_full s fs bytes (length body) some within) (literal_again s fs bytes body some within even) (literal_joined s fs bytes body)
+
+  -- some records lead to these sections
+  pub record Goes (before : State) (imports : List (List ℕ)) (es rest : List Entry) (ds : List Draft) : Type 0 where
+    pub begun : Bool
+    pub same : after_all before (es ++ rest) ≡ after_all (sectioned imports begun ds) rest
+
+  front_len : (bytes : List ℕ) → body_limit < length bytes → length (take body_limit bytes) ≡ body_limit
+  front_len bytes over = omega (arith, length-take body_limit bytes)
+
+  abbrev Piecewise : ℕ → Type 0
+  Piecewise n = (imports : List (List ℕ)) (begun : Bool) (full more : List Draft) (s : Section) (fs : List Fragment) (done bytes : List ℕ) (rest : List Entry) → length bytes ≤ n → list_all is_full full ≡ true → (sum_by fragment_len fs + length done) + length bytes ≤ section_len s → length done % body_limit ≡ 0 → Goes (sectioned imports begun (full ++ drafting s fs done ∷ more)) imports (literal_entries bytes) rest (full ++ drafting s fs (done ++ bytes) ∷ more)
+
+  split : (n : ℕ) (imports : List (List ℕ)) (begun : Bool) (full more : List Draft) (s : Section) (fs : List Fragment) (done bytes : List ℕ) (rest : List Entry) → 0 < length bytes → length bytes ≤ suc n → list_all is_full full ≡ true → (sum_by fragment_len fs + length done) + length bytes ≤ section_len s → length done % body_limit ≡ 0 → Piecewise n → Goes (sectioned imports begun (full ++ drafting s fs done ∷ more)) imports (literal_entries bytes) rest (full ++ drafting s fs (done ++ bytes) ∷ more)
+  split n imports begun full more s fs done bytes rest some long all sum even others =
+      elim (either (nat_le (length bytes) body_limit)) [
+        | inl short ↦
+            let within : length bytes ≤ body_limit = grind (arith, nat_tests) in
+            record {
+              begun = true;
+              same =
+                  ap (λ es. after_all (sectioned imports begun (full ++ drafting s fs done ∷ more)) (es ++ rest)) (one_piece bytes some within)
+                  ∙ ap (λ r. r >>= (λ t. after_all t rest)) (take_piece imports begun full more s fs done bytes all some sum even);
+            }
+        | inr long_one ↦
+            let over : body_limit < length bytes = grind (arith, nat_tests) in
+            let front = take body_limit bytes in
+            let back_part = drop body_limit bytes in
+            let len = front_len bytes over in
+            let left_len = length-drop body_limit bytes in
+            let sum_len = length-append done front in
+            let next = others imports true full more s fs (done ++ front) back_part rest (omega arith) all (omega arith) (omega arith) in
+            record {
+              begun = next.begun;
+              same =
+                  ap (λ es. after_all (sectioned imports begun (full ++ drafting s fs done ∷ more)) (es ++ rest)) (more_pieces bytes some)
+                  ∙ ap (λ r. r >>= (λ t. after_all t (literal_entries back_part ++ rest))) (take_piece imports begun full more s fs done front all (omega arith) (omega arith) even)
+                  ∙ next.same
+                  ∙ ap (λ xs. after_all (sectioned imports next.begun (full ++ drafting s fs xs ∷ more)) rest) (append_assoc done front back_part ∙ ap (λ xs. done ++ xs) (take-append-drop body_limit bytes));
+            }
+      ]
+
+  take_literal : (n : ℕ) → Piecewise n
+  take_literal n imports begun full more s fs done [] rest long all sum even = record {
+    begun = begun;
+    same = ap (λ xs. after_all (sectioned imports begun (full ++ drafting s fs xs ∷ more)) rest) (sym (nil done));
+  }
+  take_literal zero imports begun full more s fs done (b ∷ bytes) rest long all sum even = absurd (omega arith)
+  take_literal (suc n) imports begun full more s fs done (b ∷ bytes) rest long all sum even = split n imports begun full more s fs done (b ∷ bytes) rest (omega arith) (omega arith) all sum even (take_literal n)
+
+  -- ---- A fill and a value.
+
+  -- the section with one more fragment, which is no literal
+  added : (s : Section) (fs : List Fragment) (bytes : List ℕ) (f : Fragment) → with_fragment (drafting s fs bytes) (fragment_len f) f ≡ drafting s ((fs ++ closing bytes) ++ f ∷ []) []
+  added s fs bytes f =
+      let sum : (sum_by fragment_len fs + length bytes) + fragment_len f ≡ sum_by fragment_len ((fs ++ closing bytes) ++ f ∷ []) + 0 = omega (arith, shut_len fs bytes, sum_by-append fragment_len (fs ++ closing bytes) (f ∷ [])) in
+      ap (λ k. record { name = s.name; align = s.align; size = section_len s; filled = k; fragments = (fs ++ closing bytes) ++ f ∷ []; literal = [] }) sum
+
+  room_again : (s : Section) (fs : List Fragment) (bytes : List ℕ) (len : ℕ) → (sum_by fragment_len fs + length bytes) + len ≤ section_len s → nat_le len (section_len s - (sum_by fragment_len fs + length bytes)) ≡ true
+  room_again s fs bytes len within = let less : len ≤ section_len s - (sum_by fragment_len fs + length bytes) = omega arith in grind (arith, nat_tests)
+
+  take_fill : (imports : List (List ℕ)) (begun : Bool) (full more : List Draft) (s : Section) (fs : List Fragment) (bytes : List ℕ) (n : ℕ) → list_all is_full full ≡ true → 0 < n → n < 2 ^ 32 → (sum_by fragment_len fs + length bytes) + n ≤ section_len s → Scanning.ends_in_fill (fs ++ closing bytes) ≡ false → after (sectioned imports begun (full ++ drafting s fs bytes ∷ more)) (fill_entry n) ≡ Ok (sectioned imports true (full ++ drafting s ((fs ++ closing bytes) ++ Fill n ∷ []) [] ∷ more))
+  unfolding after Scanning.scanned Scanning.scan_entry Scanning.room_fill
+  take_fill imports begun full more s fs bytes n all some fits within alone =
+      let d = drafting s fs bytes in
+      let y : Room × Fragment = (Scanning.room_behind (Scanning.room_of d) n last.Fill, Fill n) in
+      let takes : Scanning.room_fill (fill_entry n).body (Scanning.room_of d) ≡ Ok y = rw (fill_again n some fits, room_again s fs bytes n within, fill_is d, alone) refl in
+      part_again imports begun full d (drafting s ((fs ++ closing bytes) ++ Fill n ∷ []) []) more (Scanning.room_fill (fill_entry n).body) y all (not_full s fs bytes n some within) takes (added s fs bytes (Fill n))
+
+  -- what makes a form good in a value or an assertion
+  form_parts : (n i : ℕ) (f : Form) → (is_good_form n i f && not (is_literal f)) ≡ true → (is_within n i f ≡ true) × ((is_normal f && nat_le (nodes f) node_limit && not (is_literal f)) ≡ true) × (is_normal f ≡ true)
+  form_parts n i f good =
+      let form = left (is_good_form n i f) (not (is_literal f)) good in
+      let two = left (is_within n i f && is_normal f) (nat_le (nodes f) node_limit) form in
+      let normal = right (is_within n i f) (is_normal f) two in (
+        left (is_within n i f) (is_normal f) two,
+        and (is_normal f && nat_le (nodes f) node_limit) (not (is_literal f)) (and (is_normal f) (nat_le (nodes f) node_limit) normal (right (is_within n i f && is_normal f) (nat_le (nodes f) node_limit) form)) (right (is_good_form n i f) (not (is_literal f)) good),
+        normal,
+      )
+
+  take_value : (n i : ℕ) (imports : List (List ℕ)) (begun : Bool) (full more : List Draft) (s : Section) (fs : List Fragment) (bytes : List ℕ) (w : Width) (o : Origin) (form : Form) → list_all is_full full ≡ true → is_good_origin v (length files) o ≡ true → length (full ++ drafting s fs bytes ∷ more) ≡ n → length imports ≡ i → OriginFits o × FitsBits form → (is_good_form n i form && not (is_literal form)) ≡ true → (sum_by fragment_len fs + length bytes) + width_len w ≤ section_len s → after (sectioned imports begun (full ++ drafting s fs bytes ∷ more)) (value_entry w o form) ≡ Ok (sectioned imports true (full ++ drafting s ((fs ++ closing bytes) ++ Value w o form ∷ []) [] ∷ more))
+  unfolding after Scanning.scanned Scanning.scan_entry Scanning.room_value
+  take_value n i imports begun full more s fs bytes w o form all origin count there fits good within =
+      let fine = form_parts n i form good in
+      let by = origin_parts v (length files) o origin in
+      let some : 0 < width_len w = width_some w in
+      let d = drafting s fs bytes in
+      let body = (value_entry w o form).body in
+      let y : Room × Fragment = (Scanning.room_behind (Scanning.room_of d) (width_len w) last.Other, Value w o form) in
+      let takes : Scanning.room_value v (length files) n i body (Scanning.room_of d) ≡ Ok y = rw (value_again v w o form by.0 fits.0 fits.1 fine.2, room_again s fs bytes (width_len w) within, parts_again (length files) n i o form by.1 fine.0, fine.1) refl in
+      let m = length (map Scanning.room_of (full ++ d ∷ more)) in
+      let counted = takes_at n i m (length imports) body (Scanning.room_of d) y (length-map (full ++ d ∷ more) Scanning.room_of ∙ count) there takes in
+      part_again imports begun full d (drafting s ((fs ++ closing bytes) ++ Value w o form ∷ []) []) more (Scanning.room_value v (length files) m (length imports) body) y all (not_full s fs bytes (width_len w) some within) counted (added s fs bytes (Value w o form))
+    where
+      width_some : (w : Width) → 0 < width_len w
+      width_some Byte = omega arith
+      width_some Word = omega arith
+      width_some HighFirst = omega arith
+      width_some Dword = omega arith
+      width_some Branch = omega arith
+
+      takes_at : (n i m j : ℕ) (body : List ℕ) (r : Room) (y : Room × Fragment) → m ≡ n → j ≡ i → Scanning.room_value v (length files) n i body r ≡ Ok y → Scanning.room_value v (length files) m j body r ≡ Ok y
+      takes_at n i m j body r y p q h = (λ k. Scanning.room_value v (length files) (p k) (q k) body r) ∙ h
+
+  -- ---- The fragments of a section.
+
+  -- some records lead to this section, with all its fragments
+  pub record Fills (before : State) (imports : List (List ℕ)) (es rest : List Entry) (full more : List Draft) (s : Section) (all : List Fragment) : Type 0 where
+    pub fragments : List Fragment
+    pub literal : List ℕ
+    pub whole : fragments ++ closing literal ≡ all
+    pub is_full : is_full (drafting s fragments literal) ≡ true
+    pub begun : Bool
+    pub same : after_all before (es ++ rest) ≡ after_all (sectioned imports begun (full ++ drafting s fragments literal ∷ more)) rest
+
+  -- one fragment, and then the others
+  fills_next : (before : State) (imports : List (List ℕ)) (first others rest : List Entry) (full more : List Draft) (s : Section) (begun : Bool) (d : Draft) (all now : List Fragment) → now ≡ all → after_all before (first ++ (others ++ rest)) ≡ after_all (sectioned imports begun (full ++ d ∷ more)) (others ++ rest) → Fills (sectioned imports begun (full ++ d ∷ more)) imports others rest full more s now → Fills before imports (first ++ others) rest full more s all
+  fills_next before imports first others rest full more s begun d all now same one next = record {
+    fragments = next.fragments;
+    literal = next.literal;
+    whole = next.whole ∙ same;
+    is_full = next.is_full;
+    begun = next.begun;
+    same = ap (λ es. after_all before es) (append_assoc first others rest) ∙ one ∙ next.same;
+  }
+
+  take_fragments : (n i : ℕ) (imports : List (List ℕ)) (gs : List Fragment) (begun : Bool) (full more : List Draft) (s : Section) (fs : List Fragment) (bytes : List ℕ) (rest : List Entry) → list_all is_full full ≡ true → length full + suc (length more) ≡ n → length imports ≡ i → list_all (is_good_fragment n i) gs ≡ true → list_all (has_good_origin v (length files)) gs ≡ true → AllByRecursion FragmentFits gs → are_apart ((fs ++ closing bytes) ++ gs) ≡ true → (sum_by fragment_len fs + length bytes) + sum_by fragment_len gs ≡ section_len s → Fills (sectioned imports begun (full ++ drafting s fs bytes ∷ more)) imports (flat_map fragment_entries gs) rest full more s ((fs ++ closing bytes) ++ gs)
+  take_fragments n i imports [] begun full more s fs bytes rest all count there good placed fits apart sum = record {
+    fragments = fs;
+    literal = bytes;
+    whole = sym (nil (fs ++ closing bytes));
+    is_full = (let same : sum_by fragment_len fs + length bytes ≡ section_len s = omega arith in grind (arith, nat_tests));
+    begun = begun;
+    same = refl;
+  }
+  take_fragments n i imports (Literal body ∷ gs) begun full more s fs (b ∷ bytes) rest all count there good placed fits apart sum =
+      let alone = apart_last (fs ++ closing (b ∷ bytes)) (Literal body) gs apart in
+      let joined : last_joins (fs ++ closing (b ∷ bytes)) (Literal body) ≡ true = ap (λ xs. last_joins (fs ++ xs) (Literal body)) (closing_is (b ∷ bytes) (longer b bytes)) ∙ last_push fs (Literal (b ∷ bytes)) (Literal body) in
+      absurd (both (last_joins (fs ++ closing (b ∷ bytes)) (Literal body)) joined alone)
+    where
+      both : (x : Bool) → x ≡ true → x ≡ false → ⊥
+      both x p q = cc
+  take_fragments n i imports (Literal [] ∷ gs) begun full more s fs [] rest all count there good placed fits apart sum = let none : nat_lt 0 0 ≡ false = refl in cc
+  take_fragments n i imports (Literal (c ∷ body) ∷ gs) begun full more s fs [] rest all count there good placed fits apart sum =
+      let whole : (fs ++ closing (c ∷ body)) ++ gs ≡ (fs ++ closing []) ++ Literal (c ∷ body) ∷ gs = ap (λ xs. (fs ++ xs) ++ gs) (closing_is (c ∷ body) (longer c body)) ∙ append_assoc fs (Literal (c ∷ body) ∷ []) gs ∙ ap (λ xs. xs ++ Literal (c ∷ body) ∷ gs) (sym (nil fs)) in
+      let first = sum_by-cons fragment_len (Literal (c ∷ body)) gs in
+      let one = take_literal (length (c ∷ body)) imports begun full more s fs [] (c ∷ body) (flat_map fragment_entries gs ++ rest) (omega arith) all (omega (arith, sum, first)) refl in
+      fills_next (sectioned imports begun (full ++ drafting s fs [] ∷ more)) imports (literal_entries (c ∷ body)) (flat_map fragment_entries gs) rest full more s one.begun (drafting s fs (c ∷ body)) ((fs ++ closing []) ++ Literal (c ∷ body) ∷ gs) ((fs ++ closing (c ∷ body)) ++ gs) whole one.same
+      (take_fragments n i imports gs one.begun full more s fs (c ∷ body) rest all count there (right (is_good_fragment n i (Literal (c ∷ body))) (list_all (is_good_fragment n i) gs) good) (right (has_good_origin v (length files) (Literal (c ∷ body))) (list_all (has_good_origin v (length files)) gs) placed) fits.1 (ap are_apart whole ∙ apart) (omega (arith, sum, first)))
+  take_fragments n i imports (Fill k ∷ gs) begun full more s fs bytes rest all count there good placed fits apart sum =
+      let now = fs ++ closing bytes in
+      let first = sum_by-cons fragment_len (Fill k) gs in
+      let some : 0 < k = (let t = left (is_good_fragment n i (Fill k)) (list_all (is_good_fragment n i) gs) good in grind (arith, nat_tests)) in
+      let alone : Scanning.ends_in_fill now ≡ false = fill_last now k ∙ apart_last now (Fill k) gs apart in
+      let whole : ((now ++ Fill k ∷ []) ++ closing []) ++ gs ≡ now ++ Fill k ∷ gs = ap (λ xs. xs ++ gs) (nil (now ++ Fill k ∷ [])) ∙ append_assoc now (Fill k ∷ []) gs in
+      let one = take_fill imports begun full more s fs bytes k all some fits.0 (omega (arith, sum, first)) alone in
+      fills_next (sectioned imports begun (full ++ drafting s fs bytes ∷ more)) imports (fill_entry k ∷ []) (flat_map fragment_entries gs) rest full more s true (drafting s (now ++ Fill k ∷ []) []) (now ++ Fill k ∷ gs) (((now ++ Fill k ∷ []) ++ closing []) ++ gs) whole (ap (λ r. r >>= (λ t. after_all t (flat_map fragment_entries gs ++ rest))) one)
+      (take_fragments n i imports gs true full more s (now ++ Fill k ∷ []) [] rest all count there (right (is_good_fragment n i (Fill k)) (list_all (is_good_fragment n i) gs) good) (right (has_good_origin v (length files) (Fill k)) (list_all (has_good_origin v (length files)) gs) placed) fits.1 (ap are_apart whole ∙ apart) (omega (arith, sum, first, shut_len fs bytes, sum_by-append fragment_len now (Fill k ∷ []))))
+  take_fragments n i imports (Value w o form ∷ gs) begun full more s fs bytes rest all count there good placed fits apart sum =
+      let now = fs ++ closing bytes in
+      let f = Value w o form in
+      let fine = left (is_good_fragment n i f) (list_all (is_good_fragment n i) gs) good in
+      let whole : ((now ++ f ∷ []) ++ closing []) ++ gs ≡ now ++ f ∷ gs = ap (λ xs. xs ++ gs) (nil (now ++ f ∷ [])) ∙ append_assoc now (f ∷ []) gs in
+      let first = sum_by-cons fragment_len f gs in
+      let size : length (full ++ drafting s fs bytes ∷ more) ≡ n = length-append full (drafting s fs bytes ∷ more) ∙ count in
+      let one = take_value n i imports begun full more s fs bytes w o form all (left (has_good_origin v (length files) f) (list_all (has_good_origin v (length files)) gs) placed) size there fits.0 fine (omega (arith, sum, first)) in
+      fills_next (sectioned imports begun (full ++ drafting s fs bytes ∷ more)) imports (value_entry w o form ∷ []) (flat_map fragment_entries gs) rest full more s true (drafting s (now ++ f ∷ []) []) (now ++ f ∷ gs) (((now ++ f ∷ []) ++ closing []) ++ gs) whole (ap (λ r. r >>= (λ t. after_all t (flat_map fragment_entries gs ++ rest))) one)
+      (take_fragments n i imports gs true full more s (now ++ f ∷ []) [] rest all count there (right (is_good_fragment n i f) (list_all (is_good_fragment n i) gs) good) (right (has_good_origin v (length files) f) (list_all (has_good_origin v (length files)) gs) placed) fits.1 (ap are_apart whole ∙ apart) (omega (arith, sum, first, shut_len fs bytes, sum_by-append fragment_len now (f ∷ []))))
+
+  -- ---- All contents in turn.
+
+  pub record Contents (before : State) (imports : List (List ℕ)) (es rest : List Entry) (full : List Draft) (ss : List Section) : Type 0 where
+    pub drafts : List Draft
+    pub begun : Bool
+    pub all_full : list_all is_full (full ++ drafts) ≡ true
+    pub sections : map section_from drafts ≡ ss
+    pub same : after_all before (es ++ rest) ≡ after_all (sectioned imports begun (full ++ drafts)) rest
+
+  full_push : (full : List Draft) (d : Draft) → list_all is_full full ≡ true → is_full d ≡ true → list_all is_full (full ++ d ∷ []) ≡ true
+  full_push full d all one = list_all-append is_full full (d ∷ []) ∙ rw (all, one) refl
+
+  length_map : {A B : Type 0} (f : A → B) (xs : List A) → length (map f xs) ≡ length xs
+  length_map f [] = refl
+  length_map f (x ∷ xs) = omega (arith, length_map f xs)
+
+  take_contents : (n i : ℕ) (imports : List (List ℕ)) (ss : List Section) (begun : Bool) (full : List Draft) (rest : List Entry) → AllByRecursion (IsGood n i) ss → list_all (λ (s : Section). list_all (has_good_origin v (length files)) s.fragments) ss ≡ true → list_all is_full full ≡ true → length full + length ss ≡ n → length imports ≡ i → Contents (sectioned imports begun (full ++ map empty_draft ss)) imports (flat_map (λ (s : Section). flat_map fragment_entries s.fragments) ss) rest full ss
+  take_contents n i imports [] begun full rest good placed all count there = record {
+    drafts = [];
+    begun = begun;
+    all_full = ap (list_all is_full) (nil full) ∙ all;
+    sections = refl;
+    same = refl;
+  }
+  take_contents n i imports (s ∷ ss) begun full rest good placed all count there =
+      let p = λ (x : Section). list_all (has_good_origin v (length files)) x.fragments in
+      let mine = flat_map fragment_entries s.fragments in
+      let theirs = flat_map (λ (x : Section). flat_map fragment_entries x.fragments) ss in
+      let size : length full + suc (length (map empty_draft ss)) ≡ n = omega (arith, count, length_map empty_draft ss) in
+      let one = take_fragments n i imports s.fragments begun full (map empty_draft ss) s [] [] (theirs ++ rest) all size there good.0.good (left (p s) (list_all p ss) placed) good.0.fits good.0.apart (omega arith) in
+      let d = drafting s one.fragments one.literal in
+      let sum : length (full ++ d ∷ []) + length ss ≡ n = omega (arith, count, length-append full (d ∷ [])) in
+      let others = take_contents n i imports ss one.begun (full ++ d ∷ []) rest good.1 (right (p s) (list_all p ss) placed) (full_push full d all one.is_full) sum there in
+      let regroup = append_assoc full (d ∷ []) others.drafts in
       record {
-        align = left (nat_le s.align 15) (nat_le (section_len s) section_limit) two;
-        size = grind (arith, nat_tests);
-        good = right (nat_le s.align 15 && nat_le (section_len s) section_limit) (list_all (is_good_fragment n i) s.fragments) three;
-        apart = right (nat_le s.align 15 && nat_le (section_len s) section_limit && list_all (is_good_fragment n i) s.fragments) (are_apart s.fragments) one;
-        fits = fits.0;
-      },
-      good_sections n i ss (right (is_good_section n i s) (list_all (is_good_section n i) ss) good) fits.1,
-    )
+        drafts = d ∷ others.drafts;
+        begun = others.begun;
+        all_full = ap (list_all is_full) (sym regroup) ∙ others.all_full;
+        sections = (λ k. record { name = s.name; align = s.align; fragments = one.whole k } ∷ others.sections k);
+        same =
+            ap (λ es. after_all (sectioned imports begun (full ++ empty_draft s ∷ map empty_draft ss)) es) (append_assoc mine theirs rest)
+            ∙ one.same
+            ∙ ap (λ xs. after_all (sectioned imports one.begun xs) (theirs ++ rest)) (sym (append_assoc full (d ∷ []) (map empty_draft ss)))
+            ∙ others.same
+            ∙ ap (λ xs. after_all (sectioned imports others.begun xs) rest) regroup;
+      }
 
-heading_again : (n align : ℕ) (name : List ℕ) → n ≤ 16777216 → section_of (little_bytes 4 n ++ align ∷ name) ≡ Ok (record { size = n; align = align; name = name })
-heading_again n align name small =
-    let number : little_number 4 (little_bytes 4 n ++ align ∷ name) ≡ n = back 4 n (align ∷ name) (omega arith) in
-    let long : nat_lt (length (little_bytes 4 n ++ align ∷ name)) 5 ≡ false = grind (arith, nat_tests) in
-    let within : nat_lt 16777216 n ≡ false = grind (arith, nat_tests) in
-    rw (long, number, within) refl
+  -- ---- Exports.
 
-take_section : (n i : ℕ) (imports : List (List ℕ)) (ds : List Draft) (s : Section) (others : List (List ℕ)) → IsGood n i s → are_names (map (λ (d : Draft). d.name) ds ++ s.name ∷ others) ≡ true → after (sectioned imports false ds) (section_entry s) ≡ Ok (sectioned imports false (ds ++ empty_draft s ∷ []))
-unfolding after Scanning.scanned Scanning.scan_entry Scanning.scan_section
-take_section n i imports ds s others good names =
-    rw (heading_again (section_len s) s.align s.name good.size, new_again (map (λ (d : Draft). d.name) ds) others s.name names, good.align) refl
+  take_export : (imports : List (List ℕ)) (begun : Bool) (ds : List Draft) (done : List Export) (x : Export) (others : List (List ℕ)) → list_all is_full ds ≡ true → are_names (map (λ (e : Export). e.name) done ++ x.name ∷ others) ≡ true → is_good_form (length ds) (length imports) x.form ≡ true → is_good_origin v (length files) x.origin ≡ true → OriginFits x.origin × FitsBits x.form → after (holding imports begun ds done []) (export_entry x) ≡ Ok (holding imports begun ds (done ++ x ∷ []) [])
+  unfolding after Scanning.scanned Scanning.scan_entry Scanning.scan_export
+  take_export imports begun ds done x others all names good origin fits =
+      let n = length ds in
+      let i = length imports in
+      let two = left (is_within n i x.form && is_normal x.form) (nat_le (nodes x.form) node_limit) good in
+      let normal = right (is_within n i x.form) (is_normal x.form) two in
+      let fine : (is_normal x.form && nat_le (nodes x.form) node_limit) ≡ true = and (is_normal x.form) (nat_le (nodes x.form) node_limit) normal (right (is_within n i x.form && is_normal x.form) (nat_le (nodes x.form) node_limit) good) in
+      let by = origin_parts v (length files) x.origin origin in
+      let filled = all_full ds ∙ all in
+      rw (filled, length-map ds Scanning.room_of, export_again v x by.0 fits.0 fits.1 normal, parts_again (length files) n i x.origin x.form by.1 (left (is_within n i x.form) (is_normal x.form) two), new_again (map (λ (e : Export). e.name) done) others x.name names, fine) refl
 
--- all headings in turn
-take_headings : (n i : ℕ) (imports : List (List ℕ)) (ss : List Section) (ds : List Draft) (rest : List Entry) → AllByRecursion (IsGood n i) ss → are_names (map (λ (d : Draft). d.name) ds ++ map (λ (s : Section). s.name) ss) ≡ true → after_all (sectioned imports false ds) (map section_entry ss ++ rest) ≡ after_all (sectioned imports false (ds ++ map empty_draft ss)) rest
-take_headings n i imports [] ds rest good names = ap (λ xs. after_all (sectioned imports false xs) rest) (sym (nil ds))
-take_headings n i imports (s ∷ ss) ds rest good names =
-    let one = take_section n i imports ds s (map (λ (x : Section). x.name) ss) good.0 names in
-    let more : map (λ (d : Draft). d.name) (ds ++ empty_draft s ∷ []) ++ map (λ (x : Section). x.name) ss ≡ map (λ (d : Draft). d.name) ds ++ s.name ∷ map (λ (x : Section). x.name) ss = ap (λ xs. xs ++ map (λ (x : Section). x.name) ss) (map-append (λ (d : Draft). d.name) ds (empty_draft s ∷ [])) ∙ append_assoc (map (λ (d : Draft). d.name) ds) (s.name ∷ []) (map (λ (x : Section). x.name) ss) in
-    ap (λ r. r >>= (λ t. after_all t (map section_entry ss ++ rest))) one
-    ∙ take_headings n i imports ss (ds ++ empty_draft s ∷ []) rest good.1 (ap are_names more ∙ names)
-    ∙ ap (λ xs. after_all (sectioned imports false xs) rest) (append_assoc ds (empty_draft s ∷ []) (map empty_draft ss))
+  take_exports : (imports : List (List ℕ)) (begun : Bool) (ds : List Draft) (xs done : List Export) (rest : List Entry) → list_all is_full ds ≡ true → are_names (map (λ (e : Export). e.name) done ++ map (λ (e : Export). e.name) xs) ≡ true → list_all (λ (e : Export). is_good_form (length ds) (length imports) e.form) xs ≡ true → list_all (λ (e : Export). is_good_origin v (length files) e.origin) xs ≡ true → AllByRecursion (λ (e : Export). OriginFits e.origin × FitsBits e.form) xs → after_all (holding imports begun ds done []) (map export_entry xs ++ rest) ≡ after_all (holding imports begun ds (done ++ xs) []) rest
+  take_exports imports begun ds [] done rest all names good placed fits = ap (λ ys. after_all (holding imports begun ds ys []) rest) (sym (nil done))
+  take_exports imports begun ds (x ∷ xs) done rest all names good placed fits =
+      let name_of = λ (e : Export). e.name in
+      let fine = λ (e : Export). is_good_form (length ds) (length imports) e.form in
+      let at = λ (e : Export). is_good_origin v (length files) e.origin in
+      let one = take_export imports begun ds done x (map name_of xs) all names (left (fine x) (list_all fine xs) good) (left (at x) (list_all at xs) placed) fits.0 in
+      let more : map name_of (done ++ x ∷ []) ++ map name_of xs ≡ map name_of done ++ x.name ∷ map name_of xs = ap (λ ys. ys ++ map name_of xs) (map-append name_of done (x ∷ [])) ∙ append_assoc (map name_of done) (x.name ∷ []) (map name_of xs) in
+      ap (λ r. r >>= (λ t. after_all t (map export_entry xs ++ rest))) one
+      ∙ take_exports imports begun ds xs (done ++ x ∷ []) rest all (ap are_names more ∙ names) (right (fine x) (list_all fine xs) good) (right (at x) (list_all at xs) placed) fits.1
+      ∙ ap (λ ys. after_all (holding imports begun ds ys []) rest) (append_assoc done (x ∷ []) xs)
 
--- ---- A literal.
+  -- ---- Assertions.
 
--- a fragment goes to the first section that isn't full
-part_again : (imports : List (List ℕ)) (begun : Bool) (full : List Draft) (d e : Draft) (more : List Draft) (grow : Room → Result (Room × Fragment) ObjectFault) (y : Room × Fragment) → list_all is_full full ≡ true → is_full d ≡ false → grow (Scanning.room_of d) ≡ Ok y → grown d y.1 ≡ e → (Scanning.scan_part (Scanning.outline_of (sectioned imports begun (full ++ d ∷ more))) grow >>= (λ x. Ok (with_item (sectioned imports begun (full ++ d ∷ more)) x.1))) ≡ Ok (sectioned imports true (full ++ e ∷ more))
-unfolding Scanning.scan_part
-part_again imports begun full d e more grow y all free h is =
-    rw (opens full d more all free, h, piece_there full d more y.1, is) refl
+  take_assert : (imports : List (List ℕ)) (begun : Bool) (ds : List Draft) (exports : List Export) (done : List Assert) (x : Assert) → list_all is_full ds ≡ true → is_good_assert (length ds) (length imports) x ≡ true → is_good_origin v (length files) x.origin ≡ true → OriginFits x.origin × FitsBits x.form → after (holding imports begun ds exports done) (assert_entry x) ≡ Ok (holding imports begun ds exports (done ++ x ∷ []))
+  unfolding after Scanning.scanned Scanning.scan_entry Scanning.scan_assert
+  take_assert imports begun ds exports done x all good origin fits =
+      let n = length ds in
+      let i = length imports in
+      let small = left (is_small_text x.text && is_good_form n i x.form) (not (is_literal x.form)) good in
+      let fine = form_parts n i x.form (and (is_good_form n i x.form) (not (is_literal x.form)) (right (is_small_text x.text) (is_good_form n i x.form) small) (right (is_small_text x.text && is_good_form n i x.form) (not (is_literal x.form)) good)) in
+      let by = origin_parts v (length files) x.origin origin in
+      let filled = all_full ds ∙ all in
+      rw (filled, length-map ds Scanning.room_of, assert_again v x by.0 fits.0 fits.1 fine.2, parts_again (length files) n i x.origin x.form by.1 fine.0, fine.1) refl
 
-literal_again : (s : Section) (fs : List Fragment) (bytes body : List ℕ) → 0 < length body → (sum_by fragment_len fs + length bytes) + length body ≤ section_len s → length bytes % body_limit ≡ 0 → Scanning.room_literal body (Scanning.room_of (drafting s fs bytes)) ≡ Ok (Scanning.room_behind (Scanning.room_of (drafting s fs bytes)) (length body) (Scanning.last_behind (length body)), Literal body)
-unfolding Scanning.room_literal
-literal_again s fs bytes body some within full =
-    let none : (length body == 0) ≡ false = grind (arith, nat_tests) in
-    let room : nat_le (length body) (section_len s - (sum_by fragment_len fs + length bytes)) ≡ true = (let less : length body ≤ section_len s - (sum_by fragment_len fs + length bytes) = omega arith in grind (arith, nat_tests)) in
-    let even : (length bytes % body_limit == 0) ≡ true = grind (arith, nat_tests) in
-    rw (none, room, short_is (drafting s fs bytes), even) refl
+  take_asserts : (imports : List (List ℕ)) (begun : Bool) (ds : List Draft) (exports : List Export) (xs done : List Assert) (rest : List Entry) → list_all is_full ds ≡ true → list_all (is_good_assert (length ds) (length imports)) xs ≡ true → list_all (λ (a : Assert). is_good_origin v (length files) a.origin) xs ≡ true → AllByRecursion (λ (a : Assert). OriginFits a.origin × FitsBits a.form) xs → after_all (holding imports begun ds exports done) (map assert_entry xs ++ rest) ≡ after_all (holding imports begun ds exports (done ++ xs)) rest
+  take_asserts imports begun ds exports [] done rest all good placed fits = ap (λ ys. after_all (holding imports begun ds exports ys) rest) (sym (nil done))
+  take_asserts imports begun ds exports (x ∷ xs) done rest all good placed fits =
+      let fine = is_good_assert (length ds) (length imports) in
+      let at = λ (a : Assert). is_good_origin v (length files) a.origin in
+      let one = take_assert imports begun ds exports done x all (left (fine x) (list_all fine xs) good) (left (at x) (list_all at xs) placed) fits.0 in
+      ap (λ r. r >>= (λ t. after_all t (map assert_entry xs ++ rest))) one
+      ∙ take_asserts imports begun ds exports xs (done ++ x ∷ []) rest all (right (fine x) (list_all fine xs) good) (right (at x) (list_all at xs) placed) fits.1
+      ∙ ap (λ ys. after_all (holding imports begun ds exports ys) rest) (append_assoc done (x ∷ []) xs)
 
-literal_joined : (s : Section) (fs : List Fragment) (bytes body : List ℕ) → grown (drafting s fs bytes) (Literal body) ≡ drafting s fs (bytes ++ body)
-literal_joined s fs bytes body =
-    let sum : (sum_by fragment_len fs + length bytes) + length body ≡ sum_by fragment_len fs + length (bytes ++ body) = omega (arith, length-append bytes body) in
-    ap (λ k. record { name = s.name; align = s.align; size = section_len s; filled = k; fragments = fs; literal = bytes ++ body }) sum
+  -- ---- The END.
 
--- a section that has room isn't full
-not_full : (s : Section) (fs : List Fragment) (bytes : List ℕ) (len : ℕ) → 0 < len → (sum_by fragment_len fs + length bytes) + len ≤ section_len s → is_full (drafting s fs bytes) ≡ false
-not_full s fs bytes len some within = let less : sum_by fragment_len fs + length bytes < section_len s = omega arith in grind (arith, nat_tests)
-
-take_piece : (imports : List (List ℕ)) (begun : Bool) (full more : List Draft) (s : Section) (fs : List Fragment) (bytes body : List ℕ) → list_all is_full full ≡ true → 0 < length body → (sum_by fragment_len fs + length bytes) + length body ≤ section_len s → length bytes % body_limit ≡ 0 → after (sectioned imports begun (full ++ drafting s fs bytes ∷ more)) (literal_entry body) ≡ Ok (sectioned imports true (full ++ drafting s fs (bytes ++ body) ∷ more))
-unfolding after Scanning.scanned Scanning.scan_entry
-take_piece imports begun full more s fs bytes body all some within even =
-    part_again imports begun full (drafting s fs bytes) (drafting s fs (bytes ++ body)) more (Scanning.room_literal body) _ all (not_full s fs bytes (length body) some within) (literal_again s fs bytes body some within even) (literal_joined s fs bytes body)
-
--- some records lead to these sections
-pub record Goes (before : State) (imports : List (List ℕ)) (es rest : List Entry) (ds : List Draft) : Type 0 where
-  pub begun : Bool
-  pub same : after_all before (es ++ rest) ≡ after_all (sectioned imports begun ds) rest
-
-front_len : (bytes : List ℕ) → body_limit < length bytes → length (take body_limit bytes) ≡ body_limit
-front_len bytes over = omega (arith, length-take body_limit bytes)
-
-abbrev Piecewise : ℕ → Type 0
-Piecewise n = (imports : List (List ℕ)) (begun : Bool) (full more : List Draft) (s : Section) (fs : List Fragment) (done bytes : List ℕ) (rest : List Entry) → length bytes ≤ n → list_all is_full full ≡ true → (sum_by fragment_len fs + length done) + length bytes ≤ section_len s → length done % body_limit ≡ 0 → Goes (sectioned imports begun (full ++ drafting s fs done ∷ more)) imports (literal_entries bytes) rest (full ++ drafting s fs (done ++ bytes) ∷ more)
-
-split : (n : ℕ) (imports : List (List ℕ)) (begun : Bool) (full more : List Draft) (s : Section) (fs : List Fragment) (done bytes : List ℕ) (rest : List Entry) → 0 < length bytes → length bytes ≤ suc n → list_all is_full full ≡ true → (sum_by fragment_len fs + length done) + length bytes ≤ section_len s → length done % body_limit ≡ 0 → Piecewise n → Goes (sectioned imports begun (full ++ drafting s fs done ∷ more)) imports (literal_entries bytes) rest (full ++ drafting s fs (done ++ bytes) ∷ more)
-split n imports begun full more s fs done bytes rest some long all sum even others =
-    elim (either (nat_le (length bytes) body_limit)) [
-      | inl short ↦
-          let within : length bytes ≤ body_limit = grind (arith, nat_tests) in
-          record {
-            begun = true;
-            same =
-                ap (λ es. after_all (sectioned imports begun (full ++ drafting s fs done ∷ more)) (es ++ rest)) (one_piece bytes some within)
-                ∙ ap (λ r. r >>= (λ t. after_all t rest)) (take_piece imports begun full more s fs done bytes all some sum even);
-          }
-      | inr long_one ↦
-          let over : body_limit < length bytes = grind (arith, nat_tests) in
-          let front = take body_limit bytes in
-          let back_part = drop body_limit bytes in
-          let len = front_len bytes over in
-          let left_len = length-drop body_limit bytes in
-          let sum_len = length-append done front in
-          let next = others imports true full more s fs (done ++ front) back_part rest (omega arith) all (omega arith) (omega arith) in
-          record {
-            begun = next.begun;
-            same =
-                ap (λ es. after_all (sectioned imports begun (full ++ drafting s fs done ∷ more)) (es ++ rest)) (more_pieces bytes some)
-                ∙ ap (λ r. r >>= (λ t. after_all t (literal_entries back_part ++ rest))) (take_piece imports begun full more s fs done front all (omega arith) (omega arith) even)
-                ∙ next.same
-                ∙ ap (λ xs. after_all (sectioned imports next.begun (full ++ drafting s fs xs ∷ more)) rest) (append_assoc done front back_part ∙ ap (λ xs. done ++ xs) (take-append-drop body_limit bytes));
-          }
-    ]
-
-take_literal : (n : ℕ) → Piecewise n
-take_literal n imports begun full more s fs done [] rest long all sum even = record {
-  begun = begun;
-  same = ap (λ xs. after_all (sectioned imports begun (full ++ drafting s fs xs ∷ more)) rest) (sym (nil done));
-}
-take_literal zero imports begun full more s fs done (b ∷ bytes) rest long all sum even = absurd (omega arith)
-take_literal (suc n) imports begun full more s fs done (b ∷ bytes) rest long all sum even = split n imports begun full more s fs done (b ∷ bytes) rest (omega arith) (omega arith) all sum even (take_literal n)
-
--- ---- A fill and a value.
-
--- the section with one more fragment, which is no literal
-added : (s : Section) (fs : List Fragment) (bytes : List ℕ) (f : Fragment) → with_fragment (drafting s fs bytes) (fragment_len f) f ≡ drafting s ((fs ++ closing bytes) ++ f ∷ []) []
-added s fs bytes f =
-    let sum : (sum_by fragment_len fs + length bytes) + fragment_len f ≡ sum_by fragment_len ((fs ++ closing bytes) ++ f ∷ []) + 0 = omega (arith, shut_len fs bytes, sum_by-append fragment_len (fs ++ closing bytes) (f ∷ [])) in
-    ap (λ k. record { name = s.name; align = s.align; size = section_len s; filled = k; fragments = (fs ++ closing bytes) ++ f ∷ []; literal = [] }) sum
-
-room_again : (s : Section) (fs : List Fragment) (bytes : List ℕ) (len : ℕ) → (sum_by fragment_len fs + length bytes) + len ≤ section_len s → nat_le len (section_len s - (sum_by fragment_len fs + length bytes)) ≡ true
-room_again s fs bytes len within = let less : len ≤ section_len s - (sum_by fragment_len fs + length bytes) = omega arith in grind (arith, nat_tests)
-
-take_fill : (imports : List (List ℕ)) (begun : Bool) (full more : List Draft) (s : Section) (fs : List Fragment) (bytes : List ℕ) (n : ℕ) → list_all is_full full ≡ true → 0 < n → n < 2 ^ 32 → (sum_by fragment_len fs + length bytes) + n ≤ section_len s → Scanning.ends_in_fill (fs ++ closing bytes) ≡ false → after (sectioned imports begun (full ++ drafting s fs bytes ∷ more)) (fill_entry n) ≡ Ok (sectioned imports true (full ++ drafting s ((fs ++ closing bytes) ++ Fill n ∷ []) [] ∷ more))
-unfolding after Scanning.scanned Scanning.scan_entry Scanning.room_fill
-take_fill imports begun full more s fs bytes n all some fits within alone =
-    let d = drafting s fs bytes in
-    let y : Room × Fragment = (Scanning.room_behind (Scanning.room_of d) n last.Fill, Fill n) in
-    let takes : Scanning.room_fill (fill_entry n).body (Scanning.room_of d) ≡ Ok y = rw (fill_again n some fits, room_again s fs bytes n within, fill_is d, alone) refl in
-    part_again imports begun full d (drafting s ((fs ++ closing bytes) ++ Fill n ∷ []) []) more (Scanning.room_fill (fill_entry n).body) y all (not_full s fs bytes n some within) takes (added s fs bytes (Fill n))
-
--- what makes a form good in a value or an assertion
-form_parts : (n i : ℕ) (f : Form) → (is_good_form n i f && not (is_literal f)) ≡ true → (is_within n i f ≡ true) × ((is_normal f && nat_le (nodes f) node_limit && not (is_literal f)) ≡ true) × (is_normal f ≡ true)
-form_parts n i f good =
-    let form = left (is_good_form n i f) (not (is_literal f)) good in
-    let two = left (is_within n i f && is_normal f) (nat_le (nodes f) node_limit) form in
-    let normal = right (is_within n i f) (is_normal f) two in (
-      left (is_within n i f) (is_normal f) two,
-      and (is_normal f && nat_le (nodes f) node_limit) (not (is_literal f)) (and (is_normal f) (nat_le (nodes f) node_limit) normal (right (is_within n i f && is_normal f) (nat_le (nodes f) node_limit) form)) (right (is_good_form n i f) (not (is_literal f)) good),
-      normal,
-    )
-
-take_value : (n i : ℕ) (imports : List (List ℕ)) (begun : Bool) (full more : List Draft) (s : Section) (fs : List Fragment) (bytes : List ℕ) (w : Width) (line : ℕ) (form : Form) → list_all is_full full ≡ true → length (full ++ drafting s fs bytes ∷ more) ≡ n → length imports ≡ i → (line < 2 ^ 32) × FitsBits form → (is_good_form n i form && not (is_literal form)) ≡ true → (sum_by fragment_len fs + length bytes) + width_len w ≤ section_len s → after (sectioned imports begun (full ++ drafting s fs bytes ∷ more)) (value_entry w line form) ≡ Ok (sectioned imports true (full ++ drafting s ((fs ++ closing bytes) ++ Value w line form ∷ []) [] ∷ more))
-unfolding after Scanning.scanned Scanning.scan_entry Scanning.room_value
-take_value n i imports begun full more s fs bytes w line form all count there fits good within =
-    let fine = form_parts n i form good in
-    let some : 0 < width_len w = width_some w in
-    let d = drafting s fs bytes in
-    let body = (value_entry w line form).body in
-    let y : Room × Fragment = (Scanning.room_behind (Scanning.room_of d) (width_len w) last.Other, Value w line form) in
-    let takes : Scanning.room_value n i body (Scanning.room_of d) ≡ Ok y = rw (value_again w line form fits.0 fits.1 fine.2, room_again s fs bytes (width_len w) within, fine.0, fine.1) refl in
-    let m = length (map Scanning.room_of (full ++ d ∷ more)) in
-    let counted = takes_at n i m (length imports) body (Scanning.room_of d) y (length-map (full ++ d ∷ more) Scanning.room_of ∙ count) there takes in
-    part_again imports begun full d (drafting s ((fs ++ closing bytes) ++ Value w line form ∷ []) []) more (Scanning.room_value m (length imports) body) y all (not_full s fs bytes (width_len w) some within) counted (added s fs bytes (Value w line form))
-  where
-    width_some : (w : Width) → 0 < width_len w
-    width_some Byte = omega arith
-    width_some Word = omega arith
-    width_some HighFirst = omega arith
-    width_some Dword = omega arith
-    width_some Branch = omega arith
-
-    takes_at : (n i m j : ℕ) (body : List ℕ) (r : Room) (y : Room × Fragment) → m ≡ n → j ≡ i → Scanning.room_value n i body r ≡ Ok y → Scanning.room_value m j body r ≡ Ok y
-    takes_at n i m j body r y p q h = (λ k. Scanning.room_value (p k) (q k) body r) ∙ h
-
--- ---- The fragments of a section.
-
--- some records lead to this section, with all its fragments
-pub record Fills (before : State) (imports : List (List ℕ)) (es rest : List Entry) (full more : List Draft) (s : Section) (all : List Fragment) : Type 0 where
-  pub fragments : List Fragment
-  pub literal : List ℕ
-  pub whole : fragments ++ closing literal ≡ all
-  pub is_full : is_full (drafting s fragments literal) ≡ true
-  pub begun : Bool
-  pub same : after_all before (es ++ rest) ≡ after_all (sectioned imports begun (full ++ drafting s fragments literal ∷ more)) rest
-
--- one fragment, and then the others
-fills_next : (before : State) (imports : List (List ℕ)) (first others rest : List Entry) (full more : List Draft) (s : Section) (begun : Bool) (d : Draft) (all now : List Fragment) → now ≡ all → after_all before (first ++ (others ++ rest)) ≡ after_all (sectioned imports begun (full ++ d ∷ more)) (others ++ rest) → Fills (sectioned imports begun (full ++ d ∷ more)) imports others rest full more s now → Fills before imports (first ++ others) rest full more s all
-fills_next before imports first others rest full more s begun d all now same one next = record {
-  fragments = next.fragments;
-  literal = next.literal;
-  whole = next.whole ∙ same;
-  is_full = next.is_full;
-  begun = next.begun;
-  same = ap (λ es. after_all before es) (append_assoc first others rest) ∙ one ∙ next.same;
-}
-
-take_fragments : (n i : ℕ) (imports : List (List ℕ)) (gs : List Fragment) (begun : Bool) (full more : List Draft) (s : Section) (fs : List Fragment) (bytes : List ℕ) (rest : List Entry) → list_all is_full full ≡ true → length full + suc (length more) ≡ n → length imports ≡ i → list_all (is_good_fragment n i) gs ≡ true → AllByRecursion FragmentFits gs → are_apart ((fs ++ closing bytes) ++ gs) ≡ true → (sum_by fragment_len fs + length bytes) + sum_by fragment_len gs ≡ section_len s → Fills (sectioned imports begun (full ++ drafting s fs bytes ∷ more)) imports (flat_map fragment_entries gs) rest full more s ((fs ++ closing bytes) ++ gs)
-take_fragments n i imports [] begun full more s fs bytes rest all count there good fits apart sum = record {
-  fragments = fs;
-  literal = bytes;
-  whole = sym (nil (fs ++ closing bytes));
-  is_full = (let same : sum_by fragment_len fs + length bytes ≡ section_len s = omega arith in grind (arith, nat_tests));
-  begun = begun;
-  same = refl;
-}
-take_fragments n i imports (Literal body ∷ gs) begun full more s fs (b ∷ bytes) rest all count there good fits apart sum =
-    let alone = apart_last (fs ++ closing (b ∷ bytes)) (Literal body) gs apart in
-    let joined : last_joins (fs ++ closing (b ∷ bytes)) (Literal body) ≡ true = ap (λ xs. last_joins (fs ++ xs) (Literal body)) (closing_is (b ∷ bytes) (longer b bytes)) ∙ last_push fs (Literal (b ∷ bytes)) (Literal body) in
-    absurd (both (last_joins (fs ++ closing (b ∷ bytes)) (Literal body)) joined alone)
-  where
-    both : (x : Bool) → x ≡ true → x ≡ false → ⊥
-    both x p q = cc
-take_fragments n i imports (Literal [] ∷ gs) begun full more s fs [] rest all count there good fits apart sum = let none : nat_lt 0 0 ≡ false = refl in cc
-take_fragments n i imports (Literal (c ∷ body) ∷ gs) begun full more s fs [] rest all count there good fits apart sum =
-    let whole : (fs ++ closing (c ∷ body)) ++ gs ≡ (fs ++ closing []) ++ Literal (c ∷ body) ∷ gs = ap (λ xs. (fs ++ xs) ++ gs) (closing_is (c ∷ body) (longer c body)) ∙ append_assoc fs (Literal (c ∷ body) ∷ []) gs ∙ ap (λ xs. xs ++ Literal (c ∷ body) ∷ gs) (sym (nil fs)) in
-    let first = sum_by-cons fragment_len (Literal (c ∷ body)) gs in
-    let one = take_literal (length (c ∷ body)) imports begun full more s fs [] (c ∷ body) (flat_map fragment_entries gs ++ rest) (omega arith) all (omega (arith, sum, first)) refl in
-    fills_next (sectioned imports begun (full ++ drafting s fs [] ∷ more)) imports (literal_entries (c ∷ body)) (flat_map fragment_entries gs) rest full more s one.begun (drafting s fs (c ∷ body)) ((fs ++ closing []) ++ Literal (c ∷ body) ∷ gs) ((fs ++ closing (c ∷ body)) ++ gs) whole one.same
-    (take_fragments n i imports gs one.begun full more s fs (c ∷ body) rest all count there (right (is_good_fragment n i (Literal (c ∷ body))) (list_all (is_good_fragment n i) gs) good) fits.1 (ap are_apart whole ∙ apart) (omega (arith, sum, first)))
-take_fragments n i imports (Fill k ∷ gs) begun full more s fs bytes rest all count there good fits apart sum =
-    let now = fs ++ closing bytes in
-    let first = sum_by-cons fragment_len (Fill k) gs in
-    let some : 0 < k = (let t = left (is_good_fragment n i (Fill k)) (list_all (is_good_fragment n i) gs) good in grind (arith, nat_tests)) in
-    let alone : Scanning.ends_in_fill now ≡ false = fill_last now k ∙ apart_last now (Fill k) gs apart in
-    let whole : ((now ++ Fill k ∷ []) ++ closing []) ++ gs ≡ now ++ Fill k ∷ gs = ap (λ xs. xs ++ gs) (nil (now ++ Fill k ∷ [])) ∙ append_assoc now (Fill k ∷ []) gs in
-    let one = take_fill imports begun full more s fs bytes k all some fits.0 (omega (arith, sum, first)) alone in
-    fills_next (sectioned imports begun (full ++ drafting s fs bytes ∷ more)) imports (fill_entry k ∷ []) (flat_map fragment_entries gs) rest full more s true (drafting s (now ++ Fill k ∷ []) []) (now ++ Fill k ∷ gs) (((now ++ Fill k ∷ []) ++ closing []) ++ gs) whole (ap (λ r. r >>= (λ t. after_all t (flat_map fragment_entries gs ++ rest))) one)
-    (take_fragments n i imports gs true full more s (now ++ Fill k ∷ []) [] rest all count there (right (is_good_fragment n i (Fill k)) (list_all (is_good_fragment n i) gs) good) fits.1 (ap are_apart whole ∙ apart) (omega (arith, sum, first, shut_len fs bytes, sum_by-append fragment_len now (Fill k ∷ []))))
-take_fragments n i imports (Value w line form ∷ gs) begun full more s fs bytes rest all count there good fits apart sum =
-    let now = fs ++ closing bytes in
-    let f = Value w line form in
-    let fine = left (is_good_fragment n i f) (list_all (is_good_fragment n i) gs) good in
-    let whole : ((now ++ f ∷ []) ++ closing []) ++ gs ≡ now ++ f ∷ gs = ap (λ xs. xs ++ gs) (nil (now ++ f ∷ [])) ∙ append_assoc now (f ∷ []) gs in
-    let first = sum_by-cons fragment_len f gs in
-    let size : length (full ++ drafting s fs bytes ∷ more) ≡ n = length-append full (drafting s fs bytes ∷ more) ∙ count in
-    let one = take_value n i imports begun full more s fs bytes w line form all size there fits.0 fine (omega (arith, sum, first)) in
-    fills_next (sectioned imports begun (full ++ drafting s fs bytes ∷ more)) imports (value_entry w line form ∷ []) (flat_map fragment_entries gs) rest full more s true (drafting s (now ++ f ∷ []) []) (now ++ f ∷ gs) (((now ++ f ∷ []) ++ closing []) ++ gs) whole (ap (λ r. r >>= (λ t. after_all t (flat_map fragment_entries gs ++ rest))) one)
-    (take_fragments n i imports gs true full more s (now ++ f ∷ []) [] rest all count there (right (is_good_fragment n i f) (list_all (is_good_fragment n i) gs) good) fits.1 (ap are_apart whole ∙ apart) (omega (arith, sum, first, shut_len fs bytes, sum_by-append fragment_len now (f ∷ []))))
-
--- ---- All contents in turn.
-
-pub record Contents (before : State) (imports : List (List ℕ)) (es rest : List Entry) (full : List Draft) (ss : List Section) : Type 0 where
-  pub drafts : List Draft
-  pub begun : Bool
-  pub all_full : list_all is_full (full ++ drafts) ≡ true
-  pub sections : map section_from drafts ≡ ss
-  pub same : after_all before (es ++ rest) ≡ after_all (sectioned imports begun (full ++ drafts)) rest
-
-full_push : (full : List Draft) (d : Draft) → list_all is_full full ≡ true → is_full d ≡ true → list_all is_full (full ++ d ∷ []) ≡ true
-full_push full d all one = list_all-append is_full full (d ∷ []) ∙ rw (all, one) refl
-
-length_map : {A B : Type 0} (f : A → B) (xs : List A) → length (map f xs) ≡ length xs
-length_map f [] = refl
-length_map f (x ∷ xs) = omega (arith, length_map f xs)
-
-take_contents : (n i : ℕ) (imports : List (List ℕ)) (ss : List Section) (begun : Bool) (full : List Draft) (rest : List Entry) → AllByRecursion (IsGood n i) ss → list_all is_full full ≡ true → length full + length ss ≡ n → length imports ≡ i → Contents (sectioned imports begun (full ++ map empty_draft ss)) imports (flat_map (λ (s : Section). flat_map fragment_entries s.fragments) ss) rest full ss
-take_contents n i imports [] begun full rest good all count there = record {
-  drafts = [];
-  begun = begun;
-  all_full = ap (list_all is_full) (nil full) ∙ all;
-  sections = refl;
-  same = refl;
-}
-take_contents n i imports (s ∷ ss) begun full rest good all count there =
-    let mine = flat_map fragment_entries s.fragments in
-    let theirs = flat_map (λ (x : Section). flat_map fragment_entries x.fragments) ss in
-    let size : length full + suc (length (map empty_draft ss)) ≡ n = omega (arith, count, length_map empty_draft ss) in
-    let one = take_fragments n i imports s.fragments begun full (map empty_draft ss) s [] [] (theirs ++ rest) all size there good.0.good good.0.fits good.0.apart (omega arith) in
-    let d = drafting s one.fragments one.literal in
-    let sum : length (full ++ d ∷ []) + length ss ≡ n = omega (arith, count, length-append full (d ∷ [])) in
-    let others = take_contents n i imports ss one.begun (full ++ d ∷ []) rest good.1 (full_push full d all one.is_full) sum there in
-    let regroup = append_assoc full (d ∷ []) others.drafts in
-    record {
-      drafts = d ∷ others.drafts;
-      begun = others.begun;
-      all_full = ap (list_all is_full) (sym regroup) ∙ others.all_full;
-      sections = (λ k. record { name = s.name; align = s.align; fragments = one.whole k } ∷ others.sections k);
-      same =
-          ap (λ es. after_all (sectioned imports begun (full ++ empty_draft s ∷ map empty_draft ss)) es) (append_assoc mine theirs rest)
-          ∙ one.same
-          ∙ ap (λ xs. after_all (sectioned imports one.begun xs) (theirs ++ rest)) (sym (append_assoc full (d ∷ []) (map empty_draft ss)))
-          ∙ others.same
-          ∙ ap (λ xs. after_all (sectioned imports others.begun xs) rest) regroup;
-    }
-
--- ---- Exports.
-
-take_export : (imports : List (List ℕ)) (begun : Bool) (ds : List Draft) (done : List Export) (x : Export) (others : List (List ℕ)) → list_all is_full ds ≡ true → are_names (map (λ (e : Export). e.name) done ++ x.name ∷ others) ≡ true → is_good_form (length ds) (length imports) x.form ≡ true → (x.line < 2 ^ 32) × FitsBits x.form → after (holding imports begun ds done []) (export_entry x) ≡ Ok (holding imports begun ds (done ++ x ∷ []) [])
-unfolding after Scanning.scanned Scanning.scan_entry Scanning.scan_export
-take_export imports begun ds done x others all names good fits =
-    let n = length ds in
-    let i = length imports in
-    let two = left (is_within n i x.form && is_normal x.form) (nat_le (nodes x.form) node_limit) good in
-    let normal = right (is_within n i x.form) (is_normal x.form) two in
-    let fine : (is_normal x.form && nat_le (nodes x.form) node_limit) ≡ true = and (is_normal x.form) (nat_le (nodes x.form) node_limit) normal (right (is_within n i x.form && is_normal x.form) (nat_le (nodes x.form) node_limit) good) in
-    let filled = all_full ds ∙ all in
-    rw (filled, length-map ds Scanning.room_of, export_again x fits.0 fits.1 normal, left (is_within n i x.form) (is_normal x.form) two, new_again (map (λ (e : Export). e.name) done) others x.name names, fine) refl
-
-take_exports : (imports : List (List ℕ)) (begun : Bool) (ds : List Draft) (xs done : List Export) (rest : List Entry) → list_all is_full ds ≡ true → are_names (map (λ (e : Export). e.name) done ++ map (λ (e : Export). e.name) xs) ≡ true → list_all (λ (e : Export). is_good_form (length ds) (length imports) e.form) xs ≡ true → AllByRecursion (λ (e : Export). (e.line < 2 ^ 32) × FitsBits e.form) xs → after_all (holding imports begun ds done []) (map export_entry xs ++ rest) ≡ after_all (holding imports begun ds (done ++ xs) []) rest
-take_exports imports begun ds [] done rest all names good fits = ap (λ ys. after_all (holding imports begun ds ys []) rest) (sym (nil done))
-take_exports imports begun ds (x ∷ xs) done rest all names good fits =
-    let name_of = λ (e : Export). e.name in
-    let fine = λ (e : Export). is_good_form (length ds) (length imports) e.form in
-    let one = take_export imports begun ds done x (map name_of xs) all names (left (fine x) (list_all fine xs) good) fits.0 in
-    let more : map name_of (done ++ x ∷ []) ++ map name_of xs ≡ map name_of done ++ x.name ∷ map name_of xs = ap (λ ys. ys ++ map name_of xs) (map-append name_of done (x ∷ [])) ∙ append_assoc (map name_of done) (x.name ∷ []) (map name_of xs) in
-    ap (λ r. r >>= (λ t. after_all t (map export_entry xs ++ rest))) one
-    ∙ take_exports imports begun ds xs (done ++ x ∷ []) rest all (ap are_names more ∙ names) (right (fine x) (list_all fine xs) good) fits.1
-    ∙ ap (λ ys. after_all (holding imports begun ds ys []) rest) (append_assoc done (x ∷ []) xs)
-
--- ---- Assertions.
-
-take_assert : (imports : List (List ℕ)) (begun : Bool) (ds : List Draft) (exports : List Export) (done : List Assert) (x : Assert) → list_all is_full ds ≡ true → is_good_assert (length ds) (length imports) x ≡ true → (x.line < 2 ^ 32) × FitsBits x.form → after (holding imports begun ds exports done) (assert_entry x) ≡ Ok (holding imports begun ds exports (done ++ x ∷ []))
-unfolding after Scanning.scanned Scanning.scan_entry Scanning.scan_assert
-take_assert imports begun ds exports done x all good fits =
-    let n = length ds in
-    let i = length imports in
-    let small = left (is_small_text x.text && is_good_form n i x.form) (not (is_literal x.form)) good in
-    let fine = form_parts n i x.form (and (is_good_form n i x.form) (not (is_literal x.form)) (right (is_small_text x.text) (is_good_form n i x.form) small) (right (is_small_text x.text && is_good_form n i x.form) (not (is_literal x.form)) good)) in
-    let filled = all_full ds ∙ all in
-    rw (filled, length-map ds Scanning.room_of, assert_again x fits.0 fits.1 fine.2, fine.0, fine.1) refl
-
-take_asserts : (imports : List (List ℕ)) (begun : Bool) (ds : List Draft) (exports : List Export) (xs done : List Assert) (rest : List Entry) → list_all is_full ds ≡ true → list_all (is_good_assert (length ds) (length imports)) xs ≡ true → AllByRecursion (λ (a : Assert). (a.line < 2 ^ 32) × FitsBits a.form) xs → after_all (holding imports begun ds exports done) (map assert_entry xs ++ rest) ≡ after_all (holding imports begun ds exports (done ++ xs)) rest
-take_asserts imports begun ds exports [] done rest all good fits = ap (λ ys. after_all (holding imports begun ds exports ys) rest) (sym (nil done))
-take_asserts imports begun ds exports (x ∷ xs) done rest all good fits =
-    let fine = is_good_assert (length ds) (length imports) in
-    let one = take_assert imports begun ds exports done x all (left (fine x) (list_all fine xs) good) fits.0 in
-    ap (λ r. r >>= (λ t. after_all t (map assert_entry xs ++ rest))) one
-    ∙ take_asserts imports begun ds exports xs (done ++ x ∷ []) rest all (right (fine x) (list_all fine xs) good) fits.1
-    ∙ ap (λ ys. after_all (holding imports begun ds exports ys) rest) (append_assoc done (x ∷ []) xs)
-
--- ---- The END.
-
-take_end : (imports : List (List ℕ)) (begun : Bool) (ds : List Draft) (exports : List Export) (asserts : List Assert) → list_all is_full ds ≡ true → after (holding imports begun ds exports asserts) end_entry ≡ Ok (record (holding imports begun ds exports asserts) { ended = true })
-unfolding after Scanning.scanned Scanning.scan_entry Scanning.scan_last
-take_end imports begun ds exports asserts all = let filled = all_full ds ∙ all in rw filled refl
+  take_end : (imports : List (List ℕ)) (begun : Bool) (ds : List Draft) (exports : List Export) (asserts : List Assert) → list_all is_full ds ≡ true → after (holding imports begun ds exports asserts) end_entry ≡ Ok (record (holding imports begun ds exports asserts) { ended = true })
+  unfolding after Scanning.scanned Scanning.scan_entry Scanning.scan_last
+  take_end imports begun ds exports asserts all = let filled = all_full ds ∙ all in rw filled refl
 
 -- ---- All records in turn.
 
 pub record Again (o : Object) : Type 0 where
   pub state : State
-  pub taken : after_all start (entries_of o) ≡ Ok state
+  pub taken : after_all (start o.version) (entries_of o) ≡ Ok state
   pub ended : state.ended ≡ true
   pub object : finished state ≡ Ok o
 
 pub all_again : (o : Object) → is_good_object o ≡ true → ObjectFits o → Again o
 all_again o good fits =
+    let v = o.version in
+    let fs = o.files in
     let n = length o.sections in
     let i = length o.imports in
     let p = parts o good in
@@ -453,23 +504,24 @@ all_again o good fits =
     let d = map export_entry o.exports in
     let f = map assert_entry o.asserts in
     let last = end_entry ∷ [] in
-    let sections = good_sections n i o.sections p.sections fits.sections in
-    let contents = take_contents n i o.imports o.sections false [] (d ++ (f ++ last)) sections refl (omega arith) refl in
+    let sections = good_sections v fs n i o.sections p.sections fits.sections in
+    let contents = take_contents v fs n i o.imports o.sections false [] (d ++ (f ++ last)) sections p.values refl (omega arith) refl in
     let ds = contents.drafts in
-    let count : n ≡ length ds = ap length (sym contents.sections) ∙ length_map section_from ds in
+    let count : n ≡ length ds = ap length (sym contents.sections) ∙ length_map v fs section_from ds in
     let exports = subst (λ k. list_all (λ (e : Export). is_good_form k i e.form) o.exports ≡ true) count p.exports in
     let asserts = subst (λ k. list_all (is_good_assert k i) o.asserts ≡ true) count p.asserts in
-    let regroup : entries_of o ≡ a ++ (b ++ (c ++ (d ++ (f ++ last)))) = append_assoc (((a ++ b) ++ c) ++ d) f last ∙ append_assoc ((a ++ b) ++ c) d (f ++ last) ∙ append_assoc (a ++ b) c (d ++ (f ++ last)) ∙ append_assoc a b (c ++ (d ++ (f ++ last))) in
+    let regroup : entries_behind o ≡ a ++ (b ++ (c ++ (d ++ (f ++ last)))) = append_assoc (((a ++ b) ++ c) ++ d) f last ∙ append_assoc ((a ++ b) ++ c) d (f ++ last) ∙ append_assoc (a ++ b) c (d ++ (f ++ last)) ∙ append_assoc a b (c ++ (d ++ (f ++ last))) in
     record {
-      state = record (holding o.imports contents.begun ds o.exports o.asserts) { ended = true };
+      state = record (holding v fs o.imports contents.begun ds o.exports o.asserts) { ended = true };
       taken =
-          ap (after_all start) regroup
-          ∙ take_imports o.imports [] (b ++ (c ++ (d ++ (f ++ last)))) p.imports
-          ∙ take_headings n i o.imports o.sections [] (c ++ (d ++ (f ++ last))) sections p.section_names
+          files_taken v fs (entries_behind o) p.files fits.files
+          ∙ ap (after_all (naming v fs)) regroup
+          ∙ take_imports v fs o.imports [] (b ++ (c ++ (d ++ (f ++ last)))) p.imports
+          ∙ take_headings v fs n i o.imports o.sections [] (c ++ (d ++ (f ++ last))) sections p.section_names
           ∙ contents.same
-          ∙ take_exports o.imports contents.begun ds o.exports [] (f ++ last) contents.all_full p.export_names exports fits.exports
-          ∙ take_asserts o.imports contents.begun ds o.exports o.asserts [] last contents.all_full asserts fits.asserts
-          ∙ ap (λ r. r >>= (λ t. after_all t [])) (take_end o.imports contents.begun ds o.exports o.asserts contents.all_full);
+          ∙ take_exports v fs o.imports contents.begun ds o.exports [] (f ++ last) contents.all_full p.export_names exports p.export_origins fits.exports
+          ∙ take_asserts v fs o.imports contents.begun ds o.exports o.asserts [] last contents.all_full asserts p.assert_origins fits.asserts
+          ∙ ap (λ r. r >>= (λ t. after_all t [])) (take_end v fs o.imports contents.begun ds o.exports o.asserts contents.all_full);
       ended = refl;
-      object = (λ k. Ok (record { imports = o.imports; sections = contents.sections k; exports = o.exports; asserts = o.asserts }));
+      object = (λ k. Ok (record { version = v; files = fs; imports = o.imports; sections = contents.sections k; exports = o.exports; asserts = o.asserts }));
     }

@@ -1,5 +1,5 @@
 -- What a scan keeps behind a record is what it keeps of what the item makes.
-use Rattle.std.proofs.Common.{◌≡◌, ◌∙◌, ◌+◌, ◌%◌, ℕ, zero, suc, List, [], ◌∷◌, ◌++◌, length, map, Some, Bool, true, false, ◌&&◌, not, nat_le, ◌==◌, if◌then◌else◌, Result, Ok, Err, refl, sym, ap, subst, arith, ◌⊎◌, inl, inr, length-append}
+use Rattle.std.proofs.Common.{◌≡◌, ◌∙◌, ◌+◌, ◌%◌, ℕ, zero, suc, List, [], ◌∷◌, ◌++◌, length, map, Some, Bool, true, false, ◌&&◌, ◌||◌, not, nat_le, ◌==◌, if◌then◌else◌, Result, Ok, Err, refl, sym, ap, subst, arith, ◌⊎◌, inl, inr, length-append}
 use Rattle.std.specs.List.{list_all}
 use Rattle.std.specs.Prelude.{slice_get, slice_set}
 use Rattle.std.proofs.Math.Nat.{mod-add-mod}
@@ -263,7 +263,7 @@ part_leads s grow h = go (seek s.drafts) where
 
 last_of_all : (v k : ℕ) → not (is_record_kind v k) ≡ false → (k == 1) ≡ false → (k == 2) ≡ false → (k == 3) ≡ false → (k == 4) ≡ false → (k == 5) ≡ false → (k == 6) ≡ false → (k == 7) ≡ false → (k == 9) ≡ false → true ≡ (k == 8)
 last_of_all v k a b c d e f g h i = go (v == 1) a where
-  go : (one : Bool) → not (nat_le 1 k && nat_le k (if one then 8 else 9)) ≡ false → true ≡ (k == 8)
+  go : (one : Bool) → not (nat_le 1 k && nat_le k 8 || not one && k == 9) ≡ false → true ≡ (k == 8)
   go true a = grind (arith, nat_tests)
   go false a = grind (arith, nat_tests)
 

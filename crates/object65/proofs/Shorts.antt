@@ -1,5 +1,5 @@
 -- The records of an object are of known kinds, and no body is too long.
-use Rattle.std.proofs.Common.{◌≡◌, ℕ, zero, suc, ◌+◌, ◌/◌, ◌≤◌, List, [], ◌∷◌, ◌++◌, length, drop, map, Bool, true, false, ◌&&◌, ◌==◌, if◌then◌else◌, refl, ap, arith, length-append}
+use Rattle.std.proofs.Common.{◌≡◌, ℕ, zero, suc, ◌+◌, ◌/◌, ◌≤◌, List, [], ◌∷◌, ◌++◌, length, drop, map, Bool, true, false, not, ◌&&◌, ◌==◌, if◌then◌else◌, refl, ap, arith, length-append}
 use Rattle.std.proofs.lemmas.List.{length-take}
 use Rattle.std.specs.List.{flat_map, list_all, AllByRecursion}
 use Rattle.byteorder.specs.Endian.{little_bytes}
@@ -23,13 +23,6 @@ use Rattle.std.proofs.lemmas.Bool.Decides.{nat_tests}
 abbrev pub IsShortEntry : ℕ → Entry → Type 0
 IsShortEntry v e = (is_record_kind v e.kind ≡ true) × (length e.body ≤ body_limit)
 
--- the kinds of both versions
-kinds : (v k : ℕ) → 1 ≤ k → k ≤ 8 → is_record_kind v k ≡ true
-kinds v k low high = go (v == 1) where
-  go : (b : Bool) → (nat_le 1 k && nat_le k (if b then 8 else 9)) ≡ true
-  go true = grind (arith, nat_tests)
-  go false = grind (arith, nat_tests)
-
 both_all : {X : Type 0} (P : X → Type 0) (xs ys : List X) → AllByRecursion P xs → AllByRecursion P ys → AllByRecursion P (xs ++ ys)
 both_all P [] ys a b = b
 both_all P (x ∷ xs) ys a b = (a.0, both_all P xs ys a.1 b)
@@ -40,31 +33,31 @@ all_short v small f [] h e = tt
 all_short v small f (x ∷ xs) h e = (h x (left (small x) (list_all small xs) e), all_short v small f xs h (right (small x) (list_all small xs) e))
 
 import_short : (v : ℕ) (name : List ℕ) → is_small_text name ≡ true → IsShortEntry v (import_entry name)
-import_short v name small = (kinds v 1 (omega arith) (omega arith), omega (arith, small_text name small))
+import_short v name small = (refl, omega (arith, small_text name small))
 
 section_short : (v : ℕ) (s : Section) → is_small_section s ≡ true → IsShortEntry v (section_entry s)
 section_short v s small =
     let name = left (is_small_text s.name) (nat_le (section_len s) section_limit) (left (is_small_text s.name && nat_le (section_len s) section_limit) (list_all is_small_fragment s.fragments) small) in
-    (kinds v 2 (omega arith) (omega arith), omega (arith, length-append (little_bytes 4 (section_len s)) (s.align ∷ s.name), length-bytes_low_first 0 4 (section_len s), small_text s.name name))
+    (refl, omega (arith, length-append (little_bytes 4 (section_len s)) (s.align ∷ s.name), length-bytes_low_first 0 4 (section_len s), small_text s.name name))
 
 export_short : (v : ℕ) (x : Export) → is_small_export x ≡ true → IsShortEntry v (export_entry x)
 export_short v x small =
     let parts = small_export x small in
-    (kinds v 6 (omega arith) (omega arith), omega (arith, length-append (x.name ++ origin_bytes x.origin) (form_bytes x.form), length-append x.name (origin_bytes x.origin), origin_len x.origin, parts.0, parts.1))
+    (refl, omega (arith, length-append (x.name ++ origin_bytes x.origin) (form_bytes x.form), length-append x.name (origin_bytes x.origin), origin_len x.origin, parts.0, parts.1))
 
 assert_short : (v : ℕ) (x : Assert) → is_small_assert x ≡ true → IsShortEntry v (assert_entry x)
 assert_short v x small =
     let parts = small_assert x small in
-    (kinds v 7 (omega arith) (omega arith), omega (arith, length-append (origin_bytes x.origin) (length x.text ∷ (x.text ++ form_bytes x.form)), length-append x.text (form_bytes x.form), origin_len x.origin, parts.0, parts.1))
+    (refl, omega (arith, length-append (origin_bytes x.origin) (length x.text ∷ (x.text ++ form_bytes x.form)), length-append x.text (form_bytes x.form), origin_len x.origin, parts.0, parts.1))
 
 pieces_short : (v : ℕ) (n : ℕ) (bytes : List ℕ) → AllByRecursion (IsShortEntry v) (map literal_entry (pieces n bytes))
 pieces_short v zero bytes = tt
-pieces_short v (suc n) bytes = ((kinds v 3 (omega arith) (omega arith), omega (arith, length-take body_limit bytes)), pieces_short v n (drop body_limit bytes))
+pieces_short v (suc n) bytes = ((refl, omega (arith, length-take body_limit bytes)), pieces_short v n (drop body_limit bytes))
 
 fragment_short : (v : ℕ) (f : Fragment) → is_small_fragment f ≡ true → AllByRecursion (IsShortEntry v) (fragment_entries f)
 fragment_short v (Literal bytes) small = pieces_short v ((length bytes + 4095) / body_limit) bytes
-fragment_short v (Fill n) small = ((kinds v 4 (omega arith) (omega arith), omega (arith, length-bytes_low_first 0 4 n)), tt)
-fragment_short v (Value width origin form) small = ((kinds v 5 (omega arith) (omega arith), omega (arith, length-append (origin_bytes origin) (form_bytes form), origin_len origin, small_form form small)), tt)
+fragment_short v (Fill n) small = ((refl, omega (arith, length-bytes_low_first 0 4 n)), tt)
+fragment_short v (Value width origin form) small = ((refl, omega (arith, length-append (origin_bytes origin) (form_bytes form), origin_len origin, small_form form small)), tt)
 
 fragments_short : (v : ℕ) (fs : List Fragment) → list_all is_small_fragment fs ≡ true → AllByRecursion (IsShortEntry v) (flat_map fragment_entries fs)
 fragments_short v [] small = tt
@@ -84,7 +77,7 @@ files_short v files good = go (v == 1) refl files good where
   go : (b : Bool) → (v == 1) ≡ b → (files : List (List ℕ)) → (if b then length files == 0 else are_distinct is_file_name files) ≡ true → AllByRecursion (IsShortEntry v) (map file_entry files)
   go true is [] e = tt
   go true is (name ∷ files) e = let some : (length (name ∷ files) == 0) ≡ false = grind (arith, nat_tests) in cc
-  go false is files e = all_short v is_file_name file_entry files (λ name small. (ap (λ b. nat_le 9 (if b then 8 else 9)) is, (let t = small in grind (arith, nat_tests)))) (small_names_of files e)
+  go false is files e = all_short v is_file_name file_entry files (λ name small. (ap (λ b. not b && true) is, (let t = small in grind (arith, nat_tests)))) (small_names_of files e)
 
 pub short_entries : (o : Object) → is_good_object o ≡ true → AllByRecursion (IsShortEntry o.version) (entries_of o)
 short_entries o good =
@@ -105,4 +98,4 @@ short_entries o good =
     (contents_short v o.sections (good_sections o good)))
     (all_short v is_small_export export_entry o.exports (export_short v) (good_exports o good)))
     (all_short v is_small_assert assert_entry o.asserts (assert_short v) (good_asserts o good)))
-    ((kinds v 8 (omega arith) (omega arith), omega arith), tt))
+    ((refl, omega arith), tt))

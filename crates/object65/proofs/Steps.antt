@@ -1,5 +1,5 @@
 -- One record more, and what the state behind it says.
-use Rattle.std.proofs.Common.{◌≡◌, ◌∙◌, ℕ, ◌<◌, ◌≤◌, ◌++◌, List, [], ◌∷◌, length, map, Bool, true, false, ◌&&◌, not, nat_le, ◌==◌, if◌then◌else◌, Result, Ok, refl, sym, ap, subst, arith, append_assoc, inl, inr}
+use Rattle.std.proofs.Common.{◌≡◌, ◌∙◌, ℕ, ◌<◌, ◌≤◌, ◌++◌, List, [], ◌∷◌, length, map, Bool, true, false, ◌&&◌, ◌||◌, not, nat_le, ◌==◌, if◌then◌else◌, Result, Ok, refl, sym, ap, subst, arith, append_assoc, inl, inr}
 use Rattle.std.proofs.lemmas.Bool.Decides.{nat_tests}
 use Rattle.std.proofs.lemmas.List.{length-map, map-append}
 use Rattle.std.proofs.lemmas.List.Folds.{list_all-append}
@@ -147,7 +147,7 @@ file_step s e x kind known r running h =
   where
     files_push : (v : ℕ) (files : List (List ℕ)) (name : List ℕ) → is_record_kind v 9 ≡ true → are_files_of v files ≡ true → is_file_name name ≡ true → is_among files name ≡ false → are_files_of v (files ++ name ∷ []) ≡ true
     files_push v files name known good short new = go (v == 1) known good where
-      go : (b : Bool) → nat_le 9 (if b then 8 else 9) ≡ true → (if b then length files == 0 else are_distinct is_file_name files) ≡ true → (if b then length (files ++ name ∷ []) == 0 else are_distinct is_file_name (files ++ name ∷ [])) ≡ true
+      go : (b : Bool) → (not b && true) ≡ true → (if b then length files == 0 else are_distinct is_file_name files) ≡ true → (if b then length (files ++ name ∷ []) == 0 else are_distinct is_file_name (files ++ name ∷ [])) ≡ true
       go true known good = cc
       go false known good = distinct_push is_file_name files name good short new
 
@@ -587,24 +587,11 @@ entry_step s e x r running h =
     is_true true e = refl
     is_true false e = cc
 
-    bounds : (v k : ℕ) → is_record_kind v k ≡ true → (1 ≤ k) × (k ≤ 9)
-    bounds v k known = go (v == 1) known where
-      go : (b : Bool) → (nat_le 1 k && nat_le k (if b then 8 else 9)) ≡ true → (1 ≤ k) × (k ≤ 9)
-      go true known =
-          let low = left (nat_le 1 k) (nat_le k 8) known in
-          let high = right (nat_le 1 k) (nat_le k 8) known in
-          (grind (arith, nat_tests), grind (arith, nat_tests))
-      go false known =
-          let low = left (nat_le 1 k) (nat_le k 9) known in
-          let high = right (nat_le 1 k) (nat_le k 9) known in
-          (grind (arith, nat_tests), grind (arith, nat_tests))
-
     eight : (v k : ℕ) → is_record_kind v k ≡ true → (k == 1) ≡ false → (k == 2) ≡ false → (k == 3) ≡ false → (k == 4) ≡ false → (k == 5) ≡ false → (k == 6) ≡ false → (k == 7) ≡ false → (k == 9) ≡ false → k ≡ 8
-    eight v k known a b c d f g h j =
-        let ends = bounds v k known in
-        let low = ends.0 in
-        let high = ends.1 in
-        grind (arith, nat_tests)
+    eight v k known a b c d f g h j = go (v == 1) known where
+      go : (one : Bool) → (nat_le 1 k && nat_le k 8 || not one && k == 9) ≡ true → k ≡ 8
+      go true known = grind (arith, nat_tests)
+      go false known = grind (arith, nat_tests)
 
 pub after_step : (s t : State) (e : Entry) → GoodState s → after s e ≡ Ok t → Step s t e
 unfolding after Scanning.scanned

@@ -1,5 +1,5 @@
 -- Records and their kinds.
-use Rattle.std.specs.Prelude.{ℕ, List, Bool, nat_le, ◌==◌, ◌&&◌, ◌||◌, if◌then◌else◌}
+use Rattle.std.specs.Prelude.{ℕ, List, Bool, nat_le, not, ◌==◌, ◌&&◌, ◌||◌}
 use Rattle.object65.specs.declared.record.Record.{Record}
 
 -- a record without where its body lies
@@ -14,6 +14,6 @@ entry_of r = record { kind = r.kind; body = r.body.items }
 abbrev pub is_version : ℕ → Bool
 is_version version = version == 1 || version == 2
 
--- the kinds of records of a version: FILE, of the last kind, came with version 2
+-- the kinds of records of a version: FILE, the last of them, isn't there in version 1
 abbrev pub is_record_kind : ℕ → ℕ → Bool
-is_record_kind version kind = nat_le 1 kind && nat_le kind (if version == 1 then 8 else 9)
+is_record_kind version kind = nat_le 1 kind && nat_le kind 8 || not (version == 1) && kind == 9

@@ -48,8 +48,7 @@ pub fn decode_head(bytes: &[u8], at: u64) -> Result<(u8, u64), ObjectFault>
 pub fn is_kind(version: u8, kind: u8) -> bool
     ensures { result ≡ is_record_kind version kind }
 {
-    let last = if version == VERSION_ONE { END } else { FILE };
-    IMPORT <= kind && kind <= last
+    IMPORT <= kind && kind <= END || version != VERSION_ONE && kind == FILE
 }
 
 /// The kind of the record with which the bytes begin, and the length of its body.

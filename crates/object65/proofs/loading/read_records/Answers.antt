@@ -11,19 +11,19 @@ pub records-init : goal.records-init
 records-init g c = record {
   files = refl;
   count = refl;
-  read = rw c.new-builder.ensures (begins_in c.args.limit c.args.at c.args.at (g.S.Store.files c.args.store.now) c.args.name.now);
+  read = rw c.new-builder.ensures (begins_in c.args.head.0 c.args.limit c.args.head.1 c.args.head.1 (g.S.Store.files c.args.store.now) c.args.name.now);
 }
 
 pub returns-in_err-next-clause-read : goal.returns-in_err-next-clause-read
 returns-in_err-next-clause-read g c =
     let p = err_from_is_err_and c.from_residual.result c.from_residual.ensures.1 in
-    rw (p.1, p.2) (reading_stops c.args.limit c.args.at c.records.next _ _ c.args.name.now c.records.builder c.in_err-next.field-0.0 c.records.invariant.files c.records.invariant.read c.in_err-next.ensures.read)
+    rw (p.1, p.2) (reading_stops c.args.head.0 c.args.limit c.args.head.1 c.records.next _ _ c.args.name.now c.records.builder c.in_err-next.field-0.0 c.records.invariant.files c.records.invariant.read c.in_err-next.ensures.read)
 
 pub returns-in_err-take-clause-read : goal.returns-in_err-take-clause-read
 returns-in_err-take-clause-read g c =
     let p = err_from_is_err_and c.from_residual-in_err-take.result c.from_residual-in_err-take.ensures.1 in
     let e = c.in_err-take.field-0.0 in
-    rw (p.1, p.2) (taking_stops c.args.limit c.args.at c.records.next _ _ c.args.name.now c.records.builder (entry_of c.record.result.now, c.in_ok-next.next) e c.records.invariant.files c.records.invariant.read (seen _ (λ m. in_file (get m c.args.name.now) (record_at c.records.next c.args.limit)) _ _ c.in_ok-next.next c.record.ensures c.in_ok-next.ensures.read) (memory_outside e _ c.in_err-take.ensures.taken))
+    rw (p.1, p.2) (taking_stops c.args.head.0 c.args.limit c.args.head.1 c.records.next _ _ c.args.name.now c.records.builder (entry_of c.record.result.now, c.in_ok-next.next) e c.records.invariant.files c.records.invariant.read (seen _ (λ m. in_file (get m c.args.name.now) (record_at c.args.head.0 c.records.next c.args.limit)) _ _ c.in_ok-next.next c.record.ensures c.in_ok-next.ensures.read) (memory_outside e _ c.in_err-take.ensures.taken))
 
 pub returns-in_err-take-clause-count : goal.returns-in_err-take-clause-count
 returns-in_err-take-clause-count g c =
@@ -34,14 +34,14 @@ returns-in_err-take-clause-count g c =
 
 pub returns-then-is_ended-clause-read : goal.returns-then-is_ended-clause-read
 returns-then-is_ended-clause-read g c =
-    ends_in c.args.limit c.args.at c.records.next _ _ c.args.name.now c.records.builder c.take.new.self (entry_of c.record.result.now, c.in_ok-next.next) c.records.invariant.files c.records.invariant.read (seen _ (λ m. in_file (get m c.args.name.now) (record_at c.records.next c.args.limit)) _ _ c.in_ok-next.next c.record.ensures c.in_ok-next.ensures.read) c.in_ok-take.ensures.taken (sym c.is_ended.ensures ∙ c.if-is_ended.true)
+    ends_in c.args.head.0 c.args.limit c.args.head.1 c.records.next _ _ c.args.name.now c.records.builder c.take.new.self (entry_of c.record.result.now, c.in_ok-next.next) c.records.invariant.files c.records.invariant.read (seen _ (λ m. in_file (get m c.args.name.now) (record_at c.args.head.0 c.records.next c.args.limit)) _ _ c.in_ok-next.next c.record.ensures c.in_ok-next.ensures.read) c.in_ok-take.ensures.taken (sym c.is_ended.ensures ∙ c.if-is_ended.true)
 
 pub records-preserved : goal.records-preserved
 records-preserved g c =
     record {
       files = c.in_ok-next.ensures.files ∙ c.records.invariant.files;
       count = kept_count _ _ _ c.in_ok-next.ensures.count ∙ c.records.invariant.count;
-      read = goes_on_in c.args.limit c.args.at c.records.next _ _ c.args.name.now c.records.builder c.take.new.self (entry_of c.record.result.now, c.in_ok-next.next) c.records.invariant.files c.records.invariant.read (seen _ (λ m. in_file (get m c.args.name.now) (record_at c.records.next c.args.limit)) _ _ c.in_ok-next.next c.record.ensures c.in_ok-next.ensures.read) (omega (arith, c.in_ok-next.ensures.bound.0)) c.in_ok-take.ensures.taken (sym c.is_ended.ensures ∙ c.if-is_ended.false);
+      read = goes_on_in c.args.head.0 c.args.limit c.args.head.1 c.records.next _ _ c.args.name.now c.records.builder c.take.new.self (entry_of c.record.result.now, c.in_ok-next.next) c.records.invariant.files c.records.invariant.read (seen _ (λ m. in_file (get m c.args.name.now) (record_at c.args.head.0 c.records.next c.args.limit)) _ _ c.in_ok-next.next c.record.ensures c.in_ok-next.ensures.read) (omega (arith, c.in_ok-next.ensures.bound.0)) c.in_ok-take.ensures.taken (sym c.is_ended.ensures ∙ c.if-is_ended.false);
     }
 
 pub returns-in_err-take-clause-blamed : goal.returns-in_err-take-clause-blamed

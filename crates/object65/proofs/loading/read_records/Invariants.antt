@@ -6,7 +6,7 @@ abbrev pub invariant-records : goal.invariant-records
 invariant-records g l = record {
   files : g.S.Store.files l.store ≡ g.S.Store.files l.fn.store;
   count : g.S.Store.failures l.store ≡ g.S.Store.failures l.fn.store;
-  read : GoesIn (g.S.Store.files l.fn.store) l.name l.limit l.at l.next l.builder;
+  read : GoesIn l.fn.head.0 (g.S.Store.files l.fn.store) l.name l.limit l.fn.head.1 l.next l.builder;
 }
 
 abbrev pub decreases-records : goal.decreases-records

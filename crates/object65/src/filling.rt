@@ -7,9 +7,9 @@ ghost use Rattle.object65.specs.Objects.{has_file, width_len};
 ghost use Rattle.object65.specs.Scanning.{canonical, canonical_open, known, known_file, known_parts, room_for, room_behind, room_literal, room_fill, room_value};
 
 use crate::forming::{byte_at, form_of, origin_at};
+use crate::kept::Kept;
 use crate::normal::{are_there, is_folded, is_limited, is_number};
 use crate::room::{Last, Room};
-use crate::kept::Kept;
 use crate::taking::check;
 use crate::{Fragment, Norm, ObjectFault, Origin, Width};
 use base65::Sequence;
@@ -164,11 +164,7 @@ pub fn width_size(width: Width) -> u32
 
 /// The width, the origin and the form in the body of a VALUE.
 #[tactic(auto, unfolding(crate::specs::Bodies::value_of))]
-fn read_value(
-    alloc: Global,
-    version: u8,
-    body: &[u8],
-) -> Result<(Width, Origin, Norm), ObjectFault>
+fn read_value(alloc: Global, version: u8, body: &[u8]) -> Result<(Width, Origin, Norm), ObjectFault>
     ensures { Gives is_memory (λ x. x) result (value_of version body.now) }
 {
     let (code, rest) = byte_at(body)?;

@@ -7,7 +7,7 @@ use Rattle.object65.specs.declared.object.Export.{Export}
 use Rattle.object65.specs.Fault.{is_memory as is_object_memory}
 use Rattle.object65.specs.Items.{with_item}
 use Rattle.object65.specs.Reading.{record_at}
-use Rattle.object65.specs.Record.{Entry as Record}
+use Rattle.object65.specs.Record.{Entry as Record, is_version}
 use Rattle.object65.specs.Scanning.{Outline, outline_of}
 use Rattle.object65.specs.Taking.{IsReached, State, after, object_from, start}
 use Rattle.object65.specs.Whole.{records_at}
@@ -24,42 +24,42 @@ unless true h p = tt
 unless false h p = h p
 
 -- what was scanned is an object in the making that exports and imports these
-pub record IsTaken (bytes : List ℕ) (at next : ℕ) (scan : Outline) (c : Contents) : Type 0 where
+pub record IsTaken (v : ℕ) (bytes : List ℕ) (at next : ℕ) (scan : Outline) (c : Contents) : Type 0 where
   pub state : State
-  pub goes : Goes bytes (length bytes) at next state
+  pub goes : Goes v bytes (length bytes) at next state
   pub outline : scan ≡ outline_of state
   pub contents : c ≡ contents_from (object_from state)
   pub reached : IsReached state
 
-pub nothing_taken : (bytes : List ℕ) (at : ℕ) → IsTaken bytes at at (outline_of start) (record { exports = []; imports = [] })
-nothing_taken bytes at = record { state = start; goes = begins bytes (length bytes) at; outline = refl; contents = refl; reached = reached_start }
+pub nothing_taken : (v : ℕ) (bytes : List ℕ) (at : ℕ) → is_version v ≡ true → IsTaken v bytes at at (outline_of (start v)) (record { exports = []; imports = [] })
+nothing_taken v bytes at known = record { state = start v; goes = begins v bytes (length bytes) at; outline = refl; contents = refl; reached = reached_start v known }
 
-module _ (bytes : List ℕ) (at next : ℕ) (scan : Outline) (c : Contents) (was : IsTaken bytes at next scan c) where
-  pub reading_refused : (e : ObjectFault) → Refuses is_object_memory e (record_at next (length bytes) bytes) → Refuses is_object_memory e (records_at (length bytes) start at (length bytes) bytes)
-  reading_refused e refused = unless (is_object_memory e) (stops_reading bytes (length bytes) at next was.state e was.goes) refused
+module _ (v : ℕ) (bytes : List ℕ) (at next : ℕ) (scan : Outline) (c : Contents) (was : IsTaken v bytes at next scan c) where
+  pub reading_refused : (e : ObjectFault) → Refuses is_object_memory e (record_at v next (length bytes) bytes) → Refuses is_object_memory e (records_at (length bytes) (start v) at (length bytes) bytes)
+  reading_refused e refused = unless (is_object_memory e) (stops_reading v bytes (length bytes) at next was.state e was.goes) refused
 
-  pub taking_refused : (r : Record × ℕ) (e : ObjectFault) → record_at next (length bytes) bytes ≡ Ok r → ((s : State) → scan ≡ outline_of s → Refuses is_object_memory e (after s r.0)) → Refuses is_object_memory e (records_at (length bytes) start at (length bytes) bytes)
-  taking_refused r e read refused = unless (is_object_memory e) (stops_taking bytes (length bytes) at next was.state r e was.goes read) (refused was.state was.outline)
+  pub taking_refused : (r : Record × ℕ) (e : ObjectFault) → record_at v next (length bytes) bytes ≡ Ok r → ((s : State) → scan ≡ outline_of s → Refuses is_object_memory e (after s r.0)) → Refuses is_object_memory e (records_at (length bytes) (start v) at (length bytes) bytes)
+  taking_refused r e read refused = unless (is_object_memory e) (stops_taking v bytes (length bytes) at next was.state r e was.goes read) (refused was.state was.outline)
 
-  module _ (r : Record × ℕ) (item : Item) (further : Outline) (more : Contents) (read : record_at next (length bytes) bytes ≡ Ok r) (taken : (s : State) → scan ≡ outline_of s → after s r.0 ≡ Ok (with_item s item)) (kept : (s : State) → scan ≡ outline_of s → further ≡ outline_of (with_item s item)) (added : (s : State) → c ≡ contents_from (object_from s) → more ≡ contents_from (object_from (with_item s item))) where
+  module _ (r : Record × ℕ) (item : Item) (further : Outline) (more : Contents) (read : record_at v next (length bytes) bytes ≡ Ok r) (taken : (s : State) → scan ≡ outline_of s → after s r.0 ≡ Ok (with_item s item)) (kept : (s : State) → scan ≡ outline_of s → further ≡ outline_of (with_item s item)) (added : (s : State) → c ≡ contents_from (object_from s) → more ≡ contents_from (object_from (with_item s item))) where
     next_reached : IsReached (with_item was.state item)
     next_reached = reached_next was.state (with_item was.state item) r.0 was.reached (taken was.state was.outline)
 
-    pub more_taken : next < r.1 → further.ended ≡ false → IsTaken bytes at r.1 further more
+    pub more_taken : next < r.1 → further.ended ≡ false → IsTaken v bytes at r.1 further more
     more_taken later open_yet = record {
       state = with_item was.state item;
-      goes = goes_on bytes (length bytes) at next was.state (with_item was.state item) r was.goes read later (taken was.state was.outline) (sym (ap (λ (o : Outline). o.ended) (kept was.state was.outline)) ∙ open_yet);
+      goes = goes_on v bytes (length bytes) at next was.state (with_item was.state item) r was.goes read later (taken was.state was.outline) (sym (ap (λ (o : Outline). o.ended) (kept was.state was.outline)) ∙ open_yet);
       outline = kept was.state was.outline;
       contents = added was.state was.contents;
       reached = next_reached;
     }
 
-    pub all_taken : further.ended ≡ true → EndsWith bytes at more r.1
+    pub all_taken : further.ended ≡ true → EndsWith bytes v at more r.1
     all_taken closed =
         let ended : (with_item was.state item).ended ≡ true = sym (ap (λ (o : Outline). o.ended) (kept was.state was.outline)) ∙ closed in
         record {
           state = with_item was.state item;
-          read = ends bytes (length bytes) at next was.state (with_item was.state item) r was.goes read (taken was.state was.outline) ended;
+          read = ends v bytes (length bytes) at next was.state (with_item was.state item) r was.goes read (taken was.state was.outline) ended;
           whole = rw ((reached_parts (with_item was.state item) next_reached).failed, ended) refl;
           contents = added was.state was.contents;
         }

@@ -5,6 +5,7 @@ use Rattle.std.specs.List.{list_all}
 use Rattle.object65.specs.declared.object.Export.{Export}
 use Rattle.object65.specs.declared.object.Object.{Object}
 use Rattle.object65.specs.Objects.{are_names, is_among, is_good_object, is_name, is_printed}
+use Rattle.object65.proofs.Goods.{parts}
 use Rattle.library65.specs.Writing.{AreSymbols}
 use Rattle.library65.proofs.Edits.{and, left, right}
 
@@ -16,13 +17,10 @@ all_names (n ∷ ns) e =
 
 pub symbols_good : (o : Object) (exports : List (List ℕ)) → is_good_object o ≡ true → exports ≡ map (λ (e : Export). e.name) o.exports → AreSymbols (record { exports = exports; imports = o.imports })
 symbols_good o exports good same =
-    let a = left _ _ good in
-    let b = left _ _ a in
-    let c = left _ _ b in
-    let d = left (are_names o.imports && are_names (map (λ s. s.name) o.sections)) (are_names (map (λ e. e.name) o.exports)) c in
+    let p = parts o good in
     record {
-      exports = ap (list_all is_name) same ∙ all_names (map (λ (e : Export). e.name) o.exports) (right (are_names o.imports && are_names (map (λ s. s.name) o.sections)) (are_names (map (λ e. e.name) o.exports)) c);
-      imports = all_names o.imports (left (are_names o.imports) (are_names (map (λ s. s.name) o.sections)) d);
+      exports = ap (list_all is_name) same ∙ all_names (map (λ (e : Export). e.name) o.exports) p.export_names;
+      imports = all_names o.imports p.imports;
     }
 
 -- a good name's length is a byte

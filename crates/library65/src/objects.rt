@@ -1,9 +1,10 @@
 //! What the object in a member's bytes exports and imports, read where they stand.
 
-ghost use Rattle.std.specs.Prelude.{◌≡◌, ◌≤◌, length, IfErr, IfOk, OnOk};
+ghost use Rattle.std.specs.Prelude.{◌≡◌, ◌≤◌, true, length, IfErr, IfOk, OnOk};
 ghost use Rattle.object65.specs.Fault.{Gives, is_memory};
 ghost use Rattle.object65.specs.Items.{with_item};
 ghost use Rattle.object65.specs.Reading.{end_at};
+ghost use Rattle.object65.specs.Record.{is_version};
 ghost use Rattle.object65.specs.Taking.{State, object_from};
 ghost use Rattle.library65.specs.Inner.Contents.{ReadsContents, contents_at};
 ghost use Rattle.library65.specs.Libraries.{contents_from};
@@ -31,35 +32,38 @@ fn add_item(contents: &mut Contents, item: Item) -> Result<(), ObjectFault>
 {
     match item {
         Item::Import(name) => contents.imports.push(name)?,
-        Item::Export(name, _line, _form) => contents.exports.push(name)?,
+        Item::Export(name, _origin, _form) => contents.exports.push(name)?,
+        Item::File(_name) => {}
         Item::Section(_name, _size, _align) => {}
         Item::Part(_place, _offset, _fragment) => {}
-        Item::Assert(_action, _line, _text, _form) => {}
+        Item::Assert(_action, _origin, _text, _form) => {}
         Item::End => {}
     }
     Ok(())
 }
 
-/// Reads record by record up to the END: what they export and import, and where the END ends.
+/// Reads the records of an object of this version one by one up to the END: what they export and import, and where the END ends.
 fn read_records(
     alloc: Global,
     space: &mut Record,
     bytes: &[u8],
+    version: u8,
     at: usize,
 ) -> Result<(Contents, usize), ObjectFault>
-    requires { at ≤ length bytes.now }
-    ensures read { ReadsContents bytes.now at result }
+    requires version { is_version version ≡ true }
+    requires within { at ≤ length bytes.now }
+    ensures read { ReadsContents bytes.now version at result }
     ensures within { IfOk result (λ x. x.1 ≤ length bytes.now) }
     ensures symbols { IfOk result (λ x. AreSymbols x.0) }
 {
-    let mut scan = Scan::new(alloc);
+    let mut scan = Scan::new(alloc, version);
     let mut contents = Contents {
         exports: Sequence::new(alloc),
         imports: Sequence::new(alloc),
     };
     let mut next = at;
     'records: loop {
-        next = decode_record(space, bytes, next)?;
+        next = decode_record(space, version, bytes, next)?;
         let item = scan.take(space)?;
         add_item(&mut contents, item)?;
         if scan.is_ended() {
@@ -90,8 +94,8 @@ pub fn read_contents(
     ensures read { Gives is_memory (λ c. c) result (contents_at bytes.now) }
     ensures symbols { IfOk result AreSymbols }
 {
-    let first = decode_head(bytes, 0)? as usize;
-    let (contents, end) = read_records(alloc, space, bytes, first)?;
+    let (version, first) = decode_head(bytes, 0)?;
+    let (contents, end) = read_records(alloc, space, bytes, version, first as usize)?;
     check_end(bytes, end)?;
     Ok(contents)
 }

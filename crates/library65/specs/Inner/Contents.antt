@@ -7,18 +7,18 @@ use Rattle.object65.specs.Whole.{object_at, records_at}
 use Rattle.library65.specs.declared.contents.Contents.{Contents}
 use Rattle.library65.specs.Libraries.{contents_from}
 
--- the records from a place on make an object that exports and imports these, and its END ends there
-pub record EndsWith (bytes : List ℕ) (at : ℕ) (c : Contents) (end : ℕ) : Type 0 where
+-- the records from a place on make an object of this version that exports and imports these, and its END ends there
+pub record EndsWith (bytes : List ℕ) (version at : ℕ) (c : Contents) (end : ℕ) : Type 0 where
   pub state : State
-  pub read : records_at (length bytes) start at (length bytes) bytes ≡ Ok (state, end)
+  pub read : records_at (length bytes) (start version) at (length bytes) bytes ≡ Ok (state, end)
   pub whole : finished state ≡ Ok (object_from state)
   pub contents : c ≡ contents_from (object_from state)
 
 -- the same, or the records' first fault
-abbrev pub ReadsContents : List ℕ → ℕ → Result (Contents × ℕ) ObjectFault → Type 0
-ReadsContents bytes at (Ok x) = EndsWith bytes at x.0 x.1
-ReadsContents bytes at (Err e) =
-    Refuses is_memory e (records_at (length bytes) start at (length bytes) bytes)
+abbrev pub ReadsContents : List ℕ → ℕ → ℕ → Result (Contents × ℕ) ObjectFault → Type 0
+ReadsContents bytes version at (Ok x) = EndsWith bytes version at x.0 x.1
+ReadsContents bytes version at (Err e) =
+    Refuses is_memory e (records_at (length bytes) (start version) at (length bytes) bytes)
 
 -- what the object that the bytes are exports and imports
 abbrev pub contents_at : List ℕ → Result Contents ObjectFault

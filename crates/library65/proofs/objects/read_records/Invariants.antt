@@ -5,7 +5,7 @@ use Rattle.library65.proofs.objects.read_records.Given as goal
 abbrev pub invariant-records : goal.invariant-records
 invariant-records l = record {
   within : l.next ≤ length l.bytes;
-  taken : IsTaken l.bytes l.at l.next l.scan l.contents;
+  taken : IsTaken l.version l.bytes l.at l.next l.scan l.contents;
 }
 
 abbrev pub decreases-records : goal.decreases-records

@@ -33,7 +33,7 @@ some_same : {A : Type 0} (x y : A) → ◌≡◌ {A = Option A} (Some x) (Some y
 some_same x y e = cc
 
 abbrev pub put : Growth → List Segments.Segment → List SectionPlace → Growth
-put g gs places = record { program = with_segments g.program gs; sections = places; imports = g.imports }
+put g gs places = record { program = with_segments g.program gs; sections = places; imports = g.imports; files = g.files }
 
 pub bare_begun : (g : Growth) (mid : Growing) (at m begin : ℕ) (c h : Content) (name : List ℕ) (align : ℕ) → growth_in mid ≡ having g (with_name name g.program.segments) → names_in mid ≡ map (λ x. x.name) mid.contents.items → place_in name (names_in mid) ≡ Some at → at < length mid.contents.items → c ≡ get_or mid.contents.items at c → m ≡ 2 ^ align → segment_from h ≡ record (with_gap (rounded_up c.size m - c.size) (segment_from c)) { size = rounded_up c.size m; align = max c.align m } → ◌≡◌ {A = Result ℕ LinkFault} (Ok (rounded_up c.size m)) (Ok begin) → put (growth_in mid) (segments_from (slice_set mid.contents.items at h)) (mid.sections.items ++ (record { segment = name; offset = begin; size = 0 }) ∷ []) ≡ with_bare g (bare_section name align)
 bare_begun g mid at m begin c h name align grew named there within is multiple opened answered =

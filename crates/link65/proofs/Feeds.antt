@@ -40,11 +40,12 @@ use Rattle.link65.specs.declared.listed.Listed.{Listed}
 
 -- what is within its limits is small
 pub small_item : (o : Outline) (i : Item) → IsWithin o i → IsSmall i
+small_item o (item.File name) w = tt
 small_item o (item.Import name) w = tt
 small_item o (item.Section name size align) w = w.1
 small_item o (item.Part k offset f) w = tt
-small_item o (item.Export name line form) w = tt
-small_item o (item.Assert action line text form) w = tt
+small_item o (item.Export name origin form) w = tt
+small_item o (item.Assert action origin text form) w = tt
 small_item o item.End w = tt
 
 -- ---- No records lead to a state that failed.

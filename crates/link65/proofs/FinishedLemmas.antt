@@ -72,12 +72,12 @@ fitting_so s w v = go (fits_width w.width v)
 
 waiting_so : (l : Linkage) (members : List Member) (exports : Exports) (w : Waiting) → Refused (check_waiting l members exports w)
 waiting_so l members exports w =
-    let at = site members w.owner w.line in
+    let at = site members w.owner w.origin in
     behind (value_at at (value_by l exports w.owner w.form)) (fitting at w) (value_so at (value_by l exports w.owner w.form)) (fitting_so at w)
 
 export_so : (l : Linkage) (members : List Member) (exports : Exports) (e : Exported) → Refused (check_export l members exports e)
 export_so l members exports e =
-    let at = site members e.owner e.line in
+    let at = site members e.owner e.origin in
     behind (value_at at (value_by l exports e.owner e.form)) _ (value_so at (value_by l exports e.owner e.form)) (λ v. tt)
 
 assertion_so : (s : Site) (a : Action) (text : List ℕ) (v : ℤ) → Refused (assertion_result s a text v)
@@ -94,7 +94,7 @@ assertion_so s action.Error text v = go (int_eq v (pos 0))
 
 assert_so : (l : Linkage) (members : List Member) (exports : Exports) (a : Asserted) → Refused (check_assert l members exports a)
 assert_so l members exports a =
-    let at = site members a.owner a.line in
+    let at = site members a.owner a.origin in
     behind (value_at at (value_by l exports a.owner a.form)) _ (value_so at (value_by l exports a.owner a.form)) (assertion_so at a.action a.text)
 
 asserts_so : (l : Linkage) (members : List Member) (exports : Exports) (all : List Asserted) → Refused (check_asserts l members exports all)

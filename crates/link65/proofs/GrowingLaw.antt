@@ -83,7 +83,7 @@ grown_longer owner d (Literal bytes) =
       cells = shut_cells owner d.fragments all ∙ ap (λ cs. flat_map cells d.fragments ++ cs) (map-append Segments.known d.literal bytes) ∙ sym (append_assoc (flat_map cells d.fragments) (map Segments.known d.literal) (map Segments.known bytes)) ∙ ap (λ cs. cs ++ map Segments.known bytes) (sym (shut_cells owner d.fragments d.literal));
     }
 grown_longer owner d (Fill n) = longer_by owner d (Fill n)
-grown_longer owner d (Value w line form) = longer_by owner d (Value w line form)
+grown_longer owner d (Value w origin form) = longer_by owner d (Value w origin form)
 
 -- the segment of the section has the fragment's bytes behind its own
 segment_longer : (owner : ℕ) (f : Fragment) (s t : Section) (g : Segments.Segment) → IsLonger owner f s t → Segments.grown owner g t ≡ Growing.with_cells (fragment_len f) (Segments.fragment_cells owner f) (Segments.grown owner g s)
@@ -240,6 +240,7 @@ made p s gs places = record {
   program = record { members = p.members; segments = gs; exports = p.exports ++ map (exported (length p.members)) s.exports; asserts = p.asserts ++ map (asserted (length p.members)) s.asserts };
   sections = places;
   imports = s.imports;
+  files = s.files;
 }
 
 by_sections : (p : Program) (s : Taking.State) (xs ys : List Section) → xs ≡ ys → made p s (Segments.with_sections (length p.members) p.segments xs) (Segments.section_places (length p.members) p.segments xs) ≡ made p s (Segments.with_sections (length p.members) p.segments ys) (Segments.section_places (length p.members) p.segments ys)
@@ -281,14 +282,15 @@ pushed f old xs x = ap (λ ys. old ++ ys) (map-append f xs (x ∷ [])) ∙ sym (
 
 -- what has come of a module, with an item more, is that with the item behind it
 pub item_step : (p : Program) (s : Taking.State) (i : Item) → are_names (map (λ d. d.name) s.drafts) ≡ true → IsPlaced s.drafts i → Growing.growth_of p (Items.with_item s i) ≡ Growing.grown_by (Growing.growth_of p s) i
+item_step p s (item.File name) names placed = refl
 item_step p s (item.Import name) names placed = refl
 item_step p s (item.Section name size align) names placed = section_step p s name size align
 item_step p s (item.Part k offset f) names placed = part_step p s k offset f placed.0 names placed.1
-item_step p s (item.Export name line form) names placed =
-    let e : Export = record { name = name; line = line; form = form } in
+item_step p s (item.Export name origin form) names placed =
+    let e : Export = record { name = name; origin = origin; form = form } in
     ap (λ (es : List Exported). record (Growing.growth_of p s) { program = record (Growing.growth_of p s).program { exports = es } }) (pushed (exported (length p.members)) p.exports s.exports e)
-item_step p s (item.Assert action line text form) names placed =
-    let a : Assert = record { action = action; line = line; text = text; form = form } in
+item_step p s (item.Assert action origin text form) names placed =
+    let a : Assert = record { action = action; origin = origin; text = text; form = form } in
     ap (λ (as' : List Asserted). record (Growing.growth_of p s) { program = record (Growing.growth_of p s).program { asserts = as' } }) (pushed (asserted (length p.members)) p.asserts s.asserts a)
 item_step p s item.End names placed = refl
 
@@ -297,9 +299,9 @@ pub whole_module : (p : Program) (name : List ℕ) (s : Taking.State) → Growin
 whole_module p name s = refl
 
 -- nothing has come yet
-pub nothing_yet : (p : Program) → Growing.growth_of p Taking.start ≡ Growing.at_rest p
-nothing_yet p = ap (λ (es : List Exported). record { program = record { members = p.members; segments = p.segments; exports = es; asserts = p.asserts ++ [] }; sections = []; imports = [] }) (nil p.exports)
-    ∙ ap (λ (as' : List Asserted). record { program = record { members = p.members; segments = p.segments; exports = p.exports; asserts = as' }; sections = []; imports = [] }) (nil p.asserts)
+pub nothing_yet : (p : Program) (version : ℕ) → Growing.growth_of p (Taking.start version) ≡ Growing.at_rest p
+nothing_yet p version = ap (λ (es : List Exported). record { program = record { members = p.members; segments = p.segments; exports = es; asserts = p.asserts ++ [] }; sections = []; imports = []; files = [] }) (nil p.exports)
+    ∙ ap (λ (as' : List Asserted). record { program = record { members = p.members; segments = p.segments; exports = p.exports; asserts = as' }; sections = []; imports = []; files = [] }) (nil p.asserts)
 
 pub growth_law : Growing.GrowthLaw
 growth_law = (λ p s e x r h. item_step p s x.1 (reached_parts s r).names (led s (outline_of s) e x refl h).2, nothing_yet, whole_module)

@@ -6,6 +6,7 @@ use Rattle.std.specs.Ordering.{int_eq}
 use Rattle.base65.specs.Outcome.{◌>>=◌}
 use Rattle.object65.specs.declared.object.Action.{Action}
 use Rattle.object65.specs.declared.object.Action.TheVariants as action
+use Rattle.object65.specs.declared.object.Origin.{Origin}
 use Rattle.object65.specs.Objects.{fits_width}
 use Rattle.script65.specs.declared.script.Row.{Row}
 use Rattle.link65.specs.declared.fault.LinkFault.{LinkFault}
@@ -26,9 +27,15 @@ abbrev pub each_passes : {A : Type 0} → (A → Result (Unit {0}) LinkFault) �
 each_passes check [] = Ok tt
 each_passes check (x ∷ xs) = check x >>= (λ u. each_passes check xs)
 
--- the module and the line of a datum, an export or an assertion
-abbrev pub site : List Member → ℕ → ℕ → Site
-site members owner line = record { module_name = option_map_or (λ m. m.name) (slice_get members owner) []; line = line }
+-- the name of a file of a member
+abbrev pub file_of : Option Member → Option ℕ → Option (List ℕ)
+file_of (Some m) (Some k) = slice_get m.files k
+file_of (Some m) None = None
+file_of None file = None
+
+-- the module of a datum, an export or an assertion, the file in it where its object names one, and the line
+abbrev pub site : List Member → ℕ → Origin → Site
+site members owner origin = record { module_name = option_map_or (λ m. m.name) (slice_get members owner) []; file = file_of (slice_get members owner) origin.file; line = origin.line }
 
 abbrev pub value_fault : Site → ValueFault → LinkFault
 value_fault s Circular = fault.Circular s
@@ -61,13 +68,13 @@ fitting s w v = if fits_width w.width v then Ok tt else Err (fault.OutOfRange s)
 -- a value that waits has a value, which fits
 abbrev pub check_waiting : Linkage → List Member → Exports → Waiting → Result (Unit {0}) LinkFault
 check_waiting l members exports w =
-    value_at (site members w.owner w.line) (value_by l exports w.owner w.form) >>= fitting (site members w.owner w.line) w
+    value_at (site members w.owner w.origin) (value_by l exports w.owner w.form) >>= fitting (site members w.owner w.origin) w
 
 -- ---- Exports, each used or not.
 
 abbrev pub check_export : Linkage → List Member → Exports → Exported → Result (Unit {0}) LinkFault
 check_export l members exports e =
-    value_at (site members e.owner e.line) (value_by l exports e.owner e.form) >>= (λ v. Ok tt)
+    value_at (site members e.owner e.origin) (value_by l exports e.owner e.form) >>= (λ v. Ok tt)
 
 -- ---- Assertions.
 
@@ -78,7 +85,7 @@ assertion_result s action.Error text v = if int_eq v (pos 0) then Err (fault.Ass
 
 abbrev pub check_assert : Linkage → List Member → Exports → Asserted → Result (List ℕ) LinkFault
 check_assert l members exports a =
-    value_at (site members a.owner a.line) (value_by l exports a.owner a.form) >>= assertion_result (site members a.owner a.line) a.action a.text
+    value_at (site members a.owner a.origin) (value_by l exports a.owner a.form) >>= assertion_result (site members a.owner a.origin) a.action a.text
 
 -- what is warned of assertions, in order, or the first fault
 abbrev pub check_asserts : Linkage → List Member → Exports → List Asserted → Result (List ℕ) LinkFault

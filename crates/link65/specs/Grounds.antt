@@ -17,6 +17,7 @@ growth_in g = record {
   program = record { members = g.members; segments = segments_from g.contents.items; exports = g.exports; asserts = g.asserts };
   sections = g.sections.items;
   imports = g.imports;
+  files = g.files;
 }
 
 -- segments are found by their names
@@ -26,10 +27,11 @@ pub record AreNamed (g : Growing) : Type 0 where
 -- an alignment that an object may have
 abbrev pub IsSmall : Item → Type 0
 IsSmall (item.Section name size align) = align ≤ 15
+IsSmall (item.File name) = ⊤
 IsSmall (item.Import name) = ⊤
 IsSmall (item.Part k offset f) = ⊤
-IsSmall (item.Export name line form) = ⊤
-IsSmall (item.Assert action line text form) = ⊤
+IsSmall (item.Export name origin form) = ⊤
+IsSmall (item.Assert action origin text form) = ⊤
 IsSmall item.End = ⊤
 
 -- segments among which there is one of this name
@@ -45,4 +47,4 @@ abbrev pub names_in : Growing → List (List ℕ)
 names_in g = map (λ n. n.items) g.names.keys
 
 abbrev pub having : Growth → List Segment → Growth
-having g gs = record { program = with_segments g.program gs; sections = g.sections; imports = g.imports }
+having g gs = record { program = with_segments g.program gs; sections = g.sections; imports = g.imports; files = g.files }

@@ -16,11 +16,12 @@ use Rattle.link65.specs.Programs.{Program, asserted, exported, with_module}
 use Rattle.link65.specs.Segments.{Cell, Segment, fragment_cells, section_place, section_places, with_section, with_sections}
 
 -- The program of the modules before the open one, with what that one has put into segments, exports and assertions
--- so far; the places of its sections, and its imports.
+-- so far; the places of its sections, its imports, and the names of its files.
 pub record Growth : Type 0 where
   pub program : Program
   pub sections : List SectionPlace
   pub imports : List (List ℕ)
+  pub files : List (List ℕ)
 
 -- ---- By what has been taken of the module.
 
@@ -38,15 +39,16 @@ growth_of p s = record {
   };
   sections = section_places (length p.members) p.segments (sections_in s);
   imports = s.imports;
+  files = s.files;
 }
 
 -- a program that no module is open behind
 abbrev pub at_rest : Program → Growth
-at_rest p = record { program = p; sections = []; imports = [] }
+at_rest p = record { program = p; sections = []; imports = []; files = [] }
 
 -- the module of this name is whole
 abbrev pub ended : Growth → List ℕ → Program
-ended g name = record g.program { members = g.program.members ++ (record { name = name; sections = g.sections; imports = g.imports }) ∷ [] }
+ended g name = record g.program { members = g.program.members ++ (record { name = name; sections = g.sections; imports = g.imports; files = g.files }) ∷ [] }
 
 -- a module of this name and this object in the making
 abbrev pub module_from : List ℕ → State → Module
@@ -80,6 +82,7 @@ with_part g k f (Some p) = record {
   program = with_segments g.program (with_more p.segment (fragment_len f) (fragment_cells (length g.program.members) f) g.program.segments);
   sections = slice_set g.sections k (longer p (fragment_len f));
   imports = g.imports;
+  files = g.files;
 }
 
 abbrev pub with_bare : Growth → Section → Growth
@@ -87,17 +90,19 @@ with_bare g s = record {
   program = with_segments g.program (with_section (length g.program.members) g.program.segments s);
   sections = g.sections ++ section_place g.program.segments s ∷ [];
   imports = g.imports;
+  files = g.files;
 }
 
 -- with an item of the open module behind
 abbrev pub grown_by : Growth → Item → Growth
+grown_by g (item.File name) = record g { files = g.files ++ name ∷ [] }
 grown_by g (item.Import name) = record g { imports = g.imports ++ name ∷ [] }
 grown_by g (item.Section name size align) = with_bare g (bare_section name align)
 grown_by g (item.Part k offset f) = with_part g k f (slice_get g.sections k)
-grown_by g (item.Export name line form) =
-    record g { program = record g.program { exports = g.program.exports ++ (record { owner = length g.program.members; name = name; line = line; form = form }) ∷ [] } }
-grown_by g (item.Assert action line text form) =
-    record g { program = record g.program { asserts = g.program.asserts ++ (record { owner = length g.program.members; action = action; line = line; text = text; form = form }) ∷ [] } }
+grown_by g (item.Export name origin form) =
+    record g { program = record g.program { exports = g.program.exports ++ (record { owner = length g.program.members; name = name; origin = origin; form = form }) ∷ [] } }
+grown_by g (item.Assert action origin text form) =
+    record g { program = record g.program { asserts = g.program.asserts ++ (record { owner = length g.program.members; action = action; origin = origin; text = text; form = form }) ∷ [] } }
 grown_by g item.End = g
 
 -- ---- The law.
@@ -106,5 +111,5 @@ grown_by g item.End = g
 abbrev pub GrowthLaw : Type 0
 GrowthLaw =
     ((p : Program) (s : State) (e : Entry) (x : Outline × Item) → IsReached s → scanned (outline_of s) e ≡ Ok x → growth_of p (with_item s x.1) ≡ grown_by (growth_of p s) x.1)
-    × ((p : Program) → growth_of p start ≡ at_rest p)
+    × ((p : Program) (version : ℕ) → growth_of p (start version) ≡ at_rest p)
     × ((p : Program) (name : List ℕ) (s : State) → ended (growth_of p s) name ≡ with_module p (module_from name s))

@@ -8,7 +8,7 @@ use Rattle.link65.specs.declared.parts.Member.{Member}
 use Rattle.link65.specs.Modules.{Module}
 use Rattle.link65.specs.Segments.{Segment, section_places, with_sections}
 
--- A member is a module's name, the places of its sections in their segments, and the names that it imports. An
+-- A member is a module's name, the places of its sections in their segments, the names that it imports, and those of its files. An
 -- owner is a member's place.
 pub record Program : Type 0 where
   pub members : List Member
@@ -20,16 +20,17 @@ abbrev pub no_program : Program
 no_program = record { members = []; segments = []; exports = []; asserts = [] }
 
 abbrev pub exported : ℕ → Export → Exported
-exported owner e = record { owner = owner; name = e.name; line = e.line; form = e.form }
+exported owner e = record { owner = owner; name = e.name; origin = e.origin; form = e.form }
 
 abbrev pub asserted : ℕ → Assert → Asserted
-asserted owner a = record { owner = owner; action = a.action; line = a.line; text = a.text; form = a.form }
+asserted owner a = record { owner = owner; action = a.action; origin = a.origin; text = a.text; form = a.form }
 
 abbrev pub member : Program → Module → Member
 member p m = record {
   name = m.name;
   sections = section_places (length p.members) p.segments m.object.sections;
   imports = m.object.imports;
+  files = m.object.files;
 }
 
 -- a program with a module behind those that it has

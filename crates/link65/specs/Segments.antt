@@ -31,7 +31,7 @@ empty_segment name = record { name = name; size = 0; align = 1; cells = [] }
 abbrev pub fragment_cells : ℕ → Fragment → List Cell
 fragment_cells owner (Literal bytes) = map known bytes
 fragment_cells owner (Fill n) = replicate n filled
-fragment_cells owner (Value width line form) = waits (record { owner = owner; width = width; line = line; form = form }) ∷ []
+fragment_cells owner (Value width origin form) = waits (record { owner = owner; width = width; origin = origin; form = form }) ∷ []
 
 abbrev pub align_of : Section → ℕ
 align_of s = 2 ^ s.align

@@ -111,9 +111,9 @@ pub record Keeps (old new : Feeding) : Type 0 where
 
 -- ---- Calls, for all modules and records that the linker stands for.
 
--- a module of this name begins, a library's member where there is an entry of it
-abbrev pub Begins : List ℕ → Option Listing → Feeding → Feeding → Result (Unit {0}) LinkFault → Type 0
-Begins name entry old new r = (modules : List Module) → IsFed old modules → OnOk r (IsFeeding new modules name entry start)
+-- a module of this name and of an object of this version begins, a library's member where there is an entry of it
+abbrev pub Begins : List ℕ → ℕ → Option Listing → Feeding → Feeding → Result (Unit {0}) LinkFault → Type 0
+Begins name version entry old new r = (modules : List Module) → IsFed old modules → OnOk r (IsFeeding new modules name entry (start version))
 
 -- a record comes behind those of the open module
 abbrev pub Continues : Entry → Feeding → Feeding → Result (Unit {0}) LinkFault → Type 0

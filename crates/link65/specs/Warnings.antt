@@ -43,6 +43,15 @@ row_warnings r (Some g) = alignment_warning r g ++ data_warning r g
 abbrev pub warnings_of_rows : List Row → List Segment → List ℕ
 warnings_of_rows rows segments = flat_map (λ r. row_warnings r (segment_of segments r.name)) rows
 
--- `module:line: Warning: text`
+-- the module, and the file where there is one
+abbrev pub site_parts : List ℕ → Option (List ℕ) → List (List ℕ)
+site_parts name None = name ∷ []
+site_parts name (Some file) = name ∷ codes ":" ∷ file ∷ []
+
+-- `module` or `module:file`
+abbrev pub site_name : Site → List ℕ
+site_name s = joined (site_parts s.module_name s.file)
+
+-- `module:line: Warning: text` or `module:file:line: Warning: text`
 abbrev pub assertion_warning : Site → List ℕ → List ℕ
-assertion_warning s text = joined (s.module_name ∷ codes ":" ∷ decimal s.line ∷ codes ": Warning: " ∷ text ∷ codes "\n" ∷ [])
+assertion_warning s text = joined (site_name s ∷ codes ":" ∷ decimal s.line ∷ codes ": Warning: " ∷ text ∷ codes "\n" ∷ [])

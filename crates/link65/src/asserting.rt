@@ -13,21 +13,23 @@ use crate::evaluation::{Evaluated, value_in};
 use crate::fault::{LinkFault, Site};
 use crate::parts::{Asserted, Member};
 use crate::texts::join;
+use crate::words::site_name;
 use base65::Sequence;
 use itoa::Buffer;
 use object65::Action;
 use std::alloc::{AllocError, Global};
 
-/// `module:line: Warning: text`
+/// `module:line: Warning: text` or `module:file:line: Warning: text`
 fn assertion_warning(alloc: Global, site: &Site, text: &[u8]) -> Result<Sequence<u8>, AllocError>
     ensures { IfOk result (λ line. line ≡ assertion_warning site.now text.now) }
 {
     let mut buffer = Buffer::new();
     let number = buffer.format(site.line);
+    let name = site_name(alloc, site)?;
     join(
         alloc,
         &[
-            site.module_name.as_slice(),
+            name.as_slice(),
             b":",
             number.as_bytes(),
             b": Warning: ",
@@ -44,12 +46,12 @@ fn judge(
     assert: &Asserted,
     value: i64,
 ) -> Result<Sequence<u8>, LinkFault>
-    ensures { Gives is_memory (λ text. text) result (assertion_result (site members.now assert.now.owner assert.now.line) assert.now.action assert.now.text value) }
+    ensures { Gives is_memory (λ text. text) result (assertion_result (site members.now assert.now.owner assert.now.origin) assert.now.action assert.now.text value) }
 {
     if value != 0 {
         return Ok(Sequence::new(alloc));
     }
-    let site = site_of(alloc, members, assert.owner, assert.line)?;
+    let site = site_of(alloc, members, assert.owner, assert.origin)?;
     let text = assert.text.as_slice();
     match assert.action {
         Action::Warning => Ok(assertion_warning(alloc, &site, text)?),
@@ -67,7 +69,7 @@ fn check_assertion(
     ensures { Gives is_memory (λ text. text) result (check_assert (linkage_in program.now) program.now.members.now (exports_in program.now) assert.now) }
 {
     let outcome = value_in(program, assert.owner, &assert.form);
-    let value = value_at(alloc, program.members, assert.owner, assert.line, outcome)?;
+    let value = value_at(alloc, program.members, assert.owner, assert.origin, outcome)?;
     judge(alloc, program.members, assert, value)
 }
 

@@ -2,9 +2,9 @@
 
 ghost use Rattle.std.specs.Prelude.{◌≡◌, IfOk, ℕ, [], option_copied, slice_get, map};
 ghost use Rattle.std.specs.List.{flat_map};
-ghost use Rattle.std.specs.Option.{option_map_or};
+ghost use Rattle.std.specs.Option.{option_map, option_map_or};
 ghost use Rattle.base65.specs.Outcome.{Gives};
-ghost use Rattle.link65.specs.Checks.{check_export, check_waiting, each_passes, fitting, site, value_at, waiting_by_row, waiting_of};
+ghost use Rattle.link65.specs.Checks.{check_export, check_waiting, each_passes, file_of, fitting, site, value_at, waiting_by_row, waiting_of};
 ghost use Rattle.link65.specs.Contents.{AreByName, piece_waiting, segments_from};
 ghost use Rattle.link65.specs.Evaluation.{exports_in, linkage_in};
 ghost use Rattle.link65.specs.Faults.{is_memory};
@@ -17,7 +17,7 @@ use crate::fault::{LinkFault, Site};
 use crate::parts::{Exported, Member, ValueFault, Waiting};
 use crate::tables::Segments;
 use base65::Sequence;
-use object65::fits;
+use object65::{Origin, fits};
 use script65::Row;
 use std::alloc::{AllocError, Global};
 
@@ -30,17 +30,41 @@ pub fn name_of(members: &[Member], owner: usize) -> &[u8]
     }
 }
 
-/// The module and the line of a datum, an export or an assertion.
+/// The name of the file of an origin, where its module names one.
+fn file_of<'a>(members: &'a [Member], owner: usize, file: Option<u32>) -> Option<&'a [u8]>
+    ensures { option_map (λ f. f.now) result ≡ file_of (slice_get members.now owner) file }
+{
+    let member = members.get(owner)?;
+    let name = member.files.as_slice().get(file? as usize)?;
+    Some(name.as_slice())
+}
+
+/// A copy of a name, where there is one.
+fn copy_of(alloc: Global, name: Option<&[u8]>) -> Result<Option<Sequence<u8>>, AllocError>
+    ensures { IfOk result (λ n. n ≡ option_map (λ x. x.now) name.entry) }
+{
+    match name {
+        Some(name) => Ok(Some(Sequence::copy_of(alloc, name)?)),
+        None => Ok(None),
+    }
+}
+
+/// The module, the file and the line of a datum, an export or an assertion.
 pub fn site_of(
     alloc: Global,
     members: &[Member],
     owner: usize,
-    line: u32,
+    origin: Origin,
 ) -> Result<Site, AllocError>
-    ensures { IfOk result (λ s. s ≡ site members.now owner line) }
+    ensures { IfOk result (λ s. s ≡ site members.now owner origin) }
 {
     let module_name = Sequence::copy_of(alloc, name_of(members, owner))?;
-    Ok(Site { module_name, line })
+    let file = copy_of(alloc, file_of(members, owner, origin.file))?;
+    Ok(Site {
+        module_name,
+        file,
+        line: origin.line,
+    })
 }
 
 /// A value, or its fault at a place.
@@ -48,17 +72,19 @@ pub fn value_at(
     alloc: Global,
     members: &[Member],
     owner: usize,
-    line: u32,
+    origin: Origin,
     outcome: Result<i64, ValueFault>,
 ) -> Result<i64, LinkFault>
-    ensures { Gives is_memory (λ v. v) result (value_at (site members.now owner line) outcome) }
+    ensures { Gives is_memory (λ v. v) result (value_at (site members.now owner origin) outcome) }
 {
     match outcome {
         Ok(value) => Ok(value),
         Err(ValueFault::Circular) => {
-            Err(LinkFault::Circular(site_of(alloc, members, owner, line)?))
+            Err(LinkFault::Circular(site_of(alloc, members, owner, origin)?))
         }
-        Err(ValueFault::NoValue) => Err(LinkFault::NoValue(site_of(alloc, members, owner, line)?)),
+        Err(ValueFault::NoValue) => Err(LinkFault::NoValue(site_of(
+            alloc, members, owner, origin,
+        )?)),
         Err(ValueFault::Unresolved) => Err(LinkFault::Unresolved(Sequence::new(alloc))),
     }
 }
@@ -70,10 +96,10 @@ fn check_fit(
     waiting: &Waiting,
     value: i64,
 ) -> Result<(), LinkFault>
-    ensures { Gives is_memory (λ u. u) result (fitting (site members.now waiting.now.owner waiting.now.line) waiting.now value) }
+    ensures { Gives is_memory (λ u. u) result (fitting (site members.now waiting.now.owner waiting.now.origin) waiting.now value) }
 {
     if !fits(waiting.width, value) {
-        return Err(LinkFault::OutOfRange(site_of(alloc, members, waiting.owner, waiting.line)?));
+        return Err(LinkFault::OutOfRange(site_of(alloc, members, waiting.owner, waiting.origin)?));
     }
     Ok(())
 }
@@ -84,7 +110,13 @@ fn check_datum(alloc: Global, program: &Evaluated<'_>, waiting: &Waiting) -> Res
     ensures { Gives is_memory (λ u. u) result (check_waiting (linkage_in program.now) program.now.members.now (exports_in program.now) waiting.now) }
 {
     let outcome = value_in(program, waiting.owner, &waiting.form);
-    let value = value_at(alloc, program.members, waiting.owner, waiting.line, outcome)?;
+    let value = value_at(
+        alloc,
+        program.members,
+        waiting.owner,
+        waiting.origin,
+        outcome,
+    )?;
     check_fit(alloc, program.members, waiting, value)
 }
 
@@ -98,7 +130,7 @@ fn check_one_export(
     ensures { Gives is_memory (λ u. u) result (check_export (linkage_in program.now) program.now.members.now (exports_in program.now) export.now) }
 {
     let outcome = value_in(program, export.owner, &export.form);
-    value_at(alloc, program.members, export.owner, export.line, outcome)?;
+    value_at(alloc, program.members, export.owner, export.origin, outcome)?;
     Ok(())
 }
 

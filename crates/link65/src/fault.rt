@@ -11,10 +11,12 @@ use std::alloc::{AllocError, AllocFailed};
 use std::error::Error;
 use std::fmt;
 
-/// The module and the line of a datum, an export or an assertion.
+/// The module of a datum, an export or an assertion, the file in which it stands where the object names one, and the
+/// line.
 #[derive(Debug, Drop)]
 pub struct Site {
     pub module_name: Sequence<u8>,
+    pub file: Option<Sequence<u8>>,
     pub line: u32,
 }
 

@@ -2,7 +2,7 @@
 
 ghost use Rattle.std.specs.Prelude.{◌≡◌, ◌+◌, drop, take, Ok, OnErr, OnOk, IfErr, IfOk, true};
 ghost use Rattle.std.specs.Option.{option_map};
-ghost use Rattle.object65.specs.Record.{entry_of};
+ghost use Rattle.object65.specs.Record.{entry_of, is_version};
 ghost use Rattle.object65.specs.Scanning.{outline_of};
 ghost use Rattle.object65.specs.Taking.{start};
 ghost use Rattle.base65.specs.Outcome.{Gives};
@@ -25,19 +25,21 @@ use object65::{ObjectFault, Record, Scan};
 use std::alloc::Global;
 use std::mem;
 
-/// Opens a module of this name, a library's member where there is an entry of it.
+/// Opens a module of this name and of an object of this version, a library's member where there is an entry of it.
 pub fn open_module(
     alloc: Global,
     name: &[u8],
+    version: u8,
     entry: Option<&Entry>,
     first_export: usize,
 ) -> Result<Open, LinkFault>
-    ensures opened { IfOk result (λ o. o ≡ record { name = name.now; scan = outline_of start; first_export = first_export; listed = option_map (λ e. listed_of e.now) entry.entry }) }
+    requires { is_version version ≡ true }
+    ensures opened { IfOk result (λ o. o ≡ record { name = name.now; scan = outline_of (start version); first_export = first_export; listed = option_map (λ e. listed_of e.now) entry.entry }) }
     ensures memory { IfErr result (λ e. is_memory e ≡ true) }
 {
     Ok(Open {
         name: Sequence::copy_of(alloc, name)?,
-        scan: Scan::new(alloc),
+        scan: Scan::new(alloc, version),
         first_export,
         listed: listed_of(alloc, entry)?,
     })

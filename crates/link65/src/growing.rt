@@ -37,6 +37,8 @@ pub struct Growing {
     pub sections: Vec<SectionPlace>,
     /// The names that the open module imports.
     pub imports: Sequence<Sequence<u8>>,
+    /// The names of the open module's files.
+    pub files: Sequence<Sequence<u8>>,
 }
 
 /// A sum, for which there is no room where it is too large.
@@ -95,7 +97,7 @@ fn fragment_size(fragment: &Fragment) -> u64
         Fragment::Fill(count) => u64::from(*count),
         Fragment::Value {
             width,
-            line: _,
+            origin: _,
             form: _,
         } => match width {
             Width::Byte | Width::Branch => 1,
@@ -112,10 +114,14 @@ fn piece_of(owner: usize, fragment: Fragment) -> Piece
     match fragment {
         Fragment::Literal(bytes) => Piece::Known(bytes),
         Fragment::Fill(count) => Piece::Filled(count),
-        Fragment::Value { width, line, form } => Piece::Waits(Waiting {
+        Fragment::Value {
+            width,
+            origin,
+            form,
+        } => Piece::Waits(Waiting {
             owner,
             width,
-            line,
+            origin,
             form,
         }),
     }
@@ -276,19 +282,20 @@ pub fn take_item(growing: &mut Growing, item: Item) -> Result<(), LinkFault>
 {
     let owner = growing.members.len();
     match item {
+        Item::File(name) => growing.files.push(name)?,
         Item::Import(name) => growing.imports.push(name)?,
         Item::Section(name, _, align) => begin_section(growing, name, align)?,
         Item::Part(k, _, fragment) => add_part(growing, k, fragment)?,
-        Item::Export(name, line, form) => growing.exports.push(Exported {
+        Item::Export(name, origin, form) => growing.exports.push(Exported {
             owner,
             name,
-            line,
+            origin,
             form,
         })?,
-        Item::Assert(action, line, text, form) => growing.asserts.push(Asserted {
+        Item::Assert(action, origin, text, form) => growing.asserts.push(Asserted {
             owner,
             action,
-            line,
+            origin,
             text,
             form,
         })?,
@@ -307,10 +314,12 @@ pub fn end_module(growing: &mut Growing, name: Sequence<u8>) -> Result<(), LinkF
     let alloc = growing.alloc;
     let sections = mem::replace(&mut growing.sections, Vec::new(alloc));
     let imports = mem::replace(&mut growing.imports, Sequence::new(alloc));
+    let files = mem::replace(&mut growing.files, Sequence::new(alloc));
     growing.members.push(Member {
         name,
         sections: Sequence::from_vec(sections),
         imports,
+        files,
     })?;
     Ok(())
 }
@@ -329,5 +338,6 @@ pub fn no_module(alloc: Global) -> Growing
         asserts: Sequence::new(alloc),
         sections: Vec::new(alloc),
         imports: Sequence::new(alloc),
+        files: Sequence::new(alloc),
     }
 }

@@ -32,6 +32,7 @@ pub fn kept_of(growing: Growing) -> Kept
         asserts,
         sections: _,
         imports: _,
+        files: _,
     } = growing;
     Kept {
         members,

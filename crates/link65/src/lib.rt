@@ -35,4 +35,4 @@ pub use fault::{LinkFault, Site};
 pub use image65::OutputFile;
 pub use linked::Linked;
 pub use linker::Linker;
-pub use words::fault_text;
+pub use words::{fault_text, site_name};

@@ -2,7 +2,7 @@
 
 ghost use Rattle.std.specs.Prelude.{◌≡◌, ◌+◌, [], Err, IfErr, IfOk, OnErr, OnOk, map, true, false};
 ghost use Rattle.std.specs.Option.{option_map};
-ghost use Rattle.object65.specs.Record.{entry_of};
+ghost use Rattle.object65.specs.Record.{entry_of, is_version};
 ghost use Rattle.base65.specs.Outcome.{Gives};
 ghost use Rattle.link65.specs.Faults.{is_memory};
 ghost use Rattle.link65.specs.Links.{names_once};
@@ -152,11 +152,18 @@ impl Linker {
         Ok(copy_of(&self.given)?)
     }
 
-    /// Opens a module of this name, where none is open; a member of a library comes with the entry of its index, whose
-    /// names are compared with the member's where it ends. After a refusal each call answers that it failed before.
-    pub fn begin_module(&mut self, name: &[u8], entry: Option<&Entry>) -> Result<(), LinkFault>
-        requires { is_open self.old ≡ false }
-        ensures begun { Begins name.now (option_map (λ e. e.now) entry.entry) self.old self.new result }
+    /// Opens a module of this name and of an object of this version, where none is open; a member of a library comes
+    /// with the entry of its index, whose names are compared with the member's where it ends. After a refusal each call
+    /// answers that it failed before.
+    pub fn begin_module(
+        &mut self,
+        name: &[u8],
+        version: u8,
+        entry: Option<&Entry>,
+    ) -> Result<(), LinkFault>
+        requires closed { is_open self.old ≡ false }
+        requires version { is_version version ≡ true }
+        ensures begun { Begins name.now version (option_map (λ e. e.now) entry.entry) self.old self.new result }
         ensures memory { self.old.failed ≡ false → IfErr result (λ e. is_memory e ≡ true) }
         ensures opened { OnOk result (is_open self.new ≡ true) }
         ensures pending { OnOk result (self.new.pending ≡ self.old.pending) }
@@ -167,7 +174,8 @@ impl Linker {
         if self.failed {
             return Err(LinkFault::FailedBefore);
         }
-        match open_module(self.growing.alloc, name, entry, self.growing.exports.len()) {
+        let first_export = self.growing.exports.len();
+        match open_module(self.growing.alloc, name, version, entry, first_export) {
             Ok(opened) => {
                 self.opened = Some(opened);
                 Ok(())

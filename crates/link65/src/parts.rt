@@ -1,15 +1,16 @@
 //! What a link keeps of its modules.
 
 use base65::Sequence;
-use object65::{Action, Norm, Width};
+use object65::{Action, Norm, Origin, Width};
 
-/// A module's name, where its sections lie in their segments, and the names that it imports. Forms name sections and
-/// imports by their places here. An owner is a member's place among the members.
+/// A module's name, where its sections lie in their segments, the names that it imports, and those of its files. Forms
+/// name sections and imports, and origins files, by their places here. An owner is a member's place among the members.
 #[derive(Drop)]
 pub struct Member {
     pub name: Sequence<u8>,
     pub sections: Sequence<SectionPlace>,
     pub imports: Sequence<Sequence<u8>>,
+    pub files: Sequence<Sequence<u8>>,
 }
 
 /// Where a section lies: how far behind the start of its segment, and how many bytes it has.
@@ -25,8 +26,8 @@ pub struct SectionPlace {
 pub struct Waiting {
     pub owner: usize,
     pub width: Width,
-    /// The line of its statement.
-    pub line: u32,
+    /// Where its statement stands.
+    pub origin: Origin,
     pub form: Norm,
 }
 
@@ -35,7 +36,7 @@ pub struct Waiting {
 pub struct Exported {
     pub owner: usize,
     pub name: Sequence<u8>,
-    pub line: u32,
+    pub origin: Origin,
     pub form: Norm,
 }
 
@@ -44,7 +45,7 @@ pub struct Exported {
 pub struct Asserted {
     pub owner: usize,
     pub action: Action,
-    pub line: u32,
+    pub origin: Origin,
     /// What is printed where the form is 0.
     pub text: Sequence<u8>,
     pub form: Norm,

@@ -2,8 +2,9 @@
 
 ghost use Rattle.std.specs.Prelude.{◌≡◌, IfOk, map};
 ghost use Rattle.link65.specs.Faults.{fault_text, listed};
+ghost use Rattle.link65.specs.Warnings.{site_name};
 
-use crate::fault::LinkFault;
+use crate::fault::{LinkFault, Site};
 use crate::texts::join;
 use base65::Sequence;
 use std::alloc::{AllocError, Global};
@@ -20,6 +21,17 @@ fn listed(alloc: Global, names: &[Sequence<u8>]) -> Result<Sequence<u8>, AllocEr
         separator = b", ";
     }
     Ok(text)
+}
+
+/// The module of a site, and the file in it where there is one: `module` or `module:file`.
+pub fn site_name(alloc: Global, site: &Site) -> Result<Sequence<u8>, AllocError>
+    ensures { IfOk result (λ text. text ≡ site_name site.now) }
+{
+    let module = site.module_name.as_slice();
+    match &site.file {
+        Some(file) => join(alloc, &[module, b":", file.as_slice()]),
+        None => join(alloc, &[module]),
+    }
 }
 
 /// A fault in words, as the bytes that are printed: names and texts are as they stand in the files.

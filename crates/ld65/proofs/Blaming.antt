@@ -55,7 +55,7 @@ read_blames {A} {B} f blamed name r is asked h =
     asked (ap Err (stored f fault))
 
 -- a record that the linker refuses
-pub record_blames : {B : Type 0} (known : Option Files) (i : Input) (at next : ℕ) (old mid new : Feeding) (x : Entry) (e : LinkFault) (blamed : Option (List ℕ)) (name : List ℕ) (r : Result B LinkFault) → r ≡ Err e → IsAt known i at next old mid → Continues x mid new (Err e) → (modules : List Module) (called : List ℕ) (entry : Option Listing) → IsFeeding old modules called entry start → IsErrOf r (link.Malformed object.FileError) → IsBlamed blamed name
+pub record_blames : {B : Type 0} (known : Option Files) (i : Input) (at : ℕ × ℕ) (next : ℕ) (old mid new : Feeding) (x : Entry) (e : LinkFault) (blamed : Option (List ℕ)) (name : List ℕ) (r : Result B LinkFault) → r ≡ Err e → IsAt known i at next old mid → Continues x mid new (Err e) → (modules : List Module) (called : List ℕ) (entry : Option Listing) → IsFeeding old modules called entry (start at.0) → IsErrOf r (link.Malformed object.FileError) → IsBlamed blamed name
 record_blames {B} known i at next old mid new x e blamed name r is behind refused modules called entry stands h =
     let same : ◌≡◌ {A = Result B LinkFault} (Err e) (Err (link.Malformed object.FileError)) = subst (λ (q : Result B LinkFault). q ≡ Err (link.Malformed object.FileError)) is h in
     let fault : e ≡ link.Malformed object.FileError = cc same in
@@ -63,7 +63,7 @@ record_blames {B} known i at next old mid new x e blamed name r is behind refuse
     absurd (not_stored p.0 x e (refused modules called entry p.0 p.1) fault)
 
 -- a module that the linker doesn't end
-pub end_blames : (first end_at : ℕ) (now : Option Files) (i : Input) (old mid fed new : Feeding) (blamed : Option (List ℕ)) (name : List ℕ) (r : Result (Unit {0}) LinkFault) → Begins i.name i.entry old mid (Ok tt) → FeedsRecords now i first mid fed (Ok end_at) → Ends fed new r → (modules : List Module) → IsFed old modules → IsErrOf r (link.Malformed object.FileError) → IsBlamed blamed name
+pub end_blames : (first : ℕ × ℕ) (end_at : ℕ) (now : Option Files) (i : Input) (old mid fed new : Feeding) (blamed : Option (List ℕ)) (name : List ℕ) (r : Result (Unit {0}) LinkFault) → Begins i.name first.0 i.entry old mid (Ok tt) → FeedsRecords now i first mid fed (Ok end_at) → Ends fed new r → (modules : List Module) → IsFed old modules → IsErrOf r (link.Malformed object.FileError) → IsBlamed blamed name
 end_blames first end_at now i old mid fed new blamed name (Ok u) begun feeds ends modules stands h = absurd cc
 end_blames first end_at now i old mid fed new blamed name (Err e) begun feeds ends modules stands h =
     let fault : e ≡ link.Malformed object.FileError = cc h in

@@ -92,15 +92,15 @@ not_stored s x e h is = absurd (after_free s x (refused_so (rw is at h)))
     refused_so : as_link (after s x) ≡ Err (link.Malformed object.FileError) → after s x ≡ Err object.FileError
     refused_so u = let p = from_object (after s x) _ u in let same : object.FileError ≡ p.0 = cc p.1 in p.2 ∙ ap Err (sym same)
 
-pub taking_refused : (limit at next : ℕ) (known now : Option Files) (name : List ℕ) (s : State) (r : Entry × ℕ) (e : LinkFault) → now ≡ known → GoesIn known name limit at next s → IfSome now (λ m. in_file (get m name) (record_at next limit) ≡ Ok r) → Refuses is_memory e (as_link (after s r.0)) → IfSome known (λ m. Refuses is_link_outside e (as_link (all_in (get m name) at limit)))
-taking_refused limit at next known now name s r e same goes read refused = go (is_memory e) refl refused
+pub taking_refused : (v limit at next : ℕ) (known now : Option Files) (name : List ℕ) (s : State) (r : Entry × ℕ) (e : LinkFault) → now ≡ known → GoesIn v known name limit at next s → IfSome now (λ m. in_file (get m name) (record_at v next limit) ≡ Ok r) → Refuses is_memory e (as_link (after s r.0)) → IfSome known (λ m. Refuses is_link_outside e (as_link (all_in v (get m name) at limit)))
+taking_refused v limit at next known now name s r e same goes read refused = go (is_memory e) refl refused
   where
-    go : (b : Bool) → is_memory e ≡ b → Unless b (as_link (after s r.0) ≡ Err e) → IfSome known (λ m. Refuses is_link_outside e (as_link (all_in (get m name) at limit)))
-    go true h u = by_memory known e (λ m. as_link (all_in (get m name) at limit)) h
+    go : (b : Bool) → is_memory e ≡ b → Unless b (as_link (after s r.0) ≡ Err e) → IfSome known (λ m. Refuses is_link_outside e (as_link (all_in v (get m name) at limit)))
+    go true h u = by_memory known e (λ m. as_link (all_in v (get m name) at limit)) h
     go false h u =
         let p = from_object (after s r.0) e u in
         let free : Refuses is_object_outside p.0 (after s r.0) = unless_any (is_object_outside p.0) p.2 in
-        rw p.1 (of_malformed_in known p.0 (λ m. all_in (get m name) at limit) (taking_stops limit at next known now name s r p.0 same goes read free))
+        rw p.1 (of_malformed_in known p.0 (λ m. all_in v (get m name) at limit) (taking_stops v limit at next known now name s r p.0 same goes read free))
       where
         unless_any : (b : Bool) {P : Type 0} → P → Unless b P
         unless_any true x = tt
@@ -112,45 +112,45 @@ not_at n h = grind (arith, nat_tests)
 -- ---- The loop, for all modules that the linker stands for.
 
 -- what is left of a file reads as all of it, behind what the linker has taken
-abbrev pub IsAt : Option Files → Input → ℕ → ℕ → Feeding → Feeding → Type 0
+abbrev pub IsAt : Option Files → Input → ℕ × ℕ → ℕ → Feeding → Feeding → Type 0
 IsAt known i at next old now =
-    (modules : List Module) (called : List ℕ) (entry : Option Listing) → IsFeeding old modules called entry start
-    → (s : State) × IsFeeding now modules called entry s × GoesIn known i.file i.end at next s
+    (modules : List Module) (called : List ℕ) (entry : Option Listing) → IsFeeding old modules called entry (start at.0)
+    → (s : State) × IsFeeding now modules called entry s × GoesIn at.0 known i.file i.end at.1 next s
 
-module _ (known : Option Files) (i : Input) (at : ℕ) where
-  pub is_at_first : (old : Feeding) → IsAt known i at at old old
-  is_at_first old modules called entry h = (start, h, begins_in i.end at at known i.file)
+module _ (known : Option Files) (i : Input) (at : ℕ × ℕ) where
+  pub is_at_first : (old : Feeding) → IsAt known i at at.1 old old
+  is_at_first old modules called entry h = (start at.0, h, begins_in at.0 i.end at.1 at.1 known i.file)
 
-  pub unread : (next : ℕ) (now : Option Files) (old mid new : Feeding) (f : ObjectFault) → now ≡ known → IsAt known i at next old mid → IfSome now (λ m. Refuses is_object_outside f (in_file (get m i.file) (record_at next i.end))) → FeedsRecords known i at old new (Err (as_fault f))
+  pub unread : (next : ℕ) (now : Option Files) (old mid new : Feeding) (f : ObjectFault) → now ≡ known → IsAt known i at next old mid → IfSome now (λ m. Refuses is_object_outside f (in_file (get m i.file) (record_at at.0 next i.end))) → FeedsRecords known i at old new (Err (as_fault f))
   unread next now old mid new f same is h modules called entry stands =
       let p = is modules called entry stands in
-      of_object_in known f (λ m. records_in m i at) (reading_stops i.end at next known now i.file p.0 f same p.2 h)
+      of_object_in known f (λ m. records_in m i at) (reading_stops at.0 i.end at.1 next known now i.file p.0 f same p.2 h)
 
-  pub untaken : (next : ℕ) (now : Option Files) (old mid new : Feeding) (r : Entry × ℕ) (e : LinkFault) → now ≡ known → IsAt known i at next old mid → IfSome now (λ m. in_file (get m i.file) (record_at next i.end) ≡ Ok r) → Continues r.0 mid new (Err e) → FeedsRecords known i at old new (Err e)
+  pub untaken : (next : ℕ) (now : Option Files) (old mid new : Feeding) (r : Entry × ℕ) (e : LinkFault) → now ≡ known → IsAt known i at next old mid → IfSome now (λ m. in_file (get m i.file) (record_at at.0 next i.end) ≡ Ok r) → Continues r.0 mid new (Err e) → FeedsRecords known i at old new (Err e)
   untaken next now old mid new r e same is read refused modules called entry stands =
       let p = is modules called entry stands in
-      taking_refused i.end at next known now i.file p.0 r e same p.2 read (refused modules called entry p.0 p.1)
+      taking_refused at.0 i.end at.1 next known now i.file p.0 r e same p.2 read (refused modules called entry p.0 p.1)
 
-  pub ends_there : (next : ℕ) (now : Option Files) (old mid new : Feeding) (r : Entry × ℕ) → now ≡ known → IsAt known i at next old mid → IfSome now (λ m. in_file (get m i.file) (record_at next i.end) ≡ Ok r) → Continues r.0 mid new (Ok tt) → r.0.kind ≡ 8 → FeedsRecords known i at old new (Ok r.1)
+  pub ends_there : (next : ℕ) (now : Option Files) (old mid new : Feeding) (r : Entry × ℕ) → now ≡ known → IsAt known i at next old mid → IfSome now (λ m. in_file (get m i.file) (record_at at.0 next i.end) ≡ Ok r) → Continues r.0 mid new (Ok tt) → r.0.kind ≡ 8 → FeedsRecords known i at old new (Ok r.1)
   ends_there next now old mid new r same is read taken end modules called entry stands =
       let p = is modules called entry stands in
       let q = taken modules called entry p.0 p.1 in
       let step = accepted (after p.0 r.0) q.0 q.1 in
-      ((q.0, r.1), linked known (λ m. records_in m i at) (q.0, r.1) (ends_in i.end at next known now i.file p.0 q.0 r same p.2 read step (ended_by p.0 q.0 r.0 step ∙ ap (λ n. n == 8) end)), (refl, q.2))
+      ((q.0, r.1), linked known (λ m. records_in m i at) (q.0, r.1) (ends_in at.0 i.end at.1 next known now i.file p.0 q.0 r same p.2 read step (ended_by p.0 q.0 r.0 step ∙ ap (λ n. n == 8) end)), (refl, q.2))
     where
       linked : (k : Option Files) (f : Files → Result (State × ℕ) ObjectFault) (x : State × ℕ) → IfSome k (λ m. f m ≡ Ok x) → IfSome k (λ m. as_link (f m) ≡ Ok x)
       linked None f x h = tt
       linked (Some m) f x h = ap as_link h
 
-  pub goes_further : (next : ℕ) (now : Option Files) (old mid new : Feeding) (r : Entry × ℕ) → now ≡ known → IsAt known i at next old mid → IfSome now (λ m. in_file (get m i.file) (record_at next i.end) ≡ Ok r) → next < r.1 → Continues r.0 mid new (Ok tt) → (r.0.kind ≡ 8 → ⊥) → IsAt known i at r.1 old new
+  pub goes_further : (next : ℕ) (now : Option Files) (old mid new : Feeding) (r : Entry × ℕ) → now ≡ known → IsAt known i at next old mid → IfSome now (λ m. in_file (get m i.file) (record_at at.0 next i.end) ≡ Ok r) → next < r.1 → Continues r.0 mid new (Ok tt) → (r.0.kind ≡ 8 → ⊥) → IsAt known i at r.1 old new
   goes_further next now old mid new r same is read later taken end modules called entry stands =
       let p = is modules called entry stands in
       let q = taken modules called entry p.0 p.1 in
       let step = accepted (after p.0 r.0) q.0 q.1 in
-      (q.0, q.2, goes_on_in i.end at next known now i.file p.0 q.0 r same p.2 read later step (ended_by p.0 q.0 r.0 step ∙ not_at r.0.kind end))
+      (q.0, q.2, goes_on_in at.0 i.end at.1 next known now i.file p.0 q.0 r same p.2 read later step (ended_by p.0 q.0 r.0 step ∙ not_at r.0.kind end))
 
   -- a record that the linker refuses is no failure of the store
-  pub none_passed : {T : Type 0} (next : ℕ) (old mid new : Feeding) (x : Entry) (e : LinkFault) (count_old count_new : ℕ) → count_new ≡ count_old → IsAt known i at next old mid → Continues x mid new (Err e) → (modules : List Module) (called : List ℕ) (entry : Option Listing) → IsFeeding old modules called entry start → Passes {T = T} (link.Malformed object.FileError) count_old count_new (Err e)
+  pub none_passed : {T : Type 0} (next : ℕ) (old mid new : Feeding) (x : Entry) (e : LinkFault) (count_old count_new : ℕ) → count_new ≡ count_old → IsAt known i at next old mid → Continues x mid new (Err e) → (modules : List Module) (called : List ℕ) (entry : Option Listing) → IsFeeding old modules called entry (start at.0) → Passes {T = T} (link.Malformed object.FileError) count_old count_new (Err e)
   none_passed next old mid new x e count_old count_new same is refused modules called entry stands = record {
     later = omega (arith, same);
     told = λ h. absurd (omega (arith, same));

@@ -8,7 +8,7 @@ use Rattle.base65.proofs.Outcome.{refused-then}
 use Rattle.object65.specs.declared.fault.ObjectFault.{ObjectFault}
 use Rattle.object65.specs.declared.fault.ObjectFault.TheVariants as object
 use Rattle.object65.specs.declared.object.Object.{Object}
-use Rattle.object65.specs.Fault.{is_outside as is_object_outside}
+use Rattle.object65.specs.Fault.{is_memory as is_object_memory, is_outside as is_object_outside}
 use Rattle.object65.specs.Reading.{end_at, head_at, in_file}
 use Rattle.object65.specs.Taking.{State, finished, object_from, start}
 use Rattle.object65.specs.Whole.{object_at, records_at}
@@ -38,11 +38,11 @@ linked_then {A} {B} e r f h = go (is_link_outside e) r h
     go false (Err g) h = let same : link.Malformed g ≡ e = cc in ap Err same
 
 module _ (i : Input) where
-  abbrev head_of : Option (List ℕ) → Result ℕ ObjectFault
+  abbrev head_of : Option (List ℕ) → Result (ℕ × ℕ) ObjectFault
   head_of file = in_file file (head_at i.begin i.end)
 
-  abbrev records_of : ℕ → Option (List ℕ) → Result (State × ℕ) ObjectFault
-  records_of first file = in_file file (λ bytes. records_at (length bytes) start first i.end bytes)
+  abbrev records_of : ℕ × ℕ → Option (List ℕ) → Result (State × ℕ) ObjectFault
+  records_of first file = in_file file (λ bytes. records_at (length bytes) (start first.0) first.1 i.end bytes)
 
   abbrev end_of : ℕ → Option (List ℕ) → Result (Unit {0}) ObjectFault
   end_of end file = in_file file (end_at end i.end)
@@ -55,17 +55,17 @@ module _ (i : Input) where
   head_stops None f h = unless (is_object_outside f) (λ e. let is : object.FileNotFound ≡ f = cc e in ap Err is) h
   head_stops (Some bytes) f h = refused-then is_object_outside f (head_at i.begin i.end bytes) _ h
 
-  records_stop : (file : Option (List ℕ)) (first : ℕ) (e : LinkFault) → head_of file ≡ Ok first → Refuses is_link_outside e (as_link (records_of first file)) → Refuses is_link_outside e (as_link (object_of file))
+  records_stop : (file : Option (List ℕ)) (first : ℕ × ℕ) (e : LinkFault) → head_of file ≡ Ok first → Refuses is_link_outside e (as_link (records_of first file)) → Refuses is_link_outside e (as_link (object_of file))
   unfolding object_at
   records_stop None first e head h = cc
-  records_stop (Some bytes) first e head h = rw head (linked_then e (records_at (length bytes) start first i.end bytes) _ h)
+  records_stop (Some bytes) first e head h = rw head (linked_then e (records_at (length bytes) (start first.0) first.1 i.end bytes) _ h)
 
-  end_stops : (file : Option (List ℕ)) (first : ℕ) (t : State) (end : ℕ) (f : ObjectFault) → head_of file ≡ Ok first → records_of first file ≡ Ok (t, end) → Refuses is_object_outside f (end_of end file) → Refuses is_object_outside f (object_of file)
+  end_stops : (file : Option (List ℕ)) (first : ℕ × ℕ) (t : State) (end : ℕ) (f : ObjectFault) → head_of file ≡ Ok first → records_of first file ≡ Ok (t, end) → Refuses is_object_outside f (end_of end file) → Refuses is_object_outside f (object_of file)
   unfolding object_at
   end_stops None first t end f head records h = cc
   end_stops (Some bytes) first t end f head records h = rw (head, records) (refused-then is_object_outside f (end_at end i.end bytes) (λ u. finished t) h)
 
-  object_is : (file : Option (List ℕ)) (first : ℕ) (t : State) (end : ℕ) → head_of file ≡ Ok first → records_of first file ≡ Ok (t, end) → end_of end file ≡ Ok tt → object_of file ≡ finished t
+  object_is : (file : Option (List ℕ)) (first : ℕ × ℕ) (t : State) (end : ℕ) → head_of file ≡ Ok first → records_of first file ≡ Ok (t, end) → end_of end file ≡ Ok tt → object_of file ≡ finished t
   unfolding object_at
   object_is None first t end head records h = cc
   object_is (Some bytes) first t end head records h = rw (head, records, h) refl
@@ -80,7 +80,7 @@ as_module s before m i e h =
 
 module _ (known : Option Files) (i : Input) (old : Feeding) where
   -- the head that was read
-  abbrev pub HasHead : ℕ → Type 0
+  abbrev pub HasHead : ℕ × ℕ → Type 0
   HasHead first = IfSome known (λ m. head_of i (get m i.file) ≡ Ok first)
 
   pub no_head : (new : Feeding) (f : ObjectFault) → IfSome known (λ m. Refuses is_object_outside f (head_of i (get m i.file))) → FeedsObject known i old new (Err (as_fault f))
@@ -93,14 +93,14 @@ module _ (known : Option Files) (i : Input) (old : Feeding) where
   pub not_begun : (new : Feeding) (e : LinkFault) → (old.failed ≡ false → is_memory e ≡ true) → FeedsObject known i old new (Err e)
   not_begun new e h modules stands = by_memory known e (λ m. added_in old.script modules m i) (h stands.failed)
 
-  pub no_records : (now : Option Files) (first : ℕ) (mid new : Feeding) (e : LinkFault) → now ≡ known → HasHead first → Begins i.name i.entry old mid (Ok tt) → FeedsRecords now i first mid new (Err e) → FeedsObject known i old new (Err e)
+  pub no_records : (now : Option Files) (first : ℕ × ℕ) (mid new : Feeding) (e : LinkFault) → now ≡ known → HasHead first → Begins i.name first.0 i.entry old mid (Ok tt) → FeedsRecords now i first mid new (Err e) → FeedsObject known i old new (Err e)
   no_records now first mid new e same head begun fed modules stands = go known head (rw same at fed modules i.name i.entry (begun modules stands))
     where
       go : (k : Option Files) → IfSome k (λ m. head_of i (get m i.file) ≡ Ok first) → IfSome k (λ m. Refuses is_link_outside e (as_link (records_in m i first))) → IfSome k (λ m. Refuses is_link_outside e (added_in old.script modules m i))
       go None head h = tt
       go (Some m) head h = as_module old.script modules m i e (records_stop i (get m i.file) first e head h)
 
-  pub more_behind : (now later : Option Files) (first end : ℕ) (mid new : Feeding) (f : ObjectFault) → now ≡ known → later ≡ known → HasHead first → Begins i.name i.entry old mid (Ok tt) → FeedsRecords now i first mid new (Ok end) → IfSome later (λ m. Refuses is_object_outside f (end_of i end (get m i.file))) → FeedsObject known i old new (Err (as_fault f))
+  pub more_behind : (now later : Option Files) (first : ℕ × ℕ) (end : ℕ) (mid new : Feeding) (f : ObjectFault) → now ≡ known → later ≡ known → HasHead first → Begins i.name first.0 i.entry old mid (Ok tt) → FeedsRecords now i first mid new (Ok end) → IfSome later (λ m. Refuses is_object_outside f (end_of i end (get m i.file))) → FeedsObject known i old new (Err (as_fault f))
   more_behind now later first end mid new f same same_later head begun fed behind modules stands =
       let x = fed modules i.name i.entry (begun modules stands) in
       go known x.0.0 x.0.1 x.2.0 head (rw same at x.1) (rw same_later at behind)
@@ -112,7 +112,7 @@ module _ (known : Option Files) (i : Input) (old : Feeding) where
           (of_object f (object_in m i) (end_stops i (get m i.file) first t end f head (accepted (records_in m i first) (t, end) (records ∙ ap (λ j. Ok (t, j)) at)) h))
 
   -- the module is whole
-  pub whole_module : (now later : Option Files) (first end : ℕ) (mid fed new : Feeding) (r : Result (Unit {0}) LinkFault) → now ≡ known → later ≡ known → HasHead first → Begins i.name i.entry old mid (Ok tt) → FeedsRecords now i first mid fed (Ok end) → IfSome later (λ m. end_of i end (get m i.file) ≡ Ok tt) → fed.script ≡ old.script → Ends fed new r → FeedsObject known i old new r
+  pub whole_module : (now later : Option Files) (first : ℕ × ℕ) (end : ℕ) (mid fed new : Feeding) (r : Result (Unit {0}) LinkFault) → now ≡ known → later ≡ known → HasHead first → Begins i.name first.0 i.entry old mid (Ok tt) → FeedsRecords now i first mid fed (Ok end) → IfSome later (λ m. end_of i end (get m i.file) ≡ Ok tt) → fed.script ≡ old.script → Ends fed new r → FeedsObject known i old new r
   whole_module now later first end mid fed new r same same_later head begun feeds behind script ends modules stands =
       let x = feeds modules i.name i.entry (begun modules stands) in
       closes x.0.0 r (ends modules i.name i.entry x.0.0 x.2.1) (is_whole x.0.0 x.0.1 x.2.0 known head (rw same at x.1) (rw same_later at behind))
@@ -199,7 +199,7 @@ whole_free s modules name entry t h =
     (free_then (as_link (finished t)) (agreed entry) (finished_free t) (agreed_free entry))
     (joined_free s modules name) h
 
-pub ends_count : (first end_at : ℕ) (now : Option Files) (i : Input) (old mid fed new : Feeding) (count_old count_new : ℕ) (r : Result (Unit {0}) LinkFault) → count_new ≡ count_old → Begins i.name i.entry old mid (Ok tt) → FeedsRecords now i first mid fed (Ok end_at) → Ends fed new r → (modules : List Module) → IsFed old modules → Passed count_old count_new r
+pub ends_count : (first : ℕ × ℕ) (end_at : ℕ) (now : Option Files) (i : Input) (old mid fed new : Feeding) (count_old count_new : ℕ) (r : Result (Unit {0}) LinkFault) → count_new ≡ count_old → Begins i.name first.0 i.entry old mid (Ok tt) → FeedsRecords now i first mid fed (Ok end_at) → Ends fed new r → (modules : List Module) → IsFed old modules → Passed count_old count_new r
 ends_count first end_at now i old mid fed new count_old count_new (Ok u) same begun feeds ends modules stands = record {
   later = omega (arith, same);
   told = λ h. absurd (omega (arith, same));
@@ -227,3 +227,17 @@ err_count a b c e same passes = record {
   told = λ h. ap Err (let f : e ≡ link.Malformed object.FileError = cc (passes.told (subst (λ (n : ℕ). n < c) (sym same) h)) in f);
   cause = λ h. subst (λ (n : ℕ). HasFailed n c) same (passes.cause (ap Err (let f : e ≡ link.Malformed object.FileError = cc h in f)));
 }
+
+-- a fault of reading behind calls that didn't fail the store
+pub read_count : {A B : Type 0} (a b c : ℕ) (f : ObjectFault) → b ≡ a → Passes {T = A} object.FileError b c (Err f) → Passed {T = B} a c (Err (as_fault f))
+read_count a b c f same passes = record {
+  later = subst (λ (n : ℕ). n ≤ c) same passes.later;
+  told = λ h. ap Err (let g : f ≡ object.FileError = cc (passes.told (subst (λ (n : ℕ). n < c) (sym same) h)) in ap as_fault g);
+  cause = λ h. subst (λ (n : ℕ). HasFailed n c) same (passes.cause (ap Err (from_link f (let g : as_fault f ≡ link.Malformed object.FileError = cc h in g))));
+}
+  where
+    from_link : (f : ObjectFault) → as_fault f ≡ link.Malformed object.FileError → f ≡ object.FileError
+    from_link f e = go (is_object_memory f) e where
+      go : (b : Bool) → (if b then link.OutOfMemory else link.Malformed f) ≡ link.Malformed object.FileError → f ≡ object.FileError
+      go true e = absurd cc
+      go false e = cc

@@ -11,6 +11,7 @@ use Rattle.script65.specs.Faults.{is_memory_fault, script_fault_text as script_w
 use Rattle.link65.specs.declared.fault.LinkFault.{LinkFault}
 use Rattle.link65.specs.declared.fault.LinkFault.TheVariants as link
 use Rattle.link65.specs.Faults.{fault_text as link_words, is_memory as is_link_memory}
+use Rattle.link65.specs.Warnings.{site_name}
 use Rattle.cli65.specs.Line.{Linking}
 use Rattle.cli65.specs.Messages.{file_message, line_message}
 use Rattle.ld65.specs.declared.refusal.Refusal.{Refusal}
@@ -58,12 +59,12 @@ refusal_in name f = Link f
 abbrev pub memory_message : List ℕ
 memory_message = codes "ld65: Error: out of memory\n"
 
--- a fault of linking: that of a value at its module and line, any other as the linker's
+-- a fault of linking: that of a value at its module, file and line, any other as the linker's
 abbrev pub link_message : LinkFault → List ℕ
-link_message (link.Circular s) = line_message s.module_name s.line (link_words (link.Circular s))
-link_message (link.OutOfRange s) = line_message s.module_name s.line (link_words (link.OutOfRange s))
-link_message (link.NoValue s) = line_message s.module_name s.line (link_words (link.NoValue s))
-link_message (link.Assertion s text) = line_message s.module_name s.line (link_words (link.Assertion s text))
+link_message (link.Circular s) = line_message (site_name s) s.line (link_words (link.Circular s))
+link_message (link.OutOfRange s) = line_message (site_name s) s.line (link_words (link.OutOfRange s))
+link_message (link.NoValue s) = line_message (site_name s) s.line (link_words (link.NoValue s))
+link_message (link.Assertion s text) = line_message (site_name s) s.line (link_words (link.Assertion s text))
 link_message f = file_message (codes "ld65") (link_words f)
 
 -- the name of the input at a place of the line

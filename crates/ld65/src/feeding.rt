@@ -30,28 +30,29 @@ pub struct ObjectInput<'a> {
 /// The kind of the record that ends an object.
 const END: u8 = 8;
 
-/// Feeds the records of the module that was opened, which stand in its file from a place on, up to its END, and
-/// answers where the END ends.
+/// Feeds the records of the module that was opened, which stand in its file behind its head, up to its END, and
+/// answers where the END ends. The head says the version and where the records begin.
 fn feed_records<S: Store>(
     store: &mut S,
     linker: &mut Linker,
     reader: &mut RecordReader,
     object: &ObjectInput<'_>,
-    at: u64,
+    head: (u8, u64),
 ) -> Result<u64, LinkFault>
     requires { is_open linker.old ≡ true }
-    ensures fed { FeedsRecords (S.files store.old) (input_of object.now) at linker.old linker.new result }
+    ensures fed { FeedsRecords (S.files store.old) (input_of object.now) head linker.old linker.new result }
     ensures opened { is_open linker.new ≡ true }
     ensures keeps { Keeps linker.old linker.new }
     ensures files { S.files store.new ≡ S.files store.old }
-    ensures count { (modules : List Module) (called : List ℕ) (entry : Option index.Entry) → IsFeeding linker.old modules called entry start →
+    ensures count { (modules : List Module) (called : List ℕ) (entry : Option index.Entry) → IsFeeding linker.old modules called entry (start head.0) →
         Passes (Malformed FileError) (S.failures store.old) (S.failures store.new) result }
-    ensures blamed { (modules : List Module) (called : List ℕ) (entry : Option index.Entry) → IsFeeding linker.old modules called entry start →
+    ensures blamed { (modules : List Module) (called : List ℕ) (entry : Option index.Entry) → IsFeeding linker.old modules called entry (start head.0) →
         IsErrOf result (Malformed FileError) → IsBlamed (S.blamed store.new) object.now.file.now }
 {
-    let mut next = at;
+    let (version, first) = head;
+    let mut next = first;
     'records: loop {
-        next = reader.read(store, object.file, next, object.end)?;
+        next = reader.read(store, object.file, version, next, object.end)?;
         let record = reader.record();
         linker.record(record)?;
         if record.kind == END {
@@ -77,9 +78,9 @@ pub fn feed_object<S: Store>(
     ensures blamed { (modules : List Module) → IsFed linker.old modules →
         IsErrOf result (Malformed FileError) → IsBlamed (S.blamed store.new) object.now.file.now }
 {
-    let first = read_head(store, object.file, object.begin, object.end)?;
-    linker.begin_module(object.name, object.entry)?;
-    let end = feed_records(store, linker, reader, object, first)?;
+    let head = read_head(store, object.file, object.begin, object.end)?;
+    linker.begin_module(object.name, head.0, object.entry)?;
+    let end = feed_records(store, linker, reader, object, head)?;
     check_end(store, object.file, end, object.end)?;
     linker.end_module()
 }

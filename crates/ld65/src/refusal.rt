@@ -10,7 +10,7 @@ ghost use Rattle.ld65.specs.Refusals.{cause_message, is_memory, link_message, na
 use base65::{Sequence, StoreFault};
 use cli65::{LinkLine, file_message, join, line_message};
 use library65::LibraryFault;
-use link65::{LinkFault, fault_text};
+use link65::{LinkFault, fault_text, site_name};
 use object65::ObjectFault;
 use script65::{Fault, ScriptFault};
 use std::alloc::{AllocError, Global};
@@ -106,7 +106,7 @@ impl Refusal {
     }
 }
 
-/// The message of a fault of linking: that of a value at its module and line, any other as the linker's.
+/// The message of a fault of linking: that of a value at its module, file and line, any other as the linker's.
 fn link_message(alloc: Global, fault: &LinkFault) -> Result<Sequence<u8>, AllocError>
     ensures { IfOk result (λ text. text ≡ link_message fault.now) }
 {
@@ -115,12 +115,10 @@ fn link_message(alloc: Global, fault: &LinkFault) -> Result<Sequence<u8>, AllocE
         LinkFault::Circular(site)
         | LinkFault::OutOfRange(site)
         | LinkFault::NoValue(site)
-        | LinkFault::Assertion(site, _) => line_message(
-            alloc,
-            site.module_name.as_slice(),
-            site.line as usize,
-            words.as_slice(),
-        ),
+        | LinkFault::Assertion(site, _) => {
+            let name = site_name(alloc, site)?;
+            line_message(alloc, name.as_slice(), site.line as usize, words.as_slice())
+        }
         _ => file_message(alloc, b"ld65", words.as_slice()),
     }
 }

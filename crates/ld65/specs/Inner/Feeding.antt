@@ -43,15 +43,15 @@ LeadsBy is_out Next known Reads (Err e) = IfSome known (λ m. Unless (is_out e) 
 abbrev pub input_of : ObjectInput → Input
 input_of i = record { file = i.file.now; begin = i.begin; end = i.end; name = i.name.now; entry = option_map (λ e. e.now) i.entry }
 
--- the records of an object from a place of its file on, up to the END
-abbrev pub records_in : Files → Input → ℕ → Result (State × ℕ) ObjectFault
-records_in m i at = in_file (get m i.file) (λ bytes. records_at (length bytes) start at i.end bytes)
+-- the records of an object behind its head, which says its version and where they begin, up to the END
+abbrev pub records_in : Files → Input → ℕ × ℕ → Result (State × ℕ) ObjectFault
+records_in m i head = in_file (get m i.file) (λ bytes. records_at (length bytes) (start head.0) head.1 i.end bytes)
 
 -- the records of the open module were fed, up to its END
-abbrev pub FeedsRecords : Option Files → Input → ℕ → Feeding → Feeding → Result ℕ LinkFault → Type 0
-FeedsRecords known i at old new r =
-    (modules : List Module) (called : List ℕ) (entry : Option Entry) → IsFeeding old modules called entry start
-    → Leads is_link_outside (λ end x. (x.1 ≡ end) × IsFeeding new modules called entry x.0) known (λ m. as_link (records_in m i at)) r
+abbrev pub FeedsRecords : Option Files → Input → ℕ × ℕ → Feeding → Feeding → Result ℕ LinkFault → Type 0
+FeedsRecords known i head old new r =
+    (modules : List Module) (called : List ℕ) (entry : Option Entry) → IsFeeding old modules called entry (start head.0)
+    → Leads is_link_outside (λ end x. (x.1 ≡ end) × IsFeeding new modules called entry x.0) known (λ m. as_link (records_in m i head)) r
 
 -- an object was fed
 abbrev pub FeedsObject : Option Files → Input → Feeding → Feeding → Result (Unit {0}) LinkFault → Type 0

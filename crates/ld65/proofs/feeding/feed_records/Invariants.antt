@@ -10,7 +10,7 @@ invariant-records g l = record {
   count : g.S.Store.failures l.store ≡ g.S.Store.failures l.fn.store;
   opened : is_open l.linker ≡ true;
   keeps : Keeps l.fn.linker l.linker;
-  stands : IsAt (g.S.Store.files l.fn.store) (input_of l.object) l.at l.next l.fn.linker l.linker;
+  stands : IsAt (g.S.Store.files l.fn.store) (input_of l.object) l.fn.head l.next l.fn.linker l.linker;
 }
 
 abbrev pub decreases-records : goal.decreases-records

@@ -18,10 +18,10 @@ use Rattle.library65.specs.Names.{is_member_name}
 use Rattle.library65.specs.Spelling.{Member}
 
 -- a record ends within the limit
-record_ends : (bytes : List ℕ) (at limit : ℕ) (x : Entry × ℕ) → record_at at limit bytes ≡ Ok x → x.1 ≤ file_limit
+record_ends : (v : ℕ) (bytes : List ℕ) (at limit : ℕ) (x : Entry × ℕ) → record_at v at limit bytes ≡ Ok x → x.1 ≤ file_limit
 unfolding record_at
-record_ends bytes at limit x e =
-    let f = bound (front_of (take 3 (room bytes at limit))) _ _ e in
+record_ends v bytes at limit x e =
+    let f = bound (front_of v (take 3 (room bytes at limit))) _ _ e in
     let b = bound (whole f.0.1 (take f.0.1 (room bytes (at + 3) limit))) _ _ f.2 in
     let last = passes (nat_lt file_limit (at + 3 + f.0.1)) BadSize _ _ b.2 in
     let x_is : ◌≡◌ {A = Entry × ℕ} (record { kind = f.0.0; body = b.0 }, at + 3 + f.0.1) x = cc (last.1) in
@@ -34,9 +34,9 @@ record_ends bytes at limit x e =
 records_end : (left : ℕ) (s : State) (at limit : ℕ) (bytes : List ℕ) (x : State × ℕ) → records_at left s at limit bytes ≡ Ok x → x.1 ≤ file_limit
 records_end zero s at limit bytes x e = absurd cc
 records_end (suc left) s at limit bytes x e =
-    let r = bound (record_at at limit bytes) _ _ e in
+    let r = bound (record_at s.version at limit bytes) _ _ e in
     let u = bound (after s r.0.0) _ _ r.2 in
-    go u.0.ended r.0 u.0 (record_ends bytes at limit r.0 r.1) (λ t next h. records_end left t next limit bytes x h) u.2
+    go u.0.ended r.0 u.0 (record_ends s.version bytes at limit r.0 r.1) (λ t next h. records_end left t next limit bytes x h) u.2
   where
     go : (b : Bool) (r : Entry × ℕ) (t : State) → r.1 ≤ file_limit → ((t : State) (next : ℕ) → records_at left t next limit bytes ≡ Ok x → x.1 ≤ file_limit) → (if b then Ok (t, r.1) else records_at left t r.1 limit bytes) ≡ Ok x → x.1 ≤ file_limit
     go true r t h further e = let same : ◌≡◌ {A = State × ℕ} (t, r.1) x = cc in let end : r.1 ≡ x.1 = ap (λ p. p.1) same in omega (arith, h, end)
@@ -64,9 +64,9 @@ long_file bytes h = from_head (head_at 0 (length bytes) bytes)
     from_records (Err e) ends = refl
     from_records (Ok x) ends = from_end x (ends x refl)
 
-    from_head : (r : Result ℕ ObjectFault) → as_member (r >>= (λ first. records_at n start first n bytes >>= (λ x. end_at x.1 n bytes >>= (λ u. finished x.0)))) ≡ Err NotAnObject
+    from_head : (r : Result (ℕ × ℕ) ObjectFault) → as_member (r >>= (λ first. records_at n (start first.0) first.1 n bytes >>= (λ x. end_at x.1 n bytes >>= (λ u. finished x.0)))) ≡ Err NotAnObject
     from_head (Err e) = refl
-    from_head (Ok first) = from_records (records_at n start first n bytes) (λ x e. records_end n start first n bytes x e)
+    from_head (Ok first) = from_records (records_at n (start first.0) first.1 n bytes) (λ x e. records_end n (start first.0) first.1 n bytes x e)
 
 -- what a file's object does to members is told by its front
 pub told_by_front : (ms : List Member) (name bytes : List ℕ) → replaced ms name (take (file_limit + 1) bytes) ≡ replaced ms name bytes

@@ -31,10 +31,11 @@ fn records_of(alloc: Global, bytes: &[u8]) -> Result<Vec<Record>, ObjectFault> {
     store.put("a.o", bytes)?;
     let limit = bytes.len() as u64;
     let mut records = Vec::new(alloc);
-    let mut at = read_head(&mut store, "a.o", 0, limit)?;
+    let (version, first) = read_head(&mut store, "a.o", 0, limit)?;
+    let mut at = first;
     for _ in 0..bytes.len() {
         if at < limit {
-            let (record, next) = read_record(&mut store, "a.o", at, limit)?;
+            let (record, next) = read_record(&mut store, "a.o", version, at, limit)?;
             records.push(record)?;
             at = next;
         }
@@ -73,7 +74,7 @@ fn links_a_jump(rt: HostRuntime) -> Result<(), Fail> {
     let mut linker = new_linker(alloc)?;
     assert_eq!(rt; linker.pending(), 0);
     if !linker.is_open() {
-        linker.begin_module(b"a.o", None)?;
+        linker.begin_module(b"a.o", 1, None)?;
     }
     let counts = pending_behind(alloc, &mut linker, records.as_slice())?;
     assert!(rt; counts.as_slice() == [0, 0, 1, 1, 1].as_slice());
@@ -104,7 +105,7 @@ fn is_failed_before(answer: Result<(), LinkFault>) -> bool {
 fn keeps_to_a_refusal(rt: HostRuntime) -> Result<(), Fail> {
     let mut linker = new_linker(rt.alloc())?;
     if !linker.is_open() {
-        linker.begin_module(b"a.o", None)?;
+        linker.begin_module(b"a.o", 1, None)?;
     }
     if linker.is_open() {
         assert!(rt; is_cut_short(linker.end_module()));
@@ -132,7 +133,7 @@ fn open(
     entry: Option<&Entry>,
 ) -> Result<(), LinkFault> {
     if !linker.is_open() {
-        linker.begin_module(b"m.o", entry)?;
+        linker.begin_module(b"m.o", 1, entry)?;
     }
     let bytes = object(alloc, imports, exports)?;
     let records = records_of(alloc, bytes.as_slice())?;

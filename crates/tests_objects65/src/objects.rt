@@ -3,6 +3,7 @@
 mod forms;
 mod records;
 mod scans;
+mod versions;
 
 ghost use Rattle.std.specs.Prelude.{◌≡◌, IfOk, None, true};
 ghost use Rattle.object65.specs.Objects.{is_good_object};
@@ -163,14 +164,14 @@ impl Store for Endless {
 #[test]
 fn stops_behind_the_largest_file(rt: HostRuntime) -> Result<(), Fail> {
     let mut store = Endless;
-    let found = read_record(&mut store, "a.o", 1_073_741_800, 2_000_000_000);
+    let found = read_record(&mut store, "a.o", 1, 1_073_741_800, 2_000_000_000);
     assert!(rt; matches!(found, Err(ObjectFault::BadSize)));
     Ok(())
 }
 
 #[test]
 fn answers_failed_before(rt: HostRuntime) -> Result<(), Fail> {
-    let mut builder = Builder::new(rt.alloc());
+    let mut builder = Builder::new(rt.alloc(), 1);
     let mut body = ArrayVec::new();
     body.push(0);
     let end = Record { kind: 8, body };

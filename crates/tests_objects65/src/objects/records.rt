@@ -73,9 +73,14 @@ fn digit(byte: u8) -> Option<u8> {
     }
 }
 
-/// The head of an object, and the bytes that are written here.
+/// The head of an object of version 1, and the bytes that are written here.
 fn object_bytes(alloc: Global, text: &str) -> Result<Vec<u8>, Fail> {
-    let mut bytes = Vec::from_slice(alloc, &[0x52, 0x36, 0x35, 0x6f, 0x01])?;
+    bytes_of_version(alloc, 1, text)
+}
+
+/// The head of an object of this version, and the bytes that are written here.
+pub fn bytes_of_version(alloc: Global, version: u8, text: &str) -> Result<Vec<u8>, Fail> {
+    let mut bytes = Vec::from_slice(alloc, &[0x52, 0x36, 0x35, 0x6f, version])?;
     let mut high: Option<u8> = None;
     for byte in text.as_bytes() {
         if let Some(low) = digit(*byte) {
@@ -92,7 +97,7 @@ fn object_bytes(alloc: Global, text: &str) -> Result<Vec<u8>, Fail> {
 }
 
 /// What becomes of these bytes.
-fn outcome(alloc: Global, bytes: &[u8]) -> Result<String, Fail> {
+pub fn outcome(alloc: Global, bytes: &[u8]) -> Result<String, Fail> {
     match read(alloc, bytes) {
         Ok(object) => {
             let mut out = Vec::new(alloc);
@@ -175,7 +180,7 @@ fn longest_names(rt: HostRuntime) -> Result<(), Fail> {
 
 #[test]
 fn takes_nothing_behind_the_end(rt: HostRuntime) -> Result<(), Fail> {
-    let mut builder = Builder::new(rt.alloc());
+    let mut builder = Builder::new(rt.alloc(), 1);
     let end = Record {
         kind: 8,
         body: ArrayVec::new(),

@@ -3,7 +3,9 @@
 use super::TWO_LITERALS;
 use arrayvec::ArrayVec;
 use base65::MemStore;
-use object65::{Fragment, Item, Node, ObjectFault, Record, Scan, Width, read_head, read_record};
+use object65::{
+    Fragment, Item, Node, ObjectFault, Origin, Record, Scan, Width, read_head, read_record,
+};
 use std::alloc::Global;
 use std::test::Fail;
 
@@ -20,11 +22,12 @@ fn scan_bytes(
     store.put("a.o", bytes)?;
     let limit = bytes.len() as u64;
     let mut items = Vec::new(alloc);
-    let mut scan = Scan::new(alloc);
-    let mut at = read_head(&mut store, "a.o", 0, limit)?;
+    let (version, first) = read_head(&mut store, "a.o", 0, limit)?;
+    let mut scan = Scan::new(alloc, version);
+    let mut at = first;
     for _ in 0..bytes.len() {
         if at < limit {
-            let (record, next) = read_record(&mut store, "a.o", at, limit)?;
+            let (record, next) = read_record(&mut store, "a.o", version, at, limit)?;
             items.push(scan.take(&record)?)?;
             at = next;
         }
@@ -48,13 +51,18 @@ fn is_of_jump(place: usize, item: &Item) -> bool {
                 1,
                 Fragment::Value {
                     width: Width::Word,
-                    line: 2,
+                    origin: Origin {
+                        file: None,
+                        line: 2,
+                    },
                     form,
                 },
             ),
         ) => is_start_of_first(form.node()),
-        (3, Item::Export(name, 1, form)) => {
-            name.as_slice() == b"start".as_slice() && is_start_of_first(form.node())
+        (3, Item::Export(name, origin, form)) => {
+            origin.line == 1
+                && name.as_slice() == b"start".as_slice()
+                && is_start_of_first(form.node())
         }
         (4, Item::End) => true,
         _ => false,
@@ -89,7 +97,7 @@ fn refuses_what_a_builder_refuses(rt: HostRuntime) -> Result<(), Fail> {
 
 #[test]
 fn answers_failed_before(rt: HostRuntime) {
-    let mut scan = Scan::new(rt.alloc());
+    let mut scan = Scan::new(rt.alloc(), 1);
     let mut body = ArrayVec::new();
     body.push(0);
     let end = Record { kind: 8, body };

@@ -5,3 +5,5 @@
 mod libraries;
 #[cfg(test)]
 mod linkers;
+#[cfg(test)]
+mod versions;

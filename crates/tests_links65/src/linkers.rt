@@ -26,7 +26,7 @@ fn new_linker(alloc: Global) -> Result<Linker, LinkFault> {
 }
 
 /// The records of the object.
-fn records_of(alloc: Global, bytes: &[u8]) -> Result<Vec<Record>, ObjectFault> {
+pub fn records_of(alloc: Global, bytes: &[u8]) -> Result<Vec<Record>, ObjectFault> {
     let mut store = MemStore::new(alloc);
     store.put("a.o", bytes)?;
     let limit = bytes.len() as u64;
@@ -44,7 +44,7 @@ fn records_of(alloc: Global, bytes: &[u8]) -> Result<Vec<Record>, ObjectFault> {
 }
 
 /// How many values were taken behind each record of a module, which is open.
-fn pending_behind(
+pub fn pending_behind(
     alloc: Global,
     linker: &mut Linker,
     records: &[Record],
@@ -60,7 +60,7 @@ fn pending_behind(
 }
 
 /// Whether a link gives one file with these bytes.
-fn is_image(linked: &Linked, bytes: &[u8]) -> bool {
+pub fn is_image(linked: &Linked, bytes: &[u8]) -> bool {
     match linked.files.as_slice() {
         [file] => file.bytes.as_slice() == bytes,
         _ => false,

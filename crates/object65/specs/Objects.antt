@@ -84,7 +84,7 @@ are_names names = are_distinct is_name names
 abbrev pub file_name_limit : ℕ
 file_name_limit = 4096
 
--- any bytes, also none
+-- that it is a text is said of the object, with what types give; it may be empty
 abbrev pub is_file_name : List ℕ → Bool
 is_file_name name = nat_le (length name) file_name_limit
 

@@ -160,7 +160,7 @@ room_value version files sections imports body r = do
 
 -- ---- One record.
 
--- files stand before everything else, and a body of any bytes names one
+-- files stand before everything else; a name may be empty
 unfoldable pub scan_file : Outline → List ℕ → Result (Outline × Item) ObjectFault
 scan_file o body = do
   u ← wants (is_none o.imports && is_none o.rooms && is_none o.exports && not o.asserting) OutOfOrder

@@ -8,31 +8,32 @@ use Rattle.syntax65.specs.declared.instructions.codes.Mode.{Mode}
 use Rattle.syntax65.specs.declared.instructions.names.Mnemonic.{Mnemonic}
 use Rattle.object65.specs.Folding.{fold2}
 use Rattle.object65.specs.Form.{Form, lit, sec}
-use Rattle.object65.specs.Objects.{fits_width, value_bytes}
+use Rattle.object65.specs.Objects.{fits_width, is_file_name, value_bytes}
 use Rattle.object65.specs.declared.object.Action.{Action}
 use Rattle.object65.specs.declared.object.Action.TheVariants as action
 use Rattle.object65.specs.declared.object.Width.{Width}
 use Rattle.object65.specs.declared.object.Width.TheVariants.{Branch}
 use Rattle.base65.specs.declared.values.Op2.TheVariants.{Subtract}
-use Rattle.language65.specs.declared.contents.Content.{Content}
-use Rattle.language65.specs.declared.contents.Part.{Part}
-use Rattle.language65.specs.declared.contents.Part.TheVariants.{Known, Filled, Waiting}
-use Rattle.language65.specs.declared.contents.Said.{Said}
-use Rattle.language65.specs.declared.contents.Said.TheVariants.{Exported, Demanded, Checked}
+use Rattle.source65.specs.declared.place.Place.{Place}
+use Rattle.language65.specs.Parts.{Content, Part, Known, Filled, Waiting, Said, Exported, Demanded, Checked}
 use Rattle.language65.specs.declared.fault.AsmFault.{AsmFault}
-use Rattle.language65.specs.declared.fault.AsmFault.TheVariants.{OutOfRange, ImportedAndDefined, NotDefined, Assertion}
+use Rattle.language65.specs.declared.fault.AsmFault.TheVariants.{OutOfRange, ImportedAndDefined, NotDefined, Assertion, FileNameTooLong}
 use Rattle.language65.specs.Language.{Item, value, text, Operand, immediate, address, indirect, indirect_x, indirect_y, Stated, constant, instruction, values, reserve, align, file_part, imports, exports, globals, forced, assertion}
 use Rattle.language65.specs.Laid.{Laid, Spot, Settled, nothing_settled, in_mode, filled_with, from_byte, asks_section}
 use Rattle.language65.specs.Symbols.{Symbols, named, defined}
 use Rattle.language65.specs.Norms.{defined_form, folded, norm_of}
 use Rattle.language65.specs.Sizes.{width_of}
 
+-- what is written with its place, where an object can hold the name of the file
+abbrev pub written : {A : Type 0} → Place → A → Result A AsmFault
+written place a = if is_file_name place.file then Ok a else Err FileNameTooLong
+
 -- ---- Parts of sections.
 
--- a value whose form is a literal is stored, after its range check
-abbrev pub stored : Width → ℕ → Form → Result Part AsmFault
-stored width line (lit v) = if fits_width width v then Ok (Known (value_bytes width v)) else Err OutOfRange
-stored width line f = Ok (Waiting width line f)
+-- a value whose form is a literal is stored, after its range check; another one is written
+abbrev pub stored : Width → Place → Form → Result Part AsmFault
+stored width place (lit v) = if fits_width width v then Ok (Known (value_bytes width v)) else Err OutOfRange
+stored width place f = written place (Waiting width place f)
 
 -- a branch stores how far its target lies from behind it
 abbrev pub operand_form : Width → Spot → Form → Result Form AsmFault
@@ -40,7 +41,7 @@ operand_form Branch s f = folded (fold2 Subtract f (sec s.segment (pos (s.offset
 operand_form width s f = Ok f
 
 abbrev pub item_part : Symbols → Laid → Width → Item → Result Part AsmFault
-item_part y l width (value e) = norm_of y l.spot e >>= stored width l.place.line
+item_part y l width (value e) = norm_of y l.spot e >>= stored width l.place
 item_part y l width (text bytes) = Ok (Known bytes)
 
 abbrev pub operand_tree : Operand → Option Tree
@@ -53,7 +54,7 @@ operand_tree _ = None
 
 -- the value of an operand of this width
 abbrev pub operand_part : Symbols → Laid → Width → Tree → Result Part AsmFault
-operand_part y l width e = norm_of y l.spot e >>= (λ f. operand_form width l.spot f >>= stored width l.place.line)
+operand_part y l width e = norm_of y l.spot e >>= (λ f. operand_form width l.spot f >>= stored width l.place)
 
 abbrev pub operand_parts : Symbols → Laid → Option Width → Option Tree → Result (List Part) AsmFault
 operand_parts y l (Some width) (Some e) = operand_part y l width e >>= (λ p. Ok (p ∷ []))
@@ -100,18 +101,18 @@ import_fault y n = go (defined y (named 0 n))
     go None = Ok []
     go (Some j) = Err (ImportedAndDefined n)
 
-abbrev pub export_said : Symbols → ℕ → List ℕ → Result (List Said) AsmFault → Option ℕ → Result (List Said) AsmFault
-export_said y line n absent None = absent
-export_said y line n absent (Some j) = defined_form y j >>= (λ f. Ok (Exported n line f ∷ []))
+abbrev pub export_said : Symbols → Place → List ℕ → Result (List Said) AsmFault → Option ℕ → Result (List Said) AsmFault
+export_said y place n absent None = absent
+export_said y place n absent (Some j) = defined_form y j >>= (λ f. written place (Exported n place f ∷ []))
 
 abbrev pub each_of : {A : Type 0} → (A → Result (List Said) AsmFault) → List A → Result (List Said) AsmFault
 each_of f xs = each f xs >>= (λ yss. Ok (flat_map (λ ys. ys) yss))
 
 -- an assertion whose form is a literal is decided; another one is the linker's
-abbrev pub decided : Action → ℕ → List ℕ → Form → Result (List Said) AsmFault
-decided action.Error line words (lit (pos zero)) = Err (Assertion words)
-decided act line words (lit v) = Ok []
-decided act line words f = Ok (Checked act line words f ∷ [])
+abbrev pub decided : Action → Place → List ℕ → Form → Result (List Said) AsmFault
+decided action.Error place words (lit (pos zero)) = Err (Assertion words)
+decided act place words (lit v) = Ok []
+decided act place words f = written place (Checked act place words f ∷ [])
 
 -- what a statement says, and the fault of a constant's expression
 abbrev pub said_of : Symbols → Laid → Result (List Said) AsmFault
@@ -120,10 +121,10 @@ said_of y l = go l.stated
     go : Stated → Result (List Said) AsmFault
     go (constant n e) = norm_of y l.spot e >>= (λ f. Ok [])
     go (imports size names) = each_of (import_fault y) names
-    go (exports names) = each_of (λ n. export_said y l.place.line n (Err (NotDefined n)) (defined y (named 0 n))) names
-    go (globals size names) = each_of (λ n. export_said y l.place.line n (Ok []) (defined y (named 0 n))) names
+    go (exports names) = each_of (λ n. export_said y l.place n (Err (NotDefined n)) (defined y (named 0 n))) names
+    go (globals size names) = each_of (λ n. export_said y l.place n (Ok []) (defined y (named 0 n))) names
     go (forced names) = each_of (import_fault y) names >>= (λ none. Ok (map Demanded names))
-    go (assertion e act words) = norm_of y l.spot e >>= decided act l.place.line words
+    go (assertion e act words) = norm_of y l.spot e >>= decided act l.place words
     go _ = Ok []
 
 -- ---- A statement as the object has it.

@@ -8,7 +8,7 @@ use Rattle.syntax65.specs.declared.expressions.fault.ExprFault.TheVariants as ex
 use Rattle.base65.specs.declared.store.StoreFault.{StoreFault}
 use Rattle.base65.specs.declared.store.StoreFault.TheVariants as store
 use Rattle.language65.specs.declared.fault.AsmFault.{AsmFault}
-use Rattle.language65.specs.declared.fault.AsmFault.TheVariants.{OutOfMemory, Expansion, NotUnderstood, NoSuchForm, DefinedTwice, Undefined, Circular, OutOfRange, NoValue, TooLarge, SectionTooLarge, NoSuchScope, ScopeTwice, NoSuchLabel, ImportedAndDefined, NotDefined, BadAlignment, PopWithoutPush, BadOperand, BadPart, Assertion, SizeChanged, BadScope, FileNotFound, FileError}
+use Rattle.language65.specs.declared.fault.AsmFault.TheVariants.{OutOfMemory, Expansion, NotUnderstood, NoSuchForm, DefinedTwice, Undefined, Circular, OutOfRange, NoValue, TooLarge, SectionTooLarge, NoSuchScope, ScopeTwice, NoSuchLabel, ImportedAndDefined, NotDefined, BadAlignment, PopWithoutPush, BadOperand, BadPart, Assertion, SizeChanged, BadScope, FileNotFound, FileError, FileNameTooLong}
 
 -- the words of a message, before the name or the text that it ends in, if it has one
 abbrev pub words_of : AsmFault → List ℕ
@@ -37,6 +37,7 @@ words_of SizeChanged = codes "segment size changed"
 words_of BadScope = codes "scope not open or not closed"
 words_of FileNotFound = codes "file not found"
 words_of FileError = codes "file error"
+words_of FileNameTooLong = codes "file name too long"
 
 -- the name or the text that a message ends in
 abbrev pub name_in : AsmFault → List ℕ

@@ -8,6 +8,7 @@ pub mod Extending
 pub mod Sizes
 pub mod Layout
 pub mod LineFaults
+pub mod Parts
 pub mod Contents
 pub mod Numbering
 pub mod Views

@@ -1,4 +1,4 @@
--- The object of a module's contents. Sections and imports have their numbers only here.
+-- The object of a module's contents. Files, sections and imports have their numbers only here.
 use Rattle.std.specs.Prelude.{ℕ, zero, ◌+◌, nat_eq, Bool, true, false, not, List, [], ◌∷◌, ◌++◌, map, filter_map, Option, Some, None, unwrap_or, slice_get, if◌then◌else◌}
 use Rattle.std.specs.List.{position, list_any, flat_map, filter}
 use Rattle.std.specs.Str.{bytes_eq}
@@ -8,12 +8,10 @@ use Rattle.object65.specs.declared.object.Export.{Export}
 use Rattle.object65.specs.declared.object.Fragment.{Fragment}
 use Rattle.object65.specs.declared.object.Fragment.TheVariants.{Literal, Fill, Value}
 use Rattle.object65.specs.declared.object.Object.{Object}
+use Rattle.object65.specs.declared.object.Origin.{Origin}
 use Rattle.object65.specs.declared.object.Section.{Section}
-use Rattle.language65.specs.declared.contents.Content.{Content}
-use Rattle.language65.specs.declared.contents.Part.{Part}
-use Rattle.language65.specs.declared.contents.Part.TheVariants.{Known, Filled, Waiting}
-use Rattle.language65.specs.declared.contents.Said.{Said}
-use Rattle.language65.specs.declared.contents.Said.TheVariants.{Exported, Demanded, Checked}
+use Rattle.source65.specs.declared.place.Place.{Place}
+use Rattle.language65.specs.Parts.{Content, Part, Known, Filled, Waiting, Said, Exported, Demanded, Checked}
 use Rattle.language65.specs.declared.contents.Segment.{Segment}
 use Rattle.language65.specs.Layout.{powers}
 
@@ -55,7 +53,7 @@ imports_in (binary op f g) = imports_in f ++ imports_in g
 abbrev pub part_imports : Part → List ℕ
 part_imports (Known bytes) = []
 part_imports (Filled n) = []
-part_imports (Waiting width line f) = imports_in f
+part_imports (Waiting width place f) = imports_in f
 
 abbrev pub optional_key : Option ℕ → List ℕ
 optional_key None = []
@@ -67,9 +65,9 @@ key_of names n = position (λ m. bytes_eq m n) names
 
 -- names are those of all imports, in the order of their keys
 abbrev pub said_imports : List (List ℕ) → Said → List ℕ
-said_imports names (Exported n line f) = imports_in f
+said_imports names (Exported n place f) = imports_in f
 said_imports names (Demanded n) = optional_key (key_of names n)
-said_imports names (Checked act line words f) = imports_in f
+said_imports names (Checked act place words f) = imports_in f
 
 abbrev pub content_imports : List (List ℕ) → Content → List ℕ
 content_imports names c = flat_map part_imports c.parts ++ flat_map (said_imports names) c.said
@@ -82,10 +80,11 @@ name_of names k = unwrap_or (slice_get names k) []
 
 -- ---- Fragments.
 
-abbrev pub fragment_of : (sections imports : List ℕ) → Part → Fragment
-fragment_of sections imports (Known bytes) = Literal bytes
-fragment_of sections imports (Filled n) = Fill n
-fragment_of sections imports (Waiting width line f) = Value width line (numbered sections imports f)
+-- a part, where places have these origins
+abbrev pub fragment_of : (at : Place → Origin) (sections imports : List ℕ) → Part → Fragment
+fragment_of at sections imports (Known bytes) = Literal bytes
+fragment_of at sections imports (Filled n) = Fill n
+fragment_of at sections imports (Waiting width place f) = Value width (at place) (numbered sections imports f)
 
 -- of no byte
 abbrev pub is_empty : Fragment → Bool
@@ -105,8 +104,8 @@ all_joined [] = []
 all_joined (f ∷ fs) = joined f fs
 
 -- the fragments of parts, without the empty ones
-abbrev pub fragments_of : (sections imports : List ℕ) → List Part → List Fragment
-fragments_of sections imports ps = filter (λ f. not (is_empty f)) (map (fragment_of sections imports) ps)
+abbrev pub fragments_of : (at : Place → Origin) (sections imports : List ℕ) → List Part → List Fragment
+fragments_of at sections imports ps = filter (λ f. not (is_empty f)) (map (fragment_of at sections imports) ps)
 
 -- what statements put into a segment
 abbrev pub parts_in : List Content → ℕ → List Part
@@ -123,36 +122,77 @@ abbrev pub segment_power : Option Segment → ℕ
 segment_power None = 0
 segment_power (Some s) = number_of powers s.align
 
-abbrev pub section_of : List Segment → (sections imports : List ℕ) → List Content → ℕ → Section
-section_of segments sections imports cs g = record {
+abbrev pub section_of : (at : Place → Origin) → List Segment → (sections imports : List ℕ) → List Content → ℕ → Section
+section_of at segments sections imports cs g = record {
   name = segment_name (slice_get segments g);
   align = segment_power (slice_get segments g);
-  fragments = all_joined (fragments_of sections imports (parts_in cs g));
+  fragments = all_joined (fragments_of at sections imports (parts_in cs g));
 }
 
 -- ---- Exports, each once, and assertions.
 
-abbrev pub exports_among : (sections imports : List ℕ) → List Export → List Said → List Export
-exports_among sections imports found [] = found
-exports_among sections imports found (Exported n line f ∷ ss) =
-    exports_among sections imports (if list_any (λ e. bytes_eq n e.name) found then found else found ++ record { name = n; line = line; form = numbered sections imports f } ∷ []) ss
-exports_among sections imports found (s ∷ ss) = exports_among sections imports found ss
+abbrev pub exports_among : (at : Place → Origin) (sections imports : List ℕ) → List Export → List Said → List Export
+exports_among at sections imports found [] = found
+exports_among at sections imports found (Exported n place f ∷ ss) =
+    exports_among at sections imports (if list_any (λ e. bytes_eq n e.name) found then found else found ++ record { name = n; origin = at place; form = numbered sections imports f } ∷ []) ss
+exports_among at sections imports found (s ∷ ss) = exports_among at sections imports found ss
 
-abbrev pub assert_of : (sections imports : List ℕ) → Said → Option Assert
-assert_of sections imports (Checked act line words f) = Some (record { action = act; line = line; text = words; form = numbered sections imports f })
-assert_of sections imports _ = None
+abbrev pub assert_of : (at : Place → Origin) (sections imports : List ℕ) → Said → Option Assert
+assert_of at sections imports (Checked act place words f) = Some (record { action = act; origin = at place; text = words; form = numbered sections imports f })
+assert_of at sections imports _ = None
 
 abbrev pub all_said : List Content → List Said
 all_said cs = flat_map (λ c. c.said) cs
 
+-- ---- Files, in the order in which what is written first names them.
+
+-- names behind those found, each once, in the order in which they first come
+abbrev pub names_once : List (List ℕ) → List (List ℕ) → List (List ℕ)
+names_once found [] = found
+names_once found (n ∷ ns) = names_once (if list_any (bytes_eq n) found then found else found ++ n ∷ []) ns
+
+abbrev pub part_files : Part → List (List ℕ)
+part_files (Known bytes) = []
+part_files (Filled n) = []
+part_files (Waiting width place f) = place.file ∷ []
+
+-- the files of exports, of which the first of each name is written, behind those of these names
+abbrev pub export_files : List (List ℕ) → List Said → List (List ℕ)
+export_files found [] = []
+export_files found (Exported n place f ∷ ss) = if list_any (bytes_eq n) found then export_files found ss else place.file ∷ export_files (found ++ n ∷ []) ss
+export_files found (s ∷ ss) = export_files found ss
+
+abbrev pub assert_files : Said → List (List ℕ)
+assert_files (Checked act place words f) = place.file ∷ []
+assert_files _ = []
+
+-- those of the values of each section in its turn, then of exports, then of assertions
+abbrev pub files_named : List Content → List (List ℕ)
+files_named cs = flat_map (λ g. flat_map part_files (parts_in cs g)) (section_keys cs)
+    ++ export_files [] (all_said cs) ++ flat_map assert_files (all_said cs)
+
+abbrev pub files_of : List Content → List (List ℕ)
+files_of cs = names_once [] (files_named cs)
+
+-- where a place lies, by its file's place among these
+abbrev pub in_files : List (List ℕ) → Place → Origin
+in_files files place = record { file = position (bytes_eq place.file) files; line = place.line }
+
 -- ---- The object.
-abbrev pub object_with : List Segment → List (List ℕ) → List Content → Object
-object_with segments names cs =
+
+-- of this version, with these files, where places have these origins
+abbrev pub object_by : ℕ → List (List ℕ) → (at : Place → Origin) → List Segment → List (List ℕ) → List Content → Object
+object_by version files at segments names cs =
     let sections : List ℕ = section_keys cs in
     let imports : List ℕ = import_keys names cs in
     record {
+      version = version;
+      files = files;
       imports = map (name_of names) imports;
-      sections = map (section_of segments sections imports cs) sections;
-      exports = exports_among sections imports [] (all_said cs);
-      asserts = filter_map (assert_of sections imports) (all_said cs);
+      sections = map (section_of at segments sections imports cs) sections;
+      exports = exports_among at sections imports [] (all_said cs);
+      asserts = filter_map (assert_of at sections imports) (all_said cs);
     }
+
+abbrev pub object_with : List Segment → List (List ℕ) → List Content → Object
+object_with segments names cs = object_by 2 (files_of cs) (in_files (files_of cs)) segments names cs

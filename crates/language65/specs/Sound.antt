@@ -7,12 +7,9 @@ use Rattle.syntax65.specs.declared.lexing.tokens.TokenKind.TheVariants as token
 use Rattle.object65.specs.Folding.{is_literal}
 use Rattle.object65.specs.Form.{Form, lit, sec, imp, prefix, binary}
 use Rattle.object65.specs.Laws.{IsFolded}
-use Rattle.object65.specs.Objects.{are_names, is_name, section_limit, width_len}
-use Rattle.language65.specs.declared.contents.Content.{Content}
-use Rattle.language65.specs.declared.contents.Part.{Part}
-use Rattle.language65.specs.declared.contents.Part.TheVariants.{Known, Filled, Waiting}
-use Rattle.language65.specs.declared.contents.Said.{Said}
-use Rattle.language65.specs.declared.contents.Said.TheVariants.{Exported, Demanded, Checked}
+use Rattle.object65.specs.Objects.{are_names, is_file_name, is_name, section_limit, width_len}
+use Rattle.source65.specs.declared.place.Place.{Place}
+use Rattle.language65.specs.Parts.{Content, Part, Known, Filled, Waiting, Said, Exported, Demanded, Checked}
 use Rattle.language65.specs.declared.contents.Segment.{Segment}
 use Rattle.language65.specs.Language as l
 use Rattle.language65.specs.Laid.{Laid}
@@ -74,15 +71,20 @@ pub record IsSoundForm (asked : List ℕ) (count : ℕ) (f : Form) : Type 0 wher
   pub sections : list_all (λ g. list_any (nat_eq g) asked) (sections_in f) ≡ true
   pub imports : list_all (λ k. nat_lt k count) (imports_in f) ≡ true
 
+-- what is written with its place: an object can hold the name of the file and the form
+pub record IsSoundAt (asked : List ℕ) (count : ℕ) (place : Place) (f : Form) : Type 0 where
+  pub file : is_file_name place.file ≡ true
+  pub form : IsSoundForm asked count f
+
 abbrev pub IsSoundPart : List ℕ → ℕ → Part → Type 0
 IsSoundPart asked count (Known bytes) = ⊤
 IsSoundPart asked count (Filled n) = ⊤
-IsSoundPart asked count (Waiting width line f) = IsSoundForm asked count f × (is_literal f ≡ false)
+IsSoundPart asked count (Waiting width place f) = IsSoundAt asked count place f × (is_literal f ≡ false)
 
 abbrev pub IsSoundSaid : List ℕ → ℕ → Said → Type 0
-IsSoundSaid asked count (Exported n line f) = (is_name n ≡ true) × IsSoundForm asked count f
+IsSoundSaid asked count (Exported n place f) = (is_name n ≡ true) × IsSoundAt asked count place f
 IsSoundSaid asked count (Demanded n) = ⊤
-IsSoundSaid asked count (Checked act line words f) = (length words < 256) × IsSoundForm asked count f × (is_literal f ≡ false)
+IsSoundSaid asked count (Checked act place words f) = (length words < 256) × IsSoundAt asked count place f × (is_literal f ≡ false)
 
 pub record IsSoundContent (asked : List ℕ) (count : ℕ) (c : Content) : Type 0 where
   pub parts : AllByRecursion (IsSoundPart asked count) c.parts
@@ -91,7 +93,7 @@ pub record IsSoundContent (asked : List ℕ) (count : ℕ) (c : Content) : Type 
 abbrev pub part_len : Part → ℕ
 part_len (Known bytes) = length bytes
 part_len (Filled n) = n
-part_len (Waiting width line f) = width_len width
+part_len (Waiting width place f) = width_len width
 
 -- what the object of contents with these segments and imports rests on
 pub record AreSound (segments : List Segment) (names : List (List ℕ)) (cs : List Content) : Type 0 where

@@ -1,6 +1,11 @@
--- Statements without where they lie in memory.
-use Rattle.std.specs.Prelude.{Option, box_value, map, option_map}
+-- Statements, and what they put into an object, without where they lie in memory.
+use Rattle.std.specs.Prelude.{ℕ, List, Option, box_value, map, option_map}
 use Rattle.syntax65.specs.Trees.{Tree, tree_of}
+use Rattle.source65.specs.declared.place.Place.{Place}
+use Rattle.language65.specs.declared.contents.Part.{Part}
+use Rattle.language65.specs.declared.contents.Part.TheVariants as part
+use Rattle.language65.specs.declared.contents.Said.{Said}
+use Rattle.language65.specs.declared.contents.Said.TheVariants as said
 use Rattle.language65.specs.declared.language.Item.{Item}
 use Rattle.language65.specs.declared.language.Item.TheVariants as item
 use Rattle.language65.specs.declared.language.Operand.{Operand}
@@ -11,6 +16,7 @@ use Rattle.language65.specs.declared.language.Statement.TheVariants as statement
 use Rattle.language65.specs.declared.laid.Spot.{Spot}
 use Rattle.language65.specs.Language as l
 use Rattle.language65.specs.Laid as laid
+use Rattle.language65.specs.Parts as parts
 
 abbrev pub item_of : Item → l.Item
 item_of (item.Value e) = l.value (tree_of e)
@@ -58,3 +64,17 @@ stated_of statement.Nothing = l.nothing
 
 abbrev pub spot_of : Spot → laid.Spot
 spot_of s = record { scope = s.scope; opened = s.opened; region = s.region; unnamed = s.unnamed; segment = s.segment; offset = s.offset }
+
+abbrev pub place_in : List ℕ → ℕ → Place
+place_in file line = record { file = file; line = line }
+
+-- a part, and what is said, of a statement that stands here
+abbrev pub part_at : Place → Part → parts.Part
+part_at place (part.Known bytes) = parts.Known bytes
+part_at place (part.Filled n) = parts.Filled n
+part_at place (part.Waiting width form) = parts.Waiting width place form
+
+abbrev pub said_at : Place → Said → parts.Said
+said_at place (said.Exported name form) = parts.Exported name place form
+said_at place (said.Demanded name) = parts.Demanded name
+said_at place (said.Checked action text form) = parts.Checked action place text form

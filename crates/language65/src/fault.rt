@@ -49,6 +49,8 @@ pub enum AsmFault {
     BadScope,
     FileNotFound,
     FileError,
+    /// A value, an export or an assertion is written of a file whose name no object can hold.
+    FileNameTooLong,
 }
 
 impl AsmFault {
@@ -84,6 +86,7 @@ impl AsmFault {
             AsmFault::BadScope => "scope not open or not closed",
             AsmFault::FileNotFound => "file not found",
             AsmFault::FileError => "file error",
+            AsmFault::FileNameTooLong => "file name too long",
         }
     }
 

@@ -1,5 +1,12 @@
 //! What statements lie by.
 
+/// A place in a source: a file, and the number of a line in it, 0 where none was read.
+#[derive(Clone, Copy)]
+pub struct At<'a> {
+    pub file: &'a str,
+    pub line: u32,
+}
+
 /// Where a statement stands.
 #[derive(Clone, Copy)]
 pub struct Spot {

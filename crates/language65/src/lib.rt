@@ -7,7 +7,7 @@ mod fault;
 mod laid;
 mod language;
 
-pub use contents::{Content, Part, Said, Segment};
+pub use contents::{Part, Said, Segment};
 pub use fault::AsmFault;
-pub use laid::Spot;
+pub use laid::{At, Spot};
 pub use language::{Index, Item, Operand, PartRange, Statement};

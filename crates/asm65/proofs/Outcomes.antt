@@ -13,7 +13,7 @@ use Rattle.object65.specs.Objects.{is_good_object}
 use Rattle.source65.specs.declared.place.Place.{Place}
 use Rattle.expand65.specs.Standing.{Opens, measure_of, place_of}
 use Rattle.language65.specs.declared.fault.AsmFault.TheVariants.{Expansion, OutOfMemory, FileError as PartError}
-use Rattle.language65.specs.declared.contents.Content.{Content}
+use Rattle.language65.specs.Parts.{Content}
 use Rattle.language65.specs.declared.contents.Segment.{Segment}
 use Rattle.language65.specs.declared.fault.AsmFault.{AsmFault}
 use Rattle.language65.specs.Faults.{is_failure, is_memory, is_outside}

@@ -2,7 +2,7 @@
 
 ghost use Rattle.std.specs.Prelude.{◌≡◌, ◌++◌, [], List, ℕ, IfOk, IfErr, None, Ok, OnOk, Some, map, slice_get, string_bytes, true, false};
 ghost use Rattle.object65.specs.Objects.{is_good_object, ObjectFits};
-ghost use Rattle.language65.specs.declared.contents.Content.{Content};
+ghost use Rattle.language65.specs.Parts.{Content};
 ghost use Rattle.language65.specs.Faults.{is_outside};
 ghost use Rattle.language65.specs.Numbering.{object_with};
 ghost use Rattle.language65.specs.Sound.{AreSound};

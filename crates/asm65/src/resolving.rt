@@ -2,7 +2,7 @@
 
 ghost use Rattle.std.specs.Prelude.{◌≡◌, ◌∷◌, List, ℕ, [], None, Option, OnOk, IfOk};
 ghost use Rattle.base65.specs.Outcome.{Gives};
-ghost use Rattle.language65.specs.declared.contents.Said.TheVariants.{Checked, Demanded, Exported};
+ghost use Rattle.language65.specs.Parts.{Checked, Demanded, Exported};
 ghost use Rattle.language65.specs.Contents.{telling};
 ghost use Rattle.language65.specs.Faults.{is_memory};
 ghost use Rattle.language65.specs.Laid.{Spot as Stand};

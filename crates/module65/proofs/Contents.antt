@@ -11,10 +11,7 @@ use Rattle.syntax65.specs.declared.instructions.names.Mnemonic.{Mnemonic}
 use Rattle.object65.specs.Form.{Form}
 use Rattle.object65.specs.declared.object.Width.{Width}
 use Rattle.object65.specs.declared.object.Action.{Action}
-use Rattle.language65.specs.declared.contents.Content.{Content}
-use Rattle.language65.specs.declared.contents.Part.{Part}
-use Rattle.language65.specs.declared.contents.Said.{Said}
-use Rattle.language65.specs.declared.contents.Said.TheVariants.{Demanded}
+use Rattle.language65.specs.Parts.{Content, Part, Said, Demanded}
 use Rattle.language65.specs.declared.fault.AsmFault.{AsmFault}
 use Rattle.language65.specs.Contents.{content_of, decided, each_of, export_said, import_fault, instruction_parts, item_part, opcode_part, operand_form, operand_part, operand_parts, operand_tree, stored, telling}
 use Rattle.language65.specs.Language.{Item, value, text, Operand, Stated, constant, instruction, values, imports, exports, globals, forced, assertion}

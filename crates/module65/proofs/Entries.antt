@@ -7,9 +7,7 @@ use Rattle.std.proofs.lemmas.List.{append-nil, map-append}
 use Rattle.std.proofs.lemmas.List.Elements.{filter-append}
 use Rattle.object65.specs.declared.object.Section.{Section}
 use Rattle.object65.specs.declared.object.Object.{Object}
-use Rattle.language65.specs.declared.contents.Content.{Content}
-use Rattle.language65.specs.declared.contents.Part.{Part}
-use Rattle.language65.specs.declared.contents.Said.{Said}
+use Rattle.language65.specs.Parts.{Content, Part, Said}
 use Rattle.language65.specs.declared.contents.Segment.{Segment}
 use Rattle.language65.specs.Numbering.{all_joined, all_said, assert_of, content_imports, exports_among, fragments_of, import_keys, name_of, object_with, once, part_imports, parts_in, said_imports, section_keys, section_of, segment_name, segment_power, segments_asked}
 use Rattle.module65.specs.Laws.{AreAlike}

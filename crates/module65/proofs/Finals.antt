@@ -1,8 +1,7 @@
 -- Which pieces are settled at their line.
 use Rattle.std.proofs.Common.{◌∙◌, ℕ, List, [], ◌∷◌, refl, ap}
 use Rattle.base65.specs.Outcome.{◌>>=◌}
-use Rattle.language65.specs.declared.contents.Part.{Part}
-use Rattle.language65.specs.declared.contents.Said.TheVariants.{Demanded}
+use Rattle.language65.specs.Parts.{Part, Demanded}
 use Rattle.source65.specs.declared.place.Place.{Place}
 use Rattle.language65.specs.Laid.{Spot}
 use Rattle.language65.specs.Symbols.{Symbols}

@@ -4,7 +4,7 @@ use Rattle.std.specs.Prelude.{Bool, true, false, Result, Ok, Err, if◌then◌el
 use Rattle.std.proofs.lemmas.List.{append-nil, length-append}
 use Rattle.base65.specs.Outcome.{◌>>=◌}
 use Rattle.object65.specs.declared.object.Object.{Object}
-use Rattle.language65.specs.declared.contents.Content.{Content}
+use Rattle.language65.specs.Parts.{Content}
 use Rattle.language65.specs.declared.contents.Segment.{Segment}
 use Rattle.language65.specs.declared.fault.AsmFault.{AsmFault}
 use Rattle.language65.specs.Language.{Stated}

@@ -4,9 +4,7 @@ use Rattle.std.specs.Prelude.{IfOk, Result, Ok, Err}
 use Rattle.std.proofs.lemmas.List.{append-nil}
 use Rattle.base65.specs.Outcome.{◌>>=◌}
 use Rattle.object65.specs.Form.{Form}
-use Rattle.language65.specs.declared.contents.Content.{Content}
-use Rattle.language65.specs.declared.contents.Part.{Part}
-use Rattle.language65.specs.declared.contents.Said.{Said}
+use Rattle.language65.specs.Parts.{Content, Part, Said}
 use Rattle.language65.specs.declared.fault.AsmFault.{AsmFault}
 use Rattle.language65.specs.Contents.{decided, export_said, import_fault, operand_form, stored, telling}
 use Rattle.source65.specs.declared.place.Place.{Place}

@@ -18,8 +18,7 @@ use Rattle.object65.specs.Form.{Form, lit, sec, imp, prefix, binary}
 use Rattle.object65.specs.Objects.{fits_width, value_bytes, width_len}
 use Rattle.object65.specs.declared.object.Width.{Width}
 use Rattle.object65.specs.declared.object.Width.TheVariants.{Byte, Word, HighFirst, Dword, Branch}
-use Rattle.language65.specs.declared.contents.Part.{Part}
-use Rattle.language65.specs.declared.contents.Part.TheVariants.{Known}
+use Rattle.language65.specs.Parts.{Part, Known}
 use Rattle.language65.specs.declared.fault.AsmFault.TheVariants.{OutOfRange}
 use Rattle.language65.specs.Contents.{file_bytes, instruction_parts, item_part, opcode_part, operand_form, operand_part, operand_parts, operand_tree, parts_of, room_part, stored}
 use Rattle.source65.specs.declared.place.Place.{Place}

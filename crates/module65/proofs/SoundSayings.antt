@@ -8,8 +8,7 @@ use Rattle.object65.specs.Form.{Form, lit}
 use Rattle.object65.specs.Objects.{is_name}
 use Rattle.object65.specs.declared.object.Action.{Action}
 use Rattle.object65.specs.declared.object.Action.TheVariants as action
-use Rattle.language65.specs.declared.contents.Said.{Said}
-use Rattle.language65.specs.declared.contents.Said.TheVariants.{Exported, Demanded}
+use Rattle.language65.specs.Parts.{Said, Exported, Demanded}
 use Rattle.language65.specs.declared.fault.AsmFault.{AsmFault}
 use Rattle.language65.specs.Contents.{decided, each_of, export_said, import_fault, said_of}
 use Rattle.source65.specs.declared.place.Place.{Place}

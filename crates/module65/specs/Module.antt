@@ -7,7 +7,7 @@ use Rattle.object65.specs.Form.{Form, lit}
 use Rattle.object65.specs.declared.object.Action.{Action}
 use Rattle.object65.specs.declared.object.Action.TheVariants as action
 use Rattle.object65.specs.declared.object.Object.{Object}
-use Rattle.language65.specs.declared.contents.Content.{Content}
+use Rattle.language65.specs.Parts.{Content}
 use Rattle.language65.specs.declared.fault.AsmFault.{AsmFault}
 use Rattle.language65.specs.Contents.{content_of}
 use Rattle.source65.specs.declared.place.Place.{Place}

@@ -7,11 +7,7 @@ use Rattle.syntax65.specs.declared.instructions.names.Mnemonic.{Mnemonic}
 use Rattle.object65.specs.Form.{Form}
 use Rattle.object65.specs.declared.object.Action.{Action}
 use Rattle.object65.specs.declared.object.Width.{Width}
-use Rattle.language65.specs.declared.contents.Content.{Content}
-use Rattle.language65.specs.declared.contents.Part.{Part}
-use Rattle.language65.specs.declared.contents.Part.TheVariants.{Known}
-use Rattle.language65.specs.declared.contents.Said.{Said}
-use Rattle.language65.specs.declared.contents.Said.TheVariants.{Demanded}
+use Rattle.language65.specs.Parts.{Content, Part, Known, Said, Demanded}
 use Rattle.language65.specs.declared.fault.AsmFault.{AsmFault}
 use Rattle.language65.specs.declared.fault.AsmFault.TheVariants.{NotDefined}
 use Rattle.language65.specs.Contents.{put, telling, decided, export_said, file_bytes, import_fault, opcode_part, operand_form, operand_tree, room_part, stored}
@@ -95,12 +91,12 @@ absent_of false n = Ok []
 
 -- what a form comes to, of an expression that stands here
 abbrev pub used : Place → Spot → Purpose → Form → Result Made AsmFault
-used place s (datum width) f = stored width place.line f >>= as_part s.segment
+used place s (datum width) f = stored width place f >>= as_part s.segment
 used place s (operand width) f =
-    operand_form width s f >>= stored width place.line >>= as_part s.segment
+    operand_form width s f >>= stored width place >>= as_part s.segment
 used place s equated f = as_said []
 used place s (asserted act words) f =
-    decided act place.line words f
+    decided act place words f
     >>= (λ ss. Ok (record { content = telling ss; warning = failed place act words (Ok f) }))
 
 -- what a piece of a statement that stands here comes to by a symbol table, or its fault
@@ -110,4 +106,4 @@ made_of y place s (valued why e) = norm_of y s e >>= used place s why
 made_of y place s (imported n) = import_fault y n >>= as_said
 made_of y place s (demanded n) = as_said (Demanded n ∷ [])
 made_of y place s (exported must n) =
-    export_said y place.line n (absent_of must n) (defined y (named 0 n)) >>= as_said
+    export_said y place n (absent_of must n) (defined y (named 0 n)) >>= as_said

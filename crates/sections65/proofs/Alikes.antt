@@ -8,10 +8,7 @@ use Rattle.std.proofs.lemmas.List.Elements.{filter-append}
 use Rattle.object65.specs.declared.object.Fragment.{Fragment}
 use Rattle.object65.specs.declared.object.Fragment.TheVariants.{Literal, Fill, Value}
 use Rattle.object65.specs.declared.object.Object.{Object}
-use Rattle.language65.specs.declared.contents.Content.{Content}
-use Rattle.language65.specs.declared.contents.Part.{Part}
-use Rattle.language65.specs.declared.contents.Part.TheVariants.{Known, Filled}
-use Rattle.language65.specs.declared.contents.Said.{Said}
+use Rattle.language65.specs.Parts.{Content, Part, Known, Filled, Said}
 use Rattle.language65.specs.declared.contents.Segment.{Segment}
 use Rattle.language65.specs.Numbering.{all_joined, all_said, assert_of, content_imports, exports_among, fragment_of, fragments_of, import_keys, is_empty, joined, name_of, once, part_imports, parts_in, segment_name, segment_power}
 use Rattle.language65.specs.Contents.{put}

@@ -7,8 +7,7 @@ use Rattle.std.proofs.lemmas.Map.Keys.{IsDistinct-head, IsDistinct-tail}
 use Rattle.object65.specs.declared.object.Fragment.{Fragment}
 use Rattle.object65.specs.declared.object.Fragment.TheVariants.{Literal, Fill}
 use Rattle.object65.specs.declared.object.Section.{Section}
-use Rattle.language65.specs.declared.contents.Content.{Content}
-use Rattle.language65.specs.declared.contents.Part.{Part}
+use Rattle.language65.specs.Parts.{Content, Part}
 use Rattle.language65.specs.declared.contents.Segment.{Segment}
 use Rattle.sections65.specs.declared.numbering.drafts.Draft.{Draft}
 use Rattle.sections65.specs.Inner.Drafts.{all_of_draft, grown, new_draft, section_from, with_content, with_contents, with_fragment, with_parts}

@@ -6,8 +6,7 @@ use Rattle.std.specs.List.{list_any}
 use Rattle.std.specs.Str.{bytes_eq}
 use Rattle.object65.specs.Form.{Form}
 use Rattle.object65.specs.declared.object.Export.{Export}
-use Rattle.language65.specs.declared.contents.Said.{Said}
-use Rattle.language65.specs.declared.contents.Said.TheVariants.{Exported, Demanded, Checked}
+use Rattle.language65.specs.Parts.{Said, Exported, Demanded, Checked}
 use Rattle.language65.specs.Numbering.{exports_among, numbered}
 
 any_map : {A B : Type 0} (p : B → Bool) (f : A → B) (xs : List A) → list_any p (map f xs) ≡ list_any (λ x. p (f x)) xs

@@ -3,9 +3,7 @@ use Rattle.std.proofs.Common.{◌≡◌, ◌∙◌, ℕ, Bool, true, false, nat_
 use Rattle.std.specs.Prelude.{if◌then◌else◌}
 use Rattle.std.specs.List.{flat_map}
 use Rattle.std.proofs.lemmas.Grind.{flat_map-append}
-use Rattle.language65.specs.declared.contents.Content.{Content}
-use Rattle.language65.specs.declared.contents.Part.{Part}
-use Rattle.language65.specs.declared.contents.Said.{Said}
+use Rattle.language65.specs.Parts.{Content, Part, Said}
 use Rattle.language65.specs.Numbering.{all_joined, all_said, content_imports, fragments_of, once, part_imports, parts_in, said_imports, section_keys, segments_asked}
 use Rattle.sections65.specs.declared.sections.Sections.{Sections}
 use Rattle.language65.specs.Contents.{asking, put, telling}

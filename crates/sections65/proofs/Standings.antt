@@ -6,8 +6,7 @@ use Rattle.std.proofs.lemmas.List.{take-append-le, map-append, length-set}
 use Rattle.std.proofs.lemmas.List.Elements.{filter-append}
 use Rattle.std.proofs.lemmas.List.Folds.{list_any-append}
 use Rattle.std.proofs.lemmas.Bool.Decides.{nat_tests}
-use Rattle.language65.specs.declared.contents.Content.{Content}
-use Rattle.language65.specs.declared.contents.Part.TheVariants.{Known, Filled}
+use Rattle.language65.specs.Parts.{Content, Known, Filled}
 use Rattle.language65.specs.declared.contents.Segment.{Segment}
 use Rattle.language65.specs.Numbering.{object_with, once, section_keys, segments_asked}
 use Rattle.sections65.specs.declared.entries.Entries.{Entries}

@@ -3,9 +3,7 @@ use Rattle.std.specs.Prelude.{◌≡◌, ℕ, ◌+◌, Bool, true, false, List, 
 use Rattle.std.specs.List.{flat_map}
 use Rattle.object65.specs.declared.object.Fragment.{Fragment}
 use Rattle.object65.specs.declared.object.Object.{Object}
-use Rattle.language65.specs.declared.contents.Content.{Content}
-use Rattle.language65.specs.declared.contents.Part.{Part}
-use Rattle.language65.specs.declared.contents.Said.{Said}
+use Rattle.language65.specs.Parts.{Content, Part, Said}
 use Rattle.language65.specs.declared.contents.Segment.{Segment}
 use Rattle.language65.specs.Contents.{asking, put, telling}
 use Rattle.language65.specs.Numbering.{all_joined, all_said, assert_of, content_imports, exports_among, fragments_of, import_keys, name_of, parts_in, section_of}

@@ -1,8 +1,7 @@
 -- What sections in the making stand for.
 use Rattle.std.specs.Prelude.{◌≡◌, ◌+◌, ◌≤◌, ◌<◌, nat_eq, true, false, List, [], ◌∷◌, ◌++◌, length, take, IfSome}
 use Rattle.std.specs.List.{list_any}
-use Rattle.language65.specs.declared.contents.Content.{Content}
-use Rattle.language65.specs.declared.contents.Part.TheVariants.{Known, Filled}
+use Rattle.language65.specs.Parts.{Content, Known, Filled}
 use Rattle.language65.specs.Numbering.{section_keys}
 use Rattle.sections65.specs.declared.entries.Entries.{Entries}
 use Rattle.sections65.specs.declared.entries.Entry.{Entry}

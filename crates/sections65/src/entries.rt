@@ -2,8 +2,8 @@
 
 ghost use Rattle.std.specs.Prelude.{◌≡◌, ◌+◌, ◌<◌, List, [], ◌∷◌, length, false, slice_get, Some, IfSome, IfNone, OnOk, IfOk, take};
 ghost use Rattle.std.specs.List.{list_any};
-ghost use Rattle.language65.specs.declared.contents.Content.{Content};
-ghost use Rattle.language65.specs.declared.contents.Part.TheVariants.{Filled, Known};
+ghost use Rattle.language65.specs.Parts.{Content};
+ghost use Rattle.language65.specs.Parts.{Filled, Known};
 ghost use Rattle.sections65.specs.declared.entries.Entry.TheVariants.{Open};
 ghost use Rattle.language65.specs.Contents.{put};
 ghost use Rattle.sections65.specs.Fed.{AreAlike, content_of, filled, is_open, open_count};

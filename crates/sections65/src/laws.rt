@@ -1,7 +1,7 @@
 //! What callers may rely on about what was fed.
 
 ghost use Rattle.std.specs.Prelude.{◌≡◌, ◌++◌, ◌∷◌, [], List};
-ghost use Rattle.language65.specs.declared.contents.Content.{Content};
+ghost use Rattle.language65.specs.Parts.{Content};
 ghost use Rattle.language65.specs.Numbering.{section_keys};
 ghost use Rattle.sections65.specs.declared.sections.Sections.{Sections};
 ghost use Rattle.sections65.specs.Fed.{AreAlike, in_pieces};

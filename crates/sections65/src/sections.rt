@@ -2,8 +2,8 @@
 
 ghost use Rattle.std.specs.Prelude.{◌≡◌, [], List, replicate, true, IfOk, OnOk};
 ghost use Rattle.object65.specs.Objects.{is_good_object, ObjectFits};
-ghost use Rattle.language65.specs.declared.contents.Content.{Content};
-ghost use Rattle.language65.specs.declared.contents.Part.TheVariants.{Filled, Known, Waiting};
+ghost use Rattle.language65.specs.Parts.{Content};
+ghost use Rattle.language65.specs.Parts.{Filled, Known, Waiting};
 ghost use Rattle.language65.specs.Numbering.{object_with};
 ghost use Rattle.language65.specs.Sound.{AreSound};
 ghost use Rattle.language65.specs.Contents.{asking, put, telling};

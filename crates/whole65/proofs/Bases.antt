@@ -12,7 +12,7 @@ use Rattle.object65.specs.declared.object.Section.{Section}
 use Rattle.script65.specs.Placing.{rounded_up}
 use Rattle.script65.specs.declared.placement.Placement.{Placement}
 use Rattle.script65.specs.declared.script.Script.{Script}
-use Rattle.language65.specs.declared.contents.Content.{Content}
+use Rattle.language65.specs.Parts.{Content}
 use Rattle.language65.specs.Layout.{Layout}
 use Rattle.language65.specs.Numbering.{import_keys, number_of, object_with, section_keys, section_of}
 use Rattle.link65.specs.Modules.{Module}

@@ -8,8 +8,7 @@ use Rattle.object65.specs.Form.{Form, lit, sec, imp, prefix, binary}
 use Rattle.object65.specs.FormValue.{or_none, value_in}
 use Rattle.object65.specs.declared.object.Fragment.{Fragment}
 use Rattle.object65.specs.declared.object.Fragment.TheVariants.{Literal, Fill, Value}
-use Rattle.language65.specs.declared.contents.Part.{Part}
-use Rattle.language65.specs.declared.contents.Part.TheVariants.{Known, Filled, Waiting}
+use Rattle.language65.specs.Parts.{Part, Known, Filled, Waiting}
 use Rattle.language65.specs.Numbering.{all_joined, fragment_of, fragments_of, is_empty, joined, number_of, numbered}
 use Rattle.whole65.specs.Inner.Steps.{FragmentsLaw, NumberLaw}
 use Rattle.whole65.specs.Inner.Parts.{AreFragments, AreParts, ArePart, IsFragment, Valuing, valued_by}

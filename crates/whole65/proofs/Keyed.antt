@@ -6,11 +6,7 @@ use Rattle.std.proofs.lemmas.Bool.Decides.{nat_tests}
 use Rattle.std.proofs.lemmas.List.Folds.{list_any-append}
 use Rattle.object65.specs.Form.{Form}
 use Rattle.object65.specs.declared.object.Object.{Object}
-use Rattle.language65.specs.declared.contents.Content.{Content}
-use Rattle.language65.specs.declared.contents.Part.{Part}
-use Rattle.language65.specs.declared.contents.Part.TheVariants.{Known, Filled, Waiting}
-use Rattle.language65.specs.declared.contents.Said.{Said}
-use Rattle.language65.specs.declared.contents.Said.TheVariants.{Exported, Demanded, Checked}
+use Rattle.language65.specs.Parts.{Content, Part, Known, Filled, Waiting, Said, Exported, Demanded, Checked}
 use Rattle.language65.specs.Numbering.{content_imports, import_keys, imports_in, name_of, number_of, object_with, part_imports, said_imports, section_keys}
 use Rattle.language65.specs.Sound.{IsSoundContent, IsSoundForm, IsSoundPart, IsSoundSaid, sections_in}
 use Rattle.link65.specs.Givers.{giver_of}

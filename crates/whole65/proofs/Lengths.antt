@@ -11,9 +11,7 @@ use Rattle.base65.specs.Outcome.{◌>>=◌, each}
 use Rattle.object65.specs.Objects.{fragment_len}
 use Rattle.object65.specs.declared.object.Fragment.{Fragment}
 use Rattle.object65.specs.declared.object.Fragment.TheVariants.{Literal, Fill, Value}
-use Rattle.language65.specs.declared.contents.Content.{Content}
-use Rattle.language65.specs.declared.contents.Part.{Part}
-use Rattle.language65.specs.declared.contents.Part.TheVariants.{Known, Filled, Waiting}
+use Rattle.language65.specs.Parts.{Content, Part, Known, Filled, Waiting}
 use Rattle.language65.specs.declared.fault.AsmFault.{AsmFault}
 use Rattle.language65.specs.Contents.{content_of, parts_of}
 use Rattle.language65.specs.Laid.{Laid}

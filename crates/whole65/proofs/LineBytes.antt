@@ -10,8 +10,7 @@ use Rattle.syntax65.specs.declared.instructions.names.Mnemonic.{Mnemonic}
 use Rattle.object65.specs.Form.{Form}
 use Rattle.object65.specs.declared.object.Width.{Width}
 use Rattle.language65.specs.declared.fault.AsmFault.{AsmFault}
-use Rattle.language65.specs.declared.contents.Part.{Part}
-use Rattle.language65.specs.declared.contents.Part.TheVariants.{Known}
+use Rattle.language65.specs.Parts.{Part, Known}
 use Rattle.language65.specs.Contents.{instruction_parts, item_part, opcode_part, operand_form, operand_part, operand_parts, operand_tree, parts_of, room_part, stored}
 use Rattle.language65.specs.Laid.{Settled, nothing_settled, in_mode, filled_with, from_byte, Spot}
 use Rattle.language65.specs.Language as language

@@ -2,8 +2,7 @@
 use Rattle.std.proofs.Common.{ℕ, List, [], ◌∷◌, map}
 use Rattle.std.specs.Prelude.{◌↔◌}
 use Rattle.std.specs.List.{AllByRecursion}
-use Rattle.language65.specs.declared.contents.Part.{Part}
-use Rattle.language65.specs.declared.contents.Part.TheVariants.{Known, Filled, Waiting}
+use Rattle.language65.specs.Parts.{Part, Known, Filled, Waiting}
 use Rattle.language65.specs.Numbering.{fragment_of, fragments_of, numbered, parts_in}
 use Rattle.link65.specs.Values.{Linkage}
 use Rattle.whole65.proofs.Cells.{cells_law}

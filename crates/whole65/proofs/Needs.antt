@@ -12,7 +12,7 @@ use Rattle.script65.proofs.Placed.{same_needs}
 use Rattle.script65.specs.Placing.{size_of}
 use Rattle.script65.specs.declared.placement.SegmentNeed.{SegmentNeed}
 use Rattle.language65.proofs.Lists.{bytes_swap, same_bytes}
-use Rattle.language65.specs.declared.contents.Content.{Content}
+use Rattle.language65.specs.Parts.{Content}
 use Rattle.language65.specs.Laid.{Laid, asks_section}
 use Rattle.language65.specs.Layout.{Layout}
 use Rattle.language65.specs.Numbering.{import_keys, once, section_keys, section_of, segments_asked}

@@ -8,11 +8,7 @@ use Rattle.syntax65.specs.Trees as tree
 use Rattle.object65.specs.Form.{Form}
 use Rattle.script65.specs.declared.placement.Placement.{Placement}
 use Rattle.script65.specs.declared.script.Script.{Script}
-use Rattle.language65.specs.declared.contents.Content.{Content}
-use Rattle.language65.specs.declared.contents.Part.{Part}
-use Rattle.language65.specs.declared.contents.Part.TheVariants.{Known, Filled, Waiting}
-use Rattle.language65.specs.declared.contents.Said.{Said}
-use Rattle.language65.specs.declared.contents.Said.TheVariants.{Exported, Demanded, Checked}
+use Rattle.language65.specs.Parts.{Content, Part, Known, Filled, Waiting, Said, Exported, Demanded, Checked}
 use Rattle.language65.specs.Contents.{content_of, parts_of}
 use Rattle.language65.specs.Laid.{Laid, asks_section}
 use Rattle.language65.specs.Language as language

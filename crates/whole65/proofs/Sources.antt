@@ -6,7 +6,7 @@ use Rattle.std.specs.Option.{option_map_or}
 use Rattle.object65.specs.Objects.{section_len}
 use Rattle.object65.specs.declared.object.Object.{Object}
 use Rattle.script65.specs.Placing.{rounded_up}
-use Rattle.language65.specs.declared.contents.Content.{Content}
+use Rattle.language65.specs.Parts.{Content}
 use Rattle.language65.specs.Layout.{Layout}
 use Rattle.language65.specs.Numbering.{import_keys, object_with, section_keys, section_of}
 use Rattle.link65.specs.Modules.{Module}

@@ -12,9 +12,7 @@ use Rattle.script65.specs.declared.placement.Placement.{Placement}
 use Rattle.script65.specs.declared.script.Row.{Row}
 use Rattle.script65.specs.declared.script.Script.{Script}
 use Rattle.language65.proofs.Lists.{same_bytes}
-use Rattle.language65.specs.declared.contents.Content.{Content}
-use Rattle.language65.specs.declared.contents.Part.{Part}
-use Rattle.language65.specs.declared.contents.Part.TheVariants.{Known, Filled, Waiting}
+use Rattle.language65.specs.Parts.{Content, Part, Known, Filled, Waiting}
 use Rattle.language65.specs.Laid.{Laid, asks_section}
 use Rattle.language65.specs.Layout.{Layout}
 use Rattle.language65.specs.Numbering.{parts_in, section_keys, segments_asked}

@@ -12,10 +12,9 @@ use Rattle.whole65.specs.Offsets.{ArePowers, IsLaidOut, IsMultiple, begin_of, li
 use Rattle.whole65.specs.Sources.{AreSources}
 use Rattle.whole65.specs.Segments.{Line, end_of, has_section, items_of, largest_multiple, line, line_end, lines_behind, needs_of, position_of, segment_name}
 use Rattle.language65.specs.Contents.{parts_of}
-use Rattle.language65.specs.declared.contents.Part.{Part}
+use Rattle.language65.specs.Parts.{Part, Content}
 use Rattle.whole65.specs.Contents.{AreBytes, AreLine}
 use Rattle.language65.specs.Numbering.{all_joined, fragments_of, import_keys, imports_in, number_of, numbered, parts_in, section_keys, section_of, segment_power}
-use Rattle.language65.specs.declared.contents.Content.{Content}
 use Rattle.module65.specs.Module.{contents_from}
 use Rattle.whole65.specs.Modules.{exports_of, table_of}
 use Rattle.object65.specs.FormValue.{value_in}

@@ -3,7 +3,7 @@ use Rattle.std.specs.Prelude.{◌≡◌, ℕ, ◌<◌, ⊤, false, List, [], ◌
 use Rattle.std.specs.List.{AllByRecursion}
 use Rattle.syntax65.specs.Trees.{Tree, tree_of}
 use Rattle.source65.specs.declared.place.Place.{Place}
-use Rattle.language65.specs.declared.contents.Content.{Content}
+use Rattle.language65.specs.Parts.{Content}
 use Rattle.language65.specs.Laid.{Spot}
 use Rattle.language65.specs.Symbols.{Definition, Key, Symbols, unnamed_at}
 use Rattle.language65.specs.Views.{spot_of}

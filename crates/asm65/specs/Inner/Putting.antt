@@ -5,7 +5,7 @@ use Rattle.syntax65.specs.Trees.{Tree}
 use Rattle.source65.specs.declared.place.Place.{Place}
 use Rattle.object65.specs.Form.{Form, lit}
 use Rattle.object65.specs.declared.object.Width.{Width}
-use Rattle.language65.specs.declared.contents.Part.{Part}
+use Rattle.language65.specs.Parts.{Part}
 use Rattle.language65.specs.declared.fault.AsmFault.{AsmFault}
 use Rattle.language65.specs.Contents.{operand_form, put, stored}
 use Rattle.language65.specs.Extending.{IsFinal}

@@ -3,7 +3,7 @@ use Rattle.std.specs.Prelude.{◌≡◌, ℕ, Bool, List, [], ◌++◌, Option, 
 use Rattle.base65.specs.Outcome.{◌>>=◌, Unless}
 use Rattle.syntax65.specs.Trees.{tree_of}
 use Rattle.source65.specs.declared.place.Place.{Place}
-use Rattle.language65.specs.declared.contents.Content.{Content}
+use Rattle.language65.specs.Parts.{Content}
 use Rattle.language65.specs.declared.fault.AsmFault.{AsmFault}
 use Rattle.language65.specs.Contents.{put, telling}
 use Rattle.language65.specs.Laid.{Spot}

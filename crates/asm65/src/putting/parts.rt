@@ -3,7 +3,7 @@
 ghost use Rattle.std.specs.Prelude.{◌≡◌, ℕ, drop, IfOk, OnOk, take};
 ghost use Rattle.object65.specs.Form.{lit};
 ghost use Rattle.language65.specs.Contents.{file_bytes, opcode_part, operand_form, put, room_part, stored};
-ghost use Rattle.language65.specs.declared.contents.Part.TheVariants.{Known};
+ghost use Rattle.language65.specs.Parts.{Known};
 ghost use Rattle.language65.specs.Views.{spot_of};
 ghost use Rattle.sections65.specs.Standing.{Feeds};
 ghost use Rattle.asm65.specs.Inner.Putting.{IsFaultless, IsPut, operand_stored};

@@ -70,7 +70,7 @@ impl Assembler {
     ghost use Rattle.std.specs.Prelude.{◌∷◌, [], OnOk, map};
     ghost use Rattle.source65.specs.declared.place.Place.{Place};
     ghost use Rattle.language65.specs.Contents.{file_bytes, opcode_part, room_part};
-    ghost use Rattle.language65.specs.declared.contents.Part.TheVariants.{Known};
+    ghost use Rattle.language65.specs.Parts.{Known};
     ghost use Rattle.language65.specs.Laid.{in_mode};
     ghost use Rattle.language65.specs.Views.{item_of};
     ghost use Rattle.syntax65.specs.Opcodes.{opcode_of};

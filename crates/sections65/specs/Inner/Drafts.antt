@@ -9,8 +9,7 @@ use Rattle.object65.specs.declared.object.Fragment.{Fragment}
 use Rattle.object65.specs.declared.object.Fragment.TheVariants.{Literal, Fill}
 use Rattle.object65.specs.declared.object.Section.{Section}
 use Rattle.object65.specs.Objects.{FitsBits, FragmentFits}
-use Rattle.language65.specs.declared.contents.Content.{Content}
-use Rattle.language65.specs.declared.contents.Part.{Part}
+use Rattle.language65.specs.Parts.{Content, Part}
 use Rattle.language65.specs.declared.contents.Segment.{Segment}
 use Rattle.sections65.specs.declared.numbering.drafts.Draft.{Draft}
 use Rattle.sections65.specs.declared.numbering.exports.Exports.{Exports}

@@ -4,8 +4,7 @@ use Rattle.link65.specs.Segments.{Cell, Segment, known, filled, waits}
 use Rattle.link65.specs.Values.{Linkage, base_of, exports_through, giver_at, import_value}
 use Rattle.link65.specs.declared.parts.ValueFault.TheVariants.{NoValue}
 use Rattle.language65.specs.Numbering.{numbered}
-use Rattle.language65.specs.declared.contents.Part.{Part}
-use Rattle.language65.specs.declared.contents.Part.TheVariants.{Known, Filled, Waiting}
+use Rattle.language65.specs.Parts.{Part, Known, Filled, Waiting}
 use Rattle.whole65.specs.Contents.{AreStored}
 use Rattle.whole65.specs.Objects.{HasValue, Objects}
 use Rattle.whole65.specs.Inner.Parts.{Valuing, valued_by}

@@ -4,8 +4,7 @@ use Rattle.object65.specs.Form.{Form}
 use Rattle.object65.specs.FormValue.{value_in}
 use Rattle.object65.specs.declared.object.Fragment.{Fragment}
 use Rattle.object65.specs.declared.object.Fragment.TheVariants as fragment
-use Rattle.language65.specs.declared.contents.Part.{Part}
-use Rattle.language65.specs.declared.contents.Part.TheVariants.{Known, Filled, Waiting}
+use Rattle.language65.specs.Parts.{Part, Known, Filled, Waiting}
 use Rattle.whole65.specs.Contents.{AreStored}
 
 -- which values forms have

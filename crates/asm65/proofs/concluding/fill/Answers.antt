@@ -1,5 +1,5 @@
 use Rattle.std.proofs.Common.{◌∷◌, ap, subst, List}
-use Rattle.language65.specs.declared.contents.Content.{Content}
+use Rattle.language65.specs.Parts.{Content}
 use Rattle.sections65.specs.Standing.{Stands}
 use Rattle.asm65.specs.Inner.Resolving.{content_of}
 use Rattle.asm65.proofs.concluding.fill.Goals as goal

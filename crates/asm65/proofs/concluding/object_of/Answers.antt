@@ -1,5 +1,5 @@
 use Rattle.std.proofs.Common.{◌∙◌, [], List, ℕ, ap}
-use Rattle.language65.specs.declared.contents.Content.{Content}
+use Rattle.language65.specs.Parts.{Content}
 use Rattle.language65.specs.Numbering.{object_with}
 use Rattle.sections65.specs.Standing.{Stands}
 use Rattle.asm65.proofs.concluding.object_of.Goals as goal

@@ -1,6 +1,6 @@
 use Rattle.std.proofs.Common.{subst, List, ℕ}
 use Rattle.language65.specs.Contents.{put}
-use Rattle.language65.specs.declared.contents.Part.TheVariants.{Known}
+use Rattle.language65.specs.Parts.{Known}
 use Rattle.language65.specs.Views.{spot_of}
 use Rattle.sections65.specs.Standing.{Feeds}
 use Rattle.asm65.specs.Views.{place_in}

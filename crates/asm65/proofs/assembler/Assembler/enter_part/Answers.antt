@@ -1,4 +1,4 @@
-use Rattle.language65.specs.declared.contents.Part.TheVariants.{Known}
+use Rattle.language65.specs.Parts.{Known}
 use Rattle.language65.specs.Contents.{file_bytes}
 use Rattle.language65.specs.Views.{spot_of}
 use Rattle.layout65.specs.Views.{settled_in}

@@ -1,7 +1,7 @@
 use Rattle.std.proofs.Common.{◌∙◌, ◌++◌, ◌∷◌, [], sym, ap, List, ℕ}
 use Rattle.object65.specs.Form.{Form}
 use Rattle.object65.specs.declared.object.Export.{Export}
-use Rattle.language65.specs.declared.contents.Said.TheVariants.{Exported}
+use Rattle.language65.specs.Parts.{Exported}
 use Rattle.language65.specs.Numbering.{exports_among}
 use Rattle.sections65.proofs.Exporting.{export_new, export_old}
 use Rattle.sections65.proofs.numbering.exports.add_export.Goals as goal

@@ -1,5 +1,5 @@
 use Rattle.std.proofs.Common.{◌∙◌, ◌∷◌, [], List, ℕ, refl, subst}
-use Rattle.language65.specs.declared.contents.Part.TheVariants.{Known}
+use Rattle.language65.specs.Parts.{Known}
 use Rattle.language65.specs.Contents.{put}
 use Rattle.sections65.specs.Standing.{Takes}
 use Rattle.sections65.proofs.Standings.{stands_taken}

@@ -1,13 +1,14 @@
 #!/usr/bin/env python3
-"""What the gate looks at before it proves anything: texts, layout, what the code of the linker and the assembler keeps, and whether
-each edit of must-fail/ and wrong-bodies/ can be applied. Takes half a minute.
+"""What the gate looks at before it proves anything: texts, layout, what the code of the linker and the assembler keeps, whether each
+edit of must-fail/ and wrong-bodies/ can be applied, and whether what the pages for maintainers cite is there. Takes half a minute.
 
 usage: texts.py
-The last line is 'N passed, M failed', a crate or an edit each."""
+The last line is 'N passed, M failed', a crate, an edit, a claim or a page each."""
 import os
 import re
 import sys
 
+import cited
 import kept
 import kit
 
@@ -35,18 +36,18 @@ def main():
     rt = kit.load()
     rt.rtlib.guarded()
     crates = kit.crates(rt)
-    passed = failed = 0
+    faults = list(cited.looked_at(kit.ROOT))
     for crate in crates:
-        faults = [(crate.name, why_stopped(rt, crate, crates) or kept.why_kept(crate.name, rt.rtlib.code_of(crate.folder)))]
+        faults.append((crate.name, why_stopped(rt, crate, crates) or kept.why_kept(crate.name, rt.rtlib.code_of(crate.folder))))
         for folder in FOLDERS:
             place = f"{crate.folder}/{folder}"
             edits = sorted(os.listdir(place)) if os.path.isdir(place) else []
             faults += [(f"{crate.name}/{folder}/{it}", rt.read_edit(f"{place}/{it}", crate.folder)[1]) for it in edits if it.endswith(".edit")]
-        for name, why in faults:
-            passed, failed = passed + (not why), failed + bool(why)
-            if why:
-                print(f"{name}: {why}")
-    print(f"{passed} passed, {failed} failed")
+    for name, why in faults:
+        if why:
+            print(f"{name}: {why}")
+    failed = sum(bool(why) for _, why in faults)
+    print(f"{len(faults) - failed} passed, {failed} failed")
     return 1 if failed else 0
 
 

@@ -1,0 +1,170 @@
+"""Whether what docs/PROVED.md and docs/ARCHITECTURE.md cite is there: calls, clauses, modules of definitions, files, counts; whether a
+claim is short; and whether a page for maintainers has a paragraph that is too long.
+
+A row of PROVED is a claim, its calls, their clauses and the modules of specs/ that define these, under a heading with the crate's
+name. A clause without a name stands in parentheses, as a text that it has; 'same' means the calls of the row before."""
+import glob
+import os
+import re
+
+CLAIM_WORDS = 25
+PARAGRAPH = 600
+PAGES = ("PROVED",)
+
+CLAUSE = re.compile(r"\b(?:requires|ensures)\s*(\w*)\s*\{")
+FUNCTION = re.compile(r"^( *)(pub (?:\([^)]*\) )?)?(?:const )?fn (\w+)")
+OWNER = re.compile(r"^(?:pub )?(?:impl|trait)\b(?:<.*?>(?= ))?.*?(\w+)(?:<[^{]*)?(?:: [\w +]+)? (?:where.*)?\{$")
+DEFINED = re.compile(r"^\s*(?:abbrev |unfoldable )?pub (?:record |data )?([^\s:({]+)", re.M)
+USED = re.compile(r"Rattle\.(\w+)\.specs\.([\w.]+?)(?:\.\{| as )")
+MODULE = re.compile(r"(?:(\w+65) )?`((?:Inner/)?[A-Z]\w*)`")
+CITED = re.compile(r"\b(\w+65) ((?:`(?:Inner/)?[A-Z]\w*`(?:, | and )?)+)")
+TICKED = re.compile(r"`([^`]+)`")
+
+
+def read(file):
+    with open(file, encoding="utf-8") as it:
+        return it.read()
+
+
+def clauses(signature):
+    """The clauses of a signature, as (name, text); a name may be empty."""
+    for match in CLAUSE.finditer(signature):
+        depth, end = 1, match.end()
+        while depth:
+            depth += (signature[end] == "{") - (signature[end] == "}")
+            end += 1
+        yield match[1], signature[match.end() : end - 1]
+
+
+def signature_at(lines, at, indent):
+    """The lines of a signature that begins here, up to its body."""
+    for end in range(at, len(lines)):
+        line = lines[end]
+        if line.startswith(indent + "{") or line.endswith(";") or line == indent + "{}" or (end == at and line.endswith("{")):
+            return "\n".join(lines[at : end + 1])
+    return ""
+
+
+def functions(folder):
+    """The functions of a crate, as (file, type or trait, name, signature)."""
+    for file in glob.glob(f"{folder}/src/**/*.rt", recursive=True):
+        owner, lines = "", read(file).split("\n")
+        for at, line in enumerate(lines):
+            if match := OWNER.match(line):
+                owner = match[1]
+            elif line == "}":
+                owner = ""
+            if match := FUNCTION.match(line):
+                yield file, owner, match[3], signature_at(lines, at, match[1])
+
+
+class Crate:
+    def __init__(self, folder):
+        self.folder = folder
+        self.functions = list(functions(folder)) if os.path.isdir(folder) else []
+        face = read(f"{folder}/src/lib.rt") if os.path.exists(f"{folder}/src/lib.rt") else ""
+        self.public = set(re.findall(r"\w+", " ".join(re.findall(r"^pub (?:use|mod) [^;]*;", face, re.M))))
+
+    def calls(self, name):
+        """The functions that a call's name means, as (file, signature); a law is named without its module."""
+        front, _, last = name.rpartition("::")
+        found = [(file, owner, signature) for file, owner, it, signature in self.functions if it == last]
+        laws = [it for it in found if not front and it[0].endswith("/laws.rt")]
+        if not laws and (front or last) not in self.public:
+            return []
+        return [(file, signature) for file, owner, signature in laws or found
+                if owner == front or (not owner and re.search(rf"/{front}[/.]", file))]
+
+
+def module_file(root, crate, module):
+    return f"{root}/crates/{crate}/specs/{module}.antt"
+
+
+def uses(file):
+    """The modules that a file uses, as files."""
+    return {(crate, module.replace(".", "/")) for crate, module in USED.findall(read(file))}
+
+
+def defines(root, crate, module, text):
+    """Whether a module defines a word of the text."""
+    file = module_file(root, crate, module)
+    return os.path.exists(file) and not set(DEFINED.findall(read(file))).isdisjoint(re.findall(r"[\w-]+", text))
+
+
+def is_near(root, crate, module, text, files):
+    """Whether a module defines a word of these clauses, or is used by a module that does."""
+    if defines(root, crate, module, text):
+        return True
+    used = set().union(*map(uses, files))
+    return any((crate, module) in uses(module_file(root, *it)) for it in used if defines(root, *it, text))
+
+
+def why_row(root, crates, crate, cells):
+    """Why a row of PROVED is wrong, if it is."""
+    claim, calls, named, modules = cells
+    if (words := len(claim.split())) > CLAIM_WORDS:
+        return f"a claim of {words} words"
+    found = {it: crates[crate].calls(it) for it in TICKED.findall(calls)}
+    if lost := [it for it, where in found.items() if not where] or (not found and ["a call"]):
+        return f"no such public call: {lost[0]}"
+    texts, used = [], set()
+    for is_text, name in re.findall(r"(\()?`([^`]+)`", named):
+        here = [(call, text) for call, where in found.items() for _, signature in where for label, text in clauses(signature)
+                if (not label and re.search(rf"(?<!\w){re.escape(name)}(?!\w)", text) if is_text else label == name)]
+        if not here:
+            return f"no call of the row has the clause {name}"
+        texts, used = texts + [text for _, text in here], used | {call for call, _ in here}
+    if idle := [it for it in found if it not in used]:
+        return f"no clause of the row stands in {idle[0]}"
+    files = {file for where in found.values() for file, _ in where}
+    for other, module in MODULE.findall(modules):
+        if not os.path.exists(module_file(root, other or crate, module)):
+            return f"no such module: {other or crate} {module}"
+        if not is_near(root, other or crate, module, " ".join(texts), files):
+            return f"{other or crate} {module} defines nothing that these clauses say"
+    return None
+
+
+def rows(text):
+    """The rows of the tables of claims, as (crate, cells)."""
+    for part in re.split(r"^### ", text, flags=re.M)[1:]:
+        crate, before = re.match(r"\w+", part)[0], ""
+        for line in re.findall(r"^\| (.*) \|$", part, re.M)[1:]:
+            if len(cells := line.split(" | ")) == 4:
+                claim, before, *rest = cells if cells[1] != "same" else [cells[0], before, *cells[2:]]
+                yield crate, [claim, before, *rest]
+
+
+def paragraphs(text):
+    """The paragraphs of a page outside code: a row and a list's item are one each."""
+    text = re.sub(r"^```.*?^```$", "", text, flags=re.M | re.S)
+    return re.split(r"\n(?:\s*\n|(?=\s*(?:\||- |\d+\. |#)))", text)
+
+
+def why_cited(root, text):
+    """Which module, path or step of a page isn't there."""
+    for crate, modules in CITED.findall(text):
+        for module in TICKED.findall(modules):
+            if not os.path.exists(module_file(root, crate, module)):
+                yield f"no such module: {crate} {module}"
+    for path in TICKED.findall(text):
+        if re.fullmatch(r"[\w.-]+(/[\w.-]+)+", path) and ".." not in path and not glob.glob(f"{root}/{path}") + glob.glob(f"{root}/crates/{path}"):
+            yield f"no such file: {path}"
+    for name, file in re.findall(r"^\|.* `(\w+)` \| `([\w/]+\.rt)` \|", text, re.M):
+        if not re.search(rf"\bfn {name}\b", read(f"{root}/crates/{file}") if os.path.exists(f"{root}/crates/{file}") else ""):
+            yield f"{file} has no function {name}"
+    for count, folder in re.findall(r"(\d+) in `(must-fail|wrong-bodies)/`", text):
+        if int(count) != (there := len(glob.glob(f"{root}/crates/*/{folder}/*.edit"))):
+            yield f"{folder}/ has {there} edits, not {count}"
+
+
+def looked_at(root):
+    """What was looked at, as (what, why it is wrong): each row of PROVED, and each page."""
+    proved = read(f"{root}/docs/PROVED.md")
+    crates = {it: Crate(f"{root}/crates/{it}") for it in {crate for crate, _ in rows(proved)}}
+    for crate, cells in rows(proved):
+        yield f"PROVED, {crate}: {cells[0]}", why_row(root, crates, crate, cells)
+    for page in PAGES:
+        text = read(f"{root}/docs/{page}.md")
+        why = [f"a paragraph of {len(it)} characters: {it[:60]}" for it in paragraphs(text) if len(it) > PARAGRAPH]
+        yield page, "; ".join(why + list(why_cited(root, text) if page != "DECISIONS" else ())) or None

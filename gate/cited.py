@@ -9,7 +9,7 @@ import re
 
 CLAIM_WORDS = 25
 PARAGRAPH = 600
-PAGES = ("PROVED",)
+PAGES = ("PROVED", "ARCHITECTURE", "DECISIONS")
 
 CLAUSE = re.compile(r"\b(?:requires|ensures)\s*(\w*)\s*\{")
 FUNCTION = re.compile(r"^( *)(pub (?:\([^)]*\) )?)?(?:const )?fn (\w+)")
@@ -18,6 +18,7 @@ DEFINED = re.compile(r"^\s*(?:abbrev |unfoldable )?pub (?:record |data )?([^\s:(
 USED = re.compile(r"Rattle\.(\w+)\.specs\.([\w.]+?)(?:\.\{| as )")
 MODULE = re.compile(r"(?:(\w+65) )?`((?:Inner/)?[A-Z]\w*)`")
 CITED = re.compile(r"\b(\w+65) ((?:`(?:Inner/)?[A-Z]\w*`(?:, | and )?)+)")
+PATH = re.compile(r"(?:crates(?!/NAME)|tests|gate|example|docs|bench|man|\w+65)(?:/[\w.-]+)+")
 TICKED = re.compile(r"`([^`]+)`")
 
 
@@ -135,9 +136,12 @@ def rows(text):
                 yield crate, [claim, before, *rest]
 
 
+def without_code(text):
+    return re.sub(r"^```.*?^```$", "", text, flags=re.M | re.S)
+
+
 def paragraphs(text):
     """The paragraphs of a page outside code: a row and a list's item are one each."""
-    text = re.sub(r"^```.*?^```$", "", text, flags=re.M | re.S)
     return re.split(r"\n(?:\s*\n|(?=\s*(?:\||- |\d+\. |#)))", text)
 
 
@@ -148,7 +152,7 @@ def why_cited(root, text):
             if not os.path.exists(module_file(root, crate, module)):
                 yield f"no such module: {crate} {module}"
     for path in TICKED.findall(text):
-        if re.fullmatch(r"[\w.-]+(/[\w.-]+)+", path) and ".." not in path and not glob.glob(f"{root}/{path}") + glob.glob(f"{root}/crates/{path}"):
+        if PATH.fullmatch(path) and not os.path.exists(f"{root}/{path}") and not os.path.exists(f"{root}/crates/{path}"):
             yield f"no such file: {path}"
     for name, file in re.findall(r"^\|.* `(\w+)` \| `([\w/]+\.rt)` \|", text, re.M):
         if not re.search(rf"\bfn {name}\b", read(f"{root}/crates/{file}") if os.path.exists(f"{root}/crates/{file}") else ""):
@@ -165,6 +169,6 @@ def looked_at(root):
     for crate, cells in rows(proved):
         yield f"PROVED, {crate}: {cells[0]}", why_row(root, crates, crate, cells)
     for page in PAGES:
-        text = read(f"{root}/docs/{page}.md")
+        text = without_code(read(f"{root}/docs/{page}.md"))
         why = [f"a paragraph of {len(it)} characters: {it[:60]}" for it in paragraphs(text) if len(it) > PARAGRAPH]
         yield page, "; ".join(why + list(why_cited(root, text) if page != "DECISIONS" else ())) or None

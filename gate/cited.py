@@ -2,7 +2,8 @@
 claim is short; and whether a page for maintainers has a paragraph that is too long.
 
 A row of PROVED is a claim, its calls, their clauses and the modules of specs/ that define these, under a heading with the crate's
-name. A clause without a name stands in parentheses, as a text that it has; 'same' means the calls of the row before."""
+name. A clause without a name stands in parentheses, as a text that it has, and 'law' for all that a law says; 'same' means the calls
+of the row before."""
 import glob
 import os
 import re
@@ -109,6 +110,9 @@ def why_row(root, crates, crate, cells):
     if lost := [it for it, where in found.items() if not where] or (not found and ["a call"]):
         return f"no such public call: {lost[0]}"
     texts, used = [], set()
+    for call, where in found.items():
+        if "law" in TICKED.sub("", named) and where[0][0].endswith("/laws.rt"):
+            texts, used = texts + [where[0][1]], used | {call}
     for is_text, name in re.findall(r"(\()?`([^`]+)`", named):
         here = [(call, text) for call, where in found.items() for _, signature in where for label, text in clauses(signature)
                 if (not label and re.search(rf"(?<!\w){re.escape(name)}(?!\w)", text) if is_text else label == name)]

@@ -13,7 +13,7 @@ PARAGRAPH = 600
 PAGES = ("PROVED", "ARCHITECTURE", "DECISIONS")
 
 CLAUSE = re.compile(r"\b(?:requires|ensures)\s*(\w*)\s*\{")
-FUNCTION = re.compile(r"^( *)(pub (?:\([^)]*\) )?)?(?:const )?fn (\w+)")
+FUNCTION = re.compile(r"^( *)(?:pub (?:\([^)]*\) )?)?(?:const )?fn (\w+)")
 OWNER = re.compile(r"^(?:pub )?(?:impl|trait)\b(?:<.*?>(?= ))?.*?(\w+)(?:<[^{]*)?(?:: [\w +]+)? (?:where.*)?\{$")
 DEFINED = re.compile(r"^\s*(?:abbrev |unfoldable )?pub (?:record |data )?([^\s:({]+)", re.M)
 USED = re.compile(r"Rattle\.(\w+)\.specs\.([\w.]+?)(?:\.\{| as )")
@@ -21,11 +21,19 @@ MODULE = re.compile(r"(?:(\w+65) )?`((?:Inner/)?[A-Z]\w*)`")
 CITED = re.compile(r"\b(\w+65) ((?:`(?:Inner/)?[A-Z]\w*`(?:, | and )?)+)")
 PATH = re.compile(r"(?:crates(?!/NAME)|tests|gate|example|docs|bench|man|\w+65)(?:/[\w.-]+)+")
 TICKED = re.compile(r"`([^`]+)`")
+ROW = re.compile(r"^\| (.*) \|$", re.M)
 
 
 def read(file):
     with open(file, encoding="utf-8") as it:
         return it.read()
+
+
+def without_code(text):
+    return re.sub(r"^```.*?^```$", "", text, flags=re.M | re.S)
+
+
+# ---- Crates.
 
 
 def clauses(signature):
@@ -42,7 +50,7 @@ def signature_at(lines, at, indent):
     """The lines of a signature that begins here, up to its body."""
     for end in range(at, len(lines)):
         line = lines[end]
-        if line.startswith(indent + "{") or line.endswith(";") or line == indent + "{}" or (end == at and line.endswith("{")):
+        if line.startswith(indent + "{") or line.endswith(";") or (end == at and line.endswith("{")):
             return "\n".join(lines[at : end + 1])
     return ""
 
@@ -57,13 +65,13 @@ def functions(folder):
             elif line == "}":
                 owner = ""
             if match := FUNCTION.match(line):
-                yield file, owner, match[3], signature_at(lines, at, match[1])
+                yield file, owner, match[2], signature_at(lines, at, match[1])
 
 
 class Crate:
-    def __init__(self, folder):
-        self.folder = folder
-        self.functions = list(functions(folder)) if os.path.isdir(folder) else []
+    def __init__(self, root, name):
+        folder = f"{root}/crates/{name}"
+        self.functions = list(functions(folder))
         face = read(f"{folder}/src/lib.rt") if os.path.exists(f"{folder}/src/lib.rt") else ""
         self.public = set(re.findall(r"\w+", " ".join(re.findall(r"^pub (?:use|mod) [^;]*;", face, re.M))))
 
@@ -78,12 +86,15 @@ class Crate:
                 if owner == front or (not owner and re.search(rf"/{front}[/.]", file))]
 
 
+# ---- Modules of definitions.
+
+
 def module_file(root, crate, module):
     return f"{root}/crates/{crate}/specs/{module}.antt"
 
 
 def uses(file):
-    """The modules that a file uses, as files."""
+    """The modules that a file uses, as (crate, module)."""
     return {(crate, module.replace(".", "/")) for crate, module in USED.findall(read(file))}
 
 
@@ -101,56 +112,71 @@ def is_near(root, crate, module, text, files):
     return any((crate, module) in uses(module_file(root, *it)) for it in used if defines(root, *it, text))
 
 
-def why_row(root, crates, crate, cells):
-    """Why a row of PROVED is wrong, if it is."""
-    claim, calls, named, modules = cells
-    if (words := len(claim.split())) > CLAIM_WORDS:
-        return f"a claim of {words} words"
-    found = {it: crates[crate].calls(it) for it in TICKED.findall(calls)}
-    if lost := [it for it, where in found.items() if not where] or (not found and ["a call"]):
-        return f"no such public call: {lost[0]}"
-    texts, used = [], set()
-    for call, where in found.items():
-        if "law" in TICKED.sub("", named) and where[0][0].endswith("/laws.rt"):
-            texts, used = texts + [where[0][1]], used | {call}
-    for is_text, name in re.findall(r"(\()?`([^`]+)`", named):
-        here = [(call, text) for call, where in found.items() for _, signature in where for label, text in clauses(signature)
-                if (not label and re.search(rf"(?<!\w){re.escape(name)}(?!\w)", text) if is_text else label == name)]
-        if not here:
-            return f"no call of the row has the clause {name}"
-        texts, used = texts + [text for _, text in here], used | {call for call, _ in here}
-    if idle := [it for it in found if it not in used]:
-        return f"no clause of the row stands in {idle[0]}"
-    files = {file for where in found.values() for file, _ in where}
-    for other, module in MODULE.findall(modules):
-        if not os.path.exists(module_file(root, other or crate, module)):
-            return f"no such module: {other or crate} {module}"
-        if not is_near(root, other or crate, module, " ".join(texts), files):
-            return f"{other or crate} {module} defines nothing that these clauses say"
-    return None
+# ---- The rows of PROVED.
 
 
 def rows(text):
     """The rows of the tables of claims, as (crate, cells)."""
     for part in re.split(r"^### ", text, flags=re.M)[1:]:
         crate, before = re.match(r"\w+", part)[0], ""
-        for line in re.findall(r"^\| (.*) \|$", part, re.M)[1:]:
+        for line in ROW.findall(part)[1:]:
             if len(cells := line.split(" | ")) == 4:
                 claim, before, *rest = cells if cells[1] != "same" else [cells[0], before, *cells[2:]]
                 yield crate, [claim, before, *rest]
 
 
-def without_code(text):
-    return re.sub(r"^```.*?^```$", "", text, flags=re.M | re.S)
+def stated(found, named):
+    """What the clauses that a row names say, as (clause, call, text), for the calls that were found."""
+    for call, where in found.items():
+        for file, signature in where:
+            if "law" in TICKED.sub("", named) and file.endswith("/laws.rt"):
+                yield "law", call, signature
+    for is_text, name in re.findall(r"(\()?`([^`]+)`", named):
+        word = re.compile(rf"(?<!\w){re.escape(name)}(?!\w)")
+        for call, where in found.items():
+            for label, text in (it for _, signature in where for it in clauses(signature)):
+                if not label and word.search(text) if is_text else label == name:
+                    yield name, call, text
+
+
+def why_row(root, crates, crate, cells):
+    """Why a row is wrong, if it is."""
+    claim, calls, named, modules = cells
+    if (words := len(claim.split())) > CLAIM_WORDS:
+        return f"a claim of {words} words"
+    found = {it: crates[crate].calls(it) for it in TICKED.findall(calls)}
+    if lost := [it for it, where in found.items() if not where] or (["none is named"] if not found else []):
+        return f"no such public call: {lost[0]}"
+    there = list(stated(found, named))
+    if lost := sorted({*TICKED.findall(named)} - {clause for clause, _, _ in there}):
+        return f"no call of the row has the clause {lost[0]}"
+    if idle := [it for it in found if it not in {call for _, call, _ in there}]:
+        return f"no clause of the row stands in {idle[0]}"
+    text, files = " ".join(it for _, _, it in there), {file for where in found.values() for file, _ in where}
+    for other, module in MODULE.findall(modules):
+        if not is_near(root, other or crate, module, text, files):
+            return f"{other or crate} {module} isn't there, or defines nothing that these clauses say"
+    return None
+
+
+# ---- Pages.
 
 
 def paragraphs(text):
-    """The paragraphs of a page outside code: a row and a list's item are one each."""
+    """The paragraphs of a page without code: a row and a list's item are one each."""
     return re.split(r"\n(?:\s*\n|(?=\s*(?:\||- |\d+\. |#)))", text)
 
 
+def why_public(root, text):
+    """Which type or call of a table of crates isn't public."""
+    for cells in (line.split(" | ") for line in ROW.findall(text)):
+        if len(cells) == 4 and re.fullmatch(r"\w+65", cells[0]):
+            public = Crate(root, cells[0]).public
+            yield from (f"{cells[0]} has no public {it}" for it in TICKED.findall(cells[2]) if it not in public)
+
+
 def why_cited(root, text):
-    """Which module, path or step of a page isn't there."""
+    """Which module, path, step or count of a page is wrong."""
     for crate, modules in CITED.findall(text):
         for module in TICKED.findall(modules):
             if not os.path.exists(module_file(root, crate, module)):
@@ -166,13 +192,20 @@ def why_cited(root, text):
             yield f"{folder}/ has {there} edits, not {count}"
 
 
+def why_page(root, page):
+    """Why a page is wrong, if it is."""
+    text = without_code(read(f"{root}/docs/{page}.md"))
+    why = [f"a paragraph of {len(it)} characters: {it[:60]}" for it in paragraphs(text) if len(it) > PARAGRAPH]
+    if page != "DECISIONS":
+        why += [*why_cited(root, text), *why_public(root, text)]
+    return "; ".join(why) or None
+
+
 def looked_at(root):
     """What was looked at, as (what, why it is wrong): each row of PROVED, and each page."""
-    proved = read(f"{root}/docs/PROVED.md")
-    crates = {it: Crate(f"{root}/crates/{it}") for it in {crate for crate, _ in rows(proved)}}
-    for crate, cells in rows(proved):
+    found = list(rows(without_code(read(f"{root}/docs/PROVED.md"))))
+    crates = {it: Crate(root, it) for it in {crate for crate, _ in found}}
+    for crate, cells in found:
         yield f"PROVED, {crate}: {cells[0]}", why_row(root, crates, crate, cells)
     for page in PAGES:
-        text = without_code(read(f"{root}/docs/{page}.md"))
-        why = [f"a paragraph of {len(it)} characters: {it[:60]}" for it in paragraphs(text) if len(it) > PARAGRAPH]
-        yield page, "; ".join(why + list(why_cited(root, text) if page != "DECISIONS" else ())) or None
+        yield page, why_page(root, page)

@@ -72,7 +72,7 @@ is a.out A500AD0100
 text s.cfg MEMORY { ROM: start = $12FF, size = $10; } SEGMENTS { CODE: load = ROM, type = ro; }
 text a.s lab: .byte <lab+1
 $ ca65 a.s
-$ ld65 -C s.cfg a.o ==> a.o:1: Error: out of range
+$ ld65 -C s.cfg a.o ==> a.o:a.s:1: Error: out of range
 text a.s lab: .byte <(lab+1)
 $ ca65 a.s
 $ ld65 -C s.cfg a.o
@@ -97,7 +97,7 @@ text m1.s .export f // .import g // f = g
 text m2.s .export g // .import f // g = f
 $ ca65 m1.s
 $ ca65 m2.s
-$ ld65 -C t.cfg m1.o m2.o ==> m1.o:1: Error: circular definition
+$ ld65 -C t.cfg m1.o m2.o ==> m1.o:m1.s:1: Error: circular definition
 text m1.s .export v // v = 1
 $ ca65 m1.s
 $ ld65 -C t.cfg m1.o m1.o ==> ld65: Error: duplicate export: v

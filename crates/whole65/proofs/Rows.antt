@@ -7,6 +7,7 @@ use Rattle.std.proofs.lemmas.List.{append-nil, append_assoc}
 use Rattle.object65.specs.declared.object.Section.{Section}
 use Rattle.script65.specs.declared.placement.Placement.{Placement}
 use Rattle.script65.specs.declared.script.Script.{Script}
+use Rattle.object65.specs.declared.object.Origin.{Origin}
 use Rattle.source65.specs.declared.place.Place.{Place}
 use Rattle.language65.specs.Parts.{Content, Part, Known, Filled, Waiting}
 use Rattle.language65.specs.Laid.{Laid}

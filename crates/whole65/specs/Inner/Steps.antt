@@ -1,11 +1,9 @@
 -- What the lemmas between the laws state.
-use Rattle.std.specs.Prelude.{◌≡◌, ◌<◌, ℕ, ◌+◌, ◌^◌, ℤ, pos, ◌↔◌, List, [], ◌∷◌, length, map, nat_eq, slice_get, take, true, false, Some, None, Result, Ok}
+use Rattle.std.specs.Prelude.{◌≡◌, ◌<◌, ℕ, ◌+◌, ◌^◌, ℤ, pos, ◌↔◌, List, [], length, map, nat_eq, slice_get, true, Some, None, Result, Ok}
 use Rattle.base65.specs.Store.{Files}
-use Rattle.syntax65.specs.Trees.{Tree, name}
 use Rattle.object65.specs.Form.{Form}
 use Rattle.language65.specs.Laid.{Laid}
-use Rattle.language65.specs.Layout.{Layout, segment_at}
-use Rattle.language65.specs.Norms.{norm}
+use Rattle.language65.specs.Layout.{Layout}
 use Rattle.module65.specs.Laying.{AreLaid}
 use Rattle.module65.specs.Reading.{Job, Reached}
 use Rattle.whole65.specs.Offsets.{ArePowers, IsLaidOut, IsMultiple, begin_of, lines_at}
@@ -25,7 +23,6 @@ use Rattle.link65.specs.Links.{AreFiles, names_once}
 use Rattle.link65.specs.Names.{symbol_imports}
 use Rattle.link65.specs.Modules.{Module}
 use Rattle.link65.specs.Programs as linked
-use Rattle.link65.specs.Places as places
 use Rattle.link65.specs.Places.{address_of, linkage_of, run_of}
 use Rattle.link65.specs.declared.parts.SectionPlace.{SectionPlace}
 use Rattle.script65.specs.declared.placement.RowPlace.{RowPlace}
@@ -34,8 +31,7 @@ use Rattle.base65.specs.Values.{wrapped}
 use Rattle.language65.specs.Sound.{IsSoundLayout, sections_in}
 use Rattle.link65.specs.Checks.{check_asserts, check_export, check_waiting, each_passes, waiting_by_row, waiting_in}
 use Rattle.image65.specs.Files.{RowBytes}
-use Rattle.link65.specs.RowBytes.{cell_bytes, row_bytes}
-use Rattle.link65.specs.declared.parts.Exported.{Exported}
+use Rattle.link65.specs.RowBytes.{cell_bytes}
 use Rattle.image65.specs.declared.output.OutputFile.{OutputFile}
 use Rattle.link65.specs.declared.parts.Member.{Member}
 use Rattle.link65.specs.Segments as grown
@@ -56,7 +52,7 @@ use Rattle.script65.specs.declared.script.Script.{Script}
 use Rattle.std.specs.Int.{next_multiple_of}
 use Rattle.std.specs.List.{AllByRecursion, flat_map, list_any}
 use Rattle.script65.specs.Placing.{place_of, rounded_up}
-use Rattle.whole65.specs.Values.{Program, Value}
+use Rattle.whole65.specs.Values.{Program}
 use Rattle.whole65.specs.Whole.{AreAsserted, AreExported, AreForced, AreRow, HasImage, given_names}
 use Rattle.whole65.specs.Whole as whole
 

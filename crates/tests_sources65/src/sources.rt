@@ -1,5 +1,6 @@
 //! Sources and what becomes of them: the worked ones, and what no source shows. All others are cases for the real program.
 
+mod names;
 mod stores;
 
 use asm65::{AsmJob, AsmRefusal, Define, assemble};

@@ -89,10 +89,11 @@ def form_bytes(rng, depth=3):
     return bytes([rng.randrange(0x20, 0x33)]) + form_bytes(rng, depth - 1) + form_bytes(rng, depth - 1)
 
 
-def with_form(rng, record):
-    """A VALUE, EXPORT or ASSERT with another form."""
-    body = record[3:]
-    behind = {5: 5, 6: 5 + body[0] if body else 0, 7: 6 + body[5] if len(body) > 5 else 0}[record[0]]
+def with_form(rng, head, record):
+    """A VALUE, EXPORT or ASSERT with another form, in an object with this head."""
+    body, place = record[3:], 8 if head[4:] == b"\2" else 4
+    text = body[1 + place] if len(body) > 1 + place else 0
+    behind = {5: 1 + place, 6: 1 + place + body[0] if body else 0, 7: 2 + place + text}[record[0]]
     body = body[:behind] + form_bytes(rng)
     return record[:1] + len(body).to_bytes(2, "little") + body
 
@@ -115,7 +116,7 @@ def change_records(rng, file, other):
     formed = [at for at, it in enumerate(parts) if it[:1] in (b"\5", b"\6", b"\7")]
     if way < 3 and formed:
         at = rng.choice(formed)
-        parts[at] = with_form(rng, parts[at])
+        parts[at] = with_form(rng, parts[0], parts[at])
     elif way < 4:
         parts[at] = rng.choice(alike or others)
     elif way < 5:

@@ -30,9 +30,9 @@ def literals(piece):
 
 
 def object_of(*sections):
-    """An object of sections of one literal each."""
+    """An object of sections of one literal each, which ca65 writes so, too."""
     heads = b"".join(section(name, len(piece)) for name, piece in sections)
-    return b"R65o\x01" + heads + b"".join(literals(piece) for _, piece in sections) + record(8, b"")
+    return b"R65o\x02" + heads + b"".join(literals(piece) for _, piece in sections) + record(8, b"")
 
 
 def pattern(count):

@@ -61,35 +61,44 @@ def section(size):
     return record(2, number(size, 4) + b"\0CODE")
 
 
-def object_of(*records):
-    return b"R65o\1" + b"".join(records) + record(8, b"")
+def object_of(*records, version=1):
+    return b"R65o%c" % version + b"".join(records) + record(8, b"")
+
+
+def place(version):
+    """Line 1, in version 2 of the first file."""
+    return number(0, 4) * (version - 1) + number(1, 4)
 
 
 def long_lines(tests):
     """A line of 2,040 operators is folded to a number, or has too many parts."""
     put("b.s", ".byte 5" + "+0" * 2040 + "\n")
-    tests.check("2,040 operators", (tests.run(LITTLE, "ca65", "b.s"), get("b.o")), (QUIET, object_of(section(1), literals(b"\5"))))
+    tests.check("2,040 operators", (tests.run(LITTLE, "ca65", "b.s"), get("b.o")), (QUIET, object_of(section(1), literals(b"\5"), version=2)))
     put("b.s", ".import v\n.byte <v" + "+v" * 2039 + "\n")
     tests.refused("2,039 operators and an import", b"b.s:2: Error: expression too large", "ca65", "b.s")
     put("b.s", ".byte " + "1||" * 1360 + "0\n.byte " + "1<" * 2040 + "1\n")
-    tests.check("1,360 and 2,040 others", (tests.run(LITTLE, "ca65", "b.s"), get("b.o")), (QUIET, object_of(section(2), literals(b"\1\1"))))
+    tests.check("1,360 and 2,040 others", (tests.run(LITTLE, "ca65", "b.s"), get("b.o")), (QUIET, object_of(section(2), literals(b"\1\1"), version=2)))
 
 
 def deep_forms(tests):
-    """Forms that fill a record: one operation within the other, 4,085 of them and one more."""
+    """Forms that fill a record of either version: one operation within the other, as many as there is room for and one less."""
     leaf = b"\2" + bytes(4)
-    head = [record(1, b"v"), section(2)]
-    for operation in (0x10, 0x11, 0x12, 0x15):
-        for count in (4085, 4086):
-            value = record(5, b"\1" + number(1, 4) + bytes([operation]) * count + leaf)
-            put("a.o", object_of(*head, value))
-            tests.refused(f"{count} operations {operation:x} of a value", b"a.o: Error: not canonical", "ld65", "-C", "s.cfg", "a.o")
-    export = record(6, b"\1e" + number(1, 4) + b"\x10" * 4085 + leaf)
-    put("a.o", object_of(record(1, b"v"), export))
-    tests.refused("4,085 operations of an export", b"a.o: Error: not canonical", "ld65", "-C", "s.cfg", "a.o")
-    tests.refused("the same in a library", b"a.o: Error: member is not an object", "ar65", "r", "l.lib", "a.o")
-    put("a.o", object_of(*head, record(5, b"\1" + number(1, 4) + b"\x27" * 4091)))
-    tests.refused("operations without an end", b"a.o: Error: bad size", "ld65", "-C", "s.cfg", "a.o")
+    for version in (1, 2):
+        files, most = [record(9, b"a.s")] * (version - 1), 4095 - len(place(version)) - len(leaf)
+        head = [*files, record(1, b"v"), section(2)]
+        for operation in (0x10, 0x11, 0x12, 0x15):
+            for count in (most - 1, most):
+                value = record(5, b"\1" + place(version) + bytes([operation]) * count + leaf)
+                put("a.o", object_of(*head, value, version=version))
+                what = f"{count} operations {operation:x} of a value of version {version}"
+                tests.refused(what, b"a.o: Error: not canonical", "ld65", "-C", "s.cfg", "a.o")
+        export = record(6, b"\1e" + place(version) + b"\x10" * (most - 1) + leaf)
+        put("a.o", object_of(*files, record(1, b"v"), export, version=version))
+        what = f"{most - 1} operations of an export of version {version}"
+        tests.refused(what, b"a.o: Error: not canonical", "ld65", "-C", "s.cfg", "a.o")
+        tests.refused(f"{what}, in a library", b"a.o: Error: member is not an object", "ar65", "r", "l.lib", "a.o")
+        put("a.o", object_of(*head, record(5, b"\1" + place(version) + b"\x27" * (most + 5)), version=version))
+        tests.refused(f"operations of version {version} without an end", b"a.o: Error: bad size", "ld65", "-C", "s.cfg", "a.o")
 
 
 def promises(tests):
@@ -115,6 +124,9 @@ def promises(tests):
         ("room", b"R65o\1" + section(1 << 24) + record(4, most), b"bad size"),
         ("a record", b"R65o\1\1\0\x10", b"object cut short"),
         ("a longer record", b"R65o\1\1\1\x10", b"bad size"),
+        ("a file's name", b"R65o\2\x09\0\x10", b"object cut short"),
+        ("a longer one", b"R65o\2\x09\1\x10", b"bad size"),
+        ("files", b"R65o\2" + record(9, b"a.s") + record(6, b"\1e" + most + number(1, 4) + b"\0" + bytes(8)), b"index out of range"),
     ):
         put("a.o", file)
         tests.refused(f"an object that promises {what}", b"a.o: Error: " + fault, "ld65", "-C", "s.cfg", "a.o")

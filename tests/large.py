@@ -75,8 +75,9 @@ class Source:
 
     def object(self):
         """The object's bytes."""
-        parts = [b"R65o\x01"]
+        parts = [b"R65o\x02"]
         if self.with_imports:
+            parts += [record(9, b"b.s")]
             parts += [record(1, b"v%d" % at) for at in reversed(range(IMPORTS))]
         for section in range(SECTIONS):
             size = LINES * VALUES * 4 + 2 * len(self.used[section])
@@ -85,7 +86,7 @@ class Source:
         for section in range(SECTIONS):
             parts.append(literals(data(section)))
             for line in self.used[section]:
-                parts.append(record(5, b"\1" + line.to_bytes(4, "little") + b"\2" + number.to_bytes(4, "little")))
+                parts.append(record(5, b"\1" + bytes(4) + line.to_bytes(4, "little") + b"\2" + number.to_bytes(4, "little")))
                 number += 1
         return b"".join(parts) + record(8, b"")
 
@@ -195,11 +196,12 @@ def number(value, size):
 
 
 def member(at):
-    """An object of four bytes that exports a name, and imports the next one."""
+    """An object of four bytes that exports a name, and imports the next one; every third is of version 1."""
     export, wanted = f"f{at}".encode(), f"f{at + 1}".encode()
+    head, place = (b"R65o\2" + record(9, b"m.s"), bytes(4)) if at % 3 else (b"R65o\1", b"")
     section = record(2, number(4, 4) + b"\0CODE") + literals(number(value(at, at, 0), 4))
-    exported = record(6, bytes([len(export)]) + export + number(1, 4) + b"\0" + number(at, 8))
-    return b"R65o\1" + record(1, wanted) + section + exported + record(8, b"")
+    exported = record(6, bytes([len(export)]) + export + place + number(1, 4) + b"\0" + number(at, 8))
+    return head + record(1, wanted) + section + exported + record(8, b"")
 
 
 def library(members):

@@ -11,7 +11,7 @@ WORDS = {
         "|no such addressing form|(?:defined twice|undefined name|no such scope|scope defined twice|imported and defined"
         "|export not defined): .+|circular definition|out of range|zero divisor or bad shift count|expression too large"
         "|section too large|no such unnamed label|bad alignment|popseg without pushseg|operand not constant or out of range"
-        "|incbin out of range|segment size changed|scope not open or not closed"
+        "|incbin out of range|segment size changed|scope not open or not closed|file name too long"
     ),
     "object": (
         "not an object|unknown version|object cut short|unknown record|record out of order|index out of range|bad size"

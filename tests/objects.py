@@ -1,6 +1,6 @@
-"""Objects as docs/FORMATS.md describes them, shown as text.
+"""Objects of either version as docs/FORMATS.md describes them, shown as text.
 
-usage: objects.py FILE..    prints a line for each import, section, fragment, export and assertion.
+usage: objects.py FILE..    prints a line for each file, import, section, fragment, export and assertion.
 """
 
 import struct
@@ -10,11 +10,12 @@ WIDTHS = ["byte", "word", "dbyt", "dword", "branch"]
 LENGTHS = {"byte": 1, "word": 2, "dbyt": 2, "dword": 4, "branch": 1}
 PREFIXES = ["-", "~", "<", ">", "^", "!"]
 OPERATORS = "* / .mod & ^ << >> + - | = <> < > <= >= && .xor ||".split()
-IMPORT, SECTION, LITERAL, FILL, VALUE, EXPORT, ASSERT, END = range(1, 9)
+IMPORT, SECTION, LITERAL, FILL, VALUE, EXPORT, ASSERT, END, FILE = range(1, 10)
+HEADS = {b"R65o\x01": 1, b"R65o\x02": 2}
 
 
 class Section:
-    """A section: its name, size, alignment, and its fragments: bytes, a count of room, or (width, line, form)."""
+    """A section: its name, size, alignment, and its fragments: bytes, a count of room, or (width, place, form)."""
 
     def __init__(self, name, size, align):
         self.name, self.size, self.align = name, size, align
@@ -33,9 +34,10 @@ class Object:
     """An object in parts."""
 
     def __init__(self, file):
-        if file[:5] != b"R65o\x01":
-            raise ValueError("not an object of version 1")
-        self.imports, self.sections, self.exports, self.asserts = [], [], [], []
+        if file[:5] not in HEADS:
+            raise ValueError("not an object of version 1 or 2")
+        self.version = HEADS[file[:5]]
+        self.files, self.imports, self.sections, self.exports, self.asserts = [], [], [], [], []
         at = 5
         kind = 0
         while kind != END:
@@ -50,7 +52,11 @@ class Object:
 
     def take(self, kind, body):
         """Adds a record to the parts."""
-        if kind == IMPORT:
+        if kind == FILE and self.version == 2:
+            if self.imports or self.sections or self.exports or self.asserts or text(body) in self.files:
+                raise ValueError("a file behind other records, or a second one of its name")
+            self.files.append(text(body))
+        elif kind == IMPORT:
             self.imports.append(text(body))
         elif kind == SECTION:
             size, power = struct.unpack_from("<IB", body)
@@ -61,20 +67,27 @@ class Object:
             (count,) = struct.unpack("<I", body)
             self.open_section().add(count, count)
         elif kind == VALUE:
-            width, line = struct.unpack_from("<BI", body)
-            width = WIDTHS[width]
-            self.open_section().add((width, line, self.form(body[5:])), LENGTHS[width])
+            width = WIDTHS[body[0]]
+            place, behind = self.place(body, 1)
+            self.open_section().add((width, place, self.form(body[behind:])), LENGTHS[width])
         elif kind == EXPORT:
-            behind = 1 + body[0]
-            (line,) = struct.unpack_from("<I", body, behind)
-            self.exports.append((text(body[1:behind]), line, self.form(body[behind + 4 :])))
+            name = text(body[1 : 1 + body[0]])
+            place, behind = self.place(body, 1 + body[0])
+            self.exports.append((name, place, self.form(body[behind:])))
         elif kind == ASSERT:
-            action, line, length = struct.unpack_from("<BIB", body)
-            message = text(body[6 : 6 + length])
-            action = ["warning", "error"][action]
-            self.asserts.append((action, line, message, self.form(body[6 + length :])))
+            place, at = self.place(body, 1)
+            behind = at + 1 + body[at]
+            action = ["warning", "error"][body[0]]
+            self.asserts.append((action, place, text(body[at + 1 : behind]), self.form(body[behind:])))
         elif kind != END:
             raise ValueError(f"kind {kind}")
+
+    def place(self, body, at):
+        """What stands in a body about where its part comes from: a line, before it the file in version 2; and what is behind it."""
+        if self.version == 1:
+            return f"line {struct.unpack_from('<I', body, at)[0]}", at + 4
+        file, line = struct.unpack_from("<II", body, at)
+        return f"{self.files[file]}:{line}", at + 8
 
     def open_section(self):
         """The first section that isn't full."""
@@ -113,20 +126,20 @@ def shown_fragment(fragment):
         return "literal " + fragment.hex(" ").upper()
     if isinstance(fragment, int):
         return f"room {fragment}"
-    width, line, form = fragment
-    return f"{width} of line {line}: {form}"
+    width, place, form = fragment
+    return f"{width} of {place}: {form}"
 
 
 def dump(file):
     """The lines of an object."""
     it = Object(file)
-    lines = [f"import {name}" for name in it.imports]
+    lines = [f"file {name}" for name in it.files] + [f"import {name}" for name in it.imports]
     for section in it.sections:
         align = f" align {section.align}" if section.align > 1 else ""
         lines.append(f"section {section.name} of {section.size}{align}")
         lines += ["  " + shown_fragment(fragment) for fragment in section.fragments]
-    lines += [f"export {name} of line {line}: {form}" for name, line, form in it.exports]
-    lines += [f'{action} of line {line} "{message}": {form}' for action, line, message, form in it.asserts]
+    lines += [f"export {name} of {place}: {form}" for name, place, form in it.exports]
+    lines += [f'{action} of {place} "{message}": {form}' for action, place, message, form in it.asserts]
     return lines
 
 

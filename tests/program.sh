@@ -79,7 +79,7 @@ check 'a script that is too long' 1 'long.cfg:1: Error: script too long' image -
 
 printf 'nop\n' > n.s
 bin65 ca65 n.s
-check 'a source is assembled, and the object named after it' 0 '' n.o 5236356f010209000100000000434f4445030100ea080000
+check 'a source is assembled, and the object named after it' 0 '' n.o 5236356f020209000100000000434f4445030100ea080000
 printf '.byte 1,$FF\n.word $1234, 0FFh, %%101\n' > b.s
 bin65 ca65 -o b.object b.s
 check 'lists of numbers' 0 '' b.o -
@@ -87,7 +87,7 @@ bin65 ld65 -C s.cfg -o image b.object
 check 'what was assembled is linked' 0 '' image 01ff3412ff000500
 printf '' > e.s
 bin65 ca65 e.s
-check 'an empty source' 0 '' e.o 5236356f01080000
+check 'an empty source' 0 '' e.o 5236356f02080000
 printf 'nop\n.byte 256\n' > b.s
 bin65 ca65 b.s
 check 'a number that does not fit, with its line' 1 'b.s:2: Error: out of range' b.o -

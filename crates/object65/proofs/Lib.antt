@@ -24,3 +24,4 @@ pub mod Builders
 pub mod Withins
 pub mod Itemings
 pub mod Foldings
+pub mod Versions

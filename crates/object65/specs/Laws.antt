@@ -8,6 +8,7 @@ use Rattle.object65.specs.Bytes.{IsBytes}
 use Rattle.object65.specs.Folding.{fold1, fold2, folds1, folds2, is_normal, node_limit}
 use Rattle.object65.specs.Form.{Form, prefix, binary, nodes}
 use Rattle.object65.specs.FormValue.{value_in, value_of_one, value_of_two}
+use Rattle.object65.specs.Objects.{ObjectFits, is_good_object}
 use Rattle.object65.specs.Reading.{room, file_limit}
 use Rattle.object65.specs.Spelling.{IsObject}
 use Rattle.object65.specs.Fault.{◌>>=◌}
@@ -15,6 +16,7 @@ use Rattle.object65.specs.Items.{with_items}
 use Rattle.object65.specs.Record.{Entry}
 use Rattle.object65.specs.Scanning.{items_of, outline_of}
 use Rattle.object65.specs.Taking.{State, after_all}
+use Rattle.object65.specs.Versions.{in_version_one}
 use Rattle.object65.specs.Whole.{object_at}
 
 -- what is read as an object is spelled so
@@ -40,6 +42,10 @@ NumberLaw = (n : ℕ) (a b : List ℕ) → IsBytes a → IsBytes b → length a 
 -- the items that a scan gives make what the records make, and it refuses what is refused of them, for the same fault
 abbrev pub ItemsLaw : Type 0
 ItemsLaw = (s : State) (es : List Entry) → (items_of (outline_of s) es >>= (λ is. Ok (with_items s is))) ≡ after_all s es
+
+-- what an object says in version 1 has a spelling where the object has one, and numbers and texts of their types likewise
+abbrev pub VersionLaw : Type 0
+VersionLaw = (o : Object) → (is_good_object o ≡ true → is_good_object (in_version_one o) ≡ true) × (ObjectFits o → ObjectFits (in_version_one o))
 
 -- folding a prefix operation keeps its value, and that it has none, wherever sections lie and whatever imports mean
 abbrev pub PrefixFoldLaw : Type 0 → Type 0

@@ -1,5 +1,5 @@
 -- The object of version 1 that says the same but for the files.
-use Rattle.std.specs.Prelude.{ℕ, List, [], map, None}
+use Rattle.std.specs.Prelude.{◌≡◌, ◌⊎◌, [], map, None}
 use Rattle.object65.specs.declared.object.Assert.{Assert}
 use Rattle.object65.specs.declared.object.Export.{Export}
 use Rattle.object65.specs.declared.object.Fragment.{Fragment}
@@ -34,3 +34,7 @@ in_version_one o = record {
   exports = map export_in_one o.exports;
   asserts = map assert_in_one o.asserts;
 }
+
+-- an object is this one, or that of version 1 that says the same
+abbrev pub IsEitherVersion : Object → Object → Type 0
+IsEitherVersion o p = (p ≡ o) ⊎ (p ≡ in_version_one o)

@@ -1,6 +1,6 @@
 //! What holds of objects and their bytes, whatever wrote them, and of forms. Each function's contract is a law.
 
-ghost use Rattle.object65.specs.Laws.{ReadLaw, SpellingLaw, PrefixLaw, OneSpellingLaw, NumberLaw, ItemsLaw, PrefixFoldLaw, BinaryFoldLaw, NormalLaw, StaysLaw};
+ghost use Rattle.object65.specs.Laws.{ReadLaw, SpellingLaw, PrefixLaw, OneSpellingLaw, NumberLaw, ItemsLaw, VersionLaw, PrefixFoldLaw, BinaryFoldLaw, NormalLaw, StaysLaw};
 
 /// What is read as an object is spelled so.
 pub fn read_is_spelled()
@@ -31,6 +31,12 @@ pub fn one_number()
 /// builder refuses, for the same fault.
 pub fn items_make_the_object()
     ensures { ItemsLaw }
+{}
+
+/// An object says in version 1 what it says in version 2, but for the files: where the one can be spelled and its
+/// numbers and texts are of their types, so can the other, and so are the other's.
+pub fn version_one_is_an_object()
+    ensures { VersionLaw }
 {}
 
 /// Folding a prefix operation keeps its value wherever sections lie and whatever imports mean, and that it has

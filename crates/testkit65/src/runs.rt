@@ -50,7 +50,7 @@ text m1.s .export f // .import g // f = g
 text m2.s .export g // .import f // g = f
 $ ca65 m1.s
 $ ca65 m2.s
-$ ld65 -C s.cfg m1.o m2.o ==> m1.o:1: Error: circular definition
+$ ld65 -C s.cfg m1.o m2.o ==> m1.o:m1.s:1: Error: circular definition
 absent a.out
 
 bytes x.o 5236356F01080000
@@ -98,19 +98,19 @@ text b.s .out \"one\" // .warning \"two\" // .include \"i.inc\" // .incbin \"b.b
 text d/i.inc .proc p // @l: bne @l // .endproc // .assert 0, warning, \"three\"
 bytes b.bin 010203
 $ ca65 -I d -D n=2 -o c.o b.s ==> one // b.s:2: Warning: two // d/i.inc:4: Warning: three
-is c.o 5236356F010209000400000000434F4445030400D0FE0203080000
+is c.o 5236356F020209000400000000434F4445030400D0FE0203080000
 text e.s .out \"one\" // .warning \"two\" // .if 1 // v = v // .byte v
 $ ca65 e.s ==> one // e.s:2: Warning: two // e.s:5: Error: block not closed
 absent e.o
 
 text b.s lab: nop // w = -lab // u = z // v = w + u // lda v // z = 1
 $ ca65 b.s
-is b.o 5236356F010209000400000000434F4445030200EAAD051D000105000000271001000000000000000000000000000100000000000000080000
+is b.o 5236356F02090300622E730209000400000000434F4445030200EAAD052100010000000005000000271001000000000000000000000000000100000000000000080000
 
 text s.cfg MEMORY { ONE: start = 0, size = 9, file = \"one\"; TWO: start = 0, size = 9, file = \"two\", fill = yes; } SEGMENTS { A: load = ONE; B: load = TWO; }
 text a.s .segment \"A\" // .byte 1 // .segment \"B\" // .byte 2 // .assert * = 1, warning, \"a\" // .assert * > 1, warning, \"b\"
 $ ca65 a.s
-$ ld65 -C s.cfg -m a.map a.o ==> a.o:6: Warning: b
+$ ld65 -C s.cfg -m a.map a.o ==> a.o:a.s:6: Warning: b
 is one 01
 is two 020000000000000000
 says a.map MODULES // a.o //   A 00000000 00000001 //   B 00000000 00000001 // SEGMENTS // A 00000000 00000000 00000001 // B 00000000 00000000 00000001 // SYMBOLS

@@ -7,7 +7,7 @@ use testkit65::first_wrong;
 const SCENES: &str = "\
 text b.s \tNop ; nothing
 $ ca65 b.s
-is b.o 5236356F010209000100000000434F4445030100EA080000
+is b.o 5236356F020209000100000000434F4445030100EA080000
 text b.s .byte 256
 $ ca65 -o c.o b.s ==> b.s:1: Error: out of range
 absent c.o
@@ -27,12 +27,12 @@ text b.s s: nop // nop // nop // .data // .if * - s > 2 // rts // .endif
 $ ca65 -o c.o b.s ==> b.s:5: Error: not constant
 text b.s .macro m n // .if n > 1 // m n-1 // .endif // .endmacro // m 256
 $ ca65 -o c.o b.s
-is c.o 5236356F01080000
+is c.o 5236356F02080000
 
 text s.cfg MEMORY { ROM: start = $8000, size = $100; } SEGMENTS { CODE: load = ROM, type = ro, optional = yes; }
 text a.s ; nothing
 $ ca65 a.s
-is a.o 5236356F01080000
+is a.o 5236356F02080000
 $ ld65 -C s.cfg a.o
 is a.out
 text a.s l: .res 126,0 // bne l

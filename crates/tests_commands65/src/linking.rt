@@ -72,7 +72,7 @@ is a.out A500AD0100
 text s.cfg MEMORY { ROM: start = $12FF, size = $10; } SEGMENTS { CODE: load = ROM, type = ro; }
 text a.s lab: .byte <lab+1
 $ ca65 a.s
-$ ld65 -C s.cfg a.o ==> a.o:1: Error: out of range
+$ ld65 -C s.cfg a.o ==> a.o:a.s:1: Error: out of range
 text a.s lab: .byte <(lab+1)
 $ ca65 a.s
 $ ld65 -C s.cfg a.o
@@ -97,7 +97,7 @@ text m1.s .export f // .import g // f = g
 text m2.s .export g // .import f // g = f
 $ ca65 m1.s
 $ ca65 m2.s
-$ ld65 -C t.cfg m1.o m2.o ==> m1.o:1: Error: circular definition
+$ ld65 -C t.cfg m1.o m2.o ==> m1.o:m1.s:1: Error: circular definition
 text m1.s .export v // v = 1
 $ ca65 m1.s
 $ ld65 -C t.cfg m1.o m1.o ==> ld65: Error: duplicate export: v
@@ -120,6 +120,36 @@ is a.out 8000
 text b.s .import f // x1 = f+f // x2 = x1+x1 // x3 = x2+x2 // x4 = x3+x3 // x5 = x4+x4 // x6 = x5+x5 // x7 = x6+x6 // x8 = x7+x7 // .word x7
 $ ca65 -o c.o b.s ==> b.s:9: Error: expression too large
 absent c.o
+
+text s.cfg MEMORY { ROM: start = $8000, size = $10; } SEGMENTS { CODE: load = ROM, type = ro; DATA: load = ROM, type = ro, optional = yes; } SYMBOLS { v: type = export, value = 256; }
+text t.cfg MEMORY { ROM: start = $8000, size = $10; } SEGMENTS { CODE: load = ROM, type = ro; DATA: load = ROM, type = ro, optional = yes; } SYMBOLS { v: type = export, value = 255; }
+text m.s .import v // .include \"i.inc\"
+text i.inc nop // .byte v
+$ ca65 m.s
+is m.o 5236356F02090500692E696E63010100760209000200000000434F4445030100EA050E000000000000020000000200000000080000
+$ ld65 -C s.cfg m.o ==> m.o:i.inc:2: Error: out of range
+absent a.out
+$ ld65 -C t.cfg m.o
+is a.out EAFF
+bytes n.o 5236356F01010100760209000200000000434F4445030100EA050A0000020000000200000000080000
+$ ld65 -C s.cfg -o b.out n.o ==> n.o:2: Error: out of range
+absent b.out
+$ ld65 -C t.cfg -o b.out n.o
+is b.out EAFF
+$ ld65 -C t.cfg -o c.out n.o m.o n.o
+is c.out EAFFEAFFEAFF
+bytes o.o 5236356F01090100610209000300000000434F4445030300A90060080000
+$ ld65 -C t.cfg -o d.out o.o ==> o.o: Error: unknown record
+
+text s.cfg MEMORY { ROM: start = $8000, size = $10; } SEGMENTS { CODE: load = ROM, type = ro; DATA: load = ROM, type = ro, optional = yes; }
+bytes a.o 5236356F01010100670209000100000000434F4445050A0000010000000200000000060F00016601000000000700000000000000080000
+bytes b.o 5236356F020905006D2E696E63010100660209000100000000434F4445050E00000000000002000000020000000006130001670000000001000000000900000000000000080000
+text main.s .import f // .byte f
+$ ca65 main.s
+$ ar65 r l.lib a.o b.o
+$ ar65 t l.lib ==> a.o // b.o
+$ ld65 -C s.cfg main.o l.lib
+is a.out 070907
 ";
 
 #[test]

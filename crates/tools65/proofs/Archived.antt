@@ -1,5 +1,5 @@
 -- What ca65 and ar65 write is as inputs are supposed to be.
-use Rattle.std.proofs.Common.{◌≡◌, ◌∙◌, ◌≤◌, ℕ, ◌+◌, Bool, true, false, List, [], ◌∷◌, ◌++◌, length, Option, Some, None, Result, Ok, Err, refl, sym, ap, subst, if◌then◌else◌}
+use Rattle.std.proofs.Common.{◌≡◌, ◌∙◌, inl, ◌≤◌, ℕ, ◌+◌, Bool, true, false, List, [], ◌∷◌, ◌++◌, length, Option, Some, None, Result, Ok, Err, refl, sym, ap, subst, if◌then◌else◌}
 use Rattle.std.specs.Prelude.{IfSome, ◌==◌}
 use Rattle.std.specs.FinMap.{get}
 use Rattle.std.specs.List.{AllByRecursion}
@@ -144,8 +144,10 @@ object_file a m o z (Ok k) is found (fits, name, named, same) well =
     (named_file (source_in a m) name (object_bytes k) (λ short. record {
       outcome = z;
       assembled = is;
-      object = k;
+      made = k;
       result = found;
+      object = k;
+      version = inl refl;
       spelled = refl;
       numbers = fits;
       limit = short;

@@ -12,8 +12,10 @@ use Rattle.object65.specs.declared.object.Object.{Object}
 use Rattle.object65.specs.Objects.{is_good_object}
 use Rattle.object65.specs.Reading.{file_limit, in_file, room}
 use Rattle.object65.specs.Spelling.{IsObject, object_bytes}
+use Rattle.object65.specs.Versions.{IsEitherVersion}
 use Rattle.object65.specs.Whole.{object_at}
 use Rattle.object65.proofs.Spellings.{no_prefix, object_is_read}
+use Rattle.object65.proofs.Versions.{version_law}
 use Rattle.library65.specs.declared.index.Entry.{Entry}
 use Rattle.library65.specs.Libraries.{agrees, are_same, contents_from}
 use Rattle.library65.specs.Reading.{index_at, in_file as in_library}
@@ -58,9 +60,14 @@ good_source m job a o (r, laid, same) is =
     let good = good_object y.standing.segments z.imports cs (sound_contents y cs (sound_layout m job r laid) there) in
     subst (λ (k : Object). is_good_object k ≡ true) (ok_same (object_with y.standing.segments z.imports cs) o made) good
 
+-- of version 1 too
+either_good : (o p : Object) → is_good_object o ≡ true → IsEitherVersion o p → is_good_object p ≡ true
+either_good o p good (inl same) = subst (λ (k : Object). is_good_object k ≡ true) (sym same) good
+either_good o p good (inr same) = subst (λ (k : Object). is_good_object k ≡ true) (sym same) ((version_law o).0 good)
+
 pub written_object : WrittenObjectLaw
 written_object x bytes w = record {
-  good = good_source x.files x.job w.outcome w.object w.assembled w.result;
+  good = either_good w.made w.object (good_source x.files x.job w.outcome w.made w.assembled w.result) w.version;
   numbers = w.numbers;
   spelled = w.spelled;
 }
@@ -69,7 +76,7 @@ some_bytes : (o : Object) → 0 < length (object_bytes o)
 some_bytes o = omega arith
 
 source_module : (x : Source) (bytes name : List ℕ) (w : IsWrittenOf x bytes) → IsObjectOf x (module_of name w.object)
-source_module x bytes name w = (w.outcome, w.assembled, w.result)
+source_module x bytes name w = (w.outcome, w.made, w.assembled, w.result, w.version)
 
 -- ---- A file.
 

@@ -22,10 +22,10 @@ no_fault y None o e = (refl, e)
 no_fault y (Some f) o e = absurd cc
 
 laid_of : (x : Source) (m : Module) → IsObjectOf x m → (y : Layout) × IsLaidOf x y × whole.IsSource y m
-laid_of x m (a, (r, laid, is), found) =
-    let sound = no_fault r.behind r.fault m.object (sym (ap (λ z. z.result) is) ∙ found) in
+laid_of x m (a, p, (r, laid, is), found, version) =
+    let sound = no_fault r.behind r.fault p (sym (ap (λ z. z.result) is) ∙ found) in
     let there : IsLaidOf x r.behind = subst (λ f. AreLaid x.files x.job (record { behind = r.behind; fault = f })) sound.0 laid in
-    (r.behind, there, record { laid_out = laid_out_law x.files x.job r laid; sound = sound_layout x.files x.job r laid; object = sound.1 })
+    (r.behind, there, record { laid_out = laid_out_law x.files x.job r laid; sound = sound_layout x.files x.job r laid; written = p; object = sound.1; version = version })
 
 all_laid : (xs : List Source) (ms : List Module) → AreObjectsOf xs ms → (ys : List Layout) × AreLaidOf xs ys × AreSources ys ms
 all_laid [] [] h = ([], tt, tt)

@@ -22,18 +22,18 @@ SelectionExistsLaw =
     (es : List Entry) (wanted defined : List (List ℕ)) →
     (places : List ℕ) × IsSelection es wanted defined places
 
--- what ca65 writes of a source is spelled as an object of the grammar
+-- what ca65 wrote of a source is spelled as an object of the grammar
 abbrev pub WrittenObjectLaw : Type 0
 WrittenObjectLaw = (x : Source) (bytes : List ℕ) (w : IsWrittenOf x bytes) → IsObject bytes w.object
 
--- a file that ca65 wrote of a source gives one module, the source's object, behind whatever modules it stands
+-- a file that ca65 wrote of a source gives one module, an object of the source, behind whatever modules it stands
 abbrev pub WrittenInputLaw : Type 0
 WrittenInputLaw =
     (s : Script) (m : Files) (before : List Module) (name bytes : List ℕ) (x : Source) →
     get m name ≡ Some bytes → IsWrittenOf x bytes →
     (k : Module) × IsObjectOf x k × AreInputOf s m before name (k ∷ [])
 
--- a library's member that ca65 wrote of a source gives the source's object
+-- a library's member that ca65 wrote of a source gives an object of the source
 abbrev pub WrittenMemberLaw : Type 0
 WrittenMemberLaw =
     (m : Files) (library bytes : List ℕ) (e : Entry) (p : Member) (x : Source) →

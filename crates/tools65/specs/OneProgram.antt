@@ -10,6 +10,7 @@ use Rattle.module65.specs.Module as asm
 use Rattle.module65.specs.Reading.{Job}
 use Rattle.asm65.specs.Assembly.{IsAssembled}
 use Rattle.object65.specs.declared.object.Object.{Object}
+use Rattle.object65.specs.Versions.{IsEitherVersion}
 use Rattle.library65.specs.Selection.{IsSelection}
 use Rattle.library65.specs.declared.index.Entry.{Entry}
 use Rattle.link65.specs.Givers.{given_names, open_names}
@@ -39,9 +40,10 @@ pub record Source : Type 0 where
   pub files : Files
   pub job : Job
 
--- a module's object is the one that ca65 writes of a source
+-- A module's object is one that ca65 wrote of a source: that which assembling gives, or that of version 1 of the same
+-- statements.
 abbrev pub IsObjectOf : Source → Module → Type 0
-IsObjectOf x m = (o : asm.Outcome) × IsAssembled x.files x.job o × (o.result ≡ Ok m.object)
+IsObjectOf x m = (o : asm.Outcome) × (p : Object) × IsAssembled x.files x.job o × (o.result ≡ Ok p) × IsEitherVersion p m.object
 
 abbrev pub AreObjectsOf : List Source → List Module → Type 0
 AreObjectsOf [] [] = ⊤
@@ -101,8 +103,8 @@ AreSelected s m before (name ∷ names) ms =
 
 -- ---- A run.
 
--- The script of a line is this one, and each module that the line selects is the object that ca65 writes of a source, in
--- this order.
+-- The script of a line is this one, and each module that the line selects is an object that ca65 wrote of a source, in this
+-- order, whichever of them are of version 1.
 pub record SelectsSources (l : Linking) (m : Files) (s : Script) (xs : List Source) : Type 0 where
   pub text : List ℕ
   pub file : get m l.script ≡ Some text

@@ -1,4 +1,4 @@
--- What ca65 writes of sources, alone and in libraries.
+-- What ca65 wrote of sources, alone and in libraries, in either version.
 use Rattle.std.specs.Prelude.{◌≡◌, ℕ, ◌≤◌, ◌⊎◌, List, length, slice_get, Some, Ok}
 use Rattle.std.specs.FinMap.{get}
 use Rattle.std.specs.List.{AllByRecursion}
@@ -7,17 +7,20 @@ use Rattle.object65.specs.declared.object.Object.{Object}
 use Rattle.object65.specs.Objects.{ObjectFits}
 use Rattle.object65.specs.Reading.{file_limit}
 use Rattle.object65.specs.Spelling.{object_bytes}
+use Rattle.object65.specs.Versions.{IsEitherVersion}
 use Rattle.library65.specs.Spelling.{IsLibrary, Member}
 use Rattle.module65.specs.Module as asm
 use Rattle.asm65.specs.Assembly.{IsAssembled}
 use Rattle.tools65.specs.OneProgram.{Source}
 
--- ca65 writes these bytes of a source: the one spelling of its object
+-- ca65 wrote these bytes of a source: the one spelling of its object, or of the object of version 1 of the same statements
 pub record IsWrittenOf (x : Source) (bytes : List ℕ) : Type 0 where
   pub outcome : asm.Outcome
   pub assembled : IsAssembled x.files x.job outcome
+  pub made : Object
+  pub result : outcome.result ≡ Ok made
   pub object : Object
-  pub result : outcome.result ≡ Ok object
+  pub version : IsEitherVersion made object
   pub spelled : bytes ≡ object_bytes object
   -- the numbers in it are those of their types, and no byte lies past the limit of a file
   pub numbers : ObjectFits object

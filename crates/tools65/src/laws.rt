@@ -10,8 +10,8 @@ pub fn one_outcome()
     ensures { OneOutcomeLaw }
 {}
 
-/// Linking the objects that ca65 writes of sources gives files exactly where the sources, laid out and
-/// evaluated as one program, have an image, and these files are that image.
+/// Linking objects that ca65 wrote of sources, in either version, gives files exactly where the sources, laid out
+/// and evaluated as one program, have an image, and these files are that image.
 pub fn one_program()
     ensures { OneProgramLaw }
 {}
@@ -33,17 +33,17 @@ pub fn selection_exists()
     ensures { SelectionExistsLaw }
 {}
 
-/// What ca65 writes of a source is spelled as an object of the grammar.
+/// What ca65 wrote of a source, in either version, is spelled as an object of the grammar.
 pub fn written_is_an_object()
     ensures { WrittenObjectLaw }
 {}
 
-/// A file that ca65 wrote of a source gives one module: the source's object.
+/// A file that ca65 wrote of a source gives one module: an object of the source.
 pub fn written_is_an_input()
     ensures { WrittenInputLaw }
 {}
 
-/// A library's member that ca65 wrote of a source gives the source's object.
+/// A library's member that ca65 wrote of a source gives an object of the source.
 pub fn written_member_is_an_input()
     ensures { WrittenMemberLaw }
 {}

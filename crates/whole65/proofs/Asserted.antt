@@ -10,8 +10,10 @@ use Rattle.object65.specs.Form.{Form}
 use Rattle.object65.specs.declared.object.Action.{Action}
 use Rattle.object65.specs.declared.object.Action.TheVariants as action
 use Rattle.object65.specs.declared.object.Object.{Object}
+use Rattle.object65.specs.declared.object.Origin.{Origin}
 use Rattle.script65.specs.declared.placement.Placement.{Placement}
 use Rattle.script65.specs.declared.script.Script.{Script}
+use Rattle.source65.specs.declared.place.Place.{Place}
 use Rattle.language65.specs.Parts.{Content, Said, Exported, Demanded, Checked}
 use Rattle.language65.specs.Laid.{Laid}
 use Rattle.language65.specs.Layout.{Layout}
@@ -109,7 +111,7 @@ module _ (l : Linkage) (members : List Member) (exports : Exports) where
   asserts_told : (xs : List Asserted) → IsTold (check_asserts l members exports xs) ↔ AllByRecursion Succeeds xs
   asserts_told [] = (λ k. tt, λ k. ([], refl))
   asserts_told (a ∷ rest) =
-      let one = result_told (site members a.owner a.line) a.action a.text (value_by l exports a.owner a.form) in
+      let one = result_told (site members a.owner a.origin) a.action a.text (value_by l exports a.owner a.form) in
       let more = asserts_told rest in (
         λ k. (let (text, first, others) = bind_ok (check_assert l members exports a) (λ text. check_asserts l members exports rest >>= (λ more. Ok (text ++ more))) k.0 k.1 in
             let (told, deeper, last) = bind_ok (check_asserts l members exports rest) (λ more. Ok (text ++ more)) k.0 others in
@@ -156,12 +158,12 @@ module _ (s : Script) (placement : Placement) (ys : List Layout) (ms : List Modu
           λ k. value.1 (k.0, sym (same k.0) ∙ k.1),
         )
 
-    said_pass : (ss : List Said) → AllByRecursion IsKeyedHere ss → AllByRecursion Passing (map (linked.asserted owner) (filter_map (assert_of sections numbers) ss)) ↔ AllByRecursion (IsPassed o owner) ss
-    said_pass [] k = (λ q. tt, λ q. tt)
-    said_pass (Exported n line f ∷ ss) k = let more = said_pass ss k.1 in (λ q. (tt, more.0 q), λ q. more.1 q.1)
-    said_pass (Demanded n ∷ ss) k = let more = said_pass ss k.1 in (λ q. (tt, more.0 q), λ q. more.1 q.1)
-    said_pass (Checked act line words f ∷ ss) k =
-        let more = said_pass ss k.1 in (
+    said_pass : (origins : Place → Origin) (ss : List Said) → AllByRecursion IsKeyedHere ss → AllByRecursion Passing (map (linked.asserted owner) (filter_map (assert_of origins sections numbers) ss)) ↔ AllByRecursion (IsPassed o owner) ss
+    said_pass origins [] k = (λ q. tt, λ q. tt)
+    said_pass origins (Exported n place f ∷ ss) k = let more = said_pass origins ss k.1 in (λ q. (tt, more.0 q), λ q. more.1 q.1)
+    said_pass origins (Demanded n ∷ ss) k = let more = said_pass origins ss k.1 in (λ q. (tt, more.0 q), λ q. more.1 q.1)
+    said_pass origins (Checked act place words f ∷ ss) k =
+        let more = said_pass origins ss k.1 in (
           λ q. ((q.0.0, (one_form f q.0.0 k.0).0 q.0.1, q.0.2), more.0 q.1),
           λ q. ((q.0.0, (one_form f q.0.0 k.0).1 q.0.1, q.0.2), more.1 q.1),
         )
@@ -183,7 +185,7 @@ module _ (s : Script) (placement : Placement) (ys : List Layout) (ms : List Modu
       let cs : List Content = c.contents in
       let z : Symbols = table_of y in
       let keyed = keyed_said (section_keys cs) (import_keys z.imports cs) (length z.imports) cs (keyed_law y cs source.sound c.found) in
-      let said = said_pass owner y m cs at_y at_m c.found (all_said cs) keyed in
+      let said = said_pass owner y m cs at_y at_m c.found c.origins (all_said cs) keyed in
       let lines = lines_agree owner y m cs at_y at_m c.found in (
         λ k. lines.1 (said.0 (subst (λ (x : Object). AllByRecursion Passing (map (linked.asserted owner) x.asserts)) c.object k)),
         λ k. subst (λ (x : Object). AllByRecursion Passing (map (linked.asserted owner) x.asserts)) (sym c.object) (said.1 (lines.0 k)),

@@ -8,10 +8,11 @@ use Rattle.syntax65.specs.Trees.{Tree}
 use Rattle.object65.specs.Form.{Form, lit, sec, imp, prefix, binary}
 use Rattle.object65.specs.declared.object.Action.{Action}
 use Rattle.object65.specs.declared.object.Action.TheVariants as action
+use Rattle.source65.specs.declared.place.Place.{Place}
 use Rattle.language65.specs.Parts.{Content, Said, Exported, Demanded, Checked}
 use Rattle.language65.specs.declared.fault.AsmFault.{AsmFault}
 use Rattle.language65.specs.declared.fault.AsmFault.TheVariants.{ImportedAndDefined, NotDefined}
-use Rattle.language65.specs.Contents.{content_of, decided, each_of, export_said, import_fault, said_of}
+use Rattle.language65.specs.Contents.{content_of, decided, each_of, export_said, import_fault, said_of, written}
 use Rattle.language65.specs.Laid.{Laid}
 use Rattle.language65.specs.Language.{Stated, constant, imports, exports, globals, forced, assertion}
 use Rattle.language65.specs.Norms.{defined_form, norm_of}
@@ -21,7 +22,7 @@ use Rattle.module65.proofs.SoundForms.{all_append}
 use Rattle.module65.specs.Module.{contents_from}
 use Rattle.module65.specs.Places.{PlacedFault, at_place}
 use Rattle.whole65.proofs.Files.{all_split}
-use Rattle.whole65.proofs.Later.{bind_ok}
+use Rattle.whole65.proofs.Later.{bind_ok, written_ok}
 use Rattle.whole65.proofs.SameValues.{same_values_law}
 use Rattle.whole65.proofs.SectionBytes.{content_is, in_middle, placed_ok}
 use Rattle.whole65.specs.Objects.{AreObjects, HasValue, Objects}
@@ -31,9 +32,9 @@ use Rattle.whole65.specs.Whole.{HasAssertion, Passes}
 
 -- an assertion whose form waits for a link has a value there and passes
 abbrev pub IsPassed : {E : Type 0} → Objects E → ℕ → Said → Type 0
-IsPassed o owner (Exported n line f) = ⊤
+IsPassed o owner (Exported n place f) = ⊤
 IsPassed o owner (Demanded n) = ⊤
-IsPassed o owner (Checked act line words f) = (v : ℤ) × HasValue o owner f v × Passes act v
+IsPassed o owner (Checked act place words f) = (v : ℤ) × HasValue o owner f v × Passes act v
 
 -- ---- Statements that assert nothing.
 
@@ -65,11 +66,11 @@ module _ {E : Type 0} (o : Objects E) (owner : ℕ) where
       by None e = nothing_said ss (rw e at h)
       by (Some j) e = (let never : ◌≡◌ {A = Result (List Said) AsmFault} (Err (ImportedAndDefined n)) (Ok ss) = rw e at h in absurd cc)
 
-  export_passes : (z : Symbols) (line : ℕ) (n : List ℕ) (absent : Result (List Said) AsmFault) → ((ss : List Said) → absent ≡ Ok ss → AllPass ss) → (r : Option ℕ) (ss : List Said) → export_said z line n absent r ≡ Ok ss → AllPass ss
-  export_passes z line n absent nothing None ss h = nothing ss h
-  export_passes z line n absent nothing (Some j) ss h =
-      let (f, first, last) = bind_ok (defined_form z j) (λ f. Ok (Exported n line f ∷ [])) ss h in
-      let same : Exported n line f ∷ [] ≡ ss = cc last in
+  export_passes : (z : Symbols) (place : Place) (n : List ℕ) (absent : Result (List Said) AsmFault) → ((ss : List Said) → absent ≡ Ok ss → AllPass ss) → (r : Option ℕ) (ss : List Said) → export_said z place n absent r ≡ Ok ss → AllPass ss
+  export_passes z place n absent nothing None ss h = nothing ss h
+  export_passes z place n absent nothing (Some j) ss h =
+      let (f, first, last) = bind_ok (defined_form z j) (λ f. written place (Exported n place f ∷ [])) ss h in
+      let same : Exported n place f ∷ [] ≡ ss = written_ok place (Exported n place f ∷ []) ss last in
       subst AllPass same (tt, tt)
 
   demanded_pass : (ns : List (List ℕ)) → AllPass (map Demanded ns)
@@ -84,18 +85,18 @@ module _ {E : Type 0} (p : Program) (o : Objects E) (h : AreObjects p o) (owner 
   FormPasses act f = (v : ℤ) × HasValue o owner f v × Passes act v
 
   -- an assertion that its source decides passes; another one passes as what is said of it
-  decided_passes : (act : Action) (line : ℕ) (words : List ℕ) (f : Form) (ss : List Said) → decided act line words f ≡ Ok ss → FormPasses act f ↔ AllPass o owner ss
-  decided_passes act line words f ss d = by act f d
+  decided_passes : (act : Action) (place : Place) (words : List ℕ) (f : Form) (ss : List Said) → decided act place words f ≡ Ok ss → FormPasses act f ↔ AllPass o owner ss
+  decided_passes act place words f ss d = by act f d
     where
       settled : (act : Action) (v : ℤ) → Passes act v → ◌≡◌ {A = Result (List Said) AsmFault} (Ok []) (Ok ss) → FormPasses act (lit v) ↔ AllPass o owner ss
       settled act v fine e = (λ k. nothing_said o owner ss e, λ k. (v, (0, refl), fine))
 
-      waits : (act : Action) (f : Form) → ◌≡◌ {A = Result (List Said) AsmFault} (Ok (Checked act line words f ∷ [])) (Ok ss) → FormPasses act f ↔ AllPass o owner ss
+      waits : (act : Action) (f : Form) → written place (Checked act place words f ∷ []) ≡ Ok ss → FormPasses act f ↔ AllPass o owner ss
       waits act f e =
-          let same : Checked act line words f ∷ [] ≡ ss = cc in
+          let same : Checked act place words f ∷ [] ≡ ss = written_ok place (Checked act place words f ∷ []) ss e in
           (λ k. subst (AllPass o owner) same (k, tt), λ k. (subst (AllPass o owner) (sym same) k).0)
 
-      by : (act : Action) (f : Form) → decided act line words f ≡ Ok ss → FormPasses act f ↔ AllPass o owner ss
+      by : (act : Action) (f : Form) → decided act place words f ≡ Ok ss → FormPasses act f ↔ AllPass o owner ss
       by action.Error (lit (pos zero)) d = absurd cc
       by action.Error (lit (pos (suc n))) d = settled action.Error (pos (suc n)) (λ e. cc) d
       by action.Error (lit (negsuc n)) d = settled action.Error (negsuc n) (λ e. cc) d
@@ -109,10 +110,10 @@ module _ {E : Type 0} (p : Program) (o : Objects E) (h : AreObjects p o) (owner 
       by action.Error (binary op f g) d = waits action.Error (binary op f g) d
       by action.Warning (binary op f g) d = waits action.Warning (binary op f g) d
 
-  assertion_passes : (place line : ℕ) (e : Tree) (act : Action) (words : List ℕ) (f : Form) (ss : List Said) → norm_of (o.symbols owner) (o.spots owner place) e ≡ Ok f → decided act line words f ≡ Ok ss → ((v : ℤ) × Value p owner place e v × Passes act v) ↔ AllPass o owner ss
-  assertion_passes place line e act words f ss q d =
-      let value : (v : ℤ) → Value p owner place e v ↔ HasValue o owner f v = λ v. same_values_law E p o h (suc (length (o.symbols owner).definitions)) owner place e f v q in
-      let either = decided_passes act line words f ss d in (
+  assertion_passes : (number : ℕ) (place : Place) (e : Tree) (act : Action) (words : List ℕ) (f : Form) (ss : List Said) → norm_of (o.symbols owner) (o.spots owner number) e ≡ Ok f → decided act place words f ≡ Ok ss → ((v : ℤ) × Value p owner number e v × Passes act v) ↔ AllPass o owner ss
+  assertion_passes number place e act words f ss q d =
+      let value : (v : ℤ) → Value p owner number e v ↔ HasValue o owner f v = λ v. same_values_law E p o h (suc (length (o.symbols owner).definitions)) owner number e f v q in
+      let either = decided_passes act place words f ss d in (
         λ k. either.0 (k.0, (value k.0).0 k.1, k.2),
         λ k. (let r = either.1 k in (r.0, (value r.0).1 r.1, r.2)),
       )
@@ -126,15 +127,15 @@ module _ {E : Type 0} (p : Program) (o : Objects E) (h : AreObjects p o) (owner 
       go : (x : Stated) → said_of (o.symbols owner) (record l { stated = x }) ≡ Ok ss → HasAssertion p (line_of owner before (record l { stated = x })) ↔ AllPass o owner ss
       go (constant n e) d = (let (f, first, last) = bind_ok (norm_of (o.symbols owner) l.spot e) (λ f. Ok []) ss d in silent (nothing_said o owner ss last))
       go (imports size names) d = silent (all_names o owner (import_fault (o.symbols owner)) (import_passes o owner (o.symbols owner)) names ss d)
-      go (exports names) d = silent (all_names o owner (λ n. export_said (o.symbols owner) l.place.line n (Err (NotDefined n)) (defined (o.symbols owner) (named 0 n))) (λ n rs e. export_passes o owner (o.symbols owner) l.place.line n (Err (NotDefined n)) (λ qs k. absurd cc) (defined (o.symbols owner) (named 0 n)) rs e) names ss d)
-      go (globals size names) d = silent (all_names o owner (λ n. export_said (o.symbols owner) l.place.line n (Ok []) (defined (o.symbols owner) (named 0 n))) (λ n rs e. export_passes o owner (o.symbols owner) l.place.line n (Ok []) (λ qs k. nothing_said o owner qs k) (defined (o.symbols owner) (named 0 n)) rs e) names ss d)
+      go (exports names) d = silent (all_names o owner (λ n. export_said (o.symbols owner) l.place n (Err (NotDefined n)) (defined (o.symbols owner) (named 0 n))) (λ n rs e. export_passes o owner (o.symbols owner) l.place n (Err (NotDefined n)) (λ qs k. absurd cc) (defined (o.symbols owner) (named 0 n)) rs e) names ss d)
+      go (globals size names) d = silent (all_names o owner (λ n. export_said (o.symbols owner) l.place n (Ok []) (defined (o.symbols owner) (named 0 n))) (λ n rs e. export_passes o owner (o.symbols owner) l.place n (Ok []) (λ qs k. nothing_said o owner qs k) (defined (o.symbols owner) (named 0 n)) rs e) names ss d)
       go (forced names) d =
           let (none, first, last) = bind_ok (each_of (import_fault (o.symbols owner)) names) (λ none. Ok (map Demanded names)) ss d in
           let same : map Demanded names ≡ ss = cc last in
           silent (subst (AllPass o owner) same (demanded_pass o owner names))
       go (assertion e act words) d =
-          let (f, first, last) = bind_ok (norm_of (o.symbols owner) l.spot e) (decided act l.place.line words) ss d in
-          assertion_passes (length before) l.place.line e act words f ss (subst (λ s. norm_of (o.symbols owner) s e ≡ Ok f) (sym at) first) last
+          let (f, first, last) = bind_ok (norm_of (o.symbols owner) l.spot e) (decided act l.place words) ss d in
+          assertion_passes (length before) l.place e act words f ss (subst (λ s. norm_of (o.symbols owner) s e ≡ Ok f) (sym at) first) last
       go x d = silent (nothing_said o owner ss d)
 
   -- ---- Lines.

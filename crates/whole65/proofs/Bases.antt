@@ -8,13 +8,15 @@ use Rattle.std.proofs.lemmas.Bool.Decides.{nat_tests}
 use Rattle.std.proofs.lemmas.List.{length-append}
 use Rattle.base65.specs.Values.{wrapped}
 use Rattle.object65.specs.declared.object.Object.{Object}
+use Rattle.object65.specs.declared.object.Origin.{Origin}
 use Rattle.object65.specs.declared.object.Section.{Section}
 use Rattle.script65.specs.Placing.{rounded_up}
 use Rattle.script65.specs.declared.placement.Placement.{Placement}
 use Rattle.script65.specs.declared.script.Script.{Script}
+use Rattle.source65.specs.declared.place.Place.{Place}
 use Rattle.language65.specs.Parts.{Content}
 use Rattle.language65.specs.Layout.{Layout}
-use Rattle.language65.specs.Numbering.{import_keys, number_of, object_with, section_keys, section_of}
+use Rattle.language65.specs.Numbering.{import_keys, number_of, section_keys, section_of}
 use Rattle.link65.specs.Modules.{Module}
 use Rattle.link65.specs.Places.{address_of, linkage_of, resolved, run_of}
 use Rattle.link65.specs.Programs.{Program, member, no_program, program_of, with_module, with_modules}
@@ -31,7 +33,7 @@ use Rattle.whole65.proofs.OwnParts.{base_law}
 use Rattle.whole65.proofs.Positions.{itself}
 use Rattle.whole65.proofs.Sections.{name_at}
 use Rattle.whole65.proofs.Shifts.{end_of-append}
-use Rattle.whole65.proofs.Sources.{in_segment, section_begin, same_object, size_law, size_or}
+use Rattle.whole65.proofs.Sources.{contents_of, in_segment, section_begin, same_object, size_law, size_or}
 use Rattle.whole65.specs.Inner.Growth.{or_empty}
 use Rattle.whole65.specs.Inner.Steps.{SectionBaseLaw}
 use Rattle.whole65.specs.Inner.Linked.{begin_in}
@@ -106,9 +108,9 @@ one_of P (k ∷ ks) g h e = go (nat_eq g k) refl e (one_of P ks g h.1)
     go true q e more = subst P (sym (equal g k q)) h.0
     go false q e more = more e
 
-module _ (y : Layout) (owner : ℕ) (sections imports : List ℕ) (cs : List Content) (A : SectionPlace → ℤ) (d : Distinct y.standing.segments) where
+module _ (y : Layout) (owner : ℕ) (origins : Place → Origin) (sections imports : List ℕ) (cs : List Content) (A : SectionPlace → ℤ) (d : Distinct y.standing.segments) where
   abbrev sec : ℕ → Section
-  sec g = section_of y.standing.segments sections imports cs g
+  sec g = section_of origins y.standing.segments sections imports cs g
 
   other_end : (gs : List linked.Segment) (k g : ℕ) → k < length y.standing.segments → g < length y.standing.segments → nat_eq g k ≡ false → linked.end_of (with_section owner gs (sec k)) (sec g).name ≡ linked.end_of gs (sec g).name
   other_end gs k g lk lg e = go (bytes_eq (sec k).name (sec g).name) refl
@@ -167,20 +169,21 @@ section_base_law s placement ys ms owner g y m cs h at_y at_m e among =
     let name : List ℕ = segment_name y g in
     let before : Program = program_of (take owner ms) in
     let A : SectionPlace → ℤ = address_of s.rows placement.rows in
-    let sec_g : Section = section_of y.standing.segments sections imports cs g in
+    let origins : Place → Origin = (contents_of y m source).origins in
+    let sec_g : Section = section_of origins y.standing.segments sections imports cs g in
     let named_so : sec_g.name ≡ name = name_at y.standing.segments g lt in
     let has : has_section y name ≡ true = keys.has name ∙ held (λ k. bytes_eq (segment_name y k) name) g sections among (itself name) in
-    let object : m.object ≡ object_with y.standing.segments names cs = same_object y m cs source e in
+    let object = same_object y m cs source e in
     let size : linked.end_of before.segments name ≡ end_of 0 (items_of (take owner ys) name) = size_law (take owner ys) (take owner ms) name (sources_front ys ms owner h) in
     let run : ℕ = run_of s.rows placement.rows name in
     let lines_are : lines_in owner y name ≡ lines_at g (lines_behind owner [] y.laid) = in_segment owner y g d lt in
     ap (λ r. base_of r (number_of sections g)) (resolved_at s placement ms owner m at_m)
     ∙ ap (λ (o : Object). get_or (map A (section_places (length before.members) before.segments o.sections)) (number_of sections g) (pos 0)) object
-    ∙ place_at y (length before.members) sections imports cs A (named d).distinct before.segments sections g keys.standing keys.single among
+    ∙ place_at y (length before.members) origins sections imports cs A (named d).distinct before.segments sections g keys.standing keys.single among
     ∙ base_law s.rows placement.rows (section_place before.segments sec_g)
     ∙ ap (λ n. wrapped (pos (run_of s.rows placement.rows n + rounded_up (linked.end_of before.segments n) (linked.align_of sec_g)))) named_so
     ∙ ap (λ n. wrapped (pos (run + rounded_up n (linked.align_of sec_g)))) size
-    ∙ ap (λ n. wrapped (pos (run + n))) (section_begin y owner g (end_of 0 (items_of (take owner ys) name)) sections imports cs d)
+    ∙ ap (λ n. wrapped (pos (run + n))) (section_begin y owner g (end_of 0 (items_of (take owner ys) name)) origins sections imports cs d)
     ∙ ap (λ xs. wrapped (pos (run + next_multiple_of (end_of 0 (items_of (take owner ys) name)) (largest_multiple xs)))) (sym lines_are)
     ∙ ap (λ n. wrapped (pos (run + n))) (sym (begins ys y name 0 0 owner at_y ∙ ap (λ n. next_multiple_of (end_of 0 (items_of (take owner ys) name)) (largest_multiple (lines_in n y name))) (zero_first owner)))
     ∙ ap (λ b. wrapped (pos (run + cond b (begin_of ys name owner) (end_of 0 (items_of ys name))))) (sym has)

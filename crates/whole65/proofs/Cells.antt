@@ -43,12 +43,12 @@ module _ (l : Linkage) (fill : ℕ) where
   of_fragment : (owner : ℕ) (f : Fragment) (bytes : List ℕ) → IsFragment (linked_value l owner) fill f bytes ↔ AreCells l fill (fragment_cells owner f) bytes
   of_fragment owner (Literal own) bytes = of_known own bytes
   of_fragment owner (Fill n) bytes = of_filled n bytes
-  of_fragment owner (Value width number f) bytes = (λ h. (bytes, [], h, refl, sym (append-nil bytes)), back)
+  of_fragment owner (Value width origin f) bytes = (λ h. (bytes, [], h, refl, sym (append-nil bytes)), back)
     where
-      back : AreCells l fill (fragment_cells owner (Value width number f)) bytes → IsFragment (linked_value l owner) fill (Value width number f) bytes
+      back : AreCells l fill (fragment_cells owner (Value width origin f)) bytes → IsFragment (linked_value l owner) fill (Value width origin f) bytes
       back (own, rest, h, none, e) =
           let same : bytes ≡ own = e ∙ ap (λ z. own ++ z) none ∙ append-nil own in
-          subst (IsFragment (linked_value l owner) fill (Value width number f)) (sym same) h
+          subst (IsFragment (linked_value l owner) fill (Value width origin f)) (sym same) h
 
   pub of_fragments : (owner : ℕ) (fs : List Fragment) (bytes : List ℕ) → AreFragments (linked_value l owner) fill fs bytes ↔ AreCells l fill (flat_map (fragment_cells owner) fs) bytes
   of_fragments owner [] bytes = (λ h. h, λ h. h)

@@ -58,7 +58,7 @@ module _ (l : Linkage) (members : List Member) (table : List (Result ℤ ValueFa
   there (waits w ∷ cells) bytes (own, rest, (v, value, (fits, first)), more, e) =
       let (passed, same) = there cells rest more in
       let found : value_by l exports w.owner w.form ≡ Ok v = (table_law l table w.owner w.form v h).1 value in
-      let fine : check w ≡ Ok tt = passes (site members w.owner w.line) w (value_by l exports w.owner w.form) (v, found, fits) in (
+      let fine : check w ≡ Ok tt = passes (site members w.owner w.origin) w (value_by l exports w.owner w.form) (v, found, fits) in (
         ap (λ r. r >>= (λ u. each_passes check (flat_map waiting_in cells))) fine ∙ passed,
         e ∙ ap (λ z. z ++ rest) (first ∙ sym (written w (value_by l exports w.owner w.form) v found fits)) ∙ ap (λ z. stored w.width (or_zero (value_by l exports w.owner w.form)) ++ z) same,
       )
@@ -75,7 +75,7 @@ module _ (l : Linkage) (members : List Member) (table : List (Result ℤ ValueFa
       let rest : List ℕ = flat_map (cell_bytes l exports fill) cells in
       let own : List ℕ = stored w.width (or_zero (value_by l exports w.owner w.form)) in
       let (u, fine, others) = bind_ok (check w) (λ u. each_passes check (flat_map waiting_in cells)) tt passed in
-      let (v, found, fits) = passing (site members w.owner w.line) w (value_by l exports w.owner w.form) fine in
+      let (v, found, fits) = passing (site members w.owner w.origin) w (value_by l exports w.owner w.form) fine in
       let value : linked_value l w.owner w.form v = (table_law l table w.owner w.form v h).0 found in
       (own, rest, (v, value, (fits, written w (value_by l exports w.owner w.form) v found fits)), back cells rest (others, refl), e)
 

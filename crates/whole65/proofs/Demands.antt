@@ -8,10 +8,11 @@ use Rattle.syntax65.specs.Trees.{Tree}
 use Rattle.object65.specs.Form.{Form, lit, sec, imp, prefix, binary}
 use Rattle.object65.specs.declared.object.Action.{Action}
 use Rattle.object65.specs.declared.object.Action.TheVariants as action
+use Rattle.source65.specs.declared.place.Place.{Place}
 use Rattle.language65.specs.Parts.{Content, Said, Exported, Demanded, Checked}
 use Rattle.language65.specs.declared.fault.AsmFault.{AsmFault}
 use Rattle.language65.specs.declared.fault.AsmFault.TheVariants.{ImportedAndDefined, NotDefined}
-use Rattle.language65.specs.Contents.{content_of, decided, each_of, export_said, import_fault, said_of}
+use Rattle.language65.specs.Contents.{content_of, decided, each_of, export_said, import_fault, said_of, written}
 use Rattle.language65.specs.Laid.{Laid}
 use Rattle.language65.specs.Language.{Stated, constant, imports, exports, globals, forced, assertion}
 use Rattle.language65.specs.Norms.{defined_form, norm_of}
@@ -20,23 +21,23 @@ use Rattle.language65.specs.Symbols.{Symbols, defined, named}
 use Rattle.module65.proofs.SoundForms.{all_append}
 use Rattle.module65.specs.Module.{contents_from}
 use Rattle.module65.specs.Places.{PlacedFault, at_place}
-use Rattle.whole65.proofs.Later.{bind_ok}
+use Rattle.whole65.proofs.Later.{bind_ok, written_ok}
 use Rattle.whole65.proofs.SectionBytes.{content_is, placed_ok}
 use Rattle.whole65.specs.Modules.{forced_by}
 
 abbrev pub demanded_name : Said → List (List ℕ)
-demanded_name (Exported n line f) = []
+demanded_name (Exported n place f) = []
 demanded_name (Demanded n) = n ∷ []
-demanded_name (Checked act line words f) = []
+demanded_name (Checked act place words f) = []
 
 abbrev pub demanded_names : List Said → List (List ℕ)
 demanded_names ss = flat_map demanded_name ss
 
 -- what waits for the linker has the form of the statement's assertion
 abbrev pub IsAsserted : Symbols → Laid → Said → Type 0
-IsAsserted z l (Exported n line f) = ⊤
+IsAsserted z l (Exported n place f) = ⊤
 IsAsserted z l (Demanded n) = ⊤
-IsAsserted z l (Checked act line words f) = (e : Tree) × (l.stated ≡ assertion e act words) × (norm_of z l.spot e ≡ Ok f)
+IsAsserted z l (Checked act place words f) = (e : Tree) × (l.stated ≡ assertion e act words) × (norm_of z l.spot e ≡ Ok f)
 
 pub record Tells (z : Symbols) (l : Laid) (ss : List Said) : Type 0 where
   pub demanded : demanded_names ss ≡ forced_by l.stated
@@ -45,21 +46,21 @@ pub record Tells (z : Symbols) (l : Laid) (ss : List Said) : Type 0 where
 -- ---- Exports alone.
 
 abbrev IsExport : Said → Type 0
-IsExport (Exported n line f) = ⊤
+IsExport (Exported n place f) = ⊤
 IsExport (Demanded n) = ⊥
-IsExport (Checked act line words f) = ⊥
+IsExport (Checked act place words f) = ⊥
 
 none_demanded : (ss : List Said) → AllByRecursion IsExport ss → demanded_names ss ≡ []
 none_demanded [] h = refl
-none_demanded (Exported n line f ∷ ss) h = none_demanded ss h.1
+none_demanded (Exported n place f ∷ ss) h = none_demanded ss h.1
 none_demanded (Demanded n ∷ ss) h = absurd h.0
-none_demanded (Checked act line words f ∷ ss) h = absurd h.0
+none_demanded (Checked act place words f ∷ ss) h = absurd h.0
 
 none_asserted : (z : Symbols) (l : Laid) (ss : List Said) → AllByRecursion IsExport ss → AllByRecursion (IsAsserted z l) ss
 none_asserted z l [] h = tt
-none_asserted z l (Exported n line f ∷ ss) h = (tt, none_asserted z l ss h.1)
+none_asserted z l (Exported n place f ∷ ss) h = (tt, none_asserted z l ss h.1)
 none_asserted z l (Demanded n ∷ ss) h = absurd h.0
-none_asserted z l (Checked act line words f ∷ ss) h = absurd h.0
+none_asserted z l (Checked act place words f ∷ ss) h = absurd h.0
 
 nothing_more : (ss : List Said) → ◌≡◌ {A = Result (List Said) AsmFault} (Ok []) (Ok ss) → AllByRecursion IsExport ss
 nothing_more ss e = let same : [] ≡ ss = cc in subst (AllByRecursion IsExport) same tt
@@ -85,11 +86,11 @@ of_import z n ss h = by (defined z (named 0 n)) refl
     by None e = nothing_more ss (rw e at h)
     by (Some j) e = (let never : ◌≡◌ {A = Result (List Said) AsmFault} (Err (ImportedAndDefined n)) (Ok ss) = rw e at h in absurd cc)
 
-of_export : (z : Symbols) (line : ℕ) (n : List ℕ) (absent : Result (List Said) AsmFault) → ((ss : List Said) → absent ≡ Ok ss → ss ≡ []) → (o : Option ℕ) (ss : List Said) → export_said z line n absent o ≡ Ok ss → AllByRecursion IsExport ss
-of_export z line n absent nothing None ss h = subst (AllByRecursion IsExport) (sym (nothing ss h)) tt
-of_export z line n absent nothing (Some j) ss h =
-    let (f, first, last) = bind_ok (defined_form z j) (λ f. Ok (Exported n line f ∷ [])) ss h in
-    let same : Exported n line f ∷ [] ≡ ss = cc last in
+of_export : (z : Symbols) (place : Place) (n : List ℕ) (absent : Result (List Said) AsmFault) → ((ss : List Said) → absent ≡ Ok ss → ss ≡ []) → (o : Option ℕ) (ss : List Said) → export_said z place n absent o ≡ Ok ss → AllByRecursion IsExport ss
+of_export z place n absent nothing None ss h = subst (AllByRecursion IsExport) (sym (nothing ss h)) tt
+of_export z place n absent nothing (Some j) ss h =
+    let (f, first, last) = bind_ok (defined_form z j) (λ f. written place (Exported n place f ∷ [])) ss h in
+    let same : Exported n place f ∷ [] ≡ ss = written_ok place (Exported n place f ∷ []) ss last in
     subst (AllByRecursion IsExport) same (tt, tt)
 
 -- ---- Statements.
@@ -99,23 +100,23 @@ of_forced z l [] = (refl, tt)
 of_forced z l (n ∷ ns) = let more = of_forced z l ns in (ap (λ k. n ∷ k) more.0, (tt, more.1))
 
 -- what an assertion says: nothing, or that it waits
-data IsDecided (act : Action) (line : ℕ) (words : List ℕ) (f : Form) (ss : List Said) : Type 0 where
-  settled : [] ≡ ss → IsDecided act line words f ss
-  waiting : Checked act line words f ∷ [] ≡ ss → IsDecided act line words f ss
+data IsDecided (act : Action) (place : Place) (words : List ℕ) (f : Form) (ss : List Said) : Type 0 where
+  settled : [] ≡ ss → IsDecided act place words f ss
+  waiting : Checked act place words f ∷ [] ≡ ss → IsDecided act place words f ss
 
-is_decided : (act : Action) (line : ℕ) (words : List ℕ) (f : Form) (ss : List Said) → decided act line words f ≡ Ok ss → IsDecided act line words f ss
-is_decided action.Error line words (lit (pos zero)) ss h = absurd cc
-is_decided action.Error line words (lit (pos (suc n))) ss h = settled cc
-is_decided action.Error line words (lit (negsuc n)) ss h = settled cc
-is_decided action.Warning line words (lit v) ss h = settled cc
-is_decided action.Error line words (sec k a) ss h = waiting cc
-is_decided action.Warning line words (sec k a) ss h = waiting cc
-is_decided action.Error line words (imp k) ss h = waiting cc
-is_decided action.Warning line words (imp k) ss h = waiting cc
-is_decided action.Error line words (prefix op f) ss h = waiting cc
-is_decided action.Warning line words (prefix op f) ss h = waiting cc
-is_decided action.Error line words (binary op f g) ss h = waiting cc
-is_decided action.Warning line words (binary op f g) ss h = waiting cc
+is_decided : (act : Action) (place : Place) (words : List ℕ) (f : Form) (ss : List Said) → decided act place words f ≡ Ok ss → IsDecided act place words f ss
+is_decided action.Error place words (lit (pos zero)) ss h = absurd cc
+is_decided action.Error place words (lit (pos (suc n))) ss h = settled cc
+is_decided action.Error place words (lit (negsuc n)) ss h = settled cc
+is_decided action.Warning place words (lit v) ss h = settled cc
+is_decided action.Error place words (sec k a) ss h = waiting (written_ok place (Checked action.Error place words (sec k a) ∷ []) ss h)
+is_decided action.Warning place words (sec k a) ss h = waiting (written_ok place (Checked action.Warning place words (sec k a) ∷ []) ss h)
+is_decided action.Error place words (imp k) ss h = waiting (written_ok place (Checked action.Error place words (imp k) ∷ []) ss h)
+is_decided action.Warning place words (imp k) ss h = waiting (written_ok place (Checked action.Warning place words (imp k) ∷ []) ss h)
+is_decided action.Error place words (prefix op f) ss h = waiting (written_ok place (Checked action.Error place words (prefix op f) ∷ []) ss h)
+is_decided action.Warning place words (prefix op f) ss h = waiting (written_ok place (Checked action.Warning place words (prefix op f) ∷ []) ss h)
+is_decided action.Error place words (binary op f g) ss h = waiting (written_ok place (Checked action.Error place words (binary op f g) ∷ []) ss h)
+is_decided action.Warning place words (binary op f g) ss h = waiting (written_ok place (Checked action.Warning place words (binary op f g) ∷ []) ss h)
 
 pub one_tells : (z : Symbols) (l : Laid) (ss : List Said) → said_of z l ≡ Ok ss → Tells z l ss
 one_tells z l ss h = go l.stated h
@@ -126,18 +127,18 @@ one_tells z l ss h = go l.stated h
     go : (x : Stated) → said_of z (record l { stated = x }) ≡ Ok ss → Tells z (record l { stated = x }) ss
     go (constant n e) h = (let (f, first, last) = bind_ok (norm_of z l.spot e) (λ f. Ok []) ss h in exporting (constant n e) refl (nothing_more ss last))
     go (imports size names) h = exporting (imports size names) refl (all_of IsExport (import_fault z) (of_import z) names ss h)
-    go (exports names) h = exporting (exports names) refl (all_of IsExport (λ n. export_said z l.place.line n (Err (NotDefined n)) (defined z (named 0 n))) (λ n. of_export z l.place.line n (Err (NotDefined n)) (λ qs k. absurd cc) (defined z (named 0 n))) names ss h)
-    go (globals size names) h = exporting (globals size names) refl (all_of IsExport (λ n. export_said z l.place.line n (Ok []) (defined z (named 0 n))) (λ n. of_export z l.place.line n (Ok []) (λ qs k. cc) (defined z (named 0 n))) names ss h)
+    go (exports names) h = exporting (exports names) refl (all_of IsExport (λ n. export_said z l.place n (Err (NotDefined n)) (defined z (named 0 n))) (λ n. of_export z l.place n (Err (NotDefined n)) (λ qs k. absurd cc) (defined z (named 0 n))) names ss h)
+    go (globals size names) h = exporting (globals size names) refl (all_of IsExport (λ n. export_said z l.place n (Ok []) (defined z (named 0 n))) (λ n. of_export z l.place n (Ok []) (λ qs k. cc) (defined z (named 0 n))) names ss h)
     go (forced names) h =
         let (none, first, last) = bind_ok (each_of (import_fault z) names) (λ none. Ok (map Demanded names)) ss h in
         let same : map Demanded names ≡ ss = cc last in
         let both = of_forced z (record l { stated = forced names }) names in
         subst (Tells z (record l { stated = forced names })) same (record { demanded = both.0; asserted = both.1 })
     go (assertion e act words) h =
-        let (f, first, last) = bind_ok (norm_of z l.spot e) (decided act l.place.line words) ss h in
-        by f first (is_decided act l.place.line words f ss last)
+        let (f, first, last) = bind_ok (norm_of z l.spot e) (decided act l.place words) ss h in
+        by f first (is_decided act l.place words f ss last)
       where
-        by : (f : Form) → norm_of z l.spot e ≡ Ok f → IsDecided act l.place.line words f ss → Tells z (record l { stated = assertion e act words }) ss
+        by : (f : Form) → norm_of z l.spot e ≡ Ok f → IsDecided act l.place words f ss → Tells z (record l { stated = assertion e act words }) ss
         by f first (settled same) = subst (Tells z (record l { stated = assertion e act words })) same (record { demanded = refl; asserted = tt })
         by f first (waiting same) = subst (Tells z (record l { stated = assertion e act words })) same (record { demanded = refl; asserted = ((e, refl, first), tt) })
     go x h = exporting x refl (nothing_more ss h)

@@ -12,10 +12,12 @@ use Rattle.object65.specs.declared.object.Action.{Action}
 use Rattle.object65.specs.declared.object.Action.TheVariants as action
 use Rattle.object65.specs.declared.object.Export.{Export}
 use Rattle.object65.specs.declared.object.Object.{Object}
+use Rattle.object65.specs.declared.object.Origin.{Origin}
+use Rattle.source65.specs.declared.place.Place.{Place}
 use Rattle.language65.specs.Parts.{Content, Said, Exported, Demanded, Checked}
 use Rattle.language65.specs.declared.fault.AsmFault.{AsmFault}
 use Rattle.language65.specs.declared.fault.AsmFault.TheVariants.{ImportedAndDefined, NotDefined}
-use Rattle.language65.specs.Contents.{content_of, decided, each_of, export_said, import_fault, said_of}
+use Rattle.language65.specs.Contents.{content_of, decided, each_of, export_said, import_fault, said_of, written}
 use Rattle.language65.specs.Laid.{Laid}
 use Rattle.language65.specs.Language.{Stated, constant, imports, exports, globals, forced, assertion}
 use Rattle.language65.specs.Layout.{Layout}
@@ -30,7 +32,7 @@ use Rattle.link65.specs.declared.parts.Exported as parts
 use Rattle.module65.proofs.SoundForms.{all_append}
 use Rattle.module65.specs.Module.{contents_from}
 use Rattle.module65.specs.Places.{PlacedFault, at_place}
-use Rattle.whole65.proofs.Later.{bind_ok}
+use Rattle.whole65.proofs.Later.{bind_ok, written_ok}
 use Rattle.whole65.proofs.SectionBytes.{content_is, placed_ok}
 use Rattle.whole65.proofs.Sources.{contents_of}
 use Rattle.whole65.specs.Inner.Steps.{ExportNamesLaw}
@@ -40,18 +42,18 @@ use Rattle.whole65.specs.Sources.{AreSources, IsSource}
 -- ---- What is said of names.
 
 abbrev pub exported_name : Said → List (List ℕ)
-exported_name (Exported n line f) = n ∷ []
+exported_name (Exported n place f) = n ∷ []
 exported_name (Demanded n) = []
-exported_name (Checked act line words f) = []
+exported_name (Checked act place words f) = []
 
 abbrev pub exported_names : List Said → List (List ℕ)
 exported_names ss = flat_map exported_name ss
 
 -- an export has the form of the definition of its name
 abbrev pub IsDefined : Symbols → Said → Type 0
-IsDefined z (Exported n line f) = (j : ℕ) × (defined z (named 0 n) ≡ Some j) × (defined_form z j ≡ Ok f)
+IsDefined z (Exported n place f) = (j : ℕ) × (defined z (named 0 n) ≡ Some j) × (defined_form z j ≡ Ok f)
 IsDefined z (Demanded n) = ⊤
-IsDefined z (Checked act line words f) = ⊤
+IsDefined z (Checked act place words f) = ⊤
 
 abbrev pub has_definition : Symbols → List ℕ → Bool
 has_definition z n = is_some (defined z (named 0 n))
@@ -106,28 +108,28 @@ import_says z n ss h = by (defined z (named 0 n)) refl
     by (Some j) e = (let never : ◌≡◌ {A = Result (List Said) AsmFault} (Err (ImportedAndDefined n)) (Ok ss) = rw e at h in absurd cc)
 
 -- where no definition is there, nothing is said
-export_says : (z : Symbols) (line : ℕ) (n : List ℕ) (absent : Result (List Said) AsmFault) → ((ss : List Said) → absent ≡ Ok ss → ss ≡ []) → (ss : List Said) → export_said z line n absent (defined z (named 0 n)) ≡ Ok ss → Says z (filter (has_definition z) (n ∷ [])) ss
-export_says z line n absent nothing ss h = by (defined z (named 0 n)) refl h
+export_says : (z : Symbols) (place : Place) (n : List ℕ) (absent : Result (List Said) AsmFault) → ((ss : List Said) → absent ≡ Ok ss → ss ≡ []) → (ss : List Said) → export_said z place n absent (defined z (named 0 n)) ≡ Ok ss → Says z (filter (has_definition z) (n ∷ [])) ss
+export_says z place n absent nothing ss h = by (defined z (named 0 n)) refl h
   where
     kept : (b : Bool) → has_definition z n ≡ b → cond b (n ∷ []) [] ≡ filter (has_definition z) (n ∷ [])
     kept b e = ap (λ b. cond b (n ∷ []) []) (sym e)
 
-    by : (o : Option ℕ) → defined z (named 0 n) ≡ o → export_said z line n absent o ≡ Ok ss → Says z (filter (has_definition z) (n ∷ [])) ss
+    by : (o : Option ℕ) → defined z (named 0 n) ≡ o → export_said z place n absent o ≡ Ok ss → Says z (filter (has_definition z) (n ∷ [])) ss
     by None e h =
         let same : ss ≡ [] = nothing ss h in
         subst (λ k. Says z k ss) (kept false (ap is_some e)) (subst (Says z []) (sym same) (record { exported = refl; are_defined = tt }))
     by (Some j) e h =
-        let (f, first, last) = bind_ok (defined_form z j) (λ f. Ok (Exported n line f ∷ [])) ss h in
-        let same : Exported n line f ∷ [] ≡ ss = cc last in
+        let (f, first, last) = bind_ok (defined_form z j) (λ f. written place (Exported n place f ∷ [])) ss h in
+        let same : Exported n place f ∷ [] ≡ ss = written_ok place (Exported n place f ∷ []) ss last in
         subst (λ k. Says z k ss) (kept true (ap is_some e)) (subst (Says z (n ∷ [])) same (record { exported = refl; are_defined = ((j, e, first), tt) }))
 
-decided_says : (z : Symbols) (act : Action) (line : ℕ) (words : List ℕ) (f : Form) (ss : List Said) → decided act line words f ≡ Ok ss → Says z [] ss
-decided_says z act line words f ss h = by act f h
+decided_says : (z : Symbols) (act : Action) (place : Place) (words : List ℕ) (f : Form) (ss : List Said) → decided act place words f ≡ Ok ss → Says z [] ss
+decided_says z act place words f ss h = by act f h
   where
-    checked : (act : Action) (f : Form) → ◌≡◌ {A = Result (List Said) AsmFault} (Ok (Checked act line words f ∷ [])) (Ok ss) → Says z [] ss
-    checked act f e = let same : Checked act line words f ∷ [] ≡ ss = cc in subst (Says z []) same (record { exported = refl; are_defined = (tt, tt) })
+    checked : (act : Action) (f : Form) → written place (Checked act place words f ∷ []) ≡ Ok ss → Says z [] ss
+    checked act f e = let same : Checked act place words f ∷ [] ≡ ss = written_ok place (Checked act place words f ∷ []) ss e in subst (Says z []) same (record { exported = refl; are_defined = (tt, tt) })
 
-    by : (act : Action) (f : Form) → decided act line words f ≡ Ok ss → Says z [] ss
+    by : (act : Action) (f : Form) → decided act place words f ≡ Ok ss → Says z [] ss
     by action.Error (lit (pos zero)) h = absurd cc
     by action.Error (lit (pos (suc n))) h = says_nothing z ss h
     by action.Error (lit (negsuc n)) h = says_nothing z ss h
@@ -151,13 +153,13 @@ one_says z l ss h = go l.stated h
     go : (x : Stated) → said_of z (record l { stated = x }) ≡ Ok ss → Says z (filter (has_definition z) (exported_by x)) ss
     go (constant n e) h = (let (f, first, last) = bind_ok (norm_of z l.spot e) (λ f. Ok []) ss h in says_nothing z ss last)
     go (imports size names) h = subst (λ k. Says z k ss) (none_kept names) (all_says z (import_fault z) nothing_kept (import_says z) names ss h)
-    go (exports names) h = subst (λ k. Says z k ss) (kept_one (has_definition z) names) (all_says z (λ n. export_said z l.place.line n (Err (NotDefined n)) (defined z (named 0 n))) (λ n. filter (has_definition z) (n ∷ [])) (λ n rs e. export_says z l.place.line n (Err (NotDefined n)) (λ qs k. absurd cc) rs e) names ss h)
-    go (globals size names) h = subst (λ k. Says z k ss) (kept_one (has_definition z) names) (all_says z (λ n. export_said z l.place.line n (Ok []) (defined z (named 0 n))) (λ n. filter (has_definition z) (n ∷ [])) (λ n rs e. export_says z l.place.line n (Ok []) (λ qs k. cc) rs e) names ss h)
+    go (exports names) h = subst (λ k. Says z k ss) (kept_one (has_definition z) names) (all_says z (λ n. export_said z l.place n (Err (NotDefined n)) (defined z (named 0 n))) (λ n. filter (has_definition z) (n ∷ [])) (λ n rs e. export_says z l.place n (Err (NotDefined n)) (λ qs k. absurd cc) rs e) names ss h)
+    go (globals size names) h = subst (λ k. Says z k ss) (kept_one (has_definition z) names) (all_says z (λ n. export_said z l.place n (Ok []) (defined z (named 0 n))) (λ n. filter (has_definition z) (n ∷ [])) (λ n rs e. export_says z l.place n (Ok []) (λ qs k. cc) rs e) names ss h)
     go (forced names) h =
         let (none, first, last) = bind_ok (each_of (import_fault z) names) (λ none. Ok (map Demanded names)) ss h in
         let same : map Demanded names ≡ ss = cc last in
         subst (Says z []) same (demanded_says z names)
-    go (assertion e act words) h = (let (f, first, last) = bind_ok (norm_of z l.spot e) (decided act l.place.line words) ss h in decided_says z act l.place.line words f ss last)
+    go (assertion e act words) h = (let (f, first, last) = bind_ok (norm_of z l.spot e) (decided act l.place words) ss h in decided_says z act l.place words f ss last)
     go x h = says_nothing z ss h
 
 pub said_all : (z : Symbols) (ls : List Laid) (cs : List Content) → contents_from z ls ≡ Ok cs → Says z (filter (has_definition z) (flat_map (λ l. exported_by l.stated) ls)) (all_said cs)
@@ -178,24 +180,24 @@ among_names : (n : List ℕ) (found : List Export) → list_any (λ e. bytes_eq 
 among_names n [] = refl
 among_names n (e ∷ found) = ap (λ b. bytes_eq n e.name || b) (among_names n found)
 
-names_among : (sections numbers : List ℕ) (ss : List Said) (found : List Export) → map (λ (e : Export). e.name) (exports_among sections numbers found ss) ≡ with_new (map (λ (e : Export). e.name) found) (exported_names ss)
-names_among sections numbers [] found = refl
-names_among sections numbers (Exported n line f ∷ ss) found =
-    names_among sections numbers ss (cond (list_any (λ e. bytes_eq n e.name) found) found (found ++ record { name = n; line = line; form = numbered sections numbers f } ∷ []))
+names_among : (origins : Place → Origin) (sections numbers : List ℕ) (ss : List Said) (found : List Export) → map (λ (e : Export). e.name) (exports_among origins sections numbers found ss) ≡ with_new (map (λ (e : Export). e.name) found) (exported_names ss)
+names_among origins sections numbers [] found = refl
+names_among origins sections numbers (Exported n place f ∷ ss) found =
+    names_among origins sections numbers ss (cond (list_any (λ e. bytes_eq n e.name) found) found (found ++ record { name = n; origin = origins place; form = numbered sections numbers f } ∷ []))
     ∙ ap (λ z. with_new z (exported_names ss)) (go (list_any (λ e. bytes_eq n e.name) found) ∙ ap (λ b. cond b (map (λ (e : Export). e.name) found) (map (λ (e : Export). e.name) found ++ n ∷ [])) (among_names n found))
   where
-    go : (b : Bool) → map (λ (e : Export). e.name) (cond b found (found ++ record { name = n; line = line; form = numbered sections numbers f } ∷ [])) ≡ cond b (map (λ (e : Export). e.name) found) (map (λ (e : Export). e.name) found ++ n ∷ [])
+    go : (b : Bool) → map (λ (e : Export). e.name) (cond b found (found ++ record { name = n; origin = origins place; form = numbered sections numbers f } ∷ [])) ≡ cond b (map (λ (e : Export). e.name) found) (map (λ (e : Export). e.name) found ++ n ∷ [])
     go true = refl
-    go false = map-append (λ (e : Export). e.name) found (record { name = n; line = line; form = numbered sections numbers f } ∷ [])
-names_among sections numbers (Demanded n ∷ ss) found = names_among sections numbers ss found
-names_among sections numbers (Checked act line words f ∷ ss) found = names_among sections numbers ss found
+    go false = map-append (λ (e : Export). e.name) found (record { name = n; origin = origins place; form = numbered sections numbers f } ∷ [])
+names_among origins sections numbers (Demanded n ∷ ss) found = names_among origins sections numbers ss found
+names_among origins sections numbers (Checked act place words f ∷ ss) found = names_among origins sections numbers ss found
 
 pub source_exports : (y : Layout) (m : Module) → IsSource y m → map (λ (e : Export). e.name) m.object.exports ≡ exports_of y
 source_exports y m h =
     let c = contents_of y m h in
     let cs : List Content = c.contents in
     ap (λ (o : Object). map (λ (e : Export). e.name) o.exports) c.object
-    ∙ names_among (section_keys cs) (import_keys (table_of y).imports cs) (all_said cs) []
+    ∙ names_among c.origins (section_keys cs) (import_keys (table_of y).imports cs) (all_said cs) []
     ∙ ap (with_new []) (said_all (table_of y) y.laid cs c.found).exported
 
 -- ---- Module by module.

@@ -131,7 +131,7 @@ exports_law s placement ys ms table h exports =
     let check : Exported → Result (Unit {0}) LinkFault = check_export l members (in_table table) in
     let passes = passes_each check es in
     let either = all_either (λ e. check e ≡ Ok tt) (λ e. HasExport p e.owner e.name) es
-    (λ i e at. (let there = value_there (site members e.owner e.line) (value_by l (in_table table) e.owner e.form) in (
+    (λ i e at. (let there = value_there (site members e.owner e.origin) (value_by l (in_table table) e.owner e.form) in (
       λ k. (let v = there.0 k in (v.0, (export_value_law s placement ys ms table i e v.0 h exports at).0 v.1)),
       λ k. there.1 (k.0, (export_value_law s placement ys ms table i e k.0 h exports at).1 k.1),
     ))) in

@@ -8,6 +8,8 @@ use Rattle.object65.specs.Form.{Form, lit, sec, imp, prefix, binary}
 use Rattle.object65.specs.FormValue.{or_none, value_in}
 use Rattle.object65.specs.declared.object.Fragment.{Fragment}
 use Rattle.object65.specs.declared.object.Fragment.TheVariants.{Literal, Fill, Value}
+use Rattle.object65.specs.declared.object.Origin.{Origin}
+use Rattle.source65.specs.declared.place.Place.{Place}
 use Rattle.language65.specs.Parts.{Part, Known, Filled, Waiting}
 use Rattle.language65.specs.Numbering.{all_joined, fragment_of, fragments_of, is_empty, joined, number_of, numbered}
 use Rattle.whole65.specs.Inner.Steps.{FragmentsLaw, NumberLaw}
@@ -24,16 +26,16 @@ number_law E none bases values ss is (binary op f g) =
 
 module _ (Has : Valuing) (fill : ℕ) where
   -- ---- Without numbers.
-  same_part : (ss is : List ℕ) (p : Part) (bytes : List ℕ) → ArePart (λ f v. Has (numbered ss is f) v) fill p bytes ↔ IsFragment Has fill (fragment_of ss is p) bytes
-  same_part ss is (Known own) bytes = (λ h. h, λ h. h)
-  same_part ss is (Filled n) bytes = (λ h. h, λ h. h)
-  same_part ss is (Waiting width number f) bytes = (λ h. h, λ h. h)
+  same_part : (origins : Place → Origin) (ss is : List ℕ) (p : Part) (bytes : List ℕ) → ArePart (λ f v. Has (numbered ss is f) v) fill p bytes ↔ IsFragment Has fill (fragment_of origins ss is p) bytes
+  same_part origins ss is (Known own) bytes = (λ h. h, λ h. h)
+  same_part origins ss is (Filled n) bytes = (λ h. h, λ h. h)
+  same_part origins ss is (Waiting width place f) bytes = (λ h. h, λ h. h)
 
-  pub same_parts : (ss is : List ℕ) (ps : List Part) (bytes : List ℕ) → AreParts (λ f v. Has (numbered ss is f) v) fill ps bytes ↔ AreFragments Has fill (map (fragment_of ss is) ps) bytes
-  same_parts ss is [] bytes = (λ h. h, λ h. h)
-  same_parts ss is (p ∷ ps) bytes = (
-    λ h. (h.0, h.1, (same_part ss is p h.0).0 h.2, (same_parts ss is ps h.1).0 h.3, h.4),
-    λ h. (h.0, h.1, (same_part ss is p h.0).1 h.2, (same_parts ss is ps h.1).1 h.3, h.4),
+  pub same_parts : (origins : Place → Origin) (ss is : List ℕ) (ps : List Part) (bytes : List ℕ) → AreParts (λ f v. Has (numbered ss is f) v) fill ps bytes ↔ AreFragments Has fill (map (fragment_of origins ss is) ps) bytes
+  same_parts origins ss is [] bytes = (λ h. h, λ h. h)
+  same_parts origins ss is (p ∷ ps) bytes = (
+    λ h. (h.0, h.1, (same_part origins ss is p h.0).0 h.2, (same_parts origins ss is ps h.1).0 h.3, h.4),
+    λ h. (h.0, h.1, (same_part origins ss is p h.0).1 h.2, (same_parts origins ss is ps h.1).1 h.3, h.4),
   )
 
   -- ---- Without the empty ones.
@@ -112,7 +114,7 @@ module _ (Has : Valuing) (fill : ℕ) where
 same_valued : (Has Other : Valuing) (fill : ℕ) → ((f : Form) (v : ℤ) → Has f v ↔ Other f v) → (p : Part) (bytes : List ℕ) → ArePart Has fill p bytes ↔ ArePart Other fill p bytes
 same_valued Has Other fill h (Known own) bytes = (λ k. k, λ k. k)
 same_valued Has Other fill h (Filled n) bytes = (λ k. k, λ k. k)
-same_valued Has Other fill h (Waiting width number f) bytes = (λ k. (k.0, (h f k.0).0 k.1, k.2), λ k. (k.0, (h f k.0).1 k.1, k.2))
+same_valued Has Other fill h (Waiting width place f) bytes = (λ k. (k.0, (h f k.0).0 k.1, k.2), λ k. (k.0, (h f k.0).1 k.1, k.2))
 
 pub all_valued : (Has Other : Valuing) (fill : ℕ) → ((f : Form) (v : ℤ) → Has f v ↔ Other f v) → (ps : List Part) (bytes : List ℕ) → AreParts Has fill ps bytes ↔ AreParts Other fill ps bytes
 all_valued Has Other fill h [] bytes = (λ k. k, λ k. k)
@@ -128,11 +130,11 @@ of_numbered {E = E} none bases values ss is f v = (
 )
 
 pub fragments_law : (E : Type 0) → FragmentsLaw E
-fragments_law E none bases values fill ss is ps bytes =
+fragments_law E none bases values fill origins ss is ps bytes =
     let Has : Valuing = valued_by none bases values in
     let Own : Valuing = valued_by none (λ g. bases (number_of ss g)) (λ turns k. values turns (number_of is k)) in
     let same = all_valued Own (λ f v. Has (numbered ss is f) v) fill (λ f v. of_numbered none bases values ss is f v) ps bytes in
-    let parts = same_parts Has fill ss is ps bytes in
-    let kept = all_kept Has fill (map (fragment_of ss is) ps) bytes in
-    let joined = all_joined_are Has fill (fragments_of ss is ps) bytes in
+    let parts = same_parts Has fill origins ss is ps bytes in
+    let kept = all_kept Has fill (map (fragment_of origins ss is) ps) bytes in
+    let joined = all_joined_are Has fill (fragments_of origins ss is ps) bytes in
     (λ h. joined.0 (kept.0 (parts.0 (same.0 h))), λ h. same.1 (parts.1 (kept.1 (joined.1 h))))

@@ -10,9 +10,11 @@ use Rattle.syntax65.specs.Trees as tree
 use Rattle.object65.specs.Form.{Form}
 use Rattle.object65.specs.declared.object.Export.{Export}
 use Rattle.object65.specs.declared.object.Object.{Object}
+use Rattle.object65.specs.declared.object.Origin.{Origin}
 use Rattle.script65.specs.declared.placement.Placement.{Placement}
 use Rattle.script65.specs.declared.script.Script.{Script}
 use Rattle.language65.proofs.Lists.{same_bytes}
+use Rattle.source65.specs.declared.place.Place.{Place}
 use Rattle.language65.specs.Parts.{Content, Said, Exported, Demanded, Checked}
 use Rattle.language65.specs.declared.fault.AsmFault.TheVariants.{Undefined}
 use Rattle.language65.specs.Laid.{Laid}
@@ -62,16 +64,16 @@ abbrev IsWritten : Symbols → (sections numbers : List ℕ) → ℕ → Export 
 IsWritten z sections numbers count e =
     (f : Form) × (j : ℕ) × IsKeyed sections numbers count f × (e.form ≡ numbered sections numbers f) × (defined z (named 0 e.name) ≡ Some j) × (defined_form z j ≡ Ok f)
 
-written_among : (z : Symbols) (sections numbers : List ℕ) (count : ℕ) (ss : List Said) (found : List Export) → AllByRecursion (IsWritten z sections numbers count) found → AllByRecursion (IsDefined z) ss → AllByRecursion (IsKeyedSaid sections numbers count) ss → AllByRecursion (IsWritten z sections numbers count) (exports_among sections numbers found ss)
-written_among z sections numbers count [] found h d k = h
-written_among z sections numbers count (Exported n line f ∷ ss) found h d k =
-    written_among z sections numbers count ss (cond (list_any (λ e. bytes_eq n e.name) found) found (found ++ record { name = n; line = line; form = numbered sections numbers f } ∷ [])) (go (list_any (λ e. bytes_eq n e.name) found)) d.1 k.1
+written_among : (z : Symbols) (origins : Place → Origin) (sections numbers : List ℕ) (count : ℕ) (ss : List Said) (found : List Export) → AllByRecursion (IsWritten z sections numbers count) found → AllByRecursion (IsDefined z) ss → AllByRecursion (IsKeyedSaid sections numbers count) ss → AllByRecursion (IsWritten z sections numbers count) (exports_among origins sections numbers found ss)
+written_among z origins sections numbers count [] found h d k = h
+written_among z origins sections numbers count (Exported n place f ∷ ss) found h d k =
+    written_among z origins sections numbers count ss (cond (list_any (λ e. bytes_eq n e.name) found) found (found ++ record { name = n; origin = origins place; form = numbered sections numbers f } ∷ [])) (go (list_any (λ e. bytes_eq n e.name) found)) d.1 k.1
   where
-    go : (b : Bool) → AllByRecursion (IsWritten z sections numbers count) (cond b found (found ++ record { name = n; line = line; form = numbered sections numbers f } ∷ []))
+    go : (b : Bool) → AllByRecursion (IsWritten z sections numbers count) (cond b found (found ++ record { name = n; origin = origins place; form = numbered sections numbers f } ∷ []))
     go true = h
-    go false = all_more (IsWritten z sections numbers count) found (record { name = n; line = line; form = numbered sections numbers f }) h (f, d.0.0, k.0, refl, d.0.1, d.0.2)
-written_among z sections numbers count (Demanded n ∷ ss) found h d k = written_among z sections numbers count ss found h d.1 k.1
-written_among z sections numbers count (Checked act line words f ∷ ss) found h d k = written_among z sections numbers count ss found h d.1 k.1
+    go false = all_more (IsWritten z sections numbers count) found (record { name = n; origin = origins place; form = numbered sections numbers f }) h (f, d.0.0, k.0, refl, d.0.1, d.0.2)
+written_among z origins sections numbers count (Demanded n ∷ ss) found h d k = written_among z origins sections numbers count ss found h d.1 k.1
+written_among z origins sections numbers count (Checked act place words f ∷ ss) found h d k = written_among z origins sections numbers count ss found h d.1 k.1
 
 pub keyed_said : (sections numbers : List ℕ) (count : ℕ) (cs : List Content) → AllByRecursion (IsKeyedContent sections numbers count) cs → AllByRecursion (IsKeyedSaid sections numbers count) (all_said cs)
 keyed_said sections numbers count [] h = tt
@@ -131,7 +133,7 @@ module _ (ys : List Layout) (ms : List Module) where
       let z : Symbols = table_of y in
       let sections : List ℕ = section_keys cs in
       let numbers : List ℕ = import_keys z.imports cs in
-      let written = written_among z sections numbers (length z.imports) (all_said cs) [] tt (said_all z y.laid cs c.found).are_defined (keyed_said sections numbers (length z.imports) cs (keyed_law y cs h.0.sound c.found)) in
+      let written = written_among z c.origins sections numbers (length z.imports) (all_said cs) [] tt (said_all z y.laid cs c.found).are_defined (keyed_said sections numbers (length z.imports) cs (keyed_law y cs h.0.sound c.found)) in
       all_append (IsExportOf ys ms) (map (exported owner) m.object.exports) (linked_exports (suc owner) ns)
       (of_source owner y m cs at_y at_m c.found m.object.exports (subst (λ (o : Object). AllByRecursion (IsWritten z sections numbers (length z.imports)) o.exports) (sym c.object) written))
       (of_sources rest ns (suc owner) h.1 (λ i. up_y (suc i) ∙ ap (slice_get ys) (next i)) (λ i. up_m (suc i) ∙ ap (slice_get ms) (next i)))

@@ -131,13 +131,13 @@ module _ (P : List ℕ → Type 0) (names : List (List ℕ)) where
 
   demands : (ss : List Said) → AllByRecursion OfSaid ss → AllByRecursion (λ n. is_among names n ≡ true) (demanded_names ss) → AllByRecursion P (demanded_names ss)
   demands [] h a = tt
-  demands (Exported n line f ∷ ss) h a = demands ss h.1 a
+  demands (Exported n place f ∷ ss) h a = demands ss h.1 a
   demands (Demanded n ∷ ss) h a = (go (key_for names n) h.0 a.0, demands ss h.1 a.1)
     where
       go : KeyFor names n → AllByRecursion OfKey (optional_key (key_of names n)) → is_among names n ≡ true → P n
       go (at_key k q called) h e = let own : AllByRecursion OfKey (optional_key (Some k)) = subst (λ o. AllByRecursion OfKey (optional_key o)) q h in subst P called own.0
       go (no_key q none) h e = (let never : true ≡ false = sym e ∙ none in absurd cc)
-  demands (Checked act line words f ∷ ss) h a = demands ss h.1 a
+  demands (Checked act place words f ∷ ss) h a = demands ss h.1 a
 
 -- ---- Objects.
 

@@ -7,7 +7,7 @@ use Rattle.std.proofs.lemmas.List.Folds.{list_any-append}
 use Rattle.object65.specs.Form.{Form}
 use Rattle.object65.specs.declared.object.Object.{Object}
 use Rattle.language65.specs.Parts.{Content, Part, Known, Filled, Waiting, Said, Exported, Demanded, Checked}
-use Rattle.language65.specs.Numbering.{content_imports, import_keys, imports_in, name_of, number_of, object_with, part_imports, said_imports, section_keys}
+use Rattle.language65.specs.Numbering.{content_imports, import_keys, imports_in, name_of, number_of, part_imports, said_imports, section_keys}
 use Rattle.language65.specs.Sound.{IsSoundContent, IsSoundForm, IsSoundPart, IsSoundSaid, sections_in}
 use Rattle.link65.specs.Givers.{giver_of}
 use Rattle.link65.specs.Names.{script_definitions, weak_symbols}
@@ -91,7 +91,7 @@ module _ (sections imports : List ℕ) (count : ℕ) where
   keyed_part : (q : Part) → IsSoundPart sections count q → AreAmong (part_imports q) → IsKeyedPart sections imports count q
   keyed_part (Known own) h up = tt
   keyed_part (Filled n) h up = tt
-  keyed_part (Waiting width line f) h up = keyed_form f h.0 up
+  keyed_part (Waiting width place f) h up = keyed_form f h.0.form up
 
   keyed_parts : (qs : List Part) → AllByRecursion (IsSoundPart sections count) qs → AreAmong (flat_map part_imports qs) → AllByRecursion (IsKeyedPart sections imports count) qs
   keyed_parts [] h up = tt
@@ -101,9 +101,9 @@ module _ (sections imports : List ℕ) (count : ℕ) where
   )
 
   keyed_saying : (names : List (List ℕ)) (x : Said) → IsSoundSaid sections count x → AreAmong (said_imports names x) → IsKeyedSaid sections imports count x
-  keyed_saying names (Exported n line f) h up = keyed_form f h.1 up
+  keyed_saying names (Exported n place f) h up = keyed_form f h.1.form up
   keyed_saying names (Demanded n) h up = tt
-  keyed_saying names (Checked act line words f) h up = keyed_form f h.1 up
+  keyed_saying names (Checked act place words f) h up = keyed_form f h.1.form up
 
   keyed_said : (names : List (List ℕ)) (xs : List Said) → AllByRecursion (IsSoundSaid sections count) xs → AreAmong (flat_map (said_imports names) xs) → AllByRecursion (IsKeyedSaid sections imports count) xs
   keyed_said names [] h up = tt
@@ -162,7 +162,7 @@ form_law s placement ys ms owner turns y m cs f h at_y at_m e =
     let source : IsSource y m = source_at ys ms owner y m h at_y at_m in
     let G : List ℕ → Giver = giver_of (script_definitions s placement) (program_of ms).exports (weak_symbols s.symbols) in
     let mine = resolved_at s placement ms owner m at_m in
-    let object : m.object ≡ object_with y.standing.segments names cs = same_object y m cs source e in
+    let object = same_object y m cs source e in
     let base : (g : ℕ) → list_any (nat_eq g) sections ≡ true → base_in s placement ys owner g (slice_get ys owner) ≡ base_of (slice_get l.modules owner) (number_of sections g) =
     λ g among. ap (base_in s placement ys owner g) at_y ∙ sym (section_base_law s placement ys ms owner g y m cs h at_y at_m e among) in
     let giver : (k : ℕ) → (list_any (nat_eq k) imports ≡ true) × (k < length names) → giver_named s placement (program_of ms) (slice_get (symbols_at (slice_get ys owner)).imports k) ≡ giver_at (slice_get l.modules owner) (number_of imports k) =

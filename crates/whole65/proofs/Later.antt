@@ -1,12 +1,17 @@
 -- A value stays where imports come to more.
-use Rattle.std.proofs.Common.{◌≡◌, ℕ, zero, suc, ◌+◌, refl, sym, ◌∙◌, subst, arith, List, Option, Some, None, Result, Ok, Err}
+use Rattle.std.proofs.Common.{◌≡◌, ℕ, zero, suc, ◌+◌, Bool, true, false, cond, refl, sym, ◌∙◌, subst, arith, List, Option, Some, None, Result, Ok, Err}
 use Rattle.std.specs.Prelude.{ℤ, slice_get}
 use Rattle.base65.specs.Outcome.{◌>>=◌}
 use Rattle.base65.specs.Values.{value1, value2}
 use Rattle.object65.specs.Form.{Form, lit, sec, imp, prefix, binary}
 use Rattle.object65.specs.FormValue.{or_none, value_in}
+use Rattle.object65.specs.Objects.{is_file_name}
 use Rattle.object65.specs.declared.folding.FormFault.{FormFault}
 use Rattle.object65.specs.declared.folding.FormFault.TheVariants as form
+use Rattle.source65.specs.declared.place.Place.{Place}
+use Rattle.language65.specs.Contents.{written}
+use Rattle.language65.specs.declared.fault.AsmFault.{AsmFault}
+use Rattle.language65.specs.declared.fault.AsmFault.TheVariants.{FileNameTooLong}
 use Rattle.language65.specs.Norms.{folded}
 use Rattle.whole65.specs.Objects.{AreObjects, IsGiven, IsGivenBy, Objects, form_value}
 use Rattle.whole65.specs.Values.{Giver, by_module, by_script, by_nobody, Program}
@@ -20,6 +25,14 @@ folded_ok (Ok g) f e = cc
 folded_ok (Err form.OutOfMemory) f e = cc
 folded_ok (Err form.NoValue) f e = cc
 folded_ok (Err form.TooLarge) f e = cc
+
+-- what is written with its place is what was to be written
+pub written_ok : {A : Type 0} (place : Place) (a b : A) → written place a ≡ Ok b → a ≡ b
+written_ok {A = A} place a b e = go (is_file_name place.file) e
+  where
+    go : (fits : Bool) → ◌≡◌ {A = Result A AsmFault} (cond fits (Ok a) (Err FileNameTooLong)) (Ok b) → a ≡ b
+    go true e = cc
+    go false e = cc
 
 -- the second has the values of the first
 abbrev pub Covers : {E : Type 0} → (ℕ → Result ℤ E) → (ℕ → Result ℤ E) → Type 0

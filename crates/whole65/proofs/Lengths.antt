@@ -11,6 +11,8 @@ use Rattle.base65.specs.Outcome.{◌>>=◌, each}
 use Rattle.object65.specs.Objects.{fragment_len}
 use Rattle.object65.specs.declared.object.Fragment.{Fragment}
 use Rattle.object65.specs.declared.object.Fragment.TheVariants.{Literal, Fill, Value}
+use Rattle.object65.specs.declared.object.Origin.{Origin}
+use Rattle.source65.specs.declared.place.Place.{Place}
 use Rattle.language65.specs.Parts.{Content, Part, Known, Filled, Waiting}
 use Rattle.language65.specs.declared.fault.AsmFault.{AsmFault}
 use Rattle.language65.specs.Contents.{content_of, parts_of}
@@ -78,21 +80,21 @@ kept_long (f ∷ fs) = go (is_empty f) refl (kept_long fs)
         let more = sum_by-cons fragment_len f fs in
         omega (arith, h, none, more)
 
-part_long : (ss is : List ℕ) (p : Part) → fragment_len (fragment_of ss is p) ≡ part_len p
-part_long ss is (Known bytes) = refl
-part_long ss is (Filled n) = refl
-part_long ss is (Waiting w n f) = refl
+part_long : (origins : Place → Origin) (ss is : List ℕ) (p : Part) → fragment_len (fragment_of origins ss is p) ≡ part_len p
+part_long origins ss is (Known bytes) = refl
+part_long origins ss is (Filled n) = refl
+part_long origins ss is (Waiting w n f) = refl
 
-parts_long : (ss is : List ℕ) (ps : List Part) → sum_by fragment_len (map (fragment_of ss is) ps) ≡ sum_by part_len ps
-parts_long ss is [] = refl
-parts_long ss is (p ∷ ps) =
-    sum_by-cons fragment_len (fragment_of ss is p) (map (fragment_of ss is) ps)
-    ∙ ap (λ n. n + sum_by fragment_len (map (fragment_of ss is) ps)) (part_long ss is p)
-    ∙ ap (λ n. part_len p + n) (parts_long ss is ps)
+parts_long : (origins : Place → Origin) (ss is : List ℕ) (ps : List Part) → sum_by fragment_len (map (fragment_of origins ss is) ps) ≡ sum_by part_len ps
+parts_long origins ss is [] = refl
+parts_long origins ss is (p ∷ ps) =
+    sum_by-cons fragment_len (fragment_of origins ss is p) (map (fragment_of origins ss is) ps)
+    ∙ ap (λ n. n + sum_by fragment_len (map (fragment_of origins ss is) ps)) (part_long origins ss is p)
+    ∙ ap (λ n. part_len p + n) (parts_long origins ss is ps)
     ∙ sym (sum_by-cons part_len p ps)
 
-pub joined_parts_long : (ss is : List ℕ) (ps : List Part) → sum_by fragment_len (all_joined (fragments_of ss is ps)) ≡ sum_by part_len ps
-joined_parts_long ss is ps = all_long (fragments_of ss is ps) ∙ kept_long (map (fragment_of ss is) ps) ∙ parts_long ss is ps
+pub joined_parts_long : (origins : Place → Origin) (ss is : List ℕ) (ps : List Part) → sum_by fragment_len (all_joined (fragments_of origins ss is ps)) ≡ sum_by part_len ps
+joined_parts_long origins ss is ps = all_long (fragments_of origins ss is ps) ∙ kept_long (map (fragment_of origins ss is) ps) ∙ parts_long origins ss is ps
 
 -- ---- Statements.
 
@@ -178,7 +180,7 @@ module _ (z : Symbols) (owner g : ℕ) where
               omega (arith, first, rest, own, both)
 
 pub length_law : LengthLaw
-length_law y owner g cs sections imports d s e =
-    let parts = joined_parts_long sections imports (parts_in cs g) in
+length_law y owner g cs origins sections imports d s e =
+    let parts = joined_parts_long origins sections imports (parts_in cs g) in
     let lines = lines_long (table_of y) owner g [] y.laid cs 0 (all_end owner g d) (all_lines_long y s) e in
     omega (arith, parts, lines)

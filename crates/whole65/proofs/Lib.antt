@@ -31,6 +31,7 @@ pub mod Alignments
 pub mod Lengths
 pub mod Keys
 pub mod Sections
+pub mod Versions
 pub mod Sources
 pub mod Bases
 pub mod Keyed

@@ -55,8 +55,8 @@ module _ {E : Type 0} (p : Program) (o : Objects E) (h : AreObjects p o) (fill :
 
   of_item : (width : Width) (i : Item) (q : Part) (bytes : List ℕ) → item_part (o.symbols x.owner) x.laid width i ≡ Ok q → AreItem p x width i bytes ↔ ArePart (HasValue o x.owner) fill q bytes
   of_item width (language.value e) q bytes r =
-      let (f, normal, kept) = bind_ok (norm_of (o.symbols x.owner) x.laid.spot e) (stored width x.laid.place.line) q r in
-      let part = of_stored o x.owner fill width x.laid.place.line f q bytes kept in
+      let (f, normal, kept) = bind_ok (norm_of (o.symbols x.owner) x.laid.spot e) (stored width x.laid.place) q r in
+      let part = of_stored o x.owner fill width x.laid.place f q bytes kept in
       (λ k. part.1 (k.0, (values e f k.0 normal).0 k.1, k.2), λ k. (let b : HasBytes o x.owner width f bytes = part.0 k in (b.0, (values e f b.0 normal).1 b.1, b.2)))
   of_item width (language.text own) q bytes r =
       let same : Known own ≡ q = cc in
@@ -79,9 +79,9 @@ module _ {E : Type 0} (p : Program) (o : Objects E) (h : AreObjects p o) (fill :
 
   of_one : (width : Width) (e : Tree) (q : Part) (bytes : List ℕ) → operand_part (o.symbols x.owner) x.laid width e ≡ Ok q → AreOperand p x (Some width) (Some e) bytes ↔ ArePart (HasValue o x.owner) fill q bytes
   of_one width e q bytes r =
-      let (f, normal, kept) = bind_ok (norm_of (o.symbols x.owner) x.laid.spot e) (λ f. operand_form width x.laid.spot f >>= stored width x.laid.place.line) q r in
-      let (g, counted, last) = bind_ok (operand_form width x.laid.spot f) (stored width x.laid.place.line) q kept in
-      let part = of_stored o x.owner fill width x.laid.place.line g q bytes last in
+      let (f, normal, kept) = bind_ok (norm_of (o.symbols x.owner) x.laid.spot e) (λ f. operand_form width x.laid.spot f >>= stored width x.laid.place) q r in
+      let (g, counted, last) = bind_ok (operand_form width x.laid.spot f) (stored width x.laid.place) q kept in
+      let part = of_stored o x.owner fill width x.laid.place g q bytes last in
       let form = of_operand o x.owner fill width (p.address x.owner x.place) x.laid.spot f g bytes address counted in
       (λ k. part.1 (form.0 (k.0, (values e f k.0 normal).0 k.1, k.2)), λ k. (let b = form.1 (part.0 k) in (b.0, (values e f b.0 normal).1 b.1, b.2)))
 

@@ -1,5 +1,5 @@
 -- What segments need of their rows, in a link and in the whole program.
-use Rattle.std.proofs.Common.{◌≡◌, ℕ, ◌<◌, Bool, true, false, nat_eq, cond, List, [], ◌∷◌, ◌++◌, length, map, filter, Option, Some, None, Result, Ok, Err, refl, sym, ◌∙◌, ap}
+use Rattle.std.proofs.Common.{◌≡◌, ℕ, ◌<◌, Bool, true, false, nat_eq, cond, List, [], ◌∷◌, ◌++◌, length, map, filter, Option, Some, None, refl, sym, ◌∙◌, ap}
 use Rattle.std.specs.Prelude.{◌||◌, find}
 use Rattle.std.specs.List.{AllByRecursion, flat_map, list_any}
 use Rattle.std.specs.Option.{option_map, option_map_or}
@@ -7,11 +7,13 @@ use Rattle.std.specs.Str.{bytes_eq}
 use Rattle.std.proofs.lemmas.List.{map-append}
 use Rattle.std.proofs.lemmas.List.Folds.{list_any-append}
 use Rattle.object65.specs.declared.object.Object.{Object}
+use Rattle.object65.specs.declared.object.Origin.{Origin}
 use Rattle.object65.specs.declared.object.Section.{Section}
 use Rattle.script65.proofs.Placed.{same_needs}
 use Rattle.script65.specs.Placing.{size_of}
 use Rattle.script65.specs.declared.placement.SegmentNeed.{SegmentNeed}
 use Rattle.language65.proofs.Lists.{bytes_swap, same_bytes}
+use Rattle.source65.specs.declared.place.Place.{Place}
 use Rattle.language65.specs.Parts.{Content}
 use Rattle.language65.specs.Laid.{Laid, asks_section}
 use Rattle.language65.specs.Layout.{Layout}
@@ -103,11 +105,11 @@ all_sections : (owner : ℕ) (ss : List Section) (gs : List Segment) → names_o
 all_sections owner [] gs = refl
 all_sections owner (s ∷ ss) gs = all_sections owner ss (with_section owner gs s) ∙ ap (λ z. with_new z (map (λ s. s.name) ss)) (one_section owner gs s)
 
-section_names : (y : Layout) (sections imports : List ℕ) (cs : List Content) (ks : List ℕ) → AllByRecursion (λ g. g < length y.standing.segments) ks → map (λ (s : Section). s.name) (map (section_of y.standing.segments sections imports cs) ks) ≡ map (segment_name y) ks
-section_names y sections imports cs [] h = refl
-section_names y sections imports cs (k ∷ ks) h =
-    ap (λ n. n ∷ map (λ (s : Section). s.name) (map (section_of y.standing.segments sections imports cs) ks)) (name_at y.standing.segments k h.0)
-    ∙ ap (λ z. segment_name y k ∷ z) (section_names y sections imports cs ks h.1)
+section_names : (y : Layout) (origins : Place → Origin) (sections imports : List ℕ) (cs : List Content) (ks : List ℕ) → AllByRecursion (λ g. g < length y.standing.segments) ks → map (λ (s : Section). s.name) (map (section_of origins y.standing.segments sections imports cs) ks) ≡ map (segment_name y) ks
+section_names y origins sections imports cs [] h = refl
+section_names y origins sections imports cs (k ∷ ks) h =
+    ap (λ n. n ∷ map (λ (s : Section). s.name) (map (section_of origins y.standing.segments sections imports cs) ks)) (name_at y.standing.segments k h.0)
+    ∙ ap (λ z. segment_name y k ∷ z) (section_names y origins sections imports cs ks h.1)
 
 pub names_asked : (y : Layout) (ls : List Laid) → map (segment_name y) (map (λ (l : Laid). l.spot.segment) ls) ≡ map (λ (l : Laid). segment_name y l.spot.segment) ls
 names_asked y [] = refl
@@ -120,7 +122,7 @@ one_source y m known h =
     let keys = keys_of y cs h.laid_out c.found in
     let imports : List ℕ = import_keys (table_of y).imports cs in
     ap (λ (o : Object). with_new known (map (λ (s : Section). s.name) o.sections)) c.object
-    ∙ ap (with_new known) (section_names y (section_keys cs) imports cs (section_keys cs) keys.standing)
+    ∙ ap (with_new known) (section_names y c.origins (section_keys cs) imports cs (section_keys cs) keys.standing)
     ∙ names_once (segment_name y) known [] (segments_asked cs)
     ∙ ap (λ z. with_new known (map (segment_name y) z)) (asked_are (table_of y) y.laid cs c.found)
     ∙ ap (with_new known) (names_asked y (filter (λ (l : Laid). asks_section l.stated) y.laid))

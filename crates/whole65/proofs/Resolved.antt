@@ -129,17 +129,17 @@ module _ (s : Script) (placement : Placement) (ys : List Layout) (ms : List Modu
   abbrev pub IsValuedPart : Part → Type 0
   IsValuedPart (Known own) = ⊤
   IsValuedPart (Filled n) = ⊤
-  IsValuedPart (Waiting width line f) = HasSome f
+  IsValuedPart (Waiting width place f) = HasSome f
 
   abbrev IsValuedExport : Said → Type 0
-  IsValuedExport (Exported n line f) = HasSome f
+  IsValuedExport (Exported n place f) = HasSome f
   IsValuedExport (Demanded n) = ⊤
-  IsValuedExport (Checked act line words f) = ⊤
+  IsValuedExport (Checked act place words f) = ⊤
 
   abbrev IsValuedCheck : Said → Type 0
-  IsValuedCheck (Exported n line f) = ⊤
+  IsValuedCheck (Exported n place f) = ⊤
   IsValuedCheck (Demanded n) = ⊤
-  IsValuedCheck (Checked act line words f) = HasSome f
+  IsValuedCheck (Checked act place words f) = HasSome f
 
   -- an import that comes to a value has a name that is given
   one_given : (turns k : ℕ) (w : ℤ) → o.imports turns owner k ≡ Ok w → OfKey (IsGiven p) z.imports k
@@ -162,7 +162,7 @@ module _ (s : Script) (placement : Placement) (ys : List Layout) (ms : List Modu
   part_given : (x : Part) → IsValuedPart x → OfPart (IsGiven p) z.imports x
   part_given (Known own) k = tt
   part_given (Filled n) k = tt
-  part_given (Waiting width line f) k = form_given f k
+  part_given (Waiting width place f) k = form_given f k
 
   parts_given : (xs : List Part) → AllByRecursion IsValuedPart xs → AllByRecursion (OfPart (IsGiven p) z.imports) xs
   parts_given [] k = tt
@@ -181,9 +181,9 @@ module _ (s : Script) (placement : Placement) (ys : List Layout) (ms : List Modu
 
   said_given : (ss : List Said) → AllByRecursion (IsGiven p) (demanded_names ss) → AllByRecursion IsValuedExport ss → AllByRecursion IsValuedCheck ss → AllByRecursion (OfSaid (IsGiven p) z.imports) ss
   said_given [] d e a = tt
-  said_given (Exported n line f ∷ ss) d e a = (form_given f e.0, said_given ss d e.1 a.1)
+  said_given (Exported n place f ∷ ss) d e a = (form_given f e.0, said_given ss d e.1 a.1)
   said_given (Demanded n ∷ ss) d e a = (demand_given n d.0, said_given ss d.1 e.1 a.1)
-  said_given (Checked act line words f ∷ ss) d e a = (form_given f a.0, said_given ss d e.1 a.1)
+  said_given (Checked act place words f ∷ ss) d e a = (form_given f a.0, said_given ss d e.1 a.1)
 
   -- ---- Exports.
 
@@ -198,16 +198,16 @@ module _ (s : Script) (placement : Placement) (ys : List Layout) (ms : List Modu
 
   exports_valued : (ss : List Said) → AllByRecursion (IsDefined z) ss → AllByRecursion (HasExport p owner) (exported_names ss) → AllByRecursion IsValuedExport ss
   exports_valued [] d e = tt
-  exports_valued (Exported n line f ∷ ss) d e = (export_valued n d.0.0 f d.0.1 d.0.2 e.0, exports_valued ss d.1 e.1)
+  exports_valued (Exported n place f ∷ ss) d e = (export_valued n d.0.0 f d.0.1 d.0.2 e.0, exports_valued ss d.1 e.1)
   exports_valued (Demanded n ∷ ss) d e = (tt, exports_valued ss d.1 e)
-  exports_valued (Checked act line words f ∷ ss) d e = (tt, exports_valued ss d.1 e)
+  exports_valued (Checked act place words f ∷ ss) d e = (tt, exports_valued ss d.1 e)
 
   -- ---- Assertions.
 
   check_valued : (before : List Laid) (l : Laid) (x : Said) → o.spots owner (length before) ≡ l.spot → HasAssertion p (line_of owner before l) → IsAsserted z l x → IsValuedCheck x
-  check_valued before l (Exported n line f) spot has k = tt
+  check_valued before l (Exported n place f) spot has k = tt
   check_valued before l (Demanded n) spot has k = tt
-  check_valued before l (Checked act line words f) spot has (e, stated, normal) =
+  check_valued before l (Checked act place words f) spot has (e, stated, normal) =
       let own : HasAssertion p (line_of owner before (record l { stated = assertion e act words })) = subst (λ x. HasAssertion p (line_of owner before (record l { stated = x }))) stated has in
       let depth : ℕ = suc (length z.definitions) in
       let same : norm depth (o.symbols owner) (o.spots owner (length before)) e ≡ Ok f = ap (λ r. norm depth (symbols_at r) (o.spots owner (length before)) e) at_y ∙ ap (λ r. norm depth z r e) spot ∙ normal in

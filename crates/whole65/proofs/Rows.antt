@@ -7,6 +7,8 @@ use Rattle.std.proofs.lemmas.List.{append-nil, append_assoc}
 use Rattle.object65.specs.declared.object.Section.{Section}
 use Rattle.script65.specs.declared.placement.Placement.{Placement}
 use Rattle.script65.specs.declared.script.Script.{Script}
+use Rattle.object65.specs.declared.object.Origin.{Origin}
+use Rattle.source65.specs.declared.place.Place.{Place}
 use Rattle.language65.specs.Parts.{Content, Part, Known, Filled, Waiting}
 use Rattle.language65.specs.Laid.{Laid}
 use Rattle.language65.specs.Layout.{Layout}
@@ -92,7 +94,7 @@ module _ (s : Script) (placement : Placement) (ys : List Layout) (ms : List Modu
     valued cs e [] h = tt
     valued cs e (Known own ∷ qs) h = (tt, valued cs e qs h.1)
     valued cs e (Filled n ∷ qs) h = (tt, valued cs e qs h.1)
-    valued cs e (Waiting width number f ∷ qs) h = (
+    valued cs e (Waiting width place f ∷ qs) h = (
       λ v. (
         λ k. (k.0, sym (form_law s placement ys ms owner k.0 y m cs f sources at_y at_m e h.0) ∙ k.1),
         λ k. (k.0, form_law s placement ys ms owner k.0 y m cs f sources at_y at_m e h.0 ∙ k.1),
@@ -103,17 +105,17 @@ module _ (s : Script) (placement : Placement) (ys : List Layout) (ms : List Modu
     spot_is : (place : ℕ) (x : Laid) → slice_get y.laid place ≡ Some x → o.spots owner place ≡ x.spot
     spot_is place x e = ap (λ r. spot_in r place) at_y ∙ ap (spot_or (global_spot y)) e
 
-    lines_have : (begin key : ℕ) (cs : List Content) (bytes : List ℕ) → contents_from (table_of y) y.laid ≡ Ok cs → IsMultiple begin (largest_multiple (lines_at key (lines_behind owner [] y.laid))) → AreBytes p fill begin (map line (lines_at key (lines_behind owner [] y.laid))) bytes ↔ AreCells l fill (flat_map (fragment_cells owner) (section_of y.standing.segments (section_keys cs) (import_keys (table_of y).imports cs) cs key).fragments) bytes
-    lines_have begin key cs bytes e multiple =
+    lines_have : (begin key : ℕ) (origins : Place → Origin) (cs : List Content) (bytes : List ℕ) → contents_from (table_of y) y.laid ≡ Ok cs → IsMultiple begin (largest_multiple (lines_at key (lines_behind owner [] y.laid))) → AreBytes p fill begin (map line (lines_at key (lines_behind owner [] y.laid))) bytes ↔ AreCells l fill (flat_map (fragment_cells owner) (section_of origins y.standing.segments (section_keys cs) (import_keys (table_of y).imports cs) cs key).fragments) bytes
+    lines_have begin key origins cs bytes e multiple =
         let sections : List ℕ = section_keys cs in
         let imports : List ℕ = import_keys (table_of y).imports cs in
-        module_law ValueFault p o l fill begin owner key y cs sections imports bytes objects (ap symbols_at at_y) spot_is source.laid_out multiple e
+        module_law ValueFault p o l fill begin owner key y cs origins sections imports bytes objects (ap symbols_at at_y) spot_is source.laid_out multiple e
         (valued cs e (parts_in cs key) (keyed_in sections imports (length (table_of y).imports) key cs (keyed_law y cs source.sound e)))
 
     one_part : (g : Option Segment) (bytes : List ℕ) → AreCells l fill (cells_or (behind_sections owner name g m.object.sections)) bytes ↔ Split (cells_or g) (size_or g) (part_of owner y name) bytes
     one_part g bytes = go (behind_source y m source owner name g)
       where
-        go : Behind y m (contents_of y m source).contents owner name g → AreCells l fill (cells_or (behind_sections owner name g m.object.sections)) bytes ↔ Split (cells_or g) (size_or g) (part_of owner y name) bytes
+        go : Behind y m (contents_of y m source).origins (contents_of y m source).contents owner name g → AreCells l fill (cells_or (behind_sections owner name g m.object.sections)) bytes ↔ Split (cells_or g) (size_or g) (part_of owner y name) bytes
         go (unchanged has e) =
             let none : part_of owner y name ≡ [] = no_part y owner name has in (
               λ h. (bytes, [], subst (λ z. AreCells l fill (cells_or z) bytes) e h, subst (λ z. AreBytes p fill (size_or g) z []) (sym none) refl, sym (append-nil bytes)),
@@ -124,8 +126,11 @@ module _ (s : Script) (placement : Placement) (ys : List Layout) (ms : List Modu
             cs : List Content
             cs = (contents_of y m source).contents
 
+            origins : Place → Origin
+            origins = (contents_of y m source).origins
+
             sec : Section
-            sec = section_of y.standing.segments (section_keys cs) (import_keys (table_of y).imports cs) cs key
+            sec = section_of origins y.standing.segments (section_keys cs) (import_keys (table_of y).imports cs) cs key
 
             multiple : ℕ
             multiple = largest_multiple (lines_at key (lines_behind owner [] y.laid))
@@ -136,7 +141,7 @@ module _ (s : Script) (placement : Placement) (ys : List Layout) (ms : List Modu
             gap_is : begin_behind (or_empty name g).size sec - (or_empty name g).size ≡ begin - size_or g
             gap_is =
                 ap (λ n. begin_behind n sec - n) (size_or_empty name g)
-                ∙ ap (λ n. n - size_or g) (section_begin y owner key (size_or g) (section_keys cs) (import_keys (table_of y).imports cs) cs source.laid_out)
+                ∙ ap (λ n. n - size_or g) (section_begin y owner key (size_or g) origins (section_keys cs) (import_keys (table_of y).imports cs) cs source.laid_out)
 
             cells_are : cells_or (behind_sections owner name g m.object.sections) ≡ cells_or g ++ (replicate (begin - size_or g) filled ++ flat_map (fragment_cells owner) sec.fragments)
             cells_are =
@@ -149,7 +154,7 @@ module _ (s : Script) (placement : Placement) (ys : List Layout) (ms : List Modu
             part_is = whole_part y owner key name source.laid_out lt called has
 
             lines : (more : List ℕ) → AreBytes p fill begin (map line (lines_at key (lines_behind owner [] y.laid))) more ↔ AreCells l fill (flat_map (fragment_cells owner) sec.fragments) more
-            lines more = lines_have begin key cs more (contents_of y m source).found (begin_is_multiple y owner key (size_or g) source.laid_out)
+            lines more = lines_have begin key origins cs more (contents_of y m source).found (begin_is_multiple y owner key (size_or g) source.laid_out)
 
             there : AreCells l fill (cells_or (behind_sections owner name g m.object.sections)) bytes → Split (cells_or g) (size_or g) (part_of owner y name) bytes
             there h =

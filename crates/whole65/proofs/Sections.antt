@@ -3,8 +3,10 @@ use Rattle.std.proofs.Common.{◌≡◌, ℕ, zero, suc, ◌<◌, Bool, true, fa
 use Rattle.std.specs.Prelude.{◌||◌}
 use Rattle.std.specs.List.{AllByRecursion, list_any}
 use Rattle.std.specs.Str.{bytes_eq}
+use Rattle.object65.specs.declared.object.Origin.{Origin}
 use Rattle.object65.specs.declared.object.Section.{Section}
 use Rattle.language65.proofs.Lists.{same_bytes}
+use Rattle.source65.specs.declared.place.Place.{Place}
 use Rattle.language65.specs.Parts.{Content}
 use Rattle.language65.specs.declared.contents.Segment.{Segment}
 use Rattle.language65.specs.Layout.{Layout, segment_at}
@@ -23,9 +25,9 @@ name_at [] g lt = absurd (omega (arith, lt))
 name_at (x ∷ gs) zero lt = refl
 name_at (x ∷ gs) (suc g) lt = name_at gs g (omega (arith, lt))
 
-module _ (y : Layout) (owner : ℕ) (sections imports : List ℕ) (cs : List Content) (name : List ℕ) where
+module _ (y : Layout) (owner : ℕ) (origins : Place → Origin) (sections imports : List ℕ) (cs : List Content) (name : List ℕ) where
   abbrev pub its_section : ℕ → Section
-  its_section g = section_of y.standing.segments sections imports cs g
+  its_section g = section_of origins y.standing.segments sections imports cs g
 
   abbrev is_named : ℕ → Bool
   is_named g = bytes_eq (segment_name y g) name

@@ -12,12 +12,13 @@ use Rattle.object65.specs.Form.{Form, lit, sec, imp, prefix, binary}
 use Rattle.object65.specs.Objects.{fits_width, value_bytes}
 use Rattle.object65.specs.declared.object.Width.{Width}
 use Rattle.object65.specs.declared.object.Width.TheVariants.{Byte, Word, HighFirst, Dword, Branch}
+use Rattle.source65.specs.declared.place.Place.{Place}
 use Rattle.language65.specs.Parts.{Part, Known, Waiting}
 use Rattle.language65.specs.declared.fault.AsmFault.{AsmFault}
 use Rattle.language65.specs.declared.fault.AsmFault.TheVariants.{OutOfRange}
-use Rattle.language65.specs.Contents.{operand_form, stored}
+use Rattle.language65.specs.Contents.{operand_form, stored, written}
 use Rattle.language65.specs.Laid.{Spot}
-use Rattle.whole65.proofs.Later.{bind_ok, folded_ok}
+use Rattle.whole65.proofs.Later.{bind_ok, folded_ok, written_ok}
 use Rattle.whole65.specs.Contents.{AreStored, counted_from}
 use Rattle.whole65.specs.Objects.{HasValue, Objects, form_value}
 use Rattle.whole65.specs.Inner.Parts.{ArePart}
@@ -39,18 +40,18 @@ module _ {E : Type 0} (o : Objects E) (owner fill : ℕ) where
       literal_is : (v w : ℤ) → ◌≡◌ {A = Result ℤ E} (Ok v) (Ok w) → v ≡ w
       literal_is v w e = cc
 
-  of_waiting : (width : Width) (number : ℕ) (f : Form) (part : Part) (bytes : List ℕ) → ◌≡◌ {A = Result Part AsmFault} (Ok (Waiting width number f)) (Ok part) → ArePart (HasValue o owner) fill part bytes ↔ HasBytes o owner width f bytes
-  of_waiting width number f part bytes e =
-      let same : Waiting width number f ≡ part = cc in
+  of_waiting : (width : Width) (place : Place) (f : Form) (part : Part) (bytes : List ℕ) → written place (Waiting width place f) ≡ Ok part → ArePart (HasValue o owner) fill part bytes ↔ HasBytes o owner width f bytes
+  of_waiting width place f part bytes e =
+      let same : Waiting width place f ≡ part = written_ok place (Waiting width place f) part e in
       (λ h. subst (λ q. ArePart (HasValue o owner) fill q bytes) (sym same) h, λ h. subst (λ q. ArePart (HasValue o owner) fill q bytes) same h)
 
   -- a part has the bytes of the form that is stored
-  pub of_stored : (width : Width) (number : ℕ) (f : Form) (part : Part) (bytes : List ℕ) → stored width number f ≡ Ok part → ArePart (HasValue o owner) fill part bytes ↔ HasBytes o owner width f bytes
-  of_stored width number (lit v) part bytes e = of_literal width v part bytes (fits_width width v) refl e
-  of_stored width number (sec k a) part bytes e = of_waiting width number (sec k a) part bytes e
-  of_stored width number (imp k) part bytes e = of_waiting width number (imp k) part bytes e
-  of_stored width number (prefix op f) part bytes e = of_waiting width number (prefix op f) part bytes e
-  of_stored width number (binary op f g) part bytes e = of_waiting width number (binary op f g) part bytes e
+  pub of_stored : (width : Width) (place : Place) (f : Form) (part : Part) (bytes : List ℕ) → stored width place f ≡ Ok part → ArePart (HasValue o owner) fill part bytes ↔ HasBytes o owner width f bytes
+  of_stored width place (lit v) part bytes e = of_literal width v part bytes (fits_width width v) refl e
+  of_stored width place (sec k a) part bytes e = of_waiting width place (sec k a) part bytes e
+  of_stored width place (imp k) part bytes e = of_waiting width place (imp k) part bytes e
+  of_stored width place (prefix op f) part bytes e = of_waiting width place (prefix op f) part bytes e
+  of_stored width place (binary op f g) part bytes e = of_waiting width place (binary op f g) part bytes e
 
   -- ---- Branches.
 

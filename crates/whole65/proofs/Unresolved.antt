@@ -1,5 +1,5 @@
 -- A link leaves names open exactly where the whole program lacks some that have to be given.
-use Rattle.std.proofs.Common.{◌≡◌, ℕ, zero, suc, ◌+◌, Bool, true, false, nat_eq, cond, List, [], ◌∷◌, map, filter, length, ◌<◌, slice_get, Some, Ok, Err, refl, sym, ◌∙◌, ap, subst, arith}
+use Rattle.std.proofs.Common.{◌≡◌, ℕ, zero, suc, ◌+◌, Bool, true, false, nat_eq, List, [], ◌∷◌, map, filter, length, ◌<◌, slice_get, Some, Ok, refl, sym, ◌∙◌, ap, subst, arith}
 use Rattle.std.specs.Prelude.{◌||◌}
 use Rattle.std.specs.Int.{next_multiple_of}
 use Rattle.std.specs.List.{AllByRecursion, flat_map, list_any}
@@ -122,7 +122,7 @@ module _ (s : Script) (placement : Placement) (ys : List Layout) (ms : List Modu
   parts_valued owner y at_y fill [] own k = tt
   parts_valued owner y at_y fill (Known b ∷ xs) own k = (tt, parts_valued owner y at_y fill xs k.1 k.3)
   parts_valued owner y at_y fill (Filled n ∷ xs) own k = (tt, parts_valued owner y at_y fill xs k.1 k.3)
-  parts_valued owner y at_y fill (Waiting width number f ∷ xs) own k = ((k.2.0, k.2.1), parts_valued owner y at_y fill xs k.1 k.3)
+  parts_valued owner y at_y fill (Waiting width place f ∷ xs) own k = ((k.2.0, k.2.1), parts_valued owner y at_y fill xs k.1 k.3)
 
   asked_valued : (owner : ℕ) (y : Layout) (at_y : slice_get ys owner ≡ Some y) (m : Module) (source : IsSource y m) → Asked (IsValuedPart s placement ys ms h owner y at_y) (contents_of y m source).contents
   asked_valued owner y at_y m source g asked =

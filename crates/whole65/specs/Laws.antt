@@ -1,62 +1,33 @@
 -- What holds of whole programs: the ladder from one value to the equality.
-use Rattle.std.specs.Prelude.{◌≡◌, ◌<◌, ℕ, ◌+◌, ◌^◌, ℤ, pos, ◌↔◌, List, [], ◌∷◌, length, map, nat_eq, slice_get, take, true, false, Some, None, Result, Ok}
-use Rattle.base65.specs.Store.{Files}
+use Rattle.std.specs.Prelude.{◌≡◌, ℕ, ℤ, ◌↔◌, List, [], ◌∷◌, map, slice_get, take, false, Some, Result, Ok}
 use Rattle.syntax65.specs.Trees.{Tree, name}
 use Rattle.object65.specs.Form.{Form}
 use Rattle.language65.specs.Laid.{Laid}
 use Rattle.language65.specs.Layout.{Layout, segment_at}
 use Rattle.language65.specs.Norms.{norm}
-use Rattle.module65.specs.Laying.{AreLaid}
-use Rattle.module65.specs.Reading.{Job, Reached}
-use Rattle.whole65.specs.Offsets.{ArePowers, IsLaidOut, IsMultiple, begin_of, lines_at}
+use Rattle.whole65.specs.Offsets.{ArePowers, IsLaidOut, lines_at}
 use Rattle.whole65.specs.Sources.{AreSources}
-use Rattle.whole65.specs.Segments.{Line, end_of, has_section, items_of, largest_multiple, line, line_end, lines_behind, needs_of, position_of, segment_name}
-use Rattle.language65.specs.Contents.{parts_of}
-use Rattle.language65.specs.Parts.{Part, Content}
-use Rattle.whole65.specs.Contents.{AreBytes, AreLine}
-use Rattle.language65.specs.Numbering.{all_joined, fragments_of, import_keys, imports_in, number_of, numbered, parts_in, section_keys, section_of, segment_power}
-use Rattle.module65.specs.Module.{contents_from}
-use Rattle.whole65.specs.Modules.{exports_of, table_of}
-use Rattle.object65.specs.FormValue.{value_in}
-use Rattle.object65.specs.Objects.{section_len}
-use Rattle.whole65.specs.Inner.Parts.{AreFragments, AreParts, valued_by}
-use Rattle.link65.specs.Givers.{export_names, first_again, unresolved}
-use Rattle.link65.specs.Links.{AreFiles, names_once}
-use Rattle.link65.specs.Names.{symbol_imports}
+use Rattle.whole65.specs.Segments.{end_of, largest_multiple, line, lines_behind, needs_of}
 use Rattle.link65.specs.Modules.{Module}
 use Rattle.link65.specs.Programs as linked
 use Rattle.link65.specs.Places as places
 use Rattle.link65.specs.Places.{address_of, linkage_of, run_of}
-use Rattle.link65.specs.declared.parts.SectionPlace.{SectionPlace}
-use Rattle.script65.specs.declared.placement.RowPlace.{RowPlace}
-use Rattle.script65.specs.declared.script.Row.{Row}
-use Rattle.base65.specs.Values.{wrapped}
-use Rattle.language65.specs.Sound.{IsSoundLayout, sections_in}
-use Rattle.link65.specs.Checks.{check_asserts, check_export, check_waiting, each_passes, waiting_by_row, waiting_in}
+use Rattle.link65.specs.Checks.{check_waiting, each_passes, waiting_by_row}
 use Rattle.image65.specs.Files.{RowBytes}
-use Rattle.link65.specs.RowBytes.{cell_bytes, row_bytes}
+use Rattle.link65.specs.RowBytes.{row_bytes}
 use Rattle.link65.specs.declared.parts.Exported.{Exported}
-use Rattle.image65.specs.declared.output.OutputFile.{OutputFile}
-use Rattle.link65.specs.declared.parts.Member.{Member}
 use Rattle.link65.specs.Segments as grown
 use Rattle.link65.specs.Segments.{Cell, fragment_cells, segment_of}
-use Rattle.link65.specs.Values.{AreExports, Linkage, base_of, exports_through, in_table, value_by}
+use Rattle.link65.specs.Values.{AreExports, Linkage, in_table, value_by}
 use Rattle.link65.specs.declared.parts.ValueFault.{ValueFault}
-use Rattle.object65.specs.declared.object.Fragment.{Fragment}
-use Rattle.whole65.specs.Inner.Cells.{AreCells, IsValuedIn, cells_or, linked_value}
-use Rattle.whole65.specs.Inner.Growth.{behind_modules}
-use Rattle.whole65.specs.Inner.Linked.{base_in, objects_of}
-use Rattle.whole65.specs.Inner.Keyed.{IsKeyed, IsKeyedContent, linked_objects}
-use Rattle.whole65.specs.Objects.{AreObjects, HasValue, IsGiven, Objects, form_value}
+use Rattle.whole65.specs.Objects.{AreObjects, HasValue, Objects}
 use Rattle.whole65.specs.Programs.{program_of}
 use Rattle.script65.specs.declared.placement.Placement.{Placement}
 use Rattle.script65.specs.declared.script.Script.{Script}
-use Rattle.std.specs.Int.{next_multiple_of}
-use Rattle.std.specs.List.{AllByRecursion, flat_map, list_any}
-use Rattle.script65.specs.Placing.{place_of, rounded_up}
+use Rattle.std.specs.List.{AllByRecursion}
+use Rattle.script65.specs.Placing.{place_of}
 use Rattle.whole65.specs.Values.{Program, Value}
-use Rattle.whole65.specs.Whole.{AreAsserted, AreExported, AreForced, AreRow, HasImage, given_names}
-use Rattle.whole65.specs.Whole as whole
+use Rattle.whole65.specs.Whole.{AreRow}
 
 -- an expression has one value at most
 abbrev pub OneValueLaw : Type 0

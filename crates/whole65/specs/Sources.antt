@@ -1,16 +1,20 @@
 -- Objects of sources.
 use Rattle.std.specs.Prelude.{◌≡◌, List, [], ◌∷◌, Ok, ⊤}
+use Rattle.object65.specs.Versions.{IsEitherVersion}
+use Rattle.object65.specs.declared.object.Object.{Object}
 use Rattle.language65.specs.Layout.{Layout}
 use Rattle.language65.specs.Sound.{IsSoundLayout}
 use Rattle.link65.specs.Modules.{Module}
 use Rattle.module65.specs.Module.{object_of}
 use Rattle.whole65.specs.Offsets.{IsLaidOut}
 
--- a module's object is that of laid statements, of which no line has a fault
+-- a module's object is that of laid statements, of which no line has a fault, or that of version 1 of the same statements
 pub record IsSource (y : Layout) (m : Module) : Type 0 where
   pub laid_out : IsLaidOut y
   pub sound : IsSoundLayout y
-  pub object : object_of y ≡ Ok m.object
+  pub written : Object
+  pub object : object_of y ≡ Ok written
+  pub version : IsEitherVersion written m.object
 
 abbrev pub AreSources : List Layout → List Module → Type 0
 AreSources [] [] = ⊤

@@ -28,7 +28,7 @@ AreCells l fill (c ∷ cs) bytes =
 abbrev pub IsValuedIn : {E : Type 0} → Objects E → Linkage → ℕ → (sections imports : List ℕ) → Part → Type 0
 IsValuedIn o l owner sections imports (Known own) = ⊤
 IsValuedIn o l owner sections imports (Filled n) = ⊤
-IsValuedIn o l owner sections imports (Waiting width number f) =
+IsValuedIn o l owner sections imports (Waiting width place f) =
     (v : ℤ) → HasValue o owner f v ↔ linked_value l owner (numbered sections imports f) v
 
 -- what lies in a segment, if there is one

@@ -47,12 +47,12 @@ pub record IsKeyed (sections imports : List ℕ) (count : ℕ) (f : Form) : Type
 abbrev pub IsKeyedPart : (sections imports : List ℕ) → ℕ → Part → Type 0
 IsKeyedPart sections imports count (Known own) = ⊤
 IsKeyedPart sections imports count (Filled n) = ⊤
-IsKeyedPart sections imports count (Waiting width line f) = IsKeyed sections imports count f
+IsKeyedPart sections imports count (Waiting width place f) = IsKeyed sections imports count f
 
 abbrev pub IsKeyedSaid : (sections imports : List ℕ) → ℕ → Said → Type 0
-IsKeyedSaid sections imports count (Exported name line f) = IsKeyed sections imports count f
+IsKeyedSaid sections imports count (Exported name place f) = IsKeyed sections imports count f
 IsKeyedSaid sections imports count (Demanded name) = ⊤
-IsKeyedSaid sections imports count (Checked act line words f) = IsKeyed sections imports count f
+IsKeyedSaid sections imports count (Checked act place words f) = IsKeyed sections imports count f
 
 pub record IsKeyedContent (sections imports : List ℕ) (count : ℕ) (c : Content) : Type 0 where
   pub parts : AllByRecursion (IsKeyedPart sections imports count) c.parts

@@ -19,7 +19,7 @@ valued_by none bases values f v = (turns : ℕ) × (value_in none bases (values 
 abbrev pub ArePart : Valuing → ℕ → Part → List ℕ → Type 0
 ArePart Has fill (Known own) bytes = bytes ≡ own
 ArePart Has fill (Filled n) bytes = bytes ≡ replicate n fill
-ArePart Has fill (Waiting width number f) bytes = (v : ℤ) × Has f v × AreStored width v bytes
+ArePart Has fill (Waiting width place f) bytes = (v : ℤ) × Has f v × AreStored width v bytes
 
 -- of parts one behind the other
 abbrev pub AreParts : Valuing → ℕ → List Part → List ℕ → Type 0
@@ -31,7 +31,7 @@ AreParts Has fill (p ∷ ps) bytes =
 abbrev pub IsFragment : Valuing → ℕ → Fragment → List ℕ → Type 0
 IsFragment Has fill (fragment.Literal own) bytes = bytes ≡ own
 IsFragment Has fill (fragment.Fill n) bytes = bytes ≡ replicate n fill
-IsFragment Has fill (fragment.Value width number f) bytes = (v : ℤ) × Has f v × AreStored width v bytes
+IsFragment Has fill (fragment.Value width origin f) bytes = (v : ℤ) × Has f v × AreStored width v bytes
 
 abbrev pub AreFragments : Valuing → ℕ → List Fragment → List ℕ → Type 0
 AreFragments Has fill [] bytes = bytes ≡ []

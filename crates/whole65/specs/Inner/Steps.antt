@@ -1,11 +1,9 @@
 -- What the lemmas between the laws state.
-use Rattle.std.specs.Prelude.{◌≡◌, ◌<◌, ℕ, ◌+◌, ◌^◌, ℤ, pos, ◌↔◌, List, [], ◌∷◌, length, map, nat_eq, slice_get, take, true, false, Some, None, Result, Ok}
+use Rattle.std.specs.Prelude.{◌≡◌, ◌<◌, ℕ, ◌+◌, ◌^◌, ℤ, pos, ◌↔◌, List, [], length, map, nat_eq, slice_get, true, Some, None, Result, Ok}
 use Rattle.base65.specs.Store.{Files}
-use Rattle.syntax65.specs.Trees.{Tree, name}
 use Rattle.object65.specs.Form.{Form}
 use Rattle.language65.specs.Laid.{Laid}
-use Rattle.language65.specs.Layout.{Layout, segment_at}
-use Rattle.language65.specs.Norms.{norm}
+use Rattle.language65.specs.Layout.{Layout}
 use Rattle.module65.specs.Laying.{AreLaid}
 use Rattle.module65.specs.Reading.{Job, Reached}
 use Rattle.whole65.specs.Offsets.{ArePowers, IsLaidOut, IsMultiple, begin_of, lines_at}
@@ -25,7 +23,6 @@ use Rattle.link65.specs.Links.{AreFiles, names_once}
 use Rattle.link65.specs.Names.{symbol_imports}
 use Rattle.link65.specs.Modules.{Module}
 use Rattle.link65.specs.Programs as linked
-use Rattle.link65.specs.Places as places
 use Rattle.link65.specs.Places.{address_of, linkage_of, run_of}
 use Rattle.link65.specs.declared.parts.SectionPlace.{SectionPlace}
 use Rattle.script65.specs.declared.placement.RowPlace.{RowPlace}
@@ -34,8 +31,7 @@ use Rattle.base65.specs.Values.{wrapped}
 use Rattle.language65.specs.Sound.{IsSoundLayout, sections_in}
 use Rattle.link65.specs.Checks.{check_asserts, check_export, check_waiting, each_passes, waiting_by_row, waiting_in}
 use Rattle.image65.specs.Files.{RowBytes}
-use Rattle.link65.specs.RowBytes.{cell_bytes, row_bytes}
-use Rattle.link65.specs.declared.parts.Exported.{Exported}
+use Rattle.link65.specs.RowBytes.{cell_bytes}
 use Rattle.image65.specs.declared.output.OutputFile.{OutputFile}
 use Rattle.link65.specs.declared.parts.Member.{Member}
 use Rattle.link65.specs.Segments as grown
@@ -43,6 +39,8 @@ use Rattle.link65.specs.Segments.{Cell, fragment_cells, segment_of}
 use Rattle.link65.specs.Values.{AreExports, Linkage, base_of, exports_through, in_table, value_by}
 use Rattle.link65.specs.declared.parts.ValueFault.{ValueFault}
 use Rattle.object65.specs.declared.object.Fragment.{Fragment}
+use Rattle.object65.specs.declared.object.Origin.{Origin}
+use Rattle.source65.specs.declared.place.Place.{Place}
 use Rattle.whole65.specs.Inner.Cells.{AreCells, IsValuedIn, cells_or, linked_value}
 use Rattle.whole65.specs.Inner.Growth.{behind_modules}
 use Rattle.whole65.specs.Inner.Linked.{base_in, objects_of}
@@ -54,7 +52,7 @@ use Rattle.script65.specs.declared.script.Script.{Script}
 use Rattle.std.specs.Int.{next_multiple_of}
 use Rattle.std.specs.List.{AllByRecursion, flat_map, list_any}
 use Rattle.script65.specs.Placing.{place_of, rounded_up}
-use Rattle.whole65.specs.Values.{Program, Value}
+use Rattle.whole65.specs.Values.{Program}
 use Rattle.whole65.specs.Whole.{AreAsserted, AreExported, AreForced, AreRow, HasImage, given_names}
 use Rattle.whole65.specs.Whole as whole
 
@@ -108,10 +106,10 @@ NumberLaw E =
 -- Fragments of an object have the bytes of the parts of which they are joined, by the values of the parts' own forms.
 abbrev pub FragmentsLaw : Type 0 → Type 0
 FragmentsLaw E =
-    (none : E) (bases : ℕ → ℤ) (values : ℕ → ℕ → Result ℤ E) (fill : ℕ) (sections imports : List ℕ) (ps : List Part)
-    (bytes : List ℕ) →
+    (none : E) (bases : ℕ → ℤ) (values : ℕ → ℕ → Result ℤ E) (fill : ℕ) (origins : Place → Origin)
+    (sections imports : List ℕ) (ps : List Part) (bytes : List ℕ) →
     AreParts (valued_by none (λ g. bases (number_of sections g)) (λ turns k. values turns (number_of imports k))) fill ps bytes
-    ↔ AreFragments (valued_by none bases values) fill (all_joined (fragments_of sections imports ps)) bytes
+    ↔ AreFragments (valued_by none bases values) fill (all_joined (fragments_of origins sections imports ps)) bytes
 
 -- A module's lines in a segment, from a multiple of their alignment on, have the bytes of what its statements put into the
 -- section.
@@ -173,14 +171,14 @@ BaseLaw =
 abbrev pub ModuleLaw : Type 0 → Type 0
 ModuleLaw E =
     (p : Program) (o : Objects E) (l : Linkage) (fill begin owner g : ℕ) (y : Layout) (cs : List Content)
-    (sections imports bytes : List ℕ) →
+    (origins : Place → Origin) (sections imports bytes : List ℕ) →
     AreObjects p o → o.symbols owner ≡ table_of y →
     ((place : ℕ) (x : Laid) → slice_get y.laid place ≡ Some x → o.spots owner place ≡ x.spot) →
     IsLaidOut y → IsMultiple begin (largest_multiple (lines_at g (lines_behind owner [] y.laid))) →
     contents_from (table_of y) y.laid ≡ Ok cs →
     AllByRecursion (IsValuedIn o l owner sections imports) (parts_in cs g) →
     AreBytes p fill begin (map line (lines_at g (lines_behind owner [] y.laid))) bytes
-    ↔ AreCells l fill (flat_map (fragment_cells owner) (section_of y.standing.segments sections imports cs g).fragments) bytes
+    ↔ AreCells l fill (flat_map (fragment_cells owner) (section_of origins y.standing.segments sections imports cs g).fragments) bytes
 
 -- The section of an object for a segment is aligned as the module's lines in that segment are.
 abbrev pub AlignmentLaw : Type 0
@@ -191,9 +189,9 @@ AlignmentLaw =
 -- It is as long as they are.
 abbrev pub LengthLaw : Type 0
 LengthLaw =
-    (y : Layout) (owner g : ℕ) (cs : List Content) (sections imports : List ℕ) →
+    (y : Layout) (owner g : ℕ) (cs : List Content) (origins : Place → Origin) (sections imports : List ℕ) →
     IsLaidOut y → IsSoundLayout y → contents_from (table_of y) y.laid ≡ Ok cs →
-    section_len (section_of y.standing.segments sections imports cs g)
+    section_len (section_of origins y.standing.segments sections imports cs g)
     ≡ end_of 0 (map line (lines_at g (lines_behind owner [] y.laid)))
 
 -- A segment of linked modules is as long as the list of all lines of its name.

@@ -1,0 +1,114 @@
+-- The object of version 1 of statements, as one of those that places' origins make.
+use Rattle.std.proofs.Common.{◌≡◌, ℕ, ◌+◌, Bool, true, false, not, cond, List, [], ◌∷◌, ◌++◌, map, filter, refl, sym, ◌∙◌, ap}
+use Rattle.std.specs.Prelude.{filter_map, ◌||◌}
+use Rattle.std.specs.List.{list_any}
+use Rattle.std.specs.Str.{bytes_eq}
+use Rattle.std.proofs.lemmas.List.{map-append}
+use Rattle.object65.specs.Versions.{assert_in_one, export_in_one, fragment_in_one, in_version_one, line_alone, section_in_one}
+use Rattle.object65.specs.declared.object.Export.{Export}
+use Rattle.object65.specs.declared.object.Fragment.{Fragment}
+use Rattle.object65.specs.declared.object.Fragment.TheVariants.{Literal, Fill, Value}
+use Rattle.object65.specs.declared.object.Object.{Object}
+use Rattle.object65.specs.declared.object.Origin.{Origin}
+use Rattle.source65.specs.declared.place.Place.{Place}
+use Rattle.language65.specs.Parts.{Content, Part, Known, Filled, Waiting, Said, Exported, Demanded, Checked}
+use Rattle.language65.specs.declared.contents.Segment.{Segment}
+use Rattle.language65.specs.Numbering.{all_joined, all_said, assert_of, exports_among, fragment_of, fragments_of, import_keys, is_empty, joined, numbered, object_by, parts_in, section_keys, section_of}
+
+-- ---- Fragments.
+
+joined_in_one : (f : Fragment) (fs : List Fragment) → map fragment_in_one (joined f fs) ≡ joined (fragment_in_one f) (map fragment_in_one fs)
+joined_in_one f [] = refl
+joined_in_one (Literal a) (Literal b ∷ fs) = joined_in_one (Literal (a ++ b)) fs
+joined_in_one (Literal a) (Fill n ∷ fs) = ap (λ z. Literal a ∷ z) (joined_in_one (Fill n) fs)
+joined_in_one (Literal a) (Value w o g ∷ fs) = ap (λ z. Literal a ∷ z) (joined_in_one (Value w o g) fs)
+joined_in_one (Fill m) (Literal b ∷ fs) = ap (λ z. Fill m ∷ z) (joined_in_one (Literal b) fs)
+joined_in_one (Fill m) (Fill n ∷ fs) = joined_in_one (Fill (m + n)) fs
+joined_in_one (Fill m) (Value w o g ∷ fs) = ap (λ z. Fill m ∷ z) (joined_in_one (Value w o g) fs)
+joined_in_one (Value w o f) (g ∷ fs) = ap (λ z. Value w (line_alone o) f ∷ z) (joined_in_one g fs)
+
+all_joined_in_one : (fs : List Fragment) → map fragment_in_one (all_joined fs) ≡ all_joined (map fragment_in_one fs)
+all_joined_in_one [] = refl
+all_joined_in_one (f ∷ fs) = joined_in_one f fs
+
+empty_in_one : (f : Fragment) → is_empty (fragment_in_one f) ≡ is_empty f
+empty_in_one (Literal bytes) = refl
+empty_in_one (Fill n) = refl
+empty_in_one (Value w o f) = refl
+
+kept_in_one : (fs : List Fragment) → map fragment_in_one (filter (λ f. not (is_empty f)) fs) ≡ filter (λ f. not (is_empty f)) (map fragment_in_one fs)
+kept_in_one [] = refl
+kept_in_one (f ∷ fs) = go (is_empty f) (kept_in_one fs) ∙ ap (λ b. cond (not b) (fragment_in_one f ∷ kept) kept) (sym (empty_in_one f))
+  where
+    kept : List Fragment
+    kept = filter (λ f. not (is_empty f)) (map fragment_in_one fs)
+
+    go : (b : Bool) → map fragment_in_one (filter (λ f. not (is_empty f)) fs) ≡ kept → map fragment_in_one (cond (not b) (f ∷ filter (λ f. not (is_empty f)) fs) (filter (λ f. not (is_empty f)) fs)) ≡ cond (not b) (fragment_in_one f ∷ kept) kept
+    go true h = h
+    go false h = ap (λ z. fragment_in_one f ∷ z) h
+
+module _ (origins : Place → Origin) (sections imports : List ℕ) where
+  -- places without their files
+  abbrev lines : Place → Origin
+  lines place = line_alone (origins place)
+
+  part_by_line : (p : Part) → fragment_in_one (fragment_of origins sections imports p) ≡ fragment_of lines sections imports p
+  part_by_line (Known bytes) = refl
+  part_by_line (Filled n) = refl
+  part_by_line (Waiting width place f) = refl
+
+  parts_by_line : (ps : List Part) → map fragment_in_one (map (fragment_of origins sections imports) ps) ≡ map (fragment_of lines sections imports) ps
+  parts_by_line [] = refl
+  parts_by_line (p ∷ ps) =
+      ap (λ z. z ∷ map fragment_in_one (map (fragment_of origins sections imports) ps)) (part_by_line p)
+      ∙ ap (λ z. fragment_of lines sections imports p ∷ z) (parts_by_line ps)
+
+  fragments_by_line : (ps : List Part) → map fragment_in_one (all_joined (fragments_of origins sections imports ps)) ≡ all_joined (fragments_of lines sections imports ps)
+  fragments_by_line ps =
+      all_joined_in_one (fragments_of origins sections imports ps)
+      ∙ ap all_joined (kept_in_one (map (fragment_of origins sections imports) ps) ∙ ap (filter (λ f. not (is_empty f))) (parts_by_line ps))
+
+  sections_by_line : (gs : List Segment) (cs : List Content) (ks : List ℕ) → map section_in_one (map (section_of origins gs sections imports cs) ks) ≡ map (section_of lines gs sections imports cs) ks
+  sections_by_line gs cs [] = refl
+  sections_by_line gs cs (k ∷ ks) =
+      ap (λ fs. record (section_of lines gs sections imports cs k) { fragments = fs } ∷ map section_in_one (map (section_of origins gs sections imports cs) ks)) (fragments_by_line (parts_in cs k))
+      ∙ ap (λ z. section_of lines gs sections imports cs k ∷ z) (sections_by_line gs cs ks)
+
+  -- ---- Exports and assertions.
+
+  same_names : (n : List ℕ) (found : List Export) → list_any (λ e. bytes_eq n e.name) (map export_in_one found) ≡ list_any (λ e. bytes_eq n e.name) found
+  same_names n [] = refl
+  same_names n (e ∷ found) = ap (λ b. bytes_eq n e.name || b) (same_names n found)
+
+  exports_by_line : (found : List Export) (ss : List Said) → map export_in_one (exports_among origins sections imports found ss) ≡ exports_among lines sections imports (map export_in_one found) ss
+  exports_by_line found [] = refl
+  exports_by_line found (Demanded n ∷ ss) = exports_by_line found ss
+  exports_by_line found (Checked act place words f ∷ ss) = exports_by_line found ss
+  exports_by_line found (Exported n place f ∷ ss) =
+      exports_by_line (cond (list_any (λ e. bytes_eq n e.name) found) found (found ++ export origins ∷ [])) ss
+      ∙ ap (λ z. exports_among lines sections imports z ss) (go (list_any (λ e. bytes_eq n e.name) found) ∙ ap (λ b. cond b (map export_in_one found) (map export_in_one found ++ export lines ∷ [])) (sym (same_names n found)))
+    where
+      export : (Place → Origin) → Export
+      export at = record { name = n; origin = at place; form = numbered sections imports f }
+
+      go : (b : Bool) → map export_in_one (cond b found (found ++ export origins ∷ [])) ≡ cond b (map export_in_one found) (map export_in_one found ++ export lines ∷ [])
+      go true = refl
+      go false = map-append export_in_one found (export origins ∷ [])
+
+  asserts_by_line : (ss : List Said) → map assert_in_one (filter_map (assert_of origins sections imports) ss) ≡ filter_map (assert_of lines sections imports) ss
+  asserts_by_line [] = refl
+  asserts_by_line (Exported n place f ∷ ss) = asserts_by_line ss
+  asserts_by_line (Demanded n ∷ ss) = asserts_by_line ss
+  asserts_by_line (Checked act place words f ∷ ss) = ap (λ z. record { action = act; origin = lines place; text = words; form = numbered sections imports f } ∷ z) (asserts_by_line ss)
+
+-- ---- Objects.
+
+-- what an object of statements says in version 1 is the object of the same statements by lines alone
+pub by_lines : (version : ℕ) (files : List (List ℕ)) (origins : Place → Origin) (gs : List Segment) (names : List (List ℕ)) (cs : List Content) → in_version_one (object_by version files origins gs names cs) ≡ object_by 1 [] (λ place. line_alone (origins place)) gs names cs
+by_lines version files origins gs names cs =
+    let sections : List ℕ = section_keys cs in
+    let imports : List ℕ = import_keys names cs in
+    let o : Object = object_by 1 [] (λ place. line_alone (origins place)) gs names cs in
+    ap (λ z. record o { sections = z; exports = map export_in_one (exports_among origins sections imports [] (all_said cs)); asserts = map assert_in_one (filter_map (assert_of origins sections imports) (all_said cs)) }) (sections_by_line origins sections imports gs cs sections)
+    ∙ ap (λ z. record o { exports = z; asserts = map assert_in_one (filter_map (assert_of origins sections imports) (all_said cs)) }) (exports_by_line origins sections imports [] (all_said cs))
+    ∙ ap (λ z. record o { asserts = z }) (asserts_by_line origins sections imports (all_said cs))

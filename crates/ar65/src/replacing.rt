@@ -13,10 +13,8 @@ use crate::reading::{CHUNK, read_front};
 use crate::refusal::Refusal;
 use base65::Store;
 use library65::{Library, LibraryFault};
+use object65::format::FILE_LIMIT;
 use std::alloc::Global;
-
-/// An object's file has at most so many bytes.
-const FILE_LIMIT: usize = 1_073_741_824;
 
 /// Puts the object of a file in, under the name of the file: its own faults come first, then that
 /// of the name, then those of the object. No more is read than tells that the file is too long.
@@ -33,7 +31,7 @@ fn put_file<S: Store>(
     ensures count { Passes LibraryFault.FileError (S.failures store.old) (S.failures store.new) result }
     ensures blamed { IsErrOf result LibraryFault.FileError → IsBlamed (S.blamed store.new) file.now }
 {
-    let bytes = read_front(alloc, store, file, FILE_LIMIT + 1, chunk)?;
+    let bytes = read_front(alloc, store, file, FILE_LIMIT as usize + 1, chunk)?;
     library.replace(member_name(file).as_bytes(), &bytes)
 }
 

@@ -15,12 +15,10 @@ use crate::measuring::Measured;
 use base65::Sequence;
 use indexmap::IndexSet;
 use language65::{Segment, Spot, Statement};
+use object65::format::SECTION_LIMIT;
 use std::alloc::{AllocError, Global};
 use symbols65::Symbols;
 use syntax65::AddressSize;
-
-/// How many bytes a section has at most.
-const MAX_SECTION: u32 = 16_777_216;
 
 /// The number of the global scope.
 const GLOBAL: u32 = 0;
@@ -107,7 +105,7 @@ impl Standing {
         requires end { (spot_of (standing_of self.now)).offset ≤ section_limit }
         ensures { (spot_of (standing_of self.now)).offset + result ≡ section_limit }
     {
-        MAX_SECTION - self.segment().end
+        SECTION_LIMIT - self.segment().end
     }
 
     /// Moves the end of the section in which statements stand.

@@ -13,6 +13,7 @@ ghost use Rattle.ld65.specs.Inner.Feeding.{FeedsObject, FeedsRecords, input_of};
 use base65::Store;
 use library65::Entry;
 use link65::{LinkFault, Linker};
+use object65::format::END;
 use object65::{RecordReader, check_end, read_head};
 
 /// An object that is fed: where it stands in a file, the name of its module, and its entry in a library's index, if it
@@ -26,9 +27,6 @@ pub struct ObjectInput<'a> {
     pub name: &'a [u8],
     pub entry: Option<&'a Entry>,
 }
-
-/// The kind of the record that ends an object.
-const END: u8 = 8;
 
 /// Feeds the records of the module that was opened, which stand in its file behind its head, up to its END, and
 /// answers where the END ends. The head says the version and where the records begin.

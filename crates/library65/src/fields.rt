@@ -12,13 +12,11 @@ ghost use Rattle.library65.specs.Reading.{in_file, field_at, head_at, name_at, n
 use crate::LibraryFault;
 use base65::{Sequence, Store, read_full};
 use byteorder::{ByteOrder, LittleEndian};
+use object65::format::FILE_LIMIT;
 use std::alloc::Global;
 
 /// With these bytes a library begins.
 pub const HEAD: [u8; 5] = [0x52, 0x36, 0x35, 0x6c, 0x01];
-
-/// An object or library file has at most so many bytes.
-pub const FILE_LIMIT: u64 = 1_073_741_824;
 
 /// Refuses a file that doesn't begin as a library.
 pub fn read_head<S: Store>(store: &mut S, file: &str) -> Result<(), LibraryFault>

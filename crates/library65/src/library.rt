@@ -15,7 +15,6 @@ ghost use Rattle.library65.specs.Writing.{AreSymbols};
 
 use crate::LibraryFault;
 use crate::contents::{Contents, check_member};
-use crate::fields::FILE_LIMIT;
 use crate::loading::read_members;
 use crate::objects::empty_record;
 use crate::writing::put_library;
@@ -23,6 +22,7 @@ use base65::{Sequence, Store};
 use indexmap::IndexMap;
 use indexmap::map::Keys;
 use object65::Record;
+use object65::format::FILE_LIMIT;
 use std::alloc::{AllocError, Global};
 use std::marker::Model;
 

@@ -9,11 +9,11 @@ ghost use Rattle.object65.specs.Reading.{file_limit};
 ghost use Rattle.library65.specs.Fault.{is_memory, is_outside};
 ghost use Rattle.library65.specs.Reading.{in_file, entry_at, placed, end_at, index_at};
 
-use crate::fields::FILE_LIMIT;
 use crate::index::Listing;
 use crate::indexing::read_list;
 use crate::{Entry, Index, LibraryFault};
 use base65::{Sequence, Store, read_full};
+use object65::format::FILE_LIMIT;
 use std::alloc::Global;
 
 /// The entry of a member that stands at a place.

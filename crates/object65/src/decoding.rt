@@ -6,24 +6,10 @@ ghost use Rattle.object65.specs.Reading.{front_of, head_of, record_at, room, who
 ghost use Rattle.object65.specs.Record.{entry_of, is_record_kind, is_version};
 ghost use Rattle.object65.specs.Spelling.{body_limit};
 
-use crate::record::{END, FILE, IMPORT};
+use crate::format::{END, FILE, FILE_LIMIT, IMPORT, LARGEST_BODY, MAGIC, VERSION_ONE, VERSION_TWO};
 use crate::{ObjectFault, Record};
 use arrayvec::ArrayVec;
 use byteorder::{ByteOrder, LittleEndian};
-
-/// With these bytes an object begins.
-const MAGIC: [u8; 4] = [0x52, 0x36, 0x35, 0x6f];
-
-/// Without files.
-const VERSION_ONE: u8 = 1;
-
-const VERSION_TWO: u8 = 2;
-
-/// The body of a record has at most so many bytes.
-pub const LARGEST_BODY: usize = 4096;
-
-/// An object or library file has at most so many bytes.
-pub const FILE_LIMIT: u64 = 1_073_741_824;
 
 /// The version, and where the records begin, behind the head that stands at a place and of which these bytes are
 /// there.

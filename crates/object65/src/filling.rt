@@ -6,6 +6,7 @@ ghost use Rattle.object65.specs.Fault.{Gives, is_memory};
 ghost use Rattle.object65.specs.Objects.{has_file, width_len};
 ghost use Rattle.object65.specs.Scanning.{canonical, canonical_open, known, known_file, known_parts, room_for, room_behind, room_literal, room_fill, room_value};
 
+use crate::format::LARGEST_BODY;
 use crate::forming::{byte_at, form_of, origin_at};
 use crate::kept::Kept;
 use crate::normal::{are_there, is_folded, is_limited, is_number};
@@ -15,8 +16,6 @@ use crate::{Fragment, Norm, ObjectFault, Origin, Width};
 use base65::Sequence;
 use byteorder::{ByteOrder, LittleEndian};
 use std::alloc::Global;
-
-const LARGEST_LITERAL: usize = 4096;
 
 /// Refuses what passes the section's end.
 fn check_room(room: Room, len: u32) -> Result<(), ObjectFault>
@@ -117,7 +116,7 @@ pub fn room_with_literal(
     let left = room.size.saturating_sub(room.filled);
     check(body.len() <= left as usize, ObjectFault::BadSize)?;
     check(room.last != Last::Short, ObjectFault::NotCanonical)?;
-    let last = if body.len() % LARGEST_LITERAL == 0 {
+    let last = if body.len() % LARGEST_BODY == 0 {
         Last::Other
     } else {
         Last::Short

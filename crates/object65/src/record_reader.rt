@@ -7,7 +7,8 @@ ghost use Rattle.object65.specs.Fault.{Gives, is_outside};
 ghost use Rattle.object65.specs.Record.{entry_of};
 ghost use Rattle.object65.specs.Reading.{in_file, record_at, room, whole, file_limit};
 
-use crate::decoding::{FILE_LIMIT, LARGEST_BODY, fill};
+use crate::decoding::fill;
+use crate::format::{FILE_LIMIT, LARGEST_BODY};
 use crate::reading::{read_front, read_room};
 use crate::{ObjectFault, Record};
 use arrayvec::ArrayVec;

@@ -15,17 +15,15 @@ ghost use Rattle.object65.specs.Items.{is_none};
 
 use crate::decoding::is_kind;
 use crate::filling::{room_with_fill, room_with_literal, room_with_value};
+use crate::format::{ASSERT, EXPORT, FILE, FILL, IMPORT, LITERAL, SECTION, SECTION_LIMIT, VALUE};
 use crate::kept::Kept;
 use crate::naming::{take_assert, take_export, take_file, take_import};
-use crate::record::{ASSERT, EXPORT, FILE, FILL, IMPORT, LITERAL, SECTION, VALUE};
 use crate::room::{Last, Room};
 use crate::{Item, ObjectFault, Record};
 use base65::Sequence;
 use byteorder::{ByteOrder, LittleEndian};
 use indexmap::IndexSet;
 use std::alloc::Global;
-
-const SECTION_LIMIT: u32 = 16_777_216;
 
 const LARGEST_ALIGNMENT: u8 = 15;
 

@@ -10,18 +10,15 @@ ghost use Rattle.object65.specs.Operators.{number2};
 ghost use Rattle.object65.specs.Small.{is_small_text, is_small_form, is_small_fragment, is_small_section, is_small_export, is_small_assert};
 ghost use Rattle.object65.specs.Spelling.{code1, form_bytes, width_code, action_code, body_limit, entry_bytes, literal_entries, fragment_entries, fill_entry, value_entry, origin_bytes, file_entry, import_entry, section_entry, export_entry, assert_entry, entries_of, object_bytes};
 
-use crate::record::{ASSERT, END, EXPORT, FILE, FILL, IMPORT, LITERAL, SECTION, VALUE};
+use crate::format::{
+    ASSERT, END, EXPORT, FILE, FILL, IMPORT, LARGEST_BODY, LITERAL, MAGIC, SECTION, VALUE,
+};
 use crate::{
     Action, Assert, Export, Fragment, Node, Norm, Object, ObjectFault, Origin, Section, Width,
 };
 use base65::{Op1, Op2, Sequence};
 use byteorder::{ByteOrder, LittleEndian};
 use std::alloc::{AllocError, Global};
-
-/// With these bytes and its version an object begins.
-const MAGIC: [u8; 4] = [0x52, 0x36, 0x35, 0x6f];
-
-const LARGEST_BODY: usize = 4096;
 
 /// Adds two bytes, the low one first.
 fn put_u16(out: &mut Vec<u8>, n: u16) -> Result<(), AllocError>

@@ -1,12 +1,9 @@
 pub mod Alikes
-pub mod Drafting
-pub mod Exporting
 pub mod Fillings
 pub mod Fitting
-pub mod GoodNames
-pub mod GoodObjects
-pub mod GoodSections
 pub mod Keys
+pub mod Listings
 pub mod Pieces
 pub mod Renumbering
 pub mod Standings
+pub mod Tables

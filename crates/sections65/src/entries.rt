@@ -260,8 +260,8 @@ impl Entries {
     pub fn into_list(self) -> Result<Vec<Entry>, AllocError>
         ensures alike { IfOk result (λ list. (files : List (List ℕ)) (ws : List Content) →
             AreAlike (contents_in files ws self) (filled files ws list.items)) }
-        ensures standing { IfOk result (λ list. (count : ℕ) → StandIn count self.done.items →
-            StandIn count list.items) }
+        ensures standing { IfOk result (λ list. (files : List (List ℕ)) →
+            StandIn (length files) self.done.items → StandIn (length files) list.items) }
     {
         let mut all = self;
         all.close()?;

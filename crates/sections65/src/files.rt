@@ -47,7 +47,21 @@ impl Files {
         }
     }
 
-    /// The place of a file, which is put in if it is new. It is mostly the one before, and then it isn't looked up.
+    /// The place of a file by its name, which is put in if it is new.
+    fn look_up(&mut self, alloc: Global, name: &str) -> Result<usize, AllocError>
+        ensures more { Begins (names_in self.old) (names_in self.new) }
+        ensures place { IfOk result (λ i. slice_get (names_in self.new) i ≡ Some name.now) }
+    {
+        match self.table.get_index_of(name) {
+            Some(place) => Ok(place),
+            None => {
+                let (place, _) = self.table.insert_full(String::from_str(alloc, name)?)?;
+                Ok(place)
+            }
+        }
+    }
+
+    /// The place of a file. It is mostly the one before, and then it isn't looked up.
     fn place_of(&mut self, alloc: Global, name: &str) -> Result<usize, AllocError>
         ensures more { Begins (names_in self.old) (names_in self.new) }
         ensures place { IfOk result (λ i. slice_get (names_in self.new) i ≡ Some name.now) }
@@ -55,10 +69,7 @@ impl Files {
         if let Some(place) = same_place(&self.table, self.last, name) {
             return Ok(place);
         }
-        let place = match self.table.get_index_of(name) {
-            Some(place) => place,
-            None => self.table.insert_full(String::from_str(alloc, name)?)?.0,
-        };
+        let place = self.look_up(alloc, name)?;
         self.last = Some(place);
         Ok(place)
     }

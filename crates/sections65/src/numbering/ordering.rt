@@ -262,7 +262,7 @@ fn file_name(alloc: Global, files: &Files, place: u32) -> Result<Sequence<u8>, A
     ensures text { IfOk result (λ name. is_utf8 name ≡ true) }
 {
     match files.table.get_index(place as usize) {
-        Some(name) => Sequence::copy_of(alloc, name.as_bytes()),
+        Some(name) => Sequence::copy_of(alloc, name.as_str().as_bytes()),
         None => Ok(Sequence::new(alloc)),
     }
 }

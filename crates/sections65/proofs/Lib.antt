@@ -1,8 +1,11 @@
 pub mod Alikes
+pub mod Drafting
+pub mod Exporting
 pub mod Fillings
 pub mod Fitting
 pub mod Keys
 pub mod Listings
+pub mod Ordering
 pub mod Pieces
 pub mod Renumbering
 pub mod Standings

@@ -257,11 +257,11 @@ fn reorder_asserts(
 }
 
 /// The name of a file, by its place in the table.
-fn file_name(alloc: Global, files: &Files, place: u32) -> Result<Sequence<u8>, AllocError>
-    ensures name { IfOk result (λ name. name ≡ name_of (names_in files.now) place) }
+fn file_name(alloc: Global, table: &[String], place: u32) -> Result<Sequence<u8>, AllocError>
+    ensures name { IfOk result (λ name. name ≡ name_of (map string_bytes table.now) place) }
     ensures text { IfOk result (λ name. is_utf8 name ≡ true) }
 {
-    match files.table.get_index(place as usize) {
+    match table.get(place as usize) {
         Some(name) => Sequence::copy_of(alloc, name.as_str().as_bytes()),
         None => Ok(Sequence::new(alloc)),
     }
@@ -270,15 +270,15 @@ fn file_name(alloc: Global, files: &Files, place: u32) -> Result<Sequence<u8>, A
 /// The names of files, by their places in the table.
 fn file_names(
     alloc: Global,
-    files: &Files,
+    table: &[String],
     places: &[u32],
 ) -> Result<Sequence<Sequence<u8>>, AllocError>
-    ensures names { IfOk result (λ names. names ≡ map (name_of (names_in files.now)) places.now) }
+    ensures names { IfOk result (λ names. names ≡ map (name_of (map string_bytes table.now)) places.now) }
     ensures texts { IfOk result (AllByRecursion (λ name. is_utf8 name ≡ true)) }
 {
     let mut names = Sequence::new(alloc);
     for place in places {
-        names.push(file_name(alloc, files, *place)?)?;
+        names.push(file_name(alloc, table, *place)?)?;
     }
     Ok(names)
 }
@@ -314,7 +314,7 @@ pub fn in_order(alloc: Global, files: &Files, object: Object) -> Result<Object, 
 {
     let order = order_of(alloc, &object)?;
     let mut object = object;
-    object.files = file_names(alloc, files, order.as_slice())?;
+    object.files = file_names(alloc, files.table.as_slice(), order.as_slice())?;
     if is_same(order.as_slice()) {
         return Ok(object);
     }

@@ -1,0 +1,196 @@
+-- Sections that are filled statement by statement.
+use Rattle.std.proofs.Common.{◌≡◌, ◌∙◌, ℕ, zero, suc, ◌+◌, Bool, true, false, not, nat_eq, nat_lt, cond, List, [], ◌∷◌, ◌++◌, map, length, get_or, slice_set, Option, Some, None, refl, sym, ap, arith, append_assoc, subst}
+use Rattle.std.specs.Prelude.{◌||◌, if◌then◌else◌, slice_get}
+use Rattle.std.specs.List.{AllByRecursion, IsDistinct, list_any, position, position_or_len, filter, flat_map}
+use Rattle.std.proofs.lemmas.Bool.Decides.{nat_tests}
+use Rattle.std.proofs.lemmas.Map.Keys.{IsDistinct-head, IsDistinct-tail}
+use Rattle.object65.specs.declared.object.Fragment.{Fragment}
+use Rattle.object65.specs.declared.object.Fragment.TheVariants.{Literal, Fill}
+use Rattle.object65.specs.declared.object.Section.{Section}
+use Rattle.object65.specs.declared.object.Origin.{Origin}
+use Rattle.language65.specs.declared.contents.Part.{Part}
+use Rattle.language65.specs.declared.contents.Segment.{Segment}
+use Rattle.language65.specs.Numbering.{all_joined, is_empty, joined, segment_name, segment_power}
+use Rattle.sections65.specs.declared.entries.Entry.{Entry}
+use Rattle.sections65.specs.declared.entries.Entry.TheVariants.{Put, Told, Open}
+use Rattle.sections65.specs.declared.numbering.drafts.Draft.{Draft}
+use Rattle.sections65.specs.Inner.Drafts.{all_of_draft, fragment_at, grown, new_draft, section_from, with_entries, with_entry, with_fragment}
+
+-- ---- One item of a list in which each has a key of its own.
+
+position_is : {A : Type 0} (p : A → Bool) (xs : List A) (i : ℕ) → position p xs ≡ Some i → i ≡ position_or_len p xs
+position_is p xs i h = by (nat_lt (position_or_len p xs) (length xs)) h
+  where
+    by : (b : Bool) → cond b (Some (position_or_len p xs)) None ≡ Some i → i ≡ position_or_len p xs
+    by true e = cc
+    by false e = absurd cc
+
+abbrev changed : {A : Type 0} → (A → ℕ) → ℕ → (A → A) → A → A
+changed key g h d = if nat_eq g (key d) then h d else d
+
+others_stay : {A : Type 0} (key : A → ℕ) (g k : ℕ) (h : A → A) (ds : List A) → g ≡ k → AllByRecursion (λ y. nat_eq k y ≡ false) (map key ds) → map (changed key g h) ds ≡ ds
+others_stay key g k h [] e all = refl
+others_stay key g k h (d ∷ ds) e all =
+    let no : nat_eq g (key d) ≡ false = ap (λ x. nat_eq x (key d)) e ∙ all.0 in
+    rw (no, others_stay key g k h ds e all.1) refl
+
+pub none_stands : {A : Type 0} (key : A → ℕ) (g : ℕ) (h : A → A) (ds : List A) → list_any (nat_eq g) (map key ds) ≡ false → map (changed key g h) ds ≡ ds
+none_stands key g h [] e = refl
+none_stands key g h (d ∷ ds) e = by (nat_eq g (key d)) refl e (none_stands key g h ds)
+  where
+    by : (b : Bool) → nat_eq g (key d) ≡ b → (b || list_any (nat_eq g) (map key ds)) ≡ false → (list_any (nat_eq g) (map key ds) ≡ false → map (changed key g h) ds ≡ ds) → map (changed key g h) (d ∷ ds) ≡ d ∷ ds
+    by true is any again = absurd cc
+    by false is any again = rw (is, again any) refl
+
+at_length : {A : Type 0} (key : A → ℕ) (g : ℕ) (h : A → A) (ds : List A) (i : ℕ) (d e : A) → i ≡ position_or_len (nat_eq g) (map key ds) → IsDistinct nat_eq (map key ds) → d ≡ get_or ds i d → e ≡ h d → slice_set ds i e ≡ map (changed key g h) ds
+at_length key g h [] i d e at distinct is new = refl
+at_length key g h (x ∷ ds) zero d e at distinct is new = by (nat_eq g (key x)) refl at
+  where
+    by : (b : Bool) → nat_eq g (key x) ≡ b → 0 ≡ cond (not b) (1 + position_or_len (nat_eq g) (map key ds)) 0 → e ∷ ds ≡ map (changed key g h) (x ∷ ds)
+    by true eq place = let same : g ≡ key x = grind (arith, nat_tests) in rw (eq, others_stay key g (key x) h ds same (IsDistinct-head nat_eq (key x) (map key ds) distinct), new, is) refl
+    by false eq place = absurd (omega (arith, place))
+at_length key g h (x ∷ ds) (suc i) d e at distinct is new = by (nat_eq g (key x)) refl at (λ place. at_length key g h ds i d e place (IsDistinct-tail nat_eq (key x) (map key ds) distinct) is new)
+  where
+    by : (b : Bool) → nat_eq g (key x) ≡ b → suc i ≡ cond (not b) (1 + position_or_len (nat_eq g) (map key ds)) 0 → (i ≡ position_or_len (nat_eq g) (map key ds) → slice_set ds i e ≡ map (changed key g h) ds) → x ∷ slice_set ds i e ≡ map (changed key g h) (x ∷ ds)
+    by true eq place again = absurd (omega (arith, place))
+    by false eq place again = let next : i ≡ position_or_len (nat_eq g) (map key ds) = omega (arith, place) in rw (eq, again next) refl
+
+pub one_changed : {A : Type 0} (key : A → ℕ) (g : ℕ) (h : A → A) (keys : List ℕ) (ds : List A) (i : ℕ) (d e : A) → map key ds ≡ keys → IsDistinct nat_eq keys → Some i ≡ position (nat_eq g) keys → d ≡ get_or ds i d → e ≡ h d → slice_set ds i e ≡ map (changed key g h) ds
+one_changed key g h keys ds i d e same distinct at is new =
+    at_length key g h ds i d e (position_is (nat_eq g) keys i (sym at) ∙ ap (position_or_len (nat_eq g)) (sym same)) (subst (IsDistinct nat_eq) (sym same) distinct) is new
+
+-- ---- A section keeps its segment.
+
+grown_segment : (d : Draft) (l : Option Fragment) (f : Fragment) → (grown d l f).segment ≡ d.segment
+grown_segment d (Some (Literal a)) (Literal b) = refl
+grown_segment d (Some (Fill m)) (Fill n) = refl
+grown_segment d _ f = refl
+
+fragment_segment : (d : Draft) (f : Fragment) → (with_fragment d f).segment ≡ d.segment
+fragment_segment d f = by (is_empty f)
+  where
+    by : (b : Bool) → (cond b d (grown d d.last f)).segment ≡ d.segment
+    by true = refl
+    by false = grown_segment d d.last f
+
+module _ (s i : List ℕ) where
+  entry_segment : (e : Entry) (d : Draft) → (with_entry s i e d).segment ≡ d.segment
+  entry_segment (Put g o p) d = by (nat_eq g d.segment)
+    where
+      by : (b : Bool) → (cond b (with_fragment d (fragment_at s i o p)) d).segment ≡ d.segment
+      by true = fragment_segment d (fragment_at s i o p)
+      by false = refl
+  entry_segment (Told o ss) d = refl
+  entry_segment Open d = refl
+
+  pub segments_stay : (e : Entry) (ds : List Draft) → map (λ d. d.segment) (map (with_entry s i e) ds) ≡ map (λ d. d.segment) ds
+  segments_stay e [] = refl
+  segments_stay e (d ∷ ds) = λ n. entry_segment e d n ∷ segments_stay e ds n
+
+  pub segments_begin : (keys : List ℕ) → map (λ d. d.segment) (map new_draft keys) ≡ keys
+  segments_begin [] = refl
+  segments_begin (k ∷ keys) = ap (λ ks. k ∷ ks) (segments_begin keys)
+
+  stays : (e : Entry) (ds : List Draft) → ((d : Draft) → d ≡ with_entry s i e d) → ds ≡ map (with_entry s i e) ds
+  stays e [] same = refl
+  stays e (d ∷ ds) same = λ n. same d n ∷ stays e ds same n
+
+  -- what is said and what waits put nothing into a section
+  pub nothing_put : (e : Entry) (ds : List Draft) → ((g : ℕ) (o : Origin) (p : Part) → e ≡ Put g o p → ⊥) → ds ≡ map (with_entry s i e) ds
+  nothing_put (Put g o p) ds none = absurd (none g o p refl)
+  nothing_put (Told o ss) ds none = stays (Told o ss) ds (λ d. refl)
+  nothing_put Open ds none = stays Open ds (λ d. refl)
+
+  -- ---- Its fragments.
+
+  abbrev behind : Option Fragment → List Fragment → List Fragment
+  behind None fs = all_joined fs
+  behind (Some f) fs = joined f fs
+
+  grown_joined : (g : ℕ) (done : List Fragment) (l : Option Fragment) (f : Fragment) (rest : List Fragment) → let d : Draft = record { segment = g; done = done; last = l } in (grown d l f).done ++ behind (grown d l f).last rest ≡ done ++ behind l (f ∷ rest)
+  grown_joined g done None f rest = append_assoc done [] (joined f rest)
+  grown_joined g done (Some (Literal a)) (Literal b) rest = refl
+  grown_joined g done (Some (Fill m)) (Fill n) rest = refl
+  grown_joined g done (Some l) f rest = append_assoc done (l ∷ []) (joined f rest)
+
+  fragment_joined : (d : Draft) (f : Fragment) (rest : List Fragment) → (with_fragment d f).done ++ behind (with_fragment d f).last rest ≡ d.done ++ behind d.last (filter (λ f. not (is_empty f)) (f ∷ []) ++ rest)
+  fragment_joined d f rest = by (is_empty f)
+    where
+      by : (b : Bool) → (cond b d (grown d d.last f)).done ++ behind (cond b d (grown d d.last f)).last rest ≡ d.done ++ behind d.last (cond (not b) (f ∷ []) [] ++ rest)
+      by true = refl
+      by false = grown_joined d.segment d.done d.last f rest
+
+  ends : (done : List Fragment) (l : Option Fragment) (g : ℕ) → let d : Draft = record { segment = g; done = done; last = l } in all_of_draft d ≡ done ++ behind l []
+  ends done None g = refl
+  ends done (Some f) g = refl
+
+  -- what an entry puts into a section
+  abbrev pub entry_fragments : ℕ → Entry → List Fragment
+  entry_fragments h (Put g o p) = if nat_eq g h then filter (λ f. not (is_empty f)) (fragment_at s i o p ∷ []) else []
+  entry_fragments h _ = []
+
+  abbrev pub fragments_put : ℕ → List Entry → List Fragment
+  fragments_put h es = flat_map (entry_fragments h) es
+
+  entry_joined : (e : Entry) (d : Draft) (rest : List Fragment) → (with_entry s i e d).done ++ behind (with_entry s i e d).last rest ≡ d.done ++ behind d.last (entry_fragments d.segment e ++ rest)
+  entry_joined (Put g o p) d rest = by (nat_eq g d.segment)
+    where
+      f : Fragment
+      f = fragment_at s i o p
+
+      by : (b : Bool) → (cond b (with_fragment d f) d).done ++ behind (cond b (with_fragment d f) d).last rest ≡ d.done ++ behind d.last ((if b then filter (λ f. not (is_empty f)) (f ∷ []) else []) ++ rest)
+      by true = fragment_joined d f rest
+      by false = refl
+  entry_joined (Told o ss) d rest = refl
+  entry_joined Open d rest = refl
+
+  -- ---- All entries.
+
+  abbrev whole : List Entry → Draft → Draft
+  whole [] d = d
+  whole (e ∷ es) d = whole es (with_entry s i e d)
+
+  all_whole : (es : List Entry) (ds : List Draft) → with_entries s i es ds ≡ map (whole es) ds
+  all_whole [] ds = same ds
+    where
+      same : (ds : List Draft) → ds ≡ map (whole []) ds
+      same [] = refl
+      same (d ∷ ds) = ap (λ es. d ∷ es) (same ds)
+  all_whole (e ∷ es) ds = all_whole es (map (with_entry s i e) ds) ∙ more ds
+    where
+      more : (ds : List Draft) → map (whole es) (map (with_entry s i e) ds) ≡ map (whole (e ∷ es)) ds
+      more [] = refl
+      more (d ∷ ds) = ap (λ rest. whole es (with_entry s i e d) ∷ rest) (more ds)
+
+  whole_segment : (es : List Entry) (d : Draft) → (whole es d).segment ≡ d.segment
+  whole_segment [] d = refl
+  whole_segment (e ∷ es) d = whole_segment es (with_entry s i e d) ∙ entry_segment e d
+
+  whole_joined : (es : List Entry) (d : Draft) → all_of_draft (whole es d) ≡ d.done ++ behind d.last (fragments_put d.segment es)
+  whole_joined [] d = ends d.done d.last d.segment
+  whole_joined (e ∷ es) d =
+      whole_joined es (with_entry s i e d)
+      ∙ ap (λ g. (with_entry s i e d).done ++ behind (with_entry s i e d).last (fragments_put g es)) (entry_segment e d)
+      ∙ entry_joined e d (fragments_put d.segment es)
+
+  -- the section of entries, whose origins are kept as they stand
+  abbrev pub section_put : List Segment → List Entry → ℕ → Section
+  section_put segments es g = record {
+    name = segment_name (slice_get segments g);
+    align = segment_power (slice_get segments g);
+    fragments = all_joined (fragments_put g es);
+  }
+
+  section_is : (segments : List Segment) (es : List Entry) (g : ℕ) → section_from segments (whole es (new_draft g)) ≡ section_put segments es g
+  section_is segments es g =
+      let at : (whole es (new_draft g)).segment ≡ g = whole_segment es (new_draft g) in
+      let has : all_of_draft (whole es (new_draft g)) ≡ all_joined (fragments_put g es) = whole_joined es (new_draft g) in
+      let made : ℕ → List Fragment → Section = λ h fs. record { name = segment_name (slice_get segments h); align = segment_power (slice_get segments h); fragments = fs } in
+      λ n. made (at n) (has n)
+
+  each_section : (segments : List Segment) (es : List Entry) (keys : List ℕ) → map (section_from segments) (map (whole es) (map new_draft keys)) ≡ map (section_put segments es) keys
+  each_section segments es [] = refl
+  each_section segments es (k ∷ keys) = λ n. section_is segments es k n ∷ each_section segments es keys n
+
+  pub sections_are : (segments : List Segment) (es : List Entry) (keys : List ℕ) → map (section_from segments) (with_entries s i es (map new_draft keys)) ≡ map (section_put segments es) keys
+  sections_are segments es keys = ap (map (section_from segments)) (all_whole es (map new_draft keys)) ∙ each_section segments es keys

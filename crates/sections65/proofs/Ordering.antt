@@ -86,22 +86,22 @@ parts_same o same =
     let c = flat_map assert_key o.asserts in
     let order = order_of o.sections o.exports o.asserts in
     let all : HasAll order (a ++ b ++ c) = once_has [] (a ++ b ++ c) in
-    let behind : HasAll order (b ++ c) = second_has order a (b ++ c) all in
-    let ss = sections_same order same o.sections (first_has order a (b ++ c) all) in
-    let es = exports_same order same o.exports (first_has order b c behind) in
-    let ts = asserts_same order same o.asserts (second_has order b c behind) in
+    let front : HasAll order (a ++ b) = first_has order (a ++ b) c all in
+    let ss = sections_same order same o.sections (first_has order a b front) in
+    let es = exports_same order same o.exports (second_has order a b front) in
+    let ts = asserts_same order same o.asserts (second_has order (a ++ b) c all) in
     let back : parts_by order o ≡ o = λ n. record { version = o.version; files = o.files; imports = o.imports; sections = ss n; exports = es n; asserts = ts n } in
     sym back
 
 -- ---- Names.
 
+nothing_twice : IsDistinct bytes_eq []
+unfolding IsDistinct
+nothing_twice = tt
+
 -- keys that differ by a name have names that differ
 pub distinct_mapped : {A : Type 0} (f : A → List ℕ) (xs : List A) → IsDistinct (λ a b. bytes_eq (f a) (f b)) xs → IsDistinct bytes_eq (map f xs)
-distinct_mapped f [] d = none
-  where
-    none : IsDistinct bytes_eq []
-    unfolding IsDistinct
-    none = tt
+distinct_mapped f [] d = nothing_twice
 distinct_mapped f (x ∷ xs) d =
     IsDistinct-cons bytes_eq (f x) (map f xs) (apart xs (IsDistinct-head (λ a b. bytes_eq (f a) (f b)) x xs d))
     (distinct_mapped f xs (IsDistinct-tail (λ a b. bytes_eq (f a) (f b)) x xs d))

@@ -60,7 +60,7 @@ number_is keys k h =
 pub number_below : (keys : List ℕ) (k : ℕ) → has keys k ≡ true → number_of keys k < length keys
 number_below keys k h = subst (λ n. n < length keys) (sym (number_is keys k h)) (place_below keys k h)
 
-number_at : (keys : List ℕ) (k : ℕ) → has keys k ≡ true → get_or keys (number_of keys k) 0 ≡ k
+pub number_at : (keys : List ℕ) (k : ℕ) → has keys k ≡ true → get_or keys (number_of keys k) 0 ≡ k
 number_at keys k h =
     let same : nat_eq k (get_or keys (position_or_len (nat_eq k) keys) 0) ≡ true = passes_at_first (nat_eq k) keys 0 (place_below keys k h) in
     ap (λ n. get_or keys n 0) (number_is keys k h) ∙ grind (arith, nat_tests)

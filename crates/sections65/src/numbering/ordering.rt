@@ -312,9 +312,10 @@ pub fn in_order(alloc: Global, files: &Files, object: Object) -> Result<Object, 
     ensures fits { ObjectFits object → IfOk result ObjectFits }
     ensures distinct { IsDistinct bytes_eq (names_in files.now) }
 {
+    let table = files.table.as_slice();
     let order = order_of(alloc, &object)?;
     let mut object = object;
-    object.files = file_names(alloc, files.table.as_slice(), order.as_slice())?;
+    object.files = file_names(alloc, table, order.as_slice())?;
     if is_same(order.as_slice()) {
         return Ok(object);
     }

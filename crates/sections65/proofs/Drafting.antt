@@ -73,6 +73,13 @@ fragment_segment d f = by (is_empty f)
     by true = refl
     by false = grown_segment d d.last f
 
+pub front : (f : Fragment) (fs : List Fragment) → filter (λ f. not (is_empty f)) (f ∷ []) ++ filter (λ f. not (is_empty f)) fs ≡ filter (λ f. not (is_empty f)) (f ∷ fs)
+front f fs = by (is_empty f)
+  where
+    by : (b : Bool) → cond (not b) (f ∷ []) [] ++ filter (λ f. not (is_empty f)) fs ≡ cond (not b) (f ∷ filter (λ f. not (is_empty f)) fs) (filter (λ f. not (is_empty f)) fs)
+    by true = refl
+    by false = refl
+
 module _ (s i : List ℕ) where
   entry_segment : (e : Entry) (d : Draft) → (with_entry s i e d).segment ≡ d.segment
   entry_segment (Put g o p) d = by (nat_eq g d.segment)

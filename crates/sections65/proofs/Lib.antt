@@ -5,8 +5,11 @@ pub mod Fillings
 pub mod Fitting
 pub mod Keys
 pub mod Listings
+pub mod Naming
+pub mod Ordered
 pub mod Ordering
 pub mod Pieces
 pub mod Renumbering
+pub mod Reordering
 pub mod Standings
 pub mod Tables

@@ -44,7 +44,7 @@ has keys k = list_any (nat_eq k) keys
 abbrev pub HasAll : List ℕ → List ℕ → Type 0
 HasAll keys ks = list_all (has keys) ks ≡ true
 
-place_below : (keys : List ℕ) (k : ℕ) → has keys k ≡ true → position_or_len (nat_eq k) keys < length keys
+pub place_below : (keys : List ℕ) (k : ℕ) → has keys k ≡ true → position_or_len (nat_eq k) keys < length keys
 place_below [] k h = absurd cc
 place_below (m ∷ keys) k h = by (nat_eq k m) h (place_below keys k)
   where
@@ -52,7 +52,7 @@ place_below (m ∷ keys) k h = by (nat_eq k m) h (place_below keys k)
     by true e rest = omega arith
     by false e rest = let below = rest e in omega (arith, below)
 
-number_is : (keys : List ℕ) (k : ℕ) → has keys k ≡ true → number_of keys k ≡ position_or_len (nat_eq k) keys
+pub number_is : (keys : List ℕ) (k : ℕ) → has keys k ≡ true → number_of keys k ≡ position_or_len (nat_eq k) keys
 number_is keys k h =
     let yes : nat_lt (position_or_len (nat_eq k) keys) (length keys) ≡ true = (let below = place_below keys k h in grind (arith, nat_tests)) in
     ap (λ b. unwrap_or (cond b (Some (position_or_len (nat_eq k) keys)) None) 0) yes

@@ -2,7 +2,12 @@ pub mod Alikes
 pub mod Drafting
 pub mod Exporting
 pub mod Fillings
+pub mod Finishing
 pub mod Fitting
+pub mod GoodFiles
+pub mod GoodNames
+pub mod GoodObjects
+pub mod GoodSections
 pub mod Keys
 pub mod Listings
 pub mod Naming

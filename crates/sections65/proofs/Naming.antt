@@ -18,7 +18,7 @@ use Rattle.sections65.specs.Inner.Ordering.{origin_by}
 use Rattle.sections65.proofs.Fitting.{all_more}
 use Rattle.sections65.proofs.Renumbering.{HasAll, has, left, number_is, place_below}
 
-any_below : {A : Type 0} (p : A → Bool) (xs : List A) → list_any p xs ≡ true → position_or_len p xs < length xs
+pub any_below : {A : Type 0} (p : A → Bool) (xs : List A) → list_any p xs ≡ true → position_or_len p xs < length xs
 any_below p [] h = absurd cc
 any_below p (x ∷ xs) h = by (p x) h (any_below p xs)
   where
@@ -26,12 +26,12 @@ any_below p (x ∷ xs) h = by (p x) h (any_below p xs)
     by true e rest = omega arith
     by false e rest = let below = rest e in omega (arith, below)
 
-position_at : {A : Type 0} (p : A → Bool) (xs : List A) → position_or_len p xs < length xs → position p xs ≡ Some (position_or_len p xs)
+pub position_at : {A : Type 0} (p : A → Bool) (xs : List A) → position_or_len p xs < length xs → position p xs ≡ Some (position_or_len p xs)
 position_at p xs lt =
     let yes : nat_lt (position_or_len p xs) (length xs) ≡ true = grind (arith, nat_tests) in
     ap (λ b. cond b (Some (position_or_len p xs)) None) yes
 
-itself : (n : List ℕ) → bytes_eq n n ≡ true
+pub itself : (n : List ℕ) → bytes_eq n n ≡ true
 itself n = grind (arith, bytes_eq-Decides n n)
 
 module _ (files : List (List ℕ)) (apart : IsDistinct bytes_eq files) where

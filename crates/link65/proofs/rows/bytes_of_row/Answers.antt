@@ -1,10 +1,9 @@
-use Rattle.std.proofs.Common.{◌≡◌, ◌∙◌, ap, sym, subst, List, ℕ, Option, Some, None}
+use Rattle.std.proofs.Common.{◌≡◌, ◌∙◌, ap, sym, subst, List, Option, None}
 use Rattle.std.specs.Prelude.{IfOk}
 use Rattle.base65.specs.Outcome.{Gives}
 use Rattle.script65.specs.Access.{is_written}
 use Rattle.link65.specs.declared.parts.Waiting.{Waiting}
 use Rattle.link65.specs.Checks.{each_passes, waiting_of}
-use Rattle.link65.specs.Contents.{segment_from}
 use Rattle.link65.specs.Faults.{is_memory}
 use Rattle.link65.specs.Placed.{check_in, exports_in, linkage_in, segments_in}
 use Rattle.link65.specs.RowBytes.{written_segment}

@@ -17,6 +17,8 @@ use Rattle.script65.specs.declared.script.AreaFile.TheVariants.{Named}
 use Rattle.script65.specs.declared.script.Row.{Row}
 use Rattle.image65.specs.declared.output.OutputFile.{OutputFile}
 use Rattle.image65.specs.Files.{AddsArea, AddsAreas, IsAreaFile, IsFileBy, Placed, RowBytes, area_at, file_name, loaded_in, with_bytes}
+use Rattle.image65.specs.Inner.Loads.{Held, IsFileOf, held_by}
+use Rattle.image65.proofs.ImageLemmas.{file_by}
 
 pub named_ok : (output name bytes got : List ℕ) (f : AreaFile) → f ≡ Named name → bytes ≡ name → got ≡ bytes → IsUtf8 bytes → got ≡ file_name output f
 named_ok output name bytes got f is same e utf8 = rw (is, sym same, is_utf8-from_IsUtf8 bytes utf8) e
@@ -119,11 +121,15 @@ module _ (output : List ℕ) (bytes : RowBytes) (rows : List Row) (p : Placement
   abbrev Adds : ℕ → List Area → List OutputFile → List OutputFile → Type 0
   Adds = AddsAreas output (IsAreaFile rows p bytes)
 
-  pub next_area : (areas : List Area) (k : ℕ) (a : Area) (name : List ℕ) (place : AreaPlace) (loads : List Placed) (before mid after : List OutputFile) → k < length areas → a ≡ get_or areas k a → name ≡ file_name output a.file → place ≡ area_at p k → loads ≡ loaded_in k rows p.rows → AddsArea (length name == 0) name (IsFileBy bytes a place loads) before mid → Adds (k + 1) (drop (k + 1) areas) mid after → Adds k (drop k areas) before after
+  by_rows : (b : Bool) (name : List ℕ) (a : Area) (place : AreaPlace) (hs : List Held) (ps : List Placed) (before after : List OutputFile) → hs ≡ map (held_by bytes) ps → AddsArea b name (IsFileOf a place hs) before after → AddsArea b name (IsFileBy bytes a place ps) before after
+  by_rows true name a place hs ps before after are e = e
+  by_rows false name a place hs ps before after are e = (e.0, file_by bytes a place hs ps e.0 are e.1, e.2)
+
+  pub next_area : (areas : List Area) (k : ℕ) (a : Area) (name : List ℕ) (place : AreaPlace) (loads : List Held) (before mid after : List OutputFile) → k < length areas → a ≡ get_or areas k a → name ≡ file_name output a.file → place ≡ area_at p k → loads ≡ map (held_by bytes) (loaded_in k rows p.rows) → AddsArea (length name == 0) name (IsFileOf a place loads) before mid → Adds (k + 1) (drop (k + 1) areas) mid after → Adds k (drop k areas) before after
   next_area areas k a name place loads before mid after lt is named stands are adds rest =
-      let so = subst (λ (n : List ℕ). AddsArea (length n == 0) n (IsFileBy bytes a place loads) before mid) named adds in
-      let there = subst (λ (q : AreaPlace). AddsArea (length (file_name output a.file) == 0) (file_name output a.file) (IsFileBy bytes a q loads) before mid) stands so in
-      let here = subst (λ (ps : List Placed). AddsArea (length (file_name output a.file) == 0) (file_name output a.file) (IsFileBy bytes a (area_at p k) ps) before mid) are there in
+      let so = subst (λ (n : List ℕ). AddsArea (length n == 0) n (IsFileOf a place loads) before mid) named adds in
+      let there = subst (λ (q : AreaPlace). AddsArea (length (file_name output a.file) == 0) (file_name output a.file) (IsFileOf a q loads) before mid) stands so in
+      let here = by_rows (length (file_name output a.file) == 0) (file_name output a.file) a (area_at p k) loads (loaded_in k rows p.rows) before mid are there in
       subst (λ (l : List Area). Adds k l before after) (sym (drop_item areas k a lt is)) (mid, here, rest)
 
   pub no_area : (areas : List Area) (k : ℕ) (files : List OutputFile) → length areas ≤ k → Adds k (drop k areas) files files

@@ -41,6 +41,10 @@ offset_of start p = p.place.load - start
 abbrev pub RowBytes : Type 0
 RowBytes = Row → List ℕ
 
+-- those of rows that are written; no file holds any other row
+abbrev pub written : RowBytes → RowBytes
+written bytes r = if is_written r.access then bytes r else []
+
 abbrev pub area_pieces : ℕ → RowBytes → List Placed → List Piece
 area_pieces start bytes [] = []
 area_pieces start bytes (p ∷ ps) = record { offset = offset_of start p; bytes = bytes p.row } ∷ area_pieces start bytes ps

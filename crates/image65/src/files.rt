@@ -1,15 +1,13 @@
 //! The files of areas.
 
 ghost use Rattle.std.specs.Prelude.{◌≡◌, ◌<◌, ◌++◌, ◌==◌, List, [], IfOk, OnOk, Some, length, map, slice_get, slice_set};
-ghost use Rattle.image65.specs.Files.{AddsArea, AddsAreas, IsAreaFile, IsFileBy, area_at, file_name, with_bytes};
-ghost use Rattle.image65.specs.Inner.Loads.{AreNamed, view};
-ghost use Rattle.image65.specs.declared.areas.Load.{Load};
+ghost use Rattle.image65.specs.Files.{AddsArea, AddsAreas, IsAreaFile, RowBytes, area_at, file_name, with_bytes, written};
+ghost use Rattle.image65.specs.Inner.Loads.{AreNamed, IsFileOf, view};
 ghost use Rattle.image65.specs.declared.output.OutputFile.{OutputFile};
 
-use crate::areas::{Filled, Load, loads_of};
+use crate::areas::{Filled, loads_of, take_at};
 use crate::imaging::area_file;
 use crate::output::OutputFile;
-use crate::rows::RowContents;
 use base65::{Sequence, Text};
 use indexmap::IndexSet;
 use script65::{AreaFile, AreaPlace, Placement, Script};
@@ -63,31 +61,22 @@ impl<'a> Files<'a> {
     }
 
     /// Adds an area, if its file has a name.
-    fn add_area<C: RowContents>(
+    fn add_area(
         &mut self,
         alloc: Global,
         name: &'a str,
-        filled: &Filled<'_, '_>,
-        contents: &C,
+        filled: Filled<'_, '_>,
     ) -> Result<(), AllocError>
-        requires named { AreNamed self.old }
-        requires ready { C.is_ready contents.now }
-        ensures files { OnOk result (AddsArea (length name.entry.now == 0) name.entry.now (IsFileBy (C.row_bytes contents.now) filled.now.area.now filled.now.place (map view filled.now.loads.now)) self.old.outputs.items self.new.outputs.items) }
+        requires { AreNamed self.old }
+        ensures files { OnOk result (AddsArea (length name.entry.now == 0) name.entry.now (IsFileOf filled.entry.area.now filled.entry.place (map view filled.entry.loads)) self.old.outputs.items self.new.outputs.items) }
         ensures named { OnOk result (AreNamed self.new) }
     {
         if name.is_empty() {
             return Ok(());
         }
-        let image = area_file(alloc, filled, contents)?;
-        self.add(alloc, name, Sequence::from_vec(image))
+        let image = area_file(alloc, filled)?;
+        self.add(alloc, name, image)
     }
-}
-
-fn loads_at<'b, 'a>(loads: &'b Vec<Sequence<Load<'a>>>, k: usize) -> &'b [Load<'a>]
-    requires { k < length loads.now.items }
-    ensures { (m : List Load) → slice_get loads.entry.now.items k ≡ Some m → result.now ≡ m }
-{
-    loads[k].as_slice()
 }
 
 /// Where the area at a place of the script is placed.
@@ -104,20 +93,26 @@ fn area_at(placement: &Placement, k: usize) -> AreaPlace
     }
 }
 
-/// The files of all areas, by the places of the script's areas and rows.
-pub fn files_of<C: RowContents>(
+/// The files of all areas, by the places of the script's areas and rows, and by the bytes of the rows that are written;
+/// a row that isn't has none.
+pub fn files_of(
     alloc: Global,
     output: &str,
     script: &Script,
-    contents: &C,
+    contents: Vec<Sequence<u8>>,
     placement: &Placement,
 ) -> Result<Sequence<OutputFile>, AllocError>
-    requires { C.is_ready contents.now }
-    ensures { IfOk result (λ files. AddsAreas output.now (IsAreaFile script.now.rows placement.now (C.row_bytes contents.now)) 0 script.now.areas [] files) }
+    ensures { IfOk result (λ files. (bytes : RowBytes) → contents.items ≡ map (written bytes) script.now.rows → AddsAreas output.now (IsAreaFile script.now.rows placement.now bytes) 0 script.now.areas [] files) }
 {
     let areas = script.areas.as_slice();
-    let places = placement.rows.as_slice();
-    let loads = loads_of(alloc, areas.len(), script.rows.as_slice(), places)?;
+    let rows = script.rows.as_slice();
+    let mut loads = loads_of(
+        alloc,
+        areas.len(),
+        rows,
+        placement.rows.as_slice(),
+        contents,
+    )?;
     let mut files = Files {
         names: IndexSet::new(alloc),
         outputs: Vec::new(alloc),
@@ -127,9 +122,9 @@ pub fn files_of<C: RowContents>(
         let filled = Filled {
             area,
             place: area_at(placement, k),
-            loads: loads_at(&loads, k),
+            loads: take_at(alloc, &mut loads, k),
         };
-        files.add_area(alloc, name, &filled, contents)?;
+        files.add_area(alloc, name, filled)?;
     }
     Ok(Sequence::from_vec(files.outputs))
 }

@@ -1,13 +1,14 @@
 //! The bytes of an area's file.
 
-ghost use Rattle.std.specs.Prelude.{◌≡◌, IfOk, OnOk, map};
-ghost use Rattle.image65.specs.Files.{IsFileBy, area_pieces, end_behind, file_len};
-ghost use Rattle.image65.specs.Inner.Laying.{LaysAll, Overlays};
-ghost use Rattle.image65.specs.Inner.Loads.{view};
+ghost use Rattle.std.specs.Prelude.{◌≡◌, IfOk, map, true};
+ghost use Rattle.image65.specs.Files.{IsImage, end_behind, file_len};
+ghost use Rattle.image65.specs.Inner.Laying.{IsWhole, LaysAll, Overlays};
+ghost use Rattle.image65.specs.Inner.Loads.{IsFileOf, piece_at, placed_in, view};
 
 use crate::areas::{Filled, Load};
-use crate::rows::RowContents;
+use base65::Sequence;
 use std::alloc::{AllocError, Global};
+use std::mem;
 
 /// Lays bytes into an image, as many as it takes.
 fn overlay(image: &mut [u8], at: usize, bytes: &[u8])
@@ -21,27 +22,18 @@ fn overlay(image: &mut [u8], at: usize, bytes: &[u8])
 }
 
 /// Lays the bytes of each row into the image of their area.
-fn lay_rows<C: RowContents>(
-    alloc: Global,
-    image: &mut [u8],
-    start: u64,
-    contents: &C,
-    loads: &[Load<'_>],
-) -> Result<(), AllocError>
-    requires { C.is_ready contents.now }
-    ensures { OnOk result (LaysAll (area_pieces start (C.row_bytes contents.now) (map view loads.now)) image.old image.new) }
+fn lay_rows(image: &mut [u8], start: u64, loads: &[Load<'_>])
+    ensures { LaysAll (map (piece_at start) (map view loads.now)) image.old image.new }
 {
     for load in loads {
-        let bytes = contents.bytes_of_row(alloc, load.row)?;
         let offset = load.place.load.saturating_sub(start);
-        overlay(image, offset as usize, bytes.as_slice());
+        overlay(image, offset as usize, load.bytes.as_slice());
     }
-    Ok(())
 }
 
 /// Behind the last row of a size above 0.
 fn end_of(start: u64, loads: &[Load<'_>]) -> u128
-    ensures { result ≡ end_behind start 0 (map view loads.now) }
+    ensures { result ≡ end_behind start 0 (map placed_in loads.now) }
 {
     let mut end = 0;
     for load in loads {
@@ -55,29 +47,52 @@ fn end_of(start: u64, loads: &[Load<'_>]) -> u128
 
 /// The length of an area's file.
 fn file_len(filled: &Filled<'_, '_>) -> u128
-    ensures { result ≡ file_len filled.now.area.now filled.now.place (map view filled.now.loads.now) }
+    ensures { result ≡ file_len filled.now.area.now filled.now.place (map placed_in filled.now.loads) }
 {
     if filled.area.fill {
         u128::from(filled.place.size)
     } else {
-        end_of(filled.place.start, filled.loads)
+        end_of(filled.place.start, filled.loads.as_slice())
     }
 }
 
-/// The bytes of an area's file, of which memory has to take all.
-pub fn area_file<C: RowContents>(
-    alloc: Global,
-    filled: &Filled<'_, '_>,
-    contents: &C,
-) -> Result<Vec<u8>, AllocError>
-    requires { C.is_ready contents.now }
-    ensures { IfOk result (λ image. IsFileBy (C.row_bytes contents.now) filled.now.area.now filled.now.place (map view filled.now.loads.now) image.items) }
+/// Whether the bytes of the first row are all of a file of so many.
+fn is_whole(len: usize, start: u64, loads: &[Load<'_>]) -> bool
+    ensures { result ≡ true → IsWhole len (map (piece_at start) (map view loads.now)) }
 {
-    let Ok(len) = usize::try_from(file_len(filled)) else {
+    match loads {
+        [load] => load.place.load <= start && load.bytes.len() == len,
+        _ => false,
+    }
+}
+
+/// So many bytes: those of rows, and the fill between them.
+fn lay_out(
+    alloc: Global,
+    len: usize,
+    fill: u8,
+    start: u64,
+    loads: &[Load<'_>],
+) -> Result<Vec<u8>, AllocError>
+    ensures { IfOk result (λ image. IsImage len fill (map (piece_at start) (map view loads.now)) image.items) }
+{
+    let mut image = vec![in alloc; fill; len]?;
+    lay_rows(image.as_mut_slice(), start, loads);
+    Ok(image)
+}
+
+/// The bytes of an area's file, of which memory has to take all. Where one row is all of it, its bytes aren't copied.
+pub fn area_file(alloc: Global, filled: Filled<'_, '_>) -> Result<Sequence<u8>, AllocError>
+    ensures { IfOk result (λ image. IsFileOf filled.entry.area.now filled.entry.place (map view filled.entry.loads) image) }
+{
+    let Ok(len) = usize::try_from(file_len(&filled)) else {
         return Err(AllocError);
     };
-    let mut image = vec![in alloc; filled.area.fill_value; len]?;
     let start = filled.place.start;
-    lay_rows(alloc, image.as_mut_slice(), start, contents, filled.loads)?;
-    Ok(image)
+    let mut loads = filled.loads.into_vec();
+    if is_whole(len, start, loads.as_slice()) {
+        return Ok(mem::replace(&mut loads[0].bytes, Sequence::new(alloc)));
+    }
+    let image = lay_out(alloc, len, filled.area.fill_value, start, loads.as_slice())?;
+    Ok(Sequence::from_vec(image))
 }

@@ -5,8 +5,6 @@ mod areas;
 mod files;
 mod imaging;
 mod output;
-mod rows;
 
 pub use files::files_of;
 pub use output::OutputFile;
-pub use rows::RowContents;

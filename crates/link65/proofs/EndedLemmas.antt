@@ -1,14 +1,12 @@
 -- What a linker keeps of the modules that have ended, whether one is open behind them or none.
-use Rattle.std.proofs.Common.{◌≡◌, ◌∙◌, ℕ, List, ◌++◌, length, map, take, ◌⊎◌, inl, inr, Option, Some, None, refl, sym, ap}
+use Rattle.std.proofs.Common.{◌≡◌, ◌∙◌, List, length, map, take, inl, inr, Option, sym, ap}
 use Rattle.std.proofs.Math.Seq.{take-append_seam}
-use Rattle.link65.specs.declared.parts.Exported.{Exported}
-use Rattle.link65.specs.declared.parts.Member.{Member}
 use Rattle.link65.specs.Givers.{given_names}
 use Rattle.link65.specs.Growing.{Growth}
 use Rattle.link65.specs.Modules.{Module}
-use Rattle.link65.specs.Programs.{Program, exported, program_of}
+use Rattle.link65.specs.Programs.{exported, program_of}
 use Rattle.link65.specs.Inner.Fields.{ended_exports}
-use Rattle.link65.specs.Standing.{Feeding, HaveEnded, IsFed, IsFeeding, Opened}
+use Rattle.link65.specs.Standing.{Feeding, HaveEnded, Opened}
 use Rattle.link65.proofs.DefinedLemmas.{given_all}
 
 -- their members

@@ -19,10 +19,9 @@ use Rattle.link65.proofs.DefinedLemmas.{map_behind, module_gives, once_behind, o
 use Rattle.std.specs.Prelude.{IfErr, OnOk}
 use Rattle.object65.specs.Items.{with_item}
 use Rattle.object65.specs.Record.{Entry}
-use Rattle.object65.specs.Scanning.{IsWithin, Outline, outline_of, scanned}
+use Rattle.object65.specs.Scanning.{IsWithin, Outline, scanned}
 use Rattle.object65.specs.Taking
 use Rattle.object65.proofs.Builders.{reached_next, reached_parts}
-use Rattle.object65.proofs.Rooms.{bound}
 use Rattle.object65.proofs.Withins.{led}
 use Rattle.link65.specs.declared.fault.LinkFault.{LinkFault}
 use Rattle.link65.specs.declared.fault.LinkFault.TheVariants as fault

@@ -1,5 +1,5 @@
 -- With which faults a link is refused at all.
-use Rattle.std.proofs.Common.{◌≡◌, ◌∙◌, ℕ, ℤ, List, [], ◌∷◌, ◌++◌, Bool, true, false, ◌||◌, Result, Ok, Err, if◌then◌else◌, refl, sym, ap}
+use Rattle.std.proofs.Common.{◌≡◌, ◌∙◌, ℕ, ℤ, List, [], ◌∷◌, Bool, true, false, ◌||◌, Result, Ok, Err, if◌then◌else◌, refl, ap}
 use Rattle.std.specs.Prelude.{IfErr, pos}
 use Rattle.std.specs.Ordering.{int_eq}
 use Rattle.base65.specs.Outcome.{◌>>=◌, Finds, First, Unless}

@@ -10,7 +10,6 @@ pub mod FinishedLemmas
 pub mod GivenLemmas
 pub mod GrowingLaw
 pub mod HexLemmas
-pub mod HoldingLemmas
 pub mod LineLemmas
 pub mod LinkingLemmas
 pub mod ListedLemmas
@@ -20,6 +19,7 @@ pub mod OutcomeLemmas
 pub mod Passes
 pub mod PlaceLemmas
 pub mod PlaceOf
+pub mod RowLemmas
 pub mod SegmentLemmas
 pub mod Shown
 pub mod Tries

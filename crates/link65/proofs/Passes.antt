@@ -1,21 +1,18 @@
 -- Checks in turn, and refusals that pass through.
-use Rattle.std.proofs.Common.{◌≡◌, ◌<◌, ◌≤◌, ℕ, zero, suc, ◌+◌, map, Option, Some, None, Bool, true, false, List, [], ◌∷◌, ◌++◌, length, drop, get_or, refl, sym, ap, ◌∙◌, Result, Ok, Err}
+use Rattle.std.proofs.Common.{◌≡◌, ◌<◌, ◌≤◌, ℕ, zero, suc, ◌+◌, map, Bool, true, false, List, [], ◌∷◌, ◌++◌, length, drop, get_or, refl, sym, ap, ◌∙◌, Result, Ok, Err}
 use Rattle.std.proofs.Common.{append_assoc}
 use Rattle.std.specs.List.{flat_map}
 use Rattle.std.proofs.lemmas.List.{drop_all}
 use Rattle.script65.proofs.Eaches.{drop_item}
 use Rattle.base65.specs.Outcome.{◌>>=◌, Refuses, Unless}
 use Rattle.link65.specs.declared.fault.LinkFault.{LinkFault}
-use Rattle.std.specs.Option.{option_map}
 use Rattle.std.specs.Prelude.{replicate}
-use Rattle.link65.specs.declared.contents.Content.{Content}
 use Rattle.link65.specs.declared.contents.Piece.{Piece}
 use Rattle.link65.specs.declared.contents.Piece.TheVariants.{Known, Filled, Waits}
 use Rattle.link65.specs.declared.parts.Waiting.{Waiting}
-use Rattle.link65.specs.Checks.{each_passes, waiting_in, waiting_of}
-use Rattle.link65.specs.Contents.{cells_of, content_of, piece_cells, piece_waiting, segment_from, segments_from}
-use Rattle.link65.specs.Segments.{Cell, known, filled, segment_of}
-use Rattle.link65.proofs.SegmentLemmas.{found_from}
+use Rattle.link65.specs.Checks.{each_passes, waiting_in}
+use Rattle.link65.specs.Contents.{cells_of, piece_cells, piece_waiting}
+use Rattle.link65.specs.Segments.{Cell, known, filled}
 use Rattle.link65.specs.Faults.{is_memory}
 
 -- a refusal that is the first one of another reading too
@@ -105,14 +102,3 @@ one_passes check p w is = rw is (go (check w))
     go : (r : Result (Unit {0}) LinkFault) → (r >>= (λ u. Ok tt)) ≡ r
     go (Ok u) = refl
     go (Err e) = refl
-
--- the values of a segment, by its content
-pub content_waits : (contents : List Content) (name : List ℕ) (o : Option Content) → o ≡ content_of contents name → waiting_of (segment_of (segments_from contents) name) ≡ waiting_of (option_map segment_from o)
-content_waits contents name o e = ap waiting_of (found_from contents name ∙ ap (option_map segment_from) (sym e))
-
-pub row_waits : (contents : List Content) (name key : List ℕ) (c : Content) → key ≡ name → Some c ≡ content_of contents key → flat_map piece_waiting c.pieces ≡ waiting_of (segment_of (segments_from contents) name)
-row_waits contents name key c same e =
-    sym (content_waits contents name (Some c) (e ∙ ap (content_of contents) same) ∙ cells_wait c.pieces)
-
-pub no_row_waits : (contents : List Content) (name key : List ℕ) → key ≡ name → None ≡ content_of contents key → waiting_of (segment_of (segments_from contents) name) ≡ []
-no_row_waits contents name key same e = content_waits contents name None (e ∙ ap (content_of contents) same)

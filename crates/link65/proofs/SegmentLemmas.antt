@@ -1,41 +1,35 @@
 -- Segments by name.
-use Rattle.std.proofs.Common.{◌≡◌, ◌<◌, ◌≤◌, ◌-◌, ℕ, ◌+◌, Bool, true, false, cond, List, [], ◌∷◌, length, drop, get_or, Option, Some, None, refl, sym, ap, ◌∙◌, arith}
-use Rattle.std.specs.Borrow.{Bor}
+use Rattle.std.proofs.Common.{◌≡◌, ℕ, suc, Bool, true, false, cond, List, [], ◌∷◌, map, slice_get, Option, Some, None, refl, sym, ap, ◌∙◌}
 use Rattle.std.specs.Option.{option_map}
-use Rattle.std.specs.Prelude.{find, option_copied}
 use Rattle.std.specs.Str.{bytes_eq}
-use Rattle.std.proofs.lemmas.List.{drop_all}
-use Rattle.script65.proofs.Eaches.{drop_item}
+use Rattle.std.proofs.lemmas.Cmp.{nat_list_eq_equiv}
 use Rattle.link65.specs.declared.contents.Content.{Content}
-use Rattle.link65.specs.Contents.{content_of, segment_from, segments_from}
-use Rattle.link65.specs.Segments.{segment_of}
+use Rattle.link65.specs.Contents.{segment_from, segments_from}
+use Rattle.link65.specs.Grounds.{place_in}
+use Rattle.link65.specs.Segments.{Segment, segment_of}
+use Rattle.link65.proofs.PlaceOf.{at_front, behind_front}
 
-pub none_there : (contents : List Content) (name : List ℕ) → content_of (drop (length contents) contents) name ≡ None
-none_there contents name = ap (find (λ c. bytes_eq c.name name)) (drop_all (length contents) contents (omega arith))
+-- what stands at a place, if any
+abbrev pub at_most : List Content → Option ℕ → Option Segment
+at_most cs None = None
+at_most cs (Some i) = option_map segment_from (slice_get cs i)
 
-abbrev pub seen : Option (Bor Content) → Option Content
-seen = option_copied
+abbrev names_of : List Content → List (List ℕ)
+names_of cs = map (λ c. c.name) cs
 
-seen_cond : (b : Bool) (s : Bor Content) (old : Option (Bor Content)) → seen (cond b (Some s) old) ≡ cond b (Some s.now) (seen old)
-seen_cond true s old = refl
-seen_cond false s old = refl
+next_place : (c : Content) (cs : List Content) (o : Option ℕ) → at_most (c ∷ cs) (option_map suc o) ≡ at_most cs o
+next_place c cs None = refl
+next_place c cs (Some i) = refl
 
--- one segment more, in front of those so far
-pub one_more : (contents : List Content) (i : ℕ) (s : Bor Content) (name key : List ℕ) (old new : Option (Bor Content)) → 0 < i → i ≤ length contents → s.now ≡ get_or contents (i - 1) s.now → key ≡ s.now.name → new ≡ cond (bytes_eq key name) (Some s) old → seen old ≡ content_of (drop i contents) name → seen new ≡ content_of (drop (i - 1) contents) name
-one_more contents i s name key old new pos le at is e inv =
-    let lt : i - 1 < length contents = omega arith in
-    let next : i - 1 + 1 ≡ i = omega arith in
-    ap seen e
-    ∙ seen_cond (bytes_eq key name) s old
-    ∙ ap (λ k. cond (bytes_eq k name) (Some s.now) (seen old)) is
-    ∙ ap (cond (bytes_eq s.now.name name) (Some s.now)) (inv ∙ sym (ap (λ j. content_of (drop j contents) name) next))
-    ∙ sym (ap (λ l. content_of l name) (drop_item contents (i - 1) s.now lt at))
+found_step : (name : List ℕ) (c : Content) (cs : List Content) (b : Bool) → bytes_eq c.name name ≡ b → segment_of (segments_from cs) name ≡ at_most cs (place_in name (names_of cs)) → cond b (Some (segment_from c)) (segment_of (segments_from cs) name) ≡ at_most (c ∷ cs) (place_in name (c.name ∷ names_of cs))
+found_step name c cs true is rest =
+    sym (ap (at_most (c ∷ cs)) (at_front (bytes_eq name) c.name (names_of cs) ((nat_list_eq_equiv).symm name c.name ∙ is)))
+found_step name c cs false is rest =
+    rest
+    ∙ sym (next_place c cs (place_in name (names_of cs)))
+    ∙ sym (ap (at_most (c ∷ cs)) (behind_front (bytes_eq name) c.name (names_of cs) ((nat_list_eq_equiv).symm name c.name ∙ is)))
 
--- the segment of a name is that of its content
-pub found_from : (contents : List Content) (name : List ℕ) → segment_of (segments_from contents) name ≡ option_map segment_from (content_of contents name)
-found_from [] name = refl
-found_from (c ∷ cs) name = go (bytes_eq c.name name) (found_from cs name)
-  where
-    go : (b : Bool) → segment_of (segments_from cs) name ≡ option_map segment_from (content_of cs name) → cond b (Some (segment_from c)) (segment_of (segments_from cs) name) ≡ option_map segment_from (cond b (Some c) (content_of cs name))
-    go true e = refl
-    go false e = e
+-- the segment of a name is that of the content at the name's place
+pub found_at : (name : List ℕ) (cs : List Content) → segment_of (segments_from cs) name ≡ at_most cs (place_in name (names_of cs))
+found_at name [] = refl
+found_at name (c ∷ cs) = ap (λ b. cond b (Some (segment_from c)) (segment_of (segments_from cs) name)) refl ∙ found_step name c cs (bytes_eq c.name name) refl (found_at name cs)

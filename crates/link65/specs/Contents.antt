@@ -1,12 +1,9 @@
 -- What a segment holds, as the code keeps it: pieces in place of single bytes.
-use Rattle.std.specs.Prelude.{◌≡◌, ℕ, List, map, replicate, find, option_copied, Option, [], ◌∷◌}
+use Rattle.std.specs.Prelude.{List, map, replicate, [], ◌∷◌}
 use Rattle.std.specs.List.{flat_map}
-use Rattle.std.specs.Str.{bytes_eq}
-use Rattle.indexmap.specs.IndexMap.{get_by}
 use Rattle.link65.specs.declared.contents.Content.{Content}
 use Rattle.link65.specs.declared.contents.Piece.{Piece}
 use Rattle.link65.specs.declared.contents.Piece.TheVariants.{Known, Filled, Waits}
-use Rattle.link65.specs.declared.tables.Segments.{Segments}
 use Rattle.link65.specs.declared.parts.Waiting.{Waiting}
 use Rattle.link65.specs.Checks.{waiting_in}
 use Rattle.link65.specs.Segments.{Cell, known, filled, waits, Segment}
@@ -28,10 +25,3 @@ segment_from c = record { name = c.name; size = c.size; align = c.align; cells =
 
 abbrev pub segments_from : List Content → List Segment
 segments_from cs = map segment_from cs
-
-abbrev pub content_of : List Content → List ℕ → Option Content
-content_of cs name = find (λ c. bytes_eq c.name name) cs
-
--- each segment is found by its name
-abbrev pub AreByName : Segments → Type 0
-AreByName t = (name : List ℕ) → option_copied (get_by (λ k. bytes_eq name k.now) t.by_name) ≡ content_of t.all.now name

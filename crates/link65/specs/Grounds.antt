@@ -6,6 +6,7 @@ use Rattle.object65.specs.declared.item.Item.TheVariants as item
 use Rattle.link65.specs.declared.growing.Growing.{Growing}
 use Rattle.link65.specs.Contents.{segments_from}
 use Rattle.link65.specs.Growing.{Growth, with_segments}
+use Rattle.link65.specs.Programs.{Program}
 use Rattle.link65.specs.Segments.{Segment, empty_segment, filled}
 
 -- a segment with so many bytes of the fill value behind, that don't count yet
@@ -19,6 +20,9 @@ growth_in g = record {
   imports = g.imports;
   files = g.files;
 }
+
+abbrev pub program_in : Growing → Program
+program_in g = (growth_in g).program
 
 -- segments are found by their names
 pub record AreNamed (g : Growing) : Type 0 where

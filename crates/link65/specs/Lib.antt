@@ -1,13 +1,10 @@
 pub mod Checks
 pub mod Contents
-pub mod Evaluation
 pub mod Faults
-pub mod Finishing
 pub mod GivenTwice
 pub mod Givers
 pub mod Grounds
 pub mod Growing
-pub mod Holding
 pub mod Inner
 pub mod Laws
 pub mod Links
@@ -16,6 +13,7 @@ pub mod Maps
 pub mod Marks
 pub mod Modules
 pub mod Names
+pub mod Placed
 pub mod Places
 pub mod Programs
 pub mod Refusals

@@ -4,6 +4,8 @@ use Rattle.std.specs.List.{flat_map}
 use Rattle.object65.specs.declared.object.Width.{Width}
 use Rattle.object65.specs.Objects.{fits_width, value_bytes}
 use Rattle.image65.specs.Files.{RowBytes}
+use Rattle.script65.specs.Access.{is_written}
+use Rattle.script65.specs.declared.script.Row.{Row}
 use Rattle.link65.specs.declared.parts.ValueFault.{ValueFault}
 use Rattle.link65.specs.Segments.{Cell, known, filled, waits, Segment, segment_of}
 use Rattle.link65.specs.Values.{Exports, Linkage, value_by}
@@ -25,6 +27,10 @@ cell_bytes l exports fill (waits w) = stored w.width (or_zero (value_by l export
 abbrev pub segment_bytes : Linkage → Exports → ℕ → Option Segment → List ℕ
 segment_bytes l exports fill None = []
 segment_bytes l exports fill (Some g) = flat_map (cell_bytes l exports fill) g.cells
+
+-- the bytes of a segment, where its row is written
+abbrev pub written_segment : Linkage → Exports → Row → Option Segment → List ℕ
+written_segment l exports r o = if is_written r.access then segment_bytes l exports r.fill_value o else []
 
 -- the bytes of a segment, by the fill value of its row
 abbrev pub row_bytes : Linkage → Exports → List Segment → RowBytes

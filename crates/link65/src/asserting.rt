@@ -3,16 +3,16 @@
 ghost use Rattle.std.specs.Prelude.{◌≡◌, IfOk};
 ghost use Rattle.base65.specs.Outcome.{Gives};
 ghost use Rattle.link65.specs.Checks.{assertion_result, check_assert, check_asserts, site};
-ghost use Rattle.link65.specs.Evaluation.{exports_in, linkage_in};
+ghost use Rattle.link65.specs.Placed.{exports_in, linkage_in};
 ghost use Rattle.link65.specs.Faults.{is_memory};
 ghost use Rattle.link65.specs.Marks.{AllFound};
 ghost use Rattle.link65.specs.Warnings.{assertion_warning};
 
-use crate::checking::{site_of, value_at};
-use crate::evaluation::{Evaluated, value_in};
 use crate::fault::{LinkFault, Site};
 use crate::parts::{Asserted, Member};
+use crate::placed::{Placed, value_in};
 use crate::texts::join;
+use crate::values::{site_of, value_at};
 use crate::words::site_name;
 use base65::Sequence;
 use itoa::Buffer;
@@ -62,7 +62,7 @@ fn judge(
 /// What is warned of an assertion, or its fault.
 fn check_assertion(
     alloc: Global,
-    program: &Evaluated<'_>,
+    program: &Placed<'_>,
     assert: &Asserted,
 ) -> Result<Sequence<u8>, LinkFault>
     requires { AllFound program.now.marks.now }
@@ -76,7 +76,7 @@ fn check_assertion(
 /// What is warned of assertions, in order, or the first fault.
 pub fn check_assertions(
     alloc: Global,
-    program: &Evaluated<'_>,
+    program: &Placed<'_>,
     asserts: &[Asserted],
 ) -> Result<Sequence<u8>, LinkFault>
     requires { AllFound program.now.marks.now }

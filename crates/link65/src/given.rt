@@ -1,6 +1,6 @@
 //! Names of which none may be given twice.
 
-ghost use Rattle.std.specs.Prelude.{◌≡◌, ◌++◌, ◌∷◌, [], Ok, OnErr, map};
+ghost use Rattle.std.specs.Prelude.{◌≡◌, ◌++◌, ◌∷◌, [], IfOk, Ok, OnErr, map};
 ghost use Rattle.base65.specs.Outcome.{Gives};
 ghost use Rattle.link65.specs.Faults.{is_memory};
 ghost use Rattle.link65.specs.GivenTwice.{all_once, names_in, with_each, with_new};
@@ -11,8 +11,9 @@ use crate::own_names::script_names;
 use crate::parts::Exported;
 use base65::Sequence;
 use indexmap::IndexSet;
+use library65::Names;
 use script65::Script;
-use std::alloc::Global;
+use std::alloc::{AllocError, Global};
 
 /// The names that a script and modules give so far, none of them twice.
 #[derive(Drop)]
@@ -74,4 +75,11 @@ impl Given {
     {
         self.add_each(exports)
     }
+}
+
+/// A copy of the names that are given.
+pub fn copy_of(given: &Given) -> Result<Names, AllocError>
+    ensures { IfOk result (λ names. map (λ n. n.items) names.keys ≡ names_in given.now) }
+{
+    given.names.clone()
 }

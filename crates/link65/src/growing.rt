@@ -146,7 +146,7 @@ fn add_fragment(
 }
 
 /// The place of the segment of a name, if there is one.
-fn place_of(names: &IndexSet<Vec<u8>>, name: &[u8]) -> Option<usize>
+pub fn place_of(names: &IndexSet<Vec<u8>>, name: &[u8]) -> Option<usize>
     ensures place { result ≡ place_in name.now (map (λ n. n.items) names.now.keys) }
     ensures within { IfSome result (λ i. i < length names.now.keys) }
 {

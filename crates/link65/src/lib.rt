@@ -2,7 +2,6 @@
 #![tactic(auto)]
 
 mod asserting;
-mod checking;
 mod contents;
 mod evaluation;
 mod fault;
@@ -10,9 +9,6 @@ mod feeding;
 mod finishing;
 mod given;
 mod growing;
-mod holding;
-mod keeping;
-mod kept;
 pub mod laws;
 mod linked;
 mod linker;
@@ -25,9 +21,11 @@ mod needs;
 mod open;
 mod own_names;
 mod parts;
+mod placed;
 mod resolving;
-mod tables;
+mod rows;
 mod texts;
+mod values;
 mod warning;
 mod words;
 

@@ -14,9 +14,8 @@ ghost use Rattle.link65.specs.Standing.{AreNames, Begins, Continues, Ends, IsFed
 
 use crate::fault::LinkFault;
 use crate::feeding::{before_place, close_module, open_module, take_record};
-use crate::given::Given;
+use crate::given::{Given, copy_of};
 use crate::growing::{Growing, no_module};
-use crate::keeping::{copy_of, kept_of};
 use crate::linked::Linked;
 use crate::linking::link;
 use crate::missing::open_names;
@@ -268,7 +267,6 @@ impl Linker {
             return Err(LinkFault::FailedBefore);
         }
         let alloc = growing.alloc;
-        let kept = kept_of(growing);
-        link(alloc, output.as_str(), &script, &kept)
+        link(alloc, output.as_str(), &script, growing)
     }
 }

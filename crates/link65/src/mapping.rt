@@ -2,16 +2,16 @@
 
 ghost use Rattle.std.specs.Prelude.{◌≡◌, ◌%◌, ◌++◌, IfOk, OnOk};
 ghost use Rattle.std.specs.List.{flat_map};
-ghost use Rattle.link65.specs.Evaluation.{exports_in, linkage_in};
+ghost use Rattle.link65.specs.Placed.{exports_in, linkage_in};
 ghost use Rattle.link65.specs.Lists.{with_beside};
 ghost use Rattle.link65.specs.Maps.{address_text, definition_line, export_line, hex_digit, hex_digits, member_lines, row_line, row_lines, section_line, symbol_line, symbol_lines, weak_line};
 ghost use Rattle.link65.specs.Marks.{AllFound};
 ghost use Rattle.link65.specs.Resolving.{AreNames};
+ghost use Rattle.link65.specs.RowBytes.{or_zero};
 
-use crate::evaluation::{Evaluated, value_in};
-use crate::holding::or_zero;
 use crate::naming::row_place;
-use crate::parts::{Definition, Exported, Member, SectionPlace};
+use crate::parts::{Definition, Exported, Member, SectionPlace, ValueFault};
+use crate::placed::{Placed, value_in};
 use crate::resolving::{Names, is_defined};
 use crate::texts::join;
 use base65::Sequence;
@@ -181,10 +181,19 @@ fn definition_lines(alloc: Global, definitions: &[Definition]) -> Result<Sequenc
     Ok(text)
 }
 
+fn or_zero(outcome: Result<i64, ValueFault>) -> i64
+    ensures { result ≡ or_zero outcome }
+{
+    match outcome {
+        Ok(value) => value,
+        Err(_) => 0,
+    }
+}
+
 /// An export and its value.
 fn export_line(
     alloc: Global,
-    program: &Evaluated<'_>,
+    program: &Placed<'_>,
     export: &Exported,
 ) -> Result<Sequence<u8>, AllocError>
     requires { AllFound program.now.marks.now }
@@ -194,7 +203,7 @@ fn export_line(
     symbol_line(alloc, export.name.as_slice(), value.cast_unsigned())
 }
 
-fn export_lines(alloc: Global, program: &Evaluated<'_>) -> Result<Sequence<u8>, AllocError>
+fn export_lines(alloc: Global, program: &Placed<'_>) -> Result<Sequence<u8>, AllocError>
     requires { AllFound program.now.marks.now }
     ensures { IfOk result (λ text. text ≡ flat_map (export_line (linkage_in program.now) (exports_in program.now)) program.now.exports.now) }
 {
@@ -235,7 +244,7 @@ fn weak_lines(alloc: Global, names: &Names<'_>) -> Result<Sequence<u8>, AllocErr
 pub fn symbols_text(
     alloc: Global,
     names: &Names<'_>,
-    program: &Evaluated<'_>,
+    program: &Placed<'_>,
 ) -> Result<Sequence<u8>, AllocError>
     requires found { AllFound program.now.marks.now }
     requires names { AreNames names.now }

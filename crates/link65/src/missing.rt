@@ -4,7 +4,7 @@ ghost use Rattle.std.specs.Prelude.{◌≡◌, ◌∷◌, [], IfOk, OnOk, is_som
 ghost use Rattle.std.specs.List.{flat_map};
 ghost use Rattle.base65.specs.Outcome.{Gives};
 ghost use Rattle.link65.specs.Faults.{is_memory};
-ghost use Rattle.link65.specs.Finishing.{program_from};
+ghost use Rattle.link65.specs.Grounds.{program_in};
 ghost use Rattle.link65.specs.Givers.{each_once, open_names, unresolved};
 ghost use Rattle.link65.specs.Links.{names_given};
 ghost use Rattle.link65.specs.Inner.Missing.{AreGiven, gives_in, has, missing_behind};
@@ -12,7 +12,7 @@ ghost use Rattle.link65.specs.Names.{import_name, symbol_imports};
 ghost use Rattle.link65.specs.Programs.{Program};
 
 use crate::fault::LinkFault;
-use crate::kept::Kept;
+use crate::growing::Growing;
 use crate::naming::weak_symbols;
 use crate::own_names::script_names;
 use crate::parts::{Definition, Exported, Member};
@@ -172,16 +172,16 @@ fn missing_by(
 fn unresolved(
     alloc: Global,
     script: &Script,
-    kept: &Kept,
+    program: &Growing,
 ) -> Result<Sequence<Sequence<u8>>, AllocError>
-    ensures { IfOk result (λ names. names ≡ unresolved script.now (program_from kept.now)) }
+    ensures { IfOk result (λ names. names ≡ unresolved script.now (program_in program.now)) }
 {
     let symbols = script.symbols.as_slice();
     let own = script_names(alloc, script)?;
     let weak = weak_symbols(alloc, symbols)?;
-    let exports = kept.exports.as_slice();
+    let exports = program.exports.as_slice();
     let given = GivenNames::of(alloc, own.as_slice(), exports, weak.as_slice())?;
-    missing_by(alloc, &given, symbols, kept.members.as_slice())
+    missing_by(alloc, &given, symbols, program.members.as_slice())
 }
 
 /// Copies of names, each once.
@@ -211,10 +211,10 @@ pub fn open_names(
 }
 
 /// Refuses names that nobody gives, all at once.
-pub fn check_names(alloc: Global, script: &Script, kept: &Kept) -> Result<(), LinkFault>
-    ensures { Gives is_memory (λ u. u) result (names_given script.now (program_from kept.now)) }
+pub fn check_names(alloc: Global, script: &Script, program: &Growing) -> Result<(), LinkFault>
+    ensures { Gives is_memory (λ u. u) result (names_given script.now (program_in program.now)) }
 {
-    let names = unresolved(alloc, script, kept)?;
+    let names = unresolved(alloc, script, program)?;
     if names.len() == 0 {
         return Ok(());
     }

@@ -3,12 +3,13 @@
 ghost use Rattle.std.specs.Prelude.{◌≡◌, ◌%◌, IfOk, option_copied};
 ghost use Rattle.std.specs.List.{list_any};
 ghost use Rattle.std.specs.Option.{option_map};
-ghost use Rattle.link65.specs.Contents.{AreByName, piece_cells, segment_from, segments_from};
+ghost use Rattle.link65.specs.Contents.{piece_cells, segment_from};
+ghost use Rattle.link65.specs.Placed.{IsReady, segments_in};
 ghost use Rattle.link65.specs.Segments.{segment_of};
 ghost use Rattle.link65.specs.Warnings.{absence_warning, align_words, alignment_warning, data_warning, is_data, row_warnings, segment_warning, warnings_of_rows};
 
 use crate::contents::{Content, Piece};
-use crate::tables::Segments;
+use crate::placed::{Placed, content_of};
 use crate::texts::join;
 use base65::Sequence;
 use itoa::Buffer;
@@ -127,27 +128,27 @@ fn row_warnings(
 /// What is warned of a row of a placed program.
 fn warnings_of_row(
     alloc: Global,
-    segments: &Segments<'_>,
+    program: &Placed<'_>,
     row: &Row,
 ) -> Result<Sequence<u8>, AllocError>
-    requires { AreByName segments.now }
-    ensures { IfOk result (λ text. text ≡ row_warnings row.now (segment_of (segments_from segments.now.all.now) row.now.name)) }
+    requires { IsReady program.now }
+    ensures { IfOk result (λ text. text ≡ row_warnings row.now (segment_of (segments_in program.now) row.now.name)) }
 {
-    row_warnings(alloc, row, segments.get(row.name.as_slice()))
+    row_warnings(alloc, row, content_of(program, row.name.as_slice()))
 }
 
 /// What is warned of rows, in order.
 pub fn warnings_of(
     alloc: Global,
-    segments: &Segments<'_>,
+    program: &Placed<'_>,
     rows: &[Row],
 ) -> Result<Sequence<u8>, AllocError>
-    requires { AreByName segments.now }
-    ensures { IfOk result (λ text. text ≡ warnings_of_rows rows.now (segments_from segments.now.all.now)) }
+    requires { IsReady program.now }
+    ensures { IfOk result (λ text. text ≡ warnings_of_rows rows.now (segments_in program.now)) }
 {
     let mut text = Sequence::new(alloc);
     for row in rows {
-        let warnings = warnings_of_row(alloc, segments, row)?;
+        let warnings = warnings_of_row(alloc, program, row)?;
         text.extend_from_slice(warnings.as_slice())?;
     }
     Ok(text)

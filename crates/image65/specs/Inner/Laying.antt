@@ -1,5 +1,5 @@
 -- Pieces that are laid into an image one after the other.
-use Rattle.std.specs.Prelude.{◌≡◌, ℕ, ◌<◌, List, length, get_or}
+use Rattle.std.specs.Prelude.{◌≡◌, ℕ, ◌<◌, List, [], ◌∷◌, length, get_or}
 use Rattle.image65.specs.Files.{Piece, byte_over, laid_over}
 
 -- new is old with bytes over it from a place on
@@ -11,3 +11,7 @@ pub record Overlays (old : List ℕ) (at : ℕ) (bytes new : List ℕ) : Type 0 
 pub record LaysAll (pieces : List Piece) (old new : List ℕ) : Type 0 where
   pub len : length new ≡ length old
   pub each : (i : ℕ) → i < length old → get_or new i 0 ≡ byte_over pieces i (get_or old i 0)
+
+-- one piece is all of so many bytes
+abbrev pub IsWhole : ℕ → List Piece → Type 0
+IsWhole len pieces = (p : Piece) × (pieces ≡ p ∷ []) × (p.offset ≡ 0) × (length p.bytes ≡ len)

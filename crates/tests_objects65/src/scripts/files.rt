@@ -1,28 +1,23 @@
 //! Files of areas, by what rows hold.
 
-ghost use Rattle.std.specs.Prelude.{⊤};
-
 use super::placed;
 use base65::Sequence;
-use image65::{OutputFile, RowContents, files_of};
+use image65::{OutputFile, files_of};
 use script65::{Placement, Row, Script, read_script};
 use std::alloc::{AllocError, Global};
 use std::test::Fail;
 
-/// Rows that hold their names.
-#[derive(Drop)]
-struct Names;
-
-impl RowContents for Names {
-    ghost row_bytes = { λ _ row. row.name };
-
-    ghost is_ready = { λ _. ⊤ };
-
-    fn bytes_of_row(&self, alloc: Global, row: &Row) -> Result<Sequence<u8>, AllocError> {
+/// The bytes of rows that hold their names, where they are written.
+fn names_of(alloc: Global, rows: &[Row]) -> Result<Vec<Sequence<u8>>, AllocError> {
+    let mut all = Vec::new(alloc);
+    for row in rows {
         let mut bytes = Sequence::new(alloc);
-        bytes.extend_from_slice(row.name.as_slice())?;
-        Ok(bytes)
+        if row.access.is_written() {
+            bytes.extend_from_slice(row.name.as_slice())?;
+        }
+        all.push(bytes)?;
     }
+    Ok(all)
 }
 
 const TEXT: &[u8] =
@@ -43,7 +38,8 @@ fn make(
     placement: &Placement,
     bytes: &[u8],
 ) -> Result<bool, AllocError> {
-    let files = files_of(alloc, "a.out", script, &Names, placement)?;
+    let contents = names_of(alloc, script.rows.as_slice())?;
+    let files = files_of(alloc, "a.out", script, contents, placement)?;
     Ok(is_file(files.as_slice(), "a.out", bytes))
 }
 
@@ -53,5 +49,29 @@ fn a_gap_has_the_fill(rt: HostRuntime) -> Result<(), Fail> {
     let script = read_script(rt.alloc(), TEXT)?;
     let placement = placed(rt.alloc(), &script, &[("CODE", 4), ("BSS", 2), ("DATA", 4)])??;
     assert!(rt; make(rt.alloc(), &script, &placement, b"CODE\xff\xffDATA")?);
+    Ok(())
+}
+
+const ONE_ROW: &[u8] =
+    b"MEMORY { ROM: start = $8000, size = $10; } SEGMENTS { CODE: load = ROM; }";
+
+/// A file may be one row.
+#[test]
+fn one_row_is_a_file(rt: HostRuntime) -> Result<(), Fail> {
+    let script = read_script(rt.alloc(), ONE_ROW)?;
+    let placement = placed(rt.alloc(), &script, &[("CODE", 4)])??;
+    assert!(rt; make(rt.alloc(), &script, &placement, b"CODE")?);
+    Ok(())
+}
+
+const LATER_ROW: &[u8] =
+    b"MEMORY { ROM: start = $8000, size = $10; } SEGMENTS { CODE: load = ROM, start = $8002; }";
+
+/// One row that begins behind its area's start has the fill before it.
+#[test]
+fn one_row_behind_the_start(rt: HostRuntime) -> Result<(), Fail> {
+    let script = read_script(rt.alloc(), LATER_ROW)?;
+    let placement = placed(rt.alloc(), &script, &[("CODE", 4)])??;
+    assert!(rt; make(rt.alloc(), &script, &placement, b"\0\0CODE")?);
     Ok(())
 }

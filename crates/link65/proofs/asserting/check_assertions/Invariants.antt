@@ -1,7 +1,7 @@
 use Rattle.std.proofs.Common.{◌≡◌, ◌++◌, drop, Ok}
 use Rattle.base65.specs.Outcome.{◌>>=◌}
 use Rattle.link65.specs.Checks.{check_asserts}
-use Rattle.link65.specs.Evaluation.{exports_in, linkage_in}
+use Rattle.link65.specs.Placed.{exports_in, linkage_in}
 use Rattle.link65.proofs.asserting.check_assertions.Given as goal
 
 abbrev pub invariant-loop-assert : goal.invariant-loop-assert

@@ -1,6 +1,6 @@
 use Rattle.std.proofs.Common.{◌≡◌, ◌++◌, drop}
 use Rattle.std.specs.List.{flat_map}
-use Rattle.link65.specs.Evaluation.{exports_in, linkage_in}
+use Rattle.link65.specs.Placed.{exports_in, linkage_in}
 use Rattle.link65.specs.Maps.{export_line}
 use Rattle.link65.proofs.mapping.export_lines.Given as goal
 

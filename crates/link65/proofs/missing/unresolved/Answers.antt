@@ -5,7 +5,7 @@ use Rattle.script65.specs.declared.script.Symbol.{Symbol}
 use Rattle.link65.specs.declared.parts.Definition.{Definition}
 use Rattle.link65.specs.declared.parts.Exported.{Exported}
 use Rattle.link65.specs.declared.parts.Member.{Member}
-use Rattle.link65.specs.Finishing.{program_from}
+use Rattle.link65.specs.Grounds.{program_in}
 use Rattle.link65.specs.Givers.{export_names, is_given, unresolved}
 use Rattle.link65.specs.Inner.Missing.{AreGiven, gives_in, missing_behind}
 use Rattle.link65.specs.Names.{script_names, symbol_imports, weak_symbols}
@@ -15,7 +15,7 @@ use Rattle.link65.proofs.missing.unresolved.Goals as goal
 pub returns : goal.returns
 returns c =
     let script = c.args.script.now in
-    let program = program_from c.args.kept.now in
+    let program = program_in c.args.program.now in
     let given = c.in_ok-given.given in
     let gives = gives_in given in
     let imports : Member → List (List ℕ) = λ m. m.imports in

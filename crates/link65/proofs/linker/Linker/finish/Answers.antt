@@ -2,7 +2,7 @@ use Rattle.std.proofs.Common.{◌∙◌, ℕ, List, ap, subst}
 use Rattle.script65.specs.declared.script.Script.{Script}
 use Rattle.base65.specs.Outcome.{Finds}
 use Rattle.link65.specs.Faults.{is_memory}
-use Rattle.link65.specs.Finishing.{program_from}
+use Rattle.link65.specs.Grounds.{program_in}
 use Rattle.link65.specs.Links.{IsProgramLink}
 use Rattle.link65.specs.Standing.{Feeding}
 use Rattle.link65.proofs.Feeds.{linked}
@@ -11,14 +11,14 @@ use Rattle.link65.proofs.linker.Linker.finish.Goals as goal
 
 pub returns-clause-linked : goal.returns-clause-linked
 returns-clause-linked c = λ modules fed.
-    let kept = program_from c.kept_of-kept.result in
+    let kept = program_in c.self.inside.growing in
     let output = c.as_str.ensures ∙ ap (λ (f : Feeding). f.output) c.self.view_is in
     let script = ap (λ (f : Feeding). f.script) c.self.view_is in
     let by = subst (λ (o : List ℕ). Finds is_memory (IsProgramLink o c.self.inside.script kept) c.link.result) output c.link.ensures in
     linked c.args.self modules kept c.link.result
-    (c.kept_of-kept.ensures ∙ ap (λ (f : Feeding). f.growth.program) c.self.view_is)
+    (ap (λ (f : Feeding). f.growth.program) c.self.view_is)
     (subst (λ (s : Script). Finds is_memory (IsProgramLink c.args.self.output s kept) c.link.result) script by)
     fed
 
 pub returns-clause-faults : goal.returns-clause-faults
-returns-clause-faults c = λ fresh. refuses_so c.as_str.result.now c.self.inside.script (program_from c.kept_of-kept.result) c.link.result c.link.ensures
+returns-clause-faults c = λ fresh. refuses_so c.as_str.result.now c.self.inside.script (program_in c.self.inside.growing) c.link.result c.link.ensures

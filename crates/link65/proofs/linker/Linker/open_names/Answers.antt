@@ -1,4 +1,4 @@
-use Rattle.std.proofs.Common.{◌≡◌, ◌∙◌, List, Ok, ap, subst, sym, map}
+use Rattle.std.proofs.Common.{◌∙◌, Ok, ap, sym}
 use Rattle.script65.specs.declared.script.Script.{Script}
 use Rattle.link65.specs.Givers.{open_names}
 use Rattle.link65.specs.Programs.{program_of}

@@ -1,0 +1,143 @@
+//! Values once all is placed: those of data and of exports, or their faults at their sites.
+
+ghost use Rattle.std.specs.Prelude.{◌≡◌, IfOk, OnOk, Ok, [], slice_get, true};
+ghost use Rattle.std.specs.Option.{option_map, option_map_or};
+ghost use Rattle.base65.specs.Outcome.{Gives};
+ghost use Rattle.object65.specs.Objects.{fits_width};
+ghost use Rattle.link65.specs.Checks.{check_export, each_passes, file_of, fitting, site, value_at};
+ghost use Rattle.link65.specs.Faults.{is_memory};
+ghost use Rattle.link65.specs.Marks.{AllFound};
+ghost use Rattle.link65.specs.Placed.{check_in, exports_in, linkage_in};
+ghost use Rattle.link65.specs.Values.{value_by};
+
+use crate::fault::{LinkFault, Site};
+use crate::parts::{Exported, Member, ValueFault, Waiting};
+use crate::placed::{Placed, value_in};
+use base65::Sequence;
+use object65::{Origin, fits};
+use std::alloc::{AllocError, Global};
+
+pub fn name_of(members: &[Member], owner: usize) -> &[u8]
+    ensures { result.now ≡ option_map_or (λ m. m.name) (slice_get members.entry.now owner) [] }
+{
+    match members.get(owner) {
+        Some(member) => member.name.as_slice(),
+        None => &[],
+    }
+}
+
+/// The name of the file of an origin, where its module names one.
+fn file_of<'a>(members: &'a [Member], owner: usize, file: Option<u32>) -> Option<&'a [u8]>
+    ensures { option_map (λ f. f.now) result ≡ file_of (slice_get members.now owner) file }
+{
+    let member = members.get(owner)?;
+    let name = member.files.as_slice().get(file? as usize)?;
+    Some(name.as_slice())
+}
+
+/// A copy of a name, where there is one.
+fn copy_of(alloc: Global, name: Option<&[u8]>) -> Result<Option<Sequence<u8>>, AllocError>
+    ensures { IfOk result (λ n. n ≡ option_map (λ x. x.now) name.entry) }
+{
+    match name {
+        Some(name) => Ok(Some(Sequence::copy_of(alloc, name)?)),
+        None => Ok(None),
+    }
+}
+
+/// The module, the file and the line of a datum, an export or an assertion.
+pub fn site_of(
+    alloc: Global,
+    members: &[Member],
+    owner: usize,
+    origin: Origin,
+) -> Result<Site, AllocError>
+    ensures { IfOk result (λ s. s ≡ site members.now owner origin) }
+{
+    let module_name = Sequence::copy_of(alloc, name_of(members, owner))?;
+    let file = copy_of(alloc, file_of(members, owner, origin.file))?;
+    Ok(Site {
+        module_name,
+        file,
+        line: origin.line,
+    })
+}
+
+/// A value, or its fault at a place.
+pub fn value_at(
+    alloc: Global,
+    members: &[Member],
+    owner: usize,
+    origin: Origin,
+    outcome: Result<i64, ValueFault>,
+) -> Result<i64, LinkFault>
+    ensures checked { Gives is_memory (λ v. v) result (value_at (site members.now owner origin) outcome) }
+    ensures value { IfOk result (λ v. outcome ≡ Ok v) }
+{
+    match outcome {
+        Ok(value) => Ok(value),
+        Err(ValueFault::Circular) => {
+            Err(LinkFault::Circular(site_of(alloc, members, owner, origin)?))
+        }
+        Err(ValueFault::NoValue) => Err(LinkFault::NoValue(site_of(
+            alloc, members, owner, origin,
+        )?)),
+        Err(ValueFault::Unresolved) => Err(LinkFault::Unresolved(Sequence::new(alloc))),
+    }
+}
+
+/// Refuses a value that doesn't fit.
+fn check_fit(
+    alloc: Global,
+    members: &[Member],
+    waiting: &Waiting,
+    value: i64,
+) -> Result<(), LinkFault>
+    ensures checked { Gives is_memory (λ u. u) result (fitting (site members.now waiting.now.owner waiting.now.origin) waiting.now value) }
+    ensures fits { OnOk result (fits_width waiting.now.width value ≡ true) }
+{
+    if !fits(waiting.width, value) {
+        return Err(LinkFault::OutOfRange(site_of(alloc, members, waiting.owner, waiting.origin)?));
+    }
+    Ok(())
+}
+
+/// The value of a datum, or its fault: it has none, or one that doesn't fit.
+pub fn datum_value(alloc: Global, program: &Placed<'_>, waiting: &Waiting) -> Result<i64, LinkFault>
+    requires { AllFound program.now.marks.now }
+    ensures checked { Gives is_memory (λ _. tt) result (check_in program.now waiting.now) }
+    ensures value { IfOk result (λ v. value_by (linkage_in program.now) (exports_in program.now) waiting.now.owner waiting.now.form ≡ Ok v) }
+    ensures fits { IfOk result (λ v. fits_width waiting.now.width v ≡ true) }
+{
+    let outcome = value_in(program, waiting.owner, &waiting.form);
+    let value = value_at(
+        alloc,
+        program.members,
+        waiting.owner,
+        waiting.origin,
+        outcome,
+    )?;
+    check_fit(alloc, program.members, waiting, value)?;
+    Ok(value)
+}
+
+/// Refuses the first export that has no value.
+fn check_one_export(alloc: Global, program: &Placed<'_>, export: &Exported) -> Result<(), LinkFault>
+    requires { AllFound program.now.marks.now }
+    ensures { Gives is_memory (λ u. u) result (check_export (linkage_in program.now) program.now.members.now (exports_in program.now) export.now) }
+{
+    let outcome = value_in(program, export.owner, &export.form);
+    value_at(alloc, program.members, export.owner, export.origin, outcome)?;
+    Ok(())
+}
+
+/// Refuses the first export that has no value, used or not.
+pub fn check_exports(alloc: Global, program: &Placed<'_>) -> Result<(), LinkFault>
+    requires { AllFound program.now.marks.now }
+    ensures { Gives is_memory (λ u. u) result (each_passes (check_export (linkage_in program.now) program.now.members.now (exports_in program.now)) program.now.exports.now) }
+{
+    for export in program.exports {
+        check_one_export(alloc, program, export)?;
+    }
+    Ok(())
+}

@@ -10,7 +10,8 @@ ghost use Rattle.asm65.specs.Inner.Putting.{literal_of};
 
 use base65::Sequence;
 use language65::{AsmFault, At, Part};
-use object65::{FILE_NAME_LIMIT, Node, Norm, Width, fits, put};
+use object65::format::FILE_NAME_LIMIT;
+use object65::{Node, Norm, Width, fits, put};
 use std::alloc::Global;
 
 /// The value of a form that is a literal.

@@ -21,6 +21,7 @@ use crate::open::Open;
 use crate::parts::Exported;
 use base65::Sequence;
 use library65::Entry;
+use object65::format::VALUE;
 use object65::{ObjectFault, Record, Scan};
 use std::alloc::Global;
 use std::mem;
@@ -44,9 +45,6 @@ pub fn open_module(
         listed: listed_of(alloc, entry)?,
     })
 }
-
-/// The kind of the records that are values.
-const VALUE: u8 = 5;
 
 /// How many values were taken, with those of a record.
 fn with_values(pending: usize, next: &Record) -> Result<usize, LinkFault>

@@ -5,10 +5,9 @@ use Rattle.syntax65.specs.Trees.{Tree}
 use Rattle.source65.specs.declared.place.Place.{Place}
 use Rattle.language65.specs.declared.fault.AsmFault.{AsmFault}
 use Rattle.language65.specs.Faults.{is_failure, is_memory, is_outside}
-use Rattle.language65.specs.Laid.{Spot}
+use Rattle.language65.specs.declared.laid.Spot.{Spot}
 use Rattle.language65.specs.Norms.{defined_form, form_of_definition, form_of_value, norm_of}
 use Rattle.language65.specs.Symbols.{Symbols}
-use Rattle.language65.specs.Views.{spot_of}
 use Rattle.module65.specs.Machine as machine
 use Rattle.module65.specs.Machine.{before_it, resolved}
 use Rattle.module65.specs.Pieces as piece
@@ -58,7 +57,7 @@ comes_to y place s (Import n) p h = ap (made_of y place s) (sym h)
 comes_to y place s (Demand n) p h = ap (made_of y place s) (sym h)
 comes_to y place s (Export must n) p h = ap (made_of y place s) (sym h)
 
-pub waiting_comes : (y : Symbols) (files : List (List ℕ)) (w : Waiting) (v : machine.Waiting) (here : Place) → IsWaiting y files w v → here ≡ v.place → coming y here (spot_of w.spot) w.piece ≡ made_of y v.place v.spot v.piece
+pub waiting_comes : (y : Symbols) (files : List (List ℕ)) (w : Waiting) (v : machine.Waiting) (here : Place) → IsWaiting y files w v → here ≡ v.place → coming y here w.spot w.piece ≡ made_of y v.place v.spot v.piece
 waiting_comes y files w v here h same =
     ap (λ (s : Spot). coming y here s w.piece) (sym h.spot)
     ∙ ap (λ (p : Place). coming y p v.spot w.piece) same

@@ -13,7 +13,7 @@ use Rattle.language65.specs.Parts.{Content, Part}
 use Rattle.language65.specs.declared.fault.AsmFault.{AsmFault}
 use Rattle.language65.specs.Contents.{put, stored, telling}
 use Rattle.language65.specs.Extending.{IsFinal}
-use Rattle.language65.specs.Laid.{Spot}
+use Rattle.language65.specs.declared.laid.Spot.{Spot}
 use Rattle.module65.specs.Machine.{IsSettled, PutsAll, State, at_once, entered}
 use Rattle.module65.specs.Pieces.{Piece, Purpose, as_part, asserted, datum, given, operand, quietly, used, valued}
 use Rattle.module65.proofs.Finals.{final_settles, settled_given}

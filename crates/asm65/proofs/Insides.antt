@@ -21,7 +21,7 @@ use Rattle.language65.specs.declared.fault.AsmFault.{AsmFault}
 use Rattle.language65.specs.declared.fault.AsmFault.TheVariants.{Expansion, FileError, FileNameTooLong, NotUnderstood, OutOfRange, SectionTooLarge, Undefined, NoSuchScope, NoSuchLabel}
 use Rattle.language65.specs.Contents.{decided, export_said, import_fault, operand_form, stored, written}
 use Rattle.language65.specs.Faults.{is_failure, is_memory}
-use Rattle.language65.specs.Laid.{Spot}
+use Rattle.language65.specs.declared.laid.Spot.{Spot}
 use Rattle.language65.specs.Language.{Stated, instruction, reserve, align, file_part, segment, close_scope, close_proc, pop_segment}
 use Rattle.language65.specs.Layout.{Standing, own_size, place_of, spot_of}
 use Rattle.language65.specs.LineFaults as faults
@@ -32,7 +32,8 @@ use Rattle.language65.specs.Symbols.{Definition, Key, Scope, Symbols, cheap_in, 
 use Rattle.module65.specs.Pieces as piece
 use Rattle.module65.specs.Pieces.{Made, Purpose, absent_of, as_part, as_said, made_of, used}
 use Rattle.language65.specs.LineFaults.{unless_fault}
-use Rattle.layout65.specs.Measuring.{Measured, measure_of, measured, unread_fault}
+use Rattle.layout65.specs.declared.measuring.Measured.{Measured}
+use Rattle.layout65.specs.Measuring.{measure_of, measured, unread_fault}
 use Rattle.asm65.specs.declared.waiting.Piece.{Piece}
 use Rattle.asm65.specs.declared.waiting.Piece.TheVariants.{Datum, Operand, Constant, Assertion, Import, Demand, Export}
 use Rattle.asm65.specs.Inner.Resolving.{coming, lost}

@@ -5,7 +5,7 @@ use Rattle.std.proofs.lemmas.List.{take_all}
 use Rattle.language65.proofs.Lists.{map_length}
 use Rattle.source65.specs.declared.place.Place.{Place}
 use Rattle.language65.specs.Extending.{Extends}
-use Rattle.language65.specs.Laid.{Spot}
+use Rattle.language65.specs.declared.laid.Spot.{Spot}
 use Rattle.language65.specs.Layout as layout
 use Rattle.language65.specs.Symbols.{Definition, Scope, Symbols}
 use Rattle.layout65.specs.declared.standing.Standing.{Standing}

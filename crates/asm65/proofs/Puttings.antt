@@ -11,10 +11,9 @@ use Rattle.language65.specs.declared.fault.AsmFault.TheVariants.{FileNameTooLong
 use Rattle.language65.specs.Contents.{put, room_part, stored, written}
 use Rattle.sections65.specs.declared.sections.Sections.{Sections}
 use Rattle.sections65.specs.Standing.{Feeds}
-use Rattle.layout65.specs.declared.measuring.Settled as held
-use Rattle.layout65.specs.declared.measuring.Settled.TheVariants as settled
+use Rattle.language65.specs.declared.laid.Settled as held
+use Rattle.language65.specs.declared.laid.Settled.TheVariants as settled
 use Rattle.asm65.specs.Inner.Putting.{IsPut, literal_of}
-use Rattle.layout65.specs.Views.{settled_in}
 
 -- ---- What is stored of a form.
 
@@ -47,8 +46,8 @@ other_put old new g width place f e fits feeds =
     subst (λ r. IsPut old new g r true) (sym (other_stored width place f e))
     (subst (λ b. IsPut old new g (if b then Ok (Waiting width place f) else Err FileNameTooLong) true) (sym fits) feeds)
 
-pub other_room : (count : ℕ) (s : held.Settled) → ((byte : ℕ) → s ≡ settled.Filled byte → ⊥) → room_part count (settled_in s) ≡ Filled count
-other_room count settled.Nothing h = refl
-other_room count (settled.Form mode) h = refl
-other_room count (settled.Filled byte) h = absurd (h byte refl)
-other_room count (settled.From start) h = refl
+pub other_room : (count : ℕ) (s : held.Settled) → ((byte : ℕ) → s ≡ settled.FilledWith byte → ⊥) → room_part count s ≡ Filled count
+other_room count settled.Unsettled h = refl
+other_room count (settled.InMode mode) h = refl
+other_room count (settled.FilledWith byte) h = absurd (h byte refl)
+other_room count (settled.FromByte start) h = refl

@@ -15,7 +15,8 @@ use Rattle.source65.specs.declared.place.Place.{Place}
 use Rattle.language65.specs.declared.fault.AsmFault.{AsmFault}
 use Rattle.language65.specs.declared.fault.AsmFault.TheVariants.{FileError, FileNotFound}
 use Rattle.language65.specs.Faults.{is_failure, is_outside}
-use Rattle.language65.specs.Laid.{Laid, Spot, asks_section}
+use Rattle.language65.specs.Laid.{Laid, asks_section}
+use Rattle.language65.specs.declared.laid.Spot.{Spot}
 use Rattle.language65.specs.Language.{Stated, label, cheap_label, unnamed_label, open_scope, open_proc, segment}
 use Rattle.language65.specs.Layout.{laid}
 use Rattle.language65.specs.LineFaults.{line_fault}

@@ -6,10 +6,10 @@ use Rattle.syntax65.specs.declared.lexing.tokens.AddressSize.{AddressSize}
 use Rattle.syntax65.specs.declared.lexing.tokens.AddressSize.TheVariants as size
 use Rattle.syntax65.specs.Trees.{Tree}
 use Rattle.source65.specs.declared.place.Place.{Place}
-use Rattle.language65.specs.Laid.{Spot}
+use Rattle.language65.specs.declared.laid.Spot.{Spot}
 use Rattle.language65.specs.Language.{Stated, cheap_label, constant, forced, globals, imports, label, open_proc, open_scope, unnamed_label}
 use Rattle.language65.specs.Symbols.{Definition, Scope, Symbols, cheap_in, named, unnamed_at, with_new}
-use Rattle.layout65.specs.Measuring.{Measured}
+use Rattle.layout65.specs.declared.measuring.Measured.{Measured}
 use Rattle.layout65.proofs.Steps.{ok_then}
 use Rattle.module65.specs.Machine.{symbols_behind}
 use Rattle.module65.specs.Pieces.{demanded, equated, exported, imported, pieces_of, valued}

@@ -8,14 +8,16 @@ use Rattle.syntax65.specs.declared.lexing.tokens.AddressSize.{AddressSize}
 use Rattle.language65.specs.declared.fault.AsmFault.{AsmFault}
 use Rattle.language65.specs.declared.fault.AsmFault.TheVariants.{DefinedTwice, NotUnderstood}
 use Rattle.language65.specs.Contents.{asking}
-use Rattle.language65.specs.Laid.{Laid, Spot, asks_section, is_unnamed}
+use Rattle.language65.specs.Laid.{Laid, asks_section, is_unnamed}
+use Rattle.language65.specs.declared.laid.Spot.{Spot}
 use Rattle.language65.specs.Language as l
 use Rattle.language65.specs.Layout.{Standing, laid, spot_of, standing_behind}
 use Rattle.language65.specs.LineFaults.{defined_twice, first_fault, is_open, line_fault, lost_scopes, opened_twice, or_then, scope_name, stands_outside, trees_of, when, where_there}
 use Rattle.language65.specs.Symbols.{Definition, Key, Scope, Symbols, cheap_in, defined, definition_with, definitions_of, key_defined, named, same_key, scope_opened, unnamed_at, value_defined}
 use Rattle.layout65.specs.declared.standing.Standing as code
 use Rattle.layout65.specs.Counting.{AreInside, opened_by}
-use Rattle.layout65.specs.Measuring.{Measured, measure_of, naming_fault, placing_faults}
+use Rattle.layout65.specs.declared.measuring.Measured.{Measured}
+use Rattle.layout65.specs.Measuring.{measure_of, naming_fault, placing_faults}
 use Rattle.layout65.specs.Sounds.{AreWithin, IsCounted, IsSoundStanding}
 use Rattle.layout65.specs.Views.{standing_of}
 use Rattle.layout65.proofs.Behind.{inside_behind}

@@ -8,9 +8,8 @@ use Rattle.syntax65.specs.Trees.{Tree}
 use Rattle.language65.specs.Parts.{Content}
 use Rattle.language65.specs.Extending.{Extends}
 use Rattle.source65.specs.declared.place.Place.{Place}
-use Rattle.language65.specs.Laid.{Spot}
+use Rattle.language65.specs.declared.laid.Spot.{Spot}
 use Rattle.language65.specs.Symbols.{Symbols}
-use Rattle.language65.specs.Views.{spot_of}
 use Rattle.language65.proofs.Lists.{same_bytes}
 use Rattle.module65.specs.Machine as machine
 use Rattle.module65.specs.Machine.{State, awaited, awaited_in, awaiting, entered, filled, holds, later}
@@ -156,7 +155,7 @@ module _ (count : ℕ) (t : State) (old new : Assembler) (h : Holds count t old)
   }
 
 -- one more piece waits behind those before it
-pub waits_behind : (old new : Assembler) (place : Place) (s : Spot) (w : Waiting) → KeepsTables old new → Awaits old.sections new.sections → Begins (map string_bytes old.files.keys) (map string_bytes new.files.keys) → new.waiting.items ≡ old.waiting.items ++ w ∷ [] → slice_get (map string_bytes new.files.keys) w.file ≡ Some place.file → place.line ≡ w.line → s ≡ spot_of w.spot → Waits place s w.piece old new
+pub waits_behind : (old new : Assembler) (place : Place) (s : Spot) (w : Waiting) → KeepsTables old new → Awaits old.sections new.sections → Begins (map string_bytes old.files.keys) (map string_bytes new.files.keys) → new.waiting.items ≡ old.waiting.items ++ w ∷ [] → slice_get (map string_bytes new.files.keys) w.file ≡ Some place.file → place.line ≡ w.line → s ≡ w.spot → Waits place s w.piece old new
 waits_behind old new place s w keeps awaits names waiting file line spot count t v h is =
     let now : machine.Waiting = record { place = place; spot = s; piece = v } in
     let files = map string_bytes new.files.keys in

@@ -1,6 +1,5 @@
 //! What is known of names and expressions where the next statement stands.
 
-ghost use Rattle.language65.specs.Views.{spot_of};
 ghost use Rattle.symbols65.specs.Views.{table_of};
 ghost use Rattle.asm65.specs.Inner.Knowing.{known_where};
 
@@ -19,7 +18,7 @@ pub struct Knowledge<'a> {
 }
 
 impl Knows for Knowledge<'_> {
-    ghost meaning = { λ k. known_where (table_of k.symbols.now) (spot_of k.spot) };
+    ghost meaning = { λ k. known_where (table_of k.symbols.now) k.spot };
 
     fn value(&self, alloc: Global, expr: &Expr) -> Result<Option<i64>, AllocError> {
         constant_now(alloc, self.symbols, self.spot, expr)

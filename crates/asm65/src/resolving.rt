@@ -5,9 +5,9 @@ ghost use Rattle.base65.specs.Outcome.{Gives};
 ghost use Rattle.source65.specs.declared.place.Place.{Place};
 ghost use Rattle.language65.specs.Contents.{telling};
 ghost use Rattle.language65.specs.Faults.{is_memory};
-ghost use Rattle.language65.specs.Laid.{Spot as Stand};
+ghost use Rattle.language65.specs.declared.laid.Spot.{Spot as Stand};
 ghost use Rattle.language65.specs.Symbols.{defined, named};
-ghost use Rattle.language65.specs.Views.{place_in, said_at, spot_of};
+ghost use Rattle.language65.specs.Views.{place_in, said_at};
 ghost use Rattle.module65.specs.Pieces.{asserted, datum, imported, made_of, operand, quietly, used};
 ghost use Rattle.symbols65.specs.Resolving.{IsTable};
 ghost use Rattle.symbols65.specs.Views.{table_of};
@@ -84,7 +84,7 @@ fn use_datum(
     form: Norm,
 ) -> Result<Made, AsmFault>
     ensures { Gives is_memory (made_in (place_in at.entry.file.now at.entry.line)) result
-        (used (place_in at.entry.file.now at.entry.line) (spot_of spot) (datum width) form) }
+        (used (place_in at.entry.file.now at.entry.line) spot (datum width) form) }
 {
     let part = stored(alloc, width, at, form)?;
     Ok(Made {
@@ -105,7 +105,7 @@ fn use_operand(
     form: Norm,
 ) -> Result<Made, AsmFault>
     ensures { Gives is_memory (made_in (place_in at.entry.file.now at.entry.line)) result
-        (used (place_in at.entry.file.now at.entry.line) (spot_of spot) (operand width) form) }
+        (used (place_in at.entry.file.now at.entry.line) spot (operand width) form) }
 {
     let form = operand_form(alloc, width, spot, form)?;
     use_datum(alloc, width, at, spot, form)
@@ -178,7 +178,7 @@ pub fn resolve(
     requires { IsTable (table_of symbols.now) known.old.states.items }
     ensures made { Gives is_memory (made_in (place_in at.entry.file.now at.entry.line)) result
         (coming (table_of symbols.now) (place_in at.entry.file.now at.entry.line)
-        (spot_of waiting.spot) waiting.piece) }
+        waiting.spot waiting.piece) }
     ensures table { OnOk result (IsTable (table_of symbols.now) known.new.states.items) }
 {
     let Waiting {

@@ -5,8 +5,8 @@ ghost use Rattle.std.specs.Prelude.{◌≡◌, Err};
 use crate::assembler::Assembler;
 use crate::naming::Mention;
 use crate::putting::Stand;
-use language65::{AsmFault, At, Operand, Spot, Statement};
-use layout65::{Before, Measured, Settled, asks_section, measure};
+use language65::{AsmFault, At, Operand, Settled, Spot, Statement};
+use layout65::{Before, Measured, asks_section, measure};
 use std::alloc::{AllocError, Global};
 use symbols65::Key;
 use syntax65::{AddressSize, Mnemonic};
@@ -29,10 +29,8 @@ fn refused(_statement: Statement, fault: AsmFault) -> Result<(), AsmFault>
 impl Assembler {
     ghost use Rattle.std.specs.Prelude.{◌+◌, ◌<◌, ℕ, IfErr, IfOk, OnOk, false};
     ghost use Rattle.language65.specs.Faults.{is_failure, is_outside};
-    ghost use Rattle.language65.specs.Views.{operand_of, place_in, spot_of, stated_of};
+    ghost use Rattle.language65.specs.Views.{operand_of, place_in, stated_of};
     ghost use Rattle.layout65.specs.Counting.{opened_by, opening_limit};
-    ghost use Rattle.layout65.specs.Measuring.{measured_of};
-    ghost use Rattle.layout65.specs.Views.{settled_in};
     ghost use Rattle.module65.specs.Machine.{State, Takes, symbols_behind};
     ghost use Rattle.module65.specs.Pieces.{instruction_pieces, pieces_of};
     ghost use Rattle.module65.specs.Reading.{Answers};
@@ -65,13 +63,13 @@ impl Assembler {
         operand: Operand,
     ) -> Result<(), AllocError>
         ensures { OnOk result (Enters
-            (place_in stand.entry.at.file.now stand.entry.at.line) (spot_of stand.entry.spot)
-            (instruction_pieces mnemonic (operand_of operand) (settled_in settled))
+            (place_in stand.entry.at.file.now stand.entry.at.line) stand.entry.spot
+            (instruction_pieces mnemonic (operand_of operand) settled)
             self.old self.new) }
     {
         match settled {
-            Settled::Form(mode) => self.enter_instruction(alloc, stand, mnemonic, mode, operand),
-            Settled::Nothing | Settled::Filled(_) | Settled::From(_) => Ok(()),
+            Settled::InMode(mode) => self.enter_instruction(alloc, stand, mnemonic, mode, operand),
+            Settled::Unsettled | Settled::FilledWith(_) | Settled::FromByte(_) => Ok(()),
         }
     }
 
@@ -86,9 +84,9 @@ impl Assembler {
         statement: Statement,
     ) -> Result<(), AllocError>
         requires known { IsTable (table_of self.old.symbols) self.old.known.states.items }
-        requires new { IsNew (table_of self.old.symbols) (spot_of stand.spot) (stated_of statement) }
+        requires new { IsNew (table_of self.old.symbols) stand.spot (stated_of statement) }
         ensures { OnOk result (let place = place_in stand.entry.at.file.now stand.entry.at.line in
-            let s = spot_of stand.entry.spot in let m = measured_of measured in
+            let s = stand.entry.spot in let m = measured in
             Turns place s (pieces_of m.length m.settled (stated_of statement))
             (λ y. symbols_behind y (laid_as place s m (stated_of statement)))
             self.old self.new) }
@@ -172,9 +170,9 @@ impl Assembler {
         statement: Statement,
     ) -> Result<(), AllocError>
         requires known { IsTable (table_of self.old.symbols) self.old.known.states.items }
-        requires new { IsNew (table_of self.old.symbols) (spot_of stand.spot) (stated_of statement) }
+        requires new { IsNew (table_of self.old.symbols) stand.spot (stated_of statement) }
         ensures { OnOk result (let place = place_in stand.entry.at.file.now stand.entry.at.line in
-            let s = spot_of stand.entry.spot in let m = measured_of measured in
+            let s = stand.entry.spot in let m = measured in
             Turns place s (pieces_of m.length m.settled (stated_of statement))
             (λ y. symbols_behind y (laid_as place s m (stated_of statement)))
             self.old self.new) }
@@ -198,7 +196,7 @@ impl Assembler {
     ) -> Result<Placed, AsmFault>
         requires { IsHeld self.old }
         ensures placed { (count : ℕ) (t : State) → Holds count t self.old → IfOk result (λ p.
-            IsPlaced t (stated_of statement.now) (spot_of p.spot) (measured_of p.measured)) }
+            IsPlaced t (stated_of statement.now) p.spot p.measured) }
         ensures holds { (count : ℕ) (t : State) → Holds count t self.old → OnOk result
             (Holds (count + opened_by (stated_of statement.now))
             (stepped t (place_in at.entry.file.now at.entry.line) (stated_of statement.now))
@@ -208,7 +206,7 @@ impl Assembler {
         ensures known { OnOk result
             (IsTable (table_of self.new.symbols) self.new.known.states.items) }
         ensures new { IfOk result (λ p.
-            IsNew (table_of self.new.symbols) (spot_of p.spot) (stated_of statement.now)) }
+            IsNew (table_of self.new.symbols) p.spot (stated_of statement.now)) }
         ensures texts { IfErr result (λ e. is_outside e ≡ false → self.new.texts ≡ self.old.texts) }
         ensures inside { IfErr result (λ e. is_failure e ≡ false) }
     {

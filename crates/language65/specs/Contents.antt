@@ -19,7 +19,10 @@ use Rattle.language65.specs.Parts.{Content, Part, Known, Filled, Waiting, Said, 
 use Rattle.language65.specs.declared.fault.AsmFault.{AsmFault}
 use Rattle.language65.specs.declared.fault.AsmFault.TheVariants.{OutOfRange, ImportedAndDefined, NotDefined, Assertion, FileNameTooLong}
 use Rattle.language65.specs.Language.{Item, value, text, Operand, immediate, address, indirect, indirect_x, indirect_y, Stated, constant, instruction, values, reserve, align, file_part, imports, exports, globals, forced, assertion}
-use Rattle.language65.specs.Laid.{Laid, Spot, Settled, nothing_settled, in_mode, filled_with, from_byte, asks_section}
+use Rattle.language65.specs.Laid.{Laid, asks_section}
+use Rattle.language65.specs.declared.laid.Settled.{Settled}
+use Rattle.language65.specs.declared.laid.Settled.TheVariants.{Unsettled, InMode, FilledWith, FromByte}
+use Rattle.language65.specs.declared.laid.Spot.{Spot}
 use Rattle.language65.specs.Symbols.{Symbols, named, defined}
 use Rattle.language65.specs.Norms.{defined_form, folded, norm_of}
 use Rattle.language65.specs.Sizes.{width_of}
@@ -65,18 +68,18 @@ opcode_part None = Known []
 opcode_part (Some code) = Known (code ∷ [])
 
 abbrev pub instruction_parts : Symbols → Laid → Mnemonic → Operand → Settled → Result (List Part) AsmFault
-instruction_parts y l m o (in_mode mode) =
+instruction_parts y l m o (InMode mode) =
     operand_parts y l (width_of mode) (operand_tree o) >>= (λ ps. Ok (opcode_part (opcode_of m mode) ∷ ps))
 instruction_parts y l m o _ = Ok []
 
 -- so many bytes, of the linker's fill value where no value is given
 abbrev pub room_part : ℕ → Settled → Part
-room_part count (filled_with byte) = Known (replicate count byte)
+room_part count (FilledWith byte) = Known (replicate count byte)
 room_part count _ = Filled count
 
 -- so many bytes of a file from one on
 abbrev pub file_bytes : ℕ → Option (List ℕ) → Settled → List ℕ
-file_bytes count (Some bytes) (from_byte start) = take count (drop start bytes)
+file_bytes count (Some bytes) (FromByte start) = take count (drop start bytes)
 file_bytes count bytes _ = []
 
 -- The parts that a statement puts into its section.

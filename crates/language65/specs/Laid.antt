@@ -1,35 +1,11 @@
 -- What statements lie by: places, scopes, regions, segments, offsets.
 use Rattle.std.specs.Prelude.{ℕ, Bool, true, false, List, Option, Some, None, ◌||◌}
 use Rattle.source65.specs.declared.place.Place.{Place}
-use Rattle.syntax65.specs.declared.instructions.codes.Mode.{Mode}
 use Rattle.syntax65.specs.declared.lexing.tokens.AddressSize.{AddressSize}
 use Rattle.syntax65.specs.Trees.{Tree, here, unary, binary}
+use Rattle.language65.specs.declared.laid.Settled.{Settled}
+use Rattle.language65.specs.declared.laid.Spot.{Spot}
 use Rattle.language65.specs.Language.{Stated, label, cheap_label, unnamed_label, constant, instruction, values, reserve, align, file_part, open_proc, assertion}
-
--- where a statement stands
-pub record Spot : Type 0 where
-  -- the innermost open scope: 0 is the global one, the others have their numbers in the order in which they are opened
-  pub scope : ℕ
-  -- how many scopes were opened before
-  pub opened : ℕ
-  -- how many regions of cheap labels were opened before
-  pub region : ℕ
-  -- how many unnamed labels stand before
-  pub unnamed : ℕ
-  -- the segment, by its place among the segments in the order in which they were first named
-  pub segment : ℕ
-  -- the offset in the segment's section
-  pub offset : ℕ
-
--- what is settled of a statement at its line, by what is known there
-pub data Settled : Type 0 where
-  nothing_settled : Settled
-  -- the addressing form of an instruction
-  in_mode : Mode → Settled
-  -- the byte that fills room, where one is named
-  filled_with : ℕ → Settled
-  -- the byte of a file at which the part that is taken begins
-  from_byte : ℕ → Settled
 
 -- a statement with what it lies by
 pub record Laid : Type 0 where

@@ -7,7 +7,8 @@ use Rattle.syntax65.specs.declared.lexing.tokens.AddressSize.TheVariants as size
 use Rattle.language65.specs.declared.contents.Segment.{Segment}
 use Rattle.language65.specs.Language.{Stated, constant, align, segment, push_segment, pop_segment, open_scope, open_proc, close_scope, close_proc}
 use Rattle.source65.specs.declared.place.Place.{Place}
-use Rattle.language65.specs.Laid.{Laid, Spot, opens_region, is_unnamed}
+use Rattle.language65.specs.Laid.{Laid, opens_region, is_unnamed}
+use Rattle.language65.specs.declared.laid.Spot.{Spot}
 use Rattle.language65.specs.Symbols.{Symbols, symbols_of}
 use Rattle.language65.specs.Names.{enclosing}
 use Rattle.language65.specs.Norms.{constant_in}

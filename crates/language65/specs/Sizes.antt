@@ -19,7 +19,9 @@ use Rattle.language65.specs.declared.fault.AsmFault.{AsmFault}
 use Rattle.language65.specs.declared.language.Index.{Index}
 use Rattle.language65.specs.declared.language.Index.TheVariants as index
 use Rattle.language65.specs.Language.{Item, value, text, Operand, no_operand, accumulator, immediate, address, indirect, indirect_x, indirect_y, Stated, instruction, values, reserve, align, file_part}
-use Rattle.language65.specs.Laid.{Spot, Settled, nothing_settled, in_mode, filled_with, from_byte}
+use Rattle.language65.specs.declared.laid.Settled.{Settled}
+use Rattle.language65.specs.declared.laid.Settled.TheVariants.{Unsettled, InMode, FilledWith, FromByte}
+use Rattle.language65.specs.declared.laid.Spot.{Spot}
 use Rattle.language65.specs.Symbols.{Symbols, Definition}
 use Rattle.language65.specs.Names.{Meaning, defined_at, imported_as, meaning_of}
 use Rattle.language65.specs.Norms.{constant_in}
@@ -185,17 +187,17 @@ length_of y s own _ = 0
 -- ---- What is settled.
 
 abbrev pub mode_settled : Option Mode → Settled
-mode_settled None = nothing_settled
-mode_settled (Some mode) = in_mode mode
+mode_settled None = Unsettled
+mode_settled (Some mode) = InMode mode
 
 abbrev pub fill_settled : Symbols → Spot → Option Tree → Settled
-fill_settled y s None = nothing_settled
-fill_settled y s (Some v) = filled_with (counted (constant_in y s v))
+fill_settled y s None = Unsettled
+fill_settled y s (Some v) = FilledWith (counted (constant_in y s v))
 
 -- what is settled of a statement at its line, where the segment has this size
 abbrev pub settled_of : Symbols → Spot → AddressSize → Stated → Settled
 settled_of y s own (instruction m operand) = mode_settled (mode_of y s own m operand)
 settled_of y s own (reserve n v) = fill_settled y s v
 settled_of y s own (align n v) = fill_settled y s v
-settled_of y s own (file_part bytes start len) = from_byte (part_start y s start)
-settled_of y s own _ = nothing_settled
+settled_of y s own (file_part bytes start len) = FromByte (part_start y s start)
+settled_of y s own _ = Unsettled

@@ -6,7 +6,8 @@ use Rattle.syntax65.specs.Trees.{Tree}
 use Rattle.syntax65.specs.declared.lexing.tokens.AddressSize.{AddressSize}
 use Rattle.syntax65.specs.declared.lexing.tokens.AddressSize.TheVariants as size
 use Rattle.language65.specs.Language.{Stated, label, cheap_label, unnamed_label, constant, open_scope, open_proc, imports, globals, forced}
-use Rattle.language65.specs.Laid.{Laid, Spot}
+use Rattle.language65.specs.Laid.{Laid}
+use Rattle.language65.specs.declared.laid.Spot.{Spot}
 
 -- by what a definition is found
 pub data Key : Type 0 where

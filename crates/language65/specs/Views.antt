@@ -13,9 +13,7 @@ use Rattle.language65.specs.declared.language.Operand.TheVariants as operand
 use Rattle.language65.specs.declared.language.PartRange.{PartRange}
 use Rattle.language65.specs.declared.language.Statement.{Statement}
 use Rattle.language65.specs.declared.language.Statement.TheVariants as statement
-use Rattle.language65.specs.declared.laid.Spot.{Spot}
 use Rattle.language65.specs.Language as l
-use Rattle.language65.specs.Laid as laid
 use Rattle.language65.specs.Parts as parts
 
 abbrev pub item_of : Item → l.Item
@@ -62,8 +60,6 @@ stated_of (statement.Out words) = l.says words
 stated_of (statement.Warning words) = l.warns words
 stated_of statement.Nothing = l.nothing
 
-abbrev pub spot_of : Spot → laid.Spot
-spot_of s = record { scope = s.scope; opened = s.opened; region = s.region; unnamed = s.unnamed; segment = s.segment; offset = s.offset }
 
 abbrev pub place_in : List ℕ → ℕ → Place
 place_in file line = record { file = file; line = line }

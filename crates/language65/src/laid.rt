@@ -1,5 +1,7 @@
 //! What statements lie by.
 
+use syntax65::Mode;
+
 /// A place in a source: a file, and the number of a line in it, 0 where none was read.
 #[derive(Clone, Copy)]
 pub struct At<'a> {
@@ -22,4 +24,16 @@ pub struct Spot {
     pub segment: u32,
     /// The offset in the segment's section.
     pub offset: u32,
+}
+
+/// What is settled of a statement at its line, by what is known there.
+#[derive(Clone, Copy)]
+pub enum Settled {
+    Unsettled,
+    /// The addressing mode of an instruction.
+    InMode(Mode),
+    /// The byte that fills room, where one is named.
+    FilledWith(u8),
+    /// The byte of a file at which the part that is taken begins.
+    FromByte(u32),
 }

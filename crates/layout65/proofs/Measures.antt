@@ -15,7 +15,7 @@ use Rattle.language65.specs.declared.fault.AsmFault.{AsmFault}
 use Rattle.language65.specs.Faults.{is_memory}
 use Rattle.language65.specs.declared.fault.AsmFault.TheVariants.{BadOperand, NotUnderstood, SectionTooLarge}
 use Rattle.language65.specs.declared.language.Item.{Item}
-use Rattle.language65.specs.Laid.{Settled}
+use Rattle.language65.specs.declared.laid.Settled.{Settled}
 use Rattle.language65.specs.Symbols.{Scope, Symbols, key_defined}
 use Rattle.language65.specs.Language as l
 use Rattle.language65.specs.Views.{item_of}
@@ -27,7 +27,8 @@ use Rattle.language65.specs.declared.contents.Segment.{Segment}
 use Rattle.language65.specs.Layout.{Standing, own_size, segment_at, spot_of}
 use Rattle.language65.specs.LineFaults.{alignment_fault, block_fault, first_fault, form_fault, missing_file, operand_fault, part_fault, pop_fault, size_fault, defined_twice, is_open, line_fault, opened_twice, scope_name, stands_outside, trees_of, is_byte_value, is_count, is_there, multiple_fault, item_trees, lost_scope, lost_scopes, or_then, when, unless_fault}
 use Rattle.layout65.specs.declared.measuring.Measured as code
-use Rattle.layout65.specs.Measuring.{Measured, fitted, measure_of, measured, measured_of, naming_fault, placed, placing_faults}
+use Rattle.layout65.specs.declared.measuring.Measured.{Measured}
+use Rattle.layout65.specs.Measuring.{fitted, measure_of, measured, naming_fault, placed, placing_faults}
 use Rattle.layout65.proofs.Steps.{unless_then}
 
 -- the second fault is looked for where there is no first
@@ -206,9 +207,9 @@ fits count h = by (nat_lt section_limit count) refl h
     by false is k = grind (arith, nat_tests)
 
 -- what is placed has room
-pub room_of : (y : Symbols) (w : Standing) (x : l.Stated) (r : Result code.Measured AsmFault) → Gives is_memory measured_of r (placed y w x) → IfOk r (λ m. (spot_of w).offset + m.length ≤ section_limit)
+pub room_of : (y : Symbols) (w : Standing) (x : l.Stated) (r : Result code.Measured AsmFault) → Gives is_memory (λ m. m) r (placed y w x) → IfOk r (λ m. (spot_of w).offset + m.length ≤ section_limit)
 room_of y w x (Err e) h = tt
 room_of y w x (Ok m) h =
     let s = spot_of w in
-    let found = last_fault (form_fault y s (own_size w) x ∷ operand_fault y s x ∷ alignment_fault y s x ∷ missing_file x ∷ part_fault y s x ∷ size_fault w.segments x ∷ block_fault y.scopes s.scope x ∷ pop_fault w.kept x ∷ []) (when (nat_lt section_limit (s.offset + length_of y s (own_size w) x)) SectionTooLarge) (measure_of y w x) (measured_of m) h in
+    let found = last_fault (form_fault y s (own_size w) x ∷ operand_fault y s x ∷ alignment_fault y s x ∷ missing_file x ∷ part_fault y s x ∷ size_fault w.segments x ∷ block_fault y.scopes s.scope x ∷ pop_fault w.kept x ∷ []) (when (nat_lt section_limit (s.offset + length_of y s (own_size w) x)) SectionTooLarge) (measure_of y w x) m h in
     subst (λ n. s.offset + n ≤ section_limit) (ap (λ (q : Measured). q.length) found.1) (fits (s.offset + length_of y s (own_size w) x) found.0)

@@ -7,13 +7,15 @@ use Rattle.syntax65.specs.Trees.{Tree}
 use Rattle.language65.specs.declared.fault.AsmFault.{AsmFault}
 use Rattle.language65.specs.declared.fault.AsmFault.TheVariants.{BadOperand, BadPart, FileNotFound, SectionTooLarge}
 use Rattle.language65.specs.Faults.{is_memory}
-use Rattle.language65.specs.Laid.{Spot, from_byte}
+use Rattle.language65.specs.declared.laid.Settled.TheVariants.{FromByte}
+use Rattle.language65.specs.declared.laid.Spot.{Spot}
 use Rattle.language65.specs.Language.{file_part}
 use Rattle.language65.specs.Layout.{Standing, own_size, spot_of}
 use Rattle.language65.specs.LineFaults.{file_limit, first_fault, is_part, is_there, left_from, lost_scopes, operand_fault, optional_tree, part_fault, unless_there, when, unless_fault}
 use Rattle.language65.specs.Sizes.{optional_value, part_len, part_start}
 use Rattle.language65.specs.Symbols.{Symbols}
-use Rattle.layout65.specs.Measuring.{IsFound, Measured, or_default, placed, ranged, unread_fault}
+use Rattle.layout65.specs.declared.measuring.Measured.{Measured}
+use Rattle.layout65.specs.Measuring.{IsFound, or_default, placed, ranged, unread_fault}
 use Rattle.layout65.proofs.Measures.{left_behind, refused_first}
 use Rattle.layout65.proofs.Steps.{unless_then}
 
@@ -48,7 +50,7 @@ module _ (y : Symbols) (w : Standing) (start len : Option Tree) where
       ∷ None ∷ missing ∷ bad ∷ None ∷ None ∷ None
       ∷ when (nat_lt section_limit ((spot_of w).offset + count)) SectionTooLarge
       ∷ []))
-      (record { length = count; size = own_size w; multiple = 1; settled = from_byte (part_start y (spot_of w) start) })
+      (record { length = count; size = own_size w; multiple = 1; settled = FromByte (part_start y (spot_of w) start) })
 
   not_constant : (bytes : Option (List ℕ)) → there ≡ false → placed y w (file_part bytes start len) ≡ Err BadOperand
   not_constant bytes e = subst (λ b. by_faults bytes b (unless_there bytes FileNotFound) (part_fault y (spot_of w) (file_part bytes start len)) ≡ Err BadOperand) (sym e) refl

@@ -7,23 +7,15 @@ use Rattle.object65.specs.Objects.{section_limit}
 use Rattle.language65.specs.declared.fault.AsmFault.{AsmFault}
 use Rattle.language65.specs.declared.fault.AsmFault.TheVariants.{BadOperand, BadPart, NoSuchScope, NotUnderstood, SectionTooLarge}
 use Rattle.language65.specs.Faults.{is_memory}
-use Rattle.language65.specs.Laid.{Settled, Spot}
+use Rattle.language65.specs.declared.laid.Settled.{Settled}
+use Rattle.language65.specs.declared.laid.Spot.{Spot}
 use Rattle.language65.specs.Language.{Stated, align, constant, file_part, instruction, reserve, values}
 use Rattle.language65.specs.Layout.{Standing, multiple_of, own_size, size_stated, spot_of}
 use Rattle.language65.specs.LineFaults.{alignment_fault, block_fault, defined_twice, file_limit, first_fault, form_fault, is_open, is_part, left_from, line_fault, lost_scopes, missing_file, opened_twice, operand_fault, optional_tree, or_then, part_fault, pop_fault, scope_name, size_fault, stands_outside, trees_of, unless_there, when, unless_fault}
 use Rattle.language65.specs.Names.{scope_from, scopes_of, shown}
 use Rattle.language65.specs.Sizes.{counted, length_of, settled_of}
 use Rattle.language65.specs.Symbols.{Scope, Symbols, key_defined}
-use Rattle.layout65.specs.declared.measuring.Measured as code
-use Rattle.layout65.specs.declared.measuring.Settled as held
-use Rattle.layout65.specs.Views.{settled_in}
-
--- what a statement places and defines, and what is settled of it
-pub record Measured : Type 0 where
-  pub length : ℕ
-  pub size : AddressSize
-  pub multiple : ℕ
-  pub settled : Settled
+use Rattle.layout65.specs.declared.measuring.Measured.{Measured}
 
 abbrev pub measure_of : Symbols → Standing → Stated → Measured
 measure_of y w x = record {
@@ -36,14 +28,6 @@ measure_of y w x = record {
 -- that, or the first fault of the statement
 abbrev pub measured : Symbols → Standing → Stated → Result Measured AsmFault
 measured y w x = unless_fault (line_fault y w x) (measure_of y w x)
-
-abbrev pub measured_of : code.Measured → Measured
-measured_of m = record {
-  length = m.length;
-  size = m.size;
-  multiple = m.multiple;
-  settled = settled_in m.settled;
-}
 
 -- ---- Faults in their groups.
 
@@ -126,5 +110,5 @@ ranged count start len =
     (counted from, counted more)
 
 -- what is settled stands apart from its faults
-abbrev pub any_settled : held.Settled → Unit {0}
+abbrev pub any_settled : Settled → Unit {0}
 any_settled x = tt

@@ -1,9 +1,6 @@
 -- What stands between statements, without where it lies in memory.
 use Rattle.std.specs.Prelude.{reverse}
-use Rattle.language65.specs.Laid.{Settled, nothing_settled, in_mode, filled_with, from_byte}
 use Rattle.language65.specs.Layout as layout
-use Rattle.layout65.specs.declared.measuring.Settled as code
-use Rattle.layout65.specs.declared.measuring.Settled.TheVariants as settled
 use Rattle.layout65.specs.declared.standing.Standing.{Standing}
 
 -- the segments that are kept stand with the last one last
@@ -17,9 +14,3 @@ standing_of w = record {
   current = w.current;
   kept = reverse w.kept.items;
 }
-
-abbrev pub settled_in : code.Settled → Settled
-settled_in settled.Nothing = nothing_settled
-settled_in (settled.Form mode) = in_mode mode
-settled_in (settled.Filled byte) = filled_with byte
-settled_in (settled.From start) = from_byte start

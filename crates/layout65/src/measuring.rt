@@ -13,43 +13,31 @@ ghost use Rattle.std.specs.Prelude.{◌≡◌, ◌+◌, ◌≤◌, false, nat_lt
 ghost use Rattle.base65.specs.Outcome.{Gives};
 ghost use Rattle.object65.specs.Objects.{section_limit};
 ghost use Rattle.language65.specs.Faults.{is_memory};
-ghost use Rattle.language65.specs.Laid.{nothing_settled};
+ghost use Rattle.language65.specs.declared.laid.Settled.TheVariants.{Unsettled};
 ghost use Rattle.language65.specs.Layout.{own_size, spot_of};
-ghost use Rattle.language65.specs.Views.{spot_of as laid_spot, stated_of};
+ghost use Rattle.language65.specs.Views.{stated_of};
 ghost use Rattle.language65.specs.LineFaults.{unless_fault};
 ghost use Rattle.symbols65.specs.Resolving.{IsTable};
 ghost use Rattle.symbols65.specs.Views.{table_of};
-ghost use Rattle.layout65.specs.Measuring.{fitted, measured, measured_of, naming_fault};
+ghost use Rattle.layout65.specs.Measuring.{fitted, measured, naming_fault};
 ghost use Rattle.layout65.specs.Sounds.{IsSoundStanding};
-ghost use Rattle.layout65.specs.Views.{settled_in, standing_of};
+ghost use Rattle.layout65.specs.Views.{standing_of};
 
 use self::kinds::place;
 use self::names::{check_defined, check_opened, check_outside};
 pub use self::parts::check_unread;
 use self::trees::check_trees;
 use crate::standing::Standing;
-use language65::{AsmFault, Spot, Statement};
+use language65::{AsmFault, Settled, Spot, Statement};
 use std::alloc::Global;
 use symbols65::{Known, Symbols};
-use syntax65::{AddressSize, Mode};
+use syntax65::AddressSize;
 
 /// What stands before a statement: the symbol table of those before it, and where it stands itself.
 #[derive(Clone, Copy)]
 pub struct Before<'a> {
     pub symbols: &'a Symbols,
     pub standing: &'a Standing,
-}
-
-/// What is settled of a statement at its line.
-#[derive(Clone, Copy)]
-pub enum Settled {
-    Nothing,
-    /// The addressing form of an instruction.
-    Form(Mode),
-    /// The byte that fills room, where one is named.
-    Filled(u8),
-    /// The byte of a file at which the part that is taken begins.
-    From(u32),
 }
 
 /// What a statement places and defines.
@@ -72,7 +60,7 @@ fn check_naming(
     statement: &Statement,
 ) -> Result<(), AsmFault>
     ensures { Gives is_memory (λ u. u) result (unless_fault
-        (naming_fault (table_of symbols.now) (laid_spot spot) (stated_of statement.now)) tt) }
+        (naming_fault (table_of symbols.now) spot (stated_of statement.now)) tt) }
 {
     let scope = spot.scope as usize;
     check_outside(scope, statement)?;
@@ -102,13 +90,13 @@ fn nothing(standing: &Standing) -> Measured
     ensures length { result.length ≡ 0 }
     ensures size { result.size ≡ own_size (standing_of standing.now) }
     ensures multiple { result.multiple ≡ 1 }
-    ensures settled { settled_in result.settled ≡ nothing_settled }
+    ensures settled { result.settled ≡ Unsettled }
 {
     Measured {
         length: 0,
         size: standing.segment().size,
         multiple: 1,
-        settled: Settled::Nothing,
+        settled: Settled::Unsettled,
     }
 }
 
@@ -121,7 +109,7 @@ pub fn measure(
 ) -> Result<Measured, AsmFault>
     requires table { IsTable (table_of before.symbols.now) known.old.states.items }
     requires standing { IsSoundStanding before.standing.now }
-    ensures measured { Gives is_memory measured_of result (measured
+    ensures measured { Gives is_memory (λ m. m) result (measured
         (table_of before.entry.symbols.now) (standing_of before.entry.standing.now)
         (stated_of statement.now)) }
     ensures room { IfOk result (λ m.

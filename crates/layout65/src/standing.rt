@@ -4,7 +4,7 @@ ghost use Rattle.std.specs.Prelude.{◌≡◌, ℕ, ◌+◌, ◌<◌, ◌≤◌,
 ghost use Rattle.object65.specs.Objects.{section_limit};
 ghost use Rattle.language65.specs.Laid.{is_unnamed, opens_region};
 ghost use Rattle.language65.specs.Layout.{closes_scope, current_behind, first_size, grown_at, kept_behind, last_kept, named_segments, new_segment, opens_scope, or_last, place_of, rest_kept, scope_behind, segment_at, segments_behind, spot_of, start};
-ghost use Rattle.language65.specs.Views.{spot_of as laid_spot, stated_of};
+ghost use Rattle.language65.specs.Views.{stated_of};
 ghost use Rattle.symbols65.specs.Views.{table_of};
 ghost use Rattle.layout65.specs.Advancing.{advanced};
 ghost use Rattle.layout65.specs.Counting.{AreInside, HasNumbers, opened_by};
@@ -87,7 +87,7 @@ impl Standing {
     /// Where the next statement stands.
     pub fn spot(&self) -> Spot
         requires { self.now.current < length self.now.segments.items }
-        ensures { laid_spot result ≡ spot_of (standing_of self.now) }
+        ensures { result ≡ spot_of (standing_of self.now) }
     {
         Spot {
             scope: self.scope,

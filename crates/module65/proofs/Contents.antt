@@ -16,7 +16,10 @@ use Rattle.language65.specs.declared.fault.AsmFault.{AsmFault}
 use Rattle.language65.specs.Contents.{content_of, decided, each_of, export_said, import_fault, instruction_parts, item_part, opcode_part, operand_form, operand_part, operand_parts, operand_tree, stored, telling}
 use Rattle.language65.specs.Language.{Item, value, text, Operand, Stated, constant, instruction, values, imports, exports, globals, forced, assertion}
 use Rattle.source65.specs.declared.place.Place.{Place}
-use Rattle.language65.specs.Laid.{Laid, Settled, nothing_settled, in_mode, filled_with, from_byte, Spot, asks_section}
+use Rattle.language65.specs.Laid.{Laid, asks_section}
+use Rattle.language65.specs.declared.laid.Settled.{Settled}
+use Rattle.language65.specs.declared.laid.Settled.TheVariants.{Unsettled, InMode, FilledWith, FromByte}
+use Rattle.language65.specs.declared.laid.Spot.{Spot}
 use Rattle.language65.specs.Norms.{norm_of}
 use Rattle.language65.specs.Sizes.{width_of}
 use Rattle.language65.specs.Symbols.{Symbols, defined, named}
@@ -119,12 +122,12 @@ given_before place g p (Ok ps) = refl
 given_before place g p (Err e) = refl
 
 instruction_made : (y : Symbols) (l : Laid) (m : Mnemonic) (o : Operand) (s : Settled) → pieces_made y l.place l.spot (instruction_pieces m o s) ≡ told l.place [] (parts_entries l.spot.segment) (instruction_parts y l m o s)
-instruction_made y l m o (in_mode mode) =
+instruction_made y l m o (InMode mode) =
     ap (after (record { found = Ok (part l.spot.segment (opcode_part (opcode_of m mode)) ∷ []); warned = [] })) (operands_made y l (width_of mode) (operand_tree o))
     ∙ given_before l.place l.spot.segment (opcode_part (opcode_of m mode)) (operand_parts y l (width_of mode) (operand_tree o))
-instruction_made y l m o nothing_settled = refl
-instruction_made y l m o (filled_with b) = refl
-instruction_made y l m o (from_byte b) = refl
+instruction_made y l m o Unsettled = refl
+instruction_made y l m o (FilledWith b) = refl
+instruction_made y l m o (FromByte b) = refl
 
 -- ---- What is said.
 

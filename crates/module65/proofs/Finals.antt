@@ -3,7 +3,7 @@ use Rattle.std.proofs.Common.{◌∙◌, ℕ, List, [], ◌∷◌, refl, ap}
 use Rattle.base65.specs.Outcome.{◌>>=◌}
 use Rattle.language65.specs.Parts.{Part, Demanded}
 use Rattle.source65.specs.declared.place.Place.{Place}
-use Rattle.language65.specs.Laid.{Spot}
+use Rattle.language65.specs.declared.laid.Spot.{Spot}
 use Rattle.language65.specs.Symbols.{Symbols}
 use Rattle.module65.specs.Laws.{FinalSettles}
 use Rattle.module65.specs.Machine.{IsSettled}

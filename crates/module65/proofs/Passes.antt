@@ -9,7 +9,8 @@ use Rattle.language65.specs.declared.contents.Segment.{Segment}
 use Rattle.language65.specs.declared.fault.AsmFault.{AsmFault}
 use Rattle.language65.specs.Language.{Stated}
 use Rattle.source65.specs.declared.place.Place.{Place}
-use Rattle.language65.specs.Laid.{Laid, Spot, asks_section}
+use Rattle.language65.specs.Laid.{Laid, asks_section}
+use Rattle.language65.specs.declared.laid.Spot.{Spot}
 use Rattle.language65.specs.Layout.{Layout, Standing, laid, layout_behind, nothing_laid, standing_behind}
 use Rattle.language65.specs.LineFaults.{line_fault, unless_fault}
 use Rattle.language65.specs.Numbering.{object_with}

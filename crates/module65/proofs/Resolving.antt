@@ -8,7 +8,7 @@ use Rattle.language65.specs.Parts.{Content, Part, Said}
 use Rattle.language65.specs.declared.fault.AsmFault.{AsmFault}
 use Rattle.language65.specs.Contents.{decided, export_said, import_fault, operand_form, stored, telling}
 use Rattle.source65.specs.declared.place.Place.{Place}
-use Rattle.language65.specs.Laid.{Spot}
+use Rattle.language65.specs.declared.laid.Spot.{Spot}
 use Rattle.language65.specs.Norms.{norm_of}
 use Rattle.language65.specs.Symbols.{Symbols, defined, named}
 use Rattle.module65.specs.Machine.{Finished, Slot, Waiting, awaited, before_it, filled, holds, resolved, awaited_in}

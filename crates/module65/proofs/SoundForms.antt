@@ -10,7 +10,8 @@ use Rattle.object65.specs.Folding.{fold1, fold2}
 use Rattle.language65.specs.declared.fault.AsmFault.{AsmFault}
 use Rattle.language65.specs.declared.fault.AsmFault.TheVariants.{Undefined, NoSuchScope, NoSuchLabel}
 use Rattle.language65.specs.Language.{Stated, label, cheap_label, unnamed_label, constant, open_proc}
-use Rattle.language65.specs.Laid.{Laid, Spot, asks_section, has_here}
+use Rattle.language65.specs.Laid.{Laid, asks_section, has_here}
+use Rattle.language65.specs.declared.laid.Spot.{Spot}
 use Rattle.language65.specs.Names.{Meaning, defined_at, imported_as, backward_meaning, first_found, last_of, meaning_of, member_meaning, or_fault, plain_meaning, scope_from, scoped_meaning, scopes_from, scopes_of, shown, unnamed_meaning}
 use Rattle.language65.specs.Norms.{defined_form, folded, form_by, form_of_definition, form_of_meaning, form_of_value, norm, norm_of}
 use Rattle.language65.specs.Symbols.{Definition, Symbols, cheap_in, defined, definition_with, definitions_of, imported, key_defined, named, unnamed_at, value_defined}

@@ -13,7 +13,8 @@ use Rattle.language65.specs.declared.contents.Segment.{Segment}
 use Rattle.language65.specs.declared.fault.AsmFault.{AsmFault}
 use Rattle.language65.specs.declared.fault.AsmFault.TheVariants.{NotUnderstood, SectionTooLarge}
 use Rattle.source65.specs.declared.place.Place.{Place}
-use Rattle.language65.specs.Laid.{Laid, Spot}
+use Rattle.language65.specs.Laid.{Laid}
+use Rattle.language65.specs.declared.laid.Spot.{Spot}
 use Rattle.language65.specs.Language.{Stated, constant, segment, push_segment, pop_segment}
 use Rattle.language65.specs.Layout.{Layout, Standing, current_behind, first_size, grown_at, kept_behind, laid, last_kept, layout_behind, multiple_of, named_segments, new_segment, nothing_laid, or_last, own_size, place_of, rest_kept, segment_at, segments_behind, size_stated, spot_of}
 use Rattle.language65.specs.LineFaults.{alignment_fault, block_fault, defined_twice, first_fault, form_fault, is_open, line_fault, lost_scopes, missing_file, opened_twice, operand_fault, part_fault, pop_fault, scope_name, size_fault, stands_outside, trees_of, when, unless_fault}

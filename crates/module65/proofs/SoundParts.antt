@@ -22,7 +22,10 @@ use Rattle.language65.specs.Parts.{Part, Known, Waiting}
 use Rattle.language65.specs.declared.fault.AsmFault.TheVariants.{OutOfRange, FileNameTooLong}
 use Rattle.language65.specs.Contents.{file_bytes, instruction_parts, item_part, opcode_part, operand_form, operand_part, operand_parts, operand_tree, parts_of, room_part, stored, written}
 use Rattle.source65.specs.declared.place.Place.{Place}
-use Rattle.language65.specs.Laid.{Laid, Settled, nothing_settled, from_byte, Spot, asks_section, has_here}
+use Rattle.language65.specs.Laid.{Laid, asks_section, has_here}
+use Rattle.language65.specs.declared.laid.Settled.{Settled}
+use Rattle.language65.specs.declared.laid.Settled.TheVariants.{Unsettled, FromByte}
+use Rattle.language65.specs.declared.laid.Spot.{Spot}
 use Rattle.language65.specs.Language.{Item, value, text, Operand, no_operand, accumulator, immediate, address, indirect, indirect_x, indirect_y, Stated, instruction, values, reserve, align, file_part}
 use Rattle.language65.specs.declared.language.Index.{Index}
 use Rattle.language65.specs.Norms.{constant_in, norm_of}
@@ -236,7 +239,7 @@ between_taken : (bytes : List ℕ) (start : ℕ) (len : Option ℤ) → length (
 between_taken bytes start None = refl
 between_taken bytes start (Some v) = all_taken (drop start bytes) (counted (Some v))
 
-file_taken : (before : Symbols) (s : Spot) (bytes : Option (List ℕ)) (start len : Option Tree) → length (file_bytes (file_len before s bytes start len) bytes (from_byte (part_start before s start))) ≡ file_len before s bytes start len
+file_taken : (before : Symbols) (s : Spot) (bytes : Option (List ℕ)) (start len : Option Tree) → length (file_bytes (file_len before s bytes start len) bytes (FromByte (part_start before s start))) ≡ file_len before s bytes start len
 file_taken before s None start len = refl
 file_taken before s (Some bytes) start len = between_taken bytes (part_start before s start) (optional_value before s len (pos (length bytes - part_start before s start)))
 
@@ -254,7 +257,7 @@ parts_with asked count y before k place s own (instruction m o) a =
     let mode = mode_of before s own m o in
     instruction_sound asked count y k (laid_with (instruction m o) place s (mode_len mode) own (mode_settled mode)) (a refl) m o mode (operand_mode before s own m o)
 parts_with asked count y before k place s own (values width its) a =
-    items_sound asked count y k (laid_with (values width its) place s (sum_by (item_len width) its) own nothing_settled) (a refl) width its
+    items_sound asked count y k (laid_with (values width its) place s (sum_by (item_len width) its) own Unsettled) (a refl) width its
 parts_with asked count y before k place s own (reserve n v) a =
     let len = length_of before s own (reserve n v) in
     one_part asked count len (room_part len (fill_settled before s v)) (room_sound asked count before s len v)
@@ -263,7 +266,7 @@ parts_with asked count y before k place s own (align n v) a =
     one_part asked count len (room_part len (fill_settled before s v)) (room_sound asked count before s len v)
 parts_with asked count y before k place s own (file_part bytes start more) a =
     let len = file_len before s bytes start more in
-    one_part asked count len (Known (file_bytes len bytes (from_byte (part_start before s start)))) (tt, file_taken before s bytes start more)
+    one_part asked count len (Known (file_bytes len bytes (FromByte (part_start before s start)))) (tt, file_taken before s bytes start more)
 parts_with asked count y before k place s own _ a = (tt, refl)
 
 pub parts_sound : (asked : List ℕ) (count : ℕ) (y before : Symbols) → IsKnown asked count y → (l : Laid) → Asks (asked_in asked) l → IsMeasured before l → IfOk (parts_of y l) (PartsOf asked count l.length)

@@ -13,7 +13,9 @@ use Rattle.language65.specs.declared.fault.AsmFault.TheVariants.{NotDefined}
 use Rattle.language65.specs.Contents.{put, telling, decided, export_said, file_bytes, import_fault, opcode_part, operand_form, operand_tree, room_part, stored}
 use Rattle.language65.specs.Language.{Item, value, text, Operand, Stated, constant, instruction, values, reserve, align, file_part, imports, exports, globals, forced, assertion}
 use Rattle.source65.specs.declared.place.Place.{Place}
-use Rattle.language65.specs.Laid.{Settled, in_mode, Spot}
+use Rattle.language65.specs.declared.laid.Settled.{Settled}
+use Rattle.language65.specs.declared.laid.Settled.TheVariants.{InMode}
+use Rattle.language65.specs.declared.laid.Spot.{Spot}
 use Rattle.language65.specs.Norms.{norm_of}
 use Rattle.language65.specs.Sizes.{width_of}
 use Rattle.language65.specs.Symbols.{Symbols, defined, named}
@@ -49,7 +51,7 @@ operand_pieces (Some width) (Some e) = valued (operand width) e ∷ []
 operand_pieces width e = []
 
 abbrev pub instruction_pieces : Mnemonic → Operand → Settled → List Piece
-instruction_pieces m o (in_mode mode) =
+instruction_pieces m o (InMode mode) =
     given (opcode_part (opcode_of m mode)) ∷ operand_pieces (width_of mode) (operand_tree o)
 instruction_pieces m o _ = []
 

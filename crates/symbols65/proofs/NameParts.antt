@@ -3,7 +3,7 @@ use Rattle.std.proofs.Common.{◌≡◌, ℕ, Bool, true, false, List, [], ◌�
 use Rattle.std.specs.Prelude.{codes}
 use Rattle.std.proofs.lemmas.List.{append_assoc}
 use Rattle.syntax65.specs.Trees.{name}
-use Rattle.language65.specs.Laid.{Spot}
+use Rattle.language65.specs.declared.laid.Spot.{Spot}
 use Rattle.language65.specs.declared.fault.AsmFault.{AsmFault}
 use Rattle.language65.specs.declared.fault.AsmFault.TheVariants.{Undefined}
 use Rattle.language65.specs.Symbols.{Symbols, defined, imported, named}

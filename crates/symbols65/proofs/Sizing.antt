@@ -10,7 +10,7 @@ use Rattle.object65.specs.Folding.{fold1, fold2}
 use Rattle.object65.specs.declared.folding.FormFault.{FormFault}
 use Rattle.object65.specs.declared.folding.FormFault.TheVariants as form
 use Rattle.language65.specs.declared.fault.AsmFault.{AsmFault}
-use Rattle.language65.specs.Laid.{Spot}
+use Rattle.language65.specs.declared.laid.Spot.{Spot}
 use Rattle.language65.specs.Names.{meaning_of}
 use Rattle.language65.specs.Norms.{folded, form_of_meaning, literal_in, norm, norm_of}
 use Rattle.language65.specs.Symbols.{Symbols}

@@ -9,7 +9,7 @@ use Rattle.syntax65.specs.Trees.{Tree}
 use Rattle.object65.specs.Form.{Form}
 use Rattle.language65.specs.declared.fault.AsmFault.{AsmFault}
 use Rattle.language65.specs.declared.fault.AsmFault.TheVariants.{Circular}
-use Rattle.language65.specs.Laid.{Spot}
+use Rattle.language65.specs.declared.laid.Spot.{Spot}
 use Rattle.language65.specs.Names.{Meaning, defined_at, imported_as, meaning_of}
 use Rattle.language65.specs.Norms.{form_by, form_of_definition, form_of_meaning, form_of_value, norm, norm_of}
 use Rattle.language65.specs.Symbols.{Symbols, Definition}

@@ -5,7 +5,7 @@ use Rattle.object65.specs.Form.{Form}
 use Rattle.language65.specs.declared.fault.AsmFault.{AsmFault}
 use Rattle.language65.specs.declared.fault.AsmFault.TheVariants.{Circular}
 use Rattle.language65.specs.Extending.{Extends}
-use Rattle.language65.specs.Laid.{Spot}
+use Rattle.language65.specs.declared.laid.Spot.{Spot}
 use Rattle.language65.specs.Norms.{form_of_definition, norm}
 use Rattle.language65.specs.Symbols.{Symbols}
 use Rattle.symbols65.specs.declared.resolving.attempt.State.{State}

@@ -3,7 +3,7 @@ use Rattle.std.specs.Prelude.{◌≡◌, ℕ, ◌+◌, ◌≤◌, pos, codes, Li
 use Rattle.language65.specs.declared.fault.AsmFault.{AsmFault}
 use Rattle.language65.specs.declared.fault.AsmFault.TheVariants.{NoSuchLabel}
 use Rattle.language65.specs.Faults.{is_memory}
-use Rattle.language65.specs.Laid.{Spot}
+use Rattle.language65.specs.declared.laid.Spot.{Spot}
 use Rattle.language65.specs.Names.{Meaning, defined_at, imported_as, meaning_of, plain_meaning, scoped_meaning}
 use Rattle.language65.specs.Norms.{address_of, folded, form_of_definition, norm}
 use Rattle.language65.specs.Symbols.{Symbols, Definition}

@@ -12,7 +12,9 @@ use Rattle.object65.specs.declared.object.Width.{Width}
 use Rattle.language65.specs.declared.fault.AsmFault.{AsmFault}
 use Rattle.language65.specs.Parts.{Part, Known}
 use Rattle.language65.specs.Contents.{instruction_parts, item_part, opcode_part, operand_form, operand_part, operand_parts, operand_tree, parts_of, room_part, stored}
-use Rattle.language65.specs.Laid.{Settled, nothing_settled, in_mode, filled_with, from_byte, Spot}
+use Rattle.language65.specs.declared.laid.Settled.{Settled}
+use Rattle.language65.specs.declared.laid.Settled.TheVariants.{Unsettled, InMode, FilledWith, FromByte}
+use Rattle.language65.specs.declared.laid.Spot.{Spot}
 use Rattle.language65.specs.Language as language
 use Rattle.language65.specs.Language.{Item, Operand, Stated}
 use Rattle.language65.specs.Norms.{norm_of}
@@ -100,18 +102,18 @@ module _ {E : Type 0} (p : Program) (o : Objects E) (h : AreObjects p o) (fill :
   code_part (Some c) = refl
 
   of_instruction : (m : Mnemonic) (d : Operand) (s : Settled) (qs : List Part) (bytes : List ℕ) → instruction_parts (o.symbols x.owner) x.laid m d s ≡ Ok qs → AreInstruction p x m d s bytes ↔ AreParts (HasValue o x.owner) fill qs bytes
-  of_instruction m d (in_mode mode) qs bytes r =
+  of_instruction m d (InMode mode) qs bytes r =
       let (rest, found, whole) = bind_ok (operand_parts (o.symbols x.owner) x.laid (width_of mode) (operand_tree d)) (λ ps. Ok (opcode_part (opcode_of m mode) ∷ ps)) qs r in
       let last : opcode_part (opcode_of m mode) ∷ rest ≡ qs = cc whole in
       let same : Known (code_bytes (opcode_of m mode)) ∷ rest ≡ qs = ap (λ z. z ∷ rest) (sym (code_part (opcode_of m mode))) ∙ last in
-      let there : AreInstruction p x m d (in_mode mode) bytes → AreParts (HasValue o x.owner) fill (Known (code_bytes (opcode_of m mode)) ∷ rest) bytes =
+      let there : AreInstruction p x m d (InMode mode) bytes → AreParts (HasValue o x.owner) fill (Known (code_bytes (opcode_of m mode)) ∷ rest) bytes =
       λ k. (code_bytes (opcode_of m mode), k.0, refl, (of_operands (width_of mode) (operand_tree d) rest k.0 found).0 k.1, k.2) in
-      let back : AreParts (HasValue o x.owner) fill (Known (code_bytes (opcode_of m mode)) ∷ rest) bytes → AreInstruction p x m d (in_mode mode) bytes =
+      let back : AreParts (HasValue o x.owner) fill (Known (code_bytes (opcode_of m mode)) ∷ rest) bytes → AreInstruction p x m d (InMode mode) bytes =
       λ k. (k.1, (of_operands (width_of mode) (operand_tree d) rest k.1 found).1 k.3, k.4 ∙ ap (λ z. z ++ k.1) k.2) in
       (λ k. subst (λ z. AreParts (HasValue o x.owner) fill z bytes) same (there k), λ k. back (subst (λ z. AreParts (HasValue o x.owner) fill z bytes) (sym same) k))
-  of_instruction m d nothing_settled qs bytes r = none qs bytes r
-  of_instruction m d (filled_with b) qs bytes r = none qs bytes r
-  of_instruction m d (from_byte b) qs bytes r = none qs bytes r
+  of_instruction m d Unsettled qs bytes r = none qs bytes r
+  of_instruction m d (FilledWith b) qs bytes r = none qs bytes r
+  of_instruction m d (FromByte b) qs bytes r = none qs bytes r
 
   -- ---- Room and parts of files.
 
@@ -121,10 +123,10 @@ module _ {E : Type 0} (p : Program) (o : Objects E) (h : AreObjects p o) (fill :
       (λ k. subst (λ z. AreParts (HasValue o x.owner) fill z bytes) same ((single q bytes).0 k), λ k. (single q bytes).1 (subst (λ z. AreParts (HasValue o x.owner) fill z bytes) (sym same) k))
 
   of_room : (count : ℕ) (s : Settled) (bytes : List ℕ) → ArePart (HasValue o x.owner) fill (room_part count s) bytes ≡ (bytes ≡ replicate count (filling fill s))
-  of_room count (filled_with b) bytes = refl
-  of_room count nothing_settled bytes = refl
-  of_room count (in_mode m) bytes = refl
-  of_room count (from_byte b) bytes = refl
+  of_room count (FilledWith b) bytes = refl
+  of_room count Unsettled bytes = refl
+  of_room count (InMode m) bytes = refl
+  of_room count (FromByte b) bytes = refl
 
   room : (count len : ℕ) (s : Settled) (qs : List Part) (bytes : List ℕ) → count ≡ len → ◌≡◌ {A = Result (List Part) AsmFault} (Ok (room_part len s ∷ [])) (Ok qs) → (bytes ≡ replicate count (filling fill s)) ↔ AreParts (HasValue o x.owner) fill qs bytes
   room count len s qs bytes e r =

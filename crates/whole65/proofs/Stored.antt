@@ -17,7 +17,7 @@ use Rattle.language65.specs.Parts.{Part, Known, Waiting}
 use Rattle.language65.specs.declared.fault.AsmFault.{AsmFault}
 use Rattle.language65.specs.declared.fault.AsmFault.TheVariants.{OutOfRange}
 use Rattle.language65.specs.Contents.{operand_form, stored, written}
-use Rattle.language65.specs.Laid.{Spot}
+use Rattle.language65.specs.declared.laid.Spot.{Spot}
 use Rattle.whole65.proofs.Later.{bind_ok, folded_ok, written_ok}
 use Rattle.whole65.specs.Contents.{AreStored, counted_from}
 use Rattle.whole65.specs.Objects.{HasValue, Objects, form_value}

@@ -4,7 +4,8 @@ use Rattle.std.specs.Prelude.{◌&&◌, ◌||◌}
 use Rattle.std.specs.List.{AllByRecursion, list_any}
 use Rattle.std.specs.Str.{bytes_eq}
 use Rattle.syntax65.specs.declared.lexing.tokens.AddressSize.{AddressSize}
-use Rattle.language65.specs.Laid.{Laid, Spot, asks_section}
+use Rattle.language65.specs.Laid.{Laid, asks_section}
+use Rattle.language65.specs.declared.laid.Spot.{Spot}
 use Rattle.language65.specs.Language as language
 use Rattle.language65.specs.Language.{Stated}
 use Rattle.language65.specs.Layout.{Layout, laid, own_size, spot_of}

@@ -8,7 +8,8 @@ use Rattle.object65.specs.Objects.{fits_width, value_bytes}
 use Rattle.object65.specs.declared.object.Width.{Width}
 use Rattle.object65.specs.declared.object.Width.TheVariants.{Branch}
 use Rattle.language65.specs.Contents.{file_bytes, operand_tree}
-use Rattle.language65.specs.Laid.{Settled, in_mode, filled_with}
+use Rattle.language65.specs.declared.laid.Settled.{Settled}
+use Rattle.language65.specs.declared.laid.Settled.TheVariants.{InMode, FilledWith}
 use Rattle.language65.specs.Language.{Item, value, text, Operand, Stated, instruction, values, reserve, align, file_part}
 use Rattle.language65.specs.Sizes.{width_of}
 use Rattle.whole65.specs.Segments.{Line, end_behind, line_end, line, rounding}
@@ -49,7 +50,7 @@ code_bytes (Some code) = code ∷ []
 
 -- the opcode and the operand
 abbrev pub AreInstruction : Program → Line → Mnemonic → Operand → Settled → List ℕ → Type 0
-AreInstruction p x m o (in_mode mode) bytes =
+AreInstruction p x m o (InMode mode) bytes =
     (own : List ℕ) × AreOperand p x (width_of mode) (operand_tree o) own × (bytes ≡ code_bytes (opcode_of m mode) ++ own)
 AreInstruction p x m o _ bytes = bytes ≡ []
 
@@ -57,7 +58,7 @@ AreInstruction p x m o _ bytes = bytes ≡ []
 
 -- the byte that fills room: the row's, where the statement names none
 abbrev pub filling : ℕ → Settled → ℕ
-filling fill (filled_with byte) = byte
+filling fill (FilledWith byte) = byte
 filling fill _ = fill
 
 -- the bytes of a statement at a position, where the row has this fill value

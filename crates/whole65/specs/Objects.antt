@@ -5,7 +5,7 @@ use Rattle.base65.specs.Values.{wrapped}
 use Rattle.object65.specs.Form.{Form}
 use Rattle.object65.specs.FormValue.{value_in}
 use Rattle.language65.specs.declared.fault.AsmFault.{AsmFault}
-use Rattle.language65.specs.Laid.{Spot}
+use Rattle.language65.specs.declared.laid.Spot.{Spot}
 use Rattle.language65.specs.Names as names
 use Rattle.language65.specs.Names.{meaning_of}
 use Rattle.language65.specs.Norms.{norm}

@@ -4,9 +4,8 @@ use Rattle.std.specs.List.{AllByRecursion}
 use Rattle.syntax65.specs.Trees.{Tree, tree_of}
 use Rattle.source65.specs.declared.place.Place.{Place}
 use Rattle.language65.specs.Parts.{Content}
-use Rattle.language65.specs.Laid.{Spot}
+use Rattle.language65.specs.declared.laid.Spot.{Spot}
 use Rattle.language65.specs.Symbols.{Definition, Key, Symbols, unnamed_at}
-use Rattle.language65.specs.Views.{spot_of}
 use Rattle.module65.specs.Machine as machine
 use Rattle.module65.specs.Machine.{PutsAll, State, awaited_in, filled}
 use Rattle.module65.specs.Pieces as piece
@@ -45,7 +44,7 @@ IsPiece y s (Export must n) p = p ≡ piece.exported must n
 pub record IsWaiting (y : Symbols) (files : List (List ℕ)) (w : Waiting) (v : machine.Waiting) : Type 0 where
   pub file : slice_get files w.file ≡ Some v.place.file
   pub line : v.place.line ≡ w.line
-  pub spot : v.spot ≡ spot_of w.spot
+  pub spot : v.spot ≡ w.spot
   pub piece : IsPiece y v.spot w.piece v.piece
 
 -- one behind the other

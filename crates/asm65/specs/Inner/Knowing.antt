@@ -1,7 +1,7 @@
 -- What names and expressions mean at a spot.
 use Rattle.syntax65.specs.Trees.{name}
 use Rattle.expand65.specs.Meaning.{Meaning}
-use Rattle.language65.specs.Laid.{Spot}
+use Rattle.language65.specs.declared.laid.Spot.{Spot}
 use Rattle.language65.specs.Names.{meaning_of}
 use Rattle.language65.specs.Norms.{constant_in}
 use Rattle.language65.specs.Symbols.{Symbols}

@@ -9,7 +9,7 @@ use Rattle.language65.specs.Parts.{Part}
 use Rattle.language65.specs.declared.fault.AsmFault.{AsmFault}
 use Rattle.language65.specs.Contents.{operand_form, put, stored}
 use Rattle.language65.specs.Extending.{IsFinal}
-use Rattle.language65.specs.Laid.{Spot}
+use Rattle.language65.specs.declared.laid.Spot.{Spot}
 use Rattle.language65.specs.Symbols.{Symbols}
 use Rattle.module65.specs.Machine.{State, awaiting}
 use Rattle.module65.specs.Pieces as piece

@@ -7,7 +7,7 @@ use Rattle.language65.specs.Parts.{Content}
 use Rattle.language65.specs.declared.contents.Said.{Said}
 use Rattle.language65.specs.declared.fault.AsmFault.{AsmFault}
 use Rattle.language65.specs.Contents.{put, telling, written}
-use Rattle.language65.specs.Laid.{Spot}
+use Rattle.language65.specs.declared.laid.Spot.{Spot}
 use Rattle.language65.specs.Norms.{defined_form}
 use Rattle.language65.specs.Symbols.{Symbols}
 use Rattle.language65.specs.Views.{part_at, said_at}

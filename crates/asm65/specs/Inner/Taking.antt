@@ -4,7 +4,8 @@ use Rattle.syntax65.specs.declared.lexing.tokens.AddressSize.{AddressSize}
 use Rattle.syntax65.specs.declared.lexing.tokens.AddressSize.TheVariants as size
 use Rattle.source65.specs.declared.place.Place.{Place}
 use Rattle.language65.specs.Contents.{asking}
-use Rattle.language65.specs.Laid.{Laid, Spot, asks_section}
+use Rattle.language65.specs.Laid.{Laid, asks_section}
+use Rattle.language65.specs.declared.laid.Spot.{Spot}
 use Rattle.language65.specs.Language.{Stated}
 use Rattle.language65.specs.Layout.{spot_of, standing_behind}
 use Rattle.language65.specs.LineFaults.{line_fault, opened_twice, scope_name}
@@ -13,7 +14,8 @@ use Rattle.language65.specs.Faults.{is_outside}
 use Rattle.module65.specs.Module.{out_of, warning_of}
 use Rattle.base65.specs.Outcome.{Unless}
 use Rattle.language65.specs.Symbols.{Definition, Key, Symbols, defined, key_defined}
-use Rattle.layout65.specs.Measuring.{Measured, measure_of}
+use Rattle.layout65.specs.declared.measuring.Measured.{Measured}
+use Rattle.layout65.specs.Measuring.{measure_of}
 use Rattle.module65.specs.Machine.{PutsAll, State, awaiting, entered}
 use Rattle.module65.specs.Pieces as piece
 use Rattle.asm65.specs.declared.assembler.Assembler.{Assembler}

@@ -11,7 +11,7 @@ impl Assembler {
     ghost use Rattle.std.specs.Prelude.{◌≡◌, ◌∷◌, [], None, OnOk, Some};
     ghost use Rattle.syntax65.specs.Trees.{tree_of};
     ghost use Rattle.language65.specs.Symbols.{defined, named};
-    ghost use Rattle.language65.specs.Views.{place_in, spot_of};
+    ghost use Rattle.language65.specs.Views.{place_in};
     ghost use Rattle.module65.specs.Pieces.{equated, valued};
     ghost use Rattle.symbols65.specs.Resolving.{IsTable};
     ghost use Rattle.symbols65.specs.Views.{table_of, with_definition};
@@ -30,11 +30,11 @@ impl Assembler {
         requires known { IsTable (table_of self.old.symbols) self.old.known.states.items }
         requires new { defined (table_of self.old.symbols) (named stand.spot.scope name.now) ≡ None }
         ensures { OnOk result (Turns (place_in stand.entry.at.file.now stand.entry.at.line)
-            (spot_of stand.entry.spot) (valued equated (tree_of value) ∷ [])
+            stand.entry.spot (valued equated (tree_of value) ∷ [])
             (λ y. with_definition y (record {
               key = named stand.entry.spot.scope name.now;
               value = Some (tree_of value);
-              spot = spot_of stand.entry.spot;
+              spot = stand.entry.spot;
               size = size;
             }))
             self.old self.new) }

@@ -1,7 +1,7 @@
 //! Names that statements mention, which wait.
 
 ghost use Rattle.std.specs.Prelude.{◌≡◌, IfOk, OnOk, map};
-ghost use Rattle.language65.specs.Laid.{Spot};
+ghost use Rattle.language65.specs.declared.laid.Spot.{Spot};
 ghost use Rattle.language65.specs.Symbols.{Symbols};
 ghost use Rattle.asm65.specs.Inner.Holding.{IsPiece};
 ghost use Rattle.asm65.specs.Inner.Taking.{mentioned};
@@ -35,7 +35,7 @@ fn piece_of(alloc: Global, mention: Mention, name: &[u8]) -> Result<Piece, Alloc
 }
 
 impl Assembler {
-    ghost use Rattle.language65.specs.Views.{place_in, spot_of};
+    ghost use Rattle.language65.specs.Views.{place_in};
     ghost use Rattle.asm65.specs.Inner.Putting.{KeepsTables};
     ghost use Rattle.asm65.specs.Inner.Taking.{Mentions};
 
@@ -49,7 +49,7 @@ impl Assembler {
         names: &[Sequence<u8>],
     ) -> Result<(), AllocError>
         ensures mentioned { OnOk result (Mentions
-            (place_in stand.entry.at.file.now stand.entry.at.line) (spot_of stand.entry.spot)
+            (place_in stand.entry.at.file.now stand.entry.at.line) stand.entry.spot
             (map (mentioned mention) names.now) self.old self.new) }
         ensures tables { KeepsTables self.old self.new }
     {

@@ -2,7 +2,6 @@
 
 ghost use Rattle.std.specs.Prelude.{◌≡◌, None};
 ghost use Rattle.language65.specs.Symbols.{Key as DefinedKey};
-ghost use Rattle.language65.specs.Views.{spot_of};
 ghost use Rattle.symbols65.specs.Tables.{definition_seen};
 ghost use Rattle.asm65.specs.Inner.Taking.{is_for_zero_page, label_at};
 
@@ -23,7 +22,7 @@ fn is_for_zero_page(size: AddressSize) -> bool
 
 /// What a label stands for: the address at which it stands.
 fn label(spot: Spot, size: AddressSize) -> Definition
-    ensures seen { (k : DefinedKey) → definition_seen k result ≡ label_at k (spot_of spot) size }
+    ensures seen { (k : DefinedKey) → definition_seen k result ≡ label_at k spot size }
     ensures form { result.form ≡ None }
 {
     Definition {
@@ -58,8 +57,8 @@ impl Assembler {
     ) -> Result<(), AllocError>
         requires known { IsTable (table_of self.old.symbols) self.old.known.states.items }
         requires new { defined (table_of self.old.symbols) (key_of key) ≡ None }
-        ensures { OnOk result ((place : Place) → Turns place (spot_of spot) []
-            (λ y. with_definition y (label_at (key_of key.entry) (spot_of spot) size))
+        ensures { OnOk result ((place : Place) → Turns place spot []
+            (λ y. with_definition y (label_at (key_of key.entry) spot size))
             self.old self.new) }
     {
         self.define(alloc, key, label(spot, size))
@@ -76,7 +75,7 @@ impl Assembler {
         requires known { IsTable (table_of self.old.symbols) self.old.known.states.items }
         requires new { opened_twice (table_of self.old.symbols).scopes spot.scope
             (option_map (λ n. n.now) name) ≡ None }
-        ensures { OnOk result ((place : Place) → Turns place (spot_of spot) []
+        ensures { OnOk result ((place : Place) → Turns place spot []
             (λ y. with_scope y (record {
               within = spot.scope;
               name = option_map (λ n. n.now) name.entry;
@@ -100,9 +99,9 @@ impl Assembler {
         requires new { defined (table_of self.old.symbols) (named spot.scope name.now) ≡ None }
         requires unopened { opened_twice (table_of self.old.symbols).scopes spot.scope
             (Some name.now) ≡ None }
-        ensures { OnOk result ((place : Place) → Turns place (spot_of spot) []
+        ensures { OnOk result ((place : Place) → Turns place spot []
             (λ y. with_scope
-            (with_definition y (label_at (named spot.scope name.now) (spot_of spot) size))
+            (with_definition y (label_at (named spot.scope name.now) spot size))
             (record { within = spot.scope; name = Some name.now; is_proc = true }))
             self.old self.new) }
     {
@@ -123,7 +122,7 @@ impl Assembler {
     ) -> Result<(), AllocError>
         requires { IsTable (table_of self.old.symbols) self.old.known.states.items }
         ensures { OnOk result (Turns
-            (place_in stand.entry.at.file.now stand.entry.at.line) (spot_of stand.entry.spot)
+            (place_in stand.entry.at.file.now stand.entry.at.line) stand.entry.spot
             (map (mentioned mention) names.now)
             (λ y. with_names y (is_for_zero_page size) names.now) self.old self.new) }
     {
@@ -141,7 +140,7 @@ impl Assembler {
     ) -> Result<(), AllocError>
         requires { IsTable (table_of self.old.symbols) self.old.known.states.items }
         ensures { OnOk result (Turns
-            (place_in stand.entry.at.file.now stand.entry.at.line) (spot_of stand.entry.spot)
+            (place_in stand.entry.at.file.now stand.entry.at.line) stand.entry.spot
             (map imported names.now ++ map demanded names.now)
             (λ y. with_names y false names.now) self.old self.new) }
     {

@@ -5,16 +5,14 @@ ghost use Rattle.object65.specs.Form.{lit};
 ghost use Rattle.source65.specs.declared.place.Place.{Place};
 ghost use Rattle.language65.specs.Contents.{file_bytes, opcode_part, operand_form, put, room_part, stored};
 ghost use Rattle.language65.specs.Parts.{Known};
-ghost use Rattle.language65.specs.Views.{place_in, spot_of};
+ghost use Rattle.language65.specs.Views.{place_in};
 ghost use Rattle.sections65.specs.Standing.{Feeds};
 ghost use Rattle.asm65.specs.Inner.Putting.{IsFaultless, IsPut, operand_stored};
-ghost use Rattle.layout65.specs.Views.{settled_in};
 
 use super::Stand;
 use crate::forms::{is_file_name, literal_of};
 use base65::Sequence;
-use language65::{At, Spot};
-use layout65::Settled;
+use language65::{At, Settled, Spot};
 use object65::{Norm, Width, fits, put};
 use sections65::Sections;
 use std::alloc::{AllocError, Global};
@@ -67,7 +65,7 @@ fn faultless_form(
     spot: Spot,
     form: Norm,
 ) -> Result<Option<Norm>, AllocError>
-    ensures { IfOk result (IsFaultless (operand_form width (spot_of spot) form)) }
+    ensures { IfOk result (IsFaultless (operand_form width spot form)) }
 {
     match operand_form(alloc, width, spot, form) {
         Ok(form) => Ok(Some(form)),
@@ -90,7 +88,7 @@ pub fn put_operand(
     form: Norm,
 ) -> Result<bool, AllocError>
     ensures { IfOk result (IsPut sections.old sections.new stand.entry.spot.segment
-        (operand_stored width (spot_of stand.entry.spot)
+        (operand_stored width stand.entry.spot
         (place_in stand.entry.at.file.now stand.entry.at.line) form)) }
 {
     match faultless_form(alloc, width, stand.spot, form)? {
@@ -118,10 +116,10 @@ pub fn put_room(
     settled: Settled,
 ) -> Result<(), AllocError>
     ensures { OnOk result (Feeds sections.old sections.new
-        (put segment (room_part count (settled_in settled)))) }
+        (put segment (room_part count settled))) }
 {
     match settled {
-        Settled::Filled(byte) => sections.fill(segment, count, byte),
+        Settled::FilledWith(byte) => sections.fill(segment, count, byte),
         _ => sections.room(segment, count),
     }
 }
@@ -137,10 +135,10 @@ fn between(bytes: &[u8], start: usize, count: usize) -> &[u8]
 
 /// So many bytes of a file, if it is there, from the one on that is settled.
 fn file_bytes(bytes: &Option<Sequence<u8>>, settled: Settled, count: u32) -> &[u8]
-    ensures { result.now ≡ file_bytes count bytes.now (settled_in settled) }
+    ensures { result.now ≡ file_bytes count bytes.now settled }
 {
     match (bytes, settled) {
-        (Some(bytes), Settled::From(start)) => {
+        (Some(bytes), Settled::FromByte(start)) => {
             between(bytes.as_slice(), start as usize, count as usize)
         }
         _ => b"",
@@ -156,7 +154,7 @@ pub fn put_part(
     bytes: &Option<Sequence<u8>>,
 ) -> Result<(), AllocError>
     ensures { OnOk result (Feeds sections.old sections.new
-        (put segment (Known (file_bytes count bytes.now (settled_in settled))))) }
+        (put segment (Known (file_bytes count bytes.now settled)))) }
 {
     sections.append(segment, file_bytes(bytes, settled, count))
 }

@@ -5,7 +5,7 @@ ghost use Rattle.std.specs.Option.{option_map};
 ghost use Rattle.syntax65.specs.Trees.{tree_of};
 ghost use Rattle.language65.specs.Contents.{operand_tree};
 ghost use Rattle.language65.specs.Sizes.{width_of};
-ghost use Rattle.language65.specs.Views.{operand_of, spot_of};
+ghost use Rattle.language65.specs.Views.{operand_of};
 ghost use Rattle.symbols65.specs.Views.{table_of};
 ghost use Rattle.asm65.specs.Inner.Putting.{IsSo};
 
@@ -15,8 +15,7 @@ use crate::assembler::Assembler;
 use crate::forms::literal_of;
 use crate::waiting::Piece;
 use base65::Sequence;
-use language65::{Item, Operand, Spot};
-use layout65::Settled;
+use language65::{Item, Operand, Settled, Spot};
 use object65::{Action, Width};
 use std::alloc::{AllocError, Global};
 use symbols65::{Symbols, final_form};
@@ -55,7 +54,7 @@ fn operand_value(operand: Operand) -> Option<Expr>
 /// Whether a value is another one than 0, whatever statements follow.
 fn is_so(alloc: Global, symbols: &Symbols, spot: Spot, value: &Expr) -> Result<bool, AllocError>
     ensures { IfOk result (λ so. so ≡ true →
-        IsSo (table_of symbols.now) (spot_of spot) (tree_of value.now)) }
+        IsSo (table_of symbols.now) spot (tree_of value.now)) }
 {
     match final_form(alloc, symbols, spot, value)? {
         Some(form) => match literal_of(&form) {
@@ -71,18 +70,17 @@ impl Assembler {
     ghost use Rattle.source65.specs.declared.place.Place.{Place};
     ghost use Rattle.language65.specs.Contents.{file_bytes, opcode_part, room_part};
     ghost use Rattle.language65.specs.Parts.{Known};
-    ghost use Rattle.language65.specs.Laid.{in_mode};
+    ghost use Rattle.language65.specs.declared.laid.Settled.TheVariants.{InMode};
     ghost use Rattle.language65.specs.Views.{item_of, place_in};
     ghost use Rattle.syntax65.specs.Opcodes.{opcode_of};
     ghost use Rattle.module65.specs.Pieces.{asserted, given, instruction_pieces, valued};
     ghost use Rattle.module65.specs.Pieces.{item_piece, operand_pieces};
     ghost use Rattle.asm65.specs.Inner.Holding.{Enters};
-    ghost use Rattle.layout65.specs.Views.{settled_in};
 
     /// Enters the code of an instruction.
     #[inline(always)]
     fn enter_code(&mut self, spot: Spot, code: Option<u8>) -> Result<(), AllocError>
-        ensures { OnOk result ((place : Place) → Enters place (spot_of spot)
+        ensures { OnOk result ((place : Place) → Enters place spot
             (given (opcode_part code) ∷ []) self.old self.new) }
     {
         put_code(&mut self.sections, spot.segment, code)
@@ -97,7 +95,7 @@ impl Assembler {
         value: Option<Expr>,
     ) -> Result<(), AllocError>
         ensures { OnOk result (Enters
-            (place_in stand.entry.at.file.now stand.entry.at.line) (spot_of stand.entry.spot)
+            (place_in stand.entry.at.file.now stand.entry.at.line) stand.entry.spot
             (operand_pieces width (option_map tree_of value)) self.old self.new) }
     {
         match (width, value) {
@@ -117,8 +115,8 @@ impl Assembler {
         operand: Operand,
     ) -> Result<(), AllocError>
         ensures { OnOk result (Enters
-            (place_in stand.entry.at.file.now stand.entry.at.line) (spot_of stand.entry.spot)
-            (instruction_pieces mnemonic (operand_of operand) (in_mode mode))
+            (place_in stand.entry.at.file.now stand.entry.at.line) stand.entry.spot
+            (instruction_pieces mnemonic (operand_of operand) (InMode mode))
             self.old self.new) }
     {
         self.enter_code(stand.spot, opcode(mnemonic, mode))?;
@@ -134,7 +132,7 @@ impl Assembler {
         item: Item,
     ) -> Result<(), AllocError>
         ensures { OnOk result (Enters
-            (place_in stand.entry.at.file.now stand.entry.at.line) (spot_of stand.entry.spot)
+            (place_in stand.entry.at.file.now stand.entry.at.line) stand.entry.spot
             (item_piece width (item_of item) ∷ []) self.old self.new) }
     {
         match item {
@@ -153,7 +151,7 @@ impl Assembler {
         items: Sequence<Item>,
     ) -> Result<(), AllocError>
         ensures { OnOk result (Enters
-            (place_in stand.entry.at.file.now stand.entry.at.line) (spot_of stand.entry.spot)
+            (place_in stand.entry.at.file.now stand.entry.at.line) stand.entry.spot
             (map (item_piece width) (map item_of items)) self.old self.new) }
     {
         for item in items.into_vec() {
@@ -165,8 +163,8 @@ impl Assembler {
     /// Enters room of so many bytes, filled with the byte that is settled, if there is one.
     #[inline(never)]
     pub fn enter_room(&mut self, spot: Spot, count: u32, settled: Settled) -> Result<(), AllocError>
-        ensures { OnOk result ((place : Place) → Enters place (spot_of spot)
-            (given (room_part count (settled_in settled)) ∷ []) self.old self.new) }
+        ensures { OnOk result ((place : Place) → Enters place spot
+            (given (room_part count settled) ∷ []) self.old self.new) }
     {
         put_room(&mut self.sections, spot.segment, count, settled)
     }
@@ -180,8 +178,8 @@ impl Assembler {
         settled: Settled,
         bytes: Option<Sequence<u8>>,
     ) -> Result<(), AllocError>
-        ensures { OnOk result ((place : Place) → Enters place (spot_of spot)
-            (given (Known (file_bytes count bytes (settled_in settled))) ∷ []) self.old self.new) }
+        ensures { OnOk result ((place : Place) → Enters place spot
+            (given (Known (file_bytes count bytes settled)) ∷ []) self.old self.new) }
     {
         put_part(&mut self.sections, spot.segment, count, settled, &bytes)
     }
@@ -197,7 +195,7 @@ impl Assembler {
         value: Expr,
     ) -> Result<(), AllocError>
         ensures { OnOk result (Enters
-            (place_in stand.entry.at.file.now stand.entry.at.line) (spot_of stand.entry.spot)
+            (place_in stand.entry.at.file.now stand.entry.at.line) stand.entry.spot
             (valued (asserted action text) (tree_of value) ∷ []) self.old self.new) }
     {
         if is_so(alloc, &self.symbols, stand.spot, &value)? {

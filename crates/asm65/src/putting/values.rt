@@ -6,7 +6,7 @@ ghost use Rattle.source65.specs.declared.place.Place.{Place};
 ghost use Rattle.object65.specs.Form.{lit};
 ghost use Rattle.language65.specs.Contents.{stored};
 ghost use Rattle.language65.specs.Extending.{IsFinal};
-ghost use Rattle.language65.specs.Laid.{Spot};
+ghost use Rattle.language65.specs.declared.laid.Spot.{Spot};
 ghost use Rattle.language65.specs.Symbols.{Symbols};
 ghost use Rattle.asm65.specs.Inner.Putting.{operand_stored};
 
@@ -45,7 +45,7 @@ fn stored_number(width: Width, value: &Expr) -> Option<i64>
 
 impl Assembler {
     ghost use Rattle.std.specs.Prelude.{◌∷◌, [], IfOk, OnOk};
-    ghost use Rattle.language65.specs.Views.{place_in, spot_of};
+    ghost use Rattle.language65.specs.Views.{place_in};
     ghost use Rattle.module65.specs.Pieces.{datum, operand, valued};
     ghost use Rattle.asm65.specs.Inner.Holding.{Enters};
     ghost use Rattle.asm65.specs.Inner.Putting.{IsTried};
@@ -59,7 +59,7 @@ impl Assembler {
         value: &Expr,
     ) -> Result<bool, AllocError>
         ensures { IfOk result (IsTried
-            (place_in stand.entry.at.file.now stand.entry.at.line) (spot_of stand.entry.spot)
+            (place_in stand.entry.at.file.now stand.entry.at.line) stand.entry.spot
             (valued (datum width) (tree_of value.now)) self.old self.new) }
     {
         let segment = stand.spot.segment;
@@ -81,7 +81,7 @@ impl Assembler {
         value: &Expr,
     ) -> Result<bool, AllocError>
         ensures { IfOk result (IsTried
-            (place_in stand.entry.at.file.now stand.entry.at.line) (spot_of stand.entry.spot)
+            (place_in stand.entry.at.file.now stand.entry.at.line) stand.entry.spot
             (valued (operand width) (tree_of value.now)) self.old self.new) }
     {
         if let Some(number) = stored_number(width, value) {
@@ -102,7 +102,7 @@ impl Assembler {
         value: Expr,
     ) -> Result<(), AllocError>
         ensures { OnOk result (Enters
-            (place_in stand.entry.at.file.now stand.entry.at.line) (spot_of stand.entry.spot)
+            (place_in stand.entry.at.file.now stand.entry.at.line) stand.entry.spot
             (valued (datum width) (tree_of value) ∷ []) self.old self.new) }
     {
         if self.put_datum(alloc, stand, width, &value)? {
@@ -121,7 +121,7 @@ impl Assembler {
         value: Expr,
     ) -> Result<(), AllocError>
         ensures { OnOk result (Enters
-            (place_in stand.entry.at.file.now stand.entry.at.line) (spot_of stand.entry.spot)
+            (place_in stand.entry.at.file.now stand.entry.at.line) stand.entry.spot
             (valued (operand width) (tree_of value) ∷ []) self.old self.new) }
     {
         if self.put_operand(alloc, stand, width, &value)? {

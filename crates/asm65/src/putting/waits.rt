@@ -48,7 +48,7 @@ fn place_of_file(
 }
 
 impl Assembler {
-    ghost use Rattle.language65.specs.Views.{place_in, spot_of};
+    ghost use Rattle.language65.specs.Views.{place_in};
     ghost use Rattle.asm65.specs.Inner.Putting.{KeepsTables, Waits};
 
     /// The place of the file in which the last piece waits.
@@ -61,7 +61,7 @@ impl Assembler {
     #[inline(never)]
     pub fn wait(&mut self, alloc: Global, stand: Stand<'_>, piece: Piece) -> Result<(), AllocError>
         ensures waits { OnOk result (Waits
-            (place_in stand.entry.at.file.now stand.entry.at.line) (spot_of stand.entry.spot)
+            (place_in stand.entry.at.file.now stand.entry.at.line) stand.entry.spot
             piece self.old self.new) }
         ensures tables { KeepsTables self.old self.new }
     {

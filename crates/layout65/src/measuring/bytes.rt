@@ -10,13 +10,13 @@ ghost use Rattle.language65.specs.Symbols.{Symbols as Table};
 ghost use Rattle.language65.specs.Views.{item_of, operand_of};
 ghost use Rattle.symbols65.specs.Resolving.{IsTable};
 ghost use Rattle.symbols65.specs.Views.{table_of};
-ghost use Rattle.layout65.specs.Measuring.{fitted, measured_of, placed};
+ghost use Rattle.layout65.specs.Measuring.{fitted, placed};
 ghost use Rattle.layout65.specs.Sounds.{IsSoundStanding};
 ghost use Rattle.layout65.specs.Views.{standing_of};
 
-use super::{Before, Measured, Settled, fit};
+use super::{Before, Measured, fit};
 use crate::standing::Standing;
-use language65::{AsmFault, Item, Operand};
+use language65::{AsmFault, Item, Operand, Settled};
 use object65::Width;
 use std::alloc::Global;
 use symbols65::{Known, knowing};
@@ -43,7 +43,7 @@ pub fn instruction(
 ) -> Result<Measured, AsmFault>
     requires table { IsTable (table_of before.symbols.now) known.old.states.items }
     requires standing { IsSoundStanding before.standing.now }
-    ensures placed { Gives is_memory measured_of result (placed
+    ensures placed { Gives is_memory (λ m. m) result (placed
         (table_of before.entry.symbols.now) (standing_of before.entry.standing.now)
         (instruction mnemonic (operand_of operand.now))) }
     ensures table { OnOk result
@@ -60,7 +60,7 @@ pub fn instruction(
         length,
         size: own,
         multiple: 1,
-        settled: Settled::Form(mode),
+        settled: Settled::InMode(mode),
     })
 }
 
@@ -114,7 +114,7 @@ fn list_len(standing: &Standing, width: Width, items: &[Item]) -> Result<u32, As
 #[inline(never)]
 pub fn values(standing: &Standing, width: Width, items: &[Item]) -> Result<Measured, AsmFault>
     requires { IsSoundStanding standing.now }
-    ensures { (y : Table) → Gives is_memory measured_of result (placed y
+    ensures { (y : Table) → Gives is_memory (λ m. m) result (placed y
         (standing_of standing.now) (values width (map item_of items.now))) }
 {
     let length = list_len(standing, width, items)?;
@@ -122,6 +122,6 @@ pub fn values(standing: &Standing, width: Width, items: &[Item]) -> Result<Measu
         length,
         size: standing.segment().size,
         multiple: 1,
-        settled: Settled::Nothing,
+        settled: Settled::Unsettled,
     })
 }

@@ -9,7 +9,7 @@ ghost use Rattle.language65.specs.Symbols.{Symbols as Table};
 ghost use Rattle.language65.specs.Views.{stated_of};
 ghost use Rattle.symbols65.specs.Resolving.{IsTable};
 ghost use Rattle.symbols65.specs.Views.{table_of};
-ghost use Rattle.layout65.specs.Measuring.{is_bare, measured_of, placed};
+ghost use Rattle.layout65.specs.Measuring.{is_bare, placed};
 ghost use Rattle.layout65.specs.Sounds.{IsSoundStanding};
 ghost use Rattle.layout65.specs.Views.{standing_of};
 
@@ -34,7 +34,7 @@ fn constant(
 ) -> Result<Measured, AsmFault>
     requires table { IsTable (table_of before.symbols.now) known.old.states.items }
     requires standing { IsSoundStanding before.standing.now }
-    ensures placed { (name : List ℕ) → Gives is_memory measured_of result (placed
+    ensures placed { (name : List ℕ) → Gives is_memory (λ m. m) result (placed
         (table_of before.entry.symbols.now) (standing_of before.entry.standing.now)
         (constant name (tree_of value.now))) }
     ensures table { OnOk result
@@ -53,7 +53,7 @@ fn segment(
     size: Option<AddressSize>,
 ) -> Result<Measured, AsmFault>
     requires { IsSoundStanding standing.now }
-    ensures { (y : Table) → Gives is_memory measured_of result (placed y
+    ensures { (y : Table) → Gives is_memory (λ m. m) result (placed y
         (standing_of standing.now) (segment name.now size)) }
 {
     check_segment(standing, name, size)?;
@@ -63,7 +63,7 @@ fn segment(
 /// What `.popseg` places.
 fn pop_segment(standing: &Standing) -> Result<Measured, AsmFault>
     requires { IsSoundStanding standing.now }
-    ensures { (y : Table) → Gives is_memory measured_of result (placed y
+    ensures { (y : Table) → Gives is_memory (λ m. m) result (placed y
         (standing_of standing.now) pop_segment) }
 {
     check_kept(standing)?;
@@ -73,7 +73,7 @@ fn pop_segment(standing: &Standing) -> Result<Measured, AsmFault>
 /// What `.endscope` places.
 fn close_scope(before: Before<'_>) -> Result<Measured, AsmFault>
     requires { IsSoundStanding before.standing.now }
-    ensures { Gives is_memory measured_of result (placed (table_of before.entry.symbols.now)
+    ensures { Gives is_memory (λ m. m) result (placed (table_of before.entry.symbols.now)
         (standing_of before.entry.standing.now) close_scope) }
 {
     check_scope(before.symbols, before.standing.scope as usize)?;
@@ -83,7 +83,7 @@ fn close_scope(before: Before<'_>) -> Result<Measured, AsmFault>
 /// What `.endproc` places.
 fn close_proc(before: Before<'_>) -> Result<Measured, AsmFault>
     requires { IsSoundStanding before.standing.now }
-    ensures { Gives is_memory measured_of result (placed (table_of before.entry.symbols.now)
+    ensures { Gives is_memory (λ m. m) result (placed (table_of before.entry.symbols.now)
         (standing_of before.entry.standing.now) close_proc) }
 {
     check_proc(before.symbols, before.standing.scope as usize)?;
@@ -96,7 +96,7 @@ fn close_proc(before: Before<'_>) -> Result<Measured, AsmFault>
 fn without_bytes(before: Before<'_>, statement: &Statement) -> Result<Measured, AsmFault>
     requires standing { IsSoundStanding before.standing.now }
     requires bare { is_bare (stated_of statement.now) ≡ true }
-    ensures { Gives is_memory measured_of result (placed
+    ensures { Gives is_memory (λ m. m) result (placed
         (table_of before.entry.symbols.now) (standing_of before.entry.standing.now)
         (stated_of statement.now)) }
 {
@@ -118,7 +118,7 @@ pub fn place(
 ) -> Result<Measured, AsmFault>
     requires table { IsTable (table_of before.symbols.now) known.old.states.items }
     requires standing { IsSoundStanding before.standing.now }
-    ensures placed { Gives is_memory measured_of result (placed
+    ensures placed { Gives is_memory (λ m. m) result (placed
         (table_of before.entry.symbols.now) (standing_of before.entry.standing.now)
         (stated_of statement.now)) }
     ensures table { OnOk result

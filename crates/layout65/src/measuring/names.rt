@@ -7,7 +7,7 @@ ghost use Rattle.language65.specs.Faults.{is_memory};
 ghost use Rattle.language65.specs.LineFaults.{defined_twice, is_open, opened_twice, scope_name, stands_outside, when, where_there, unless_fault};
 ghost use Rattle.language65.specs.Names.{scope_in};
 ghost use Rattle.language65.specs.Symbols.{defined, key_defined};
-ghost use Rattle.language65.specs.Views.{spot_of, stated_of};
+ghost use Rattle.language65.specs.Views.{stated_of};
 ghost use Rattle.symbols65.specs.Tables.{key_of};
 ghost use Rattle.symbols65.specs.Views.{table_of};
 
@@ -95,7 +95,7 @@ pub fn check_defined(
     statement: &Statement,
 ) -> Result<(), AsmFault>
     ensures { Gives is_memory (λ u. u) result (unless_fault (defined_twice
-        (table_of symbols.now) (key_defined (spot_of spot) (stated_of statement.now))) tt) }
+        (table_of symbols.now) (key_defined spot (stated_of statement.now))) tt) }
 {
     let scope = spot.scope as usize;
     let region = spot.region as usize;

@@ -9,17 +9,17 @@ ghost use Rattle.language65.specs.Faults.{is_memory};
 ghost use Rattle.language65.specs.Language.{file_part};
 ghost use Rattle.language65.specs.LineFaults.{when, unless_fault};
 ghost use Rattle.language65.specs.Sizes.{counted, optional_value};
-ghost use Rattle.language65.specs.Views.{range_of, spot_of};
+ghost use Rattle.language65.specs.Views.{range_of};
 ghost use Rattle.symbols65.specs.Resolving.{IsTable};
 ghost use Rattle.symbols65.specs.Views.{table_of};
-ghost use Rattle.layout65.specs.Measuring.{IsFound, is_within, measured_of, or_default, placed, ranged, unread_fault};
+ghost use Rattle.layout65.specs.Measuring.{IsFound, is_within, or_default, placed, ranged, unread_fault};
 ghost use Rattle.layout65.specs.Sounds.{IsSoundStanding};
 ghost use Rattle.layout65.specs.Views.{standing_of};
 
 use super::trees::check_range;
-use super::{Before, Measured, Settled, fit};
+use super::{Before, Measured, fit};
 use base65::Sequence;
-use language65::{AsmFault, PartRange, Spot};
+use language65::{AsmFault, PartRange, Settled, Spot};
 use std::alloc::Global;
 use symbols65::{Known, Symbols, knowing};
 use syntax65::Expr;
@@ -36,7 +36,7 @@ fn named(
     value: &Option<Expr>,
 ) -> Result<Option<i64>, AsmFault>
     requires { IsTable (table_of symbols.now) known.old.states.items }
-    ensures found { IsFound (optional_value (table_of symbols.now) (spot_of spot)
+    ensures found { IsFound (optional_value (table_of symbols.now) spot
         (option_map tree_of value.now)) result }
     ensures table { OnOk result (IsTable (table_of symbols.now) known.new.states.items) }
 {
@@ -120,7 +120,7 @@ pub fn file_part(
 ) -> Result<Measured, AsmFault>
     requires table { IsTable (table_of before.symbols.now) known.old.states.items }
     requires standing { IsSoundStanding before.standing.now }
-    ensures placed { Gives is_memory measured_of result (placed
+    ensures placed { Gives is_memory (λ m. m) result (placed
         (table_of before.entry.symbols.now) (standing_of before.entry.standing.now)
         (file_part bytes.now (range_of range.now).0 (range_of range.now).1)) }
     ensures table { OnOk result
@@ -138,6 +138,6 @@ pub fn file_part(
         length,
         size: before.standing.segment().size,
         multiple: 1,
-        settled: Settled::From(start as u32),
+        settled: Settled::FromByte(start as u32),
     })
 }

@@ -10,16 +10,15 @@ ghost use Rattle.language65.specs.Language.{align, reserve};
 ghost use Rattle.language65.specs.Layout.{spot_of as standing_spot};
 ghost use Rattle.language65.specs.LineFaults.{is_byte_value, is_count, is_there, multiple_fault, when, unless_fault};
 ghost use Rattle.language65.specs.Sizes.{counted, fill_settled, gap, optional_value};
-ghost use Rattle.language65.specs.Views.{spot_of};
 ghost use Rattle.symbols65.specs.Resolving.{IsTable};
 ghost use Rattle.symbols65.specs.Views.{table_of};
-ghost use Rattle.layout65.specs.Measuring.{any_settled, measured_of, placed};
+ghost use Rattle.layout65.specs.Measuring.{any_settled, placed};
 ghost use Rattle.layout65.specs.Sounds.{IsSoundStanding};
-ghost use Rattle.layout65.specs.Views.{settled_in, standing_of};
+ghost use Rattle.layout65.specs.Views.{standing_of};
 
-use super::{Before, Measured, Settled, fit};
+use super::{Before, Measured, fit};
 use crate::standing::Standing;
-use language65::{AsmFault, Spot};
+use language65::{AsmFault, Settled, Spot};
 use std::alloc::Global;
 use symbols65::{Known, Symbols, knowing};
 use syntax65::Expr;
@@ -45,17 +44,17 @@ fn fill(
 ) -> Result<Settled, AsmFault>
     requires { IsTable (table_of symbols.now) known.old.states.items }
     ensures byte { Gives is_memory any_settled result (unless_fault
-        (when (not (is_byte_value (optional_value (table_of symbols.now) (spot_of spot)
+        (when (not (is_byte_value (optional_value (table_of symbols.now) spot
         (option_map tree_of value.now) (pos 0)))) BadOperand) tt) }
-    ensures settled { IfOk result (λ s. settled_in s
-        ≡ fill_settled (table_of symbols.now) (spot_of spot) (option_map tree_of value.now)) }
+    ensures settled { IfOk result (λ s. s
+        ≡ fill_settled (table_of symbols.now) spot (option_map tree_of value.now)) }
     ensures table { OnOk result (IsTable (table_of symbols.now) known.new.states.items) }
 {
     let Some(value) = value else {
-        return Ok(Settled::Nothing);
+        return Ok(Settled::Unsettled);
     };
     let byte = byte_of(knowing::constant(alloc, symbols, known, spot, value)?)?;
-    Ok(Settled::Filled(byte))
+    Ok(Settled::FilledWith(byte))
 }
 
 /// A value as a number of bytes.
@@ -80,7 +79,7 @@ pub fn reserve(
 ) -> Result<Measured, AsmFault>
     requires table { IsTable (table_of before.symbols.now) known.old.states.items }
     requires standing { IsSoundStanding before.standing.now }
-    ensures placed { Gives is_memory measured_of result (placed
+    ensures placed { Gives is_memory (λ m. m) result (placed
         (table_of before.entry.symbols.now) (standing_of before.entry.standing.now)
         (reserve (tree_of count.now) (option_map tree_of value.now))) }
     ensures table { OnOk result
@@ -161,7 +160,7 @@ pub fn align(
 ) -> Result<Measured, AsmFault>
     requires table { IsTable (table_of before.symbols.now) known.old.states.items }
     requires standing { IsSoundStanding before.standing.now }
-    ensures placed { Gives is_memory measured_of result (placed
+    ensures placed { Gives is_memory (λ m. m) result (placed
         (table_of before.entry.symbols.now) (standing_of before.entry.standing.now)
         (align (tree_of multiple.now) (option_map tree_of value.now))) }
     ensures table { OnOk result

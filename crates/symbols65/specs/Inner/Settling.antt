@@ -5,7 +5,7 @@ use Rattle.syntax65.specs.Trees.{Tree, number, here, unary, binary}
 use Rattle.object65.specs.Form.{Form}
 use Rattle.language65.specs.declared.fault.AsmFault.{AsmFault}
 use Rattle.language65.specs.Faults.{is_memory}
-use Rattle.language65.specs.Laid.{Spot}
+use Rattle.language65.specs.declared.laid.Spot.{Spot}
 use Rattle.language65.specs.Names.{defined_at, meaning_of}
 use Rattle.language65.specs.Symbols.{Symbols}
 use Rattle.symbols65.specs.declared.resolving.attempt.Stop.{Stop}

@@ -6,7 +6,6 @@ ghost use Rattle.syntax65.specs.Trees.{tree_of};
 ghost use Rattle.language65.specs.Names.{meaning_of};
 ghost use Rattle.language65.specs.Norms.{constant_in, norm_of};
 ghost use Rattle.language65.specs.Sizes.{is_byte, larger, size_by, size_defined, size_of, size_of_import, size_of_meaning, size_of_value, takes_byte};
-ghost use Rattle.language65.specs.Views.{spot_of};
 ghost use Rattle.symbols65.specs.Forms.{IsReference, literal_of};
 ghost use Rattle.symbols65.specs.Resolving.{IsTable, meaning_in};
 ghost use Rattle.symbols65.specs.Views.{table_of};
@@ -121,11 +120,11 @@ fn reference_form_and_size(
     requires table { IsTable (table_of symbols.now) known.old.states.items }
     requires reference { IsReference (tree_of operand.now) }
     ensures form { IfOk result (λ r. r.form ≡ result_ok
-        (norm_of (table_of symbols.now) (spot_of spot) (tree_of operand.now))) }
+        (norm_of (table_of symbols.now) spot (tree_of operand.now))) }
     ensures size { IfOk result (λ r. r.size ≡ size_by
         (size_of_meaning (table_of symbols.now)
-        (meaning_of (table_of symbols.now) (spot_of spot) (tree_of operand.now)))
-        (constant_in (table_of symbols.now) (spot_of spot) (tree_of operand.now))) }
+        (meaning_of (table_of symbols.now) spot (tree_of operand.now)))
+        (constant_in (table_of symbols.now) spot (tree_of operand.now))) }
     ensures table { OnOk result (IsTable (table_of symbols.now) known.new.states.items) }
 {
     match meaning_of(alloc, symbols, spot, operand) {
@@ -164,9 +163,9 @@ fn form_and_size(
 ) -> Result<FormAndSize, AllocError>
     requires { IsTable (table_of symbols.now) known.old.states.items }
     ensures form { IfOk result (λ r. r.form ≡ result_ok
-        (norm_of (table_of symbols.now) (spot_of spot) (tree_of value.now))) }
+        (norm_of (table_of symbols.now) spot (tree_of value.now))) }
     ensures size { IfOk result (λ r.
-        r.size ≡ size_of (table_of symbols.now) (spot_of spot) own (tree_of value.now)) }
+        r.size ≡ size_of (table_of symbols.now) spot own (tree_of value.now)) }
     ensures table { OnOk result (IsTable (table_of symbols.now) known.new.states.items) }
 {
     match value {
@@ -216,7 +215,7 @@ pub fn size(
 ) -> Result<AddressSize, AllocError>
     requires { IsTable (table_of symbols.now) known.old.states.items }
     ensures size { IfOk result (λ s.
-        s ≡ size_of (table_of symbols.now) (spot_of spot) own (tree_of value.now)) }
+        s ≡ size_of (table_of symbols.now) spot own (tree_of value.now)) }
     ensures table { OnOk result (IsTable (table_of symbols.now) known.new.states.items) }
 {
     let found = form_and_size(alloc, symbols, known, spot, own, value)?;

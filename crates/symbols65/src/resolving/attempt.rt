@@ -7,7 +7,6 @@ ghost use Rattle.syntax65.specs.Trees.{tree_of};
 ghost use Rattle.object65.specs.Folding.{fold1, fold2};
 ghost use Rattle.language65.specs.declared.fault.AsmFault.TheVariants.{OutOfMemory};
 ghost use Rattle.language65.specs.Norms.{address_of, folded};
-ghost use Rattle.language65.specs.Views.{spot_of};
 ghost use Rattle.symbols65.specs.declared.resolving.attempt.Stop.TheVariants.{Fault};
 ghost use Rattle.symbols65.specs.declared.resolving.attempt.State.TheVariants.{Found};
 ghost use Rattle.symbols65.specs.Resolving.{attempt_definition, known_form, lacks_memory, meaning_form, meaning_in, operand_form, stopped, tried, tried_at, tried_last};
@@ -68,7 +67,7 @@ impl From<AsmFault> for Stop {
 
 /// The address of a statement.
 pub fn address(spot: Spot) -> Norm
-    ensures { result ≡ address_of (spot_of spot) }
+    ensures { result ≡ address_of spot }
 {
     Norm::new(Node::Sec(spot.segment, i64::from(spot.offset)))
 }
@@ -165,7 +164,7 @@ fn operand_norm(
     spot: Spot,
     operand: &Expr,
 ) -> Result<Norm, Stop>
-    ensures { Gives lacks_memory (λ f. f) result (operand_form (known_by symbols.now source.entry) (table_of symbols.now) (spot_of spot) (tree_of operand.now)) }
+    ensures { Gives lacks_memory (λ f. f) result (operand_form (known_by symbols.now source.entry) (table_of symbols.now) spot (tree_of operand.now)) }
 {
     let meaning = meaning_of(alloc, symbols, spot, operand)?;
     meant(alloc, symbols, source, meaning)
@@ -179,7 +178,7 @@ pub fn try_norm(
     spot: Spot,
     value: &Expr,
 ) -> Result<Norm, Stop>
-    ensures { Gives lacks_memory (λ f. f) result (tried (known_by symbols.now source.entry) (table_of symbols.now) (spot_of spot) (tree_of value.now)) }
+    ensures { Gives lacks_memory (λ f. f) result (tried (known_by symbols.now source.entry) (table_of symbols.now) spot (tree_of value.now)) }
 {
     match value {
         Expr::Number(number) => Ok(Norm::new(Node::Lit(i64::from(*number)))),
@@ -221,7 +220,7 @@ pub fn try_last(
     value: &Expr,
     waiting: &[usize],
 ) -> Result<Norm, Stop>
-    ensures { Gives lacks_memory (λ f. f) result (tried_last (slice_get states.now) (table_of symbols.now) (tried (slice_get states.now) (table_of symbols.now) (spot_of spot) (tree_of value.now)) waiting.now) }
+    ensures { Gives lacks_memory (λ f. f) result (tried_last (slice_get states.now) (table_of symbols.now) (tried (slice_get states.now) (table_of symbols.now) spot (tree_of value.now)) waiting.now) }
 {
     let source = Source::Table(states);
     match waiting.last() {

@@ -3,7 +3,6 @@
 ghost use Rattle.std.specs.Prelude.{◌≡◌};
 ghost use Rattle.syntax65.specs.Trees.{name as name_tree};
 ghost use Rattle.language65.specs.Names.{meaning_of, scoped_meaning};
-ghost use Rattle.language65.specs.Views.{spot_of};
 ghost use Rattle.symbols65.specs.Resolving.{defined_place};
 ghost use Rattle.symbols65.specs.Views.{table_of};
 
@@ -15,7 +14,7 @@ use syntax65::Name;
 
 /// The place of the definition that a name means with `::`, if it means one.
 fn scoped_definition(symbols: &Symbols, spot: Spot, name: &Name) -> Option<usize>
-    ensures { result ≡ defined_place (scoped_meaning (table_of symbols.now) (spot_of spot)
+    ensures { result ≡ defined_place (scoped_meaning (table_of symbols.now) spot
         name.now.is_global name.now.parts) }
 {
     let parts = name.parts.as_slice();
@@ -32,7 +31,7 @@ fn scoped_definition(symbols: &Symbols, spot: Spot, name: &Name) -> Option<usize
 
 /// The place of the definition that a name means where it stands, if it means one: none where it is imported.
 pub fn definition_of(symbols: &Symbols, spot: Spot, name: &Name) -> Option<usize>
-    ensures { result ≡ defined_place (meaning_of (table_of symbols.now) (spot_of spot)
+    ensures { result ≡ defined_place (meaning_of (table_of symbols.now) spot
         (name_tree name.now.is_global name.now.parts)) }
 {
     match plain_part(name) {

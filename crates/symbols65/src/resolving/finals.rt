@@ -3,7 +3,6 @@
 ghost use Rattle.std.specs.Prelude.{◌≡◌, ◌∷◌, [], IfOk, IfSome, None, Some, false, length, true};
 ghost use Rattle.syntax65.specs.Trees.{name as name_tree, cheap as cheap_tree, backward as backward_tree, tree_of};
 ghost use Rattle.object65.specs.Form.{Form};
-ghost use Rattle.language65.specs.Views.{spot_of};
 ghost use Rattle.language65.specs.Extending.{IsFinal};
 ghost use Rattle.symbols65.specs.Finals.{IsFinalWithin};
 ghost use Rattle.symbols65.specs.Resolving.{plain_part};
@@ -22,7 +21,7 @@ use syntax65::{Expr, Name};
 
 /// The place of what a plain name means whatever follows: the very scope of the use defines it.
 fn own_name(symbols: &Symbols, spot: Spot, name: &[u8]) -> Option<usize>
-    ensures { IfSome result (MeansAlways (table_of symbols.now) (spot_of spot)
+    ensures { IfSome result (MeansAlways (table_of symbols.now) spot
         (name_tree false (name.now ∷ []))) }
 {
     let scope = spot.scope as usize;
@@ -32,7 +31,7 @@ fn own_name(symbols: &Symbols, spot: Spot, name: &[u8]) -> Option<usize>
 /// The place of what a name with `::` means whatever follows: its scope was opened before the use and defines it.
 fn opened_member(symbols: &Symbols, spot: Spot, name: &Name) -> Option<usize>
     ensures { plain_part name.now.is_global name.now.parts ≡ None → IfSome result
-        (MeansAlways (table_of symbols.now) (spot_of spot)
+        (MeansAlways (table_of symbols.now) spot
         (name_tree name.now.is_global name.now.parts)) }
 {
     let parts = name.parts.as_slice();
@@ -54,7 +53,7 @@ fn opened_member(symbols: &Symbols, spot: Spot, name: &Name) -> Option<usize>
 /// The place of what a cheap name means whatever follows: its region has defined it.
 fn own_label(symbols: &Symbols, spot: Spot, name: &[u8]) -> Option<usize>
     ensures { IfSome result
-        (MeansAlways (table_of symbols.now) (spot_of spot) (cheap_tree name.now)) }
+        (MeansAlways (table_of symbols.now) spot (cheap_tree name.now)) }
 {
     let region = spot.region as usize;
     symbols.defined(Key::Cheap { region, name })
@@ -63,7 +62,7 @@ fn own_label(symbols: &Symbols, spot: Spot, name: &[u8]) -> Option<usize>
 /// The place of an unnamed label before a use, if it is there.
 fn label_before(symbols: &Symbols, spot: Spot, steps: usize) -> Option<usize>
     ensures { IfSome result
-        (MeansAlways (table_of symbols.now) (spot_of spot) (backward_tree steps)) }
+        (MeansAlways (table_of symbols.now) spot (backward_tree steps)) }
 {
     match (spot.unnamed as usize).checked_sub(steps) {
         Some(count) => symbols.defined(Key::Unnamed(count)),
@@ -75,7 +74,7 @@ fn label_before(symbols: &Symbols, spot: Spot, steps: usize) -> Option<usize>
 /// of an import, of a reference further on, or of a name without `::` that is only defined further out.
 fn final_place(symbols: &Symbols, spot: Spot, operand: &Expr) -> Option<usize>
     ensures { IfSome result
-        (MeansAlways (table_of symbols.now) (spot_of spot) (tree_of operand.now)) }
+        (MeansAlways (table_of symbols.now) spot (tree_of operand.now)) }
 {
     match operand {
         Expr::Name(name) => match plain_part(name) {
@@ -91,7 +90,7 @@ fn final_place(symbols: &Symbols, spot: Spot, operand: &Expr) -> Option<usize>
 /// Whether each operand of an expression means the same whatever statements follow.
 pub fn are_final(symbols: &Symbols, spot: Spot, value: &Expr) -> bool
     ensures { result ≡ true →
-        Operands (MeansFinally (table_of symbols.now) (spot_of spot)) (tree_of value.now) }
+        Operands (MeansFinally (table_of symbols.now) spot) (tree_of value.now) }
 {
     match value {
         Expr::Number(_) | Expr::Here => true,
@@ -114,7 +113,7 @@ fn final_operand(
 ) -> Result<Option<Norm>, AllocError>
     ensures { IfOk result (λ o. (f : Form) → o ≡ Some f → IsFinalWithin
         (length (table_of symbols.now).definitions)
-        (table_of symbols.now) (spot_of spot) (tree_of operand.now) f) }
+        (table_of symbols.now) spot (tree_of operand.now) f) }
 {
     let Some(place) = final_place(symbols, spot, operand) else {
         return Ok(None);
@@ -141,7 +140,7 @@ fn lasting_form(
 ) -> Result<Option<Norm>, AllocError>
     ensures { IfOk result (λ o. (f : Form) → o ≡ Some f → IsFinalWithin
         (length (table_of symbols.now).definitions)
-        (table_of symbols.now) (spot_of spot) (tree_of value.now) f) }
+        (table_of symbols.now) spot (tree_of value.now) f) }
 {
     match value {
         Expr::Number(number) => Ok(Some(Norm::new(Node::Lit(i64::from(*number))))),
@@ -173,10 +172,10 @@ pub fn final_form(
     value: &Expr,
 ) -> Result<Option<Norm>, AllocError>
     ensures stays { IfOk result (λ o. (f : Form) → o ≡ Some f →
-        IsFinal (table_of symbols.now) (spot_of spot) (tree_of value.now) f) }
+        IsFinal (table_of symbols.now) spot (tree_of value.now) f) }
     ensures within { IfOk result (λ o. (f : Form) → o ≡ Some f → IsFinalWithin
         (length (table_of symbols.now).definitions)
-        (table_of symbols.now) (spot_of spot) (tree_of value.now) f) }
+        (table_of symbols.now) spot (tree_of value.now) f) }
 {
     lasting_form(alloc, symbols, spot, value)
 }

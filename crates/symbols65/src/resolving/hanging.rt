@@ -2,7 +2,6 @@
 
 ghost use Rattle.std.specs.Prelude.{◌≡◌, IfOk, IfSome, map, slice_get};
 ghost use Rattle.syntax65.specs.Trees.{tree_of};
-ghost use Rattle.language65.specs.Views.{spot_of};
 ghost use Rattle.symbols65.specs.declared.resolving.attempt.Source.TheVariants.{Finals};
 ghost use Rattle.symbols65.specs.Hanging.{AreHung, HangsOn, Reaches, bare, hung_on, needed_in};
 ghost use Rattle.symbols65.specs.Inner.Sources.{known_by};
@@ -23,7 +22,7 @@ fn needed_by(
     spot: Spot,
     value: &Expr,
 ) -> Result<Option<usize>, AllocError>
-    ensures { IfOk result (λ o. o ≡ needed_in (tried (known_by symbols.now Finals) (table_of symbols.now) (spot_of spot) (tree_of value.now))) }
+    ensures { IfOk result (λ o. o ≡ needed_in (tried (known_by symbols.now Finals) (table_of symbols.now) spot (tree_of value.now))) }
 {
     match try_norm(alloc, symbols, Source::Finals, spot, value) {
         Ok(_) => Ok(None),

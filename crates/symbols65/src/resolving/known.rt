@@ -10,7 +10,6 @@ ghost use Rattle.language65.specs.Extending.{Extends};
 ghost use Rattle.language65.specs.Norms.{norm_of};
 ghost use Rattle.symbols65.specs.Hanging.{AreHung, Reaches, bare};
 ghost use Rattle.symbols65.specs.Resolving.{IsTable, may_be_looked_for};
-ghost use Rattle.language65.specs.Views.{spot_of};
 ghost use Rattle.symbols65.specs.Views.{Table, nothing_defined, table_of};
 
 use super::attempt::{State, Stop, try_last};
@@ -147,7 +146,7 @@ impl Known {
         value: &Expr,
     ) -> Result<Norm, AsmFault>
         requires table { IsTable (table_of symbols.now) self.old.states.items }
-        ensures form { Gives is_memory (λ f. f) result (norm_of (table_of symbols.now) (spot_of spot) (tree_of value.now)) }
+        ensures form { Gives is_memory (λ f. f) result (norm_of (table_of symbols.now) spot (tree_of value.now)) }
         ensures table { Finds is_memory (λ _. IsTable (table_of symbols.now) self.new.states.items) result }
     {
         let mut waiting: Vec<usize> = Vec::new(alloc);

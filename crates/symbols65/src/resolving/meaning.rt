@@ -9,7 +9,6 @@ ghost use Rattle.language65.specs.declared.fault.AsmFault.TheVariants.{NoSuchLab
 ghost use Rattle.language65.specs.Faults.{is_memory};
 ghost use Rattle.language65.specs.Names.{backward_meaning, cheap_meaning, last_of, meaning_of, member_meaning, or_fault, plain_meaning, scoped_meaning, scopes_of, unnamed_meaning};
 ghost use Rattle.language65.specs.Symbols.{imported};
-ghost use Rattle.language65.specs.Views.{spot_of};
 ghost use Rattle.symbols65.specs.Resolving.{meaning_in, name_meaning, or_absent, plain_part};
 ghost use Rattle.symbols65.specs.Views.{table_of};
 
@@ -100,7 +99,7 @@ fn scoped_meaning(
     spot: Spot,
     name: &Name,
 ) -> Result<Meaning, AsmFault>
-    ensures { Gives is_memory meaning_in result (scoped_meaning (table_of symbols.now) (spot_of spot) name.now.is_global name.now.parts) }
+    ensures { Gives is_memory meaning_in result (scoped_meaning (table_of symbols.now) spot name.now.is_global name.now.parts) }
 {
     let parts = name.parts.as_slice();
     let opened = spot.opened as usize;
@@ -155,7 +154,7 @@ fn name_meaning(
     spot: Spot,
     name: &Name,
 ) -> Result<Meaning, AsmFault>
-    ensures { Gives is_memory meaning_in result (name_meaning (table_of symbols.now) (spot_of spot) name.now.is_global name.now.parts) }
+    ensures { Gives is_memory meaning_in result (name_meaning (table_of symbols.now) spot name.now.is_global name.now.parts) }
 {
     match plain_part(name) {
         Some(part) => plain_meaning(alloc, symbols, spot.scope as usize, part),
@@ -227,7 +226,7 @@ pub fn meaning_of(
     spot: Spot,
     operand: &Expr,
 ) -> Result<Meaning, AsmFault>
-    ensures { Gives is_memory meaning_in result (meaning_of (table_of symbols.now) (spot_of spot) (tree_of operand.now)) }
+    ensures { Gives is_memory meaning_in result (meaning_of (table_of symbols.now) spot (tree_of operand.now)) }
 {
     match operand {
         Expr::Name(name) => name_meaning(alloc, symbols, spot, name),

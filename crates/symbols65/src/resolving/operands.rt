@@ -6,7 +6,6 @@ ghost use Rattle.object65.specs.Folding.{fold2};
 ghost use Rattle.language65.specs.Contents.{operand_form};
 ghost use Rattle.language65.specs.Faults.{is_memory};
 ghost use Rattle.language65.specs.Norms.{folded};
-ghost use Rattle.language65.specs.Views.{spot_of};
 
 use base65::Op2;
 use language65::{AsmFault, Spot};
@@ -26,7 +25,7 @@ fn difference(alloc: Global, left: Norm, right: Norm) -> Result<Norm, AsmFault>
 
 /// The form that is stored of an operand: of a branch, how far its target lies from behind it.
 pub fn operand_form(alloc: Global, width: Width, spot: Spot, form: Norm) -> Result<Norm, AsmFault>
-    ensures { Gives is_memory (λ f. f) result (operand_form width (spot_of spot) form) }
+    ensures { Gives is_memory (λ f. f) result (operand_form width spot form) }
 {
     match width {
         Width::Branch => {

@@ -4,7 +4,7 @@ use Rattle.base65.specs.Values.{wrapped}
 use Rattle.script65.specs.declared.placement.Placement.{Placement}
 use Rattle.script65.specs.declared.script.Script.{Script}
 use Rattle.link65.specs.Places.{run_of}
-use Rattle.language65.specs.Laid.{Spot}
+use Rattle.language65.specs.declared.laid.Spot.{Spot}
 use Rattle.language65.specs.Layout.{Layout}
 use Rattle.language65.specs.Symbols.{Symbols}
 use Rattle.whole65.specs.Modules.{defining_from, spot_at, table_of}

@@ -10,7 +10,7 @@ use Rattle.symbols65.specs.Views.{table_of}
 use Rattle.asm65.specs.Assembly.{is_outside_refusal}
 use Rattle.asm65.specs.Inner.Holding.{IsWaiting}
 use Rattle.asm65.specs.Inner.Resolving.{IsFaulty, made_in}
-use Rattle.language65.specs.Views.{place_in, spot_of}
+use Rattle.language65.specs.Views.{place_in}
 use Rattle.asm65.specs.declared.resolving.Made.{Made as CodeMade}
 use Rattle.asm65.proofs.Insides.{resolved_inside}
 use Rattle.asm65.proofs.Comings.{found_inside, no_more, unless, waiting_comes}
@@ -52,4 +52,4 @@ pub returns-in-Err-clause-inside : goal.returns-in-Err-clause-inside
 returns-in-Err-clause-inside c =
     let here : Place = place_in c.file_at.result.now c.args.waiting.line in
     let answer : Result CodeMade AsmFault = Err c.in-Err.fault in
-    c.of_fault.ensures.inside (resolved_inside answer (made_in here) (table_of c.args.whole.symbols.now) here (spot_of c.args.waiting.spot) c.args.waiting.piece c.in-Err.ensures.made)
+    c.of_fault.ensures.inside (resolved_inside answer (made_in here) (table_of c.args.whole.symbols.now) here c.args.waiting.spot c.args.waiting.piece c.in-Err.ensures.made)

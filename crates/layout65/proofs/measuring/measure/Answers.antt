@@ -3,10 +3,11 @@ use Rattle.std.proofs.lemmas.Result.{err_from_is_err_and}
 use Rattle.base65.specs.Outcome.{Gives}
 use Rattle.language65.specs.declared.fault.AsmFault.{AsmFault}
 use Rattle.language65.specs.Faults.{is_memory}
-use Rattle.language65.specs.Laid.{Spot}
+use Rattle.language65.specs.declared.laid.Spot.{Spot}
 use Rattle.language65.specs.LineFaults.{unless_fault}
 use Rattle.layout65.specs.Views.{standing_of}
-use Rattle.layout65.specs.Measuring.{Measured, measured_of, naming_fault}
+use Rattle.layout65.specs.declared.measuring.Measured.{Measured}
+use Rattle.layout65.specs.Measuring.{naming_fault}
 use Rattle.language65.specs.Views.{stated_of}
 use Rattle.symbols65.specs.Views.{table_of}
 use Rattle.layout65.proofs.Measures.{measured_named, measured_refused, refused_same, room_of}
@@ -26,7 +27,7 @@ returns-clause-measured c =
     let before = table_of c.args.before.symbols.now in
     let x = stated_of c.args.statement.now in
     let w = standing_of c.args.before.standing.now in
-    let P : Result Measured AsmFault → Type 0 = λ r. Gives is_memory measured_of c.place.result r in
+    let P : Result Measured AsmFault → Type 0 = λ r. Gives is_memory (λ m. m) c.place.result r in
     subst P (sym (measured_named before w x (ap (λ (s : Spot). unless_fault {A = Unit {0}} (naming_fault before s x) tt) (sym c.spot.ensures) ∙ c.in_ok-check_naming.ensures))) c.place.ensures.placed
 
 pub returns-clause-room : goal.returns-clause-room

@@ -5,9 +5,9 @@ use Rattle.source65.specs.declared.place.Place.{Place}
 use Rattle.object65.specs.Form.{Form}
 use Rattle.language65.specs.Contents.{telling}
 use Rattle.language65.specs.Extending.{IsFinal}
-use Rattle.language65.specs.Laid.{Spot}
+use Rattle.language65.specs.declared.laid.Spot.{Spot}
 use Rattle.language65.specs.Symbols.{Definition, Symbols, named}
-use Rattle.language65.specs.Views.{place_in, spot_of}
+use Rattle.language65.specs.Views.{place_in}
 use Rattle.language65.proofs.Lists.{map_length}
 use Rattle.module65.specs.Machine.{State, at_once, awaiting, entered, later}
 use Rattle.module65.specs.Pieces.{equated, valued}
@@ -31,7 +31,7 @@ returns-in_ok-wait c = λ count t h inside unnamed.
     (let old : Assembler = c.args.self.now in
     let mid : Assembler = c.define.new.self in
     let place : Place = place_in c.args.stand.at.file.now c.args.stand.at.line in
-    let s : Spot = spot_of c.args.stand.spot in
+    let s : Spot = c.args.stand.spot in
     let e : Tree = tree_of c.args.value in
     let d : Definition = record { key = named c.args.stand.spot.scope c.args.name.now; value = Some e; spot = s; size = c.args.size } in
     let y : Symbols = with_definition t.symbols d in
@@ -56,7 +56,7 @@ returns-else-waits c = λ count t h inside unnamed.
     (let old : Assembler = c.args.self.now in
     let mid : Assembler = c.define.new.self in
     let place : Place = place_in c.args.stand.at.file.now c.args.stand.at.line in
-    let s : Spot = spot_of c.args.stand.spot in
+    let s : Spot = c.args.stand.spot in
     let e : Tree = tree_of c.args.value in
     let d : Definition = record { key = named c.args.stand.spot.scope c.args.name.now; value = Some e; spot = s; size = c.args.size } in
     let y : Symbols = with_definition t.symbols d in

@@ -1,6 +1,6 @@
 use Rattle.std.proofs.Common.{◌++◌, List, map}
 use Rattle.std.specs.Prelude.{false}
-use Rattle.language65.specs.Views.{place_in, spot_of}
+use Rattle.language65.specs.Views.{place_in}
 use Rattle.module65.specs.Pieces.{Piece, demanded, imported}
 use Rattle.symbols65.specs.Views.{with_names}
 use Rattle.asm65.proofs.Enterings.{enters_both}
@@ -13,7 +13,7 @@ returns c =
     let first = c.mention.new.self in
     let mid = c.mention-2.new.self in
     let place = place_in c.args.stand.at.file.now c.args.stand.at.line in
-    let s = spot_of c.args.stand.spot in
+    let s = c.args.stand.spot in
     let names = c.args.names.now in
     let ps : List Piece = map imported names in
     let qs : List Piece = map demanded names in

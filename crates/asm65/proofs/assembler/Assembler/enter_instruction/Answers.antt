@@ -4,7 +4,7 @@ use Rattle.syntax65.specs.Opcodes.{opcode_of}
 use Rattle.syntax65.specs.Trees.{Tree, tree_of}
 use Rattle.language65.specs.Contents.{opcode_part, operand_tree}
 use Rattle.language65.specs.Sizes.{width_of}
-use Rattle.language65.specs.Views.{operand_of, place_in, spot_of}
+use Rattle.language65.specs.Views.{operand_of, place_in}
 use Rattle.module65.specs.Pieces.{given, operand_pieces}
 use Rattle.asm65.specs.Inner.Holding.{Enters}
 use Rattle.asm65.proofs.Enterings.{enters_both}
@@ -14,7 +14,7 @@ use Rattle.asm65.proofs.assembler.Assembler.enter_instruction.Goals as goal
 pub returns : goal.returns
 returns c =
     let place = place_in c.args.stand.at.file.now c.args.stand.at.line in
-    let s = spot_of c.args.stand.spot in
+    let s = c.args.stand.spot in
     let old = c.args.self.now in
     let mid = c.enter_code.new.self in
     let new = c.enter_operand_of.new.self in

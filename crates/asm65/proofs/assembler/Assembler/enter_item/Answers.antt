@@ -1,7 +1,7 @@
 use Rattle.std.proofs.Common.{subst, List, ℕ}
 use Rattle.language65.specs.Contents.{put}
 use Rattle.language65.specs.Parts.{Known}
-use Rattle.language65.specs.Views.{place_in, spot_of}
+use Rattle.language65.specs.Views.{place_in}
 use Rattle.sections65.specs.Standing.{Feeds}
 use Rattle.asm65.proofs.Enterings.{given_enters}
 use Rattle.layout65.proofs.Steps.{ok_then}
@@ -13,7 +13,7 @@ returns-in-Value c = rw c.in-Value.is c.enter_datum.ensures
 pub returns-in-Text : goal.returns-in-Text
 returns-in-Text c =
     let old = c.args.self.now in
-    let s = spot_of c.args.stand.spot in
+    let s = c.args.stand.spot in
     rw c.in-Text.is (ok_then c.append.result
     (λ feeds. given_enters old c.append.new.self (place_in c.args.stand.at.file.now c.args.stand.at.line) s (Known c.in-Text.bytes)
     (subst (λ (bytes : List ℕ). Feeds old.sections c.append.new.self (put s.segment (Known bytes))) c.as_slice.ensures feeds))

@@ -1,6 +1,6 @@
 use Rattle.std.proofs.Common.{refl}
 use Rattle.syntax65.specs.Trees.{tree_of}
-use Rattle.language65.specs.Views.{place_in, spot_of}
+use Rattle.language65.specs.Views.{place_in}
 use Rattle.module65.specs.Pieces.{operand, valued}
 use Rattle.asm65.specs.declared.waiting.Piece.TheVariants.{Operand}
 use Rattle.asm65.proofs.Enterings.{tried_waits}
@@ -11,4 +11,4 @@ pub returns : goal.returns
 returns c =
     let place = place_in c.args.stand.at.file.now c.args.stand.at.line in
     let v = valued (operand c.args.width) (tree_of c.args.value) in
-    ok_then c.wait.result (λ waits. tried_waits c.args.self.now c.put_operand.new.self c.wait.new.self place (spot_of c.args.stand.spot) (Operand c.args.width c.args.value) v c.in_ok-put_operand.field-0 c.in_ok-put_operand.ensures c.if-branch.false refl waits) c.wait.ensures.waits
+    ok_then c.wait.result (λ waits. tried_waits c.args.self.now c.put_operand.new.self c.wait.new.self place c.args.stand.spot (Operand c.args.width c.args.value) v c.in_ok-put_operand.field-0 c.in_ok-put_operand.ensures c.if-branch.false refl waits) c.wait.ensures.waits

@@ -3,8 +3,7 @@ use Rattle.std.specs.Prelude.{Some, None, box_value, true}
 use Rattle.std.specs.Option.{option_map}
 use Rattle.syntax65.specs.Trees.{tree_of}
 use Rattle.language65.specs.Language as l
-use Rattle.language65.specs.Views.{item_of, operand_of, place_in, range_of, spot_of, stated_of}
-use Rattle.layout65.specs.Measuring.{measured_of}
+use Rattle.language65.specs.Views.{item_of, operand_of, place_in, range_of, stated_of}
 use Rattle.module65.specs.Pieces.{exported}
 use Rattle.asm65.proofs.Namings.{mentions_enter}
 use Rattle.asm65.proofs.Statements.{adds_cheap, adds_constant, adds_forced, adds_globals, adds_imports, adds_label, adds_pieces, adds_proc, adds_scope, adds_unnamed, nothing_behind, taken_as}
@@ -13,8 +12,8 @@ use Rattle.asm65.proofs.assembler.Assembler.enter_other.Goals as goal
 pub returns-in-Instruction : goal.returns-in-Instruction
 returns-in-Instruction c =
     let place = place_in c.args.stand.at.file.now c.args.stand.at.line in
-    let s = spot_of c.args.stand.spot in
-    let m = measured_of c.args.measured in
+    let s = c.args.stand.spot in
+    let m = c.args.measured in
     let old = c.args.self.now in
     let new = c.enter_settled.new.self in
     let x : l.Stated = l.instruction c.in-Instruction.mnemonic (operand_of c.in-Instruction.operand) in
@@ -23,8 +22,8 @@ returns-in-Instruction c =
 pub returns-in-Values : goal.returns-in-Values
 returns-in-Values c =
     let place = place_in c.args.stand.at.file.now c.args.stand.at.line in
-    let s = spot_of c.args.stand.spot in
-    let m = measured_of c.args.measured in
+    let s = c.args.stand.spot in
+    let m = c.args.measured in
     let old = c.args.self.now in
     let new = c.enter_values.new.self in
     let x : l.Stated = l.values c.in-Values.width (map item_of c.in-Values.items) in
@@ -33,8 +32,8 @@ returns-in-Values c =
 pub returns-in-Reserve : goal.returns-in-Reserve
 returns-in-Reserve c =
     let place = place_in c.args.stand.at.file.now c.args.stand.at.line in
-    let s = spot_of c.args.stand.spot in
-    let m = measured_of c.args.measured in
+    let s = c.args.stand.spot in
+    let m = c.args.measured in
     let old = c.args.self.now in
     let new = c.enter_room.new.self in
     let x : l.Stated = l.reserve (tree_of c.in-Reserve.count) (option_map tree_of c.in-Reserve.value) in
@@ -43,8 +42,8 @@ returns-in-Reserve c =
 pub returns-in-Align : goal.returns-in-Align
 returns-in-Align c =
     let place = place_in c.args.stand.at.file.now c.args.stand.at.line in
-    let s = spot_of c.args.stand.spot in
-    let m = measured_of c.args.measured in
+    let s = c.args.stand.spot in
+    let m = c.args.measured in
     let old = c.args.self.now in
     let new = c.enter_room-in-Align.new.self in
     let x : l.Stated = l.align (tree_of c.in-Align.multiple) (option_map tree_of c.in-Align.value) in
@@ -53,8 +52,8 @@ returns-in-Align c =
 pub returns-in-FilePart : goal.returns-in-FilePart
 returns-in-FilePart c =
     let place = place_in c.args.stand.at.file.now c.args.stand.at.line in
-    let s = spot_of c.args.stand.spot in
-    let m = measured_of c.args.measured in
+    let s = c.args.stand.spot in
+    let m = c.args.measured in
     let old = c.args.self.now in
     let new = c.enter_part.new.self in
     let range = range_of (box_value c.in-FilePart.range) in
@@ -64,8 +63,8 @@ returns-in-FilePart c =
 pub returns-in-Assert : goal.returns-in-Assert
 returns-in-Assert c =
     let place = place_in c.args.stand.at.file.now c.args.stand.at.line in
-    let s = spot_of c.args.stand.spot in
-    let m = measured_of c.args.measured in
+    let s = c.args.stand.spot in
+    let m = c.args.measured in
     let old = c.args.self.now in
     let new = c.enter_assertion.new.self in
     let x : l.Stated = l.assertion (tree_of c.in-Assert.value) c.in-Assert.action c.in-Assert.text in
@@ -74,8 +73,8 @@ returns-in-Assert c =
 pub returns-in-Label : goal.returns-in-Label
 returns-in-Label c =
     let place = place_in c.args.stand.at.file.now c.args.stand.at.line in
-    let s = spot_of c.args.stand.spot in
-    let m = measured_of c.args.measured in
+    let s = c.args.stand.spot in
+    let m = c.args.measured in
     let old = c.args.self.now in
     let new = c.define_label.new.self in
     let x : l.Stated = l.label c.as_slice-name.result.now in
@@ -84,8 +83,8 @@ returns-in-Label c =
 pub returns-in-CheapLabel : goal.returns-in-CheapLabel
 returns-in-CheapLabel c =
     let place = place_in c.args.stand.at.file.now c.args.stand.at.line in
-    let s = spot_of c.args.stand.spot in
-    let m = measured_of c.args.measured in
+    let s = c.args.stand.spot in
+    let m = c.args.measured in
     let old = c.args.self.now in
     let new = c.define_label-in-CheapLabel.new.self in
     let x : l.Stated = l.cheap_label c.as_slice-name-in-CheapLabel.result.now in
@@ -94,8 +93,8 @@ returns-in-CheapLabel c =
 pub returns-in-UnnamedLabel : goal.returns-in-UnnamedLabel
 returns-in-UnnamedLabel c =
     let place = place_in c.args.stand.at.file.now c.args.stand.at.line in
-    let s = spot_of c.args.stand.spot in
-    let m = measured_of c.args.measured in
+    let s = c.args.stand.spot in
+    let m = c.args.measured in
     let old = c.args.self.now in
     let new = c.define_label-in-UnnamedLabel.new.self in
     let x : l.Stated = l.unnamed_label in
@@ -104,8 +103,8 @@ returns-in-UnnamedLabel c =
 pub returns-in-Constant : goal.returns-in-Constant
 returns-in-Constant c =
     let place = place_in c.args.stand.at.file.now c.args.stand.at.line in
-    let s = spot_of c.args.stand.spot in
-    let m = measured_of c.args.measured in
+    let s = c.args.stand.spot in
+    let m = c.args.measured in
     let old = c.args.self.now in
     let new = c.define_constant.new.self in
     let x : l.Stated = l.constant c.as_slice.result.now (tree_of c.in-Constant.value) in
@@ -114,8 +113,8 @@ returns-in-Constant c =
 pub returns-in-OpenScope-Some : goal.returns-in-OpenScope-Some
 returns-in-OpenScope-Some c =
     let place = place_in c.args.stand.at.file.now c.args.stand.at.line in
-    let s = spot_of c.args.stand.spot in
-    let m = measured_of c.args.measured in
+    let s = c.args.stand.spot in
+    let m = c.args.measured in
     let old = c.args.self.now in
     let new = c.open_block.new.self in
     let x : l.Stated = l.open_scope (Some c.as_slice-in-OpenScope-Some.result.now) in
@@ -124,8 +123,8 @@ returns-in-OpenScope-Some c =
 pub returns-in-OpenScope-None : goal.returns-in-OpenScope-None
 returns-in-OpenScope-None c =
     let place = place_in c.args.stand.at.file.now c.args.stand.at.line in
-    let s = spot_of c.args.stand.spot in
-    let m = measured_of c.args.measured in
+    let s = c.args.stand.spot in
+    let m = c.args.measured in
     let old = c.args.self.now in
     let new = c.open_block-in-OpenScope-None.new.self in
     let x : l.Stated = l.open_scope None in
@@ -134,8 +133,8 @@ returns-in-OpenScope-None c =
 pub returns-in-OpenProc : goal.returns-in-OpenProc
 returns-in-OpenProc c =
     let place = place_in c.args.stand.at.file.now c.args.stand.at.line in
-    let s = spot_of c.args.stand.spot in
-    let m = measured_of c.args.measured in
+    let s = c.args.stand.spot in
+    let m = c.args.measured in
     let old = c.args.self.now in
     let new = c.open_proc.new.self in
     let x : l.Stated = l.open_proc c.as_slice-in-OpenProc.result.now in
@@ -144,8 +143,8 @@ returns-in-OpenProc c =
 pub returns-in-Import : goal.returns-in-Import
 returns-in-Import c =
     let place = place_in c.args.stand.at.file.now c.args.stand.at.line in
-    let s = spot_of c.args.stand.spot in
-    let m = measured_of c.args.measured in
+    let s = c.args.stand.spot in
+    let m = c.args.measured in
     let old = c.args.self.now in
     let new = c.import_names.new.self in
     let x : l.Stated = l.imports c.in-Import.size c.as_slice-in-Import.result.now in
@@ -154,8 +153,8 @@ returns-in-Import c =
 pub returns-in-Global : goal.returns-in-Global
 returns-in-Global c =
     let place = place_in c.args.stand.at.file.now c.args.stand.at.line in
-    let s = spot_of c.args.stand.spot in
-    let m = measured_of c.args.measured in
+    let s = c.args.stand.spot in
+    let m = c.args.measured in
     let old = c.args.self.now in
     let new = c.import_names-in-Global.new.self in
     let x : l.Stated = l.globals c.in-Global.size c.as_slice-in-Global.result.now in
@@ -164,8 +163,8 @@ returns-in-Global c =
 pub returns-in-ForceImport : goal.returns-in-ForceImport
 returns-in-ForceImport c =
     let place = place_in c.args.stand.at.file.now c.args.stand.at.line in
-    let s = spot_of c.args.stand.spot in
-    let m = measured_of c.args.measured in
+    let s = c.args.stand.spot in
+    let m = c.args.measured in
     let old = c.args.self.now in
     let new = c.demand_names.new.self in
     let x : l.Stated = l.forced c.as_slice-in-ForceImport.result.now in
@@ -174,8 +173,8 @@ returns-in-ForceImport c =
 pub returns-in-Export : goal.returns-in-Export
 returns-in-Export c =
     let place = place_in c.args.stand.at.file.now c.args.stand.at.line in
-    let s = spot_of c.args.stand.spot in
-    let m = measured_of c.args.measured in
+    let s = c.args.stand.spot in
+    let m = c.args.measured in
     let old = c.args.self.now in
     let new = c.mention.new.self in
     let x : l.Stated = l.exports c.as_slice-in-Export.result.now in

@@ -1,10 +1,8 @@
 use Rattle.language65.specs.Parts.{Known}
 use Rattle.language65.specs.Contents.{file_bytes}
-use Rattle.language65.specs.Views.{spot_of}
-use Rattle.layout65.specs.Views.{settled_in}
 use Rattle.asm65.proofs.Enterings.{given_enters}
 use Rattle.layout65.proofs.Steps.{ok_then}
 use Rattle.asm65.proofs.assembler.Assembler.enter_part.Goals as goal
 
 pub returns : goal.returns
-returns c = ok_then c.put_part.result (λ feeds place. given_enters c.args.self.now c.put_part.new.sections place (spot_of c.args.spot) (Known (file_bytes c.args.count c.args.bytes (settled_in c.args.settled))) feeds) c.put_part.ensures
+returns c = ok_then c.put_part.result (λ feeds place. given_enters c.args.self.now c.put_part.new.sections place c.args.spot (Known (file_bytes c.args.count c.args.bytes c.args.settled)) feeds) c.put_part.ensures

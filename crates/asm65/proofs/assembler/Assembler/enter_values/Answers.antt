@@ -4,8 +4,8 @@ use Rattle.std.specs.Vec.Iter.{into_iter_items}
 use Rattle.source65.specs.declared.place.Place.{Place}
 use Rattle.object65.specs.declared.object.Width.{Width}
 use Rattle.language65.specs.declared.language.Item.{Item}
-use Rattle.language65.specs.Laid.{Spot}
-use Rattle.language65.specs.Views.{item_of, place_in, spot_of}
+use Rattle.language65.specs.declared.laid.Spot.{Spot}
+use Rattle.language65.specs.Views.{item_of, place_in}
 use Rattle.module65.specs.Pieces.{item_piece}
 use Rattle.asm65.specs.declared.assembler.Assembler.{Assembler}
 use Rattle.asm65.specs.Inner.Holding.{Enters}
@@ -17,13 +17,13 @@ Entered place s width old new items = Enters place s (map (item_piece width) (ma
 
 pub loop-item-init : goal.loop-item-init
 loop-item-init c b h =
-    subst (Entered (place_in c.args.stand.at.file.now c.args.stand.at.line) (spot_of c.args.stand.spot) c.args.width c.args.self.now b)
+    subst (Entered (place_in c.args.stand.at.file.now c.args.stand.at.line) c.args.stand.spot c.args.width c.args.self.now b)
     (c.into_iter-item-iterator.ensures.into_iter_gives.0 ∙ c.into_vec-item-items.ensures) h
 
 pub loop-item-preserved : goal.loop-item-preserved
 loop-item-preserved c b h =
     let place = place_in c.args.stand.at.file.now c.args.stand.at.line in
-    let s = spot_of c.args.stand.spot in
+    let s = c.args.stand.spot in
     let width = c.args.width in
     let a = c.loop-item.self in
     let mid = c.enter_item.new.self in
@@ -35,7 +35,7 @@ loop-item-preserved c b h =
 pub returns : goal.returns
 returns c =
     let place = place_in c.args.stand.at.file.now c.args.stand.at.line in
-    let s = spot_of c.args.stand.spot in
+    let s = c.args.stand.spot in
     let a = c.loop-item.self in
     let none : into_iter_items c.loop-item.item-iterator ≡ [] = grind (arith, common_steps) in
     c.loop-item.invariant a (subst (Entered place s c.args.width a a) (sym none) (enters_none place s a))

@@ -1,5 +1,5 @@
 use Rattle.std.proofs.Common.{◌∙◌, ap, map}
-use Rattle.language65.specs.Views.{place_in, spot_of}
+use Rattle.language65.specs.Views.{place_in}
 use Rattle.symbols65.specs.Views.{table_of, with_names}
 use Rattle.asm65.specs.Inner.Taking.{is_for_zero_page, mentioned}
 use Rattle.asm65.proofs.Namings.{mentions_enter, more_imported, on_both, turns_after}
@@ -10,7 +10,7 @@ returns c =
     let old = c.args.self.now in
     let mid = c.mention.new.self in
     let place = place_in c.args.stand.at.file.now c.args.stand.at.line in
-    let s = spot_of c.args.stand.spot in
+    let s = c.args.stand.spot in
     let names = c.args.names.now in
     let ps = map (mentioned c.args.mention) names in
     let b = is_for_zero_page c.args.size in

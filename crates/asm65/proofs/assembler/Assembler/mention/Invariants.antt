@@ -1,11 +1,11 @@
 use Rattle.std.proofs.Common.{map, take}
-use Rattle.language65.specs.Views.{place_in, spot_of}
+use Rattle.language65.specs.Views.{place_in}
 use Rattle.asm65.specs.Inner.Putting.{KeepsTables}
 use Rattle.asm65.specs.Inner.Taking.{Mentions, mentioned}
 use Rattle.asm65.proofs.assembler.Assembler.mention.Given as goal
 
 abbrev pub invariant-loop-name : goal.invariant-loop-name
 invariant-loop-name l = record {
-  mentioned : Mentions (place_in l.fn.stand.at.file.now l.fn.stand.at.line) (spot_of l.fn.stand.spot) (take l.name-index (map (mentioned l.fn.mention) l.names)) l.fn.self l.self;
+  mentioned : Mentions (place_in l.fn.stand.at.file.now l.fn.stand.at.line) l.fn.stand.spot (take l.name-index (map (mentioned l.fn.mention) l.names)) l.fn.self l.self;
   tables : KeepsTables l.fn.self l.self;
 }

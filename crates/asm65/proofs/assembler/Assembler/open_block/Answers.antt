@@ -2,7 +2,6 @@ use Rattle.std.proofs.Common.{[]}
 use Rattle.std.specs.Prelude.{false}
 use Rattle.std.specs.Option.{option_map}
 use Rattle.language65.specs.Symbols.{Scope}
-use Rattle.language65.specs.Views.{spot_of}
 use Rattle.symbols65.specs.Views.{with_scope}
 use Rattle.asm65.proofs.Enterings.{enters_none}
 use Rattle.asm65.proofs.Namings.{more_opened, on_both, turns_after}
@@ -11,7 +10,7 @@ use Rattle.asm65.proofs.assembler.Assembler.open_block.Goals as goal
 pub returns : goal.returns
 returns c =
     let old = c.args.self.now in
-    let s = spot_of c.args.spot in
+    let s = c.args.spot in
     let b : Scope = record { within = c.args.spot.scope; name = option_map (λ n. n.now) c.args.name; is_proc = false } in
     on_both c.open_scope.result (λ table known place.
     turns_after place s [] (λ y. with_scope y b) old old c.open_scope.new.self (enters_none place s old) c.open_scope.ensures.keeps table known (λ y. more_opened y b))

@@ -1,7 +1,6 @@
 use Rattle.std.proofs.Common.{◌≡◌, ◌∙◌, Some, refl, ap}
 use Rattle.std.specs.Prelude.{true}
 use Rattle.language65.specs.Symbols.{Definition, Scope, Symbols, named}
-use Rattle.language65.specs.Views.{spot_of}
 use Rattle.symbols65.specs.Views.{table_of, with_definition, with_scope}
 use Rattle.asm65.specs.declared.assembler.Assembler.{Assembler}
 use Rattle.asm65.specs.Inner.Taking.{label_at, with_symbols}
@@ -14,7 +13,7 @@ returns c =
     let mid : Assembler = c.define.new.self in
     let new : Assembler = c.open_scope.new.self in
     let key = named c.args.spot.scope c.args.name.now in
-    let d : Definition = label_at key (spot_of c.args.spot) c.args.size in
+    let d : Definition = label_at key c.args.spot c.args.size in
     let b : Scope = record { within = c.args.spot.scope; name = Some c.args.name.now; is_proc = true } in
     let first : table_of mid.symbols ≡ with_definition (table_of old.symbols) d = c.in_ok-define.ensures.table ∙ ap (with_definition (table_of old.symbols)) (c.label.ensures.seen key) in
     on_both c.open_scope.result (λ table known place count t h inside unnamed.

@@ -6,16 +6,17 @@ use Rattle.language65.specs.declared.fault.AsmFault.{AsmFault}
 use Rattle.language65.specs.Faults.{is_failure, is_memory, is_outside}
 use Rattle.layout65.proofs.Steps.{unless_then}
 use Rattle.source65.specs.declared.place.Place.{Place}
-use Rattle.language65.specs.Laid.{Spot}
+use Rattle.language65.specs.declared.laid.Spot.{Spot}
 use Rattle.language65.specs.Language.{Stated}
 use Rattle.language65.specs.Layout as layout
 use Rattle.language65.specs.Layout.{Standing}
 use Rattle.language65.specs.LineFaults.{line_fault}
 use Rattle.language65.specs.Symbols.{Symbols}
-use Rattle.language65.specs.Views.{place_in, spot_of, stated_of}
+use Rattle.language65.specs.Views.{place_in, stated_of}
 use Rattle.layout65.specs.Advancing.{advanced}
 use Rattle.layout65.specs.Counting.{AreInside, HasNumbers}
-use Rattle.layout65.specs.Measuring.{Measured, measured, measured_of}
+use Rattle.layout65.specs.declared.measuring.Measured.{Measured}
+use Rattle.layout65.specs.Measuring.{measured}
 use Rattle.layout65.specs.Sounds.{IsCounted}
 use Rattle.layout65.specs.Views.{standing_of}
 use Rattle.layout65.specs.declared.standing.Standing as code
@@ -42,11 +43,11 @@ pub returns-clause-placed : goal.returns-clause-placed
 returns-clause-placed c = λ count t h.
     (let old : Assembler = c.args.self.now in
     let x : Stated = stated_of c.args.statement.now in
-    let m : Measured = measured_of c.in_ok-measured.measured in
+    let m : Measured = c.in_ok-measured.measured in
     let at : measured t.symbols t.standing x ≡ Ok m = ap (λ (y : Symbols). measured y t.standing x) (sym h.symbols) ∙ ap (λ (w : Standing). measured (table_of old.symbols) w x) (sym h.standing) ∙ c.in_ok-measured.ensures.measured in
     record {
       faultless = without_fault t.symbols t.standing x m at;
-      spot = c.spot-spot.ensures ∙ ap layout.spot_of h.standing;
+      spot = c.spot-spot.ensures ∙ ap layout.h.standing;
       measured = sym (is_measured t.symbols t.standing x m at);
     })
 
@@ -59,8 +60,8 @@ returns-clause-new c =
     let w : Standing = standing_of old.standing in
     let (count, t, h, few) = c.requires in
     let before : AreBefore w.unnamed y.definitions = subst (λ (z : Symbols). AreBefore w.unnamed z.definitions) (sym h.symbols) (subst (λ (v : Standing). AreBefore v.unnamed t.symbols.definitions) (sym h.standing) h.unnamed) in
-    let new : IsNew y (layout.spot_of w) x = is_new y w x (without_fault y w x (measured_of c.in_ok-measured.measured) c.in_ok-measured.ensures.measured) before in
-    subst (λ (z : Symbols). IsNew z (spot_of c.spot-spot.result) x) (ap table_of (sym c.in_ok-ask.ensures.tables.symbols))
+    let new : IsNew y (layout.w) x = is_new y w x (without_fault y w x (c.in_ok-measured.measured) c.in_ok-measured.ensures.measured) before in
+    subst (λ (z : Symbols). IsNew z (c.spot-spot.result) x) (ap table_of (sym c.in_ok-ask.ensures.tables.symbols))
     (subst (λ (s : Spot). IsNew y s x) (sym c.spot-spot.ensures) new)
 
 pub returns-clause-holds : goal.returns-clause-holds
@@ -69,14 +70,14 @@ returns-clause-holds c = λ count t h.
     let mid : Assembler = c.ask.new.self in
     let x : Stated = stated_of c.args.statement.now in
     let place : Place = place_in c.args.at.file.now c.args.at.line in
-    let m : Measured = measured_of c.in_ok-measured.measured in
+    let m : Measured = c.in_ok-measured.measured in
     let y : Symbols = table_of old.symbols in
     let w : Standing = standing_of old.standing in
     let same : table_of mid.symbols ≡ y = ap table_of c.in_ok-ask.ensures.tables.symbols in
     let stand : standing_of mid.standing ≡ w = ap standing_of c.in_ok-ask.ensures.tables.standing in
-    let segment = ap (λ (s : Spot). s.segment) c.spot-spot.ensures ∙ ap (λ (v : Standing). (layout.spot_of v).segment) h.standing in
+    let segment = ap (λ (s : Spot). s.segment) c.spot-spot.ensures ∙ ap (λ (v : Standing). (layout.v).segment) h.standing in
     let knows = holds_known count t old c.measure.new.known h c.in_ok-measured.ensures.table in
-    let held : Holds count (asked_of (layout.spot_of t.standing).segment x t) mid = subst (λ (g : ℕ). Holds count (asked_of g x t) mid) segment (c.in_ok-ask.ensures.asked count t knows) in
+    let held : Holds count (asked_of (layout.t.standing).segment x t) mid = subst (λ (g : ℕ). Holds count (asked_of g x t) mid) segment (c.in_ok-ask.ensures.asked count t knows) in
     let moved : standing_of c.advance.new.self ≡ layout.standing_behind t.symbols t.standing x =
     c.in_ok-advance.ensures.moved
     ∙ ap (λ (z : Symbols). advanced z (standing_of mid.standing) x m.length m.multiple) same
@@ -104,4 +105,4 @@ pub returns-in_err-measured-clause-inside : goal.returns-in_err-measured-clause-
 returns-in_err-measured-clause-inside c =
     let p = err_from_is_err_and c.from_residual.result c.from_residual.ensures.1 in
     let answer : Result found.Measured AsmFault = Err c.in_err-measured.field-0.0 in
-    rw (p.1, p.2) (measured_inside answer measured_of (table_of c.args.self.now.symbols) (standing_of c.args.self.now.standing) (stated_of c.args.statement.now) c.in_err-measured.ensures.measured)
+    rw (p.1, p.2) (measured_inside answer (λ m. m) (table_of c.args.self.now.symbols) (standing_of c.args.self.now.standing) (stated_of c.args.statement.now) c.in_err-measured.ensures.measured)

@@ -4,7 +4,7 @@ use Rattle.std.proofs.lemmas.Int.{to_z-of_z}
 use Rattle.syntax65.specs.Trees.{tree_of}
 use Rattle.language65.specs.Contents.{stored}
 use Rattle.object65.specs.Form.{lit}
-use Rattle.language65.specs.Views.{place_in, spot_of}
+use Rattle.language65.specs.Views.{place_in}
 use Rattle.symbols65.specs.Views.{table_of}
 use Rattle.module65.specs.Pieces.{datum, valued}
 use Rattle.asm65.specs.declared.assembler.Assembler.{Assembler}
@@ -18,7 +18,7 @@ returns-in-Some-2 c =
     let old : Assembler = c.args.self.now in
     let new = c.put_form.new.sections in
     let place = place_in c.args.stand.at.file.now c.args.stand.at.line in
-    let s = spot_of c.args.stand.spot in
+    let s = c.args.stand.spot in
     let e = tree_of c.args.value.now in
     let f = c.in-Some-2.form in
     let final = c.in_ok-form.ensures.stays f c.in-Some-2.is in
@@ -30,7 +30,7 @@ returns-in-Some c =
     let old : Assembler = c.args.self.now in
     let new = c.put_literal.new.sections in
     let place = place_in c.args.stand.at.file.now c.args.stand.at.line in
-    let s = spot_of c.args.stand.spot in
+    let s = c.args.stand.spot in
     let e = tree_of c.args.value.now in
     let v = c.in-Some.number in
     let fits : FitsSigned w64 v = search rules in

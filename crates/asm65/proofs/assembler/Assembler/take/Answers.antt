@@ -1,6 +1,5 @@
 use Rattle.language65.specs.Faults.{is_outside}
-use Rattle.language65.specs.Views.{place_in, spot_of, stated_of}
-use Rattle.layout65.specs.Measuring.{measured_of}
+use Rattle.language65.specs.Views.{place_in, stated_of}
 use Rattle.layout65.proofs.Steps.{unless_then}
 use Rattle.asm65.proofs.Takings.{takes_entered, takes_refused}
 use Rattle.asm65.proofs.assembler.Assembler.take.Goals as goal
@@ -14,4 +13,4 @@ returns-in-Err-clause-taken c = λ count t h few.
 pub returns-in_ok-enter-in-Ok-clause-taken : goal.returns-in_ok-enter-in-Ok-clause-taken
 returns-in_ok-enter-in-Ok-clause-taken c = λ count t h few.
     (let found = c.in-Ok.field-0 in
-    takes_entered count t (place_in c.args.at.file.now c.args.at.line) (stated_of c.args.statement) (spot_of found.spot) (measured_of found.measured) c.args.self.now c.place.new.self c.enter.new.self h (c.in-Ok.ensures.placed count t h) (c.in-Ok.ensures.holds count t h) c.in_ok-enter-in-Ok.ensures)
+    takes_entered count t (place_in c.args.at.file.now c.args.at.line) (stated_of c.args.statement) found.spot found.measured c.args.self.now c.place.new.self c.enter.new.self h (c.in-Ok.ensures.placed count t h) (c.in-Ok.ensures.holds count t h) c.in_ok-enter-in-Ok.ensures)

@@ -1,5 +1,5 @@
 use Rattle.std.proofs.Common.{refl}
-use Rattle.language65.specs.Views.{place_in, spot_of}
+use Rattle.language65.specs.Views.{place_in}
 use Rattle.asm65.specs.declared.assembler.Assembler.{Assembler}
 use Rattle.asm65.specs.declared.waiting.Waiting.{Waiting}
 use Rattle.layout65.proofs.Steps.{ok_then}
@@ -13,4 +13,4 @@ returns-clause-waits c =
     let place = place_in c.args.stand.at.file.now c.args.stand.at.line in
     let w : Waiting = record { file = c.in_ok-file.file; line = c.args.stand.at.line; spot = c.args.stand.spot; piece = c.args.piece } in
     let file = c.in_ok-file.ensures.place in
-    ok_then c.defer.result (λ awaits. waits_behind old new place (spot_of c.args.stand.spot) w (record { symbols = refl; known = refl; standing = refl; texts = refl }) awaits c.place_of_file.ensures.more c.in_ok-push.ensures.items file refl refl) c.defer.ensures
+    ok_then c.defer.result (λ awaits. waits_behind old new place c.args.stand.spot w (record { symbols = refl; known = refl; standing = refl; texts = refl }) awaits c.place_of_file.ensures.more c.in_ok-push.ensures.items file refl refl) c.defer.ensures

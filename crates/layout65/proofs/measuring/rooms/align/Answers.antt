@@ -4,7 +4,7 @@ use Rattle.std.specs.Option.{option_map}
 use Rattle.std.proofs.lemmas.Result.{err_from_is_err_and}
 use Rattle.syntax65.specs.Trees.{Tree, tree_of}
 use Rattle.language65.specs.declared.fault.AsmFault.TheVariants.{BadOperand}
-use Rattle.language65.specs.Laid.{Spot}
+use Rattle.language65.specs.declared.laid.Spot.{Spot}
 use Rattle.language65.specs.Layout.{spot_of}
 use Rattle.layout65.specs.Views.{standing_of}
 use Rattle.language65.specs.LineFaults.{is_byte_value, when, unless_fault}

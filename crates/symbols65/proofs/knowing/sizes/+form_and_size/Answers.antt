@@ -3,7 +3,6 @@ use Rattle.std.specs.Result.{result_ok}
 use Rattle.syntax65.specs.Trees.{unary, binary, tree_of}
 use Rattle.language65.specs.Norms.{literal_in, norm_of}
 use Rattle.language65.specs.Sizes.{larger, size_by, size_of}
-use Rattle.language65.specs.Views.{spot_of}
 use Rattle.symbols65.specs.Forms.{binary_form, literal_of, prefix_form}
 use Rattle.symbols65.specs.Views.{table_of}
 use Rattle.symbols65.proofs.Sizing.{binary_known, literal_known, prefix_known}
@@ -12,7 +11,7 @@ use Rattle.symbols65.proofs.knowing.sizes.+form_and_size.Goals as goal
 pub returns-in_ok-form-in-Prefix-clause-form : goal.returns-in_ok-form-in-Prefix-clause-form
 returns-in_ok-form-in-Prefix-clause-form t c =
     let y = table_of c.args.symbols.now in
-    let s = spot_of c.args.spot in
+    let s = c.args.spot in
     let e = tree_of c.deref.result.now in
     let same : c.deref.result.now ≡ c.in-Prefix.part.value = search rules in
     c.sized_by_value.ensures.form
@@ -32,10 +31,10 @@ whole t c =
     ∙ sym (ap (λ v. binary c.in-Binary.op (tree_of c.deref-in-Binary.result.now) (tree_of v)) right)
 
 -- the form of the whole
-both : (t : ℕ) (c : goal.After-sized_by_value-in-Binary t) → c.in_ok-form-in-Binary.form ≡ result_ok (norm_of (table_of c.args.symbols.now) (spot_of c.args.spot) (tree_of c.args.value.now))
+both : (t : ℕ) (c : goal.After-sized_by_value-in-Binary t) → c.in_ok-form-in-Binary.form ≡ result_ok (norm_of (table_of c.args.symbols.now) c.args.spot (tree_of c.args.value.now))
 both t c =
     let y = table_of c.args.symbols.now in
-    let s = spot_of c.args.spot in
+    let s = c.args.spot in
     let e = tree_of c.deref-in-Binary.result.now in
     let g = tree_of c.deref-in-Binary-2.result.now in
     c.in_ok-form-in-Binary.ensures
@@ -50,7 +49,7 @@ returns-in_ok-form-in-Binary-clause-form t c = c.sized_by_value-in-Binary.ensure
 pub returns-in_ok-form-in-Binary-clause-size : goal.returns-in_ok-form-in-Binary-clause-size
 returns-in_ok-form-in-Binary-clause-size t c =
     let y = table_of c.args.symbols.now in
-    let s = spot_of c.args.spot in
+    let s = c.args.spot in
     let e = tree_of c.deref-in-Binary.result.now in
     let g = tree_of c.deref-in-Binary-2.result.now in
     let parts = c.larger-other.ensures

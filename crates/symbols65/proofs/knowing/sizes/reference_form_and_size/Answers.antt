@@ -4,7 +4,6 @@ use Rattle.syntax65.specs.Trees.{tree_of}
 use Rattle.language65.specs.Names.{meaning_of}
 use Rattle.language65.specs.Norms.{literal_in}
 use Rattle.language65.specs.Sizes.{size_by, size_of_meaning}
-use Rattle.language65.specs.Views.{spot_of}
 use Rattle.symbols65.specs.Views.{table_of}
 use Rattle.symbols65.proofs.Sizing.{meaningless}
 use Rattle.symbols65.proofs.knowing.sizes.reference_form_and_size.Goals as goal
@@ -12,7 +11,7 @@ use Rattle.symbols65.proofs.knowing.sizes.reference_form_and_size.Goals as goal
 pub returns-in_ok-pass_on_memory-in-Err-clause-form : goal.returns-in_ok-pass_on_memory-in-Err-clause-form
 returns-in_ok-pass_on_memory-in-Err-clause-form c =
     let y = table_of c.args.symbols.now in
-    let s = spot_of c.args.spot in
+    let s = c.args.spot in
     let e = tree_of c.args.operand.now in
     let none : meaning_of y s e ≡ Err c.in-Err.fault = search rules in
     sym (ap result_ok (meaningless y s e c.in-Err.fault c.requires.reference none))
@@ -20,7 +19,7 @@ returns-in_ok-pass_on_memory-in-Err-clause-form c =
 pub returns-in_ok-pass_on_memory-in-Err-clause-size : goal.returns-in_ok-pass_on_memory-in-Err-clause-size
 returns-in_ok-pass_on_memory-in-Err-clause-size c =
     let y = table_of c.args.symbols.now in
-    let s = spot_of c.args.spot in
+    let s = c.args.spot in
     let e = tree_of c.args.operand.now in
     let none : meaning_of y s e ≡ Err c.in-Err.fault = search rules in
     sym (ap (λ r. size_by (size_of_meaning y (meaning_of y s e)) (literal_in r)) (meaningless y s e c.in-Err.fault c.requires.reference none)

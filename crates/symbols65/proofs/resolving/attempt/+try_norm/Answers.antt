@@ -1,7 +1,6 @@
 use Rattle.std.proofs.Common.{subst, Result}
 use Rattle.object65.specs.Form.{Form}
 use Rattle.base65.specs.Outcome.{Gives}
-use Rattle.language65.specs.Views.{spot_of}
 use Rattle.symbols65.specs.declared.resolving.attempt.Stop.{Stop}
 use Rattle.symbols65.specs.Resolving.{lacks_memory, operand_form}
 use Rattle.symbols65.specs.Inner.Sources.{known_by}
@@ -11,6 +10,6 @@ use Rattle.symbols65.proofs.resolving.attempt.+try_norm.Goals as goal
 
 pub returns-in-Name : goal.returns-in-Name
 returns-in-Name t c =
-    let s = spot_of c.args.spot in
+    let s = c.args.spot in
     let P : Result Form Stop → Type 0 = λ r. Gives lacks_memory (λ f. f) c.operand_norm.result r in
     subst P (operand_tried (operand_form (known_by c.args.symbols.now c.args.source) (table_of c.args.symbols.now) s) s c.args.value.now c.in-Name.is) c.operand_norm.ensures

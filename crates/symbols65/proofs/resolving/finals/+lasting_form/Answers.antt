@@ -1,7 +1,6 @@
 use Rattle.std.proofs.Common.{rules, ◌≡◌, Option, Some, length, sym, subst, ap, ◌∙◌}
 use Rattle.syntax65.specs.Trees.{unary, binary, tree_of}
 use Rattle.object65.specs.Form.{Form}
-use Rattle.language65.specs.Views.{spot_of}
 use Rattle.symbols65.specs.Finals.{IsFinalWithin}
 use Rattle.symbols65.specs.Forms.{binary_form, prefix_form}
 use Rattle.symbols65.specs.Views.{table_of}
@@ -11,7 +10,7 @@ use Rattle.symbols65.proofs.resolving.finals.+lasting_form.Goals as goal
 pub returns-in_ok-part-in-Prefix : goal.returns-in_ok-part-in-Prefix
 returns-in_ok-part-in-Prefix t c =
     let y = table_of c.args.symbols.now in
-    let s = spot_of c.args.spot in
+    let s = c.args.spot in
     let n = length y.definitions in
     let e = tree_of c.deref.result.now in
     let part = c.in_ok-part-in-Prefix.part in
@@ -25,7 +24,7 @@ returns-in_ok-part-in-Prefix t c =
 pub returns-in_ok-right-in-Binary : goal.returns-in_ok-right-in-Binary
 returns-in_ok-right-in-Binary t c =
     let y = table_of c.args.symbols.now in
-    let s = spot_of c.args.spot in
+    let s = c.args.spot in
     let n = length y.definitions in
     let e = tree_of c.deref-in-Binary.result.now in
     let g = tree_of c.deref-in-Binary-2.result.now in

@@ -2,7 +2,6 @@ use Rattle.std.proofs.Common.{◌≡◌, ℕ, Option, ap, option_map}
 use Rattle.std.specs.Prelude.{IfSome}
 use Rattle.std.proofs.lemmas.Result.{IfOk-weaker}
 use Rattle.syntax65.specs.Trees.{tree_of}
-use Rattle.language65.specs.Views.{spot_of}
 use Rattle.symbols65.specs.declared.resolving.attempt.Source.TheVariants.{Finals}
 use Rattle.symbols65.specs.Hanging.{HangsOn, needed_in}
 use Rattle.symbols65.specs.Inner.Sources.{known_by}
@@ -19,7 +18,7 @@ returns-else-not-are_final c =
     let y = table_of t in
     let held = c.in-Some.definition.now in
     let d = definition_seen (key_at t c.args.place) held in
-    let s = spot_of held.spot in
+    let s = held.spot in
     let e = tree_of c.in-Some-value.value in
     let P : Option ℕ → Type 0 = λ o. o ≡ needed_in (tried (known_by t Finals) y s e) in
     IfOk-weaker c.needed_by.result P (λ o. IfSome o (λ k. HangsOn y c.args.place k))

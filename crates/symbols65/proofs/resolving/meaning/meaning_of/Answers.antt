@@ -4,7 +4,6 @@ use Rattle.syntax65.specs.Trees.{tree_of}
 use Rattle.language65.specs.declared.fault.AsmFault.{AsmFault}
 use Rattle.language65.specs.Faults.{is_memory}
 use Rattle.language65.specs.Names.{Meaning, meaning_of}
-use Rattle.language65.specs.Views.{spot_of}
 use Rattle.symbols65.specs.Resolving.{meaning_in}
 use Rattle.symbols65.specs.Views.{table_of}
 use Rattle.symbols65.proofs.NameParts.{name_is}
@@ -13,6 +12,6 @@ use Rattle.symbols65.proofs.resolving.meaning.meaning_of.Goals as goal
 pub returns-in-Name : goal.returns-in-Name
 returns-in-Name c =
     let y = table_of c.args.symbols.now in
-    let s = spot_of c.args.spot in
+    let s = c.args.spot in
     let P : Result Meaning AsmFault → Type 0 = λ r. Gives is_memory meaning_in c.name_meaning.result r in
     subst P (sym (ap (λ e. meaning_of y s (tree_of e)) c.in-Name.is ∙ name_is y s c.in-Name.name.is_global c.in-Name.name.parts)) c.name_meaning.ensures

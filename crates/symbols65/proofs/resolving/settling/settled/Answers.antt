@@ -1,7 +1,6 @@
 use Rattle.syntax65.specs.Trees.{tree_of}
-use Rattle.language65.specs.Views.{spot_of}
 use Rattle.symbols65.proofs.Settling.{attempt_settles}
 use Rattle.symbols65.proofs.resolving.settling.settled.Goals as goal
 
 pub returns : goal.returns
-returns c = attempt_settles c.args.symbols.now (spot_of c.args.spot) (tree_of c.args.value.now) c.try_norm.result c.try_norm.ensures
+returns c = attempt_settles c.args.symbols.now c.args.spot (tree_of c.args.value.now) c.try_norm.result c.try_norm.ensures

@@ -2,9 +2,8 @@ use Rattle.std.proofs.Common.{rules, ◌≡◌, sym, ap, ◌∙◌, ℕ, List, l
 use Rattle.std.proofs.lemmas.List.{nil_from_length}
 use Rattle.syntax65.specs.Trees.{Tree, tree_of}
 use Rattle.object65.specs.Form.{Form}
-use Rattle.language65.specs.Laid.{Spot}
+use Rattle.language65.specs.declared.laid.Spot.{Spot}
 use Rattle.language65.specs.Symbols.{Symbols}
-use Rattle.language65.specs.Views.{spot_of}
 use Rattle.symbols65.specs.Views.{table_of}
 use Rattle.language65.specs.Faults.{is_memory}
 use Rattle.symbols65.specs.Inner.Knowns.{without}
@@ -57,12 +56,12 @@ unless_true false h = h
 -- ---- The answers.
 
 pub find-init : goal.find-init
-find-init c = rw c.new-waiting.ensures.items (pursuit_starts (table_of c.args.symbols.now) c.args.self.now.states.items (expression_course (table_of c.args.symbols.now) (spot_of c.args.spot) (tree_of c.args.value.now)) c.requires.table)
+find-init c = rw c.new-waiting.ensures.items (pursuit_starts (table_of c.args.symbols.now) c.args.self.now.states.items (expression_course (table_of c.args.symbols.now) c.args.spot (tree_of c.args.value.now)) c.requires.table)
 
 pub returns-in-None-clause-form : goal.returns-in-None-clause-form
 returns-in-None-clause-form c =
     let table = table_of c.args.symbols.now in
-    let s = spot_of c.args.spot in
+    let s = c.args.spot in
     let e = tree_of c.args.value.now in
     let v = expression_course table s e in
     let states = c.find.self.states.items in
@@ -74,27 +73,27 @@ returns-in-None-clause-form c =
 pub returns-in-None-clause-table : goal.returns-in-None-clause-table
 returns-in-None-clause-table c =
     let table = table_of c.args.symbols.now in
-    let v = expression_course table (spot_of c.args.spot) (tree_of c.args.value.now) in
+    let v = expression_course table c.args.spot (tree_of c.args.value.now) in
     let zero : length c.find.waiting.items ≡ 0 = search (rules, c.in-None.ensures.cases) in
     pursuit_table table c.find.self.states.items v c.find.waiting.items c.find.invariant (nil_from_length c.find.waiting.items zero)
 
 pub settle-requires : goal.settle-requires
 settle-requires c =
     let table = table_of c.args.symbols.now in
-    let v = expression_course table (spot_of c.args.spot) (tree_of c.args.value.now) in
+    let v = expression_course table c.args.spot (tree_of c.args.value.now) in
     pursuit_inside table c.find.self.states.items v c.find.waiting.items c.pop.new.self.items c.in-Some.last c.find.invariant c.in-Some.ensures.items
 
 pub find-smaller-in-Continue-1 : goal.find-smaller-in-Continue-1
 find-smaller-in-Continue-1 c =
     let table = table_of c.args.symbols.now in
-    let v = expression_course table (spot_of c.args.spot) (tree_of c.args.value.now) in
+    let v = expression_course table c.args.spot (tree_of c.args.value.now) in
     let lt = pursuit_inside table c.find.self.states.items v c.find.waiting.items c.pop.new.self.items c.in-Some.last c.find.invariant c.in-Some.ensures.items in
     rw c.in_ok-settle-in-Some.ensures (up_smaller c.find.self.states.items c.find.waiting.items c.pop.new.self.items c.in-Some.last c.in-Ok.form lt c.in-Some.ensures.items)
 
 pub find-preserved-in-Continue-1 : goal.find-preserved-in-Continue-1
 find-preserved-in-Continue-1 c =
     let table = table_of c.args.symbols.now in
-    let s = spot_of c.args.spot in
+    let s = c.args.spot in
     let e = tree_of c.args.value.now in
     let v = expression_course table s e in
     let states = c.find.self.states.items in
@@ -105,7 +104,7 @@ find-preserved-in-Continue-1 c =
 pub returns-in-Err-Fault-clause-form : goal.returns-in-Err-Fault-clause-form
 returns-in-Err-Fault-clause-form c =
     let table = table_of c.args.symbols.now in
-    let s = spot_of c.args.spot in
+    let s = c.args.spot in
     let e = tree_of c.args.value.now in
     let v = expression_course table s e in
     let states = c.find.self.states.items in
@@ -116,12 +115,12 @@ returns-in-Err-Fault-clause-form c =
 
 pub returns-in-Err-Fault-clause-table : goal.returns-in-Err-Fault-clause-table
 returns-in-Err-Fault-clause-table c =
-    unless_true (is_memory c.in-Err-Fault.fault) (lost (table_of c.args.symbols.now) (spot_of c.args.spot) (tree_of c.args.value.now) c.find.self.states.items c.give_up.new.self.states.items c.deref-in-Err-Fault.result.now c.find.waiting.items c.find.invariant c.give_up.ensures.same c.give_up.ensures.hung c.deref-in-Err-Fault.ensures.value)
+    unless_true (is_memory c.in-Err-Fault.fault) (lost (table_of c.args.symbols.now) c.args.spot (tree_of c.args.value.now) c.find.self.states.items c.give_up.new.self.states.items c.deref-in-Err-Fault.result.now c.find.waiting.items c.find.invariant c.give_up.ensures.same c.give_up.ensures.hung c.deref-in-Err-Fault.ensures.value)
 
 pub returns-then-not-may_be_looked_for-clause-form : goal.returns-then-not-may_be_looked_for-clause-form
 returns-then-not-may_be_looked_for-clause-form c =
     let table = table_of c.args.symbols.now in
-    let s = spot_of c.args.spot in
+    let s = c.args.spot in
     let e = tree_of c.args.value.now in
     let v = expression_course table s e in
     let states = c.find.self.states.items in
@@ -138,7 +137,7 @@ returns-then-not-may_be_looked_for-clause-form c =
 pub returns-then-not-may_be_looked_for-clause-table : goal.returns-then-not-may_be_looked_for-clause-table
 returns-then-not-may_be_looked_for-clause-table c =
     let table = table_of c.args.symbols.now in
-    let s = spot_of c.args.spot in
+    let s = c.args.spot in
     let e = tree_of c.args.value.now in
     let new = c.behind-next.new.self.states.items in
     let ws = c.find.waiting.items in
@@ -164,7 +163,7 @@ find-smaller c =
 pub find-preserved : goal.find-preserved
 find-preserved c =
     let table = table_of c.args.symbols.now in
-    let s = spot_of c.args.spot in
+    let s = c.args.spot in
     let e = tree_of c.args.value.now in
     let v = expression_course table s e in
     let states = c.find.self.states.items in

@@ -16,13 +16,10 @@ ghost use Rattle.asm65.specs.Inner.Resolving.{coming, lost, made_in, noted};
 use crate::forms::{is_file_name, literal_of, stored};
 use crate::waiting::{Piece, Waiting};
 use base65::Sequence;
-use language65::{AsmFault, At, Part, Said, Spot};
+use language65::{AsmFault, At, GLOBAL_SCOPE, Part, Said, Spot};
 use object65::{Action, Norm, Width};
 use std::alloc::{AllocError, Global};
 use symbols65::{Key, Known, Symbols, defined_norm, norm, operand_form};
-
-/// The number of the global scope.
-const GLOBAL: usize = 0;
 
 /// What is put where something waited.
 #[derive(Drop)]
@@ -141,7 +138,7 @@ fn defined(symbols: &Symbols, name: &[u8]) -> Option<usize>
     ensures { result ≡ defined (table_of symbols.now) (named 0 name.now) }
 {
     symbols.defined(Key::Named {
-        scope: GLOBAL,
+        scope: GLOBAL_SCOPE as usize,
         name,
     })
 }

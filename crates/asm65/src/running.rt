@@ -21,11 +21,8 @@ use crate::given::take_given;
 use crate::knowing::Knowledge;
 use base65::Store;
 use expand65::{ExpandFault, Expander, Statement};
-use language65::{AsmFault, At};
+use language65::{AsmFault, At, GLOBAL_SCOPE};
 use std::alloc::Global;
-
-/// The number of the global scope.
-const GLOBAL: u32 = 0;
 
 /// A source that is being assembled.
 #[derive(Drop)]
@@ -85,7 +82,7 @@ fn take_next<S: Store>(
 fn check_closed(run: &Run) -> Result<(), AsmFault>
     ensures { result ≡ (if is_open run.now.assembler.standing.scope then Err BadScope else Ok tt) }
 {
-    if run.assembler.standing.scope == GLOBAL {
+    if run.assembler.standing.scope == GLOBAL_SCOPE {
         Ok(())
     } else {
         Err(AsmFault::BadScope)

@@ -9,6 +9,9 @@ pub struct At<'a> {
     pub line: u32,
 }
 
+/// The number of the global scope.
+pub const GLOBAL_SCOPE: u32 = 0;
+
 /// Where a statement stands.
 #[derive(Clone, Copy)]
 pub struct Spot {

@@ -14,14 +14,11 @@ ghost use Rattle.layout65.specs.Views.{standing_of};
 use crate::measuring::Measured;
 use base65::Sequence;
 use indexmap::IndexSet;
-use language65::{Segment, Spot, Statement};
+use language65::{GLOBAL_SCOPE, Segment, Spot, Statement};
 use object65::format::SECTION_LIMIT;
 use std::alloc::{AllocError, Global};
 use symbols65::Symbols;
 use syntax65::AddressSize;
-
-/// The number of the global scope.
-const GLOBAL: u32 = 0;
 
 /// What stands behind statements.
 #[derive(Drop)]
@@ -57,7 +54,7 @@ impl Standing {
         let mut names = IndexSet::new(alloc);
         names.insert(Vec::from_slice(alloc, b"CODE")?)?;
         Ok(Standing {
-            scope: GLOBAL,
+            scope: GLOBAL_SCOPE,
             opened: 0,
             region: 0,
             unnamed: 0,

@@ -7,9 +7,10 @@ ghost use Rattle.symbols65.specs.Views.{table_of};
 
 use crate::table::{Key, Symbols};
 use base65::Sequence;
+use language65::GLOBAL_SCOPE;
 
 /// The number of the global scope.
-const GLOBAL: usize = 0;
+const GLOBAL: usize = GLOBAL_SCOPE as usize;
 
 /// The place of what a name means that is defined: in the innermost scope that defines it, from one outward.
 pub fn defined_outward(symbols: &Symbols, scope: usize, name: &[u8]) -> Option<usize>

@@ -52,8 +52,7 @@ fn a_gap_has_the_fill(rt: HostRuntime) -> Result<(), Fail> {
     Ok(())
 }
 
-const ONE_ROW: &[u8] =
-    b"MEMORY { ROM: start = $8000, size = $10; } SEGMENTS { CODE: load = ROM; }";
+const ONE_ROW: &[u8] = b"MEMORY { ROM: start = $8000, size = $10; } SEGMENTS { CODE: load = ROM; }";
 
 /// A file may be one row.
 #[test]

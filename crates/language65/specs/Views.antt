@@ -60,7 +60,6 @@ stated_of (statement.Out words) = l.says words
 stated_of (statement.Warning words) = l.warns words
 stated_of statement.Nothing = l.nothing
 
-
 abbrev pub place_in : List ℕ → ℕ → Place
 place_in file line = record { file = file; line = line }
 

@@ -13,7 +13,7 @@ use std::alloc::Global;
 /// Why a source has no object, and where: the line is 0 where none was read.
 #[derive(Drop)]
 pub struct AsmRefusal {
-    /// The file of the line, or the source where no line was read; none where memory ran out.
+    /// The file of the line, or the source where no line was read; none where memory ran out, or where the source could not be opened.
     pub file: Option<Text>,
     pub line: u32,
     pub fault: AsmFault,

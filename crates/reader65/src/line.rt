@@ -1,6 +1,6 @@
 //! Lines that are kept.
 
-ghost use Rattle.std.specs.Prelude.{◌≡◌, ◌≤◌, ◌∷◌, ◌++◌, [], false, length, slice_get, option_map, take, IsTrue, IfErr, IfOk, List, Ok, OnOk, Result};
+ghost use Rattle.std.specs.Prelude.{◌≡◌, ◌≤◌, ◌∷◌, ◌++◌, [], false, length, slice_get, option_map, take, IsTrue, IfErr, IfOk, IfSome, List, Ok, OnOk, Result};
 ghost use Rattle.base65.specs.Relations.{Answers};
 ghost use Rattle.syntax65.specs.Tokens.{IsRead, Lexeme, lexeme_of, lexemes};
 ghost use Rattle.syntax65.specs.declared.lexing.fault.LexFault.{LexFault};
@@ -143,6 +143,26 @@ impl Line {
             rest = behind;
         }
         Ok(())
+    }
+
+    /// Puts the line's tokens into the front of some room, where they fit; how many they are.
+    #[inline(always)]
+    pub fn put_in<'a>(&'a self, room: &mut [Token<'a>]) -> Option<usize>
+        ensures within { IfSome result (λ n. n ≤ length room.new) }
+        ensures tokens { IfSome result (λ n. lexemes (take n room.new) ≡ tokens_in self.now) }
+    {
+        if self.words.len() > room.len() {
+            return None;
+        }
+        let mut count = 0;
+        let mut rest = self.bytes.as_slice();
+        for word in self.words.as_slice() {
+            let (token, behind) = word.token(rest);
+            room[count] = token;
+            count += 1;
+            rest = behind;
+        }
+        Some(count)
     }
 
     /// The first token.

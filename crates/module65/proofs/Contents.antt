@@ -87,7 +87,7 @@ part_told place g (Ok x) f = part_made place g (f x)
 part_told place g (Err e) f = refl
 
 item_made : (y : Symbols) (l : Laid) (width : Width) (it : Item) → piece_made y l.place l.spot (item_piece width it) ≡ told l.place [] (λ p. part l.spot.segment p ∷ []) (item_part y l width it)
-item_made y l width (value e) = part_told l.place l.spot.segment (norm_of y l.spot e) (stored width l.place.line)
+item_made y l width (value e) = part_told l.place l.spot.segment (norm_of y l.spot e) (stored width l.place)
 item_made y l width (text bytes) = refl
 
 cons_told : (place : Place) (g : ℕ) (r : Result Part AsmFault) (s : Result (List Part) AsmFault) → after (told place [] (λ p. part g p ∷ []) r) (told place [] (parts_entries g) s) ≡ told place [] (parts_entries g) (r >>= (λ p. s >>= (λ ps. Ok (p ∷ ps))))
@@ -103,7 +103,7 @@ items_made y l width (it ∷ its) =
     ∙ cons_told l.place l.spot.segment (item_part y l width it) (each (item_part y l width) its)
 
 operand_made : (y : Symbols) (l : Laid) (width : Width) (e : Tree) → piece_made y l.place l.spot (valued (operand width) e) ≡ told l.place [] (λ p. part l.spot.segment p ∷ []) (operand_part y l width e)
-operand_made y l width e = part_told l.place l.spot.segment (norm_of y l.spot e) (λ f. operand_form width l.spot f >>= stored width l.place.line)
+operand_made y l width e = part_told l.place l.spot.segment (norm_of y l.spot e) (λ f. operand_form width l.spot f >>= stored width l.place)
 
 operands_made : (y : Symbols) (l : Laid) (w : Option Width) (t : Option Tree) → pieces_made y l.place l.spot (operand_pieces w t) ≡ told l.place [] (parts_entries l.spot.segment) (operand_parts y l w t)
 operands_made y l (Some width) (Some e) = one_piece y l.place l.spot (valued (operand width) e) ∙ operand_made y l width e ∙ single (operand_part y l width e)
@@ -192,8 +192,8 @@ equated_made : (place : Place) (r : Result Form AsmFault) → placed place (λ m
 equated_made place (Ok f) = refl
 equated_made place (Err e) = refl
 
-asserted_made : (place : Place) (s : Spot) (act : Action) (words : List ℕ) (r : Result Form AsmFault) → placed place (λ m. entries_of m.content) (r >>= used place s (p.asserted act words)) ≡ told place (failed place act words r) said_entries (r >>= decided act place.line words)
-asserted_made place s act words (Ok f) = by (decided act place.line words f)
+asserted_made : (place : Place) (s : Spot) (act : Action) (words : List ℕ) (r : Result Form AsmFault) → placed place (λ m. entries_of m.content) (r >>= used place s (p.asserted act words)) ≡ told place (failed place act words r) said_entries (r >>= decided act place words)
+asserted_made place s act words (Ok f) = by (decided act place words f)
   where
     by : (d : Result (List Said) AsmFault) → placed place (λ m. entries_of m.content) (d >>= (λ ss. Ok (record { content = telling ss; warning = failed place act words (Ok f) }))) ≡ told place (failed place act words (Ok f)) said_entries d
     by (Ok ss) = refl
@@ -227,15 +227,15 @@ made_with y (constant n e) place s len own settled =
 made_with y (imports size names) place s len own settled =
     by_said place s.segment false [] (each_of (import_fault y) names) (pieces_made y place s (map imported names)) (names_made y place s imported (import_fault y) (λ n. refl) names)
 made_with y (exports names) place s len own settled =
-    let says : List ℕ → Result (List Said) AsmFault = λ n. export_said y place.line n (absent_of true n) (defined y (named 0 n)) in
+    let says : List ℕ → Result (List Said) AsmFault = λ n. export_said y place n (absent_of true n) (defined y (named 0 n)) in
     by_said place s.segment false [] (each_of says names) (pieces_made y place s (map (exported true) names)) (names_made y place s (exported true) says (λ n. refl) names)
 made_with y (globals size names) place s len own settled =
-    let says : List ℕ → Result (List Said) AsmFault = λ n. export_said y place.line n (absent_of false n) (defined y (named 0 n)) in
+    let says : List ℕ → Result (List Said) AsmFault = λ n. export_said y place n (absent_of false n) (defined y (named 0 n)) in
     by_said place s.segment false [] (each_of says names) (pieces_made y place s (map (exported false) names)) (names_made y place s (exported false) says (λ n. refl) names)
 made_with y (forced names) place s len own settled =
     by_said place s.segment false [] (each_of (import_fault y) names >>= (λ none. Ok (map Demanded names))) (pieces_made y place s (map imported names ++ map demanded names)) (forced_made y place s names)
 made_with y (assertion e act words) place s len own settled =
-    let r : Result (List Said) AsmFault = norm_of y s e >>= decided act place.line words in
+    let r : Result (List Said) AsmFault = norm_of y s e >>= decided act place words in
     let said : List ℕ = failed place act words (norm_of y s e) in
     by_said place s.segment (asks_section (assertion e act words)) said r (pieces_made y place s (valued (p.asserted act words) e ∷ [])) (one_piece y place s (valued (p.asserted act words) e) ∙ asserted_made place s act words (norm_of y s e))
 made_with y _ place s len own settled = refl

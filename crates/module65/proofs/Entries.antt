@@ -2,14 +2,16 @@
 use Rattle.std.proofs.Common.{◌≡◌, ◌∙◌, ℕ, Bool, true, false, cond, nat_eq, List, [], ◌∷◌, ◌++◌, map, refl, sym, ap}
 use Rattle.std.specs.Prelude.{filter_map, slice_get}
 use Rattle.std.specs.List.{filter, flat_map}
+use Rattle.std.proofs.Math.Path.{fun_ext}
 use Rattle.std.proofs.lemmas.Grind.{flat_map-append}
 use Rattle.std.proofs.lemmas.List.{append-nil, map-append}
 use Rattle.std.proofs.lemmas.List.Elements.{filter-append}
-use Rattle.object65.specs.declared.object.Section.{Section}
 use Rattle.object65.specs.declared.object.Object.{Object}
+use Rattle.object65.specs.declared.object.Origin.{Origin}
+use Rattle.source65.specs.declared.place.Place.{Place}
 use Rattle.language65.specs.Parts.{Content, Part, Said}
 use Rattle.language65.specs.declared.contents.Segment.{Segment}
-use Rattle.language65.specs.Numbering.{all_joined, all_said, assert_of, content_imports, exports_among, fragments_of, import_keys, name_of, object_with, once, part_imports, parts_in, said_imports, section_keys, section_of, segment_name, segment_power, segments_asked}
+use Rattle.language65.specs.Numbering.{all_joined, all_said, assert_files, assert_of, content_imports, export_files, exports_among, fragments_of, in_files, name_of, names_once, object_with, once, part_files, part_imports, parts_in, said_imports, segment_name, segment_power, segments_asked}
 use Rattle.module65.specs.Laws.{AreAlike}
 use Rattle.language65.specs.Contents.{asking, put, telling}
 
@@ -211,32 +213,30 @@ said_gathers = record { none = refl; append = append; one = one }
 
 -- ---- The object.
 
-map_same : {A B : Type 0} (f g : A → B) → ((x : A) → f x ≡ g x) → (xs : List A) → map f xs ≡ map g xs
-map_same f g h [] = refl
-map_same f g h (x ∷ xs) = ap (λ y. y ∷ map f xs) (h x) ∙ ap (λ ys. g x ∷ ys) (map_same f g h xs)
-
--- with the numbers of sections and imports
-abbrev object_by : List Segment → List (List ℕ) → (sections imports : List ℕ) → List Section → List Said → Object
-object_by segments names sections imports made said = record {
-  imports = map (name_of names) imports;
-  sections = made;
-  exports = exports_among sections imports [] said;
-  asserts = filter_map (assert_of sections imports) said;
-}
+-- the object of what contents ask for, bring, put and say
+abbrev gathered_object : List Segment → List (List ℕ) → (asked imports : List ℕ) → (parts : ℕ → List Part) → List Said → Object
+gathered_object segments names asked imports parts said =
+    let sections : List ℕ = once [] asked in
+    let keys : List ℕ = once [] imports in
+    let files : List (List ℕ) = names_once [] (flat_map (λ g. flat_map part_files (parts g)) sections ++ export_files [] said ++ flat_map assert_files said) in
+    let at : Place → Origin = in_files files in
+    record {
+      version = 2;
+      files = files;
+      imports = map (name_of names) keys;
+      sections = map (λ g. record { name = segment_name (slice_get segments g); align = segment_power (slice_get segments g); fragments = all_joined (fragments_of at sections keys (parts g)) }) sections;
+      exports = exports_among at sections keys [] said;
+      asserts = filter_map (assert_of at sections keys) said;
+    }
 
 -- alike contents have the same object
 pub object_alike : (segments : List Segment) (names : List (List ℕ)) (cs ds : List Content) → AreAlike cs ds → object_with segments names cs ≡ object_with segments names ds
 object_alike segments names cs ds a =
-    let sections : List ℕ = section_keys ds in
-    let imports : List ℕ = import_keys names ds in
-    let made : List ℕ → List ℕ → List Section = λ ks js. map (section_of segments ks js cs) ks in
-    ap (λ ks. object_by segments names ks (import_keys names cs) (made ks (import_keys names cs)) (all_said cs)) (ap (once []) a.asked)
-    ∙ ap (λ js. object_by segments names sections js (made sections js) (all_said cs)) (ap (once []) (a.imports names))
-    ∙ ap (λ ss. object_by segments names sections imports (made sections imports) ss) a.said
-    ∙ ap (λ ms. object_by segments names sections imports ms (all_said ds)) (map_same (section_of segments sections imports cs) (section_of segments sections imports ds) (λ h. section_same h) sections)
-  where
-    section_same : (h : ℕ) → section_of segments (section_keys ds) (import_keys names ds) cs h ≡ section_of segments (section_keys ds) (import_keys names ds) ds h
-    section_same h = ap (λ ps. record { name = segment_name (slice_get segments h); align = segment_power (slice_get segments h); fragments = all_joined (fragments_of (section_keys ds) (import_keys names ds) ps) }) (a.parts h)
+    let object : List ℕ → List ℕ → (ℕ → List Part) → List Said → Object = gathered_object segments names in
+    ap (λ asked. object asked (all_imports names cs) (parts_in cs) (all_said cs)) a.asked
+    ∙ ap (λ ks. object (segments_asked ds) ks (parts_in cs) (all_said cs)) (a.imports names)
+    ∙ ap (λ ps. object (segments_asked ds) (all_imports names ds) ps (all_said cs)) (fun_ext a.parts)
+    ∙ ap (object (segments_asked ds) (all_imports names ds) (parts_in ds)) a.said
 
 -- contents of the same entries are alike
 pub alike_by : (cs ds : List Content) → all_entries cs ≡ all_entries ds → AreAlike cs ds

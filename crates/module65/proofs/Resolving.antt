@@ -67,10 +67,10 @@ as_said_asks (Ok ss) = refl
 as_said_asks (Err e) = tt
 
 used_asks : (place : Place) (s : Spot) (why : Purpose) (f : Form) → IfOk (used place s why f) asks_none
-used_asks place s (datum width) f = as_part_asks s.segment (stored width place.line f)
-used_asks place s (operand width) f = as_part_asks s.segment (operand_form width s f >>= stored width place.line)
+used_asks place s (datum width) f = as_part_asks s.segment (stored width place f)
+used_asks place s (operand width) f = as_part_asks s.segment (operand_form width s f >>= stored width place)
 used_asks place s equated f = refl
-used_asks place s (asserted act words) f = by (decided act place.line words f)
+used_asks place s (asserted act words) f = by (decided act place words f)
   where
     by : (r : Result (List Said) AsmFault) → IfOk (r >>= (λ ss. Ok (record { content = telling ss; warning = failed place act words (Ok f) }))) asks_none
     by (Ok ss) = refl
@@ -85,4 +85,4 @@ made_asks y place s (valued why e) = by (norm_of y s e)
     by (Err e) = tt
 made_asks y place s (imported n) = as_said_asks (import_fault y n)
 made_asks y place s (demanded n) = refl
-made_asks y place s (exported must n) = as_said_asks (export_said y place.line n (absent_of must n) (defined y (named 0 n)))
+made_asks y place s (exported must n) = as_said_asks (export_said y place n (absent_of must n) (defined y (named 0 n)))

@@ -15,12 +15,12 @@ use Rattle.syntax65.specs.declared.lexing.tokens.AddressSize.{AddressSize}
 use Rattle.syntax65.specs.declared.lexing.tokens.AddressSize.TheVariants as size
 use Rattle.base65.specs.declared.values.Op2.TheVariants.{Subtract}
 use Rattle.object65.specs.Form.{Form, lit, sec, imp, prefix, binary}
-use Rattle.object65.specs.Objects.{fits_width, value_bytes, width_len}
+use Rattle.object65.specs.Objects.{fits_width, is_file_name, value_bytes, width_len}
 use Rattle.object65.specs.declared.object.Width.{Width}
 use Rattle.object65.specs.declared.object.Width.TheVariants.{Byte, Word, HighFirst, Dword, Branch}
-use Rattle.language65.specs.Parts.{Part, Known}
-use Rattle.language65.specs.declared.fault.AsmFault.TheVariants.{OutOfRange}
-use Rattle.language65.specs.Contents.{file_bytes, instruction_parts, item_part, opcode_part, operand_form, operand_part, operand_parts, operand_tree, parts_of, room_part, stored}
+use Rattle.language65.specs.Parts.{Part, Known, Waiting}
+use Rattle.language65.specs.declared.fault.AsmFault.TheVariants.{OutOfRange, FileNameTooLong}
+use Rattle.language65.specs.Contents.{file_bytes, instruction_parts, item_part, opcode_part, operand_form, operand_part, operand_parts, operand_tree, parts_of, room_part, stored, written}
 use Rattle.source65.specs.declared.place.Place.{Place}
 use Rattle.language65.specs.Laid.{Laid, Settled, nothing_settled, from_byte, Spot, asks_section, has_here}
 use Rattle.language65.specs.Language.{Item, value, text, Operand, no_operand, accumulator, immediate, address, indirect, indirect_x, indirect_y, Stated, instruction, values, reserve, align, file_part}
@@ -29,7 +29,7 @@ use Rattle.language65.specs.Norms.{constant_in, norm_of}
 use Rattle.language65.specs.Numbering.{imports_in}
 use Rattle.language65.specs.Sizes.{address_mode, branch_mode, bytes_between, counted, fill_settled, first_of, is_branch, item_len, length_of, mode_for, mode_len, mode_of, mode_settled, operand_len, optional_value, part_len as file_len, part_start, settled_of, size_of, width_of}
 use Rattle.language65.specs.Symbols.{Symbols}
-use Rattle.language65.specs.Sound.{IsMeasured, IsSoundForm, IsSoundPart, part_len, sections_in}
+use Rattle.language65.specs.Sound.{IsMeasured, IsSoundAt, IsSoundForm, IsSoundPart, part_len, sections_in}
 use Rattle.module65.proofs.Holding.{Holds, IsWell, two_well}
 use Rattle.module65.proofs.SoundForms.{Asks, Pass, norm_well, well_then}
 
@@ -68,6 +68,18 @@ IsKnown asked count y = Pass (asked_in asked) (below count) y
 pub form_sound : (asked : List ℕ) (count : ℕ) (y : Symbols) → IsKnown asked count y → (s : Spot) (e : Tree) → (has_here e ≡ true → asked_in asked s.segment ≡ true) → IfOk (norm_of y s e) (IsWell (asked_in asked) (below count))
 form_sound asked count y k s e h = norm_well (asked_in asked) (below count) y k s e h
 
+-- ---- What is written with its place.
+
+pub written_with : {A : Type 0} (P : A → Type 0) (place : Place) (x : A) → (is_file_name place.file ≡ true → P x) → IfOk (written place x) P
+written_with {A} P place x h = go (is_file_name place.file) refl
+  where
+    go : (b : Bool) → is_file_name place.file ≡ b → IfOk (if b then Ok x else Err FileNameTooLong) P
+    go true e = h e
+    go false e = tt
+
+pub form_at : (asked : List ℕ) (count : ℕ) (place : Place) (f : Form) → IsWell (asked_in asked) (below count) f → is_file_name place.file ≡ true → IsSoundAt asked count place f
+form_at asked count place f w e = record { file = e; form = sound_form asked count f w }
+
 -- ---- Items.
 
 value_len : (width : Width) (v : ℤ) → length (value_bytes width v) ≡ width_len width
@@ -80,16 +92,16 @@ value_len Branch v = refl
 abbrev PartOf : List ℕ → ℕ → ℕ → Part → Type 0
 PartOf asked count len p = IsSoundPart asked count p × (part_len p ≡ len)
 
-stored_sound : (asked : List ℕ) (count : ℕ) (width : Width) (line : ℕ) (f : Form) → IsWell (asked_in asked) (below count) f → IfOk (stored width line f) (PartOf asked count (width_len width))
-stored_sound asked count width line (lit v) w = go (fits_width width v)
+stored_sound : (asked : List ℕ) (count : ℕ) (width : Width) (place : Place) (f : Form) → IsWell (asked_in asked) (below count) f → IfOk (stored width place f) (PartOf asked count (width_len width))
+stored_sound asked count width place (lit v) w = go (fits_width width v)
   where
     go : (b : Bool) → IfOk (if b then Ok (Known (value_bytes width v)) else Err OutOfRange) (PartOf asked count (width_len width))
     go true = (tt, value_len width v)
     go false = tt
-stored_sound asked count width line f w = ((sound_form asked count f w, refl), refl)
+stored_sound asked count width place f w = written_with (PartOf asked count (width_len width)) place (Waiting width place f) (λ e. ((form_at asked count place f w e, refl), refl))
 
 item_sound : (asked : List ℕ) (count : ℕ) (y : Symbols) → IsKnown asked count y → (l : Laid) → asked_in asked l.spot.segment ≡ true → (width : Width) (it : Item) → IfOk (item_part y l width it) (PartOf asked count (item_len width it))
-item_sound asked count y k l h width (value e) = well_then (IsWell (asked_in asked) (below count)) (PartOf asked count (width_len width)) (norm_of y l.spot e) (stored width l.place.line) (form_sound asked count y k l.spot e (λ a. h)) (λ f w. stored_sound asked count width l.place.line f w)
+item_sound asked count y k l h width (value e) = well_then (IsWell (asked_in asked) (below count)) (PartOf asked count (width_len width)) (norm_of y l.spot e) (stored width l.place) (form_sound asked count y k l.spot e (λ a. h)) (λ f w. stored_sound asked count width l.place f w)
 item_sound asked count y k l h width (text bytes) = (tt, refl)
 
 abbrev pub PartsOf : List ℕ → ℕ → ℕ → List Part → Type 0
@@ -187,9 +199,9 @@ behind_sound asked count y k l h (Some width) None a = (let none : Some width �
 behind_sound asked count y k l h (Some width) (Some e) a =
     let Well : Form → Type 0 = IsWell (asked_in asked) (below count) in
     well_then (PartOf asked count (width_len width)) (PartsOf asked count (width_len width)) (operand_part y l width e) (λ p. Ok (p ∷ []))
-    (well_then Well (PartOf asked count (width_len width)) (norm_of y l.spot e) (λ f. operand_form width l.spot f >>= stored width l.place.line) (form_sound asked count y k l.spot e (λ z. h))
-    (λ f v. well_then Well (PartOf asked count (width_len width)) (operand_form width l.spot f) (stored width l.place.line) (operand_sound asked count l.spot h width f v)
-    (λ g w. stored_sound asked count width l.place.line g w)))
+    (well_then Well (PartOf asked count (width_len width)) (norm_of y l.spot e) (λ f. operand_form width l.spot f >>= stored width l.place) (form_sound asked count y k l.spot e (λ z. h))
+    (λ f v. well_then Well (PartOf asked count (width_len width)) (operand_form width l.spot f) (stored width l.place) (operand_sound asked count l.spot h width f v)
+    (λ g w. stored_sound asked count width l.place g w)))
     (λ p z. ((z.0, tt), sum_by-cons part_len p [] ∙ (let same = z.1 in omega (arith, same))))
 
 code_sound : (asked : List ℕ) (count : ℕ) (o : Option ℕ) → IsSoundPart asked count (opcode_part o)

@@ -8,9 +8,9 @@ use Rattle.object65.specs.Form.{Form, lit}
 use Rattle.object65.specs.Objects.{is_name}
 use Rattle.object65.specs.declared.object.Action.{Action}
 use Rattle.object65.specs.declared.object.Action.TheVariants as action
-use Rattle.language65.specs.Parts.{Said, Exported, Demanded}
+use Rattle.language65.specs.Parts.{Said, Exported, Demanded, Checked}
 use Rattle.language65.specs.declared.fault.AsmFault.{AsmFault}
-use Rattle.language65.specs.Contents.{decided, each_of, export_said, import_fault, said_of}
+use Rattle.language65.specs.Contents.{decided, each_of, export_said, import_fault, said_of, written}
 use Rattle.source65.specs.declared.place.Place.{Place}
 use Rattle.language65.specs.Laid.{Laid, Settled, Spot, asks_section}
 use Rattle.language65.specs.Language.{Stated, constant, imports, exports, globals, forced, assertion}
@@ -21,7 +21,7 @@ use Rattle.language65.specs.Sound.{IsSound, IsSoundSaid}
 use Rattle.module65.proofs.Aheads.{said_by, said_each}
 use Rattle.module65.proofs.Holding.{IsWell}
 use Rattle.module65.proofs.SoundForms.{Asks, all_append, export_well, well_then}
-use Rattle.module65.proofs.SoundParts.{IsKnown, asked_in, below, form_sound, laid_with, sound_form}
+use Rattle.module65.proofs.SoundParts.{IsKnown, asked_in, below, form_at, form_sound, laid_with, written_with}
 
 abbrev pub AreSoundSaid : List ℕ → ℕ → List Said → Type 0
 AreSoundSaid asked count ss = AllByRecursion (IsSoundSaid asked count) ss
@@ -62,14 +62,14 @@ absent_sound : (asked : List ℕ) (count : ℕ) (b : Bool) (n : List ℕ) → If
 absent_sound asked count true n = tt
 absent_sound asked count false n = tt
 
-export_sound : (asked : List ℕ) (count : ℕ) (y : Symbols) → IsKnown asked count y → (line : ℕ) (b : Bool) (n : List ℕ) → is_name n ≡ true → IfOk (export_said y line n (absent_of b n) (defined y (named 0 n))) (AreSoundSaid asked count)
-export_sound asked count y k line b n h = go (defined y (named 0 n)) refl
+export_sound : (asked : List ℕ) (count : ℕ) (y : Symbols) → IsKnown asked count y → (place : Place) (b : Bool) (n : List ℕ) → is_name n ≡ true → IfOk (export_said y place n (absent_of b n) (defined y (named 0 n))) (AreSoundSaid asked count)
+export_sound asked count y k place b n h = go (defined y (named 0 n)) refl
   where
-    go : (o : Option ℕ) → defined y (named 0 n) ≡ o → IfOk (export_said y line n (absent_of b n) o) (AreSoundSaid asked count)
+    go : (o : Option ℕ) → defined y (named 0 n) ≡ o → IfOk (export_said y place n (absent_of b n) o) (AreSoundSaid asked count)
     go None e = absent_sound asked count b n
     go (Some j) e =
-        well_then (IsWell (asked_in asked) (below count)) (AreSoundSaid asked count) (defined_form y j) (λ f. Ok (Exported n line f ∷ [])) (export_well (asked_in asked) (below count) y k j)
-        (λ f w. ((h, sound_form asked count f w), tt))
+        well_then (IsWell (asked_in asked) (below count)) (AreSoundSaid asked count) (defined_form y j) (λ f. written place (Exported n place f ∷ [])) (export_well (asked_in asked) (below count) y k j)
+        (λ f w. written_with (AreSoundSaid asked count) place (Exported n place f ∷ []) (λ e. ((h, form_at asked count place f w e), tt)))
 
 all_any : (names : List (List ℕ)) → AllByRecursion (λ n. ⊤) names
 all_any [] = tt
@@ -81,24 +81,24 @@ demanded_sound asked count (n ∷ ns) = (tt, demanded_sound asked count ns)
 
 -- ---- Assertions.
 
-decided_sound : (asked : List ℕ) (count : ℕ) (act : Action) (line : ℕ) (words : List ℕ) (f : Form) → length words < 256 → IsWell (asked_in asked) (below count) f → IfOk (decided act line words f) (AreSoundSaid asked count)
-decided_sound asked count action.Error line words (lit (pos zero)) lt w = tt
-decided_sound asked count action.Error line words (lit (pos (suc n))) lt w = tt
-decided_sound asked count action.Error line words (lit (negsuc n)) lt w = tt
-decided_sound asked count action.Warning line words (lit v) lt w = tt
-decided_sound asked count act line words f lt w = ((lt, sound_form asked count f w, refl), tt)
+decided_sound : (asked : List ℕ) (count : ℕ) (act : Action) (place : Place) (words : List ℕ) (f : Form) → length words < 256 → IsWell (asked_in asked) (below count) f → IfOk (decided act place words f) (AreSoundSaid asked count)
+decided_sound asked count action.Error place words (lit (pos zero)) lt w = tt
+decided_sound asked count action.Error place words (lit (pos (suc n))) lt w = tt
+decided_sound asked count action.Error place words (lit (negsuc n)) lt w = tt
+decided_sound asked count action.Warning place words (lit v) lt w = tt
+decided_sound asked count act place words f lt w = written_with (AreSoundSaid asked count) place (Checked act place words f ∷ []) (λ e. ((lt, form_at asked count place f w e, refl), tt))
 
 -- ---- Statements.
 
 said_with : (asked : List ℕ) (count : ℕ) (y : Symbols) → IsKnown asked count y → (place : Place) (s : Spot) (len : ℕ) (own : AddressSize) (settled : Settled) (x : Stated) → IsSound x → (asks_section x ≡ true → asked_in asked s.segment ≡ true) → IfOk (said_of y (laid_with x place s len own settled)) (AreSoundSaid asked count)
 said_with asked count y k place s len own settled (constant n e) h a = well_then (IsWell (asked_in asked) (below count)) (AreSoundSaid asked count) (norm_of y s e) (λ f. Ok []) (form_sound asked count y k s e a) (λ f w. tt)
 said_with asked count y k place s len own settled (imports size names) h a = each_sound asked count (import_fault y) (λ n. ⊤) (λ n p. import_sound asked count y n) names (all_any names)
-said_with asked count y k place s len own settled (exports names) h a = each_sound asked count (λ n. export_said y place.line n (absent_of true n) (defined y (named 0 n))) (λ n. is_name n ≡ true) (λ n p. export_sound asked count y k place.line true n p) names (names_all names h)
-said_with asked count y k place s len own settled (globals size names) h a = each_sound asked count (λ n. export_said y place.line n (absent_of false n) (defined y (named 0 n))) (λ n. is_name n ≡ true) (λ n p. export_sound asked count y k place.line false n p) names (names_all names h)
+said_with asked count y k place s len own settled (exports names) h a = each_sound asked count (λ n. export_said y place n (absent_of true n) (defined y (named 0 n))) (λ n. is_name n ≡ true) (λ n p. export_sound asked count y k place true n p) names (names_all names h)
+said_with asked count y k place s len own settled (globals size names) h a = each_sound asked count (λ n. export_said y place n (absent_of false n) (defined y (named 0 n))) (λ n. is_name n ≡ true) (λ n p. export_sound asked count y k place false n p) names (names_all names h)
 said_with asked count y k place s len own settled (forced names) h a =
     well_then (AreSoundSaid asked count) (AreSoundSaid asked count) (each_of (import_fault y) names) (λ none. Ok (map Demanded names)) (each_sound asked count (import_fault y) (λ n. ⊤) (λ n p. import_sound asked count y n) names (all_any names)) (λ none q. demanded_sound asked count names)
 said_with asked count y k place s len own settled (assertion e act words) h a =
-    well_then (IsWell (asked_in asked) (below count)) (AreSoundSaid asked count) (norm_of y s e) (decided act place.line words) (form_sound asked count y k s e a) (λ f w. decided_sound asked count act place.line words f h w)
+    well_then (IsWell (asked_in asked) (below count)) (AreSoundSaid asked count) (norm_of y s e) (decided act place words) (form_sound asked count y k s e a) (λ f w. decided_sound asked count act place words f h w)
 said_with asked count y k place s len own settled _ h a = tt
 
 pub said_sound : (asked : List ℕ) (count : ℕ) (y : Symbols) → IsKnown asked count y → (l : Laid) → IsSound l.stated → Asks (asked_in asked) l → IfOk (said_of y l) (AreSoundSaid asked count)

@@ -35,7 +35,9 @@ pub use folding::FormFault;
 pub use form::{Node, Norm};
 pub use item::Item;
 pub use loading::read_object;
-pub use object::{Action, Assert, Export, Fragment, Object, Origin, Section, Width};
+pub use object::{
+    Action, Assert, Export, FILE_NAME_LIMIT, Fragment, Object, Origin, Section, Width,
+};
 pub use reading::{check_end, read_head};
 pub use record::Record;
 pub use record_reader::{RecordReader, read_record};

@@ -3,6 +3,9 @@
 use crate::Norm;
 use base65::Sequence;
 
+/// The name of a file has at most so many bytes, since it is the body of a record.
+pub const FILE_NAME_LIMIT: usize = 4096;
+
 /// A module in parts.
 #[derive(Drop)]
 pub struct Object {

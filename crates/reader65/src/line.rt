@@ -155,12 +155,12 @@ impl Line {
             return None;
         }
         let mut count = 0;
-        let mut rest = self.bytes.as_slice();
+        let mut left = self.bytes.as_slice();
         for word in self.words.as_slice() {
-            let (token, behind) = word.token(rest);
+            let (token, behind) = word.token(left);
             room[count] = token;
             count += 1;
-            rest = behind;
+            left = behind;
         }
         Some(count)
     }

@@ -7,5 +7,5 @@ abbrev pub invariant-loop-word : goal.invariant-loop-word
 invariant-loop-word l = record {
   count : l.count ≡ l.word-index;
   room : length l.room ≡ length l.initial.room;
-  so_far : lexemes (take l.count l.room) ++ cut (drop l.word-index l.word-items) l.rest ≡ cut l.self.words l.self.bytes;
+  so_far : lexemes (take l.count l.room) ++ cut (drop l.word-index l.word-items) l.left ≡ cut l.self.words l.self.bytes;
 }

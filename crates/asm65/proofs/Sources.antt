@@ -117,7 +117,7 @@ abbrev pub NextBy : Files → Run → Result (Option Statement) ExpandFault → 
 NextBy m old r mid = (t : State) → IsHeldBy t old → FollowsFrom m (known_at t.symbols t.standing) old.expander r mid.expander
 
 -- where the store failed on the way to it
-abbrev pub StopsBy : Files → Option (List ℕ) → Run → Result (Option Statement) ExpandFault → Run → Type 0
+abbrev pub StopsBy : Files → Option (List ℕ) → Run → Result Bool ExpandFault → Run → Type 0
 StopsBy m blamed old r mid = (t : State) → IsHeldBy t old → StopsOnItsWay m blamed (known_at t.symbols t.standing) old.expander r mid.expander
 
 pub goes_first : (m : Files) (run : Run) → Goes m run run

@@ -10,6 +10,7 @@ ghost use Rattle.language65.specs.Sound.{AreNamed, IsSound};
 ghost use Rattle.language65.specs.Views.{place_in, stated_of};
 ghost use Rattle.module65.specs.Machine.{Takes};
 ghost use Rattle.module65.specs.Reading.{IsGiven, IsLabel, IsLabelled, IsRest};
+ghost use Rattle.reader65.specs.Kept.{tokens_in};
 ghost use Rattle.asm65.specs.Inner.Running.{IsRoomy, IsSoundIf, StopsQuietly, TakesBy, Told, tokens_of};
 ghost use Rattle.asm65.specs.Unread.{Without};
 
@@ -19,9 +20,13 @@ use crate::sound::is_sound;
 use base65::Store;
 use expand65::Statement as Given;
 use language65::{AsmFault, At, Statement};
+use reader65::Line;
 use statements65::{label, statement};
 use std::alloc::Global;
-use syntax65::Token;
+use syntax65::{Token, TokenKind};
+
+/// How many tokens most lines have at most. For so many nothing is allocated.
+const FEW_TOKENS: usize = 8;
 
 /// The refusal of a statement that objects can't hold. (What a statement holds is let go here, not
 /// where most statements go by.)
@@ -123,6 +128,38 @@ fn take_label<S: Store>(
     take_rest(alloc, store, assembler, at, rest)
 }
 
+/// Takes a line without a label.
+fn take_line<S: Store>(
+    alloc: Global,
+    store: &mut S,
+    assembler: &mut Assembler,
+    at: At<'_>,
+    line: &Line,
+) -> Result<(), AsmFault>
+    requires { IsRoomy 1 assembler.old }
+    ensures taken { TakesBy (AreNamed (tokens_in line.now)) (Told (S.files store.old)
+        (λ m t. IsRest m Takes t (place_in at.entry.file.now at.entry.line) (tokens_in line.now)))
+        1 assembler.old assembler.new result }
+    ensures stopped { StopsQuietly (Without (S.blamed store.new)
+        (λ m t. IsRest m Takes t (place_in at.entry.file.now at.entry.line) (tokens_in line.now)))
+        1 assembler.old assembler.new result }
+    ensures files { S.files store.new ≡ S.files store.old }
+    ensures count { PassesBy is_failure (S.failures store.old) (S.failures store.new) result }
+{
+    let blank = Token {
+        kind: TokenKind::Identifier,
+        text: b"",
+    };
+    let mut few = [blank; FEW_TOKENS];
+    match line.put_in(&mut few) {
+        Some(count) => take_rest(alloc, store, assembler, at, &few[..count]),
+        None => {
+            let tokens = line.tokens(alloc)?;
+            take_rest(alloc, store, assembler, at, &tokens)
+        }
+    }
+}
+
 /// Takes a statement that expansion gives.
 pub fn take_given<S: Store>(
     alloc: Global,
@@ -146,9 +183,6 @@ pub fn take_given<S: Store>(
             let tokens = line.tokens(alloc)?;
             take_label(alloc, store, assembler, at, &tokens)
         }
-        Given::Plain(line) => {
-            let tokens = line.tokens(alloc)?;
-            take_rest(alloc, store, assembler, at, &tokens)
-        }
+        Given::Plain(line) => take_line(alloc, store, assembler, at, line),
     }
 }

@@ -1,10 +1,10 @@
 //! The statements of a source, taken one behind the other.
 
-ghost use Rattle.std.specs.Prelude.{◌≡◌, ◌+◌, ◌<◌, ◌≤◌, ℕ, false, IfErr, IfOk, IfSome, Ok, OnOk, Err, if◌then◌else◌};
+ghost use Rattle.std.specs.Prelude.{◌≡◌, ◌+◌, ◌<◌, ◌≤◌, ℕ, false, IfErr, IfOk, IfSome, IsTrue, Ok, OnOk, Err, if◌then◌else◌};
 ghost use Rattle.base65.specs.Store.{Passes, PassesBy};
 ghost use Rattle.expand65.specs.Expansion.{opened_in};
 ghost use Rattle.expand65.specs.Stopping.{StopsOnItsWay};
-ghost use Rattle.expand65.specs.Standing.{FollowsFrom, Opens, measure_of, place_of, stated};
+ghost use Rattle.expand65.specs.Standing.{FollowsFrom, Opens, given_in, measure_of, place_of, stated};
 ghost use Rattle.language65.specs.declared.fault.AsmFault.TheVariants.{BadScope};
 ghost use Rattle.language65.specs.Faults.{is_failure};
 ghost use Rattle.language65.specs.LineFaults.{is_open};
@@ -33,17 +33,23 @@ pub struct Run {
     pub assembler: Assembler,
 }
 
-/// The next statement, by what is known before it.
-fn next<S: Store>(run: &mut Run, store: &mut S) -> Result<Option<Statement>, ExpandFault>
+/// The next statement, by what is known before it, in the place of another; false where no line is left.
+#[inline(always)]
+fn next<S: Store>(
+    run: &mut Run,
+    store: &mut S,
+    statement: &mut Statement,
+) -> Result<bool, ExpandFault>
     requires { IsRunning run.old }
     ensures next { IfSome (S.files store.old) (λ m. (t : State) → IsHeldBy t run.old →
-        FollowsFrom m (known_at t.symbols t.standing) run.old.expander result run.new.expander) }
+        FollowsFrom m (known_at t.symbols t.standing) run.old.expander
+        (given_in result statement.new) run.new.expander) }
     ensures stopped { IfSome (S.files store.old) (λ m. (t : State) → IsHeldBy t run.old →
         StopsOnItsWay m (S.blamed store.new) (known_at t.symbols t.standing)
         run.old.expander result run.new.expander) }
     ensures same { run.new.assembler ≡ run.old.assembler }
-    ensures size { IfOk result (λ o. IfSome o (λ _.
-        measure_of run.new.expander < measure_of run.old.expander)) }
+    ensures size { IfOk result (λ b. IsTrue b →
+        measure_of run.new.expander < measure_of run.old.expander) }
     ensures files { S.files store.new ≡ S.files store.old }
     ensures count { Passes ExpandFault.FileError (S.failures store.old) (S.failures store.new) result }
 {
@@ -51,7 +57,7 @@ fn next<S: Store>(run: &mut Run, store: &mut S) -> Result<Option<Statement>, Exp
         symbols: &run.assembler.symbols,
         spot: run.assembler.standing.spot(),
     };
-    run.expander.next(store, &knowledge)
+    run.expander.next_into(store, &knowledge, statement)
 }
 
 /// Takes a statement where it stands.
@@ -102,10 +108,11 @@ pub fn take_all<S: Store>(alloc: Global, store: &mut S, run: &mut Run) -> Result
     ensures files { S.files store.new ≡ S.files store.old }
     ensures count { PassesBy is_failure (S.failures store.old) (S.failures store.new) result }
 {
+    let mut statement = Statement::new(alloc);
     'statements: loop {
-        match next(run, store)? {
-            Some(statement) => take_next(alloc, store, run, &statement)?,
-            None => return check_closed(run),
+        if !next(run, store, &mut statement)? {
+            return check_closed(run);
         }
+        take_next(alloc, store, run, &statement)?;
     }
 }

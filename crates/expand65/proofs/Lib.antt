@@ -1,4 +1,5 @@
 pub mod Acting
+pub mod AtHand
 pub mod Defining
 pub mod Distinct
 pub mod Going

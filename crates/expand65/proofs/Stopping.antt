@@ -132,7 +132,7 @@ pub gone_on : (o : Option Files) (k : Meaning) (i e mid new : Expander) (t : Tur
 gone_on None k i e mid new t h s f = tt
 gone_on (Some m) k i e mid new t h s f = one_more (state_in m i) (state_in m e) (state_in m new) h (subst (IsStep m k (state_in m e)) (f m) s)
 
-goes_over : (m : Files) (k : Meaning) (s t u : State) → Goes m k s t → Goes m k t u → Goes m k s u
+pub goes_over : (m : Files) (k : Meaning) (s t u : State) → Goes m k s t → Goes m k t u → Goes m k s u
 goes_over m k s _ _ g (no_step t) = g
 goes_over m k s t _ g (one_more _ v u h step) = one_more s v u (goes_over m k s t v g h) step
 

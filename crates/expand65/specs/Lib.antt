@@ -1,4 +1,5 @@
 pub mod Arguments
+pub mod AtHand
 pub mod Conditions
 pub mod Expansion
 pub mod Failing

@@ -73,6 +73,12 @@ Answered m k s (Err f) new = Unless (is_outside f) (Reaches m k s (fault (f, pla
 abbrev pub FollowsFrom : Files → Meaning → Expander → Result (Option Statement) ExpandFault → Expander → Type 0
 FollowsFrom m k old r new = (s : State) → StandsFor m old s → Answered m k s r new
 
+-- what a call answered that puts the next statement in the place of another
+abbrev pub given_in : Result Bool ExpandFault → Statement → Result (Option Statement) ExpandFault
+given_in (Ok true) x = Ok (Some x)
+given_in (Ok false) x = Ok None
+given_in (Err f) x = Err f
+
 -- ---- One step.
 
 -- a step goes on, or gives a statement

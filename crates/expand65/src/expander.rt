@@ -1,16 +1,17 @@
 //! The statements of a source, one after another.
 
-ghost use Rattle.std.specs.Prelude.{◌≡◌, ◌<◌, ◌≤◌, ◌+◌, ◌*◌, true, false, length, Err, IfOk, IfSome, IsErrOf, OnErr, OnOk};
+ghost use Rattle.std.specs.Prelude.{◌≡◌, ◌<◌, ◌≤◌, ◌+◌, ◌*◌, [], true, false, length, Err, IfOk, IfSome, IsErrOf, IsTrue, OnErr, OnOk};
 ghost use Rattle.base65.specs.Store.{Asks, Files, IsBlamed, Passes};
-ghost use Rattle.expand65.specs.Standing.{Comes, FollowsFrom, Opens, StandsFor, is_end, led, measure_of, place_of, state_in};
+ghost use Rattle.expand65.specs.Standing.{Comes, FollowsFrom, Opens, StandsFor, given_in, is_end, led, measure_of, place_of, state_in, stated};
 ghost use Rattle.source65.specs.Faults.{is_outside};
-ghost use Rattle.expand65.specs.Stopping.{StopsOnItsWay, StopsReading};
-ghost use Rattle.expand65.specs.Expansion.{first_left, opened_in};
+ghost use Rattle.expand65.specs.Stopping.{Goes, StopsOnItsWay, StopsReading};
+ghost use Rattle.expand65.specs.Expansion.{Next, Reaches, first_left, opened_in};
+ghost use Rattle.expand65.specs.Meaning.{Meaning};
 ghost use Rattle.reader65.specs.Naming.{NamesFiles};
 ghost use Rattle.reader65.specs.Inside.{left_of, mark_of};
 ghost use Rattle.reader65.specs.Reading.{bytes_of};
 ghost use Rattle.expand65.specs.Rewriting.{Turns, size_of, state_of, turned, weight_of};
-ghost use Rattle.expand65.specs.State.{State};
+ghost use Rattle.expand65.specs.State.{State, plain};
 ghost use Rattle.expand65.specs.Step.{IsStep};
 
 use crate::conditions::Conditions;
@@ -55,11 +56,26 @@ pub enum Front {
     End,
 }
 
+impl Statement {
+    /// A statement without tokens, for the first call that gives one in its place.
+    pub fn new(alloc: Global) -> Statement
+        ensures { stated result ≡ plain [] }
+    {
+        Statement::Plain(Line::new(alloc))
+    }
+}
+
 impl Front {
     fn is_end(&self) -> bool
         ensures { result ≡ is_end self.now }
     {
         matches!(self, Front::End)
+    }
+
+    fn is_nothing(&self) -> bool
+        ensures { IsTrue result → self.now ≡ Front.Nothing }
+    {
+        matches!(self, Front::Nothing)
     }
 }
 
@@ -142,6 +158,66 @@ impl Expander {
             self.rewriter.reader.go_back_unread();
         }
         result
+    }
+
+    /// The next statement, which is what `next` gives, in the place of another, whose memory is used again; false where
+    /// no line is left.
+    ///
+    /// # Errors
+    /// Those of `next`.
+    #[inline(always)]
+    pub fn next_into<S: Store, K: Knows>(
+        &mut self,
+        store: &mut S,
+        knows: &K,
+        statement: &mut Statement,
+    ) -> Result<bool, ExpandFault>
+        ensures next { IfSome (S.files store.old) (λ m.
+            FollowsFrom m (K.meaning knows.now) self.old (given_in result statement.new) self.new) }
+        ensures stopped { IfSome (S.files store.old) (λ m.
+            StopsOnItsWay m (S.blamed store.new) (K.meaning knows.now) self.old result self.new) }
+        ensures failed { OnErr result (self.new.failed ≡ true) }
+        ensures before { self.old.failed ≡ true → result ≡ Err ExpandFault.FailedBefore }
+        ensures size { IfOk result (λ b. IsTrue b → measure_of self.new < measure_of self.old) }
+        ensures files { S.files store.new ≡ S.files store.old }
+        ensures count { Passes ExpandFault.FileError (S.failures store.old) (S.failures store.new) result }
+    {
+        if self.take_at_hand(statement) {
+            return Ok(true);
+        }
+        match self.next(store, knows)? {
+            Some(next) => {
+                *statement = next;
+                Ok(true)
+            }
+            None => Ok(false),
+        }
+    }
+
+    /// Takes the next statement in the place of another, where that has no label, and it is a whole line of a file, at
+    /// hand; whether it was. Lines without tokens in front of it are passed over.
+    #[inline(always)]
+    fn take_at_hand(&mut self, statement: &mut Statement) -> bool
+        ensures given { IsTrue result → (m : Files) (k : Meaning) → Reaches m k
+            (state_in m self.old) (Next.statement (stated statement.new) (state_in m self.new)) }
+        ensures gone { result ≡ false → (m : Files) (k : Meaning) →
+            Goes m k (state_in m self.old) (state_in m self.new) }
+        ensures right { IsTrue result → self.old.failed ≡ false }
+        ensures failed { self.new.failed ≡ self.old.failed }
+        ensures named { NamesFiles self.old.rewriter.reader → NamesFiles self.new.rewriter.reader }
+        ensures less { IsTrue result → measure_of self.new < measure_of self.old }
+        ensures size { measure_of self.new ≤ measure_of self.old }
+    {
+        if self.failed {
+            return false;
+        }
+        if !self.front.is_nothing() {
+            return false;
+        }
+        match statement {
+            Statement::Plain(line) => self.rewriter.take_statement(line),
+            Statement::Label(_) => false,
+        }
     }
 
     /// The innermost open file and the number of its line that was read last, 0 before the first. Behind a statement it

@@ -2,6 +2,7 @@
 #![tactic(auto)]
 
 mod arguments;
+mod at_hand;
 mod conditions;
 mod expander;
 mod includes;

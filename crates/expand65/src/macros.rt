@@ -142,7 +142,7 @@ impl Rewriter {
     }
 
     /// Whether a macro has a name.
-    fn has_macro(&self, name: &[u8]) -> bool
+    pub fn has_macro(&self, name: &[u8]) -> bool
         ensures { result ≡ is_some (macro_of (macros_of self.now) name.now) }
     {
         self.macros.get(name).is_some()

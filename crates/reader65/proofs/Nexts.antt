@@ -2,10 +2,12 @@
 use Rattle.std.proofs.Common.{◌≡◌, ℕ, suc, Bool, true, false, List, [], ◌∷◌, ◌++◌, refl, sym, ap, ◌∙◌, subst, append_assoc, Option, Some, None, IfSome, Ok, Err}
 use Rattle.base65.specs.Outcome.{Unless}
 use Rattle.base65.specs.Store.{Files}
+use Rattle.syntax65.specs.Tokens.{Lexeme}
 use Rattle.source65.specs.Faults.{is_outside}
 use Rattle.reader65.specs.Inside.{ComesNext, TakesLine, moved_by, left_in, mark_of, own, outside, left_of}
 use Rattle.reader65.specs.Kept.{tokens_in}
 use Rattle.reader65.specs.Passing.{PassesLine, PassesPlain}
+use Rattle.reader65.specs.Peeking.{TakesWritten}
 use Rattle.reader65.specs.Left.{Item, written, played, mark, left, moved}
 use Rattle.reader65.specs.Taking.{IsOpened, Takes, TakesFrom}
 use Rattle.source65.specs.declared.fault.ExpandFault.{ExpandFault}
@@ -91,9 +93,9 @@ told_refused (Some m) old mid last place room n f c s h t p r =
     let S : Place → Type 0 = λ q. Unless (is_outside f) (TakesFrom (left_of m old).items old.room old.place (Err (f, q))) in
     subst S (sym p) (subst Q r (subst P before one))
 
--- a line that is passed over where it stands
-pub line_passed : (m : Files) (old new : Reader) (n : ℕ) → PassesLine (left_in m old.top.source) n (left_in m new.top.source) → mark_of new.top ≡ mark_of old.top → new.outer ≡ old.outer → new.place ≡ moved old.place n → suc new.room ≡ old.room → PassesPlain (left_of m old) (left_of m new)
-line_passed m old new n (bytes, e, (ts, read, plain)) k u p r =
+-- a line of a file
+pub written_taken : (m : Files) (old new : Reader) (n : ℕ) (ts : List Lexeme) → TakesWritten (left_in m old.top.source) n ts (left_in m new.top.source) → mark_of new.top ≡ mark_of old.top → new.outer ≡ old.outer → new.place ≡ moved old.place n → suc new.room ≡ old.room → Takes (left_of m old) (Ok (Some ts, left_of m new))
+written_taken m old new n ts (bytes, e, read) k u p r =
     let tail = mark (mark_of old.top) ∷ outside m old.outer.items in
     let after = left_in m new.top.source in
     let one : TakesFrom ((written n bytes ∷ after) ++ tail) (suc new.room) old.place (Ok (Some ts, left (after ++ tail) new.room (moved old.place n))) = (Ok ts, (Ok ts, read, refl), refl) in
@@ -103,4 +105,8 @@ line_passed m old new n (bytes, e, (ts, read, plain)) k u p r =
     let Q : ℕ → Type 0 = λ x. TakesFrom (left_of m old).items x old.place (Ok (Some ts, left (after ++ tail) new.room (moved old.place n))) in
     let R : List Item → Type 0 = λ l. TakesFrom (left_of m old).items old.room old.place (Ok (Some ts, left l new.room (moved old.place n))) in
     let S : Place → Type 0 = λ q. TakesFrom (left_of m old).items old.room old.place (Ok (Some ts, left (left_of m new).items new.room q)) in
-    (ts, subst S (sym p) (subst R items (subst Q r (subst P before one))), plain)
+    subst S (sym p) (subst R items (subst Q r (subst P before one)))
+
+-- one that is passed over where it stands
+pub line_passed : (m : Files) (old new : Reader) (n : ℕ) → PassesLine (left_in m old.top.source) n (left_in m new.top.source) → mark_of new.top ≡ mark_of old.top → new.outer ≡ old.outer → new.place ≡ moved old.place n → suc new.room ≡ old.room → PassesPlain (left_of m old) (left_of m new)
+line_passed m old new n (bytes, e, (ts, read, plain)) k u p r = (ts, written_taken m old new n ts (bytes, e, read) k u p r, plain)

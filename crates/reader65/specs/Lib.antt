@@ -11,6 +11,7 @@ pub mod Lines
 pub mod Naming
 pub mod Parting
 pub mod Passing
+pub mod Peeking
 pub mod Plain
 pub mod Playing
 pub mod Reading

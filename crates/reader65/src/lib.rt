@@ -10,6 +10,7 @@ mod input;
 mod line;
 mod locals;
 mod passing;
+mod peeking;
 mod playing;
 mod reader;
 

@@ -1,12 +1,12 @@
 //! Lines that are kept.
 
-ghost use Rattle.std.specs.Prelude.{◌≡◌, ◌∷◌, ◌++◌, [], false, slice_get, option_map, IsTrue, IfErr, IfOk, List, OnOk, Result};
+ghost use Rattle.std.specs.Prelude.{◌≡◌, ◌≤◌, ◌∷◌, ◌++◌, [], false, length, slice_get, option_map, take, IsTrue, IfErr, IfOk, IfSome, List, Ok, OnOk, Result};
 ghost use Rattle.base65.specs.Relations.{Answers};
 ghost use Rattle.syntax65.specs.Tokens.{IsRead, Lexeme, lexeme_of, lexemes};
 ghost use Rattle.syntax65.specs.declared.lexing.fault.LexFault.{LexFault};
 ghost use Rattle.source65.specs.Faults.{is_failure, is_outside};
 ghost use Rattle.reader65.specs.Fronts.{front_directive, label_len};
-ghost use Rattle.reader65.specs.Kept.{behind_word, text_of, tokens_in};
+ghost use Rattle.reader65.specs.Kept.{behind_word, cut, text_of, tokens_in};
 ghost use Rattle.reader65.specs.Plain.{IsColon, IsColonAt, IsPlain};
 ghost use Rattle.reader65.specs.Parting.{IsParted};
 ghost use Rattle.reader65.specs.Taking.{lexed};
@@ -16,6 +16,7 @@ use crate::fronts::{directive_in, is_mislabelled, label_len};
 use base65::Sequence;
 use source65::ExpandFault;
 use std::alloc::{AllocError, Global};
+use std::mem;
 use syntax65::{Lexer, Mark, Token, TokenKind};
 
 /// What a token of a line is, how many of the line's bytes part it from the token before, and how many are its own.
@@ -83,6 +84,16 @@ impl Line {
         })
     }
 
+    /// A line without tokens.
+    pub fn new(alloc: Global) -> Line
+        ensures { tokens_in result ≡ [] }
+    {
+        Line {
+            words: Sequence::new(alloc),
+            bytes: Sequence::new(alloc),
+        }
+    }
+
     /// The tokens of a line of a file.
     #[inline(always)]
     pub fn read(alloc: Global, bytes: &[u8]) -> Result<Line, ExpandFault>
@@ -90,27 +101,35 @@ impl Line {
             (λ r. (q : Result (List Lexeme) LexFault) × IsRead bytes.now q × (r ≡ lexed q)) }
         ensures inside { IfErr result (λ e. is_failure e ≡ false) }
     {
-        let mut lexer = Lexer::new(bytes)?;
         // Room for most lines, and not more: those of a macro stay as they are.
         let mut words = Vec::with_capacity(alloc, (bytes.len() / 2 + 1).min(8))?;
-        'tokens: loop {
-            let left = lexer.rest.len();
-            match lexer.next()? {
-                Some(token) => {
-                    let len = token.text.len();
-                    let blanks = left - lexer.rest.len() - len;
-                    words.push(Word::new(token.kind, blanks, len)?)?;
-                }
-                None => {
-                    let (front, _) = bytes.split_at(bytes.len() - left);
-                    let kept = Vec::from_slice(alloc, front)?;
-                    return Ok(Line {
-                        words: Sequence::from_vec(words),
-                        bytes: Sequence::from_vec(kept),
-                    });
-                }
-            }
-        }
+        let len = read_words(bytes, &mut words)?;
+        let (front, _) = bytes.split_at(len);
+        let kept = Vec::from_slice(alloc, front)?;
+        Ok(Line {
+            words: Sequence::from_vec(words),
+            bytes: Sequence::from_vec(kept),
+        })
+    }
+
+    /// Reads the tokens of a line of a file in the place of the line's own, as far as memory lasts and the line is
+    /// right; whether they are read.
+    #[inline(always)]
+    pub fn fill(&mut self, alloc: Global, bytes: &[u8]) -> bool
+        ensures { IsTrue result → IsRead bytes.now (Ok (tokens_in self.new)) }
+    {
+        let mut words = mem::replace(&mut self.words, Sequence::new(alloc)).into_vec();
+        let mut kept = mem::replace(&mut self.bytes, Sequence::new(alloc)).into_vec();
+        words.clear();
+        kept.clear();
+        let Ok(len) = read_words(bytes, &mut words) else {
+            return false;
+        };
+        let (front, _) = bytes.split_at(len);
+        let is_kept = kept.extend_from_slice(front).is_ok();
+        self.words = Sequence::from_vec(words);
+        self.bytes = Sequence::from_vec(kept);
+        is_kept
     }
 
     /// Puts the line's tokens behind others.
@@ -124,6 +143,26 @@ impl Line {
             rest = behind;
         }
         Ok(())
+    }
+
+    /// Puts the line's tokens into the front of some room, where they fit; how many they are.
+    #[inline(always)]
+    pub fn put_in<'a>(&'a self, room: &mut [Token<'a>]) -> Option<usize>
+        ensures within { IfSome result (λ n. n ≤ length room.new) }
+        ensures tokens { IfSome result (λ n. lexemes (take n room.new) ≡ tokens_in self.now) }
+    {
+        if self.words.len() > room.len() {
+            return None;
+        }
+        let mut count = 0;
+        let mut left = self.bytes.as_slice();
+        for word in self.words.as_slice() {
+            let (token, behind) = word.token(left);
+            room[count] = token;
+            count += 1;
+            left = behind;
+        }
+        Some(count)
     }
 
     /// The first token.
@@ -193,6 +232,29 @@ impl Line {
         let mut tokens = Vec::with_capacity(alloc, self.words.len())?;
         self.add_to(&mut tokens)?;
         Ok(tokens)
+    }
+}
+
+/// Reads the words of a line of a file; how many of its bytes stand in front of the last one's end.
+#[inline(always)]
+fn read_words(bytes: &[u8], words: &mut Vec<Word>) -> Result<usize, ExpandFault>
+    requires { words.old.items ≡ [] }
+    ensures tokens { Answers is_outside (λ n. cut words.new.items (take n bytes.now)) result
+        (λ r. (q : Result (List Lexeme) LexFault) × IsRead bytes.now q × (r ≡ lexed q)) }
+    ensures within { IfOk result (λ n. n ≤ length bytes.now) }
+    ensures inside { IfErr result (λ e. is_failure e ≡ false) }
+{
+    let mut lexer = Lexer::new(bytes)?;
+    'tokens: loop {
+        let left = lexer.rest.len();
+        match lexer.next()? {
+            Some(token) => {
+                let len = token.text.len();
+                let blanks = left - lexer.rest.len() - len;
+                words.push(Word::new(token.kind, blanks, len)?)?;
+            }
+            None => return Ok(bytes.len() - left),
+        }
     }
 }
 

@@ -13,7 +13,7 @@ use Rattle.syntax65.specs.declared.lexing.tokens.Token.{Token}
 use Rattle.reader65.specs.Kept.{AreKept, behind_word, cut}
 use Rattle.reader65.specs.declared.line.Word.{Word}
 use Rattle.reader65.proofs.Opening.{not_read}
-use Rattle.reader65.proofs.line.Line.read.Goals as goal
+use Rattle.reader65.proofs.line.read_words.Goals as goal
 
 too_long : (bytes : List ℕ) (fault : LexFault) → fault ≡ lex.LineTooLong → 4096 < length bytes → Unless (is_lex_outside fault) (IsRead bytes (Err fault))
 too_long bytes fault e h = subst (λ (f : LexFault). Unless (is_lex_outside f) (IsRead bytes (Err f))) (sym e) h
@@ -73,11 +73,11 @@ returns-in_err-token-clause-tokens c =
 pub tokens-init : goal.tokens-init
 tokens-init c = record {
   short = c.in_ok-lexer.ensures.0;
-  so_far = ([], ([], sym c.in_ok-lexer.ensures.1, rw c.in_ok-words.ensures.items nothing_kept), λ us end h. rw (c.in_ok-lexer.ensures.1, c.in_ok-lexer.ensures.2) at h);
+  so_far = ([], ([], sym c.in_ok-lexer.ensures.1, rw c.requires nothing_kept), λ us end h. rw (c.in_ok-lexer.ensures.1, c.in_ok-lexer.ensures.2) at h);
 }
 
-pub overflow_sub-bytes : goal.overflow_sub-bytes
-overflow_sub-bytes c = rest_within c.args.bytes.now c.tokens.invariant.so_far.1.0 c.tokens.lexer.rest.now c.tokens.invariant.so_far.1.1
+pub overflow_sub-result : goal.overflow_sub-result
+overflow_sub-result c = rest_within c.args.bytes.now c.tokens.invariant.so_far.1.0 c.tokens.lexer.rest.now c.tokens.invariant.so_far.1.1
 
 pub tokens-preserved : goal.tokens-preserved
 tokens-preserved c =
@@ -102,6 +102,5 @@ returns-in-None-clause-tokens c =
     let P : List Lexeme → Type 0 = λ ts. Reads true c.args.bytes.now ts None in
     let end : Reads c.tokens.lexer.first c.tokens.lexer.rest.now [] None = rw c.in-None.is at c.in_ok-token.ensures.next in
     let kept = so_far.1 in
-    let front : c.in_ok-kept-in-None.kept.items ≡ kept.0 = c.in_ok-kept-in-None.ensures.items ∙ c.split_at.ensures.front ∙ front_len c.args.bytes.now kept.0 c.tokens.lexer.rest.now kept.1 in
-    let all : cut c.tokens.words.items c.in_ok-kept-in-None.kept.items ≡ so_far.0 = ap (cut c.tokens.words.items) front ∙ all_kept c.tokens.words.items kept.0 so_far.0 kept.2 in
-    (Ok so_far.0, (c.tokens.invariant.short, subst P (append-nil so_far.0) (so_far.2 [] None end)), rw (c.from_vec.ensures, c.from_vec-in-None.ensures) (ap Ok all))
+    let all : cut c.tokens.words.items (take (length c.args.bytes.now - length c.tokens.lexer.rest.now) c.args.bytes.now) ≡ so_far.0 = ap (cut c.tokens.words.items) (front_len c.args.bytes.now kept.0 c.tokens.lexer.rest.now kept.1) ∙ all_kept c.tokens.words.items kept.0 so_far.0 kept.2 in
+    (Ok so_far.0, (c.tokens.invariant.short, subst P (append-nil so_far.0) (so_far.2 [] None end)), ap Ok all)

@@ -1,0 +1,105 @@
+-- Lines of files that are taken where they stand.
+use Rattle.std.proofs.Common.{◌≡◌, ℕ, List, [], ◌∷◌, Option, Some, None, Ok, Err, Result, Bool, true, false, IfSome, refl, sym, subst, ◌∙◌}
+use Rattle.std.specs.Prelude.{slice_get, IfErr}
+use Rattle.base65.specs.Outcome.{Unless}
+use Rattle.base65.specs.Store.{Files}
+use Rattle.syntax65.specs.Tokens.{Lexeme}
+use Rattle.source65.specs.Faults.{is_failure, is_outside}
+use Rattle.source65.specs.declared.fault.ExpandFault.{ExpandFault}
+use Rattle.reader65.specs.Inside.{left_of}
+use Rattle.reader65.specs.Naming.{NamesFiles}
+use Rattle.reader65.specs.Taking.{Takes}
+use Rattle.reader65.specs.declared.reader.Reader.{Reader}
+use Rattle.expand65.specs.AtHand.{IsOfKind, Steps}
+use Rattle.expand65.specs.Expansion.{Next, Reaches, fault, further, given, nothing, statement}
+use Rattle.expand65.specs.Meaning.{Meaning}
+use Rattle.expand65.specs.Rewriting.{state_of}
+use Rattle.expand65.specs.Standing.{FollowsFrom, given_in, place_of, state_in, stated}
+use Rattle.expand65.specs.State.{State, Stated, plain, goes, gives}
+use Rattle.expand65.specs.Step.{IsActed, IsStep}
+use Rattle.expand65.specs.Stopping.{Goes, StopsOnItsWay, no_step, one_more}
+use Rattle.expand65.specs.declared.at_hand.Kind.{Kind}
+use Rattle.expand65.specs.declared.at_hand.Kind.TheVariants as kind
+use Rattle.expand65.specs.declared.expander.Expander.{Expander}
+use Rattle.expand65.specs.declared.expander.Statement.{Statement}
+use Rattle.expand65.specs.declared.rewriter.Rewriter.{Rewriter}
+use Rattle.reader65.specs.declared.directives.Directive.{Directive}
+use Rattle.reader65.specs.Fronts.{front_directive}
+use Rattle.expand65.proofs.Acting.{no_call, step_taken, unlabelled}
+use Rattle.expand65.proofs.Stopping.{goes_over}
+
+-- ---- One line.
+
+pub no_first : (ts : List Lexeme) → None ≡ slice_get ts 0 → ts ≡ []
+no_first [] e = refl
+no_first (t ∷ ts) e = absurd cc
+
+pub steps_at_hand : (m : Files) (k : Meaning) (old : Rewriter) (new : Reader) (ts : List Lexeme) (x : Kind) → IsOfKind x old ts → (x ≡ kind.Other → ⊥) → Takes (left_of m old.reader) (Ok (Some ts, left_of m new)) → Steps m k (state_of m old) x ts (state_of m (record { alloc = old.alloc; reader = new; macros = old.macros; conditions = old.conditions; expansions = old.expansions; folders = old.folders }))
+steps_at_hand m k old new ts kind.Other is other taken = absurd (other refl)
+steps_at_hand m k old new ts kind.Nothing is other taken =
+    let mid : Rewriter = record { alloc = old.alloc; reader = new; macros = old.macros; conditions = old.conditions; expansions = old.expansions; folders = old.folders } in
+    let t = state_of m mid in
+    let P : List Lexeme → Type 0 = λ l. Takes (left_of m old.reader) (Ok (Some l, left_of m new)) in
+    step_taken m k old (Ok (Some [], left_of m new)) (goes t) (subst P is taken) (unlabelled m k t [] (goes t) refl refl)
+steps_at_hand m k old new ts kind.Statement (plainly, opens) other taken =
+    let mid : Rewriter = record { alloc = old.alloc; reader = new; macros = old.macros; conditions = old.conditions; expansions = old.expansions; folders = old.folders } in
+    let t = state_of m mid in
+    let P : Option Directive → Type 0 = λ d. IsActed m k t ts d (gives (plain ts) t) in
+    step_taken m k old (Ok (Some ts, left_of m new)) (gives (plain ts) t) taken (unlabelled m k t ts (gives (plain ts) t) plainly.0 (subst P (sym plainly.1) (no_call m mid ts opens)))
+
+-- ---- Lines one after another.
+
+pub goes_on_by : (m : Files) (k : Meaning) (s t u : State) (x : Kind) (ts : List Lexeme) → x ≡ kind.Nothing → Goes m k s t → Steps m k t x ts u → Goes m k s u
+goes_on_by m k s t u kind.Nothing ts e h step = one_more s t u h step
+goes_on_by m k s t u kind.Statement ts e h step = absurd cc
+goes_on_by m k s t u kind.Other ts e h step = absurd cc
+
+pub reaches_behind : (m : Files) (k : Meaning) (s t : State) (n : Next) → Goes m k s t → Reaches m k t n → Reaches m k s n
+reaches_behind m k s _ n (no_step t) r = r
+reaches_behind m k s _ n (one_more _ t u h step) r = reaches_behind m k s t n h (further t u n step r)
+
+pub given_by : (m : Files) (k : Meaning) (s t u : State) (x : Kind) (ts : List Lexeme) → x ≡ kind.Statement → Goes m k s t → Steps m k t x ts u → Reaches m k s (statement (plain ts) u)
+given_by m k s t u kind.Statement ts e h step = reaches_behind m k s t (statement (plain ts) u) h (given t u (plain ts) step)
+given_by m k s t u kind.Nothing ts e h step = absurd cc
+given_by m k s t u kind.Other ts e h step = absurd cc
+
+-- ---- From what an expander stands for.
+
+pub follows_given : (o : Option Files) (k : Meaning) (old new : Expander) (x : Statement) → old.failed ≡ false → new.failed ≡ old.failed → (NamesFiles old.rewriter.reader → NamesFiles new.rewriter.reader) → ((m : Files) (l : Meaning) → Reaches m l (state_in m old) (statement (stated x) (state_in m new))) → IfSome o (λ m. FollowsFrom m k old (Ok (Some x)) new)
+follows_given None k old new x right same named h = tt
+follows_given (Some m) k old new x right same named h = λ s stands.
+    let P : State → Type 0 = λ z. Reaches m k z (statement (stated x) (state_in m new)) in
+    (state_in m new, subst P stands.1 (h m k), (same ∙ right, refl, named stands.2))
+
+pub follows_behind : (o : Option Files) (k : Meaning) (old mid new : Expander) (r : Result (Option Statement) ExpandFault) → mid.failed ≡ old.failed → (NamesFiles old.rewriter.reader → NamesFiles mid.rewriter.reader) → ((m : Files) (l : Meaning) → Goes m l (state_in m old) (state_in m mid)) → IfSome o (λ m. FollowsFrom m k mid r new) → IfSome o (λ m. FollowsFrom m k old r new)
+follows_behind None k old mid new r same named gone h = tt
+follows_behind (Some m) k old mid new (Ok (Some x)) same named gone h = λ s stands.
+    let P : State → Type 0 = λ z. Goes m k z (state_in m mid) in
+    let there = h (state_in m mid) (same ∙ stands.0, refl, named stands.2) in
+    (there.0, reaches_behind m k s (state_in m mid) (statement (stated x) there.0) (subst P stands.1 (gone m k)) there.1, there.2)
+follows_behind (Some m) k old mid new (Ok None) same named gone h = λ s stands.
+    let P : State → Type 0 = λ z. Goes m k z (state_in m mid) in
+    let there = h (state_in m mid) (same ∙ stands.0, refl, named stands.2) in
+    (there.0, reaches_behind m k s (state_in m mid) (nothing there.0) (subst P stands.1 (gone m k)) there.1, there.2)
+follows_behind (Some m) k old mid new (Err f) same named gone h = λ s stands.
+    let P : State → Type 0 = λ z. Goes m k z (state_in m mid) in
+    by (is_outside f) s (subst P stands.1 (gone m k)) (h (state_in m mid) (same ∙ stands.0, refl, named stands.2))
+  where
+    by : (b : Bool) (s : State) → Goes m k s (state_in m mid) → Unless b (Reaches m k (state_in m mid) (fault (f, place_of new))) → Unless b (Reaches m k s (fault (f, place_of new)))
+    by true s g r = tt
+    by false s g r = reaches_behind m k s (state_in m mid) (fault (f, place_of new)) g r
+
+pub stops_behind_lines : {A : Type 0} (B : Type 0) (o : Option Files) (blamed : Option (List ℕ)) (k : Meaning) (old mid new : Expander) (r : Result A ExpandFault) (f : ExpandFault) → r ≡ Err f → mid.failed ≡ old.failed → (NamesFiles old.rewriter.reader → NamesFiles mid.rewriter.reader) → ((m : Files) (l : Meaning) → Goes m l (state_in m old) (state_in m mid)) → IfSome o (λ m. StopsOnItsWay {A = B} m blamed k mid (Err f) new) → IfSome o (λ m. StopsOnItsWay m blamed k old r new)
+stops_behind_lines B None blamed k old mid new r f is same named gone h = tt
+stops_behind_lines {A} B (Some m) blamed k old mid new r f is same named gone h =
+    let Q : Result A ExpandFault → Type 0 = λ q. StopsOnItsWay m blamed k old q new in
+    subst Q (sym is) (λ s stands failed. (
+    let P : State → Type 0 = λ z. Goes m k z (state_in m mid) in
+    let so = h (state_in m mid) (same ∙ stands.0, refl, named stands.2) failed in
+    record {
+      state = so.state;
+      reading = so.reading;
+      goes = goes_over m k s (state_in m mid) so.state (subst P stands.1 (gone m k)) so.goes;
+      fails = so.fails;
+      at = so.at;
+    }))

@@ -1,0 +1,112 @@
+//! Lines of files that are taken where they stand, in the place of a line that the caller keeps.
+
+ghost use Rattle.std.specs.Prelude.{◌≡◌, ◌<◌, ◌≤◌, IsTrue, false, is_some};
+ghost use Rattle.base65.specs.Store.{Files};
+ghost use Rattle.syntax65.specs.Tokens.{lexeme_of};
+ghost use Rattle.reader65.specs.Kept.{tokens_in};
+ghost use Rattle.reader65.specs.Naming.{NamesFiles};
+ghost use Rattle.expand65.specs.AtHand.{IsOfKind, Steps};
+ghost use Rattle.expand65.specs.Expansion.{Next, Reaches};
+ghost use Rattle.expand65.specs.Macros.{macro_at};
+ghost use Rattle.expand65.specs.Meaning.{Meaning};
+ghost use Rattle.expand65.specs.Rewriting.{macros_of, size_of, state_of};
+ghost use Rattle.expand65.specs.State.{plain};
+ghost use Rattle.expand65.specs.Stopping.{Goes};
+
+use crate::rewriter::Rewriter;
+use reader65::Line;
+use syntax65::{Token, TokenKind};
+
+/// What a line at hand is.
+#[derive(Clone, Copy)]
+pub enum Kind {
+    /// It has no token.
+    Nothing,
+    /// A statement without a label.
+    Statement,
+    /// It begins with a label or a directive of expansion, or calls a macro; or no line is at hand.
+    Other,
+}
+
+impl Rewriter {
+    /// Whether a token names a macro.
+    #[inline(always)]
+    fn is_macro(&self, token: &Token<'_>) -> bool
+        ensures { result ≡ is_some (macro_at (macros_of self.now) (lexeme_of token.now)) }
+    {
+        // Most sources define no macro, and then no line's first name is looked up.
+        if self.macros.is_empty() {
+            return false;
+        }
+        match token.kind {
+            TokenKind::Identifier => self.has_macro(token.text),
+            _ => false,
+        }
+    }
+
+    /// What a line is.
+    #[inline(always)]
+    fn kind_of(&self, line: &Line) -> Kind
+        ensures { IsOfKind result self.now (tokens_in line.now) }
+    {
+        match line.first() {
+            None => Kind::Nothing,
+            Some(first) => {
+                if self.is_macro(&first) {
+                    return Kind::Other;
+                }
+                if line.is_plain() {
+                    Kind::Statement
+                } else {
+                    Kind::Other
+                }
+            }
+        }
+    }
+
+    /// Takes the next line in the place of another, where it is a file's, all of it is at hand, and it is nothing or a
+    /// statement without a label.
+    #[inline(always)]
+    fn take_at_hand(&mut self, line: &mut Line) -> Kind
+        ensures steps { (m : Files) (k : Meaning) →
+            Steps m k (state_of m self.old) result (tokens_in line.new) (state_of m self.new) }
+        ensures named { NamesFiles self.old.reader → NamesFiles self.new.reader }
+        ensures less { (result ≡ Kind.Other → ⊥) → size_of self.new < size_of self.old }
+        ensures none { result ≡ Kind.Other → self.new ≡ self.old }
+    {
+        let Some(len) = self.reader.peek(self.alloc, line) else {
+            return Kind::Other;
+        };
+        match self.kind_of(line) {
+            Kind::Other => Kind::Other,
+            kind => {
+                if self.reader.take_peeked(len) {
+                    kind
+                } else {
+                    Kind::Other
+                }
+            }
+        }
+    }
+
+    /// Takes the next statement in the place of another, where it is a whole line of a file, at hand; whether it was.
+    /// Lines without tokens in front of it are passed over.
+    #[inline(always)]
+    pub fn take_statement(&mut self, line: &mut Line) -> bool
+        ensures given { IsTrue result → (m : Files) (k : Meaning) → Reaches m k (state_of m self.old)
+            (Next.statement (plain (tokens_in line.new)) (state_of m self.new)) }
+        ensures gone { result ≡ false → (m : Files) (k : Meaning) →
+            Goes m k (state_of m self.old) (state_of m self.new) }
+        ensures named { NamesFiles self.old.reader → NamesFiles self.new.reader }
+        ensures less { IsTrue result → size_of self.new < size_of self.old }
+        ensures size { size_of self.new ≤ size_of self.old }
+    {
+        'lines: loop {
+            match self.take_at_hand(line) {
+                Kind::Nothing => {}
+                Kind::Statement => return true,
+                Kind::Other => return false,
+            }
+        }
+    }
+}

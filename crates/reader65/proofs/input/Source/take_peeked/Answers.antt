@@ -1,0 +1,11 @@
+use Rattle.std.proofs.Common.{IfSome, List, sym, subst}
+use Rattle.reader65.specs.Inside.{left_in}
+use Rattle.reader65.specs.Peeking.{IsAtHand, TakesWritten}
+use Rattle.reader65.specs.Reading.{left_in_file}
+use Rattle.reader65.specs.declared.input.Source.{Source}
+use Rattle.reader65.proofs.input.Source.take_peeked.Goals as goal
+
+pub returns-in-File-clause-taken : goal.returns-in-File-clause-taken
+returns-in-File-clause-taken c = λ m ts.
+    let P : Source → Type 0 = λ s. IsAtHand s c.args.len ts → IfSome c.take_peeked.result (λ n. TakesWritten (left_in m s) n ts (left_in_file m c.take_peeked.new.self)) in
+    subst P (sym c.in-File.is) (c.take_peeked.ensures.taken m ts)

@@ -17,10 +17,8 @@ use base65::{Sequence, Store, StoreFault, read_front};
 use expand65::name_beside;
 use language65::{AsmFault, At, PartRange, Statement};
 use layout65::{Before, check_unread};
+use source65::MAX_FILE;
 use std::alloc::Global;
-
-/// How many bytes a file has at most.
-const MAX_FILE: usize = 16_777_216;
 
 /// The bytes of a file that is looked for beside another one, if it is there. Of one with too many
 /// bytes one byte behind the limit is read.
@@ -43,7 +41,7 @@ fn bytes_beside<S: Store>(
     let Some(name) = name_beside(alloc, file, name)? else {
         return Ok(None);
     };
-    match read_front(alloc, store, name.as_str(), MAX_FILE + 1) {
+    match read_front(alloc, store, name.as_str(), MAX_FILE as usize + 1) {
         Ok(bytes) => Ok(Some(Sequence::from_vec(bytes))),
         Err(StoreFault::FileNotFound) => Ok(None),
         Err(fault) => Err(AsmFault::from(fault)),

@@ -11,8 +11,7 @@ ghost use Rattle.expand65.specs.Includes.{as_text, begins_with_slash, beside, fi
 ghost use Rattle.expand65.specs.Inner.Seeking.{Tries, file_of, is_there};
 
 use base65::{Store, StoreFault, Text};
-use reader65::MAX_FILE;
-use source65::ExpandFault;
+use source65::{ExpandFault, MAX_FILE};
 use std::alloc::{AllocError, Global};
 
 /// A file's name up to and with its last `/`, nothing where it has none.

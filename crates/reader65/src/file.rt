@@ -11,13 +11,10 @@ ghost use Rattle.reader65.specs.Reading.{IsPiece, ReadsLine, TakesPiece, bytes_o
 
 use base65::{Sequence, Store, StoreFault, Text};
 use memchr::memchr;
-use source65::ExpandFault;
+use source65::{ExpandFault, MAX_FILE};
 use std::alloc::Global;
 use std::mem;
 use syntax65::{LexFault, MAX_LINE};
-
-/// How many bytes a file has at most.
-pub const MAX_FILE: u64 = 16_777_216;
 
 /// How many bytes of a file are at hand at most.
 const BUFFER: usize = 4096;

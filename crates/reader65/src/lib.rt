@@ -16,7 +16,7 @@ mod reader;
 
 pub use blocks::BranchLine;
 pub use directives::{Directive, Test};
-pub use file::{MAX_FILE, OpenFile};
+pub use file::OpenFile;
 pub use fronts::{
     behind_first, closes_brace, is_comma, name_in, opens_brace, opens_parenthesis, string_of,
 };

@@ -5,4 +5,4 @@ mod fault;
 mod place;
 
 pub use fault::ExpandFault;
-pub use place::Place;
+pub use place::{MAX_FILE, Place};

@@ -5,6 +5,9 @@ ghost use Rattle.std.specs.Prelude.{◌≡◌, IfOk};
 use base65::Text;
 use std::alloc::{AllocError, Global};
 
+/// A source, and a file of which a part is taken, has at most so many bytes.
+pub const MAX_FILE: u64 = 16_777_216;
+
 /// A file and the number of the line of it that was read last, 0 where none was.
 #[derive(Drop)]
 pub struct Place {

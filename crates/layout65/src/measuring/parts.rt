@@ -20,12 +20,10 @@ use super::trees::check_range;
 use super::{Before, Measured, fit};
 use base65::Sequence;
 use language65::{AsmFault, PartRange, Settled, Spot};
+use source65::MAX_FILE;
 use std::alloc::Global;
 use symbols65::{Known, Symbols, knowing};
 use syntax65::Expr;
-
-/// How many bytes a file has at most.
-const MAX_FILE: usize = 16_777_216;
 
 /// The value of an expression that has to be constant, if there is one.
 fn named(
@@ -100,7 +98,7 @@ fn ranged(count: usize, start: Option<i64>, len: Option<i64>) -> Result<(usize, 
     ensures part { Gives is_memory (λ p. p) result (ranged count start len) }
     ensures few { IfOk result (λ p. p.0 ≤ 16777216) }
 {
-    if count > MAX_FILE {
+    if count > MAX_FILE as usize {
         return Err(AsmFault::BadPart);
     }
     let start = place_in(count, or_default(start, 0))?;

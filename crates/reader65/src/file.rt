@@ -72,10 +72,10 @@ fn read_piece<S: Store>(
     ensures files { S.files store.new ≡ S.files store.old }
     ensures count { Passes ExpandFault.FileError (S.failures store.old) (S.failures store.new) result }
 {
-    let mut chunk = [0u8; BUFFER];
-    let n = read_some(store, name, at, &mut chunk[..want])?;
-    bytes.clear();
-    bytes.extend_from_slice(&chunk[..n])?;
+    // Where as many were read before, there is nothing to fill.
+    bytes.resize(want, 0)?;
+    let n = read_some(store, name, at, bytes.as_mut_slice())?;
+    bytes.truncate(n);
     Ok(n)
 }
 

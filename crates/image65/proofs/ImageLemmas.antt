@@ -1,15 +1,15 @@
 -- Pieces over pieces.
-use Rattle.std.proofs.Common.{◌≡◌, ◌∙◌, ℕ, ◌+◌, ◌-◌, ◌<◌, ◌≤◌, Bool, true, false, List, [], ◌∷◌, length, get_or, drop, map, refl, sym, ap, subst, arith}
-use Rattle.std.specs.Prelude.{◌&&◌, if◌then◌else◌, nat_le, nat_lt, replicate}
+use Rattle.std.proofs.Common.{◌≡◌, ◌∙◌, ℕ, ◌+◌, ◌-◌, ◌<◌, ◌≤◌, Bool, true, false, cond, List, [], ◌∷◌, length, get_or, drop, map, refl, sym, ap, subst, arith}
+use Rattle.std.specs.Prelude.{◌&&◌, ◌==◌, filter, if◌then◌else◌, nat_le, nat_lt, not, replicate}
 use Rattle.std.proofs.lemmas.Bool.Decides.{nat_tests}
 use Rattle.std.proofs.lemmas.List.{drop_all, get_or-replicate}
 use Rattle.script65.proofs.Eaches.{drop_item}
 use Rattle.script65.specs.declared.placement.AreaPlace.{AreaPlace}
 use Rattle.script65.specs.declared.script.Area.{Area}
 use Rattle.image65.specs.declared.areas.Load.{Load}
-use Rattle.image65.specs.Files.{IsFileBy, IsImage, Piece, Placed, RowBytes, area_pieces, byte_over, file_len, offset_of}
+use Rattle.image65.specs.Files.{IsFileBy, IsImage, Piece, Placed, RowBytes, area_pieces, byte_over, file_len, laid_over, offset_of}
 use Rattle.image65.specs.Inner.Laying.{IsWhole, LaysAll, Overlays}
-use Rattle.image65.specs.Inner.Loads.{Held, IsFileOf, held_by, piece_at, placed_in, view}
+use Rattle.image65.specs.Inner.Loads.{Held, IsFileOf, has_bytes, held_by, piece_at, placed_in, view}
 
 -- a piece over an image, and then others
 both : (p : Piece) (ps : List Piece) (old mid new : List ℕ) → Overlays old p.offset p.bytes mid → LaysAll ps mid new → LaysAll (p ∷ ps) old new
@@ -83,11 +83,32 @@ placed_all : (ls : List Load) → map (λ h. h.0) (map view ls) ≡ map placed_i
 placed_all [] = refl
 placed_all (l ∷ ls) = ap (λ ps. placed_in l ∷ ps) (placed_all ls)
 
--- the file of an area's rows, by its length
-pub file_of : (a : Area) (place : AreaPlace) (ls items : List Load) (len : ℕ) (image : List ℕ) → items ≡ ls → len ≡ file_len a place (map placed_in ls) → IsImage len a.fill_value (pieces_in place.start items) image → IsFileOf a place (map view ls) image
+-- ---- Rows without bytes.
+
+nowhere_inside : (i at : ℕ) → (nat_le at i && nat_lt i (at + 0)) ≡ false
+nowhere_inside i at = grind (arith, nat_tests)
+
+none_laid : (i at : ℕ) (bytes : List ℕ) (before : ℕ) → not (length bytes == 0) ≡ false → laid_over i at bytes before ≡ before
+none_laid i at [] before e = ap (λ b. if b then get_or [] (i - at) 0 else before) (nowhere_inside i at)
+none_laid i at (b ∷ bytes) before e = let some : (length (b ∷ bytes) == 0) ≡ false = grind (arith, nat_tests) in let both : true ≡ false = sym (ap not some) ∙ e in absurd cc
+
+full_over : (start : ℕ) (ls : List Load) (i before : ℕ) → byte_over (pieces_in start (filter has_bytes ls)) i before ≡ byte_over (pieces_in start ls) i before
+full_over start [] i before = refl
+full_over start (l ∷ ls) i before = go (has_bytes l) refl (full_over start ls i)
+  where
+    at : ℕ
+    at = offset_of start (placed_in l)
+
+    go : (b : Bool) → has_bytes l ≡ b → ((x : ℕ) → byte_over (pieces_in start (filter has_bytes ls)) i x ≡ byte_over (pieces_in start ls) i x) → byte_over (pieces_in start (cond b (l ∷ filter has_bytes ls) (filter has_bytes ls))) i before ≡ byte_over (pieces_in start ls) i (laid_over i at l.bytes before)
+    go true is rest = rest (laid_over i at l.bytes before)
+    go false is rest = rest before ∙ ap (byte_over (pieces_in start ls) i) (sym (none_laid i at l.bytes before is))
+
+-- the file of an area's rows, by its length and those that have bytes
+pub file_of : (a : Area) (place : AreaPlace) (ls items : List Load) (len : ℕ) (image : List ℕ) → items ≡ filter has_bytes ls → len ≡ file_len a place (map placed_in ls) → IsImage len a.fill_value (pieces_in place.start items) image → IsFileOf a place (map view ls) image
 file_of a place ls items len image are long file =
     let there = subst (λ (xs : List Load). IsImage len a.fill_value (pieces_in place.start xs) image) are file in
-    subst (λ (n : ℕ). IsImage n a.fill_value (pieces_in place.start ls) image) (long ∙ sym (ap (file_len a place) (placed_all ls))) there
+    let full : IsImage len a.fill_value (pieces_in place.start ls) image = record { size = there.size; bytes = λ i lt. there.bytes i lt ∙ full_over place.start ls i a.fill_value } in
+    subst (λ (n : ℕ). IsImage n a.fill_value (pieces_in place.start ls) image) (long ∙ sym (ap (file_len a place) (placed_all ls))) full
 
 -- ---- By what rows hold.
 

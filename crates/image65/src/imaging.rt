@@ -1,9 +1,9 @@
 //! The bytes of an area's file.
 
-ghost use Rattle.std.specs.Prelude.{◌≡◌, IfOk, map, true};
+ghost use Rattle.std.specs.Prelude.{◌≡◌, IfOk, filter, map, true};
 ghost use Rattle.image65.specs.Files.{IsImage, end_behind, file_len};
 ghost use Rattle.image65.specs.Inner.Laying.{IsWhole, LaysAll, Overlays};
-ghost use Rattle.image65.specs.Inner.Loads.{IsFileOf, piece_at, placed_in, view};
+ghost use Rattle.image65.specs.Inner.Loads.{IsFileOf, has_bytes, piece_at, placed_in, view};
 
 use crate::areas::{Filled, Load};
 use base65::Sequence;
@@ -56,6 +56,13 @@ fn file_len(filled: &Filled<'_, '_>) -> u128
     }
 }
 
+/// Leaves out the rows without bytes, which put nothing into a file.
+fn drop_empty(loads: &mut Vec<Load<'_>>)
+    ensures { loads.new.items ≡ filter has_bytes loads.old.items }
+{
+    loads.retain(|load| load.bytes.len() != 0);
+}
+
 /// Whether the bytes of the first row are all of a file of so many.
 fn is_whole(len: usize, start: u64, loads: &[Load<'_>]) -> bool
     ensures { result ≡ true → IsWhole len (map (piece_at start) (map view loads.now)) }
@@ -81,7 +88,8 @@ fn lay_out(
     Ok(image)
 }
 
-/// The bytes of an area's file, of which memory has to take all. Where one row is all of it, its bytes aren't copied.
+/// The bytes of an area's file, of which memory has to take all. Where one row's are all of
+/// them, they aren't copied.
 pub fn area_file(alloc: Global, filled: Filled<'_, '_>) -> Result<Sequence<u8>, AllocError>
     ensures { IfOk result (λ image. IsFileOf filled.entry.area.now filled.entry.place (map view filled.entry.loads) image) }
 {
@@ -90,6 +98,7 @@ pub fn area_file(alloc: Global, filled: Filled<'_, '_>) -> Result<Sequence<u8>, 
     };
     let start = filled.place.start;
     let mut loads = filled.loads.into_vec();
+    drop_empty(&mut loads);
     if is_whole(len, start, loads.as_slice()) {
         return Ok(mem::replace(&mut loads[0].bytes, Sequence::new(alloc)));
     }

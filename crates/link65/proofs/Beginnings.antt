@@ -16,7 +16,7 @@ use Rattle.link65.specs.Contents.{segment_from, segments_from}
 use Rattle.link65.specs.Grounds.{growth_in, having, names_in, place_in, with_gap, with_name}
 use Rattle.link65.specs.Growing.{Growth, bare_section, longer, with_bare, with_cells, with_more, with_part, with_segments}
 use Rattle.link65.specs.Segments
-use Rattle.link65.proofs.PlaceOf.{at_place, begun_end, begun_section, more_nowhere, segment_names}
+use Rattle.link65.proofs.PlaceOf.{at_place, begun_end, begun_section, segment_names}
 
 -- a segment with a bare section
 opened_is : (owner m : ℕ) (g h : Segments.Segment) (name : List ℕ) (align : ℕ) → m ≡ 2 ^ align → h ≡ record (with_gap (rounded_up g.size m - g.size) g) { size = rounded_up g.size m; align = max g.align m } → h ≡ Segments.grown owner g (bare_section name align)
@@ -77,15 +77,6 @@ part_added g k at f p contents sections named there place added lengthened =
     let a = at_place p.segment (segments_from cs) at (ap (place_in p.segment) (segment_names cs ∙ sym named) ∙ place) in
     let x = of_content (slice_get cs at) a.segment (sym (slice_get-map segment_from cs at) ∙ a.there) in
     ap (λ (hs : List Segments.Segment). put (growth_in g) hs sections) (added x.0 x.1 ∙ ap (λ (s : Segments.Segment). slice_set (segments_from cs) at (with_cells len cells s)) x.2 ∙ sym (a.more len cells))
-    ∙ ap (put (growth_in g) (with_more p.segment len cells (segments_from cs))) lengthened
-    ∙ sym (ap (with_part (growth_in g) k f) there)
-
-pub part_nowhere : (g : Growing) (k : ℕ) (f : Fragment) (p : SectionPlace) (sections : List SectionPlace) → names_in g ≡ map (λ x. x.name) g.contents.items → slice_get g.sections.items k ≡ Some p → place_in p.segment (names_in g) ≡ None → sections ≡ slice_set g.sections.items k (longer p (fragment_len f)) → put (growth_in g) (segments_from g.contents.items) sections ≡ with_part (growth_in g) k f (slice_get g.sections.items k)
-part_nowhere g k f p sections named there place lengthened =
-    let cs = g.contents.items in
-    let len = fragment_len f in
-    let cells = Segments.fragment_cells (length g.members) f in
-    ap (λ (hs : List Segments.Segment). put (growth_in g) hs sections) (sym (more_nowhere p.segment len cells (segments_from cs) (ap (place_in p.segment) (segment_names cs ∙ sym named) ∙ place)))
     ∙ ap (put (growth_in g) (with_more p.segment len cells (segments_from cs))) lengthened
     ∙ sym (ap (with_part (growth_in g) k f) there)
 

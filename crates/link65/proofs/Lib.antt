@@ -20,6 +20,7 @@ pub mod Passes
 pub mod PlaceLemmas
 pub mod PlaceOf
 pub mod RowLemmas
+pub mod SectionLemmas
 pub mod SegmentLemmas
 pub mod Shown
 pub mod Tries

@@ -165,11 +165,3 @@ end_step name g gs false is rest = rw is rest
 pub begun_end : (name : List ℕ) (gs : List Segments.Segment) → Segments.end_of (with_name name gs) name ≡ Segments.end_of gs name
 begun_end name [] = rw (same_name name) refl
 begun_end name (g ∷ gs) = end_step name g gs (bytes_eq g.name name) refl (begun_end name gs)
-
--- no segment grows where none has the name
-pub more_nowhere : (name : List ℕ) (len : ℕ) (cells : List Segments.Cell) (gs : List Segments.Segment) → place_in name (names_of gs) ≡ None → with_more name len cells gs ≡ gs
-more_nowhere name len cells [] none = refl
-more_nowhere name len cells (g ∷ gs) none =
-    let s = none_step (bytes_eq name) g.name (names_of gs) (bytes_eq name g.name) refl none in
-    let back : bytes_eq g.name name ≡ false = (nat_list_eq_equiv).symm g.name name ∙ s.0 in
-    rw back (ap (λ hs. g ∷ hs) (more_nowhere name len cells gs s.1))

@@ -1,5 +1,5 @@
 -- What the code keeps of a program while its modules come.
-use Rattle.std.specs.Prelude.{◌≡◌, ◌≤◌, ℕ, List, [], ◌∷◌, ◌++◌, map, position, replicate, Option, if◌then◌else◌, ⊤}
+use Rattle.std.specs.Prelude.{◌≡◌, ◌≤◌, ℕ, List, [], ◌∷◌, ◌++◌, map, position, replicate, Option, Some, if◌then◌else◌, ⊤}
 use Rattle.std.specs.Str.{bytes_eq}
 use Rattle.object65.specs.declared.item.Item.{Item}
 use Rattle.object65.specs.declared.item.Item.TheVariants as item
@@ -24,9 +24,17 @@ growth_in g = record {
 abbrev pub program_in : Growing → Program
 program_in g = (growth_in g).program
 
--- segments are found by their names
+-- the place of the segment of a name
+abbrev pub place_in : List ℕ → List (List ℕ) → Option ℕ
+place_in name names = position (λ n. bytes_eq name n) names
+
+abbrev pub names_in : Growing → List (List ℕ)
+names_in g = map (λ n. n.items) g.names.keys
+
+-- segments are found by their names, and those of the open module's sections by their places
 pub record AreNamed (g : Growing) : Type 0 where
-  pub names : map (λ n. n.items) g.names.keys ≡ map (λ c. c.name) g.contents.items
+  pub names : names_in g ≡ map (λ c. c.name) g.contents.items
+  pub sections : map (λ s. place_in s.segment (names_in g)) g.sections.items ≡ map Some g.places.items
 
 -- an alignment that an object may have
 abbrev pub IsSmall : Item → Type 0
@@ -42,13 +50,6 @@ IsSmall item.End = ⊤
 abbrev pub with_name : List ℕ → List Segment → List Segment
 with_name name [] = empty_segment name ∷ []
 with_name name (g ∷ gs) = if bytes_eq g.name name then g ∷ gs else g ∷ with_name name gs
-
--- the place of the segment of a name
-abbrev pub place_in : List ℕ → List (List ℕ) → Option ℕ
-place_in name names = position (λ n. bytes_eq name n) names
-
-abbrev pub names_in : Growing → List (List ℕ)
-names_in g = map (λ n. n.items) g.names.keys
 
 abbrev pub having : Growth → List Segment → Growth
 having g gs = record { program = with_segments g.program gs; sections = g.sections; imports = g.imports; files = g.files }

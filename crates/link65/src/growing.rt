@@ -35,6 +35,8 @@ pub struct Growing {
     pub asserts: Sequence<Asserted>,
     /// Where the sections of the open module lie.
     pub sections: Vec<SectionPlace>,
+    /// The places of their segments.
+    pub places: Vec<usize>,
     /// The names that the open module imports.
     pub imports: Sequence<Sequence<u8>>,
     /// The names of the open module's files.
@@ -219,6 +221,7 @@ fn begin_section(growing: &mut Growing, name: Sequence<u8>, align: u8) -> Result
         offset: begin,
         size: 0,
     })?;
+    growing.places.push(at)?;
     Ok(())
 }
 
@@ -250,7 +253,7 @@ fn lengthen(sections: &mut Vec<SectionPlace>, k: usize, len: u64) -> Result<(), 
     Ok(())
 }
 
-/// Adds a fragment of the open module's section at a place.
+/// Adds a fragment of the open module's section at a place, if there is such a section.
 fn add_part(growing: &mut Growing, k: usize, fragment: Fragment) -> Result<(), LinkFault>
     requires { AreNamed growing.old }
     ensures grown { OnOk result (growth_in growing.new ≡ with_part (growth_in growing.old) k fragment (slice_get growing.old.sections.items k)) }
@@ -261,15 +264,10 @@ fn add_part(growing: &mut Growing, k: usize, fragment: Fragment) -> Result<(), L
         return Ok(());
     }
     let owner = growing.members.len();
-    let at = place_of(&growing.names, growing.sections[k].segment.as_slice());
+    let at = growing.places[k];
     lengthen(&mut growing.sections, k, fragment_size(&fragment))?;
-    match at {
-        Some(at) => {
-            add_at(&mut growing.contents, at, owner, fragment)?;
-            Ok(())
-        }
-        None => Ok(()),
-    }
+    add_at(&mut growing.contents, at, owner, fragment)?;
+    Ok(())
 }
 
 /// Takes an item of the open module.
@@ -312,6 +310,7 @@ pub fn end_module(growing: &mut Growing, name: Sequence<u8>) -> Result<(), LinkF
     ensures memory { IfErr result (λ e. is_memory e ≡ true) }
 {
     let alloc = growing.alloc;
+    growing.places.clear();
     let sections = mem::replace(&mut growing.sections, Vec::new(alloc));
     let imports = mem::replace(&mut growing.imports, Sequence::new(alloc));
     let files = mem::replace(&mut growing.files, Sequence::new(alloc));
@@ -337,6 +336,7 @@ pub fn no_module(alloc: Global) -> Growing
         exports: Sequence::new(alloc),
         asserts: Sequence::new(alloc),
         sections: Vec::new(alloc),
+        places: Vec::new(alloc),
         imports: Sequence::new(alloc),
         files: Sequence::new(alloc),
     }

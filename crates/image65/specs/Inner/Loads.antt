@@ -1,5 +1,5 @@
 -- The rows of an area's file, and the files so far, as the code holds them.
-use Rattle.std.specs.Prelude.{◌≡◌, ℕ, List, map, Option, Some}
+use Rattle.std.specs.Prelude.{◌≡◌, ◌==◌, ℕ, Bool, not, List, length, map, Option, Some}
 use Rattle.image65.specs.declared.files.Files.{Files}
 use Rattle.script65.specs.declared.placement.AreaPlace.{AreaPlace}
 use Rattle.script65.specs.declared.placement.RowPlace.{RowPlace}
@@ -28,6 +28,9 @@ HoldsLoads bytes k rows places o = (m : List Load) × (o ≡ Some m) × (map vie
 -- a row's piece of the file of an area that begins here
 abbrev pub piece_at : ℕ → Held → Piece
 piece_at start h = record { offset = offset_of start h.0; bytes = h.1 }
+
+abbrev pub has_bytes : Load → Bool
+has_bytes l = not (length l.bytes == 0)
 
 -- the file of an area that is placed so, by these rows
 abbrev pub IsFileOf : Area → AreaPlace → List Held → List ℕ → Type 0

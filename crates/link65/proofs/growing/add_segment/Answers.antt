@@ -4,6 +4,7 @@ use Rattle.std.specs.Str.{bytes_eq}
 use Rattle.object65.proofs.Names.{pushed_name}
 use Rattle.link65.specs.Grounds.{names_in}
 use Rattle.link65.proofs.PlaceOf.{none_among}
+use Rattle.link65.proofs.SectionLemmas.{places_of, places_stay}
 use Rattle.link65.proofs.growing.add_segment.Goals as goal
 
 pub returns-clause-names : goal.returns-clause-names
@@ -17,4 +18,7 @@ pub returns-clause-named : goal.returns-clause-named
 returns-clause-named c =
     let old = c.args.growing.now in
     let same = ap (λ (x : List ℕ). map (λ d. d.name) old.contents.items ++ x ∷ []) (sym c.in_ok-name.ensures) in
-    record { names = returns-clause-names c ∙ ap (λ ns. ns ++ c.args.name.now ∷ []) c.requires.named.names ∙ (rw (c.in_ok-push.ensures.items, map-append) same) }
+    record {
+      names = returns-clause-names c ∙ ap (λ ns. ns ++ c.args.name.now ∷ []) c.requires.named.names ∙ (rw (c.in_ok-push.ensures.items, map-append) same);
+      sections = ap (λ ns. places_of ns old.sections.items) (returns-clause-names c) ∙ places_stay (names_in old) (c.args.name.now ∷ []) old.sections.items old.places.items c.requires.named.sections;
+    }

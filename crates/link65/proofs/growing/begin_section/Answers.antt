@@ -1,8 +1,9 @@
-use Rattle.std.proofs.Common.{◌∙◌, ap, sym}
+use Rattle.std.proofs.Common.{◌∙◌, List, ℕ, ap, sym}
 use Rattle.std.proofs.Math.Seq.{map-set_same}
 use Rattle.link65.specs.declared.contents.Content.{Content}
-use Rattle.link65.specs.Grounds.{growth_in}
+use Rattle.link65.specs.Grounds.{growth_in, names_in, place_in}
 use Rattle.link65.proofs.Beginnings.{bare_begun}
+use Rattle.link65.proofs.SectionLemmas.{section_more}
 use Rattle.link65.proofs.growing.begin_section.Goals as goal
 
 pub returns-clause-begun : goal.returns-clause-begun
@@ -16,4 +17,9 @@ pub returns-clause-named : goal.returns-clause-named
 returns-clause-named c =
     let mid = c.segment_at.new.growing in
     let same = c.in_ok-begin.ensures.name ∙ ap (λ (x : Content). x.name) c.index_mut.ensures.value in
-    record { names = c.in_ok-at.ensures.named.names ∙ sym (map-set_same (λ x. x.name) mid.contents.items c.in_ok-at.at c.open_section.new.content c.index_mut.result.now same) }
+    let at = c.in_ok-at.ensures in
+    let here = ap (λ (n : List ℕ). place_in n (names_in mid)) (sym c.as_slice.ensures) ∙ at.place in
+    record {
+      names = at.named.names ∙ sym (map-set_same (λ x. x.name) mid.contents.items c.in_ok-at.at c.open_section.new.content c.index_mut.result.now same);
+      sections = rw (c.in_ok-push.ensures.items, c.in_ok-push-2.ensures.items) (section_more (names_in mid) mid.sections.items mid.places.items (record { segment = c.args.name; offset = c.in_ok-begin.begin; size = 0 }) c.in_ok-at.at at.named.sections here);
+    }

@@ -1,6 +1,5 @@
 //! Sources and what becomes of them: the worked ones, and what no source shows. All others are cases for the real program.
 
-mod names;
 mod stores;
 
 use asm65::{AsmJob, AsmRefusal, Define, assemble};
@@ -32,6 +31,9 @@ lda 5,y // stx 5,y // ldx 5,y // lda a:5 // asl // asl a ==> 5236356F020209000C0
 s: nop // nop // nop // .if * - s > 2 // rts // .endif ==> 5236356F020209000400000000434F4445030400EAEAEA60080000
 .if 0 // .if 1/0 // .endif // .bogus // .endif // nop ==> 5236356F020209000100000000434F4445030100EA080000
 .include \"d/i.inc\" ==> 5236356F020209000100000000434F4445030100EA080000
+.import v // .include \"i.inc\" ==> 5236356F02090500692E696E63010100760209000200000000434F4445030100EA050E000000000000020000000200000000080000
+.import v // .export e // e = 7 // .include \"i.inc\" ==> 5236356F02090500692E696E63090300622E73010100760209000200000000434F4445030100EA050E00000000000002000000020000000006130001650100000002000000000700000000000000080000
+.import v // .code // nop // .data // .byte v // .code // .include \"i.inc\" // .assert v, error, \"x\" ==> 5236356F02090500692E696E63090300622E73010100760209000300000000434F4445020900010000000044415441030200EAEA050E000000000000020000000200000000050E00000100000005000000020000000007100001010000000800000001780200000000080000
 .incbin \"b.bin\",1,2 ==> 5236356F020209000200000000434F44450302000203080000
 .ifdef n // .byte n // .endif ==> 5236356F020209000100000000434F444503010003080000
 .byte 256 ==> b.s:1: out of range
@@ -51,7 +53,8 @@ n = 1 ==> b.s:1: defined twice: n
 ";
 
 /// The files beside the source.
-const FILES: [(&str, &[u8]); 5] = [
+const FILES: [(&str, &[u8]); 6] = [
+    ("i.inc", b"nop\n.byte v"),
     ("d/i.inc", b".include \"j.inc\""),
     ("d/j.inc", b"nop"),
     ("j.inc", b"clc"),
@@ -140,7 +143,75 @@ fn rows(rt: HostRuntime) -> Result<(), Fail> {
         assert!(rt; found.as_str() == wanted, "{row}");
         count = count.saturating_add(1);
     }
-    assert_eq!(rt; count, 33);
+    assert_eq!(rt; count, 36);
+    Ok(())
+}
+
+/// A name of so many bytes.
+fn long_name(alloc: Global, len: usize) -> Result<String, AllocError> {
+    let mut name = String::new(alloc);
+    for _ in 0..len {
+        name.push('a')?;
+    }
+    Ok(name)
+}
+
+/// What becomes of a source whose name has so many bytes.
+fn answer_named(alloc: Global, len: usize, source: &[u8]) -> Result<String, Fail> {
+    let name = long_name(alloc, len)?;
+    let mut store = MemStore::new(alloc);
+    store.put(name.as_str(), source)?;
+    let job = AsmJob {
+        source: name.as_str(),
+        include: &[],
+        defines: &[],
+    };
+    answer(alloc, &mut store, &job)
+}
+
+/// Sources whose name has 4,097 bytes, and how what becomes of them ends: only what is written names its file.
+const LONG_NAMED: [(&[u8], &str); 12] = [
+    (b".import v\n.byte v", ":2: file name too long"),
+    (b".import v\nlda v", ":2: file name too long"),
+    (b".export l\nl:", ":1: file name too long"),
+    (b".globalzp e\ne = 1", ":1: file name too long"),
+    (
+        b".import v\n.assert v, warning, \"x\"",
+        ":2: file name too long",
+    ),
+    (b".export l", ":1: export not defined: l"),
+    (b".export u\nu = u", ":1: circular definition"),
+    (b".import v\nv = 1", ":1: imported and defined: v"),
+    (b".byte 256", ":1: out of range"),
+    (b".import v\n.forceimport v", "5236356F0201010076080000"),
+    (
+        b".global g\n.byte 1 + 2",
+        "5236356F020209000100000000434F444503010003080000",
+    ),
+    (
+        b".assert 1, error, \"x\"\n.assert 0, warning, \"y\"",
+        "5236356F02080000",
+    ),
+];
+
+#[test]
+fn names_that_are_too_long(rt: HostRuntime) -> Result<(), Fail> {
+    for (source, wanted) in LONG_NAMED {
+        let found = answer_named(rt.alloc(), 4097, source)?;
+        assert!(rt; found.as_str().ends_with(wanted), "{wanted}");
+    }
+    Ok(())
+}
+
+/// The longest name that an object holds.
+#[test]
+fn longest_name(rt: HostRuntime) -> Result<(), Fail> {
+    let found = answer_named(rt.alloc(), 4096, b".import v\n.byte v")?;
+    let found = found.as_str();
+    let rest = "61010100760209000100000000434F4445050E000000000000020000000200000000080000";
+    assert_eq!(rt; found.len(), 2 * 4140);
+    assert!(rt; found.starts_with("5236356F0209001061616161"));
+    assert!(rt; found.ends_with(rest));
     Ok(())
 }
 

@@ -5,4 +5,4 @@ pub returns-in-FilledWith : goal.returns-in-FilledWith
 returns-in-FilledWith c = rw c.in-FilledWith.is c.fill.ensures
 
 pub returns-in_default : goal.returns-in_default
-returns-in_default c = rw (other_room c.args.count c.args.settled c.in_default.not-Filled) c.room.ensures
+returns-in_default c = rw (other_room c.args.count c.args.settled c.in_default.not-FilledWith) c.room.ensures

@@ -18,7 +18,6 @@ use Rattle.asm65.specs.declared.waiting.Piece.TheVariants.{Datum, Operand, Const
 use Rattle.asm65.specs.declared.waiting.Waiting.{Waiting}
 use Rattle.asm65.specs.Inner.Holding.{IsConstant, IsPiece, IsWaiting}
 use Rattle.asm65.specs.Inner.Resolving.{coming}
-use Rattle.asm65.specs.Views.{place_in}
 
 -- ---- Faults from outside.
 
@@ -59,8 +58,8 @@ comes_to y place s (Import n) p h = ap (made_of y place s) (sym h)
 comes_to y place s (Demand n) p h = ap (made_of y place s) (sym h)
 comes_to y place s (Export must n) p h = ap (made_of y place s) (sym h)
 
-pub waiting_comes : (y : Symbols) (files : List (List ℕ)) (w : Waiting) (v : machine.Waiting) → IsWaiting y files w v → coming y (place_in v.place.file w.line) (spot_of w.spot) w.piece ≡ made_of y v.place v.spot v.piece
-waiting_comes y files w v h =
-    ap (λ (s : Spot). coming y (place_in v.place.file w.line) s w.piece) (sym h.spot)
-    ∙ ap (λ (n : ℕ). coming y (place_in v.place.file n) v.spot w.piece) (sym h.line)
+pub waiting_comes : (y : Symbols) (files : List (List ℕ)) (w : Waiting) (v : machine.Waiting) (here : Place) → IsWaiting y files w v → here ≡ v.place → coming y here (spot_of w.spot) w.piece ≡ made_of y v.place v.spot v.piece
+waiting_comes y files w v here h same =
+    ap (λ (s : Spot). coming y here s w.piece) (sym h.spot)
+    ∙ ap (λ (p : Place). coming y p v.spot w.piece) same
     ∙ comes_to y v.place v.spot w.piece v.piece h.piece

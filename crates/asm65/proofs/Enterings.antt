@@ -18,7 +18,7 @@ use Rattle.module65.specs.Machine.{IsSettled, PutsAll, State, at_once, entered}
 use Rattle.module65.specs.Pieces.{Piece, Purpose, as_part, asserted, datum, given, operand, quietly, used, valued}
 use Rattle.module65.proofs.Finals.{final_settles, settled_given}
 use Rattle.sections65.specs.declared.sections.Sections.{Sections}
-use Rattle.sections65.specs.Standing.{Feeds, contents_in}
+use Rattle.sections65.specs.Standing.{Feeds, contents_in, names_in}
 use Rattle.sections65.proofs.Alikes.{alike_nothing, alike_trans, empty_alike}
 use Rattle.sections65.proofs.Standings.{asked_same}
 use Rattle.symbols65.specs.Views.{table_of}
@@ -67,19 +67,19 @@ module _ (old : Assembler) (x : Sections) (place : Place) (s : Spot) (why : Purp
   value_tried r true is h = value_entered r is h
   value_tried r false is h = ap (fed old) h
 
-pub datum_tried : (old : Assembler) (x : Sections) (place : Place) (s : Spot) (width : Width) (e : Tree) (f : Form) (b : Bool) → IsFinal (table_of old.symbols) s e f → IsPut old.sections x s.segment (stored width place.line f) b → IsTried place s (valued (datum width) e) old (fed old x) b
-datum_tried old x place s width e f b final h = value_tried old x place s (datum width) e f final (stored width place.line f) b refl h
+pub datum_tried : (old : Assembler) (x : Sections) (place : Place) (s : Spot) (width : Width) (e : Tree) (f : Form) (b : Bool) → IsFinal (table_of old.symbols) s e f → IsPut old.sections x s.segment (stored width place f) b → IsTried place s (valued (datum width) e) old (fed old x) b
+datum_tried old x place s width e f b final h = value_tried old x place s (datum width) e f final (stored width place f) b refl h
 
-pub operand_tried : (old : Assembler) (x : Sections) (place : Place) (s : Spot) (width : Width) (e : Tree) (f : Form) (b : Bool) → IsFinal (table_of old.symbols) s e f → IsPut old.sections x s.segment (operand_stored width s place.line f) b → IsTried place s (valued (operand width) e) old (fed old x) b
-operand_tried old x place s width e f b final h = value_tried old x place s (operand width) e f final (operand_stored width s place.line f) b refl h
+pub operand_tried : (old : Assembler) (x : Sections) (place : Place) (s : Spot) (width : Width) (e : Tree) (f : Form) (b : Bool) → IsFinal (table_of old.symbols) s e f → IsPut old.sections x s.segment (operand_stored width s place f) b → IsTried place s (valued (operand width) e) old (fed old x) b
+operand_tried old x place s width e f b final h = value_tried old x place s (operand width) e f final (operand_stored width s place f) b refl h
 
 -- an operand other than a branch's is stored as it is
-pub stored_as_is : (width : Width) (s : Spot) (line : ℕ) (f : Form) → (width ≡ Branch → ⊥) → operand_stored width s line f ≡ stored width line f
-stored_as_is Byte s line f h = refl
-stored_as_is Word s line f h = refl
-stored_as_is HighFirst s line f h = refl
-stored_as_is Dword s line f h = refl
-stored_as_is Branch s line f h = absurd (h refl)
+pub stored_as_is : (width : Width) (s : Spot) (place : Place) (f : Form) → (width ≡ Branch → ⊥) → operand_stored width s place f ≡ stored width place f
+stored_as_is Byte s place f h = refl
+stored_as_is Word s place f h = refl
+stored_as_is HighFirst s place f h = refl
+stored_as_is Dword s place f h = refl
+stored_as_is Branch s place f h = absurd (h refl)
 
 -- ---- Assertions.
 
@@ -88,9 +88,10 @@ pub says_nothing : (x : Sections) → Feeds x x (telling [])
 says_nothing x cs waiting h = record {
   asked = asked_same cs (telling []) refl ∙ h.asked;
   latest = h.latest;
-  alike = alike_trans (cs ++ telling [] ∷ []) cs (contents_in waiting x.entries) (alike_nothing cs (telling [] ∷ []) (empty_alike 0 false)) h.alike;
+  alike = alike_trans (cs ++ telling [] ∷ []) cs (contents_in (names_in x.files) waiting x.entries) (alike_nothing cs (telling [] ∷ []) (empty_alike 0 false)) h.alike;
   waits = h.waits;
   settled = h.settled;
+  standing = h.standing;
 }
 
 so_used : (place : Place) (s : Spot) (act : Action) (words : List ℕ) (v : ℤ) → (v ≡ pos 0 → ⊥) → used place s (asserted act words) (lit v) ≡ Ok (quietly (telling []))

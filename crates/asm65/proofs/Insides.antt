@@ -8,18 +8,18 @@ use Rattle.source65.specs.declared.place.Place.{Place}
 use Rattle.source65.specs.declared.fault.ExpandFault.TheVariants as expand
 use Rattle.object65.specs.Form.{Form, lit, sec, imp, prefix as prefix_form, binary as binary_form}
 use Rattle.object65.specs.Folding.{fold1, fold2}
-use Rattle.object65.specs.Objects.{fits_width, section_limit, value_bytes}
+use Rattle.object65.specs.Objects.{fits_width, is_file_name, section_limit, value_bytes}
 use Rattle.object65.specs.declared.folding.FormFault.{FormFault}
 use Rattle.object65.specs.declared.folding.FormFault.TheVariants as form
 use Rattle.object65.specs.declared.object.Action.{Action}
 use Rattle.object65.specs.declared.object.Action.TheVariants as action
 use Rattle.object65.specs.declared.object.Width.{Width}
 use Rattle.object65.specs.declared.object.Width.TheVariants as width
-use Rattle.language65.specs.Parts.{Part, Known, Said}
+use Rattle.language65.specs.Parts.{Part, Known, Waiting, Said, Exported, Checked}
 use Rattle.language65.specs.declared.contents.Segment.{Segment}
 use Rattle.language65.specs.declared.fault.AsmFault.{AsmFault}
-use Rattle.language65.specs.declared.fault.AsmFault.TheVariants.{Expansion, FileError, NotUnderstood, OutOfRange, SectionTooLarge, Undefined, NoSuchScope, NoSuchLabel}
-use Rattle.language65.specs.Contents.{decided, export_said, import_fault, operand_form, stored}
+use Rattle.language65.specs.declared.fault.AsmFault.TheVariants.{Expansion, FileError, FileNameTooLong, NotUnderstood, OutOfRange, SectionTooLarge, Undefined, NoSuchScope, NoSuchLabel}
+use Rattle.language65.specs.Contents.{decided, export_said, import_fault, operand_form, stored, written}
 use Rattle.language65.specs.Faults.{is_failure, is_memory}
 use Rattle.language65.specs.Laid.{Spot}
 use Rattle.language65.specs.Language.{Stated, instruction, reserve, align, file_part, segment, close_scope, close_proc, pop_segment}
@@ -116,16 +116,24 @@ inside_defined y j = inside_meaning (norm_of y) y (inside_norm_of y) (defined_at
 
 -- ---- What waits.
 
-inside_stored : (w : Width) (line : ℕ) (f : Form) → IsInside (stored w line f)
-inside_stored w line (lit v) = by (fits_width w v)
+-- what is written may have a name that is too long
+inside_written : {A : Type 0} (place : Place) (x : A) → IsInside (written place x)
+inside_written {A} place x = by (is_file_name place.file)
+  where
+    by : (b : Bool) → IsInside (if b then Ok x else Err FileNameTooLong)
+    by true = tt
+    by false = refl
+
+inside_stored : (w : Width) (place : Place) (f : Form) → IsInside (stored w place f)
+inside_stored w place (lit v) = by (fits_width w v)
   where
     by : (b : Bool) → IsInside (if b then Ok (Known (value_bytes w v)) else Err OutOfRange)
     by true = tt
     by false = refl
-inside_stored w line (sec k v) = tt
-inside_stored w line (imp k) = tt
-inside_stored w line (prefix_form op f) = tt
-inside_stored w line (binary_form op f g) = tt
+inside_stored w place (sec k v) = inside_written place (Waiting w place (sec k v))
+inside_stored w place (imp k) = inside_written place (Waiting w place (imp k))
+inside_stored w place (prefix_form op f) = inside_written place (Waiting w place (prefix_form op f))
+inside_stored w place (binary_form op f g) = inside_written place (Waiting w place (binary_form op f g))
 
 inside_branch : (w : Width) (s : Spot) (f : Form) → IsInside (operand_form w s f)
 inside_branch width.Branch s f = inside_folded _
@@ -142,27 +150,27 @@ inside_said : (r : Result (List Said) AsmFault) → IsInside r → IsInside (r >
 inside_said (Ok ss) h = tt
 inside_said (Err e) h = h
 
-inside_decided : (act : Action) (line : ℕ) (words : List ℕ) (f : Form) → IsInside (decided act line words f)
-inside_decided action.Error line words (lit (pos zero)) = refl
-inside_decided action.Error line words (lit (pos (suc n))) = tt
-inside_decided action.Error line words (lit _) = tt
-inside_decided action.Warning line words (lit v) = tt
-inside_decided action.Error line words (sec k v) = tt
-inside_decided action.Error line words (imp k) = tt
-inside_decided action.Error line words (prefix_form op f) = tt
-inside_decided action.Error line words (binary_form op f g) = tt
-inside_decided action.Warning line words (sec k v) = tt
-inside_decided action.Warning line words (imp k) = tt
-inside_decided action.Warning line words (prefix_form op f) = tt
-inside_decided action.Warning line words (binary_form op f g) = tt
+inside_decided : (act : Action) (place : Place) (words : List ℕ) (f : Form) → IsInside (decided act place words f)
+inside_decided action.Error place words (lit (pos zero)) = refl
+inside_decided action.Error place words (lit (pos (suc n))) = tt
+inside_decided action.Error place words (lit _) = tt
+inside_decided action.Warning place words (lit v) = tt
+inside_decided action.Error place words (sec k v) = inside_written place (Checked action.Error place words (sec k v) ∷ [])
+inside_decided action.Error place words (imp k) = inside_written place (Checked action.Error place words (imp k) ∷ [])
+inside_decided action.Error place words (prefix_form op f) = inside_written place (Checked action.Error place words (prefix_form op f) ∷ [])
+inside_decided action.Error place words (binary_form op f g) = inside_written place (Checked action.Error place words (binary_form op f g) ∷ [])
+inside_decided action.Warning place words (sec k v) = inside_written place (Checked action.Warning place words (sec k v) ∷ [])
+inside_decided action.Warning place words (imp k) = inside_written place (Checked action.Warning place words (imp k) ∷ [])
+inside_decided action.Warning place words (prefix_form op f) = inside_written place (Checked action.Warning place words (prefix_form op f) ∷ [])
+inside_decided action.Warning place words (binary_form op f g) = inside_written place (Checked action.Warning place words (binary_form op f g) ∷ [])
 
 inside_used : (place : Place) (s : Spot) (why : Purpose) (f : Form) → IsInside (used place s why f)
-inside_used place s (piece.datum w) f = inside_part s.segment (stored w place.line f) (inside_stored w place.line f)
+inside_used place s (piece.datum w) f = inside_part s.segment (stored w place f) (inside_stored w place f)
 inside_used place s (piece.operand w) f =
-    inside_part s.segment (operand_form w s f >>= stored w place.line)
-    (inside_then (operand_form w s f) (stored w place.line) (inside_branch w s f) (inside_stored w place.line))
+    inside_part s.segment (operand_form w s f >>= stored w place)
+    (inside_then (operand_form w s f) (stored w place) (inside_branch w s f) (inside_stored w place))
 inside_used place s piece.equated f = tt
-inside_used place s (piece.asserted act words) f = inside_then (decided act place.line words f) _ (inside_decided act place.line words f) (λ ss. tt)
+inside_used place s (piece.asserted act words) f = inside_then (decided act place words f) _ (inside_decided act place words f) (λ ss. tt)
 
 inside_import : (y : Symbols) (n : List ℕ) → IsInside (import_fault y n)
 inside_import y n = by (defined y (named 0 n)) refl
@@ -175,9 +183,9 @@ inside_absent : (must : Bool) (n : List ℕ) → IsInside (absent_of must n)
 inside_absent true n = refl
 inside_absent false n = tt
 
-inside_export : (y : Symbols) (line : ℕ) (n : List ℕ) (must : Bool) (o : Option ℕ) → IsInside (export_said y line n (absent_of must n) o)
-inside_export y line n must None = inside_absent must n
-inside_export y line n must (Some j) = inside_then (defined_form y j) _ (inside_defined y j) (λ f. tt)
+inside_export : (y : Symbols) (place : Place) (n : List ℕ) (must : Bool) (o : Option ℕ) → IsInside (export_said y place n (absent_of must n) o)
+inside_export y place n must None = inside_absent must n
+inside_export y place n must (Some j) = inside_then (defined_form y j) _ (inside_defined y j) (λ f. inside_written place (Exported n place f ∷ []))
 
 inside_valued : (y : Symbols) (place : Place) (s : Spot) (why : Purpose) (e : Tree) → IsInside (made_of y place s (piece.valued why e))
 inside_valued y place s why e = inside_then (norm_of y s e) (used place s why) (inside_norm_of y s e) (inside_used place s why)
@@ -189,7 +197,7 @@ inside_coming y place s (Constant at) = inside_then (defined_form y at) (used pl
 inside_coming y place s (Assertion act words e) = inside_valued y place s (piece.asserted act words) (tree_of e)
 inside_coming y place s (Import n) = inside_said (import_fault y n) (inside_import y n)
 inside_coming y place s (Demand n) = tt
-inside_coming y place s (Export must n) = inside_said (export_said y place.line n (absent_of must n) (defined y (named 0 n))) (inside_export y place.line n must (defined y (named 0 n)))
+inside_coming y place s (Export must n) = inside_said (export_said y place n (absent_of must n) (defined y (named 0 n))) (inside_export y place n must (defined y (named 0 n)))
 
 -- ---- What a call answers.
 

@@ -12,9 +12,8 @@ use Rattle.language65.specs.declared.language.PartRange.{PartRange}
 use Rattle.language65.specs.declared.language.Statement.{Statement}
 use Rattle.language65.specs.declared.language.Statement.TheVariants.{FilePart, NamedPart}
 use Rattle.language65.specs.Language.{file_part}
-use Rattle.language65.specs.Views.{range_of, stated_of}
+use Rattle.language65.specs.Views.{place_in, range_of, stated_of}
 use Rattle.asm65.specs.Inner.Files.{read_bytes}
-use Rattle.asm65.specs.Views.{place_in}
 
 named : (m : Files) (name text : List ℕ) → Some text ≡ as_text name → file_named m name ≡ fmap.get m text
 named m name text e = by (is_utf8 name) e

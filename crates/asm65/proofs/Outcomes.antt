@@ -87,7 +87,7 @@ good_concluded t o reached is = by (finished t).found (contents_from t.symbols l
 
 -- ---- Answers.
 
-abbrev Found : Type 0
+abbrev pub Found : Type 0
 Found = Result Object AsmRefusal
 
 good_found : (a : Assembly) (t : State) (r : Found) → IsReached t → Finds is_outside_refusal (λ q. answer_of a q ≡ concluded t None) r → IfOk r (λ o. is_good_object o ≡ true)
@@ -244,7 +244,7 @@ expansion_error : (e : ExpandFault) → is_failure (Expansion e) ≡ true → Ex
 expansion_error FileError h = refl
 expansion_error _ h = absurd cc
 
-only_error : (e : ExpandFault) → is_failure (Expansion e) ≡ true → e ≡ FileError
+pub only_error : (e : ExpandFault) → is_failure (Expansion e) ≡ true → e ≡ FileError
 only_error FileError h = refl
 only_error _ h = absurd cc
 

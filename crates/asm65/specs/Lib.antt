@@ -1,5 +1,4 @@
 pub mod Assembly
 pub mod Inner
-pub mod Views
 pub mod Failing
 pub mod Unread

@@ -24,13 +24,6 @@ pub struct Assembler {
     pub texts: Texts,
 }
 
-/// A place in a source: a file, and the number of a line in it, 0 where none was read.
-#[derive(Clone, Copy)]
-pub struct At<'a> {
-    pub file: &'a str,
-    pub line: u32,
-}
-
 impl Assembler {
     ghost use Rattle.std.specs.Prelude.{IfOk};
     ghost use Rattle.module65.specs.Machine.{begun};

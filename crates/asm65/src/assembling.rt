@@ -14,9 +14,9 @@ ghost use Rattle.asm65.specs.Assembly.{Concludes, IsAssembled, answer_of, has_fa
 ghost use Rattle.asm65.specs.Failing.{StopsSo, StopsFrom};
 ghost use Rattle.asm65.specs.Inner.Holding.{Holds};
 ghost use Rattle.asm65.specs.Inner.Running.{IsHeldBy, IsRunning, SaysAs};
-ghost use Rattle.asm65.specs.Views.{place_in};
+ghost use Rattle.language65.specs.Views.{place_in};
 
-use crate::assembler::{Assembler, At};
+use crate::assembler::Assembler;
 use crate::assembly::{AsmJob, Assembly};
 use crate::defining::define_all;
 use crate::refusal::AsmRefusal;
@@ -24,7 +24,7 @@ use crate::running::{Run, take_all};
 use crate::texts::Texts;
 use base65::{Sequence, Store, Text};
 use expand65::{ExpandFault, Expander, Options, Place};
-use language65::AsmFault;
+use language65::{AsmFault, At};
 use std::alloc::Global;
 
 /// Whether the store failed.

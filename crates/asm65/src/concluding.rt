@@ -16,9 +16,9 @@ ghost use Rattle.asm65.specs.Assembly.{Concludes, has_failed, in_places, is_from
 ghost use Rattle.asm65.specs.Inner.Holding.{AreWaiting, Holds, IsWaiting};
 ghost use Rattle.asm65.specs.Inner.Resolving.{Settles, SettlesAll, content_of, warning_in};
 ghost use Rattle.asm65.specs.Inner.Running.{SaysAs};
-ghost use Rattle.asm65.specs.Views.{place_in};
+ghost use Rattle.language65.specs.Views.{place_in};
 
-use crate::assembler::{Assembler, At};
+use crate::assembler::Assembler;
 use crate::assembly::Assembly;
 use crate::refusal::AsmRefusal;
 use crate::resolving::{Filling, Made, resolve};
@@ -26,7 +26,7 @@ use crate::texts::{Texts, warn};
 use crate::waiting::Waiting;
 use base65::Sequence;
 use indexmap::IndexSet;
-use language65::{AsmFault, Segment};
+use language65::{AsmFault, At, Segment};
 use object65::Object;
 use sections65::Sections;
 use std::alloc::{AllocError, Global};
@@ -62,13 +62,14 @@ fn file_at(files: &[String], place: usize) -> &str
     }
 }
 
-/// The first that waited has its content.
-fn fill(sections: &mut Sections, filling: Filling)
-    ensures { Receives sections.old sections.new (content_of filling) }
+/// The first that waited, in a statement that stands here, has its content.
+fn fill(sections: &mut Sections, at: At<'_>, filling: Filling) -> Result<(), AllocError>
+    ensures { OnOk result (Receives sections.old sections.new
+        (content_of (place_in at.entry.file.now at.entry.line) filling)) }
 {
     match filling {
-        Filling::Part { segment, part } => sections.settle(segment, part),
-        Filling::Told(said) => sections.settle_said(said),
+        Filling::Part { segment, part } => sections.settle(segment, at, part),
+        Filling::Told(said) => sections.settle_said(at, said),
     }
 }
 
@@ -81,6 +82,19 @@ fn warn_of(err: &mut Sequence<u8>, at: At<'_>, text: Option<Sequence<u8>>) -> Re
         Some(text) => warn(err, at.file, at.line, text.as_slice()),
         None => Ok(()),
     }
+}
+
+/// The first that waited, in a statement that stands here, has what it came to.
+fn take_made(ending: &mut Ending, at: At<'_>, made: Made) -> Result<(), AllocError>
+    ensures sections { OnOk result (Receives ending.old.sections ending.new.sections
+        (content_of (place_in at.entry.file.now at.entry.line) made.filling)) }
+    ensures err { OnOk result (ending.new.err ≡
+        ending.old.err ++ warning_in (place_in at.entry.file.now at.entry.line) made.warning) }
+    ensures known { ending.new.known ≡ ending.old.known }
+{
+    let Made { filling, warning } = made;
+    fill(&mut ending.sections, at, filling)?;
+    warn_of(&mut ending.err, at, warning)
 }
 
 /// The first that waits comes to its content, or to its fault.
@@ -102,14 +116,11 @@ fn settle(
         file: file_at(whole.files, waiting.file),
         line: waiting.line,
     };
-    match resolve(alloc, whole.symbols, &mut ending.known, waiting) {
-        Ok(made) => {
-            fill(&mut ending.sections, made.filling);
-            match warn_of(&mut ending.err, at, made.warning) {
-                Ok(()) => Ok(()),
-                Err(_) => Err(AsmRefusal::without_memory()),
-            }
-        }
+    match resolve(alloc, whole.symbols, &mut ending.known, at, waiting) {
+        Ok(made) => match take_made(ending, at, made) {
+            Ok(()) => Ok(()),
+            Err(_) => Err(AsmRefusal::without_memory()),
+        },
         Err(fault) => Err(AsmRefusal::of_fault(alloc, at, fault)),
     }
 }

@@ -7,12 +7,12 @@ ghost use Rattle.module65.specs.Reading.{AreDefined, no_line};
 ghost use Rattle.asm65.specs.Assembly.{define_of, job_of};
 ghost use Rattle.asm65.specs.Inner.Holding.{Holds};
 ghost use Rattle.asm65.specs.Inner.Running.{DefinesBy, IsRoomy, Leaves};
-ghost use Rattle.asm65.specs.Views.{place_in};
+ghost use Rattle.language65.specs.Views.{place_in};
 
-use crate::assembler::{Assembler, At};
+use crate::assembler::Assembler;
 use crate::assembly::{AsmJob, Define};
 use base65::Sequence;
-use language65::{AsmFault, Statement};
+use language65::{AsmFault, At, Statement};
 use std::alloc::Global;
 use syntax65::Expr;
 

@@ -6,17 +6,16 @@ ghost use Rattle.base65.specs.Store.{IsBlamed, PassesBy};
 ghost use Rattle.expand65.specs.Includes.{beside, file_named};
 ghost use Rattle.language65.specs.declared.fault.AsmFault.TheVariants.{FileError};
 ghost use Rattle.language65.specs.Faults.{is_failure, is_outside};
-ghost use Rattle.language65.specs.Views.{stated_of};
+ghost use Rattle.language65.specs.Views.{place_in, stated_of};
 ghost use Rattle.module65.specs.Machine.{State};
 ghost use Rattle.asm65.specs.Inner.Files.{IsRefusedUnread, read_bytes};
 ghost use Rattle.asm65.specs.Inner.Holding.{Holds};
 ghost use Rattle.asm65.specs.Inner.Taking.{IsHeld};
-ghost use Rattle.asm65.specs.Views.{place_in};
 
-use crate::assembler::{Assembler, At};
+use crate::assembler::Assembler;
 use base65::{Sequence, Store, StoreFault, read_front};
 use expand65::name_beside;
-use language65::{AsmFault, PartRange, Statement};
+use language65::{AsmFault, At, PartRange, Statement};
 use layout65::{Before, check_unread};
 use std::alloc::Global;
 

@@ -4,11 +4,13 @@ ghost use Rattle.std.specs.Prelude.{◌≡◌};
 ghost use Rattle.base65.specs.Outcome.{Gives};
 ghost use Rattle.language65.specs.Contents.{stored};
 ghost use Rattle.language65.specs.Faults.{is_memory};
+ghost use Rattle.language65.specs.Views.{part_at, place_in};
+ghost use Rattle.object65.specs.Objects.{is_file_name};
 ghost use Rattle.asm65.specs.Inner.Putting.{literal_of};
 
 use base65::Sequence;
-use language65::{AsmFault, Part};
-use object65::{Node, Norm, Width, fits, put};
+use language65::{AsmFault, At, Part};
+use object65::{FILE_NAME_LIMIT, Node, Norm, Width, fits, put};
 use std::alloc::Global;
 
 /// The value of a form that is a literal.
@@ -21,9 +23,17 @@ pub fn literal_of(form: &Norm) -> Option<i64>
     }
 }
 
+/// Whether an object can hold the name of a file.
+pub fn is_file_name(name: &str) -> bool
+    ensures { result ≡ is_file_name name.now }
+{
+    name.len() <= FILE_NAME_LIMIT
+}
+
 /// What is stored of a value: its bytes where it is a literal.
-pub fn stored(alloc: Global, width: Width, line: u32, form: Norm) -> Result<Part, AsmFault>
-    ensures { Gives is_memory (λ p. p) result (stored width line form) }
+pub fn stored(alloc: Global, width: Width, at: At<'_>, form: Norm) -> Result<Part, AsmFault>
+    ensures { Gives is_memory (part_at (place_in at.entry.file.now at.entry.line)) result
+        (stored width (place_in at.entry.file.now at.entry.line) form) }
 {
     match literal_of(&form) {
         Some(value) => {
@@ -33,6 +43,11 @@ pub fn stored(alloc: Global, width: Width, line: u32, form: Norm) -> Result<Part
             let bytes = Vec::from_slice(alloc, &put(width, value))?;
             Ok(Part::Known(Sequence::from_vec(bytes)))
         }
-        None => Ok(Part::Waiting { width, line, form }),
+        None => {
+            if !is_file_name(at.file) {
+                return Err(AsmFault::FileNameTooLong);
+            }
+            Ok(Part::Waiting { width, form })
+        }
     }
 }

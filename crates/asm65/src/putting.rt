@@ -5,8 +5,7 @@ mod statements;
 mod values;
 mod waits;
 
-use crate::assembler::At;
-use language65::Spot;
+use language65::{At, Spot};
 
 /// Where a piece of a statement stands.
 #[derive(Clone, Copy)]

@@ -3,12 +3,11 @@
 ghost use Rattle.std.specs.Prelude.{◌≡◌, [], false, true, unwrap_or};
 ghost use Rattle.language65.specs.Faults.{is_failure, is_outside};
 ghost use Rattle.asm65.specs.Assembly.{has_failed, is_outside_refusal, placed_of};
-ghost use Rattle.asm65.specs.Views.{place_in};
+ghost use Rattle.language65.specs.Views.{place_in};
 
-use crate::assembler::At;
 use base65::Text;
 use expand65::ExpandFault;
-use language65::AsmFault;
+use language65::{AsmFault, At};
 use std::alloc::Global;
 
 /// Why a source has no object, and where: the line is 0 where none was read.

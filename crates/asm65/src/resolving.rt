@@ -1,23 +1,22 @@
 //! What waits comes to its content, by the symbol table of all statements.
 
-ghost use Rattle.std.specs.Prelude.{◌≡◌, ◌∷◌, List, ℕ, [], None, Option, OnOk, IfOk};
+ghost use Rattle.std.specs.Prelude.{◌≡◌, ◌∷◌, [], None, Option, OnOk, IfOk};
 ghost use Rattle.base65.specs.Outcome.{Gives};
-ghost use Rattle.language65.specs.Parts.{Checked, Demanded, Exported};
+ghost use Rattle.source65.specs.declared.place.Place.{Place};
 ghost use Rattle.language65.specs.Contents.{telling};
 ghost use Rattle.language65.specs.Faults.{is_memory};
 ghost use Rattle.language65.specs.Laid.{Spot as Stand};
 ghost use Rattle.language65.specs.Symbols.{defined, named};
-ghost use Rattle.language65.specs.Views.{spot_of};
+ghost use Rattle.language65.specs.Views.{place_in, said_at, spot_of};
 ghost use Rattle.module65.specs.Pieces.{asserted, datum, imported, made_of, operand, quietly, used};
 ghost use Rattle.symbols65.specs.Resolving.{IsTable};
 ghost use Rattle.symbols65.specs.Views.{table_of};
-ghost use Rattle.asm65.specs.Inner.Resolving.{coming, lost, made_in};
-ghost use Rattle.asm65.specs.Views.{place_in};
+ghost use Rattle.asm65.specs.Inner.Resolving.{coming, lost, made_in, noted};
 
-use crate::forms::{literal_of, stored};
+use crate::forms::{is_file_name, literal_of, stored};
 use crate::waiting::{Piece, Waiting};
 use base65::Sequence;
-use language65::{AsmFault, Part, Said, Spot};
+use language65::{AsmFault, At, Part, Said, Spot};
 use object65::{Action, Norm, Width};
 use std::alloc::{AllocError, Global};
 use symbols65::{Key, Known, Symbols, defined_norm, norm, operand_form};
@@ -44,8 +43,7 @@ pub struct Made {
 
 /// Nothing is put anywhere.
 fn nothing(alloc: Global) -> Made
-    ensures { (file : List ℕ) (line : ℕ) →
-        made_in (place_in file line) result ≡ quietly (telling []) }
+    ensures { (place : Place) → made_in place result ≡ quietly (telling []) }
 {
     Made {
         filling: Filling::Told(Sequence::new(alloc)),
@@ -55,8 +53,8 @@ fn nothing(alloc: Global) -> Made
 
 /// One thing is said.
 fn told(alloc: Global, saying: Said) -> Result<Made, AllocError>
-    ensures { (file : List ℕ) (line : ℕ) → IfOk result (λ m.
-        made_in (place_in file line) m ≡ quietly (telling (saying ∷ []))) }
+    ensures { (place : Place) → IfOk result (λ m.
+        made_in place m ≡ quietly (telling (said_at place saying ∷ []))) }
 {
     let mut said = Sequence::new(alloc);
     said.push(saying)?;
@@ -66,18 +64,29 @@ fn told(alloc: Global, saying: Said) -> Result<Made, AllocError>
     })
 }
 
+/// One thing is said in a file whose name an object can hold.
+fn written(alloc: Global, at: At<'_>, saying: Said) -> Result<Made, AsmFault>
+    ensures { Gives is_memory (made_in (place_in at.entry.file.now at.entry.line)) result
+        (noted (place_in at.entry.file.now at.entry.line) saying) }
+{
+    if !is_file_name(at.file) {
+        return Err(AsmFault::FileNameTooLong);
+    }
+    Ok(told(alloc, saying)?)
+}
+
 /// What a value of a list comes to.
 fn use_datum(
     alloc: Global,
     width: Width,
-    line: u32,
+    at: At<'_>,
     spot: Spot,
     form: Norm,
 ) -> Result<Made, AsmFault>
-    ensures { (file : List ℕ) → Gives is_memory (made_in (place_in file line)) result
-        (used (place_in file line) (spot_of spot) (datum width) form) }
+    ensures { Gives is_memory (made_in (place_in at.entry.file.now at.entry.line)) result
+        (used (place_in at.entry.file.now at.entry.line) (spot_of spot) (datum width) form) }
 {
-    let part = stored(alloc, width, line, form)?;
+    let part = stored(alloc, width, at, form)?;
     Ok(Made {
         filling: Filling::Part {
             segment: spot.segment,
@@ -91,27 +100,28 @@ fn use_datum(
 fn use_operand(
     alloc: Global,
     width: Width,
-    line: u32,
+    at: At<'_>,
     spot: Spot,
     form: Norm,
 ) -> Result<Made, AsmFault>
-    ensures { (file : List ℕ) → Gives is_memory (made_in (place_in file line)) result
-        (used (place_in file line) (spot_of spot) (operand width) form) }
+    ensures { Gives is_memory (made_in (place_in at.entry.file.now at.entry.line)) result
+        (used (place_in at.entry.file.now at.entry.line) (spot_of spot) (operand width) form) }
 {
     let form = operand_form(alloc, width, spot, form)?;
-    use_datum(alloc, width, line, spot, form)
+    use_datum(alloc, width, at, spot, form)
 }
 
 /// What an assertion comes to.
 fn use_assertion(
     alloc: Global,
     action: Action,
-    line: u32,
+    at: At<'_>,
     text: Sequence<u8>,
     form: Norm,
 ) -> Result<Made, AsmFault>
-    ensures { (file : List ℕ) (s : Stand) → Gives is_memory (made_in (place_in file line)) result
-        (used (place_in file line) s (asserted action text) form) }
+    ensures { (s : Stand) →
+        Gives is_memory (made_in (place_in at.entry.file.now at.entry.line)) result
+        (used (place_in at.entry.file.now at.entry.line) s (asserted action text) form) }
 {
     match literal_of(&form) {
         Some(0) => match action {
@@ -122,15 +132,7 @@ fn use_assertion(
             }),
         },
         Some(_) => Ok(nothing(alloc)),
-        None => Ok(told(
-            alloc,
-            Said::Checked {
-                action,
-                line,
-                text,
-                form,
-            },
-        )?),
+        None => written(alloc, at, Said::Checked { action, text, form }),
     }
 }
 
@@ -146,9 +148,8 @@ fn defined(symbols: &Symbols, name: &[u8]) -> Option<usize>
 
 /// What an import comes to. The module may not define it.
 fn resolve_import(alloc: Global, symbols: &Symbols, name: Sequence<u8>) -> Result<Made, AsmFault>
-    ensures { (file : List ℕ) (line : ℕ) (s : Stand) →
-        Gives is_memory (made_in (place_in file line)) result
-        (made_of (table_of symbols.now) (place_in file line) s (imported name)) }
+    ensures { (place : Place) (s : Stand) → Gives is_memory (made_in place) result
+        (made_of (table_of symbols.now) place s (imported name)) }
 {
     if defined(symbols, name.as_slice()).is_some() {
         return Err(AsmFault::ImportedAndDefined(name));
@@ -158,8 +159,7 @@ fn resolve_import(alloc: Global, symbols: &Symbols, name: Sequence<u8>) -> Resul
 
 /// What an export comes to that isn't defined.
 fn absent(alloc: Global, must: bool, name: Sequence<u8>) -> Result<Made, AsmFault>
-    ensures { (file : List ℕ) (line : ℕ) → Gives is_memory (made_in (place_in file line)) result
-        (lost must name) }
+    ensures { (place : Place) → Gives is_memory (made_in place) result (lost must name) }
 {
     if must {
         return Err(AsmFault::NotDefined(name));
@@ -167,33 +167,34 @@ fn absent(alloc: Global, must: bool, name: Sequence<u8>) -> Result<Made, AsmFaul
     Ok(nothing(alloc))
 }
 
-/// What a piece that waits comes to, or its fault.
+/// What a piece that waits in a statement that stands here comes to, or its fault.
 pub fn resolve(
     alloc: Global,
     symbols: &Symbols,
     known: &mut Known,
+    at: At<'_>,
     waiting: Waiting,
 ) -> Result<Made, AsmFault>
     requires { IsTable (table_of symbols.now) known.old.states.items }
-    ensures made { (file : List ℕ) → Gives is_memory (made_in (place_in file waiting.line)) result
-        (coming (table_of symbols.now) (place_in file waiting.line) (spot_of waiting.spot)
-        waiting.piece) }
+    ensures made { Gives is_memory (made_in (place_in at.entry.file.now at.entry.line)) result
+        (coming (table_of symbols.now) (place_in at.entry.file.now at.entry.line)
+        (spot_of waiting.spot) waiting.piece) }
     ensures table { OnOk result (IsTable (table_of symbols.now) known.new.states.items) }
 {
     let Waiting {
         file: _,
-        line,
+        line: _,
         spot,
         piece,
     } = waiting;
     match piece {
         Piece::Datum { width, value } => {
             let form = norm(alloc, symbols, known, spot, &value)?;
-            use_datum(alloc, width, line, spot, form)
+            use_datum(alloc, width, at, spot, form)
         }
         Piece::Operand { width, value } => {
             let form = norm(alloc, symbols, known, spot, &value)?;
-            use_operand(alloc, width, line, spot, form)
+            use_operand(alloc, width, at, spot, form)
         }
         Piece::Constant(place) => {
             defined_norm(alloc, symbols, known, place)?;
@@ -205,14 +206,14 @@ pub fn resolve(
             value,
         } => {
             let form = norm(alloc, symbols, known, spot, &value)?;
-            use_assertion(alloc, action, line, text, form)
+            use_assertion(alloc, action, at, text, form)
         }
         Piece::Import(name) => resolve_import(alloc, symbols, name),
         Piece::Demand(name) => Ok(told(alloc, Said::Demanded(name))?),
         Piece::Export { must, name } => match defined(symbols, name.as_slice()) {
             Some(place) => {
                 let form = defined_norm(alloc, symbols, known, place)?;
-                Ok(told(alloc, Said::Exported { name, line, form })?)
+                written(alloc, at, Said::Exported { name, form })
             }
             None => absent(alloc, must, name),
         },

@@ -16,12 +16,12 @@ ghost use Rattle.asm65.specs.Failing.{StopsAll};
 ghost use Rattle.asm65.specs.Unread.{Without};
 ghost use Rattle.asm65.specs.Inner.Running.{IsHeldBy, IsReachedBy, IsRoomy, IsRunning, Ran, StopsQuietly, TakesBy, Told, tokens_of};
 
-use crate::assembler::{Assembler, At};
+use crate::assembler::Assembler;
 use crate::given::take_given;
 use crate::knowing::Knowledge;
 use base65::Store;
 use expand65::{ExpandFault, Expander, Statement};
-use language65::AsmFault;
+use language65::{AsmFault, At};
 use std::alloc::Global;
 
 /// The number of the global scope.

@@ -2,10 +2,10 @@
 
 ghost use Rattle.std.specs.Prelude.{◌≡◌, Err};
 
-use crate::assembler::{Assembler, At};
+use crate::assembler::Assembler;
 use crate::naming::Mention;
 use crate::putting::Stand;
-use language65::{AsmFault, Operand, Spot, Statement};
+use language65::{AsmFault, At, Operand, Spot, Statement};
 use layout65::{Before, Measured, Settled, asks_section, measure};
 use std::alloc::{AllocError, Global};
 use symbols65::Key;
@@ -29,7 +29,7 @@ fn refused(_statement: Statement, fault: AsmFault) -> Result<(), AsmFault>
 impl Assembler {
     ghost use Rattle.std.specs.Prelude.{◌+◌, ◌<◌, ℕ, IfErr, IfOk, OnOk, false};
     ghost use Rattle.language65.specs.Faults.{is_failure, is_outside};
-    ghost use Rattle.language65.specs.Views.{operand_of, spot_of, stated_of};
+    ghost use Rattle.language65.specs.Views.{operand_of, place_in, spot_of, stated_of};
     ghost use Rattle.layout65.specs.Counting.{opened_by, opening_limit};
     ghost use Rattle.layout65.specs.Measuring.{measured_of};
     ghost use Rattle.layout65.specs.Views.{settled_in};
@@ -41,7 +41,6 @@ impl Assembler {
     ghost use Rattle.asm65.specs.Inner.Holding.{Enters, Holds};
     ghost use Rattle.asm65.specs.Inner.Putting.{KeepsTables};
     ghost use Rattle.asm65.specs.Inner.Taking.{Asks, IsHeld, IsNew, IsPlaced, IsRefused, Turns, laid_as, stepped};
-    ghost use Rattle.asm65.specs.Views.{place_in};
 
     /// A statement asks for its section, where it asks for one.
     #[inline(always)]

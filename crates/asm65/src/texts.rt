@@ -1,14 +1,12 @@
 //! What is said while a source is assembled.
 
 ghost use Rattle.std.specs.Prelude.{◌≡◌, ◌++◌, [], codes, OnOk};
-ghost use Rattle.language65.specs.Views.{stated_of};
-ghost use Rattle.asm65.specs.Views.{place_in};
+ghost use Rattle.language65.specs.Views.{place_in, stated_of};
 ghost use Rattle.module65.specs.Module.{out_of, warning_at, warning_of};
 
-use crate::assembler::At;
 use base65::Sequence;
 use itoa::Buffer;
-use language65::Statement;
+use language65::{At, Statement};
 use std::alloc::{AllocError, Global};
 
 /// What is said: to standard output, and to standard error.

@@ -7,11 +7,14 @@ use Rattle.std.proofs.lemmas.Map.Keys.{IsDistinct-head, IsDistinct-tail}
 use Rattle.object65.specs.declared.object.Fragment.{Fragment}
 use Rattle.object65.specs.declared.object.Fragment.TheVariants.{Literal, Fill}
 use Rattle.object65.specs.declared.object.Section.{Section}
-use Rattle.language65.specs.Parts.{Content, Part}
+use Rattle.object65.specs.declared.object.Origin.{Origin}
+use Rattle.language65.specs.declared.contents.Part.{Part}
 use Rattle.language65.specs.declared.contents.Segment.{Segment}
+use Rattle.language65.specs.Numbering.{all_joined, is_empty, joined, segment_name, segment_power}
+use Rattle.sections65.specs.declared.entries.Entry.{Entry}
+use Rattle.sections65.specs.declared.entries.Entry.TheVariants.{Put, Told, Open}
 use Rattle.sections65.specs.declared.numbering.drafts.Draft.{Draft}
-use Rattle.sections65.specs.Inner.Drafts.{all_of_draft, grown, new_draft, section_from, with_content, with_contents, with_fragment, with_parts}
-use Rattle.language65.specs.Numbering.{all_joined, fragment_of, fragments_of, is_empty, joined, parts_in, section_of, segment_name, segment_power}
+use Rattle.sections65.specs.Inner.Drafts.{all_of_draft, fragment_at, grown, new_draft, section_from, with_entries, with_entry, with_fragment}
 
 -- ---- One item of a list in which each has a key of its own.
 
@@ -70,37 +73,40 @@ fragment_segment d f = by (is_empty f)
     by true = refl
     by false = grown_segment d d.last f
 
+pub front : (f : Fragment) (fs : List Fragment) → filter (λ f. not (is_empty f)) (f ∷ []) ++ filter (λ f. not (is_empty f)) fs ≡ filter (λ f. not (is_empty f)) (f ∷ fs)
+front f fs = by (is_empty f)
+  where
+    by : (b : Bool) → cond (not b) (f ∷ []) [] ++ filter (λ f. not (is_empty f)) fs ≡ cond (not b) (f ∷ filter (λ f. not (is_empty f)) fs) (filter (λ f. not (is_empty f)) fs)
+    by true = refl
+    by false = refl
+
 module _ (s i : List ℕ) where
-  parts_segment : (ps : List Part) (d : Draft) → (with_parts s i d ps).segment ≡ d.segment
-  parts_segment [] d = refl
-  parts_segment (p ∷ ps) d = parts_segment ps (with_fragment d (fragment_of s i p)) ∙ fragment_segment d (fragment_of s i p)
-
-  content_segment : (c : Content) (d : Draft) → (with_content s i c d).segment ≡ d.segment
-  content_segment c d = by (nat_eq c.segment d.segment)
+  entry_segment : (e : Entry) (d : Draft) → (with_entry s i e d).segment ≡ d.segment
+  entry_segment (Put g o p) d = by (nat_eq g d.segment)
     where
-      by : (b : Bool) → (cond b (with_parts s i d c.parts) d).segment ≡ d.segment
-      by true = parts_segment c.parts d
+      by : (b : Bool) → (cond b (with_fragment d (fragment_at s i o p)) d).segment ≡ d.segment
+      by true = fragment_segment d (fragment_at s i o p)
       by false = refl
+  entry_segment (Told o ss) d = refl
+  entry_segment Open d = refl
 
-  pub segments_stay : (c : Content) (ds : List Draft) → map (λ d. d.segment) (map (with_content s i c) ds) ≡ map (λ d. d.segment) ds
-  segments_stay c [] = refl
-  segments_stay c (d ∷ ds) = λ n. content_segment c d n ∷ segments_stay c ds n
+  pub segments_stay : (e : Entry) (ds : List Draft) → map (λ d. d.segment) (map (with_entry s i e) ds) ≡ map (λ d. d.segment) ds
+  segments_stay e [] = refl
+  segments_stay e (d ∷ ds) = λ n. entry_segment e d n ∷ segments_stay e ds n
 
   pub segments_begin : (keys : List ℕ) → map (λ d. d.segment) (map new_draft keys) ≡ keys
   segments_begin [] = refl
   segments_begin (k ∷ keys) = ap (λ ks. k ∷ ks) (segments_begin keys)
 
-  -- what is said and what waits put nothing into a section
-  pub nothing_put : (c : Content) (ds : List Draft) → c.parts ≡ [] → ds ≡ map (with_content s i c) ds
-  nothing_put c [] none = refl
-  nothing_put c (d ∷ ds) none = λ n. same n ∷ nothing_put c ds none n
-    where
-      by : (b : Bool) → d ≡ (if b then with_parts s i d [] else d)
-      by true = refl
-      by false = refl
+  stays : (e : Entry) (ds : List Draft) → ((d : Draft) → d ≡ with_entry s i e d) → ds ≡ map (with_entry s i e) ds
+  stays e [] same = refl
+  stays e (d ∷ ds) same = λ n. same d n ∷ stays e ds same n
 
-      same : d ≡ with_content s i c d
-      same = by (nat_eq c.segment d.segment) ∙ ap (λ ps. if nat_eq c.segment d.segment then with_parts s i d ps else d) (sym none)
+  -- what is said and what waits put nothing into a section
+  pub nothing_put : (e : Entry) (ds : List Draft) → ((g : ℕ) (o : Origin) (p : Part) → e ≡ Put g o p → ⊥) → ds ≡ map (with_entry s i e) ds
+  nothing_put (Put g o p) ds none = absurd (none g o p refl)
+  nothing_put (Told o ss) ds none = stays (Told o ss) ds (λ d. refl)
+  nothing_put Open ds none = stays Open ds (λ d. refl)
 
   -- ---- Its fragments.
 
@@ -121,62 +127,77 @@ module _ (s i : List ℕ) where
       by true = refl
       by false = grown_joined d.segment d.done d.last f rest
 
-  front : (f : Fragment) (fs : List Fragment) → filter (λ f. not (is_empty f)) (f ∷ []) ++ filter (λ f. not (is_empty f)) fs ≡ filter (λ f. not (is_empty f)) (f ∷ fs)
-  front f fs = by (is_empty f)
-    where
-      by : (b : Bool) → cond (not b) (f ∷ []) [] ++ filter (λ f. not (is_empty f)) fs ≡ cond (not b) (f ∷ filter (λ f. not (is_empty f)) fs) (filter (λ f. not (is_empty f)) fs)
-      by true = refl
-      by false = refl
-
   ends : (done : List Fragment) (l : Option Fragment) (g : ℕ) → let d : Draft = record { segment = g; done = done; last = l } in all_of_draft d ≡ done ++ behind l []
   ends done None g = refl
   ends done (Some f) g = refl
 
-  parts_joined : (ps : List Part) (d : Draft) → all_of_draft (with_parts s i d ps) ≡ d.done ++ behind d.last (fragments_of s i ps)
-  parts_joined [] d = ends d.done d.last d.segment
-  parts_joined (p ∷ ps) d =
-      parts_joined ps (with_fragment d (fragment_of s i p))
-      ∙ fragment_joined d (fragment_of s i p) (fragments_of s i ps)
-      ∙ ap (λ fs. d.done ++ behind d.last fs) (front (fragment_of s i p) (map (fragment_of s i) ps))
+  -- what an entry puts into a section
+  abbrev pub entry_fragments : ℕ → Entry → List Fragment
+  entry_fragments h (Put g o p) = if nat_eq g h then filter (λ f. not (is_empty f)) (fragment_at s i o p ∷ []) else []
+  entry_fragments h _ = []
 
-  parts_more : (ps qs : List Part) (d : Draft) → with_parts s i (with_parts s i d ps) qs ≡ with_parts s i d (ps ++ qs)
-  parts_more [] qs d = refl
-  parts_more (p ∷ ps) qs d = parts_more ps qs (with_fragment d (fragment_of s i p))
+  abbrev pub fragments_put : ℕ → List Entry → List Fragment
+  fragments_put h es = flat_map (entry_fragments h) es
 
-  -- ---- All statements.
-
-  abbrev whole : List Content → Draft → Draft
-  whole cs d = with_parts s i d (parts_in cs d.segment)
-
-  one_more : (c : Content) (cs : List Content) (d : Draft) → whole cs (with_content s i c d) ≡ whole (c ∷ cs) d
-  one_more c cs d = by (nat_eq c.segment d.segment)
+  entry_joined : (e : Entry) (d : Draft) (rest : List Fragment) → (with_entry s i e d).done ++ behind (with_entry s i e d).last rest ≡ d.done ++ behind d.last (entry_fragments d.segment e ++ rest)
+  entry_joined (Put g o p) d rest = by (nat_eq g d.segment)
     where
-      by : (b : Bool) → whole cs (cond b (with_parts s i d c.parts) d) ≡ with_parts s i d (flat_map (λ c. c.parts) (cond b (c ∷ filter (λ c. nat_eq c.segment d.segment) cs) (filter (λ c. nat_eq c.segment d.segment) cs)))
-      by true = ap (λ g. with_parts s i (with_parts s i d c.parts) (parts_in cs g)) (parts_segment c.parts d) ∙ parts_more c.parts (parts_in cs d.segment) d
+      f : Fragment
+      f = fragment_at s i o p
+
+      by : (b : Bool) → (cond b (with_fragment d f) d).done ++ behind (cond b (with_fragment d f) d).last rest ≡ d.done ++ behind d.last ((if b then filter (λ f. not (is_empty f)) (f ∷ []) else []) ++ rest)
+      by true = fragment_joined d f rest
       by false = refl
+  entry_joined (Told o ss) d rest = refl
+  entry_joined Open d rest = refl
 
-  all_more : (c : Content) (cs : List Content) (ds : List Draft) → map (whole cs) (map (with_content s i c) ds) ≡ map (whole (c ∷ cs)) ds
-  all_more c cs [] = refl
-  all_more c cs (d ∷ ds) = λ n. one_more c cs d n ∷ all_more c cs ds n
+  -- ---- All entries.
 
-  nothing_more : (ds : List Draft) → ds ≡ map (whole []) ds
-  nothing_more [] = refl
-  nothing_more (d ∷ ds) = ap (λ es. d ∷ es) (nothing_more ds)
+  abbrev whole : List Entry → Draft → Draft
+  whole [] d = d
+  whole (e ∷ es) d = whole es (with_entry s i e d)
 
-  contents_whole : (cs : List Content) (ds : List Draft) → with_contents s i cs ds ≡ map (whole cs) ds
-  contents_whole [] ds = nothing_more ds
-  contents_whole (c ∷ cs) ds = contents_whole cs (map (with_content s i c) ds) ∙ all_more c cs ds
+  all_whole : (es : List Entry) (ds : List Draft) → with_entries s i es ds ≡ map (whole es) ds
+  all_whole [] ds = same ds
+    where
+      same : (ds : List Draft) → ds ≡ map (whole []) ds
+      same [] = refl
+      same (d ∷ ds) = ap (λ es. d ∷ es) (same ds)
+  all_whole (e ∷ es) ds = all_whole es (map (with_entry s i e) ds) ∙ more ds
+    where
+      more : (ds : List Draft) → map (whole es) (map (with_entry s i e) ds) ≡ map (whole (e ∷ es)) ds
+      more [] = refl
+      more (d ∷ ds) = ap (λ rest. whole es (with_entry s i e d) ∷ rest) (more ds)
 
-  section_is : (segments : List Segment) (cs : List Content) (g : ℕ) → section_from segments (whole cs (new_draft g)) ≡ section_of segments s i cs g
-  section_is segments cs g =
-      let at : (whole cs (new_draft g)).segment ≡ g = parts_segment (parts_in cs g) (new_draft g) in
-      let has : all_of_draft (whole cs (new_draft g)) ≡ all_joined (fragments_of s i (parts_in cs g)) = parts_joined (parts_in cs g) (new_draft g) in
+  whole_segment : (es : List Entry) (d : Draft) → (whole es d).segment ≡ d.segment
+  whole_segment [] d = refl
+  whole_segment (e ∷ es) d = whole_segment es (with_entry s i e d) ∙ entry_segment e d
+
+  whole_joined : (es : List Entry) (d : Draft) → all_of_draft (whole es d) ≡ d.done ++ behind d.last (fragments_put d.segment es)
+  whole_joined [] d = ends d.done d.last d.segment
+  whole_joined (e ∷ es) d =
+      whole_joined es (with_entry s i e d)
+      ∙ ap (λ g. (with_entry s i e d).done ++ behind (with_entry s i e d).last (fragments_put g es)) (entry_segment e d)
+      ∙ entry_joined e d (fragments_put d.segment es)
+
+  -- the section of entries, whose origins are kept as they stand
+  abbrev pub section_put : List Segment → List Entry → ℕ → Section
+  section_put segments es g = record {
+    name = segment_name (slice_get segments g);
+    align = segment_power (slice_get segments g);
+    fragments = all_joined (fragments_put g es);
+  }
+
+  section_is : (segments : List Segment) (es : List Entry) (g : ℕ) → section_from segments (whole es (new_draft g)) ≡ section_put segments es g
+  section_is segments es g =
+      let at : (whole es (new_draft g)).segment ≡ g = whole_segment es (new_draft g) in
+      let has : all_of_draft (whole es (new_draft g)) ≡ all_joined (fragments_put g es) = whole_joined es (new_draft g) in
       let made : ℕ → List Fragment → Section = λ h fs. record { name = segment_name (slice_get segments h); align = segment_power (slice_get segments h); fragments = fs } in
       λ n. made (at n) (has n)
 
-  each_section : (segments : List Segment) (cs : List Content) (keys : List ℕ) → map (section_from segments) (map (whole cs) (map new_draft keys)) ≡ map (section_of segments s i cs) keys
-  each_section segments cs [] = refl
-  each_section segments cs (k ∷ keys) = λ n. section_is segments cs k n ∷ each_section segments cs keys n
+  each_section : (segments : List Segment) (es : List Entry) (keys : List ℕ) → map (section_from segments) (map (whole es) (map new_draft keys)) ≡ map (section_put segments es) keys
+  each_section segments es [] = refl
+  each_section segments es (k ∷ keys) = λ n. section_is segments es k n ∷ each_section segments es keys n
 
-  pub sections_are : (segments : List Segment) (cs : List Content) (keys : List ℕ) → map (section_from segments) (with_contents s i cs (map new_draft keys)) ≡ map (section_of segments s i cs) keys
-  sections_are segments cs keys = ap (map (section_from segments)) (contents_whole cs (map new_draft keys)) ∙ each_section segments cs keys
+  pub sections_are : (segments : List Segment) (es : List Entry) (keys : List ℕ) → map (section_from segments) (with_entries s i es (map new_draft keys)) ≡ map (section_put segments es) keys
+  sections_are segments es keys = ap (map (section_from segments)) (all_whole es (map new_draft keys)) ∙ each_section segments es keys

@@ -6,10 +6,17 @@ use Rattle.std.specs.List.{list_any}
 use Rattle.std.specs.Str.{bytes_eq}
 use Rattle.object65.specs.Form.{Form}
 use Rattle.object65.specs.declared.object.Export.{Export}
+use Rattle.object65.specs.declared.object.Origin.{Origin}
+use Rattle.source65.specs.declared.place.Place.{Place}
 use Rattle.language65.specs.Parts.{Said, Exported, Demanded, Checked}
+use Rattle.language65.specs.declared.contents.Said as told
 use Rattle.language65.specs.Numbering.{exports_among, numbered}
+use Rattle.language65.specs.Views.{said_at}
+use Rattle.sections65.specs.declared.entries.Entry.{Entry}
+use Rattle.sections65.specs.declared.entries.Entry.TheVariants.{Put, Told, Open}
+use Rattle.sections65.specs.Inner.Drafts.{anywhere, exports_at, exports_from, here}
 
-any_map : {A B : Type 0} (p : B → Bool) (f : A → B) (xs : List A) → list_any p (map f xs) ≡ list_any (λ x. p (f x)) xs
+pub any_map : {A B : Type 0} (p : B → Bool) (f : A → B) (xs : List A) → list_any p (map f xs) ≡ list_any (λ x. p (f x)) xs
 any_map p f [] = refl
 any_map p f (x ∷ xs) = ap (λ b. p (f x) || b) (any_map p f xs)
 
@@ -24,24 +31,35 @@ not_false : (b : Bool) → false ≡ not b → b ≡ true
 not_false true e = refl
 not_false false e = cc
 
-pub export_new : (s i : List ℕ) (names : List (Bor (List ℕ))) (found : List Export) (n : List ℕ) (line : ℕ) (f : Form) → map (λ k. k.now) names ≡ map (λ e. e.name) found → true ≡ not (list_any (λ k. bytes_eq n k.now) names) → found ++ record { name = n; line = line; form = numbered s i f } ∷ [] ≡ exports_among s i found (Exported n line f ∷ [])
-export_new s i names found n line f named new =
+pub export_new : (at : Place → Origin) (s i : List ℕ) (names : List (Bor (List ℕ))) (found : List Export) (n : List ℕ) (place : Place) (f : Form) → map (λ k. k.now) names ≡ map (λ e. e.name) found → true ≡ not (list_any (λ k. bytes_eq n k.now) names) → found ++ record { name = n; origin = at place; form = numbered s i f } ∷ [] ≡ exports_among at s i found (Exported n place f ∷ [])
+export_new at s i names found n place f named new =
     let none : list_any (λ e. bytes_eq n e.name) found ≡ false = sym (same_any n names found named) ∙ not_true (list_any (λ k. bytes_eq n k.now) names) new in
     rw none refl
 
-pub export_old : (s i : List ℕ) (names : List (Bor (List ℕ))) (found : List Export) (n : List ℕ) (line : ℕ) (f : Form) → map (λ k. k.now) names ≡ map (λ e. e.name) found → false ≡ not (list_any (λ k. bytes_eq n k.now) names) → found ≡ exports_among s i found (Exported n line f ∷ [])
-export_old s i names found n line f named old =
+pub export_old : (at : Place → Origin) (s i : List ℕ) (names : List (Bor (List ℕ))) (found : List Export) (n : List ℕ) (place : Place) (f : Form) → map (λ k. k.now) names ≡ map (λ e. e.name) found → false ≡ not (list_any (λ k. bytes_eq n k.now) names) → found ≡ exports_among at s i found (Exported n place f ∷ [])
+export_old at s i names found n place f named old =
     let some : list_any (λ e. bytes_eq n e.name) found ≡ true = sym (same_any n names found named) ∙ not_false (list_any (λ k. bytes_eq n k.now) names) old in
     rw some refl
 
-pub among_cons : (s i : List ℕ) (found : List Export) (x : Said) (ss : List Said) → exports_among s i (exports_among s i found (x ∷ [])) ss ≡ exports_among s i found (x ∷ ss)
-among_cons s i found (Exported n line f) ss = refl
-among_cons s i found (Demanded n) ss = refl
-among_cons s i found (Checked act line words f) ss = refl
+pub among_cons : (at : Place → Origin) (s i : List ℕ) (found : List Export) (x : Said) (ss : List Said) → exports_among at s i (exports_among at s i found (x ∷ [])) ss ≡ exports_among at s i found (x ∷ ss)
+among_cons at s i found (Exported n place f) ss = refl
+among_cons at s i found (Demanded n) ss = refl
+among_cons at s i found (Checked act place words f) ss = refl
 
-pub among_append : (s i : List ℕ) (xs : List Said) (found : List Export) (ss : List Said) → exports_among s i (exports_among s i found xs) ss ≡ exports_among s i found (xs ++ ss)
-among_append s i [] found ss = refl
-among_append s i (x ∷ xs) found ss =
-    ap (λ es. exports_among s i es ss) (sym (among_cons s i found x xs))
-    ∙ among_append s i xs (exports_among s i found (x ∷ [])) ss
-    ∙ among_cons s i found x (xs ++ ss)
+pub among_append : (at : Place → Origin) (s i : List ℕ) (xs : List Said) (found : List Export) (ss : List Said) → exports_among at s i (exports_among at s i found xs) ss ≡ exports_among at s i found (xs ++ ss)
+among_append at s i [] found ss = refl
+among_append at s i (x ∷ xs) found ss =
+    ap (λ es. exports_among at s i es ss) (sym (among_cons at s i found x xs))
+    ∙ among_append at s i xs (exports_among at s i found (x ∷ [])) ss
+    ∙ among_cons at s i found x (xs ++ ss)
+
+-- ---- Entry by entry.
+
+pub from_cons : (s i : List ℕ) (found : List Export) (e : Entry) (es : List Entry) → exports_from s i (exports_from s i found (e ∷ [])) es ≡ exports_from s i found (e ∷ es)
+from_cons s i found (Put g o p) es = refl
+from_cons s i found (Told o ss) es = refl
+from_cons s i found Open es = refl
+
+-- what was said before and the rest
+pub at_append : (s i : List ℕ) (o : Origin) (found : List Export) (x : told.Said) (ss : List told.Said) → exports_at s i o (exports_at s i o found (x ∷ [])) ss ≡ exports_at s i o found (x ∷ ss)
+at_append s i o found x ss = among_cons (here o) s i found (said_at anywhere x) (map (said_at anywhere) ss)

@@ -7,8 +7,10 @@ use Rattle.std.specs.List.{AllByRecursion, IsDistinct, list_any}
 use Rattle.std.proofs.lemmas.Bool.Decides.{nat_tests}
 use Rattle.std.proofs.lemmas.List.Folds.{list_any-append}
 use Rattle.std.proofs.lemmas.Map.Keys.{IsDistinct-head, IsDistinct-tail}
+use Rattle.source65.specs.declared.place.Place.{Place}
+use Rattle.object65.specs.declared.object.Origin.{Origin}
 use Rattle.object65.specs.declared.object.Export.{Export}
-use Rattle.object65.specs.Objects.{are_names, is_among, is_name}
+use Rattle.object65.specs.Objects.{are_distinct, are_names, is_among, is_name}
 use Rattle.language65.specs.Parts.{Said, Exported, Demanded, Checked}
 use Rattle.language65.specs.declared.contents.Segment.{Segment}
 use Rattle.language65.specs.Numbering.{exports_among, name_of, numbered, segment_name}
@@ -18,27 +20,45 @@ use Rattle.sections65.proofs.Renumbering.{left, right, and, turned}
 abbrev same_name : List ℕ → List ℕ → Bool
 same_name n m = pointwise nat_eq n m
 
--- ---- The first of good names.
+-- ---- Names that pass, none twice.
 
-head_good : (n : List ℕ) (ns : List (List ℕ)) → are_names (n ∷ ns) ≡ true → is_name n ≡ true
-head_good n ns h = left (is_name n) (not (is_among ns n)) (left (is_name n && not (is_among ns n)) (are_names ns) h)
+flipped : (n m : List ℕ) → same_name n m ≡ same_name m n
+flipped n m = (lists_equiv nat_eq_equiv).symm n m
 
-head_apart : (n : List ℕ) (ns : List (List ℕ)) → are_names (n ∷ ns) ≡ true → is_among ns n ≡ false
-head_apart n ns h = turned (is_among ns n) (right (is_name n) (not (is_among ns n)) (left (is_name n && not (is_among ns n)) (are_names ns) h))
+among_push : (ns : List (List ℕ)) (n m : List ℕ) → is_among ns m ≡ false → same_name n m ≡ false → is_among (ns ++ n ∷ []) m ≡ false
+among_push ns n m h g =
+    let other : same_name m n ≡ false = flipped m n ∙ g in
+    list_any-append (λ x. pointwise nat_eq m x) ns (n ∷ []) ∙ (λ j. h j || (other j || false))
 
-rest_good : (n : List ℕ) (ns : List (List ℕ)) → are_names (n ∷ ns) ≡ true → are_names ns ≡ true
-rest_good n ns h = right (is_name n && not (is_among ns n)) (are_names ns) h
+module _ (passes : List ℕ → Bool) where
+  head_good : (n : List ℕ) (ns : List (List ℕ)) → are_distinct passes (n ∷ ns) ≡ true → passes n ≡ true
+  head_good n ns h = left (passes n) (not (is_among ns n)) (left (passes n && not (is_among ns n)) (are_distinct passes ns) h)
 
--- good names with one in front
-with_head : (n : List ℕ) (ns : List (List ℕ)) → is_name n ≡ true → is_among ns n ≡ false → are_names ns ≡ true → are_names (n ∷ ns) ≡ true
-with_head n ns good apart rest = and (is_name n && not (is_among ns n)) (are_names ns) (and (is_name n) (not (is_among ns n)) good (ap not apart)) rest
+  head_apart : (n : List ℕ) (ns : List (List ℕ)) → are_distinct passes (n ∷ ns) ≡ true → is_among ns n ≡ false
+  head_apart n ns h = turned (is_among ns n) (right (passes n) (not (is_among ns n)) (left (passes n && not (is_among ns n)) (are_distinct passes ns) h))
+
+  rest_good : (n : List ℕ) (ns : List (List ℕ)) → are_distinct passes (n ∷ ns) ≡ true → are_distinct passes ns ≡ true
+  rest_good n ns h = right (passes n && not (is_among ns n)) (are_distinct passes ns) h
+
+  -- good names with one in front
+  with_head : (n : List ℕ) (ns : List (List ℕ)) → passes n ≡ true → is_among ns n ≡ false → are_distinct passes ns ≡ true → are_distinct passes (n ∷ ns) ≡ true
+  with_head n ns good apart rest = and (passes n && not (is_among ns n)) (are_distinct passes ns) (and (passes n) (not (is_among ns n)) good (ap not apart)) rest
+
+  -- one name more
+  pub names_push : (ns : List (List ℕ)) (n : List ℕ) → are_distinct passes ns ≡ true → passes n ≡ true → is_among ns n ≡ false → are_distinct passes (ns ++ n ∷ []) ≡ true
+  names_push [] n h good apart = with_head n [] good refl refl
+  names_push (m ∷ ns) n h good apart = by (same_name n m) refl apart (names_push ns n (rest_good m ns h) good)
+    where
+      by : (b : Bool) → same_name n m ≡ b → (b || is_among ns n) ≡ false → (is_among ns n ≡ false → are_distinct passes (ns ++ n ∷ []) ≡ true) → are_distinct passes (m ∷ (ns ++ n ∷ [])) ≡ true
+      by true e f rest = absurd cc
+      by false e f rest = with_head m (ns ++ n ∷ []) (head_good m ns h) (among_push ns n m (head_apart m ns h) e) (rest f)
 
 -- ---- Names at keys.
 
 name_good : (names : List (List ℕ)) (k : ℕ) → are_names names ≡ true → k < length names → is_name (name_of names k) ≡ true
 name_good [] k h lt = absurd (omega arith)
-name_good (n ∷ ns) zero h lt = head_good n ns h
-name_good (n ∷ ns) (suc k) h lt = name_good ns k (rest_good n ns h) (omega arith)
+name_good (n ∷ ns) zero h lt = head_good is_name n ns h
+name_good (n ∷ ns) (suc k) h lt = name_good ns k (rest_good is_name n ns h) (omega arith)
 
 none_is : (names : List (List ℕ)) (n : List ℕ) (k : ℕ) → is_among names n ≡ false → k < length names → same_name n (name_of names k) ≡ false
 none_is [] n k h lt = absurd (omega arith)
@@ -53,15 +73,12 @@ none_is (m ∷ ns) n (suc k) h lt = none_is ns n k (other (same_name n m) (is_am
     other true b e = cc
     other false b e = e
 
-flipped : (n m : List ℕ) → same_name n m ≡ same_name m n
-flipped n m = (lists_equiv nat_eq_equiv).symm n m
-
 names_apart : (names : List (List ℕ)) (j k : ℕ) → are_names names ≡ true → j < length names → k < length names → nat_eq j k ≡ false → same_name (name_of names j) (name_of names k) ≡ false
 names_apart [] j k h lt gt other = absurd (omega arith)
 names_apart (n ∷ ns) zero zero h lt gt other = absurd cc
-names_apart (n ∷ ns) zero (suc k) h lt gt other = none_is ns n k (head_apart n ns h) (omega arith)
-names_apart (n ∷ ns) (suc j) zero h lt gt other = flipped (name_of ns j) n ∙ none_is ns n j (head_apart n ns h) (omega arith)
-names_apart (n ∷ ns) (suc j) (suc k) h lt gt other = names_apart ns j k (rest_good n ns h) (omega arith) (omega arith) (grind (arith, nat_tests))
+names_apart (n ∷ ns) zero (suc k) h lt gt other = none_is ns n k (head_apart is_name n ns h) (omega arith)
+names_apart (n ∷ ns) (suc j) zero h lt gt other = flipped (name_of ns j) n ∙ none_is ns n j (head_apart is_name n ns h) (omega arith)
+names_apart (n ∷ ns) (suc j) (suc k) h lt gt other = names_apart ns j k (rest_good is_name n ns h) (omega arith) (omega arith) (grind (arith, nat_tests))
 
 abbrev AreBelow : List (List ℕ) → List ℕ → Type 0
 AreBelow names keys = AllByRecursion (λ k. k < length names) keys
@@ -76,7 +93,7 @@ key_apart names k (j ∷ keys) h lt below apart =
 pub names_at : (names : List (List ℕ)) (keys : List ℕ) → are_names names ≡ true → IsDistinct nat_eq keys → AreBelow names keys → are_names (map (name_of names) keys) ≡ true
 names_at names [] h distinct below = refl
 names_at names (k ∷ keys) h distinct below =
-    with_head (name_of names k) (map (name_of names) keys) (name_good names k h below.0)
+    with_head is_name (name_of names k) (map (name_of names) keys) (name_good names k h below.0)
     (key_apart names k keys h below.0 below.1 (IsDistinct-head nat_eq k keys distinct))
     (names_at names keys h (IsDistinct-tail nat_eq k keys distinct) below.1)
 
@@ -88,19 +105,6 @@ segment_named (s ∷ segments) (suc g) = segment_named segments g
 
 -- ---- Names of exports.
 
-among_push : (ns : List (List ℕ)) (n m : List ℕ) → is_among ns m ≡ false → same_name n m ≡ false → is_among (ns ++ n ∷ []) m ≡ false
-among_push ns n m h g =
-    let other : same_name m n ≡ false = flipped m n ∙ g in
-    list_any-append (λ x. pointwise nat_eq m x) ns (n ∷ []) ∙ (λ j. h j || (other j || false))
-
-names_push : (ns : List (List ℕ)) (n : List ℕ) → are_names ns ≡ true → is_name n ≡ true → is_among ns n ≡ false → are_names (ns ++ n ∷ []) ≡ true
-names_push [] n h good apart = with_head n [] good refl refl
-names_push (m ∷ ns) n h good apart = by (same_name n m) refl apart (names_push ns n (rest_good m ns h) good)
-  where
-    by : (b : Bool) → same_name n m ≡ b → (b || is_among ns n) ≡ false → (is_among ns n ≡ false → are_names (ns ++ n ∷ []) ≡ true) → are_names (m ∷ (ns ++ n ∷ [])) ≡ true
-    by true e f rest = absurd cc
-    by false e f rest = with_head m (ns ++ n ∷ []) (head_good m ns h) (among_push ns n m (head_apart m ns h) e) (rest f)
-
 any_named : (n : List ℕ) (es : List Export) → list_any (λ e. pointwise nat_eq n e.name) es ≡ is_among (map (λ e. e.name) es) n
 any_named n [] = refl
 any_named n (e ∷ es) = ap (λ b. same_name n e.name || b) (any_named n es)
@@ -109,16 +113,16 @@ push_named : (es : List Export) (e : Export) → map (λ (x : Export). x.name) (
 push_named [] e = refl
 push_named (x ∷ es) e = ap (λ ns. x.name ∷ ns) (push_named es e)
 
-pub exports_named : (s i : List ℕ) (asked : List ℕ) (count : ℕ) (found : List Export) (ss : List Said) → are_names (map (λ (e : Export). e.name) found) ≡ true → AllByRecursion (IsSoundSaid asked count) ss → are_names (map (λ (e : Export). e.name) (exports_among s i found ss)) ≡ true
-exports_named s i asked count found [] h sound = h
-exports_named s i asked count found (Demanded n ∷ ss) h sound = exports_named s i asked count found ss h sound.1
-exports_named s i asked count found (Checked act line words f ∷ ss) h sound = exports_named s i asked count found ss h sound.1
-exports_named s i asked count found (Exported n line f ∷ ss) h sound =
-    exports_named s i asked count (if list_any (λ e. pointwise nat_eq n e.name) found then found else found ++ made ∷ []) ss (by (list_any (λ e. pointwise nat_eq n e.name) found) refl) sound.1
+pub exports_named : (at : Place → Origin) (s i : List ℕ) (asked : List ℕ) (count : ℕ) (found : List Export) (ss : List Said) → are_names (map (λ (e : Export). e.name) found) ≡ true → AllByRecursion (IsSoundSaid asked count) ss → are_names (map (λ (e : Export). e.name) (exports_among at s i found ss)) ≡ true
+exports_named at s i asked count found [] h sound = h
+exports_named at s i asked count found (Demanded n ∷ ss) h sound = exports_named at s i asked count found ss h sound.1
+exports_named at s i asked count found (Checked act line words f ∷ ss) h sound = exports_named at s i asked count found ss h sound.1
+exports_named at s i asked count found (Exported n line f ∷ ss) h sound =
+    exports_named at s i asked count (if list_any (λ e. pointwise nat_eq n e.name) found then found else found ++ made ∷ []) ss (by (list_any (λ e. pointwise nat_eq n e.name) found) refl) sound.1
   where
     made : Export
-    made = record { name = n; line = line; form = numbered s i f }
+    made = record { name = n; origin = at line; form = numbered s i f }
 
     by : (b : Bool) → list_any (λ e. pointwise nat_eq n e.name) found ≡ b → are_names (map (λ (e : Export). e.name) (if b then found else found ++ made ∷ [])) ≡ true
     by true e = h
-    by false e = ap are_names (push_named found made) ∙ names_push (map (λ (e : Export). e.name) found) n h sound.0.0 (sym (any_named n found) ∙ e)
+    by false e = ap are_names (push_named found made) ∙ names_push is_name (map (λ (e : Export). e.name) found) n h sound.0.0 (sym (any_named n found) ∙ e)

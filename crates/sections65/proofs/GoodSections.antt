@@ -5,6 +5,8 @@ use Rattle.std.specs.List.{AllByRecursion, filter, flat_map, list_all, position_
 use Rattle.std.proofs.lemmas.Bool.Decides.{nat_tests}
 use Rattle.std.proofs.lemmas.List.Folds.{list_all-append}
 use Rattle.std.proofs.lemmas.List.Sums.{sum_by-cons}
+use Rattle.source65.specs.declared.place.Place.{Place}
+use Rattle.object65.specs.declared.object.Origin.{Origin}
 use Rattle.object65.specs.declared.object.Fragment.{Fragment}
 use Rattle.object65.specs.declared.object.Fragment.TheVariants.{Literal, Fill, Value}
 use Rattle.object65.specs.Folding.{is_literal}
@@ -80,9 +82,9 @@ joined_apart (Value w line form) (g ∷ fs) = front_apart (Value w line form) g 
 
 -- ---- The fragments of parts.
 
-module _ (s i : List ℕ) where
+module _ (at : Place → Origin) (s i : List ℕ) where
   abbrev pub made : Part → Fragment
-  made p = fragment_of s i p
+  made p = fragment_of at s i p
 
   -- a part of no byte is left out
   abbrev pub is_good_part : Part → Bool
@@ -100,11 +102,11 @@ module _ (s i : List ℕ) where
   empty_len (Fill (suc n)) h = absurd cc
   empty_len (Value width line f) h = absurd cc
 
-  pub fragments_len : (ps : List Part) → len_of (fragments_of s i ps) ≡ sum_by part_len ps
+  pub fragments_len : (ps : List Part) → len_of (fragments_of at s i ps) ≡ sum_by part_len ps
   fragments_len [] = refl
   fragments_len (p ∷ ps) = by (is_empty (made p)) refl (fragments_len ps)
     where
-      by : (b : Bool) → is_empty (made p) ≡ b → len_of (fragments_of s i ps) ≡ sum_by part_len ps → len_of (cond (not b) (made p ∷ fragments_of s i ps) (fragments_of s i ps)) ≡ sum_by part_len (p ∷ ps)
+      by : (b : Bool) → is_empty (made p) ≡ b → len_of (fragments_of at s i ps) ≡ sum_by part_len ps → len_of (cond (not b) (made p ∷ fragments_of at s i ps) (fragments_of at s i ps)) ≡ sum_by part_len (p ∷ ps)
       by true e rest =
           let none : fragment_len (made p) ≡ 0 = empty_len (made p) e in
           let one : fragment_len (made p) ≡ part_len p = made_len p in
@@ -113,17 +115,17 @@ module _ (s i : List ℕ) where
       by false e rest =
           let one : fragment_len (made p) ≡ part_len p = made_len p in
           let all : sum_by part_len (p ∷ ps) ≡ part_len p + sum_by part_len ps = sum_by-cons part_len p ps in
-          let made_all : len_of (made p ∷ fragments_of s i ps) ≡ fragment_len (made p) + len_of (fragments_of s i ps) = sum_by-cons fragment_len (made p) (fragments_of s i ps) in
+          let made_all : len_of (made p ∷ fragments_of at s i ps) ≡ fragment_len (made p) + len_of (fragments_of at s i ps) = sum_by-cons fragment_len (made p) (fragments_of at s i ps) in
           omega (arith, made_all, one, all, rest)
 
-  pub fragments_good : (ps : List Part) → list_all is_good_part ps ≡ true → AllGood (length s) (length i) (fragments_of s i ps)
+  pub fragments_good : (ps : List Part) → list_all is_good_part ps ≡ true → AllGood (length s) (length i) (fragments_of at s i ps)
   fragments_good [] h = refl
   fragments_good (p ∷ ps) h = by (is_empty (made p)) h (fragments_good ps)
     where
-      by : (b : Bool) → ((b || is_good_fragment (length s) (length i) (made p)) && list_all is_good_part ps) ≡ true → (list_all is_good_part ps ≡ true → AllGood (length s) (length i) (fragments_of s i ps)) → AllGood (length s) (length i) (cond (not b) (made p ∷ fragments_of s i ps) (fragments_of s i ps))
+      by : (b : Bool) → ((b || is_good_fragment (length s) (length i) (made p)) && list_all is_good_part ps) ≡ true → (list_all is_good_part ps ≡ true → AllGood (length s) (length i) (fragments_of at s i ps)) → AllGood (length s) (length i) (cond (not b) (made p ∷ fragments_of at s i ps) (fragments_of at s i ps))
       by true e rest = rest e
       by false e rest =
-          and (is_good_fragment (length s) (length i) (made p)) (list_all (is_good_fragment (length s) (length i)) (fragments_of s i ps))
+          and (is_good_fragment (length s) (length i) (made p)) (list_all (is_good_fragment (length s) (length i)) (fragments_of at s i ps))
           (left (is_good_fragment (length s) (length i) (made p)) (list_all is_good_part ps) e)
           (rest (right (is_good_fragment (length s) (length i) (made p)) (list_all is_good_part ps) e))
 
@@ -134,7 +136,7 @@ module _ (s i : List ℕ) where
   part_good count (Filled (suc n)) sound has_imports = grind (arith, nat_tests)
   part_good count (Waiting width line f) sound has_imports =
       and (is_good_form (length s) (length i) (numbered s i f)) (not (is_literal (numbered s i f)))
-      (good_form s i count f sound.0 has_imports) (ap not (same_literal s i f ∙ sound.1))
+      (good_form s i count f sound.0.form has_imports) (ap not (same_literal s i f ∙ sound.1))
 
   parts_good : (count : ℕ) (ps : List Part) → AllByRecursion (IsSoundPart s count) ps → HasAll i (flat_map part_imports ps) → list_all is_good_part ps ≡ true
   parts_good count [] sound has_imports = refl
@@ -181,9 +183,9 @@ module _ (s i : List ℕ) where
   power_small None = omega arith
   power_small (Some g) = place_small (position_or_len (nat_eq g.align) powers)
 
-  pub section_good : (segments : List Segment) (cs : List Content) (g : ℕ) → sum_by part_len (parts_in cs g) ≤ section_limit → list_all is_good_part (parts_in cs g) ≡ true → is_good_section (length s) (length i) (section_of segments s i cs g) ≡ true
+  pub section_good : (segments : List Segment) (cs : List Content) (g : ℕ) → sum_by part_len (parts_in cs g) ≤ section_limit → list_all is_good_part (parts_in cs g) ≡ true → is_good_section (length s) (length i) (section_of at segments s i cs g) ≡ true
   section_good segments cs g room good =
-      let fs : List Fragment = fragments_of s i (parts_in cs g) in
+      let fs : List Fragment = fragments_of at s i (parts_in cs g) in
       let power = segment_power (slice_get segments g) in
       let small : power ≤ 15 = power_small (slice_get segments g) in
       let aligned : nat_le power 15 ≡ true = grind (arith, nat_tests) in

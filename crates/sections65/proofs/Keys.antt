@@ -1,11 +1,20 @@
 -- Keys in the order in which they first come.
-use Rattle.std.proofs.Common.{◌≡◌, ◌∙◌, ℕ, ◌+◌, ◌-◌, ◌<◌, ◌≤◌, zero, suc, cond, List, [], ◌∷◌, ◌++◌, drop, length, get_or, Option, Some, None, nat_eq, refl, sym, ap, arith, add-one}
+use Rattle.std.proofs.Common.{◌≡◌, ◌∙◌, ℕ, ◌+◌, ◌-◌, ◌<◌, ◌≤◌, zero, suc, cond, List, [], ◌∷◌, ◌++◌, drop, length, get_or, map, Option, Some, None, nat_eq, refl, sym, ap, arith, add-one}
 use Rattle.std.specs.List.{position_from, list_any, flat_map}
 use Rattle.std.specs.Str.{bytes_eq}
 use Rattle.std.proofs.lemmas.List.{drop_all}
 use Rattle.std.specs.Prelude.{if◌then◌else◌}
 use Rattle.std.proofs.lemmas.Iterator.Adapters.{position_from-zero}
-use Rattle.language65.specs.Numbering.{key_of, once}
+use Rattle.source65.specs.declared.place.Place.{Place}
+use Rattle.language65.specs.declared.contents.Part.{Part}
+use Rattle.language65.specs.declared.contents.Part.TheVariants as part
+use Rattle.language65.specs.declared.contents.Said as said
+use Rattle.language65.specs.declared.contents.Said.TheVariants as told
+use Rattle.language65.specs.Numbering.{content_imports, imports_in, key_of, once, optional_key, part_imports, said_imports}
+use Rattle.language65.specs.Views.{part_at, said_at}
+use Rattle.sections65.specs.declared.entries.Entry.{Entry}
+use Rattle.sections65.specs.declared.entries.Entry.TheVariants.{Put, Told, Open}
+use Rattle.sections65.specs.Fed.{content_of, place_by}
 
 pub once_append : (ks found ls : List ℕ) → once (once found ks) ls ≡ once found (ks ++ ls)
 once_append [] found ls = refl
@@ -45,3 +54,23 @@ key_step names i n key name v old new pos le at is place e inv =
 
 pub key_end : (names : List (List ℕ)) (i : ℕ) (name : List ℕ) → i ≡ 0 → key_from i names name ≡ key_of names name
 key_end names i name none = ap (λ j. key_from j names name) none ∙ sym (position_from-zero (λ m. bytes_eq m name) names)
+
+-- ---- Imports of what is said, wherever it stands.
+
+pub said_anywhere : (names : List (List ℕ)) (p q : Place) (ss : List said.Said) → flat_map (said_imports names) (map (said_at p) ss) ≡ flat_map (said_imports names) (map (said_at q) ss)
+said_anywhere names p q [] = refl
+said_anywhere names p q (told.Exported n f ∷ ss) = ap (λ ks. imports_in f ++ ks) (said_anywhere names p q ss)
+said_anywhere names p q (told.Demanded n ∷ ss) = ap (λ ks. optional_key (key_of names n) ++ ks) (said_anywhere names p q ss)
+said_anywhere names p q (told.Checked act words f ∷ ss) = ap (λ ks. imports_in f ++ ks) (said_anywhere names p q ss)
+
+part_anywhere : (p q : Place) (x : Part) → part_imports (part_at p x) ≡ part_imports (part_at q x)
+part_anywhere p q (part.Known bytes) = refl
+part_anywhere p q (part.Filled n) = refl
+part_anywhere p q (part.Waiting width f) = refl
+
+-- the imports of entries, whatever the files are
+pub imports_anyhow : (names files more : List (List ℕ)) (es : List Entry) → flat_map (content_imports names) (map (content_of files) es) ≡ flat_map (content_imports names) (map (content_of more) es)
+imports_anyhow names files more [] = refl
+imports_anyhow names files more (Put g o p ∷ es) = λ n. ((part_anywhere (place_by files o) (place_by more o) p n ++ []) ++ []) ++ imports_anyhow names files more es n
+imports_anyhow names files more (Told o ss ∷ es) = λ n. said_anywhere names (place_by files o) (place_by more o) ss n ++ imports_anyhow names files more es n
+imports_anyhow names files more (Open ∷ es) = imports_anyhow names files more es

@@ -4,7 +4,7 @@ use Rattle.std.specs.Prelude.{if◌then◌else◌}
 use Rattle.std.specs.List.{flat_map}
 use Rattle.std.proofs.lemmas.Grind.{flat_map-append}
 use Rattle.language65.specs.Parts.{Content, Part, Said}
-use Rattle.language65.specs.Numbering.{all_joined, all_said, content_imports, fragments_of, once, part_imports, parts_in, said_imports, section_keys, segments_asked}
+use Rattle.language65.specs.Numbering.{all_joined, all_said, content_imports, fragments_of, once, part_files, part_imports, parts_in, said_imports, section_keys, segments_asked}
 use Rattle.sections65.specs.declared.sections.Sections.{Sections}
 use Rattle.language65.specs.Contents.{asking, put, telling}
 use Rattle.sections65.specs.Fed.{AreAlike, in_pieces}
@@ -20,6 +20,7 @@ alike_stands cs ds ws s alike keys h = record {
   alike = alike_trans ds cs _ (alike_sym cs ds alike) h.alike;
   waits = h.waits;
   settled = h.settled;
+  standing = h.standing;
 }
 
 -- ---- Its parts.
@@ -83,12 +84,14 @@ module _ (g : ℕ) (ps : List Part) (ss : List Said) where
   pieces_alike : (b : Bool) → AreAlike (in_pieces (whole b)) (whole b ∷ [])
   pieces_alike true = record {
     imports = λ names. pieces_imports names;
-    parts = λ s i h before behind. ap (λ qs. all_joined (before ++ (fragments_of s i qs ++ behind))) (asking_parts (map (put g) ps ++ telling ss ∷ []) h ∙ pieces_parts true h);
+    parts = λ at s i h before behind. ap (λ qs. all_joined (before ++ (fragments_of at s i qs ++ behind))) (asking_parts (map (put g) ps ++ telling ss ∷ []) h ∙ pieces_parts true h);
+    files = λ h. ap (flat_map part_files) (asking_parts (map (put g) ps ++ telling ss ∷ []) h ∙ pieces_parts true h);
     said = parts_said g ps ss;
   }
   pieces_alike false = record {
     imports = λ names. pieces_imports names;
-    parts = λ s i h before behind. ap (λ qs. all_joined (before ++ (fragments_of s i qs ++ behind))) (pieces_parts false h);
+    parts = λ at s i h before behind. ap (λ qs. all_joined (before ++ (fragments_of at s i qs ++ behind))) (pieces_parts false h);
+    files = λ h. ap (flat_map part_files) (pieces_parts false h);
     said = parts_said g ps ss;
   }
 

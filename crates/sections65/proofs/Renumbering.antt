@@ -44,7 +44,7 @@ has keys k = list_any (nat_eq k) keys
 abbrev pub HasAll : List ℕ → List ℕ → Type 0
 HasAll keys ks = list_all (has keys) ks ≡ true
 
-place_below : (keys : List ℕ) (k : ℕ) → has keys k ≡ true → position_or_len (nat_eq k) keys < length keys
+pub place_below : (keys : List ℕ) (k : ℕ) → has keys k ≡ true → position_or_len (nat_eq k) keys < length keys
 place_below [] k h = absurd cc
 place_below (m ∷ keys) k h = by (nat_eq k m) h (place_below keys k)
   where
@@ -52,7 +52,7 @@ place_below (m ∷ keys) k h = by (nat_eq k m) h (place_below keys k)
     by true e rest = omega arith
     by false e rest = let below = rest e in omega (arith, below)
 
-number_is : (keys : List ℕ) (k : ℕ) → has keys k ≡ true → number_of keys k ≡ position_or_len (nat_eq k) keys
+pub number_is : (keys : List ℕ) (k : ℕ) → has keys k ≡ true → number_of keys k ≡ position_or_len (nat_eq k) keys
 number_is keys k h =
     let yes : nat_lt (position_or_len (nat_eq k) keys) (length keys) ≡ true = (let below = place_below keys k h in grind (arith, nat_tests)) in
     ap (λ b. unwrap_or (cond b (Some (position_or_len (nat_eq k) keys)) None) 0) yes
@@ -60,7 +60,7 @@ number_is keys k h =
 pub number_below : (keys : List ℕ) (k : ℕ) → has keys k ≡ true → number_of keys k < length keys
 number_below keys k h = subst (λ n. n < length keys) (sym (number_is keys k h)) (place_below keys k h)
 
-number_at : (keys : List ℕ) (k : ℕ) → has keys k ≡ true → get_or keys (number_of keys k) 0 ≡ k
+pub number_at : (keys : List ℕ) (k : ℕ) → has keys k ≡ true → get_or keys (number_of keys k) 0 ≡ k
 number_at keys k h =
     let same : nat_eq k (get_or keys (position_or_len (nat_eq k) keys) 0) ≡ true = passes_at_first (nat_eq k) keys 0 (place_below keys k h) in
     ap (λ n. get_or keys n 0) (number_is keys k h) ∙ grind (arith, nat_tests)

@@ -1,24 +1,27 @@
 -- What sections in the making stand for, call by call.
-use Rattle.std.proofs.Common.{◌≡◌, ◌∙◌, ℕ, suc, ◌+◌, ◌≤◌, ◌<◌, Bool, true, false, nat_eq, List, [], ◌∷◌, ◌++◌, length, map, take, slice_set, Option, Some, refl, sym, ap, subst, append_assoc, append-nil, length-append, arith, add-one}
+use Rattle.std.proofs.Common.{◌≡◌, ◌∙◌, ℕ, suc, ◌+◌, ◌≤◌, ◌<◌, Bool, true, false, nat_eq, List, [], ◌∷◌, ◌++◌, length, map, take, slice_set, Option, None, Some, refl, sym, ap, subst, append_assoc, append-nil, length-append, arith, add-one}
 use Rattle.std.specs.Prelude.{slice_get, if◌then◌else◌, IfSome, ◌||◌}
 use Rattle.std.specs.List.{filter, list_any}
 use Rattle.std.proofs.lemmas.List.{take-append-le, map-append, length-set}
 use Rattle.std.proofs.lemmas.List.Elements.{filter-append}
 use Rattle.std.proofs.lemmas.List.Folds.{list_any-append}
 use Rattle.std.proofs.lemmas.Bool.Decides.{nat_tests}
+use Rattle.object65.specs.declared.object.Origin.{Origin}
 use Rattle.language65.specs.Parts.{Content, Known, Filled}
-use Rattle.language65.specs.declared.contents.Segment.{Segment}
-use Rattle.language65.specs.Numbering.{object_with, once, section_keys, segments_asked}
+use Rattle.language65.specs.declared.contents.Part.TheVariants as part
+use Rattle.language65.specs.Numbering.{once, section_keys, segments_asked}
 use Rattle.sections65.specs.declared.entries.Entries.{Entries}
 use Rattle.sections65.specs.declared.entries.Entry.{Entry}
 use Rattle.sections65.specs.declared.entries.Entry.TheVariants.{Open, Put}
+use Rattle.sections65.specs.declared.files.Files.{Files}
 use Rattle.sections65.specs.declared.sections.Sections.{Sections}
 use Rattle.language65.specs.Contents.{asking, put}
-use Rattle.sections65.specs.Fed.{AreAlike, content_of, filled, is_open, object_over, open_count}
-use Rattle.sections65.specs.Standing.{Defers, IsAdded, IsSettled, Settles, Stands, Takes, contents_in, growing}
-use Rattle.sections65.proofs.Alikes.{alike_back, alike_front, alike_nothing, alike_same, alike_sym, alike_trans, bytes_alike, empty_alike, no_bytes_alike, no_room_alike, room_alike, same_object}
-use Rattle.sections65.proofs.Fillings.{count_closed, count_more, count_settled, filled_deferred, filled_more, filled_settled, none_counted, none_up_to, nothing_waits, settled_at}
+use Rattle.sections65.specs.Fed.{AreAlike, content_of, filled, is_open, open_count, stands_in}
+use Rattle.sections65.specs.Standing.{Begins, DefersIn, IsAdded, IsEntry, IsSettled, SettlesIn, StandIn, Stands, TakesIn, contents_in, growing, names_in}
+use Rattle.sections65.proofs.Alikes.{alike_back, alike_front, alike_nothing, alike_same, alike_sym, alike_trans, bytes_alike, empty_alike, no_bytes_alike, no_room_alike, room_alike}
+use Rattle.sections65.proofs.Fillings.{count_closed, count_more, count_settled, filled_deferred, filled_more, filled_settled, none_counted, none_up_to, settled_at}
 use Rattle.sections65.proofs.Keys.{once_append}
+use Rattle.sections65.proofs.Listings.{begins_long, filled_grown, standing_grown, standing_more, standing_settled}
 
 -- ---- What may grow.
 
@@ -29,9 +32,9 @@ nothing_grows : (g h : ℕ) → AreAlike (put g (Known []) ∷ put h (Filled 0) 
 nothing_grows g h = alike_trans (put g (Known []) ∷ put h (Filled 0) ∷ []) (put h (Filled 0) ∷ []) [] (alike_front (put g (Known []) ∷ []) [] (put h (Filled 0) ∷ []) (no_bytes_alike g)) (no_room_alike h)
 
 -- where nothing grows there are the entries alone
-pub closed_alike : (ws : List Content) (t : Entries) → t.bytes ≡ [] → t.room ≡ 0 → AreAlike (contents_in ws t) (filled ws t.done.items)
-closed_alike ws t no_bytes no_room =
-    alike_nothing (filled ws t.done.items) (growing t)
+pub closed_alike : (files : List (List ℕ)) (ws : List Content) (t : Entries) → t.bytes ≡ [] → t.room ≡ 0 → AreAlike (contents_in files ws t) (filled files ws t.done.items)
+closed_alike files ws t no_bytes no_room =
+    alike_nothing (filled files ws t.done.items) (growing t)
     (subst (λ (n : ℕ). AreAlike (put t.segment (Known t.bytes) ∷ put t.segment (Filled n) ∷ []) []) (sym no_room)
     (subst (λ (bytes : List ℕ). AreAlike (put t.segment (Known bytes) ∷ put t.segment (Filled 0) ∷ []) []) (sym no_bytes) (nothing_grows t.segment t.segment)))
 
@@ -48,53 +51,60 @@ settled_more t u more done place h =
       within = let same : u.settled ≡ t.settled = place in omega (arith, long, within, same);
     }
 
-pub takes_nothing : (t : Entries) → Takes t t []
-takes_nothing t = record {
-  alike = λ ws. rw (append-nil (contents_in ws t)) (alike_same (contents_in ws t));
+pub takes_nothing : (files : List (List ℕ)) (t : Entries) → TakesIn files t t []
+takes_nothing files t = record {
+  alike = λ ws. rw (append-nil (contents_in files ws t)) (alike_same (contents_in files ws t));
   waits = refl;
   settled = λ h. h;
+  standing = λ h. h;
 }
 
-pub takes_both : (t u v : Entries) (cs ds : List Content) → Takes t u cs → Takes u v ds → Takes t v (cs ++ ds)
-takes_both t u v cs ds h k = record {
+pub takes_both : (files : List (List ℕ)) (t u v : Entries) (cs ds : List Content) → TakesIn files t u cs → TakesIn files u v ds → TakesIn files t v (cs ++ ds)
+takes_both files t u v cs ds h k = record {
   alike = λ ws.
-      subst (λ (es : List Content). AreAlike es (contents_in ws v)) (append_assoc (contents_in ws t) cs ds)
-      (alike_trans ((contents_in ws t ++ cs) ++ ds) (contents_in ws u ++ ds) (contents_in ws v) (alike_front (contents_in ws t ++ cs) (contents_in ws u) ds (h.alike ws)) (k.alike ws));
+      subst (λ (es : List Content). AreAlike es (contents_in files ws v)) (append_assoc (contents_in files ws t) cs ds)
+      (alike_trans ((contents_in files ws t ++ cs) ++ ds) (contents_in files ws u ++ ds) (contents_in files ws v) (alike_front (contents_in files ws t ++ cs) (contents_in files ws u) ds (h.alike ws)) (k.alike ws));
   waits = k.waits ∙ h.waits;
   settled = λ s. k.settled (h.settled s);
+  standing = λ s. k.standing (h.standing s);
 }
 
 -- nothing more, but what grows is written otherwise
-pub takes_same : (t u : Entries) → u.done.items ≡ t.done.items → u.settled ≡ t.settled → AreAlike (growing t) (growing u) → Takes t u []
-takes_same t u done place same = record {
+pub takes_same : (files : List (List ℕ)) (t u : Entries) → u.done.items ≡ t.done.items → u.settled ≡ t.settled → AreAlike (growing t) (growing u) → TakesIn files t u []
+takes_same files t u done place same = record {
   alike = λ ws.
-      rw (append-nil (contents_in ws t))
-      (subst (λ (es : List Entry). AreAlike (contents_in ws t) (filled ws es ++ growing u)) (sym done) (alike_back (filled ws t.done.items) (growing t) (growing u) same));
+      rw (append-nil (contents_in files ws t))
+      (subst (λ (es : List Entry). AreAlike (contents_in files ws t) (filled files ws es ++ growing u)) (sym done) (alike_back (filled files ws t.done.items) (growing t) (growing u) same));
   waits = ap open_count done;
   settled = settled_more t u [] (done ∙ sym (append-nil t.done.items)) place;
+  standing = λ s. subst (StandIn (length files)) (sym done) s;
 }
 
 -- what grew is an entry
-pub takes_closed : (t u : Entries) (e : Entry) → is_open e ≡ false → u.done.items ≡ t.done.items ++ e ∷ [] → u.settled ≡ t.settled → AreAlike (growing t) (content_of e ∷ growing u) → Takes t u []
-takes_closed t u e closed done place same = record {
+pub takes_closed : (files : List (List ℕ)) (t u : Entries) (e : Entry) → is_open e ≡ false → stands_in (length files) e ≡ true → u.done.items ≡ t.done.items ++ e ∷ [] → u.settled ≡ t.settled → AreAlike (growing t) (content_of files e ∷ growing u) → TakesIn files t u []
+takes_closed files t u e closed standing done place same = record {
   alike = λ ws.
-      rw (append-nil (contents_in ws t))
-      (subst (λ (cs : List Content). AreAlike (contents_in ws t) cs) (sym (split ws))
-      (alike_back (filled ws t.done.items) (growing t) (content_of e ∷ growing u) same));
+      rw (append-nil (contents_in files ws t))
+      (subst (λ (cs : List Content). AreAlike (contents_in files ws t) cs) (sym (split ws))
+      (alike_back (filled files ws t.done.items) (growing t) (content_of files e ∷ growing u) same));
   waits = ap open_count done ∙ count_closed t.done.items e closed;
   settled = settled_more t u (e ∷ []) done place;
+  standing = λ s. subst (StandIn (length files)) (sym done) (standing_more (length files) t.done.items e standing s);
 }
   where
-    split : (ws : List Content) → contents_in ws u ≡ filled ws t.done.items ++ (content_of e ∷ growing u)
+    split : (ws : List Content) → contents_in files ws u ≡ filled files ws t.done.items ++ (content_of files e ∷ growing u)
     split ws =
-        ap (λ es. filled ws es ++ growing u) done
-        ∙ ap (λ cs. cs ++ growing u) (filled_more ws t.done.items e closed)
-        ∙ append_assoc (filled ws t.done.items) (content_of e ∷ []) (growing u)
+        ap (λ es. filled files ws es ++ growing u) done
+        ∙ ap (λ cs. cs ++ growing u) (filled_more files ws t.done.items e closed)
+        ∙ append_assoc (filled files ws t.done.items) (content_of files e ∷ []) (growing u)
+
+abbrev nowhere : Origin
+nowhere = record { file = None; line = 0 }
 
 -- bytes that grew are an entry
-pub bytes_closed : (t held u : Entries) (e : Entry) (bytes : List ℕ) → e ≡ Put t.segment (Known bytes) → bytes ≡ t.bytes → held.bytes ≡ [] → held.done.items ≡ t.done.items → held.settled ≡ t.settled → held.segment ≡ t.segment → held.room ≡ t.room → IsAdded held u e → Takes t u []
-bytes_closed t held u e bytes is same none done place segment room h =
-    takes_closed t u (Put t.segment (Known bytes)) refl (h.done ∙ ap (λ es. es ++ e ∷ []) done ∙ ap (λ x. t.done.items ++ x ∷ []) is) (h.settled ∙ place)
+pub bytes_closed : (files : List (List ℕ)) (t held u : Entries) (e : Entry) (bytes : List ℕ) → e ≡ Put t.segment nowhere (part.Known bytes) → bytes ≡ t.bytes → held.bytes ≡ [] → held.done.items ≡ t.done.items → held.settled ≡ t.settled → held.segment ≡ t.segment → held.room ≡ t.room → IsAdded held u e → TakesIn files t u []
+bytes_closed files t held u e bytes is same none done place segment room h =
+    takes_closed files t u (Put t.segment nowhere (part.Known bytes)) refl refl (h.done ∙ ap (λ es. es ++ e ∷ []) done ∙ ap (λ x. t.done.items ++ x ∷ []) is) (h.settled ∙ place)
     (subst (λ (cs : List Content). AreAlike (growing t) (put t.segment (Known bytes) ∷ cs)) (sym (h.growing ∙ left)) ended)
   where
     g : ℕ
@@ -113,9 +123,9 @@ bytes_closed t held u e bytes is same none done place segment room h =
         (alike_back (put g (Known t.bytes) ∷ []) (put g (Filled t.room) ∷ []) (growth g [] t.room) behind)
 
 -- room that grew is an entry
-pub room_closed : (t held u : Entries) (e : Entry) → t.bytes ≡ [] → e ≡ Put t.segment (Filled t.room) → held.bytes ≡ t.bytes → held.done.items ≡ t.done.items → held.settled ≡ t.settled → held.segment ≡ t.segment → held.room ≡ 0 → IsAdded held u e → Takes t u []
-room_closed t held u e none is same done place segment no_room h =
-    takes_closed t u (Put t.segment (Filled t.room)) refl (h.done ∙ ap (λ es. es ++ e ∷ []) done ∙ ap (λ x. t.done.items ++ x ∷ []) is) (h.settled ∙ place)
+pub room_closed : (files : List (List ℕ)) (t held u : Entries) (e : Entry) → t.bytes ≡ [] → e ≡ Put t.segment nowhere (part.Filled t.room) → held.bytes ≡ t.bytes → held.done.items ≡ t.done.items → held.settled ≡ t.settled → held.segment ≡ t.segment → held.room ≡ 0 → IsAdded held u e → TakesIn files t u []
+room_closed files t held u e none is same done place segment no_room h =
+    takes_closed files t u (Put t.segment nowhere (part.Filled t.room)) refl refl (h.done ∙ ap (λ es. es ++ e ∷ []) done ∙ ap (λ x. t.done.items ++ x ∷ []) is) (h.settled ∙ place)
     (subst (λ (cs : List Content). AreAlike (growing t) (put t.segment (Filled t.room) ∷ cs)) (sym (h.growing ∙ left)) ended)
   where
     g : ℕ
@@ -137,14 +147,15 @@ room_closed t held u e none is same done place segment no_room h =
         (alike_sym (room ∷ growth g [] 0) (room ∷ []) (alike_nothing (room ∷ []) (growth g [] 0) (nothing_grows g g))))
 
 -- bytes were added to those that grow
-takes_bytes : (t u : Entries) (bytes : List ℕ) → t.room ≡ 0 → u.done.items ≡ t.done.items → u.settled ≡ t.settled → u.segment ≡ t.segment → u.bytes ≡ t.bytes ++ bytes → u.room ≡ t.room → Takes t u (put t.segment (Known bytes) ∷ [])
-takes_bytes t u bytes no_room done place segment more room = record {
+takes_bytes : (files : List (List ℕ)) (t u : Entries) (bytes : List ℕ) → t.room ≡ 0 → u.done.items ≡ t.done.items → u.settled ≡ t.settled → u.segment ≡ t.segment → u.bytes ≡ t.bytes ++ bytes → u.room ≡ t.room → TakesIn files t u (put t.segment (Known bytes) ∷ [])
+takes_bytes files t u bytes no_room done place segment more room = record {
   alike = λ ws.
-      subst (λ (cs : List Content). AreAlike cs (contents_in ws u)) (sym (append_assoc (filled ws t.done.items) (growing t) (added ∷ [])))
-      (subst (λ (es : List Entry). AreAlike (filled ws t.done.items ++ (growing t ++ added ∷ [])) (filled ws es ++ growing u)) (sym done)
-      (alike_back (filled ws t.done.items) (growing t ++ added ∷ []) (growing u) grown));
+      subst (λ (cs : List Content). AreAlike cs (contents_in files ws u)) (sym (append_assoc (filled files ws t.done.items) (growing t) (added ∷ [])))
+      (subst (λ (es : List Entry). AreAlike (filled files ws t.done.items ++ (growing t ++ added ∷ [])) (filled files ws es ++ growing u)) (sym done)
+      (alike_back (filled files ws t.done.items) (growing t ++ added ∷ []) (growing u) grown));
   waits = ap open_count done;
   settled = settled_more t u [] (done ∙ sym (append-nil t.done.items)) place;
+  standing = λ s. subst (StandIn (length files)) (sym done) s;
 }
   where
     g : ℕ
@@ -171,14 +182,15 @@ takes_bytes t u bytes no_room done place segment more room = record {
     grown = subst (λ (cs : List Content). AreAlike (cs ++ added ∷ []) (growing u)) left_is (subst (λ (cs : List Content). AreAlike (growth g t.bytes 0 ++ added ∷ []) cs) right_is joined)
 
 -- room was added to what grows
-takes_room : (t u : Entries) (count : ℕ) → u.done.items ≡ t.done.items → u.settled ≡ t.settled → u.segment ≡ t.segment → u.bytes ≡ t.bytes → u.room ≡ t.room + count → Takes t u (put t.segment (Filled count) ∷ [])
-takes_room t u count done place segment bytes more = record {
+takes_room : (files : List (List ℕ)) (t u : Entries) (count : ℕ) → u.done.items ≡ t.done.items → u.settled ≡ t.settled → u.segment ≡ t.segment → u.bytes ≡ t.bytes → u.room ≡ t.room + count → TakesIn files t u (put t.segment (Filled count) ∷ [])
+takes_room files t u count done place segment bytes more = record {
   alike = λ ws.
-      subst (λ (cs : List Content). AreAlike cs (contents_in ws u)) (sym (append_assoc (filled ws t.done.items) (growing t) (added ∷ [])))
-      (subst (λ (es : List Entry). AreAlike (filled ws t.done.items ++ (growing t ++ added ∷ [])) (filled ws es ++ growing u)) (sym done)
-      (alike_back (filled ws t.done.items) (growing t ++ added ∷ []) (growing u) grown));
+      subst (λ (cs : List Content). AreAlike cs (contents_in files ws u)) (sym (append_assoc (filled files ws t.done.items) (growing t) (added ∷ [])))
+      (subst (λ (es : List Entry). AreAlike (filled files ws t.done.items ++ (growing t ++ added ∷ [])) (filled files ws es ++ growing u)) (sym done)
+      (alike_back (filled files ws t.done.items) (growing t ++ added ∷ []) (growing u) grown));
   waits = ap open_count done;
   settled = settled_more t u [] (done ∙ sym (append-nil t.done.items)) place;
+  standing = λ s. subst (StandIn (length files)) (sym done) s;
 }
   where
     g : ℕ
@@ -197,20 +209,20 @@ takes_room t u count done place segment bytes more = record {
     grown = subst (λ (cs : List Content). AreAlike (growing t ++ added ∷ []) cs) right_is joined
 
 -- the same behind what made room for it
-pub added_bytes : (t u v : Entries) (g : ℕ) (bytes : List ℕ) → Takes t u [] → u.segment ≡ g → u.room ≡ 0 → v.done.items ≡ u.done.items → v.settled ≡ u.settled → v.segment ≡ u.segment → v.bytes ≡ u.bytes ++ bytes → v.room ≡ u.room → Takes t v (put g (Known bytes) ∷ [])
-added_bytes t u v g bytes h is no_room done place segment more room =
-    takes_both t u v [] (put g (Known bytes) ∷ []) h
-    (subst (λ (k : ℕ). Takes u v (put k (Known bytes) ∷ [])) is (takes_bytes u v bytes no_room done place segment more room))
+pub added_bytes : (files : List (List ℕ)) (t u v : Entries) (g : ℕ) (bytes : List ℕ) → TakesIn files t u [] → u.segment ≡ g → u.room ≡ 0 → v.done.items ≡ u.done.items → v.settled ≡ u.settled → v.segment ≡ u.segment → v.bytes ≡ u.bytes ++ bytes → v.room ≡ u.room → TakesIn files t v (put g (Known bytes) ∷ [])
+added_bytes files t u v g bytes h is no_room done place segment more room =
+    takes_both files t u v [] (put g (Known bytes) ∷ []) h
+    (subst (λ (k : ℕ). TakesIn files u v (put k (Known bytes) ∷ [])) is (takes_bytes files u v bytes no_room done place segment more room))
 
-pub added_room : (t u v : Entries) (g count : ℕ) → Takes t u [] → u.segment ≡ g → v.done.items ≡ u.done.items → v.settled ≡ u.settled → v.segment ≡ u.segment → v.bytes ≡ u.bytes → v.room ≡ u.room + count → Takes t v (put g (Filled count) ∷ [])
-added_room t u v g count h is done place segment bytes more =
-    takes_both t u v [] (put g (Filled count) ∷ []) h
-    (subst (λ (k : ℕ). Takes u v (put k (Filled count) ∷ [])) is (takes_room u v count done place segment bytes more))
+pub added_room : (files : List (List ℕ)) (t u v : Entries) (g count : ℕ) → TakesIn files t u [] → u.segment ≡ g → v.done.items ≡ u.done.items → v.settled ≡ u.settled → v.segment ≡ u.segment → v.bytes ≡ u.bytes → v.room ≡ u.room + count → TakesIn files t v (put g (Filled count) ∷ [])
+added_room files t u v g count h is done place segment bytes more =
+    takes_both files t u v [] (put g (Filled count) ∷ []) h
+    (subst (λ (k : ℕ). TakesIn files u v (put k (Filled count) ∷ [])) is (takes_room files u v count done place segment bytes more))
 
 -- what grows next is of another segment
-pub takes_moved : (t u v : Entries) → Takes t u [] → u.bytes ≡ [] → u.room ≡ 0 → v.bytes ≡ u.bytes → v.room ≡ u.room → v.done.items ≡ u.done.items → v.settled ≡ u.settled → Takes t v []
-takes_moved t u v h no_bytes no_room bytes room done place =
-    takes_both t u v [] [] h (takes_same u v done place (alike_trans (growing u) [] (growing v) (gone u no_bytes no_room) (alike_sym (growing v) [] (gone v (bytes ∙ no_bytes) (room ∙ no_room)))))
+pub takes_moved : (files : List (List ℕ)) (t u v : Entries) → TakesIn files t u [] → u.bytes ≡ [] → u.room ≡ 0 → v.bytes ≡ u.bytes → v.room ≡ u.room → v.done.items ≡ u.done.items → v.settled ≡ u.settled → TakesIn files t v []
+takes_moved files t u v h no_bytes no_room bytes room done place =
+    takes_both files t u v [] [] h (takes_same files u v done place (alike_trans (growing u) [] (growing v) (gone u no_bytes no_room) (alike_sym (growing v) [] (gone v (bytes ∙ no_bytes) (room ∙ no_room)))))
   where
     gone : (x : Entries) → x.bytes ≡ [] → x.room ≡ 0 → AreAlike (growing x) []
     gone x none empty =
@@ -218,42 +230,44 @@ takes_moved t u v h no_bytes no_room bytes room done place =
         subst (λ (cs : List Content). AreAlike cs []) (sym forth) (nothing_grows x.segment x.segment)
 
 -- an entry behind those that no longer grow
-pub takes_pushed : (t u : Entries) (e : Entry) → is_open e ≡ false → t.bytes ≡ [] → t.room ≡ 0 → IsAdded t u e → Takes t u (content_of e ∷ [])
-takes_pushed t u e closed no_bytes no_room h = record {
+pub takes_pushed : (files : List (List ℕ)) (t u : Entries) (e : Entry) → is_open e ≡ false → stands_in (length files) e ≡ true → t.bytes ≡ [] → t.room ≡ 0 → IsAdded t u e → TakesIn files t u (content_of files e ∷ [])
+takes_pushed files t u e closed standing no_bytes no_room h = record {
   alike = λ ws.
-      alike_trans (contents_in ws t ++ content_of e ∷ []) (filled ws t.done.items ++ content_of e ∷ []) (contents_in ws u)
-      (alike_front (contents_in ws t) (filled ws t.done.items) (content_of e ∷ []) (closed_alike ws t no_bytes no_room))
-      (subst (λ (cs : List Content). AreAlike cs (contents_in ws u)) (ap (filled ws) h.done ∙ filled_more ws t.done.items e closed)
-      (alike_sym (contents_in ws u) (filled ws u.done.items) (closed_alike ws u (h.bytes ∙ no_bytes) (h.room ∙ no_room))));
+      alike_trans (contents_in files ws t ++ content_of files e ∷ []) (filled files ws t.done.items ++ content_of files e ∷ []) (contents_in files ws u)
+      (alike_front (contents_in files ws t) (filled files ws t.done.items) (content_of files e ∷ []) (closed_alike files ws t no_bytes no_room))
+      (subst (λ (cs : List Content). AreAlike cs (contents_in files ws u)) (ap (filled files ws) h.done ∙ filled_more files ws t.done.items e closed)
+      (alike_sym (contents_in files ws u) (filled files ws u.done.items) (closed_alike files ws u (h.bytes ∙ no_bytes) (h.room ∙ no_room))));
   waits = ap open_count h.done ∙ count_closed t.done.items e closed;
   settled = settled_more t u (e ∷ []) h.done h.settled;
+  standing = λ s. subst (StandIn (length files)) (sym h.done) (standing_more (length files) t.done.items e standing s);
 }
 
 -- where all is closed there are the entries alone
-pub closed_entries : (t u : Entries) (ws : List Content) → Takes t u [] → u.bytes ≡ [] → u.room ≡ 0 → AreAlike (contents_in ws t) (filled ws u.done.items)
-closed_entries t u ws same no_bytes no_room =
-    alike_trans (contents_in ws t) (contents_in ws u) (filled ws u.done.items)
-    (subst (λ (cs : List Content). AreAlike cs (contents_in ws u)) (append-nil (contents_in ws t)) (same.alike ws))
-    (closed_alike ws u no_bytes no_room)
+pub closed_entries : (files : List (List ℕ)) (t u : Entries) (ws : List Content) → TakesIn files t u [] → u.bytes ≡ [] → u.room ≡ 0 → AreAlike (contents_in files ws t) (filled files ws u.done.items)
+closed_entries files t u ws same no_bytes no_room =
+    alike_trans (contents_in files ws t) (contents_in files ws u) (filled files ws u.done.items)
+    (subst (λ (cs : List Content). AreAlike cs (contents_in files ws u)) (append-nil (contents_in files ws t)) (same.alike ws))
+    (closed_alike files ws u no_bytes no_room)
 
 -- ---- Entries of which one more waits, or one is settled.
 
-pub defers_more : (t u v : Entries) → Takes t u [] → u.bytes ≡ [] → u.room ≡ 0 → IsAdded u v Open → Defers t v
-defers_more t u v same no_bytes no_room h = record {
+pub defers_more : (files : List (List ℕ)) (t u v : Entries) → TakesIn files t u [] → u.bytes ≡ [] → u.room ≡ 0 → IsAdded u v Open → DefersIn files t v
+defers_more files t u v same no_bytes no_room h = record {
   alike = λ ws w count.
-      alike_trans (contents_in ws t ++ w ∷ []) (filled ws u.done.items ++ w ∷ []) (contents_in (ws ++ w ∷ []) v)
-      (alike_front (contents_in ws t) (filled ws u.done.items) (w ∷ []) (closed_entries t u ws same no_bytes no_room))
-      (subst (λ (cs : List Content). AreAlike cs (contents_in (ws ++ w ∷ []) v)) (ap (filled (ws ++ w ∷ [])) h.done ∙ filled_deferred ws u.done.items w (same.waits ∙ count))
-      (alike_sym (contents_in (ws ++ w ∷ []) v) (filled (ws ++ w ∷ []) v.done.items) (closed_alike (ws ++ w ∷ []) v (h.bytes ∙ no_bytes) (h.room ∙ no_room))));
+      alike_trans (contents_in files ws t ++ w ∷ []) (filled files ws u.done.items ++ w ∷ []) (contents_in files (ws ++ w ∷ []) v)
+      (alike_front (contents_in files ws t) (filled files ws u.done.items) (w ∷ []) (closed_entries files t u ws same no_bytes no_room))
+      (subst (λ (cs : List Content). AreAlike cs (contents_in files (ws ++ w ∷ []) v)) (ap (filled files (ws ++ w ∷ [])) h.done ∙ filled_deferred files ws u.done.items w (same.waits ∙ count))
+      (alike_sym (contents_in files (ws ++ w ∷ []) v) (filled files (ws ++ w ∷ []) v.done.items) (closed_alike files (ws ++ w ∷ []) v (h.bytes ∙ no_bytes) (h.room ∙ no_room))));
   waits = ap open_count h.done ∙ count_more u.done.items (Open ∷ []) ∙ ap (λ n. n + 1) same.waits;
   settled = λ s. settled_more u v (Open ∷ []) h.done h.settled (same.settled s);
+  standing = λ s. subst (StandIn (length files)) (sym h.done) (standing_more (length files) u.done.items Open refl (same.standing s));
 }
 
-pub settles_at : (t u : Entries) (e : Entry) (i : ℕ) → is_open e ≡ false → i < length t.done.items → slice_get t.done.items i ≡ Some Open → list_any is_open (take i t.done.items) ≡ false → u.done.items ≡ slice_set t.done.items i e → growing u ≡ growing t → u.settled ≡ i + 1 → Settles t u (content_of e)
-settles_at t u e i closed lt is none done same place = record {
+pub settles_at : (files : List (List ℕ)) (t u : Entries) (e : Entry) (i : ℕ) → is_open e ≡ false → stands_in (length files) e ≡ true → i < length t.done.items → slice_get t.done.items i ≡ Some Open → list_any is_open (take i t.done.items) ≡ false → u.done.items ≡ slice_set t.done.items i e → growing u ≡ growing t → u.settled ≡ i + 1 → SettlesIn files t u (content_of files e)
+settles_at files t u e i closed standing lt is none done same place = record {
   alike = λ ws some.
-      (λ n. filled ws ((done ∙ settled_at e t.done.items i is none) n) ++ same n)
-      ∙ ap (λ cs. cs ++ growing t) (filled_settled e ws t.done.items closed some);
+      (λ n. filled files ws ((done ∙ settled_at e t.done.items i is none) n) ++ same n)
+      ∙ ap (λ cs. cs ++ growing t) (filled_settled files e ws t.done.items closed some);
   waits = λ some. ap (λ es. 1 + open_count es) (done ∙ settled_at e t.done.items i is none) ∙ count_settled e t.done.items closed some;
   settled = record {
     none =
@@ -264,24 +278,26 @@ settles_at t u e i closed lt is none done same place = record {
         let at : u.settled ≡ i + 1 = place in
         omega (arith, long, at, lt);
   };
+  standing = λ s. subst (StandIn (length files)) (sym (done ∙ settled_at e t.done.items i is none)) (standing_settled (length files) e t.done.items standing s);
 }
 
 -- the same of what was looked through
-pub settles_seen : (t u : Entries) (e : Entry) (i : ℕ) (es : List Entry) → es ≡ t.done.items → is_open e ≡ false → i < length es → slice_get es i ≡ Some Open → list_any is_open (take i es) ≡ false → u.done.items ≡ slice_set t.done.items i e → growing u ≡ growing t → u.settled ≡ i + 1 → Settles t u (content_of e)
-settles_seen t u e i es all closed lt is none done same place =
-    settles_at t u e i closed
+pub settles_seen : (files : List (List ℕ)) (t u : Entries) (e : Entry) (i : ℕ) (es : List Entry) → es ≡ t.done.items → is_open e ≡ false → stands_in (length files) e ≡ true → i < length es → slice_get es i ≡ Some Open → list_any is_open (take i es) ≡ false → u.done.items ≡ slice_set t.done.items i e → growing u ≡ growing t → u.settled ≡ i + 1 → SettlesIn files t u (content_of files e)
+settles_seen files t u e i es all closed standing lt is none done same place =
+    settles_at files t u e i closed standing
     (subst (λ (xs : List Entry). i < length xs) all lt)
     (subst (λ (xs : List Entry). slice_get xs i ≡ Some Open) all is)
     (subst (λ (xs : List Entry). list_any is_open (take i xs) ≡ false) all none)
     done same place
 
-pub settles_none : (t : Entries) (c : Content) → list_any is_open t.done.items ≡ false → IsSettled t → Settles t t c
-settles_none t c none settled =
+pub settles_none : (files : List (List ℕ)) (t : Entries) (c : Content) → list_any is_open t.done.items ≡ false → IsSettled t → SettlesIn files t t c
+settles_none files t c none settled =
     let empty : open_count t.done.items ≡ 0 = none_counted t.done.items none in
     record {
       alike = λ ws some. absurd (omega (arith, empty, some));
       waits = λ some. absurd (omega (arith, empty, some));
       settled = settled;
+      standing = λ s. s;
     }
 
 -- ---- Sections in the making.
@@ -304,41 +320,71 @@ same_latest : (s t : Sections) → t.asked.keys ≡ s.asked.keys → t.latest �
 same_latest s t keys latest h =
     subst (λ (o : Option ℕ). HasLatest o t.asked.keys) (sym latest) (subst (λ (ks : List ℕ). HasLatest s.latest ks) (sym keys) h)
 
-pub stands_taken : (s t : Sections) (c : Content) (cs ws : List Content) → c.asks ≡ false → t.asked.keys ≡ s.asked.keys → t.latest ≡ s.latest → Takes s.entries t.entries (c ∷ []) → Stands cs ws s → Stands (cs ++ c ∷ []) ws t
-stands_taken s t c cs ws quiet keys latest taken h = record {
+-- where there are more files, entries have the contents that they had
+contents_grown : (old new : List (List ℕ)) (ws : List Content) (t : Entries) → Begins old new → StandIn (length old) t.done.items → contents_in old ws t ≡ contents_in new ws t
+contents_grown old new ws t begins standing =
+    let forth : contents_in new ws t ≡ contents_in old ws t =
+    ap (λ files. contents_in files ws t) begins.1 ∙ ap (λ cs. cs ++ growing t) (filled_grown old begins.0 ws t.done.items standing) in
+    sym forth
+
+alike_grown : (s : Sections) (new : List (List ℕ)) (cs ws : List Content) → Begins (names_in s.files) new → Stands cs ws s → AreAlike cs (contents_in new ws s.entries)
+alike_grown s new cs ws begins h = subst (λ (ds : List Content). AreAlike cs ds) (contents_grown (names_in s.files) new ws s.entries begins h.standing) h.alike
+
+stands_in_more : (s : Sections) (new : List (List ℕ)) (cs ws : List Content) → Begins (names_in s.files) new → Stands cs ws s → StandIn (length new) s.entries.done.items
+stands_in_more s new cs ws begins h = standing_grown (length (names_in s.files)) (length new) s.entries.done.items (begins_long (names_in s.files) new begins) h.standing
+
+pub begins_same : (names : List (List ℕ)) → Begins names names
+begins_same names = ([], sym (append-nil names))
+
+pub stands_taken : (s t : Sections) (c : Content) (cs ws : List Content) → c.asks ≡ false → t.asked.keys ≡ s.asked.keys → t.latest ≡ s.latest → Begins (names_in s.files) (names_in t.files) → TakesIn (names_in t.files) s.entries t.entries (c ∷ []) → Stands cs ws s → Stands (cs ++ c ∷ []) ws t
+stands_taken s t c cs ws quiet keys latest begins taken h = record {
   asked = asked_same cs c quiet ∙ h.asked ∙ sym keys;
   latest = same_latest s t keys latest h.latest;
   alike =
-      alike_trans (cs ++ c ∷ []) (contents_in ws s.entries ++ c ∷ []) (contents_in ws t.entries)
-      (alike_front cs (contents_in ws s.entries) (c ∷ []) h.alike) (taken.alike ws);
+      let files = names_in t.files in
+      alike_trans (cs ++ c ∷ []) (contents_in files ws s.entries ++ c ∷ []) (contents_in files ws t.entries)
+      (alike_front cs (contents_in files ws s.entries) (c ∷ []) (alike_grown s files cs ws begins h)) (taken.alike ws);
   waits = taken.waits ∙ h.waits;
   settled = taken.settled h.settled;
+  standing = taken.standing (stands_in_more s (names_in t.files) cs ws begins h);
 }
 
-pub stands_deferred : (s t : Sections) (w : Content) (cs ws : List Content) → w.asks ≡ false → t.asked.keys ≡ s.asked.keys → t.latest ≡ s.latest → Defers s.entries t.entries → Stands cs ws s → Stands (cs ++ w ∷ []) (ws ++ w ∷ []) t
-stands_deferred s t w cs ws quiet keys latest deferred h = record {
+pub stands_deferred : (s t : Sections) (w : Content) (cs ws : List Content) → w.asks ≡ false → t.asked.keys ≡ s.asked.keys → t.latest ≡ s.latest → Begins (names_in s.files) (names_in t.files) → DefersIn (names_in t.files) s.entries t.entries → Stands cs ws s → Stands (cs ++ w ∷ []) (ws ++ w ∷ []) t
+stands_deferred s t w cs ws quiet keys latest begins deferred h = record {
   asked = asked_same cs w quiet ∙ h.asked ∙ sym keys;
   latest = same_latest s t keys latest h.latest;
   alike =
-      alike_trans (cs ++ w ∷ []) (contents_in ws s.entries ++ w ∷ []) (contents_in (ws ++ w ∷ []) t.entries)
-      (alike_front cs (contents_in ws s.entries) (w ∷ []) h.alike) (deferred.alike ws w h.waits);
+      let files = names_in t.files in
+      alike_trans (cs ++ w ∷ []) (contents_in files ws s.entries ++ w ∷ []) (contents_in files (ws ++ w ∷ []) t.entries)
+      (alike_front cs (contents_in files ws s.entries) (w ∷ []) (alike_grown s files cs ws begins h)) (deferred.alike ws w h.waits);
   waits = deferred.waits ∙ ap (λ n. n + 1) h.waits ∙ sym (length-append ws (w ∷ []));
   settled = deferred.settled h.settled;
+  standing = deferred.standing (stands_in_more s (names_in t.files) cs ws begins h);
 }
 
-pub stands_settled : (s t : Sections) (c : Content) (cs ws : List Content) → t.asked.keys ≡ s.asked.keys → t.latest ≡ s.latest → (IsSettled s.entries → Settles s.entries t.entries c) → Stands cs (c ∷ ws) s → Stands cs ws t
-stands_settled s t c cs ws keys latest settles h =
-    let done : Settles s.entries t.entries c = settles h.settled in
+pub stands_settled : (s t : Sections) (c : Content) (cs ws : List Content) → t.asked.keys ≡ s.asked.keys → t.latest ≡ s.latest → Begins (names_in s.files) (names_in t.files) → (IsSettled s.entries → SettlesIn (names_in t.files) s.entries t.entries c) → Stands cs (c ∷ ws) s → Stands cs ws t
+stands_settled s t c cs ws keys latest begins settles h =
+    let done : SettlesIn (names_in t.files) s.entries t.entries c = settles h.settled in
     let count : open_count s.entries.done.items ≡ length (c ∷ ws) = h.waits in
     let some : 0 < open_count s.entries.done.items = omega (arith, count) in
     let less : 1 + open_count t.entries.done.items ≡ open_count s.entries.done.items = done.waits some in
     record {
       asked = h.asked ∙ sym keys;
       latest = same_latest s t keys latest h.latest;
-      alike = subst (λ (ds : List Content). AreAlike cs ds) (sym (done.alike ws some)) h.alike;
+      alike = subst (λ (ds : List Content). AreAlike cs ds) (sym (done.alike ws some)) (alike_grown s (names_in t.files) cs (c ∷ ws) begins h);
       waits = omega (arith, count, less);
       settled = done.settled;
+      standing = done.standing (stands_in_more s (names_in t.files) cs (c ∷ ws) begins h);
     }
+
+-- an entry that has this content
+pub stands_put : (s t : Sections) (e : Entry) (c : Content) (cs ws : List Content) → c.asks ≡ false → t.asked.keys ≡ s.asked.keys → t.latest ≡ s.latest → Begins (names_in s.files) (names_in t.files) → IsEntry (names_in t.files) e c → TakesIn (names_in t.files) s.entries t.entries (content_of (names_in t.files) e ∷ []) → Stands cs ws s → Stands (cs ++ c ∷ []) ws t
+stands_put s t e c cs ws quiet keys latest begins is taken h =
+    stands_taken s t c cs ws quiet keys latest begins (subst (λ (d : Content). TakesIn (names_in t.files) s.entries t.entries (d ∷ [])) is.content taken) h
+
+pub stands_given : (s t : Sections) (e : Entry) (c : Content) (cs ws : List Content) → t.asked.keys ≡ s.asked.keys → t.latest ≡ s.latest → Begins (names_in s.files) (names_in t.files) → IsEntry (names_in t.files) e c → (IsSettled s.entries → SettlesIn (names_in t.files) s.entries t.entries (content_of (names_in t.files) e)) → Stands cs (c ∷ ws) s → Stands cs ws t
+stands_given s t e c cs ws keys latest begins is settles h =
+    stands_settled s t c cs ws keys latest begins (λ settled. subst (λ (d : Content). SettlesIn (names_in t.files) s.entries t.entries d) is.content (settles settled)) h
 
 has_last : (ks : List ℕ) (g : ℕ) → list_any (nat_eq g) (once ks (g ∷ [])) ≡ true
 has_last ks g = by (list_any (nat_eq g) ks) refl
@@ -347,26 +393,23 @@ has_last ks g = by (list_any (nat_eq g) ks) refl
     by true e = e
     by false e = list_any-append (nat_eq g) ks (g ∷ []) ∙ (let same : nat_eq g g ≡ true = grind (arith, nat_tests) in λ n. e n || (same n || false))
 
-pub stands_asked : (s t : Sections) (g : ℕ) (cs ws : List Content) → t.asked.keys ≡ once s.asked.keys (g ∷ []) → t.latest ≡ Some g → t.entries ≡ s.entries → Stands cs ws s → Stands (cs ++ asking g ∷ []) ws t
-stands_asked s t g cs ws keys latest entries h = record {
+pub stands_asked : (s t : Sections) (g : ℕ) (cs ws : List Content) → t.asked.keys ≡ once s.asked.keys (g ∷ []) → t.latest ≡ Some g → t.entries ≡ s.entries → t.files ≡ s.files → Stands cs ws s → Stands (cs ++ asking g ∷ []) ws t
+stands_asked s t g cs ws keys latest entries files h = record {
   asked = asked_more cs (asking g ∷ []) ∙ ap (λ ks. once ks (g ∷ [])) h.asked ∙ sym keys;
   latest = subst (λ (o : Option ℕ). HasLatest o t.asked.keys) (sym latest) (ap (list_any (nat_eq g)) keys ∙ has_last s.asked.keys g);
   alike =
-      alike_trans (cs ++ asking g ∷ []) cs (contents_in ws t.entries) (alike_nothing cs (asking g ∷ []) (empty_alike g true))
-      (subst (λ (es : Entries). AreAlike cs (contents_in ws es)) (sym entries) h.alike);
+      alike_trans (cs ++ asking g ∷ []) cs (contents_in (names_in t.files) ws t.entries) (alike_nothing cs (asking g ∷ []) (empty_alike g true))
+      (subst (λ (es : Entries). AreAlike cs (contents_in (names_in t.files) ws es)) (sym entries)
+      (subst (λ (fs : Files). AreAlike cs (contents_in (names_in fs) ws s.entries)) (sym files) h.alike));
   waits = ap (λ (es : Entries). open_count es.done.items) entries ∙ h.waits;
   settled = subst IsSettled (sym entries) h.settled;
+  standing =
+      subst (λ (es : Entries). StandIn (length (names_in t.files)) es.done.items) (sym entries)
+      (subst (λ (fs : Files). StandIn (length (names_in fs)) s.entries.done.items) (sym files) h.standing);
 }
 
 -- a section that is there already
 pub stands_again : (s : Sections) (g : ℕ) (cs ws : List Content) → s.latest ≡ Some g → Stands cs ws s → Stands (cs ++ asking g ∷ []) ws s
 stands_again s g cs ws latest h =
     let has : list_any (nat_eq g) s.asked.keys ≡ true = subst (λ (o : Option ℕ). HasLatest o s.asked.keys) latest h.latest in
-    stands_asked s s g cs ws (sym (ap (λ b. if b then s.asked.keys else s.asked.keys ++ g ∷ []) has)) latest refl h
-
--- the object of all entries is that of what they stand for
-pub finished : (segments : List Segment) (names : List (List ℕ)) (s : Sections) (es : List Entry) (cs : List Content) → Stands cs [] s → AreAlike (contents_in [] s.entries) (filled [] es) → object_over segments names s.asked.keys (map content_of es) ≡ object_with segments names cs
-finished segments names s es cs h same =
-    sym (same_object segments names s.asked.keys cs (map content_of es)
-    (subst (λ (ds : List Content). AreAlike cs ds) (nothing_waits es) (alike_trans cs (contents_in [] s.entries) (filled [] es) h.alike same)))
-    ∙ ap (λ ks. object_over segments names ks cs) (sym h.asked)
+    stands_asked s s g cs ws (sym (ap (λ b. if b then s.asked.keys else s.asked.keys ++ g ∷ []) has)) latest refl refl h

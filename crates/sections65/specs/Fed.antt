@@ -1,12 +1,17 @@
 -- What is fed to sections in the making: contents in the order of the source, of which some wait.
-use Rattle.std.specs.Prelude.{◌≡◌, ℕ, ◌+◌, Bool, true, false, List, [], ◌∷◌, ◌++◌, map, filter_map}
+use Rattle.std.specs.Prelude.{◌≡◌, ℕ, ◌+◌, Bool, true, false, List, [], ◌∷◌, ◌++◌, map, filter_map, Option, Some, None}
 use Rattle.std.specs.List.{flat_map}
+use Rattle.source65.specs.declared.place.Place.{Place}
 use Rattle.object65.specs.declared.object.Fragment.{Fragment}
 use Rattle.object65.specs.declared.object.Object.{Object}
+use Rattle.object65.specs.declared.object.Origin.{Origin}
+use Rattle.object65.specs.Objects.{is_good_origin}
 use Rattle.language65.specs.Parts.{Content, Part, Said}
+use Rattle.language65.specs.declared.contents.Part.TheVariants as part
 use Rattle.language65.specs.declared.contents.Segment.{Segment}
 use Rattle.language65.specs.Contents.{asking, put, telling}
-use Rattle.language65.specs.Numbering.{all_joined, all_said, assert_of, content_imports, exports_among, fragments_of, import_keys, name_of, parts_in, section_of}
+use Rattle.language65.specs.Numbering.{all_joined, all_said, assert_files, assert_of, content_imports, export_files, exports_among, fragments_of, import_keys, in_files, name_of, names_once, part_files, parts_in, section_of}
+use Rattle.language65.specs.Views.{part_at, place_in, said_at}
 use Rattle.sections65.specs.declared.entries.Entry.{Entry}
 use Rattle.sections65.specs.declared.entries.Entry.TheVariants.{Put, Told, Open}
 
@@ -23,35 +28,61 @@ in_pieces c = asked c.asks ++ map (put c.segment) c.parts ++ telling c.said ∷ 
 -- ---- Contents that differ for no object.
 
 -- Lists of contents that bring the same imports in the same order, put the same bytes, room and values into each
--- segment, whatever stands before and behind them, and say the same.
+-- segment, whatever stands before and behind them, with the same files in the same order, and say the same.
 pub record AreAlike (cs ds : List Content) : Type 0 where
   pub imports : (names : List (List ℕ)) →
       flat_map (content_imports names) cs ≡ flat_map (content_imports names) ds
-  pub parts : (sections imports : List ℕ) (g : ℕ) (before behind : List Fragment) →
-      all_joined (before ++ (fragments_of sections imports (parts_in cs g) ++ behind))
-      ≡ all_joined (before ++ (fragments_of sections imports (parts_in ds g) ++ behind))
+  pub parts : (at : Place → Origin) (sections imports : List ℕ) (g : ℕ) (before behind : List Fragment) →
+      all_joined (before ++ (fragments_of at sections imports (parts_in cs g) ++ behind))
+      ≡ all_joined (before ++ (fragments_of at sections imports (parts_in ds g) ++ behind))
+  pub files : (g : ℕ) → flat_map part_files (parts_in cs g) ≡ flat_map part_files (parts_in ds g)
   pub said : all_said cs ≡ all_said ds
 
--- the object of contents with sections of these segments and these imports
-abbrev pub object_by : List Segment → List (List ℕ) → (sections imports : List ℕ) → List Content → Object
-object_by segments names sections imports cs = record {
-  imports = map (name_of names) imports;
-  sections = map (section_of segments sections imports cs) sections;
-  exports = exports_among sections imports [] (all_said cs);
-  asserts = filter_map (assert_of sections imports) (all_said cs);
-}
+-- the files that contents name, with sections of these segments
+abbrev pub files_named_by : List ℕ → List Content → List (List ℕ)
+files_named_by sections cs = flat_map (λ g. flat_map part_files (parts_in cs g)) sections
+    ++ export_files [] (all_said cs) ++ flat_map assert_files (all_said cs)
+
+abbrev pub files_by : List ℕ → List Content → List (List ℕ)
+files_by sections cs = names_once [] (files_named_by sections cs)
 
 -- the object of contents with sections of these segments
 abbrev pub object_over : List Segment → List (List ℕ) → List ℕ → List Content → Object
-object_over segments names sections cs = object_by segments names sections (import_keys names cs) cs
+object_over segments names sections cs =
+    let files : List (List ℕ) = files_by sections cs in
+    let imports : List ℕ = import_keys names cs in
+    record {
+      version = 2;
+      files = files;
+      imports = map (name_of names) imports;
+      sections = map (section_of (in_files files) segments sections imports cs) sections;
+      exports = exports_among (in_files files) sections imports [] (all_said cs);
+      asserts = filter_map (assert_of (in_files files) sections imports) (all_said cs);
+    }
 
 -- ---- Entries, of which some are open.
 
--- an entry as a content; an open one has nothing so far
-abbrev pub content_of : Entry → Content
-content_of (Put g p) = put g p
-content_of (Told ss) = telling ss
-content_of Open = telling []
+-- the name of a file, by its place among these, empty where it has none
+abbrev pub file_name : List (List ℕ) → Option ℕ → List ℕ
+file_name files None = []
+file_name files (Some k) = name_of files k
+
+-- where an origin lies, whose file is one of these
+abbrev pub place_by : List (List ℕ) → Origin → Place
+place_by files o = place_in (file_name files o.file) o.line
+
+-- an entry as a content, with these files; an open one has nothing so far
+abbrev pub content_of : List (List ℕ) → Entry → Content
+content_of files (Put g o p) = put g (part_at (place_by files o) p)
+content_of files (Told o ss) = telling (map (said_at (place_by files o)) ss)
+content_of files Open = telling []
+
+-- the file in which an entry stands is one of so many, where the object may need it
+abbrev pub stands_in : ℕ → Entry → Bool
+stands_in count (Put g o (part.Waiting width f)) = is_good_origin 2 count o
+stands_in count (Put g o p) = true
+stands_in count (Told o ss) = is_good_origin 2 count o
+stands_in count Open = true
 
 abbrev pub first_of : List Content → Content
 first_of [] = telling []
@@ -61,12 +92,12 @@ abbrev pub rest_of : List Content → List Content
 rest_of [] = []
 rest_of (w ∷ ws) = ws
 
--- the contents of entries, of which the open ones will be these in their turn
-abbrev pub filled : List Content → List Entry → List Content
-filled ws [] = []
-filled ws (Open ∷ es) = first_of ws ∷ filled (rest_of ws) es
-filled ws (Put g p ∷ es) = put g p ∷ filled ws es
-filled ws (Told ss ∷ es) = telling ss ∷ filled ws es
+-- the contents of entries with these files, of which the open ones will be these in their turn
+abbrev pub filled : List (List ℕ) → List Content → List Entry → List Content
+filled files ws [] = []
+filled files ws (Open ∷ es) = first_of ws ∷ filled files (rest_of ws) es
+filled files ws (Put g o p ∷ es) = put g (part_at (place_by files o) p) ∷ filled files ws es
+filled files ws (Told o ss ∷ es) = telling (map (said_at (place_by files o)) ss) ∷ filled files ws es
 
 abbrev pub is_open : Entry → Bool
 is_open Open = true
@@ -75,5 +106,5 @@ is_open _ = false
 abbrev pub open_count : List Entry → ℕ
 open_count [] = 0
 open_count (Open ∷ es) = 1 + open_count es
-open_count (Put g p ∷ es) = open_count es
-open_count (Told ss ∷ es) = open_count es
+open_count (Put g o p ∷ es) = open_count es
+open_count (Told o ss ∷ es) = open_count es

@@ -1,26 +1,34 @@
 //! What was fed, in the order of the source: parts of sections, what is said, and what is open.
 
-ghost use Rattle.std.specs.Prelude.{◌≡◌, ◌+◌, ◌<◌, List, [], ◌∷◌, length, false, slice_get, Some, IfSome, IfNone, OnOk, IfOk, take};
+ghost use Rattle.std.specs.Prelude.{◌≡◌, ◌+◌, ◌<◌, ℕ, List, [], ◌∷◌, length, false, true, slice_get, None, Some, IfSome, IfNone, OnOk, IfOk, take};
 ghost use Rattle.std.specs.List.{list_any};
 ghost use Rattle.language65.specs.Parts.{Content};
 ghost use Rattle.language65.specs.Parts.{Filled, Known};
-ghost use Rattle.sections65.specs.declared.entries.Entry.TheVariants.{Open};
+ghost use Rattle.sections65.specs.declared.entries.Entry.TheVariants.{Open, Put};
 ghost use Rattle.language65.specs.Contents.{put};
-ghost use Rattle.sections65.specs.Fed.{AreAlike, content_of, filled, is_open, open_count};
-ghost use Rattle.sections65.specs.Standing.{Defers, IsAdded, IsSettled, Settles, Takes, contents_in};
+ghost use Rattle.sections65.specs.Fed.{AreAlike, content_of, filled, is_open, open_count, stands_in};
+ghost use Rattle.sections65.specs.Standing.{Defers, IsAdded, IsSettled, SettlesIn, StandIn, Takes, TakesIn, contents_in};
 
 use base65::Sequence;
 use language65::{Part, Said};
+use object65::Origin;
 use std::alloc::{AllocError, Global};
 use std::mem;
 
-/// What one call feeds.
+/// What one call feeds. An origin names its file by its place among those in which something stands.
 #[derive(Drop)]
 pub enum Entry {
-    /// A part of the section of a segment.
-    Put { segment: u32, part: Part },
+    /// A part of the section of a segment. Its origin counts for a value alone.
+    Put {
+        segment: u32,
+        origin: Origin,
+        part: Part,
+    },
     /// What a statement says.
-    Told(Sequence<Said>),
+    Told {
+        origin: Origin,
+        said: Sequence<Said>,
+    },
     /// What waits.
     Open,
 }
@@ -49,14 +57,18 @@ pub fn sum_of(left: u32, right: u32) -> Result<u32, AllocError>
 }
 
 impl Entry {
-    /// The part that it is, and its segment.
-    pub fn into_part(self) -> Option<(u32, Part)>
-        ensures put { IfSome result (λ p. content_of self ≡ put p.0 p.1) }
-        ensures none { IfNone result ((content_of self).parts ≡ []) }
+    /// A part that isn't written with its place.
+    pub fn unplaced(segment: u32, part: Part) -> Self
+        ensures { result ≡ Put segment (record { file = None; line = 0 }) part }
     {
-        match self {
-            Entry::Put { segment, part } => Some((segment, part)),
-            Entry::Told(_) | Entry::Open => None,
+        let origin = Origin {
+            file: None,
+            line: 0,
+        };
+        Entry::Put {
+            segment,
+            origin,
+            part,
         }
     }
 
@@ -65,7 +77,7 @@ impl Entry {
         ensures { result ≡ is_open self.now }
     {
         match self {
-            Entry::Put { .. } | Entry::Told(_) => false,
+            Entry::Put { .. } | Entry::Told { .. } => false,
             Entry::Open => true,
         }
     }
@@ -90,9 +102,11 @@ fn next_open(entries: &[Entry], from: usize) -> Option<usize>
 
 impl Entries {
     pub fn new(alloc: Global) -> Self
-        ensures none { (ws : List Content) → AreAlike [] (contents_in ws result) }
+        ensures none { (files : List (List ℕ)) (ws : List Content) →
+            AreAlike [] (contents_in files ws result) }
         ensures waits { open_count result.done.items ≡ 0 }
         ensures settled { IsSettled result }
+        ensures standing { (count : ℕ) → StandIn count result.done.items }
     {
         Entries {
             alloc,
@@ -122,7 +136,7 @@ impl Entries {
             let segment = self.segment;
             let bytes = mem::replace(&mut self.bytes, Sequence::new(self.alloc));
             let part = Part::Known(bytes);
-            self.add(Entry::Put { segment, part })?;
+            self.add(Entry::unplaced(segment, part))?;
         }
         Ok(())
     }
@@ -138,7 +152,7 @@ impl Entries {
             let segment = self.segment;
             let part = Part::Filled(self.room);
             self.room = 0;
-            self.add(Entry::Put { segment, part })?;
+            self.add(Entry::unplaced(segment, part))?;
         }
         Ok(())
     }
@@ -212,7 +226,8 @@ impl Entries {
     /// Adds an entry that doesn't wait.
     pub fn push(&mut self, entry: Entry) -> Result<(), AllocError>
         requires { is_open entry ≡ false }
-        ensures { OnOk result (Takes self.old self.new (content_of entry ∷ [])) }
+        ensures { OnOk result ((files : List (List ℕ)) → stands_in (length files) entry ≡ true →
+            TakesIn files self.old self.new (content_of files entry ∷ [])) }
     {
         self.close()?;
         self.add(entry)?;
@@ -231,7 +246,8 @@ impl Entries {
     /// Gives the first open entry its content.
     pub fn settle(&mut self, entry: Entry)
         requires { is_open entry ≡ false }
-        ensures { IsSettled self.old → Settles self.old self.new (content_of entry) }
+        ensures { (files : List (List ℕ)) → stands_in (length files) entry ≡ true →
+            IsSettled self.old → SettlesIn files self.old self.new (content_of files entry) }
     {
         let Some(place) = next_open(self.done.as_slice(), self.settled) else {
             return;
@@ -242,8 +258,10 @@ impl Entries {
 
     /// All entries.
     pub fn into_list(self) -> Result<Vec<Entry>, AllocError>
-        ensures { IfOk result (λ list. (ws : List Content) →
-            AreAlike (contents_in ws self) (filled ws list.items)) }
+        ensures alike { IfOk result (λ list. (files : List (List ℕ)) (ws : List Content) →
+            AreAlike (contents_in files ws self) (filled files ws list.items)) }
+        ensures standing { IfOk result (λ list. (files : List (List ℕ)) →
+            StandIn (length files) self.done.items → StandIn (length files) list.items) }
     {
         let mut all = self;
         all.close()?;

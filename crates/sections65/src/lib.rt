@@ -2,6 +2,7 @@
 #![tactic(auto)]
 
 mod entries;
+mod files;
 pub mod laws;
 mod numbering;
 mod sections;

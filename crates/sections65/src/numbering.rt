@@ -1,18 +1,19 @@
 //! From entries to the object.
 
-ghost use Rattle.std.specs.Prelude.{◌≡◌, map, nat_eq, slice_get, option_copied, IfOk};
+ghost use Rattle.std.specs.Prelude.{◌≡◌, [], map, nat_eq, slice_get, option_copied, IfOk};
 ghost use Rattle.std.specs.List.{IsDistinct};
 ghost use Rattle.object65.specs.Objects.{ObjectFits};
-ghost use Rattle.sections65.specs.Inner.Drafts.{all_of_draft, section_from};
-ghost use Rattle.sections65.specs.Fed.{content_of, object_by, object_over};
+ghost use Rattle.sections65.specs.Inner.Drafts.{all_of_draft, object_before, section_from};
+ghost use Rattle.sections65.specs.Fed.{content_of};
 ghost use Rattle.language65.specs.Layout.{powers};
-ghost use Rattle.language65.specs.Numbering.{name_of, number_of, segment_name, segment_power};
+ghost use Rattle.language65.specs.Numbering.{import_keys, name_of, number_of, segment_name, segment_power};
 
 mod drafts;
 mod exports;
 mod keys;
 mod names;
 mod numbers;
+mod ordering;
 
 use crate::entries::Entry;
 use base65::Sequence;
@@ -22,7 +23,9 @@ use indexmap::IndexSet;
 use keys::import_keys;
 use language65::Segment;
 use numbers::Numbers;
+pub use numbers::narrow;
 use object65::{Fragment, Object, Section};
+pub use ordering::in_order;
 use std::alloc::{AllocError, Global};
 
 /// The power of two to a multiple of which a segment is aligned.
@@ -137,7 +140,7 @@ fn import_names(
     Ok(found)
 }
 
-/// The object of entries, where sections and imports have these numbers.
+/// The object of entries, where sections and imports have these numbers. Its files come later.
 fn numbered_object(
     alloc: Global,
     segments: &[Segment],
@@ -146,14 +149,16 @@ fn numbered_object(
     entries: Vec<Entry>,
 ) -> Result<Object, AllocError>
     requires { IsDistinct nat_eq numbers.now.sections.keys }
-    ensures object { IfOk result (λ o. o ≡ object_by segments.now names.now numbers.now.sections.keys
-        numbers.now.imports.keys (map content_of entries.items)) }
+    ensures object { IfOk result (λ o. o ≡ object_before segments.now names.now
+        numbers.now.sections.keys numbers.now.imports.keys entries.items) }
     ensures fits { IfOk result ObjectFits }
 {
     let exports = exports_of(alloc, numbers, entries.as_slice())?;
     let asserts = asserts_of(alloc, numbers, entries.as_slice())?;
     let drafts = filled(alloc, numbers, entries)?;
     Ok(Object {
+        version: 2,
+        files: Sequence::new(alloc),
         imports: import_names(alloc, names, numbers.imports.as_slice())?,
         sections: finish_sections(alloc, segments, drafts)?,
         exports,
@@ -162,7 +167,7 @@ fn numbered_object(
 }
 
 /// The object of a module: of its segments, the names of its imports in the order of their keys, the segments of which
-/// a section was asked for, and the entries.
+/// a section was asked for, and the entries. Its files come later: origins name them as entries do.
 pub fn object_of(
     alloc: Global,
     segments: &[Segment],
@@ -170,8 +175,8 @@ pub fn object_of(
     asked: IndexSet<u32>,
     entries: Vec<Entry>,
 ) -> Result<Object, AllocError>
-    ensures object { IfOk result (λ o. o ≡ object_over segments.now names.now asked.keys
-        (map content_of entries.items)) }
+    ensures object { IfOk result (λ o. o ≡ object_before segments.now names.now asked.keys
+        (import_keys names.now (map (content_of []) entries.items)) entries.items) }
     ensures fits { IfOk result ObjectFits }
 {
     let imports = import_keys(alloc, names, entries.as_slice())?;

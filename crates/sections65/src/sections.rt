@@ -1,19 +1,21 @@
 //! Sections in the making.
 
-ghost use Rattle.std.specs.Prelude.{◌≡◌, [], List, replicate, true, IfOk, OnOk};
+ghost use Rattle.std.specs.Prelude.{◌≡◌, [], List, map, replicate, true, IfOk, OnOk};
 ghost use Rattle.object65.specs.Objects.{is_good_object, ObjectFits};
 ghost use Rattle.language65.specs.Parts.{Content};
 ghost use Rattle.language65.specs.Parts.{Filled, Known, Waiting};
 ghost use Rattle.language65.specs.Numbering.{object_with};
 ghost use Rattle.language65.specs.Sound.{AreSound};
 ghost use Rattle.language65.specs.Contents.{asking, put, telling};
+ghost use Rattle.language65.specs.Views.{part_at, place_in, said_at};
 ghost use Rattle.sections65.specs.Standing.{Awaits, Feeds, Receives, Stands};
 
-use crate::entries::{Entries, Entry};
-use crate::numbering::object_of;
+use crate::entries::Entries;
+use crate::files::Files;
+use crate::numbering::{in_order, object_of};
 use base65::Sequence;
 use indexmap::IndexSet;
-use language65::{Part, Said, Segment};
+use language65::{At, Part, Said, Segment};
 use object65::{Norm, Object, Width};
 use std::alloc::{AllocError, Global};
 
@@ -25,6 +27,8 @@ pub struct Sections {
     asked: IndexSet<u32>,
     /// One of these, which was asked for last.
     latest: Option<u32>,
+    /// The files in which values and what is said stand.
+    files: Files,
     entries: Entries,
 }
 
@@ -45,6 +49,7 @@ impl Sections {
         Sections {
             asked: IndexSet::new(alloc),
             latest: None,
+            files: Files::new(alloc),
             entries: Entries::new(alloc),
         }
     }
@@ -88,18 +93,20 @@ impl Sections {
         Ok(())
     }
 
-    /// Puts a value that the linker computes into the section of a segment.
+    /// Puts a value that the linker computes into the section of a segment. Its statement stands at this place.
     pub fn value(
         &mut self,
         segment: u32,
         width: Width,
-        line: u32,
+        at: At<'_>,
         form: Norm,
     ) -> Result<(), AllocError>
-        ensures { OnOk result (Feeds self.old self.new (put segment (Waiting width line form))) }
+        ensures { OnOk result (Feeds self.old self.new
+            (put segment (Waiting width (place_in at.entry.file.now at.entry.line) form))) }
     {
-        let part = Part::Waiting { width, line, form };
-        self.entries.push(Entry::Put { segment, part })?;
+        let part = Part::Waiting { width, form };
+        let entry = self.files.put(self.entries.alloc, segment, at, part)?;
+        self.entries.push(entry)?;
         Ok(())
     }
 
@@ -112,18 +119,25 @@ impl Sections {
         Ok(())
     }
 
-    /// Settles the first that is still deferred, as a part of the section of a segment.
-    pub fn settle(&mut self, segment: u32, part: Part)
-        ensures { Receives self.old self.new (put segment part) }
+    /// Settles the first that is still deferred, as a part of the section of a segment. Its statement stands at this
+    /// place.
+    pub fn settle(&mut self, segment: u32, at: At<'_>, part: Part) -> Result<(), AllocError>
+        ensures { OnOk result (Receives self.old self.new
+            (put segment (part_at (place_in at.entry.file.now at.entry.line) part))) }
     {
-        self.entries.settle(Entry::Put { segment, part })
+        let entry = self.files.put(self.entries.alloc, segment, at, part)?;
+        self.entries.settle(entry);
+        Ok(())
     }
 
-    /// Settles the first that is still deferred, as what a statement says.
-    pub fn settle_said(&mut self, said: Sequence<Said>)
-        ensures { Receives self.old self.new (telling said) }
+    /// Settles the first that is still deferred, as what a statement says that stands at this place.
+    pub fn settle_said(&mut self, at: At<'_>, said: Sequence<Said>) -> Result<(), AllocError>
+        ensures { OnOk result (Receives self.old self.new
+            (telling (map (said_at (place_in at.entry.file.now at.entry.line)) said))) }
     {
-        self.entries.settle(Entry::Told(said))
+        let entry = self.files.tell(self.entries.alloc, at, said)?;
+        self.entries.settle(entry);
+        Ok(())
     }
 
     /// The object of a module: of its segments, the names of its imports in the order of their keys, and what was fed.
@@ -142,9 +156,11 @@ impl Sections {
         let Sections {
             asked,
             latest: _,
+            files,
             entries,
         } = self;
         let entries = entries.into_list()?;
-        object_of(alloc, segments, names, asked, entries)
+        let object = object_of(alloc, segments, names, asked, entries)?;
+        in_order(alloc, &files, object)
     }
 }

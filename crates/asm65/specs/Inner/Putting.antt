@@ -54,8 +54,8 @@ IsFaultless r (Some f) = r ≡ Ok f
 IsFaultless r None = ⊤
 
 -- what is stored of an operand's form
-abbrev pub operand_stored : Width → Spot → (line : ℕ) → Form → Result Part AsmFault
-operand_stored width s line f = operand_form width s f >>= stored width line
+abbrev pub operand_stored : Width → Spot → Place → Form → Result Part AsmFault
+operand_stored width s place f = operand_form width s f >>= stored width place
 
 -- ---- Pieces.
 

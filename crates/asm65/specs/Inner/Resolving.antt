@@ -1,14 +1,16 @@
 -- What waits comes to its content behind the last line.
-use Rattle.std.specs.Prelude.{◌≡◌, ℕ, Bool, List, [], ◌++◌, Option, Some, None, Result, Ok, Err}
+use Rattle.std.specs.Prelude.{◌≡◌, ℕ, Bool, List, [], ◌∷◌, ◌++◌, map, Option, Some, None, Result, Ok, Err}
 use Rattle.base65.specs.Outcome.{◌>>=◌, Unless}
 use Rattle.syntax65.specs.Trees.{tree_of}
 use Rattle.source65.specs.declared.place.Place.{Place}
 use Rattle.language65.specs.Parts.{Content}
+use Rattle.language65.specs.declared.contents.Said.{Said}
 use Rattle.language65.specs.declared.fault.AsmFault.{AsmFault}
-use Rattle.language65.specs.Contents.{put, telling}
+use Rattle.language65.specs.Contents.{put, telling, written}
 use Rattle.language65.specs.Laid.{Spot}
 use Rattle.language65.specs.Norms.{defined_form}
 use Rattle.language65.specs.Symbols.{Symbols}
+use Rattle.language65.specs.Views.{part_at, said_at}
 use Rattle.module65.specs.Machine as machine
 use Rattle.module65.specs.Module.{warning_at}
 use Rattle.module65.specs.Pieces as piece
@@ -26,9 +28,10 @@ use Rattle.asm65.specs.Assembly.{is_outside_refusal, placed_of}
 
 -- ---- What a piece comes to.
 
-abbrev pub content_of : Filling → Content
-content_of (Part segment part) = put segment part
-content_of (Told said) = telling said
+-- of a statement that stands here
+abbrev pub content_of : Place → Filling → Content
+content_of place (Part segment part) = put segment (part_at place part)
+content_of place (Told said) = telling (map (said_at place) said)
 
 -- the warning of an assertion with this text, where one failed
 abbrev pub warning_in : Place → Option (List ℕ) → List ℕ
@@ -36,7 +39,11 @@ warning_in place None = []
 warning_in place (Some words) = warning_at place words
 
 abbrev pub made_in : Place → code.Made → Made
-made_in place m = record { content = content_of m.filling; warning = warning_in place m.warning }
+made_in place m = record { content = content_of place m.filling; warning = warning_in place m.warning }
+
+-- what a saying comes to that is written with its place
+abbrev pub noted : Place → Said → Result Made AsmFault
+noted place s = written place (said_at place s ∷ []) >>= as_said
 
 -- what an export comes to that isn't defined
 abbrev pub lost : (must : Bool) → List ℕ → Result Made AsmFault

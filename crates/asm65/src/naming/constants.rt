@@ -11,12 +11,11 @@ impl Assembler {
     ghost use Rattle.std.specs.Prelude.{◌≡◌, ◌∷◌, [], None, OnOk, Some};
     ghost use Rattle.syntax65.specs.Trees.{tree_of};
     ghost use Rattle.language65.specs.Symbols.{defined, named};
-    ghost use Rattle.language65.specs.Views.{spot_of};
+    ghost use Rattle.language65.specs.Views.{place_in, spot_of};
     ghost use Rattle.module65.specs.Pieces.{equated, valued};
     ghost use Rattle.symbols65.specs.Resolving.{IsTable};
     ghost use Rattle.symbols65.specs.Views.{table_of, with_definition};
     ghost use Rattle.asm65.specs.Inner.Taking.{Turns};
-    ghost use Rattle.asm65.specs.Views.{place_in};
 
     /// A constant is defined. Where its form isn't final it waits: its expression may have a fault.
     #[inline(never)]

@@ -35,10 +35,9 @@ fn piece_of(alloc: Global, mention: Mention, name: &[u8]) -> Result<Piece, Alloc
 }
 
 impl Assembler {
-    ghost use Rattle.language65.specs.Views.{spot_of};
+    ghost use Rattle.language65.specs.Views.{place_in, spot_of};
     ghost use Rattle.asm65.specs.Inner.Putting.{KeepsTables};
     ghost use Rattle.asm65.specs.Inner.Taking.{Mentions};
-    ghost use Rattle.asm65.specs.Views.{place_in};
 
     /// Names that are mentioned wait, one behind the other.
     #[inline(never)]

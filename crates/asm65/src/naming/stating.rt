@@ -45,7 +45,7 @@ impl Assembler {
     ghost use Rattle.symbols65.specs.Tables.{key_of};
     ghost use Rattle.symbols65.specs.Views.{table_of, with_definition, with_names, with_scope};
     ghost use Rattle.asm65.specs.Inner.Taking.{Turns, mentioned};
-    ghost use Rattle.asm65.specs.Views.{place_in};
+    ghost use Rattle.language65.specs.Views.{place_in};
 
     /// A label is defined where it stands.
     #[inline(never)]

@@ -1,18 +1,19 @@
 //! Parts of sections that are settled at their line.
 
-ghost use Rattle.std.specs.Prelude.{◌≡◌, ℕ, drop, IfOk, OnOk, take};
+ghost use Rattle.std.specs.Prelude.{◌≡◌, drop, IfOk, OnOk, take};
 ghost use Rattle.object65.specs.Form.{lit};
+ghost use Rattle.source65.specs.declared.place.Place.{Place};
 ghost use Rattle.language65.specs.Contents.{file_bytes, opcode_part, operand_form, put, room_part, stored};
 ghost use Rattle.language65.specs.Parts.{Known};
-ghost use Rattle.language65.specs.Views.{spot_of};
+ghost use Rattle.language65.specs.Views.{place_in, spot_of};
 ghost use Rattle.sections65.specs.Standing.{Feeds};
 ghost use Rattle.asm65.specs.Inner.Putting.{IsFaultless, IsPut, operand_stored};
 ghost use Rattle.layout65.specs.Views.{settled_in};
 
 use super::Stand;
-use crate::forms::literal_of;
+use crate::forms::{is_file_name, literal_of};
 use base65::Sequence;
-use language65::Spot;
+use language65::{At, Spot};
 use layout65::Settled;
 use object65::{Norm, Width, fits, put};
 use sections65::Sections;
@@ -26,8 +27,8 @@ pub fn put_literal(
     width: Width,
     value: i64,
 ) -> Result<bool, AllocError>
-    ensures { (line : ℕ) → IfOk result
-        (IsPut sections.old sections.new segment (stored width line (lit value))) }
+    ensures { (place : Place) → IfOk result
+        (IsPut sections.old sections.new segment (stored width place (lit value))) }
 {
     if !fits(width, value) {
         return Ok(false);
@@ -41,15 +42,19 @@ pub fn put_form(
     sections: &mut Sections,
     segment: u32,
     width: Width,
-    line: u32,
+    at: At<'_>,
     form: Norm,
 ) -> Result<bool, AllocError>
-    ensures { IfOk result (IsPut sections.old sections.new segment (stored width line form)) }
+    ensures { IfOk result (IsPut sections.old sections.new segment
+        (stored width (place_in at.entry.file.now at.entry.line) form)) }
 {
     match literal_of(&form) {
         Some(value) => put_literal(sections, segment, width, value),
         None => {
-            sections.value(segment, width, line, form)?;
+            if !is_file_name(at.file) {
+                return Ok(false);
+            }
+            sections.value(segment, width, at, form)?;
             Ok(true)
         }
     }
@@ -85,10 +90,11 @@ pub fn put_operand(
     form: Norm,
 ) -> Result<bool, AllocError>
     ensures { IfOk result (IsPut sections.old sections.new stand.entry.spot.segment
-        (operand_stored width (spot_of stand.entry.spot) stand.entry.at.line form)) }
+        (operand_stored width (spot_of stand.entry.spot)
+        (place_in stand.entry.at.file.now stand.entry.at.line) form)) }
 {
     match faultless_form(alloc, width, stand.spot, form)? {
-        Some(form) => put_form(sections, stand.spot.segment, width, stand.at.line, form),
+        Some(form) => put_form(sections, stand.spot.segment, width, stand.at, form),
         None => Ok(false),
     }
 }

@@ -72,12 +72,11 @@ impl Assembler {
     ghost use Rattle.language65.specs.Contents.{file_bytes, opcode_part, room_part};
     ghost use Rattle.language65.specs.Parts.{Known};
     ghost use Rattle.language65.specs.Laid.{in_mode};
-    ghost use Rattle.language65.specs.Views.{item_of};
+    ghost use Rattle.language65.specs.Views.{item_of, place_in};
     ghost use Rattle.syntax65.specs.Opcodes.{opcode_of};
     ghost use Rattle.module65.specs.Pieces.{asserted, given, instruction_pieces, valued};
     ghost use Rattle.module65.specs.Pieces.{item_piece, operand_pieces};
     ghost use Rattle.asm65.specs.Inner.Holding.{Enters};
-    ghost use Rattle.asm65.specs.Views.{place_in};
     ghost use Rattle.layout65.specs.Views.{settled_in};
 
     /// Enters the code of an instruction.

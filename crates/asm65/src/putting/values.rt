@@ -1,7 +1,8 @@
 //! Values, which are put at once where they are settled without a fault, or wait.
 
-ghost use Rattle.std.specs.Prelude.{◌≡◌, ℕ, IfSome};
+ghost use Rattle.std.specs.Prelude.{◌≡◌, IfSome};
 ghost use Rattle.syntax65.specs.Trees.{tree_of};
+ghost use Rattle.source65.specs.declared.place.Place.{Place};
 ghost use Rattle.object65.specs.Form.{lit};
 ghost use Rattle.language65.specs.Contents.{stored};
 ghost use Rattle.language65.specs.Extending.{IsFinal};
@@ -33,8 +34,8 @@ fn number_of(value: &Expr) -> Option<i64>
 fn stored_number(width: Width, value: &Expr) -> Option<i64>
     ensures form { IfSome result (λ v. (y : Symbols) (s : Spot) →
         IsFinal y s (tree_of value.now) (lit v)) }
-    ensures stored { IfSome result (λ v. (s : Spot) (line : ℕ) →
-        operand_stored width s line (lit v) ≡ stored width line (lit v)) }
+    ensures stored { IfSome result (λ v. (s : Spot) (place : Place) →
+        operand_stored width s place (lit v) ≡ stored width place (lit v)) }
 {
     match width {
         Width::Branch => None,
@@ -44,11 +45,10 @@ fn stored_number(width: Width, value: &Expr) -> Option<i64>
 
 impl Assembler {
     ghost use Rattle.std.specs.Prelude.{◌∷◌, [], IfOk, OnOk};
-    ghost use Rattle.language65.specs.Views.{spot_of};
+    ghost use Rattle.language65.specs.Views.{place_in, spot_of};
     ghost use Rattle.module65.specs.Pieces.{datum, operand, valued};
     ghost use Rattle.asm65.specs.Inner.Holding.{Enters};
     ghost use Rattle.asm65.specs.Inner.Putting.{IsTried};
-    ghost use Rattle.asm65.specs.Views.{place_in};
 
     /// Puts a value of a list, if it is settled without a fault.
     fn put_datum(
@@ -67,7 +67,7 @@ impl Assembler {
             return put_literal(&mut self.sections, segment, width, number);
         }
         match final_form(alloc, &self.symbols, stand.spot, value)? {
-            Some(form) => put_form(&mut self.sections, segment, width, stand.at.line, form),
+            Some(form) => put_form(&mut self.sections, segment, width, stand.at, form),
             None => Ok(false),
         }
     }

@@ -48,9 +48,8 @@ fn place_of_file(
 }
 
 impl Assembler {
-    ghost use Rattle.language65.specs.Views.{spot_of};
+    ghost use Rattle.language65.specs.Views.{place_in, spot_of};
     ghost use Rattle.asm65.specs.Inner.Putting.{KeepsTables, Waits};
-    ghost use Rattle.asm65.specs.Views.{place_in};
 
     /// The place of the file in which the last piece waits.
     fn last_file(&self) -> Option<usize> {

@@ -1,20 +1,27 @@
 -- Tables and sections in the making, from which the object of a module's contents is built.
-use Rattle.std.specs.Prelude.{◌≡◌, ℕ, ◌+◌, ◌<◌, ◌^◌, nat_eq, List, [], ◌∷◌, ◌++◌, map, Option, Some, None, slice_get, if◌then◌else◌}
-use Rattle.std.specs.List.{AllByRecursion}
+use Rattle.std.specs.Prelude.{◌≡◌, ℕ, ◌+◌, nat_eq, List, [], ◌∷◌, ◌++◌, map, filter_map, Option, Some, None, slice_get, if◌then◌else◌}
+use Rattle.std.specs.List.{AllByRecursion, flat_map}
 use Rattle.std.specs.Str.{bytes_eq}
 use Rattle.indexmap.specs.IndexMap.{get_by}
+use Rattle.source65.specs.declared.place.Place.{Place}
 use Rattle.object65.specs.declared.object.Assert.{Assert}
 use Rattle.object65.specs.declared.object.Export.{Export}
 use Rattle.object65.specs.declared.object.Fragment.{Fragment}
 use Rattle.object65.specs.declared.object.Fragment.TheVariants.{Literal, Fill}
+use Rattle.object65.specs.declared.object.Object.{Object}
+use Rattle.object65.specs.declared.object.Origin.{Origin}
 use Rattle.object65.specs.declared.object.Section.{Section}
-use Rattle.object65.specs.Objects.{FitsBits, FragmentFits}
-use Rattle.language65.specs.Parts.{Content, Part}
+use Rattle.object65.specs.Objects.{FitsBits, FragmentFits, OriginFits}
+use Rattle.language65.specs.declared.contents.Part.{Part}
+use Rattle.language65.specs.declared.contents.Said.{Said}
 use Rattle.language65.specs.declared.contents.Segment.{Segment}
+use Rattle.language65.specs.Numbering.{assert_of, exports_among, fragment_of, is_empty, key_of, name_of, segment_name, segment_power}
+use Rattle.language65.specs.Views.{part_at, place_in, said_at}
+use Rattle.sections65.specs.declared.entries.Entry.{Entry}
+use Rattle.sections65.specs.declared.entries.Entry.TheVariants.{Put, Told, Open}
 use Rattle.sections65.specs.declared.numbering.drafts.Draft.{Draft}
 use Rattle.sections65.specs.declared.numbering.exports.Exports.{Exports}
 use Rattle.sections65.specs.declared.numbering.names.ImportTable.{ImportTable}
-use Rattle.language65.specs.Numbering.{fragment_of, is_empty, key_of, segment_name, segment_power}
 
 -- each import's key is found by its name
 abbrev pub IsTable : ImportTable → Type 0
@@ -49,17 +56,43 @@ grown d last f = begun d f
 abbrev pub with_fragment : Draft → Fragment → Draft
 with_fragment d f = if is_empty f then d else grown d d.last f
 
-abbrev pub with_parts : (sections imports : List ℕ) → Draft → List Part → Draft
-with_parts sections imports d [] = d
-with_parts sections imports d (p ∷ ps) = with_parts sections imports (with_fragment d (fragment_of sections imports p)) ps
+-- ---- Entries, one by one, whose origins are kept as they stand.
 
--- a draft behind a statement, which may stand in its segment
-abbrev pub with_content : (sections imports : List ℕ) → Content → Draft → Draft
-with_content sections imports c d = if nat_eq c.segment d.segment then with_parts sections imports d c.parts else d
+-- all stands at this origin
+abbrev pub here : Origin → Place → Origin
+here origin place = origin
 
-abbrev pub with_contents : (sections imports : List ℕ) → List Content → List Draft → List Draft
-with_contents sections imports [] ds = ds
-with_contents sections imports (c ∷ cs) ds = with_contents sections imports cs (map (with_content sections imports c) ds)
+-- so a place doesn't count
+abbrev pub anywhere : Place
+anywhere = place_in [] 0
+
+abbrev pub fragment_at : (sections imports : List ℕ) → Origin → Part → Fragment
+fragment_at sections imports origin p = fragment_of (here origin) sections imports (part_at anywhere p)
+
+-- a draft behind an entry, which may stand in its segment
+abbrev pub with_entry : (sections imports : List ℕ) → Entry → Draft → Draft
+with_entry sections imports (Put g origin p) d = if nat_eq g d.segment then with_fragment d (fragment_at sections imports origin p) else d
+with_entry sections imports _ d = d
+
+abbrev pub with_entries : (sections imports : List ℕ) → List Entry → List Draft → List Draft
+with_entries sections imports [] ds = ds
+with_entries sections imports (e ∷ es) ds = with_entries sections imports es (map (with_entry sections imports e) ds)
+
+-- exports behind those found
+abbrev pub exports_at : (sections imports : List ℕ) → Origin → List Export → List Said → List Export
+exports_at sections imports origin found ss = exports_among (here origin) sections imports found (map (said_at anywhere) ss)
+
+abbrev pub exports_from : (sections imports : List ℕ) → List Export → List Entry → List Export
+exports_from sections imports found [] = found
+exports_from sections imports found (Told origin ss ∷ es) = exports_from sections imports (exports_at sections imports origin found ss) es
+exports_from sections imports found (e ∷ es) = exports_from sections imports found es
+
+abbrev pub asserts_at : (sections imports : List ℕ) → Origin → List Said → List Assert
+asserts_at sections imports origin ss = filter_map (assert_of (here origin) sections imports) (map (said_at anywhere) ss)
+
+abbrev pub entry_asserts : (sections imports : List ℕ) → Entry → List Assert
+entry_asserts sections imports (Told origin ss) = asserts_at sections imports origin ss
+entry_asserts sections imports _ = []
 
 abbrev pub section_from : List Segment → Draft → Section
 section_from segments d = record {
@@ -74,8 +107,24 @@ pub record DraftFits (d : Draft) : Type 0 where
   pub done : AllByRecursion FragmentFits d.done
   pub last : AllByRecursion FragmentFits (optional_fragment d.last)
 
+abbrev pub SectionFits : Section → Type 0
+SectionFits s = AllByRecursion FragmentFits s.fragments
+
 abbrev pub ExportFits : Export → Type 0
-ExportFits e = (e.line < 2 ^ 32) × FitsBits e.form
+ExportFits e = OriginFits e.origin × FitsBits e.form
 
 abbrev pub AssertFits : Assert → Type 0
-AssertFits a = (a.line < 2 ^ 32) × FitsBits a.form
+AssertFits a = OriginFits a.origin × FitsBits a.form
+
+-- ---- The object before its files have their order.
+
+-- its origins name files by their places in the table of all
+abbrev pub object_before : List Segment → List (List ℕ) → (sections imports : List ℕ) → List Entry → Object
+object_before segments names sections imports es = record {
+  version = 2;
+  files = [];
+  imports = map (name_of names) imports;
+  sections = map (section_from segments) (with_entries sections imports es (map new_draft sections));
+  exports = exports_from sections imports [] es;
+  asserts = flat_map (entry_asserts sections imports) es;
+}

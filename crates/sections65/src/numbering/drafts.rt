@@ -1,18 +1,17 @@
 //! The sections of an object, filled entry by entry.
 
-ghost use Rattle.std.specs.Prelude.{◌≡◌, ◌+◌, ◌++◌, ◌∷◌, [], Some, map, nat_eq, IfOk, OnOk};
+ghost use Rattle.std.specs.Prelude.{◌≡◌, ◌+◌, ◌++◌, ◌∷◌, Some, map, nat_eq, IfOk, OnOk};
 ghost use Rattle.std.specs.List.{AllByRecursion, IsDistinct};
 ghost use Rattle.object65.specs.declared.object.Fragment.TheVariants.{Fill, Literal};
-ghost use Rattle.sections65.specs.Inner.Drafts.{begun, new_draft, DraftFits, with_content, with_contents, with_fragment};
-ghost use Rattle.language65.specs.Contents.{put};
-ghost use Rattle.sections65.specs.Fed.{content_of};
-ghost use Rattle.language65.specs.Numbering.{fragment_of};
+ghost use Rattle.object65.specs.Objects.{OriginFits};
+ghost use Rattle.sections65.specs.declared.entries.Entry.TheVariants.{Put};
+ghost use Rattle.sections65.specs.Inner.Drafts.{begun, fragment_at, new_draft, DraftFits, with_entry, with_entries, with_fragment};
 
 use super::numbers::{Numbers, numbered};
 use crate::entries::{Entry, sum_of};
 use base65::Sequence;
 use language65::Part;
-use object65::Fragment;
+use object65::{Fragment, Origin};
 use std::alloc::{AllocError, Global};
 use std::mem;
 
@@ -63,50 +62,36 @@ fn add_fill(draft: &mut Draft, count: u32) -> Result<(), AllocError>
     begin(draft, Fragment::Fill(count))
 }
 
-/// Adds a part.
+/// Adds a part whose statement stands at this origin.
 fn add_part(
     alloc: Global,
     numbers: &Numbers,
     draft: &mut Draft,
+    origin: Origin,
     part: Part,
 ) -> Result<(), AllocError>
-    ensures added { OnOk result (draft.new ≡ with_fragment draft.old
-        (fragment_of numbers.now.sections.keys numbers.now.imports.keys part)) }
+    ensures added { OnOk result (draft.new ≡ with_fragment draft.old (fragment_at
+        numbers.now.sections.keys numbers.now.imports.keys origin part)) }
     ensures fits { OnOk result (DraftFits draft.old → DraftFits draft.new) }
 {
     match part {
         Part::Known(bytes) => add_bytes(draft, bytes),
         Part::Filled(count) => add_fill(draft, count),
-        Part::Waiting { width, line, form } => {
+        Part::Waiting { width, form } => {
             let form = numbered(alloc, numbers, &form)?;
-            begin(draft, Fragment::Value { width, line, form })
+            begin(
+                draft,
+                Fragment::Value {
+                    width,
+                    origin,
+                    form,
+                },
+            )
         }
     }
 }
 
-/// Adds a part to the section of a segment, if there is one.
-fn add_to(
-    alloc: Global,
-    numbers: &Numbers,
-    drafts: &mut Vec<Draft>,
-    segment: u32,
-    part: Part,
-) -> Result<(), AllocError>
-    requires keys { map (λ d. d.segment) drafts.old.items ≡ numbers.now.sections.keys }
-    requires distinct { IsDistinct nat_eq numbers.now.sections.keys }
-    ensures added { OnOk result (drafts.new.items ≡ map (with_content numbers.now.sections.keys
-        numbers.now.imports.keys (put segment part)) drafts.old.items) }
-    ensures fits { OnOk result (AllByRecursion DraftFits drafts.old.items →
-        AllByRecursion DraftFits drafts.new.items) }
-{
-    if let Some(place) = numbers.sections.get_index_of(&segment) {
-        let draft = &mut drafts[place];
-        add_part(alloc, numbers, draft, part)?;
-    }
-    Ok(())
-}
-
-/// Adds what an entry puts into the section of its segment.
+/// Adds what an entry puts into the section of its segment, if there is one.
 fn add_entry(
     alloc: Global,
     numbers: &Numbers,
@@ -115,15 +100,23 @@ fn add_entry(
 ) -> Result<(), AllocError>
     requires keys { map (λ d. d.segment) drafts.old.items ≡ numbers.now.sections.keys }
     requires distinct { IsDistinct nat_eq numbers.now.sections.keys }
-    ensures added { OnOk result (drafts.new.items ≡ map (with_content numbers.now.sections.keys
-        numbers.now.imports.keys (content_of entry)) drafts.old.items) }
+    ensures added { OnOk result (drafts.new.items ≡ map (with_entry numbers.now.sections.keys
+        numbers.now.imports.keys entry) drafts.old.items) }
     ensures fits { OnOk result (AllByRecursion DraftFits drafts.old.items →
         AllByRecursion DraftFits drafts.new.items) }
 {
-    let Some((segment, part)) = entry.into_part() else {
+    let Entry::Put {
+        segment,
+        origin,
+        part,
+    } = entry
+    else {
         return Ok(());
     };
-    add_to(alloc, numbers, drafts, segment, part)?;
+    if let Some(place) = numbers.sections.get_index_of(&segment) {
+        let draft = &mut drafts[place];
+        add_part(alloc, numbers, draft, origin, part)?;
+    }
     Ok(())
 }
 
@@ -149,9 +142,8 @@ pub fn filled(
     entries: Vec<Entry>,
 ) -> Result<Vec<Draft>, AllocError>
     requires { IsDistinct nat_eq numbers.now.sections.keys }
-    ensures filled { IfOk result (λ drafts. drafts.items ≡ with_contents numbers.now.sections.keys
-        numbers.now.imports.keys (map content_of entries.items)
-        (map new_draft numbers.now.sections.keys)) }
+    ensures filled { IfOk result (λ drafts. drafts.items ≡ with_entries numbers.now.sections.keys
+        numbers.now.imports.keys entries.items (map new_draft numbers.now.sections.keys)) }
     ensures fits { IfOk result (λ drafts. AllByRecursion DraftFits drafts.items) }
 {
     let mut drafts = new_drafts(alloc, numbers.sections.as_slice())?;

@@ -1,17 +1,15 @@
 //! The exports of an object, each once, and its assertions.
 
-ghost use Rattle.std.specs.Prelude.{◌≡◌, ◌++◌, ◌∷◌, [], filter_map, map, IfOk, OnOk};
-ghost use Rattle.std.specs.List.{AllByRecursion};
-ghost use Rattle.sections65.specs.Inner.Drafts.{AreNamed, AssertFits, ExportFits};
-ghost use Rattle.sections65.specs.Fed.{content_of};
-ghost use Rattle.language65.specs.Numbering.{all_said, assert_of, exports_among};
+ghost use Rattle.std.specs.Prelude.{◌≡◌, ◌++◌, ◌∷◌, [], IfOk, OnOk};
+ghost use Rattle.std.specs.List.{AllByRecursion, flat_map};
+ghost use Rattle.sections65.specs.Inner.Drafts.{asserts_at, AreNamed, AssertFits, entry_asserts, exports_at, ExportFits, exports_from};
 
 use super::numbers::{Numbers, numbered};
 use crate::entries::Entry;
 use base65::Sequence;
 use indexmap::IndexSet;
 use language65::Said;
-use object65::{Assert, Export};
+use object65::{Assert, Export, Origin};
 use std::alloc::{AllocError, Global};
 
 /// Exports, with the names by which a second one is found.
@@ -21,28 +19,23 @@ pub struct Exports<'a> {
     pub names: IndexSet<&'a [u8]>,
 }
 
-/// Adds the assertion that a statement makes, if it makes one.
+/// Adds the assertion that a statement makes at this origin, if it makes one.
 fn add_assert(
     alloc: Global,
     numbers: &Numbers,
     asserts: &mut Sequence<Assert>,
+    origin: Origin,
     said: &Said,
 ) -> Result<(), AllocError>
-    ensures added { OnOk result (asserts.new ≡ asserts.old ++ filter_map
-        (assert_of numbers.now.sections.keys numbers.now.imports.keys) (said.now ∷ [])) }
+    ensures added { OnOk result (asserts.new ≡ asserts.old ++ asserts_at numbers.now.sections.keys
+        numbers.now.imports.keys origin (said.now ∷ [])) }
     ensures fits { OnOk result (AllByRecursion AssertFits asserts.old →
         AllByRecursion AssertFits asserts.new) }
 {
-    if let Said::Checked {
-        action,
-        line,
-        text,
-        form,
-    } = said
-    {
+    if let Said::Checked { action, text, form } = said {
         asserts.push(Assert {
             action: *action,
-            line: *line,
+            origin,
             text: Sequence::copy_of(alloc, text.as_slice())?,
             form: numbered(alloc, numbers, form)?,
         })?;
@@ -50,31 +43,42 @@ fn add_assert(
     Ok(())
 }
 
-/// Adds the assertions that a statement makes.
+/// Adds the assertions that a statement makes at this origin.
 fn add_asserts(
     alloc: Global,
     numbers: &Numbers,
     asserts: &mut Sequence<Assert>,
+    origin: Origin,
     said: &[Said],
 ) -> Result<(), AllocError>
-    ensures added { OnOk result (asserts.new ≡ asserts.old ++ filter_map
-        (assert_of numbers.now.sections.keys numbers.now.imports.keys) said.now) }
+    ensures added { OnOk result (asserts.new ≡ asserts.old ++ asserts_at numbers.now.sections.keys
+        numbers.now.imports.keys origin said.now) }
     ensures fits { OnOk result (AllByRecursion AssertFits asserts.old →
         AllByRecursion AssertFits asserts.new) }
 {
     for saying in said {
-        add_assert(alloc, numbers, asserts, saying)?;
+        add_assert(alloc, numbers, asserts, origin, saying)?;
     }
     Ok(())
 }
 
-/// What an entry says.
-fn said_in<'a>(entry: &'a Entry) -> &'a [Said]
-    ensures { result.now ≡ (content_of entry.entry.now).said }
+/// Adds the assertions of an entry.
+fn add_entry_asserts(
+    alloc: Global,
+    numbers: &Numbers,
+    asserts: &mut Sequence<Assert>,
+    entry: &Entry,
+) -> Result<(), AllocError>
+    ensures added { OnOk result (asserts.new ≡ asserts.old ++ entry_asserts numbers.now.sections.keys
+        numbers.now.imports.keys entry.now) }
+    ensures fits { OnOk result (AllByRecursion AssertFits asserts.old →
+        AllByRecursion AssertFits asserts.new) }
 {
     match entry {
-        Entry::Told(said) => said.as_slice(),
-        Entry::Put { .. } | Entry::Open => &[],
+        Entry::Told { origin, said } => {
+            add_asserts(alloc, numbers, asserts, *origin, said.as_slice())
+        }
+        Entry::Put { .. } | Entry::Open => Ok(()),
     }
 }
 
@@ -84,36 +88,37 @@ pub fn asserts_of(
     numbers: &Numbers,
     entries: &[Entry],
 ) -> Result<Sequence<Assert>, AllocError>
-    ensures asserts { IfOk result (λ asserts. asserts ≡ filter_map (assert_of numbers.now.sections.keys
-        numbers.now.imports.keys) (all_said (map content_of entries.now))) }
+    ensures asserts { IfOk result (λ asserts. asserts ≡ flat_map (entry_asserts
+        numbers.now.sections.keys numbers.now.imports.keys) entries.now) }
     ensures fits { IfOk result (λ asserts. AllByRecursion AssertFits asserts) }
 {
     let mut asserts = Sequence::new(alloc);
     for entry in entries {
-        add_asserts(alloc, numbers, &mut asserts, said_in(entry))?;
+        add_entry_asserts(alloc, numbers, &mut asserts, entry)?;
     }
     Ok(asserts)
 }
 
-/// Adds an export, unless its name is there.
+/// Adds an export of this origin, unless its name is there.
 fn add_export<'a>(
     alloc: Global,
     numbers: &Numbers,
     exports: &mut Exports<'a>,
+    origin: Origin,
     said: &'a Said,
 ) -> Result<(), AllocError>
     requires { AreNamed exports.old }
-    ensures added { OnOk result (exports.new.all ≡ exports_among numbers.now.sections.keys
-        numbers.now.imports.keys exports.old.all (said.entry.now ∷ [])) }
+    ensures added { OnOk result (exports.new.all ≡ exports_at numbers.now.sections.keys
+        numbers.now.imports.keys origin exports.old.all (said.entry.now ∷ [])) }
     ensures fits { OnOk result (AllByRecursion ExportFits exports.old.all →
         AllByRecursion ExportFits exports.new.all) }
     ensures named { OnOk result (AreNamed exports.new) }
 {
-    if let Said::Exported { name, line, form } = said {
+    if let Said::Exported { name, form } = said {
         if exports.names.insert(name.as_slice())? {
             exports.all.push(Export {
                 name: Sequence::copy_of(alloc, name.as_slice())?,
-                line: *line,
+                origin,
                 form: numbered(alloc, numbers, form)?,
             })?;
         }
@@ -121,24 +126,47 @@ fn add_export<'a>(
     Ok(())
 }
 
-/// Adds the exports of a statement.
+/// Adds the exports of a statement, of this origin.
 fn add_exports<'a>(
     alloc: Global,
     numbers: &Numbers,
     exports: &mut Exports<'a>,
+    origin: Origin,
     said: &'a [Said],
 ) -> Result<(), AllocError>
     requires { AreNamed exports.old }
-    ensures added { OnOk result (exports.new.all ≡ exports_among numbers.now.sections.keys
-        numbers.now.imports.keys exports.old.all said.entry.now) }
+    ensures added { OnOk result (exports.new.all ≡ exports_at numbers.now.sections.keys
+        numbers.now.imports.keys origin exports.old.all said.entry.now) }
     ensures fits { OnOk result (AllByRecursion ExportFits exports.old.all →
         AllByRecursion ExportFits exports.new.all) }
     ensures named { OnOk result (AreNamed exports.new) }
 {
     for saying in said {
-        add_export(alloc, numbers, exports, saying)?;
+        add_export(alloc, numbers, exports, origin, saying)?;
     }
     Ok(())
+}
+
+/// Adds the exports of an entry.
+fn add_entry_exports<'a>(
+    alloc: Global,
+    numbers: &Numbers,
+    exports: &mut Exports<'a>,
+    entry: &'a Entry,
+) -> Result<(), AllocError>
+    requires { AreNamed exports.old }
+    ensures added { OnOk result (exports.new.all ≡ exports_from numbers.now.sections.keys
+        numbers.now.imports.keys exports.old.all (entry.entry.now ∷ [])) }
+    ensures fits { OnOk result (AllByRecursion ExportFits exports.old.all →
+        AllByRecursion ExportFits exports.new.all) }
+    ensures named { OnOk result (AreNamed exports.new) }
+{
+    match entry {
+        Entry::Told { origin, said } => {
+            add_exports(alloc, numbers, exports, *origin, said.as_slice())
+        }
+        Entry::Put { .. } | Entry::Open => Ok(()),
+    }
 }
 
 /// The exports of a module.
@@ -147,8 +175,8 @@ pub fn exports_of(
     numbers: &Numbers,
     entries: &[Entry],
 ) -> Result<Sequence<Export>, AllocError>
-    ensures exports { IfOk result (λ exports. exports ≡ exports_among numbers.now.sections.keys
-        numbers.now.imports.keys [] (all_said (map content_of entries.now))) }
+    ensures exports { IfOk result (λ exports. exports ≡ exports_from numbers.now.sections.keys
+        numbers.now.imports.keys [] entries.now) }
     ensures fits { IfOk result (λ exports. AllByRecursion ExportFits exports) }
 {
     let mut exports = Exports {
@@ -156,7 +184,7 @@ pub fn exports_of(
         names: IndexSet::new(alloc),
     };
     for entry in entries {
-        add_exports(alloc, numbers, &mut exports, said_in(entry))?;
+        add_entry_exports(alloc, numbers, &mut exports, entry)?;
     }
     let Exports { all, names: _ } = exports;
     Ok(all)

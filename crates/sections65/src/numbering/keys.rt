@@ -1,10 +1,11 @@
 //! The keys of the imports that an object has, in the order of their numbers.
 
-ghost use Rattle.std.specs.Prelude.{◌≡◌, map, nat_eq, IfOk, OnOk};
+ghost use Rattle.std.specs.Prelude.{◌≡◌, [], map, nat_eq, IfOk, OnOk};
 ghost use Rattle.std.specs.List.{flat_map};
 ghost use Rattle.indexmap.specs.IndexSet.{IsUnique};
-ghost use Rattle.sections65.specs.Inner.Drafts.{IsTable};
+ghost use Rattle.sections65.specs.Inner.Drafts.{anywhere, IsTable};
 ghost use Rattle.sections65.specs.Fed.{content_of};
+ghost use Rattle.language65.specs.Views.{part_at, said_at};
 ghost use Rattle.language65.specs.Numbering.{content_imports, import_keys, imports_in, key_of, once, optional_key, part_imports, said_imports};
 
 use super::names::ImportTable;
@@ -36,15 +37,11 @@ fn add_form(keys: &mut IndexSet<u32>, form: &Norm) -> Result<(), AllocError>
 
 /// Adds the imports of a part.
 fn add_part(keys: &mut IndexSet<u32>, part: &Part) -> Result<(), AllocError>
-    ensures { OnOk result (keys.new.keys ≡ once keys.old.keys (part_imports part.now)) }
+    ensures { OnOk result (keys.new.keys ≡ once keys.old.keys (part_imports (part_at anywhere part.now))) }
 {
     match part {
         Part::Known(_) | Part::Filled(_) => Ok(()),
-        Part::Waiting {
-            width: _,
-            line: _,
-            form,
-        } => add_form(keys, form),
+        Part::Waiting { width: _, form } => add_form(keys, form),
     }
 }
 
@@ -70,18 +67,14 @@ fn add_saying(
     said: &Said,
 ) -> Result<(), AllocError>
     requires { IsTable names.now }
-    ensures { OnOk result (keys.new.keys ≡ once keys.old.keys (said_imports names.now.all.now said.now)) }
+    ensures { OnOk result (keys.new.keys ≡ once keys.old.keys
+        (said_imports names.now.all.now (said_at anywhere said.now))) }
 {
     match said {
-        Said::Exported {
-            name: _,
-            line: _,
-            form,
-        } => add_form(keys, form),
+        Said::Exported { name: _, form } => add_form(keys, form),
         Said::Demanded(name) => add_name(keys, names, name.as_slice()),
         Said::Checked {
             action: _,
-            line: _,
             text: _,
             form,
         } => add_form(keys, form),
@@ -95,7 +88,8 @@ fn add_said(
     said: &[Said],
 ) -> Result<(), AllocError>
     requires { IsTable names.now }
-    ensures { OnOk result (keys.new.keys ≡ once keys.old.keys (flat_map (said_imports names.now.all.now) said.now)) }
+    ensures { OnOk result (keys.new.keys ≡ once keys.old.keys
+        (flat_map (said_imports names.now.all.now) (map (said_at anywhere) said.now))) }
 {
     for saying in said {
         add_saying(keys, names, saying)?;
@@ -111,11 +105,15 @@ fn add_entry(
 ) -> Result<(), AllocError>
     requires { IsTable names.now }
     ensures { OnOk result (keys.new.keys
-        ≡ once keys.old.keys (content_imports names.now.all.now (content_of entry.now))) }
+        ≡ once keys.old.keys (content_imports names.now.all.now (content_of [] entry.now))) }
 {
     match entry {
-        Entry::Put { segment: _, part } => add_part(keys, part),
-        Entry::Told(said) => add_said(keys, names, said.as_slice()),
+        Entry::Put {
+            segment: _,
+            origin: _,
+            part,
+        } => add_part(keys, part),
+        Entry::Told { origin: _, said } => add_said(keys, names, said.as_slice()),
         Entry::Open => Ok(()),
     }
 }
@@ -126,7 +124,7 @@ pub fn import_keys(
     names: &[Sequence<u8>],
     entries: &[Entry],
 ) -> Result<IndexSet<u32>, AllocError>
-    ensures { IfOk result (λ s. s.keys ≡ import_keys names.now (map content_of entries.now)) }
+    ensures { IfOk result (λ s. s.keys ≡ import_keys names.now (map (content_of []) entries.now)) }
 {
     let table = ImportTable::of(alloc, names)?;
     let mut keys = IndexSet::new(alloc);

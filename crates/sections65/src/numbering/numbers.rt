@@ -26,7 +26,7 @@ pub fn narrow(place: usize) -> Result<u32, AllocError>
 }
 
 /// The number of a key, or 0 where it has none.
-fn number_of(keys: &IndexSet<u32>, key: u32) -> Result<u32, AllocError>
+pub fn number_of(keys: &IndexSet<u32>, key: u32) -> Result<u32, AllocError>
     ensures { IfOk result (λ n. n ≡ number_of keys.now.keys key) }
 {
     match keys.get_index_of(&key) {

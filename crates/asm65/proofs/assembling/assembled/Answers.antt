@@ -6,6 +6,7 @@ use Rattle.asm65.specs.declared.running.Run.{Run}
 use Rattle.asm65.specs.Assembly.{job_of}
 use Rattle.asm65.specs.Failing.{StopsFrom}
 use Rattle.asm65.proofs.Outcomes.{AnswersAll, as_fault, define_answer, first_running, memory_silent, none_passed, not_answered, open_answer, passed_through, run_answer, run_stops, stops_first, stops_never_so}
+use Rattle.asm65.proofs.Refusals.{refused_asked, refused_passed}
 use Rattle.asm65.proofs.assembling.assembled.Goals as goal
 
 pub finished-requires : goal.finished-requires
@@ -13,6 +14,12 @@ finished-requires g c = first_running (job_of c.args.job.now) c.in-Ok.expander c
 
 pub returns-in-Err-clause-assembled : goal.returns-in-Err-clause-assembled
 returns-in-Err-clause-assembled g c = open_answer (g.S.Store.files c.args.store.now) (job_of c.args.job.now) c.in-Err.fault c.refused.result c.args.assembler c.requires c.refused.ensures.outside c.refused.ensures.refused c.in-Err.ensures.opened
+
+pub returns-in-Err-clause-count : goal.returns-in-Err-clause-count
+returns-in-Err-clause-count g c = refused_passed _ _ c.in-Err.fault c.refused.result.result c.in-Err.ensures.count c.refused.ensures.none c.refused.ensures.failed
+
+pub returns-in-Err-clause-asked : goal.returns-in-Err-clause-asked
+returns-in-Err-clause-asked g c = refused_asked (g.S.Store.failures c.args.store.now) c.in-Err.fault c.refused.result.result c.in-Err.ensures.asked c.refused.ensures.outside
 
 pub returns-in-Err-define_all-clause-assembled : goal.returns-in-Err-define_all-clause-assembled
 returns-in-Err-define_all-clause-assembled g c =

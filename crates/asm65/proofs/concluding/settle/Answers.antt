@@ -1,4 +1,4 @@
-use Rattle.std.proofs.Common.{◌≡◌, ◌∙◌, ◌++◌, ap, sym, refl, map, false, string_bytes, Global, List, [], ℕ}
+use Rattle.std.proofs.Common.{◌≡◌, ◌∙◌, ap, sym, refl, map, false, string_bytes, Global, List, ℕ}
 use Rattle.std.specs.Prelude.{Result, Ok, Err}
 use Rattle.source65.specs.declared.place.Place.{Place}
 use Rattle.language65.specs.declared.fault.AsmFault.{AsmFault}
@@ -9,44 +9,40 @@ use Rattle.module65.specs.Places.{PlacedFault}
 use Rattle.symbols65.specs.Views.{table_of}
 use Rattle.asm65.specs.Assembly.{is_outside_refusal}
 use Rattle.asm65.specs.Inner.Holding.{IsWaiting}
-use Rattle.asm65.specs.Inner.Resolving.{IsFaulty, made_in, warning_in}
-use Rattle.asm65.specs.Views.{place_in}
-use Rattle.language65.specs.Views.{spot_of}
+use Rattle.asm65.specs.Inner.Resolving.{IsFaulty, made_in}
+use Rattle.language65.specs.Views.{place_in, spot_of}
 use Rattle.asm65.specs.declared.resolving.Made.{Made as CodeMade}
 use Rattle.asm65.proofs.Insides.{resolved_inside}
 use Rattle.asm65.proofs.Comings.{found_inside, no_more, unless, waiting_comes}
 use Rattle.asm65.proofs.concluding.settle.Goals as goal
 
-pub returns-in-Ok-warn_of-clause-settled : goal.returns-in-Ok-warn_of-clause-settled
-returns-in-Ok-warn_of-clause-settled c =
+pub returns-in-Ok-take_made-clause-settled : goal.returns-in-Ok-take_made-clause-settled
+returns-in-Ok-take_made-clause-settled c =
     λ (v : machine.Waiting).
     λ (h : IsWaiting (table_of c.args.whole.symbols.now) (map (string_bytes {Z = Global}) c.args.whole.files.now) c.args.waiting v).
-    let line : place_in v.place.file c.args.waiting.line ≡ v.place = ap (λ (n : ℕ). place_in v.place.file n) (sym h.line) in
-    let place : place_in c.file_at.result.now c.args.waiting.line ≡ v.place = ap (λ (n : List ℕ). place_in n c.args.waiting.line) (c.file_at.ensures v.place.file h.file) ∙ line in
+    let here : Place = place_in c.file_at.result.now c.args.waiting.line in
+    let place : here ≡ v.place = ap (λ (n : List ℕ). place_in n c.args.waiting.line) (c.file_at.ensures v.place.file h.file) ∙ ap (λ (n : ℕ). place_in v.place.file n) (sym h.line) in
     record {
-      made = made_in v.place c.in-Ok.made;
-      found =
-          sym (waiting_comes (table_of c.args.whole.symbols.now) (map (string_bytes {Z = Global}) c.args.whole.files.now) c.args.waiting v h)
-          ∙ c.in-Ok.ensures.made v.place.file
-          ∙ (let made : Place → Result Made AsmFault = λ p. Ok (made_in p c.in-Ok.made) in ap made line);
-      sections = c.fill.ensures;
-      err = c.in-Ok-warn_of.ensures ∙ ap (λ (p : Place). c.args.ending.now.err ++ warning_in p c.in-Ok.made.warning) place;
+      made = made_in here c.in-Ok.made;
+      found = sym (waiting_comes (table_of c.args.whole.symbols.now) (map (string_bytes {Z = Global}) c.args.whole.files.now) c.args.waiting v here h place) ∙ c.in-Ok.ensures.made;
+      sections = c.in-Ok-take_made.ensures.sections;
+      err = c.in-Ok-take_made.ensures.err;
     }
 
 pub returns-in-Err-clause-settled : goal.returns-in-Err-clause-settled
 returns-in-Err-clause-settled c =
     λ (v : machine.Waiting).
     λ (h : IsWaiting (table_of c.args.whole.symbols.now) (map (string_bytes {Z = Global}) c.args.whole.files.now) c.args.waiting v).
-    let line : place_in v.place.file c.args.waiting.line ≡ v.place = ap (λ (n : ℕ). place_in v.place.file n) (sym h.line) in
-    let place : place_in c.file_at.result.now c.args.waiting.line ≡ v.place = ap (λ (n : List ℕ). place_in n c.args.waiting.line) (c.file_at.ensures v.place.file h.file) ∙ line in
+    let here : Place = place_in c.file_at.result.now c.args.waiting.line in
+    let place : here ≡ v.place = ap (λ (n : List ℕ). place_in n c.args.waiting.line) (c.file_at.ensures v.place.file h.file) ∙ ap (λ (n : ℕ). place_in v.place.file n) (sym h.line) in
     unless (is_outside_refusal c.of_fault.result) (IsFaulty (table_of c.args.whole.symbols.now) v c.of_fault.result c.args.ending.now (record { known = c.resolve.new.known; sections = c.args.ending.now.sections; err = c.args.ending.now.err }))
     (λ (e : is_outside_refusal c.of_fault.result ≡ false).
     let inside : is_outside c.in-Err.fault ≡ false = no_more (is_outside c.in-Err.fault) (is_outside_refusal c.of_fault.result) c.of_fault.ensures.outside e in
     let placed = c.of_fault.ensures.placed e in
     record {
       found =
-          sym (waiting_comes (table_of c.args.whole.symbols.now) (map (string_bytes {Z = Global}) c.args.whole.files.now) c.args.waiting v h)
-          ∙ found_inside c.in-Err.fault _ (c.in-Err.ensures.made v.place.file) inside
+          sym (waiting_comes (table_of c.args.whole.symbols.now) (map (string_bytes {Z = Global}) c.args.whole.files.now) c.args.waiting v here h place)
+          ∙ found_inside c.in-Err.fault _ c.in-Err.ensures.made inside
           ∙ (let lost : PlacedFault → Result Made AsmFault = λ p. Err p.fault in ap lost (sym placed));
       place = ap (λ (p : PlacedFault). p.place) placed ∙ place;
       err = refl;
@@ -54,6 +50,6 @@ returns-in-Err-clause-settled c =
 
 pub returns-in-Err-clause-inside : goal.returns-in-Err-clause-inside
 returns-in-Err-clause-inside c =
-    let none : List ℕ = [] in
+    let here : Place = place_in c.file_at.result.now c.args.waiting.line in
     let answer : Result CodeMade AsmFault = Err c.in-Err.fault in
-    c.of_fault.ensures.inside (resolved_inside answer (made_in (place_in none c.args.waiting.line)) (table_of c.args.whole.symbols.now) (place_in none c.args.waiting.line) (spot_of c.args.waiting.spot) c.args.waiting.piece (c.in-Err.ensures.made none))
+    c.of_fault.ensures.inside (resolved_inside answer (made_in here) (table_of c.args.whole.symbols.now) here (spot_of c.args.waiting.spot) c.args.waiting.piece c.in-Err.ensures.made)

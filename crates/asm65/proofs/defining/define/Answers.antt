@@ -6,7 +6,7 @@ use Rattle.module65.specs.Reading.{Answers}
 use Rattle.asm65.specs.Assembly.{define_of}
 use Rattle.layout65.specs.Counting.{opening_limit}
 use Rattle.asm65.specs.Inner.Holding.{Holds}
-use Rattle.asm65.specs.Views.{place_in}
+use Rattle.language65.specs.Views.{place_in}
 use Rattle.asm65.proofs.Defines.{defines_by}
 use Rattle.asm65.proofs.defining.define.Goals as goal
 

@@ -6,9 +6,8 @@ use Rattle.expand65.specs.Includes.{beside, file_named}
 use Rattle.language65.specs.declared.language.PartRange.{PartRange}
 use Rattle.language65.specs.Faults.{is_memory}
 use Rattle.language65.specs.LineFaults.{unless_fault}
-use Rattle.language65.specs.Views.{range_of, stated_of}
+use Rattle.language65.specs.Views.{place_in, range_of, stated_of}
 use Rattle.layout65.specs.Measuring.{unread_fault}
-use Rattle.asm65.specs.Views.{place_in}
 use Rattle.asm65.proofs.NamedFiles.{part_read}
 use Rattle.asm65.proofs.Runs.{told_then}
 use Rattle.asm65.proofs.UnreadFiles.{failed_unread, refused_unread}

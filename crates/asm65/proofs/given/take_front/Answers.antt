@@ -1,7 +1,6 @@
 use Rattle.std.proofs.Common.{ap}
 use Rattle.std.specs.Prelude.{option_map}
-use Rattle.language65.specs.Views.{stated_of}
-use Rattle.asm65.specs.Views.{place_in}
+use Rattle.language65.specs.Views.{place_in, stated_of}
 use Rattle.asm65.proofs.Runs.{front_leaves}
 use Rattle.asm65.proofs.given.take_front.Goals as goal
 

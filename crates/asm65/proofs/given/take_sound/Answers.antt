@@ -1,5 +1,4 @@
-use Rattle.language65.specs.Views.{stated_of}
-use Rattle.asm65.specs.Views.{place_in}
+use Rattle.language65.specs.Views.{place_in, stated_of}
 use Rattle.asm65.proofs.Runs.{sound_leaves}
 use Rattle.asm65.proofs.given.take_sound.Goals as goal
 

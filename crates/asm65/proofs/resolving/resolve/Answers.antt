@@ -1,11 +1,10 @@
-use Rattle.std.proofs.Common.{List, ℕ}
-use Rattle.language65.specs.Views.{spot_of}
+use Rattle.language65.specs.Views.{place_in, spot_of}
 use Rattle.asm65.proofs.resolving.resolve.Goals as goal
 
 pub returns-in_ok-form-in-Assertion-clause-made : goal.returns-in_ok-form-in-Assertion-clause-made
 returns-in_ok-form-in-Assertion-clause-made c =
-    λ (file : List ℕ). rw (c.in-Assertion.is, c.in_ok-form-in-Assertion.ensures.form) (c.use_assertion.ensures file (spot_of c.args.waiting.spot))
+    rw (c.in-Assertion.is, c.in_ok-form-in-Assertion.ensures.form) (c.use_assertion.ensures (spot_of c.args.waiting.spot))
 
 pub returns-in-Import-clause-made : goal.returns-in-Import-clause-made
 returns-in-Import-clause-made c =
-    λ (file : List ℕ). rw c.in-Import.is (c.resolve_import.ensures file c.args.waiting.line (spot_of c.args.waiting.spot))
+    rw c.in-Import.is (c.resolve_import.ensures (place_in c.args.at.file.now c.args.at.line) (spot_of c.args.waiting.spot))

@@ -3,7 +3,7 @@ use Rattle.source65.specs.declared.place.Place.{Place}
 use Rattle.expand65.specs.Standing.{place_of, stated}
 use Rattle.language65.specs.Sound.{AreNamed}
 use Rattle.asm65.specs.Inner.Running.{TakesBy, tokens_of}
-use Rattle.asm65.specs.Views.{place_in}
+use Rattle.language65.specs.Views.{place_in}
 use Rattle.asm65.proofs.Runs.{GivenBy, GivenStops}
 use Rattle.asm65.proofs.running.take_next.Goals as goal
 

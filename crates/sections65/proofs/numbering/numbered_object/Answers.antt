@@ -1,15 +1,12 @@
-use Rattle.std.proofs.Common.{◌∙◌, [], ap, sym, subst, map, List, ℕ}
-use Rattle.std.specs.Prelude.{filter_map}
-use Rattle.std.specs.List.{AllByRecursion}
+use Rattle.std.proofs.Common.{◌≡◌, ◌∙◌, true, [], ap, sym, subst, map, List, ℕ}
+use Rattle.std.specs.List.{AllByRecursion, flat_map}
+use Rattle.std.specs.Str.{is_utf8}
 use Rattle.object65.specs.declared.object.Assert.{Assert}
 use Rattle.object65.specs.declared.object.Export.{Export}
 use Rattle.object65.specs.declared.object.Object.{Object}
 use Rattle.object65.specs.declared.object.Section.{Section}
-use Rattle.object65.specs.Objects.{FragmentFits}
-use Rattle.sections65.specs.Inner.Drafts.{section_from}
-use Rattle.sections65.specs.Fed.{content_of}
-use Rattle.language65.specs.Numbering.{all_said, assert_of, exports_among, name_of}
-use Rattle.sections65.proofs.Drafting.{sections_are}
+use Rattle.sections65.specs.Inner.Drafts.{SectionFits, entry_asserts, exports_from, section_from}
+use Rattle.language65.specs.Numbering.{name_of}
 use Rattle.sections65.proofs.Fitting.{sections_fit}
 use Rattle.sections65.proofs.numbering.numbered_object.Goals as goal
 
@@ -17,19 +14,19 @@ pub returns-clause-object : goal.returns-clause-object
 returns-clause-object c =
     let segments = c.args.segments.now in
     let names = c.args.names.now in
-    let cs = map content_of c.args.entries.items in
     let s = c.args.numbers.now.sections.keys in
     let i = c.args.numbers.now.imports.keys in
-    let made : List (List ℕ) → List Section → List Export → List Assert → Object = λ a b e t. record { imports = a; sections = b; exports = e; asserts = t } in
+    let made : List (List ℕ) → List (List ℕ) → List Section → List Export → List Assert → Object = λ f a b e t. record { version = 2; files = f; imports = a; sections = b; exports = e; asserts = t } in
     let imports = c.in_ok-import_names.ensures ∙ ap (map (name_of names)) c.as_slice-3.ensures.keys in
-    let sections = c.in_ok-finish_sections.ensures ∙ ap (map (section_from segments)) c.in_ok-drafts.ensures.filled ∙ sections_are s i segments cs s in
-    let exports = c.in_ok-exports.ensures.exports ∙ ap (λ es. exports_among s i [] (all_said (map content_of es))) c.as_slice.ensures.value in
-    let asserts = c.in_ok-asserts.ensures.asserts ∙ ap (λ es. filter_map (assert_of s i) (all_said (map content_of es))) c.as_slice-2.ensures.value in
-    λ n. made (imports n) (sections n) (exports n) (asserts n)
+    let sections = c.in_ok-finish_sections.ensures ∙ ap (map (section_from segments)) c.in_ok-drafts.ensures.filled in
+    let exports = c.in_ok-exports.ensures.exports ∙ ap (exports_from s i []) c.as_slice.ensures.value in
+    let asserts = c.in_ok-asserts.ensures.asserts ∙ ap (flat_map (entry_asserts s i)) c.as_slice-2.ensures.value in
+    λ n. made (c.new.ensures n) (imports n) (sections n) (exports n) (asserts n)
 
 pub returns-clause-fits : goal.returns-clause-fits
 returns-clause-fits c = record {
-  sections = subst (AllByRecursion (λ (s : Section). AllByRecursion FragmentFits s.fragments)) (sym c.in_ok-finish_sections.ensures) (sections_fit c.args.segments.now c.in_ok-drafts.drafts.items c.in_ok-drafts.ensures.fits);
+  files = subst (AllByRecursion (λ name. is_utf8 name ≡ true)) (sym c.new.ensures) tt;
+  sections = subst (AllByRecursion SectionFits) (sym c.in_ok-finish_sections.ensures) (sections_fit c.args.segments.now c.in_ok-drafts.drafts.items c.in_ok-drafts.ensures.fits);
   exports = c.in_ok-exports.ensures.fits;
   asserts = c.in_ok-asserts.ensures.fits;
 }

@@ -7,7 +7,7 @@ use Rattle.language65.specs.Contents.{telling}
 use Rattle.language65.specs.Extending.{IsFinal}
 use Rattle.language65.specs.Laid.{Spot}
 use Rattle.language65.specs.Symbols.{Definition, Symbols, named}
-use Rattle.language65.specs.Views.{spot_of}
+use Rattle.language65.specs.Views.{place_in, spot_of}
 use Rattle.language65.proofs.Lists.{map_length}
 use Rattle.module65.specs.Machine.{State, at_once, awaiting, entered, later}
 use Rattle.module65.specs.Pieces.{equated, valued}
@@ -18,7 +18,6 @@ use Rattle.symbols65.specs.Views.{table_of, with_definition, words_of}
 use Rattle.asm65.specs.declared.assembler.Assembler.{Assembler}
 use Rattle.asm65.specs.Inner.Holding.{Holds, IsConstant}
 use Rattle.asm65.specs.Inner.Taking.{with_symbols}
-use Rattle.asm65.specs.Views.{place_in}
 use Rattle.asm65.proofs.Namings.{holds_grown, last_there, more_defined}
 use Rattle.asm65.proofs.Enterings.{says_nothing}
 use Rattle.asm65.proofs.Waitings.{holds_entered}

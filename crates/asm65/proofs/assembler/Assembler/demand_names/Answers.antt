@@ -1,9 +1,8 @@
 use Rattle.std.proofs.Common.{◌++◌, List, map}
 use Rattle.std.specs.Prelude.{false}
-use Rattle.language65.specs.Views.{spot_of}
+use Rattle.language65.specs.Views.{place_in, spot_of}
 use Rattle.module65.specs.Pieces.{Piece, demanded, imported}
 use Rattle.symbols65.specs.Views.{with_names}
-use Rattle.asm65.specs.Views.{place_in}
 use Rattle.asm65.proofs.Enterings.{enters_both}
 use Rattle.asm65.proofs.Namings.{mentions_enter, more_imported, on_both, turns_after}
 use Rattle.asm65.proofs.assembler.Assembler.demand_names.Goals as goal

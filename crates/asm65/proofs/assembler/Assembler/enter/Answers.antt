@@ -1,8 +1,7 @@
 use Rattle.std.proofs.Common.{sym, ap}
 use Rattle.language65.specs.Language as l
-use Rattle.language65.specs.Views.{operand_of, spot_of, stated_of}
+use Rattle.language65.specs.Views.{operand_of, place_in, spot_of, stated_of}
 use Rattle.layout65.specs.Measuring.{measured_of}
-use Rattle.asm65.specs.Views.{place_in}
 use Rattle.asm65.proofs.Statements.{adds_pieces, nothing_behind, taken_as}
 use Rattle.asm65.proofs.assembler.Assembler.enter.Goals as goal
 

@@ -1,9 +1,8 @@
 use Rattle.std.proofs.Common.{refl}
 use Rattle.syntax65.specs.Trees.{tree_of}
-use Rattle.language65.specs.Views.{spot_of}
+use Rattle.language65.specs.Views.{place_in, spot_of}
 use Rattle.module65.specs.Pieces.{datum, valued}
 use Rattle.asm65.specs.declared.waiting.Piece.TheVariants.{Datum}
-use Rattle.asm65.specs.Views.{place_in}
 use Rattle.asm65.proofs.Enterings.{tried_waits}
 use Rattle.layout65.proofs.Steps.{ok_then}
 use Rattle.asm65.proofs.assembler.Assembler.enter_datum.Goals as goal

@@ -4,10 +4,9 @@ use Rattle.syntax65.specs.Opcodes.{opcode_of}
 use Rattle.syntax65.specs.Trees.{Tree, tree_of}
 use Rattle.language65.specs.Contents.{opcode_part, operand_tree}
 use Rattle.language65.specs.Sizes.{width_of}
-use Rattle.language65.specs.Views.{operand_of, spot_of}
+use Rattle.language65.specs.Views.{operand_of, place_in, spot_of}
 use Rattle.module65.specs.Pieces.{given, operand_pieces}
 use Rattle.asm65.specs.Inner.Holding.{Enters}
-use Rattle.asm65.specs.Views.{place_in}
 use Rattle.asm65.proofs.Enterings.{enters_both}
 use Rattle.layout65.proofs.Steps.{ok_then}
 use Rattle.asm65.proofs.assembler.Assembler.enter_instruction.Goals as goal

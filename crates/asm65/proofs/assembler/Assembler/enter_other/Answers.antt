@@ -3,10 +3,9 @@ use Rattle.std.specs.Prelude.{Some, None, box_value, true}
 use Rattle.std.specs.Option.{option_map}
 use Rattle.syntax65.specs.Trees.{tree_of}
 use Rattle.language65.specs.Language as l
-use Rattle.language65.specs.Views.{item_of, operand_of, range_of, spot_of, stated_of}
+use Rattle.language65.specs.Views.{item_of, operand_of, place_in, range_of, spot_of, stated_of}
 use Rattle.layout65.specs.Measuring.{measured_of}
 use Rattle.module65.specs.Pieces.{exported}
-use Rattle.asm65.specs.Views.{place_in}
 use Rattle.asm65.proofs.Namings.{mentions_enter}
 use Rattle.asm65.proofs.Statements.{adds_cheap, adds_constant, adds_forced, adds_globals, adds_imports, adds_label, adds_pieces, adds_proc, adds_scope, adds_unnamed, nothing_behind, taken_as}
 use Rattle.asm65.proofs.assembler.Assembler.enter_other.Goals as goal

@@ -5,11 +5,10 @@ use Rattle.source65.specs.declared.place.Place.{Place}
 use Rattle.object65.specs.declared.object.Width.{Width}
 use Rattle.language65.specs.declared.language.Item.{Item}
 use Rattle.language65.specs.Laid.{Spot}
-use Rattle.language65.specs.Views.{item_of, spot_of}
+use Rattle.language65.specs.Views.{item_of, place_in, spot_of}
 use Rattle.module65.specs.Pieces.{item_piece}
 use Rattle.asm65.specs.declared.assembler.Assembler.{Assembler}
 use Rattle.asm65.specs.Inner.Holding.{Enters}
-use Rattle.asm65.specs.Views.{place_in}
 use Rattle.asm65.proofs.Enterings.{enters_both, enters_none}
 use Rattle.asm65.proofs.assembler.Assembler.enter_values.Goals as goal
 

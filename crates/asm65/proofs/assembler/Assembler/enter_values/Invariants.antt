@@ -1,10 +1,9 @@
 use Rattle.std.proofs.Common.{map}
 use Rattle.std.specs.Vec.Iter.{into_iter_items}
-use Rattle.language65.specs.Views.{item_of, spot_of}
+use Rattle.language65.specs.Views.{item_of, place_in, spot_of}
 use Rattle.module65.specs.Pieces.{item_piece}
 use Rattle.asm65.specs.declared.assembler.Assembler.{Assembler}
 use Rattle.asm65.specs.Inner.Holding.{Enters}
-use Rattle.asm65.specs.Views.{place_in}
 use Rattle.asm65.proofs.assembler.Assembler.enter_values.Given as goal
 
 -- whatever is behind the items that are left is behind them all

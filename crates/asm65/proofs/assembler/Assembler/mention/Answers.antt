@@ -1,14 +1,13 @@
 use Rattle.std.proofs.Common.{List, ℕ, map, take, sym, subst, arith}
 use Rattle.source65.specs.declared.place.Place.{Place}
 use Rattle.language65.specs.Laid.{Spot}
-use Rattle.language65.specs.Views.{spot_of}
+use Rattle.language65.specs.Views.{place_in, spot_of}
 use Rattle.module65.specs.Machine.{State}
 use Rattle.module65.specs.Pieces as piece
 use Rattle.symbols65.specs.Views.{table_of}
 use Rattle.asm65.specs.declared.assembler.Assembler.{Assembler}
 use Rattle.asm65.specs.Inner.Holding.{Holds, IsPiece}
 use Rattle.asm65.specs.Inner.Taking.{all_awaiting, mentioned}
-use Rattle.asm65.specs.Views.{place_in}
 use Rattle.asm65.proofs.Namings.{all_taken, keeps_both, one_more_awaiting, taken_more}
 use Rattle.asm65.proofs.assembler.Assembler.mention.Goals as goal
 

@@ -1,8 +1,7 @@
 use Rattle.std.proofs.Common.{map, take}
-use Rattle.language65.specs.Views.{spot_of}
+use Rattle.language65.specs.Views.{place_in, spot_of}
 use Rattle.asm65.specs.Inner.Putting.{KeepsTables}
 use Rattle.asm65.specs.Inner.Taking.{Mentions, mentioned}
-use Rattle.asm65.specs.Views.{place_in}
 use Rattle.asm65.proofs.assembler.Assembler.mention.Given as goal
 
 abbrev pub invariant-loop-name : goal.invariant-loop-name

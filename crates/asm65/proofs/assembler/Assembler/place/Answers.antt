@@ -12,7 +12,7 @@ use Rattle.language65.specs.Layout as layout
 use Rattle.language65.specs.Layout.{Standing}
 use Rattle.language65.specs.LineFaults.{line_fault}
 use Rattle.language65.specs.Symbols.{Symbols}
-use Rattle.language65.specs.Views.{spot_of, stated_of}
+use Rattle.language65.specs.Views.{place_in, spot_of, stated_of}
 use Rattle.layout65.specs.Advancing.{advanced}
 use Rattle.layout65.specs.Counting.{AreInside, HasNumbers}
 use Rattle.layout65.specs.Measuring.{Measured, measured, measured_of}
@@ -25,7 +25,6 @@ use Rattle.symbols65.specs.Views.{table_of}
 use Rattle.asm65.specs.declared.assembler.Assembler.{Assembler}
 use Rattle.asm65.specs.Inner.Holding.{AreBefore, Holds}
 use Rattle.asm65.specs.Inner.Taking.{IsNew, asked_of}
-use Rattle.asm65.specs.Views.{place_in}
 use Rattle.asm65.proofs.Insides.{measured_inside}
 use Rattle.asm65.proofs.Takings.{holds_known, holds_stepped, is_new, unless_either}
 use Rattle.asm65.proofs.assembler.Assembler.place.Goals as goal

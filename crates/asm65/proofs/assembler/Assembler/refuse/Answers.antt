@@ -5,7 +5,7 @@ use Rattle.module65.specs.Module.{Outcome}
 use Rattle.module65.specs.Places.{PlacedFault}
 use Rattle.asm65.specs.Assembly.{is_outside_refusal}
 use Rattle.asm65.specs.Inner.Running.{SaysAs}
-use Rattle.asm65.specs.Views.{place_in}
+use Rattle.language65.specs.Views.{place_in}
 use Rattle.asm65.proofs.assembler.Assembler.refuse.Goals as goal
 
 pub returns-clause-refused : goal.returns-clause-refused

@@ -1,8 +1,7 @@
 use Rattle.language65.specs.Faults.{is_outside}
-use Rattle.language65.specs.Views.{spot_of, stated_of}
+use Rattle.language65.specs.Views.{place_in, spot_of, stated_of}
 use Rattle.layout65.specs.Measuring.{measured_of}
 use Rattle.layout65.proofs.Steps.{unless_then}
-use Rattle.asm65.specs.Views.{place_in}
 use Rattle.asm65.proofs.Takings.{takes_entered, takes_refused}
 use Rattle.asm65.proofs.assembler.Assembler.take.Goals as goal
 

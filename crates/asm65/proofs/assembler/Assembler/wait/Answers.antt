@@ -1,8 +1,7 @@
 use Rattle.std.proofs.Common.{refl}
-use Rattle.language65.specs.Views.{spot_of}
+use Rattle.language65.specs.Views.{place_in, spot_of}
 use Rattle.asm65.specs.declared.assembler.Assembler.{Assembler}
 use Rattle.asm65.specs.declared.waiting.Waiting.{Waiting}
-use Rattle.asm65.specs.Views.{place_in}
 use Rattle.layout65.proofs.Steps.{ok_then}
 use Rattle.asm65.proofs.Waitings.{waits_behind}
 use Rattle.asm65.proofs.assembler.Assembler.wait.Goals as goal

@@ -6,4 +6,4 @@ use Rattle.sections65.proofs.entries.Entries.push.Goals as goal
 pub returns : goal.returns
 returns c =
     let closed = c.in_ok-close.ensures in
-    takes_both c.args.self.now _ _ [] (content_of c.args.entry ∷ []) closed.same (takes_pushed _ _ c.args.entry c.requires closed.bytes closed.room c.in_ok-add.ensures)
+    λ files standing. takes_both files c.args.self.now _ _ [] (content_of files c.args.entry ∷ []) (closed.same files) (takes_pushed files _ _ c.args.entry c.requires standing closed.bytes closed.room c.in_ok-add.ensures)

@@ -5,10 +5,10 @@ use Rattle.sections65.proofs.Standings.{settles_seen, settles_none}
 use Rattle.sections65.proofs.entries.Entries.settle.Goals as goal
 
 pub returns : goal.returns
-returns c = λ h. settles_seen c.args.self.now _ c.args.entry c.in-Some.place c.as_slice.result.now c.as_slice.ensures.value c.requires c.in-Some.ensures.within c.in-Some.ensures.waits (c.in-Some.ensures.first (ap (λ es. list_any is_open (take c.args.self.now.settled es)) c.as_slice.ensures.value ∙ h.none)) refl refl refl
+returns c = λ files standing h. settles_seen files c.args.self.now _ c.args.entry c.in-Some.place c.as_slice.result.now c.as_slice.ensures.value c.requires standing c.in-Some.ensures.within c.in-Some.ensures.waits (c.in-Some.ensures.first (ap (λ es. list_any is_open (take c.args.self.now.settled es)) c.as_slice.ensures.value ∙ h.none)) refl refl refl
 
 pub returns-in_default : goal.returns-in_default
-returns-in_default c = λ h.
-    settles_none c.args.self.now (content_of c.args.entry)
+returns-in_default c = λ files standing h.
+    settles_none files c.args.self.now (content_of files c.args.entry)
     (ap (list_any is_open) (sym c.as_slice.ensures.value) ∙ c.in_default.ensures.none (ap (λ es. list_any is_open (take c.args.self.now.settled es)) c.as_slice.ensures.value ∙ h.none))
     h

@@ -2,8 +2,7 @@ use Rattle.std.proofs.Common.{◌≡◌, ◌∙◌, sym, ap, map, subst}
 use Rattle.std.specs.List.{AllByRecursion}
 use Rattle.std.proofs.Common.{rules}
 use Rattle.std.specs.Vec.Iter.{into_iter_items}
-use Rattle.sections65.specs.Inner.Drafts.{DraftFits, new_draft, with_contents}
-use Rattle.sections65.specs.Fed.{content_of}
+use Rattle.sections65.specs.Inner.Drafts.{DraftFits, new_draft, with_entries}
 use Rattle.sections65.specs.declared.numbering.drafts.Draft.{Draft}
 use Rattle.sections65.proofs.Drafting.{segments_stay, segments_begin}
 use Rattle.sections65.proofs.Fitting.{new_fit}
@@ -18,19 +17,19 @@ loop-entry-init c =
     record {
       keys = ap (map (λ (d : Draft). d.segment)) begun ∙ segments_begin s i s;
       fits = subst (AllByRecursion DraftFits) (sym begun) (new_fit s);
-      filled = (λ n. with_contents s i (map content_of (first n)) (begun n));
+      filled = (λ n. with_entries s i (first n) (begun n));
     }
 
 pub loop-entry-preserved : goal.loop-entry-preserved
 loop-entry-preserved c =
     let s = c.args.numbers.now.sections.keys in
     let i = c.args.numbers.now.imports.keys in
-    let rest = map content_of (into_iter_items c.next.new.self) in
+    let rest = into_iter_items c.next.new.self in
     record {
-      keys = ap (map (λ (d : Draft). d.segment)) c.in_ok-add_entry.ensures.added ∙ segments_stay s i (content_of c.in-Some.entry) c.loop-entry.drafts.items ∙ c.loop-entry.invariant.keys;
+      keys = ap (map (λ (d : Draft). d.segment)) c.in_ok-add_entry.ensures.added ∙ segments_stay s i c.in-Some.entry c.loop-entry.drafts.items ∙ c.loop-entry.invariant.keys;
       fits = c.in_ok-add_entry.ensures.fits c.loop-entry.invariant.fits;
       filled =
-          ap (with_contents s i rest) c.in_ok-add_entry.ensures.added
-          ∙ sym (ap (λ es. with_contents s i (map content_of es) c.loop-entry.drafts.items) c.in-Some.ensures.steps.0)
+          ap (with_entries s i rest) c.in_ok-add_entry.ensures.added
+          ∙ sym (ap (λ es. with_entries s i es c.loop-entry.drafts.items) c.in-Some.ensures.steps.0)
           ∙ c.loop-entry.invariant.filled;
     }

@@ -1,0 +1,201 @@
+-- The object of entries, in the order of its files, is that of their contents.
+use Rattle.std.proofs.Common.{◌≡◌, ◌∙◌, ℕ, ◌+◌, ◌<◌, Bool, true, false, not, ◌&&◌, cond, List, [], ◌∷◌, ◌++◌, length, map, position, Option, Some, None, nat_eq, nat_lt, refl, sym, ap, subst, arith}
+use Rattle.std.specs.Prelude.{filter_map, slice_get, if◌then◌else◌}
+use Rattle.std.specs.List.{IsDistinct, filter, flat_map, list_all, list_any}
+use Rattle.std.specs.Str.{bytes_eq}
+use Rattle.std.proofs.lemmas.Bool.Decides.{nat_tests}
+use Rattle.std.proofs.lemmas.List.Elements.{filter_map-append}
+use Rattle.std.proofs.lemmas.List.Folds.{list_all-append}
+use Rattle.source65.specs.declared.place.Place.{Place}
+use Rattle.object65.specs.declared.object.Assert.{Assert}
+use Rattle.object65.specs.declared.object.Export.{Export}
+use Rattle.object65.specs.declared.object.Fragment.{Fragment}
+use Rattle.object65.specs.declared.object.Fragment.TheVariants.{Value}
+use Rattle.object65.specs.declared.object.Object.{Object}
+use Rattle.object65.specs.declared.object.Origin.{Origin}
+use Rattle.object65.specs.declared.object.Section.{Section}
+use Rattle.object65.specs.Objects.{has_file, has_file_by, is_good_origin}
+use Rattle.language65.specs.Contents.{telling}
+use Rattle.language65.specs.Parts.{Content, Part, Said}
+use Rattle.language65.specs.declared.contents.Part as declared
+use Rattle.language65.specs.declared.contents.Part.TheVariants as part
+use Rattle.language65.specs.declared.contents.Said as telled
+use Rattle.language65.specs.declared.contents.Said.TheVariants as told
+use Rattle.language65.specs.declared.contents.Segment.{Segment}
+use Rattle.language65.specs.Numbering.{all_joined, all_said, assert_of, exports_among, fragment_of, fragments_of, import_keys, in_files, is_empty, name_of, numbered, once, optional_key, part_imports, parts_in, section_of, segment_name, segment_power}
+use Rattle.language65.specs.Views.{part_at, said_at}
+use Rattle.sections65.specs.declared.entries.Entry.{Entry}
+use Rattle.sections65.specs.declared.entries.Entry.TheVariants.{Put, Told, Open}
+use Rattle.sections65.specs.Fed.{content_of, file_name, object_over, place_by, stands_in}
+use Rattle.sections65.specs.Inner.Drafts.{anywhere, asserts_at, entry_asserts, exports_at, exports_from, fragment_at, here, object_before}
+use Rattle.sections65.specs.Inner.Ordering.{in_order}
+use Rattle.sections65.specs.Standing.{StandIn}
+use Rattle.sections65.proofs.Drafting.{entry_fragments, fragments_put, front, section_put, sections_are}
+use Rattle.sections65.proofs.Exporting.{among_append}
+use Rattle.sections65.proofs.Keys.{imports_anyhow}
+use Rattle.sections65.proofs.Naming.{found_there, is_listed, listed_there}
+use Rattle.sections65.proofs.Reordering.{is_listed_part, is_listed_said, object_at, ordered}
+use Rattle.sections65.proofs.Renumbering.{and, left, right}
+
+module _ (files : List (List ℕ)) (apart : IsDistinct bytes_eq files) where
+  abbrev at : Place → Origin
+  at = in_files files
+
+  -- ---- Origins by the table.
+
+  place_back : (f : Option ℕ) → (has_file_by 2 f && has_file (length files) f) ≡ true → position (bytes_eq (file_name files f)) files ≡ f
+  place_back None h = absurd cc
+  place_back (Some k) h = let lt : k < length files = grind (arith, nat_tests) in found_there files apart k lt
+
+  pub origin_back : (o : Origin) → is_good_origin 2 (length files) o ≡ true → at (place_by files o) ≡ o
+  origin_back o h = λ n. record { file = place_back o.file h n; line = o.line }
+
+  place_listed : (f : Option ℕ) → (has_file_by 2 f && has_file (length files) f) ≡ true → list_any (bytes_eq (file_name files f)) files ≡ true
+  place_listed None h = absurd cc
+  place_listed (Some k) h = let lt : k < length files = grind (arith, nat_tests) in listed_there files apart k lt
+
+  origin_listed : (o : Origin) → is_good_origin 2 (length files) o ≡ true → is_listed files apart (place_by files o) ≡ true
+  origin_listed o h = place_listed o.file h
+
+  first : (e : Entry) (es : List Entry) → StandIn (length files) (e ∷ es) → stands_in (length files) e ≡ true
+  first e es h = left (stands_in (length files) e) (list_all (stands_in (length files)) es) h
+
+  others : (e : Entry) (es : List Entry) → StandIn (length files) (e ∷ es) → StandIn (length files) es
+  others e es h = right (stands_in (length files) e) (list_all (stands_in (length files)) es) h
+
+  abbrev contents : List Entry → List Content
+  contents es = map (content_of files) es
+
+  -- what is told stands in no section
+  told_parts : (ss : List Said) (cs : List Content) (g : ℕ) → parts_in (telling ss ∷ cs) g ≡ parts_in cs g
+  told_parts ss cs g = by (nat_eq 0 g)
+    where
+      by : (b : Bool) → flat_map (λ (c : Content). c.parts) (if b then telling ss ∷ filter (λ c. nat_eq c.segment g) cs else filter (λ c. nat_eq c.segment g) cs) ≡ parts_in cs g
+      by true = refl
+      by false = refl
+
+  module _ (s i : List ℕ) where
+    -- ---- What entries put.
+
+    fragment_is : (g : ℕ) (o : Origin) (p : declared.Part) → stands_in (length files) (Put g o p) ≡ true → fragment_at s i o p ≡ fragment_of at s i (part_at (place_by files o) p)
+    fragment_is g o (part.Known bytes) h = refl
+    fragment_is g o (part.Filled n) h = refl
+    fragment_is g o (part.Waiting width f) h = ap (λ origin. Value width origin (numbered s i f)) (sym (origin_back o h))
+
+    fragments_are : (h : ℕ) (es : List Entry) → StandIn (length files) es → fragments_put s i h es ≡ fragments_of at s i (parts_in (contents es) h)
+    fragments_are h [] standing = refl
+    fragments_are h (Put g o p ∷ es) standing =
+        by (nat_eq g h) (fragments_are h es (others (Put g o p) es standing))
+      where
+        q : Part
+        q = part_at (place_by files o) p
+
+        by : (b : Bool) → fragments_put s i h es ≡ fragments_of at s i (parts_in (contents es) h) →
+            (if b then filter (λ f. not (is_empty f)) (fragment_at s i o p ∷ []) else []) ++ fragments_put s i h es
+            ≡ fragments_of at s i (flat_map (λ (c : Content). c.parts) (if b then content_of files (Put g o p) ∷ filter (λ c. nat_eq c.segment h) (contents es) else filter (λ c. nat_eq c.segment h) (contents es)))
+        by true rest =
+            (λ n. filter (λ f. not (is_empty f)) (fragment_is g o p (first (Put g o p) es standing) n ∷ []) ++ rest n)
+            ∙ front (fragment_of at s i q) (map (fragment_of at s i) (parts_in (contents es) h))
+        by false rest = rest
+    fragments_are h (Told o ss ∷ es) standing =
+        fragments_are h es (others (Told o ss) es standing)
+        ∙ ap (fragments_of at s i) (sym (told_parts (map (said_at (place_by files o)) ss) (contents es) h))
+    fragments_are h (Open ∷ es) standing =
+        fragments_are h es (others Open es standing)
+        ∙ ap (fragments_of at s i) (sym (told_parts [] (contents es) h))
+
+    sections_at : (segments : List Segment) (es : List Entry) (keys : List ℕ) → StandIn (length files) es → map (section_put s i segments es) keys ≡ map (section_of at segments s i (contents es)) keys
+    sections_at segments es [] standing = refl
+    sections_at segments es (k ∷ keys) standing =
+        λ n. record { name = segment_name (slice_get segments k); align = segment_power (slice_get segments k); fragments = all_joined (fragments_are k es standing n) }
+        ∷ sections_at segments es keys standing n
+
+    -- ---- What entries say.
+
+    exports_are : (o : Origin) (found : List Export) (ss : List telled.Said) → at (place_by files o) ≡ o → exports_at s i o found ss ≡ exports_among at s i found (map (said_at (place_by files o)) ss)
+    exports_are o found [] h = refl
+    exports_are o found (told.Exported n f ∷ ss) h =
+        exports_are o (if list_any (λ e. bytes_eq n e.name) found then found else found ++ record { name = n; origin = o; form = numbered s i f } ∷ []) ss h
+        ∙ ap (λ origin. exports_among at s i (if list_any (λ e. bytes_eq n e.name) found then found else found ++ record { name = n; origin = origin; form = numbered s i f } ∷ []) (map (said_at (place_by files o)) ss)) (sym h)
+    exports_are o found (told.Demanded n ∷ ss) h = exports_are o found ss h
+    exports_are o found (told.Checked act words f ∷ ss) h = exports_are o found ss h
+
+    exports_said : (found : List Export) (es : List Entry) → StandIn (length files) es → exports_from s i found es ≡ exports_among at s i found (all_said (contents es))
+    exports_said found [] standing = refl
+    exports_said found (Put g o p ∷ es) standing = exports_said found es (others (Put g o p) es standing)
+    exports_said found (Open ∷ es) standing = exports_said found es (others Open es standing)
+    exports_said found (Told o ss ∷ es) standing =
+        exports_said (exports_at s i o found ss) es (others (Told o ss) es standing)
+        ∙ ap (λ found. exports_among at s i found (all_said (contents es))) (exports_are o found ss (origin_back o (first (Told o ss) es standing)))
+        ∙ among_append at s i (map (said_at (place_by files o)) ss) found (all_said (contents es))
+
+    asserts_are : (o : Origin) (ss : List telled.Said) → at (place_by files o) ≡ o → asserts_at s i o ss ≡ filter_map (assert_of at s i) (map (said_at (place_by files o)) ss)
+    asserts_are o [] h = refl
+    asserts_are o (told.Exported n f ∷ ss) h = asserts_are o ss h
+    asserts_are o (told.Demanded n ∷ ss) h = asserts_are o ss h
+    asserts_are o (told.Checked act words f ∷ ss) h = λ n. record { action = act; origin = sym h n; text = words; form = numbered s i f } ∷ asserts_are o ss h n
+
+    asserts_said : (es : List Entry) → StandIn (length files) es → flat_map (entry_asserts s i) es ≡ filter_map (assert_of at s i) (all_said (contents es))
+    asserts_said [] standing = refl
+    asserts_said (Put g o p ∷ es) standing = asserts_said es (others (Put g o p) es standing)
+    asserts_said (Open ∷ es) standing = asserts_said es (others Open es standing)
+    asserts_said (Told o ss ∷ es) standing =
+        (λ n. asserts_are o ss (origin_back o (first (Told o ss) es standing)) n ++ asserts_said es (others (Told o ss) es standing) n)
+        ∙ sym (filter_map-append (assert_of at s i) (map (said_at (place_by files o)) ss) (all_said (contents es)))
+
+    -- ---- What is written stands in files of the table.
+
+    part_listed : (g : ℕ) (o : Origin) (p : declared.Part) → stands_in (length files) (Put g o p) ≡ true → is_listed_part files apart s i (part_at (place_by files o) p) ≡ true
+    part_listed g o (part.Known bytes) h = refl
+    part_listed g o (part.Filled n) h = refl
+    part_listed g o (part.Waiting width f) h = origin_listed o h
+
+    parts_listed : (h : ℕ) (es : List Entry) → StandIn (length files) es → list_all (is_listed_part files apart s i) (parts_in (contents es) h) ≡ true
+    parts_listed h [] standing = refl
+    parts_listed h (Put g o p ∷ es) standing =
+        by (nat_eq g h) (parts_listed h es (others (Put g o p) es standing))
+      where
+        q : Part
+        q = part_at (place_by files o) p
+
+        by : (b : Bool) → list_all (is_listed_part files apart s i) (parts_in (contents es) h) ≡ true →
+            list_all (is_listed_part files apart s i) (flat_map (λ (c : Content). c.parts) (if b then content_of files (Put g o p) ∷ filter (λ c. nat_eq c.segment h) (contents es) else filter (λ c. nat_eq c.segment h) (contents es))) ≡ true
+        by true rest = and (is_listed_part files apart s i q) (list_all (is_listed_part files apart s i) (parts_in (contents es) h)) (part_listed g o p (first (Put g o p) es standing)) rest
+        by false rest = rest
+    parts_listed h (Told o ss ∷ es) standing =
+        ap (list_all (is_listed_part files apart s i)) (told_parts (map (said_at (place_by files o)) ss) (contents es) h)
+        ∙ parts_listed h es (others (Told o ss) es standing)
+    parts_listed h (Open ∷ es) standing =
+        ap (list_all (is_listed_part files apart s i)) (told_parts [] (contents es) h)
+        ∙ parts_listed h es (others Open es standing)
+
+    told_listed : (o : Origin) (ss : List telled.Said) → is_listed files apart (place_by files o) ≡ true → list_all (is_listed_said files apart s i) (map (said_at (place_by files o)) ss) ≡ true
+    told_listed o [] h = refl
+    told_listed o (told.Exported n f ∷ ss) h = and (is_listed files apart (place_by files o)) (list_all (is_listed_said files apart s i) (map (said_at (place_by files o)) ss)) h (told_listed o ss h)
+    told_listed o (told.Demanded n ∷ ss) h = told_listed o ss h
+    told_listed o (told.Checked act words f ∷ ss) h = and (is_listed files apart (place_by files o)) (list_all (is_listed_said files apart s i) (map (said_at (place_by files o)) ss)) h (told_listed o ss h)
+
+    said_listed : (es : List Entry) → StandIn (length files) es → list_all (is_listed_said files apart s i) (all_said (contents es)) ≡ true
+    said_listed [] standing = refl
+    said_listed (Put g o p ∷ es) standing = said_listed es (others (Put g o p) es standing)
+    said_listed (Open ∷ es) standing = said_listed es (others Open es standing)
+    said_listed (Told o ss ∷ es) standing =
+        let mine = map (said_at (place_by files o)) ss in
+        list_all-append (is_listed_said files apart s i) mine (all_said (contents es))
+        ∙ and (list_all (is_listed_said files apart s i) mine) (list_all (is_listed_said files apart s i) (all_said (contents es)))
+        (told_listed o ss (origin_listed o (first (Told o ss) es standing)))
+        (said_listed es (others (Told o ss) es standing))
+
+    before_at : (segments : List Segment) (names : List (List ℕ)) (es : List Entry) → StandIn (length files) es → object_before segments names s i es ≡ object_at files apart s i segments names (contents es)
+    before_at segments names es standing =
+        let made : List Section → List Export → List Assert → Object = λ ss xs ts. record { version = 2; files = []; imports = map (name_of names) i; sections = ss; exports = xs; asserts = ts } in
+        let sections = sections_are s i segments es s ∙ sections_at segments es s standing in
+        λ n. made (sections n) (exports_said [] es standing n) (asserts_said es standing n)
+
+  -- the object of entries is that of their contents
+  pub entries_ordered : (segments : List Segment) (names : List (List ℕ)) (s : List ℕ) (es : List Entry) → StandIn (length files) es → in_order files (object_before segments names s (import_keys names (map (content_of []) es)) es) ≡ object_over segments names s (contents es)
+  entries_ordered segments names s es standing =
+      let i = import_keys names (map (content_of []) es) in
+      let imports : i ≡ import_keys names (contents es) = ap (once []) (imports_anyhow names [] files es) in
+      ap (in_order files) (before_at s i segments names es standing)
+      ∙ ordered files apart s i segments names (contents es) imports (λ g. parts_listed s i g es standing) (said_listed s i es standing)

@@ -1,6 +1,6 @@
 //! Lines of files that are taken where they stand, in the place of a line that the caller keeps.
 
-ghost use Rattle.std.specs.Prelude.{◌≡◌, ◌<◌, ◌≤◌, IsTrue, false, is_some};
+ghost use Rattle.std.specs.Prelude.{◌≡◌, ◌<◌, ◌≤◌, IfOk, IsTrue, OnOk, false, is_some};
 ghost use Rattle.base65.specs.Store.{Files};
 ghost use Rattle.syntax65.specs.Tokens.{lexeme_of};
 ghost use Rattle.reader65.specs.Kept.{tokens_in};
@@ -15,6 +15,7 @@ ghost use Rattle.expand65.specs.Stopping.{Goes};
 
 use crate::rewriter::Rewriter;
 use reader65::Line;
+use std::alloc::AllocError;
 use syntax65::{Token, TokenKind};
 
 /// What a line at hand is.
@@ -67,23 +68,23 @@ impl Rewriter {
     /// Takes the next line in the place of another, where it is a file's, all of it is at hand, and it is nothing or a
     /// statement without a label.
     #[inline(always)]
-    fn take_at_hand(&mut self, line: &mut Line) -> Kind
-        ensures steps { (m : Files) (k : Meaning) →
-            Steps m k (state_of m self.old) result (tokens_in line.new) (state_of m self.new) }
+    fn take_at_hand(&mut self, line: &mut Line) -> Result<Kind, AllocError>
+        ensures steps { (m : Files) (k : Meaning) → IfOk result (λ x.
+            Steps m k (state_of m self.old) x (tokens_in line.new) (state_of m self.new)) }
         ensures named { NamesFiles self.old.reader → NamesFiles self.new.reader }
-        ensures less { (result ≡ Kind.Other → ⊥) → size_of self.new < size_of self.old }
-        ensures none { result ≡ Kind.Other → self.new ≡ self.old }
+        ensures less { IfOk result (λ x. (x ≡ Kind.Other → ⊥) → size_of self.new < size_of self.old) }
+        ensures none { IfOk result (λ x. x ≡ Kind.Other → self.new ≡ self.old) }
     {
-        let Some(len) = self.reader.peek(self.alloc, line) else {
-            return Kind::Other;
+        let Some(len) = self.reader.peek(self.alloc, line)? else {
+            return Ok(Kind::Other);
         };
         match self.kind_of(line) {
-            Kind::Other => Kind::Other,
+            Kind::Other => Ok(Kind::Other),
             kind => {
                 if self.reader.take_peeked(len) {
-                    kind
+                    Ok(kind)
                 } else {
-                    Kind::Other
+                    Ok(Kind::Other)
                 }
             }
         }
@@ -92,20 +93,21 @@ impl Rewriter {
     /// Takes the next statement in the place of another, where it is a whole line of a file, at hand; whether it was.
     /// Lines without tokens in front of it are passed over.
     #[inline(always)]
-    pub fn take_statement(&mut self, line: &mut Line) -> bool
-        ensures given { IsTrue result → (m : Files) (k : Meaning) → Reaches m k (state_of m self.old)
-            (Next.statement (plain (tokens_in line.new)) (state_of m self.new)) }
-        ensures gone { result ≡ false → (m : Files) (k : Meaning) →
-            Goes m k (state_of m self.old) (state_of m self.new) }
-        ensures named { NamesFiles self.old.reader → NamesFiles self.new.reader }
-        ensures less { IsTrue result → size_of self.new < size_of self.old }
-        ensures size { size_of self.new ≤ size_of self.old }
+    pub fn take_statement(&mut self, line: &mut Line) -> Result<bool, AllocError>
+        ensures given { IfOk result (λ b. IsTrue b → (m : Files) (k : Meaning) → Reaches m k
+            (state_of m self.old)
+            (Next.statement (plain (tokens_in line.new)) (state_of m self.new))) }
+        ensures gone { IfOk result (λ b. b ≡ false → (m : Files) (k : Meaning) →
+            Goes m k (state_of m self.old) (state_of m self.new)) }
+        ensures named { OnOk result (NamesFiles self.old.reader → NamesFiles self.new.reader) }
+        ensures less { IfOk result (λ b. IsTrue b → size_of self.new < size_of self.old) }
+        ensures size { OnOk result (size_of self.new ≤ size_of self.old) }
     {
         'lines: loop {
-            match self.take_at_hand(line) {
+            match self.take_at_hand(line)? {
                 Kind::Nothing => {}
-                Kind::Statement => return true,
-                Kind::Other => return false,
+                Kind::Statement => return Ok(true),
+                Kind::Other => return Ok(false),
             }
         }
     }

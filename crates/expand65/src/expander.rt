@@ -182,8 +182,13 @@ impl Expander {
         ensures files { S.files store.new ≡ S.files store.old }
         ensures count { Passes ExpandFault.FileError (S.failures store.old) (S.failures store.new) result }
     {
-        if self.take_at_hand(statement) {
-            return Ok(true);
+        match self.take_at_hand(statement) {
+            Ok(true) => return Ok(true),
+            Ok(false) => {}
+            Err(_) => {
+                self.failed = true;
+                return Err(ExpandFault::OutOfMemory);
+            }
         }
         match self.next(store, knows)? {
             Some(next) => {
@@ -197,26 +202,28 @@ impl Expander {
     /// Takes the next statement in the place of another, where that has no label, and it is a whole line of a file, at
     /// hand; whether it was. Lines without tokens in front of it are passed over.
     #[inline(always)]
-    fn take_at_hand(&mut self, statement: &mut Statement) -> bool
-        ensures given { IsTrue result → (m : Files) (k : Meaning) → Reaches m k
-            (state_in m self.old) (Next.statement (stated statement.new) (state_in m self.new)) }
-        ensures gone { result ≡ false → (m : Files) (k : Meaning) →
-            Goes m k (state_in m self.old) (state_in m self.new) }
-        ensures right { IsTrue result → self.old.failed ≡ false }
+    fn take_at_hand(&mut self, statement: &mut Statement) -> Result<bool, AllocError>
+        ensures given { IfOk result (λ b. IsTrue b → (m : Files) (k : Meaning) → Reaches m k
+            (state_in m self.old) (Next.statement (stated statement.new) (state_in m self.new))) }
+        ensures gone { IfOk result (λ b. b ≡ false → (m : Files) (k : Meaning) →
+            Goes m k (state_in m self.old) (state_in m self.new)) }
+        ensures right { IfOk result (λ b. IsTrue b → self.old.failed ≡ false) }
+        ensures before { self.old.failed ≡ true → OnErr result ⊥ }
         ensures failed { self.new.failed ≡ self.old.failed }
-        ensures named { NamesFiles self.old.rewriter.reader → NamesFiles self.new.rewriter.reader }
-        ensures less { IsTrue result → measure_of self.new < measure_of self.old }
-        ensures size { measure_of self.new ≤ measure_of self.old }
+        ensures named { OnOk result
+            (NamesFiles self.old.rewriter.reader → NamesFiles self.new.rewriter.reader) }
+        ensures less { IfOk result (λ b. IsTrue b → measure_of self.new < measure_of self.old) }
+        ensures size { OnOk result (measure_of self.new ≤ measure_of self.old) }
     {
         if self.failed {
-            return false;
+            return Ok(false);
         }
         if !self.front.is_nothing() {
-            return false;
+            return Ok(false);
         }
         match statement {
             Statement::Plain(line) => self.rewriter.take_statement(line),
-            Statement::Label(_) => false,
+            Statement::Label(_) => Ok(false),
         }
     }
 

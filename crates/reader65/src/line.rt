@@ -112,24 +112,26 @@ impl Line {
         })
     }
 
-    /// Reads the tokens of a line of a file in the place of the line's own, as far as memory lasts and the line is
-    /// right; whether they are read.
+    /// Reads the tokens of a line of a file in the place of the line's own; false where the line has a fault.
     #[inline(always)]
-    pub fn fill(&mut self, alloc: Global, bytes: &[u8]) -> bool
-        ensures { IsTrue result → IsRead bytes.now (Ok (tokens_in self.new)) }
+    pub fn fill(&mut self, alloc: Global, bytes: &[u8]) -> Result<bool, AllocError>
+        ensures { IfOk result (λ b. IsTrue b → IsRead bytes.now (Ok (tokens_in self.new))) }
     {
         let mut words = mem::replace(&mut self.words, Sequence::new(alloc)).into_vec();
         let mut kept = mem::replace(&mut self.bytes, Sequence::new(alloc)).into_vec();
         words.clear();
         kept.clear();
-        let Ok(len) = read_words(bytes, &mut words) else {
-            return false;
-        };
-        let (front, _) = bytes.split_at(len);
-        let is_kept = kept.extend_from_slice(front).is_ok();
-        self.words = Sequence::from_vec(words);
-        self.bytes = Sequence::from_vec(kept);
-        is_kept
+        match read_words(bytes, &mut words) {
+            Ok(len) => {
+                let (front, _) = bytes.split_at(len);
+                kept.extend_from_slice(front)?;
+                self.words = Sequence::from_vec(words);
+                self.bytes = Sequence::from_vec(kept);
+                Ok(true)
+            }
+            Err(ExpandFault::OutOfMemory) => Err(AllocError),
+            Err(_) => Ok(false),
+        }
     }
 
     /// Puts the line's tokens behind others.

@@ -1,6 +1,6 @@
 //! Lines of a file that are read where they stand, in the place of a line that the caller keeps, before they are taken.
 
-ghost use Rattle.std.specs.Prelude.{◌≡◌, ◌<◌, IfNone, IfSome, IsTrue, List, Ok, Some, drop, false};
+ghost use Rattle.std.specs.Prelude.{◌≡◌, ◌<◌, IfNone, IfOk, IfSome, IsTrue, List, Ok, Some, drop, false};
 ghost use Rattle.base65.specs.Store.{Files};
 ghost use Rattle.syntax65.specs.Tokens.{Lexeme};
 ghost use Rattle.source65.specs.declared.place.Place.{Place};
@@ -16,34 +16,34 @@ use crate::input::Source;
 use crate::line::Line;
 use crate::passing::trimmed;
 use crate::reader::Reader;
-use std::alloc::Global;
+use std::alloc::{AllocError, Global};
 
 /// Reads the first line of bytes in the place of another, where its end is there; how many bytes it has.
 #[inline(always)]
-fn peek(alloc: Global, bytes: &[u8], line: &mut Line) -> Option<usize>
-    ensures { IfSome result (λ n. IsFront bytes.now n (tokens_in line.new)) }
+fn peek(alloc: Global, bytes: &[u8], line: &mut Line) -> Result<Option<usize>, AllocError>
+    ensures { IfOk result (λ len. IfSome len (λ n. IsFront bytes.now n (tokens_in line.new))) }
 {
     let len = line_len(bytes);
     if len >= bytes.len() {
-        return None;
+        return Ok(None);
     }
     let (front, _) = bytes.split_at(len);
-    if line.fill(alloc, trimmed(front)) {
-        Some(len)
+    if line.fill(alloc, trimmed(front))? {
+        Ok(Some(len))
     } else {
-        None
+        Ok(None)
     }
 }
 
 impl OpenFile {
     /// Reads the next line in the place of another, where all of it is at hand; how many bytes it has.
     #[inline(always)]
-    fn peek(&self, alloc: Global, line: &mut Line) -> Option<usize>
-        ensures { IfSome result (λ n.
-            IsFront (drop self.now.at self.now.buffer.items) n (tokens_in line.new)) }
+    fn peek(&self, alloc: Global, line: &mut Line) -> Result<Option<usize>, AllocError>
+        ensures { IfOk result (λ len. IfSome len (λ n.
+            IsFront (drop self.now.at self.now.buffer.items) n (tokens_in line.new))) }
     {
         if self.at >= self.buffer.len() {
-            return None;
+            return Ok(None);
         }
         let (_, rest) = self.buffer.split_at(self.at);
         peek(alloc, rest, line)
@@ -69,12 +69,12 @@ impl OpenFile {
 impl Source {
     /// Reads the next line in the place of another, where it is a file's and all of it is at hand; how many bytes it has.
     #[inline(always)]
-    fn peek(&self, alloc: Global, line: &mut Line) -> Option<usize>
-        ensures { IfSome result (λ n. IsAtHand self.now n (tokens_in line.new)) }
+    fn peek(&self, alloc: Global, line: &mut Line) -> Result<Option<usize>, AllocError>
+        ensures { IfOk result (λ len. IfSome len (λ n. IsAtHand self.now n (tokens_in line.new))) }
     {
         match self {
             Source::File(file) => file.peek(alloc, line),
-            Source::Call(_) | Source::Repeat(_, _, _) => None,
+            Source::Call(_) | Source::Repeat(_, _, _) => Ok(None),
         }
     }
 
@@ -97,8 +97,9 @@ impl Source {
 impl Reader {
     /// Reads the next line in the place of another, where it is a file's and all of it is at hand; how many bytes it has.
     #[inline(always)]
-    pub fn peek(&self, alloc: Global, line: &mut Line) -> Option<usize>
-        ensures { IfSome result (λ n. IsAtHand self.now.top.source n (tokens_in line.new)) }
+    pub fn peek(&self, alloc: Global, line: &mut Line) -> Result<Option<usize>, AllocError>
+        ensures { IfOk result (λ len. IfSome len (λ n.
+            IsAtHand self.now.top.source n (tokens_in line.new))) }
     {
         self.top.source.peek(alloc, line)
     }

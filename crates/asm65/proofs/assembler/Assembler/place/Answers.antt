@@ -47,7 +47,7 @@ returns-clause-placed c = λ count t h.
     let at : measured t.symbols t.standing x ≡ Ok m = ap (λ (y : Symbols). measured y t.standing x) (sym h.symbols) ∙ ap (λ (w : Standing). measured (table_of old.symbols) w x) (sym h.standing) ∙ c.in_ok-measured.ensures.measured in
     record {
       faultless = without_fault t.symbols t.standing x m at;
-      spot = c.spot-spot.ensures ∙ ap layout.h.standing;
+      spot = c.spot-spot.ensures ∙ ap layout.spot_of h.standing;
       measured = sym (is_measured t.symbols t.standing x m at);
     })
 
@@ -60,7 +60,7 @@ returns-clause-new c =
     let w : Standing = standing_of old.standing in
     let (count, t, h, few) = c.requires in
     let before : AreBefore w.unnamed y.definitions = subst (λ (z : Symbols). AreBefore w.unnamed z.definitions) (sym h.symbols) (subst (λ (v : Standing). AreBefore v.unnamed t.symbols.definitions) (sym h.standing) h.unnamed) in
-    let new : IsNew y (layout.w) x = is_new y w x (without_fault y w x (c.in_ok-measured.measured) c.in_ok-measured.ensures.measured) before in
+    let new : IsNew y (layout.spot_of w) x = is_new y w x (without_fault y w x c.in_ok-measured.measured c.in_ok-measured.ensures.measured) before in
     subst (λ (z : Symbols). IsNew z (c.spot-spot.result) x) (ap table_of (sym c.in_ok-ask.ensures.tables.symbols))
     (subst (λ (s : Spot). IsNew y s x) (sym c.spot-spot.ensures) new)
 
@@ -75,9 +75,9 @@ returns-clause-holds c = λ count t h.
     let w : Standing = standing_of old.standing in
     let same : table_of mid.symbols ≡ y = ap table_of c.in_ok-ask.ensures.tables.symbols in
     let stand : standing_of mid.standing ≡ w = ap standing_of c.in_ok-ask.ensures.tables.standing in
-    let segment = ap (λ (s : Spot). s.segment) c.spot-spot.ensures ∙ ap (λ (v : Standing). (layout.v).segment) h.standing in
+    let segment = ap (λ (s : Spot). s.segment) c.spot-spot.ensures ∙ ap (λ (v : Standing). (layout.spot_of v).segment) h.standing in
     let knows = holds_known count t old c.measure.new.known h c.in_ok-measured.ensures.table in
-    let held : Holds count (asked_of (layout.t.standing).segment x t) mid = subst (λ (g : ℕ). Holds count (asked_of g x t) mid) segment (c.in_ok-ask.ensures.asked count t knows) in
+    let held : Holds count (asked_of (layout.spot_of t.standing).segment x t) mid = subst (λ (g : ℕ). Holds count (asked_of g x t) mid) segment (c.in_ok-ask.ensures.asked count t knows) in
     let moved : standing_of c.advance.new.self ≡ layout.standing_behind t.symbols t.standing x =
     c.in_ok-advance.ensures.moved
     ∙ ap (λ (z : Symbols). advanced z (standing_of mid.standing) x m.length m.multiple) same

@@ -1,10 +1,10 @@
 -- Lines of files that are taken where they stand.
 use Rattle.std.proofs.Common.{◌≡◌, ℕ, List, [], ◌∷◌, Option, Some, None, Ok, Err, Result, Bool, true, false, IfSome, refl, sym, subst, ◌∙◌}
-use Rattle.std.specs.Prelude.{slice_get, IfErr}
+use Rattle.std.specs.Prelude.{slice_get}
 use Rattle.base65.specs.Outcome.{Unless}
 use Rattle.base65.specs.Store.{Files}
 use Rattle.syntax65.specs.Tokens.{Lexeme}
-use Rattle.source65.specs.Faults.{is_failure, is_outside}
+use Rattle.source65.specs.Faults.{is_outside}
 use Rattle.source65.specs.declared.fault.ExpandFault.{ExpandFault}
 use Rattle.reader65.specs.Inside.{left_of}
 use Rattle.reader65.specs.Naming.{NamesFiles}
@@ -14,9 +14,9 @@ use Rattle.expand65.specs.AtHand.{IsOfKind, Steps}
 use Rattle.expand65.specs.Expansion.{Next, Reaches, fault, further, given, nothing, statement}
 use Rattle.expand65.specs.Meaning.{Meaning}
 use Rattle.expand65.specs.Rewriting.{state_of}
-use Rattle.expand65.specs.Standing.{FollowsFrom, given_in, place_of, state_in, stated}
-use Rattle.expand65.specs.State.{State, Stated, plain, goes, gives}
-use Rattle.expand65.specs.Step.{IsActed, IsStep}
+use Rattle.expand65.specs.Standing.{FollowsFrom, place_of, state_in, stated}
+use Rattle.expand65.specs.State.{State, plain, goes, gives}
+use Rattle.expand65.specs.Step.{IsActed}
 use Rattle.expand65.specs.Stopping.{Goes, StopsOnItsWay, no_step, one_more}
 use Rattle.expand65.specs.declared.at_hand.Kind.{Kind}
 use Rattle.expand65.specs.declared.at_hand.Kind.TheVariants as kind
@@ -24,7 +24,6 @@ use Rattle.expand65.specs.declared.expander.Expander.{Expander}
 use Rattle.expand65.specs.declared.expander.Statement.{Statement}
 use Rattle.expand65.specs.declared.rewriter.Rewriter.{Rewriter}
 use Rattle.reader65.specs.declared.directives.Directive.{Directive}
-use Rattle.reader65.specs.Fronts.{front_directive}
 use Rattle.expand65.proofs.Acting.{no_call, step_taken, unlabelled}
 use Rattle.expand65.proofs.Stopping.{goes_over}
 

@@ -24,7 +24,7 @@ use Rattle.expand65.specs.Conditions.{popped}
 use Rattle.expand65.specs.Meaning.{Meaning}
 use Rattle.expand65.specs.Rewriting.{state_of, turned}
 use Rattle.expand65.specs.Standing.{fronted, led, place_of, state_in}
-use Rattle.expand65.specs.State.{State, goes, with_left}
+use Rattle.expand65.specs.State.{State, with_left}
 use Rattle.expand65.specs.Step.{IsStep, last_condition}
 use Rattle.expand65.specs.Stopping.{Goes, IsOnItsWay, Reading, StopsOnItsWay, StopsReading, back_of, no_step, one_more}
 use Rattle.expand65.specs.declared.expander.Expander.{Expander}

@@ -1,7 +1,6 @@
-use Rattle.std.proofs.Common.{Err, Ok, None, Some, Option, Result, ◌∙◌, ap, subst}
+use Rattle.std.proofs.Common.{Err, Ok, None, Some, Option, ◌∙◌, ap, subst}
 use Rattle.std.specs.Prelude.{IfSome}
 use Rattle.std.proofs.lemmas.Result.{err_from_is_err_and}
-use Rattle.source65.specs.declared.fault.ExpandFault.{ExpandFault}
 use Rattle.expand65.specs.Standing.{FollowsFrom}
 use Rattle.expand65.specs.declared.expander.Statement.{Statement}
 use Rattle.expand65.proofs.AtHand.{follows_behind, stops_behind_lines}

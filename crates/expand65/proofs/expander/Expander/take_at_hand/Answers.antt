@@ -1,4 +1,3 @@
-use Rattle.std.proofs.Common.{subst, sym, ◌∙◌}
 use Rattle.expand65.specs.Standing.{state_in}
 use Rattle.expand65.specs.Stopping.{no_step}
 use Rattle.expand65.proofs.expander.Expander.take_at_hand.Goals as goal

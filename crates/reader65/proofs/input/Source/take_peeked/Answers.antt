@@ -1,4 +1,4 @@
-use Rattle.std.proofs.Common.{IfSome, List, sym, subst}
+use Rattle.std.proofs.Common.{IfSome, sym, subst}
 use Rattle.reader65.specs.Inside.{left_in}
 use Rattle.reader65.specs.Peeking.{IsAtHand, TakesWritten}
 use Rattle.reader65.specs.Reading.{left_in_file}

@@ -1,5 +1,6 @@
 -- Lists beside each other.
-use Rattle.std.proofs.Common.{◌≡◌, ◌∙◌, ◌<◌, ◌≤◌, ℕ, zero, suc, ◌+◌, List, [], ◌∷◌, ◌++◌, length, drop, get_or, slice_get, Option, Some, None, refl, sym, ap, append_assoc, add-one}
+use Rattle.std.proofs.Common.{◌≡◌, ◌∙◌, ◌<◌, ◌≤◌, ℕ, zero, suc, ◌+◌, List, [], ◌∷◌, ◌++◌, length, drop, get_or, map, slice_get, Option, Some, None, refl, sym, ap, append_assoc, add-one}
+use Rattle.std.specs.List.{flat_map}
 use Rattle.std.proofs.lemmas.List.{drop_all}
 use Rattle.script65.proofs.Eaches.{append_none, drop_at}
 use Rattle.script65.proofs.Eaches.{drop_item}
@@ -38,3 +39,8 @@ module _ {A B C : Type 0} (f : A → B → List C) where
       sym (append_none done)
       ∙ sym (ap (λ l. done ++ flat_zip f l (drop i ys)) (drop_all i xs le))
       ∙ inv
+
+-- what stands beside each item is made of it
+pub zip_mapped : {A B C : Type 0} (f : A → B → List C) (g : A → B) (h : A → List C) → ((x : A) → f x (g x) ≡ h x) → (xs : List A) → flat_zip f xs (map g xs) ≡ flat_map h xs
+zip_mapped f g h same [] = refl
+zip_mapped f g h same (x ∷ xs) = ap (λ l. l ++ flat_zip f xs (map g xs)) (same x) ∙ ap (λ l. h x ++ l) (zip_mapped f g h same xs)

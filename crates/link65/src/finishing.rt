@@ -5,18 +5,16 @@ ghost use Rattle.base65.specs.Outcome.{Finds, Gives};
 ghost use Rattle.image65.specs.Files.{written};
 ghost use Rattle.link65.specs.Faults.{is_memory};
 ghost use Rattle.link65.specs.Links.{checked};
-ghost use Rattle.link65.specs.Maps.{map_text};
-ghost use Rattle.link65.specs.Placed.{AreOf, IsPassed, IsReady, bytes_in, exports_in, linkage_in, program_in, segments_in};
+ghost use Rattle.link65.specs.Placed.{AreOf, IsPassed, IsReady, bytes_in, exports_in, linkage_in, program_in, segments_in, values_in};
 ghost use Rattle.link65.specs.Warnings.{warnings_of_rows};
 
 use crate::asserting::check_assertions;
 use crate::fault::LinkFault;
-use crate::mapping::{members_text, rows_text, symbols_text};
+use crate::mapping::{map_text, symbols_text};
 use crate::placed::Placed;
 use crate::resolving::Names;
 use crate::rows::rows_of;
-use crate::texts::join;
-use crate::values::check_exports;
+use crate::values::export_values;
 use crate::warning::warnings_of;
 use base65::Sequence;
 use script65::{Placement, Script};
@@ -33,46 +31,32 @@ pub struct Passed {
     pub map: Sequence<u8>,
 }
 
-/// The bytes of the rows that are written, and what is warned of assertions, where data, exports and assertions pass.
-fn check_all(
-    alloc: Global,
-    script: &Script,
-    program: &Placed<'_>,
-) -> Result<(Vec<Sequence<u8>>, Sequence<u8>), LinkFault>
-    requires { IsReady program.now }
-    ensures checked { Gives is_memory (λ x. x.1) result (checked script.now (program_in program.now) (linkage_in program.now) (exports_in program.now)) }
-    ensures rows { IfOk result (λ x. x.0.items ≡ map (written (bytes_in program.now)) script.now.rows) }
-{
-    let rows = rows_of(alloc, program, script.rows.as_slice())?;
-    check_exports(alloc, program)?;
-    let assertions = check_assertions(alloc, program, program.asserts)?;
-    Ok((rows, assertions))
+/// What is found while data, exports and assertions are checked, in this order.
+#[derive(Drop)]
+pub struct Checked {
+    /// The bytes of each row that is written.
+    pub rows: Vec<Sequence<u8>>,
+    /// The values of exports.
+    pub values: Vec<i64>,
+    /// What is warned of assertions.
+    pub assertions: Sequence<u8>,
 }
 
-fn map_text(
-    alloc: Global,
-    script: &Script,
-    placement: &Placement,
-    names: &Names<'_>,
-    program: &Placed<'_>,
-) -> Result<Sequence<u8>, AllocError>
-    requires { AreOf script.now placement.now names.now program.now }
-    ensures { IfOk result (λ text. text ≡ map_text script.now (program_in program.now) placement.now (linkage_in program.now) (exports_in program.now)) }
+/// Checks data, exports and assertions.
+fn check_all(alloc: Global, script: &Script, program: &Placed<'_>) -> Result<Checked, LinkFault>
+    requires { IsReady program.now }
+    ensures checked { Gives is_memory (λ x. x.assertions) result (checked script.now (program_in program.now) (linkage_in program.now) (exports_in program.now)) }
+    ensures values { IfOk result (λ x. x.values.items ≡ values_in program.now) }
+    ensures rows { IfOk result (λ x. x.rows.items ≡ map (written (bytes_in program.now)) script.now.rows) }
 {
-    let modules = members_text(alloc, program.members)?;
-    let rows = rows_text(alloc, script.rows.as_slice(), placement.rows.as_slice())?;
-    let symbols = symbols_text(alloc, names, program)?;
-    join(
-        alloc,
-        &[
-            b"MODULES\n",
-            modules.as_slice(),
-            b"SEGMENTS\n",
-            rows.as_slice(),
-            b"SYMBOLS\n",
-            symbols.as_slice(),
-        ],
-    )
+    let rows = rows_of(alloc, program, script.rows.as_slice())?;
+    let values = export_values(alloc, program)?;
+    let assertions = check_assertions(alloc, program, program.asserts)?;
+    Ok(Checked {
+        rows,
+        values,
+        assertions,
+    })
 }
 
 /// What is warned of the rows of a placed program, and then of its assertions.
@@ -101,11 +85,13 @@ pub fn pass(
     requires { AreOf script.now placement.now names.now program.now }
     ensures { Finds is_memory (IsPassed script.now (program_in program.now) placement.now (linkage_in program.now) (exports_in program.now)) result }
 {
-    let (rows, assertions) = check_all(alloc, script, program)?;
-    let warnings = all_warnings(alloc, script, program, assertions.as_slice())?;
-    let map = map_text(alloc, script, placement, names, program)?;
+    let checked = check_all(alloc, script, program)?;
+    let warnings = all_warnings(alloc, script, program, checked.assertions.as_slice())?;
+    let symbols = symbols_text(alloc, names, checked.values.as_slice())?;
+    let members = program.members;
+    let map = map_text(alloc, script, placement, members, symbols.as_slice())?;
     Ok(Passed {
-        rows,
+        rows: checked.rows,
         warnings,
         map,
     })

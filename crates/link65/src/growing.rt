@@ -1,7 +1,6 @@
 //! A program while its modules come, item by item.
 
-ghost use Rattle.std.specs.Prelude.{◌≡◌, ◌≤◌, ◌<◌, ◌+◌, ◌-◌, ◌^◌, ◌++◌, ◌∷◌, [], Ok, OnOk, IfErr, IfOk, IfSome, true, None, Some, length, map, max, position, replicate, slice_get, slice_set};
-ghost use Rattle.std.specs.Str.{bytes_eq};
+ghost use Rattle.std.specs.Prelude.{◌≡◌, ◌≤◌, ◌<◌, ◌+◌, ◌-◌, ◌^◌, ◌++◌, ◌∷◌, [], Ok, OnOk, IfErr, IfOk, IfSome, true, None, Some, length, map, max, slice_get, slice_set};
 ghost use Rattle.object65.specs.Objects.{fragment_len};
 ghost use Rattle.script65.specs.Placing.{rounded_up};
 ghost use Rattle.base65.specs.Outcome.{Gives};
@@ -12,7 +11,7 @@ ghost use Rattle.link65.specs.Faults.{is_memory};
 ghost use Rattle.link65.specs.Grounds.{AreNamed, IsSmall, growth_in, having, names_in, place_in, with_gap, with_name};
 ghost use Rattle.link65.specs.Growing.{at_rest, bare_section, ended, grown_by, longer, with_bare, with_cells, with_part};
 ghost use Rattle.link65.specs.Programs.{no_program};
-ghost use Rattle.link65.specs.Segments.{empty_segment, filled, fragment_cells, grown};
+ghost use Rattle.link65.specs.Segments.{empty_segment, fragment_cells, grown};
 
 use crate::contents::{Content, Piece};
 use crate::fault::LinkFault;

@@ -1,21 +1,18 @@
 //! The map.
 
-ghost use Rattle.std.specs.Prelude.{◌≡◌, ◌%◌, ◌++◌, IfOk, OnOk};
+ghost use Rattle.std.specs.Prelude.{◌≡◌, ◌%◌, ◌++◌, IfOk, OnOk, slice_get};
 ghost use Rattle.std.specs.List.{flat_map};
-ghost use Rattle.link65.specs.Placed.{exports_in, linkage_in};
-ghost use Rattle.link65.specs.Lists.{with_beside};
-ghost use Rattle.link65.specs.Maps.{address_text, definition_line, export_line, hex_digit, hex_digits, member_lines, row_line, row_lines, section_line, symbol_line, symbol_lines, weak_line};
-ghost use Rattle.link65.specs.Marks.{AllFound};
+ghost use Rattle.link65.specs.Placed.{lines_by, map_by, value_line};
+ghost use Rattle.link65.specs.Lists.{flat_zip, with_beside};
+ghost use Rattle.link65.specs.Maps.{address_text, definition_line, hex_digit, hex_digits, member_lines, row_line, row_lines, section_line, symbol_line, weak_line};
 ghost use Rattle.link65.specs.Resolving.{AreNames};
-ghost use Rattle.link65.specs.RowBytes.{or_zero};
 
 use crate::naming::row_place;
-use crate::parts::{Definition, Exported, Member, SectionPlace, ValueFault};
-use crate::placed::{Placed, value_in};
+use crate::parts::{Definition, Exported, Member, SectionPlace};
 use crate::resolving::{Names, is_defined};
 use crate::texts::join;
 use base65::Sequence;
-use script65::{Row, RowPlace};
+use script65::{Placement, Row, RowPlace, Script};
 use std::alloc::{AllocError, Global};
 
 const DIGITS: [u8; 16] = *b"0123456789ABCDEF";
@@ -95,7 +92,7 @@ fn member_lines(alloc: Global, member: &Member) -> Result<Sequence<u8>, AllocErr
 }
 
 /// The modules and their sections.
-pub fn members_text(alloc: Global, members: &[Member]) -> Result<Sequence<u8>, AllocError>
+fn members_text(alloc: Global, members: &[Member]) -> Result<Sequence<u8>, AllocError>
     ensures { IfOk result (λ text. text ≡ flat_map member_lines members.now) }
 {
     let mut text = Sequence::new(alloc);
@@ -141,11 +138,7 @@ fn row_line_at(
 }
 
 /// The rows and where they are placed.
-pub fn rows_text(
-    alloc: Global,
-    rows: &[Row],
-    places: &[RowPlace],
-) -> Result<Sequence<u8>, AllocError>
+fn rows_text(alloc: Global, rows: &[Row], places: &[RowPlace]) -> Result<Sequence<u8>, AllocError>
     ensures { IfOk result (λ text. text ≡ row_lines rows.now places.now) }
 {
     let mut text = Sequence::new(alloc);
@@ -181,35 +174,37 @@ fn definition_lines(alloc: Global, definitions: &[Definition]) -> Result<Sequenc
     Ok(text)
 }
 
-fn or_zero(outcome: Result<i64, ValueFault>) -> i64
-    ensures { result ≡ or_zero outcome }
+fn value_at(values: &[i64], i: usize) -> Option<i64>
+    ensures { result ≡ slice_get values.now i }
 {
-    match outcome {
-        Ok(value) => value,
-        Err(_) => 0,
+    values.get(i).copied()
+}
+
+/// An export and its value, where there is one.
+fn export_line_at(
+    alloc: Global,
+    export: &Exported,
+    value: Option<i64>,
+) -> Result<Sequence<u8>, AllocError>
+    ensures { IfOk result (λ text. text ≡ with_beside value_line export.now value) }
+{
+    match value {
+        Some(value) => symbol_line(alloc, export.name.as_slice(), value.cast_unsigned()),
+        None => Ok(Sequence::new(alloc)),
     }
 }
 
-/// An export and its value.
-fn export_line(
+fn export_lines(
     alloc: Global,
-    program: &Placed<'_>,
-    export: &Exported,
+    exports: &[Exported],
+    values: &[i64],
 ) -> Result<Sequence<u8>, AllocError>
-    requires { AllFound program.now.marks.now }
-    ensures { IfOk result (λ text. text ≡ export_line (linkage_in program.now) (exports_in program.now) export.now) }
-{
-    let value = or_zero(value_in(program, export.owner, &export.form));
-    symbol_line(alloc, export.name.as_slice(), value.cast_unsigned())
-}
-
-fn export_lines(alloc: Global, program: &Placed<'_>) -> Result<Sequence<u8>, AllocError>
-    requires { AllFound program.now.marks.now }
-    ensures { IfOk result (λ text. text ≡ flat_map (export_line (linkage_in program.now) (exports_in program.now)) program.now.exports.now) }
+    ensures { IfOk result (λ text. text ≡ flat_zip value_line exports.now values.now) }
 {
     let mut text = Sequence::new(alloc);
-    for export in program.exports {
-        text.extend_from_slice(export_line(alloc, program, export)?.as_slice())?;
+    for (i, export) in exports.iter().enumerate() {
+        let line = export_line_at(alloc, export, value_at(values, i))?;
+        text.extend_from_slice(line.as_slice())?;
     }
     Ok(text)
 }
@@ -240,22 +235,45 @@ fn weak_lines(alloc: Global, names: &Names<'_>) -> Result<Sequence<u8>, AllocErr
     Ok(text)
 }
 
-/// All symbols and their values.
+/// All symbols and their values, by those of exports.
 pub fn symbols_text(
     alloc: Global,
     names: &Names<'_>,
-    program: &Placed<'_>,
+    values: &[i64],
 ) -> Result<Sequence<u8>, AllocError>
-    requires found { AllFound program.now.marks.now }
-    requires names { AreNames names.now }
-    requires same { names.now.exports.now ≡ program.now.exports.now }
-    ensures { IfOk result (λ text. text ≡ symbol_lines names.now.own.now names.now.weak.now (linkage_in program.now) (exports_in program.now)) }
+    requires { AreNames names.now }
+    ensures { IfOk result (λ text. text ≡ lines_by names.now.own.now names.now.weak.now names.now.exports.now values.now) }
 {
     let own = definition_lines(alloc, names.own)?;
-    let exports = export_lines(alloc, program)?;
+    let exports = export_lines(alloc, names.exports, values)?;
     let weak = weak_lines(alloc, names)?;
     join(
         alloc,
         &[own.as_slice(), exports.as_slice(), weak.as_slice()],
+    )
+}
+
+/// The map, by the lines of its symbols.
+pub fn map_text(
+    alloc: Global,
+    script: &Script,
+    placement: &Placement,
+    members: &[Member],
+    symbols: &[u8],
+) -> Result<Sequence<u8>, AllocError>
+    ensures { IfOk result (λ text. text ≡ map_by members.now script.now.rows placement.now.rows symbols.now) }
+{
+    let modules = members_text(alloc, members)?;
+    let rows = rows_text(alloc, script.rows.as_slice(), placement.rows.as_slice())?;
+    join(
+        alloc,
+        &[
+            b"MODULES\n",
+            modules.as_slice(),
+            b"SEGMENTS\n",
+            rows.as_slice(),
+            b"SYMBOLS\n",
+            symbols,
+        ],
     )
 }

@@ -1,13 +1,13 @@
 //! Values once all is placed: those of data and of exports, or their faults at their sites.
 
-ghost use Rattle.std.specs.Prelude.{◌≡◌, IfOk, OnOk, Ok, [], slice_get, true};
+ghost use Rattle.std.specs.Prelude.{◌≡◌, ◌++◌, ◌∷◌, IfOk, OnOk, Ok, [], slice_get, true};
 ghost use Rattle.std.specs.Option.{option_map, option_map_or};
 ghost use Rattle.base65.specs.Outcome.{Gives};
 ghost use Rattle.object65.specs.Objects.{fits_width};
-ghost use Rattle.link65.specs.Checks.{check_export, each_passes, file_of, fitting, site, value_at};
+ghost use Rattle.link65.specs.Checks.{each_passes, file_of, fitting, site, value_at};
 ghost use Rattle.link65.specs.Faults.{is_memory};
 ghost use Rattle.link65.specs.Marks.{AllFound};
-ghost use Rattle.link65.specs.Placed.{check_in, exports_in, linkage_in};
+ghost use Rattle.link65.specs.Placed.{check_export_in, check_in, exported_value, exports_in, linkage_in, values_in};
 ghost use Rattle.link65.specs.Values.{value_by};
 
 use crate::fault::{LinkFault, Site};
@@ -121,23 +121,32 @@ pub fn datum_value(alloc: Global, program: &Placed<'_>, waiting: &Waiting) -> Re
     Ok(value)
 }
 
-/// Refuses the first export that has no value.
-fn check_one_export(alloc: Global, program: &Placed<'_>, export: &Exported) -> Result<(), LinkFault>
+/// Adds the value of an export, or refuses one that has none.
+fn add_export(
+    alloc: Global,
+    program: &Placed<'_>,
+    export: &Exported,
+    values: &mut Vec<i64>,
+) -> Result<(), LinkFault>
     requires { AllFound program.now.marks.now }
-    ensures { Gives is_memory (λ u. u) result (check_export (linkage_in program.now) program.now.members.now (exports_in program.now) export.now) }
+    ensures checked { Gives is_memory (λ u. u) result (check_export_in program.now export.now) }
+    ensures values { OnOk result (values.new.items ≡ values.old.items ++ exported_value (linkage_in program.now) (exports_in program.now) export.now ∷ []) }
 {
     let outcome = value_in(program, export.owner, &export.form);
-    value_at(alloc, program.members, export.owner, export.origin, outcome)?;
+    let value = value_at(alloc, program.members, export.owner, export.origin, outcome)?;
+    values.push(value)?;
     Ok(())
 }
 
-/// Refuses the first export that has no value, used or not.
-pub fn check_exports(alloc: Global, program: &Placed<'_>) -> Result<(), LinkFault>
+/// The value of each export. The first that has none is refused, used or not.
+pub fn export_values(alloc: Global, program: &Placed<'_>) -> Result<Vec<i64>, LinkFault>
     requires { AllFound program.now.marks.now }
-    ensures { Gives is_memory (λ u. u) result (each_passes (check_export (linkage_in program.now) program.now.members.now (exports_in program.now)) program.now.exports.now) }
+    ensures checked { Gives is_memory (λ _. tt) result (each_passes (check_export_in program.now) program.now.exports.now) }
+    ensures values { IfOk result (λ values. values.items ≡ values_in program.now) }
 {
+    let mut values = Vec::with_capacity(alloc, program.exports.len())?;
     for export in program.exports {
-        check_one_export(alloc, program, export)?;
+        add_export(alloc, program, export, &mut values)?;
     }
-    Ok(())
+    Ok(values)
 }

@@ -1,9 +1,13 @@
-use Rattle.std.proofs.Common.{◌∙◌}
-use Rattle.std.specs.List.{flat_map}
-use Rattle.link65.specs.Placed.{exports_in, linkage_in}
-use Rattle.link65.specs.Maps.{export_line}
-use Rattle.link65.proofs.LineLemmas.{lines_next}
+use Rattle.std.proofs.Common.{◌++◌, ◌∙◌, [], ap}
+use Rattle.link65.specs.Lists.{flat_zip}
+use Rattle.link65.specs.Placed.{value_line}
+use Rattle.link65.proofs.ZipLemmas.{zip_end, zip_next}
 use Rattle.link65.proofs.mapping.export_lines.Goals as goal
 
-pub loop-export-preserved : goal.loop-export-preserved
-loop-export-preserved c = lines_next (export_line (linkage_in c.args.program.now) (exports_in c.args.program.now)) c.args.program.now.exports.now c.loop-export.export-index c.export-item.result c.loop-export.text c.as_slice.result.now _ (flat_map (export_line (linkage_in c.args.program.now) (exports_in c.args.program.now)) c.args.program.now.exports.now) c.loop-export-test.true c.export-item.is c.in_ok-extend_from_slice.ensures.ok (c.as_slice.ensures ∙ c.in_ok-export_line.ensures) c.loop-export.invariant
+pub loop-i-preserved : goal.loop-i-preserved
+loop-i-preserved c = zip_next value_line c.args.exports.now c.args.values.now c.loop-i.i c.index-exports-i.result c.value_at.result [] c.loop-i.text _ (flat_zip value_line c.args.exports.now c.args.values.now) c.loop-i-test.true c.index-exports-i.is c.value_at.ensures
+    (c.in_ok-extend_from_slice.ensures.ok ∙ ap (λ t. c.loop-i.text ++ t) (c.as_slice.ensures ∙ c.in_ok-line.ensures))
+    c.loop-i.invariant
+
+pub returns : goal.returns
+returns c = zip_end value_line c.args.exports.now c.args.values.now c.loop-i.i [] c.loop-i.text (flat_zip value_line c.args.exports.now c.args.values.now) c.loop-i-test.false c.loop-i.invariant

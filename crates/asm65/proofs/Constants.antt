@@ -1,14 +1,7 @@
 -- What a name or an expression means at a spot.
-use Rattle.std.proofs.Common.{◌≡◌, ◌∙◌, ℕ, sym, ap}
-use Rattle.std.specs.Prelude.{Ok}
-use Rattle.syntax65.specs.Trees.{Tree}
-use Rattle.object65.specs.Form.{Form}
-use Rattle.language65.specs.Extending.{IsFinal}
+use Rattle.std.proofs.Common.{◌≡◌, ◌∙◌, ℕ, ap}
 use Rattle.language65.specs.Laid.{Spot}
 use Rattle.language65.specs.Layout.{spot_of}
-use Rattle.language65.specs.Norms.{constant_in, literal_in}
-use Rattle.language65.specs.Symbols.{Symbols}
-use Rattle.module65.proofs.Tables.{extends_same}
 use Rattle.module65.specs.Knowing.{known_at}
 use Rattle.module65.specs.Machine.{State}
 use Rattle.symbols65.specs.Views.{table_of}

@@ -1,5 +1,4 @@
 use Rattle.std.proofs.Common.{◌≡◌, ◌∙◌, [], length, ap, sym, subst, Err}
-use Rattle.std.specs.Prelude.{Result}
 use Rattle.std.proofs.lemmas.Result.{err_from_is_err_and}
 use Rattle.syntax65.specs.Tokens.{lexemes}
 use Rattle.language65.specs.Sound.{AreNamed}
@@ -7,8 +6,7 @@ use Rattle.language65.specs.Views.{place_in, stated_of}
 use Rattle.module65.specs.Machine.{Takes}
 use Rattle.module65.specs.Reading.{IsRest}
 use Rattle.module65.proofs.Given.{some_tokens}
-use Rattle.asm65.specs.Inner.Files.{read_bytes}
-use Rattle.asm65.specs.Inner.Running.{StopsQuietly, TakesBy}
+use Rattle.asm65.specs.Inner.Running.{TakesBy}
 use Rattle.asm65.specs.Unread.{Without}
 use Rattle.asm65.proofs.Runs.{Answer, RestBy, never_stops, rest_leaves, rest_stops, rest_unread, some_there, takes_from}
 use Rattle.asm65.proofs.given.take_rest.Goals as goal

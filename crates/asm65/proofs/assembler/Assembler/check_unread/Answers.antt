@@ -1,7 +1,5 @@
-use Rattle.std.proofs.Common.{◌≡◌, ap, subst}
-use Rattle.std.specs.Prelude.{Result}
+use Rattle.std.proofs.Common.{subst}
 use Rattle.base65.specs.Outcome.{Gives}
-use Rattle.language65.specs.declared.fault.AsmFault.{AsmFault}
 use Rattle.language65.specs.Faults.{is_memory}
 use Rattle.language65.specs.Layout.{Standing}
 use Rattle.language65.specs.LineFaults.{unless_fault}
@@ -10,7 +8,6 @@ use Rattle.language65.specs.Views.{range_of}
 use Rattle.symbols65.specs.Views.{table_of}
 use Rattle.layout65.specs.Measuring.{unread_fault}
 use Rattle.layout65.specs.Views.{standing_of}
-use Rattle.asm65.specs.declared.assembler.Assembler.{Assembler}
 use Rattle.asm65.proofs.Insides.{unread_inside}
 use Rattle.asm65.proofs.Takings.{held_on}
 use Rattle.asm65.proofs.assembler.Assembler.check_unread.Goals as goal

@@ -19,7 +19,10 @@ pub enum Part {
 #[derive(Drop)]
 pub enum Said {
     /// A name that the module defines for others.
-    Exported { name: Sequence<u8>, form: Norm },
+    Exported {
+        name: Sequence<u8>,
+        form: Norm,
+    },
     /// An import that is asked for though no form may hold it.
     Demanded(Sequence<u8>),
     /// What the linker has to check.

@@ -21,6 +21,6 @@ returns-clause-good c =
     let entries = c.in_ok-entries.ensures in
     IfOk-weaker c.in_order.result _ _
     (λ o made cs stands sound.
-        ap is_good_object (made ∙ ap (in_order files) c.in_ok-object.ensures.object ∙ finished c.args.segments.now c.args.names.now c.args.self c.in_ok-entries.entries.items cs c.in_order.ensures.distinct stands (entries.alike files []) (entries.standing files))
-        ∙ good_object c.args.segments.now c.args.names.now cs sound)
+    ap is_good_object (made ∙ ap (in_order files) c.in_ok-object.ensures.object ∙ finished c.args.segments.now c.args.names.now c.args.self c.in_ok-entries.entries.items cs c.in_order.ensures.distinct stands (entries.alike files []) (entries.standing files))
+    ∙ good_object c.args.segments.now c.args.names.now cs sound)
     c.in_order.ensures.object

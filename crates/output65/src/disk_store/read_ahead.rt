@@ -7,7 +7,7 @@ use std::alloc::{AllocError, Global};
 use std::io;
 use std::io::{Read, Seek, SeekFrom};
 
-const BUFFER: usize = 16_384;
+const BUFFER: usize = 8192;
 
 /// An open file, with a buffer that holds what it has from a place on.
 #[derive(Drop)]

@@ -1,8 +1,8 @@
 -- Pieces over pieces.
 use Rattle.std.proofs.Common.{◌≡◌, ◌∙◌, ℕ, ◌+◌, ◌-◌, ◌<◌, ◌≤◌, Bool, true, false, cond, List, [], ◌∷◌, length, get_or, drop, map, refl, sym, ap, subst, arith}
-use Rattle.std.specs.Prelude.{◌&&◌, ◌==◌, filter, if◌then◌else◌, nat_le, nat_lt, not, replicate}
+use Rattle.std.specs.Prelude.{◌&&◌, ◌==◌, filter, if◌then◌else◌, nat_le, nat_lt, not}
 use Rattle.std.proofs.lemmas.Bool.Decides.{nat_tests}
-use Rattle.std.proofs.lemmas.List.{drop_all, get_or-replicate}
+use Rattle.std.proofs.lemmas.List.{drop_all}
 use Rattle.script65.proofs.Eaches.{drop_item}
 use Rattle.script65.specs.declared.placement.AreaPlace.{AreaPlace}
 use Rattle.script65.specs.declared.script.Area.{Area}
@@ -37,15 +37,6 @@ next_row start offset ls i l bytes mid image new lt is at same laid rest =
 pub no_row : (start : ℕ) (ls : List Load) (i : ℕ) (image : List ℕ) → length ls ≤ i → LaysAll (pieces_in start (drop i ls)) image image
 no_row start ls i image le = subst (λ (xs : List Load). LaysAll (pieces_in start xs) image image) (sym (drop_all i ls le)) (laid_none image)
 
--- what is laid over nothing but the fill
-pub over_fill : (len fill : ℕ) (pieces : List Piece) (blank image : List ℕ) → blank ≡ replicate len fill → length blank ≡ len → LaysAll pieces blank image → IsImage len fill pieces image
-over_fill len fill pieces blank image is count laid = record {
-  size = laid.len ∙ count;
-  bytes = λ i inside.
-      let here : i < length blank = omega (arith, count) in
-      laid.each i here ∙ ap (byte_over pieces i) (ap (λ (xs : List ℕ). get_or xs i 0) is ∙ get_or-replicate len i fill 0 inside);
-}
-
 -- ---- A file that is one row.
 
 inside : (i at len : ℕ) → at ≡ 0 → i < len → (nat_le at i && nat_lt i (at + len)) ≡ true
@@ -62,11 +53,6 @@ whole_image len fill pieces image (p, is, at, long) same = record {
       ∙ sym (ap (λ b. if b then get_or p.bytes (i - p.offset) 0 else fill) (inside i p.offset (length p.bytes) at here))
       ∙ sym (ap (λ ps. byte_over ps i fill) is);
 }
-
--- the first row, where one piece is all
-pub first_there : (len start : ℕ) (ls : List Load) → IsWhole len (pieces_in start ls) → 0 < length ls
-first_there len start [] (p, is, at, long) = absurd cc
-first_there len start (l ∷ ls) w = omega arith
 
 pub first_bytes : (len start : ℕ) (ls : List Load) (l : Load) (w : IsWhole len (pieces_in start ls)) → l ≡ get_or ls 0 l → l.bytes ≡ (w.0).bytes
 first_bytes len start [] l (p, is, at, long) e = absurd cc

@@ -18,22 +18,6 @@ use Rattle.image65.specs.Files.{Placed, RowBytes, is_loaded, loaded_in, written}
 abbrev pub with_if : {A : Type 0} → Bool → A → List A → List A
 with_if b x m = if b then m ++ x ∷ [] else m
 
-pub added_if : {A : Type 0} (area k : ℕ) (w : Bool) (x : A) (o : Option (List A)) → w ≡ true → option_map (with_if (area == k) x) o ≡ option_map (with_if (area == k && w) x) o
-added_if {A} area k w x o e = rw e (by (area == k))
-  where
-    by : (t : Bool) → option_map (with_if t x) o ≡ option_map (with_if (t && true) x) o
-    by true = refl
-    by false = refl
-
-pub added_never : {A : Type 0} (area k : ℕ) (w : Bool) (x : A) (o : Option (List A)) → w ≡ false → o ≡ option_map (with_if (area == k && w) x) o
-added_never {A} area k w x o e = rw e (by (area == k) o)
-  where
-    by : (t : Bool) (o : Option (List A)) → o ≡ option_map (with_if (t && false) x) o
-    by true None = refl
-    by true (Some m) = refl
-    by false None = refl
-    by false (Some m) = refl
-
 loaded_none : (k : ℕ) (rows : List Row) → loaded_in k rows [] ≡ []
 loaded_none k [] = refl
 loaded_none k (r ∷ rows) = refl

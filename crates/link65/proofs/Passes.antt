@@ -1,8 +1,7 @@
 -- Checks in turn, and refusals that pass through.
-use Rattle.std.proofs.Common.{◌≡◌, ◌<◌, ◌≤◌, ℕ, zero, suc, ◌+◌, map, Bool, true, false, List, [], ◌∷◌, ◌++◌, length, drop, get_or, refl, sym, ap, ◌∙◌, Result, Ok, Err}
+use Rattle.std.proofs.Common.{◌≡◌, ◌<◌, ℕ, zero, suc, ◌+◌, map, Bool, true, false, List, [], ◌∷◌, ◌++◌, length, drop, get_or, refl, sym, ap, ◌∙◌, Result, Ok, Err}
 use Rattle.std.proofs.Common.{append_assoc}
 use Rattle.std.specs.List.{flat_map}
-use Rattle.std.proofs.lemmas.List.{drop_all}
 use Rattle.script65.proofs.Eaches.{drop_item}
 use Rattle.base65.specs.Outcome.{◌>>=◌, Refuses, Unless}
 use Rattle.link65.specs.declared.fault.LinkFault.{LinkFault}
@@ -37,9 +36,6 @@ passes_stops check xs i x whole f lt at inv k =
     refuses_by f (check x) whole
     (λ e. sym inv ∙ ap (each_passes check) (drop_item xs i x lt at) ∙ ap (λ r. r >>= (λ z. each_passes check (drop (i + 1) xs))) e) k
 
-pub passes_end : {A : Type 0} (check : Check A) (xs : List A) (i : ℕ) (whole : Result (Unit {0}) LinkFault) → length xs ≤ i → each_passes check (drop i xs) ≡ whole → whole ≡ Ok tt
-passes_end check xs i whole le inv = sym inv ∙ ap (each_passes check) (drop_all i xs le)
-
 pub passes_append : {A : Type 0} (check : Check A) (xs ys : List A) → each_passes check (xs ++ ys) ≡ (each_passes check xs >>= (λ u. each_passes check ys))
 passes_append check [] ys = refl
 passes_append check (x ∷ xs) ys = go (check x) (passes_append check xs ys)
@@ -62,15 +58,6 @@ module _ {A B : Type 0} (check : Check B) (f : A → List B) where
   flat_stops xs i x whole e lt at inv k =
       refuses_by e (each_passes check (f x)) whole
       (λ q. sym inv ∙ flat_front xs i x lt at ∙ ap (λ r. r >>= (λ z. each_passes check (flat_map f (drop (i + 1) xs)))) q) k
-
-  pub flat_end : (xs : List A) (i : ℕ) (whole : Result (Unit {0}) LinkFault) → length xs ≤ i → each_passes check (flat_map f (drop i xs)) ≡ whole → whole ≡ Ok tt
-  flat_end xs i whole le inv = sym inv ∙ ap (λ l. each_passes check (flat_map f l)) (drop_all i xs le)
-
--- ---- Texts of assertions.
-
-pub more_text : (text warning : List ℕ) (r : Result (List ℕ) LinkFault) → ((r >>= (λ more. Ok (warning ++ more))) >>= (λ more. Ok (text ++ more))) ≡ (r >>= (λ more. Ok ((text ++ warning) ++ more)))
-more_text text warning (Ok more) = ap Ok (sym (append_assoc text warning more))
-more_text text warning (Err e) = refl
 
 -- ---- Values that wait in pieces.
 

@@ -1,4 +1,4 @@
-use Rattle.std.proofs.Common.{◌≡◌, ◌∙◌, List, ℕ, ap, sym, subst}
+use Rattle.std.proofs.Common.{◌∙◌, List, ℕ, ap, sym, subst}
 use Rattle.std.specs.Prelude.{filter}
 use Rattle.image65.specs.Files.{IsImage}
 use Rattle.image65.specs.Inner.Laying.{IsWhole}

@@ -20,15 +20,20 @@ PROGRAM = f"{kit.ROOT}/crates/bin65/out/bin65"
 SUM = f"{PROGRAM}.sum"
 
 
-def sum_of_all(rt):
-    """A sum of all that the program is made of, and of the program itself."""
-    found = hashlib.sha256(subprocess.run(["rt", "version"], capture_output=True, check=True).stdout)
-    files = [f"{kit.ROOT}/crates.txt", *(f for it in kit.crates(rt) for f in sorted(rt.rtlib.files_of(it.folder))), PROGRAM]
+def sum_of(files, begun=b""):
+    """A sum of files, with their names."""
+    found = hashlib.sha256(begun)
     for file in filter(os.path.isfile, files):
         found.update(f"{os.path.relpath(file, kit.ROOT)}\0".encode())
         with open(file, "rb") as it:
             found.update(it.read() + b"\0")
     return found.hexdigest()
+
+
+def sum_of_sources(rt):
+    """A sum of all that the program is made of."""
+    version = subprocess.run(["rt", "version"], capture_output=True, check=True).stdout
+    return sum_of([f"{kit.ROOT}/crates.txt", *(f for it in kit.crates(rt) for f in sorted(rt.rtlib.files_of(it.folder)))], version)
 
 
 def why_refused(rt, crate, said):
@@ -152,7 +157,8 @@ def build(told):
 def main(names):
     rt = kit.load()
     rt.rtlib.guarded()
-    if not names and os.path.isfile(PROGRAM) and rt.rtlib.text_of(SUM) == sum_of_all(rt):
+    sources = None if names else sum_of_sources(rt)
+    if not names and os.path.isfile(PROGRAM) and rt.rtlib.text_of(SUM) == sources + sum_of([PROGRAM]):
         return 0
     if not names and os.path.isfile(PROGRAM):
         os.remove(PROGRAM)
@@ -180,8 +186,9 @@ def main(names):
     ended.set()
     teller.join()
     if is_done and not names:
+        # Of the files as they were: what changed meanwhile isn't in the program.
         with open(SUM, "w") as it:
-            it.write(sum_of_all(rt))
+            it.write(sources + sum_of([PROGRAM]))
     if is_done and told.took:
         kit.table("How long each part took:", told.took.items())
     return 0 if is_done else 1

@@ -3,6 +3,7 @@
 #![tactic(auto)]
 
 mod mem_store;
+mod output;
 mod reading;
 mod sequence;
 mod store;
@@ -10,6 +11,7 @@ mod text;
 mod values;
 
 pub use mem_store::MemStore;
+pub use output::OutputFile;
 pub use reading::read_front;
 pub use sequence::Sequence;
 pub use store::{Store, StoreFault, read_full};

@@ -5,14 +5,17 @@ pub mod DefinedLemmas
 pub mod EndedLemmas
 pub mod ExportTables
 pub mod Feeds
+pub mod FileLemmas
 pub mod FinishLemmas
 pub mod FinishedLemmas
 pub mod GivenLemmas
 pub mod GrowingLaw
 pub mod HexLemmas
+pub mod ImageLemmas
 pub mod LineLemmas
 pub mod LinkingLemmas
 pub mod ListedLemmas
+pub mod LoadLemmas
 pub mod MissingLemmas
 pub mod OpenLemmas
 pub mod OutcomeLemmas

@@ -7,10 +7,10 @@ use Rattle.script65.specs.declared.script.Area.{Area}
 use Rattle.script65.specs.declared.script.Script.{Script}
 use Rattle.link65.specs.declared.fault.LinkFault.{LinkFault}
 use Rattle.link65.specs.declared.linked.Linked.{Linked}
-use Rattle.image65.specs.declared.output.OutputFile.{OutputFile}
+use Rattle.base65.specs.declared.output.OutputFile.{OutputFile}
 use Rattle.link65.specs.declared.parts.ValueFault.{ValueFault}
 use Rattle.link65.specs.declared.parts.ValueFault.TheVariants.{Unresolved}
-use Rattle.image65.specs.Files.{AddsArea, AddsAreas, IsAreaFile, IsImage, Piece, file_name, with_bytes}
+use Rattle.link65.specs.Files.{AddsArea, AddsAreas, IsAreaFile, IsImage, Piece, file_name, with_bytes}
 use Rattle.link65.specs.RowBytes.{row_bytes}
 use Rattle.link65.specs.Links.{IsFinished, IsImaged, IsPlacedLink, IsProgramLink, LinkOf, checked, names_once, placed}
 use Rattle.link65.specs.Maps.{map_text}

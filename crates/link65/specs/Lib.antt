@@ -1,6 +1,7 @@
 pub mod Checks
 pub mod Contents
 pub mod Faults
+pub mod Files
 pub mod GivenTwice
 pub mod Givers
 pub mod Grounds

@@ -8,10 +8,10 @@ use Rattle.script65.specs.declared.script.Script.{Script}
 use Rattle.link65.specs.declared.fault.LinkFault.{LinkFault}
 use Rattle.link65.specs.declared.fault.LinkFault.TheVariants as fault
 use Rattle.link65.specs.declared.linked.Linked.{Linked}
-use Rattle.image65.specs.declared.output.OutputFile.{OutputFile}
+use Rattle.base65.specs.declared.output.OutputFile.{OutputFile}
 use Rattle.link65.specs.declared.parts.ValueFault.{ValueFault}
 use Rattle.link65.specs.Checks.{check_asserts, check_export, check_waiting, each_passes, waiting_by_row}
-use Rattle.image65.specs.Files.{AddsAreas, IsAreaFile}
+use Rattle.link65.specs.Files.{AddsAreas, IsAreaFile}
 use Rattle.link65.specs.RowBytes.{row_bytes}
 use Rattle.link65.specs.Givers.{first_again, given_names, unresolved}
 use Rattle.link65.specs.Maps.{map_text}

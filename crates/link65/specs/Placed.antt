@@ -3,7 +3,7 @@ use Rattle.std.specs.Prelude.{◌≡◌, ◌++◌, ◌∷◌, [], ℕ, ℤ, List
 use Rattle.std.specs.Int.{w64, cast_unsigned}
 use Rattle.std.specs.List.{flat_map}
 use Rattle.base65.specs.Outcome.{First}
-use Rattle.image65.specs.Files.{RowBytes, written}
+use Rattle.link65.specs.Files.{RowBytes, written}
 use Rattle.script65.specs.declared.placement.Placement.{Placement}
 use Rattle.script65.specs.declared.placement.RowPlace.{RowPlace}
 use Rattle.script65.specs.declared.script.Row.{Row}

@@ -3,7 +3,7 @@ use Rattle.std.specs.Prelude.{ℕ, ℤ, pos, if◌then◌else◌, List, [], ◌�
 use Rattle.std.specs.List.{flat_map}
 use Rattle.object65.specs.declared.object.Width.{Width}
 use Rattle.object65.specs.Objects.{fits_width, value_bytes}
-use Rattle.image65.specs.Files.{RowBytes}
+use Rattle.link65.specs.Files.{RowBytes}
 use Rattle.script65.specs.Access.{is_written}
 use Rattle.script65.specs.declared.script.Row.{Row}
 use Rattle.link65.specs.declared.parts.ValueFault.{ValueFault}

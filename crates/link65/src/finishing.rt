@@ -2,7 +2,7 @@
 
 ghost use Rattle.std.specs.Prelude.{◌≡◌, ◌++◌, IfOk, map};
 ghost use Rattle.base65.specs.Outcome.{Finds, Gives};
-ghost use Rattle.image65.specs.Files.{written};
+ghost use Rattle.link65.specs.Files.{written};
 ghost use Rattle.link65.specs.Faults.{is_memory};
 ghost use Rattle.link65.specs.Links.{checked};
 ghost use Rattle.link65.specs.Placed.{AreOf, IsPassed, IsReady, bytes_in, exports_in, linkage_in, program_in, segments_in, values_in};

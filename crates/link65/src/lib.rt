@@ -1,14 +1,17 @@
 //! Linking: a linker that is fed modules record by record, and what is done once all modules are known.
 #![tactic(auto)]
 
+mod areas;
 mod asserting;
 mod contents;
 mod evaluation;
 mod fault;
 mod feeding;
+mod files;
 mod finishing;
 mod given;
 mod growing;
+mod imaging;
 pub mod laws;
 mod linked;
 mod linker;
@@ -30,7 +33,7 @@ mod warning;
 mod words;
 
 pub use fault::{LinkFault, Site};
-pub use image65::OutputFile;
+pub use files::files_of;
 pub use linked::Linked;
 pub use linker::Linker;
 pub use words::{fault_text, site_name};

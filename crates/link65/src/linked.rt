@@ -1,7 +1,6 @@
 //! What linking gives.
 
-use base65::Sequence;
-use image65::OutputFile;
+use base65::{OutputFile, Sequence};
 
 /// What linking gives.
 #[derive(Drop)]

@@ -12,6 +12,7 @@ ghost use Rattle.link65.specs.Resolving.{AreNames};
 
 use crate::evaluation::settle_all;
 use crate::fault::LinkFault;
+use crate::files::files_of;
 use crate::finishing::{Passed, pass};
 use crate::growing::Growing;
 use crate::linked::Linked;
@@ -22,7 +23,6 @@ use crate::parts::Resolved;
 use crate::placed::Placed;
 use crate::resolving::{Addresses, Names, resolve_all};
 use base65::Sequence;
-use image65::files_of;
 use script65::{Placement, Script, place};
 use std::alloc::{AllocError, Global};
 

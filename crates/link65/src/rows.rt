@@ -3,7 +3,7 @@
 ghost use Rattle.std.specs.Prelude.{◌≡◌, ◌++◌, IfOk, OnOk, Some, map, replicate};
 ghost use Rattle.std.specs.List.{flat_map};
 ghost use Rattle.base65.specs.Outcome.{Gives};
-ghost use Rattle.image65.specs.Files.{written};
+ghost use Rattle.link65.specs.Files.{written};
 ghost use Rattle.link65.specs.Checks.{each_passes, waiting_by_row, waiting_of};
 ghost use Rattle.link65.specs.Contents.{cells_of, piece_cells, piece_waiting, segment_from};
 ghost use Rattle.link65.specs.Faults.{is_memory};

@@ -4,7 +4,7 @@ use Rattle.std.specs.Prelude.{IfSome}
 use Rattle.base65.specs.Store.{Files, IsBlamed, Tells}
 use Rattle.base65.specs.declared.store.StoreFault.{StoreFault}
 use Rattle.base65.specs.declared.store.StoreFault.TheVariants.{OutOfMemory, FileNotFound, FileError}
-use Rattle.image65.specs.declared.output.OutputFile.{OutputFile}
+use Rattle.base65.specs.declared.output.OutputFile.{OutputFile}
 use Rattle.output65.specs.Leaving.{Prints, SaysBoth, StopsAt, is_failure as is_unwritten_failure}
 use Rattle.output65.specs.Stopping.{StopsWriting, file_error_line}
 use Rattle.output65.specs.declared.outcome.Outcome.{Outcome}

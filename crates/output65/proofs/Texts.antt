@@ -17,7 +17,7 @@ use Rattle.base65.proofs.Filling.{take-add}
 use Rattle.output65.specs.declared.outcome.Outcome.{Outcome}
 use Rattle.output65.specs.declared.outcome.Status.{Status}
 use Rattle.output65.specs.declared.outcome.Status.TheVariants.{Failure}
-use Rattle.image65.specs.declared.output.OutputFile.{OutputFile}
+use Rattle.base65.specs.declared.output.OutputFile.{OutputFile}
 use Rattle.std.specs.Prelude.{IfSome, IsErrOf}
 
 -- the first part of the text has been taken, and the rest is left

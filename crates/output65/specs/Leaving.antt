@@ -7,7 +7,7 @@ use Rattle.base65.specs.declared.store.StoreFault.{StoreFault}
 use Rattle.base65.specs.declared.store.StoreFault.TheVariants.{FileError}
 use Rattle.output65.specs.declared.writing.Unwritten.{Unwritten}
 use Rattle.output65.specs.declared.outcome.Outcome.{Outcome}
-use Rattle.image65.specs.declared.output.OutputFile.{OutputFile}
+use Rattle.base65.specs.declared.output.OutputFile.{OutputFile}
 use Rattle.output65.specs.declared.outcome.Status.{Status}
 use Rattle.output65.specs.declared.outcome.Status.TheVariants.{Failure}
 

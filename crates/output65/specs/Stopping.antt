@@ -1,7 +1,7 @@
 -- What is left where a call of the store fails while files are written.
 use Rattle.std.specs.Prelude.{◌≡◌, ℕ, true, List, ◌∷◌, [], codes, slice_get, Option, Some, Bool}
 use Rattle.base65.specs.Store.{Files, IsBlamed, Tells}
-use Rattle.image65.specs.declared.output.OutputFile.{OutputFile}
+use Rattle.base65.specs.declared.output.OutputFile.{OutputFile}
 use Rattle.cli65.specs.Messages.{joined}
 use Rattle.output65.specs.Leaving.{Prints, SaysBoth, StopsAt}
 use Rattle.output65.specs.declared.outcome.Outcome.{Outcome}

@@ -1,7 +1,6 @@
 //! What a command does.
 
-use base65::Sequence;
-use image65::OutputFile;
+use base65::{OutputFile, Sequence};
 
 /// What a run answers to its caller.
 #[derive(Clone, Copy, Debug, PartialEq, Eq)]

@@ -3,8 +3,7 @@
 ghost use Rattle.std.specs.Prelude.{◌≡◌, IfOk, option_map};
 ghost use Rattle.output65.specs.Outputs.{outputs_of, with_map};
 
-use base65::{Sequence, Text};
-use image65::OutputFile;
+use base65::{OutputFile, Sequence, Text};
 use std::alloc::{AllocError, Global};
 
 /// The file of a name, or none where the name is empty.

@@ -4,14 +4,13 @@ ghost use Rattle.std.specs.Prelude.{◌≡◌, ◌<◌, ◌≤◌, ◌⊎◌, []
 ghost use Rattle.base65.specs.Store.{NoneFailed};
 ghost use Rattle.output65.specs.Leaving.{Prints, SaysBoth, Performs, StopsShort};
 ghost use Rattle.cli65.specs.Messages.{memory_line};
-ghost use Rattle.image65.specs.declared.output.OutputFile.{OutputFile};
+ghost use Rattle.base65.specs.declared.output.OutputFile.{OutputFile};
 ghost use Rattle.output65.specs.Stopping.{StopsWriting, file_error_line};
 
 use crate::outcome::{Outcome, Status};
 use crate::printing::{print, print_all};
 use crate::writing::{Unwritten, write_outputs};
-use base65::{Store, StoreFault};
-use image65::OutputFile;
+use base65::{OutputFile, Store, StoreFault};
 use std::io::Write;
 
 /// Says a text on each of two streams, on the second only where the first took all of its own, and answers

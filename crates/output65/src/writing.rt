@@ -3,11 +3,10 @@
 ghost use Rattle.std.specs.Prelude.{◌≡◌, ◌≢◌, ◌<◌, length, slice_get, [], Some, OnOk, OnErr, IfErr, IfSome, IsErrOf};
 ghost use Rattle.std.specs.FinMap as map;
 ghost use Rattle.base65.specs.Store.{IsBlamed, Tells, Passes, PassesBy};
-ghost use Rattle.image65.specs.declared.output.OutputFile.{OutputFile};
+ghost use Rattle.base65.specs.declared.output.OutputFile.{OutputFile};
 ghost use Rattle.output65.specs.Leaving.{IsPartly, StopsAt, apply, is_failure};
 
-use base65::{Store, StoreFault};
-use image65::OutputFile;
+use base65::{OutputFile, Store, StoreFault};
 
 /// Writes a whole file. A refusal leaves the first part of it, or the file as it was.
 pub fn write_file<S: Store>(store: &mut S, name: &str, bytes: &[u8]) -> Result<(), StoreFault>

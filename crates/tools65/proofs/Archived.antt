@@ -18,7 +18,7 @@ use Rattle.library65.proofs.Edits.{checked_good, with_good}
 use Rattle.library65.proofs.Loaded.{library_loaded}
 use Rattle.library65.proofs.Made.{written_is}
 use Rattle.library65.proofs.Read.{stock_law}
-use Rattle.image65.specs.declared.output.OutputFile.{OutputFile}
+use Rattle.base65.specs.declared.output.OutputFile.{OutputFile}
 use Rattle.language65.specs.Faults.{is_memory}
 use Rattle.module65.specs.Module as asm
 use Rattle.module65.specs.Places.{PlacedFault}

@@ -8,7 +8,7 @@ use Rattle.link65.specs.Links.{IsProgramLink, LinkOf, names_once}
 use Rattle.link65.specs.Modules.{Module}
 use Rattle.link65.specs.Programs.{program_of}
 use Rattle.link65.specs.declared.linked.Linked.{Linked}
-use Rattle.image65.specs.declared.output.OutputFile.{OutputFile}
+use Rattle.base65.specs.declared.output.OutputFile.{OutputFile}
 use Rattle.cli65.specs.Line.{Linking, Says, link, line_of}
 use Rattle.cli65.specs.Messages.{line_memory_message}
 use Rattle.cli65.specs.declared.fault.LineFault.{LineFault}

@@ -17,7 +17,7 @@ use Rattle.link65.specs.Givers.{given_names, open_names}
 use Rattle.link65.specs.Modules.{Module}
 use Rattle.link65.specs.Programs.{program_of}
 use Rattle.link65.specs.Standing.{agrees_with, module_of}
-use Rattle.image65.specs.declared.output.OutputFile.{OutputFile}
+use Rattle.base65.specs.declared.output.OutputFile.{OutputFile}
 use Rattle.whole65.specs.Equality.{IsLinkedTo}
 use Rattle.whole65.specs.Whole.{Whole}
 use Rattle.cli65.specs.Line.{Linking, Says, line_of, link}

@@ -5,7 +5,7 @@ use Rattle.script65.specs.declared.script.Script.{Script}
 use Rattle.language65.specs.Layout.{Layout}
 use Rattle.link65.specs.Modules.{Module}
 use Rattle.link65.specs.Programs as linked
-use Rattle.image65.specs.declared.output.OutputFile.{OutputFile}
+use Rattle.base65.specs.declared.output.OutputFile.{OutputFile}
 use Rattle.whole65.proofs.Asserted.{assertions_law}
 use Rattle.whole65.proofs.Files.{exports_law, files_law}
 use Rattle.whole65.proofs.Given.{names_law}

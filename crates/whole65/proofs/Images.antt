@@ -10,7 +10,7 @@ use Rattle.script65.specs.declared.script.Script.{Script}
 use Rattle.language65.specs.Layout.{Layout}
 use Rattle.link65.proofs.Passes.{passes_append}
 use Rattle.link65.specs.Checks.{check_waiting, each_passes, waiting_by_row, waiting_in, waiting_of}
-use Rattle.image65.specs.Files.{RowBytes}
+use Rattle.link65.specs.Files.{RowBytes}
 use Rattle.link65.specs.RowBytes.{cell_bytes, row_bytes, segment_bytes}
 use Rattle.link65.specs.Modules.{Module}
 use Rattle.link65.specs.Places.{linkage_of}

@@ -16,7 +16,7 @@ use Rattle.link65.specs.Values.{AreExports, Exports, Linkage, in_table}
 use Rattle.link65.specs.Warnings.{warnings_of_rows}
 use Rattle.link65.specs.declared.fault.LinkFault.{LinkFault}
 use Rattle.link65.specs.declared.linked.Linked.{Linked}
-use Rattle.image65.specs.declared.output.OutputFile.{OutputFile}
+use Rattle.base65.specs.declared.output.OutputFile.{OutputFile}
 use Rattle.link65.specs.declared.parts.ValueFault.{ValueFault}
 use Rattle.whole65.proofs.Later.{bind_ok}
 

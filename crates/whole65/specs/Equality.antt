@@ -5,7 +5,7 @@ use Rattle.language65.specs.Layout.{Layout}
 use Rattle.link65.specs.Links.{LinkOf}
 use Rattle.link65.specs.Modules.{Module}
 use Rattle.link65.specs.declared.linked.Linked.{Linked}
-use Rattle.image65.specs.declared.output.OutputFile.{OutputFile}
+use Rattle.base65.specs.declared.output.OutputFile.{OutputFile}
 use Rattle.whole65.specs.Sources.{AreSources}
 use Rattle.whole65.specs.Whole.{Whole}
 

@@ -13,7 +13,7 @@ use Rattle.link65.specs.Programs as linked
 use Rattle.link65.specs.Places as places
 use Rattle.link65.specs.Places.{address_of, linkage_of, run_of}
 use Rattle.link65.specs.Checks.{check_waiting, each_passes, waiting_by_row}
-use Rattle.image65.specs.Files.{RowBytes}
+use Rattle.link65.specs.Files.{RowBytes}
 use Rattle.link65.specs.RowBytes.{row_bytes}
 use Rattle.link65.specs.declared.parts.Exported.{Exported}
 use Rattle.link65.specs.Segments as grown

@@ -8,8 +8,8 @@ use Rattle.script65.specs.Placing.{place_of}
 use Rattle.script65.specs.declared.placement.Placement.{Placement}
 use Rattle.script65.specs.declared.script.Row.{Row}
 use Rattle.script65.specs.declared.script.Script.{Script}
-use Rattle.image65.specs.declared.output.OutputFile.{OutputFile}
-use Rattle.image65.specs.Files.{AddsAreas, IsAreaFile, RowBytes}
+use Rattle.base65.specs.declared.output.OutputFile.{OutputFile}
+use Rattle.link65.specs.Files.{AddsAreas, IsAreaFile, RowBytes}
 use Rattle.link65.specs.Givers.{first_again}
 use Rattle.link65.specs.Names.{script_names, symbol_imports}
 use Rattle.language65.specs.Language.{Stated, assertion}

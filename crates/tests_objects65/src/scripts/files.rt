@@ -2,7 +2,7 @@
 
 use super::placed;
 use base65::Sequence;
-use image65::{OutputFile, files_of};
+use link65::{OutputFile, files_of};
 use script65::{Placement, Row, Script, read_script};
 use std::alloc::{AllocError, Global};
 use std::test::Fail;

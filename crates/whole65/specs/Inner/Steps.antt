@@ -30,9 +30,9 @@ use Rattle.script65.specs.declared.script.Row.{Row}
 use Rattle.base65.specs.Values.{wrapped}
 use Rattle.language65.specs.Sound.{IsSoundLayout, sections_in}
 use Rattle.link65.specs.Checks.{check_asserts, check_export, check_waiting, each_passes, waiting_by_row, waiting_in}
-use Rattle.image65.specs.Files.{RowBytes}
+use Rattle.link65.specs.Files.{RowBytes}
 use Rattle.link65.specs.RowBytes.{cell_bytes}
-use Rattle.image65.specs.declared.output.OutputFile.{OutputFile}
+use Rattle.base65.specs.declared.output.OutputFile.{OutputFile}
 use Rattle.link65.specs.declared.parts.Member.{Member}
 use Rattle.link65.specs.Segments as grown
 use Rattle.link65.specs.Segments.{Cell, fragment_cells, segment_of}

@@ -1,6 +1,6 @@
 use Rattle.std.proofs.Common.{List}
 use Rattle.std.proofs.lemmas.Result.{err_from_is_err_and}
-use Rattle.image65.specs.Files.{written}
+use Rattle.link65.specs.Files.{written}
 use Rattle.script65.specs.declared.script.Row.{Row}
 use Rattle.link65.specs.declared.parts.Waiting.{Waiting}
 use Rattle.link65.specs.Checks.{each_passes, waiting_by_row, waiting_of}

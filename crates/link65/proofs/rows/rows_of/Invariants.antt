@@ -1,5 +1,5 @@
 use Rattle.std.proofs.Common.{◌≡◌, ◌++◌, drop, map}
-use Rattle.image65.specs.Files.{written}
+use Rattle.link65.specs.Files.{written}
 use Rattle.link65.specs.Checks.{each_passes, waiting_by_row}
 use Rattle.link65.specs.Placed.{bytes_in, check_in, segments_in}
 use Rattle.link65.proofs.rows.rows_of.Given as goal

@@ -1,3 +1,0 @@
-pub mod FileLemmas
-pub mod ImageLemmas
-pub mod LoadLemmas

@@ -8,6 +8,6 @@ mod linking;
 mod members;
 mod refusal;
 
-pub use link65::{LinkFault, Linked, OutputFile};
+pub use link65::{LinkFault, Linked};
 pub use linking::link_files;
 pub use refusal::{Refusal, refusal_message};

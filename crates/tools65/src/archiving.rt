@@ -5,9 +5,8 @@ ghost use Rattle.cli65.specs.Line.{archiving};
 ghost use Rattle.tools65.specs.Archives.{archive_outcome, archived_outcome, library_file, output_of};
 
 use ar65::{Archived, MemberFile, Refusal, refusal_message};
-use base65::{Sequence, Text};
+use base65::{OutputFile, Sequence, Text};
 use cli65::ArchiveLine;
-use ld65::OutputFile;
 use output65::{Outcome, Status};
 use std::alloc::{AllocError, Global};
 

@@ -6,9 +6,9 @@ mod assembling;
 pub mod laws;
 mod running;
 
+pub use base65::OutputFile;
 pub use cli65::{
     ArchiveLine, AssembleLine, Define, Line, LineFault, LinkLine, Operation, read_line,
 };
-pub use ld65::OutputFile;
 pub use output65::{DiskStore, Outcome, Status, print, write_file};
 pub use running::{run, run_line};

@@ -1,8 +1,8 @@
 //! Files of areas, by what rows hold.
 
 use super::placed;
-use base65::Sequence;
-use link65::{OutputFile, files_of};
+use base65::{OutputFile, Sequence};
+use link65::files_of;
 use script65::{Placement, Row, Script, read_script};
 use std::alloc::{AllocError, Global};
 use std::test::Fail;

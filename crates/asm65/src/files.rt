@@ -1,9 +1,10 @@
 //! The bytes that statements take from files.
 
-ghost use Rattle.std.specs.Prelude.{◌≡◌, ℕ, IfErr, IfOk, IfSome, OnOk, take, true};
+ghost use Rattle.std.specs.Prelude.{◌≡◌, ℕ, IfErr, IfOk, IfSome, OnOk, false, take, true};
 ghost use Rattle.std.specs.Option.{option_map};
-ghost use Rattle.base65.specs.Store.{IsBlamed, PassesBy};
+ghost use Rattle.base65.specs.Store.{Files, IsBlamed, PassesBy};
 ghost use Rattle.expand65.specs.Includes.{beside, file_named};
+ghost use Rattle.source65.specs.declared.place.Place.{Place};
 ghost use Rattle.language65.specs.declared.fault.AsmFault.TheVariants.{FileError};
 ghost use Rattle.language65.specs.Faults.{is_failure, is_outside};
 ghost use Rattle.language65.specs.Views.{place_in, stated_of};
@@ -19,6 +20,7 @@ use language65::{AsmFault, At, PartRange, Statement};
 use layout65::{Before, check_unread};
 use source65::MAX_FILE;
 use std::alloc::Global;
+use std::mem::replace;
 
 /// The bytes of a file that is looked for beside another one, if it is there. Of one with too many
 /// bytes one byte behind the limit is read.
@@ -78,7 +80,8 @@ impl Assembler {
 
 /// A statement with the bytes that it takes from a file. The file is read only where nothing is wrong with the
 /// statement whatever the file has.
-pub fn with_bytes<S: Store>(
+#[inline(never)]
+fn with_bytes<S: Store>(
     alloc: Global,
     store: &mut S,
     assembler: &mut Assembler,
@@ -105,5 +108,49 @@ pub fn with_bytes<S: Store>(
             Ok(Statement::FilePart { bytes, range })
         }
         other => Ok(other),
+    }
+}
+
+/// Whether a statement takes bytes from a file that it names.
+#[inline(always)]
+fn names_file(statement: &Statement) -> bool
+    ensures { result ≡ false → (m : Files) (place : Place) →
+        stated_of statement.now ≡ read_bytes m place (stated_of statement.now) }
+{
+    matches!(statement, Statement::NamedPart { name: _, range: _ })
+}
+
+/// Reads the bytes that a statement takes from a file into it. Most take none, and stay where they are.
+#[inline(always)]
+pub fn read_part<S: Store>(
+    alloc: Global,
+    store: &mut S,
+    assembler: &mut Assembler,
+    at: At<'_>,
+    statement: &mut Statement,
+) -> Result<(), AsmFault>
+    requires { IsHeld assembler.old }
+    ensures bytes { IfSome (S.files store.old) (λ m. OnOk result (stated_of statement.new ≡
+        read_bytes m (place_in at.entry.file.now at.entry.line) (stated_of statement.old))) }
+    ensures held { (count : ℕ) (t : State) → Holds count t assembler.old →
+        OnOk result (Holds count t assembler.new) }
+    ensures refused { (count : ℕ) (t : State) → Holds count t assembler.old → IfErr result
+        (IsRefusedUnread (S.blamed store.new) t (place_in at.entry.file.now at.entry.line)
+        (stated_of statement.old)) }
+    ensures texts { assembler.new.texts ≡ assembler.old.texts }
+    ensures failed { IfErr result (λ e. is_failure e ≡ true → e ≡ FileError) }
+    ensures files { S.files store.new ≡ S.files store.old }
+    ensures count { PassesBy is_failure (S.failures store.old) (S.failures store.new) result }
+{
+    if !names_file(statement) {
+        return Ok(());
+    }
+    let named = replace(statement, Statement::Nothing);
+    match with_bytes(alloc, store, assembler, at, named) {
+        Ok(whole) => {
+            *statement = whole;
+            Ok(())
+        }
+        Err(fault) => Err(fault),
     }
 }

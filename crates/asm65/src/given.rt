@@ -15,7 +15,7 @@ ghost use Rattle.asm65.specs.Inner.Running.{IsRoomy, IsSoundIf, StopsQuietly, Ta
 ghost use Rattle.asm65.specs.Unread.{Without};
 
 use crate::assembler::Assembler;
-use crate::files::with_bytes;
+use crate::files::read_part;
 use crate::sound::is_sound;
 use base65::Store;
 use expand65::Statement as Given;
@@ -80,8 +80,8 @@ fn take_rest<S: Store>(
     if tokens.is_empty() {
         return Ok(());
     }
-    let read = statement(alloc, tokens)?;
-    let statement = with_bytes(alloc, store, assembler, at, read)?;
+    let mut statement = statement(alloc, tokens)?;
+    read_part(alloc, store, assembler, at, &mut statement)?;
     take_sound(alloc, assembler, at, statement)
 }
 

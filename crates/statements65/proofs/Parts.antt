@@ -1,5 +1,5 @@
 -- Parts between commas.
-use Rattle.std.proofs.Common.{◌≡◌, ◌≢◌, ℕ, zero, suc, ◌+◌, ◌-◌, ◌<◌, ◌≤◌, Bool, true, false, nat_eq, not, List, [], ◌∷◌, Option, if◌then◌else◌, length, take, drop, Result, Ok, Err, refl, ap, sym, ◌∙◌, arith, add-one, one-add, length-drop, subst}
+use Rattle.std.proofs.Common.{◌≡◌, ◌≢◌, ℕ, zero, suc, ◌+◌, ◌-◌, ◌<◌, ◌≤◌, Bool, true, false, nat_eq, not, List, [], ◌∷◌, Option, Some, None, IfSome, if◌then◌else◌, length, take, drop, Result, Ok, Err, refl, ap, sym, ◌∙◌, arith, add-one, one-add, length-drop, subst}
 use Rattle.std.proofs.lemmas.Bool.Decides.{nat_tests}
 use Rattle.std.specs.List.{prefix_len}
 use Rattle.std.proofs.lemmas.List.{take_all}
@@ -12,7 +12,7 @@ use Rattle.language65.specs.declared.fault.AsmFault.{AsmFault}
 use Rattle.syntax65.specs.declared.expressions.fault.ExprFault.TheVariants.{OutOfMemory, OperandExpected, ParenthesisExpected, TooDeep}
 use Rattle.language65.specs.Faults.{is_outside, of_expr}
 use Rattle.syntax65.specs.Tokens.{Lexeme, lexeme_of, lexemes}
-use Rattle.syntax65.specs.Trees.{Tree}
+use Rattle.syntax65.specs.Trees.{Tree, number}
 use Rattle.syntax65.specs.declared.expressions.fault.ExprFault.{ExprFault}
 use Rattle.syntax65.specs.declared.lexing.tokens.Token.{Token}
 use Rattle.statements65.specs.Parsing.{before_parts, is_comma, parts_of, unknown, whole, words_of, IsAmount, IsExpression, IsFront, Then}
@@ -45,6 +45,11 @@ whole_short e n count h = go (nat_eq n count) refl
 
 pub is_whole : (ts : List Token) (e : Tree) (n : ℕ) → IsParsed (lexemes ts) (Ok (e, n)) → n ≡ length ts → IsExpression (lexemes ts) (Ok e)
 is_whole ts e n h f = (Ok (e, n), h, sym (whole_all e n (length (lexemes ts)) (f ∙ sym (lexemes_len ts))))
+
+-- a number, where there is one
+pub is_number : (o : Option ℕ) (ts : List Token) → 1 ≡ length ts → IfSome o (λ v. IsParsed (lexemes ts) (Ok (number v, 1))) → IfSome o (λ v. IsExpression (lexemes ts) (Ok (number v)))
+is_number None ts one h = tt
+is_number (Some v) ts one h = is_whole ts (number v) 1 h one
 
 pub is_short : (ts : List Token) (e : Tree) (n : ℕ) → IsParsed (lexemes ts) (Ok (e, n)) → n ≢ length ts → IsExpression (lexemes ts) unknown
 is_short ts e n h f = (Ok (e, n), h, sym (whole_short e n (length (lexemes ts)) (λ g. f (g ∙ lexemes_len ts))))

@@ -98,8 +98,8 @@ fn check_item(alloc: Global, symbols: &Symbols, scope: usize, item: &Item) -> Re
         (table_of symbols.now).scopes scope (item_trees (item_of item.now ∷ []))) tt) }
 {
     match item {
+        Item::Value(Expr::Number(_)) | Item::Text(_) => Ok(()),
         Item::Value(value) => check_one(alloc, symbols, scope, value),
-        Item::Text(_) => Ok(()),
     }
 }
 

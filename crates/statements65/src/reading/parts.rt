@@ -37,7 +37,8 @@ fn end_expression(tokens: &[Token<'_>]) -> bool
 }
 
 /// The value of a number at the front that is an expression by itself.
-fn lone_number(tokens: &[Token<'_>]) -> Option<u32>
+#[inline(always)]
+pub fn lone_number(tokens: &[Token<'_>]) -> Option<u32>
     ensures read { IfSome result (λ v. IsParsed (lexemes tokens.now) (Ok (number v, 1))) }
     ensures some { IfSome result (λ _. 0 < length tokens.now) }
 {

@@ -11,43 +11,43 @@ use Rattle.asm65.specs.Unread.{Without}
 use Rattle.asm65.proofs.Runs.{Answer, RestBy, never_stops, rest_leaves, rest_stops, rest_unread, some_there, takes_from}
 use Rattle.asm65.proofs.given.take_rest.Goals as goal
 
-pub returns-in_err-statement-clause-taken : goal.returns-in_err-statement-clause-taken
-returns-in_err-statement-clause-taken g c =
-    let r = c.from_residual-in_err-statement.result in
-    let p = err_from_is_err_and r c.from_residual-in_err-statement.ensures.1 in
-    let e = c.in_err-statement.field-0.0 in
+pub returns-in_err-read_part-clause-taken : goal.returns-in_err-read_part-clause-taken
+returns-in_err-read_part-clause-taken g c =
+    let r = c.from_residual-in_err-read_part.result in
+    let p = err_from_is_err_and r c.from_residual-in_err-read_part.ensures.1 in
+    let e = c.in_err-read_part.field-0.0 in
     let place = place_in c.args.at.file.now c.args.at.line in
     let ts = lexemes c.args.tokens.now in
     let some : ts ≡ [] → ⊥ = some_tokens c.args.tokens.now (some_there (length c.args.tokens.now) c.if-is_empty.ensures) in
-    let P : Answer → Type 0 = TakesBy (AreNamed ts) (RestBy (g.S.Store.files c.args.store.now) place ts) 1 c.args.assembler.now c.with_bytes.new.assembler in
-    subst P (sym (p.1 ∙ ap Err p.2)) (rest_unread (g.S.Store.blamed c.with_bytes.new.store) place (stated_of c.in_ok-read.read) c.args.assembler.now c.with_bytes.new.assembler e c.in_err-statement.ensures.refused c.in_err-statement.ensures.texts (g.S.Store.files c.args.store.now) ts some c.in_ok-read.ensures.value)
+    let P : Answer → Type 0 = TakesBy (AreNamed ts) (RestBy (g.S.Store.files c.args.store.now) place ts) 1 c.args.assembler.now c.read_part.new.assembler in
+    subst P (sym (p.1 ∙ ap Err p.2)) (rest_unread (g.S.Store.blamed c.read_part.new.store) place (stated_of c.in_ok-statement.statement) c.args.assembler.now c.read_part.new.assembler e c.in_err-read_part.ensures.refused c.in_err-read_part.ensures.texts (g.S.Store.files c.args.store.now) ts some c.in_ok-statement.ensures.value)
 
-pub returns-in_err-statement-clause-stopped : goal.returns-in_err-statement-clause-stopped
-returns-in_err-statement-clause-stopped g c =
-    let r = c.from_residual-in_err-statement.result in
-    let p = err_from_is_err_and r c.from_residual-in_err-statement.ensures.1 in
-    let e = c.in_err-statement.field-0.0 in
+pub returns-in_err-read_part-clause-stopped : goal.returns-in_err-read_part-clause-stopped
+returns-in_err-read_part-clause-stopped g c =
+    let r = c.from_residual-in_err-read_part.result in
+    let p = err_from_is_err_and r c.from_residual-in_err-read_part.ensures.1 in
+    let e = c.in_err-read_part.field-0.0 in
     let place = place_in c.args.at.file.now c.args.at.line in
     let ts = lexemes c.args.tokens.now in
     let some : ts ≡ [] → ⊥ = some_tokens c.args.tokens.now (some_there (length c.args.tokens.now) c.if-is_empty.ensures) in
-    rest_stops (g.S.Store.blamed c.with_bytes.new.store) place (stated_of c.in_ok-read.read) c.args.assembler.now c.with_bytes.new.assembler e c.in_err-statement.ensures.refused c.in_err-statement.ensures.texts ts r some c.in_ok-read.ensures.value c.in_err-statement.ensures.failed (p.1 ∙ ap Err p.2)
+    rest_stops (g.S.Store.blamed c.read_part.new.store) place (stated_of c.in_ok-statement.statement) c.args.assembler.now c.read_part.new.assembler e c.in_err-read_part.ensures.refused c.in_err-read_part.ensures.texts ts r some c.in_ok-statement.ensures.value c.in_err-read_part.ensures.failed (p.1 ∙ ap Err p.2)
 
 pub take_sound-requires : goal.take_sound-requires
 take_sound-requires g c =
     let (count, t, room, h) = c.requires in
-    (count, t, room, c.in_ok-statement.ensures.held count t h)
+    (count, t, room, c.in_ok-read_part.ensures.held count t h)
 
 pub returns-clause-taken : goal.returns-clause-taken
 returns-clause-taken g c =
     let some : lexemes c.args.tokens.now ≡ [] → ⊥ = some_tokens c.args.tokens.now (some_there (length c.args.tokens.now) c.if-is_empty.ensures) in
     let place = place_in c.args.at.file.now c.args.at.line in
     let ts = lexemes c.args.tokens.now in
-    let x = stated_of c.in_ok-read.read in
-    let y = stated_of c.in_ok-statement.statement in
-    takes_from (AreNamed ts) (RestBy (g.S.Store.files c.args.store.now) place ts) 1 c.args.assembler.now c.with_bytes.new.assembler c.take_sound.new.assembler c.take_sound.result c.in_ok-statement.ensures.held
-    (rest_leaves (g.S.Store.files c.args.store.now) place ts x y c.with_bytes.new.assembler c.take_sound.new.assembler c.take_sound.result some c.in_ok-read.ensures.value c.in_ok-statement.ensures.bytes c.take_sound.ensures.taken)
+    let x = stated_of c.in_ok-statement.statement in
+    let y = stated_of c.read_part.new.statement in
+    takes_from (AreNamed ts) (RestBy (g.S.Store.files c.args.store.now) place ts) 1 c.args.assembler.now c.read_part.new.assembler c.take_sound.new.assembler c.take_sound.result c.in_ok-read_part.ensures.held
+    (rest_leaves (g.S.Store.files c.args.store.now) place ts x y c.read_part.new.assembler c.take_sound.new.assembler c.take_sound.result some c.in_ok-statement.ensures.value c.in_ok-read_part.ensures.bytes c.take_sound.ensures.taken)
 
 pub returns-clause-stopped : goal.returns-clause-stopped
 returns-clause-stopped g c =
     let place = place_in c.args.at.file.now c.args.at.line in
-    never_stops (Without (g.S.Store.blamed c.with_bytes.new.store) (λ m t. IsRest m Takes t place (lexemes c.args.tokens.now))) 1 c.args.assembler.now c.take_sound.new.assembler c.take_sound.result c.take_sound.ensures.inside
+    never_stops (Without (g.S.Store.blamed c.read_part.new.store) (λ m t. IsRest m Takes t place (lexemes c.args.tokens.now))) 1 c.args.assembler.now c.take_sound.new.assembler c.take_sound.result c.take_sound.ensures.inside

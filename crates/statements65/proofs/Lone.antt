@@ -1,10 +1,11 @@
 -- A number by itself.
-use Rattle.std.proofs.Common.{◌≡◌, ℕ, List, ◌∷◌, Option, Some, None, Ok, IfSome, ap, sym, subst}
+use Rattle.std.proofs.Common.{◌≡◌, ℕ, List, [], ◌∷◌, Option, Some, None, Ok, IfSome, ap, refl, sym, subst}
 use Rattle.syntax65.specs.Expressions.{IsParsed, NoOperator, Phrase, a_leaf, binary_at, leaf_of, of_level, opening_at, opening_in, text_at}
 use Rattle.syntax65.specs.Tokens.{Lexeme, lexeme_of, lexemes}
 use Rattle.syntax65.specs.Trees.{Tree, number}
 use Rattle.syntax65.specs.declared.expressions.words.Opening.TheVariants.{Number}
 use Rattle.syntax65.specs.declared.lexing.tokens.Token.{Token}
+use Rattle.statements65.specs.Parsing.{quoted_in, string_of}
 
 no_operator : (ts : List Lexeme) → binary_at ts 1 ≡ None → NoOperator ts 6 1
 no_operator ts e op h = absurd cc
@@ -27,3 +28,9 @@ alone_if None all behind first e n b = tt
 alone_if (Some v) all behind first e n b =
     let P : List Token → Type 0 = λ ts. IsParsed (lexemes ts) (Ok (number v, 1)) in
     subst P (sym e) (alone (lexemes (first ∷ behind)) v n b)
+
+-- what begins with no text is none
+pub no_text_if : (o : Option ℕ) (all behind : List Token) (first : Token) → all ≡ first ∷ behind → IfSome o (λ v. quoted_in (lexeme_of first) ≡ None) → IfSome o (λ v. string_of (lexemes all) ≡ None)
+no_text_if None all behind first e n = tt
+no_text_if (Some v) all [] first e n = let P : List Token → Type 0 = λ ts. string_of (lexemes ts) ≡ None in subst P (sym e) n
+no_text_if (Some v) all (t ∷ ts) first e n = let P : List Token → Type 0 = λ ts. string_of (lexemes ts) ≡ None in subst P (sym e) refl

@@ -15,8 +15,10 @@ use Rattle.syntax65.specs.Tokens.{Lexeme, lexeme_of, lexemes}
 use Rattle.syntax65.specs.Trees.{Tree, number}
 use Rattle.syntax65.specs.declared.expressions.fault.ExprFault.{ExprFault}
 use Rattle.syntax65.specs.declared.lexing.tokens.Token.{Token}
-use Rattle.statements65.specs.Parsing.{before_parts, is_comma, parts_of, unknown, whole, words_of, IsAmount, IsExpression, IsFront, Then}
-use Rattle.language65.specs.Language.{Stated}
+use Rattle.statements65.specs.Parsing.{before_parts, is_comma, parts_of, string_of, unknown, whole, words_of, IsAmount, IsExpression, IsFront, IsItem, Then}
+use Rattle.statements65.specs.declared.reading.words.Elements.{Elements}
+use Rattle.statements65.specs.declared.reading.words.Elements.TheVariants.{Values, ValuesAndTexts}
+use Rattle.language65.specs.Language.{Stated, value}
 
 pub lexemes_len : (ts : List Token) → length (lexemes ts) ≡ length ts
 lexemes_len [] = refl
@@ -50,6 +52,11 @@ is_whole ts e n h f = (Ok (e, n), h, sym (whole_all e n (length (lexemes ts)) (f
 pub is_number : (o : Option ℕ) (ts : List Token) → 1 ≡ length ts → IfSome o (λ v. IsParsed (lexemes ts) (Ok (number v, 1))) → IfSome o (λ v. IsExpression (lexemes ts) (Ok (number v)))
 is_number None ts one h = tt
 is_number (Some v) ts one h = is_whole ts (number v) 1 h one
+
+-- a number is an element, also where a text may be one
+pub is_item : (elements : Elements) (ts : List Lexeme) (v : ℕ) → IsExpression ts (Ok (number v)) → string_of ts ≡ None → IsItem elements ts (Ok (value (number v)))
+is_item Values ts v h n = (Ok (number v), h, refl)
+is_item ValuesAndTexts ts v h n = rw n (Ok (number v), h, refl)
 
 pub is_short : (ts : List Token) (e : Tree) (n : ℕ) → IsParsed (lexemes ts) (Ok (e, n)) → n ≢ length ts → IsExpression (lexemes ts) unknown
 is_short ts e n h f = (Ok (e, n), h, sym (whole_short e n (length (lexemes ts)) (λ g. f (g ∙ lexemes_len ts))))

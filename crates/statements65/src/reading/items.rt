@@ -1,11 +1,11 @@
 //! Lists of data.
 
-ghost use Rattle.std.specs.Prelude.{◌≡◌, [], false, map, IfErr, IfOk, IfSome, Ok};
+ghost use Rattle.std.specs.Prelude.{◌≡◌, [], false, map, IfErr, IfOk, IfSome, None, Ok};
 ghost use Rattle.base65.specs.Relations.{Answers};
 ghost use Rattle.syntax65.specs.Tokens.{lexemes};
 ghost use Rattle.syntax65.specs.Trees.{number};
 ghost use Rattle.language65.specs.Faults.{is_failure, is_outside};
-ghost use Rattle.statements65.specs.Parsing.{parts_of, EachIs, IsExpression, IsItem, IsValue};
+ghost use Rattle.statements65.specs.Parsing.{parts_of, string_of, EachIs, IsExpression, IsItem, IsValue};
 ghost use Rattle.language65.specs.Views.{item_of};
 
 use super::parts::{expression, first_part, lone_number};
@@ -19,7 +19,8 @@ use syntax65::{Expr, Token};
 /// The value of one number, as most elements are.
 #[inline(always)]
 fn number_alone(tokens: &[Token<'_>]) -> Option<u32>
-    ensures { IfSome result (λ v. IsExpression (lexemes tokens.now) (Ok (number v))) }
+    ensures value { IfSome result (λ v. IsExpression (lexemes tokens.now) (Ok (number v))) }
+    ensures text { IfSome result (λ _. string_of (lexemes tokens.now) ≡ None) }
 {
     if tokens.len() == 1 {
         lone_number(tokens)
@@ -29,15 +30,11 @@ fn number_alone(tokens: &[Token<'_>]) -> Option<u32>
 }
 
 /// An element that is a value.
-#[inline(always)]
 #[tactic(auto, using(crate::proofs::Parts::then_fault))]
 fn value_item(alloc: Global, tokens: &[Token<'_>]) -> Result<Item, AsmFault>
     ensures value { Answers is_outside item_of result (IsValue (lexemes tokens.now)) }
     ensures inside { IfErr result (λ e. is_failure e ≡ false) }
 {
-    if let Some(number) = number_alone(tokens) {
-        return Ok(Item::Value(Expr::Number(number)));
-    }
     Ok(Item::Value(expression(alloc, tokens)?))
 }
 
@@ -47,6 +44,9 @@ fn item(alloc: Global, elements: Elements, tokens: &[Token<'_>]) -> Result<Item,
     ensures value { Answers is_outside item_of result (IsItem elements (lexemes tokens.now)) }
     ensures inside { IfErr result (λ e. is_failure e ≡ false) }
 {
+    if let Some(number) = number_alone(tokens) {
+        return Ok(Item::Value(Expr::Number(number)));
+    }
     match elements {
         Elements::Values => value_item(alloc, tokens),
         Elements::ValuesAndTexts => match string_of(tokens) {

@@ -6,15 +6,15 @@ use Rattle.std.proofs.lemmas.Bool.Decides.{nat_tests}
 use Rattle.std.proofs.lemmas.Map.Keys.{IsDistinct-head, IsDistinct-tail}
 use Rattle.object65.specs.declared.object.Fragment.{Fragment}
 use Rattle.object65.specs.declared.object.Fragment.TheVariants.{Literal, Fill}
+use Rattle.object65.specs.declared.object.Fragment.TheVariants as fragment
 use Rattle.object65.specs.declared.object.Section.{Section}
-use Rattle.object65.specs.declared.object.Origin.{Origin}
-use Rattle.language65.specs.declared.contents.Part.{Part}
 use Rattle.language65.specs.declared.contents.Segment.{Segment}
-use Rattle.language65.specs.Numbering.{all_joined, is_empty, joined, segment_name, segment_power}
+use Rattle.language65.specs.Numbering.{all_joined, is_empty, joined, numbered, segment_name, segment_power}
 use Rattle.sections65.specs.declared.entries.Entry.{Entry}
-use Rattle.sections65.specs.declared.entries.Entry.TheVariants.{Put, Told, Open}
+use Rattle.sections65.specs.declared.entries.Entry.TheVariants.{Bytes, Room, Value, Told, Open}
 use Rattle.sections65.specs.declared.numbering.drafts.Draft.{Draft}
-use Rattle.sections65.specs.Inner.Drafts.{all_of_draft, fragment_at, grown, new_draft, section_from, with_entries, with_entry, with_fragment}
+use Rattle.sections65.specs.Fed.{origin_by}
+use Rattle.sections65.specs.Inner.Drafts.{all_of_draft, grown, in_segment, new_draft, section_from, segment_of, with_entries, with_entry, with_fragment, with_put}
 
 -- ---- One item of a list in which each has a key of its own.
 
@@ -73,6 +73,13 @@ fragment_segment d f = by (is_empty f)
     by true = refl
     by false = grown_segment d d.last f
 
+put_segment : (g : ℕ) (f : Fragment) (d : Draft) → (if nat_eq g d.segment then with_fragment d f else d).segment ≡ d.segment
+put_segment g f d = by (nat_eq g d.segment)
+  where
+    by : (b : Bool) → (cond b (with_fragment d f) d).segment ≡ d.segment
+    by true = fragment_segment d f
+    by false = refl
+
 pub front : (f : Fragment) (fs : List Fragment) → filter (λ f. not (is_empty f)) (f ∷ []) ++ filter (λ f. not (is_empty f)) fs ≡ filter (λ f. not (is_empty f)) (f ∷ fs)
 front f fs = by (is_empty f)
   where
@@ -80,13 +87,15 @@ front f fs = by (is_empty f)
     by true = refl
     by false = refl
 
+-- what a fragment that is put into a segment adds to those of another one
+abbrev pub fragment_put : (h g : ℕ) → Fragment → List Fragment
+fragment_put h g f = if nat_eq g h then filter (λ f. not (is_empty f)) (f ∷ []) else []
+
 module _ (s i : List ℕ) where
   entry_segment : (e : Entry) (d : Draft) → (with_entry s i e d).segment ≡ d.segment
-  entry_segment (Put g o p) d = by (nat_eq g d.segment)
-    where
-      by : (b : Bool) → (cond b (with_fragment d (fragment_at s i o p)) d).segment ≡ d.segment
-      by true = fragment_segment d (fragment_at s i o p)
-      by false = refl
+  entry_segment (Bytes g bytes) d = put_segment g (Literal bytes) d
+  entry_segment (Room g n) d = put_segment g (Fill n) d
+  entry_segment (Value g o width f) d = put_segment g (fragment.Value width (origin_by o) (numbered s i f)) d
   entry_segment (Told o ss) d = refl
   entry_segment Open d = refl
 
@@ -103,10 +112,12 @@ module _ (s i : List ℕ) where
   stays e (d ∷ ds) same = λ n. same d n ∷ stays e ds same n
 
   -- what is said and what waits put nothing into a section
-  pub nothing_put : (e : Entry) (ds : List Draft) → ((g : ℕ) (o : Origin) (p : Part) → e ≡ Put g o p → ⊥) → ds ≡ map (with_entry s i e) ds
-  nothing_put (Put g o p) ds none = absurd (none g o p refl)
-  nothing_put (Told o ss) ds none = stays (Told o ss) ds (λ d. refl)
-  nothing_put Open ds none = stays Open ds (λ d. refl)
+  pub nothing_put : (e : Entry) (ds : List Draft) → segment_of e ≡ None → ds ≡ map (with_entry s i e) ds
+  nothing_put e ds none = stays e ds (λ d. ap (λ o. in_segment o (with_put s i e) d) (sym none))
+
+  -- what an entry puts changes the section of its segment alone
+  pub put_there : (e : Entry) (g : ℕ) (ds : List Draft) → segment_of e ≡ Some g → map (λ d. if nat_eq g d.segment then with_put s i e d else d) ds ≡ map (with_entry s i e) ds
+  put_there e g ds is = ap (λ o. map (in_segment o (with_put s i e)) ds) (sym is)
 
   -- ---- Its fragments.
 
@@ -133,21 +144,25 @@ module _ (s i : List ℕ) where
 
   -- what an entry puts into a section
   abbrev pub entry_fragments : ℕ → Entry → List Fragment
-  entry_fragments h (Put g o p) = if nat_eq g h then filter (λ f. not (is_empty f)) (fragment_at s i o p ∷ []) else []
+  entry_fragments h (Bytes g bytes) = fragment_put h g (Literal bytes)
+  entry_fragments h (Room g n) = fragment_put h g (Fill n)
+  entry_fragments h (Value g o width f) = fragment_put h g (fragment.Value width (origin_by o) (numbered s i f))
   entry_fragments h _ = []
 
   abbrev pub fragments_put : ℕ → List Entry → List Fragment
   fragments_put h es = flat_map (entry_fragments h) es
 
-  entry_joined : (e : Entry) (d : Draft) (rest : List Fragment) → (with_entry s i e d).done ++ behind (with_entry s i e d).last rest ≡ d.done ++ behind d.last (entry_fragments d.segment e ++ rest)
-  entry_joined (Put g o p) d rest = by (nat_eq g d.segment)
+  put_joined : (g : ℕ) (f : Fragment) (d : Draft) (rest : List Fragment) → let e : Draft = if nat_eq g d.segment then with_fragment d f else d in e.done ++ behind e.last rest ≡ d.done ++ behind d.last (fragment_put d.segment g f ++ rest)
+  put_joined g f d rest = by (nat_eq g d.segment)
     where
-      f : Fragment
-      f = fragment_at s i o p
-
       by : (b : Bool) → (cond b (with_fragment d f) d).done ++ behind (cond b (with_fragment d f) d).last rest ≡ d.done ++ behind d.last ((if b then filter (λ f. not (is_empty f)) (f ∷ []) else []) ++ rest)
       by true = fragment_joined d f rest
       by false = refl
+
+  entry_joined : (e : Entry) (d : Draft) (rest : List Fragment) → (with_entry s i e d).done ++ behind (with_entry s i e d).last rest ≡ d.done ++ behind d.last (entry_fragments d.segment e ++ rest)
+  entry_joined (Bytes g bytes) d rest = put_joined g (Literal bytes) d rest
+  entry_joined (Room g n) d rest = put_joined g (Fill n) d rest
+  entry_joined (Value g o width f) d rest = put_joined g (fragment.Value width (origin_by o) (numbered s i f)) d rest
   entry_joined (Told o ss) d rest = refl
   entry_joined Open d rest = refl
 

@@ -13,7 +13,7 @@ use Rattle.language65.specs.declared.contents.Said as told
 use Rattle.language65.specs.Numbering.{exports_among, numbered}
 use Rattle.language65.specs.Views.{said_at}
 use Rattle.sections65.specs.declared.entries.Entry.{Entry}
-use Rattle.sections65.specs.declared.entries.Entry.TheVariants.{Put, Told, Open}
+use Rattle.sections65.specs.declared.entries.Entry.TheVariants.{Bytes, Room, Value, Told, Open}
 use Rattle.sections65.specs.Inner.Drafts.{anywhere, exports_at, exports_from, here}
 
 pub any_map : {A B : Type 0} (p : B → Bool) (f : A → B) (xs : List A) → list_any p (map f xs) ≡ list_any (λ x. p (f x)) xs
@@ -56,7 +56,9 @@ among_append at s i (x ∷ xs) found ss =
 -- ---- Entry by entry.
 
 pub from_cons : (s i : List ℕ) (found : List Export) (e : Entry) (es : List Entry) → exports_from s i (exports_from s i found (e ∷ [])) es ≡ exports_from s i found (e ∷ es)
-from_cons s i found (Put g o p) es = refl
+from_cons s i found (Bytes g bytes) es = refl
+from_cons s i found (Room g n) es = refl
+from_cons s i found (Value g o width f) es = refl
 from_cons s i found (Told o ss) es = refl
 from_cons s i found Open es = refl
 

@@ -6,14 +6,12 @@ use Rattle.std.proofs.lemmas.List.{drop_all}
 use Rattle.std.specs.Prelude.{if◌then◌else◌}
 use Rattle.std.proofs.lemmas.Iterator.Adapters.{position_from-zero}
 use Rattle.source65.specs.declared.place.Place.{Place}
-use Rattle.language65.specs.declared.contents.Part.{Part}
-use Rattle.language65.specs.declared.contents.Part.TheVariants as part
 use Rattle.language65.specs.declared.contents.Said as said
 use Rattle.language65.specs.declared.contents.Said.TheVariants as told
-use Rattle.language65.specs.Numbering.{content_imports, imports_in, key_of, once, optional_key, part_imports, said_imports}
-use Rattle.language65.specs.Views.{part_at, said_at}
+use Rattle.language65.specs.Numbering.{content_imports, imports_in, key_of, once, optional_key, said_imports}
+use Rattle.language65.specs.Views.{said_at}
 use Rattle.sections65.specs.declared.entries.Entry.{Entry}
-use Rattle.sections65.specs.declared.entries.Entry.TheVariants.{Put, Told, Open}
+use Rattle.sections65.specs.declared.entries.Entry.TheVariants.{Bytes, Room, Value, Told, Open}
 use Rattle.sections65.specs.Fed.{content_of, place_by}
 
 pub once_append : (ks found ls : List ℕ) → once (once found ks) ls ≡ once found (ks ++ ls)
@@ -63,14 +61,11 @@ said_anywhere names p q (told.Exported n f ∷ ss) = ap (λ ks. imports_in f ++ 
 said_anywhere names p q (told.Demanded n ∷ ss) = ap (λ ks. optional_key (key_of names n) ++ ks) (said_anywhere names p q ss)
 said_anywhere names p q (told.Checked act words f ∷ ss) = ap (λ ks. imports_in f ++ ks) (said_anywhere names p q ss)
 
-part_anywhere : (p q : Place) (x : Part) → part_imports (part_at p x) ≡ part_imports (part_at q x)
-part_anywhere p q (part.Known bytes) = refl
-part_anywhere p q (part.Filled n) = refl
-part_anywhere p q (part.Waiting width f) = refl
-
 -- the imports of entries, whatever the files are
 pub imports_anyhow : (names files more : List (List ℕ)) (es : List Entry) → flat_map (content_imports names) (map (content_of files) es) ≡ flat_map (content_imports names) (map (content_of more) es)
 imports_anyhow names files more [] = refl
-imports_anyhow names files more (Put g o p ∷ es) = λ n. ((part_anywhere (place_by files o) (place_by more o) p n ++ []) ++ []) ++ imports_anyhow names files more es n
+imports_anyhow names files more (Bytes g bytes ∷ es) = imports_anyhow names files more es
+imports_anyhow names files more (Room g n ∷ es) = imports_anyhow names files more es
+imports_anyhow names files more (Value g o width f ∷ es) = ap (λ ks. ((imports_in f ++ []) ++ []) ++ ks) (imports_anyhow names files more es)
 imports_anyhow names files more (Told o ss ∷ es) = λ n. said_anywhere names (place_by files o) (place_by more o) ss n ++ imports_anyhow names files more es n
 imports_anyhow names files more (Open ∷ es) = imports_anyhow names files more es

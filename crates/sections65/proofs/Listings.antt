@@ -1,20 +1,17 @@
 -- Files in which entries stand, and what more of them change.
-use Rattle.std.proofs.Common.{◌≡◌, ◌∙◌, ℕ, zero, suc, ◌+◌, ◌<◌, ◌≤◌, Bool, true, false, ◌&&◌, List, [], ◌∷◌, ◌++◌, length, map, Option, Some, None, refl, sym, ap, subst, arith, length-append}
-use Rattle.std.specs.Prelude.{nat_lt, slice_get, unwrap_or, string_bytes}
+use Rattle.std.proofs.Common.{◌≡◌, ◌∙◌, ℕ, zero, suc, ◌+◌, ◌<◌, ◌≤◌, true, List, [], ◌∷◌, ◌++◌, length, map, refl, ap, arith, length-append}
+use Rattle.std.specs.Prelude.{nat_lt}
 use Rattle.std.specs.List.{list_all}
 use Rattle.std.proofs.lemmas.Bool.Decides.{nat_tests}
 use Rattle.std.proofs.lemmas.List.Folds.{list_all-append}
-use Rattle.object65.specs.declared.object.Origin.{Origin}
-use Rattle.object65.specs.Objects.{has_file, has_file_by, is_good_origin}
-use Rattle.language65.specs.declared.contents.Part.{Part}
-use Rattle.language65.specs.declared.contents.Part.TheVariants as part
-use Rattle.language65.specs.Parts.{Content}
+use Rattle.language65.specs.Parts.{Content, Filled, Known, Waiting}
 use Rattle.language65.specs.Contents.{put, telling}
 use Rattle.language65.specs.Numbering.{name_of}
-use Rattle.language65.specs.Views.{part_at, place_in, said_at}
+use Rattle.language65.specs.Views.{place_in, said_at}
 use Rattle.sections65.specs.declared.entries.Entry.{Entry}
-use Rattle.sections65.specs.declared.entries.Entry.TheVariants.{Put, Told, Open}
-use Rattle.sections65.specs.Fed.{file_name, filled, first_of, place_by, rest_of, stands_in}
+use Rattle.sections65.specs.declared.entries.Entry.TheVariants.{Bytes, Room, Value, Told, Open}
+use Rattle.sections65.specs.declared.entries.Spot.{Spot}
+use Rattle.sections65.specs.Fed.{filled, first_of, place_by, rest_of, stands_in}
 use Rattle.sections65.specs.Standing.{Begins, StandIn}
 use Rattle.sections65.proofs.Fillings.{settled_with}
 use Rattle.sections65.proofs.Renumbering.{and, left, right}
@@ -26,25 +23,18 @@ name_grown [] later k h = let lt : k < 0 = grind (arith, nat_tests) in absurd (o
 name_grown (n ∷ files) later zero h = refl
 name_grown (n ∷ files) later (suc k) h = name_grown files later k (let lt : nat_lt k (length files) ≡ true = grind (arith, nat_tests) in lt)
 
-file_grown : (files later : List (List ℕ)) (f : Option ℕ) → (has_file_by 2 f && has_file (length files) f) ≡ true → file_name (files ++ later) f ≡ file_name files f
-file_grown files later None h = refl
-file_grown files later (Some k) h = name_grown files later k h
-
-pub place_grown : (files later : List (List ℕ)) (o : Origin) → is_good_origin 2 (length files) o ≡ true → place_by (files ++ later) o ≡ place_by files o
-place_grown files later o h = ap (λ n. place_in n o.line) (file_grown files later o.file h)
-
-put_grown : (files later : List (List ℕ)) (g : ℕ) (o : Origin) (p : Part) → stands_in (length files) (Put g o p) ≡ true → put g (part_at (place_by (files ++ later) o) p) ≡ put g (part_at (place_by files o) p)
-put_grown files later g o (part.Known bytes) h = refl
-put_grown files later g o (part.Filled n) h = refl
-put_grown files later g o (part.Waiting width f) h = ap (λ place. put g (part_at place (part.Waiting width f))) (place_grown files later o h)
+pub place_grown : (files later : List (List ℕ)) (o : Spot) → nat_lt o.file (length files) ≡ true → place_by (files ++ later) o ≡ place_by files o
+place_grown files later o h = ap (λ n. place_in n o.line) (name_grown files later o.file h)
 
 pub filled_grown : (files later : List (List ℕ)) (ws : List Content) (es : List Entry) → StandIn (length files) es → filled (files ++ later) ws es ≡ filled files ws es
 filled_grown files later ws [] h = refl
 filled_grown files later ws (Open ∷ es) h = ap (λ cs. first_of ws ∷ cs) (filled_grown files later (rest_of ws) es h)
-filled_grown files later ws (Put g o p ∷ es) h =
-    let one = left (stands_in (length files) (Put g o p)) (list_all (stands_in (length files)) es) h in
-    let rest = right (stands_in (length files) (Put g o p)) (list_all (stands_in (length files)) es) h in
-    λ n. put_grown files later g o p one n ∷ filled_grown files later ws es rest n
+filled_grown files later ws (Bytes g bytes ∷ es) h = ap (λ cs. put g (Known bytes) ∷ cs) (filled_grown files later ws es h)
+filled_grown files later ws (Room g count ∷ es) h = ap (λ cs. put g (Filled count) ∷ cs) (filled_grown files later ws es h)
+filled_grown files later ws (Value g o width f ∷ es) h =
+    let one = left (stands_in (length files) (Value g o width f)) (list_all (stands_in (length files)) es) h in
+    let rest = right (stands_in (length files) (Value g o width f)) (list_all (stands_in (length files)) es) h in
+    λ n. put g (Waiting width (place_grown files later o one n) f) ∷ filled_grown files later ws es rest n
 filled_grown files later ws (Told o ss ∷ es) h =
     let one = left (stands_in (length files) (Told o ss)) (list_all (stands_in (length files)) es) h in
     let rest = right (stands_in (length files) (Told o ss)) (list_all (stands_in (length files)) es) h in
@@ -52,16 +42,15 @@ filled_grown files later ws (Told o ss ∷ es) h =
 
 -- ---- Entries that stand in files.
 
-origin_grown : (m n : ℕ) (f : Option ℕ) → m ≤ n → (has_file_by 2 f && has_file m f) ≡ true → (has_file_by 2 f && has_file n f) ≡ true
-origin_grown m n None le h = h
-origin_grown m n (Some k) le h = let lt : nat_lt k m ≡ true = h in grind (arith, nat_tests)
+file_grown : (m n k : ℕ) → m ≤ n → nat_lt k m ≡ true → nat_lt k n ≡ true
+file_grown m n k le h = grind (arith, nat_tests)
 
 stands_grown : (m n : ℕ) (e : Entry) → m ≤ n → stands_in m e ≡ true → stands_in n e ≡ true
 stands_grown m n Open le h = refl
-stands_grown m n (Put g o (part.Known bytes)) le h = refl
-stands_grown m n (Put g o (part.Filled k)) le h = refl
-stands_grown m n (Put g o (part.Waiting width f)) le h = origin_grown m n o.file le h
-stands_grown m n (Told o ss) le h = origin_grown m n o.file le h
+stands_grown m n (Bytes g bytes) le h = refl
+stands_grown m n (Room g count) le h = refl
+stands_grown m n (Value g o width f) le h = file_grown m n o.file le h
+stands_grown m n (Told o ss) le h = file_grown m n o.file le h
 
 pub standing_grown : (m n : ℕ) (es : List Entry) → m ≤ n → StandIn m es → StandIn n es
 standing_grown m n [] le h = refl
@@ -76,10 +65,12 @@ standing_more n es e h all = list_all-append (stands_in n) es (e ∷ []) ∙ and
 pub standing_settled : (n : ℕ) (e : Entry) (es : List Entry) → stands_in n e ≡ true → StandIn n es → StandIn n (settled_with e es)
 standing_settled n e [] h all = refl
 standing_settled n e (Open ∷ es) h all = and (stands_in n e) (list_all (stands_in n) es) h all
-standing_settled n e (Put g o p ∷ es) h all =
-    and (stands_in n (Put g o p)) (list_all (stands_in n) (settled_with e es))
-    (left (stands_in n (Put g o p)) (list_all (stands_in n) es) all)
-    (standing_settled n e es h (right (stands_in n (Put g o p)) (list_all (stands_in n) es) all))
+standing_settled n e (Bytes g bytes ∷ es) h all = standing_settled n e es h all
+standing_settled n e (Room g count ∷ es) h all = standing_settled n e es h all
+standing_settled n e (Value g o width f ∷ es) h all =
+    and (stands_in n (Value g o width f)) (list_all (stands_in n) (settled_with e es))
+    (left (stands_in n (Value g o width f)) (list_all (stands_in n) es) all)
+    (standing_settled n e es h (right (stands_in n (Value g o width f)) (list_all (stands_in n) es) all))
 standing_settled n e (Told o ss ∷ es) h all =
     and (stands_in n (Told o ss)) (list_all (stands_in n) (settled_with e es))
     (left (stands_in n (Told o ss)) (list_all (stands_in n) es) all)

@@ -1,5 +1,5 @@
 -- The object of entries, in the order of its files, is that of their contents.
-use Rattle.std.proofs.Common.{◌≡◌, ◌∙◌, ℕ, ◌+◌, ◌<◌, Bool, true, false, not, ◌&&◌, cond, List, [], ◌∷◌, ◌++◌, length, map, position, Option, Some, None, nat_eq, nat_lt, refl, sym, ap, subst, arith}
+use Rattle.std.proofs.Common.{◌≡◌, ◌∙◌, ℕ, ◌<◌, Bool, true, false, not, List, [], ◌∷◌, ◌++◌, length, map, position, Some, nat_eq, nat_lt, refl, sym, ap, arith}
 use Rattle.std.specs.Prelude.{filter_map, slice_get, if◌then◌else◌}
 use Rattle.std.specs.List.{IsDistinct, filter, flat_map, list_all, list_any}
 use Rattle.std.specs.Str.{bytes_eq}
@@ -10,27 +10,26 @@ use Rattle.source65.specs.declared.place.Place.{Place}
 use Rattle.object65.specs.declared.object.Assert.{Assert}
 use Rattle.object65.specs.declared.object.Export.{Export}
 use Rattle.object65.specs.declared.object.Fragment.{Fragment}
-use Rattle.object65.specs.declared.object.Fragment.TheVariants.{Value}
+use Rattle.object65.specs.declared.object.Fragment.TheVariants.{Literal, Fill}
+use Rattle.object65.specs.declared.object.Fragment.TheVariants as fragment
 use Rattle.object65.specs.declared.object.Object.{Object}
 use Rattle.object65.specs.declared.object.Origin.{Origin}
 use Rattle.object65.specs.declared.object.Section.{Section}
-use Rattle.object65.specs.Objects.{has_file, has_file_by, is_good_origin}
-use Rattle.language65.specs.Contents.{telling}
-use Rattle.language65.specs.Parts.{Content, Part, Said}
-use Rattle.language65.specs.declared.contents.Part as declared
-use Rattle.language65.specs.declared.contents.Part.TheVariants as part
+use Rattle.language65.specs.Contents.{put, telling}
+use Rattle.language65.specs.Parts.{Content, Filled, Known, Part, Said, Waiting}
 use Rattle.language65.specs.declared.contents.Said as telled
 use Rattle.language65.specs.declared.contents.Said.TheVariants as told
 use Rattle.language65.specs.declared.contents.Segment.{Segment}
-use Rattle.language65.specs.Numbering.{all_joined, all_said, assert_of, exports_among, fragment_of, fragments_of, import_keys, in_files, is_empty, name_of, numbered, once, optional_key, part_imports, parts_in, section_of, segment_name, segment_power}
-use Rattle.language65.specs.Views.{part_at, said_at}
+use Rattle.language65.specs.Numbering.{all_joined, all_said, assert_of, exports_among, fragment_of, fragments_of, import_keys, in_files, is_empty, name_of, numbered, once, parts_in, section_of, segment_name, segment_power}
+use Rattle.language65.specs.Views.{said_at}
 use Rattle.sections65.specs.declared.entries.Entry.{Entry}
-use Rattle.sections65.specs.declared.entries.Entry.TheVariants.{Put, Told, Open}
-use Rattle.sections65.specs.Fed.{content_of, file_name, object_over, place_by, stands_in}
-use Rattle.sections65.specs.Inner.Drafts.{anywhere, asserts_at, entry_asserts, exports_at, exports_from, fragment_at, here, object_before}
+use Rattle.sections65.specs.declared.entries.Entry.TheVariants.{Bytes, Room, Value, Told, Open}
+use Rattle.sections65.specs.declared.entries.Spot.{Spot}
+use Rattle.sections65.specs.Fed.{content_of, object_over, origin_by, place_by, stands_in}
+use Rattle.sections65.specs.Inner.Drafts.{asserts_at, entry_asserts, exports_at, exports_from, object_before}
 use Rattle.sections65.specs.Inner.Ordering.{in_order}
 use Rattle.sections65.specs.Standing.{StandIn}
-use Rattle.sections65.proofs.Drafting.{entry_fragments, fragments_put, front, section_put, sections_are}
+use Rattle.sections65.proofs.Drafting.{fragment_put, fragments_put, front, section_put, sections_are}
 use Rattle.sections65.proofs.Exporting.{among_append}
 use Rattle.sections65.proofs.Keys.{imports_anyhow}
 use Rattle.sections65.proofs.Naming.{found_there, is_listed, listed_there}
@@ -43,18 +42,16 @@ module _ (files : List (List ℕ)) (apart : IsDistinct bytes_eq files) where
 
   -- ---- Origins by the table.
 
-  place_back : (f : Option ℕ) → (has_file_by 2 f && has_file (length files) f) ≡ true → position (bytes_eq (file_name files f)) files ≡ f
-  place_back None h = absurd cc
-  place_back (Some k) h = let lt : k < length files = grind (arith, nat_tests) in found_there files apart k lt
+  place_back : (k : ℕ) → nat_lt k (length files) ≡ true → position (bytes_eq (name_of files k)) files ≡ Some k
+  place_back k h = let lt : k < length files = grind (arith, nat_tests) in found_there files apart k lt
 
-  pub origin_back : (o : Origin) → is_good_origin 2 (length files) o ≡ true → at (place_by files o) ≡ o
+  pub origin_back : (o : Spot) → nat_lt o.file (length files) ≡ true → at (place_by files o) ≡ origin_by o
   origin_back o h = λ n. record { file = place_back o.file h n; line = o.line }
 
-  place_listed : (f : Option ℕ) → (has_file_by 2 f && has_file (length files) f) ≡ true → list_any (bytes_eq (file_name files f)) files ≡ true
-  place_listed None h = absurd cc
-  place_listed (Some k) h = let lt : k < length files = grind (arith, nat_tests) in listed_there files apart k lt
+  place_listed : (k : ℕ) → nat_lt k (length files) ≡ true → list_any (bytes_eq (name_of files k)) files ≡ true
+  place_listed k h = let lt : k < length files = grind (arith, nat_tests) in listed_there files apart k lt
 
-  origin_listed : (o : Origin) → is_good_origin 2 (length files) o ≡ true → is_listed files apart (place_by files o) ≡ true
+  origin_listed : (o : Spot) → nat_lt o.file (length files) ≡ true → is_listed files apart (place_by files o) ≡ true
   origin_listed o h = place_listed o.file h
 
   first : (e : Entry) (es : List Entry) → StandIn (length files) (e ∷ es) → stands_in (length files) e ≡ true
@@ -77,26 +74,25 @@ module _ (files : List (List ℕ)) (apart : IsDistinct bytes_eq files) where
   module _ (s i : List ℕ) where
     -- ---- What entries put.
 
-    fragment_is : (g : ℕ) (o : Origin) (p : declared.Part) → stands_in (length files) (Put g o p) ≡ true → fragment_at s i o p ≡ fragment_of at s i (part_at (place_by files o) p)
-    fragment_is g o (part.Known bytes) h = refl
-    fragment_is g o (part.Filled n) h = refl
-    fragment_is g o (part.Waiting width f) h = ap (λ origin. Value width origin (numbered s i f)) (sym (origin_back o h))
+    part_put : (h g : ℕ) (f : Fragment) (q : Part) (cs : List Content) (fs : List Fragment) → f ≡ fragment_of at s i q → fs ≡ fragments_of at s i (parts_in cs h) → fragment_put h g f ++ fs ≡ fragments_of at s i (parts_in (put g q ∷ cs) h)
+    part_put h g f q cs fs same rest = by (nat_eq g h)
+      where
+        by : (b : Bool) →
+            (if b then filter (λ f. not (is_empty f)) (f ∷ []) else []) ++ fs
+            ≡ fragments_of at s i (flat_map (λ (c : Content). c.parts) (if b then put g q ∷ filter (λ c. nat_eq c.segment h) cs else filter (λ c. nat_eq c.segment h) cs))
+        by true =
+            (λ n. filter (λ f. not (is_empty f)) (same n ∷ []) ++ rest n)
+            ∙ front (fragment_of at s i q) (map (fragment_of at s i) (parts_in cs h))
+        by false = rest
 
     fragments_are : (h : ℕ) (es : List Entry) → StandIn (length files) es → fragments_put s i h es ≡ fragments_of at s i (parts_in (contents es) h)
     fragments_are h [] standing = refl
-    fragments_are h (Put g o p ∷ es) standing =
-        by (nat_eq g h) (fragments_are h es (others (Put g o p) es standing))
-      where
-        q : Part
-        q = part_at (place_by files o) p
-
-        by : (b : Bool) → fragments_put s i h es ≡ fragments_of at s i (parts_in (contents es) h) →
-            (if b then filter (λ f. not (is_empty f)) (fragment_at s i o p ∷ []) else []) ++ fragments_put s i h es
-            ≡ fragments_of at s i (flat_map (λ (c : Content). c.parts) (if b then content_of files (Put g o p) ∷ filter (λ c. nat_eq c.segment h) (contents es) else filter (λ c. nat_eq c.segment h) (contents es)))
-        by true rest =
-            (λ n. filter (λ f. not (is_empty f)) (fragment_is g o p (first (Put g o p) es standing) n ∷ []) ++ rest n)
-            ∙ front (fragment_of at s i q) (map (fragment_of at s i) (parts_in (contents es) h))
-        by false rest = rest
+    fragments_are h (Bytes g bytes ∷ es) standing = part_put h g (Literal bytes) (Known bytes) (contents es) (fragments_put s i h es) refl (fragments_are h es (others (Bytes g bytes) es standing))
+    fragments_are h (Room g n ∷ es) standing = part_put h g (Fill n) (Filled n) (contents es) (fragments_put s i h es) refl (fragments_are h es (others (Room g n) es standing))
+    fragments_are h (Value g o width f ∷ es) standing =
+        part_put h g (fragment.Value width (origin_by o) (numbered s i f)) (Waiting width (place_by files o) f) (contents es) (fragments_put s i h es)
+        (ap (λ origin. fragment.Value width origin (numbered s i f)) (sym (origin_back o (first (Value g o width f) es standing))))
+        (fragments_are h es (others (Value g o width f) es standing))
     fragments_are h (Told o ss ∷ es) standing =
         fragments_are h es (others (Told o ss) es standing)
         ∙ ap (fragments_of at s i) (sym (told_parts (map (said_at (place_by files o)) ss) (contents es) h))
@@ -112,24 +108,26 @@ module _ (files : List (List ℕ)) (apart : IsDistinct bytes_eq files) where
 
     -- ---- What entries say.
 
-    exports_are : (o : Origin) (found : List Export) (ss : List telled.Said) → at (place_by files o) ≡ o → exports_at s i o found ss ≡ exports_among at s i found (map (said_at (place_by files o)) ss)
+    exports_are : (o : Spot) (found : List Export) (ss : List telled.Said) → at (place_by files o) ≡ origin_by o → exports_at s i (origin_by o) found ss ≡ exports_among at s i found (map (said_at (place_by files o)) ss)
     exports_are o found [] h = refl
     exports_are o found (told.Exported n f ∷ ss) h =
-        exports_are o (if list_any (λ e. bytes_eq n e.name) found then found else found ++ record { name = n; origin = o; form = numbered s i f } ∷ []) ss h
+        exports_are o (if list_any (λ e. bytes_eq n e.name) found then found else found ++ record { name = n; origin = origin_by o; form = numbered s i f } ∷ []) ss h
         ∙ ap (λ origin. exports_among at s i (if list_any (λ e. bytes_eq n e.name) found then found else found ++ record { name = n; origin = origin; form = numbered s i f } ∷ []) (map (said_at (place_by files o)) ss)) (sym h)
     exports_are o found (told.Demanded n ∷ ss) h = exports_are o found ss h
     exports_are o found (told.Checked act words f ∷ ss) h = exports_are o found ss h
 
     exports_said : (found : List Export) (es : List Entry) → StandIn (length files) es → exports_from s i found es ≡ exports_among at s i found (all_said (contents es))
     exports_said found [] standing = refl
-    exports_said found (Put g o p ∷ es) standing = exports_said found es (others (Put g o p) es standing)
+    exports_said found (Bytes g bytes ∷ es) standing = exports_said found es (others (Bytes g bytes) es standing)
+    exports_said found (Room g n ∷ es) standing = exports_said found es (others (Room g n) es standing)
+    exports_said found (Value g o width f ∷ es) standing = exports_said found es (others (Value g o width f) es standing)
     exports_said found (Open ∷ es) standing = exports_said found es (others Open es standing)
     exports_said found (Told o ss ∷ es) standing =
-        exports_said (exports_at s i o found ss) es (others (Told o ss) es standing)
+        exports_said (exports_at s i (origin_by o) found ss) es (others (Told o ss) es standing)
         ∙ ap (λ found. exports_among at s i found (all_said (contents es))) (exports_are o found ss (origin_back o (first (Told o ss) es standing)))
         ∙ among_append at s i (map (said_at (place_by files o)) ss) found (all_said (contents es))
 
-    asserts_are : (o : Origin) (ss : List telled.Said) → at (place_by files o) ≡ o → asserts_at s i o ss ≡ filter_map (assert_of at s i) (map (said_at (place_by files o)) ss)
+    asserts_are : (o : Spot) (ss : List telled.Said) → at (place_by files o) ≡ origin_by o → asserts_at s i (origin_by o) ss ≡ filter_map (assert_of at s i) (map (said_at (place_by files o)) ss)
     asserts_are o [] h = refl
     asserts_are o (told.Exported n f ∷ ss) h = asserts_are o ss h
     asserts_are o (told.Demanded n ∷ ss) h = asserts_are o ss h
@@ -137,7 +135,9 @@ module _ (files : List (List ℕ)) (apart : IsDistinct bytes_eq files) where
 
     asserts_said : (es : List Entry) → StandIn (length files) es → flat_map (entry_asserts s i) es ≡ filter_map (assert_of at s i) (all_said (contents es))
     asserts_said [] standing = refl
-    asserts_said (Put g o p ∷ es) standing = asserts_said es (others (Put g o p) es standing)
+    asserts_said (Bytes g bytes ∷ es) standing = asserts_said es (others (Bytes g bytes) es standing)
+    asserts_said (Room g n ∷ es) standing = asserts_said es (others (Room g n) es standing)
+    asserts_said (Value g o width f ∷ es) standing = asserts_said es (others (Value g o width f) es standing)
     asserts_said (Open ∷ es) standing = asserts_said es (others Open es standing)
     asserts_said (Told o ss ∷ es) standing =
         (λ n. asserts_are o ss (origin_back o (first (Told o ss) es standing)) n ++ asserts_said es (others (Told o ss) es standing) n)
@@ -145,23 +145,20 @@ module _ (files : List (List ℕ)) (apart : IsDistinct bytes_eq files) where
 
     -- ---- What is written stands in files of the table.
 
-    part_listed : (g : ℕ) (o : Origin) (p : declared.Part) → stands_in (length files) (Put g o p) ≡ true → is_listed_part files apart s i (part_at (place_by files o) p) ≡ true
-    part_listed g o (part.Known bytes) h = refl
-    part_listed g o (part.Filled n) h = refl
-    part_listed g o (part.Waiting width f) h = origin_listed o h
+    part_listed : (h g : ℕ) (q : Part) (cs : List Content) → is_listed_part files apart s i q ≡ true → list_all (is_listed_part files apart s i) (parts_in cs h) ≡ true → list_all (is_listed_part files apart s i) (parts_in (put g q ∷ cs) h) ≡ true
+    part_listed h g q cs one rest = by (nat_eq g h)
+      where
+        by : (b : Bool) → list_all (is_listed_part files apart s i) (flat_map (λ (c : Content). c.parts) (if b then put g q ∷ filter (λ c. nat_eq c.segment h) cs else filter (λ c. nat_eq c.segment h) cs)) ≡ true
+        by true = and (is_listed_part files apart s i q) (list_all (is_listed_part files apart s i) (parts_in cs h)) one rest
+        by false = rest
 
     parts_listed : (h : ℕ) (es : List Entry) → StandIn (length files) es → list_all (is_listed_part files apart s i) (parts_in (contents es) h) ≡ true
     parts_listed h [] standing = refl
-    parts_listed h (Put g o p ∷ es) standing =
-        by (nat_eq g h) (parts_listed h es (others (Put g o p) es standing))
-      where
-        q : Part
-        q = part_at (place_by files o) p
-
-        by : (b : Bool) → list_all (is_listed_part files apart s i) (parts_in (contents es) h) ≡ true →
-            list_all (is_listed_part files apart s i) (flat_map (λ (c : Content). c.parts) (if b then content_of files (Put g o p) ∷ filter (λ c. nat_eq c.segment h) (contents es) else filter (λ c. nat_eq c.segment h) (contents es))) ≡ true
-        by true rest = and (is_listed_part files apart s i q) (list_all (is_listed_part files apart s i) (parts_in (contents es) h)) (part_listed g o p (first (Put g o p) es standing)) rest
-        by false rest = rest
+    parts_listed h (Bytes g bytes ∷ es) standing = part_listed h g (Known bytes) (contents es) refl (parts_listed h es (others (Bytes g bytes) es standing))
+    parts_listed h (Room g n ∷ es) standing = part_listed h g (Filled n) (contents es) refl (parts_listed h es (others (Room g n) es standing))
+    parts_listed h (Value g o width f ∷ es) standing =
+        part_listed h g (Waiting width (place_by files o) f) (contents es) (origin_listed o (first (Value g o width f) es standing))
+        (parts_listed h es (others (Value g o width f) es standing))
     parts_listed h (Told o ss ∷ es) standing =
         ap (list_all (is_listed_part files apart s i)) (told_parts (map (said_at (place_by files o)) ss) (contents es) h)
         ∙ parts_listed h es (others (Told o ss) es standing)
@@ -169,7 +166,7 @@ module _ (files : List (List ℕ)) (apart : IsDistinct bytes_eq files) where
         ap (list_all (is_listed_part files apart s i)) (told_parts [] (contents es) h)
         ∙ parts_listed h es (others Open es standing)
 
-    told_listed : (o : Origin) (ss : List telled.Said) → is_listed files apart (place_by files o) ≡ true → list_all (is_listed_said files apart s i) (map (said_at (place_by files o)) ss) ≡ true
+    told_listed : (o : Spot) (ss : List telled.Said) → is_listed files apart (place_by files o) ≡ true → list_all (is_listed_said files apart s i) (map (said_at (place_by files o)) ss) ≡ true
     told_listed o [] h = refl
     told_listed o (told.Exported n f ∷ ss) h = and (is_listed files apart (place_by files o)) (list_all (is_listed_said files apart s i) (map (said_at (place_by files o)) ss)) h (told_listed o ss h)
     told_listed o (told.Demanded n ∷ ss) h = told_listed o ss h
@@ -177,7 +174,9 @@ module _ (files : List (List ℕ)) (apart : IsDistinct bytes_eq files) where
 
     said_listed : (es : List Entry) → StandIn (length files) es → list_all (is_listed_said files apart s i) (all_said (contents es)) ≡ true
     said_listed [] standing = refl
-    said_listed (Put g o p ∷ es) standing = said_listed es (others (Put g o p) es standing)
+    said_listed (Bytes g bytes ∷ es) standing = said_listed es (others (Bytes g bytes) es standing)
+    said_listed (Room g n ∷ es) standing = said_listed es (others (Room g n) es standing)
+    said_listed (Value g o width f ∷ es) standing = said_listed es (others (Value g o width f) es standing)
     said_listed (Open ∷ es) standing = said_listed es (others Open es standing)
     said_listed (Told o ss ∷ es) standing =
         let mine = map (said_at (place_by files o)) ss in

@@ -1,7 +1,7 @@
 -- Files in the order of an object.
-use Rattle.std.proofs.Common.{◌≡◌, ◌∙◌, ℕ, ◌+◌, ◌<◌, Bool, true, false, List, [], ◌∷◌, ◌++◌, length, map, get_or, option_map, Option, Some, None, nat_eq, nat_lt, refl, sym, ap, arith}
+use Rattle.std.proofs.Common.{◌≡◌, ◌∙◌, ℕ, ◌<◌, Bool, true, false, List, [], ◌∷◌, ◌++◌, length, map, get_or, option_map, Option, Some, None, nat_eq, refl, sym, ap, arith}
 use Rattle.std.specs.Prelude.{slice_get, if◌then◌else◌, ◌||◌}
-use Rattle.std.specs.List.{AllByRecursion, IsDistinct, flat_map, list_all, list_any}
+use Rattle.std.specs.List.{AllByRecursion, IsDistinct, flat_map}
 use Rattle.std.specs.Str.{bytes_eq}
 use Rattle.std.proofs.lemmas.Bool.Decides.{nat_tests}
 use Rattle.std.proofs.lemmas.List.Folds.{list_any-append}
@@ -15,7 +15,7 @@ use Rattle.object65.specs.declared.object.Object.{Object}
 use Rattle.object65.specs.declared.object.Section.{Section}
 use Rattle.language65.specs.Numbering.{number_of, once, optional_key}
 use Rattle.sections65.specs.Inner.Ordering.{assert_by, assert_key, export_by, export_key, fragment_by, fragment_keys, order_of, parts_by, section_by, section_files}
-use Rattle.sections65.proofs.Renumbering.{HasAll, and, first_has, has, left, number_at, number_below, once_has, second_has}
+use Rattle.sections65.proofs.Renumbering.{HasAll, first_has, has, left, number_at, number_below, once_has, second_has}
 
 -- ---- The file that was named last.
 

@@ -1,12 +1,11 @@
 -- The object of contents whose origins are by a table, in the order of its own files.
-use Rattle.std.proofs.Common.{◌≡◌, ◌∙◌, ℕ, zero, suc, ◌+◌, ◌<◌, Bool, true, false, not, ◌&&◌, ◌||◌, cond, List, [], ◌∷◌, ◌++◌, length, map, Option, Some, None, nat_eq, refl, sym, ap, subst, append_assoc, append-nil}
+use Rattle.std.proofs.Common.{◌≡◌, ◌∙◌, ℕ, zero, suc, ◌+◌, ◌<◌, Bool, true, false, List, [], ◌∷◌, ◌++◌, length, map, refl, sym, ap, subst, append_assoc, append-nil}
 use Rattle.std.specs.Prelude.{filter_map, slice_get, if◌then◌else◌}
-use Rattle.std.specs.List.{IsDistinct, filter, flat_map, list_all, list_any}
+use Rattle.std.specs.List.{IsDistinct, flat_map, list_all, list_any}
 use Rattle.std.specs.Str.{bytes_eq}
 use Rattle.std.proofs.lemmas.Grind.{flat_map-append}
 use Rattle.std.proofs.lemmas.List.{map-append}
 use Rattle.source65.specs.declared.place.Place.{Place}
-use Rattle.object65.specs.Form.{Form}
 use Rattle.object65.specs.declared.object.Assert.{Assert}
 use Rattle.object65.specs.declared.object.Export.{Export}
 use Rattle.object65.specs.declared.object.Fragment.{Fragment}
@@ -16,12 +15,12 @@ use Rattle.object65.specs.declared.object.Origin.{Origin}
 use Rattle.object65.specs.declared.object.Section.{Section}
 use Rattle.language65.specs.Parts.{Content, Part, Known, Filled, Waiting, Said, Exported, Demanded, Checked}
 use Rattle.language65.specs.declared.contents.Segment.{Segment}
-use Rattle.language65.specs.Numbering.{all_joined, all_said, assert_files, assert_of, export_files, exports_among, fragment_of, fragments_of, import_keys, in_files, is_empty, joined, name_of, names_once, numbered, once, optional_key, part_files, parts_in, section_of, segment_name, segment_power}
+use Rattle.language65.specs.Numbering.{all_joined, all_said, assert_files, assert_of, export_files, exports_among, fragments_of, import_keys, in_files, joined, name_of, names_once, numbered, once, optional_key, part_files, parts_in, section_of, segment_name, segment_power}
 use Rattle.sections65.specs.Fed.{files_by, files_named_by, object_over}
-use Rattle.sections65.specs.Inner.Ordering.{assert_by, assert_key, export_by, export_key, fragment_by, fragment_keys, in_order, order_of, origin_by, section_by, section_files}
+use Rattle.sections65.specs.Inner.Ordering.{assert_by, assert_key, export_by, export_key, fragment_by, fragment_keys, in_order, origin_by, section_by, section_files}
 use Rattle.sections65.proofs.Exporting.{any_map}
 use Rattle.sections65.proofs.Naming.{AreBelow, IsNaming, is_listed, naming_more, naming_none, naming_one, once_named, placed_by}
-use Rattle.sections65.proofs.Renumbering.{HasAll, and, first_has, has, left, once_all, once_has, right, second_has}
+use Rattle.sections65.proofs.Renumbering.{HasAll, first_has, left, once_all, once_has, right, second_has}
 
 -- ---- Files of joined fragments.
 

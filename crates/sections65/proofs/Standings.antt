@@ -1,18 +1,16 @@
 -- What sections in the making stand for, call by call.
-use Rattle.std.proofs.Common.{◌≡◌, ◌∙◌, ℕ, suc, ◌+◌, ◌≤◌, ◌<◌, Bool, true, false, nat_eq, List, [], ◌∷◌, ◌++◌, length, map, take, slice_set, Option, None, Some, refl, sym, ap, subst, append_assoc, append-nil, length-append, arith, add-one}
+use Rattle.std.proofs.Common.{◌≡◌, ◌∙◌, ℕ, suc, ◌+◌, ◌≤◌, ◌<◌, Bool, true, false, nat_eq, List, [], ◌∷◌, ◌++◌, length, map, take, slice_set, Option, Some, refl, sym, ap, subst, append_assoc, append-nil, length-append, arith, add-one}
 use Rattle.std.specs.Prelude.{slice_get, if◌then◌else◌, IfSome, ◌||◌}
 use Rattle.std.specs.List.{filter, list_any}
 use Rattle.std.proofs.lemmas.List.{take-append-le, map-append, length-set}
 use Rattle.std.proofs.lemmas.List.Elements.{filter-append}
 use Rattle.std.proofs.lemmas.List.Folds.{list_any-append}
 use Rattle.std.proofs.lemmas.Bool.Decides.{nat_tests}
-use Rattle.object65.specs.declared.object.Origin.{Origin}
 use Rattle.language65.specs.Parts.{Content, Known, Filled}
-use Rattle.language65.specs.declared.contents.Part.TheVariants as part
 use Rattle.language65.specs.Numbering.{once, section_keys, segments_asked}
 use Rattle.sections65.specs.declared.entries.Entries.{Entries}
 use Rattle.sections65.specs.declared.entries.Entry.{Entry}
-use Rattle.sections65.specs.declared.entries.Entry.TheVariants.{Open, Put}
+use Rattle.sections65.specs.declared.entries.Entry.TheVariants.{Bytes, Open, Room}
 use Rattle.sections65.specs.declared.files.Files.{Files}
 use Rattle.sections65.specs.declared.sections.Sections.{Sections}
 use Rattle.language65.specs.Contents.{asking, put}
@@ -98,13 +96,10 @@ takes_closed files t u e closed standing done place same = record {
         ∙ ap (λ cs. cs ++ growing u) (filled_more files ws t.done.items e closed)
         ∙ append_assoc (filled files ws t.done.items) (content_of files e ∷ []) (growing u)
 
-abbrev nowhere : Origin
-nowhere = record { file = None; line = 0 }
-
 -- bytes that grew are an entry
-pub bytes_closed : (files : List (List ℕ)) (t held u : Entries) (e : Entry) (bytes : List ℕ) → e ≡ Put t.segment nowhere (part.Known bytes) → bytes ≡ t.bytes → held.bytes ≡ [] → held.done.items ≡ t.done.items → held.settled ≡ t.settled → held.segment ≡ t.segment → held.room ≡ t.room → IsAdded held u e → TakesIn files t u []
+pub bytes_closed : (files : List (List ℕ)) (t held u : Entries) (e : Entry) (bytes : List ℕ) → e ≡ Bytes t.segment bytes → bytes ≡ t.bytes → held.bytes ≡ [] → held.done.items ≡ t.done.items → held.settled ≡ t.settled → held.segment ≡ t.segment → held.room ≡ t.room → IsAdded held u e → TakesIn files t u []
 bytes_closed files t held u e bytes is same none done place segment room h =
-    takes_closed files t u (Put t.segment nowhere (part.Known bytes)) refl refl (h.done ∙ ap (λ es. es ++ e ∷ []) done ∙ ap (λ x. t.done.items ++ x ∷ []) is) (h.settled ∙ place)
+    takes_closed files t u (Bytes t.segment bytes) refl refl (h.done ∙ ap (λ es. es ++ e ∷ []) done ∙ ap (λ x. t.done.items ++ x ∷ []) is) (h.settled ∙ place)
     (subst (λ (cs : List Content). AreAlike (growing t) (put t.segment (Known bytes) ∷ cs)) (sym (h.growing ∙ left)) ended)
   where
     g : ℕ
@@ -123,9 +118,9 @@ bytes_closed files t held u e bytes is same none done place segment room h =
         (alike_back (put g (Known t.bytes) ∷ []) (put g (Filled t.room) ∷ []) (growth g [] t.room) behind)
 
 -- room that grew is an entry
-pub room_closed : (files : List (List ℕ)) (t held u : Entries) (e : Entry) → t.bytes ≡ [] → e ≡ Put t.segment nowhere (part.Filled t.room) → held.bytes ≡ t.bytes → held.done.items ≡ t.done.items → held.settled ≡ t.settled → held.segment ≡ t.segment → held.room ≡ 0 → IsAdded held u e → TakesIn files t u []
+pub room_closed : (files : List (List ℕ)) (t held u : Entries) (e : Entry) → t.bytes ≡ [] → e ≡ Room t.segment t.room → held.bytes ≡ t.bytes → held.done.items ≡ t.done.items → held.settled ≡ t.settled → held.segment ≡ t.segment → held.room ≡ 0 → IsAdded held u e → TakesIn files t u []
 room_closed files t held u e none is same done place segment no_room h =
-    takes_closed files t u (Put t.segment nowhere (part.Filled t.room)) refl refl (h.done ∙ ap (λ es. es ++ e ∷ []) done ∙ ap (λ x. t.done.items ++ x ∷ []) is) (h.settled ∙ place)
+    takes_closed files t u (Room t.segment t.room) refl refl (h.done ∙ ap (λ es. es ++ e ∷ []) done ∙ ap (λ x. t.done.items ++ x ∷ []) is) (h.settled ∙ place)
     (subst (λ (cs : List Content). AreAlike (growing t) (put t.segment (Filled t.room) ∷ cs)) (sym (h.growing ∙ left)) ended)
   where
     g : ℕ

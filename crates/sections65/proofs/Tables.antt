@@ -1,17 +1,12 @@
 -- A table of files, in which each name stands once.
-use Rattle.std.proofs.Common.{◌≡◌, ◌∙◌, ℕ, ◌+◌, ◌<◌, Bool, true, false, cond, get_or, List, [], ◌∷◌, ◌++◌, length, map, option_map, position, Option, Some, None, refl, sym, ap, arith, append-nil}
-use Rattle.std.specs.Prelude.{slice_get, unwrap_or, string_bytes, if◌then◌else◌, nat_lt}
+use Rattle.std.proofs.Common.{◌≡◌, ◌∙◌, ℕ, ◌<◌, Bool, true, false, cond, get_or, List, [], ◌∷◌, ◌++◌, length, map, position, Some, None, refl, sym, ap, arith, append-nil}
+use Rattle.std.specs.Prelude.{slice_get, if◌then◌else◌, nat_lt}
 use Rattle.std.specs.List.{position_or_len}
 use Rattle.std.specs.Str.{bytes_eq}
 use Rattle.std.proofs.lemmas.Bool.Decides.{nat_tests}
 use Rattle.std.proofs.lemmas.List.Sums.{passes_at_first}
-use Rattle.std.proofs.lemmas.Option.{slice_get-get_or, slice_get_within}
-use Rattle.object65.specs.declared.object.Origin.{Origin}
-use Rattle.object65.specs.Objects.{is_good_origin}
+use Rattle.std.proofs.lemmas.Option.{slice_get-get_or}
 use Rattle.language65.proofs.Lists.{same_bytes}
-use Rattle.language65.specs.Numbering.{name_of}
-use Rattle.language65.specs.Views.{place_in}
-use Rattle.sections65.specs.Fed.{place_by}
 use Rattle.sections65.specs.Standing.{Begins}
 
 -- the name at the place at which it is found
@@ -37,11 +32,3 @@ map_more f (y ∷ xs) x = ap (λ l. f y ∷ l) (map_more f xs x)
 pub begins_inserted : {A : Type 0} (f : A → List ℕ) (known new : List A) (x : A) (b : Bool) → new ≡ (if b then known else known ++ x ∷ []) → Begins (map f known) (map f new)
 begins_inserted f known new x true e = ([], ap (map f) e ∙ sym (append-nil (map f known)))
 begins_inserted f known new x false e = (f x ∷ [], ap (map f) e ∙ map_more f known x)
-
--- ---- An origin by its place there.
-
-pub origin_listed : (names : List (List ℕ)) (n : List ℕ) (k line : ℕ) → slice_get names k ≡ Some n → is_good_origin 2 (length names) (record { file = Some k; line = line }) ≡ true
-origin_listed names n k line e = let lt : k < length names = slice_get_within names k n e in grind (arith, nat_tests)
-
-pub origin_named : (names : List (List ℕ)) (n : List ℕ) (k line : ℕ) → slice_get names k ≡ Some n → place_by names (record { file = Some k; line = line }) ≡ place_in n line
-origin_named names n k line e = ap (λ o. place_in (unwrap_or o []) line) e

@@ -1,19 +1,18 @@
 -- What is fed to sections in the making: contents in the order of the source, of which some wait.
-use Rattle.std.specs.Prelude.{◌≡◌, ℕ, ◌+◌, Bool, true, false, List, [], ◌∷◌, ◌++◌, map, filter_map, Option, Some, None}
+use Rattle.std.specs.Prelude.{◌≡◌, ℕ, ◌+◌, nat_lt, Bool, true, false, List, [], ◌∷◌, ◌++◌, map, filter_map, Some}
 use Rattle.std.specs.List.{flat_map}
 use Rattle.source65.specs.declared.place.Place.{Place}
 use Rattle.object65.specs.declared.object.Fragment.{Fragment}
 use Rattle.object65.specs.declared.object.Object.{Object}
 use Rattle.object65.specs.declared.object.Origin.{Origin}
-use Rattle.object65.specs.Objects.{is_good_origin}
-use Rattle.language65.specs.Parts.{Content, Part, Said}
-use Rattle.language65.specs.declared.contents.Part.TheVariants as part
+use Rattle.language65.specs.Parts.{Content, Filled, Known, Waiting}
 use Rattle.language65.specs.declared.contents.Segment.{Segment}
 use Rattle.language65.specs.Contents.{asking, put, telling}
 use Rattle.language65.specs.Numbering.{all_joined, all_said, assert_files, assert_of, content_imports, export_files, exports_among, fragments_of, import_keys, in_files, name_of, names_once, part_files, parts_in, section_of}
-use Rattle.language65.specs.Views.{part_at, place_in, said_at}
+use Rattle.language65.specs.Views.{place_in, said_at}
 use Rattle.sections65.specs.declared.entries.Entry.{Entry}
-use Rattle.sections65.specs.declared.entries.Entry.TheVariants.{Put, Told, Open}
+use Rattle.sections65.specs.declared.entries.Entry.TheVariants.{Bytes, Room, Value, Told, Open}
+use Rattle.sections65.specs.declared.entries.Spot.{Spot}
 
 -- ---- What one call feeds, as a content of its own.
 
@@ -62,27 +61,27 @@ object_over segments names sections cs =
 
 -- ---- Entries, of which some are open.
 
--- the name of a file, by its place among these, empty where it has none
-abbrev pub file_name : List (List ℕ) → Option ℕ → List ℕ
-file_name files None = []
-file_name files (Some k) = name_of files k
+-- where something stands, in one of these files
+abbrev pub place_by : List (List ℕ) → Spot → Place
+place_by files o = place_in (name_of files o.file) o.line
 
--- where an origin lies, whose file is one of these
-abbrev pub place_by : List (List ℕ) → Origin → Place
-place_by files o = place_in (file_name files o.file) o.line
+-- as an origin in an object of these files
+abbrev pub origin_by : Spot → Origin
+origin_by o = record { file = Some o.file; line = o.line }
 
 -- an entry as a content, with these files; an open one has nothing so far
 abbrev pub content_of : List (List ℕ) → Entry → Content
-content_of files (Put g o p) = put g (part_at (place_by files o) p)
+content_of files (Bytes g bytes) = put g (Known bytes)
+content_of files (Room g n) = put g (Filled n)
+content_of files (Value g o width f) = put g (Waiting width (place_by files o) f)
 content_of files (Told o ss) = telling (map (said_at (place_by files o)) ss)
 content_of files Open = telling []
 
 -- the file in which an entry stands is one of so many, where the object may need it
 abbrev pub stands_in : ℕ → Entry → Bool
-stands_in count (Put g o (part.Waiting width f)) = is_good_origin 2 count o
-stands_in count (Put g o p) = true
-stands_in count (Told o ss) = is_good_origin 2 count o
-stands_in count Open = true
+stands_in count (Value g o width f) = nat_lt o.file count
+stands_in count (Told o ss) = nat_lt o.file count
+stands_in count _ = true
 
 abbrev pub first_of : List Content → Content
 first_of [] = telling []
@@ -96,7 +95,9 @@ rest_of (w ∷ ws) = ws
 abbrev pub filled : List (List ℕ) → List Content → List Entry → List Content
 filled files ws [] = []
 filled files ws (Open ∷ es) = first_of ws ∷ filled files (rest_of ws) es
-filled files ws (Put g o p ∷ es) = put g (part_at (place_by files o) p) ∷ filled files ws es
+filled files ws (Bytes g bytes ∷ es) = put g (Known bytes) ∷ filled files ws es
+filled files ws (Room g n ∷ es) = put g (Filled n) ∷ filled files ws es
+filled files ws (Value g o width f ∷ es) = put g (Waiting width (place_by files o) f) ∷ filled files ws es
 filled files ws (Told o ss ∷ es) = telling (map (said_at (place_by files o)) ss) ∷ filled files ws es
 
 abbrev pub is_open : Entry → Bool
@@ -106,5 +107,7 @@ is_open _ = false
 abbrev pub open_count : List Entry → ℕ
 open_count [] = 0
 open_count (Open ∷ es) = 1 + open_count es
-open_count (Put g o p ∷ es) = open_count es
+open_count (Bytes g bytes ∷ es) = open_count es
+open_count (Room g n ∷ es) = open_count es
+open_count (Value g o width f ∷ es) = open_count es
 open_count (Told o ss ∷ es) = open_count es

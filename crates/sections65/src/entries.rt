@@ -4,29 +4,60 @@ ghost use Rattle.std.specs.Prelude.{◌≡◌, ◌+◌, ◌<◌, ℕ, List, [], 
 ghost use Rattle.std.specs.List.{list_any};
 ghost use Rattle.language65.specs.Parts.{Content};
 ghost use Rattle.language65.specs.Parts.{Filled, Known};
-ghost use Rattle.sections65.specs.declared.entries.Entry.TheVariants.{Open, Put};
+ghost use Rattle.sections65.specs.declared.entries.Entry.TheVariants.{Open};
 ghost use Rattle.language65.specs.Contents.{put};
-ghost use Rattle.sections65.specs.Fed.{AreAlike, content_of, filled, is_open, open_count, stands_in};
+ghost use Rattle.sections65.specs.Fed.{AreAlike, content_of, filled, is_open, open_count, origin_by, stands_in};
 ghost use Rattle.sections65.specs.Standing.{Defers, IsAdded, IsSettled, SettlesIn, StandIn, Takes, TakesIn, contents_in};
 
 use base65::Sequence;
-use language65::{Part, Said};
-use object65::Origin;
+use language65::Said;
+use object65::{Norm, Origin, Width};
 use std::alloc::{AllocError, Global};
 use std::mem;
 
-/// What one call feeds. An origin names its file by its place among those in which something stands.
+/// Where something stands that may be written: the file's place among those in which something stands, and the line.
+#[derive(Clone, Copy)]
+pub struct Spot {
+    pub file: u32,
+    pub line: u32,
+}
+
+impl Spot {
+    /// The origin in an object whose files are those in which something stands.
+    pub fn origin(self) -> Origin
+        ensures { result ≡ origin_by self }
+    {
+        Origin {
+            file: Some(self.file),
+            line: self.line,
+        }
+    }
+}
+
+/// What one call feeds. A value's fields stand side by side, not in a part of their own, to be small: of a large
+/// source these are most of what is kept.
 #[derive(Drop)]
 pub enum Entry {
-    /// A part of the section of a segment. Its origin counts for a value alone.
-    Put {
+    /// Bytes of the section of a segment.
+    Bytes {
         segment: u32,
-        origin: Origin,
-        part: Part,
+        bytes: Sequence<u8>,
+    },
+    /// So many bytes there of the linker's fill value.
+    Room {
+        segment: u32,
+        count: u32,
+    },
+    /// A value there that the linker computes.
+    Value {
+        segment: u32,
+        spot: Spot,
+        width: Width,
+        form: Norm,
     },
     /// What a statement says.
     Told {
-        origin: Origin,
+        spot: Spot,
         said: Sequence<Said>,
     },
     /// What waits.
@@ -57,27 +88,13 @@ pub fn sum_of(left: u32, right: u32) -> Result<u32, AllocError>
 }
 
 impl Entry {
-    /// A part that isn't written with its place.
-    pub fn unplaced(segment: u32, part: Part) -> Self
-        ensures { result ≡ Put segment (record { file = None; line = 0 }) part }
-    {
-        let origin = Origin {
-            file: None,
-            line: 0,
-        };
-        Entry::Put {
-            segment,
-            origin,
-            part,
-        }
-    }
-
     /// Whether it waits.
     fn is_open(&self) -> bool
         ensures { result ≡ is_open self.now }
     {
         match self {
-            Entry::Put { .. } | Entry::Told { .. } => false,
+            Entry::Bytes { .. } | Entry::Room { .. } | Entry::Value { .. } => false,
+            Entry::Told { .. } => false,
             Entry::Open => true,
         }
     }
@@ -135,8 +152,7 @@ impl Entries {
         if self.bytes.len() > 0 {
             let segment = self.segment;
             let bytes = mem::replace(&mut self.bytes, Sequence::new(self.alloc));
-            let part = Part::Known(bytes);
-            self.add(Entry::unplaced(segment, part))?;
+            self.add(Entry::Bytes { segment, bytes })?;
         }
         Ok(())
     }
@@ -150,9 +166,9 @@ impl Entries {
     {
         if self.room > 0 {
             let segment = self.segment;
-            let part = Part::Filled(self.room);
+            let count = self.room;
             self.room = 0;
-            self.add(Entry::unplaced(segment, part))?;
+            self.add(Entry::Room { segment, count })?;
         }
         Ok(())
     }

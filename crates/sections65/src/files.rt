@@ -1,18 +1,16 @@
 //! The files in which something stands that may be written.
 
-ghost use Rattle.std.specs.Prelude.{◌≡◌, length, true, IfOk, IfSome, Some, map, slice_get, string_bytes};
-ghost use Rattle.object65.specs.Objects.{is_good_origin};
+ghost use Rattle.std.specs.Prelude.{◌≡◌, ◌<◌, length, IfOk, IfSome, Some, map, slice_get, string_bytes};
 ghost use Rattle.language65.specs.Contents.{put, telling};
 ghost use Rattle.language65.specs.Views.{part_at, place_in, said_at};
 ghost use Rattle.sections65.specs.Fed.{place_by};
 ghost use Rattle.sections65.specs.Standing.{Begins, IsEntry, names_in};
 
-use crate::entries::Entry;
+use crate::entries::{Entry, Spot};
 use crate::numbering::narrow;
 use base65::Sequence;
 use indexmap::IndexSet;
 use language65::{At, Part, Said};
-use object65::Origin;
 use std::alloc::{AllocError, Global};
 
 /// The names of files in the order in which something stands in them, each once.
@@ -75,15 +73,15 @@ impl Files {
     }
 
     /// Where something stands, by its file's place.
-    fn origin_of(&mut self, alloc: Global, at: At<'_>) -> Result<Origin, AllocError>
+    fn spot_of(&mut self, alloc: Global, at: At<'_>) -> Result<Spot, AllocError>
         ensures more { Begins (names_in self.old) (names_in self.new) }
-        ensures listed { IfOk result (λ o. is_good_origin 2 (length (names_in self.new)) o ≡ true) }
+        ensures listed { IfOk result (λ o. o.file < length (names_in self.new)) }
         ensures place { IfOk result (λ o. place_by (names_in self.new) o
             ≡ place_in at.entry.file.now at.entry.line) }
     {
         let place = self.place_of(alloc, at.file)?;
-        Ok(Origin {
-            file: Some(narrow(place)?),
+        Ok(Spot {
+            file: narrow(place)?,
             line: at.line,
         })
     }
@@ -100,15 +98,19 @@ impl Files {
         ensures entry { IfOk result (λ e. IsEntry (names_in self.new) e (put segment
             (part_at (place_in at.entry.file.now at.entry.line) part))) }
     {
-        if let Part::Waiting { .. } = &part {
-            let origin = self.origin_of(alloc, at)?;
-            return Ok(Entry::Put {
-                segment,
-                origin,
-                part,
-            });
+        match part {
+            Part::Known(bytes) => Ok(Entry::Bytes { segment, bytes }),
+            Part::Filled(count) => Ok(Entry::Room { segment, count }),
+            Part::Waiting { width, form } => {
+                let spot = self.spot_of(alloc, at)?;
+                Ok(Entry::Value {
+                    segment,
+                    spot,
+                    width,
+                    form,
+                })
+            }
         }
-        Ok(Entry::unplaced(segment, part))
     }
 
     /// What a statement says that stands at this place.
@@ -122,7 +124,7 @@ impl Files {
         ensures entry { IfOk result (λ e. IsEntry (names_in self.new) e
             (telling (map (said_at (place_in at.entry.file.now at.entry.line)) said))) }
     {
-        let origin = self.origin_of(alloc, at)?;
-        Ok(Entry::Told { origin, said })
+        let spot = self.spot_of(alloc, at)?;
+        Ok(Entry::Told { spot, said })
     }
 }

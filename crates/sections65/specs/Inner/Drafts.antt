@@ -8,17 +8,18 @@ use Rattle.object65.specs.declared.object.Assert.{Assert}
 use Rattle.object65.specs.declared.object.Export.{Export}
 use Rattle.object65.specs.declared.object.Fragment.{Fragment}
 use Rattle.object65.specs.declared.object.Fragment.TheVariants.{Literal, Fill}
+use Rattle.object65.specs.declared.object.Fragment.TheVariants as fragment
 use Rattle.object65.specs.declared.object.Object.{Object}
 use Rattle.object65.specs.declared.object.Origin.{Origin}
 use Rattle.object65.specs.declared.object.Section.{Section}
 use Rattle.object65.specs.Objects.{FitsBits, FragmentFits, OriginFits}
-use Rattle.language65.specs.declared.contents.Part.{Part}
 use Rattle.language65.specs.declared.contents.Said.{Said}
 use Rattle.language65.specs.declared.contents.Segment.{Segment}
-use Rattle.language65.specs.Numbering.{assert_of, exports_among, fragment_of, is_empty, key_of, name_of, segment_name, segment_power}
-use Rattle.language65.specs.Views.{part_at, place_in, said_at}
+use Rattle.language65.specs.Numbering.{assert_of, exports_among, is_empty, key_of, name_of, numbered, segment_name, segment_power}
+use Rattle.language65.specs.Views.{place_in, said_at}
 use Rattle.sections65.specs.declared.entries.Entry.{Entry}
-use Rattle.sections65.specs.declared.entries.Entry.TheVariants.{Put, Told, Open}
+use Rattle.sections65.specs.declared.entries.Entry.TheVariants.{Bytes, Room, Value, Told}
+use Rattle.sections65.specs.Fed.{origin_by}
 use Rattle.sections65.specs.declared.numbering.drafts.Draft.{Draft}
 use Rattle.sections65.specs.declared.numbering.exports.Exports.{Exports}
 use Rattle.sections65.specs.declared.numbering.names.ImportTable.{ImportTable}
@@ -66,13 +67,28 @@ here origin place = origin
 abbrev pub anywhere : Place
 anywhere = place_in [] 0
 
-abbrev pub fragment_at : (sections imports : List ℕ) → Origin → Part → Fragment
-fragment_at sections imports origin p = fragment_of (here origin) sections imports (part_at anywhere p)
+-- the segment into which an entry puts something
+abbrev pub segment_of : Entry → Option ℕ
+segment_of (Bytes g bytes) = Some g
+segment_of (Room g n) = Some g
+segment_of (Value g o width f) = Some g
+segment_of _ = None
+
+-- a draft of this segment behind an entry
+abbrev pub with_put : (sections imports : List ℕ) → Entry → Draft → Draft
+with_put sections imports (Bytes g bytes) d = with_fragment d (Literal bytes)
+with_put sections imports (Room g n) d = with_fragment d (Fill n)
+with_put sections imports (Value g o width f) d = with_fragment d (fragment.Value width (origin_by o) (numbered sections imports f))
+with_put sections imports _ d = d
+
+-- a change of the draft of one segment alone
+abbrev pub in_segment : Option ℕ → (Draft → Draft) → Draft → Draft
+in_segment None change d = d
+in_segment (Some g) change d = if nat_eq g d.segment then change d else d
 
 -- a draft behind an entry, which may stand in its segment
 abbrev pub with_entry : (sections imports : List ℕ) → Entry → Draft → Draft
-with_entry sections imports (Put g origin p) d = if nat_eq g d.segment then with_fragment d (fragment_at sections imports origin p) else d
-with_entry sections imports _ d = d
+with_entry sections imports e d = in_segment (segment_of e) (with_put sections imports e) d
 
 abbrev pub with_entries : (sections imports : List ℕ) → List Entry → List Draft → List Draft
 with_entries sections imports [] ds = ds
@@ -84,14 +100,14 @@ exports_at sections imports origin found ss = exports_among (here origin) sectio
 
 abbrev pub exports_from : (sections imports : List ℕ) → List Export → List Entry → List Export
 exports_from sections imports found [] = found
-exports_from sections imports found (Told origin ss ∷ es) = exports_from sections imports (exports_at sections imports origin found ss) es
+exports_from sections imports found (Told o ss ∷ es) = exports_from sections imports (exports_at sections imports (origin_by o) found ss) es
 exports_from sections imports found (e ∷ es) = exports_from sections imports found es
 
 abbrev pub asserts_at : (sections imports : List ℕ) → Origin → List Said → List Assert
 asserts_at sections imports origin ss = filter_map (assert_of (here origin) sections imports) (map (said_at anywhere) ss)
 
 abbrev pub entry_asserts : (sections imports : List ℕ) → Entry → List Assert
-entry_asserts sections imports (Told origin ss) = asserts_at sections imports origin ss
+entry_asserts sections imports (Told o ss) = asserts_at sections imports (origin_by o) ss
 entry_asserts sections imports _ = []
 
 abbrev pub section_from : List Segment → Draft → Section

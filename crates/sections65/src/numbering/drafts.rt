@@ -1,17 +1,14 @@
 //! The sections of an object, filled entry by entry.
 
-ghost use Rattle.std.specs.Prelude.{◌≡◌, ◌+◌, ◌++◌, ◌∷◌, Some, map, nat_eq, IfOk, OnOk};
+ghost use Rattle.std.specs.Prelude.{◌≡◌, ◌+◌, ◌++◌, ◌∷◌, map, nat_eq, IfOk, OnOk};
 ghost use Rattle.std.specs.List.{AllByRecursion, IsDistinct};
 ghost use Rattle.object65.specs.declared.object.Fragment.TheVariants.{Fill, Literal};
-ghost use Rattle.object65.specs.Objects.{OriginFits};
-ghost use Rattle.sections65.specs.declared.entries.Entry.TheVariants.{Put};
-ghost use Rattle.sections65.specs.Inner.Drafts.{begun, fragment_at, new_draft, DraftFits, with_entry, with_entries, with_fragment};
+ghost use Rattle.sections65.specs.Inner.Drafts.{begun, new_draft, segment_of, DraftFits, with_entry, with_entries, with_fragment, with_put};
 
 use super::numbers::{Numbers, numbered};
 use crate::entries::{Entry, sum_of};
 use base65::Sequence;
-use language65::Part;
-use object65::{Fragment, Origin};
+use object65::Fragment;
 use std::alloc::{AllocError, Global};
 use std::mem;
 
@@ -62,22 +59,38 @@ fn add_fill(draft: &mut Draft, count: u32) -> Result<(), AllocError>
     begin(draft, Fragment::Fill(count))
 }
 
-/// Adds a part whose statement stands at this origin.
-fn add_part(
+/// The segment into whose section an entry puts something.
+fn segment_of(entry: &Entry) -> Option<u32>
+    ensures { result ≡ segment_of entry.now }
+{
+    match entry {
+        Entry::Bytes { segment, .. } | Entry::Room { segment, .. } => Some(*segment),
+        Entry::Value { segment, .. } => Some(*segment),
+        Entry::Told { .. } | Entry::Open => None,
+    }
+}
+
+/// Adds what an entry puts into the section of its segment.
+fn add_put(
     alloc: Global,
     numbers: &Numbers,
     draft: &mut Draft,
-    origin: Origin,
-    part: Part,
+    entry: Entry,
 ) -> Result<(), AllocError>
-    ensures added { OnOk result (draft.new ≡ with_fragment draft.old (fragment_at
-        numbers.now.sections.keys numbers.now.imports.keys origin part)) }
+    ensures added { OnOk result (draft.new ≡ with_put numbers.now.sections.keys
+        numbers.now.imports.keys entry draft.old) }
     ensures fits { OnOk result (DraftFits draft.old → DraftFits draft.new) }
 {
-    match part {
-        Part::Known(bytes) => add_bytes(draft, bytes),
-        Part::Filled(count) => add_fill(draft, count),
-        Part::Waiting { width, form } => {
+    match entry {
+        Entry::Bytes { segment: _, bytes } => add_bytes(draft, bytes),
+        Entry::Room { segment: _, count } => add_fill(draft, count),
+        Entry::Value {
+            segment: _,
+            spot,
+            width,
+            form,
+        } => {
+            let origin = spot.origin();
             let form = numbered(alloc, numbers, &form)?;
             begin(
                 draft,
@@ -88,6 +101,7 @@ fn add_part(
                 },
             )
         }
+        Entry::Told { .. } | Entry::Open => Ok(()),
     }
 }
 
@@ -105,17 +119,12 @@ fn add_entry(
     ensures fits { OnOk result (AllByRecursion DraftFits drafts.old.items →
         AllByRecursion DraftFits drafts.new.items) }
 {
-    let Entry::Put {
-        segment,
-        origin,
-        part,
-    } = entry
-    else {
+    let Some(segment) = segment_of(&entry) else {
         return Ok(());
     };
     if let Some(place) = numbers.sections.get_index_of(&segment) {
         let draft = &mut drafts[place];
-        add_part(alloc, numbers, draft, origin, part)?;
+        add_put(alloc, numbers, draft, entry)?;
     }
     Ok(())
 }

@@ -75,10 +75,10 @@ fn add_entry_asserts(
         AllByRecursion AssertFits asserts.new) }
 {
     match entry {
-        Entry::Told { origin, said } => {
-            add_asserts(alloc, numbers, asserts, *origin, said.as_slice())
+        Entry::Told { spot, said } => {
+            add_asserts(alloc, numbers, asserts, spot.origin(), said.as_slice())
         }
-        Entry::Put { .. } | Entry::Open => Ok(()),
+        Entry::Bytes { .. } | Entry::Room { .. } | Entry::Value { .. } | Entry::Open => Ok(()),
     }
 }
 
@@ -162,10 +162,10 @@ fn add_entry_exports<'a>(
     ensures named { OnOk result (AreNamed exports.new) }
 {
     match entry {
-        Entry::Told { origin, said } => {
-            add_exports(alloc, numbers, exports, *origin, said.as_slice())
+        Entry::Told { spot, said } => {
+            add_exports(alloc, numbers, exports, spot.origin(), said.as_slice())
         }
-        Entry::Put { .. } | Entry::Open => Ok(()),
+        Entry::Bytes { .. } | Entry::Room { .. } | Entry::Value { .. } | Entry::Open => Ok(()),
     }
 }
 

@@ -5,14 +5,14 @@ ghost use Rattle.std.specs.List.{flat_map};
 ghost use Rattle.indexmap.specs.IndexSet.{IsUnique};
 ghost use Rattle.sections65.specs.Inner.Drafts.{anywhere, IsTable};
 ghost use Rattle.sections65.specs.Fed.{content_of};
-ghost use Rattle.language65.specs.Views.{part_at, said_at};
-ghost use Rattle.language65.specs.Numbering.{content_imports, import_keys, imports_in, key_of, once, optional_key, part_imports, said_imports};
+ghost use Rattle.language65.specs.Views.{said_at};
+ghost use Rattle.language65.specs.Numbering.{content_imports, import_keys, imports_in, key_of, once, optional_key, said_imports};
 
 use super::names::ImportTable;
 use crate::entries::Entry;
 use base65::Sequence;
 use indexmap::IndexSet;
-use language65::{Part, Said};
+use language65::Said;
 use object65::{Node, Norm};
 use std::alloc::{AllocError, Global};
 
@@ -32,16 +32,6 @@ fn add_form(keys: &mut IndexSet<u32>, form: &Norm) -> Result<(), AllocError>
             add_form(keys, left)?;
             add_form(keys, right)
         }
-    }
-}
-
-/// Adds the imports of a part.
-fn add_part(keys: &mut IndexSet<u32>, part: &Part) -> Result<(), AllocError>
-    ensures { OnOk result (keys.new.keys ≡ once keys.old.keys (part_imports (part_at anywhere part.now))) }
-{
-    match part {
-        Part::Known(_) | Part::Filled(_) => Ok(()),
-        Part::Waiting { width: _, form } => add_form(keys, form),
     }
 }
 
@@ -108,13 +98,9 @@ fn add_entry(
         ≡ once keys.old.keys (content_imports names.now.all.now (content_of [] entry.now))) }
 {
     match entry {
-        Entry::Put {
-            segment: _,
-            origin: _,
-            part,
-        } => add_part(keys, part),
-        Entry::Told { origin: _, said } => add_said(keys, names, said.as_slice()),
-        Entry::Open => Ok(()),
+        Entry::Value { form, .. } => add_form(keys, form),
+        Entry::Told { spot: _, said } => add_said(keys, names, said.as_slice()),
+        Entry::Bytes { .. } | Entry::Room { .. } | Entry::Open => Ok(()),
     }
 }
 

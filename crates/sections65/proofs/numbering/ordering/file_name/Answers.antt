@@ -1,4 +1,4 @@
-use Rattle.std.proofs.Common.{◌≡◌, ◌∙◌, ◌++◌, [], ap, map, option_map, sym}
+use Rattle.std.proofs.Common.{◌∙◌, [], ap, option_map, sym}
 use Rattle.std.specs.Prelude.{string_bytes, unwrap_or}
 use Rattle.std.specs.Str.{is_utf8}
 use Rattle.std.proofs.lemmas.Option.{slice_get-map, slice_get_past}

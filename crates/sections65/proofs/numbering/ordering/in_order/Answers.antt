@@ -1,9 +1,5 @@
-use Rattle.std.proofs.Common.{◌≡◌, ◌∙◌, ◌<◌, List, ℕ, Some, ap, length, map, subst, sym}
-use Rattle.std.specs.Prelude.{slice_get, string_bytes}
-use Rattle.object65.specs.declared.object.Assert.{Assert}
-use Rattle.object65.specs.declared.object.Export.{Export}
-use Rattle.object65.specs.declared.object.Object.{Object}
-use Rattle.object65.specs.declared.object.Section.{Section}
+use Rattle.std.proofs.Common.{◌≡◌, ◌∙◌, map, subst}
+use Rattle.std.specs.Prelude.{string_bytes}
 use Rattle.language65.specs.Numbering.{name_of}
 use Rattle.sections65.specs.Inner.Ordering.{order_of, parts_by}
 use Rattle.sections65.proofs.Ordering.{IsInPlace, distinct_mapped, parts_same}

@@ -1,4 +1,4 @@
-use Rattle.std.proofs.Common.{◌∙◌, ◌++◌, [], ap}
+use Rattle.std.proofs.Common.{◌∙◌, ◌++◌, []}
 use Rattle.std.specs.List.{flat_map}
 use Rattle.language65.specs.Numbering.{once}
 use Rattle.sections65.specs.Inner.Ordering.{assert_key, export_key, section_files}

@@ -95,7 +95,7 @@ module _ (s i : List ℕ) where
   entry_segment : (e : Entry) (d : Draft) → (with_entry s i e d).segment ≡ d.segment
   entry_segment (Bytes g bytes) d = put_segment g (Literal bytes) d
   entry_segment (Room g n) d = put_segment g (Fill n) d
-  entry_segment (Value g o width f) d = put_segment g (fragment.Value width (origin_by o) (numbered s i f)) d
+  entry_segment (Value width g o f) d = put_segment g (fragment.Value width (origin_by o) (numbered s i f)) d
   entry_segment (Told o ss) d = refl
   entry_segment Open d = refl
 
@@ -146,7 +146,7 @@ module _ (s i : List ℕ) where
   abbrev pub entry_fragments : ℕ → Entry → List Fragment
   entry_fragments h (Bytes g bytes) = fragment_put h g (Literal bytes)
   entry_fragments h (Room g n) = fragment_put h g (Fill n)
-  entry_fragments h (Value g o width f) = fragment_put h g (fragment.Value width (origin_by o) (numbered s i f))
+  entry_fragments h (Value width g o f) = fragment_put h g (fragment.Value width (origin_by o) (numbered s i f))
   entry_fragments h _ = []
 
   abbrev pub fragments_put : ℕ → List Entry → List Fragment
@@ -162,7 +162,7 @@ module _ (s i : List ℕ) where
   entry_joined : (e : Entry) (d : Draft) (rest : List Fragment) → (with_entry s i e d).done ++ behind (with_entry s i e d).last rest ≡ d.done ++ behind d.last (entry_fragments d.segment e ++ rest)
   entry_joined (Bytes g bytes) d rest = put_joined g (Literal bytes) d rest
   entry_joined (Room g n) d rest = put_joined g (Fill n) d rest
-  entry_joined (Value g o width f) d rest = put_joined g (fragment.Value width (origin_by o) (numbered s i f)) d rest
+  entry_joined (Value width g o f) d rest = put_joined g (fragment.Value width (origin_by o) (numbered s i f)) d rest
   entry_joined (Told o ss) d rest = refl
   entry_joined Open d rest = refl
 

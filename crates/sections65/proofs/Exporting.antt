@@ -58,7 +58,7 @@ among_append at s i (x ∷ xs) found ss =
 pub from_cons : (s i : List ℕ) (found : List Export) (e : Entry) (es : List Entry) → exports_from s i (exports_from s i found (e ∷ [])) es ≡ exports_from s i found (e ∷ es)
 from_cons s i found (Bytes g bytes) es = refl
 from_cons s i found (Room g n) es = refl
-from_cons s i found (Value g o width f) es = refl
+from_cons s i found (Value width g o f) es = refl
 from_cons s i found (Told o ss) es = refl
 from_cons s i found Open es = refl
 

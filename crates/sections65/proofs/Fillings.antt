@@ -17,7 +17,7 @@ settled_with e [] = []
 settled_with e (Open ∷ es) = e ∷ es
 settled_with e (Bytes g bytes ∷ es) = Bytes g bytes ∷ settled_with e es
 settled_with e (Room g n ∷ es) = Room g n ∷ settled_with e es
-settled_with e (Value g o width f ∷ es) = Value g o width f ∷ settled_with e es
+settled_with e (Value width g o f ∷ es) = Value width g o f ∷ settled_with e es
 settled_with e (Told o ss ∷ es) = Told o ss ∷ settled_with e es
 
 pub nothing_waits : (files : List (List ℕ)) (es : List Entry) → filled files [] es ≡ map (content_of files) es
@@ -25,19 +25,19 @@ nothing_waits files [] = refl
 nothing_waits files (Open ∷ es) = ap (λ cs. telling [] ∷ cs) (nothing_waits files es)
 nothing_waits files (Bytes g bytes ∷ es) = ap (λ cs. put g (Known bytes) ∷ cs) (nothing_waits files es)
 nothing_waits files (Room g n ∷ es) = ap (λ cs. put g (Filled n) ∷ cs) (nothing_waits files es)
-nothing_waits files (Value g o width f ∷ es) = ap (λ cs. put g (Waiting width (place_by files o) f) ∷ cs) (nothing_waits files es)
+nothing_waits files (Value width g o f ∷ es) = ap (λ cs. put g (Waiting width (place_by files o) f) ∷ cs) (nothing_waits files es)
 nothing_waits files (Told o ss ∷ es) = ap (λ cs. telling (map (said_at (place_by files o)) ss) ∷ cs) (nothing_waits files es)
 
 pub filled_more : (files : List (List ℕ)) (ws : List Content) (es : List Entry) (e : Entry) → is_open e ≡ false → filled files ws (es ++ e ∷ []) ≡ filled files ws es ++ content_of files e ∷ []
 filled_more files ws [] (Bytes g bytes) h = refl
 filled_more files ws [] (Room g n) h = refl
-filled_more files ws [] (Value g o width f) h = refl
+filled_more files ws [] (Value width g o f) h = refl
 filled_more files ws [] (Told o ss) h = refl
 filled_more files ws [] Open h = absurd cc
 filled_more files ws (Open ∷ es) e h = ap (λ cs. first_of ws ∷ cs) (filled_more files (rest_of ws) es e h)
 filled_more files ws (Bytes g bytes ∷ es) e h = ap (λ cs. put g (Known bytes) ∷ cs) (filled_more files ws es e h)
 filled_more files ws (Room g n ∷ es) e h = ap (λ cs. put g (Filled n) ∷ cs) (filled_more files ws es e h)
-filled_more files ws (Value g o width f ∷ es) e h = ap (λ cs. put g (Waiting width (place_by files o) f) ∷ cs) (filled_more files ws es e h)
+filled_more files ws (Value width g o f ∷ es) e h = ap (λ cs. put g (Waiting width (place_by files o) f) ∷ cs) (filled_more files ws es e h)
 filled_more files ws (Told o ss ∷ es) e h = ap (λ cs. telling (map (said_at (place_by files o)) ss) ∷ cs) (filled_more files ws es e h)
 
 pub filled_deferred : (files : List (List ℕ)) (ws : List Content) (es : List Entry) (w : Content) → open_count es ≡ length ws → filled files (ws ++ w ∷ []) (es ++ Open ∷ []) ≡ filled files ws es ++ w ∷ []
@@ -47,19 +47,19 @@ filled_deferred files [] (Open ∷ es) w h = absurd (omega (arith, h))
 filled_deferred files (v ∷ ws) (Open ∷ es) w h = let rest : open_count es ≡ length ws = omega (arith, h) in ap (λ cs. v ∷ cs) (filled_deferred files ws es w rest)
 filled_deferred files ws (Bytes g bytes ∷ es) w h = ap (λ cs. put g (Known bytes) ∷ cs) (filled_deferred files ws es w h)
 filled_deferred files ws (Room g n ∷ es) w h = ap (λ cs. put g (Filled n) ∷ cs) (filled_deferred files ws es w h)
-filled_deferred files ws (Value g o width f ∷ es) w h = ap (λ cs. put g (Waiting width (place_by files o) f) ∷ cs) (filled_deferred files ws es w h)
+filled_deferred files ws (Value width g o f ∷ es) w h = ap (λ cs. put g (Waiting width (place_by files o) f) ∷ cs) (filled_deferred files ws es w h)
 filled_deferred files ws (Told o ss ∷ es) w h = ap (λ cs. telling (map (said_at (place_by files o)) ss) ∷ cs) (filled_deferred files ws es w h)
 
 pub filled_settled : (files : List (List ℕ)) (e : Entry) (ws : List Content) (es : List Entry) → is_open e ≡ false → 0 < open_count es → filled files ws (settled_with e es) ≡ filled files (content_of files e ∷ ws) es
 filled_settled files e ws [] h some = absurd (omega (arith, some))
 filled_settled files (Bytes g bytes) ws (Open ∷ es) h some = refl
 filled_settled files (Room g n) ws (Open ∷ es) h some = refl
-filled_settled files (Value g o width f) ws (Open ∷ es) h some = refl
+filled_settled files (Value width g o f) ws (Open ∷ es) h some = refl
 filled_settled files (Told o ss) ws (Open ∷ es) h some = refl
 filled_settled files Open ws (Open ∷ es) h some = absurd cc
 filled_settled files e ws (Bytes g bytes ∷ es) h some = ap (λ cs. put g (Known bytes) ∷ cs) (filled_settled files e ws es h some)
 filled_settled files e ws (Room g n ∷ es) h some = ap (λ cs. put g (Filled n) ∷ cs) (filled_settled files e ws es h some)
-filled_settled files e ws (Value g o width f ∷ es) h some = ap (λ cs. put g (Waiting width (place_by files o) f) ∷ cs) (filled_settled files e ws es h some)
+filled_settled files e ws (Value width g o f ∷ es) h some = ap (λ cs. put g (Waiting width (place_by files o) f) ∷ cs) (filled_settled files e ws es h some)
 filled_settled files e ws (Told o ss ∷ es) h some = ap (λ cs. telling (map (said_at (place_by files o)) ss) ∷ cs) (filled_settled files e ws es h some)
 
 -- ---- How many wait.
@@ -69,13 +69,13 @@ count_more [] fs = let none : open_count fs ≡ 0 + open_count fs = omega arith 
 count_more (Open ∷ es) fs = let again : open_count (es ++ fs) ≡ open_count es + open_count fs = count_more es fs in omega (arith, again)
 count_more (Bytes g bytes ∷ es) fs = count_more es fs
 count_more (Room g n ∷ es) fs = count_more es fs
-count_more (Value g o width f ∷ es) fs = count_more es fs
+count_more (Value width g o f ∷ es) fs = count_more es fs
 count_more (Told o ss ∷ es) fs = count_more es fs
 
 pub count_closed : (es : List Entry) (e : Entry) → is_open e ≡ false → open_count (es ++ e ∷ []) ≡ open_count es
 count_closed es (Bytes g bytes) h = count_more es (Bytes g bytes ∷ []) ∙ (let none : open_count es + 0 ≡ open_count es = omega arith in none)
 count_closed es (Room g n) h = count_more es (Room g n ∷ []) ∙ (let none : open_count es + 0 ≡ open_count es = omega arith in none)
-count_closed es (Value g o width f) h = count_more es (Value g o width f ∷ []) ∙ (let none : open_count es + 0 ≡ open_count es = omega arith in none)
+count_closed es (Value width g o f) h = count_more es (Value width g o f ∷ []) ∙ (let none : open_count es + 0 ≡ open_count es = omega arith in none)
 count_closed es (Told o ss) h = count_more es (Told o ss ∷ []) ∙ (let none : open_count es + 0 ≡ open_count es = omega arith in none)
 count_closed es Open h = absurd cc
 
@@ -83,12 +83,12 @@ pub count_settled : (e : Entry) (es : List Entry) → is_open e ≡ false → 0 
 count_settled e [] h some = absurd (omega (arith, some))
 count_settled (Bytes g bytes) (Open ∷ es) h some = refl
 count_settled (Room g n) (Open ∷ es) h some = refl
-count_settled (Value g o width f) (Open ∷ es) h some = refl
+count_settled (Value width g o f) (Open ∷ es) h some = refl
 count_settled (Told o ss) (Open ∷ es) h some = refl
 count_settled Open (Open ∷ es) h some = absurd cc
 count_settled e (Bytes g bytes ∷ es) h some = count_settled e es h some
 count_settled e (Room g n ∷ es) h some = count_settled e es h some
-count_settled e (Value g o width f ∷ es) h some = count_settled e es h some
+count_settled e (Value width g o f ∷ es) h some = count_settled e es h some
 count_settled e (Told o ss ∷ es) h some = count_settled e es h some
 
 -- ---- The first open one.
@@ -98,7 +98,7 @@ none_counted [] h = refl
 none_counted (Open ∷ es) h = absurd cc
 none_counted (Bytes g bytes ∷ es) h = none_counted es h
 none_counted (Room g n ∷ es) h = none_counted es h
-none_counted (Value g o width f ∷ es) h = none_counted es h
+none_counted (Value width g o f ∷ es) h = none_counted es h
 none_counted (Told o ss ∷ es) h = none_counted es h
 
 pub settled_at : (e : Entry) (es : List Entry) (i : ℕ) → slice_get es i ≡ Some Open → list_any is_open (take i es) ≡ false → slice_set es i e ≡ settled_with e es
@@ -106,12 +106,12 @@ settled_at e [] i is none = absurd cc
 settled_at e (Open ∷ es) zero is none = refl
 settled_at e (Bytes g bytes ∷ es) zero is none = absurd cc
 settled_at e (Room g n ∷ es) zero is none = absurd cc
-settled_at e (Value g o width f ∷ es) zero is none = absurd cc
+settled_at e (Value width g o f ∷ es) zero is none = absurd cc
 settled_at e (Told o ss ∷ es) zero is none = absurd cc
 settled_at e (Open ∷ es) (suc i) is none = absurd cc
 settled_at e (Bytes g bytes ∷ es) (suc i) is none = ap (λ fs. Bytes g bytes ∷ fs) (settled_at e es i is none)
 settled_at e (Room g n ∷ es) (suc i) is none = ap (λ fs. Room g n ∷ fs) (settled_at e es i is none)
-settled_at e (Value g o width f ∷ es) (suc i) is none = ap (λ fs. Value g o width f ∷ fs) (settled_at e es i is none)
+settled_at e (Value width g o f ∷ es) (suc i) is none = ap (λ fs. Value width g o f ∷ fs) (settled_at e es i is none)
 settled_at e (Told o ss ∷ es) (suc i) is none = ap (λ fs. Told o ss ∷ fs) (settled_at e es i is none)
 
 -- up to the place that was settled none waits
@@ -121,7 +121,7 @@ none_up_to e (x ∷ es) zero h lt none = ap (λ b. b || false) h
 none_up_to e (Open ∷ es) (suc i) h lt none = absurd cc
 none_up_to e (Bytes g bytes ∷ es) (suc i) h lt none = none_up_to e es i h (omega (arith, lt)) none
 none_up_to e (Room g n ∷ es) (suc i) h lt none = none_up_to e es i h (omega (arith, lt)) none
-none_up_to e (Value g o width f ∷ es) (suc i) h lt none = none_up_to e es i h (omega (arith, lt)) none
+none_up_to e (Value width g o f ∷ es) (suc i) h lt none = none_up_to e es i h (omega (arith, lt)) none
 none_up_to e (Told o ss ∷ es) (suc i) h lt none = none_up_to e es i h (omega (arith, lt)) none
 
 pub none_so_far : (es : List Entry) (i : ℕ) (x : Entry) → i < length es → x ≡ get_or es i x → is_open x ≡ false → list_any is_open (take i es) ≡ false → list_any is_open (take (i + 1) es) ≡ false
@@ -135,6 +135,6 @@ found [] i x lt at waits = absurd (omega (arith, lt))
 found (y ∷ es) zero Open lt at waits = ap Some (sym at)
 found (y ∷ es) zero (Bytes g bytes) lt at waits = absurd cc
 found (y ∷ es) zero (Room g n) lt at waits = absurd cc
-found (y ∷ es) zero (Value g o width f) lt at waits = absurd cc
+found (y ∷ es) zero (Value width g o f) lt at waits = absurd cc
 found (y ∷ es) zero (Told o ss) lt at waits = absurd cc
 found (y ∷ es) (suc i) x lt at waits = found es i x (omega (arith, lt)) at waits

@@ -66,6 +66,6 @@ pub imports_anyhow : (names files more : List (List ℕ)) (es : List Entry) → 
 imports_anyhow names files more [] = refl
 imports_anyhow names files more (Bytes g bytes ∷ es) = imports_anyhow names files more es
 imports_anyhow names files more (Room g n ∷ es) = imports_anyhow names files more es
-imports_anyhow names files more (Value g o width f ∷ es) = ap (λ ks. ((imports_in f ++ []) ++ []) ++ ks) (imports_anyhow names files more es)
+imports_anyhow names files more (Value width g o f ∷ es) = ap (λ ks. ((imports_in f ++ []) ++ []) ++ ks) (imports_anyhow names files more es)
 imports_anyhow names files more (Told o ss ∷ es) = λ n. said_anywhere names (place_by files o) (place_by more o) ss n ++ imports_anyhow names files more es n
 imports_anyhow names files more (Open ∷ es) = imports_anyhow names files more es

@@ -31,9 +31,9 @@ filled_grown files later ws [] h = refl
 filled_grown files later ws (Open ∷ es) h = ap (λ cs. first_of ws ∷ cs) (filled_grown files later (rest_of ws) es h)
 filled_grown files later ws (Bytes g bytes ∷ es) h = ap (λ cs. put g (Known bytes) ∷ cs) (filled_grown files later ws es h)
 filled_grown files later ws (Room g count ∷ es) h = ap (λ cs. put g (Filled count) ∷ cs) (filled_grown files later ws es h)
-filled_grown files later ws (Value g o width f ∷ es) h =
-    let one = left (stands_in (length files) (Value g o width f)) (list_all (stands_in (length files)) es) h in
-    let rest = right (stands_in (length files) (Value g o width f)) (list_all (stands_in (length files)) es) h in
+filled_grown files later ws (Value width g o f ∷ es) h =
+    let one = left (stands_in (length files) (Value width g o f)) (list_all (stands_in (length files)) es) h in
+    let rest = right (stands_in (length files) (Value width g o f)) (list_all (stands_in (length files)) es) h in
     λ n. put g (Waiting width (place_grown files later o one n) f) ∷ filled_grown files later ws es rest n
 filled_grown files later ws (Told o ss ∷ es) h =
     let one = left (stands_in (length files) (Told o ss)) (list_all (stands_in (length files)) es) h in
@@ -49,7 +49,7 @@ stands_grown : (m n : ℕ) (e : Entry) → m ≤ n → stands_in m e ≡ true �
 stands_grown m n Open le h = refl
 stands_grown m n (Bytes g bytes) le h = refl
 stands_grown m n (Room g count) le h = refl
-stands_grown m n (Value g o width f) le h = file_grown m n o.file le h
+stands_grown m n (Value width g o f) le h = file_grown m n o.file le h
 stands_grown m n (Told o ss) le h = file_grown m n o.file le h
 
 pub standing_grown : (m n : ℕ) (es : List Entry) → m ≤ n → StandIn m es → StandIn n es
@@ -67,10 +67,10 @@ standing_settled n e [] h all = refl
 standing_settled n e (Open ∷ es) h all = and (stands_in n e) (list_all (stands_in n) es) h all
 standing_settled n e (Bytes g bytes ∷ es) h all = standing_settled n e es h all
 standing_settled n e (Room g count ∷ es) h all = standing_settled n e es h all
-standing_settled n e (Value g o width f ∷ es) h all =
-    and (stands_in n (Value g o width f)) (list_all (stands_in n) (settled_with e es))
-    (left (stands_in n (Value g o width f)) (list_all (stands_in n) es) all)
-    (standing_settled n e es h (right (stands_in n (Value g o width f)) (list_all (stands_in n) es) all))
+standing_settled n e (Value width g o f ∷ es) h all =
+    and (stands_in n (Value width g o f)) (list_all (stands_in n) (settled_with e es))
+    (left (stands_in n (Value width g o f)) (list_all (stands_in n) es) all)
+    (standing_settled n e es h (right (stands_in n (Value width g o f)) (list_all (stands_in n) es) all))
 standing_settled n e (Told o ss ∷ es) h all =
     and (stands_in n (Told o ss)) (list_all (stands_in n) (settled_with e es))
     (left (stands_in n (Told o ss)) (list_all (stands_in n) es) all)

@@ -89,10 +89,10 @@ module _ (files : List (List ℕ)) (apart : IsDistinct bytes_eq files) where
     fragments_are h [] standing = refl
     fragments_are h (Bytes g bytes ∷ es) standing = part_put h g (Literal bytes) (Known bytes) (contents es) (fragments_put s i h es) refl (fragments_are h es (others (Bytes g bytes) es standing))
     fragments_are h (Room g n ∷ es) standing = part_put h g (Fill n) (Filled n) (contents es) (fragments_put s i h es) refl (fragments_are h es (others (Room g n) es standing))
-    fragments_are h (Value g o width f ∷ es) standing =
+    fragments_are h (Value width g o f ∷ es) standing =
         part_put h g (fragment.Value width (origin_by o) (numbered s i f)) (Waiting width (place_by files o) f) (contents es) (fragments_put s i h es)
-        (ap (λ origin. fragment.Value width origin (numbered s i f)) (sym (origin_back o (first (Value g o width f) es standing))))
-        (fragments_are h es (others (Value g o width f) es standing))
+        (ap (λ origin. fragment.Value width origin (numbered s i f)) (sym (origin_back o (first (Value width g o f) es standing))))
+        (fragments_are h es (others (Value width g o f) es standing))
     fragments_are h (Told o ss ∷ es) standing =
         fragments_are h es (others (Told o ss) es standing)
         ∙ ap (fragments_of at s i) (sym (told_parts (map (said_at (place_by files o)) ss) (contents es) h))
@@ -120,7 +120,7 @@ module _ (files : List (List ℕ)) (apart : IsDistinct bytes_eq files) where
     exports_said found [] standing = refl
     exports_said found (Bytes g bytes ∷ es) standing = exports_said found es (others (Bytes g bytes) es standing)
     exports_said found (Room g n ∷ es) standing = exports_said found es (others (Room g n) es standing)
-    exports_said found (Value g o width f ∷ es) standing = exports_said found es (others (Value g o width f) es standing)
+    exports_said found (Value width g o f ∷ es) standing = exports_said found es (others (Value width g o f) es standing)
     exports_said found (Open ∷ es) standing = exports_said found es (others Open es standing)
     exports_said found (Told o ss ∷ es) standing =
         exports_said (exports_at s i (origin_by o) found ss) es (others (Told o ss) es standing)
@@ -137,7 +137,7 @@ module _ (files : List (List ℕ)) (apart : IsDistinct bytes_eq files) where
     asserts_said [] standing = refl
     asserts_said (Bytes g bytes ∷ es) standing = asserts_said es (others (Bytes g bytes) es standing)
     asserts_said (Room g n ∷ es) standing = asserts_said es (others (Room g n) es standing)
-    asserts_said (Value g o width f ∷ es) standing = asserts_said es (others (Value g o width f) es standing)
+    asserts_said (Value width g o f ∷ es) standing = asserts_said es (others (Value width g o f) es standing)
     asserts_said (Open ∷ es) standing = asserts_said es (others Open es standing)
     asserts_said (Told o ss ∷ es) standing =
         (λ n. asserts_are o ss (origin_back o (first (Told o ss) es standing)) n ++ asserts_said es (others (Told o ss) es standing) n)
@@ -156,9 +156,9 @@ module _ (files : List (List ℕ)) (apart : IsDistinct bytes_eq files) where
     parts_listed h [] standing = refl
     parts_listed h (Bytes g bytes ∷ es) standing = part_listed h g (Known bytes) (contents es) refl (parts_listed h es (others (Bytes g bytes) es standing))
     parts_listed h (Room g n ∷ es) standing = part_listed h g (Filled n) (contents es) refl (parts_listed h es (others (Room g n) es standing))
-    parts_listed h (Value g o width f ∷ es) standing =
-        part_listed h g (Waiting width (place_by files o) f) (contents es) (origin_listed o (first (Value g o width f) es standing))
-        (parts_listed h es (others (Value g o width f) es standing))
+    parts_listed h (Value width g o f ∷ es) standing =
+        part_listed h g (Waiting width (place_by files o) f) (contents es) (origin_listed o (first (Value width g o f) es standing))
+        (parts_listed h es (others (Value width g o f) es standing))
     parts_listed h (Told o ss ∷ es) standing =
         ap (list_all (is_listed_part files apart s i)) (told_parts (map (said_at (place_by files o)) ss) (contents es) h)
         ∙ parts_listed h es (others (Told o ss) es standing)
@@ -176,7 +176,7 @@ module _ (files : List (List ℕ)) (apart : IsDistinct bytes_eq files) where
     said_listed [] standing = refl
     said_listed (Bytes g bytes ∷ es) standing = said_listed es (others (Bytes g bytes) es standing)
     said_listed (Room g n ∷ es) standing = said_listed es (others (Room g n) es standing)
-    said_listed (Value g o width f ∷ es) standing = said_listed es (others (Value g o width f) es standing)
+    said_listed (Value width g o f ∷ es) standing = said_listed es (others (Value width g o f) es standing)
     said_listed (Open ∷ es) standing = said_listed es (others Open es standing)
     said_listed (Told o ss ∷ es) standing =
         let mine = map (said_at (place_by files o)) ss in

@@ -73,13 +73,13 @@ origin_by o = record { file = Some o.file; line = o.line }
 abbrev pub content_of : List (List ℕ) → Entry → Content
 content_of files (Bytes g bytes) = put g (Known bytes)
 content_of files (Room g n) = put g (Filled n)
-content_of files (Value g o width f) = put g (Waiting width (place_by files o) f)
+content_of files (Value width g o f) = put g (Waiting width (place_by files o) f)
 content_of files (Told o ss) = telling (map (said_at (place_by files o)) ss)
 content_of files Open = telling []
 
 -- the file in which an entry stands is one of so many, where the object may need it
 abbrev pub stands_in : ℕ → Entry → Bool
-stands_in count (Value g o width f) = nat_lt o.file count
+stands_in count (Value width g o f) = nat_lt o.file count
 stands_in count (Told o ss) = nat_lt o.file count
 stands_in count _ = true
 
@@ -97,7 +97,7 @@ filled files ws [] = []
 filled files ws (Open ∷ es) = first_of ws ∷ filled files (rest_of ws) es
 filled files ws (Bytes g bytes ∷ es) = put g (Known bytes) ∷ filled files ws es
 filled files ws (Room g n ∷ es) = put g (Filled n) ∷ filled files ws es
-filled files ws (Value g o width f ∷ es) = put g (Waiting width (place_by files o) f) ∷ filled files ws es
+filled files ws (Value width g o f ∷ es) = put g (Waiting width (place_by files o) f) ∷ filled files ws es
 filled files ws (Told o ss ∷ es) = telling (map (said_at (place_by files o)) ss) ∷ filled files ws es
 
 abbrev pub is_open : Entry → Bool
@@ -109,5 +109,5 @@ open_count [] = 0
 open_count (Open ∷ es) = 1 + open_count es
 open_count (Bytes g bytes ∷ es) = open_count es
 open_count (Room g n ∷ es) = open_count es
-open_count (Value g o width f ∷ es) = open_count es
+open_count (Value width g o f ∷ es) = open_count es
 open_count (Told o ss ∷ es) = open_count es

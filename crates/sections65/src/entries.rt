@@ -34,8 +34,8 @@ impl Spot {
     }
 }
 
-/// What one call feeds. A value's fields stand side by side, not in a part of their own, to be small: of a large
-/// source these are most of what is kept.
+/// What one call feeds. Of a large source most of what is kept are these, so they are small: fields lie in memory in
+/// the order in which they stand here, and the width of a value fits in beside what tells the variants apart.
 #[derive(Drop)]
 pub enum Entry {
     /// Bytes of the section of a segment.
@@ -50,9 +50,9 @@ pub enum Entry {
     },
     /// A value there that the linker computes.
     Value {
+        width: Width,
         segment: u32,
         spot: Spot,
-        width: Width,
         form: Norm,
     },
     /// What a statement says.

@@ -104,9 +104,9 @@ impl Files {
             Part::Waiting { width, form } => {
                 let spot = self.spot_of(alloc, at)?;
                 Ok(Entry::Value {
+                    width,
                     segment,
                     spot,
-                    width,
                     form,
                 })
             }

@@ -71,14 +71,14 @@ anywhere = place_in [] 0
 abbrev pub segment_of : Entry → Option ℕ
 segment_of (Bytes g bytes) = Some g
 segment_of (Room g n) = Some g
-segment_of (Value g o width f) = Some g
+segment_of (Value width g o f) = Some g
 segment_of _ = None
 
 -- a draft of this segment behind an entry
 abbrev pub with_put : (sections imports : List ℕ) → Entry → Draft → Draft
 with_put sections imports (Bytes g bytes) d = with_fragment d (Literal bytes)
 with_put sections imports (Room g n) d = with_fragment d (Fill n)
-with_put sections imports (Value g o width f) d = with_fragment d (fragment.Value width (origin_by o) (numbered sections imports f))
+with_put sections imports (Value width g o f) d = with_fragment d (fragment.Value width (origin_by o) (numbered sections imports f))
 with_put sections imports _ d = d
 
 -- a change of the draft of one segment alone

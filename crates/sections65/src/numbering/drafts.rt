@@ -85,9 +85,9 @@ fn add_put(
         Entry::Bytes { segment: _, bytes } => add_bytes(draft, bytes),
         Entry::Room { segment: _, count } => add_fill(draft, count),
         Entry::Value {
+            width,
             segment: _,
             spot,
-            width,
             form,
         } => {
             let origin = spot.origin();

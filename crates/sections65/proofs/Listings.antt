@@ -10,7 +10,7 @@ use Rattle.language65.specs.Numbering.{name_of}
 use Rattle.language65.specs.Views.{place_in, said_at}
 use Rattle.sections65.specs.declared.entries.Entry.{Entry}
 use Rattle.sections65.specs.declared.entries.Entry.TheVariants.{Bytes, Room, Value, Told, Open}
-use Rattle.sections65.specs.declared.entries.Spot.{Spot}
+use Rattle.sections65.specs.declared.entries.SourcePos.{SourcePos}
 use Rattle.sections65.specs.Fed.{filled, first_of, place_by, rest_of, stands_in}
 use Rattle.sections65.specs.Standing.{Begins, StandIn}
 use Rattle.sections65.proofs.Fillings.{settled_with}
@@ -23,7 +23,7 @@ name_grown [] later k h = let lt : k < 0 = grind (arith, nat_tests) in absurd (o
 name_grown (n ∷ files) later zero h = refl
 name_grown (n ∷ files) later (suc k) h = name_grown files later k (let lt : nat_lt k (length files) ≡ true = grind (arith, nat_tests) in lt)
 
-pub place_grown : (files later : List (List ℕ)) (o : Spot) → nat_lt o.file (length files) ≡ true → place_by (files ++ later) o ≡ place_by files o
+pub place_grown : (files later : List (List ℕ)) (o : SourcePos) → nat_lt o.file (length files) ≡ true → place_by (files ++ later) o ≡ place_by files o
 place_grown files later o h = ap (λ n. place_in n o.line) (name_grown files later o.file h)
 
 pub filled_grown : (files later : List (List ℕ)) (ws : List Content) (es : List Entry) → StandIn (length files) es → filled (files ++ later) ws es ≡ filled files ws es

@@ -24,7 +24,7 @@ use Rattle.language65.specs.Numbering.{all_joined, all_said, assert_of, exports_
 use Rattle.language65.specs.Views.{said_at}
 use Rattle.sections65.specs.declared.entries.Entry.{Entry}
 use Rattle.sections65.specs.declared.entries.Entry.TheVariants.{Bytes, Room, Value, Told, Open}
-use Rattle.sections65.specs.declared.entries.Spot.{Spot}
+use Rattle.sections65.specs.declared.entries.SourcePos.{SourcePos}
 use Rattle.sections65.specs.Fed.{content_of, object_over, origin_by, place_by, stands_in}
 use Rattle.sections65.specs.Inner.Drafts.{asserts_at, entry_asserts, exports_at, exports_from, object_before}
 use Rattle.sections65.specs.Inner.Ordering.{in_order}
@@ -45,13 +45,13 @@ module _ (files : List (List ℕ)) (apart : IsDistinct bytes_eq files) where
   place_back : (k : ℕ) → nat_lt k (length files) ≡ true → position (bytes_eq (name_of files k)) files ≡ Some k
   place_back k h = let lt : k < length files = grind (arith, nat_tests) in found_there files apart k lt
 
-  pub origin_back : (o : Spot) → nat_lt o.file (length files) ≡ true → at (place_by files o) ≡ origin_by o
+  pub origin_back : (o : SourcePos) → nat_lt o.file (length files) ≡ true → at (place_by files o) ≡ origin_by o
   origin_back o h = λ n. record { file = place_back o.file h n; line = o.line }
 
   place_listed : (k : ℕ) → nat_lt k (length files) ≡ true → list_any (bytes_eq (name_of files k)) files ≡ true
   place_listed k h = let lt : k < length files = grind (arith, nat_tests) in listed_there files apart k lt
 
-  origin_listed : (o : Spot) → nat_lt o.file (length files) ≡ true → is_listed files apart (place_by files o) ≡ true
+  origin_listed : (o : SourcePos) → nat_lt o.file (length files) ≡ true → is_listed files apart (place_by files o) ≡ true
   origin_listed o h = place_listed o.file h
 
   first : (e : Entry) (es : List Entry) → StandIn (length files) (e ∷ es) → stands_in (length files) e ≡ true
@@ -108,7 +108,7 @@ module _ (files : List (List ℕ)) (apart : IsDistinct bytes_eq files) where
 
     -- ---- What entries say.
 
-    exports_are : (o : Spot) (found : List Export) (ss : List telled.Said) → at (place_by files o) ≡ origin_by o → exports_at s i (origin_by o) found ss ≡ exports_among at s i found (map (said_at (place_by files o)) ss)
+    exports_are : (o : SourcePos) (found : List Export) (ss : List telled.Said) → at (place_by files o) ≡ origin_by o → exports_at s i (origin_by o) found ss ≡ exports_among at s i found (map (said_at (place_by files o)) ss)
     exports_are o found [] h = refl
     exports_are o found (told.Exported n f ∷ ss) h =
         exports_are o (if list_any (λ e. bytes_eq n e.name) found then found else found ++ record { name = n; origin = origin_by o; form = numbered s i f } ∷ []) ss h
@@ -127,7 +127,7 @@ module _ (files : List (List ℕ)) (apart : IsDistinct bytes_eq files) where
         ∙ ap (λ found. exports_among at s i found (all_said (contents es))) (exports_are o found ss (origin_back o (first (Told o ss) es standing)))
         ∙ among_append at s i (map (said_at (place_by files o)) ss) found (all_said (contents es))
 
-    asserts_are : (o : Spot) (ss : List telled.Said) → at (place_by files o) ≡ origin_by o → asserts_at s i (origin_by o) ss ≡ filter_map (assert_of at s i) (map (said_at (place_by files o)) ss)
+    asserts_are : (o : SourcePos) (ss : List telled.Said) → at (place_by files o) ≡ origin_by o → asserts_at s i (origin_by o) ss ≡ filter_map (assert_of at s i) (map (said_at (place_by files o)) ss)
     asserts_are o [] h = refl
     asserts_are o (told.Exported n f ∷ ss) h = asserts_are o ss h
     asserts_are o (told.Demanded n ∷ ss) h = asserts_are o ss h
@@ -166,7 +166,7 @@ module _ (files : List (List ℕ)) (apart : IsDistinct bytes_eq files) where
         ap (list_all (is_listed_part files apart s i)) (told_parts [] (contents es) h)
         ∙ parts_listed h es (others Open es standing)
 
-    told_listed : (o : Spot) (ss : List telled.Said) → is_listed files apart (place_by files o) ≡ true → list_all (is_listed_said files apart s i) (map (said_at (place_by files o)) ss) ≡ true
+    told_listed : (o : SourcePos) (ss : List telled.Said) → is_listed files apart (place_by files o) ≡ true → list_all (is_listed_said files apart s i) (map (said_at (place_by files o)) ss) ≡ true
     told_listed o [] h = refl
     told_listed o (told.Exported n f ∷ ss) h = and (is_listed files apart (place_by files o)) (list_all (is_listed_said files apart s i) (map (said_at (place_by files o)) ss)) h (told_listed o ss h)
     told_listed o (told.Demanded n ∷ ss) h = told_listed o ss h

@@ -12,7 +12,7 @@ use Rattle.language65.specs.Numbering.{all_joined, all_said, assert_files, asser
 use Rattle.language65.specs.Views.{place_in, said_at}
 use Rattle.sections65.specs.declared.entries.Entry.{Entry}
 use Rattle.sections65.specs.declared.entries.Entry.TheVariants.{Bytes, Room, Value, Told, Open}
-use Rattle.sections65.specs.declared.entries.Spot.{Spot}
+use Rattle.sections65.specs.declared.entries.SourcePos.{SourcePos}
 
 -- ---- What one call feeds, as a content of its own.
 
@@ -62,11 +62,11 @@ object_over segments names sections cs =
 -- ---- Entries, of which some are open.
 
 -- where something stands, in one of these files
-abbrev pub place_by : List (List ℕ) → Spot → Place
+abbrev pub place_by : List (List ℕ) → SourcePos → Place
 place_by files o = place_in (name_of files o.file) o.line
 
 -- as an origin in an object of these files
-abbrev pub origin_by : Spot → Origin
+abbrev pub origin_by : SourcePos → Origin
 origin_by o = record { file = Some o.file; line = o.line }
 
 -- an entry as a content, with these files; an open one has nothing so far

@@ -17,12 +17,12 @@ use std::mem;
 
 /// Where something stands that may be written: the file's place among those in which something stands, and the line.
 #[derive(Clone, Copy)]
-pub struct Spot {
+pub struct SourcePos {
     pub file: u32,
     pub line: u32,
 }
 
-impl Spot {
+impl SourcePos {
     /// The origin in an object whose files are those in which something stands.
     pub fn origin(self) -> Origin
         ensures { result ≡ origin_by self }
@@ -52,12 +52,12 @@ pub enum Entry {
     Value {
         width: Width,
         segment: u32,
-        spot: Spot,
+        spot: SourcePos,
         form: Norm,
     },
     /// What a statement says.
     Told {
-        spot: Spot,
+        spot: SourcePos,
         said: Sequence<Said>,
     },
     /// What waits.

@@ -6,7 +6,7 @@ ghost use Rattle.language65.specs.Views.{part_at, place_in, said_at};
 ghost use Rattle.sections65.specs.Fed.{place_by};
 ghost use Rattle.sections65.specs.Standing.{Begins, IsEntry, names_in};
 
-use crate::entries::{Entry, Spot};
+use crate::entries::{Entry, SourcePos};
 use crate::numbering::narrow;
 use base65::Sequence;
 use indexmap::IndexSet;
@@ -73,14 +73,14 @@ impl Files {
     }
 
     /// Where something stands, by its file's place.
-    fn spot_of(&mut self, alloc: Global, at: At<'_>) -> Result<Spot, AllocError>
+    fn spot_of(&mut self, alloc: Global, at: At<'_>) -> Result<SourcePos, AllocError>
         ensures more { Begins (names_in self.old) (names_in self.new) }
         ensures listed { IfOk result (λ o. o.file < length (names_in self.new)) }
         ensures place { IfOk result (λ o. place_by (names_in self.new) o
             ≡ place_in at.entry.file.now at.entry.line) }
     {
         let place = self.place_of(alloc, at.file)?;
-        Ok(Spot {
+        Ok(SourcePos {
             file: narrow(place)?,
             line: at.line,
         })

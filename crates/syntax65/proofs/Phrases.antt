@@ -2,7 +2,7 @@
 use Rattle.std.proofs.Common.{◌≡◌, ◌≢◌, ℕ, zero, suc, ◌+◌, ◌-◌, ◌<◌, ◌≤◌, true, false, List, [], ◌∷◌, ◌++◌, Option, Some, None, refl, sym, ap, subst, ◌∙◌, arith, append_assoc}
 use Rattle.std.specs.Prelude.{Result, Ok, Err}
 use Rattle.syntax65.specs.Tokens.{Lexeme}
-use Rattle.syntax65.specs.Trees.{Tree, name, unary, binary, tree_of}
+use Rattle.syntax65.specs.Trees.{Tree, name, unary, binary}
 use Rattle.syntax65.specs.Words.{level_of}
 use Rattle.syntax65.specs.Expressions.{opening_at, binary_at, text_at, leaf_of, leaf_at, closes_at, Parts, last_part, next_part, Phrase, a_leaf, a_name, a_global, prefixed, enclosed, of_level, joined, negated, NoOperator, BeginsOperand, OpensLevel, Stops, no_operand, no_name, no_global, too_deep, in_prefixed, in_enclosed, not_closed, in_first, in_next, negation_too_deep, in_negated, IsPhrase, IsStop, IsMissing, IsParsed, ReadsLevel}
 use Rattle.syntax65.specs.Faults.{is_expr_outside}
@@ -11,7 +11,6 @@ use Rattle.base65.specs.declared.values.Op1.{Op1}
 use Rattle.base65.specs.declared.values.Op1.TheVariants.{Not}
 use Rattle.base65.specs.declared.values.Op2.{Op2}
 use Rattle.base65.specs.declared.values.Op2.TheVariants.{Multiply}
-use Rattle.syntax65.specs.declared.expressions.trees.Expr.{Expr}
 use Rattle.syntax65.specs.declared.expressions.words.Opening.{Opening}
 use Rattle.syntax65.specs.declared.expressions.words.Opening.TheVariants.{Number, Here, Cheap, Forward, Backward, Name, Scope, Prefix, Parenthesis, Negation, Nothing}
 use Rattle.syntax65.specs.declared.expressions.fault.ExprFault.{ExprFault}
@@ -44,6 +43,9 @@ leaf_phrase ts room i t h = record { phrase = a_leaf room i t h; ends = level_ze
 
 pub name_phrase : (ts : List Lexeme) (room i j : ℕ) (parts : List (List ℕ)) → Parts ts i j parts → IsPhrase ts room 0 i j (name false parts)
 name_phrase ts room i j parts h = record { phrase = a_name room i j parts h; ends = level_zero ts j }
+
+pub plain_phrase : (ts : List Lexeme) (room i : ℕ) → opening_at ts i ≡ Name → opening_at ts (i + 1) ≢ Scope → IsPhrase ts room 0 i (i + 1) (name false (text_at ts i ∷ []))
+plain_phrase ts room i named alone = name_phrase ts room i (i + 1) (text_at ts i ∷ []) (last_part i named alone)
 
 pub global_phrase : (ts : List Lexeme) (room i j : ℕ) (parts : List (List ℕ)) → opening_at ts i ≡ Scope → Parts ts (i + 1) j parts → IsPhrase ts room 0 i j (name true parts)
 global_phrase ts room i j parts h p = record { phrase = a_global room i j parts h p; ends = level_zero ts j }
@@ -216,15 +218,15 @@ joined_part ts room n m i j k op t u t' u' p at level le right same_left same_ri
 pub whole_part : (ts : List Lexeme) (room n i j : ℕ) (t : Tree) → IsPart ts room n i j t → NoOperator ts n j → IsPhrase ts room n i j t
 whole_part ts room n i j t p none = record { phrase = raised ts room p.own n i j t p.most p.phrase; ends = none }
 
-pub whole_result : (ts : List Lexeme) (room i : ℕ) (r : Result (Expr × ℕ) ExprFault) → opening_at ts i ≢ Negation → ReadsLevel ts room 5 i r → ReadsLevel ts room 6 i r
-whole_result ts room i (Ok x) h p = whole_phrase ts room i x.1 (tree_of x.0) p
+pub whole_result : (ts : List Lexeme) (room i : ℕ) (r : Result (Tree × ℕ) ExprFault) → opening_at ts i ≢ Negation → ReadsLevel ts room 5 i r → ReadsLevel ts room 6 i r
+whole_result ts room i (Ok x) h p = whole_phrase ts room i x.1 x.0 p
 whole_result ts room i (Err f) h s = whole_stop ts room i f h s
 
 pub leaf_made : (ts : List Lexeme) (i : ℕ) (o : Opening) (text : List ℕ) (made : Option Tree) → o ≡ opening_at ts i → text ≡ text_at ts i → made ≡ leaf_of o text → leaf_at ts i ≡ made
 leaf_made ts i o text made a b e = sym (e ∙ ap (λ p. leaf_of p text) a ∙ ap (leaf_of (opening_at ts i)) b)
 
 -- a reader's answer, as what the tokens are read as
-pub parsed : (ts : List Lexeme) (r : Result (Expr × ℕ) ExprFault) → ReadsLevel ts 64 6 0 r → Answers is_expr_outside (λ x. (tree_of x.0, x.1)) r (IsParsed ts)
+pub parsed : (ts : List Lexeme) (r : Result (Tree × ℕ) ExprFault) → ReadsLevel ts 64 6 0 r → Answers is_expr_outside (λ x. x) r (IsParsed ts)
 parsed ts (Ok x) h = h
 parsed ts (Err OutOfMemory) h = tt
 parsed ts (Err OperandExpected) h = h

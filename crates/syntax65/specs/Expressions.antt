@@ -1,7 +1,7 @@
 -- The phrases of the expression grammar, by places in a list of tokens.
 use Rattle.std.specs.Prelude.{Bool, ◌≡◌, ◌≢◌, ℕ, ◌+◌, ◌<◌, ◌≤◌, true, false, List, [], ◌∷◌, Option, Some, None, slice_get, Result, Ok, Err, ⊤}
 use Rattle.syntax65.specs.Tokens.{Lexeme}
-use Rattle.syntax65.specs.Trees.{Tree, tree_of, number, here, name, cheap, forward, backward, unary, binary}
+use Rattle.syntax65.specs.Trees.{Tree, number, here, name, cheap, forward, backward, unary, binary}
 use Rattle.syntax65.specs.Words.{opening_of, binary_of, level_of}
 use Rattle.syntax65.specs.declared.lexing.tokens.TokenKind.{TokenKind}
 use Rattle.syntax65.specs.declared.lexing.tokens.TokenKind.TheVariants as token
@@ -9,7 +9,6 @@ use Rattle.syntax65.specs.declared.lexing.tokens.Mark.TheVariants as mark
 use Rattle.base65.specs.declared.values.Op1.{Op1}
 use Rattle.base65.specs.declared.values.Op1.TheVariants.{Not}
 use Rattle.base65.specs.declared.values.Op2.{Op2}
-use Rattle.syntax65.specs.declared.expressions.trees.Expr.{Expr}
 use Rattle.syntax65.specs.declared.expressions.words.Opening.{Opening}
 use Rattle.syntax65.specs.declared.expressions.words.Opening.TheVariants.{Number, Here, Cheap, Forward, Backward, Name, Scope, Prefix, Parenthesis, Negation, Nothing}
 use Rattle.syntax65.specs.declared.expressions.fault.ExprFault.{ExprFault}
@@ -128,8 +127,8 @@ IsStop ts room n i OutOfMemory = ⊤
 IsStop ts room n i f = (k : ℕ) × Stops ts room n i k f
 
 -- a reader's answer for level n from i on: a phrase that no operator follows, or a stop
-abbrev pub ReadsLevel : List Lexeme → ℕ → ℕ → ℕ → Result (Expr × ℕ) ExprFault → Type 0
-ReadsLevel ts room n i (Ok x) = IsPhrase ts room n i x.1 (tree_of x.0)
+abbrev pub ReadsLevel : List Lexeme → ℕ → ℕ → ℕ → Result (Tree × ℕ) ExprFault → Type 0
+ReadsLevel ts room n i (Ok x) = IsPhrase ts room n i x.1 x.0
 ReadsLevel ts room n i (Err f) = IsStop ts room n i f
 
 -- what the tokens at the front are read as: an expression and how many tokens it has, or their first fault

@@ -9,5 +9,5 @@ mod words;
 
 pub use fault::ExprFault;
 pub use reading::{MAX_DEPTH, read_expr};
-pub use trees::{Expr, Name};
+pub use trees::{Expr, ExprKind, Identifier, Name, Operands};
 pub use words::is_reserved;

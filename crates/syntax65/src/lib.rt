@@ -10,7 +10,9 @@ mod spelling;
 pub use base65::{
     MemStore, Op1, Op2, Sequence, Store, StoreFault, Text, apply1, apply2, read_front, read_full,
 };
-pub use expressions::{Expr, ExprFault, MAX_DEPTH, Name, is_reserved, read_expr};
+pub use expressions::{
+    Expr, ExprFault, ExprKind, Identifier, MAX_DEPTH, Name, Operands, is_reserved, read_expr,
+};
 pub use instructions::{Mnemonic, Mode, mnemonic, opcode};
 pub use lexing::{
     AddressSize, LexFault, Lexer, LineFront, MAX_LINE, MAX_NAME, Mark, Token, TokenKind,

@@ -3,18 +3,16 @@
 ghost use Rattle.std.specs.Prelude.{◌≡◌, ◌<◌, ◌≤◌, length, IfOk};
 ghost use Rattle.syntax65.specs.Faults.{is_expr_outside};
 ghost use Rattle.base65.specs.Relations.{Answers};
-ghost use Rattle.std.specs.Option.{option_map};
 ghost use Rattle.syntax65.specs.Expressions.{IsParsed, ReadsLevel, opening_at, leaf_of};
 ghost use Rattle.syntax65.specs.Tokens.{lexemes};
-ghost use Rattle.syntax65.specs.Trees.{tree_of};
 ghost use Rattle.syntax65.specs.declared.expressions.words.Opening.TheVariants as opening;
 
 use super::fault::ExprFault;
 use super::names::read_parts;
-use super::places::{closes_at, is_negation, opening_at, operator_at, text_at};
-use super::trees::{Expr, Name};
+use super::places::{closes_at, is_negation, is_scope, opening_at, operator_at, text_at};
+use super::trees::{Expr, ExprKind, Identifier, Name, Operands};
 use super::words::Opening;
-use crate::{Op1, Sequence, Token};
+use crate::{Op1, Token};
 use std::alloc::{AllocError, Global};
 
 /// How deep parentheses, prefix operators and negations nest together.
@@ -26,7 +24,7 @@ pub const MAX_DEPTH: u8 = 64;
 ///
 /// The fault of the first place where no expression can go on.
 pub fn read_expr(alloc: Global, tokens: &[Token<'_>]) -> Result<(Expr, usize), ExprFault>
-    ensures read { Answers is_expr_outside (λ r. (tree_of r.0, r.1)) result (IsParsed (lexemes tokens.now)) }
+    ensures read { Answers is_expr_outside (λ r. r) result (IsParsed (lexemes tokens.now)) }
     ensures further { IfOk result (λ r. 0 < r.1) }
     ensures bound { IfOk result (λ r. r.1 ≤ length tokens.now) }
 {
@@ -69,7 +67,7 @@ fn read_negated(
         return Err(ExprFault::TooDeep);
     }
     let (operand, end) = read_whole(alloc, tokens, at + 1, room - 1)?;
-    Ok((Expr::Prefix(Op1::Not, Box::new(alloc, operand)?), end))
+    Ok((Expr::new(ExprKind::Prefix(Op1::Not, Box::new(alloc, operand)?)), end))
 }
 
 /// The phrase of a level from a place on, and where it ends.
@@ -91,7 +89,8 @@ fn read_level(
     // side of the next.
     'operators: while let Some((op, own)) = operator_at(tokens, level, end) {
         let (right, next) = read_level(alloc, tokens, end + 1, own - 1, room)?;
-        left = Expr::Binary(op, Box::new(alloc, left)?, Box::new(alloc, right)?);
+        let operands = Operands { left, right };
+        left = Expr::new(ExprKind::Binary(op, Box::new(alloc, operands)?));
         end = next;
     }
     Ok((left, end))
@@ -123,16 +122,17 @@ fn read_operand(
 
 /// The operand of one token.
 fn leaf_of(alloc: Global, opening: Opening, text: &[u8]) -> Result<Option<Expr>, AllocError>
-    ensures { IfOk result (λ leaf. option_map tree_of leaf ≡ leaf_of opening text.now) }
+    ensures { IfOk result (λ leaf. leaf ≡ leaf_of opening text.now) }
 {
-    Ok(match opening {
-        Opening::Number(value) => Some(Expr::Number(value)),
-        Opening::Here => Some(Expr::Here),
-        Opening::Cheap => Some(Expr::Cheap(Sequence::from_vec(Vec::from_slice(alloc, text)?))),
-        Opening::Forward(count) => Some(Expr::Forward(count)),
-        Opening::Backward(count) => Some(Expr::Backward(count)),
-        _ => None,
-    })
+    let kind = match opening {
+        Opening::Number(value) => ExprKind::Number(value),
+        Opening::Here => ExprKind::Here,
+        Opening::Cheap => ExprKind::Cheap(Identifier::copy_of(alloc, text)?),
+        Opening::Forward(count) => ExprKind::Forward(count),
+        Opening::Backward(count) => ExprKind::Backward(count),
+        _ => return Ok(None),
+    };
+    Ok(Some(Expr::new(kind)))
 }
 
 fn read_name(
@@ -147,12 +147,16 @@ fn read_name(
     ensures further { IfOk result (λ r. at < r.1) }
     ensures inside { IfOk result (λ r. r.1 ≤ length tokens.now) }
 {
+    if !is_scope(tokens, at + 1) {
+        let name = Identifier::copy_of(alloc, text_at(tokens, at))?;
+        return Ok((Expr::new(ExprKind::Plain(name)), at + 1));
+    }
     let (parts, end) = read_parts(alloc, tokens, at)?;
     let name = Name {
         is_global: false,
         parts,
     };
-    Ok((Expr::Name(name), end))
+    Ok((Expr::new(ExprKind::Scoped(name)), end))
 }
 
 fn read_global(
@@ -172,7 +176,7 @@ fn read_global(
         is_global: true,
         parts,
     };
-    Ok((Expr::Name(name), end))
+    Ok((Expr::new(ExprKind::Scoped(name)), end))
 }
 
 #[cycle(expr)]
@@ -193,7 +197,7 @@ fn read_prefixed(
         return Err(ExprFault::TooDeep);
     }
     let (operand, end) = read_operand(alloc, tokens, at + 1, room - 1)?;
-    Ok((Expr::Prefix(op, Box::new(alloc, operand)?), end))
+    Ok((Expr::new(ExprKind::Prefix(op, Box::new(alloc, operand)?)), end))
 }
 
 #[cycle(expr)]

@@ -3,21 +3,21 @@ use Rattle.std.proofs.lemmas.Result.{err_from_is_err_and}
 use Rattle.std.specs.Option.{option_map}
 use Rattle.syntax65.specs.Tokens.{lexemes}
 use Rattle.syntax65.specs.Expressions.{leaf_of, text_at}
-use Rattle.syntax65.specs.Trees.{unary, tree_of}
+use Rattle.syntax65.specs.Trees.{unary}
 use Rattle.base65.specs.declared.values.Op1.TheVariants.{Not}
 use Rattle.syntax65.proofs.Phrases.{leaf_phrase, bad_operand, prefixed_phrase, prefixed_stop, deep_prefix, deep_open, deep_negation, negated_phrase, negated_stop, enclosed_phrase, enclosed_stop, open_stop, whole_result, leaf_made, operand_stop, operand_part, right_stop, joined_part, whole_part}
 use Rattle.syntax65.proofs.expressions.reading.+expr.Goals as goal
 
 pub read_operand-returns-in-Some-clause-phrase : goal.read_operand-returns-in-Some-clause-phrase
 read_operand-returns-in-Some-clause-phrase t c =
-    leaf_phrase (lexemes c.args.tokens.now) c.args.room c.args.at (tree_of c.in-Some.leaf)
-    (leaf_made (lexemes c.args.tokens.now) c.args.at c.opening_at-opening.result c.text_at.result.now (option_map tree_of c.in_ok-leaf.field-0) c.opening_at-opening.ensures.value c.text_at.ensures c.in_ok-leaf.ensures
-    ∙ ap (option_map tree_of) c.in-Some.is)
+    leaf_phrase (lexemes c.args.tokens.now) c.args.room c.args.at c.in-Some.leaf
+    (leaf_made (lexemes c.args.tokens.now) c.args.at c.opening_at-opening.result c.text_at.result.now c.in_ok-leaf.field-0 c.opening_at-opening.ensures.value c.text_at.ensures c.in_ok-leaf.ensures
+    ∙ c.in-Some.is)
 
 pub read_operand-returns-in_default-opening : goal.read_operand-returns-in_default-opening
 read_operand-returns-in_default-opening t c =
     let none : leaf_of c.opening_at-opening.result (text_at (lexemes c.args.tokens.now) c.args.at) ≡ None =
-    subst (λ (text : List ℕ). leaf_of c.opening_at-opening.result text ≡ None) c.text_at.ensures (sym c.in_ok-leaf.ensures ∙ ap (option_map tree_of) c.in_default.is) in
+    subst (λ (text : List ℕ). leaf_of c.opening_at-opening.result text ≡ None) c.text_at.ensures (sym c.in_ok-leaf.ensures ∙ c.in_default.is) in
     record {
       phrase = bad_operand (lexemes c.args.tokens.now) c.args.room c.args.at c.opening_at-opening.result c.opening_at-opening.ensures.value none c.in_default-opening.not-Name c.in_default-opening.not-Scope c.in_default-opening.not-Prefix c.in_default-opening.not-Parenthesis;
       further = tt;
@@ -35,7 +35,7 @@ read_prefixed-returns-in_err-operand-clause-phrase t c =
 
 pub read_prefixed-returns-clause-phrase : goal.read_prefixed-returns-clause-phrase
 read_prefixed-returns-clause-phrase t c =
-    prefixed_phrase (lexemes c.args.tokens.now) c.args.room c.args.at c.in_ok-operand.end c.args.op (tree_of c.in_ok-operand.operand) _ (omega arith) c.requires.prefix (ap (λ x. unary c.args.op (tree_of x)) c.in_ok-new.ensures.ok) c.in_ok-operand.ensures.phrase
+    rw c.new-2.ensures (prefixed_phrase (lexemes c.args.tokens.now) c.args.room c.args.at c.in_ok-operand.end c.args.op c.in_ok-operand.operand _ (omega arith) c.requires.prefix (ap (λ x. unary c.args.op x) c.in_ok-new.ensures.ok) c.in_ok-operand.ensures.phrase)
 
 pub read_negated-returns-then-room-eq0-clause-phrase : goal.read_negated-returns-then-room-eq0-clause-phrase
 read_negated-returns-then-room-eq0-clause-phrase t c =
@@ -48,7 +48,7 @@ read_negated-returns-in_err-operand-clause-phrase t c =
 
 pub read_negated-returns-clause-phrase : goal.read_negated-returns-clause-phrase
 read_negated-returns-clause-phrase t c =
-    negated_phrase (lexemes c.args.tokens.now) c.args.room c.args.at c.in_ok-operand.end (tree_of c.in_ok-operand.operand) _ (omega arith) c.requires.negation (ap (λ x. unary Not (tree_of x)) c.in_ok-new.ensures.ok) c.in_ok-operand.ensures.phrase
+    rw c.new-2.ensures (negated_phrase (lexemes c.args.tokens.now) c.args.room c.args.at c.in_ok-operand.end c.in_ok-operand.operand _ (omega arith) c.requires.negation (ap (λ x. unary Not x) c.in_ok-new.ensures.ok) c.in_ok-operand.ensures.phrase)
 
 pub read_enclosed-returns-then-room-eq0-clause-phrase : goal.read_enclosed-returns-then-room-eq0-clause-phrase
 read_enclosed-returns-then-room-eq0-clause-phrase t c =
@@ -61,11 +61,11 @@ read_enclosed-returns-in_err-inner-clause-phrase t c =
 
 pub read_enclosed-returns-then-closes_at-clause-phrase : goal.read_enclosed-returns-then-closes_at-clause-phrase
 read_enclosed-returns-then-closes_at-clause-phrase t c =
-    enclosed_phrase (lexemes c.args.tokens.now) c.args.room c.args.at c.in_ok-inner.end (tree_of c.in_ok-inner.inner) (omega arith) c.requires.open c.in_ok-inner.ensures.phrase (sym c.if-closes_at.ensures.value)
+    enclosed_phrase (lexemes c.args.tokens.now) c.args.room c.args.at c.in_ok-inner.end c.in_ok-inner.inner (omega arith) c.requires.open c.in_ok-inner.ensures.phrase (sym c.if-closes_at.ensures.value)
 
 pub read_enclosed-returns-else-closes_at-clause-phrase : goal.read_enclosed-returns-else-closes_at-clause-phrase
 read_enclosed-returns-else-closes_at-clause-phrase t c =
-    open_stop (lexemes c.args.tokens.now) c.args.room c.args.at c.in_ok-inner.end (tree_of c.in_ok-inner.inner) (omega arith) c.requires.open c.in_ok-inner.ensures.phrase (sym c.if-closes_at.ensures.value)
+    open_stop (lexemes c.args.tokens.now) c.args.room c.args.at c.in_ok-inner.end c.in_ok-inner.inner (omega arith) c.requires.open c.in_ok-inner.ensures.phrase (sym c.if-closes_at.ensures.value)
 
 pub read_whole-returns-else-is_negation-clause-phrase : goal.read_whole-returns-else-is_negation-clause-phrase
 read_whole-returns-else-is_negation-clause-phrase t c =
@@ -86,17 +86,17 @@ read_level-operators-init t c = record {
 pub read_level-returns-in_err-right-clause-phrase : goal.read_level-returns-in_err-right-clause-phrase
 read_level-returns-in_err-right-clause-phrase t c =
     let p = err_from_is_err_and c.from_residual-in_err-right.result c.from_residual-in_err-right.ensures.1 in
-    rw (p.1, p.2) (right_stop (lexemes c.args.tokens.now) c.args.room c.args.level c.in-Some.own c.args.at c.operators.end c.in-Some.op (tree_of c.operators.left) c.in_err-right.field-0.0 (omega arith) c.operators.invariant.part c.in-Some.ensures.value.0 c.in-Some.ensures.value.1.0 c.in-Some.ensures.value.1.1 c.in_err-right.ensures.phrase)
+    rw (p.1, p.2) (right_stop (lexemes c.args.tokens.now) c.args.room c.args.level c.in-Some.own c.args.at c.operators.end c.in-Some.op c.operators.left c.in_err-right.field-0.0 (omega arith) c.operators.invariant.part c.in-Some.ensures.value.0 c.in-Some.ensures.value.1.0 c.in-Some.ensures.value.1.1 c.in_err-right.ensures.phrase)
 
 pub read_level-operators-preserved : goal.read_level-operators-preserved
 read_level-operators-preserved t c = record {
   part =
-      joined_part (lexemes c.args.tokens.now) c.args.room c.args.level c.in-Some.own c.args.at c.operators.end _ c.in-Some.op (tree_of c.operators.left) (tree_of c.in_ok-right.right) _ _ c.operators.invariant.part c.in-Some.ensures.value.0 c.in-Some.ensures.value.1.0 c.in-Some.ensures.value.1.1 c.in_ok-right.ensures.phrase
-      (ap tree_of c.in_ok-new.ensures.ok) (ap tree_of c.in_ok-new-2.ensures.ok);
+      rw c.new-left.ensures (joined_part (lexemes c.args.tokens.now) c.args.room c.args.level c.in-Some.own c.args.at c.operators.end _ c.in-Some.op c.operators.left c.in_ok-right.right _ _ c.operators.invariant.part c.in-Some.ensures.value.0 c.in-Some.ensures.value.1.0 c.in-Some.ensures.value.1.1 c.in_ok-right.ensures.phrase
+      (ap (λ o. o.left) c.in_ok-new.ensures.ok) (ap (λ o. o.right) c.in_ok-new.ensures.ok));
   further = omega (arith, c.operators.invariant.further, c.in_ok-right.ensures.further);
   within = c.in_ok-right.ensures.inside;
 }
 
 pub read_level-returns-clause-phrase : goal.read_level-returns-clause-phrase
 read_level-returns-clause-phrase t c =
-    whole_part (lexemes c.args.tokens.now) c.args.room c.args.level c.args.at c.operators.end (tree_of c.operators.left) c.operators.invariant.part c.in_default.ensures.value
+    whole_part (lexemes c.args.tokens.now) c.args.room c.args.level c.args.at c.operators.end c.operators.left c.operators.invariant.part c.in_default.ensures.value

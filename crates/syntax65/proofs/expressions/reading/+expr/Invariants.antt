@@ -1,5 +1,4 @@
 use Rattle.std.proofs.Common.{◌≤◌, ◌<◌, length, ◌+◌, ◌-◌, ◌*◌}
-use Rattle.syntax65.specs.Trees.{tree_of}
 use Rattle.syntax65.specs.Tokens.{lexemes}
 use Rattle.syntax65.proofs.Phrases.{IsPart}
 use Rattle.syntax65.proofs.expressions.reading.+expr.Given as goal
@@ -24,7 +23,7 @@ decreases-read_whole l = 16 * l.room + 9
 
 abbrev pub invariant-read_level-operators : goal.invariant-read_level-operators
 invariant-read_level-operators l = record {
-  part : IsPart (lexemes l.tokens) l.room l.level l.at l.end (tree_of l.left);
+  part : IsPart (lexemes l.tokens) l.room l.level l.at l.end l.left;
   further : l.at < l.end;
   within : l.end ≤ length l.tokens;
 }

@@ -9,4 +9,4 @@ returns-in_err-parts-clause-phrase c =
     rw (p.1, p.2) (global_stop (lexemes c.args.tokens.now) c.args.room c.args.at c.in_err-parts.field-0.0 c.requires.scope c.in_err-parts.ensures.parts)
 
 pub returns-clause-phrase : goal.returns-clause-phrase
-returns-clause-phrase c = global_phrase (lexemes c.args.tokens.now) c.args.room c.args.at c.in_ok-parts.end c.in_ok-parts.parts c.requires.scope c.in_ok-parts.ensures.parts
+returns-clause-phrase c = rw c.new.ensures (global_phrase (lexemes c.args.tokens.now) c.args.room c.args.at c.in_ok-parts.end c.in_ok-parts.parts c.requires.scope c.in_ok-parts.ensures.parts)

@@ -4,7 +4,6 @@ use Rattle.std.specs.List.{flat_map}
 use Rattle.base65.specs.Outcome.{◌>>=◌, each}
 use Rattle.syntax65.specs.Opcodes.{opcode_of}
 use Rattle.syntax65.specs.Trees.{Tree}
-use Rattle.syntax65.specs.declared.instructions.codes.Mode.{Mode}
 use Rattle.syntax65.specs.declared.instructions.names.Mnemonic.{Mnemonic}
 use Rattle.object65.specs.Folding.{fold2}
 use Rattle.object65.specs.Form.{Form, lit, sec}
@@ -21,7 +20,7 @@ use Rattle.language65.specs.declared.fault.AsmFault.TheVariants.{OutOfRange, Imp
 use Rattle.language65.specs.Language.{Item, value, text, Operand, immediate, address, indirect, indirect_x, indirect_y, Stated, constant, instruction, values, reserve, align, file_part, imports, exports, globals, forced, assertion}
 use Rattle.language65.specs.Laid.{Laid, asks_section}
 use Rattle.language65.specs.declared.laid.Settled.{Settled}
-use Rattle.language65.specs.declared.laid.Settled.TheVariants.{Unsettled, InMode, FilledWith, FromByte}
+use Rattle.language65.specs.declared.laid.Settled.TheVariants.{InMode, FilledWith, FromByte}
 use Rattle.language65.specs.declared.laid.Spot.{Spot}
 use Rattle.language65.specs.Symbols.{Symbols, named, defined}
 use Rattle.language65.specs.Norms.{defined_form, folded, norm_of}

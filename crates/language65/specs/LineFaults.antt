@@ -8,7 +8,7 @@ use Rattle.object65.specs.Objects.{section_limit}
 use Rattle.language65.specs.declared.contents.Segment.{Segment}
 use Rattle.language65.specs.declared.fault.AsmFault.{AsmFault}
 use Rattle.language65.specs.declared.fault.AsmFault.TheVariants.{NotUnderstood, NoSuchForm, DefinedTwice, SectionTooLarge, NoSuchScope, ScopeTwice, BadAlignment, PopWithoutPush, BadOperand, BadPart, SizeChanged, BadScope, FileNotFound}
-use Rattle.language65.specs.Language.{Item, value, text, Operand, no_operand, accumulator, immediate, address, indirect, indirect_x, indirect_y, Stated, cheap_label, constant, instruction, values, reserve, align, file_part, segment, pop_segment, open_scope, open_proc, close_scope, close_proc, imports, exports, globals, forced, assertion}
+use Rattle.language65.specs.Language.{Item, value, text, Operand, no_operand, accumulator, immediate, address, indirect, indirect_x, indirect_y, Stated, constant, instruction, values, reserve, align, file_part, segment, pop_segment, open_scope, open_proc, close_scope, close_proc, imports, exports, globals, forced, assertion}
 use Rattle.language65.specs.declared.laid.Spot.{Spot}
 use Rattle.language65.specs.Symbols.{Symbols, Scope, Key, named, cheap_in, unnamed_at, defined, key_defined}
 use Rattle.language65.specs.Names.{scope_in, scope_from, scopes_of, shown}

@@ -6,7 +6,7 @@ use Rattle.syntax65.specs.Trees.{Tree, name, cheap, forward, backward}
 use Rattle.language65.specs.declared.fault.AsmFault.{AsmFault}
 use Rattle.language65.specs.declared.fault.AsmFault.TheVariants.{Undefined, NoSuchScope, NoSuchLabel}
 use Rattle.language65.specs.declared.laid.Spot.{Spot}
-use Rattle.language65.specs.Symbols.{Symbols, Scope, Key, named, cheap_in, unnamed_at, defined, imported}
+use Rattle.language65.specs.Symbols.{Symbols, Scope, named, cheap_in, unnamed_at, defined, imported}
 
 -- what a name means
 pub data Meaning : Type 0 where

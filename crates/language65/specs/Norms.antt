@@ -1,5 +1,5 @@
 -- Normal forms of expressions by a symbol table, and what is constant there.
-use Rattle.std.specs.Prelude.{ℕ, zero, suc, ℤ, pos, List, length, Option, Some, None, slice_get, Result, Ok, Err}
+use Rattle.std.specs.Prelude.{ℕ, zero, suc, ℤ, pos, length, Option, Some, None, slice_get, Result, Ok, Err}
 use Rattle.base65.specs.Outcome.{◌>>=◌}
 use Rattle.syntax65.specs.Trees.{Tree, number, here, unary, binary}
 use Rattle.object65.specs.Form.{Form, lit, sec, imp}

@@ -1,7 +1,11 @@
 //! The statements of the language, as they are behind expansion.
 
+ghost use Rattle.std.specs.Prelude.{◌≡◌, None, Some, IfOk, option_map};
+
 use base65::Sequence;
 use object65::{Action, Width};
+use std::alloc::{AllocError, Global};
+use std::marker::Model;
 use syntax65::{AddressSize, Expr, Mnemonic};
 
 /// An element of a list of data.
@@ -40,14 +44,53 @@ pub enum Operand {
     IndirectY(Expr),
 }
 
-/// What is taken of a file: from a byte on, so many. By default all from the first byte on.
+/// An expression that may be left out, which contracts see without its box.
 #[derive(Drop)]
-pub struct PartRange {
-    pub start: Option<Expr>,
-    pub len: Option<Expr>,
+pub struct OptionalExpr {
+    expr: Option<Box<Expr>>,
 }
 
-/// A statement. What is large and rare is boxed, since each line's statement is moved several times.
+impl Model for OptionalExpr {
+    ghost use Rattle.std.specs.Prelude.{Option, box_value, option_map};
+    ghost use Rattle.std.specs.Coded.{coded_option};
+    ghost use Rattle.syntax65.specs.Trees.{Tree, tree_code};
+
+    ghost Value = { Option Tree };
+
+    ghost coded = { coded_option tree_code };
+
+    ghost view = { λ e. option_map (λ b. b.value) e.expr };
+}
+
+impl OptionalExpr {
+    /// No expression.
+    pub fn none() -> Self
+        ensures { result ≡ None }
+    {
+        OptionalExpr { expr: None }
+    }
+
+    /// This expression.
+    pub fn some(alloc: Global, expr: Expr) -> Result<Self, AllocError>
+        ensures { IfOk result (λ e. e ≡ Some expr) }
+    {
+        Ok(OptionalExpr {
+            expr: Some(Box::new(alloc, expr)?),
+        })
+    }
+
+    /// The expression, if there is one.
+    pub fn get(&self) -> Option<&Expr>
+        ensures { option_map (λ e. e.now) result ≡ self.now }
+    {
+        match &self.expr {
+            Some(expr) => Some(expr),
+            None => None,
+        }
+    }
+}
+
+/// A statement.
 #[derive(Drop)]
 pub enum Statement {
     /// `name:`
@@ -73,22 +116,24 @@ pub enum Statement {
     /// `.res n[,v]`
     Reserve {
         count: Expr,
-        value: Option<Expr>,
+        value: OptionalExpr,
     },
     /// `.align n[,v]`
     Align {
         multiple: Expr,
-        value: Option<Expr>,
+        value: OptionalExpr,
     },
     /// `.incbin` with the name of its file, as it is read.
     NamedPart {
         name: Sequence<u8>,
-        range: Box<PartRange>,
+        start: OptionalExpr,
+        len: OptionalExpr,
     },
     /// `.incbin` with the bytes of its file, if there is one.
     FilePart {
         bytes: Option<Sequence<u8>>,
-        range: Box<PartRange>,
+        start: OptionalExpr,
+        len: OptionalExpr,
     },
     /// `.segment "N"`, perhaps with an address size; `.code` and the like.
     Segment {

@@ -1,6 +1,5 @@
 use Rattle.std.proofs.Common.{arith, ◌≡◌, sym, ap, ◌∙◌, None, IsTrue, false, List, ℕ, subst}
 use Rattle.std.proofs.lemmas.Result.{err_from_is_err_and}
-use Rattle.std.specs.Option.{option_map}
 use Rattle.syntax65.specs.Tokens.{lexemes}
 use Rattle.syntax65.specs.Expressions.{leaf_of, text_at}
 use Rattle.syntax65.specs.Trees.{unary}

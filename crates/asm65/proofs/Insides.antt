@@ -2,7 +2,7 @@
 use Rattle.std.proofs.Common.{◌≡◌, ℕ, zero, suc, ℤ, pos, Bool, true, false, refl, List, [], ◌∷◌, ◌+◌, length, take, Option, Some, None, slice_get}
 use Rattle.std.specs.Prelude.{Result, Ok, Err, IfErr, ◌-◌, nat_le, nat_lt, ◌&&◌, if◌then◌else◌}
 use Rattle.base65.specs.Outcome.{◌>>=◌, Gives, Unless}
-use Rattle.syntax65.specs.Trees.{Tree, number, here, name, cheap, forward, backward, unary, binary, tree_of}
+use Rattle.syntax65.specs.Trees.{Tree, number, here, name, cheap, forward, backward, unary, binary}
 use Rattle.syntax65.specs.declared.lexing.tokens.AddressSize.{AddressSize}
 use Rattle.source65.specs.declared.place.Place.{Place}
 use Rattle.source65.specs.declared.fault.ExpandFault.TheVariants as expand
@@ -192,10 +192,10 @@ inside_valued : (y : Symbols) (place : Place) (s : Spot) (why : Purpose) (e : Tr
 inside_valued y place s why e = inside_then (norm_of y s e) (used place s why) (inside_norm_of y s e) (inside_used place s why)
 
 inside_coming : (y : Symbols) (place : Place) (s : Spot) (p : Piece) → IsInside (coming y place s p)
-inside_coming y place s (Datum w e) = inside_valued y place s (piece.datum w) (tree_of e)
-inside_coming y place s (Operand w e) = inside_valued y place s (piece.operand w) (tree_of e)
+inside_coming y place s (Datum w e) = inside_valued y place s (piece.datum w) e
+inside_coming y place s (Operand w e) = inside_valued y place s (piece.operand w) e
 inside_coming y place s (Constant at) = inside_then (defined_form y at) (used place s piece.equated) (inside_defined y at) (inside_used place s piece.equated)
-inside_coming y place s (Assertion act words e) = inside_valued y place s (piece.asserted act words) (tree_of e)
+inside_coming y place s (Assertion act words e) = inside_valued y place s (piece.asserted act words) e
 inside_coming y place s (Import n) = inside_said (import_fault y n) (inside_import y n)
 inside_coming y place s (Demand n) = tt
 inside_coming y place s (Export must n) = inside_said (export_said y place n (absent_of must n) (defined y (named 0 n))) (inside_export y place n must (defined y (named 0 n)))

@@ -12,7 +12,7 @@ use Rattle.language65.specs.declared.language.PartRange.{PartRange}
 use Rattle.language65.specs.declared.language.Statement.{Statement}
 use Rattle.language65.specs.declared.language.Statement.TheVariants.{FilePart, NamedPart}
 use Rattle.language65.specs.Language.{file_part}
-use Rattle.language65.specs.Views.{place_in, range_of, stated_of}
+use Rattle.language65.specs.Views.{place_in}
 use Rattle.asm65.specs.Inner.Files.{read_bytes}
 
 named : (m : Files) (name text : List ℕ) → Some text ≡ as_text name → file_named m name ≡ fmap.get m text
@@ -53,7 +53,7 @@ pub read_none : (m : Files) (name text : List ℕ) (most : ℕ) → Some text �
 read_none m name text most e h = front_none (fmap.get m text) most h ∙ ap (option_map (take most)) (sym (named m name text e))
 
 -- a statement with what was read of its file
-pub part_read : (m : Files) (file name slice : List ℕ) (line : ℕ) (bytes : Option (List ℕ)) (range : Box PartRange Global) (x : Statement) → x ≡ NamedPart name range → slice ≡ name → bytes ≡ option_map (take 16777217) (file_named m (beside file slice)) → stated_of (FilePart bytes range) ≡ read_bytes m (place_in file line) (stated_of x)
+pub part_read : (m : Files) (file name slice : List ℕ) (line : ℕ) (bytes : Option (List ℕ)) (range : Box PartRange Global) (x : Statement) → x ≡ NamedPart name range → slice ≡ name → bytes ≡ option_map (take 16777217) (file_named m (beside file slice)) → (FilePart bytes range) ≡ read_bytes m (place_in file line) x
 part_read m file name slice line bytes range x is same read =
-    ap (λ b. file_part b (range_of (box_value range)).0 (range_of (box_value range)).1) (read ∙ ap (λ n. option_map (take 16777217) (file_named m (beside file n))) same)
-    ∙ sym (ap (λ (s : Statement). read_bytes m (place_in file line) (stated_of s)) is)
+    ap (λ b. file_part b ((box_value range)).0 ((box_value range)).1) (read ∙ ap (λ n. option_map (take 16777217) (file_named m (beside file n))) same)
+    ∙ sym (ap (λ (s : Statement). read_bytes m (place_in file line) s) is)

@@ -7,7 +7,7 @@ ghost use Rattle.expand65.specs.Includes.{beside, file_named};
 ghost use Rattle.source65.specs.declared.place.Place.{Place};
 ghost use Rattle.language65.specs.declared.fault.AsmFault.TheVariants.{FileError};
 ghost use Rattle.language65.specs.Faults.{is_failure, is_outside};
-ghost use Rattle.language65.specs.Views.{place_in, stated_of};
+ghost use Rattle.language65.specs.Views.{place_in};
 ghost use Rattle.module65.specs.Machine.{State};
 ghost use Rattle.asm65.specs.Inner.Files.{IsRefusedUnread, read_bytes};
 ghost use Rattle.asm65.specs.Inner.Holding.{Holds};
@@ -55,7 +55,6 @@ impl Assembler {
     ghost use Rattle.base65.specs.Outcome.{Gives};
     ghost use Rattle.language65.specs.Faults.{is_memory};
     ghost use Rattle.language65.specs.LineFaults.{unless_fault};
-    ghost use Rattle.language65.specs.Views.{range_of};
     ghost use Rattle.layout65.specs.Measuring.{unread_fault};
 
     /// Refuses a part of a file for what is wrong with it whatever the file has.
@@ -64,7 +63,7 @@ impl Assembler {
         requires { IsHeld self.old }
         ensures checked { (count : ℕ) (t : State) → Holds count t self.old →
             Gives is_memory (λ u. u) result (unless_fault (unread_fault t.symbols t.standing
-            (range_of range.now).0 (range_of range.now).1) tt) }
+            (range.now).0 (range.now).1) tt) }
         ensures held { (count : ℕ) (t : State) → Holds count t self.old →
             OnOk result (Holds count t self.new) }
         ensures texts { self.new.texts ≡ self.old.texts }
@@ -89,13 +88,13 @@ fn with_bytes<S: Store>(
     statement: Statement,
 ) -> Result<Statement, AsmFault>
     requires { IsHeld assembler.old }
-    ensures bytes { IfSome (S.files store.old) (λ m. IfOk result (λ x. stated_of x ≡ read_bytes m
-        (place_in at.entry.file.now at.entry.line) (stated_of statement))) }
+    ensures bytes { IfSome (S.files store.old) (λ m. IfOk result (λ x. x ≡ read_bytes m
+        (place_in at.entry.file.now at.entry.line) statement)) }
     ensures held { (count : ℕ) (t : State) → Holds count t assembler.old →
         OnOk result (Holds count t assembler.new) }
     ensures refused { (count : ℕ) (t : State) → Holds count t assembler.old → IfErr result
         (IsRefusedUnread (S.blamed store.new) t (place_in at.entry.file.now at.entry.line)
-        (stated_of statement)) }
+        statement) }
     ensures texts { assembler.new.texts ≡ assembler.old.texts }
     ensures failed { IfErr result (λ e. is_failure e ≡ true → e ≡ FileError) }
     ensures files { S.files store.new ≡ S.files store.old }
@@ -115,7 +114,7 @@ fn with_bytes<S: Store>(
 #[inline(always)]
 fn names_file(statement: &Statement) -> bool
     ensures { result ≡ false → (m : Files) (place : Place) →
-        stated_of statement.now ≡ read_bytes m place (stated_of statement.now) }
+        statement.now ≡ read_bytes m place statement.now }
 {
     matches!(statement, Statement::NamedPart { name: _, range: _ })
 }
@@ -130,13 +129,13 @@ pub fn read_part<S: Store>(
     statement: &mut Statement,
 ) -> Result<(), AsmFault>
     requires { IsHeld assembler.old }
-    ensures bytes { IfSome (S.files store.old) (λ m. OnOk result (stated_of statement.new ≡
-        read_bytes m (place_in at.entry.file.now at.entry.line) (stated_of statement.old))) }
+    ensures bytes { IfSome (S.files store.old) (λ m. OnOk result (statement.new ≡
+        read_bytes m (place_in at.entry.file.now at.entry.line) statement.old)) }
     ensures held { (count : ℕ) (t : State) → Holds count t assembler.old →
         OnOk result (Holds count t assembler.new) }
     ensures refused { (count : ℕ) (t : State) → Holds count t assembler.old → IfErr result
         (IsRefusedUnread (S.blamed store.new) t (place_in at.entry.file.now at.entry.line)
-        (stated_of statement.old)) }
+        statement.old) }
     ensures texts { assembler.new.texts ≡ assembler.old.texts }
     ensures failed { IfErr result (λ e. is_failure e ≡ true → e ≡ FileError) }
     ensures files { S.files store.new ≡ S.files store.old }

@@ -7,7 +7,7 @@ ghost use Rattle.expand65.specs.Standing.{stated};
 ghost use Rattle.language65.specs.declared.fault.AsmFault.TheVariants.{NotUnderstood};
 ghost use Rattle.language65.specs.Faults.{is_failure};
 ghost use Rattle.language65.specs.Sound.{AreNamed, IsSound};
-ghost use Rattle.language65.specs.Views.{place_in, stated_of};
+ghost use Rattle.language65.specs.Views.{place_in};
 ghost use Rattle.module65.specs.Machine.{Takes};
 ghost use Rattle.module65.specs.Reading.{IsGiven, IsLabel, IsLabelled, IsRest};
 ghost use Rattle.reader65.specs.Kept.{tokens_in};
@@ -47,8 +47,8 @@ fn take_sound(
     statement: Statement,
 ) -> Result<(), AsmFault>
     requires { IsRoomy 1 assembler.old }
-    ensures taken { TakesBy (IsSound (stated_of statement)) (λ t. Takes t
-        (place_in at.entry.file.now at.entry.line) (stated_of statement))
+    ensures taken { TakesBy (IsSound statement) (λ t. Takes t
+        (place_in at.entry.file.now at.entry.line) statement)
         1 assembler.old assembler.new result }
     ensures inside { IfErr result (λ e. is_failure e ≡ false) }
 {
@@ -93,8 +93,8 @@ fn take_front(
     label: Option<Statement>,
 ) -> Result<(), AsmFault>
     requires { IsRoomy 1 assembler.old }
-    ensures taken { TakesBy (IsSoundIf (option_map stated_of label)) (λ t. IsLabelled Takes t
-        (place_in at.entry.file.now at.entry.line) (option_map stated_of label))
+    ensures taken { TakesBy (IsSoundIf label) (λ t. IsLabelled Takes t
+        (place_in at.entry.file.now at.entry.line) label)
         1 assembler.old assembler.new result }
     ensures inside { IfErr result (λ e. is_failure e ≡ false) }
 {

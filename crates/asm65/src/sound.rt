@@ -4,7 +4,6 @@ ghost use Rattle.std.specs.Prelude.{◌≡◌, true};
 ghost use Rattle.std.specs.List.{list_all};
 ghost use Rattle.object65.specs.Objects.{is_name, is_printed};
 ghost use Rattle.language65.specs.Sound.{IsSound};
-ghost use Rattle.language65.specs.Views.{stated_of};
 
 use base65::Sequence;
 use language65::Statement;
@@ -34,8 +33,8 @@ fn are_names(names: &[Sequence<u8>]) -> bool
 
 /// Whether objects can hold what a statement hands to them.
 pub fn is_sound(statement: &Statement) -> bool
-    ensures sound { result ≡ true → IsSound (stated_of statement.now) }
-    ensures all { IsSound (stated_of statement.now) → result ≡ true }
+    ensures sound { result ≡ true → IsSound statement.now }
+    ensures all { IsSound statement.now → result ≡ true }
 {
     match statement {
         Statement::Segment { name, size: _ } => is_name(name.as_slice()),

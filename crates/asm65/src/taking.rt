@@ -29,7 +29,7 @@ fn refused(_statement: Statement, fault: AsmFault) -> Result<(), AsmFault>
 impl Assembler {
     ghost use Rattle.std.specs.Prelude.{◌+◌, ◌<◌, ℕ, IfErr, IfOk, OnOk, false};
     ghost use Rattle.language65.specs.Faults.{is_failure, is_outside};
-    ghost use Rattle.language65.specs.Views.{operand_of, place_in, stated_of};
+    ghost use Rattle.language65.specs.Views.{place_in};
     ghost use Rattle.layout65.specs.Counting.{opened_by, opening_limit};
     ghost use Rattle.module65.specs.Machine.{State, Takes, symbols_behind};
     ghost use Rattle.module65.specs.Pieces.{instruction_pieces, pieces_of};
@@ -43,7 +43,7 @@ impl Assembler {
     /// A statement asks for its section, where it asks for one.
     #[inline(always)]
     fn ask(&mut self, segment: u32, statement: &Statement) -> Result<(), AllocError>
-        ensures asked { OnOk result (Asks segment (stated_of statement.now) self.old self.new) }
+        ensures asked { OnOk result (Asks segment statement.now self.old self.new) }
         ensures tables { KeepsTables self.old self.new }
     {
         if asks_section(statement) {
@@ -64,7 +64,7 @@ impl Assembler {
     ) -> Result<(), AllocError>
         ensures { OnOk result (Enters
             (place_in stand.entry.at.file.now stand.entry.at.line) stand.entry.spot
-            (instruction_pieces mnemonic (operand_of operand) settled)
+            (instruction_pieces mnemonic operand settled)
             self.old self.new) }
     {
         match settled {
@@ -84,11 +84,11 @@ impl Assembler {
         statement: Statement,
     ) -> Result<(), AllocError>
         requires known { IsTable (table_of self.old.symbols) self.old.known.states.items }
-        requires new { IsNew (table_of self.old.symbols) stand.spot (stated_of statement) }
+        requires new { IsNew (table_of self.old.symbols) stand.spot statement }
         ensures { OnOk result (let place = place_in stand.entry.at.file.now stand.entry.at.line in
             let s = stand.entry.spot in let m = measured in
-            Turns place s (pieces_of m.length m.settled (stated_of statement))
-            (λ y. symbols_behind y (laid_as place s m (stated_of statement)))
+            Turns place s (pieces_of m.length m.settled statement)
+            (λ y. symbols_behind y (laid_as place s m statement))
             self.old self.new) }
     {
         let Stand { at: _, spot } = stand;
@@ -170,11 +170,11 @@ impl Assembler {
         statement: Statement,
     ) -> Result<(), AllocError>
         requires known { IsTable (table_of self.old.symbols) self.old.known.states.items }
-        requires new { IsNew (table_of self.old.symbols) stand.spot (stated_of statement) }
+        requires new { IsNew (table_of self.old.symbols) stand.spot statement }
         ensures { OnOk result (let place = place_in stand.entry.at.file.now stand.entry.at.line in
             let s = stand.entry.spot in let m = measured in
-            Turns place s (pieces_of m.length m.settled (stated_of statement))
-            (λ y. symbols_behind y (laid_as place s m (stated_of statement)))
+            Turns place s (pieces_of m.length m.settled statement)
+            (λ y. symbols_behind y (laid_as place s m statement))
             self.old self.new) }
     {
         match statement {
@@ -196,17 +196,17 @@ impl Assembler {
     ) -> Result<Placed, AsmFault>
         requires { IsHeld self.old }
         ensures placed { (count : ℕ) (t : State) → Holds count t self.old → IfOk result (λ p.
-            IsPlaced t (stated_of statement.now) p.spot p.measured) }
+            IsPlaced t statement.now p.spot p.measured) }
         ensures holds { (count : ℕ) (t : State) → Holds count t self.old → OnOk result
-            (Holds (count + opened_by (stated_of statement.now))
-            (stepped t (place_in at.entry.file.now at.entry.line) (stated_of statement.now))
+            (Holds (count + opened_by statement.now)
+            (stepped t (place_in at.entry.file.now at.entry.line) statement.now)
             self.new) }
         ensures refused { (count : ℕ) (t : State) → Holds count t self.old → IfErr result
-            (IsRefused t (stated_of statement.now)) }
+            (IsRefused t statement.now) }
         ensures known { OnOk result
             (IsTable (table_of self.new.symbols) self.new.known.states.items) }
         ensures new { IfOk result (λ p.
-            IsNew (table_of self.new.symbols) p.spot (stated_of statement.now)) }
+            IsNew (table_of self.new.symbols) p.spot statement.now) }
         ensures texts { IfErr result (λ e. is_outside e ≡ false → self.new.texts ≡ self.old.texts) }
         ensures inside { IfErr result (λ e. is_failure e ≡ false) }
     {
@@ -227,8 +227,8 @@ impl Assembler {
     pub fn take(&mut self, alloc: Global, at: At<'_>, statement: Statement) -> Result<(), AsmFault>
         requires { IsHeld self.old }
         ensures taken { (count : ℕ) (t : State) → Holds count t self.old → count < opening_limit →
-            Answers (Takes t (place_in at.entry.file.now at.entry.line) (stated_of statement))
-            (λ u. Holds (count + opened_by (stated_of statement)) u self.new) result }
+            Answers (Takes t (place_in at.entry.file.now at.entry.line) statement)
+            (λ u. Holds (count + opened_by statement) u self.new) result }
         ensures texts { IfErr result (λ e. is_outside e ≡ false → self.new.texts ≡ self.old.texts) }
         ensures inside { IfErr result (λ e. is_failure e ≡ false) }
     {

@@ -1,7 +1,7 @@
 //! What is said while a source is assembled.
 
 ghost use Rattle.std.specs.Prelude.{◌≡◌, ◌++◌, [], codes, OnOk};
-ghost use Rattle.language65.specs.Views.{place_in, stated_of};
+ghost use Rattle.language65.specs.Views.{place_in};
 ghost use Rattle.module65.specs.Module.{out_of, warning_at, warning_of};
 
 use base65::Sequence;
@@ -30,10 +30,10 @@ impl Texts {
 
     /// Adds what a statement prints.
     pub fn say(&mut self, at: At<'_>, statement: &Statement) -> Result<(), AllocError>
-        ensures out { OnOk result (self.new.out ≡ self.old.out ++ out_of (stated_of statement.now)) }
+        ensures out { OnOk result (self.new.out ≡ self.old.out ++ out_of statement.now) }
         ensures err { OnOk result (self.new.err ≡
             self.old.err ++ warning_of (place_in at.entry.file.now at.entry.line)
-            (stated_of statement.now)) }
+            statement.now) }
     {
         match statement {
             Statement::Out(words) => add_line(&mut self.out, words.as_slice()),

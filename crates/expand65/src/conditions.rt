@@ -4,7 +4,7 @@ ghost use Rattle.std.specs.Prelude.{◌≡◌, ◌∷◌, [], false, length, IfE
 ghost use Rattle.syntax65.specs.Expressions.{IsParsed};
 ghost use Rattle.base65.specs.Relations.{Answers};
 ghost use Rattle.syntax65.specs.Tokens.{lexemes};
-ghost use Rattle.syntax65.specs.Trees.{Tree, tree_of};
+ghost use Rattle.syntax65.specs.Trees.{Tree};
 ghost use Rattle.syntax65.specs.declared.expressions.fault.ExprFault.{ExprFault};
 ghost use Rattle.expand65.specs.Conditions.{IsCondition, begins_enclosed, defined_tree, popped, truth, whole};
 ghost use Rattle.source65.specs.Faults.{is_failure, is_outside};
@@ -20,7 +20,7 @@ use syntax65::{Expr, Token, read_expr};
 
 /// An expression of all the tokens.
 pub fn expression(alloc: Global, tokens: &[Token<'_>]) -> Result<Expr, ExpandFault>
-    ensures value { Answers is_outside tree_of result
+    ensures value { Answers is_outside (λ x. x) result
         (λ r. (q : Result (Tree × ℕ) ExprFault) × IsParsed (lexemes tokens.now) q ×
         (r ≡ whole (length (lexemes tokens.now)) q)) }
     ensures inside { IfErr result (λ e. is_failure e ≡ false) }
@@ -64,7 +64,7 @@ fn begins_enclosed(tokens: &[Token<'_>]) -> bool
 
 /// Whether an expression that is a name is that of a label or constant.
 fn is_defined_name<K: Knows>(knows: &K, expr: &Expr) -> Result<bool, ExpandFault>
-    ensures { result ≡ defined_tree (K.meaning knows.now) (tree_of expr.now) }
+    ensures { result ≡ defined_tree (K.meaning knows.now) expr.now }
 {
     match expr {
         Expr::Name(name) => Ok(knows.defined(name)),

@@ -1,7 +1,6 @@
 //! What is known of names and expressions at a line.
 
 ghost use Rattle.std.specs.Prelude.{◌≡◌, IfOk};
-ghost use Rattle.syntax65.specs.Trees.{tree_of};
 ghost use Rattle.expand65.specs.Meaning.{Meaning};
 
 use std::alloc::{AllocError, Global};
@@ -14,7 +13,7 @@ pub trait Knows {
 
     /// The value of an expression where it is constant.
     fn value(&self, alloc: Global, expr: &Expr) -> Result<Option<i64>, AllocError>
-        ensures { IfOk result (λ v. v ≡ (meaning self.now).value (tree_of expr.now)) };
+        ensures { IfOk result (λ v. v ≡ (meaning self.now).value expr.now) };
 
     /// Whether a name is that of a label or constant so far.
     fn defined(&self, name: &Name) -> bool

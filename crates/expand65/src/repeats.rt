@@ -6,7 +6,7 @@ ghost use Rattle.base65.specs.Outcome.{Gives};
 ghost use Rattle.base65.specs.Relations.{Answers};
 ghost use Rattle.base65.specs.Store.{Passes};
 ghost use Rattle.syntax65.specs.Tokens.{lexemes};
-ghost use Rattle.syntax65.specs.Trees.{Tree, tree_of};
+ghost use Rattle.syntax65.specs.Trees.{Tree};
 ghost use Rattle.syntax65.specs.declared.expressions.fault.ExprFault.{ExprFault};
 ghost use Rattle.source65.specs.Faults.{is_failure, is_outside};
 ghost use Rattle.expand65.specs.Failing.{FailsAtRepeat, FailsRepeating};
@@ -66,7 +66,7 @@ fn variable_of(alloc: Global, tokens: &[Token<'_>]) -> Result<IndexSet<Vec<u8>>,
 
 /// The expression of a count, and the variable, if there is one.
 fn header_of(alloc: Global, tokens: &[Token<'_>]) -> Result<Header, ExpandFault>
-    ensures header { Answers is_outside (λ h. (tree_of h.count, map (λ k. k.items) h.variable.keys))
+    ensures header { Answers is_outside (λ h. (h.count, map (λ k. k.items) h.variable.keys))
         result (λ r. (q : Result (Tree × ℕ) ExprFault) × IsParsed (lexemes tokens.now) q ×
         (r ≡ repeat_header (lexemes tokens.now) q)) }
     ensures inside { IfErr result (λ e. is_failure e ≡ false) }

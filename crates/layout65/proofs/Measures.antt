@@ -18,7 +18,6 @@ use Rattle.language65.specs.declared.language.Item.{Item}
 use Rattle.language65.specs.declared.laid.Settled.{Settled}
 use Rattle.language65.specs.Symbols.{Scope, Symbols, key_defined}
 use Rattle.language65.specs.Language as l
-use Rattle.language65.specs.Views.{item_of}
 use Rattle.language65.proofs.Lists.{drop_mapped, map_length}
 use Rattle.object65.specs.Objects.{section_limit}
 use Rattle.syntax65.specs.declared.lexing.tokens.AddressSize.TheVariants.{Absolute}
@@ -60,8 +59,8 @@ first_item cs scope (l.value e) items = sym (or_none (lost_scope cs scope e) (lo
 first_item cs scope (l.text bytes) items = refl
 
 -- what the items from a place on are refused for
-pub items_lost : (cs : List Scope) (scope : ℕ) (items : List Item) (i : ℕ) (item : Item) → i < length items → item ≡ get_or items i item → lost_scopes cs scope (item_trees (drop i (map item_of items))) ≡ or_then (lost_scopes cs scope (item_trees (item_of item ∷ []))) (lost_scopes cs scope (item_trees (drop (i + 1) (map item_of items))))
-items_lost cs scope items i item lt e = rw add-one (ap (λ is. lost_scopes cs scope (item_trees is)) (drop_mapped item_of items i item lt e) ∙ first_item cs scope (item_of item) (drop (suc i) (map item_of items)))
+pub items_lost : (cs : List Scope) (scope : ℕ) (items : List Item) (i : ℕ) (item : Item) → i < length items → item ≡ get_or items i item → lost_scopes cs scope (item_trees (drop i items)) ≡ or_then (lost_scopes cs scope (item_trees (item ∷ []))) (lost_scopes cs scope (item_trees (drop (i + 1) items)))
+items_lost cs scope items i item lt e = rw add-one (ap (λ is. lost_scopes cs scope (item_trees is)) (drop_mapped items i item lt e) ∙ first_item cs scope item (drop (suc i) items))
 
 -- ---- What a section has room for.
 
@@ -84,11 +83,11 @@ no_segment (f ∷ gs) (suc i) h = no_segment gs i (omega arith)
 -- ---- Lengths of lists.
 
 -- how many bytes the items from a place on take
-pub items_left : (width : Width) (items : List Item) (i : ℕ) (item : Item) → i < length items → item ≡ get_or items i item → sum_by (item_len width) (drop i (map item_of items)) ≡ item_len width (item_of item) + sum_by (item_len width) (drop (i + 1) (map item_of items))
-items_left width items i item lt e = rw add-one (ap (sum_by (item_len width)) (drop_mapped item_of items i item lt e) ∙ sum_by-cons (item_len width) (item_of item) (drop (suc i) (map item_of items)))
+pub items_left : (width : Width) (items : List Item) (i : ℕ) (item : Item) → i < length items → item ≡ get_or items i item → sum_by (item_len width) (drop i items) ≡ item_len width item + sum_by (item_len width) (drop (i + 1) items)
+items_left width items i item lt e = rw add-one (ap (sum_by (item_len width)) (drop_mapped items i item lt e) ∙ sum_by-cons (item_len width) item (drop (suc i) items))
 
-pub none_left : (width : Width) (items : List Item) (i : ℕ) → length items ≤ i → sum_by (item_len width) (drop i (map item_of items)) ≡ 0
-none_left width items i le = ap (sum_by (item_len width)) (drop_all i (map item_of items) (let e : length (map item_of items) ≡ length items = map_length item_of items in omega (arith, e)))
+pub none_left : (width : Width) (items : List Item) (i : ℕ) → length items ≤ i → sum_by (item_len width) (drop i items) ≡ 0
+none_left width items i le = ap (sum_by (item_len width)) (drop_all i items (let e : length (map items) ≡ length items = map_length items in omega (arith, e)))
 
 -- ---- Room.
 

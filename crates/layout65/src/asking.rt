@@ -1,16 +1,14 @@
 //! Which statements ask for a section.
 
 ghost use Rattle.std.specs.Prelude.{◌≡◌};
-ghost use Rattle.syntax65.specs.Trees.{tree_of};
 ghost use Rattle.language65.specs.Laid.{asks_section, has_here};
-ghost use Rattle.language65.specs.Views.{stated_of};
 
 use language65::Statement;
 use syntax65::Expr;
 
 /// Whether an expression has a `*`.
 fn has_here(value: &Expr) -> bool
-    ensures { result ≡ has_here (tree_of value.now) }
+    ensures { result ≡ has_here value.now }
 {
     match value {
         Expr::Here => true,
@@ -22,7 +20,7 @@ fn has_here(value: &Expr) -> bool
 
 /// Whether a statement asks for a section of the segment in which it stands.
 pub fn asks_section(statement: &Statement) -> bool
-    ensures { result ≡ asks_section (stated_of statement.now) }
+    ensures { result ≡ asks_section statement.now }
 {
     match statement {
         Statement::Label(_)

@@ -15,7 +15,6 @@ ghost use Rattle.object65.specs.Objects.{section_limit};
 ghost use Rattle.language65.specs.Faults.{is_memory};
 ghost use Rattle.language65.specs.declared.laid.Settled.TheVariants.{Unsettled};
 ghost use Rattle.language65.specs.Layout.{own_size, spot_of};
-ghost use Rattle.language65.specs.Views.{stated_of};
 ghost use Rattle.language65.specs.LineFaults.{unless_fault};
 ghost use Rattle.symbols65.specs.Resolving.{IsTable};
 ghost use Rattle.symbols65.specs.Views.{table_of};
@@ -60,7 +59,7 @@ fn check_naming(
     statement: &Statement,
 ) -> Result<(), AsmFault>
     ensures { Gives is_memory (λ u. u) result (unless_fault
-        (naming_fault (table_of symbols.now) spot (stated_of statement.now)) tt) }
+        (naming_fault (table_of symbols.now) spot statement.now) tt) }
 {
     let scope = spot.scope as usize;
     check_outside(scope, statement)?;
@@ -111,7 +110,7 @@ pub fn measure(
     requires standing { IsSoundStanding before.standing.now }
     ensures measured { Gives is_memory (λ m. m) result (measured
         (table_of before.entry.symbols.now) (standing_of before.entry.standing.now)
-        (stated_of statement.now)) }
+        statement.now) }
     ensures room { IfOk result (λ m.
         (spot_of (standing_of before.entry.standing.now)).offset + m.length ≤ section_limit) }
     ensures table { OnOk result

@@ -4,7 +4,6 @@ ghost use Rattle.std.specs.Prelude.{◌≡◌, ℕ, ◌+◌, ◌<◌, ◌≤◌,
 ghost use Rattle.object65.specs.Objects.{section_limit};
 ghost use Rattle.language65.specs.Laid.{is_unnamed, opens_region};
 ghost use Rattle.language65.specs.Layout.{closes_scope, current_behind, first_size, grown_at, kept_behind, last_kept, named_segments, new_segment, opens_scope, or_last, place_of, rest_kept, scope_behind, segment_at, segments_behind, spot_of, start};
-ghost use Rattle.language65.specs.Views.{stated_of};
 ghost use Rattle.symbols65.specs.Views.{table_of};
 ghost use Rattle.layout65.specs.Advancing.{advanced};
 ghost use Rattle.layout65.specs.Counting.{AreInside, HasNumbers, opened_by};
@@ -231,9 +230,9 @@ impl Standing {
         requires room { (spot_of (standing_of self.old)).offset + count ≤ section_limit }
         ensures moved { OnOk result (standing_of self.new ≡ record (standing_of self.old) {
           segments = segments_behind self.old.segments.items self.old.current count multiple
-              (stated_of statement.now);
-          current = current_behind (standing_of self.old) (stated_of statement.now);
-          kept = kept_behind (standing_of self.old) (stated_of statement.now);
+              statement.now;
+          current = current_behind (standing_of self.old) statement.now;
+          kept = kept_behind (standing_of self.old) statement.now;
         }) }
         ensures sound { OnOk result (IsSoundStanding self.new) }
         ensures ends { OnOk result (AreWithin self.new.segments.items) }
@@ -269,12 +268,12 @@ impl Standing {
         requires room { (spot_of (standing_of self.old)).offset + measure.length ≤ section_limit }
         requires numbers { HasNumbers (table_of symbols.now) self.old }
         ensures moved { OnOk result (standing_of self.new ≡ advanced (table_of symbols.now)
-            (standing_of self.old) (stated_of statement.now) measure.length measure.multiple) }
+            (standing_of self.old) statement.now measure.length measure.multiple) }
         ensures sound { OnOk result (IsSoundStanding self.new) }
         ensures ends { OnOk result (AreWithin self.new.segments.items) }
         ensures counted { (count : ℕ) → IsCounted count self.old
             → AreInside count (table_of symbols.now).scopes
-            → OnOk result (IsCounted (count + opened_by (stated_of statement.now)) self.new) }
+            → OnOk result (IsCounted (count + opened_by statement.now) self.new) }
     {
         self.count_openings(symbols, statement);
         self.move_on(alloc, statement, measure.length, measure.multiple)
@@ -285,12 +284,12 @@ impl Standing {
         requires { HasNumbers (table_of symbols.now) self.old }
         ensures { self.new ≡ record self.old {
           scope = scope_behind (table_of symbols.now) (standing_of self.old)
-              (stated_of statement.now);
-          opened = (if opens_scope (stated_of statement.now) then self.old.opened + 1
+              statement.now;
+          opened = (if opens_scope statement.now then self.old.opened + 1
               else self.old.opened);
-          region = (if opens_region (stated_of statement.now) then self.old.region + 1
+          region = (if opens_region statement.now then self.old.region + 1
               else self.old.region);
-          unnamed = (if is_unnamed (stated_of statement.now) then self.old.unnamed + 1
+          unnamed = (if is_unnamed statement.now then self.old.unnamed + 1
               else self.old.unnamed);
         } }
     {
@@ -310,7 +309,7 @@ impl Standing {
     fn scope_behind(&self, symbols: &Symbols, statement: &Statement) -> u32
         requires { HasNumbers (table_of symbols.now) self.now }
         ensures { result ≡ scope_behind (table_of symbols.now) (standing_of self.now)
-            (stated_of statement.now) }
+            statement.now }
     {
         if opens_scope(statement) {
             return self.opened + 1;
@@ -359,26 +358,26 @@ fn segment_of(alloc: Global, name: &[u8], size: Option<AddressSize>) -> Result<S
 }
 
 fn opens_scope(statement: &Statement) -> bool
-    ensures { result ≡ opens_scope (stated_of statement.now) }
+    ensures { result ≡ opens_scope statement.now }
 {
     matches!(statement, Statement::OpenScope(_) | Statement::OpenProc(_))
 }
 
 fn closes_scope(statement: &Statement) -> bool
-    ensures { result ≡ closes_scope (stated_of statement.now) }
+    ensures { result ≡ closes_scope statement.now }
 {
     matches!(statement, Statement::CloseScope | Statement::CloseProc)
 }
 
 /// Whether a statement opens a region of cheap labels.
 fn opens_region(statement: &Statement) -> bool
-    ensures { result ≡ opens_region (stated_of statement.now) }
+    ensures { result ≡ opens_region statement.now }
 {
     matches!(statement, Statement::Label(_) | Statement::OpenProc(_))
 }
 
 fn is_unnamed(statement: &Statement) -> bool
-    ensures { result ≡ is_unnamed (stated_of statement.now) }
+    ensures { result ≡ is_unnamed statement.now }
 {
     matches!(statement, Statement::UnnamedLabel)
 }

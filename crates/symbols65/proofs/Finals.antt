@@ -7,7 +7,7 @@ use Rattle.std.specs.Result.{result_ok}
 use Rattle.base65.specs.Outcome.{◌>>=◌}
 use Rattle.base65.specs.declared.values.Op1.{Op1}
 use Rattle.base65.specs.declared.values.Op2.{Op2}
-use Rattle.syntax65.specs.Trees.{Tree, number, here, name, cheap, forward, backward, unary, binary, tree_of}
+use Rattle.syntax65.specs.Trees.{Tree, number, here, name, cheap, forward, backward, unary, binary}
 use Rattle.syntax65.specs.declared.expressions.trees.Expr.{Expr}
 use Rattle.syntax65.specs.declared.expressions.trees.Expr.TheVariants as expr
 use Rattle.syntax65.specs.declared.expressions.trees.Name.{Name}
@@ -155,11 +155,11 @@ pub some_place : (y : Symbols) (s : Spot) (e : Tree) (o : Option ℕ) → IfSome
 some_place y s e None h q = absurd cc
 some_place y s e (Some j) h q = (j, h)
 
-pub operands_of : (P : Tree → Type 0) (e : Expr) → ((x : Name) × (e ≡ expr.Name x)) ⊎ (((x : List ℕ) × (e ≡ expr.Cheap x)) ⊎ (((x : ℕ) × (e ≡ expr.Forward x)) ⊎ ((x : ℕ) × (e ≡ expr.Backward x)))) → P (tree_of e) → Operands P (tree_of e)
-operands_of P e (inl (x, q)) p = subst (λ z. Operands P (tree_of z)) (sym q) (subst (λ z. P (tree_of z)) q p)
-operands_of P e (inr (inl (x, q))) p = subst (λ z. Operands P (tree_of z)) (sym q) (subst (λ z. P (tree_of z)) q p)
-operands_of P e (inr (inr (inl (x, q)))) p = subst (λ z. Operands P (tree_of z)) (sym q) (subst (λ z. P (tree_of z)) q p)
-operands_of P e (inr (inr (inr (x, q)))) p = subst (λ z. Operands P (tree_of z)) (sym q) (subst (λ z. P (tree_of z)) q p)
+pub operands_of : (P : Tree → Type 0) (e : Expr) → ((x : Name) × (e ≡ expr.Name x)) ⊎ (((x : List ℕ) × (e ≡ expr.Cheap x)) ⊎ (((x : ℕ) × (e ≡ expr.Forward x)) ⊎ ((x : ℕ) × (e ≡ expr.Backward x)))) → P e → Operands P e
+operands_of P e (inl (x, q)) p = subst (λ z. Operands P z) (sym q) (subst (λ z. P z) q p)
+operands_of P e (inr (inl (x, q))) p = subst (λ z. Operands P z) (sym q) (subst (λ z. P z) q p)
+operands_of P e (inr (inr (inl (x, q)))) p = subst (λ z. Operands P z) (sym q) (subst (λ z. P z) q p)
+operands_of P e (inr (inr (inr (x, q)))) p = subst (λ z. Operands P z) (sym q) (subst (λ z. P z) q p)
 
 pub more_ok : {A E : Type 0} (P Q : A → Type 0) (r : Result A E) → ((x : A) → P x → Q x) → IfOk r P → IfOk r Q
 more_ok P Q (Ok x) h p = h x p

@@ -2,7 +2,7 @@
 use Rattle.std.proofs.Common.{◌≡◌, ℕ, suc, ◌≤◌, refl, sym, ap, ◌∙◌, subst, List, [], ◌∷◌, Option, Some, None, slice_get, Result, Ok, Err, ◌⊎◌, inl, inr}
 use Rattle.std.specs.Prelude.{⊤}
 use Rattle.base65.specs.Outcome.{◌>>=◌}
-use Rattle.syntax65.specs.Trees.{Tree, number, here, name, cheap, forward, backward, unary, binary, tree_of}
+use Rattle.syntax65.specs.Trees.{Tree, number, here, name, cheap, forward, backward, unary, binary}
 use Rattle.syntax65.specs.declared.expressions.trees.Expr.{Expr}
 use Rattle.syntax65.specs.declared.expressions.trees.Expr.TheVariants as expr
 use Rattle.syntax65.specs.declared.expressions.trees.Name.{Name}
@@ -223,11 +223,11 @@ attempt_last c table known h v a t (w ∷ ws) = attempt_last c table known h (co
 -- ---- Operands.
 
 -- the attempt at an expression that is an operand
-pub operand_tried : (a : Tree → Result Form Stop) (s : Spot) (e : Expr) → ((x : Name) × (e ≡ expr.Name x)) ⊎ (((x : List ℕ) × (e ≡ expr.Cheap x)) ⊎ (((x : ℕ) × (e ≡ expr.Forward x)) ⊎ ((x : ℕ) × (e ≡ expr.Backward x)))) → a (tree_of e) ≡ tried_by a s (tree_of e)
-operand_tried a s e (inl (x, q)) = ap (λ z. a (tree_of z)) q ∙ sym (ap (λ z. tried_by a s (tree_of z)) q)
-operand_tried a s e (inr (inl (x, q))) = ap (λ z. a (tree_of z)) q ∙ sym (ap (λ z. tried_by a s (tree_of z)) q)
-operand_tried a s e (inr (inr (inl (x, q)))) = ap (λ z. a (tree_of z)) q ∙ sym (ap (λ z. tried_by a s (tree_of z)) q)
-operand_tried a s e (inr (inr (inr (x, q)))) = ap (λ z. a (tree_of z)) q ∙ sym (ap (λ z. tried_by a s (tree_of z)) q)
+pub operand_tried : (a : Tree → Result Form Stop) (s : Spot) (e : Expr) → ((x : Name) × (e ≡ expr.Name x)) ⊎ (((x : List ℕ) × (e ≡ expr.Cheap x)) ⊎ (((x : ℕ) × (e ≡ expr.Forward x)) ⊎ ((x : ℕ) × (e ≡ expr.Backward x)))) → a e ≡ tried_by a s e
+operand_tried a s e (inl (x, q)) = ap (λ z. a z) q ∙ sym (ap (λ z. tried_by a s z) q)
+operand_tried a s e (inr (inl (x, q))) = ap (λ z. a z) q ∙ sym (ap (λ z. tried_by a s z) q)
+operand_tried a s e (inr (inr (inl (x, q)))) = ap (λ z. a z) q ∙ sym (ap (λ z. tried_by a s z) q)
+operand_tried a s e (inr (inr (inr (x, q)))) = ap (λ z. a z) q ∙ sym (ap (λ z. tried_by a s z) q)
 
 -- an operand that means something has the form of that
 pub meant_tried : (known : ℕ → Option State) (y : Symbols) (s : Spot) (e : Tree) (m : Meaning) → meaning_of y s e ≡ Ok m → tried known y s e ≡ meaning_form known y m

@@ -3,7 +3,6 @@ use Rattle.std.specs.Prelude.{◌≡◌, ◌<◌, ◌^◌, ℕ, List, [], ◌++�
 use Rattle.std.specs.Coded.{Coded-set, coded_option}
 use Rattle.std.specs.Map.{keys_of}
 use Rattle.std.specs.Str.{bytes_eq}
-use Rattle.syntax65.specs.Trees.{tree_of}
 use Rattle.object65.specs.Form.{Form, form_code}
 use Rattle.language65.specs.Symbols as l
 use Rattle.language65.specs.Symbols.{Scope, named, cheap_in, unnamed_at}
@@ -76,7 +75,7 @@ key_in ws (entry.Cheap region w) = cheap_in region (word_at ws w)
 key_in ws (entry.Unnamed count) = unnamed_at count
 
 abbrev pub definition_seen : l.Key → Definition → l.Definition
-definition_seen k d = record { key = k; value = option_map tree_of d.value; spot = d.spot; size = d.size }
+definition_seen k d = record { key = k; value = d.value; spot = d.spot; size = d.size }
 
 abbrev pub definition_in : List (List ℕ) → Entry × Definition → l.Definition
 definition_in ws e = definition_seen (key_in ws e.0) e.1

@@ -1,7 +1,7 @@
 -- The state of the machine that an assembler holds.
 use Rattle.std.specs.Prelude.{◌≡◌, ℕ, ◌<◌, ⊤, false, List, [], ◌∷◌, length, map, slice_get, string_bytes, Some}
 use Rattle.std.specs.List.{AllByRecursion}
-use Rattle.syntax65.specs.Trees.{Tree, tree_of}
+use Rattle.syntax65.specs.Trees.{Tree}
 use Rattle.source65.specs.declared.place.Place.{Place}
 use Rattle.language65.specs.Parts.{Content}
 use Rattle.language65.specs.declared.laid.Spot.{Spot}
@@ -31,11 +31,11 @@ pub record IsConstant (y : Symbols) (s : Spot) (place : ℕ) (e : Tree) : Type 0
 
 -- a piece of the machine's, of a statement that stands here
 abbrev pub IsPiece : Symbols → Spot → Piece → piece.Piece → Type 0
-IsPiece y s (Datum w e) p = p ≡ piece.valued (piece.datum w) (tree_of e)
-IsPiece y s (Operand w e) p = p ≡ piece.valued (piece.operand w) (tree_of e)
+IsPiece y s (Datum w e) p = p ≡ piece.valued (piece.datum w) e
+IsPiece y s (Operand w e) p = p ≡ piece.valued (piece.operand w) e
 IsPiece y s (Constant place) p =
     (e : Tree) × IsConstant y s place e × (p ≡ piece.valued piece.equated e)
-IsPiece y s (Assertion act words e) p = p ≡ piece.valued (piece.asserted act words) (tree_of e)
+IsPiece y s (Assertion act words e) p = p ≡ piece.valued (piece.asserted act words) e
 IsPiece y s (Import n) p = p ≡ piece.imported n
 IsPiece y s (Demand n) p = p ≡ piece.demanded n
 IsPiece y s (Export must n) p = p ≡ piece.exported must n

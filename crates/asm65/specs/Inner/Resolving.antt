@@ -1,7 +1,6 @@
 -- What waits comes to its content behind the last line.
 use Rattle.std.specs.Prelude.{◌≡◌, ℕ, Bool, List, [], ◌∷◌, ◌++◌, map, Option, Some, None, Result, Ok, Err}
 use Rattle.base65.specs.Outcome.{◌>>=◌, Unless}
-use Rattle.syntax65.specs.Trees.{tree_of}
 use Rattle.source65.specs.declared.place.Place.{Place}
 use Rattle.language65.specs.Parts.{Content}
 use Rattle.language65.specs.declared.contents.Said.{Said}
@@ -51,12 +50,12 @@ lost must n = absent_of must n >>= as_said
 
 -- of a constant only the fault of its expression is found
 abbrev pub coming : Symbols → Place → Spot → Piece → Result Made AsmFault
-coming y place s (Datum width e) = made_of y place s (piece.valued (piece.datum width) (tree_of e))
+coming y place s (Datum width e) = made_of y place s (piece.valued (piece.datum width) e)
 coming y place s (Operand width e) =
-    made_of y place s (piece.valued (piece.operand width) (tree_of e))
+    made_of y place s (piece.valued (piece.operand width) e)
 coming y place s (Constant at) = defined_form y at >>= used place s piece.equated
 coming y place s (Assertion act words e) =
-    made_of y place s (piece.valued (piece.asserted act words) (tree_of e))
+    made_of y place s (piece.valued (piece.asserted act words) e)
 coming y place s (Import n) = made_of y place s (piece.imported n)
 coming y place s (Demand n) = made_of y place s (piece.demanded n)
 coming y place s (Export must n) = made_of y place s (piece.exported must n)

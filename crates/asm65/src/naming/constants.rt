@@ -9,7 +9,6 @@ use syntax65::{AddressSize, Expr};
 
 impl Assembler {
     ghost use Rattle.std.specs.Prelude.{◌≡◌, ◌∷◌, [], None, OnOk, Some};
-    ghost use Rattle.syntax65.specs.Trees.{tree_of};
     ghost use Rattle.language65.specs.Symbols.{defined, named};
     ghost use Rattle.language65.specs.Views.{place_in};
     ghost use Rattle.module65.specs.Pieces.{equated, valued};
@@ -30,10 +29,10 @@ impl Assembler {
         requires known { IsTable (table_of self.old.symbols) self.old.known.states.items }
         requires new { defined (table_of self.old.symbols) (named stand.spot.scope name.now) ≡ None }
         ensures { OnOk result (Turns (place_in stand.entry.at.file.now stand.entry.at.line)
-            stand.entry.spot (valued equated (tree_of value) ∷ [])
+            stand.entry.spot (valued equated value ∷ [])
             (λ y. with_definition y (record {
               key = named stand.entry.spot.scope name.now;
-              value = Some (tree_of value);
+              value = Some value;
               spot = stand.entry.spot;
               size = size;
             }))

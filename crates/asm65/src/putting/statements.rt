@@ -2,10 +2,8 @@
 
 ghost use Rattle.std.specs.Prelude.{◌≡◌, IfOk, true};
 ghost use Rattle.std.specs.Option.{option_map};
-ghost use Rattle.syntax65.specs.Trees.{tree_of};
 ghost use Rattle.language65.specs.Contents.{operand_tree};
 ghost use Rattle.language65.specs.Sizes.{width_of};
-ghost use Rattle.language65.specs.Views.{operand_of};
 ghost use Rattle.symbols65.specs.Views.{table_of};
 ghost use Rattle.asm65.specs.Inner.Putting.{IsSo};
 
@@ -35,7 +33,7 @@ fn width_of(mode: Mode) -> Option<Width>
 
 /// The expression of an operand, if it has one.
 fn operand_value(operand: Operand) -> Option<Expr>
-    ensures { option_map tree_of result ≡ operand_tree (operand_of operand) }
+    ensures { result ≡ operand_tree operand }
 {
     match operand {
         Operand::Absent | Operand::Accumulator => None,
@@ -54,7 +52,7 @@ fn operand_value(operand: Operand) -> Option<Expr>
 /// Whether a value is another one than 0, whatever statements follow.
 fn is_so(alloc: Global, symbols: &Symbols, spot: Spot, value: &Expr) -> Result<bool, AllocError>
     ensures { IfOk result (λ so. so ≡ true →
-        IsSo (table_of symbols.now) spot (tree_of value.now)) }
+        IsSo (table_of symbols.now) spot value.now) }
 {
     match final_form(alloc, symbols, spot, value)? {
         Some(form) => match literal_of(&form) {
@@ -71,7 +69,7 @@ impl Assembler {
     ghost use Rattle.language65.specs.Contents.{file_bytes, opcode_part, room_part};
     ghost use Rattle.language65.specs.Parts.{Known};
     ghost use Rattle.language65.specs.declared.laid.Settled.TheVariants.{InMode};
-    ghost use Rattle.language65.specs.Views.{item_of, place_in};
+    ghost use Rattle.language65.specs.Views.{place_in};
     ghost use Rattle.syntax65.specs.Opcodes.{opcode_of};
     ghost use Rattle.module65.specs.Pieces.{asserted, given, instruction_pieces, valued};
     ghost use Rattle.module65.specs.Pieces.{item_piece, operand_pieces};
@@ -96,7 +94,7 @@ impl Assembler {
     ) -> Result<(), AllocError>
         ensures { OnOk result (Enters
             (place_in stand.entry.at.file.now stand.entry.at.line) stand.entry.spot
-            (operand_pieces width (option_map tree_of value)) self.old self.new) }
+            (operand_pieces width value) self.old self.new) }
     {
         match (width, value) {
             (Some(width), Some(value)) => self.enter_operand(alloc, stand, width, value),
@@ -116,7 +114,7 @@ impl Assembler {
     ) -> Result<(), AllocError>
         ensures { OnOk result (Enters
             (place_in stand.entry.at.file.now stand.entry.at.line) stand.entry.spot
-            (instruction_pieces mnemonic (operand_of operand) (InMode mode))
+            (instruction_pieces mnemonic operand (InMode mode))
             self.old self.new) }
     {
         self.enter_code(stand.spot, opcode(mnemonic, mode))?;
@@ -133,7 +131,7 @@ impl Assembler {
     ) -> Result<(), AllocError>
         ensures { OnOk result (Enters
             (place_in stand.entry.at.file.now stand.entry.at.line) stand.entry.spot
-            (item_piece width (item_of item) ∷ []) self.old self.new) }
+            (item_piece width item ∷ []) self.old self.new) }
     {
         match item {
             Item::Value(value) => self.enter_datum(alloc, stand, width, value),
@@ -152,7 +150,7 @@ impl Assembler {
     ) -> Result<(), AllocError>
         ensures { OnOk result (Enters
             (place_in stand.entry.at.file.now stand.entry.at.line) stand.entry.spot
-            (map (item_piece width) (map item_of items)) self.old self.new) }
+            (map (item_piece width) items) self.old self.new) }
     {
         for item in items.into_vec() {
             self.enter_item(alloc, stand, width, item)?;
@@ -196,7 +194,7 @@ impl Assembler {
     ) -> Result<(), AllocError>
         ensures { OnOk result (Enters
             (place_in stand.entry.at.file.now stand.entry.at.line) stand.entry.spot
-            (valued (asserted action text) (tree_of value) ∷ []) self.old self.new) }
+            (valued (asserted action text) value ∷ []) self.old self.new) }
     {
         if is_so(alloc, &self.symbols, stand.spot, &value)? {
             return Ok(());

@@ -1,7 +1,6 @@
 //! Values, which are put at once where they are settled without a fault, or wait.
 
 ghost use Rattle.std.specs.Prelude.{◌≡◌, IfSome};
-ghost use Rattle.syntax65.specs.Trees.{tree_of};
 ghost use Rattle.source65.specs.declared.place.Place.{Place};
 ghost use Rattle.object65.specs.Form.{lit};
 ghost use Rattle.language65.specs.Contents.{stored};
@@ -22,7 +21,7 @@ use syntax65::Expr;
 /// The number that an expression is, if it is one.
 fn number_of(value: &Expr) -> Option<i64>
     ensures { IfSome result (λ v. (y : Symbols) (s : Spot) →
-        IsFinal y s (tree_of value.now) (lit v)) }
+        IsFinal y s value.now (lit v)) }
 {
     match value {
         Expr::Number(number) => Some(i64::from(*number)),
@@ -33,7 +32,7 @@ fn number_of(value: &Expr) -> Option<i64>
 /// The number that the value of an operand is, if it is one that is stored as it is.
 fn stored_number(width: Width, value: &Expr) -> Option<i64>
     ensures form { IfSome result (λ v. (y : Symbols) (s : Spot) →
-        IsFinal y s (tree_of value.now) (lit v)) }
+        IsFinal y s value.now (lit v)) }
     ensures stored { IfSome result (λ v. (s : Spot) (place : Place) →
         operand_stored width s place (lit v) ≡ stored width place (lit v)) }
 {
@@ -60,7 +59,7 @@ impl Assembler {
     ) -> Result<bool, AllocError>
         ensures { IfOk result (IsTried
             (place_in stand.entry.at.file.now stand.entry.at.line) stand.entry.spot
-            (valued (datum width) (tree_of value.now)) self.old self.new) }
+            (valued (datum width) value.now) self.old self.new) }
     {
         let segment = stand.spot.segment;
         if let Some(number) = number_of(value) {
@@ -82,7 +81,7 @@ impl Assembler {
     ) -> Result<bool, AllocError>
         ensures { IfOk result (IsTried
             (place_in stand.entry.at.file.now stand.entry.at.line) stand.entry.spot
-            (valued (operand width) (tree_of value.now)) self.old self.new) }
+            (valued (operand width) value.now) self.old self.new) }
     {
         if let Some(number) = stored_number(width, value) {
             return put_literal(&mut self.sections, stand.spot.segment, width, number);
@@ -103,7 +102,7 @@ impl Assembler {
     ) -> Result<(), AllocError>
         ensures { OnOk result (Enters
             (place_in stand.entry.at.file.now stand.entry.at.line) stand.entry.spot
-            (valued (datum width) (tree_of value) ∷ []) self.old self.new) }
+            (valued (datum width) value ∷ []) self.old self.new) }
     {
         if self.put_datum(alloc, stand, width, &value)? {
             return Ok(());
@@ -122,7 +121,7 @@ impl Assembler {
     ) -> Result<(), AllocError>
         ensures { OnOk result (Enters
             (place_in stand.entry.at.file.now stand.entry.at.line) stand.entry.spot
-            (valued (operand width) (tree_of value) ∷ []) self.old self.new) }
+            (valued (operand width) value ∷ []) self.old self.new) }
     {
         if self.put_operand(alloc, stand, width, &value)? {
             return Ok(());

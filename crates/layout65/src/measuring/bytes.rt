@@ -7,7 +7,6 @@ ghost use Rattle.language65.specs.Faults.{is_memory};
 ghost use Rattle.language65.specs.Language.{instruction, values};
 ghost use Rattle.language65.specs.Sizes.{item_len, mode_len};
 ghost use Rattle.language65.specs.Symbols.{Symbols as Table};
-ghost use Rattle.language65.specs.Views.{item_of, operand_of};
 ghost use Rattle.symbols65.specs.Resolving.{IsTable};
 ghost use Rattle.symbols65.specs.Views.{table_of};
 ghost use Rattle.layout65.specs.Measuring.{fitted, placed};
@@ -45,7 +44,7 @@ pub fn instruction(
     requires standing { IsSoundStanding before.standing.now }
     ensures placed { Gives is_memory (λ m. m) result (placed
         (table_of before.entry.symbols.now) (standing_of before.entry.standing.now)
-        (instruction mnemonic (operand_of operand.now))) }
+        (instruction mnemonic operand.now)) }
     ensures table { OnOk result
         (IsTable (table_of before.entry.symbols.now) known.new.states.items) }
 {
@@ -76,7 +75,7 @@ fn width_len(width: Width) -> usize
 }
 
 fn item_len(width: Width, item: &Item) -> usize
-    ensures { result ≡ item_len width (item_of item.now) }
+    ensures { result ≡ item_len width item.now }
 {
     match item {
         Item::Value(_) => width_len(width),
@@ -86,8 +85,8 @@ fn item_len(width: Width, item: &Item) -> usize
 
 /// What is left of some room behind a list, if it is enough.
 fn room_behind(width: Width, items: &[Item], room: usize) -> Option<usize>
-    ensures { MatchOption result (room < sum_by (item_len width) (map item_of items.now))
-        (λ left. left + sum_by (item_len width) (map item_of items.now) ≡ room) }
+    ensures { MatchOption result (room < sum_by (item_len width) items.now)
+        (λ left. left + sum_by (item_len width) items.now ≡ room) }
 {
     let mut left = room;
     for item in items {
@@ -101,7 +100,7 @@ fn room_behind(width: Width, items: &[Item], room: usize) -> Option<usize>
 fn list_len(standing: &Standing, width: Width, items: &[Item]) -> Result<u32, AsmFault>
     requires { IsSoundStanding standing.now }
     ensures { result ≡ fitted (standing_of standing.now)
-        (sum_by (item_len width) (map item_of items.now)) }
+        (sum_by (item_len width) items.now) }
 {
     let room = standing.room();
     match room_behind(width, items, room as usize) {
@@ -115,7 +114,7 @@ fn list_len(standing: &Standing, width: Width, items: &[Item]) -> Result<u32, As
 pub fn values(standing: &Standing, width: Width, items: &[Item]) -> Result<Measured, AsmFault>
     requires { IsSoundStanding standing.now }
     ensures { (y : Table) → Gives is_memory (λ m. m) result (placed y
-        (standing_of standing.now) (values width (map item_of items.now))) }
+        (standing_of standing.now) (values width items.now)) }
 {
     let length = list_len(standing, width, items)?;
     Ok(Measured {

@@ -2,11 +2,9 @@
 
 ghost use Rattle.std.specs.Prelude.{◌≡◌, ℕ, List, OnOk, true};
 ghost use Rattle.base65.specs.Outcome.{Gives};
-ghost use Rattle.syntax65.specs.Trees.{tree_of};
 ghost use Rattle.language65.specs.Faults.{is_memory};
 ghost use Rattle.language65.specs.Language.{close_proc, close_scope, constant, pop_segment, segment};
 ghost use Rattle.language65.specs.Symbols.{Symbols as Table};
-ghost use Rattle.language65.specs.Views.{stated_of};
 ghost use Rattle.symbols65.specs.Resolving.{IsTable};
 ghost use Rattle.symbols65.specs.Views.{table_of};
 ghost use Rattle.layout65.specs.Measuring.{is_bare, placed};
@@ -36,7 +34,7 @@ fn constant(
     requires standing { IsSoundStanding before.standing.now }
     ensures placed { (name : List ℕ) → Gives is_memory (λ m. m) result (placed
         (table_of before.entry.symbols.now) (standing_of before.entry.standing.now)
-        (constant name (tree_of value.now))) }
+        (constant name value.now)) }
     ensures table { OnOk result
         (IsTable (table_of before.entry.symbols.now) known.new.states.items) }
 {
@@ -95,10 +93,10 @@ fn close_proc(before: Before<'_>) -> Result<Measured, AsmFault>
 #[inline(never)]
 fn without_bytes(before: Before<'_>, statement: &Statement) -> Result<Measured, AsmFault>
     requires standing { IsSoundStanding before.standing.now }
-    requires bare { is_bare (stated_of statement.now) ≡ true }
+    requires bare { is_bare statement.now ≡ true }
     ensures { Gives is_memory (λ m. m) result (placed
         (table_of before.entry.symbols.now) (standing_of before.entry.standing.now)
-        (stated_of statement.now)) }
+        statement.now) }
 {
     match statement {
         Statement::Segment { name, size } => segment(before.standing, name.as_slice(), *size),
@@ -120,7 +118,7 @@ pub fn place(
     requires standing { IsSoundStanding before.standing.now }
     ensures placed { Gives is_memory (λ m. m) result (placed
         (table_of before.entry.symbols.now) (standing_of before.entry.standing.now)
-        (stated_of statement.now)) }
+        statement.now) }
     ensures table { OnOk result
         (IsTable (table_of before.entry.symbols.now) known.new.states.items) }
 {

@@ -3,7 +3,7 @@
 ghost use Rattle.std.specs.Prelude.{◌≡◌};
 ghost use Rattle.std.specs.Option.{option_map};
 ghost use Rattle.base65.specs.Outcome.{Gives};
-ghost use Rattle.syntax65.specs.Trees.{name, tree_of};
+ghost use Rattle.syntax65.specs.Trees.{name};
 ghost use Rattle.language65.specs.Faults.{is_memory};
 ghost use Rattle.language65.specs.LineFaults.{lost_scope, unless_fault};
 ghost use Rattle.language65.specs.Names.{scopes_of};
@@ -78,7 +78,7 @@ pub fn check_scopes(
     value: &Expr,
 ) -> Result<(), AsmFault>
     ensures { Gives is_memory (λ u. u) result (unless_fault (lost_scope
-        (table_of symbols.now).scopes scope (tree_of value.now)) tt) }
+        (table_of symbols.now).scopes scope value.now) tt) }
 {
     match value {
         Expr::Name(name) => check_name(alloc, symbols, scope, name),

@@ -7,7 +7,6 @@ ghost use Rattle.language65.specs.Faults.{is_memory};
 ghost use Rattle.language65.specs.LineFaults.{defined_twice, is_open, opened_twice, scope_name, stands_outside, when, where_there, unless_fault};
 ghost use Rattle.language65.specs.Names.{scope_in};
 ghost use Rattle.language65.specs.Symbols.{defined, key_defined};
-ghost use Rattle.language65.specs.Views.{stated_of};
 ghost use Rattle.symbols65.specs.Tables.{key_of};
 ghost use Rattle.symbols65.specs.Views.{table_of};
 
@@ -17,7 +16,7 @@ use std::alloc::Global;
 use symbols65::{Key, Symbols};
 
 fn stands_outside(statement: &Statement) -> bool
-    ensures { result ≡ stands_outside (stated_of statement.now) }
+    ensures { result ≡ stands_outside statement.now }
 {
     matches!(
         statement,
@@ -31,7 +30,7 @@ fn stands_outside(statement: &Statement) -> bool
 /// Refuses a statement with names of the global scope where another one is open.
 pub fn check_outside(scope: usize, statement: &Statement) -> Result<(), AsmFault>
     ensures { Gives is_memory (λ u. u) result (unless_fault
-        (when (stands_outside (stated_of statement.now) && is_open scope) NotUnderstood) tt) }
+        (when (stands_outside statement.now && is_open scope) NotUnderstood) tt) }
 {
     if stands_outside(statement) && scope != 0 {
         return Err(AsmFault::NotUnderstood);
@@ -62,7 +61,7 @@ pub fn check_opened(
     statement: &Statement,
 ) -> Result<(), AsmFault>
     ensures { Gives is_memory (λ u. u) result (unless_fault (opened_twice
-        (table_of symbols.now).scopes scope (scope_name (stated_of statement.now))) tt) }
+        (table_of symbols.now).scopes scope (scope_name statement.now)) tt) }
 {
     match statement {
         Statement::OpenScope(Some(name)) | Statement::OpenProc(name) => {
@@ -95,7 +94,7 @@ pub fn check_defined(
     statement: &Statement,
 ) -> Result<(), AsmFault>
     ensures { Gives is_memory (λ u. u) result (unless_fault (defined_twice
-        (table_of symbols.now) (key_defined spot (stated_of statement.now))) tt) }
+        (table_of symbols.now) (key_defined spot statement.now)) tt) }
 {
     let scope = spot.scope as usize;
     let region = spot.region as usize;

@@ -3,13 +3,11 @@
 ghost use Rattle.std.specs.Prelude.{◌≡◌, ◌≤◌, IfOk, List, not, OnOk, Some, ℕ};
 ghost use Rattle.std.specs.Option.{option_map};
 ghost use Rattle.base65.specs.Outcome.{Gives};
-ghost use Rattle.syntax65.specs.Trees.{tree_of};
 ghost use Rattle.language65.specs.declared.fault.AsmFault.TheVariants.{BadPart};
 ghost use Rattle.language65.specs.Faults.{is_memory};
 ghost use Rattle.language65.specs.Language.{file_part};
 ghost use Rattle.language65.specs.LineFaults.{when, unless_fault};
 ghost use Rattle.language65.specs.Sizes.{counted, optional_value};
-ghost use Rattle.language65.specs.Views.{range_of};
 ghost use Rattle.symbols65.specs.Resolving.{IsTable};
 ghost use Rattle.symbols65.specs.Views.{table_of};
 ghost use Rattle.layout65.specs.Measuring.{IsFound, is_within, or_default, placed, ranged, unread_fault};
@@ -35,7 +33,7 @@ fn named(
 ) -> Result<Option<i64>, AsmFault>
     requires { IsTable (table_of symbols.now) known.old.states.items }
     ensures found { IsFound (optional_value (table_of symbols.now) spot
-        (option_map tree_of value.now)) result }
+        value.now) result }
     ensures table { OnOk result (IsTable (table_of symbols.now) known.new.states.items) }
 {
     let Some(value) = value else {
@@ -60,7 +58,7 @@ pub fn check_unread(
     requires standing { IsSoundStanding before.standing.now }
     ensures checked { Gives is_memory (λ u. u) result (unless_fault (unread_fault
         (table_of before.entry.symbols.now) (standing_of before.entry.standing.now)
-        (range_of range.now).0 (range_of range.now).1) tt) }
+        (range.now).0 (range.now).1) tt) }
     ensures table { OnOk result
         (IsTable (table_of before.entry.symbols.now) known.new.states.items) }
 {
@@ -120,7 +118,7 @@ pub fn file_part(
     requires standing { IsSoundStanding before.standing.now }
     ensures placed { Gives is_memory (λ m. m) result (placed
         (table_of before.entry.symbols.now) (standing_of before.entry.standing.now)
-        (file_part bytes.now (range_of range.now).0 (range_of range.now).1)) }
+        (file_part bytes.now (range.now).0 (range.now).1)) }
     ensures table { OnOk result
         (IsTable (table_of before.entry.symbols.now) known.new.states.items) }
 {

@@ -3,7 +3,6 @@
 ghost use Rattle.std.specs.Prelude.{◌≡◌, ◌<◌, ◌≤◌, IfOk, not, OnOk, pos, Some};
 ghost use Rattle.std.specs.Option.{option_map};
 ghost use Rattle.base65.specs.Outcome.{Gives};
-ghost use Rattle.syntax65.specs.Trees.{tree_of};
 ghost use Rattle.language65.specs.declared.fault.AsmFault.TheVariants.{BadOperand};
 ghost use Rattle.language65.specs.Faults.{is_memory};
 ghost use Rattle.language65.specs.Language.{align, reserve};
@@ -45,9 +44,9 @@ fn fill(
     requires { IsTable (table_of symbols.now) known.old.states.items }
     ensures byte { Gives is_memory any_settled result (unless_fault
         (when (not (is_byte_value (optional_value (table_of symbols.now) spot
-        (option_map tree_of value.now) (pos 0)))) BadOperand) tt) }
+        value.now (pos 0)))) BadOperand) tt) }
     ensures settled { IfOk result (λ s. s
-        ≡ fill_settled (table_of symbols.now) spot (option_map tree_of value.now)) }
+        ≡ fill_settled (table_of symbols.now) spot value.now) }
     ensures table { OnOk result (IsTable (table_of symbols.now) known.new.states.items) }
 {
     let Some(value) = value else {
@@ -81,7 +80,7 @@ pub fn reserve(
     requires standing { IsSoundStanding before.standing.now }
     ensures placed { Gives is_memory (λ m. m) result (placed
         (table_of before.entry.symbols.now) (standing_of before.entry.standing.now)
-        (reserve (tree_of count.now) (option_map tree_of value.now))) }
+        (reserve count.now value.now)) }
     ensures table { OnOk result
         (IsTable (table_of before.entry.symbols.now) known.new.states.items) }
 {
@@ -162,7 +161,7 @@ pub fn align(
     requires standing { IsSoundStanding before.standing.now }
     ensures placed { Gives is_memory (λ m. m) result (placed
         (table_of before.entry.symbols.now) (standing_of before.entry.standing.now)
-        (align (tree_of multiple.now) (option_map tree_of value.now))) }
+        (align multiple.now value.now)) }
     ensures table { OnOk result
         (IsTable (table_of before.entry.symbols.now) known.new.states.items) }
 {

@@ -3,10 +3,8 @@
 ghost use Rattle.std.specs.Option.{option_map};
 ghost use Rattle.std.specs.Prelude.{[], ◌∷◌, ◌++◌, map};
 ghost use Rattle.base65.specs.Outcome.{Gives};
-ghost use Rattle.syntax65.specs.Trees.{tree_of};
 ghost use Rattle.language65.specs.Faults.{is_memory};
 ghost use Rattle.language65.specs.LineFaults.{item_trees, lost_scopes, operand_trees, optional_tree, trees_of, unless_fault};
-ghost use Rattle.language65.specs.Views.{item_of, operand_of, range_of, stated_of};
 ghost use Rattle.symbols65.specs.Views.{table_of};
 
 use super::lost::check_scopes;
@@ -17,7 +15,7 @@ use syntax65::Expr;
 
 fn check_one(alloc: Global, symbols: &Symbols, scope: usize, value: &Expr) -> Result<(), AsmFault>
     ensures { Gives is_memory (λ u. u) result (unless_fault (lost_scopes
-        (table_of symbols.now).scopes scope (tree_of value.now ∷ [])) tt) }
+        (table_of symbols.now).scopes scope (value.now ∷ [])) tt) }
 {
     check_scopes(alloc, symbols, scope, value)
 }
@@ -29,7 +27,7 @@ fn check_optional(
     value: &Option<Expr>,
 ) -> Result<(), AsmFault>
     ensures { Gives is_memory (λ u. u) result (unless_fault (lost_scopes
-        (table_of symbols.now).scopes scope (optional_tree (option_map tree_of value.now))) tt) }
+        (table_of symbols.now).scopes scope (optional_tree value.now)) tt) }
 {
     match value {
         Some(value) => check_one(alloc, symbols, scope, value),
@@ -47,7 +45,7 @@ fn check_two(
 ) -> Result<(), AsmFault>
     ensures { Gives is_memory (λ u. u) result (unless_fault (lost_scopes
         (table_of symbols.now).scopes scope
-        (tree_of value.now ∷ optional_tree (option_map tree_of other.now))) tt) }
+        (value.now ∷ optional_tree other.now)) tt) }
 {
     check_scopes(alloc, symbols, scope, value)?;
     check_optional(alloc, symbols, scope, other)
@@ -62,7 +60,7 @@ pub fn check_range(
 ) -> Result<(), AsmFault>
     ensures { Gives is_memory (λ u. u) result (unless_fault (lost_scopes
         (table_of symbols.now).scopes scope
-        (optional_tree (range_of range.now).0 ++ optional_tree (range_of range.now).1)) tt) }
+        (optional_tree (range.now).0 ++ optional_tree (range.now).1)) tt) }
 {
     match &range.start {
         Some(start) => check_two(alloc, symbols, scope, start, &range.len),
@@ -77,7 +75,7 @@ fn check_operand(
     operand: &Operand,
 ) -> Result<(), AsmFault>
     ensures { Gives is_memory (λ u. u) result (unless_fault (lost_scopes
-        (table_of symbols.now).scopes scope (operand_trees (operand_of operand.now))) tt) }
+        (table_of symbols.now).scopes scope (operand_trees operand.now)) tt) }
 {
     match operand {
         Operand::Absent | Operand::Accumulator => Ok(()),
@@ -95,7 +93,7 @@ fn check_operand(
 
 fn check_item(alloc: Global, symbols: &Symbols, scope: usize, item: &Item) -> Result<(), AsmFault>
     ensures { Gives is_memory (λ u. u) result (unless_fault (lost_scopes
-        (table_of symbols.now).scopes scope (item_trees (item_of item.now ∷ []))) tt) }
+        (table_of symbols.now).scopes scope (item_trees (item.now ∷ []))) tt) }
 {
     match item {
         Item::Value(Expr::Number(_)) | Item::Text(_) => Ok(()),
@@ -111,7 +109,7 @@ fn check_items(
     items: &[Item],
 ) -> Result<(), AsmFault>
     ensures { Gives is_memory (λ u. u) result (unless_fault (lost_scopes
-        (table_of symbols.now).scopes scope (item_trees (map item_of items.now))) tt) }
+        (table_of symbols.now).scopes scope (item_trees items.now)) tt) }
 {
     for item in items {
         check_item(alloc, symbols, scope, item)?;
@@ -127,7 +125,7 @@ pub fn check_trees(
     statement: &Statement,
 ) -> Result<(), AsmFault>
     ensures { Gives is_memory (λ u. u) result (unless_fault (lost_scopes
-        (table_of symbols.now).scopes scope (trees_of (stated_of statement.now))) tt) }
+        (table_of symbols.now).scopes scope (trees_of statement.now)) tt) }
 {
     match statement {
         Statement::Constant { name: _, value } => check_one(alloc, symbols, scope, value),

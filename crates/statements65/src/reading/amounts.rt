@@ -3,10 +3,8 @@
 ghost use Rattle.std.specs.Prelude.{◌≡◌, ◌∷◌, [], false, option_map, IfErr};
 ghost use Rattle.base65.specs.Relations.{Answers};
 ghost use Rattle.syntax65.specs.Tokens.{lexemes};
-ghost use Rattle.syntax65.specs.Trees.{tree_of};
 ghost use Rattle.language65.specs.Faults.{is_failure, is_outside};
 ghost use Rattle.statements65.specs.Parsing.{amount_statement, parts_of, IsAmount, IsAmountWith};
-ghost use Rattle.language65.specs.Views.{stated_of};
 
 use super::parts::{expression, first_part};
 use super::words::Amount;
@@ -15,7 +13,7 @@ use std::alloc::Global;
 use syntax65::{Expr, Token};
 
 fn amount_statement(which: Amount, count: Expr, value: Option<Expr>) -> Statement
-    ensures { stated_of result ≡ amount_statement which (tree_of count) (option_map tree_of value) }
+    ensures { result ≡ amount_statement which count value }
 {
     match which {
         Amount::Reserve => Statement::Reserve { count, value },
@@ -28,7 +26,7 @@ fn amount_statement(which: Amount, count: Expr, value: Option<Expr>) -> Statemen
 
 /// `n`
 fn count_alone(alloc: Global, which: Amount, count: &[Token<'_>]) -> Result<Statement, AsmFault>
-    ensures value { Answers is_outside stated_of result (IsAmount (amount_statement which) (lexemes count.now ∷ [])) }
+    ensures value { Answers is_outside (λ x. x) result (IsAmount (amount_statement which) (lexemes count.now ∷ [])) }
     ensures inside { IfErr result (λ e. is_failure e ≡ false) }
 {
     let count = expression(alloc, count)?;
@@ -41,7 +39,7 @@ fn with_value(
     count: Expr,
     value: &[Token<'_>],
 ) -> Result<Statement, AsmFault>
-    ensures value { Answers is_outside stated_of result (IsAmountWith (amount_statement which) (tree_of count) (lexemes value.now)) }
+    ensures value { Answers is_outside (λ x. x) result (IsAmountWith (amount_statement which) count (lexemes value.now)) }
     ensures inside { IfErr result (λ e. is_failure e ≡ false) }
 {
     let value = expression(alloc, value)?;
@@ -55,7 +53,7 @@ fn count_and_value(
     count: &[Token<'_>],
     value: &[Token<'_>],
 ) -> Result<Statement, AsmFault>
-    ensures value { Answers is_outside stated_of result (IsAmount (amount_statement which) (lexemes count.now ∷ lexemes value.now ∷ [])) }
+    ensures value { Answers is_outside (λ x. x) result (IsAmount (amount_statement which) (lexemes count.now ∷ lexemes value.now ∷ [])) }
     ensures inside { IfErr result (λ e. is_failure e ≡ false) }
 {
     let count = expression(alloc, count)?;
@@ -64,7 +62,7 @@ fn count_and_value(
 
 /// `n[,v]`
 pub fn amount(alloc: Global, which: Amount, tokens: &[Token<'_>]) -> Result<Statement, AsmFault>
-    ensures value { Answers is_outside stated_of result (IsAmount (amount_statement which) (parts_of (lexemes tokens.now))) }
+    ensures value { Answers is_outside (λ x. x) result (IsAmount (amount_statement which) (parts_of (lexemes tokens.now))) }
     ensures inside { IfErr result (λ e. is_failure e ≡ false) }
 {
     let (count, behind) = first_part(tokens);

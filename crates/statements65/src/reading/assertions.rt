@@ -3,10 +3,8 @@
 ghost use Rattle.std.specs.Prelude.{◌≡◌, ◌∷◌, false, option_map, IfErr};
 ghost use Rattle.base65.specs.Relations.{Answers};
 ghost use Rattle.syntax65.specs.Tokens.{lexemes};
-ghost use Rattle.syntax65.specs.Trees.{tree_of};
 ghost use Rattle.language65.specs.Faults.{is_failure, is_outside};
 ghost use Rattle.statements65.specs.Parsing.{action_of, action_word, asserted, own_words, parts_behind, parts_of, words_of, IsAssertion};
-ghost use Rattle.language65.specs.Views.{stated_of};
 
 use super::parts::{expression, first_part};
 use super::tokens::{needed_string, needed_word};
@@ -79,7 +77,7 @@ fn asserted(
     action: &[Token<'_>],
     rest: Option<&[Token<'_>]>,
 ) -> Result<Statement, AsmFault>
-    ensures value { Answers is_outside stated_of result (λ r. r ≡ asserted (tree_of value) (lexemes action.now) (parts_behind (option_map (λ rest. lexemes rest.now) rest.entry))) }
+    ensures value { Answers is_outside (λ x. x) result (λ r. r ≡ asserted value (lexemes action.now) (parts_behind (option_map (λ rest. lexemes rest.now) rest.entry))) }
     ensures inside { IfErr result (λ e. is_failure e ≡ false) }
 {
     let action = action_of(action)?;
@@ -98,7 +96,7 @@ fn assertion_of(
     action: &[Token<'_>],
     rest: Option<&[Token<'_>]>,
 ) -> Result<Statement, AsmFault>
-    ensures value { Answers is_outside stated_of result (IsAssertion (lexemes value.now ∷ lexemes action.now ∷ parts_behind (option_map (λ rest. lexemes rest.now) rest.entry))) }
+    ensures value { Answers is_outside (λ x. x) result (IsAssertion (lexemes value.now ∷ lexemes action.now ∷ parts_behind (option_map (λ rest. lexemes rest.now) rest.entry))) }
     ensures inside { IfErr result (λ e. is_failure e ≡ false) }
 {
     let value = expression(alloc, value)?;
@@ -107,7 +105,7 @@ fn assertion_of(
 
 /// `.assert`
 pub fn assertion(alloc: Global, tokens: &[Token<'_>]) -> Result<Statement, AsmFault>
-    ensures value { Answers is_outside stated_of result (IsAssertion (parts_of (lexemes tokens.now))) }
+    ensures value { Answers is_outside (λ x. x) result (IsAssertion (parts_of (lexemes tokens.now))) }
     ensures inside { IfErr result (λ e. is_failure e ≡ false) }
 {
     let (value, behind) = first_part(tokens);

@@ -6,7 +6,6 @@ ghost use Rattle.syntax65.specs.Tokens.{lexemes};
 ghost use Rattle.syntax65.specs.Trees.{number};
 ghost use Rattle.language65.specs.Faults.{is_failure, is_outside};
 ghost use Rattle.statements65.specs.Parsing.{parts_of, string_of, EachIs, IsExpression, IsItem, IsValue};
-ghost use Rattle.language65.specs.Views.{item_of};
 
 use super::parts::{expression, first_part, lone_number};
 use super::tokens::string_of;
@@ -32,7 +31,7 @@ fn number_alone(tokens: &[Token<'_>]) -> Option<u32>
 /// An element that is a value.
 #[tactic(auto, using(crate::proofs::Parts::then_fault))]
 fn value_item(alloc: Global, tokens: &[Token<'_>]) -> Result<Item, AsmFault>
-    ensures value { Answers is_outside item_of result (IsValue (lexemes tokens.now)) }
+    ensures value { Answers is_outside (λ x. x) result (IsValue (lexemes tokens.now)) }
     ensures inside { IfErr result (λ e. is_failure e ≡ false) }
 {
     Ok(Item::Value(expression(alloc, tokens)?))
@@ -41,7 +40,7 @@ fn value_item(alloc: Global, tokens: &[Token<'_>]) -> Result<Item, AsmFault>
 /// An element of a list.
 #[inline(always)]
 fn item(alloc: Global, elements: Elements, tokens: &[Token<'_>]) -> Result<Item, AsmFault>
-    ensures value { Answers is_outside item_of result (IsItem elements (lexemes tokens.now)) }
+    ensures value { Answers is_outside (λ x. x) result (IsItem elements (lexemes tokens.now)) }
     ensures inside { IfErr result (λ e. is_failure e ≡ false) }
 {
     if let Some(number) = number_alone(tokens) {
@@ -69,7 +68,7 @@ pub fn items(
     elements: Elements,
     tokens: &[Token<'_>],
 ) -> Result<Sequence<Item>, AsmFault>
-    ensures value { Answers is_outside (λ items. map item_of items) result (EachIs (IsItem elements) (parts_of (lexemes tokens.now))) }
+    ensures value { Answers is_outside (λ items. items) result (EachIs (IsItem elements) (parts_of (lexemes tokens.now))) }
     ensures inside { IfErr result (λ e. is_failure e ≡ false) }
 {
     let mut items = no_items(alloc, tokens.len())?;

@@ -5,7 +5,6 @@ ghost use Rattle.base65.specs.Relations.{Answers};
 ghost use Rattle.syntax65.specs.Tokens.{lexeme_of, lexemes};
 ghost use Rattle.language65.specs.Faults.{is_failure, is_outside};
 ghost use Rattle.statements65.specs.Parsing.{front_label, label_before, label_of, named_label};
-ghost use Rattle.language65.specs.Views.{stated_of};
 
 use super::tokens::is_colon;
 use base65::Sequence;
@@ -15,7 +14,7 @@ use syntax65::{Token, TokenKind, is_reserved};
 
 /// The label that a token before a `:` is, if it is one.
 fn named_label(alloc: Global, token: &Token<'_>) -> Result<Option<Statement>, AsmFault>
-    ensures value { Answers is_outside (λ label. option_map stated_of label) result (λ r. r ≡ Ok (named_label (lexeme_of token.now).0 (lexeme_of token.now).1)) }
+    ensures value { Answers is_outside (λ label. label) result (λ r. r ≡ Ok (named_label (lexeme_of token.now).0 (lexeme_of token.now).1)) }
     ensures inside { IfErr result (λ e. is_failure e ≡ false) }
 {
     match token.kind {
@@ -39,7 +38,7 @@ fn label_before<'a, 'b>(
     token: &Token<'a>,
     behind: &'b [Token<'a>],
 ) -> Result<Option<(Statement, &'b [Token<'a>])>, AsmFault>
-    ensures value { Answers is_outside (λ label. option_map (λ x. (stated_of x.0, lexemes x.1.now)) label) result (λ r. r ≡ Ok (label_before (lexeme_of token.now) (lexemes behind.now))) }
+    ensures value { Answers is_outside (λ label. option_map (λ x. (x.0, lexemes x.1.now)) label) result (λ r. r ≡ Ok (label_before (lexeme_of token.now) (lexemes behind.now))) }
     ensures inside { IfErr result (λ e. is_failure e ≡ false) }
 {
     let Some((colon, rest)) = behind.split_first() else {
@@ -59,7 +58,7 @@ fn front_label<'a, 'b>(
     alloc: Global,
     tokens: &'b [Token<'a>],
 ) -> Result<Option<(Statement, &'b [Token<'a>])>, AsmFault>
-    ensures value { Answers is_outside (λ label. option_map (λ x. (stated_of x.0, lexemes x.1.now)) label) result (λ r. r ≡ Ok (front_label (lexemes tokens.now))) }
+    ensures value { Answers is_outside (λ label. option_map (λ x. (x.0, lexemes x.1.now)) label) result (λ r. r ≡ Ok (front_label (lexemes tokens.now))) }
     ensures inside { IfErr result (λ e. is_failure e ≡ false) }
 {
     match tokens.split_first() {
@@ -79,7 +78,7 @@ pub fn label<'a, 'b>(
     alloc: Global,
     tokens: &'b [Token<'a>],
 ) -> Result<(Option<Statement>, &'b [Token<'a>]), AsmFault>
-    ensures value { Answers is_outside (λ x. (option_map stated_of x.0, lexemes x.1.now)) result (λ r. r ≡ Ok (label_of (lexemes tokens.now))) }
+    ensures value { Answers is_outside (λ x. (x.0, lexemes x.1.now)) result (λ r. r ≡ Ok (label_of (lexemes tokens.now))) }
     ensures inside { IfErr result (λ e. is_failure e ≡ false) }
 {
     match front_label(alloc, tokens)? {

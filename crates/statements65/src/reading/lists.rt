@@ -5,7 +5,6 @@ ghost use Rattle.base65.specs.Relations.{Answers};
 ghost use Rattle.syntax65.specs.Tokens.{lexemes};
 ghost use Rattle.language65.specs.Faults.{is_failure, is_outside};
 ghost use Rattle.statements65.specs.Parsing.{ended, names_statement, parts_of, EachIs, IsList, IsName, IsNames};
-ghost use Rattle.language65.specs.Views.{stated_of};
 
 use super::items::items;
 use super::parts::first_part;
@@ -24,7 +23,7 @@ pub fn list(
     width: Width,
     tokens: &[Token<'_>],
 ) -> Result<Statement, AsmFault>
-    ensures value { Answers is_outside stated_of result (IsList elements width (lexemes tokens.now)) }
+    ensures value { Answers is_outside (λ x. x) result (IsList elements width (lexemes tokens.now)) }
     ensures inside { IfErr result (λ e. is_failure e ≡ false) }
 {
     let items = items(alloc, elements, tokens)?;
@@ -33,7 +32,7 @@ pub fn list(
 
 /// `.asciiz`: a string and a 0.
 pub fn ended_text(alloc: Global, tokens: &[Token<'_>]) -> Result<Statement, AsmFault>
-    ensures value { Answers is_outside stated_of result (λ r. r ≡ ended (lexemes tokens.now)) }
+    ensures value { Answers is_outside (λ x. x) result (λ r. r ≡ ended (lexemes tokens.now)) }
     ensures inside { IfErr result (λ e. is_failure e ≡ false) }
 {
     let text = needed_string(tokens)?;
@@ -64,7 +63,7 @@ fn names(alloc: Global, tokens: &[Token<'_>]) -> Result<Sequence<Sequence<u8>>, 
 }
 
 fn names_statement(which: Names, names: Sequence<Sequence<u8>>) -> Statement
-    ensures { stated_of result ≡ names_statement which names }
+    ensures { result ≡ names_statement which names }
 {
     match which {
         Names::Import(size) => Statement::Import { size, names },
@@ -76,7 +75,7 @@ fn names_statement(which: Names, names: Sequence<Sequence<u8>>) -> Statement
 
 /// `.import` and the like.
 pub fn name_list(alloc: Global, which: Names, tokens: &[Token<'_>]) -> Result<Statement, AsmFault>
-    ensures value { Answers is_outside stated_of result (IsNames which (lexemes tokens.now)) }
+    ensures value { Answers is_outside (λ x. x) result (IsNames which (lexemes tokens.now)) }
     ensures inside { IfErr result (λ e. is_failure e ≡ false) }
 {
     let names = names(alloc, tokens)?;

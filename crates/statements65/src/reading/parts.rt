@@ -6,7 +6,7 @@ ghost use Rattle.syntax65.specs.Expressions.{IsParsed, binary_at, opening_in};
 ghost use Rattle.syntax65.specs.Faults.{is_expr_outside};
 ghost use Rattle.base65.specs.Relations.{Answers};
 ghost use Rattle.syntax65.specs.Tokens.{lexeme_of, lexemes};
-ghost use Rattle.syntax65.specs.Trees.{number, tree_of};
+ghost use Rattle.syntax65.specs.Trees.{number};
 ghost use Rattle.syntax65.specs.declared.expressions.words.Opening.TheVariants.{Number};
 ghost use Rattle.language65.specs.Faults.{is_failure, is_outside};
 ghost use Rattle.statements65.specs.Parsing.{is_comma, parts_behind, parts_of, quoted_in, string_of, IsExpression, IsFront};
@@ -56,7 +56,7 @@ pub fn lone_number(tokens: &[Token<'_>]) -> Option<u32>
 
 /// The expression at the front, and how many tokens it has. Most are one number, in which no operators are looked for.
 fn parsed(alloc: Global, tokens: &[Token<'_>]) -> Result<(Expr, usize), ExprFault>
-    ensures read { Answers is_expr_outside (λ r. (tree_of r.0, r.1)) result (IsParsed (lexemes tokens.now)) }
+    ensures read { Answers is_expr_outside (λ r. (r.0, r.1)) result (IsParsed (lexemes tokens.now)) }
     ensures bound { IfOk result (λ r. r.1 ≤ length tokens.now) }
 {
     match lone_number(tokens) {
@@ -67,7 +67,7 @@ fn parsed(alloc: Global, tokens: &[Token<'_>]) -> Result<(Expr, usize), ExprFaul
 
 /// An expression of all the tokens.
 pub fn expression(alloc: Global, tokens: &[Token<'_>]) -> Result<Expr, AsmFault>
-    ensures value { Answers is_outside tree_of result (IsExpression (lexemes tokens.now)) }
+    ensures value { Answers is_outside (λ x. x) result (IsExpression (lexemes tokens.now)) }
     ensures inside { IfErr result (λ e. is_failure e ≡ false) }
 {
     match parsed(alloc, tokens) {
@@ -107,7 +107,7 @@ pub fn front<'a, 'b>(
     alloc: Global,
     tokens: &'b [Token<'a>],
 ) -> Result<(Expr, &'b [Token<'a>]), AsmFault>
-    ensures value { Answers is_outside (λ x. (tree_of x.0, lexemes x.1.now)) result (IsFront (lexemes tokens.now)) }
+    ensures value { Answers is_outside (λ x. (x.0, lexemes x.1.now)) result (IsFront (lexemes tokens.now)) }
     ensures inside { IfErr result (λ e. is_failure e ≡ false) }
 {
     match parsed(alloc, tokens) {

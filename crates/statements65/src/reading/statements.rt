@@ -6,7 +6,6 @@ ghost use Rattle.base65.specs.Relations.{Answers};
 ghost use Rattle.syntax65.specs.Tokens.{lexemes};
 ghost use Rattle.language65.specs.Faults.{is_failure, is_outside};
 ghost use Rattle.statements65.specs.Parsing.{IsConstant, IsInstruction, IsNamed, IsPlainConstant, IsStatement};
-ghost use Rattle.language65.specs.Views.{stated_of};
 
 use super::directives::directive_statement;
 use super::operands::operand;
@@ -18,7 +17,7 @@ use std::alloc::Global;
 use syntax65::{Mnemonic, Token, TokenKind, is_reserved, mnemonic};
 
 fn plain_constant(alloc: Global, name: &[u8], tokens: &[Token<'_>]) -> Result<Statement, AsmFault>
-    ensures value { Answers is_outside stated_of result (IsPlainConstant name.now (lexemes tokens.now)) }
+    ensures value { Answers is_outside (λ x. x) result (IsPlainConstant name.now (lexemes tokens.now)) }
     ensures inside { IfErr result (λ e. is_failure e ≡ false) }
 {
     let value = expression(alloc, tokens)?;
@@ -28,7 +27,7 @@ fn plain_constant(alloc: Global, name: &[u8], tokens: &[Token<'_>]) -> Result<St
 
 /// `name = e`, by the name and what stands behind the mark.
 fn constant(alloc: Global, name: &[u8], tokens: &[Token<'_>]) -> Result<Statement, AsmFault>
-    ensures value { Answers is_outside stated_of result (IsConstant name.now (lexemes tokens.now)) }
+    ensures value { Answers is_outside (λ x. x) result (IsConstant name.now (lexemes tokens.now)) }
     ensures inside { IfErr result (λ e. is_failure e ≡ false) }
 {
     if is_reserved(name) {
@@ -43,7 +42,7 @@ fn with_operand(
     mnemonic: Mnemonic,
     tokens: &[Token<'_>],
 ) -> Result<Statement, AsmFault>
-    ensures value { Answers is_outside stated_of result (IsInstruction (Some mnemonic) (lexemes tokens.now)) }
+    ensures value { Answers is_outside (λ x. x) result (IsInstruction (Some mnemonic) (lexemes tokens.now)) }
     ensures inside { IfErr result (λ e. is_failure e ≡ false) }
 {
     let operand = operand(alloc, tokens)?;
@@ -52,7 +51,7 @@ fn with_operand(
 
 /// An instruction, by its name and its operand.
 fn instruction(alloc: Global, name: &[u8], tokens: &[Token<'_>]) -> Result<Statement, AsmFault>
-    ensures value { Answers is_outside stated_of result (IsInstruction (mnemonic_of name.now) (lexemes tokens.now)) }
+    ensures value { Answers is_outside (λ x. x) result (IsInstruction (mnemonic_of name.now) (lexemes tokens.now)) }
     ensures inside { IfErr result (λ e. is_failure e ≡ false) }
 {
     match mnemonic(name) {
@@ -63,7 +62,7 @@ fn instruction(alloc: Global, name: &[u8], tokens: &[Token<'_>]) -> Result<State
 
 /// A statement that begins with an identifier.
 fn named(alloc: Global, name: &[u8], tokens: &[Token<'_>]) -> Result<Statement, AsmFault>
-    ensures value { Answers is_outside stated_of result (IsNamed name.now (lexemes tokens.now)) }
+    ensures value { Answers is_outside (λ x. x) result (IsNamed name.now (lexemes tokens.now)) }
     ensures inside { IfErr result (λ e. is_failure e ≡ false) }
 {
     match tokens.split_first() {
@@ -85,7 +84,7 @@ fn named(alloc: Global, name: &[u8], tokens: &[Token<'_>]) -> Result<Statement, 
 /// Tokens that are no statement aren't understood.
 #[inline(never)]
 pub fn statement(alloc: Global, tokens: &[Token<'_>]) -> Result<Statement, AsmFault>
-    ensures value { Answers is_outside stated_of result (IsStatement (lexemes tokens.now)) }
+    ensures value { Answers is_outside (λ x. x) result (IsStatement (lexemes tokens.now)) }
     ensures inside { IfErr result (λ e. is_failure e ≡ false) }
 {
     let Some((first, behind)) = tokens.split_first() else {

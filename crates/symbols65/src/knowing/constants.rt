@@ -1,7 +1,6 @@
 //! The values of expressions that are constant at a line.
 
 ghost use Rattle.std.specs.Prelude.{◌≡◌, IfOk, OnOk};
-ghost use Rattle.syntax65.specs.Trees.{tree_of};
 ghost use Rattle.language65.specs.Norms.{constant_in};
 ghost use Rattle.symbols65.specs.Resolving.{IsTable};
 ghost use Rattle.symbols65.specs.Views.{table_of};
@@ -22,7 +21,7 @@ pub fn constant(
     value: &Expr,
 ) -> Result<Option<i64>, AllocError>
     requires { IsTable (table_of symbols.now) known.old.states.items }
-    ensures value { IfOk result (λ v. v ≡ constant_in (table_of symbols.now) spot (tree_of value.now)) }
+    ensures value { IfOk result (λ v. v ≡ constant_in (table_of symbols.now) spot value.now) }
     ensures table { OnOk result (IsTable (table_of symbols.now) known.new.states.items) }
 {
     match norm(alloc, symbols, known, spot, value) {
@@ -43,7 +42,7 @@ pub fn constant_now(
     spot: Spot,
     value: &Expr,
 ) -> Result<Option<i64>, AllocError>
-    ensures { IfOk result (λ v. v ≡ constant_in (table_of symbols.now) spot (tree_of value.now)) }
+    ensures { IfOk result (λ v. v ≡ constant_in (table_of symbols.now) spot value.now) }
 {
     match settled(alloc, symbols, spot, value) {
         Ok(form) => Ok(literal(&form)),

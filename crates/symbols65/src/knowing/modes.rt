@@ -2,7 +2,6 @@
 
 ghost use Rattle.std.specs.Prelude.{◌≡◌, IfOk, OnOk};
 ghost use Rattle.language65.specs.Sizes.{address_mode, branch_mode, first_of, is_branch, mode_for, mode_of};
-ghost use Rattle.language65.specs.Views.{operand_of};
 ghost use Rattle.symbols65.specs.Resolving.{IsTable};
 ghost use Rattle.symbols65.specs.Views.{table_of};
 
@@ -86,7 +85,7 @@ pub fn mode(
     operand: &Operand,
 ) -> Result<Option<Mode>, AllocError>
     requires { IsTable (table_of symbols.now) known.old.states.items }
-    ensures mode { IfOk result (λ m. m ≡ mode_of (table_of symbols.now) spot own mnemonic (operand_of operand.now)) }
+    ensures mode { IfOk result (λ m. m ≡ mode_of (table_of symbols.now) spot own mnemonic operand.now) }
     ensures table { OnOk result (IsTable (table_of symbols.now) known.new.states.items) }
 {
     match operand {

@@ -2,7 +2,6 @@
 
 ghost use Rattle.std.specs.Prelude.{◌≡◌, IfOk, Ok, OnOk, slice_get};
 ghost use Rattle.std.specs.Result.{result_ok};
-ghost use Rattle.syntax65.specs.Trees.{tree_of};
 ghost use Rattle.language65.specs.Names.{meaning_of};
 ghost use Rattle.language65.specs.Norms.{constant_in, norm_of};
 ghost use Rattle.language65.specs.Sizes.{is_byte, larger, size_by, size_defined, size_of, size_of_import, size_of_meaning, size_of_value, takes_byte};
@@ -118,13 +117,13 @@ fn reference_form_and_size(
     operand: &Expr,
 ) -> Result<FormAndSize, AllocError>
     requires table { IsTable (table_of symbols.now) known.old.states.items }
-    requires reference { IsReference (tree_of operand.now) }
+    requires reference { IsReference operand.now }
     ensures form { IfOk result (λ r. r.form ≡ result_ok
-        (norm_of (table_of symbols.now) spot (tree_of operand.now))) }
+        (norm_of (table_of symbols.now) spot operand.now)) }
     ensures size { IfOk result (λ r. r.size ≡ size_by
         (size_of_meaning (table_of symbols.now)
-        (meaning_of (table_of symbols.now) spot (tree_of operand.now)))
-        (constant_in (table_of symbols.now) spot (tree_of operand.now))) }
+        (meaning_of (table_of symbols.now) spot operand.now))
+        (constant_in (table_of symbols.now) spot operand.now)) }
     ensures table { OnOk result (IsTable (table_of symbols.now) known.new.states.items) }
 {
     match meaning_of(alloc, symbols, spot, operand) {
@@ -163,9 +162,9 @@ fn form_and_size(
 ) -> Result<FormAndSize, AllocError>
     requires { IsTable (table_of symbols.now) known.old.states.items }
     ensures form { IfOk result (λ r. r.form ≡ result_ok
-        (norm_of (table_of symbols.now) spot (tree_of value.now))) }
+        (norm_of (table_of symbols.now) spot value.now)) }
     ensures size { IfOk result (λ r.
-        r.size ≡ size_of (table_of symbols.now) spot own (tree_of value.now)) }
+        r.size ≡ size_of (table_of symbols.now) spot own value.now) }
     ensures table { OnOk result (IsTable (table_of symbols.now) known.new.states.items) }
 {
     match value {
@@ -215,7 +214,7 @@ pub fn size(
 ) -> Result<AddressSize, AllocError>
     requires { IsTable (table_of symbols.now) known.old.states.items }
     ensures size { IfOk result (λ s.
-        s ≡ size_of (table_of symbols.now) spot own (tree_of value.now)) }
+        s ≡ size_of (table_of symbols.now) spot own value.now) }
     ensures table { OnOk result (IsTable (table_of symbols.now) known.new.states.items) }
 {
     let found = form_and_size(alloc, symbols, known, spot, own, value)?;

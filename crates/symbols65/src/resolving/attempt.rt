@@ -3,7 +3,6 @@
 ghost use Rattle.std.specs.Prelude.{◌≡◌, slice_get};
 ghost use Rattle.std.specs.Option.{option_map};
 ghost use Rattle.base65.specs.Outcome.{Gives};
-ghost use Rattle.syntax65.specs.Trees.{tree_of};
 ghost use Rattle.object65.specs.Folding.{fold1, fold2};
 ghost use Rattle.language65.specs.declared.fault.AsmFault.TheVariants.{OutOfMemory};
 ghost use Rattle.language65.specs.Norms.{address_of, folded};
@@ -164,7 +163,7 @@ fn operand_norm(
     spot: Spot,
     operand: &Expr,
 ) -> Result<Norm, Stop>
-    ensures { Gives lacks_memory (λ f. f) result (operand_form (known_by symbols.now source.entry) (table_of symbols.now) spot (tree_of operand.now)) }
+    ensures { Gives lacks_memory (λ f. f) result (operand_form (known_by symbols.now source.entry) (table_of symbols.now) spot operand.now) }
 {
     let meaning = meaning_of(alloc, symbols, spot, operand)?;
     meant(alloc, symbols, source, meaning)
@@ -178,7 +177,7 @@ pub fn try_norm(
     spot: Spot,
     value: &Expr,
 ) -> Result<Norm, Stop>
-    ensures { Gives lacks_memory (λ f. f) result (tried (known_by symbols.now source.entry) (table_of symbols.now) spot (tree_of value.now)) }
+    ensures { Gives lacks_memory (λ f. f) result (tried (known_by symbols.now source.entry) (table_of symbols.now) spot value.now) }
 {
     match value {
         Expr::Number(number) => Ok(Norm::new(Node::Lit(i64::from(*number)))),
@@ -220,7 +219,7 @@ pub fn try_last(
     value: &Expr,
     waiting: &[usize],
 ) -> Result<Norm, Stop>
-    ensures { Gives lacks_memory (λ f. f) result (tried_last (slice_get states.now) (table_of symbols.now) (tried (slice_get states.now) (table_of symbols.now) spot (tree_of value.now)) waiting.now) }
+    ensures { Gives lacks_memory (λ f. f) result (tried_last (slice_get states.now) (table_of symbols.now) (tried (slice_get states.now) (table_of symbols.now) spot value.now) waiting.now) }
 {
     let source = Source::Table(states);
     match waiting.last() {

@@ -1,7 +1,7 @@
 //! Forms that are final: that stay whatever statements follow.
 
 ghost use Rattle.std.specs.Prelude.{◌≡◌, ◌∷◌, [], IfOk, IfSome, None, Some, false, length, true};
-ghost use Rattle.syntax65.specs.Trees.{name as name_tree, cheap as cheap_tree, backward as backward_tree, tree_of};
+ghost use Rattle.syntax65.specs.Trees.{name as name_tree, cheap as cheap_tree, backward as backward_tree};
 ghost use Rattle.object65.specs.Form.{Form};
 ghost use Rattle.language65.specs.Extending.{IsFinal};
 ghost use Rattle.symbols65.specs.Finals.{IsFinalWithin};
@@ -74,7 +74,7 @@ fn label_before(symbols: &Symbols, spot: Spot, steps: usize) -> Option<usize>
 /// of an import, of a reference further on, or of a name without `::` that is only defined further out.
 fn final_place(symbols: &Symbols, spot: Spot, operand: &Expr) -> Option<usize>
     ensures { IfSome result
-        (MeansAlways (table_of symbols.now) spot (tree_of operand.now)) }
+        (MeansAlways (table_of symbols.now) spot operand.now) }
 {
     match operand {
         Expr::Name(name) => match plain_part(name) {
@@ -90,7 +90,7 @@ fn final_place(symbols: &Symbols, spot: Spot, operand: &Expr) -> Option<usize>
 /// Whether each operand of an expression means the same whatever statements follow.
 pub fn are_final(symbols: &Symbols, spot: Spot, value: &Expr) -> bool
     ensures { result ≡ true →
-        Operands (MeansFinally (table_of symbols.now) spot) (tree_of value.now) }
+        Operands (MeansFinally (table_of symbols.now) spot) value.now }
 {
     match value {
         Expr::Number(_) | Expr::Here => true,
@@ -113,7 +113,7 @@ fn final_operand(
 ) -> Result<Option<Norm>, AllocError>
     ensures { IfOk result (λ o. (f : Form) → o ≡ Some f → IsFinalWithin
         (length (table_of symbols.now).definitions)
-        (table_of symbols.now) spot (tree_of operand.now) f) }
+        (table_of symbols.now) spot operand.now f) }
 {
     let Some(place) = final_place(symbols, spot, operand) else {
         return Ok(None);
@@ -140,7 +140,7 @@ fn lasting_form(
 ) -> Result<Option<Norm>, AllocError>
     ensures { IfOk result (λ o. (f : Form) → o ≡ Some f → IsFinalWithin
         (length (table_of symbols.now).definitions)
-        (table_of symbols.now) spot (tree_of value.now) f) }
+        (table_of symbols.now) spot value.now f) }
 {
     match value {
         Expr::Number(number) => Ok(Some(Norm::new(Node::Lit(i64::from(*number))))),
@@ -172,10 +172,10 @@ pub fn final_form(
     value: &Expr,
 ) -> Result<Option<Norm>, AllocError>
     ensures stays { IfOk result (λ o. (f : Form) → o ≡ Some f →
-        IsFinal (table_of symbols.now) spot (tree_of value.now) f) }
+        IsFinal (table_of symbols.now) spot value.now f) }
     ensures within { IfOk result (λ o. (f : Form) → o ≡ Some f → IsFinalWithin
         (length (table_of symbols.now).definitions)
-        (table_of symbols.now) spot (tree_of value.now) f) }
+        (table_of symbols.now) spot value.now f) }
 {
     lasting_form(alloc, symbols, spot, value)
 }

@@ -1,7 +1,6 @@
 //! Constants that hang on others: that have each fault of theirs, whatever statements follow.
 
 ghost use Rattle.std.specs.Prelude.{◌≡◌, IfOk, IfSome, map, slice_get};
-ghost use Rattle.syntax65.specs.Trees.{tree_of};
 ghost use Rattle.symbols65.specs.declared.resolving.attempt.Source.TheVariants.{Finals};
 ghost use Rattle.symbols65.specs.Hanging.{AreHung, HangsOn, Reaches, bare, hung_on, needed_in};
 ghost use Rattle.symbols65.specs.Inner.Sources.{known_by};
@@ -22,7 +21,7 @@ fn needed_by(
     spot: Spot,
     value: &Expr,
 ) -> Result<Option<usize>, AllocError>
-    ensures { IfOk result (λ o. o ≡ needed_in (tried (known_by symbols.now Finals) (table_of symbols.now) spot (tree_of value.now))) }
+    ensures { IfOk result (λ o. o ≡ needed_in (tried (known_by symbols.now Finals) (table_of symbols.now) spot value.now)) }
 {
     match try_norm(alloc, symbols, Source::Finals, spot, value) {
         Ok(_) => Ok(None),

@@ -2,7 +2,6 @@
 
 ghost use Rattle.std.specs.Prelude.{◌+◌, ◌<◌, ◌≡◌, IfOk, OnOk, replicate, Some, [], length, map, ℕ, slice_get, slice_set, true};
 ghost use Rattle.base65.specs.Outcome.{Finds, Gives};
-ghost use Rattle.syntax65.specs.Trees.{tree_of};
 ghost use Rattle.language65.specs.Faults.{is_memory};
 ghost use Rattle.symbols65.specs.declared.resolving.attempt.State.TheVariants.{Unknown, Waiting, Found};
 ghost use Rattle.symbols65.specs.Inner.Knowns.{AreNoted, is_found, without};
@@ -146,7 +145,7 @@ impl Known {
         value: &Expr,
     ) -> Result<Norm, AsmFault>
         requires table { IsTable (table_of symbols.now) self.old.states.items }
-        ensures form { Gives is_memory (λ f. f) result (norm_of (table_of symbols.now) spot (tree_of value.now)) }
+        ensures form { Gives is_memory (λ f. f) result (norm_of (table_of symbols.now) spot value.now) }
         ensures table { Finds is_memory (λ _. IsTable (table_of symbols.now) self.new.states.items) result }
     {
         let mut waiting: Vec<usize> = Vec::new(alloc);

@@ -3,7 +3,6 @@
 ghost use Rattle.std.specs.Prelude.{◌≡◌, ◌+◌, ◌-◌, ◌^◌, ◌≤◌, IfNone, IfSome, Some};
 ghost use Rattle.std.specs.Option.{option_map};
 ghost use Rattle.base65.specs.Outcome.{Gives};
-ghost use Rattle.syntax65.specs.Trees.{tree_of};
 ghost use Rattle.language65.specs.declared.fault.AsmFault.{AsmFault};
 ghost use Rattle.language65.specs.declared.fault.AsmFault.TheVariants.{NoSuchLabel, Undefined};
 ghost use Rattle.language65.specs.Faults.{is_memory};
@@ -226,7 +225,7 @@ pub fn meaning_of(
     spot: Spot,
     operand: &Expr,
 ) -> Result<Meaning, AsmFault>
-    ensures { Gives is_memory meaning_in result (meaning_of (table_of symbols.now) spot (tree_of operand.now)) }
+    ensures { Gives is_memory meaning_in result (meaning_of (table_of symbols.now) spot operand.now) }
 {
     match operand {
         Expr::Name(name) => name_meaning(alloc, symbols, spot, name),

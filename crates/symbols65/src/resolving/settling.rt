@@ -2,7 +2,6 @@
 
 ghost use Rattle.std.specs.Prelude.{◌≡◌, Ok};
 ghost use Rattle.base65.specs.Outcome.{Finds, Gives};
-ghost use Rattle.syntax65.specs.Trees.{tree_of};
 ghost use Rattle.language65.specs.Faults.{is_memory};
 ghost use Rattle.language65.specs.Names.{meaning_of};
 ghost use Rattle.language65.specs.Norms.{defined_form, norm_of};
@@ -21,7 +20,7 @@ use syntax65::Expr;
 
 /// The normal form of an expression where the forms of what its operands mean now are final.
 pub fn settled(alloc: Global, symbols: &Symbols, spot: Spot, value: &Expr) -> Result<Norm, Stop>
-    ensures { Settles (norm_of (table_of symbols.now) spot (tree_of value.now)) result }
+    ensures { Settles (norm_of (table_of symbols.now) spot value.now) result }
 {
     try_norm(alloc, symbols, Source::Finals, spot, value)
 }
@@ -36,7 +35,7 @@ pub fn norm(
 ) -> Result<Norm, AsmFault>
     requires { IsTable (table_of symbols.now) known.old.states.items }
     ensures form { Gives is_memory (λ f. f) result
-        (norm_of (table_of symbols.now) spot (tree_of value.now)) }
+        (norm_of (table_of symbols.now) spot value.now) }
     ensures table { Finds is_memory
         (λ _. IsTable (table_of symbols.now) known.new.states.items) result }
 {
@@ -57,10 +56,10 @@ pub fn meant_norm(
     meaning: Meaning,
 ) -> Result<Norm, AsmFault>
     requires table { IsTable (table_of symbols.now) known.old.states.items }
-    requires meaning { meaning_of (table_of symbols.now) spot (tree_of operand.now)
+    requires meaning { meaning_of (table_of symbols.now) spot operand.now
         ≡ Ok (meaning_in meaning) }
     ensures form { Gives is_memory (λ f. f) result
-        (norm_of (table_of symbols.now) spot (tree_of operand.now)) }
+        (norm_of (table_of symbols.now) spot operand.now) }
     ensures table { Finds is_memory
         (λ _. IsTable (table_of symbols.now) known.new.states.items) result }
 {

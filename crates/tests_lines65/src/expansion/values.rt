@@ -1,7 +1,6 @@
 //! What is known of names and expressions: numbers and operators, and whether names are defined.
 
 ghost use Rattle.std.specs.Prelude.{◌≡◌};
-ghost use Rattle.syntax65.specs.Trees.{tree_of};
 ghost use Rattle.tests_lines65.specs.Constants.{value_of};
 
 use base65::{apply1, apply2};
@@ -11,7 +10,7 @@ use syntax65::{Expr, Name};
 
 /// The value of an expression without names.
 fn value_of(expr: &Expr) -> Option<i64>
-    ensures { result ≡ value_of (tree_of expr.now) }
+    ensures { result ≡ value_of expr.now }
 {
     match expr {
         Expr::Number(value) => Some(*value as i64),

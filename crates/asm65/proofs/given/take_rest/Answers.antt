@@ -2,7 +2,7 @@ use Rattle.std.proofs.Common.{◌≡◌, ◌∙◌, [], length, ap, sym, subst, 
 use Rattle.std.proofs.lemmas.Result.{err_from_is_err_and}
 use Rattle.syntax65.specs.Tokens.{lexemes}
 use Rattle.language65.specs.Sound.{AreNamed}
-use Rattle.language65.specs.Views.{place_in, stated_of}
+use Rattle.language65.specs.Views.{place_in}
 use Rattle.module65.specs.Machine.{Takes}
 use Rattle.module65.specs.Reading.{IsRest}
 use Rattle.module65.proofs.Given.{some_tokens}
@@ -20,7 +20,7 @@ returns-in_err-read_part-clause-taken g c =
     let ts = lexemes c.args.tokens.now in
     let some : ts ≡ [] → ⊥ = some_tokens c.args.tokens.now (some_there (length c.args.tokens.now) c.if-is_empty.ensures) in
     let P : Answer → Type 0 = TakesBy (AreNamed ts) (RestBy (g.S.Store.files c.args.store.now) place ts) 1 c.args.assembler.now c.read_part.new.assembler in
-    subst P (sym (p.1 ∙ ap Err p.2)) (rest_unread (g.S.Store.blamed c.read_part.new.store) place (stated_of c.in_ok-statement.statement) c.args.assembler.now c.read_part.new.assembler e c.in_err-read_part.ensures.refused c.in_err-read_part.ensures.texts (g.S.Store.files c.args.store.now) ts some c.in_ok-statement.ensures.value)
+    subst P (sym (p.1 ∙ ap Err p.2)) (rest_unread (g.S.Store.blamed c.read_part.new.store) place c.in_ok-statement.statement c.args.assembler.now c.read_part.new.assembler e c.in_err-read_part.ensures.refused c.in_err-read_part.ensures.texts (g.S.Store.files c.args.store.now) ts some c.in_ok-statement.ensures.value)
 
 pub returns-in_err-read_part-clause-stopped : goal.returns-in_err-read_part-clause-stopped
 returns-in_err-read_part-clause-stopped g c =
@@ -30,7 +30,7 @@ returns-in_err-read_part-clause-stopped g c =
     let place = place_in c.args.at.file.now c.args.at.line in
     let ts = lexemes c.args.tokens.now in
     let some : ts ≡ [] → ⊥ = some_tokens c.args.tokens.now (some_there (length c.args.tokens.now) c.if-is_empty.ensures) in
-    rest_stops (g.S.Store.blamed c.read_part.new.store) place (stated_of c.in_ok-statement.statement) c.args.assembler.now c.read_part.new.assembler e c.in_err-read_part.ensures.refused c.in_err-read_part.ensures.texts ts r some c.in_ok-statement.ensures.value c.in_err-read_part.ensures.failed (p.1 ∙ ap Err p.2)
+    rest_stops (g.S.Store.blamed c.read_part.new.store) place c.in_ok-statement.statement c.args.assembler.now c.read_part.new.assembler e c.in_err-read_part.ensures.refused c.in_err-read_part.ensures.texts ts r some c.in_ok-statement.ensures.value c.in_err-read_part.ensures.failed (p.1 ∙ ap Err p.2)
 
 pub take_sound-requires : goal.take_sound-requires
 take_sound-requires g c =
@@ -42,8 +42,8 @@ returns-clause-taken g c =
     let some : lexemes c.args.tokens.now ≡ [] → ⊥ = some_tokens c.args.tokens.now (some_there (length c.args.tokens.now) c.if-is_empty.ensures) in
     let place = place_in c.args.at.file.now c.args.at.line in
     let ts = lexemes c.args.tokens.now in
-    let x = stated_of c.in_ok-statement.statement in
-    let y = stated_of c.read_part.new.statement in
+    let x = c.in_ok-statement.statement in
+    let y = c.read_part.new.statement in
     takes_from (AreNamed ts) (RestBy (g.S.Store.files c.args.store.now) place ts) 1 c.args.assembler.now c.read_part.new.assembler c.take_sound.new.assembler c.take_sound.result c.in_ok-read_part.ensures.held
     (rest_leaves (g.S.Store.files c.args.store.now) place ts x y c.read_part.new.assembler c.take_sound.new.assembler c.take_sound.result some c.in_ok-statement.ensures.value c.in_ok-read_part.ensures.bytes c.take_sound.ensures.taken)
 

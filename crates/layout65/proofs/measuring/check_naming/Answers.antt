@@ -5,7 +5,6 @@ use Rattle.language65.specs.declared.fault.AsmFault.{AsmFault}
 use Rattle.language65.specs.declared.fault.AsmFault.TheVariants.{NotUnderstood}
 use Rattle.language65.specs.Symbols.{key_defined}
 use Rattle.language65.specs.LineFaults.{defined_twice, is_open, lost_scopes, opened_twice, or_then, scope_name, stands_outside, trees_of, when, unless_fault}
-use Rattle.language65.specs.Views.{stated_of}
 use Rattle.symbols65.specs.Views.{table_of}
 use Rattle.layout65.proofs.Measures.{left_behind, refused_first, refused_same}
 use Rattle.layout65.proofs.measuring.check_naming.Goals as goal
@@ -16,7 +15,7 @@ returns-in_err-check_trees c =
     let e = c.in_err-check_trees.field-0.0 in
     let y = table_of c.args.symbols.now in
     let s = c.args.spot in
-    let x = stated_of c.args.statement.now in
+    let x = c.args.statement.now in
     let lost : Option AsmFault = lost_scopes y.scopes s.scope (trees_of x) in
     let rest : Option AsmFault = or_then (opened_twice y.scopes s.scope (scope_name x)) (defined_twice y (key_defined s x)) in
     rw (p.1, p.2) (refused_same e _ _

@@ -2,7 +2,6 @@ use Rattle.std.proofs.Common.{◌≡◌, ◌∙◌, Bool, refl, sym, subst}
 use Rattle.std.specs.Prelude.{true, if◌then◌else◌}
 use Rattle.language65.specs.Contents.{asking}
 use Rattle.language65.specs.Laid.{asks_section}
-use Rattle.language65.specs.Views.{stated_of}
 use Rattle.module65.specs.Machine.{entered}
 use Rattle.asm65.specs.declared.assembler.Assembler.{Assembler}
 use Rattle.asm65.specs.Inner.Holding.{Holds}
@@ -13,6 +12,6 @@ pub returns-in_ok-ask-clause-asked : goal.returns-in_ok-ask-clause-asked
 returns-in_ok-ask-clause-asked c = λ count t h.
     (let old : Assembler = c.args.self.now in
     let new : Assembler = record old { sections = c.ask.new.self } in
-    let asks : asks_section (stated_of c.args.statement.now) ≡ true = sym c.asks_section.ensures ∙ c.if-asks_section.true in
+    let asks : asks_section c.args.statement.now ≡ true = sym c.asks_section.ensures ∙ c.if-asks_section.true in
     subst (λ (b : Bool). Holds count (if b then entered t (asking c.args.segment) else t) new) (sym asks)
     (holds_entered count t old new h (record { symbols = refl; known = refl; standing = refl; texts = refl }) (asking c.args.segment) c.in_ok-ask.ensures refl refl))

@@ -4,7 +4,6 @@ use Rattle.language65.specs.Faults.{is_memory}
 use Rattle.language65.specs.Layout.{Standing}
 use Rattle.language65.specs.LineFaults.{unless_fault}
 use Rattle.language65.specs.Symbols.{Symbols}
-use Rattle.language65.specs.Views.{range_of}
 use Rattle.symbols65.specs.Views.{table_of}
 use Rattle.layout65.specs.Measuring.{unread_fault}
 use Rattle.layout65.specs.Views.{standing_of}
@@ -14,7 +13,7 @@ use Rattle.asm65.proofs.assembler.Assembler.check_unread.Goals as goal
 
 pub returns-clause-checked : goal.returns-clause-checked
 returns-clause-checked c = λ count t h.
-    (let range = range_of c.args.range.now in
+    (let range = c.args.range.now in
     let P : Symbols → Type 0 = λ y. Gives is_memory (λ (u : Unit {0}). u) c.check_unread.result (unless_fault {A = Unit {0}} (unread_fault y (standing_of c.args.self.now.standing) range.0 range.1) tt) in
     let Q : Standing → Type 0 = λ w. Gives is_memory (λ (u : Unit {0}). u) c.check_unread.result (unless_fault {A = Unit {0}} (unread_fault t.symbols w range.0 range.1) tt) in
     subst Q h.standing (subst P h.symbols c.check_unread.ensures.checked))
@@ -24,5 +23,5 @@ returns-clause-held c = λ count t h. held_on count t c.args.self.now c.check_un
 
 pub returns-clause-inside : goal.returns-clause-inside
 returns-clause-inside c =
-    let range = range_of c.args.range.now in
+    let range = c.args.range.now in
     unread_inside c.check_unread.result (table_of c.args.self.now.symbols) (standing_of c.args.self.now.standing) range.0 range.1 c.check_unread.ensures.checked

@@ -1,6 +1,6 @@
 use Rattle.std.proofs.Common.{◌≡◌, ◌∙◌, [], Option, None, Some, length, refl, sym, ap, subst}
 use Rattle.std.specs.Prelude.{is_some, slice_get, true}
-use Rattle.syntax65.specs.Trees.{Tree, tree_of}
+use Rattle.syntax65.specs.Trees.{Tree}
 use Rattle.source65.specs.declared.place.Place.{Place}
 use Rattle.object65.specs.Form.{Form}
 use Rattle.language65.specs.Contents.{telling}
@@ -32,7 +32,7 @@ returns-in_ok-wait c = λ count t h inside unnamed.
     let mid : Assembler = c.define.new.self in
     let place : Place = place_in c.args.stand.at.file.now c.args.stand.at.line in
     let s : Spot = c.args.stand.spot in
-    let e : Tree = tree_of c.args.value in
+    let e : Tree = c.args.value in
     let d : Definition = record { key = named c.args.stand.spot.scope c.args.name.now; value = Some e; spot = s; size = c.args.size } in
     let y : Symbols = with_definition t.symbols d in
     let table : table_of mid.symbols ≡ y = c.in_ok-define.ensures.table ∙ ap (λ (z : Symbols). with_definition z d) h.symbols in
@@ -57,7 +57,7 @@ returns-else-waits c = λ count t h inside unnamed.
     let mid : Assembler = c.define.new.self in
     let place : Place = place_in c.args.stand.at.file.now c.args.stand.at.line in
     let s : Spot = c.args.stand.spot in
-    let e : Tree = tree_of c.args.value in
+    let e : Tree = c.args.value in
     let d : Definition = record { key = named c.args.stand.spot.scope c.args.name.now; value = Some e; spot = s; size = c.args.size } in
     let y : Symbols = with_definition t.symbols d in
     let table : table_of mid.symbols ≡ y = c.in_ok-define.ensures.table ∙ ap (λ (z : Symbols). with_definition z d) h.symbols in

@@ -1,5 +1,4 @@
 use Rattle.std.proofs.Common.{refl}
-use Rattle.syntax65.specs.Trees.{tree_of}
 use Rattle.language65.specs.Views.{place_in}
 use Rattle.module65.specs.Pieces.{datum, valued}
 use Rattle.asm65.specs.declared.waiting.Piece.TheVariants.{Datum}
@@ -10,5 +9,5 @@ use Rattle.asm65.proofs.assembler.Assembler.enter_datum.Goals as goal
 pub returns : goal.returns
 returns c =
     let place = place_in c.args.stand.at.file.now c.args.stand.at.line in
-    let v = valued (datum c.args.width) (tree_of c.args.value) in
+    let v = valued (datum c.args.width) c.args.value in
     ok_then c.wait.result (λ waits. tried_waits c.args.self.now c.put_datum.new.self c.wait.new.self place c.args.stand.spot (Datum c.args.width c.args.value) v c.in_ok-put_datum.field-0 c.in_ok-put_datum.ensures c.if-branch.false refl waits) c.wait.ensures.waits

@@ -1,10 +1,10 @@
 use Rattle.std.proofs.Common.{Option, ◌∷◌, [], subst}
 use Rattle.std.specs.Option.{option_map}
 use Rattle.syntax65.specs.Opcodes.{opcode_of}
-use Rattle.syntax65.specs.Trees.{Tree, tree_of}
+use Rattle.syntax65.specs.Trees.{Tree}
 use Rattle.language65.specs.Contents.{opcode_part, operand_tree}
 use Rattle.language65.specs.Sizes.{width_of}
-use Rattle.language65.specs.Views.{operand_of, place_in}
+use Rattle.language65.specs.Views.{place_in}
 use Rattle.module65.specs.Pieces.{given, operand_pieces}
 use Rattle.asm65.specs.Inner.Holding.{Enters}
 use Rattle.asm65.proofs.Enterings.{enters_both}
@@ -20,7 +20,7 @@ returns c =
     let new = c.enter_operand_of.new.self in
     let code = subst (λ code. Enters place s (given (opcode_part code) ∷ []) old mid) c.opcode.ensures (c.in_ok-enter_code.ensures place) in
     ok_then c.enter_operand_of.result
-    (λ value. enters_both place s (given (opcode_part (opcode_of c.args.mnemonic c.args.mode)) ∷ []) (operand_pieces (width_of c.args.mode) (operand_tree (operand_of c.args.operand))) old mid new code
+    (λ value. enters_both place s (given (opcode_part (opcode_of c.args.mnemonic c.args.mode)) ∷ []) (operand_pieces (width_of c.args.mode) (operand_tree c.args.operand)) old mid new code
     (subst (λ (e : Option Tree). Enters place s (operand_pieces (width_of c.args.mode) e) mid new) c.operand_value.ensures
-    (subst (λ width. Enters place s (operand_pieces width (option_map tree_of c.operand_value.result)) mid new) c.width_of.ensures value)))
+    (subst (λ width. Enters place s (operand_pieces width c.operand_value.result) mid new) c.width_of.ensures value)))
     c.enter_operand_of.ensures

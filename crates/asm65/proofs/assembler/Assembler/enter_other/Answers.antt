@@ -1,9 +1,8 @@
 use Rattle.std.proofs.Common.{◌∙◌, map, sym, ap}
 use Rattle.std.specs.Prelude.{Some, None, box_value, true}
 use Rattle.std.specs.Option.{option_map}
-use Rattle.syntax65.specs.Trees.{tree_of}
 use Rattle.language65.specs.Language as l
-use Rattle.language65.specs.Views.{item_of, operand_of, place_in, range_of, stated_of}
+use Rattle.language65.specs.Views.{place_in}
 use Rattle.module65.specs.Pieces.{exported}
 use Rattle.asm65.proofs.Namings.{mentions_enter}
 use Rattle.asm65.proofs.Statements.{adds_cheap, adds_constant, adds_forced, adds_globals, adds_imports, adds_label, adds_pieces, adds_proc, adds_scope, adds_unnamed, nothing_behind, taken_as}
@@ -16,8 +15,8 @@ returns-in-Instruction c =
     let m = c.args.measured in
     let old = c.args.self.now in
     let new = c.enter_settled.new.self in
-    let x : l.Stated = l.instruction c.in-Instruction.mnemonic (operand_of c.in-Instruction.operand) in
-    taken_as place s m old new c.enter_settled.result x (stated_of c.args.statement) (sym (ap stated_of c.in-Instruction.is)) (λ h. adds_pieces place s m old new x (λ y. nothing_behind y) h) c.enter_settled.ensures
+    let x : l.Stated = l.instruction c.in-Instruction.mnemonic c.in-Instruction.operand in
+    taken_as place s m old new c.enter_settled.result x c.args.statement (sym c.in-Instruction.is) (λ h. adds_pieces place s m old new x (λ y. nothing_behind y) h) c.enter_settled.ensures
 
 pub returns-in-Values : goal.returns-in-Values
 returns-in-Values c =
@@ -26,8 +25,8 @@ returns-in-Values c =
     let m = c.args.measured in
     let old = c.args.self.now in
     let new = c.enter_values.new.self in
-    let x : l.Stated = l.values c.in-Values.width (map item_of c.in-Values.items) in
-    taken_as place s m old new c.enter_values.result x (stated_of c.args.statement) (sym (ap stated_of c.in-Values.is)) (λ h. adds_pieces place s m old new x (λ y. nothing_behind y) h) c.enter_values.ensures
+    let x : l.Stated = l.values c.in-Values.width c.in-Values.items in
+    taken_as place s m old new c.enter_values.result x c.args.statement (sym c.in-Values.is) (λ h. adds_pieces place s m old new x (λ y. nothing_behind y) h) c.enter_values.ensures
 
 pub returns-in-Reserve : goal.returns-in-Reserve
 returns-in-Reserve c =
@@ -36,8 +35,8 @@ returns-in-Reserve c =
     let m = c.args.measured in
     let old = c.args.self.now in
     let new = c.enter_room.new.self in
-    let x : l.Stated = l.reserve (tree_of c.in-Reserve.count) (option_map tree_of c.in-Reserve.value) in
-    taken_as place s m old new c.enter_room.result x (stated_of c.args.statement) (sym (ap stated_of c.in-Reserve.is)) (λ h. adds_pieces place s m old new x (λ y. nothing_behind y) (h place)) c.enter_room.ensures
+    let x : l.Stated = l.reserve c.in-Reserve.count c.in-Reserve.value in
+    taken_as place s m old new c.enter_room.result x c.args.statement (sym c.in-Reserve.is) (λ h. adds_pieces place s m old new x (λ y. nothing_behind y) (h place)) c.enter_room.ensures
 
 pub returns-in-Align : goal.returns-in-Align
 returns-in-Align c =
@@ -46,8 +45,8 @@ returns-in-Align c =
     let m = c.args.measured in
     let old = c.args.self.now in
     let new = c.enter_room-in-Align.new.self in
-    let x : l.Stated = l.align (tree_of c.in-Align.multiple) (option_map tree_of c.in-Align.value) in
-    taken_as place s m old new c.enter_room-in-Align.result x (stated_of c.args.statement) (sym (ap stated_of c.in-Align.is)) (λ h. adds_pieces place s m old new x (λ y. nothing_behind y) (h place)) c.enter_room-in-Align.ensures
+    let x : l.Stated = l.align c.in-Align.multiple c.in-Align.value in
+    taken_as place s m old new c.enter_room-in-Align.result x c.args.statement (sym c.in-Align.is) (λ h. adds_pieces place s m old new x (λ y. nothing_behind y) (h place)) c.enter_room-in-Align.ensures
 
 pub returns-in-FilePart : goal.returns-in-FilePart
 returns-in-FilePart c =
@@ -56,9 +55,9 @@ returns-in-FilePart c =
     let m = c.args.measured in
     let old = c.args.self.now in
     let new = c.enter_part.new.self in
-    let range = range_of (box_value c.in-FilePart.range) in
+    let range = (box_value c.in-FilePart.range) in
     let x : l.Stated = l.file_part c.in-FilePart.bytes range.0 range.1 in
-    taken_as place s m old new c.enter_part.result x (stated_of c.args.statement) (sym (ap stated_of c.in-FilePart.is)) (λ h. adds_pieces place s m old new x (λ y. nothing_behind y) (h place)) c.enter_part.ensures
+    taken_as place s m old new c.enter_part.result x c.args.statement (sym c.in-FilePart.is) (λ h. adds_pieces place s m old new x (λ y. nothing_behind y) (h place)) c.enter_part.ensures
 
 pub returns-in-Assert : goal.returns-in-Assert
 returns-in-Assert c =
@@ -67,8 +66,8 @@ returns-in-Assert c =
     let m = c.args.measured in
     let old = c.args.self.now in
     let new = c.enter_assertion.new.self in
-    let x : l.Stated = l.assertion (tree_of c.in-Assert.value) c.in-Assert.action c.in-Assert.text in
-    taken_as place s m old new c.enter_assertion.result x (stated_of c.args.statement) (sym (ap stated_of c.in-Assert.is)) (λ h. adds_pieces place s m old new x (λ y. nothing_behind y) h) c.enter_assertion.ensures
+    let x : l.Stated = l.assertion c.in-Assert.value c.in-Assert.action c.in-Assert.text in
+    taken_as place s m old new c.enter_assertion.result x c.args.statement (sym c.in-Assert.is) (λ h. adds_pieces place s m old new x (λ y. nothing_behind y) h) c.enter_assertion.ensures
 
 pub returns-in-Label : goal.returns-in-Label
 returns-in-Label c =
@@ -78,7 +77,7 @@ returns-in-Label c =
     let old = c.args.self.now in
     let new = c.define_label.new.self in
     let x : l.Stated = l.label c.as_slice-name.result.now in
-    taken_as place s m old new c.define_label.result x (stated_of c.args.statement) (ap l.label c.as_slice-name.ensures ∙ sym (ap stated_of c.in-Label.is)) (λ h. adds_label place s m old new c.as_slice-name.result.now (h place)) c.define_label.ensures
+    taken_as place s m old new c.define_label.result x c.args.statement (ap l.label c.as_slice-name.ensures ∙ sym c.in-Label.is) (λ h. adds_label place s m old new c.as_slice-name.result.now (h place)) c.define_label.ensures
 
 pub returns-in-CheapLabel : goal.returns-in-CheapLabel
 returns-in-CheapLabel c =
@@ -88,7 +87,7 @@ returns-in-CheapLabel c =
     let old = c.args.self.now in
     let new = c.define_label-in-CheapLabel.new.self in
     let x : l.Stated = l.cheap_label c.as_slice-name-in-CheapLabel.result.now in
-    taken_as place s m old new c.define_label-in-CheapLabel.result x (stated_of c.args.statement) (ap l.cheap_label c.as_slice-name-in-CheapLabel.ensures ∙ sym (ap stated_of c.in-CheapLabel.is)) (λ h. adds_cheap place s m old new c.as_slice-name-in-CheapLabel.result.now (h place)) c.define_label-in-CheapLabel.ensures
+    taken_as place s m old new c.define_label-in-CheapLabel.result x c.args.statement (ap l.cheap_label c.as_slice-name-in-CheapLabel.ensures ∙ sym c.in-CheapLabel.is) (λ h. adds_cheap place s m old new c.as_slice-name-in-CheapLabel.result.now (h place)) c.define_label-in-CheapLabel.ensures
 
 pub returns-in-UnnamedLabel : goal.returns-in-UnnamedLabel
 returns-in-UnnamedLabel c =
@@ -98,7 +97,7 @@ returns-in-UnnamedLabel c =
     let old = c.args.self.now in
     let new = c.define_label-in-UnnamedLabel.new.self in
     let x : l.Stated = l.unnamed_label in
-    taken_as place s m old new c.define_label-in-UnnamedLabel.result x (stated_of c.args.statement) (sym (ap stated_of c.in-UnnamedLabel.is)) (λ h. adds_unnamed place s m old new (h place)) c.define_label-in-UnnamedLabel.ensures
+    taken_as place s m old new c.define_label-in-UnnamedLabel.result x c.args.statement (sym c.in-UnnamedLabel.is) (λ h. adds_unnamed place s m old new (h place)) c.define_label-in-UnnamedLabel.ensures
 
 pub returns-in-Constant : goal.returns-in-Constant
 returns-in-Constant c =
@@ -107,8 +106,8 @@ returns-in-Constant c =
     let m = c.args.measured in
     let old = c.args.self.now in
     let new = c.define_constant.new.self in
-    let x : l.Stated = l.constant c.as_slice.result.now (tree_of c.in-Constant.value) in
-    taken_as place s m old new c.define_constant.result x (stated_of c.args.statement) (ap (λ n. l.constant n (tree_of c.in-Constant.value)) c.as_slice.ensures ∙ sym (ap stated_of c.in-Constant.is)) (λ h. adds_constant place s m old new c.as_slice.result.now (tree_of c.in-Constant.value) h) c.define_constant.ensures
+    let x : l.Stated = l.constant c.as_slice.result.now c.in-Constant.value in
+    taken_as place s m old new c.define_constant.result x c.args.statement (ap (λ n. l.constant n c.in-Constant.value) c.as_slice.ensures ∙ sym c.in-Constant.is) (λ h. adds_constant place s m old new c.as_slice.result.now c.in-Constant.value h) c.define_constant.ensures
 
 pub returns-in-OpenScope-Some : goal.returns-in-OpenScope-Some
 returns-in-OpenScope-Some c =
@@ -118,7 +117,7 @@ returns-in-OpenScope-Some c =
     let old = c.args.self.now in
     let new = c.open_block.new.self in
     let x : l.Stated = l.open_scope (Some c.as_slice-in-OpenScope-Some.result.now) in
-    taken_as place s m old new c.open_block.result x (stated_of c.args.statement) (ap (λ n. l.open_scope (Some n)) (c.as_slice-in-OpenScope-Some.ensures ∙ c.in-OpenScope-Some.name-is) ∙ ap l.open_scope (sym c.in-OpenScope-Some.field-0-is) ∙ sym (ap stated_of c.in-OpenScope-Some.is)) (λ h. adds_scope place s m old new (Some c.as_slice-in-OpenScope-Some.result.now) (h place)) c.open_block.ensures
+    taken_as place s m old new c.open_block.result x c.args.statement (ap (λ n. l.open_scope (Some n)) (c.as_slice-in-OpenScope-Some.ensures ∙ c.in-OpenScope-Some.name-is) ∙ ap l.open_scope (sym c.in-OpenScope-Some.field-0-is) ∙ sym c.in-OpenScope-Some.is) (λ h. adds_scope place s m old new (Some c.as_slice-in-OpenScope-Some.result.now) (h place)) c.open_block.ensures
 
 pub returns-in-OpenScope-None : goal.returns-in-OpenScope-None
 returns-in-OpenScope-None c =
@@ -128,7 +127,7 @@ returns-in-OpenScope-None c =
     let old = c.args.self.now in
     let new = c.open_block-in-OpenScope-None.new.self in
     let x : l.Stated = l.open_scope None in
-    taken_as place s m old new c.open_block-in-OpenScope-None.result x (stated_of c.args.statement) (ap l.open_scope (sym c.in-OpenScope-None.field-0-is) ∙ sym (ap stated_of c.in-OpenScope-None.is)) (λ h. adds_scope place s m old new None (h place)) c.open_block-in-OpenScope-None.ensures
+    taken_as place s m old new c.open_block-in-OpenScope-None.result x c.args.statement (ap l.open_scope (sym c.in-OpenScope-None.field-0-is) ∙ sym c.in-OpenScope-None.is) (λ h. adds_scope place s m old new None (h place)) c.open_block-in-OpenScope-None.ensures
 
 pub returns-in-OpenProc : goal.returns-in-OpenProc
 returns-in-OpenProc c =
@@ -138,7 +137,7 @@ returns-in-OpenProc c =
     let old = c.args.self.now in
     let new = c.open_proc.new.self in
     let x : l.Stated = l.open_proc c.as_slice-in-OpenProc.result.now in
-    taken_as place s m old new c.open_proc.result x (stated_of c.args.statement) (ap l.open_proc c.as_slice-in-OpenProc.ensures ∙ sym (ap stated_of c.in-OpenProc.is)) (λ h. adds_proc place s m old new c.as_slice-in-OpenProc.result.now (h place)) c.open_proc.ensures
+    taken_as place s m old new c.open_proc.result x c.args.statement (ap l.open_proc c.as_slice-in-OpenProc.ensures ∙ sym c.in-OpenProc.is) (λ h. adds_proc place s m old new c.as_slice-in-OpenProc.result.now (h place)) c.open_proc.ensures
 
 pub returns-in-Import : goal.returns-in-Import
 returns-in-Import c =
@@ -148,7 +147,7 @@ returns-in-Import c =
     let old = c.args.self.now in
     let new = c.import_names.new.self in
     let x : l.Stated = l.imports c.in-Import.size c.as_slice-in-Import.result.now in
-    taken_as place s m old new c.import_names.result x (stated_of c.args.statement) (ap (l.imports c.in-Import.size) c.as_slice-in-Import.ensures ∙ sym (ap stated_of c.in-Import.is)) (λ h. adds_imports place s m old new c.in-Import.size c.as_slice-in-Import.result.now h) c.import_names.ensures
+    taken_as place s m old new c.import_names.result x c.args.statement (ap (l.imports c.in-Import.size) c.as_slice-in-Import.ensures ∙ sym c.in-Import.is) (λ h. adds_imports place s m old new c.in-Import.size c.as_slice-in-Import.result.now h) c.import_names.ensures
 
 pub returns-in-Global : goal.returns-in-Global
 returns-in-Global c =
@@ -158,7 +157,7 @@ returns-in-Global c =
     let old = c.args.self.now in
     let new = c.import_names-in-Global.new.self in
     let x : l.Stated = l.globals c.in-Global.size c.as_slice-in-Global.result.now in
-    taken_as place s m old new c.import_names-in-Global.result x (stated_of c.args.statement) (ap (l.globals c.in-Global.size) c.as_slice-in-Global.ensures ∙ sym (ap stated_of c.in-Global.is)) (λ h. adds_globals place s m old new c.in-Global.size c.as_slice-in-Global.result.now h) c.import_names-in-Global.ensures
+    taken_as place s m old new c.import_names-in-Global.result x c.args.statement (ap (l.globals c.in-Global.size) c.as_slice-in-Global.ensures ∙ sym c.in-Global.is) (λ h. adds_globals place s m old new c.in-Global.size c.as_slice-in-Global.result.now h) c.import_names-in-Global.ensures
 
 pub returns-in-ForceImport : goal.returns-in-ForceImport
 returns-in-ForceImport c =
@@ -168,7 +167,7 @@ returns-in-ForceImport c =
     let old = c.args.self.now in
     let new = c.demand_names.new.self in
     let x : l.Stated = l.forced c.as_slice-in-ForceImport.result.now in
-    taken_as place s m old new c.demand_names.result x (stated_of c.args.statement) (ap l.forced c.as_slice-in-ForceImport.ensures ∙ sym (ap stated_of c.in-ForceImport.is)) (λ h. adds_forced place s m old new c.as_slice-in-ForceImport.result.now h) c.demand_names.ensures
+    taken_as place s m old new c.demand_names.result x c.args.statement (ap l.forced c.as_slice-in-ForceImport.ensures ∙ sym c.in-ForceImport.is) (λ h. adds_forced place s m old new c.as_slice-in-ForceImport.result.now h) c.demand_names.ensures
 
 pub returns-in-Export : goal.returns-in-Export
 returns-in-Export c =
@@ -178,4 +177,4 @@ returns-in-Export c =
     let old = c.args.self.now in
     let new = c.mention.new.self in
     let x : l.Stated = l.exports c.as_slice-in-Export.result.now in
-    taken_as place s m old new c.mention.result x (stated_of c.args.statement) (ap l.exports c.as_slice-in-Export.ensures ∙ sym (ap stated_of c.in-Export.is)) (λ h. adds_pieces place s m old new x (λ y. nothing_behind y) (mentions_enter place s (map (exported true) c.as_slice-in-Export.result.now) old new h)) c.mention.ensures.mentioned
+    taken_as place s m old new c.mention.result x c.args.statement (ap l.exports c.as_slice-in-Export.ensures ∙ sym c.in-Export.is) (λ h. adds_pieces place s m old new x (λ y. nothing_behind y) (mentions_enter place s (map (exported true) c.as_slice-in-Export.result.now) old new h)) c.mention.ensures.mentioned

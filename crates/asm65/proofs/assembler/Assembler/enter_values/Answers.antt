@@ -5,7 +5,7 @@ use Rattle.source65.specs.declared.place.Place.{Place}
 use Rattle.object65.specs.declared.object.Width.{Width}
 use Rattle.language65.specs.declared.language.Item.{Item}
 use Rattle.language65.specs.declared.laid.Spot.{Spot}
-use Rattle.language65.specs.Views.{item_of, place_in}
+use Rattle.language65.specs.Views.{place_in}
 use Rattle.module65.specs.Pieces.{item_piece}
 use Rattle.asm65.specs.declared.assembler.Assembler.{Assembler}
 use Rattle.asm65.specs.Inner.Holding.{Enters}
@@ -13,7 +13,7 @@ use Rattle.asm65.proofs.Enterings.{enters_both, enters_none}
 use Rattle.asm65.proofs.assembler.Assembler.enter_values.Goals as goal
 
 abbrev Entered : Place → Spot → Width → (old new : Assembler) → List Item → Type 0
-Entered place s width old new items = Enters place s (map (item_piece width) (map item_of items)) old new
+Entered place s width old new items = Enters place s (map (item_piece width) items) old new
 
 pub loop-item-init : goal.loop-item-init
 loop-item-init c b h =
@@ -30,7 +30,7 @@ loop-item-preserved c b h =
     let rest = into_iter_items c.next.new.self in
     c.loop-item.invariant b
     (subst (Entered place s width a b) (sym c.in-Some.ensures.steps.0)
-    (enters_both place s (item_piece width (item_of c.in-Some.item) ∷ []) (map (item_piece width) (map item_of rest)) a mid b c.in_ok-enter_item.ensures h))
+    (enters_both place s (item_piece width c.in-Some.item ∷ []) (map (item_piece width) rest) a mid b c.in_ok-enter_item.ensures h))
 
 pub returns : goal.returns
 returns c =

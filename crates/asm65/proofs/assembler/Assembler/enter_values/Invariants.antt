@@ -1,6 +1,6 @@
 use Rattle.std.proofs.Common.{map}
 use Rattle.std.specs.Vec.Iter.{into_iter_items}
-use Rattle.language65.specs.Views.{item_of, place_in}
+use Rattle.language65.specs.Views.{place_in}
 use Rattle.module65.specs.Pieces.{item_piece}
 use Rattle.asm65.specs.declared.assembler.Assembler.{Assembler}
 use Rattle.asm65.specs.Inner.Holding.{Enters}
@@ -11,5 +11,5 @@ abbrev pub invariant-loop-item : goal.invariant-loop-item
 invariant-loop-item l =
     let place = place_in l.stand.at.file.now l.stand.at.line in
     let s = l.stand.spot in
-    (b : Assembler) → Enters place s (map (item_piece l.width) (map item_of (into_iter_items l.item-iterator))) l.self b →
-    Enters place s (map (item_piece l.width) (map item_of l.fn.items)) l.fn.self b
+    (b : Assembler) → Enters place s (map (item_piece l.width) ((into_iter_items l.item-iterator))) l.self b →
+    Enters place s (map (item_piece l.width) l.fn.items) l.fn.self b

@@ -1,7 +1,6 @@
 use Rattle.std.proofs.Common.{◌≡◌, subst, rules, FitsSigned, to_z, of_z, w64}
 use Rattle.std.specs.Prelude.{ℤ, IfOk}
 use Rattle.std.proofs.lemmas.Int.{to_z-of_z}
-use Rattle.syntax65.specs.Trees.{tree_of}
 use Rattle.language65.specs.Contents.{stored}
 use Rattle.object65.specs.Form.{lit}
 use Rattle.language65.specs.Views.{place_in}
@@ -19,7 +18,7 @@ returns-in-Some-2 c =
     let new = c.put_form.new.sections in
     let place = place_in c.args.stand.at.file.now c.args.stand.at.line in
     let s = c.args.stand.spot in
-    let e = tree_of c.args.value.now in
+    let e = c.args.value.now in
     let f = c.in-Some-2.form in
     let final = c.in_ok-form.ensures.stays f c.in-Some-2.is in
     ok_with (IsPut old.sections new s.segment (stored c.args.width place f)) (IsTried place s (valued (datum c.args.width) e) old (record old { sections = new })) c.put_form.result
@@ -31,7 +30,7 @@ returns-in-Some c =
     let new = c.put_literal.new.sections in
     let place = place_in c.args.stand.at.file.now c.args.stand.at.line in
     let s = c.args.stand.spot in
-    let e = tree_of c.args.value.now in
+    let e = c.args.value.now in
     let v = c.in-Some.number in
     let fits : FitsSigned w64 v = search rules in
     let same : to_z w64 (of_z w64 v) ≡ v = to_z-of_z w64 v fits in

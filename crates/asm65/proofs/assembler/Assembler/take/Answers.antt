@@ -1,5 +1,5 @@
 use Rattle.language65.specs.Faults.{is_outside}
-use Rattle.language65.specs.Views.{place_in, stated_of}
+use Rattle.language65.specs.Views.{place_in}
 use Rattle.layout65.proofs.Steps.{unless_then}
 use Rattle.asm65.proofs.Takings.{takes_entered, takes_refused}
 use Rattle.asm65.proofs.assembler.Assembler.take.Goals as goal
@@ -8,9 +8,9 @@ pub returns-in-Err-clause-taken : goal.returns-in-Err-clause-taken
 returns-in-Err-clause-taken c = λ count t h few.
     (let e = c.in-Err.fault in
     let place = place_in c.args.at.file.now c.args.at.line in
-    rw c.refused.ensures (unless_then (is_outside e) (takes_refused t place (stated_of c.args.statement) e) (c.in-Err.ensures.refused count t h)))
+    rw c.refused.ensures (unless_then (is_outside e) (takes_refused t place c.args.statement e) (c.in-Err.ensures.refused count t h)))
 
 pub returns-in_ok-enter-in-Ok-clause-taken : goal.returns-in_ok-enter-in-Ok-clause-taken
 returns-in_ok-enter-in-Ok-clause-taken c = λ count t h few.
     (let found = c.in-Ok.field-0 in
-    takes_entered count t (place_in c.args.at.file.now c.args.at.line) (stated_of c.args.statement) found.spot found.measured c.args.self.now c.place.new.self c.enter.new.self h (c.in-Ok.ensures.placed count t h) (c.in-Ok.ensures.holds count t h) c.in_ok-enter-in-Ok.ensures)
+    takes_entered count t (place_in c.args.at.file.now c.args.at.line) c.args.statement found.spot found.measured c.args.self.now c.place.new.self c.enter.new.self h (c.in-Ok.ensures.placed count t h) (c.in-Ok.ensures.holds count t h) c.in_ok-enter-in-Ok.ensures)

@@ -2,7 +2,7 @@ use Rattle.std.proofs.Common.{◌∙◌, ap, sym, Option}
 use Rattle.std.specs.Prelude.{not, pos}
 use Rattle.std.specs.Option.{option_map}
 use Rattle.std.proofs.lemmas.Result.{err_from_is_err_and}
-use Rattle.syntax65.specs.Trees.{Tree, tree_of}
+use Rattle.syntax65.specs.Trees.{Tree}
 use Rattle.language65.specs.declared.fault.AsmFault.TheVariants.{BadOperand}
 use Rattle.language65.specs.declared.laid.Spot.{Spot}
 use Rattle.language65.specs.Layout.{spot_of}
@@ -20,8 +20,8 @@ returns-in_err-multiple-2-clause-placed c =
     let e = c.in_err-multiple-2.field-0.0 in
     let y = table_of c.args.before.symbols.now in
     let w = standing_of c.args.before.standing.now in
-    let n : Tree = tree_of c.args.multiple.now in
-    let v : Option Tree = option_map tree_of c.args.value.now in
+    let n : Tree = c.args.multiple.now in
+    let v : Option Tree = c.args.value.now in
     let k = ap (λ s. constant_in y s n) (sym c.spot-spot.ensures) ∙ sym c.in_ok-multiple.ensures.value in
     let byte = ap (λ (s : Spot). unless_fault {A = Unit {0}} (when (not (is_byte_value (optional_value y s v (pos 0)))) BadOperand) tt) (sym c.spot-spot.ensures) ∙ c.in_ok-settled.ensures.byte in
     let b = is_byte_value (optional_value y (spot_of w) v (pos 0)) in
@@ -33,8 +33,8 @@ pub returns-clause-placed : goal.returns-clause-placed
 returns-clause-placed c =
     let y = table_of c.args.before.symbols.now in
     let w = standing_of c.args.before.standing.now in
-    let n : Tree = tree_of c.args.multiple.now in
-    let v : Option Tree = option_map tree_of c.args.value.now in
+    let n : Tree = c.args.multiple.now in
+    let v : Option Tree = c.args.value.now in
     let k = ap (λ s. constant_in y s n) (sym c.spot-spot.ensures) ∙ sym c.in_ok-multiple.ensures.value in
     let byte = ap (λ (s : Spot). unless_fault {A = Unit {0}} (when (not (is_byte_value (optional_value y s v (pos 0)))) BadOperand) tt) (sym c.spot-spot.ensures) ∙ c.in_ok-settled.ensures.byte in
     let b = is_byte_value (optional_value y (spot_of w) v (pos 0)) in
@@ -50,8 +50,8 @@ returns-in_err-settled-clause-placed c =
     let e = c.in_err-settled.field-0.0 in
     let y = table_of c.args.before.symbols.now in
     let w = standing_of c.args.before.standing.now in
-    let n : Tree = tree_of c.args.multiple.now in
-    let v : Option Tree = option_map tree_of c.args.value.now in
+    let n : Tree = c.args.multiple.now in
+    let v : Option Tree = c.args.value.now in
     let k = ap (λ s. constant_in y s n) (sym c.spot-spot.ensures) ∙ sym c.in_ok-multiple.ensures.value in
     let b = is_byte_value (optional_value y (spot_of w) v (pos 0)) in
     let st = fill_settled y (spot_of w) v in

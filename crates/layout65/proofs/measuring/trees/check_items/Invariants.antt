@@ -1,10 +1,9 @@
 use Rattle.std.proofs.Common.{◌≡◌, map, drop}
 use Rattle.language65.specs.LineFaults.{item_trees, lost_scopes}
-use Rattle.language65.specs.Views.{item_of}
 use Rattle.symbols65.specs.Views.{table_of}
 use Rattle.layout65.proofs.measuring.trees.check_items.Given as goal
 
 abbrev pub invariant-loop-item : goal.invariant-loop-item
 invariant-loop-item l =
-    lost_scopes (table_of l.symbols).scopes l.scope (item_trees (map item_of l.items))
-    ≡ lost_scopes (table_of l.symbols).scopes l.scope (item_trees (drop l.item-index (map item_of l.items)))
+    lost_scopes (table_of l.symbols).scopes l.scope (item_trees l.items)
+    ≡ lost_scopes (table_of l.symbols).scopes l.scope (item_trees (drop l.item-index l.items))

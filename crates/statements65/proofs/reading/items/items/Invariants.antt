@@ -1,12 +1,11 @@
 use Rattle.std.proofs.Common.{map}
 use Rattle.syntax65.specs.Tokens.{lexemes}
 use Rattle.statements65.specs.Parsing.{parts_of, IsItem}
-use Rattle.language65.specs.Views.{item_of}
 use Rattle.statements65.proofs.Each.{count_left, parts_left, GoesOn}
 use Rattle.statements65.proofs.reading.items.items.Given as goal
 
 abbrev pub invariant-parts : goal.invariant-parts
-invariant-parts l = GoesOn (IsItem l.elements) (parts_of (lexemes l.tokens)) (map item_of l.items) (parts_left l.rest)
+invariant-parts l = GoesOn (IsItem l.elements) (parts_of (lexemes l.tokens)) l.items (parts_left l.rest)
 
 abbrev pub decreases-parts : goal.decreases-parts
 decreases-parts l = count_left l.rest

@@ -1,5 +1,4 @@
 use Rattle.std.proofs.Common.{Ok, refl}
-use Rattle.syntax65.specs.Trees.{tree_of}
 use Rattle.statements65.proofs.Parts.{then_fault}
 use Rattle.statements65.proofs.reading.statements.plain_constant.Goals as goal
 
@@ -7,4 +6,4 @@ pub returns-in_err-value-clause-value : goal.returns-in_err-value-clause-value
 returns-in_err-value-clause-value c = then_fault _ _ _ c.from_residual.result c.in_err-value.field-0.0 c.from_residual.ensures.1 c.in_err-value.ensures.value
 
 pub returns-clause-value : goal.returns-clause-value
-returns-clause-value c = rw c.in_ok-name.ensures (Ok (tree_of c.in_ok-value.value), c.in_ok-value.ensures.value, refl)
+returns-clause-value c = rw c.in_ok-name.ensures (Ok c.in_ok-value.value, c.in_ok-value.ensures.value, refl)

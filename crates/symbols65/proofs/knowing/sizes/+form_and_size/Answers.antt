@@ -1,6 +1,6 @@
 use Rattle.std.proofs.Common.{rules, ◌≡◌, ℕ, ap, sym, ◌∙◌}
 use Rattle.std.specs.Result.{result_ok}
-use Rattle.syntax65.specs.Trees.{unary, binary, tree_of}
+use Rattle.syntax65.specs.Trees.{unary, binary}
 use Rattle.language65.specs.Norms.{literal_in, norm_of}
 use Rattle.language65.specs.Sizes.{larger, size_by, size_of}
 use Rattle.symbols65.specs.Forms.{binary_form, literal_of, prefix_form}
@@ -12,31 +12,31 @@ pub returns-in_ok-form-in-Prefix-clause-form : goal.returns-in_ok-form-in-Prefix
 returns-in_ok-form-in-Prefix-clause-form t c =
     let y = table_of c.args.symbols.now in
     let s = c.args.spot in
-    let e = tree_of c.deref.result.now in
+    let e = c.deref.result.now in
     let same : c.deref.result.now ≡ c.in-Prefix.part.value = search rules in
     c.sized_by_value.ensures.form
     ∙ c.in_ok-form-in-Prefix.ensures
     ∙ ap (prefix_form c.in-Prefix.op) c.in_ok-part-in-Prefix.ensures.form
     ∙ prefix_known c.in-Prefix.op (norm_of y s e)
-    ∙ ap (λ v. result_ok (norm_of y s (unary c.in-Prefix.op (tree_of v)))) same
-    ∙ sym (ap (λ v. result_ok (norm_of y s (tree_of v))) c.in-Prefix.is)
+    ∙ ap (λ v. result_ok (norm_of y s (unary c.in-Prefix.op v))) same
+    ∙ sym (ap (λ v. result_ok (norm_of y s v)) c.in-Prefix.is)
 
 -- the tree of the whole
-whole : (t : ℕ) (c : goal.After-sized_by_value-in-Binary t) → tree_of c.args.value.now ≡ binary c.in-Binary.op (tree_of c.deref-in-Binary.result.now) (tree_of c.deref-in-Binary-2.result.now)
+whole : (t : ℕ) (c : goal.After-sized_by_value-in-Binary t) → c.args.value.now ≡ binary c.in-Binary.op c.deref-in-Binary.result.now c.deref-in-Binary-2.result.now
 whole t c =
     let left : c.deref-in-Binary.result.now ≡ c.in-Binary.left.value = search rules in
     let right : c.deref-in-Binary-2.result.now ≡ c.in-Binary.right.value = search rules in
-    ap tree_of c.in-Binary.is
-    ∙ sym (ap (λ v. binary c.in-Binary.op (tree_of v) (tree_of c.in-Binary.right.value)) left)
-    ∙ sym (ap (λ v. binary c.in-Binary.op (tree_of c.deref-in-Binary.result.now) (tree_of v)) right)
+    c.in-Binary.is
+    ∙ sym (ap (λ v. binary c.in-Binary.op v c.in-Binary.right.value) left)
+    ∙ sym (ap (λ v. binary c.in-Binary.op c.deref-in-Binary.result.now v) right)
 
 -- the form of the whole
-both : (t : ℕ) (c : goal.After-sized_by_value-in-Binary t) → c.in_ok-form-in-Binary.form ≡ result_ok (norm_of (table_of c.args.symbols.now) c.args.spot (tree_of c.args.value.now))
+both : (t : ℕ) (c : goal.After-sized_by_value-in-Binary t) → c.in_ok-form-in-Binary.form ≡ result_ok (norm_of (table_of c.args.symbols.now) c.args.spot c.args.value.now)
 both t c =
     let y = table_of c.args.symbols.now in
     let s = c.args.spot in
-    let e = tree_of c.deref-in-Binary.result.now in
-    let g = tree_of c.deref-in-Binary-2.result.now in
+    let e = c.deref-in-Binary.result.now in
+    let g = c.deref-in-Binary-2.result.now in
     c.in_ok-form-in-Binary.ensures
     ∙ ap (λ f. binary_form c.in-Binary.op f c.in_ok-right-in-Binary.right.form) c.in_ok-left-in-Binary.ensures.form
     ∙ ap (binary_form c.in-Binary.op (result_ok (norm_of y s e))) c.in_ok-right-in-Binary.ensures.form
@@ -50,12 +50,12 @@ pub returns-in_ok-form-in-Binary-clause-size : goal.returns-in_ok-form-in-Binary
 returns-in_ok-form-in-Binary-clause-size t c =
     let y = table_of c.args.symbols.now in
     let s = c.args.spot in
-    let e = tree_of c.deref-in-Binary.result.now in
-    let g = tree_of c.deref-in-Binary-2.result.now in
+    let e = c.deref-in-Binary.result.now in
+    let g = c.deref-in-Binary-2.result.now in
     let parts = c.larger-other.ensures
     ∙ ap (λ a. larger a c.in_ok-right-in-Binary.right.size) c.in_ok-left-in-Binary.ensures.size
     ∙ ap (larger (size_of y s c.args.own e)) c.in_ok-right-in-Binary.ensures.size in
-    let value = ap literal_of (both t c) ∙ literal_known (norm_of y s (tree_of c.args.value.now)) ∙ ap (λ v. literal_in (norm_of y s v)) (whole t c) in
+    let value = ap literal_of (both t c) ∙ literal_known (norm_of y s c.args.value.now) ∙ ap (λ v. literal_in (norm_of y s v)) (whole t c) in
     c.sized_by_value-in-Binary.ensures.size
     ∙ ap (λ o. size_by o (literal_of c.in_ok-form-in-Binary.form)) parts
     ∙ ap (size_by (larger (size_of y s c.args.own e) (size_of y s c.args.own g))) value

@@ -1,6 +1,5 @@
 use Rattle.std.proofs.Common.{rules, ◌≡◌, ap, sym, ◌∙◌, Err}
 use Rattle.std.specs.Result.{result_ok}
-use Rattle.syntax65.specs.Trees.{tree_of}
 use Rattle.language65.specs.Names.{meaning_of}
 use Rattle.language65.specs.Norms.{literal_in}
 use Rattle.language65.specs.Sizes.{size_by, size_of_meaning}
@@ -12,7 +11,7 @@ pub returns-in_ok-pass_on_memory-in-Err-clause-form : goal.returns-in_ok-pass_on
 returns-in_ok-pass_on_memory-in-Err-clause-form c =
     let y = table_of c.args.symbols.now in
     let s = c.args.spot in
-    let e = tree_of c.args.operand.now in
+    let e = c.args.operand.now in
     let none : meaning_of y s e ≡ Err c.in-Err.fault = search rules in
     sym (ap result_ok (meaningless y s e c.in-Err.fault c.requires.reference none))
 
@@ -20,7 +19,7 @@ pub returns-in_ok-pass_on_memory-in-Err-clause-size : goal.returns-in_ok-pass_on
 returns-in_ok-pass_on_memory-in-Err-clause-size c =
     let y = table_of c.args.symbols.now in
     let s = c.args.spot in
-    let e = tree_of c.args.operand.now in
+    let e = c.args.operand.now in
     let none : meaning_of y s e ≡ Err c.in-Err.fault = search rules in
     sym (ap (λ r. size_by (size_of_meaning y (meaning_of y s e)) (literal_in r)) (meaningless y s e c.in-Err.fault c.requires.reference none)
     ∙ ap (size_of_meaning y) none)

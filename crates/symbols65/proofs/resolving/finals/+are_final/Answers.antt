@@ -1,5 +1,4 @@
 use Rattle.std.proofs.Common.{sym, ◌∙◌}
-use Rattle.syntax65.specs.Trees.{tree_of}
 use Rattle.symbols65.specs.Inner.Settling.{MeansFinally}
 use Rattle.symbols65.specs.Views.{table_of}
 use Rattle.symbols65.proofs.Finals.{operands_of, some_place}
@@ -9,4 +8,4 @@ pub returns-in-Name : goal.returns-in-Name
 returns-in-Name t c = λ yes.
     (let y = table_of c.args.symbols.now in
     let s = c.args.spot in
-    operands_of (MeansFinally y s) c.args.value.now c.in-Name.is (some_place y s (tree_of c.args.value.now) c.final_place.result c.final_place.ensures (sym c.is_some.ensures ∙ yes)))
+    operands_of (MeansFinally y s) c.args.value.now c.in-Name.is (some_place y s c.args.value.now c.final_place.result c.final_place.ensures (sym c.is_some.ensures ∙ yes)))

@@ -1,5 +1,4 @@
 use Rattle.std.proofs.Common.{◌≡◌, Option, Some, length}
-use Rattle.syntax65.specs.Trees.{tree_of}
 use Rattle.object65.specs.Form.{Form}
 use Rattle.language65.specs.Extending.{IsFinal}
 use Rattle.symbols65.specs.Finals.{IsFinalWithin}
@@ -11,7 +10,7 @@ pub returns-clause-stays : goal.returns-clause-stays
 returns-clause-stays c =
     let y = table_of c.args.symbols.now in
     let s = c.args.spot in
-    let e = tree_of c.args.value.now in
+    let e = c.args.value.now in
     let P : Option Form → Type 0 = λ o. (f : Form) → o ≡ Some f → IsFinalWithin (length y.definitions) y s e f in
     let Q : Option Form → Type 0 = λ o. (f : Form) → o ≡ Some f → IsFinal y s e f in
     more_ok P Q c.lasting_form.result (λ o keeps f some. within_final y s e f (keeps f some)) c.lasting_form.ensures

@@ -1,6 +1,5 @@
 use Rattle.std.proofs.Common.{ap, sym, subst}
 use Rattle.base65.specs.Outcome.{Refuses}
-use Rattle.syntax65.specs.Trees.{tree_of}
 use Rattle.symbols65.specs.declared.resolving.attempt.Source.TheVariants.{Finals}
 use Rattle.symbols65.specs.declared.resolving.attempt.Stop.{Stop}
 use Rattle.symbols65.specs.Hanging.{needed_in}
@@ -13,6 +12,6 @@ pub returns-in-Err-Needs : goal.returns-in-Err-Needs
 returns-in-Err-Needs c =
     let t = c.args.symbols.now in
     let s = c.args.spot in
-    let e = tree_of c.args.value.now in
+    let e = c.args.value.now in
     let P : Stop → Type 0 = λ q. Refuses lacks_memory q (tried (known_by t Finals) (table_of t) s e) in
     sym (ap needed_in (subst P c.in-Err-Needs.field-0-is c.in-Err-Needs.ensures))

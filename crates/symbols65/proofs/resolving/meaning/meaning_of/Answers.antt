@@ -1,6 +1,5 @@
 use Rattle.std.proofs.Common.{ap, ◌∙◌, sym, subst, Result}
 use Rattle.base65.specs.Outcome.{Gives}
-use Rattle.syntax65.specs.Trees.{tree_of}
 use Rattle.language65.specs.declared.fault.AsmFault.{AsmFault}
 use Rattle.language65.specs.Faults.{is_memory}
 use Rattle.language65.specs.Names.{Meaning, meaning_of}
@@ -14,4 +13,4 @@ returns-in-Name c =
     let y = table_of c.args.symbols.now in
     let s = c.args.spot in
     let P : Result Meaning AsmFault → Type 0 = λ r. Gives is_memory meaning_in c.name_meaning.result r in
-    subst P (sym (ap (λ e. meaning_of y s (tree_of e)) c.in-Name.is ∙ name_is y s c.in-Name.name.is_global c.in-Name.name.parts)) c.name_meaning.ensures
+    subst P (sym (ap (λ e. meaning_of y s e) c.in-Name.is ∙ name_is y s c.in-Name.name.is_global c.in-Name.name.parts)) c.name_meaning.ensures

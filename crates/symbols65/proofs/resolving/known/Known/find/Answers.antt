@@ -1,6 +1,6 @@
 use Rattle.std.proofs.Common.{rules, ◌≡◌, sym, ap, ◌∙◌, ℕ, List, length, map, slice_get, Err, arith, Bool, true, false, refl, subst, Result}
 use Rattle.std.proofs.lemmas.List.{nil_from_length}
-use Rattle.syntax65.specs.Trees.{Tree, tree_of}
+use Rattle.syntax65.specs.Trees.{Tree}
 use Rattle.object65.specs.Form.{Form}
 use Rattle.language65.specs.declared.laid.Spot.{Spot}
 use Rattle.language65.specs.Symbols.{Symbols}
@@ -56,13 +56,13 @@ unless_true false h = h
 -- ---- The answers.
 
 pub find-init : goal.find-init
-find-init c = rw c.new-waiting.ensures.items (pursuit_starts (table_of c.args.symbols.now) c.args.self.now.states.items (expression_course (table_of c.args.symbols.now) c.args.spot (tree_of c.args.value.now)) c.requires.table)
+find-init c = rw c.new-waiting.ensures.items (pursuit_starts (table_of c.args.symbols.now) c.args.self.now.states.items (expression_course (table_of c.args.symbols.now) c.args.spot c.args.value.now) c.requires.table)
 
 pub returns-in-None-clause-form : goal.returns-in-None-clause-form
 returns-in-None-clause-form c =
     let table = table_of c.args.symbols.now in
     let s = c.args.spot in
-    let e = tree_of c.args.value.now in
+    let e = c.args.value.now in
     let v = expression_course table s e in
     let states = c.find.self.states.items in
     let ws = c.find.waiting.items in
@@ -73,20 +73,20 @@ returns-in-None-clause-form c =
 pub returns-in-None-clause-table : goal.returns-in-None-clause-table
 returns-in-None-clause-table c =
     let table = table_of c.args.symbols.now in
-    let v = expression_course table c.args.spot (tree_of c.args.value.now) in
+    let v = expression_course table c.args.spot c.args.value.now in
     let zero : length c.find.waiting.items ≡ 0 = search (rules, c.in-None.ensures.cases) in
     pursuit_table table c.find.self.states.items v c.find.waiting.items c.find.invariant (nil_from_length c.find.waiting.items zero)
 
 pub settle-requires : goal.settle-requires
 settle-requires c =
     let table = table_of c.args.symbols.now in
-    let v = expression_course table c.args.spot (tree_of c.args.value.now) in
+    let v = expression_course table c.args.spot c.args.value.now in
     pursuit_inside table c.find.self.states.items v c.find.waiting.items c.pop.new.self.items c.in-Some.last c.find.invariant c.in-Some.ensures.items
 
 pub find-smaller-in-Continue-1 : goal.find-smaller-in-Continue-1
 find-smaller-in-Continue-1 c =
     let table = table_of c.args.symbols.now in
-    let v = expression_course table c.args.spot (tree_of c.args.value.now) in
+    let v = expression_course table c.args.spot c.args.value.now in
     let lt = pursuit_inside table c.find.self.states.items v c.find.waiting.items c.pop.new.self.items c.in-Some.last c.find.invariant c.in-Some.ensures.items in
     rw c.in_ok-settle-in-Some.ensures (up_smaller c.find.self.states.items c.find.waiting.items c.pop.new.self.items c.in-Some.last c.in-Ok.form lt c.in-Some.ensures.items)
 
@@ -94,7 +94,7 @@ pub find-preserved-in-Continue-1 : goal.find-preserved-in-Continue-1
 find-preserved-in-Continue-1 c =
     let table = table_of c.args.symbols.now in
     let s = c.args.spot in
-    let e = tree_of c.args.value.now in
+    let e = c.args.value.now in
     let v = expression_course table s e in
     let states = c.find.self.states.items in
     let ws = c.find.waiting.items in
@@ -105,7 +105,7 @@ pub returns-in-Err-Fault-clause-form : goal.returns-in-Err-Fault-clause-form
 returns-in-Err-Fault-clause-form c =
     let table = table_of c.args.symbols.now in
     let s = c.args.spot in
-    let e = tree_of c.args.value.now in
+    let e = c.args.value.now in
     let v = expression_course table s e in
     let states = c.find.self.states.items in
     let ws = c.find.waiting.items in
@@ -115,13 +115,13 @@ returns-in-Err-Fault-clause-form c =
 
 pub returns-in-Err-Fault-clause-table : goal.returns-in-Err-Fault-clause-table
 returns-in-Err-Fault-clause-table c =
-    unless_true (is_memory c.in-Err-Fault.fault) (lost (table_of c.args.symbols.now) c.args.spot (tree_of c.args.value.now) c.find.self.states.items c.give_up.new.self.states.items c.deref-in-Err-Fault.result.now c.find.waiting.items c.find.invariant c.give_up.ensures.same c.give_up.ensures.hung c.deref-in-Err-Fault.ensures.value)
+    unless_true (is_memory c.in-Err-Fault.fault) (lost (table_of c.args.symbols.now) c.args.spot c.args.value.now c.find.self.states.items c.give_up.new.self.states.items c.deref-in-Err-Fault.result.now c.find.waiting.items c.find.invariant c.give_up.ensures.same c.give_up.ensures.hung c.deref-in-Err-Fault.ensures.value)
 
 pub returns-then-not-may_be_looked_for-clause-form : goal.returns-then-not-may_be_looked_for-clause-form
 returns-then-not-may_be_looked_for-clause-form c =
     let table = table_of c.args.symbols.now in
     let s = c.args.spot in
-    let e = tree_of c.args.value.now in
+    let e = c.args.value.now in
     let v = expression_course table s e in
     let states = c.find.self.states.items in
     let new = c.behind-next.new.self.states.items in
@@ -138,7 +138,7 @@ pub returns-then-not-may_be_looked_for-clause-table : goal.returns-then-not-may_
 returns-then-not-may_be_looked_for-clause-table c =
     let table = table_of c.args.symbols.now in
     let s = c.args.spot in
-    let e = tree_of c.args.value.now in
+    let e = c.args.value.now in
     let new = c.behind-next.new.self.states.items in
     let ws = c.find.waiting.items in
     lost table s e new c.give_up-then-not-may_be_looked_for.new.self.states.items c.deref-then-not-may_be_looked_for.result.now ws (goes_on table s e c.find.self.states.items new ws c.behind-next.ensures.same c.behind-next.ensures.hung c.find.invariant) c.give_up-then-not-may_be_looked_for.ensures.same c.give_up-then-not-may_be_looked_for.ensures.hung c.deref-then-not-may_be_looked_for.ensures.value
@@ -164,7 +164,7 @@ pub find-preserved : goal.find-preserved
 find-preserved c =
     let table = table_of c.args.symbols.now in
     let s = c.args.spot in
-    let e = tree_of c.args.value.now in
+    let e = c.args.value.now in
     let v = expression_course table s e in
     let states = c.find.self.states.items in
     let new = c.behind-next.new.self.states.items in

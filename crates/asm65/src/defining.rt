@@ -14,7 +14,7 @@ use crate::assembly::{AsmJob, Define};
 use base65::Sequence;
 use language65::{AsmFault, At, Statement};
 use std::alloc::Global;
-use syntax65::Expr;
+use syntax65::{Expr, ExprKind};
 
 /// Takes a constant.
 fn define(
@@ -29,7 +29,7 @@ fn define(
     ensures inside { IfErr result (λ e. is_failure e ≡ false) }
 {
     let name = Sequence::from_vec(Vec::from_slice(alloc, define.name)?);
-    let value = Expr::Number(define.value);
+    let value = Expr::new(ExprKind::Number(define.value));
     assembler.take(alloc, at, Statement::Constant { name, value })
 }
 

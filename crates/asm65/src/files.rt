@@ -59,11 +59,11 @@ impl Assembler {
 
     /// Refuses a part of a file for what is wrong with it whatever the file has.
     #[inline(never)]
-    fn check_unread(&mut self, alloc: Global, range: &PartRange) -> Result<(), AsmFault>
+    fn check_unread(&mut self, alloc: Global, range: PartRange<'_>) -> Result<(), AsmFault>
         requires { IsHeld self.old }
         ensures checked { (count : ℕ) (t : State) → Holds count t self.old →
             Gives is_memory (λ u. u) result (unless_fault (unread_fault t.symbols t.standing
-            (range.now).0 (range.now).1) tt) }
+            range.entry.start.now range.entry.len.now) tt) }
         ensures held { (count : ℕ) (t : State) → Holds count t self.old →
             OnOk result (Holds count t self.new) }
         ensures texts { self.new.texts ≡ self.old.texts }
@@ -101,10 +101,14 @@ fn with_bytes<S: Store>(
     ensures count { PassesBy is_failure (S.failures store.old) (S.failures store.new) result }
 {
     match statement {
-        Statement::NamedPart { name, range } => {
-            assembler.check_unread(alloc, &range)?;
+        Statement::NamedPart { name, start, len } => {
+            let range = PartRange {
+                start: &start,
+                len: &len,
+            };
+            assembler.check_unread(alloc, range)?;
             let bytes = bytes_beside(alloc, store, at.file, name.as_slice())?;
-            Ok(Statement::FilePart { bytes, range })
+            Ok(Statement::FilePart { bytes, start, len })
         }
         other => Ok(other),
     }
@@ -116,7 +120,14 @@ fn names_file(statement: &Statement) -> bool
     ensures { result ≡ false → (m : Files) (place : Place) →
         statement.now ≡ read_bytes m place statement.now }
 {
-    matches!(statement, Statement::NamedPart { name: _, range: _ })
+    matches!(
+        statement,
+        Statement::NamedPart {
+            name: _,
+            start: _,
+            len: _,
+        }
+    )
 }
 
 /// Reads the bytes that a statement takes from a file into it. Most take none, and stay where they are.

@@ -106,7 +106,11 @@ impl Assembler {
                 multiple: _,
                 value: _,
             } => self.enter_room(spot, measured.length, measured.settled),
-            Statement::FilePart { bytes, range: _ } => {
+            Statement::FilePart {
+                bytes,
+                start: _,
+                len: _,
+            } => {
                 self.enter_part(spot, measured.length, measured.settled, bytes)
             }
             Statement::Assert {
@@ -149,7 +153,11 @@ impl Assembler {
                 )
             }
             // A part has its file's bytes before it is taken.
-            Statement::NamedPart { name: _, range: _ } => Ok(()),
+            Statement::NamedPart {
+                name: _,
+                start: _,
+                len: _,
+            } => Ok(()),
             Statement::Segment { name: _, size: _ }
             | Statement::PushSegment
             | Statement::PopSegment

@@ -16,7 +16,7 @@ use reader65::{Test, opens_parenthesis};
 use source65::ExpandFault;
 use std::alloc::{AllocError, Global};
 use std::marker::Model;
-use syntax65::{Expr, Token, read_expr};
+use syntax65::{Expr, ExprKind, Name, Token, read_expr};
 
 /// An expression of all the tokens.
 pub fn expression(alloc: Global, tokens: &[Token<'_>]) -> Result<Expr, ExpandFault>
@@ -63,11 +63,14 @@ fn begins_enclosed(tokens: &[Token<'_>]) -> bool
 }
 
 /// Whether an expression that is a name is that of a label or constant.
-fn is_defined_name<K: Knows>(knows: &K, expr: &Expr) -> Result<bool, ExpandFault>
-    ensures { result ≡ defined_tree (K.meaning knows.now) expr.now }
+fn is_defined_name<K: Knows>(alloc: Global, knows: &K, expr: &Expr) -> Result<bool, ExpandFault>
+    ensures value { Answers is_outside (λ b. b) result
+        (λ r. r ≡ defined_tree (K.meaning knows.now) expr.now) }
+    ensures inside { IfErr result (λ e. is_failure e ≡ false) }
 {
-    match expr {
-        Expr::Name(name) => Ok(knows.defined(name)),
+    match expr.kind() {
+        ExprKind::Plain(name) => Ok(knows.defined(&Name::of(alloc, name.as_slice())?)),
+        ExprKind::Scoped(name) => Ok(knows.defined(name)),
         _ => Err(ExpandFault::NotUnderstood),
     }
 }
@@ -82,7 +85,7 @@ fn is_defined<K: Knows>(alloc: Global, knows: &K, tokens: &[Token<'_>]) -> Resul
     if begins_enclosed(tokens) {
         return Err(ExpandFault::NotUnderstood);
     }
-    is_defined_name(knows, &name)
+    is_defined_name(alloc, knows, &name)
 }
 
 /// The opposite of whether a name is that of a label or constant.

@@ -90,6 +90,13 @@ impl OptionalExpr {
     }
 }
 
+/// What is taken of a file: from a byte on, so many. By default all from the first byte on.
+#[derive(Clone, Copy)]
+pub struct PartRange<'a> {
+    pub start: &'a OptionalExpr,
+    pub len: &'a OptionalExpr,
+}
+
 /// A statement.
 #[derive(Drop)]
 pub enum Statement {

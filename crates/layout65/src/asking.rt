@@ -4,16 +4,16 @@ ghost use Rattle.std.specs.Prelude.{◌≡◌};
 ghost use Rattle.language65.specs.Laid.{asks_section, has_here};
 
 use language65::Statement;
-use syntax65::Expr;
+use syntax65::{Expr, ExprKind};
 
 /// Whether an expression has a `*`.
 fn has_here(value: &Expr) -> bool
     ensures { result ≡ has_here value.now }
 {
-    match value {
-        Expr::Here => true,
-        Expr::Prefix(_, part) => has_here(part),
-        Expr::Binary(_, left, right) => has_here(left) || has_here(right),
+    match value.kind() {
+        ExprKind::Here => true,
+        ExprKind::Prefix(_, part) => has_here(part),
+        ExprKind::Binary(_, operands) => has_here(&operands.left) || has_here(&operands.right),
         _ => false,
     }
 }
@@ -37,7 +37,11 @@ pub fn asks_section(statement: &Statement) -> bool
             multiple: _,
             value: _,
         }
-        | Statement::FilePart { bytes: _, range: _ } => true,
+        | Statement::FilePart {
+            bytes: _,
+            start: _,
+            len: _,
+        } => true,
         Statement::Constant { name: _, value } => has_here(value),
         Statement::Assert {
             value,

@@ -16,15 +16,15 @@ use crate::waiting::Piece;
 use object65::Width;
 use std::alloc::{AllocError, Global};
 use symbols65::final_form;
-use syntax65::Expr;
+use syntax65::{Expr, ExprKind};
 
 /// The number that an expression is, if it is one.
 fn number_of(value: &Expr) -> Option<i64>
     ensures { IfSome result (λ v. (y : Symbols) (s : Spot) →
         IsFinal y s value.now (lit v)) }
 {
-    match value {
-        Expr::Number(number) => Some(i64::from(*number)),
+    match value.kind() {
+        ExprKind::Number(number) => Some(i64::from(*number)),
         _ => None,
     }
 }

@@ -17,7 +17,7 @@ use super::parts::file_part;
 use super::rooms::{align, reserve};
 use super::{Before, Measured, nothing};
 use crate::standing::Standing;
-use language65::{AsmFault, Statement};
+use language65::{AsmFault, PartRange, Statement};
 use std::alloc::Global;
 use symbols65::{Known, knowing};
 use syntax65::{AddressSize, Expr};
@@ -129,7 +129,9 @@ pub fn place(
         Statement::Values { width, items } => values(before.standing, *width, items.as_slice()),
         Statement::Reserve { count, value } => reserve(alloc, before, known, count, value),
         Statement::Align { multiple, value } => align(alloc, before, known, multiple, value),
-        Statement::FilePart { bytes, range } => file_part(alloc, before, known, bytes, range),
+        Statement::FilePart { bytes, start, len } => {
+            file_part(alloc, before, known, bytes, PartRange { start, len })
+        }
         Statement::Constant { name: _, value } => constant(alloc, before, known, value),
         _ => without_bytes(before, statement),
     }

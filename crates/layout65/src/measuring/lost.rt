@@ -15,7 +15,7 @@ use base65::Sequence;
 use language65::AsmFault;
 use std::alloc::Global;
 use symbols65::{Symbols, scope_of, shown};
-use syntax65::{Expr, Name};
+use syntax65::{Expr, ExprKind, Name};
 
 /// The parts that name scopes: all but the last.
 fn scopes_in(parts: &[Sequence<u8>]) -> &[Sequence<u8>]
@@ -80,12 +80,12 @@ pub fn check_scopes(
     ensures { Gives is_memory (λ u. u) result (unless_fault (lost_scope
         (table_of symbols.now).scopes scope value.now) tt) }
 {
-    match value {
-        Expr::Name(name) => check_name(alloc, symbols, scope, name),
-        Expr::Prefix(_, part) => check_scopes(alloc, symbols, scope, part),
-        Expr::Binary(_, left, right) => {
-            check_scopes(alloc, symbols, scope, left)?;
-            check_scopes(alloc, symbols, scope, right)
+    match value.kind() {
+        ExprKind::Scoped(name) => check_name(alloc, symbols, scope, name),
+        ExprKind::Prefix(_, part) => check_scopes(alloc, symbols, scope, part),
+        ExprKind::Binary(_, operands) => {
+            check_scopes(alloc, symbols, scope, &operands.left)?;
+            check_scopes(alloc, symbols, scope, &operands.right)
         }
         _ => Ok(()),
     }

@@ -17,11 +17,10 @@ ghost use Rattle.layout65.specs.Views.{standing_of};
 use super::trees::check_range;
 use super::{Before, Measured, fit};
 use base65::Sequence;
-use language65::{AsmFault, PartRange, Settled, Spot};
+use language65::{AsmFault, OptionalExpr, PartRange, Settled, Spot};
 use source65::MAX_FILE;
 use std::alloc::Global;
 use symbols65::{Known, Symbols, knowing};
-use syntax65::Expr;
 
 /// The value of an expression that has to be constant, if there is one.
 fn named(
@@ -29,14 +28,14 @@ fn named(
     symbols: &Symbols,
     known: &mut Known,
     spot: Spot,
-    value: &Option<Expr>,
+    value: &OptionalExpr,
 ) -> Result<Option<i64>, AsmFault>
     requires { IsTable (table_of symbols.now) known.old.states.items }
     ensures found { IsFound (optional_value (table_of symbols.now) spot
         value.now) result }
     ensures table { OnOk result (IsTable (table_of symbols.now) known.new.states.items) }
 {
-    let Some(value) = value else {
+    let Some(value) = value.get() else {
         return Ok(None);
     };
     match knowing::constant(alloc, symbols, known, spot, value)? {
@@ -52,20 +51,20 @@ pub fn check_unread(
     alloc: Global,
     before: Before<'_>,
     known: &mut Known,
-    range: &PartRange,
+    range: PartRange<'_>,
 ) -> Result<(), AsmFault>
     requires table { IsTable (table_of before.symbols.now) known.old.states.items }
     requires standing { IsSoundStanding before.standing.now }
     ensures checked { Gives is_memory (λ u. u) result (unless_fault (unread_fault
         (table_of before.entry.symbols.now) (standing_of before.entry.standing.now)
-        (range.now).0 (range.now).1) tt) }
+        range.entry.start.now range.entry.len.now) tt) }
     ensures table { OnOk result
         (IsTable (table_of before.entry.symbols.now) known.new.states.items) }
 {
     let spot = before.standing.spot();
     check_range(alloc, before.symbols, spot.scope as usize, range)?;
-    named(alloc, before.symbols, known, spot, &range.start)?;
-    named(alloc, before.symbols, known, spot, &range.len)?;
+    named(alloc, before.symbols, known, spot, range.start)?;
+    named(alloc, before.symbols, known, spot, range.len)?;
     Ok(())
 }
 
@@ -112,19 +111,19 @@ pub fn file_part(
     before: Before<'_>,
     known: &mut Known,
     bytes: &Option<Sequence<u8>>,
-    range: &PartRange,
+    range: PartRange<'_>,
 ) -> Result<Measured, AsmFault>
     requires table { IsTable (table_of before.symbols.now) known.old.states.items }
     requires standing { IsSoundStanding before.standing.now }
     ensures placed { Gives is_memory (λ m. m) result (placed
         (table_of before.entry.symbols.now) (standing_of before.entry.standing.now)
-        (file_part bytes.now (range.now).0 (range.now).1)) }
+        (file_part bytes.now range.entry.start.now range.entry.len.now)) }
     ensures table { OnOk result
         (IsTable (table_of before.entry.symbols.now) known.new.states.items) }
 {
     let spot = before.standing.spot();
-    let start = named(alloc, before.symbols, known, spot, &range.start)?;
-    let len = named(alloc, before.symbols, known, spot, &range.len)?;
+    let start = named(alloc, before.symbols, known, spot, range.start)?;
+    let len = named(alloc, before.symbols, known, spot, range.len)?;
     let Some(bytes) = bytes else {
         return Err(AsmFault::FileNotFound);
     };

@@ -17,7 +17,7 @@ ghost use Rattle.layout65.specs.Views.{standing_of};
 
 use super::{Before, Measured, fit};
 use crate::standing::Standing;
-use language65::{AsmFault, Settled, Spot};
+use language65::{AsmFault, OptionalExpr, Settled, Spot};
 use std::alloc::Global;
 use symbols65::{Known, Symbols, knowing};
 use syntax65::Expr;
@@ -39,7 +39,7 @@ fn fill(
     symbols: &Symbols,
     known: &mut Known,
     spot: Spot,
-    value: &Option<Expr>,
+    value: &OptionalExpr,
 ) -> Result<Settled, AsmFault>
     requires { IsTable (table_of symbols.now) known.old.states.items }
     ensures byte { Gives is_memory any_settled result (unless_fault
@@ -49,7 +49,7 @@ fn fill(
         ≡ fill_settled (table_of symbols.now) spot value.now) }
     ensures table { OnOk result (IsTable (table_of symbols.now) known.new.states.items) }
 {
-    let Some(value) = value else {
+    let Some(value) = value.get() else {
         return Ok(Settled::Unsettled);
     };
     let byte = byte_of(knowing::constant(alloc, symbols, known, spot, value)?)?;
@@ -74,7 +74,7 @@ pub fn reserve(
     before: Before<'_>,
     known: &mut Known,
     count: &Expr,
-    value: &Option<Expr>,
+    value: &OptionalExpr,
 ) -> Result<Measured, AsmFault>
     requires table { IsTable (table_of before.symbols.now) known.old.states.items }
     requires standing { IsSoundStanding before.standing.now }
@@ -155,7 +155,7 @@ pub fn align(
     before: Before<'_>,
     known: &mut Known,
     multiple: &Expr,
-    value: &Option<Expr>,
+    value: &OptionalExpr,
 ) -> Result<Measured, AsmFault>
     requires table { IsTable (table_of before.symbols.now) known.old.states.items }
     requires standing { IsSoundStanding before.standing.now }

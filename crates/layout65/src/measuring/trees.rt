@@ -8,10 +8,10 @@ ghost use Rattle.language65.specs.LineFaults.{item_trees, lost_scopes, operand_t
 ghost use Rattle.symbols65.specs.Views.{table_of};
 
 use super::lost::check_scopes;
-use language65::{AsmFault, Item, Operand, PartRange, Statement};
+use language65::{AsmFault, Item, Operand, OptionalExpr, PartRange, Statement};
 use std::alloc::Global;
 use symbols65::Symbols;
-use syntax65::Expr;
+use syntax65::{Expr, ExprKind};
 
 fn check_one(alloc: Global, symbols: &Symbols, scope: usize, value: &Expr) -> Result<(), AsmFault>
     ensures { Gives is_memory (λ u. u) result (unless_fault (lost_scopes
@@ -24,12 +24,12 @@ fn check_optional(
     alloc: Global,
     symbols: &Symbols,
     scope: usize,
-    value: &Option<Expr>,
+    value: &OptionalExpr,
 ) -> Result<(), AsmFault>
     ensures { Gives is_memory (λ u. u) result (unless_fault (lost_scopes
         (table_of symbols.now).scopes scope (optional_tree value.now)) tt) }
 {
-    match value {
+    match value.get() {
         Some(value) => check_one(alloc, symbols, scope, value),
         None => Ok(()),
     }
@@ -41,7 +41,7 @@ fn check_two(
     symbols: &Symbols,
     scope: usize,
     value: &Expr,
-    other: &Option<Expr>,
+    other: &OptionalExpr,
 ) -> Result<(), AsmFault>
     ensures { Gives is_memory (λ u. u) result (unless_fault (lost_scopes
         (table_of symbols.now).scopes scope
@@ -56,15 +56,15 @@ pub fn check_range(
     alloc: Global,
     symbols: &Symbols,
     scope: usize,
-    range: &PartRange,
+    range: PartRange<'_>,
 ) -> Result<(), AsmFault>
     ensures { Gives is_memory (λ u. u) result (unless_fault (lost_scopes
         (table_of symbols.now).scopes scope
-        (optional_tree (range.now).0 ++ optional_tree (range.now).1)) tt) }
+        (optional_tree range.entry.start.now ++ optional_tree range.entry.len.now)) tt) }
 {
-    match &range.start {
-        Some(start) => check_two(alloc, symbols, scope, start, &range.len),
-        None => check_optional(alloc, symbols, scope, &range.len),
+    match range.start.get() {
+        Some(start) => check_two(alloc, symbols, scope, start, range.len),
+        None => check_optional(alloc, symbols, scope, range.len),
     }
 }
 
@@ -96,8 +96,11 @@ fn check_item(alloc: Global, symbols: &Symbols, scope: usize, item: &Item) -> Re
         (table_of symbols.now).scopes scope (item_trees (item.now ∷ []))) tt) }
 {
     match item {
-        Item::Value(Expr::Number(_)) | Item::Text(_) => Ok(()),
-        Item::Value(value) => check_one(alloc, symbols, scope, value),
+        Item::Value(value) => match value.kind() {
+            ExprKind::Number(_) => Ok(()),
+            _ => check_one(alloc, symbols, scope, value),
+        },
+        Item::Text(_) => Ok(()),
     }
 }
 
@@ -141,7 +144,11 @@ pub fn check_trees(
         ),
         Statement::Reserve { count, value } => check_two(alloc, symbols, scope, count, value),
         Statement::Align { multiple, value } => check_two(alloc, symbols, scope, multiple, value),
-        Statement::FilePart { bytes: _, range } => check_range(alloc, symbols, scope, range),
+        Statement::FilePart {
+            bytes: _,
+            start,
+            len,
+        } => check_range(alloc, symbols, scope, PartRange { start, len }),
         Statement::Assert {
             value,
             action: _,

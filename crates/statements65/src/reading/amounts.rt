@@ -8,11 +8,11 @@ ghost use Rattle.statements65.specs.Parsing.{amount_statement, parts_of, IsAmoun
 
 use super::parts::{expression, first_part};
 use super::words::Amount;
-use language65::{AsmFault, Statement};
+use language65::{AsmFault, OptionalExpr, Statement};
 use std::alloc::Global;
 use syntax65::{Expr, Token};
 
-fn amount_statement(which: Amount, count: Expr, value: Option<Expr>) -> Statement
+fn amount_statement(which: Amount, count: Expr, value: OptionalExpr) -> Statement
     ensures { result ≡ amount_statement which count value }
 {
     match which {
@@ -30,7 +30,7 @@ fn count_alone(alloc: Global, which: Amount, count: &[Token<'_>]) -> Result<Stat
     ensures inside { IfErr result (λ e. is_failure e ≡ false) }
 {
     let count = expression(alloc, count)?;
-    Ok(amount_statement(which, count, None))
+    Ok(amount_statement(which, count, OptionalExpr::none()))
 }
 
 fn with_value(
@@ -42,8 +42,8 @@ fn with_value(
     ensures value { Answers is_outside (λ x. x) result (IsAmountWith (amount_statement which) count (lexemes value.now)) }
     ensures inside { IfErr result (λ e. is_failure e ≡ false) }
 {
-    let value = expression(alloc, value)?;
-    Ok(amount_statement(which, count, Some(value)))
+    let value = OptionalExpr::some(alloc, expression(alloc, value)?)?;
+    Ok(amount_statement(which, count, value))
 }
 
 /// `n,v`

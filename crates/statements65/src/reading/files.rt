@@ -9,28 +9,28 @@ ghost use Rattle.statements65.specs.Parsing.{parts_behind, parts_of, IsFilePart,
 use super::parts::{expression, first_part};
 use super::tokens::string_of;
 use base65::Sequence;
-use language65::{AsmFault, PartRange, Statement};
+use language65::{AsmFault, OptionalExpr, Statement};
 use std::alloc::Global;
 use syntax65::{Expr, Token};
+
+/// A start and a length, each where it is there.
+type PartRange = (OptionalExpr, OptionalExpr);
 
 /// A start, with all that follows it.
 fn start_alone(alloc: Global, start: &[Token<'_>]) -> Result<PartRange, AsmFault>
     ensures value { Answers is_outside (λ x. x) result (IsRange (lexemes start.now ∷ [])) }
     ensures inside { IfErr result (λ e. is_failure e ≡ false) }
 {
-    let start = Some(expression(alloc, start)?);
-    Ok(PartRange { start, len: None })
+    let start = OptionalExpr::some(alloc, expression(alloc, start)?)?;
+    Ok((start, OptionalExpr::none()))
 }
 
 fn with_len(alloc: Global, start: Expr, len: &[Token<'_>]) -> Result<PartRange, AsmFault>
     ensures value { Answers is_outside (λ x. x) result (IsRangeWith start (lexemes len.now)) }
     ensures inside { IfErr result (λ e. is_failure e ≡ false) }
 {
-    let len = expression(alloc, len)?;
-    Ok(PartRange {
-        start: Some(start),
-        len: Some(len),
-    })
+    let len = OptionalExpr::some(alloc, expression(alloc, len)?)?;
+    Ok((OptionalExpr::some(alloc, start)?, len))
 }
 
 fn start_and_len(
@@ -70,10 +70,7 @@ fn range_behind(alloc: Global, behind: Option<&[Token<'_>]>) -> Result<PartRange
 {
     match behind {
         Some(behind) => range(alloc, behind),
-        None => Ok(PartRange {
-            start: None,
-            len: None,
-        }),
+        None => Ok((OptionalExpr::none(), OptionalExpr::none())),
     }
 }
 
@@ -89,9 +86,9 @@ fn part_of(
     let Some(name) = string_of(name) else {
         return Err(AsmFault::NotUnderstood);
     };
-    let range = Box::new(alloc, range_behind(alloc, behind)?)?;
+    let (start, len) = range_behind(alloc, behind)?;
     let name = Sequence::copy_of(alloc, name)?;
-    Ok(Statement::NamedPart { name, range })
+    Ok(Statement::NamedPart { name, start, len })
 }
 
 /// `.incbin`

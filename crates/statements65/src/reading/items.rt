@@ -13,7 +13,7 @@ use super::words::Elements;
 use base65::Sequence;
 use language65::{AsmFault, Item};
 use std::alloc::{AllocError, Global};
-use syntax65::{Expr, Token};
+use syntax65::{Expr, ExprKind, Token};
 
 /// The value of one number, as most elements are.
 #[inline(always)]
@@ -44,7 +44,7 @@ fn item(alloc: Global, elements: Elements, tokens: &[Token<'_>]) -> Result<Item,
     ensures inside { IfErr result (λ e. is_failure e ≡ false) }
 {
     if let Some(number) = number_alone(tokens) {
-        return Ok(Item::Value(Expr::Number(number)));
+        return Ok(Item::Value(Expr::new(ExprKind::Number(number))));
     }
     match elements {
         Elements::Values => value_item(alloc, tokens),

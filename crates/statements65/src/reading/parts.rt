@@ -14,7 +14,7 @@ ghost use Rattle.statements65.specs.Parsing.{is_comma, parts_behind, parts_of, q
 use super::tokens::{is_close, is_comma};
 use language65::AsmFault;
 use std::alloc::Global;
-use syntax65::{Expr, ExprFault, Token, TokenKind, read_expr};
+use syntax65::{Expr, ExprFault, ExprKind, Token, TokenKind, read_expr};
 
 /// The value of a number.
 fn number_in(token: &Token<'_>) -> Option<u32>
@@ -56,11 +56,11 @@ pub fn lone_number(tokens: &[Token<'_>]) -> Option<u32>
 
 /// The expression at the front, and how many tokens it has. Most are one number, in which no operators are looked for.
 fn parsed(alloc: Global, tokens: &[Token<'_>]) -> Result<(Expr, usize), ExprFault>
-    ensures read { Answers is_expr_outside (λ r. (r.0, r.1)) result (IsParsed (lexemes tokens.now)) }
+    ensures read { Answers is_expr_outside (λ r. r) result (IsParsed (lexemes tokens.now)) }
     ensures bound { IfOk result (λ r. r.1 ≤ length tokens.now) }
 {
     match lone_number(tokens) {
-        Some(value) => Ok((Expr::Number(value), 1)),
+        Some(value) => Ok((Expr::new(ExprKind::Number(value)), 1)),
         None => read_expr(alloc, tokens),
     }
 }

@@ -167,19 +167,19 @@ fn form_and_size(
         r.size ≡ size_of (table_of symbols.now) spot own value.now) }
     ensures table { OnOk result (IsTable (table_of symbols.now) known.new.states.items) }
 {
-    match value {
-        Expr::Number(number) => {
+    match value.kind() {
+        ExprKind::Number(number) => {
             let value = i64::from(*number);
             Ok(FormAndSize {
                 form: Some(Norm::new(Node::Lit(value))),
                 size: size_of_value(value),
             })
         }
-        Expr::Here => Ok(FormAndSize {
+        ExprKind::Here => Ok(FormAndSize {
             form: Some(address(spot)),
             size: own,
         }),
-        Expr::Prefix(op, part) => {
+        ExprKind::Prefix(op, part) => {
             let part = form_and_size(alloc, symbols, known, spot, own, part)?;
             let other = if takes_byte(*op) {
                 AddressSize::ZeroPage
@@ -189,14 +189,18 @@ fn form_and_size(
             let form = prefix_form(alloc, *op, part.form)?;
             Ok(sized_by_value(form, other))
         }
-        Expr::Binary(op, left, right) => {
-            let left = form_and_size(alloc, symbols, known, spot, own, left)?;
-            let right = form_and_size(alloc, symbols, known, spot, own, right)?;
+        ExprKind::Binary(op, operands) => {
+            let left = form_and_size(alloc, symbols, known, spot, own, &operands.left)?;
+            let right = form_and_size(alloc, symbols, known, spot, own, &operands.right)?;
             let other = larger(left.size, right.size);
             let form = binary_form(alloc, *op, left.form, right.form)?;
             Ok(sized_by_value(form, other))
         }
-        Expr::Name(_) | Expr::Cheap(_) | Expr::Forward(_) | Expr::Backward(_) => {
+        ExprKind::Plain(_)
+        | ExprKind::Scoped(_)
+        | ExprKind::Cheap(_)
+        | ExprKind::Forward(_)
+        | ExprKind::Backward(_) => {
             reference_form_and_size(alloc, symbols, known, spot, value)
         }
     }

@@ -18,7 +18,7 @@ use base65::{Op1, Op2};
 use language65::{AsmFault, Spot};
 use object65::{FormFault, Node, Norm};
 use std::alloc::{AllocError, Global};
-use syntax65::Expr;
+use syntax65::{Expr, ExprKind};
 
 /// What is known of the form of a constant.
 #[derive(Drop)]
@@ -179,19 +179,23 @@ pub fn try_norm(
 ) -> Result<Norm, Stop>
     ensures { Gives lacks_memory (λ f. f) result (tried (known_by symbols.now source.entry) (table_of symbols.now) spot value.now) }
 {
-    match value {
-        Expr::Number(number) => Ok(Norm::new(Node::Lit(i64::from(*number)))),
-        Expr::Here => Ok(address(spot)),
-        Expr::Prefix(op, part) => {
+    match value.kind() {
+        ExprKind::Number(number) => Ok(Norm::new(Node::Lit(i64::from(*number)))),
+        ExprKind::Here => Ok(address(spot)),
+        ExprKind::Prefix(op, part) => {
             let part = try_norm(alloc, symbols, source, spot, part)?;
             fold_prefix(alloc, *op, part)
         }
-        Expr::Binary(op, left, right) => {
-            let left = try_norm(alloc, symbols, source, spot, left)?;
-            let right = try_norm(alloc, symbols, source, spot, right)?;
+        ExprKind::Binary(op, operands) => {
+            let left = try_norm(alloc, symbols, source, spot, &operands.left)?;
+            let right = try_norm(alloc, symbols, source, spot, &operands.right)?;
             fold_binary(alloc, *op, left, right)
         }
-        Expr::Name(_) | Expr::Cheap(_) | Expr::Forward(_) | Expr::Backward(_) => {
+        ExprKind::Plain(_)
+        | ExprKind::Scoped(_)
+        | ExprKind::Cheap(_)
+        | ExprKind::Forward(_)
+        | ExprKind::Backward(_) => {
             operand_norm(alloc, symbols, source, spot, value)
         }
     }

@@ -17,7 +17,7 @@ use crate::table::{Key, Symbols};
 use language65::Spot;
 use object65::{Node, Norm};
 use std::alloc::{AllocError, Global};
-use syntax65::{Expr, Name};
+use syntax65::{Expr, ExprKind, Name};
 
 /// The place of what a plain name means whatever follows: the very scope of the use defines it.
 fn own_name(symbols: &Symbols, spot: Spot, name: &[u8]) -> Option<usize>
@@ -76,13 +76,14 @@ fn final_place(symbols: &Symbols, spot: Spot, operand: &Expr) -> Option<usize>
     ensures { IfSome result
         (MeansAlways (table_of symbols.now) spot operand.now) }
 {
-    match operand {
-        Expr::Name(name) => match plain_part(name) {
+    match operand.kind() {
+        ExprKind::Plain(name) => own_name(symbols, spot, name.as_slice()),
+        ExprKind::Scoped(name) => match plain_part(name) {
             Some(part) => own_name(symbols, spot, part),
             None => opened_member(symbols, spot, name),
         },
-        Expr::Cheap(name) => own_label(symbols, spot, name.as_slice()),
-        Expr::Backward(steps) => label_before(symbols, spot, *steps),
+        ExprKind::Cheap(name) => own_label(symbols, spot, name.as_slice()),
+        ExprKind::Backward(steps) => label_before(symbols, spot, *steps),
         _ => None,
     }
 }
@@ -92,13 +93,17 @@ pub fn are_final(symbols: &Symbols, spot: Spot, value: &Expr) -> bool
     ensures { result ≡ true →
         Operands (MeansFinally (table_of symbols.now) spot) value.now }
 {
-    match value {
-        Expr::Number(_) | Expr::Here => true,
-        Expr::Prefix(_, part) => are_final(symbols, spot, part),
-        Expr::Binary(_, left, right) => {
-            are_final(symbols, spot, left) && are_final(symbols, spot, right)
+    match value.kind() {
+        ExprKind::Number(_) | ExprKind::Here => true,
+        ExprKind::Prefix(_, part) => are_final(symbols, spot, part),
+        ExprKind::Binary(_, operands) => {
+            are_final(symbols, spot, &operands.left) && are_final(symbols, spot, &operands.right)
         }
-        Expr::Name(_) | Expr::Cheap(_) | Expr::Forward(_) | Expr::Backward(_) => {
+        ExprKind::Plain(_)
+        | ExprKind::Scoped(_)
+        | ExprKind::Cheap(_)
+        | ExprKind::Forward(_)
+        | ExprKind::Backward(_) => {
             final_place(symbols, spot, value).is_some()
         }
     }
@@ -142,22 +147,26 @@ fn lasting_form(
         (length (table_of symbols.now).definitions)
         (table_of symbols.now) spot value.now f) }
 {
-    match value {
-        Expr::Number(number) => Ok(Some(Norm::new(Node::Lit(i64::from(*number))))),
-        Expr::Here => Ok(Some(address(spot))),
-        Expr::Prefix(op, part) => {
+    match value.kind() {
+        ExprKind::Number(number) => Ok(Some(Norm::new(Node::Lit(i64::from(*number))))),
+        ExprKind::Here => Ok(Some(address(spot))),
+        ExprKind::Prefix(op, part) => {
             let part = lasting_form(alloc, symbols, spot, part)?;
             prefix_form(alloc, *op, part)
         }
-        Expr::Binary(op, left, right) => {
-            let left = lasting_form(alloc, symbols, spot, left)?;
+        ExprKind::Binary(op, operands) => {
+            let left = lasting_form(alloc, symbols, spot, &operands.left)?;
             if left.is_none() {
                 return Ok(None);
             }
-            let right = lasting_form(alloc, symbols, spot, right)?;
+            let right = lasting_form(alloc, symbols, spot, &operands.right)?;
             binary_form(alloc, *op, left, right)
         }
-        Expr::Name(_) | Expr::Cheap(_) | Expr::Forward(_) | Expr::Backward(_) => {
+        ExprKind::Plain(_)
+        | ExprKind::Scoped(_)
+        | ExprKind::Cheap(_)
+        | ExprKind::Forward(_)
+        | ExprKind::Backward(_) => {
             final_operand(alloc, symbols, spot, value)
         }
     }

@@ -17,7 +17,7 @@ use crate::table::{Key, Symbols};
 use base65::Sequence;
 use language65::{AsmFault, Spot};
 use std::alloc::Global;
-use syntax65::{Expr, Name};
+use syntax65::{Expr, ExprKind, Name};
 
 /// What a name means.
 #[derive(Clone, Copy)]
@@ -227,14 +227,17 @@ pub fn meaning_of(
 ) -> Result<Meaning, AsmFault>
     ensures { Gives is_memory meaning_in result (meaning_of (table_of symbols.now) spot operand.now) }
 {
-    match operand {
-        Expr::Name(name) => name_meaning(alloc, symbols, spot, name),
-        Expr::Cheap(name) => cheap_meaning(alloc, symbols, spot.region as usize, name.as_slice()),
-        Expr::Forward(steps) => known(
+    match operand.kind() {
+        ExprKind::Plain(name) => {
+            plain_meaning(alloc, symbols, spot.scope as usize, name.as_slice())
+        }
+        ExprKind::Scoped(name) => name_meaning(alloc, symbols, spot, name),
+        ExprKind::Cheap(name) => cheap_meaning(alloc, symbols, spot.region as usize, name.as_slice()),
+        ExprKind::Forward(steps) => known(
             label_behind(symbols, spot.unnamed, *steps),
             AsmFault::NoSuchLabel,
         ),
-        Expr::Backward(steps) => known(
+        ExprKind::Backward(steps) => known(
             label_before(symbols, spot.unnamed, *steps),
             AsmFault::NoSuchLabel,
         ),

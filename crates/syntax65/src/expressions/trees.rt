@@ -55,6 +55,22 @@ pub struct Name {
     pub parts: Sequence<Sequence<u8>>,
 }
 
+impl Name {
+    ghost use Rattle.std.specs.Prelude.{[], ◌∷◌, false};
+
+    /// A name alone.
+    pub fn of(alloc: Global, text: &[u8]) -> Result<Self, AllocError>
+        ensures { IfOk result (λ n. n ≡ record { is_global = false; parts = text.now ∷ [] }) }
+    {
+        let mut parts = Sequence::new(alloc);
+        parts.push(Sequence::copy_of(alloc, text)?)?;
+        Ok(Name {
+            is_global: false,
+            parts,
+        })
+    }
+}
+
 /// An expression, which contracts see as a tree, without its boxes.
 #[derive(Drop)]
 #[cycle(expr)]

@@ -6,21 +6,21 @@ ghost use Rattle.tests_lines65.specs.Constants.{value_of};
 use base65::{apply1, apply2};
 use expand65::Knows;
 use std::alloc::{AllocError, Global};
-use syntax65::{Expr, Name};
+use syntax65::{Expr, ExprKind, Name};
 
 /// The value of an expression without names.
 fn value_of(expr: &Expr) -> Option<i64>
     ensures { result ≡ value_of expr.now }
 {
-    match expr {
-        Expr::Number(value) => Some(*value as i64),
-        Expr::Prefix(op, part) => {
+    match expr.kind() {
+        ExprKind::Number(value) => Some(*value as i64),
+        ExprKind::Prefix(op, part) => {
             let part = value_of(part)?;
             Some(apply1(*op, part))
         }
-        Expr::Binary(op, left, right) => {
-            let left = value_of(left)?;
-            let right = value_of(right)?;
+        ExprKind::Binary(op, operands) => {
+            let left = value_of(&operands.left)?;
+            let right = value_of(&operands.right)?;
             apply2(*op, left, right)
         }
         _ => None,

@@ -47,23 +47,24 @@ fn add_bytes(text: &mut String, bytes: &[u8]) -> Result<(), AllocError> {
 }
 
 fn add_tree(text: &mut String, tree: &Expr) -> Result<(), AllocError> {
-    match tree {
-        Expr::Number(value) => write!(text, "{value}"),
-        Expr::Here => text.push_str("*"),
-        Expr::Name(name) => add_name(text, name),
-        Expr::Cheap(name) => add_bytes(text, name.as_slice()),
-        Expr::Forward(count) => write!(text, ":+{count}"),
-        Expr::Backward(count) => write!(text, ":-{count}"),
-        Expr::Prefix(op, part) => {
+    match tree.kind() {
+        ExprKind::Number(value) => write!(text, "{value}"),
+        ExprKind::Here => text.push_str("*"),
+        ExprKind::Plain(name) => add_bytes(text, name.as_slice()),
+        ExprKind::Scoped(name) => add_name(text, name),
+        ExprKind::Cheap(name) => add_bytes(text, name.as_slice()),
+        ExprKind::Forward(count) => write!(text, ":+{count}"),
+        ExprKind::Backward(count) => write!(text, ":-{count}"),
+        ExprKind::Prefix(op, part) => {
             write!(text, "({op:?} ")?;
             add_tree(text, part)?;
             text.push_str(")")
         }
-        Expr::Binary(op, left, right) => {
+        ExprKind::Binary(op, operands) => {
             write!(text, "({op:?} ")?;
-            add_tree(text, left)?;
+            add_tree(text, &operands.left)?;
             text.push_str(" ")?;
-            add_tree(text, right)?;
+            add_tree(text, &operands.right)?;
             text.push_str(")")
         }
     }

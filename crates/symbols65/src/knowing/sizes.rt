@@ -16,7 +16,7 @@ use base65::Op1;
 use language65::Spot;
 use object65::{Node, Norm};
 use std::alloc::{AllocError, Global};
-use syntax65::{AddressSize, Expr};
+use syntax65::{AddressSize, Expr, ExprKind};
 
 fn is_byte(value: i64) -> bool
     ensures { result ≡ is_byte value }

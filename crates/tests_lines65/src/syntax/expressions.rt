@@ -3,7 +3,7 @@
 
 use std::alloc::{AllocError, Global};
 use std::test::Fail;
-use syntax65::{Expr, ExprFault, Name, line_tokens, read_expr};
+use syntax65::{Expr, ExprFault, ExprKind, Name, line_tokens, read_expr};
 
 /// An expression, an arrow and what it is read as. The cases have every operator and fault.
 const ROWS: &str = "\

@@ -5,7 +5,7 @@ use Rattle.syntax65.specs.Trees.{number}
 use Rattle.source65.specs.declared.place.Place.{Place}
 use Rattle.language65.specs.declared.fault.AsmFault.{AsmFault}
 use Rattle.language65.specs.Faults.{is_outside}
-use Rattle.language65.specs.Language.{constant}
+use Rattle.language65.specs.declared.language.Statement.TheVariants.{Constant}
 use Rattle.module65.specs.Inner.Continuing.{DefinesOn}
 use Rattle.module65.specs.Machine.{State, Takes, begun}
 use Rattle.module65.specs.Reading.{Answers, AreDefined, Define}
@@ -18,12 +18,12 @@ use Rattle.asm65.specs.Inner.Holding.{Holds}
 use Rattle.asm65.specs.Inner.Running.{DefinesBy, IsReached, behind, at_first, IsRoomy, Leaves}
 use Rattle.asm65.proofs.Runs.{Answer, fault_first, fault_then, says_same, takes_quiet}
 
-pub defines_by : (place : Place) (d : Define) (old new : Assembler) (r : Answer) → ((count : ℕ) (t : State) → Holds count t old → count < opening_limit → Answers (Takes t place (constant d.0 (number d.1))) (λ u. Holds (count + 0) u new) r) → IfErr r (λ e. is_outside e ≡ false → new.texts ≡ old.texts) → DefinesBy place d old new r
+pub defines_by : (place : Place) (d : Define) (old new : Assembler) (r : Answer) → ((count : ℕ) (t : State) → Holds count t old → count < opening_limit → Answers (Takes t place (Constant d.0 (number d.1))) (λ u. Holds (count + 0) u new) r) → IfErr r (λ e. is_outside e ≡ false → new.texts ≡ old.texts) → DefinesBy place d old new r
 defines_by place d old new (Ok v) taken same = λ count t room h.
     (let a = taken count t h (omega (arith, room)) in
-    (a.0, a.1, λ reached. behind t a.0 place (constant d.0 (number d.1)) reached tt a.1, (count + 0, omega arith, a.2)))
+    (a.0, a.1, λ reached. behind t a.0 place (Constant d.0 (number d.1)) reached tt a.1, (count + 0, omega arith, a.2)))
 defines_by place d old new (Err e) taken same = λ count t room h.
-    fault_first ⊤ (Takes t place (constant d.0 (number d.1))) count t new e (taken count t h (omega (arith, room))) (λ inside. says_same count t old new h (same inside))
+    fault_first ⊤ (Takes t place (Constant d.0 (number d.1))) count t new e (taken count t h (omega (arith, room))) (λ inside. says_same count t old new h (same inside))
 
 -- what is defined so far, with constants that are left
 pub record SoFar (place : Place) (ds left : List Define) (a : Assembler) : Type 0 where
@@ -55,7 +55,7 @@ zero_within count t a le h =
 pub one_more : (place : Place) (ds left : List Define) (d : Define) (old new : Assembler) (v : Unit {0}) → SoFar place ds (d ∷ left) old → DefinesBy place d old new (Ok v) → SoFar place ds left new
 one_more place ds left d old new v s defines =
     let a = defines 0 s.state (omega arith) s.holds in
-    let quiet = takes_quiet s.state a.0 place (constant d.0 (number d.1)) (refl, refl) a.1 in
+    let quiet = takes_quiet s.state a.0 place (Constant d.0 (number d.1)) (refl, refl) a.1 in
     record {
       state = a.0;
       goes = next_constant Takes place (AreDefined Takes begun place ds) d left s.state a.0 s.goes a.1;
@@ -68,7 +68,7 @@ one_more place ds left d old new v s defines =
 pub one_wrong : (place : Place) (ds left : List Define) (d : Define) (old new : Assembler) (e : AsmFault) (r : Answer) → r ≡ Err e → SoFar place ds (d ∷ left) old → DefinesBy place d old new (Err e) → Leaves ⊤ (AreDefined Takes begun place ds) 0 begun new r
 one_wrong place ds left d old new e r fails s defines =
     let P : Answer → Type 0 = λ q. Leaves ⊤ (AreDefined Takes begun place ds) 0 begun new q in
-    subst P (sym fails) (fault_then ⊤ ⊤ (Takes s.state place (constant d.0 (number d.1))) (AreDefined Takes begun place ds) 0 0 begun s.state new e (λ x. x) (λ p. faulty_constant Takes place (AreDefined Takes begun place ds) d left s.state e s.goes p) (λ says. (says.0 ∙ s.out, says.1 ∙ s.err)) (defines 0 s.state (omega arith) s.holds))
+    subst P (sym fails) (fault_then ⊤ ⊤ (Takes s.state place (Constant d.0 (number d.1))) (AreDefined Takes begun place ds) 0 0 begun s.state new e (λ x. x) (λ p. faulty_constant Takes place (AreDefined Takes begun place ds) d left s.state e s.goes p) (λ says. (says.0 ∙ s.out, says.1 ∙ s.err)) (defines 0 s.state (omega arith) s.holds))
 
 pub all_defined : (place : Place) (ds : List Define) (a : Assembler) (v : Unit {0}) → SoFar place ds [] a → Leaves ⊤ (AreDefined Takes begun place ds) 0 begun a (Ok v)
 all_defined place ds a v s = (s.state, last_constant Takes place (AreDefined Takes begun place ds) s.state s.goes, λ first. s.reached, (0, omega arith, s.holds))

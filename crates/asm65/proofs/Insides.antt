@@ -22,7 +22,8 @@ use Rattle.language65.specs.declared.fault.AsmFault.TheVariants.{Expansion, File
 use Rattle.language65.specs.Contents.{decided, export_said, import_fault, operand_form, stored, written}
 use Rattle.language65.specs.Faults.{is_failure, is_memory}
 use Rattle.language65.specs.declared.laid.Spot.{Spot}
-use Rattle.language65.specs.Language.{Stated, instruction, reserve, align, file_part, segment, close_scope, close_proc, pop_segment}
+use Rattle.language65.specs.declared.language.Statement.{Statement}
+use Rattle.language65.specs.declared.language.Statement.TheVariants as statement
 use Rattle.language65.specs.Layout.{Standing, own_size, place_of, spot_of}
 use Rattle.language65.specs.LineFaults as faults
 use Rattle.language65.specs.Names.{Meaning, defined_at, imported_as, first_found, last_of, meaning_of, member_meaning, or_fault, scope_from, scopes_from, scopes_of, shown, unnamed_meaning}
@@ -292,39 +293,39 @@ inside_changed gs (Some own) (Some i) = inside_when _ _ refl
 inside_changed gs None place = no_fault
 inside_changed gs (Some own) None = no_fault
 
-inside_form_fault : (y : Symbols) (s : Spot) (own : AddressSize) (x : Stated) → AreInsideFaults (faults.form_fault y s own x)
-inside_form_fault y s own (instruction m o) = inside_unless _ _ refl
+inside_form_fault : (y : Symbols) (s : Spot) (own : AddressSize) (x : Statement) → AreInsideFaults (faults.form_fault y s own x)
+inside_form_fault y s own (statement.Instruction m o) = inside_unless _ _ refl
 inside_form_fault y s own _ = no_fault
 
-inside_operand_fault : (y : Symbols) (s : Spot) (x : Stated) → AreInsideFaults (faults.operand_fault y s x)
-inside_operand_fault y s (reserve n v) = inside_when _ _ refl
-inside_operand_fault y s (align n v) = inside_when _ _ refl
-inside_operand_fault y s (file_part bytes start len) = inside_when _ _ refl
+inside_operand_fault : (y : Symbols) (s : Spot) (x : Statement) → AreInsideFaults (faults.operand_fault y s x)
+inside_operand_fault y s (statement.Reserve n v) = inside_when _ _ refl
+inside_operand_fault y s (statement.Align n v) = inside_when _ _ refl
+inside_operand_fault y s (statement.FilePart bytes start len) = inside_when _ _ refl
 inside_operand_fault y s _ = no_fault
 
-inside_alignment : (y : Symbols) (s : Spot) (x : Stated) → AreInsideFaults (faults.alignment_fault y s x)
-inside_alignment y s (align n v) = inside_multiple (constant_in y s n)
+inside_alignment : (y : Symbols) (s : Spot) (x : Statement) → AreInsideFaults (faults.alignment_fault y s x)
+inside_alignment y s (statement.Align n v) = inside_multiple (constant_in y s n)
 inside_alignment y s _ = no_fault
 
-inside_missing : (x : Stated) → AreInsideFaults (faults.missing_file x)
-inside_missing (file_part bytes start len) = inside_unless bytes _ refl
+inside_missing : (x : Statement) → AreInsideFaults (faults.missing_file x)
+inside_missing (statement.FilePart bytes start len) = inside_unless bytes _ refl
 inside_missing _ = no_fault
 
-inside_part_fault : (y : Symbols) (s : Spot) (x : Stated) → AreInsideFaults (faults.part_fault y s x)
-inside_part_fault y s (file_part (Some bytes) start len) = inside_when _ _ refl
-inside_part_fault y s (file_part None start len) = no_fault
+inside_part_fault : (y : Symbols) (s : Spot) (x : Statement) → AreInsideFaults (faults.part_fault y s x)
+inside_part_fault y s (statement.FilePart (Some bytes) start len) = inside_when _ _ refl
+inside_part_fault y s (statement.FilePart None start len) = no_fault
 inside_part_fault y s _ = no_fault
 
-inside_size : (gs : List Segment) (x : Stated) → AreInsideFaults (faults.size_fault gs x)
-inside_size gs (segment n own) = inside_changed gs own (place_of gs n)
+inside_size : (gs : List Segment) (x : Statement) → AreInsideFaults (faults.size_fault gs x)
+inside_size gs (statement.Segment n own) = inside_changed gs own (place_of gs n)
 inside_size gs _ = no_fault
 
-inside_block : (cs : List Scope) (scope : ℕ) (x : Stated) → AreInsideFaults (faults.block_fault cs scope x)
+inside_block : (cs : List Scope) (scope : ℕ) (x : Statement) → AreInsideFaults (faults.block_fault cs scope x)
 inside_block cs scope close_scope = inside_when _ _ refl
 inside_block cs scope close_proc = inside_when _ _ refl
 inside_block cs scope _ = no_fault
 
-inside_pop : (kept : List ℕ) (x : Stated) → AreInsideFaults (faults.pop_fault kept x)
+inside_pop : (kept : List ℕ) (x : Statement) → AreInsideFaults (faults.pop_fault kept x)
 inside_pop kept pop_segment = inside_when _ _ refl
 inside_pop kept _ = no_fault
 
@@ -337,7 +338,7 @@ first_inside [] h = no_fault
 first_inside (o ∷ os) h = inside_first o os h.0 (first_inside os h.1)
 
 -- a line's fault is no store's
-pub line_inside : (y : Symbols) (w : Standing) (x : Stated) → AreInsideFaults (faults.line_fault y w x)
+pub line_inside : (y : Symbols) (w : Standing) (x : Statement) → AreInsideFaults (faults.line_fault y w x)
 line_inside y w x =
     let s : Spot = spot_of w in
     let outside : Bool = faults.stands_outside x && faults.is_open s.scope in
@@ -402,7 +403,7 @@ inside_unless_fault None x h = tt
 inside_unless_fault (Some e) x h = h e refl
 
 -- what a statement comes to at its line is found, or a fault that is no store's
-pub measured_inside : {X : Type 0} (r : Result X AsmFault) (view : X → Measured) (y : Symbols) (w : Standing) (x : Stated) → Gives is_memory view r (measured y w x) → IsInside r
+pub measured_inside : {X : Type 0} (r : Result X AsmFault) (view : X → Measured) (y : Symbols) (w : Standing) (x : Statement) → Gives is_memory view r (measured y w x) → IsInside r
 measured_inside r view y w x h = inside_from r view (measured y w x) (inside_unless_fault (faults.line_fault y w x) (measure_of y w x) (line_inside y w x)) h
 
 either_inside : (a b : Option AsmFault) → AreInsideFaults a → AreInsideFaults b → AreInsideFaults (faults.or_then a b)
@@ -412,6 +413,6 @@ either_inside None b h k = k
 -- so is what it is refused for whatever a file has
 pub unread_inside : (r : Result (Unit {0}) AsmFault) (y : Symbols) (w : Standing) (start len : Option Tree) → Gives is_memory (λ u. u) r (unless_fault (unread_fault y w start len) tt) → IsInside r
 unread_inside r y w start len h =
-    let part = file_part None start len in
+    let part = statement.FilePart None start len in
     let fault = either_inside (faults.lost_scopes y.scopes w.scope (faults.trees_of part)) (faults.operand_fault y (spot_of w) part) (inside_lost_all y.scopes w.scope (faults.trees_of part)) (inside_operand_fault y (spot_of w) part) in
     inside_from r (λ u. u) (unless_fault (unread_fault y w start len) tt) (inside_unless_fault (unread_fault y w start len) tt fault) h

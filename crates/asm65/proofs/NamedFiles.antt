@@ -11,7 +11,7 @@ use Rattle.expand65.specs.Includes.{as_text, beside, file_named}
 use Rattle.language65.specs.declared.language.PartRange.{PartRange}
 use Rattle.language65.specs.declared.language.Statement.{Statement}
 use Rattle.language65.specs.declared.language.Statement.TheVariants.{FilePart, NamedPart}
-use Rattle.language65.specs.Language.{file_part}
+use Rattle.language65.specs.declared.language.Statement.TheVariants as statement
 use Rattle.language65.specs.Views.{place_in}
 use Rattle.asm65.specs.Inner.Files.{read_bytes}
 
@@ -55,5 +55,5 @@ read_none m name text most e h = front_none (fmap.get m text) most h ∙ ap (opt
 -- a statement with what was read of its file
 pub part_read : (m : Files) (file name slice : List ℕ) (line : ℕ) (bytes : Option (List ℕ)) (range : Box PartRange Global) (x : Statement) → x ≡ NamedPart name range → slice ≡ name → bytes ≡ option_map (take 16777217) (file_named m (beside file slice)) → (FilePart bytes range) ≡ read_bytes m (place_in file line) x
 part_read m file name slice line bytes range x is same read =
-    ap (λ b. file_part b ((box_value range)).0 ((box_value range)).1) (read ∙ ap (λ n. option_map (take 16777217) (file_named m (beside file n))) same)
+    ap (λ b. statement.FilePart b ((box_value range)).0 ((box_value range)).1) (read ∙ ap (λ n. option_map (take 16777217) (file_named m (beside file n))) same)
     ∙ sym (ap (λ (s : Statement). read_bytes m (place_in file line) s) is)

@@ -17,7 +17,8 @@ use Rattle.language65.specs.declared.fault.AsmFault.TheVariants.{FileError, File
 use Rattle.language65.specs.Faults.{is_failure, is_outside}
 use Rattle.language65.specs.Laid.{Laid, asks_section}
 use Rattle.language65.specs.declared.laid.Spot.{Spot}
-use Rattle.language65.specs.Language.{Stated, label, cheap_label, unnamed_label, open_scope, open_proc, segment}
+use Rattle.language65.specs.declared.language.Statement.{Statement}
+use Rattle.language65.specs.declared.language.Statement.TheVariants as statement
 use Rattle.language65.specs.Layout.{laid}
 use Rattle.language65.specs.LineFaults.{line_fault}
 use Rattle.language65.specs.Sound.{AreNamed, IsSound}
@@ -61,22 +62,22 @@ fault_then AreSo AreTo Is Then most more t u new e f g s h = by (is_outside e) h
 
 -- ---- A statement.
 
-opened_few : (x : Stated) → opened_by x ≤ 1
-opened_few (label n) = omega arith
-opened_few (cheap_label n) = omega arith
+opened_few : (x : Statement) → opened_by x ≤ 1
+opened_few (statement.Label n) = omega arith
+opened_few (statement.CheapLabel n) = omega arith
 opened_few unnamed_label = omega arith
-opened_few (open_scope n) = omega arith
-opened_few (open_proc n) = omega arith
-opened_few (segment n size) = omega arith
+opened_few (statement.OpenScope n) = omega arith
+opened_few (statement.OpenProc n) = omega arith
+opened_few (statement.Segment n size) = omega arith
 opened_few _ = omega arith
 
 pub says_same : (count : ℕ) (t : State) (old new : Assembler) → Holds count t old → new.texts ≡ old.texts → SaysAs t new
 says_same count t old new h e = (ap (λ (s : Texts). s.out) e ∙ h.out, ap (λ (s : Texts). s.err) e ∙ h.err)
 
-abbrev Taken : Place → Stated → Assembler → Assembler → Answer → Type 0
+abbrev Taken : Place → Statement → Assembler → Assembler → Answer → Type 0
 Taken place x old new r = (count : ℕ) (t : State) → Holds count t old → count < opening_limit → Answers (Takes t place x) (λ u. Holds (count + opened_by x) u new) r
 
-pub sound_leaves : (place : Place) (x : Stated) (old new : Assembler) (r : Answer) → IsSound x → Taken place x old new r → IfErr r (λ e. is_outside e ≡ false → new.texts ≡ old.texts) → TakesBy (IsSound x) (λ t. Takes t place x) 1 old new r
+pub sound_leaves : (place : Place) (x : Statement) (old new : Assembler) (r : Answer) → IsSound x → Taken place x old new r → IfErr r (λ e. is_outside e ≡ false → new.texts ≡ old.texts) → TakesBy (IsSound x) (λ t. Takes t place x) 1 old new r
 sound_leaves place x old new (Ok v) sound taken same = λ count t room h.
     (let few = opened_few x in
     let a = taken count t h (omega (arith, room)) in
@@ -118,7 +119,7 @@ rest_wrong o place (k ∷ ts) a e some is = λ count t room h.
     by t false g = told_all o (λ m. IsRest m Takes t place (k ∷ ts) (Err e)) (λ m. (Err e, g, refl))
 
 -- a statement that was read, and the same with what was read of its file
-module _ (place : Place) (k : Lexeme) (ts : List Lexeme) (x y : Stated) (is : IsStatement (k ∷ ts) (Ok x)) where
+module _ (place : Place) (k : Lexeme) (ts : List Lexeme) (x y : Statement) (is : IsStatement (k ∷ ts) (Ok x)) where
   taken_rest : (m : Files) (t : State) (r : Result State AsmFault) → y ≡ read_bytes m place x → Takes t place y r → IsRest m Takes t place (k ∷ ts) r
   taken_rest m t r e h = (Ok x, is, takes_whole m place x t r (subst (λ z. Takes t place z r) e h))
 
@@ -133,7 +134,7 @@ module _ (place : Place) (k : Lexeme) (ts : List Lexeme) (x y : Stated) (is : Is
       by true g = tt
       by false g = (λ so. tt, g.1)
 
-pub rest_leaves : (o : Option Files) (place : Place) (ts : List Lexeme) (x y : Stated) (old new : Assembler) (r : Answer) → (ts ≡ [] → ⊥) → IsStatement ts (Ok x) → IfSome o (λ m. y ≡ read_bytes m place x) → TakesBy (IsSound y) (λ t. Takes t place y) 1 old new r → TakesBy (AreNamed ts) (RestBy o place ts) 1 old new r
+pub rest_leaves : (o : Option Files) (place : Place) (ts : List Lexeme) (x y : Statement) (old new : Assembler) (r : Answer) → (ts ≡ [] → ⊥) → IsStatement ts (Ok x) → IfSome o (λ m. y ≡ read_bytes m place x) → TakesBy (IsSound y) (λ t. Takes t place y) 1 old new r → TakesBy (AreNamed ts) (RestBy o place ts) 1 old new r
 rest_leaves o place [] x y old new r some is read taken = absurd (some refl)
 rest_leaves o place (k ∷ ts) x y old new (Ok v) some is read taken = λ count t room h.
     (let a = taken count t room h in
@@ -142,7 +143,7 @@ rest_leaves o place (k ∷ ts) x y old new (Err e) some is read taken = λ count
     wrong_rest place k ts x y is o (count + 1) t new e read (taken count t room h)
 
 -- a statement that is refused before its file is read
-module _ (blamed : Option (List ℕ)) (place : Place) (x : Stated) (old new : Assembler) (e : AsmFault) (refused : (count : ℕ) (t : State) → Holds count t old → IsRefusedUnread blamed t place x e) (same : new.texts ≡ old.texts) where
+module _ (blamed : Option (List ℕ)) (place : Place) (x : Statement) (old new : Assembler) (e : AsmFault) (refused : (count : ℕ) (t : State) → Holds count t old → IsRefusedUnread blamed t place x e) (same : new.texts ≡ old.texts) where
   pub rest_unread : (o : Option Files) (ts : List Lexeme) → (ts ≡ [] → ⊥) → IsStatement ts (Ok x) → TakesBy (AreNamed ts) (RestBy o place ts) 1 old new (Err e)
   rest_unread o [] some is = absurd (some refl)
   rest_unread o (k ∷ ts) some is = λ count t room h.
@@ -175,14 +176,14 @@ some_there (suc n) h e = absurd cc
 
 -- ---- A label.
 
-abbrev FrontBy : Place → Option Stated → Assembler → Assembler → Answer → Type 0
+abbrev FrontBy : Place → Option Statement → Assembler → Assembler → Answer → Type 0
 FrontBy place o old new r = TakesBy (IsSoundIf o) (λ t. IsLabelled Takes t place o) 1 old new r
 
-pub front_leaves : (place : Place) (o : Option Stated) (x : Stated) (old new : Assembler) (r : Answer) → o ≡ Some x → TakesBy (IsSound x) (λ t. Takes t place x) 1 old new r → FrontBy place o old new r
+pub front_leaves : (place : Place) (o : Option Statement) (x : Statement) (old new : Assembler) (r : Answer) → o ≡ Some x → TakesBy (IsSound x) (λ t. Takes t place x) 1 old new r → FrontBy place o old new r
 front_leaves place None x old new r e h = absurd cc
 front_leaves place (Some y) x old new r e h =
     let same : y ≡ x = cc in
-    let P : Stated → Type 0 = λ z. TakesBy (IsSound z) (λ t. Takes t place z) 1 old new r in
+    let P : Statement → Type 0 = λ z. TakesBy (IsSound z) (λ t. Takes t place z) 1 old new r in
     subst P (sym same) h
 
 -- it prints nothing
@@ -204,7 +205,7 @@ asked_quiet t l = by (asks_section l.stated)
     by true = (refl, refl)
     by false = (refl, refl)
 
-pub takes_quiet : (t u : State) (place : Place) (x : Stated) → (out_of x ≡ []) × (warning_of place x ≡ []) → Takes t place x (Ok u) → (u.out ≡ t.out) × (u.err ≡ t.err)
+pub takes_quiet : (t u : State) (place : Place) (x : Statement) → (out_of x ≡ []) × (warning_of place x ≡ []) → Takes t place x (Ok u) → (u.out ≡ t.out) × (u.err ≡ t.err)
 takes_quiet t u place x quiet takes = by (line_fault t.symbols t.standing x) takes
   where
     l : Laid
@@ -221,28 +222,28 @@ takes_quiet t u place x quiet takes = by (line_fault t.symbols t.standing x) tak
     by None h = (let same : u ≡ known h.0 (laid t.symbols t.standing place x) = cc in step h.0 h.1 same)
     by (Some e) h = absurd cc
 
-abbrev AreQuiet : Option Stated → Type 0
-AreQuiet o = (place : Place) (x : Stated) → o ≡ Some x → (out_of x ≡ []) × (warning_of place x ≡ [])
+abbrev AreQuiet : Option Statement → Type 0
+AreQuiet o = (place : Place) (x : Statement) → o ≡ Some x → (out_of x ≡ []) × (warning_of place x ≡ [])
 
-quiet_labelled : (t u : State) (place : Place) (o : Option Stated) → AreQuiet o → IsLabelled Takes t place o (Ok u) → (u.out ≡ t.out) × (u.err ≡ t.err)
+quiet_labelled : (t u : State) (place : Place) (o : Option Statement) → AreQuiet o → IsLabelled Takes t place o (Ok u) → (u.out ≡ t.out) × (u.err ≡ t.err)
 quiet_labelled t u place None quiet h = (let same : u ≡ t = cc in (ap (λ (v : State). v.out) same, ap (λ (v : State). v.err) same))
 quiet_labelled t u place (Some x) quiet h = takes_quiet t u place x (quiet place x refl) h
 
-abbrev LabelAt : Files → State → Place → (Option Stated × List Lexeme) → Result State AsmFault → Type 0
+abbrev LabelAt : Files → State → Place → (Option Statement × List Lexeme) → Result State AsmFault → Type 0
 LabelAt m t place p r = (q : Result State AsmFault) × IsLabelled Takes t place p.0 q × First q (λ z. IsRest m Takes z place p.1) r
 
-sound_if : (o : Option Stated) → ((x : Stated) → o ≡ Some x → IsSound x) → IsSoundIf o
+sound_if : (o : Option Statement) → ((x : Statement) → o ≡ Some x → IsSound x) → IsSoundIf o
 sound_if None f = tt
 sound_if (Some x) f = f x refl
 
 -- they are a label and what stands behind it
-abbrev Says : List Lexeme → List Lexeme → Option Stated → Type 0
-Says ts rest o = let p : Result (Option Stated × List Lexeme) AsmFault = Ok (o, rest) in p ≡ Ok (label_of ts)
+abbrev Says : List Lexeme → List Lexeme → Option Statement → Type 0
+Says ts rest o = let p : Result (Option Statement × List Lexeme) AsmFault = Ok (o, rest) in p ≡ Ok (label_of ts)
 
-parted : (ts rest : List Lexeme) (o : Option Stated) → Says ts rest o → label_of ts ≡ (o, rest)
+parted : (ts rest : List Lexeme) (o : Option Statement) → Says ts rest o → label_of ts ≡ (o, rest)
 parted ts rest o e = cc
 
-pub label_room : (place : Place) (o : Option Stated) (old mid : Assembler) (v : Unit {0}) → IsRoomy 2 old → FrontBy place o old mid (Ok v) → IsRoomy 1 mid
+pub label_room : (place : Place) (o : Option Statement) (old mid : Assembler) (v : Unit {0}) → IsRoomy 2 old → FrontBy place o old mid (Ok v) → IsRoomy 1 mid
 label_room place o old mid v held front =
     let room = held.2 in
     let a = front held.0 held.1 (omega (arith, room)) held.3 in
@@ -250,13 +251,13 @@ label_room place o old mid v held front =
     (a.3.0, a.0, omega (arith, room, few), a.3.2)
 
 -- a label says nothing, so neither does a failure behind it
-pub label_stops : (blamed : Option (List ℕ)) (place : Place) (ts rest : List Lexeme) (o : Option Stated) (old mid new : Assembler) (v : Unit {0}) (r : Answer) → IsRoomy 2 old → Says ts rest o → FrontBy place o old mid (Ok v) → StopsQuietly (Without blamed (λ m t. IsRest m Takes t place rest)) 1 mid new r → StopsQuietly (Without blamed (λ m t. IsLabel m Takes t place ts)) 2 old new r
+pub label_stops : (blamed : Option (List ℕ)) (place : Place) (ts rest : List Lexeme) (o : Option Statement) (old mid new : Assembler) (v : Unit {0}) (r : Answer) → IsRoomy 2 old → Says ts rest o → FrontBy place o old mid (Ok v) → StopsQuietly (Without blamed (λ m t. IsRest m Takes t place rest)) 1 mid new r → StopsQuietly (Without blamed (λ m t. IsLabel m Takes t place ts)) 2 old new r
 label_stops blamed place ts rest o old mid new v (Ok w) held says front quiet = tt
 label_stops blamed place ts rest o old mid new v (Err e) held says front quiet = λ failed.
     (let room = held.2 in
     let a = front held.0 held.1 (omega (arith, room)) held.3 in
     let is = parted ts rest o says in
-    let silent : AreQuiet o = subst (λ (p : Option Stated × List Lexeme). AreQuiet p.0) is (label_quiet ts) in
+    let silent : AreQuiet o = subst (λ (p : Option Statement × List Lexeme). AreQuiet p.0) is (label_quiet ts) in
     let same = quiet_labelled held.1 a.0 place o silent a.1 in
     let before = held.3 in
     let behind = a.3.2 in
@@ -275,18 +276,18 @@ label_stops blamed place ts rest o old mid new v (Err e) held says front quiet =
 abbrev pub LabelBy : Option Files → Place → List Lexeme → State → Result State AsmFault → Type 0
 LabelBy f place ts = Told f (λ m t. IsLabel m Takes t place ts)
 
-pub label_refused : (f : Option Files) (place : Place) (ts rest : List Lexeme) (o : Option Stated) (old new : Assembler) (e : AsmFault) (r : Answer) → Says ts rest o → FrontBy place o old new (Err e) → r ≡ Err e → TakesBy (AreNamed ts) (LabelBy f place ts) 2 old new r
+pub label_refused : (f : Option Files) (place : Place) (ts rest : List Lexeme) (o : Option Statement) (old new : Assembler) (e : AsmFault) (r : Answer) → Says ts rest o → FrontBy place o old new (Err e) → r ≡ Err e → TakesBy (AreNamed ts) (LabelBy f place ts) 2 old new r
 label_refused f place ts rest o old new e r says front fails =
     subst (λ (q : Answer). TakesBy (AreNamed ts) (LabelBy f place ts) 2 old new q) (sym fails) (λ count t room h. refused count t room h)
   where
     refused : (count : ℕ) (t : State) → count + 2 ≤ opening_limit → Holds count t old → Leaves (AreNamed ts) (LabelBy f place ts t) (count + 2) t new (Err e)
     refused count t room h =
         fault_then (IsSoundIf o) (AreNamed ts) (IsLabelled Takes t place o) (LabelBy f place ts t) (count + 1) (count + 2) t t new e
-        (λ named. sound_if o (subst (λ (p : Option Stated × List Lexeme). (x : Stated) → p.0 ≡ Some x → IsSound x) (parted ts rest o says) (label_sound ts named).label))
+        (λ named. sound_if o (subst (λ (p : Option Statement × List Lexeme). (x : Statement) → p.0 ≡ Some x → IsSound x) (parted ts rest o says) (label_sound ts named).label))
         (λ p. told_all f (λ m. IsLabel m Takes t place ts (Err e)) (λ m. subst (λ q. LabelAt m t place q (Err e)) (sym (parted ts rest o says)) (Err e, p, refl)))
         (λ s. s) (front count t (omega (arith, room)) h)
 
-pub label_leaves : (f : Option Files) (place : Place) (ts rest : List Lexeme) (o : Option Stated) (old mid new : Assembler) (v : Unit {0}) (r : Answer) → Says ts rest o → FrontBy place o old mid (Ok v) → TakesBy (AreNamed rest) (RestBy f place rest) 1 mid new r → TakesBy (AreNamed ts) (LabelBy f place ts) 2 old new r
+pub label_leaves : (f : Option Files) (place : Place) (ts rest : List Lexeme) (o : Option Statement) (old mid new : Assembler) (v : Unit {0}) (r : Answer) → Says ts rest o → FrontBy place o old mid (Ok v) → TakesBy (AreNamed rest) (RestBy f place rest) 1 mid new r → TakesBy (AreNamed ts) (LabelBy f place ts) 2 old new r
 label_leaves f place ts rest o old mid new v (Ok w) says front taken = λ count t room h.
     (let a = front count t (omega (arith, room)) h in
     let few = a.3.1 in
@@ -299,10 +300,10 @@ label_leaves f place ts rest o old mid new v (Err e) says front taken = λ count
     let few = a.3.1 in
     let b = taken a.3.0 a.0 (omega (arith, room, few)) a.3.2 in
     let is = parted ts rest o says in
-    let quiet : AreQuiet o = subst (λ (p : Option Stated × List Lexeme). AreQuiet p.0) is (label_quiet ts) in
+    let quiet : AreQuiet o = subst (λ (p : Option Statement × List Lexeme). AreQuiet p.0) is (label_quiet ts) in
     let same = quiet_labelled t a.0 place o quiet a.1 in
     fault_then (AreNamed rest) (AreNamed ts) (RestBy f place rest a.0) (LabelBy f place ts t) (a.3.0 + 1) (count + 2) t a.0 new e
-    (λ named. subst (λ (p : Option Stated × List Lexeme). AreNamed p.1) is (label_sound ts named).rest)
+    (λ named. subst (λ (p : Option Statement × List Lexeme). AreNamed p.1) is (label_sound ts named).rest)
     (told_then f (λ m. IsRest m Takes a.0 place rest (Err e)) (λ m. IsLabel m Takes t place ts (Err e)) (λ m g. subst (λ q. LabelAt m t place q (Err e)) (sym is) (Ok a.0, a.1, g)))
     (λ s. (s.0 ∙ same.0, s.1 ∙ same.1)) b)
 

@@ -10,7 +10,8 @@ use Rattle.language65.specs.declared.fault.AsmFault.TheVariants.{DefinedTwice, N
 use Rattle.language65.specs.Contents.{asking}
 use Rattle.language65.specs.Laid.{Laid, asks_section, is_unnamed}
 use Rattle.language65.specs.declared.laid.Spot.{Spot}
-use Rattle.language65.specs.Language as l
+use Rattle.language65.specs.declared.language.Statement.{Statement}
+use Rattle.language65.specs.declared.language.Statement.TheVariants as statement
 use Rattle.language65.specs.Layout.{Standing, laid, spot_of, standing_behind}
 use Rattle.language65.specs.LineFaults.{defined_twice, first_fault, is_open, line_fault, lost_scopes, opened_twice, or_then, scope_name, stands_outside, trees_of, when, where_there}
 use Rattle.language65.specs.Symbols.{Definition, Key, Scope, Symbols, cheap_in, defined, definition_with, definitions_of, key_defined, named, same_key, scope_opened, unnamed_at, value_defined}
@@ -46,22 +47,22 @@ key_later n (unnamed_at j) h = omega (arith, h)
 all_later : (n : ℕ) (ds : List Definition) → AreBefore n ds → AreBefore (n + 1) ds
 all_later n ds h = all_same (λ (d : Definition). IsBefore n d.key) (λ (d : Definition). IsBefore (n + 1) d.key) (λ d p. key_later n d.key p) ds h
 
-still_before : (x : l.Stated) (n : ℕ) (ds : List Definition) → AreBefore n ds → AreBefore (if is_unnamed x then n + 1 else n) ds
-still_before l.unnamed_label n ds h = all_later n ds h
+still_before : (x : Statement) (n : ℕ) (ds : List Definition) → AreBefore n ds → AreBefore (if is_unnamed x then n + 1 else n) ds
+still_before statement.UnnamedLabel n ds h = all_later n ds h
 still_before _ n ds h = h
 
-before_behind : (x : l.Stated) (s : Spot) (own : AddressSize) (ds : List Definition) → AreBefore s.unnamed ds → AreBefore (if is_unnamed x then s.unnamed + 1 else s.unnamed) (ds ++ definition_with (key_defined s x) (value_defined x) s own)
+before_behind : (x : Statement) (s : Spot) (own : AddressSize) (ds : List Definition) → AreBefore s.unnamed ds → AreBefore (if is_unnamed x then s.unnamed + 1 else s.unnamed) (ds ++ definition_with (key_defined s x) (value_defined x) s own)
 before_behind x s own ds h = by x
   where
     more : (n : ℕ) (d : Definition) → AreBefore n ds → IsBefore n d.key → AreBefore n (ds ++ d ∷ [])
     more n d k p = all_more (λ (e : Definition). IsBefore n e.key) ds d k p
 
-    by : (x : l.Stated) → AreBefore (if is_unnamed x then s.unnamed + 1 else s.unnamed) (ds ++ definition_with (key_defined s x) (value_defined x) s own)
-    by (l.label n) = more s.unnamed (record { key = named s.scope n; value = None; spot = s; size = own }) h tt
-    by (l.constant n e) = more s.unnamed (record { key = named s.scope n; value = Some e; spot = s; size = own }) h tt
-    by (l.open_proc n) = more s.unnamed (record { key = named s.scope n; value = None; spot = s; size = own }) h tt
-    by (l.cheap_label n) = more s.unnamed (record { key = cheap_in s.region n; value = None; spot = s; size = own }) h tt
-    by l.unnamed_label = more (s.unnamed + 1) (record { key = unnamed_at s.unnamed; value = None; spot = s; size = own }) (all_later s.unnamed ds h) (omega arith)
+    by : (x : Statement) → AreBefore (if is_unnamed x then s.unnamed + 1 else s.unnamed) (ds ++ definition_with (key_defined s x) (value_defined x) s own)
+    by (statement.Label n) = more s.unnamed (record { key = named s.scope n; value = None; spot = s; size = own }) h tt
+    by (statement.Constant n e) = more s.unnamed (record { key = named s.scope n; value = Some e; spot = s; size = own }) h tt
+    by (statement.OpenProc n) = more s.unnamed (record { key = named s.scope n; value = None; spot = s; size = own }) h tt
+    by (statement.CheapLabel n) = more s.unnamed (record { key = cheap_in s.region n; value = None; spot = s; size = own }) h tt
+    by statement.UnnamedLabel = more (s.unnamed + 1) (record { key = unnamed_at s.unnamed; value = None; spot = s; size = own }) (all_later s.unnamed ds h) (omega arith)
     by _ = subst (λ (es : List Definition). AreBefore s.unnamed es) (sym (append-nil ds)) h
 
 before_at : (n : ℕ) (ds : List Definition) (i : ℕ) (d : Definition) → AreBefore n ds → slice_get ds i ≡ Some d → IsBefore n d.key
@@ -87,21 +88,21 @@ there_none : (o : Option ℕ) (e : AsmFault) → where_there o e ≡ None → o 
 there_none None e h = refl
 there_none (Some i) e h = absurd cc
 
-unnamed_is : (x : l.Stated) (s : Spot) (j : ℕ) → key_defined s x ≡ Some (unnamed_at j) → s.unnamed ≡ j
-unnamed_is l.unnamed_label s j e = cc
-unnamed_is (l.label n) s j e = absurd cc
-unnamed_is (l.constant n v) s j e = absurd cc
-unnamed_is (l.open_proc n) s j e = absurd cc
-unnamed_is (l.cheap_label n) s j e = absurd cc
+unnamed_is : (x : Statement) (s : Spot) (j : ℕ) → key_defined s x ≡ Some (unnamed_at j) → s.unnamed ≡ j
+unnamed_is statement.UnnamedLabel s j e = cc
+unnamed_is (statement.Label n) s j e = absurd cc
+unnamed_is (statement.Constant n v) s j e = absurd cc
+unnamed_is (statement.OpenProc n) s j e = absurd cc
+unnamed_is (statement.CheapLabel n) s j e = absurd cc
 unnamed_is _ s j e = absurd cc
 
-key_free : (y : Symbols) (x : l.Stated) (s : Spot) (k : Key) → defined_twice y (Some k) ≡ None → key_defined s x ≡ Some k → AreBefore s.unnamed y.definitions → defined y k ≡ None
+key_free : (y : Symbols) (x : Statement) (s : Spot) (k : Key) → defined_twice y (Some k) ≡ None → key_defined s x ≡ Some k → AreBefore s.unnamed y.definitions → defined y k ≡ None
 key_free y x s (named scope n) h e before = there_none (defined y (named scope n)) (DefinedTwice n) h
 key_free y x s (cheap_in region n) h e before = there_none (defined y (cheap_in region n)) (DefinedTwice n) h
 key_free y x s (unnamed_at j) h e before = subst (λ n. defined y (unnamed_at n) ≡ None) (unnamed_is x s j e) (next_free y s.unnamed before)
 
 -- a statement without a fault at its line defines and opens what isn't there
-pub is_new : (y : Symbols) (w : Standing) (x : l.Stated) → line_fault y w x ≡ None → AreBefore w.unnamed y.definitions → IsNew y (spot_of w) x
+pub is_new : (y : Symbols) (w : Standing) (x : Statement) → line_fault y w x ≡ None → AreBefore w.unnamed y.definitions → IsNew y (spot_of w) x
 is_new y w x h before =
     let opened = opened_twice y.scopes w.scope (scope_name x) in
     let twice = defined_twice y (key_defined (spot_of w) x) in
@@ -117,7 +118,7 @@ is_new y w x h before =
 
 -- ---- Behind a statement.
 
-asked_beside : (segment : ℕ) (x : l.Stated) (t : State) → IsBeside t (asked_of segment x t)
+asked_beside : (segment : ℕ) (x : Statement) (t : State) → IsBeside t (asked_of segment x t)
 asked_beside segment x t = by (asks_section x)
   where
     by : (b : Bool) → IsBeside t (if b then entered t (asking segment) else t)
@@ -150,7 +151,7 @@ pub held_on : (count : ℕ) (t : State) (a : Assembler) (k : Known) (r : Result 
 held_on count t a k (Ok u) h table = holds_known count t a k h table
 held_on count t a k (Err e) h table = tt
 
-pub holds_stepped : (count : ℕ) (t : State) (place : Place) (x : l.Stated) (a : Assembler) (v : code.Standing) (said : Texts) → Holds count (asked_of (spot_of t.standing).segment x t) a → standing_of v ≡ standing_behind t.symbols t.standing x → IsSoundStanding v → AreWithin v.segments.items → IsCounted (count + opened_by x) v → said.out ≡ a.texts.out ++ out_of x → said.err ≡ a.texts.err ++ warning_of place x → Holds (count + opened_by x) (stepped t place x) (record a { standing = v; texts = said })
+pub holds_stepped : (count : ℕ) (t : State) (place : Place) (x : Statement) (a : Assembler) (v : code.Standing) (said : Texts) → Holds count (asked_of (spot_of t.standing).segment x t) a → standing_of v ≡ standing_behind t.symbols t.standing x → IsSoundStanding v → AreWithin v.segments.items → IsCounted (count + opened_by x) v → said.out ≡ a.texts.out ++ out_of x → said.err ≡ a.texts.err ++ warning_of place x → Holds (count + opened_by x) (stepped t place x) (record a { standing = v; texts = said })
 holds_stepped count t place x a v said h standing sound ends counted out err =
     let u : State = asked_of (spot_of t.standing).segment x t in
     let same : u.standing ≡ t.standing = (asked_beside (spot_of t.standing).segment x t).standing in
@@ -177,7 +178,7 @@ unless_either P true b h = tt
 unless_either P false true h = tt
 unless_either P false false h = h
 
-pub takes_refused : (t : State) (place : Place) (x : l.Stated) (e : AsmFault) → line_fault t.symbols t.standing x ≡ Some e → Takes t place x (Err e)
+pub takes_refused : (t : State) (place : Place) (x : Statement) (e : AsmFault) → line_fault t.symbols t.standing x ≡ Some e → Takes t place x (Err e)
 takes_refused t place x e h = subst (λ (f : Option AsmFault). UnlessFault f (Steps t (laid t.symbols t.standing place x)) (Err e)) (sym h) refl
 
 abbrev aside : State → Standing → List ℕ → List ℕ → State
@@ -204,7 +205,7 @@ all_same_state v y z w x o p e f a b c d =
     ∙ ap (λ (r : List ℕ). with_all v z x r e) c
     ∙ ap (λ (r : List ℕ). with_all v z x p r) d
 
-pub takes_entered : (count : ℕ) (t : State) (place : Place) (x : l.Stated) (s : Spot) (m : Measured) (old mid new : Assembler) → Holds count t old → IsPlaced t x s m → Holds (count + opened_by x) (stepped t place x) mid → Turns place s (pieces_of m.length m.settled x) (λ y. symbols_behind y (laid_as place s m x)) mid new → (z : State) × Takes t place x (Ok z) × Holds (count + opened_by x) z new
+pub takes_entered : (count : ℕ) (t : State) (place : Place) (x : Statement) (s : Spot) (m : Measured) (old mid new : Assembler) → Holds count t old → IsPlaced t x s m → Holds (count + opened_by x) (stepped t place x) mid → Turns place s (pieces_of m.length m.settled x) (λ y. symbols_behind y (laid_as place s m x)) mid new → (z : State) × Takes t place x (Ok z) × Holds (count + opened_by x) z new
 takes_entered count t place x s m old mid new h placed held turns =
     let r : Laid = laid t.symbols t.standing place x in
     let u : State = asked_of (spot_of t.standing).segment x t in

@@ -9,7 +9,8 @@ use Rattle.expand65.specs.Includes.{beside, file_named}
 use Rattle.language65.specs.declared.fault.AsmFault.{AsmFault}
 use Rattle.language65.specs.declared.fault.AsmFault.TheVariants.{FileNotFound}
 use Rattle.language65.specs.Faults.{is_failure, is_memory, is_outside}
-use Rattle.language65.specs.Language.{Stated, file_part, part_named}
+use Rattle.language65.specs.declared.language.Statement.{Statement}
+use Rattle.language65.specs.declared.language.Statement.TheVariants.{FilePart, NamedPart}
 use Rattle.language65.specs.Layout.{Standing, spot_of}
 use Rattle.language65.specs.LineFaults.{first_fault, line_fault, lost_scopes, operand_fault, or_then, trees_of, unless_fault}
 use Rattle.language65.specs.Symbols.{Symbols}
@@ -34,16 +35,16 @@ first_missing None None rest h = refl
 
 module _ (y : Symbols) (w : Standing) (start len : Option Tree) where
   abbrev lost : Option AsmFault
-  lost = lost_scopes y.scopes w.scope (trees_of (file_part None start len))
+  lost = lost_scopes y.scopes w.scope (trees_of (FilePart None start len))
 
   abbrev bad : Option AsmFault
-  bad = operand_fault y (spot_of w) (file_part None start len)
+  bad = operand_fault y (spot_of w) (FilePart None start len)
 
   -- what is wrong whatever the file has is
-  unread_refused : (bytes : Option (List ℕ)) (e : AsmFault) → unread_fault y w start len ≡ Some e → line_fault y w (file_part bytes start len) ≡ Some e
+  unread_refused : (bytes : Option (List ℕ)) (e : AsmFault) → unread_fault y w start len ≡ Some e → line_fault y w (FilePart bytes start len) ≡ Some e
   unread_refused bytes e h = first_two lost bad _ e h
 
-  unread_missing : unread_fault y w start len ≡ None → line_fault y w (file_part None start len) ≡ Some FileNotFound
+  unread_missing : unread_fault y w start len ≡ None → line_fault y w (FilePart None start len) ≡ Some FileNotFound
   unread_missing h = first_missing lost bad _ h
 
 -- ---- A statement.
@@ -56,20 +57,20 @@ fault_none : (f : Option AsmFault) (u : Unit {0}) → unless_fault {A = Unit {0}
 fault_none None u h = refl
 fault_none (Some d) u h = absurd cc
 
-module _ (t : State) (place : Place) (name : List ℕ) (start len : Option Tree) (x : Stated) (is : x ≡ part_named name start len) (e : AsmFault) where
+module _ (t : State) (place : Place) (name : List ℕ) (start len : Option Tree) (x : Statement) (is : x ≡ NamedPart name start len) (e : AsmFault) where
   abbrev found : Option AsmFault
   found = unread_fault t.symbols t.standing start len
 
   whatever : found ≡ Some e → (m : Files) → Takes t place (with_bytes m place x) (Err e)
   whatever h m =
       subst (λ z. Takes t place (with_bytes m place z) (Err e)) (sym is)
-      (takes_refused t place (file_part (bytes_for m place name) start len) e (unread_refused t.symbols t.standing start len (bytes_for m place name) e h))
+      (takes_refused t place (FilePart (bytes_for m place name) start len) e (unread_refused t.symbols t.standing start len (bytes_for m place name) e h))
 
   without : found ≡ None → (m : Files) → file_named m (beside place.file name) ≡ None → Takes t place (with_bytes m place x) (Err FileNotFound)
   without h m none =
       subst (λ z. Takes t place (with_bytes m place z) (Err FileNotFound)) (sym is)
-      (subst (λ b. Takes t place (file_part b start len) (Err FileNotFound)) (sym none)
-      (takes_refused t place (file_part None start len) FileNotFound (unread_missing t.symbols t.standing start len h)))
+      (subst (λ b. Takes t place (FilePart b start len) (Err FileNotFound)) (sym none)
+      (takes_refused t place (FilePart None start len) FileNotFound (unread_missing t.symbols t.standing start len h)))
 
   -- it is refused whatever the file has
   pub refused_unread : (blamed : Option (List ℕ)) → is_failure e ≡ false → Unless (is_memory e) (unless_fault {A = Unit {0}} found tt ≡ Err e) → IsRefusedUnread blamed t place x e

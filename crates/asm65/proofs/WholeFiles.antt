@@ -8,7 +8,8 @@ use Rattle.syntax65.specs.Trees.{Tree}
 use Rattle.source65.specs.declared.place.Place.{Place}
 use Rattle.language65.specs.declared.fault.AsmFault.{AsmFault}
 use Rattle.language65.specs.declared.fault.AsmFault.TheVariants.{BadPart}
-use Rattle.language65.specs.Language.{Stated, file_part, part_named}
+use Rattle.language65.specs.declared.language.Statement.{Statement}
+use Rattle.language65.specs.declared.language.Statement.TheVariants.{FilePart, NamedPart}
 use Rattle.language65.specs.Layout.{Standing, laid, spot_of}
 use Rattle.language65.specs.LineFaults.{file_limit, first_fault, is_part, left_from, line_fault, lost_scopes, operand_fault, or_then, part_fault, trees_of, when}
 use Rattle.language65.specs.Sizes.{optional_value}
@@ -18,8 +19,8 @@ use Rattle.module65.specs.Machine.{State, Steps, Takes, UnlessFault}
 use Rattle.module65.specs.Reading.{bytes_for, with_bytes}
 use Rattle.asm65.specs.Inner.Files.{read_bytes}
 
-pub read_sound : (m : Files) (place : Place) (x : Stated) → IsSound x → IsSound (read_bytes m place x)
-read_sound m place (part_named name start len) sound = tt
+pub read_sound : (m : Files) (place : Place) (x : Statement) → IsSound x → IsSound (read_bytes m place x)
+read_sound m place (NamedPart name start len) sound = tt
 read_sound m place _ sound = sound
 
 -- ---- Files that are too long.
@@ -36,42 +37,42 @@ first_of None None rest = refl
 -- the fault of a part of such a file
 abbrev long_fault : Symbols → Standing → Option Tree → Option Tree → AsmFault
 long_fault y w start len =
-    or_bad (or_then (lost_scopes y.scopes w.scope (trees_of (file_part None start len))) (operand_fault y (spot_of w) (file_part None start len)))
+    or_bad (or_then (lost_scopes y.scopes w.scope (trees_of (FilePart None start len))) (operand_fault y (spot_of w) (FilePart None start len)))
 
-too_long : (y : Symbols) (w : Standing) (bytes : List ℕ) (start len : Option Tree) → nat_le (length bytes) file_limit ≡ false → line_fault y w (file_part (Some bytes) start len) ≡ Some (long_fault y w start len)
+too_long : (y : Symbols) (w : Standing) (bytes : List ℕ) (start len : Option Tree) → nat_le (length bytes) file_limit ≡ false → line_fault y w (FilePart (Some bytes) start len) ≡ Some (long_fault y w start len)
 too_long y w bytes start len long =
-    let a : Option AsmFault = lost_scopes y.scopes w.scope (trees_of (file_part None start len)) in
-    let b : Option AsmFault = operand_fault y (spot_of w) (file_part None start len) in
+    let a : Option AsmFault = lost_scopes y.scopes w.scope (trees_of (FilePart None start len)) in
+    let b : Option AsmFault = operand_fault y (spot_of w) (FilePart None start len) in
     let P : Option AsmFault → Type 0 = λ f. (rest : List (Option AsmFault)) → first_fault (None ∷ a ∷ None ∷ None ∷ None ∷ b ∷ None ∷ None ∷ f ∷ rest) ≡ Some (long_fault y w start len) in
-    let bad : part_fault y (spot_of w) (file_part (Some bytes) start len) ≡ Some BadPart = part_bad (is_part (length bytes) (optional_value y (spot_of w) start _) (optional_value y (spot_of w) len (left_from (length bytes) (optional_value y (spot_of w) start _)))) (nat_le (length bytes) file_limit) long in
+    let bad : part_fault y (spot_of w) (FilePart (Some bytes) start len) ≡ Some BadPart = part_bad (is_part (length bytes) (optional_value y (spot_of w) start _) (optional_value y (spot_of w) len (left_from (length bytes) (optional_value y (spot_of w) start _)))) (nat_le (length bytes) file_limit) long in
     subst P (sym bad) (first_of a b) _
   where
     part_bad : (p within : Bool) → within ≡ false → when (not (within && p)) BadPart ≡ Some BadPart
     part_bad p within e = subst (λ b. when (not (b && p)) BadPart ≡ Some BadPart) (sym e) refl
 
-takes_same : (t : State) (place : Place) (x z : Stated) (r : Result State AsmFault) (e : AsmFault) → line_fault t.symbols t.standing x ≡ Some e → line_fault t.symbols t.standing z ≡ Some e → Takes t place x r → Takes t place z r
+takes_same : (t : State) (place : Place) (x z : Statement) (r : Result State AsmFault) (e : AsmFault) → line_fault t.symbols t.standing x ≡ Some e → line_fault t.symbols t.standing z ≡ Some e → Takes t place x r → Takes t place z r
 takes_same t place x z r e p q h =
     let fails : r ≡ Err e = subst (λ (f : Option AsmFault). UnlessFault f (Steps t (laid t.symbols t.standing place x)) r) p h in
     subst (λ (f : Option AsmFault). UnlessFault f (Steps t (laid t.symbols t.standing place z)) r) (sym q) fails
 
 -- ---- Whole files.
 
-whole : (t : State) (place : Place) (bytes : Option (List ℕ)) (start len : Option Tree) (r : Result State AsmFault) → Takes t place (file_part (option_map (take 16777217) bytes) start len) r → Takes t place (file_part bytes start len) r
+whole : (t : State) (place : Place) (bytes : Option (List ℕ)) (start len : Option Tree) (r : Result State AsmFault) → Takes t place (FilePart (option_map (take 16777217) bytes) start len) r → Takes t place (FilePart bytes start len) r
 whole t place None start len r h = h
 whole t place (Some bytes) start len r h = by (nat_le (length bytes) file_limit) refl
   where
-    by : (b : Bool) → nat_le (length bytes) file_limit ≡ b → Takes t place (file_part (Some bytes) start len) r
+    by : (b : Bool) → nat_le (length bytes) file_limit ≡ b → Takes t place (FilePart (Some bytes) start len) r
     by true few =
         let most : length bytes ≤ 16777217 = grind (arith, nat_tests) in
-        subst (λ (all : List ℕ). Takes t place (file_part (Some all) start len) r) (take_all 16777217 bytes most) h
+        subst (λ (all : List ℕ). Takes t place (FilePart (Some all) start len) r) (take_all 16777217 bytes most) h
     by false many =
         let most : 16777217 ≤ length bytes = grind (arith, nat_tests) in
         let front : length (take 16777217 bytes) ≡ 16777217 = length-take-le 16777217 bytes most in
         let cut : nat_le (length (take 16777217 bytes)) file_limit ≡ false = subst (λ n. nat_le n file_limit ≡ false) (sym front) refl in
-        takes_same t place (file_part (Some (take 16777217 bytes)) start len) (file_part (Some bytes) start len) r (long_fault t.symbols t.standing start len)
+        takes_same t place (FilePart (Some (take 16777217 bytes)) start len) (FilePart (Some bytes) start len) r (long_fault t.symbols t.standing start len)
         (too_long t.symbols t.standing (take 16777217 bytes) start len cut) (too_long t.symbols t.standing bytes start len many) h
 
 -- a statement is taken with what was read of its file as it is with the whole file
-pub takes_whole : (m : Files) (place : Place) (x : Stated) (t : State) (r : Result State AsmFault) → Takes t place (read_bytes m place x) r → Takes t place (with_bytes m place x) r
-takes_whole m place (part_named name start len) t r h = whole t place (bytes_for m place name) start len r h
+pub takes_whole : (m : Files) (place : Place) (x : Statement) (t : State) (r : Result State AsmFault) → Takes t place (read_bytes m place x) r → Takes t place (with_bytes m place x) r
+takes_whole m place (NamedPart name start len) t r h = whole t place (bytes_for m place name) start len r h
 takes_whole m place _ t r h = h

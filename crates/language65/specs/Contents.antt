@@ -17,7 +17,12 @@ use Rattle.source65.specs.declared.place.Place.{Place}
 use Rattle.language65.specs.Parts.{Content, Part, Known, Filled, Waiting, Said, Exported, Demanded, Checked}
 use Rattle.language65.specs.declared.fault.AsmFault.{AsmFault}
 use Rattle.language65.specs.declared.fault.AsmFault.TheVariants.{OutOfRange, ImportedAndDefined, NotDefined, Assertion, FileNameTooLong}
-use Rattle.language65.specs.Language.{Item, value, text, Operand, immediate, address, indirect, indirect_x, indirect_y, Stated, constant, instruction, values, reserve, align, file_part, imports, exports, globals, forced, assertion}
+use Rattle.language65.specs.declared.language.Item.{Item}
+use Rattle.language65.specs.declared.language.Operand.{Operand}
+use Rattle.language65.specs.declared.language.Statement.{Statement}
+use Rattle.language65.specs.declared.language.Statement.TheVariants.{Constant, Instruction, Values, Reserve, Align, FilePart, Import, Export, Global, ForceImport, Assert}
+use Rattle.language65.specs.declared.language.Operand.TheVariants.{Immediate, Address, Indirect, IndirectX, IndirectY}
+use Rattle.language65.specs.declared.language.Item.TheVariants.{Value, Text}
 use Rattle.language65.specs.Laid.{Laid, asks_section}
 use Rattle.language65.specs.declared.laid.Settled.{Settled}
 use Rattle.language65.specs.declared.laid.Settled.TheVariants.{InMode, FilledWith, FromByte}
@@ -43,15 +48,15 @@ operand_form Branch s f = folded (fold2 Subtract f (sec s.segment (pos (s.offset
 operand_form width s f = Ok f
 
 abbrev pub item_part : Symbols → Laid → Width → Item → Result Part AsmFault
-item_part y l width (value e) = norm_of y l.spot e >>= stored width l.place
-item_part y l width (text bytes) = Ok (Known bytes)
+item_part y l width (Value e) = norm_of y l.spot e >>= stored width l.place
+item_part y l width (Text bytes) = Ok (Known bytes)
 
 abbrev pub operand_tree : Operand → Option Tree
-operand_tree (immediate e) = Some e
-operand_tree (address size e r) = Some e
-operand_tree (indirect e) = Some e
-operand_tree (indirect_x e) = Some e
-operand_tree (indirect_y e) = Some e
+operand_tree (Immediate e) = Some e
+operand_tree (Address size e r) = Some e
+operand_tree (Indirect e) = Some e
+operand_tree (IndirectX e) = Some e
+operand_tree (IndirectY e) = Some e
 operand_tree _ = None
 
 -- the value of an operand of this width
@@ -85,12 +90,12 @@ file_bytes count bytes _ = []
 abbrev pub parts_of : Symbols → Laid → Result (List Part) AsmFault
 parts_of y l = go l.stated
   where
-    go : Stated → Result (List Part) AsmFault
-    go (instruction m operand) = instruction_parts y l m operand l.settled
-    go (values width items) = each (item_part y l width) items
-    go (reserve n v) = Ok (room_part l.length l.settled ∷ [])
-    go (align n v) = Ok (room_part l.length l.settled ∷ [])
-    go (file_part bytes start len) = Ok (Known (file_bytes l.length bytes l.settled) ∷ [])
+    go : Statement → Result (List Part) AsmFault
+    go (Instruction m operand) = instruction_parts y l m operand l.settled
+    go (Values width items) = each (item_part y l width) items
+    go (Reserve n v) = Ok (room_part l.length l.settled ∷ [])
+    go (Align n v) = Ok (room_part l.length l.settled ∷ [])
+    go (FilePart bytes start len) = Ok (Known (file_bytes l.length bytes l.settled) ∷ [])
     go _ = Ok []
 
 -- ---- What a statement says to other modules and to the linker.
@@ -120,13 +125,13 @@ decided act place words f = written place (Checked act place words f ∷ [])
 abbrev pub said_of : Symbols → Laid → Result (List Said) AsmFault
 said_of y l = go l.stated
   where
-    go : Stated → Result (List Said) AsmFault
-    go (constant n e) = norm_of y l.spot e >>= (λ f. Ok [])
-    go (imports size names) = each_of (import_fault y) names
-    go (exports names) = each_of (λ n. export_said y l.place n (Err (NotDefined n)) (defined y (named 0 n))) names
-    go (globals size names) = each_of (λ n. export_said y l.place n (Ok []) (defined y (named 0 n))) names
-    go (forced names) = each_of (import_fault y) names >>= (λ none. Ok (map Demanded names))
-    go (assertion e act words) = norm_of y l.spot e >>= decided act l.place words
+    go : Statement → Result (List Said) AsmFault
+    go (Constant n e) = norm_of y l.spot e >>= (λ f. Ok [])
+    go (Import size names) = each_of (import_fault y) names
+    go (Export names) = each_of (λ n. export_said y l.place n (Err (NotDefined n)) (defined y (named 0 n))) names
+    go (Global size names) = each_of (λ n. export_said y l.place n (Ok []) (defined y (named 0 n))) names
+    go (ForceImport names) = each_of (import_fault y) names >>= (λ none. Ok (map Demanded names))
+    go (Assert e act words) = norm_of y l.spot e >>= decided act l.place words
     go _ = Ok []
 
 -- ---- A statement as the object has it.

@@ -5,11 +5,12 @@ use Rattle.syntax65.specs.declared.lexing.tokens.AddressSize.{AddressSize}
 use Rattle.syntax65.specs.Trees.{Tree, here, unary, binary}
 use Rattle.language65.specs.declared.laid.Settled.{Settled}
 use Rattle.language65.specs.declared.laid.Spot.{Spot}
-use Rattle.language65.specs.Language.{Stated, label, cheap_label, unnamed_label, constant, instruction, values, reserve, align, file_part, open_proc, assertion}
+use Rattle.language65.specs.declared.language.Statement.{Statement}
+use Rattle.language65.specs.declared.language.Statement.TheVariants.{Label, CheapLabel, UnnamedLabel, Constant, Instruction, Values, Reserve, Align, FilePart, OpenProc, Assert}
 
 -- a statement with what it lies by
 pub record Laid : Type 0 where
-  pub stated : Stated
+  pub stated : Statement
   pub place : Place
   pub spot : Spot
   -- how many bytes it places in its section
@@ -19,12 +20,12 @@ pub record Laid : Type 0 where
   pub settled : Settled
 
 -- a name before a colon and that of a proc open a new region of cheap labels
-abbrev pub opens_region : Stated → Bool
-opens_region (label n) = true
-opens_region (open_proc n) = true
+abbrev pub opens_region : Statement → Bool
+opens_region (Label n) = true
+opens_region (OpenProc n) = true
 opens_region _ = false
 
-abbrev pub is_unnamed : Stated → Bool
+abbrev pub is_unnamed : Statement → Bool
 is_unnamed unnamed_label = true
 is_unnamed _ = false
 
@@ -38,16 +39,16 @@ has_here (binary op e f) = has_here e || has_here f
 has_here _ = false
 
 -- a statement that asks for a section of the segment in which it stands
-abbrev pub asks_section : Stated → Bool
-asks_section (label n) = true
-asks_section (cheap_label n) = true
+abbrev pub asks_section : Statement → Bool
+asks_section (Label n) = true
+asks_section (CheapLabel n) = true
 asks_section unnamed_label = true
-asks_section (open_proc n) = true
-asks_section (instruction m o) = true
-asks_section (values width items) = true
-asks_section (reserve n v) = true
-asks_section (align n v) = true
-asks_section (file_part bytes start len) = true
-asks_section (constant n e) = has_here e
-asks_section (assertion e action words) = has_here e
+asks_section (OpenProc n) = true
+asks_section (Instruction m o) = true
+asks_section (Values width items) = true
+asks_section (Reserve n v) = true
+asks_section (Align n v) = true
+asks_section (FilePart bytes start len) = true
+asks_section (Constant n e) = has_here e
+asks_section (Assert e action words) = has_here e
 asks_section _ = false

@@ -5,7 +5,8 @@ use Rattle.std.specs.Str.{bytes_eq}
 use Rattle.syntax65.specs.declared.lexing.tokens.AddressSize.{AddressSize}
 use Rattle.syntax65.specs.declared.lexing.tokens.AddressSize.TheVariants as size
 use Rattle.language65.specs.declared.contents.Segment.{Segment}
-use Rattle.language65.specs.Language.{Stated, constant, align, segment, push_segment, pop_segment, open_scope, open_proc, close_scope, close_proc}
+use Rattle.language65.specs.declared.language.Statement.{Statement}
+use Rattle.language65.specs.declared.language.Statement.TheVariants as statement
 use Rattle.source65.specs.declared.place.Place.{Place}
 use Rattle.language65.specs.Laid.{Laid, opens_region, is_unnamed}
 use Rattle.language65.specs.declared.laid.Spot.{Spot}
@@ -68,8 +69,8 @@ grown_at [] i count multiple = []
 grown_at (g ∷ gs) zero count multiple = grown count multiple g ∷ gs
 grown_at (g ∷ gs) (suc i) count multiple = g ∷ grown_at gs i count multiple
 
-abbrev pub segments_behind : List Segment → ℕ → ℕ → ℕ → Stated → List Segment
-segments_behind gs current count multiple (segment n own) = named_segments gs n own (place_of gs n)
+abbrev pub segments_behind : List Segment → ℕ → ℕ → ℕ → Statement → List Segment
+segments_behind gs current count multiple (statement.Segment n own) = named_segments gs n own (place_of gs n)
 segments_behind gs current count multiple _ = grown_at gs current count multiple
 
 abbrev pub last_kept : ℕ → List ℕ → ℕ
@@ -80,12 +81,12 @@ abbrev pub rest_kept : List ℕ → List ℕ
 rest_kept [] = []
 rest_kept (k ∷ kept) = kept
 
-abbrev pub current_behind : Standing → Stated → ℕ
-current_behind w (segment n own) = or_last w.segments (place_of w.segments n)
+abbrev pub current_behind : Standing → Statement → ℕ
+current_behind w (statement.Segment n own) = or_last w.segments (place_of w.segments n)
 current_behind w pop_segment = last_kept w.current w.kept
 current_behind w _ = w.current
 
-abbrev pub kept_behind : Standing → Stated → List ℕ
+abbrev pub kept_behind : Standing → Statement → List ℕ
 kept_behind w push_segment = w.current ∷ w.kept
 kept_behind w pop_segment = rest_kept w.kept
 kept_behind w _ = w.kept
@@ -99,12 +100,12 @@ abbrev pub own_size : Standing → AddressSize
 own_size w = (segment_at w.segments w.current).size
 
 -- the address size of what a statement defines
-abbrev pub size_stated : Symbols → Spot → AddressSize → Stated → AddressSize
-size_stated y s own (constant n e) = size_of y s own e
+abbrev pub size_stated : Symbols → Spot → AddressSize → Statement → AddressSize
+size_stated y s own (statement.Constant n e) = size_of y s own e
 size_stated y s own _ = own
 
 -- a statement behind those of a symbol table
-abbrev pub laid : Symbols → Standing → Place → Stated → Laid
+abbrev pub laid : Symbols → Standing → Place → Statement → Laid
 laid y w place x = record {
   stated = x;
   place = place;
@@ -114,26 +115,26 @@ laid y w place x = record {
   settled = settled_of y (spot_of w) (own_size w) x;
 }
 
-abbrev pub opens_scope : Stated → Bool
-opens_scope (open_scope n) = true
-opens_scope (open_proc n) = true
+abbrev pub opens_scope : Statement → Bool
+opens_scope (statement.OpenScope n) = true
+opens_scope (statement.OpenProc n) = true
 opens_scope _ = false
 
-abbrev pub closes_scope : Stated → Bool
+abbrev pub closes_scope : Statement → Bool
 closes_scope close_scope = true
 closes_scope close_proc = true
 closes_scope _ = false
 
 -- the scope that is open behind a statement
-abbrev pub scope_behind : Symbols → Standing → Stated → ℕ
+abbrev pub scope_behind : Symbols → Standing → Statement → ℕ
 scope_behind y w x = if opens_scope x then suc w.opened else if closes_scope x then enclosing y.scopes w.scope else w.scope
 
 -- the multiple to which a statement aligns its section
-abbrev pub multiple_of : Symbols → Spot → Stated → ℕ
-multiple_of y s (align n v) = counted (constant_in y s n)
+abbrev pub multiple_of : Symbols → Spot → Statement → ℕ
+multiple_of y s (statement.Align n v) = counted (constant_in y s n)
 multiple_of y s _ = 1
 
-abbrev pub standing_behind : Symbols → Standing → Stated → Standing
+abbrev pub standing_behind : Symbols → Standing → Statement → Standing
 standing_behind y w x = record {
   scope = scope_behind y w x;
   opened = if opens_scope x then w.opened + 1 else w.opened;
@@ -150,7 +151,7 @@ pub record Layout : Type 0 where
   pub laid : List Laid
   pub standing : Standing
 
-abbrev pub layout_behind : Layout → Place → Stated → Layout
+abbrev pub layout_behind : Layout → Place → Statement → Layout
 layout_behind y place x = record { laid = y.laid ++ laid (symbols_of y.laid) y.standing place x ∷ []; standing = standing_behind (symbols_of y.laid) y.standing x }
 
 abbrev pub nothing_laid : Layout

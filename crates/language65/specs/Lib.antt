@@ -1,5 +1,4 @@
 pub mod Faults
-pub mod Language
 pub mod Laid
 pub mod Symbols
 pub mod Names

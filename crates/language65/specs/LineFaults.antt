@@ -8,7 +8,12 @@ use Rattle.object65.specs.Objects.{section_limit}
 use Rattle.language65.specs.declared.contents.Segment.{Segment}
 use Rattle.language65.specs.declared.fault.AsmFault.{AsmFault}
 use Rattle.language65.specs.declared.fault.AsmFault.TheVariants.{NotUnderstood, NoSuchForm, DefinedTwice, SectionTooLarge, NoSuchScope, ScopeTwice, BadAlignment, PopWithoutPush, BadOperand, BadPart, SizeChanged, BadScope, FileNotFound}
-use Rattle.language65.specs.Language.{Item, value, text, Operand, no_operand, accumulator, immediate, address, indirect, indirect_x, indirect_y, Stated, constant, instruction, values, reserve, align, file_part, segment, pop_segment, open_scope, open_proc, close_scope, close_proc, imports, exports, globals, forced, assertion}
+use Rattle.language65.specs.declared.language.Item.{Item}
+use Rattle.language65.specs.declared.language.Operand.{Operand}
+use Rattle.language65.specs.declared.language.Statement.{Statement}
+use Rattle.language65.specs.declared.language.Statement.TheVariants as statement
+use Rattle.language65.specs.declared.language.Operand.TheVariants.{Absent, Accumulator, Immediate, Address, Indirect, IndirectX, IndirectY}
+use Rattle.language65.specs.declared.language.Item.TheVariants.{Value, Text}
 use Rattle.language65.specs.declared.laid.Spot.{Spot}
 use Rattle.language65.specs.Symbols.{Symbols, Scope, Key, named, cheap_in, unnamed_at, defined, key_defined}
 use Rattle.language65.specs.Names.{scope_in, scope_from, scopes_of, shown}
@@ -41,11 +46,11 @@ unless_fault (Some e) x = Err e
 
 -- ---- Names in the global scope alone.
 
-abbrev pub stands_outside : Stated → Bool
-stands_outside (imports s names) = true
-stands_outside (exports names) = true
-stands_outside (globals s names) = true
-stands_outside (forced names) = true
+abbrev pub stands_outside : Statement → Bool
+stands_outside (statement.Import s names) = true
+stands_outside (statement.Export names) = true
+stands_outside (statement.Global s names) = true
+stands_outside (statement.ForceImport names) = true
 stands_outside _ = false
 
 -- a scope that isn't the global one
@@ -58,30 +63,30 @@ is_open (suc i) = true
 abbrev pub operand_trees : Operand → List Tree
 operand_trees no_operand = []
 operand_trees accumulator = []
-operand_trees (immediate e) = e ∷ []
-operand_trees (address prefix e r) = e ∷ []
-operand_trees (indirect e) = e ∷ []
-operand_trees (indirect_x e) = e ∷ []
-operand_trees (indirect_y e) = e ∷ []
+operand_trees (Immediate e) = e ∷ []
+operand_trees (Address prefix e r) = e ∷ []
+operand_trees (Indirect e) = e ∷ []
+operand_trees (IndirectX e) = e ∷ []
+operand_trees (IndirectY e) = e ∷ []
 
 abbrev pub item_trees : List Item → List Tree
 item_trees [] = []
-item_trees (value e ∷ items) = e ∷ item_trees items
-item_trees (text bytes ∷ items) = item_trees items
+item_trees (Value e ∷ items) = e ∷ item_trees items
+item_trees (Text bytes ∷ items) = item_trees items
 
 abbrev pub optional_tree : Option Tree → List Tree
 optional_tree None = []
 optional_tree (Some e) = e ∷ []
 
 -- the expressions of a statement
-abbrev pub trees_of : Stated → List Tree
-trees_of (constant n e) = e ∷ []
-trees_of (instruction m operand) = operand_trees operand
-trees_of (values width items) = item_trees items
-trees_of (reserve n v) = n ∷ optional_tree v
-trees_of (align n v) = n ∷ optional_tree v
-trees_of (file_part bytes start len) = optional_tree start ++ optional_tree len
-trees_of (assertion e action words) = e ∷ []
+abbrev pub trees_of : Statement → List Tree
+trees_of (statement.Constant n e) = e ∷ []
+trees_of (statement.Instruction m operand) = operand_trees operand
+trees_of (statement.Values width items) = item_trees items
+trees_of (statement.Reserve n v) = n ∷ optional_tree v
+trees_of (statement.Align n v) = n ∷ optional_tree v
+trees_of (statement.FilePart bytes start len) = optional_tree start ++ optional_tree len
+trees_of (statement.Assert e action words) = e ∷ []
 trees_of _ = []
 
 abbrev pub or_then : Option AsmFault → Option AsmFault → Option AsmFault
@@ -103,9 +108,9 @@ lost_scopes cs scope (e ∷ es) = or_then (lost_scope cs scope e) (lost_scopes c
 -- ---- Names and scopes that are there already.
 
 -- the name of the scope that a statement opens
-abbrev pub scope_name : Stated → Option (List ℕ)
-scope_name (open_scope n) = n
-scope_name (open_proc n) = Some n
+abbrev pub scope_name : Statement → Option (List ℕ)
+scope_name (statement.OpenScope n) = n
+scope_name (statement.OpenProc n) = Some n
 scope_name _ = None
 
 abbrev pub opened_twice : List Scope → ℕ → Option (List ℕ) → Option AsmFault
@@ -120,8 +125,8 @@ defined_twice y None = None
 
 -- ---- Operands.
 
-abbrev pub form_fault : Symbols → Spot → AddressSize → Stated → Option AsmFault
-form_fault y s own (instruction m operand) = unless_there (mode_of y s own m operand) NoSuchForm
+abbrev pub form_fault : Symbols → Spot → AddressSize → Statement → Option AsmFault
+form_fault y s own (statement.Instruction m operand) = unless_there (mode_of y s own m operand) NoSuchForm
 form_fault y s own _ = None
 
 abbrev pub is_count : Option ℤ → Bool
@@ -137,18 +142,18 @@ is_there None = false
 is_there (Some x) = true
 
 -- what has to be constant is, and lies in its range
-abbrev pub operand_fault : Symbols → Spot → Stated → Option AsmFault
-operand_fault y s (reserve n v) = when (not (is_count (constant_in y s n) && is_byte_value (optional_value y s v (pos 0)))) BadOperand
-operand_fault y s (align n v) = when (not (is_there (constant_in y s n) && is_byte_value (optional_value y s v (pos 0)))) BadOperand
-operand_fault y s (file_part bytes start len) = when (not (is_there (optional_value y s start (pos 0)) && is_there (optional_value y s len (pos 0)))) BadOperand
+abbrev pub operand_fault : Symbols → Spot → Statement → Option AsmFault
+operand_fault y s (statement.Reserve n v) = when (not (is_count (constant_in y s n) && is_byte_value (optional_value y s v (pos 0)))) BadOperand
+operand_fault y s (statement.Align n v) = when (not (is_there (constant_in y s n) && is_byte_value (optional_value y s v (pos 0)))) BadOperand
+operand_fault y s (statement.FilePart bytes start len) = when (not (is_there (optional_value y s start (pos 0)) && is_there (optional_value y s len (pos 0)))) BadOperand
 operand_fault y s _ = None
 
 abbrev pub multiple_fault : Option ℤ → Option AsmFault
 multiple_fault (Some (pos n)) = when (not (list_any (λ m. m == n) powers)) BadAlignment
 multiple_fault _ = Some BadAlignment
 
-abbrev pub alignment_fault : Symbols → Spot → Stated → Option AsmFault
-alignment_fault y s (align n v) = multiple_fault (constant_in y s n)
+abbrev pub alignment_fault : Symbols → Spot → Statement → Option AsmFault
+alignment_fault y s (statement.Align n v) = multiple_fault (constant_in y s n)
 alignment_fault y s _ = None
 
 -- ---- Files.
@@ -156,8 +161,8 @@ alignment_fault y s _ = None
 abbrev pub file_limit : ℕ
 file_limit = 16777216
 
-abbrev pub missing_file : Stated → Option AsmFault
-missing_file (file_part bytes start len) = unless_there bytes FileNotFound
+abbrev pub missing_file : Statement → Option AsmFault
+missing_file (statement.FilePart bytes start len) = unless_there bytes FileNotFound
 missing_file _ = None
 
 -- a part of a file of so many bytes
@@ -169,8 +174,8 @@ abbrev pub left_from : ℕ → Option ℤ → ℤ
 left_from count (Some (pos start)) = pos (count - start)
 left_from count _ = pos 0
 
-abbrev pub part_fault : Symbols → Spot → Stated → Option AsmFault
-part_fault y s (file_part (Some bytes) start len) =
+abbrev pub part_fault : Symbols → Spot → Statement → Option AsmFault
+part_fault y s (statement.FilePart (Some bytes) start len) =
     let from : Option ℤ = optional_value y s start (pos 0) in
     when (not (nat_le (length bytes) file_limit && is_part (length bytes) from (optional_value y s len (left_from (length bytes) from)))) BadPart
 part_fault y s _ = None
@@ -186,8 +191,8 @@ abbrev pub changed_size : List Segment → Option AddressSize → Option ℕ →
 changed_size gs (Some own) (Some i) = when (not (same_size own (segment_at gs i).size)) SizeChanged
 changed_size gs own place = None
 
-abbrev pub size_fault : List Segment → Stated → Option AsmFault
-size_fault gs (segment n own) = changed_size gs own (place_of gs n)
+abbrev pub size_fault : List Segment → Statement → Option AsmFault
+size_fault gs (statement.Segment n own) = changed_size gs own (place_of gs n)
 size_fault gs _ = None
 
 abbrev pub is_scope : Option Scope → Bool
@@ -200,7 +205,7 @@ opened_as cs zero = None
 opened_as cs (suc i) = slice_get cs i
 
 -- a scope or a proc is closed by its own kind
-abbrev pub block_fault : List Scope → ℕ → Stated → Option AsmFault
+abbrev pub block_fault : List Scope → ℕ → Statement → Option AsmFault
 block_fault cs scope close_scope = when (not (is_open scope && is_scope (opened_as cs scope))) BadScope
 block_fault cs scope close_proc = when (not (is_open scope && not (is_scope (opened_as cs scope)))) BadScope
 block_fault cs scope _ = None
@@ -209,12 +214,12 @@ abbrev pub is_kept : List ℕ → Bool
 is_kept [] = false
 is_kept (k ∷ kept) = true
 
-abbrev pub pop_fault : List ℕ → Stated → Option AsmFault
+abbrev pub pop_fault : List ℕ → Statement → Option AsmFault
 pop_fault kept pop_segment = when (not (is_kept kept)) PopWithoutPush
 pop_fault kept _ = None
 
 -- ---- The first fault of a statement that is understood, behind those of a symbol table.
-abbrev pub line_fault : Symbols → Standing → Stated → Option AsmFault
+abbrev pub line_fault : Symbols → Standing → Statement → Option AsmFault
 line_fault y w x =
     let s : Spot = spot_of w in
     first_fault (

@@ -18,7 +18,12 @@ use Rattle.object65.specs.Objects.{width_len}
 use Rattle.language65.specs.declared.fault.AsmFault.{AsmFault}
 use Rattle.language65.specs.declared.language.Index.{Index}
 use Rattle.language65.specs.declared.language.Index.TheVariants as index
-use Rattle.language65.specs.Language.{Item, value, text, Operand, no_operand, accumulator, immediate, address, indirect, indirect_x, indirect_y, Stated, instruction, values, reserve, align, file_part}
+use Rattle.language65.specs.declared.language.Item.{Item}
+use Rattle.language65.specs.declared.language.Operand.{Operand}
+use Rattle.language65.specs.declared.language.Statement.{Statement}
+use Rattle.language65.specs.declared.language.Statement.TheVariants.{Instruction, Values, Reserve, Align, FilePart}
+use Rattle.language65.specs.declared.language.Operand.TheVariants as operands
+use Rattle.language65.specs.declared.language.Item.TheVariants.{Value, Text}
 use Rattle.language65.specs.declared.laid.Settled.{Settled}
 use Rattle.language65.specs.declared.laid.Settled.TheVariants.{Unsettled, InMode, FilledWith, FromByte}
 use Rattle.language65.specs.declared.laid.Spot.{Spot}
@@ -116,11 +121,11 @@ branch_mode forced r = None
 abbrev pub mode_of : Symbols → Spot → AddressSize → Mnemonic → Operand → Option Mode
 mode_of y s own m no_operand = first_of m Implied Accumulator
 mode_of y s own m accumulator = first_of m Accumulator Accumulator
-mode_of y s own m (immediate e) = first_of m Immediate Immediate
-mode_of y s own m (address forced e r) = if is_branch m then branch_mode forced r else address_mode m forced (size_of y s own e) r
-mode_of y s own m (indirect e) = first_of m Indirect Indirect
-mode_of y s own m (indirect_x e) = first_of m IndirectX IndirectX
-mode_of y s own m (indirect_y e) = first_of m IndirectY IndirectY
+mode_of y s own m (operands.Immediate e) = first_of m Immediate Immediate
+mode_of y s own m (operands.Address forced e r) = if is_branch m then branch_mode forced r else address_mode m forced (size_of y s own e) r
+mode_of y s own m (operands.Indirect e) = first_of m Indirect Indirect
+mode_of y s own m (operands.IndirectX e) = first_of m IndirectX IndirectX
+mode_of y s own m (operands.IndirectY e) = first_of m IndirectY IndirectY
 
 -- how the operand of a form is stored
 abbrev pub width_of : Mode → Option Width
@@ -136,8 +141,8 @@ width_of _ = Some Byte
 -- ---- Lengths.
 
 abbrev pub item_len : Width → Item → ℕ
-item_len width (value e) = width_len width
-item_len width (text bytes) = length bytes
+item_len width (Value e) = width_len width
+item_len width (Text bytes) = length bytes
 
 abbrev pub operand_len : Option Width → ℕ
 operand_len None = 0
@@ -176,12 +181,12 @@ part_len y s (Some bytes) start len =
     length (bytes_between bytes (part_start y s start) (optional_value y s len (pos (length bytes - part_start y s start))))
 
 -- How many bytes a statement places, by what is known at its line, where the segment has this size.
-abbrev pub length_of : Symbols → Spot → AddressSize → Stated → ℕ
-length_of y s own (instruction m operand) = mode_len (mode_of y s own m operand)
-length_of y s own (values width items) = sum_by (item_len width) items
-length_of y s own (reserve n v) = counted (constant_in y s n)
-length_of y s own (align n v) = gap s.offset (constant_in y s n)
-length_of y s own (file_part bytes start len) = part_len y s bytes start len
+abbrev pub length_of : Symbols → Spot → AddressSize → Statement → ℕ
+length_of y s own (Instruction m operand) = mode_len (mode_of y s own m operand)
+length_of y s own (Values width items) = sum_by (item_len width) items
+length_of y s own (Reserve n v) = counted (constant_in y s n)
+length_of y s own (Align n v) = gap s.offset (constant_in y s n)
+length_of y s own (FilePart bytes start len) = part_len y s bytes start len
 length_of y s own _ = 0
 
 -- ---- What is settled.
@@ -195,9 +200,9 @@ fill_settled y s None = Unsettled
 fill_settled y s (Some v) = FilledWith (counted (constant_in y s v))
 
 -- what is settled of a statement at its line, where the segment has this size
-abbrev pub settled_of : Symbols → Spot → AddressSize → Stated → Settled
-settled_of y s own (instruction m operand) = mode_settled (mode_of y s own m operand)
-settled_of y s own (reserve n v) = fill_settled y s v
-settled_of y s own (align n v) = fill_settled y s v
-settled_of y s own (file_part bytes start len) = FromByte (part_start y s start)
+abbrev pub settled_of : Symbols → Spot → AddressSize → Statement → Settled
+settled_of y s own (Instruction m operand) = mode_settled (mode_of y s own m operand)
+settled_of y s own (Reserve n v) = fill_settled y s v
+settled_of y s own (Align n v) = fill_settled y s v
+settled_of y s own (FilePart bytes start len) = FromByte (part_start y s start)
 settled_of y s own _ = Unsettled

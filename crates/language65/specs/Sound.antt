@@ -11,7 +11,8 @@ use Rattle.object65.specs.Objects.{are_names, is_file_name, is_name, section_lim
 use Rattle.source65.specs.declared.place.Place.{Place}
 use Rattle.language65.specs.Parts.{Content, Part, Known, Filled, Waiting, Said, Exported, Demanded, Checked}
 use Rattle.language65.specs.declared.contents.Segment.{Segment}
-use Rattle.language65.specs.Language as l
+use Rattle.language65.specs.declared.language.Statement.{Statement}
+use Rattle.language65.specs.declared.language.Statement.TheVariants as statement
 use Rattle.language65.specs.Laid.{Laid}
 use Rattle.language65.specs.Layout.{Layout}
 use Rattle.language65.specs.Numbering.{imports_in, parts_in, section_keys}
@@ -29,13 +30,13 @@ abbrev pub AreNamed : List Lexeme → Type 0
 AreNamed ts = AllByRecursion (λ t. IsNamed t.0 t.1) ts
 
 -- what a statement hands to the object are names, and texts that are short enough
-abbrev pub IsSound : l.Stated → Type 0
-IsSound (l.segment n own) = is_name n ≡ true
-IsSound (l.imports own names) = list_all is_name names ≡ true
-IsSound (l.exports names) = list_all is_name names ≡ true
-IsSound (l.globals own names) = list_all is_name names ≡ true
-IsSound (l.forced names) = list_all is_name names ≡ true
-IsSound (l.assertion e action words) = length words < 256
+abbrev pub IsSound : Statement → Type 0
+IsSound (statement.Segment n own) = is_name n ≡ true
+IsSound (statement.Import own names) = list_all is_name names ≡ true
+IsSound (statement.Export names) = list_all is_name names ≡ true
+IsSound (statement.Global own names) = list_all is_name names ≡ true
+IsSound (statement.ForceImport names) = list_all is_name names ≡ true
+IsSound (statement.Assert e action words) = length words < 256
 IsSound _ = ⊤
 
 -- ---- Layouts.

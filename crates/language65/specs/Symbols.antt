@@ -5,7 +5,8 @@ use Rattle.std.specs.Str.{bytes_eq}
 use Rattle.syntax65.specs.Trees.{Tree}
 use Rattle.syntax65.specs.declared.lexing.tokens.AddressSize.{AddressSize}
 use Rattle.syntax65.specs.declared.lexing.tokens.AddressSize.TheVariants as size
-use Rattle.language65.specs.Language.{Stated, label, cheap_label, unnamed_label, constant, open_scope, open_proc, imports, globals, forced}
+use Rattle.language65.specs.declared.language.Statement.{Statement}
+use Rattle.language65.specs.declared.language.Statement.TheVariants.{Label, CheapLabel, UnnamedLabel, Constant, OpenScope, OpenProc, Import, Global, ForceImport}
 use Rattle.language65.specs.Laid.{Laid}
 use Rattle.language65.specs.declared.laid.Spot.{Spot}
 
@@ -44,16 +45,16 @@ pub record Symbols : Type 0 where
 
 -- ---- What a statement adds.
 
-abbrev pub key_defined : Spot → Stated → Option Key
-key_defined s (label n) = Some (named s.scope n)
-key_defined s (constant n e) = Some (named s.scope n)
-key_defined s (open_proc n) = Some (named s.scope n)
-key_defined s (cheap_label n) = Some (cheap_in s.region n)
+abbrev pub key_defined : Spot → Statement → Option Key
+key_defined s (Label n) = Some (named s.scope n)
+key_defined s (Constant n e) = Some (named s.scope n)
+key_defined s (OpenProc n) = Some (named s.scope n)
+key_defined s (CheapLabel n) = Some (cheap_in s.region n)
 key_defined s unnamed_label = Some (unnamed_at s.unnamed)
 key_defined s _ = None
 
-abbrev pub value_defined : Stated → Option Tree
-value_defined (constant n e) = Some e
+abbrev pub value_defined : Statement → Option Tree
+value_defined (Constant n e) = Some e
 value_defined _ = None
 
 abbrev pub definition_with : Option Key → Option Tree → Spot → AddressSize → List Definition
@@ -63,21 +64,21 @@ definition_with (Some k) value s own = record { key = k; value = value; spot = s
 abbrev pub definitions_of : Laid → List Definition
 definitions_of l = definition_with (key_defined l.spot l.stated) (value_defined l.stated) l.spot l.size
 
-abbrev pub scope_opened : ℕ → Stated → List Scope
-scope_opened within (open_scope n) = record { within = within; name = n; is_proc = false } ∷ []
-scope_opened within (open_proc n) = record { within = within; name = Some n; is_proc = true } ∷ []
+abbrev pub scope_opened : ℕ → Statement → List Scope
+scope_opened within (OpenScope n) = record { within = within; name = n; is_proc = false } ∷ []
+scope_opened within (OpenProc n) = record { within = within; name = Some n; is_proc = true } ∷ []
 scope_opened within _ = []
 
-abbrev pub imports_of : Stated → List (List ℕ)
-imports_of (imports own names) = names
-imports_of (globals own names) = names
-imports_of (forced names) = names
+abbrev pub imports_of : Statement → List (List ℕ)
+imports_of (Import own names) = names
+imports_of (Global own names) = names
+imports_of (ForceImport names) = names
 imports_of _ = []
 
 -- the names that were imported for the zero page
-abbrev pub zero_page_names : Stated → List (List ℕ)
-zero_page_names (imports size.ZeroPage names) = names
-zero_page_names (globals size.ZeroPage names) = names
+abbrev pub zero_page_names : Statement → List (List ℕ)
+zero_page_names (Import size.ZeroPage names) = names
+zero_page_names (Global size.ZeroPage names) = names
 zero_page_names _ = []
 
 -- names, each once, in the order in which they were first named

@@ -9,7 +9,8 @@ use Rattle.language65.specs.declared.contents.Segment.{Segment}
 use Rattle.language65.specs.declared.fault.AsmFault.{AsmFault}
 use Rattle.language65.specs.declared.fault.AsmFault.TheVariants.{SectionTooLarge}
 use Rattle.language65.specs.Laid.{is_unnamed, opens_region}
-use Rattle.language65.specs.Language as l
+use Rattle.language65.specs.declared.language.Statement.{Statement}
+use Rattle.language65.specs.declared.language.Statement.TheVariants as statement
 use Rattle.language65.specs.Layout.{Standing, first_size, named_segments, new_segment, opens_scope, own_size, place_of, scope_behind, segments_behind, spot_of, standing_behind}
 use Rattle.language65.specs.LineFaults.{first_fault, line_fault, or_then, when, unless_fault}
 use Rattle.language65.specs.Names.{enclosing, within}
@@ -38,7 +39,7 @@ enclosing_below count zero cs h = omega arith
 enclosing_below count (suc i) cs h = within_below count i cs h
 
 -- a statement's scope is opened within one of so many
-pub inside_behind : (count scope : ℕ) (cs : List Scope) (x : l.Stated) → scope ≤ count → AreInside count cs → AreInside (count + opened_by x) (cs ++ scope_opened scope x)
+pub inside_behind : (count scope : ℕ) (cs : List Scope) (x : Statement) → scope ≤ count → AreInside count cs → AreInside (count + opened_by x) (cs ++ scope_opened scope x)
 inside_behind count scope cs x le h = by x
   where
     wide : (many : ℕ) → count ≤ many → AreInside many cs
@@ -48,47 +49,47 @@ inside_behind count scope cs x le h = by x
     alone many [] g = tt
     alone many (d ∷ ds) g = (g.0, alone many ds g.1)
 
-    by : (x : l.Stated) → AreInside (count + opened_by x) (cs ++ scope_opened scope x)
-    by (l.open_scope n) = all_more (λ (c : Scope). c.within ≤ count + 1) cs (record { within = scope; name = n; is_proc = false }) (wide (count + 1) (omega arith)) (omega (arith, le))
-    by (l.open_proc n) = all_more (λ (c : Scope). c.within ≤ count + 1) cs (record { within = scope; name = Some n; is_proc = true }) (wide (count + 1) (omega arith)) (omega (arith, le))
-    by (l.label n) = alone (count + 1) cs (wide (count + 1) (omega arith))
-    by l.unnamed_label = alone (count + 1) cs (wide (count + 1) (omega arith))
-    by (l.segment n own) = alone (count + 1) cs (wide (count + 1) (omega arith))
+    by : (x : Statement) → AreInside (count + opened_by x) (cs ++ scope_opened scope x)
+    by (statement.OpenScope n) = all_more (λ (c : Scope). c.within ≤ count + 1) cs (record { within = scope; name = n; is_proc = false }) (wide (count + 1) (omega arith)) (omega (arith, le))
+    by (statement.OpenProc n) = all_more (λ (c : Scope). c.within ≤ count + 1) cs (record { within = scope; name = Some n; is_proc = true }) (wide (count + 1) (omega arith)) (omega (arith, le))
+    by (statement.Label n) = alone (count + 1) cs (wide (count + 1) (omega arith))
+    by statement.UnnamedLabel = alone (count + 1) cs (wide (count + 1) (omega arith))
+    by (statement.Segment n own) = alone (count + 1) cs (wide (count + 1) (omega arith))
     by _ = alone (count + 0) cs (wide (count + 0) (omega arith))
 
 -- ---- What is counted.
 
-scopes_behind : (x : l.Stated) (n count : ℕ) → n ≤ count → (if opens_scope x then n + 1 else n) ≤ count + opened_by x
-scopes_behind (l.open_scope m) n count le = omega (arith, le)
-scopes_behind (l.open_proc m) n count le = omega (arith, le)
+scopes_behind : (x : Statement) (n count : ℕ) → n ≤ count → (if opens_scope x then n + 1 else n) ≤ count + opened_by x
+scopes_behind (statement.OpenScope m) n count le = omega (arith, le)
+scopes_behind (statement.OpenProc m) n count le = omega (arith, le)
 scopes_behind _ n count le = omega (arith, le)
 
-regions_behind : (x : l.Stated) (n count : ℕ) → n ≤ count → (if opens_region x then n + 1 else n) ≤ count + opened_by x
-regions_behind (l.label m) n count le = omega (arith, le)
-regions_behind (l.open_proc m) n count le = omega (arith, le)
+regions_behind : (x : Statement) (n count : ℕ) → n ≤ count → (if opens_region x then n + 1 else n) ≤ count + opened_by x
+regions_behind (statement.Label m) n count le = omega (arith, le)
+regions_behind (statement.OpenProc m) n count le = omega (arith, le)
 regions_behind _ n count le = omega (arith, le)
 
-unnamed_behind : (x : l.Stated) (n count : ℕ) → n ≤ count → (if is_unnamed x then n + 1 else n) ≤ count + opened_by x
-unnamed_behind l.unnamed_label n count le = omega (arith, le)
+unnamed_behind : (x : Statement) (n count : ℕ) → n ≤ count → (if is_unnamed x then n + 1 else n) ≤ count + opened_by x
+unnamed_behind statement.UnnamedLabel n count le = omega (arith, le)
 unnamed_behind _ n count le = omega (arith, le)
 
-segments_counted : (x : l.Stated) (gs : List Segment) (current len multiple count : ℕ) → length gs ≤ count + 1 → length (segments_behind gs current len multiple x) ≤ count + opened_by x + 1
-segments_counted (l.segment n own) gs current len multiple count le = by (place_of gs n)
+segments_counted : (x : Statement) (gs : List Segment) (current len multiple count : ℕ) → length gs ≤ count + 1 → length (segments_behind gs current len multiple x) ≤ count + opened_by x + 1
+segments_counted (statement.Segment n own) gs current len multiple count le = by (place_of gs n)
   where
     by : (place : Option ℕ) → length (named_segments gs n own place) ≤ count + 1 + 1
     by (Some i) = omega (arith, le)
     by None = rw (length-append gs (new_segment n (first_size n own) ∷ [])) (omega (arith, le))
 segments_counted _ gs current len multiple count le = rw (grown_length gs current len multiple) (omega (arith, le))
 
-open_behind : (x : l.Stated) (y : Symbols) (w : Standing) (count : ℕ) → w.scope ≤ count → w.opened ≤ count → AreInside count y.scopes → scope_behind y w x ≤ count + opened_by x
-open_behind (l.open_scope n) y w count le less h = omega (arith, less)
-open_behind (l.open_proc n) y w count le less h = omega (arith, less)
-open_behind l.close_scope y w count le less h = let around = enclosing_below count w.scope y.scopes h in omega (arith, around)
-open_behind l.close_proc y w count le less h = let around = enclosing_below count w.scope y.scopes h in omega (arith, around)
+open_behind : (x : Statement) (y : Symbols) (w : Standing) (count : ℕ) → w.scope ≤ count → w.opened ≤ count → AreInside count y.scopes → scope_behind y w x ≤ count + opened_by x
+open_behind (statement.OpenScope n) y w count le less h = omega (arith, less)
+open_behind (statement.OpenProc n) y w count le less h = omega (arith, less)
+open_behind statement.CloseScope y w count le less h = let around = enclosing_below count w.scope y.scopes h in omega (arith, around)
+open_behind statement.CloseProc y w count le less h = let around = enclosing_below count w.scope y.scopes h in omega (arith, around)
 open_behind _ y w count le less h = omega (arith, le)
 
 -- a statement opens so much at most
-pub counted_behind : (y : Symbols) (v w : code.Standing) (x : l.Stated) (len multiple count : ℕ) → IsCounted count v → AreInside count y.scopes → standing_of w ≡ advanced y (standing_of v) x len multiple → IsCounted (count + opened_by x) w
+pub counted_behind : (y : Symbols) (v w : code.Standing) (x : Statement) (len multiple count : ℕ) → IsCounted count v → AreInside count y.scopes → standing_of w ≡ advanced y (standing_of v) x len multiple → IsCounted (count + opened_by x) w
 counted_behind y v w x len multiple count counted inside e = record {
   scope = rw (ap (λ (s : Standing). s.scope) e) (open_behind x y (standing_of v) count counted.scope counted.scopes inside);
   scopes = rw (ap (λ (s : Standing). s.opened) e) (scopes_behind x v.opened count counted.scopes);
@@ -124,7 +125,7 @@ when_none : (b : Bool) (e : AsmFault) → when b e ≡ None → b ≡ false
 when_none false e h = refl
 when_none true e h = absurd cc
 
-module _ (y : Symbols) (w : Standing) (x : l.Stated) where
+module _ (y : Symbols) (w : Standing) (x : Statement) where
   pub without_fault : (m : Measured) → measured y w x ≡ Ok m → line_fault y w x ≡ None
   without_fault m e = (no_fault (line_fault y w x) (measure_of y w x) m e).0
 

@@ -17,7 +17,9 @@ use Rattle.language65.specs.declared.fault.AsmFault.TheVariants.{BadOperand, Not
 use Rattle.language65.specs.declared.language.Item.{Item}
 use Rattle.language65.specs.declared.laid.Settled.{Settled}
 use Rattle.language65.specs.Symbols.{Scope, Symbols, key_defined}
-use Rattle.language65.specs.Language as l
+use Rattle.language65.specs.declared.language.Statement.{Statement}
+use Rattle.language65.specs.declared.language.Statement.TheVariants as statement
+use Rattle.language65.specs.declared.language.Item.TheVariants as items
 use Rattle.language65.proofs.Lists.{drop_mapped, map_length}
 use Rattle.object65.specs.Objects.{section_limit}
 use Rattle.syntax65.specs.declared.lexing.tokens.AddressSize.TheVariants.{Absolute}
@@ -54,9 +56,9 @@ or_none : (a b : Option AsmFault) → or_then (or_then a None) b ≡ or_then a b
 or_none None b = refl
 or_none (Some e) b = refl
 
-first_item : (cs : List Scope) (scope : ℕ) (item : l.Item) (items : List l.Item) → lost_scopes cs scope (item_trees (item ∷ items)) ≡ or_then (lost_scopes cs scope (item_trees (item ∷ []))) (lost_scopes cs scope (item_trees items))
-first_item cs scope (l.value e) items = sym (or_none (lost_scope cs scope e) (lost_scopes cs scope (item_trees items)))
-first_item cs scope (l.text bytes) items = refl
+first_item : (cs : List Scope) (scope : ℕ) (item : Item) (items : List Item) → lost_scopes cs scope (item_trees (item ∷ items)) ≡ or_then (lost_scopes cs scope (item_trees (item ∷ []))) (lost_scopes cs scope (item_trees items))
+first_item cs scope (items.Value e) items = sym (or_none (lost_scope cs scope e) (lost_scopes cs scope (item_trees items)))
+first_item cs scope (items.Text bytes) items = refl
 
 -- what the items from a place on are refused for
 pub items_lost : (cs : List Scope) (scope : ℕ) (items : List Item) (i : ℕ) (item : Item) → i < length items → item ≡ get_or items i item → lost_scopes cs scope (item_trees (drop i items)) ≡ or_then (lost_scopes cs scope (item_trees (item ∷ []))) (lost_scopes cs scope (item_trees (drop (i + 1) items)))
@@ -102,7 +104,7 @@ reserved w b st k =
     ∷ []))
     (record { length = counted k; size = own_size w; multiple = 1; settled = st })
 
-pub reserved_as : (y : Symbols) (w : Standing) (n : Tree) (v : Option Tree) (k : Option ℤ) → constant_in y (spot_of w) n ≡ k → placed y w (l.reserve n v) ≡ reserved w (is_byte_value (optional_value y (spot_of w) v (pos 0))) (fill_settled y (spot_of w) v) k
+pub reserved_as : (y : Symbols) (w : Standing) (n : Tree) (v : Option Tree) (k : Option ℤ) → constant_in y (spot_of w) n ≡ k → placed y w (statement.Reserve n v) ≡ reserved w (is_byte_value (optional_value y (spot_of w) v (pos 0))) (fill_settled y (spot_of w) v) k
 reserved_as y w n v k e = ap (reserved w (is_byte_value (optional_value y (spot_of w) v (pos 0))) (fill_settled y (spot_of w) v)) e
 
 -- a byte that is refused, where the number is one
@@ -130,7 +132,7 @@ aligned w b st k =
     ∷ []))
     (record { length = gap (spot_of w).offset k; size = own_size w; multiple = counted k; settled = st })
 
-pub aligned_as : (y : Symbols) (w : Standing) (n : Tree) (v : Option Tree) (k : Option ℤ) → constant_in y (spot_of w) n ≡ k → placed y w (l.align n v) ≡ aligned w (is_byte_value (optional_value y (spot_of w) v (pos 0))) (fill_settled y (spot_of w) v) k
+pub aligned_as : (y : Symbols) (w : Standing) (n : Tree) (v : Option Tree) (k : Option ℤ) → constant_in y (spot_of w) n ≡ k → placed y w (statement.Align n v) ≡ aligned w (is_byte_value (optional_value y (spot_of w) v (pos 0))) (fill_settled y (spot_of w) v) k
 aligned_as y w n v k e = ap (aligned w (is_byte_value (optional_value y (spot_of w) v (pos 0))) (fill_settled y (spot_of w) v)) e
 
 -- a multiple that is refused, where the values aren't
@@ -178,7 +180,7 @@ four_first None None (Some e) d rest = refl
 four_first None None None (Some e) rest = refl
 four_first None None None None rest = refl
 
-module _ (y : Symbols) (w : Standing) (x : l.Stated) where
+module _ (y : Symbols) (w : Standing) (x : Statement) where
   pub faults_are : line_fault y w x ≡ or_then (naming_fault y (spot_of w) x) (first_fault (placing_faults y w x))
   faults_are = four_first (when (stands_outside x && is_open w.scope) NotUnderstood) (lost_scopes y.scopes w.scope (trees_of x)) (opened_twice y.scopes w.scope (scope_name x)) (defined_twice y (key_defined (spot_of w) x)) (placing_faults y w x)
 
@@ -206,7 +208,7 @@ fits count h = by (nat_lt section_limit count) refl h
     by false is k = grind (arith, nat_tests)
 
 -- what is placed has room
-pub room_of : (y : Symbols) (w : Standing) (x : l.Stated) (r : Result code.Measured AsmFault) → Gives is_memory (λ m. m) r (placed y w x) → IfOk r (λ m. (spot_of w).offset + m.length ≤ section_limit)
+pub room_of : (y : Symbols) (w : Standing) (x : Statement) (r : Result code.Measured AsmFault) → Gives is_memory (λ m. m) r (placed y w x) → IfOk r (λ m. (spot_of w).offset + m.length ≤ section_limit)
 room_of y w x (Err e) h = tt
 room_of y w x (Ok m) h =
     let s = spot_of w in

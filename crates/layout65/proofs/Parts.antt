@@ -9,7 +9,7 @@ use Rattle.language65.specs.declared.fault.AsmFault.TheVariants.{BadOperand, Bad
 use Rattle.language65.specs.Faults.{is_memory}
 use Rattle.language65.specs.declared.laid.Settled.TheVariants.{FromByte}
 use Rattle.language65.specs.declared.laid.Spot.{Spot}
-use Rattle.language65.specs.Language.{file_part}
+use Rattle.language65.specs.declared.language.Statement.TheVariants.{FilePart}
 use Rattle.language65.specs.Layout.{Standing, own_size, spot_of}
 use Rattle.language65.specs.LineFaults.{file_limit, first_fault, is_part, is_there, left_from, lost_scopes, operand_fault, optional_tree, part_fault, unless_there, when, unless_fault}
 use Rattle.language65.specs.Sizes.{optional_value, part_len, part_start}
@@ -52,22 +52,22 @@ module _ (y : Symbols) (w : Standing) (start len : Option Tree) where
       ∷ []))
       (record { length = count; size = own_size w; multiple = 1; settled = FromByte (part_start y (spot_of w) start) })
 
-  not_constant : (bytes : Option (List ℕ)) → there ≡ false → placed y w (file_part bytes start len) ≡ Err BadOperand
-  not_constant bytes e = subst (λ b. by_faults bytes b (unless_there bytes FileNotFound) (part_fault y (spot_of w) (file_part bytes start len)) ≡ Err BadOperand) (sym e) refl
+  not_constant : (bytes : Option (List ℕ)) → there ≡ false → placed y w (FilePart bytes start len) ≡ Err BadOperand
+  not_constant bytes e = subst (λ b. by_faults bytes b (unless_there bytes FileNotFound) (part_fault y (spot_of w) (FilePart bytes start len)) ≡ Err BadOperand) (sym e) refl
 
 module _ (y : Symbols) (w : Standing) (start len : Option Tree) (s : Spot) (at : s ≡ spot_of w) where
   found_here : (value : Option Tree) (r : Result (Option ℤ) AsmFault) → IsFound (optional_value y s value) r → IsFound (optional_value y (spot_of w) value) r
   found_here value r h = subst (λ (here : Spot). IsFound (optional_value y here value) r) at h
 
   -- a start that isn't constant
-  pub bad_start : (bytes : Option (List ℕ)) (e : AsmFault) → IsFound (optional_value y s start) (Err e) → Unless (is_memory e) (placed y w (file_part bytes start len) ≡ Err e)
+  pub bad_start : (bytes : Option (List ℕ)) (e : AsmFault) → IsFound (optional_value y s start) (Err e) → Unless (is_memory e) (placed y w (FilePart bytes start len) ≡ Err e)
   bad_start bytes e h =
       unless_then (is_memory e)
       (λ f. not_constant y w start len bytes (ap (λ k. is_there k && is_there (optional_value y (spot_of w) len (pos 0))) (f.1 (pos 0))) ∙ ap (λ d. Err d) (sym f.0))
       (found_here start (Err e) h)
 
   -- a length that isn't
-  pub bad_len : (bytes : Option (List ℕ)) (e : AsmFault) → IsFound (optional_value y s len) (Err e) → Unless (is_memory e) (placed y w (file_part bytes start len) ≡ Err e)
+  pub bad_len : (bytes : Option (List ℕ)) (e : AsmFault) → IsFound (optional_value y s len) (Err e) → Unless (is_memory e) (placed y w (FilePart bytes start len) ≡ Err e)
   bad_len bytes e h =
       unless_then (is_memory e)
       (λ f. not_constant y w start len bytes (and_false (is_there (optional_value y (spot_of w) start (pos 0))) _ (ap is_there (f.1 (pos 0)))) ∙ ap (λ d. Err d) (sym f.0))
@@ -83,23 +83,23 @@ module _ (y : Symbols) (w : Standing) (start len : Option Tree) (s : Spot) (at :
     both : there y w start len ≡ true
     both = ap (λ k. is_there k && is_there (optional_value y (spot_of w) len (pos 0))) (from (pos 0)) ∙ ap is_there (more (pos 0))
 
-    fault_is : (bytes : List ℕ) → part_fault y (spot_of w) (file_part (Some bytes) start len) ≡ range_fault (length bytes) v n
+    fault_is : (bytes : List ℕ) → part_fault y (spot_of w) (FilePart (Some bytes) start len) ≡ range_fault (length bytes) v n
     fault_is bytes =
         ap (λ k. refuses (length bytes) k (optional_value y (spot_of w) len (left_from (length bytes) k)) (nat_le (length bytes) file_limit)) (from (pos 0))
         ∙ ap (λ k. refuses (length bytes) (Some (or_default v (pos 0))) k (nat_le (length bytes) file_limit)) (more (left_from (length bytes) (Some (or_default v (pos 0)))))
 
-    constant : (bytes : Option (List ℕ)) → placed y w (file_part bytes start len) ≡ by_faults y w start len bytes true (unless_there bytes FileNotFound) (part_fault y (spot_of w) (file_part bytes start len))
-    constant bytes = ap (λ b. by_faults y w start len bytes b (unless_there bytes FileNotFound) (part_fault y (spot_of w) (file_part bytes start len))) both
+    constant : (bytes : Option (List ℕ)) → placed y w (FilePart bytes start len) ≡ by_faults y w start len bytes true (unless_there bytes FileNotFound) (part_fault y (spot_of w) (FilePart bytes start len))
+    constant bytes = ap (λ b. by_faults y w start len bytes b (unless_there bytes FileNotFound) (part_fault y (spot_of w) (FilePart bytes start len))) both
 
     -- a part that the file hasn't
-    refused_so : (bytes : List ℕ) (e : AsmFault) → ranged (length bytes) v n ≡ Err e → placed y w (file_part (Some bytes) start len) ≡ Err e
+    refused_so : (bytes : List ℕ) (e : AsmFault) → ranged (length bytes) v n ≡ Err e → placed y w (FilePart (Some bytes) start len) ≡ Err e
     refused_so bytes e h = constant (Some bytes) ∙ ap (λ f. by_faults y w start len (Some bytes) true None f) (fault_is bytes) ∙ by _ (range_fault (length bytes) v n) h
       where
         by : {A : Type 0} (x : A) (f : Option AsmFault) → unless_fault f x ≡ Err e → by_faults y w start len (Some bytes) true None f ≡ Err e
         by x None h = absurd cc
         by x (Some d) h = cc
 
-    pub refused : (bytes : List ℕ) (e : AsmFault) → Unless (is_memory e) (ranged (length bytes) v n ≡ Err e) → Unless (is_memory e) (placed y w (file_part (Some bytes) start len) ≡ Err e)
+    pub refused : (bytes : List ℕ) (e : AsmFault) → Unless (is_memory e) (ranged (length bytes) v n ≡ Err e) → Unless (is_memory e) (placed y w (FilePart (Some bytes) start len) ≡ Err e)
     refused bytes e h = unless_then (is_memory e) (λ p. refused_so bytes e p) h
 
   -- ---- Whatever the file has.
@@ -113,12 +113,12 @@ module _ (y : Symbols) (w : Standing) (start len : Option Tree) (s : Spot) (at :
   -- a name whose scope isn't there
   pub unread_lost : (scope : ℕ) (e : AsmFault) → scope ≡ w.scope → Unless (is_memory e) (checks (lost scope) ≡ Err e) → Unless (is_memory e) (checks (unread_fault y w start len) ≡ Err e)
   unread_lost scope e here h =
-      refused_first e (lost w.scope) (operand_fault y (spot_of w) (file_part None start len)) tt
+      refused_first e (lost w.scope) (operand_fault y (spot_of w) (FilePart None start len)) tt
       (subst (λ k. Unless (is_memory e) (checks (lost k) ≡ Err e)) here h)
 
   module _ (scope : ℕ) (here : scope ≡ w.scope) (none : checks (lost scope) ≡ Ok tt) where
     behind_lost : checks (unread_fault y w start len) ≡ checks (when (not (there y w start len)) BadOperand)
-    behind_lost = ap checks (left_behind (lost w.scope) (operand_fault y (spot_of w) (file_part None start len)) tt tt (subst (λ k. checks (lost k) ≡ Ok tt) here none))
+    behind_lost = ap checks (left_behind (lost w.scope) (operand_fault y (spot_of w) (FilePart None start len)) tt tt (subst (λ k. checks (lost k) ≡ Ok tt) here none))
 
     not_there : (e : AsmFault) → there y w start len ≡ false → e ≡ BadOperand → checks (unread_fault y w start len) ≡ Err e
     not_there e not_so is = behind_lost ∙ ap (λ b. checks (when (not b) BadOperand)) not_so ∙ ap (λ d. Err d) (sym is)

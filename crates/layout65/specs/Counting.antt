@@ -1,18 +1,19 @@
 -- How much statements open, and what the code's numbers have room for.
 use Rattle.std.specs.Prelude.{ℕ, ◌<◌, ◌≤◌, List, length}
 use Rattle.std.specs.List.{AllByRecursion}
-use Rattle.language65.specs.Language.{Stated, label, open_proc, open_scope, segment, unnamed_label}
+use Rattle.language65.specs.declared.language.Statement.{Statement}
+use Rattle.language65.specs.declared.language.Statement.TheVariants.{Label, OpenProc, OpenScope, Segment, UnnamedLabel}
 use Rattle.language65.specs.Names.{enclosing}
 use Rattle.language65.specs.Symbols.{Scope, Symbols}
 use Rattle.layout65.specs.declared.standing.Standing.{Standing}
 
 -- whether a statement opens something that is counted: a scope, a region, a segment, an unnamed label
-abbrev pub opened_by : Stated → ℕ
-opened_by (label n) = 1
+abbrev pub opened_by : Statement → ℕ
+opened_by (Label n) = 1
 opened_by unnamed_label = 1
-opened_by (open_scope n) = 1
-opened_by (open_proc n) = 1
-opened_by (segment n size) = 1
+opened_by (OpenScope n) = 1
+opened_by (OpenProc n) = 1
+opened_by (Segment n size) = 1
 opened_by _ = 0
 
 -- each scope is opened within one of so many

@@ -9,7 +9,8 @@ use Rattle.language65.specs.declared.fault.AsmFault.TheVariants.{BadOperand, Bad
 use Rattle.language65.specs.Faults.{is_memory}
 use Rattle.language65.specs.declared.laid.Settled.{Settled}
 use Rattle.language65.specs.declared.laid.Spot.{Spot}
-use Rattle.language65.specs.Language.{Stated, align, constant, file_part, instruction, reserve, values}
+use Rattle.language65.specs.declared.language.Statement.{Statement}
+use Rattle.language65.specs.declared.language.Statement.TheVariants.{Align, Constant, FilePart, Instruction, Reserve, Values}
 use Rattle.language65.specs.Layout.{Standing, multiple_of, own_size, size_stated, spot_of}
 use Rattle.language65.specs.LineFaults.{alignment_fault, block_fault, defined_twice, file_limit, first_fault, form_fault, is_open, is_part, left_from, line_fault, lost_scopes, missing_file, opened_twice, operand_fault, optional_tree, or_then, part_fault, pop_fault, scope_name, size_fault, stands_outside, trees_of, unless_there, when, unless_fault}
 use Rattle.language65.specs.Names.{scope_from, scopes_of, shown}
@@ -17,7 +18,7 @@ use Rattle.language65.specs.Sizes.{counted, length_of, settled_of}
 use Rattle.language65.specs.Symbols.{Scope, Symbols, key_defined}
 use Rattle.layout65.specs.declared.measuring.Measured.{Measured}
 
-abbrev pub measure_of : Symbols → Standing → Stated → Measured
+abbrev pub measure_of : Symbols → Standing → Statement → Measured
 measure_of y w x = record {
   length = length_of y (spot_of w) (own_size w) x;
   size = size_stated y (spot_of w) (own_size w) x;
@@ -26,7 +27,7 @@ measure_of y w x = record {
 }
 
 -- that, or the first fault of the statement
-abbrev pub measured : Symbols → Standing → Stated → Result Measured AsmFault
+abbrev pub measured : Symbols → Standing → Statement → Result Measured AsmFault
 measured y w x = unless_fault (line_fault y w x) (measure_of y w x)
 
 -- ---- Faults in their groups.
@@ -37,14 +38,14 @@ lost_parts cs scope global parts =
     unless_there (scope_from cs scope global (scopes_of parts)) (NoSuchScope (shown global parts))
 
 -- what names and scopes refuse a statement for
-abbrev pub naming_fault : Symbols → Spot → Stated → Option AsmFault
+abbrev pub naming_fault : Symbols → Spot → Statement → Option AsmFault
 naming_fault y s x =
     or_then (when (stands_outside x && is_open s.scope) NotUnderstood)
     (or_then (lost_scopes y.scopes s.scope (trees_of x))
     (or_then (opened_twice y.scopes s.scope (scope_name x)) (defined_twice y (key_defined s x))))
 
 -- all faults behind them
-abbrev pub placing_faults : Symbols → Standing → Stated → List (Option AsmFault)
+abbrev pub placing_faults : Symbols → Standing → Statement → List (Option AsmFault)
 placing_faults y w x =
     let s : Spot = spot_of w in
     form_fault y s (own_size w) x
@@ -59,7 +60,7 @@ placing_faults y w x =
     ∷ []
 
 -- what a statement whose names are understood comes to, or its first fault of those
-abbrev pub placed : Symbols → Standing → Stated → Result Measured AsmFault
+abbrev pub placed : Symbols → Standing → Statement → Result Measured AsmFault
 placed y w x = unless_fault (first_fault (placing_faults y w x)) (measure_of y w x)
 
 -- so many bytes, if the section has room for them
@@ -68,13 +69,13 @@ fitted w count =
     unless_fault (when (nat_lt section_limit ((spot_of w).offset + count)) SectionTooLarge) count
 
 -- a statement that places no bytes and has no value that counts at its line
-abbrev pub is_bare : Stated → Bool
-is_bare (constant n e) = false
-is_bare (instruction m o) = false
-is_bare (values width items) = false
-is_bare (reserve n v) = false
-is_bare (align n v) = false
-is_bare (file_part bytes start len) = false
+abbrev pub is_bare : Statement → Bool
+is_bare (Constant n e) = false
+is_bare (Instruction m o) = false
+is_bare (Values width items) = false
+is_bare (Reserve n v) = false
+is_bare (Align n v) = false
+is_bare (FilePart bytes start len) = false
 is_bare _ = true
 
 -- ---- Parts of files.
@@ -94,7 +95,7 @@ IsFound value (Err e) =
 abbrev pub unread_fault : Symbols → Standing → Option Tree → Option Tree → Option AsmFault
 unread_fault y w start len =
     or_then (lost_scopes y.scopes w.scope (optional_tree start ++ optional_tree len))
-    (operand_fault y (spot_of w) (file_part None start len))
+    (operand_fault y (spot_of w) (FilePart None start len))
 
 -- a place among so many, or behind the last one
 abbrev pub is_within : ℕ → ℤ → Bool

@@ -14,7 +14,11 @@ use Rattle.object65.specs.declared.object.Action.{Action}
 use Rattle.language65.specs.Parts.{Content, Part, Said, Demanded}
 use Rattle.language65.specs.declared.fault.AsmFault.{AsmFault}
 use Rattle.language65.specs.Contents.{content_of, decided, each_of, export_said, import_fault, instruction_parts, item_part, opcode_part, operand_form, operand_part, operand_parts, operand_tree, stored, telling}
-use Rattle.language65.specs.Language.{Item, value, text, Operand, Stated, constant, instruction, values, imports, exports, globals, forced, assertion}
+use Rattle.language65.specs.declared.language.Item.{Item}
+use Rattle.language65.specs.declared.language.Operand.{Operand}
+use Rattle.language65.specs.declared.language.Statement.{Statement}
+use Rattle.language65.specs.declared.language.Statement.TheVariants.{Constant, Instruction, Values, Import, Export, Global, ForceImport, Assert}
+use Rattle.language65.specs.declared.language.Item.TheVariants.{Value, Text}
 use Rattle.source65.specs.declared.place.Place.{Place}
 use Rattle.language65.specs.Laid.{Laid, asks_section}
 use Rattle.language65.specs.declared.laid.Settled.{Settled}
@@ -90,8 +94,8 @@ part_told place g (Ok x) f = part_made place g (f x)
 part_told place g (Err e) f = refl
 
 item_made : (y : Symbols) (l : Laid) (width : Width) (it : Item) → piece_made y l.place l.spot (item_piece width it) ≡ told l.place [] (λ p. part l.spot.segment p ∷ []) (item_part y l width it)
-item_made y l width (value e) = part_told l.place l.spot.segment (norm_of y l.spot e) (stored width l.place)
-item_made y l width (text bytes) = refl
+item_made y l width (Value e) = part_told l.place l.spot.segment (norm_of y l.spot e) (stored width l.place)
+item_made y l width (Text bytes) = refl
 
 cons_told : (place : Place) (g : ℕ) (r : Result Part AsmFault) (s : Result (List Part) AsmFault) → after (told place [] (λ p. part g p ∷ []) r) (told place [] (parts_entries g) s) ≡ told place [] (parts_entries g) (r >>= (λ p. s >>= (λ ps. Ok (p ∷ ps))))
 cons_told place g (Ok p) (Ok ps) = refl
@@ -205,7 +209,7 @@ asserted_made place s act words (Err e) = refl
 
 -- ---- Statements.
 
-abbrev laid_with : Stated → Place → Spot → ℕ → AddressSize → Settled → Laid
+abbrev laid_with : Statement → Place → Spot → ℕ → AddressSize → Settled → Laid
 laid_with x place s len own settled = record { stated = x; place = place; spot = s; length = len; size = own; settled = settled }
 
 abbrev IsMadeOfPieces : Symbols → Laid → Type 0
@@ -218,29 +222,29 @@ by_parts y l g asks r pieces h = only_parts l.place g asks r ∙ ap (after (reco
 by_said : (place : Place) (g : ℕ) (asks : Bool) (said : List ℕ) (r : Result (List Said) AsmFault) (pieces : Finished Entry) → pieces ≡ told place said said_entries r → told place said entries_of (r >>= (λ ss. Ok (with_parts g asks [] ss))) ≡ after (record { found = Ok (asked_by g asks); warned = [] }) pieces
 by_said place g asks said r pieces h = only_said place g asks said r ∙ ap (after (record { found = Ok (asked_by g asks); warned = [] })) (sym h)
 
-made_with : (y : Symbols) (x : Stated) (place : Place) (s : Spot) (len : ℕ) (own : AddressSize) (settled : Settled) → IsMadeOfPieces y (laid_with x place s len own settled)
-made_with y (instruction m o) place s len own settled =
-    let l = laid_with (instruction m o) place s len own settled in
+made_with : (y : Symbols) (x : Statement) (place : Place) (s : Spot) (len : ℕ) (own : AddressSize) (settled : Settled) → IsMadeOfPieces y (laid_with x place s len own settled)
+made_with y (Instruction m o) place s len own settled =
+    let l = laid_with (Instruction m o) place s len own settled in
     by_parts y l s.segment true (instruction_parts y l m o settled) (pieces_made y place s (instruction_pieces m o settled)) (instruction_made y l m o settled)
-made_with y (values width its) place s len own settled =
-    let l = laid_with (values width its) place s len own settled in
+made_with y (Values width its) place s len own settled =
+    let l = laid_with (Values width its) place s len own settled in
     by_parts y l s.segment true (each (item_part y l width) its) (pieces_made y place s (map (item_piece width) its)) (items_made y l width its)
-made_with y (constant n e) place s len own settled =
-    by_said place s.segment (asks_section (constant n e)) [] (norm_of y s e >>= (λ f. Ok [])) (pieces_made y place s (valued equated e ∷ [])) (one_piece y place s (valued equated e) ∙ equated_made place (norm_of y s e))
-made_with y (imports size names) place s len own settled =
+made_with y (Constant n e) place s len own settled =
+    by_said place s.segment (asks_section (Constant n e)) [] (norm_of y s e >>= (λ f. Ok [])) (pieces_made y place s (valued equated e ∷ [])) (one_piece y place s (valued equated e) ∙ equated_made place (norm_of y s e))
+made_with y (Import size names) place s len own settled =
     by_said place s.segment false [] (each_of (import_fault y) names) (pieces_made y place s (map imported names)) (names_made y place s imported (import_fault y) (λ n. refl) names)
-made_with y (exports names) place s len own settled =
+made_with y (Export names) place s len own settled =
     let says : List ℕ → Result (List Said) AsmFault = λ n. export_said y place n (absent_of true n) (defined y (named 0 n)) in
     by_said place s.segment false [] (each_of says names) (pieces_made y place s (map (exported true) names)) (names_made y place s (exported true) says (λ n. refl) names)
-made_with y (globals size names) place s len own settled =
+made_with y (Global size names) place s len own settled =
     let says : List ℕ → Result (List Said) AsmFault = λ n. export_said y place n (absent_of false n) (defined y (named 0 n)) in
     by_said place s.segment false [] (each_of says names) (pieces_made y place s (map (exported false) names)) (names_made y place s (exported false) says (λ n. refl) names)
-made_with y (forced names) place s len own settled =
+made_with y (ForceImport names) place s len own settled =
     by_said place s.segment false [] (each_of (import_fault y) names >>= (λ none. Ok (map Demanded names))) (pieces_made y place s (map imported names ++ map demanded names)) (forced_made y place s names)
-made_with y (assertion e act words) place s len own settled =
+made_with y (Assert e act words) place s len own settled =
     let r : Result (List Said) AsmFault = norm_of y s e >>= decided act place words in
     let said : List ℕ = failed place act words (norm_of y s e) in
-    by_said place s.segment (asks_section (assertion e act words)) said r (pieces_made y place s (valued (p.asserted act words) e ∷ [])) (one_piece y place s (valued (p.asserted act words) e) ∙ asserted_made place s act words (norm_of y s e))
+    by_said place s.segment (asks_section (Assert e act words)) said r (pieces_made y place s (valued (p.asserted act words) e ∷ [])) (one_piece y place s (valued (p.asserted act words) e) ∙ asserted_made place s act words (norm_of y s e))
 made_with y _ place s len own settled = refl
 
 pub made_of_pieces : (y : Symbols) (l : Laid) → IsMadeOfPieces y l

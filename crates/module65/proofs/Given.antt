@@ -10,7 +10,8 @@ use Rattle.syntax65.specs.declared.lexing.tokens.TokenKind.{TokenKind}
 use Rattle.syntax65.specs.declared.lexing.tokens.TokenKind.TheVariants as token
 use Rattle.language65.specs.declared.fault.AsmFault.{AsmFault}
 use Rattle.language65.specs.Faults.{is_outside}
-use Rattle.language65.specs.Language.{Stated, label, unnamed_label}
+use Rattle.language65.specs.declared.language.Statement.{Statement}
+use Rattle.language65.specs.declared.language.Statement.TheVariants.{Label, UnnamedLabel}
 use Rattle.source65.specs.declared.place.Place.{Place}
 use Rattle.statements65.specs.Parsing.{IsStatement, is_colon, label_before, label_of, named_label, or_all, with_rest}
 use Rattle.module65.specs.Module.{out_of, warning_of}
@@ -30,25 +31,25 @@ reaches_then P Q Holds (Err e) f h = unless_then (is_outside e) (f (Err e)) h
 
 -- ---- A label prints nothing.
 
-abbrev IsQuiet : Option Stated → Type 0
-IsQuiet o = (place : Place) (x : Stated) → o ≡ Some x → (out_of x ≡ []) × (warning_of place x ≡ [])
+abbrev IsQuiet : Option Statement → Type 0
+IsQuiet o = (place : Place) (x : Statement) → o ≡ Some x → (out_of x ≡ []) × (warning_of place x ≡ [])
 
 none_quiet : IsQuiet None
 none_quiet place x e = absurd cc
 
-one_quiet : (y : Stated) → out_of y ≡ [] → ((place : Place) → warning_of place y ≡ []) → IsQuiet (Some y)
+one_quiet : (y : Statement) → out_of y ≡ [] → ((place : Place) → warning_of place y ≡ []) → IsQuiet (Some y)
 one_quiet y out err place x e = let same : y ≡ x = cc in (subst (λ z. out_of z ≡ []) same out, subst (λ z. warning_of place z ≡ []) same (err place))
 
 named_quiet : (k : TokenKind) (n : List ℕ) → IsQuiet (named_label k n)
 named_quiet token.Identifier n = by (is_reserved n)
   where
-    by : (b : Bool) → IsQuiet (if b then None else Some (label n))
+    by : (b : Bool) → IsQuiet (if b then None else Some (Label n))
     by true = none_quiet
-    by false = one_quiet (label n) refl (λ place. refl)
+    by false = one_quiet (Label n) refl (λ place. refl)
 named_quiet token.CheapName n = λ place x e. one_quiet _ refl (λ p. refl) place x e
 named_quiet _ n = none_quiet
 
-rest_quiet : (all ts : List Lexeme) (o : Option Stated) → IsQuiet o → IsQuiet (or_all all (with_rest ts o)).0
+rest_quiet : (all ts : List Lexeme) (o : Option Statement) → IsQuiet o → IsQuiet (or_all all (with_rest ts o)).0
 rest_quiet all ts None h = none_quiet
 rest_quiet all ts (Some x) h = h
 
@@ -64,8 +65,8 @@ pub label_quiet : (ts : List Lexeme) → IsQuiet (label_of ts).0
 label_quiet [] = none_quiet
 label_quiet (t ∷ ts) = by (is_colon t)
   where
-    by : (b : Bool) → IsQuiet (or_all (t ∷ ts) (if b then Some (unnamed_label, ts) else label_before t ts)).0
-    by true = one_quiet unnamed_label refl (λ place. refl)
+    by : (b : Bool) → IsQuiet (or_all (t ∷ ts) (if b then Some (UnnamedLabel, ts) else label_before t ts)).0
+    by true = one_quiet UnnamedLabel refl (λ place. refl)
     by false = before_quiet (t ∷ ts) t ts
 
 -- ---- What stands behind it.
@@ -77,7 +78,7 @@ pub rest_fault : {S : Type 0} (m : Files) (Takes : Taking S) (y : S) (place : Pl
 rest_fault m Takes y place [] e some h = absurd (some refl)
 rest_fault m Takes y place (t ∷ ts) e some h = unless_then (is_outside e) (λ g. (Err e, g, refl)) h
 
-pub rest_then : {S : Type 0} (m : Files) (Takes : Taking S) (Holds : S → Type 0) (y : S) (place : Place) (ts : List Lexeme) (x : Stated) (r : Made) → (ts ≡ [] → ⊥) → IsStatement ts (Ok x) → Answers (Takes y place (with_bytes m place x)) Holds r → Answers (IsRest m Takes y place ts) Holds r
+pub rest_then : {S : Type 0} (m : Files) (Takes : Taking S) (Holds : S → Type 0) (y : S) (place : Place) (ts : List Lexeme) (x : Statement) (r : Made) → (ts ≡ [] → ⊥) → IsStatement ts (Ok x) → Answers (Takes y place (with_bytes m place x)) Holds r → Answers (IsRest m Takes y place ts) Holds r
 rest_then m Takes Holds y place [] x r some is h = absurd (some refl)
 rest_then m Takes Holds y place (t ∷ ts) x r some is h = reaches_then (Takes y place (with_bytes m place x)) (IsRest m Takes y place (t ∷ ts)) Holds r (λ q g. (Ok x, is, g)) h
 
@@ -91,14 +92,14 @@ some_tokens (t ∷ ts) some e = cc
 
 -- ---- A label.
 
-abbrev LabelOf : {S : Type 0} → Files → Taking S → S → Place → (Option Stated × List Lexeme) → Result S AsmFault → Type 0
+abbrev LabelOf : {S : Type 0} → Files → Taking S → S → Place → (Option Statement × List Lexeme) → Result S AsmFault → Type 0
 LabelOf m Takes y place p r = (q : Result _ AsmFault) × IsLabelled Takes y place p.0 q × First q (λ z. IsRest m Takes z place p.1) r
 
 pub label_none : {S : Type 0} (Takes : Taking S) (Holds : S → Type 0) (y : S) (place : Place) → Holds y → Answers {X = Unit {0}} (IsLabelled Takes y place None) Holds (Ok tt)
 label_none Takes Holds y place h = (y, refl, h)
 
-pub label_faulty : {S : Type 0} (m : Files) (Takes : Taking S) (y : S) (place : Place) (ts rest : List Lexeme) (l : Option Stated) (e : AsmFault) → label_of ts ≡ (l, rest) → Unless (is_outside e) (IsLabelled Takes y place l (Err e)) → Unless (is_outside e) (IsLabel m Takes y place ts (Err e))
+pub label_faulty : {S : Type 0} (m : Files) (Takes : Taking S) (y : S) (place : Place) (ts rest : List Lexeme) (l : Option Statement) (e : AsmFault) → label_of ts ≡ (l, rest) → Unless (is_outside e) (IsLabelled Takes y place l (Err e)) → Unless (is_outside e) (IsLabel m Takes y place ts (Err e))
 label_faulty m Takes y place ts rest l e is h = unless_then (is_outside e) (λ g. subst (λ p. LabelOf m Takes y place p (Err e)) (sym is) (Err e, g, refl)) h
 
-pub label_then : {S : Type 0} (m : Files) (Takes : Taking S) (Holds : S → Type 0) (y z : S) (place : Place) (ts rest : List Lexeme) (l : Option Stated) (r : Made) → label_of ts ≡ (l, rest) → IsLabelled Takes y place l (Ok z) → Answers (IsRest m Takes z place rest) Holds r → Answers (IsLabel m Takes y place ts) Holds r
+pub label_then : {S : Type 0} (m : Files) (Takes : Taking S) (Holds : S → Type 0) (y z : S) (place : Place) (ts rest : List Lexeme) (l : Option Statement) (r : Made) → label_of ts ≡ (l, rest) → IsLabelled Takes y place l (Ok z) → Answers (IsRest m Takes z place rest) Holds r → Answers (IsLabel m Takes y place ts) Holds r
 label_then m Takes Holds y z place ts rest l r is e h = reaches_then (IsRest m Takes z place rest) (IsLabel m Takes y place ts) Holds r (λ q g. subst (λ p. LabelOf m Takes y place p q) (sym is) (Ok z, e, g)) h

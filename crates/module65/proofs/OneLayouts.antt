@@ -12,7 +12,8 @@ use Rattle.expand65.specs.State as expand
 use Rattle.reader65.specs.Left.{Stop}
 use Rattle.language65.specs.declared.fault.AsmFault.{AsmFault}
 use Rattle.language65.specs.declared.fault.AsmFault.TheVariants.{Expansion}
-use Rattle.language65.specs.Language.{Stated, constant}
+use Rattle.language65.specs.declared.language.Statement.{Statement}
+use Rattle.language65.specs.declared.language.Statement.TheVariants.{Constant}
 use Rattle.language65.specs.Layout.{Layout, nothing_laid}
 use Rattle.statements65.specs.Parsing.{IsStatement, label_of}
 use Rattle.statements65.proofs.OneStatements.{One, followed_one, made_one, same_one, statement_one}
@@ -23,7 +24,7 @@ use Rattle.module65.specs.Reading.{AreDefined, AreTaken, taken, faulty, refused,
 
 -- ---- A statement.
 
-labelled_one : (y : Layout) (place : Place) (o : Option Stated) → One (IsLabelled IsLaid y place o)
+labelled_one : (y : Layout) (place : Place) (o : Option Statement) → One (IsLabelled IsLaid y place o)
 labelled_one y place None = same_one (Ok y)
 labelled_one y place (Some x) = same_one (with_statement y place x)
 
@@ -96,7 +97,7 @@ taken_one m s y p q (ended _ t _ h) k = by q k
 
 defined_one : (y : Layout) (place : Place) (ds : List Define) → One (AreDefined IsLaid y place ds)
 defined_one y place [] = same_one (Ok y)
-defined_one y place (d ∷ ds) = followed_one (IsLaid y place (constant d.0 (number d.1))) (λ q. q) (λ z. AreDefined IsLaid z place ds) (same_one (with_statement y place (constant d.0 (number d.1)))) (λ z. defined_one z place ds)
+defined_one y place (d ∷ ds) = followed_one (IsLaid y place (Constant d.0 (number d.1))) (λ q. q) (λ z. AreDefined IsLaid z place ds) (same_one (with_statement y place (Constant d.0 (number d.1)))) (λ z. defined_one z place ds)
 
 follows_one : (m : Files) (s : expand.State) (place : Place) (y : Layout) (q : Result Layout AsmFault) → One (Follows m laying s place y q)
 follows_one m s place y (Ok z) r t h k = taken_one m s z r t h k

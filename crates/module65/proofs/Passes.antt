@@ -7,7 +7,7 @@ use Rattle.object65.specs.declared.object.Object.{Object}
 use Rattle.language65.specs.Parts.{Content}
 use Rattle.language65.specs.declared.contents.Segment.{Segment}
 use Rattle.language65.specs.declared.fault.AsmFault.{AsmFault}
-use Rattle.language65.specs.Language.{Stated}
+use Rattle.language65.specs.declared.language.Statement.{Statement}
 use Rattle.source65.specs.declared.place.Place.{Place}
 use Rattle.language65.specs.Laid.{Laid, asks_section}
 use Rattle.language65.specs.declared.laid.Spot.{Spot}
@@ -129,7 +129,7 @@ pub record Follows (y : Layout) (t : State) : Type 0 where
   pub comes : Comes (symbols_of y.laid) slots waiting (λ z. all_made z y.laid)
 
 -- what is known behind a statement is what is known of it and those before it
-known_for : (y : Layout) (place : Place) (x : Stated) (slots : List Slot) (ws : List Waiting) → known (state_for y slots ws) (laid (symbols_of y.laid) y.standing place x) ≡ state_for (layout_behind y place x) slots ws
+known_for : (y : Layout) (place : Place) (x : Statement) (slots : List Slot) (ws : List Waiting) → known (state_for y slots ws) (laid (symbols_of y.laid) y.standing place x) ≡ state_for (layout_behind y place x) slots ws
 known_for y place x slots ws =
     let l = laid (symbols_of y.laid) y.standing place x in
     let z = symbols_behind (symbols_of y.laid) l in
@@ -159,7 +159,7 @@ asked_follows y slots ws l c = by (asks_section l.stated) refl
       comes = subst (λ b. Comes (symbols_of y.laid) slots ws (λ z. after (all_made z y.laid) (record { found = Ok (asked_by l.spot.segment b); warned = [] }))) (sym e) (comes_same (symbols_of y.laid) slots ws (λ z. all_made z y.laid) (λ z. after (all_made z y.laid) nothing) (λ z h. sym (after_nothing (all_made z y.laid))) c);
     }
 
-statement_follows : (y : Layout) (slots : List Slot) (ws : List Waiting) (place : Place) (x : Stated) (u : State) → Comes (symbols_of y.laid) slots ws (λ z. all_made z y.laid) → (let l : Laid = laid (symbols_of y.laid) y.standing place x in PutsAll place l.spot (asked (state_for y slots ws) l) (pieces_of l.length l.settled x) u → Follows (layout_behind y place x) (known u l))
+statement_follows : (y : Layout) (slots : List Slot) (ws : List Waiting) (place : Place) (x : Statement) (u : State) → Comes (symbols_of y.laid) slots ws (λ z. all_made z y.laid) → (let l : Laid = laid (symbols_of y.laid) y.standing place x in PutsAll place l.spot (asked (state_for y slots ws) l) (pieces_of l.length l.settled x) u → Follows (layout_behind y place x) (known u l))
 statement_follows y slots ws place x u c puts =
     let l = laid (symbols_of y.laid) y.standing place x in
     let ps = pieces_of l.length l.settled x in
@@ -179,7 +179,7 @@ statement_follows y slots ws place x u c puts =
       };
     }
 
-step_follows : (y : Layout) (slots : List Slot) (ws : List Waiting) (place : Place) (x : Stated) (r : Result State AsmFault) → Comes (symbols_of y.laid) slots ws (λ z. all_made z y.laid) → (o : Option AsmFault) → UnlessFault o (Steps (state_for y slots ws) (laid (symbols_of y.laid) y.standing place x)) r → Matches Follows (λ q. q ≡ unless_fault o (layout_behind y place x)) r
+step_follows : (y : Layout) (slots : List Slot) (ws : List Waiting) (place : Place) (x : Statement) (r : Result State AsmFault) → Comes (symbols_of y.laid) slots ws (λ z. all_made z y.laid) → (o : Option AsmFault) → UnlessFault o (Steps (state_for y slots ws) (laid (symbols_of y.laid) y.standing place x)) r → Matches Follows (λ q. q ≡ unless_fault o (layout_behind y place x)) r
 step_follows y slots ws place x r c (Some e) is = subst (Matches Follows (λ q. q ≡ Err e)) (sym is) refl
 step_follows y slots ws place x r c None is =
     let l = laid (symbols_of y.laid) y.standing place x in
@@ -272,7 +272,7 @@ all_wait place s t (p ∷ ps) =
     let rest = all_wait place s v ps in
     (rest.0, (v, later, rest.1))
 
-laid_steps : (y : Layout) (slots : List Slot) (ws : List Waiting) (place : Place) (x : Stated) → Comes (symbols_of y.laid) slots ws (λ z. all_made z y.laid) → (o : Option AsmFault) → Matches (λ t z. Follows z t) (λ q. UnlessFault o (Steps (state_for y slots ws) (laid (symbols_of y.laid) y.standing place x)) q) (unless_fault o (layout_behind y place x))
+laid_steps : (y : Layout) (slots : List Slot) (ws : List Waiting) (place : Place) (x : Statement) → Comes (symbols_of y.laid) slots ws (λ z. all_made z y.laid) → (o : Option AsmFault) → Matches (λ t z. Follows z t) (λ q. UnlessFault o (Steps (state_for y slots ws) (laid (symbols_of y.laid) y.standing place x)) q) (unless_fault o (layout_behind y place x))
 laid_steps y slots ws place x c (Some e) = refl
 laid_steps y slots ws place x c None =
     let l = laid (symbols_of y.laid) y.standing place x in

@@ -10,7 +10,8 @@ use Rattle.source65.specs.declared.place.Place.{Place}
 use Rattle.expand65.specs.Expansion.{Next, Reaches, statement, nothing, fault, opened_in}
 use Rattle.expand65.specs.State as expand
 use Rattle.language65.specs.declared.fault.AsmFault.{AsmFault}
-use Rattle.language65.specs.Language.{Stated, constant}
+use Rattle.language65.specs.declared.language.Statement.{Statement}
+use Rattle.language65.specs.declared.language.Statement.TheVariants.{Constant}
 use Rattle.statements65.specs.Parsing.{IsStatement, label_of}
 use Rattle.module65.specs.Reading.{AreDefined, AreTaken, taken, faulty, refused, ended, Between, Define, Follows, IsBegun, IsGiven, IsLabel, IsLabelled, IsRest, IsSource, Job, Reached, Taking, no_line, open_fault, with_bytes}
 
@@ -24,7 +25,7 @@ MatchesAll R P r = (z : _) × P (record { behind = z; fault = r.fault }) × R z 
 
 -- whatever one kind takes, the other takes
 abbrev pub Simulates : {A B : Type 0} → (A → B → Type 0) → Taking A → Taking B → Type 0
-Simulates R TakesA TakesB = (y : _) (t : _) (place : Place) (x : Stated) (r : Result _ AsmFault) → R y t → TakesB t place x r → Matches R (TakesA y place x) r
+Simulates R TakesA TakesB = (y : _) (t : _) (place : Place) (x : Statement) (r : Result _ AsmFault) → R y t → TakesB t place x r → Matches R (TakesA y place x) r
 
 -- and names, expressions and scopes are the same to both
 pub record StandIn {A B : Type 0} (R : A → B → Type 0) (a : Between A) (b : Between B) : Type 0 where
@@ -41,7 +42,7 @@ matches_then R P Q f (Err e) m = f (Err e) m
 matches_same : {A B : Type 0} (R : A → B → Type 0) (P : Result A AsmFault → Type 0) (r s : Result B AsmFault) → s ≡ r → Matches R P s → Matches R P r
 matches_same R P r s e m = subst (Matches R P) e m
 
-labelled_matches : {A B : Type 0} (R : A → B → Type 0) (TakesA : Taking A) (TakesB : Taking B) → Simulates R TakesA TakesB → (y : A) (t : B) (place : Place) (o : Option Stated) (r : Result B AsmFault) → R y t → IsLabelled TakesB t place o r → Matches R (IsLabelled TakesA y place o) r
+labelled_matches : {A B : Type 0} (R : A → B → Type 0) (TakesA : Taking A) (TakesB : Taking B) → Simulates R TakesA TakesB → (y : A) (t : B) (place : Place) (o : Option Statement) (r : Result B AsmFault) → R y t → IsLabelled TakesB t place o r → Matches R (IsLabelled TakesA y place o) r
 labelled_matches R TakesA TakesB sim y t place None r stands is = matches_same R (IsLabelled TakesA y place None) r (Ok t) (sym is) (y, refl, stands)
 labelled_matches R TakesA TakesB sim y t place (Some x) r stands is = sim y t place x r stands is
 
@@ -49,7 +50,7 @@ rest_matches : {A B : Type 0} (m : Files) (R : A → B → Type 0) (TakesA : Tak
 rest_matches m R TakesA TakesB sim y t place [] r stands is = matches_same R (IsRest m TakesA y place []) r (Ok t) (sym is) (y, refl, stands)
 rest_matches m R TakesA TakesB sim y t place (k ∷ ts) r stands is = by is.0 is.1 is.2
   where
-    by : (x : Result Stated AsmFault) → IsStatement (k ∷ ts) x → First x (λ s. TakesB t place (with_bytes m place s)) r → Matches R (IsRest m TakesA y place (k ∷ ts)) r
+    by : (x : Result Statement AsmFault) → IsStatement (k ∷ ts) x → First x (λ s. TakesB t place (with_bytes m place s)) r → Matches R (IsRest m TakesA y place (k ∷ ts)) r
     by (Ok x) says takes = matches_then R (TakesA y place (with_bytes m place x)) (IsRest m TakesA y place (k ∷ ts)) (λ s h. (Ok x, says, h)) r (sim y t place (with_bytes m place x) r stands takes)
     by (Err e) says takes = matches_same R (IsRest m TakesA y place (k ∷ ts)) r (Err e) (sym takes) (Err e, says, refl)
 
@@ -88,9 +89,9 @@ taken_matches R a b for m s y t r stands (ended _ u _ h) =
 defined_matches : {A B : Type 0} (R : A → B → Type 0) (TakesA : Taking A) (TakesB : Taking B) → Simulates R TakesA TakesB → (y : A) (t : B) (place : Place) (ds : List Define) (r : Result B AsmFault) → R y t → AreDefined TakesB t place ds r → Matches R (AreDefined TakesA y place ds) r
 defined_matches R TakesA TakesB sim y t place [] r stands is = matches_same R (AreDefined TakesA y place []) r (Ok t) (sym is) (y, refl, stands)
 defined_matches R TakesA TakesB sim y t place (d ∷ ds) r stands is =
-    by is.0 is.2 (sim y t place (constant d.0 (number d.1)) is.0 stands is.1) (λ z u. defined_matches R TakesA TakesB sim z u place ds r)
+    by is.0 is.2 (sim y t place (Constant d.0 (number d.1)) is.0 stands is.1) (λ z u. defined_matches R TakesA TakesB sim z u place ds r)
   where
-    by : (q : Result _ AsmFault) → First q (λ z. AreDefined TakesB z place ds) r → Matches R (TakesA y place (constant d.0 (number d.1))) q → ((z : _) (u : _) → R z u → AreDefined TakesB u place ds r → Matches R (AreDefined TakesA z place ds) r) → Matches R (AreDefined TakesA y place (d ∷ ds)) r
+    by : (q : Result _ AsmFault) → First q (λ z. AreDefined TakesB z place ds) r → Matches R (TakesA y place (Constant d.0 (number d.1))) q → ((z : _) (u : _) → R z u → AreDefined TakesB u place ds r → Matches R (AreDefined TakesA z place ds) r) → Matches R (AreDefined TakesA y place (d ∷ ds)) r
     by (Ok u) rest m more = matches_then R (AreDefined TakesA m.0 place ds) (AreDefined TakesA y place (d ∷ ds)) (λ s h. (Ok m.0, m.1, h)) r (more m.0 u m.2 rest)
     by (Err e) same m more = matches_same R (AreDefined TakesA y place (d ∷ ds)) r (Err e) (sym same) (Err e, m, refl)
 

@@ -16,7 +16,8 @@ use Rattle.language65.specs.Contents.{content_of, parts_of, said_of}
 use Rattle.module65.specs.Places.{at_place}
 use Rattle.source65.specs.declared.place.Place.{Place}
 use Rattle.language65.specs.Laid.{Laid, asks_section}
-use Rattle.language65.specs.Language as l
+use Rattle.language65.specs.declared.language.Statement.{Statement}
+use Rattle.language65.specs.declared.language.Statement.TheVariants as statement
 use Rattle.module65.specs.Laws.{SoundContents}
 use Rattle.module65.specs.Module.{contents_from}
 use Rattle.language65.specs.Symbols.{Symbols, imported, imports_of, symbols_of, with_new}
@@ -72,10 +73,10 @@ new_names (n ∷ ns) known h (good, all) = new_names ns (if list_any (λ k. byte
     go true e = h
     go false e = names_push known n h good e
 
-imports_named : (x : l.Stated) → IsSound x → AllByRecursion (λ n. is_name n ≡ true) (imports_of x)
-imports_named (l.imports own names) h = names_all names h
-imports_named (l.globals own names) h = names_all names h
-imports_named (l.forced names) h = names_all names h
+imports_named : (x : Statement) → IsSound x → AllByRecursion (λ n. is_name n ≡ true) (imports_of x)
+imports_named (statement.Import own names) h = names_all names h
+imports_named (statement.Global own names) h = names_all names h
+imports_named (statement.ForceImport names) h = names_all names h
 imports_named _ h = tt
 
 all_names : (ls : List Laid) (known : List (List ℕ)) → are_names known ≡ true → AllByRecursion (λ l. IsSound l.stated) ls → are_names (with_new known (flat_map (λ l. imports_of l.stated) ls)) ≡ true

@@ -9,7 +9,8 @@ use Rattle.object65.specs.Form.{Form}
 use Rattle.object65.specs.Folding.{fold1, fold2}
 use Rattle.language65.specs.declared.fault.AsmFault.{AsmFault}
 use Rattle.language65.specs.declared.fault.AsmFault.TheVariants.{Undefined, NoSuchScope, NoSuchLabel}
-use Rattle.language65.specs.Language.{Stated, label, cheap_label, unnamed_label, constant, open_proc}
+use Rattle.language65.specs.declared.language.Statement.{Statement}
+use Rattle.language65.specs.declared.language.Statement.TheVariants.{Label, CheapLabel, UnnamedLabel, Constant, OpenProc}
 use Rattle.language65.specs.Laid.{Laid, asks_section, has_here}
 use Rattle.language65.specs.declared.laid.Spot.{Spot}
 use Rattle.language65.specs.Names.{Meaning, defined_at, imported_as, backward_meaning, first_found, last_of, meaning_of, member_meaning, or_fault, plain_meaning, scope_from, scoped_meaning, scopes_from, scopes_of, shown, unnamed_meaning}
@@ -143,12 +144,12 @@ export_well q r y pass j = meaning_well q r y (norm_of y) pass (norm_well q r y 
 
 -- ---- The definitions of statements that ask for their sections.
 
-one_passes : (q : ℕ → Bool) (s : Spot) (own : AddressSize) (x : Stated) → (asks_section x ≡ true → q s.segment ≡ true) → AllByRecursion (Passes q) (definition_with (key_defined s x) (value_defined x) s own)
-one_passes q s own (label n) h = (h refl, tt)
-one_passes q s own (cheap_label n) h = (h refl, tt)
-one_passes q s own unnamed_label h = (h refl, tt)
-one_passes q s own (open_proc n) h = (h refl, tt)
-one_passes q s own (constant n e) h = (h, tt)
+one_passes : (q : ℕ → Bool) (s : Spot) (own : AddressSize) (x : Statement) → (asks_section x ≡ true → q s.segment ≡ true) → AllByRecursion (Passes q) (definition_with (key_defined s x) (value_defined x) s own)
+one_passes q s own (Label n) h = (h refl, tt)
+one_passes q s own (CheapLabel n) h = (h refl, tt)
+one_passes q s own UnnamedLabel h = (h refl, tt)
+one_passes q s own (OpenProc n) h = (h refl, tt)
+one_passes q s own (Constant n e) h = (h, tt)
 one_passes q s own _ h = tt
 
 pub all_append : {X : Type 0} (P : X → Type 0) (xs ys : List X) → AllByRecursion P xs → AllByRecursion P ys → AllByRecursion P (xs ++ ys)

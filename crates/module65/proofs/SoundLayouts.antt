@@ -15,7 +15,8 @@ use Rattle.language65.specs.declared.fault.AsmFault.TheVariants.{NotUnderstood, 
 use Rattle.source65.specs.declared.place.Place.{Place}
 use Rattle.language65.specs.Laid.{Laid}
 use Rattle.language65.specs.declared.laid.Spot.{Spot}
-use Rattle.language65.specs.Language.{Stated, constant, segment, push_segment, pop_segment}
+use Rattle.language65.specs.declared.language.Statement.{Statement}
+use Rattle.language65.specs.declared.language.Statement.TheVariants as statement
 use Rattle.language65.specs.Layout.{Layout, Standing, current_behind, first_size, grown_at, kept_behind, laid, last_kept, layout_behind, multiple_of, named_segments, new_segment, nothing_laid, or_last, own_size, place_of, rest_kept, segment_at, segments_behind, size_stated, spot_of}
 use Rattle.language65.specs.LineFaults.{alignment_fault, block_fault, defined_twice, first_fault, form_fault, is_open, line_fault, lost_scopes, missing_file, opened_twice, operand_fault, part_fault, pop_fault, scope_name, size_fault, stands_outside, trees_of, when, unless_fault}
 use Rattle.module65.specs.Laying.{IsLaid}
@@ -36,7 +37,7 @@ not_when true e h = absurd cc
 not_when false e h = refl
 
 -- the faults of a statement at its line, in their order
-abbrev faults : Symbols → Standing → Stated → List (Option AsmFault)
+abbrev faults : Symbols → Standing → Statement → List (Option AsmFault)
 faults y w x =
     when (stands_outside x && is_open (spot_of w).scope) NotUnderstood
     ∷ lost_scopes y.scopes (spot_of w).scope (trees_of x)
@@ -53,7 +54,7 @@ faults y w x =
     ∷ when (nat_lt section_limit ((spot_of w).offset + length_of y (spot_of w) (own_size w) x)) SectionTooLarge
     ∷ []
 
-has_room : (y : Symbols) (w : Standing) (x : Stated) → line_fault y w x ≡ None → (segment_at w.segments w.current).end + length_of y (spot_of w) (own_size w) x ≤ section_limit
+has_room : (y : Symbols) (w : Standing) (x : Statement) → line_fault y w x ≡ None → (segment_at w.segments w.current).end + length_of y (spot_of w) (own_size w) x ≤ section_limit
 has_room y w x h =
     let all = none_all (faults y w x) h in
     let fits : nat_lt section_limit ((segment_at w.segments w.current).end + length_of y (spot_of w) (own_size w) x) ≡ false =
@@ -62,17 +63,17 @@ has_room y w x h =
 
 -- ---- Lengths.
 
-abbrev is_segment : Stated → Bool
-is_segment (segment n own) = true
+abbrev is_segment : Statement → Bool
+is_segment (statement.Segment n own) = true
 is_segment _ = false
 
 -- only a constant has a size of its own, and it places nothing
-same_length : (y : Symbols) (s : Spot) (own : AddressSize) (x : Stated) → length_of y s own x ≡ length_of y s (size_stated y s own x) x
-same_length y s own (constant n e) = refl
+same_length : (y : Symbols) (s : Spot) (own : AddressSize) (x : Statement) → length_of y s own x ≡ length_of y s (size_stated y s own x) x
+same_length y s own (statement.Constant n e) = refl
 same_length y s own x = refl
 
-same_settled : (y : Symbols) (s : Spot) (own : AddressSize) (x : Stated) → settled_of y s own x ≡ settled_of y s (size_stated y s own x) x
-same_settled y s own (constant n e) = refl
+same_settled : (y : Symbols) (s : Spot) (own : AddressSize) (x : Statement) → settled_of y s own x ≡ settled_of y s (size_stated y s own x) x
+same_settled y s own (statement.Constant n e) = refl
 same_settled y s own x = refl
 
 -- ---- What holds behind each statement.
@@ -193,24 +194,24 @@ rest_below : (count : ℕ) (kept : List ℕ) → are_below count kept → are_be
 rest_below count [] h = tt
 rest_below count (k ∷ kept) h = h.1
 
-good_current : (ls : List Laid) (w : Standing) (count multiple : ℕ) (x : Stated) → Good ls (segments_behind w.segments w.current count multiple x) w.current w.kept → Good ls (segments_behind w.segments w.current count multiple x) (current_behind w x) (kept_behind w x)
-good_current ls w count multiple (segment n own) good = good_move ls (named_segments w.segments n own (place_of w.segments n)) w.current (or_last w.segments (place_of w.segments n)) w.kept w.kept good (named_there w.segments n own (place_of w.segments n) refl) good.keeps
-good_current ls w count multiple push_segment good = good_move ls (grown_at w.segments w.current count multiple) w.current w.current w.kept (w.current ∷ w.kept) good good.here (good.here, good.keeps)
-good_current ls w count multiple pop_segment good =
+good_current : (ls : List Laid) (w : Standing) (count multiple : ℕ) (x : Statement) → Good ls (segments_behind w.segments w.current count multiple x) w.current w.kept → Good ls (segments_behind w.segments w.current count multiple x) (current_behind w x) (kept_behind w x)
+good_current ls w count multiple (statement.Segment n own) good = good_move ls (named_segments w.segments n own (place_of w.segments n)) w.current (or_last w.segments (place_of w.segments n)) w.kept w.kept good (named_there w.segments n own (place_of w.segments n) refl) good.keeps
+good_current ls w count multiple statement.PushSegment good = good_move ls (grown_at w.segments w.current count multiple) w.current w.current w.kept (w.current ∷ w.kept) good good.here (good.here, good.keeps)
+good_current ls w count multiple statement.PopSegment good =
     let gs : List Segment = grown_at w.segments w.current count multiple in
     good_move ls gs w.current (last_kept w.current w.kept) w.kept (rest_kept w.kept) good (last_below (length gs) w.current w.kept good.here good.keeps) (rest_below (length gs) w.kept good.keeps)
 good_current ls w count multiple x good = good
 
-good_laying : (ls : List Laid) (w : Standing) (count multiple : ℕ) (x : Stated) → Good ls w.segments w.current w.kept → IsSound x → (more : List Laid) → ((hs : List Segment) → Grows w.segments hs w.current count → Good more hs w.current w.kept) → (is_segment x ≡ true → count ≡ 0) → Good more (segments_behind w.segments w.current count multiple x) w.current w.kept
-good_laying ls w count multiple (segment n own) good sound more next none =
+good_laying : (ls : List Laid) (w : Standing) (count multiple : ℕ) (x : Statement) → Good ls w.segments w.current w.kept → IsSound x → (more : List Laid) → ((hs : List Segment) → Grows w.segments hs w.current count → Good more hs w.current w.kept) → (is_segment x ≡ true → count ≡ 0) → Good more (segments_behind w.segments w.current count multiple x) w.current w.kept
+good_laying ls w count multiple (statement.Segment n own) good sound more next none =
     good_named more w.segments w.current w.kept n own (place_of w.segments n) (next w.segments (subst (Grows w.segments w.segments w.current) (sym (none refl)) (grows_none w.segments w.current))) sound refl
 good_laying ls w count multiple x good sound more next none = next (grown_at w.segments w.current count multiple) (grows w.segments w.current count multiple good.here)
 
-segment_empty : (before : Symbols) (s : Spot) (own : AddressSize) (x : Stated) → is_segment x ≡ true → length_of before s own x ≡ 0
-segment_empty before s own (segment n size) h = refl
+segment_empty : (before : Symbols) (s : Spot) (own : AddressSize) (x : Statement) → is_segment x ≡ true → length_of before s own x ≡ 0
+segment_empty before s own (statement.Segment n size) h = refl
 segment_empty before s own x h = absurd cc
 
-good_step : (y : Layout) (place : Place) (x : Stated) → IsGood y → IsSound x → line_fault (symbols_of y.laid) y.standing x ≡ None → IsGood (layout_behind y place x)
+good_step : (y : Layout) (place : Place) (x : Statement) → IsGood y → IsSound x → line_fault (symbols_of y.laid) y.standing x ≡ None → IsGood (layout_behind y place x)
 good_step y place x good sound none =
     let w : Standing = y.standing in
     let z : Symbols = symbols_of y.laid in
@@ -220,7 +221,7 @@ good_step y place x good sound none =
     good_current (y.laid ++ l ∷ []) w l.length (multiple_of z (spot_of w) x) x
     (good_laying y.laid w l.length (multiple_of z (spot_of w) x) x good sound (y.laid ++ l ∷ []) (λ hs more. good_push y.laid w.segments hs w.current w.kept l good more refl sound measured room) (segment_empty z (spot_of w) (own_size w) x))
 
-pub good_statement : (y z : Layout) (place : Place) (x : Stated) → IsGood y → IsSound x → IsLaid y place x (Ok z) → IsGood z
+pub good_statement : (y z : Layout) (place : Place) (x : Statement) → IsGood y → IsSound x → IsLaid y place x (Ok z) → IsGood z
 good_statement y z place x good sound h = by (line_fault (symbols_of y.laid) y.standing x) refl h
   where
     by : (o : Option AsmFault) → line_fault (symbols_of y.laid) y.standing x ≡ o → Ok z ≡ unless_fault o (layout_behind y place x) → IsGood z

@@ -26,7 +26,12 @@ use Rattle.language65.specs.Laid.{Laid, asks_section, has_here}
 use Rattle.language65.specs.declared.laid.Settled.{Settled}
 use Rattle.language65.specs.declared.laid.Settled.TheVariants.{Unsettled, FromByte}
 use Rattle.language65.specs.declared.laid.Spot.{Spot}
-use Rattle.language65.specs.Language.{Item, value, text, Operand, no_operand, accumulator, immediate, address, indirect, indirect_x, indirect_y, Stated, instruction, values, reserve, align, file_part}
+use Rattle.language65.specs.declared.language.Item.{Item}
+use Rattle.language65.specs.declared.language.Operand.{Operand}
+use Rattle.language65.specs.declared.language.Statement.{Statement}
+use Rattle.language65.specs.declared.language.Statement.TheVariants.{Instruction, Values, Reserve, Align, FilePart}
+use Rattle.language65.specs.declared.language.Operand.TheVariants as operand
+use Rattle.language65.specs.declared.language.Item.TheVariants.{Value, Text}
 use Rattle.language65.specs.declared.language.Index.{Index}
 use Rattle.language65.specs.Norms.{constant_in, norm_of}
 use Rattle.language65.specs.Numbering.{imports_in}
@@ -104,8 +109,8 @@ stored_sound asked count width place (lit v) w = go (fits_width width v)
 stored_sound asked count width place f w = written_with (PartOf asked count (width_len width)) place (Waiting width place f) (λ e. ((form_at asked count place f w e, refl), refl))
 
 item_sound : (asked : List ℕ) (count : ℕ) (y : Symbols) → IsKnown asked count y → (l : Laid) → asked_in asked l.spot.segment ≡ true → (width : Width) (it : Item) → IfOk (item_part y l width it) (PartOf asked count (item_len width it))
-item_sound asked count y k l h width (value e) = well_then (IsWell (asked_in asked) (below count)) (PartOf asked count (width_len width)) (norm_of y l.spot e) (stored width l.place) (form_sound asked count y k l.spot e (λ a. h)) (λ f w. stored_sound asked count width l.place f w)
-item_sound asked count y k l h width (text bytes) = (tt, refl)
+item_sound asked count y k l h width (Value e) = well_then (IsWell (asked_in asked) (below count)) (PartOf asked count (width_len width)) (norm_of y l.spot e) (stored width l.place) (form_sound asked count y k l.spot e (λ a. h)) (λ f w. stored_sound asked count width l.place f w)
+item_sound asked count y k l h width (Text bytes) = (tt, refl)
 
 abbrev pub PartsOf : List ℕ → ℕ → ℕ → List Part → Type 0
 PartsOf asked count len ps = AllByRecursion (IsSoundPart asked count) ps × (sum_by part_len ps ≡ len)
@@ -177,15 +182,15 @@ branch_form m e (Some forced) r b = tt
 operand_mode : (before : Symbols) (s : Spot) (own : AddressSize) (m : Mnemonic) (o : Operand) → MayForm m (operand_tree o) (mode_of before s own m o)
 operand_mode before s own m no_operand = first_form m None Implied Accumulator (λ h. refl) (λ h. refl)
 operand_mode before s own m accumulator = first_form m None Accumulator Accumulator (λ h. refl) (λ h. refl)
-operand_mode before s own m (immediate e) = first_form m (Some e) Immediate Immediate (stored_behind e Immediate) (stored_behind e Immediate)
-operand_mode before s own m (address forced e r) = by (is_branch m) refl
+operand_mode before s own m (operand.Immediate e) = first_form m (Some e) Immediate Immediate (stored_behind e Immediate) (stored_behind e Immediate)
+operand_mode before s own m (operand.Address forced e r) = by (is_branch m) refl
   where
     by : (b : Bool) → is_branch m ≡ b → MayForm m (Some e) (if b then branch_mode forced r else address_mode m forced (size_of before s own e) r)
     by true h = branch_form m e forced r h
     by false h = address_form m e forced (size_of before s own e) r
-operand_mode before s own m (indirect e) = first_form m (Some e) Indirect Indirect (stored_behind e Indirect) (stored_behind e Indirect)
-operand_mode before s own m (indirect_x e) = first_form m (Some e) IndirectX IndirectX (stored_behind e IndirectX) (stored_behind e IndirectX)
-operand_mode before s own m (indirect_y e) = first_form m (Some e) IndirectY IndirectY (stored_behind e IndirectY) (stored_behind e IndirectY)
+operand_mode before s own m (operand.Indirect e) = first_form m (Some e) Indirect Indirect (stored_behind e Indirect) (stored_behind e Indirect)
+operand_mode before s own m (operand.IndirectX e) = first_form m (Some e) IndirectX IndirectX (stored_behind e IndirectX) (stored_behind e IndirectX)
+operand_mode before s own m (operand.IndirectY e) = first_form m (Some e) IndirectY IndirectY (stored_behind e IndirectY) (stored_behind e IndirectY)
 
 -- ---- Instructions.
 
@@ -245,26 +250,26 @@ file_taken before s (Some bytes) start len = between_taken bytes (part_start bef
 
 -- ---- Statements.
 
-abbrev pub laid_with : Stated → Place → Spot → ℕ → AddressSize → Settled → Laid
+abbrev pub laid_with : Statement → Place → Spot → ℕ → AddressSize → Settled → Laid
 laid_with x place s len own settled = record { stated = x; place = place; spot = s; length = len; size = own; settled = settled }
 
-abbrev PartsAre : List ℕ → ℕ → Symbols → Place → Spot → AddressSize → Stated → ℕ → Settled → Type 0
+abbrev PartsAre : List ℕ → ℕ → Symbols → Place → Spot → AddressSize → Statement → ℕ → Settled → Type 0
 PartsAre asked count y place s own x len settled = IfOk (parts_of y (laid_with x place s len own settled)) (PartsOf asked count len)
 
 -- with the length and what is settled as they are measured
-parts_with : (asked : List ℕ) (count : ℕ) (y before : Symbols) → IsKnown asked count y → (place : Place) (s : Spot) (own : AddressSize) (x : Stated) → (asks_section x ≡ true → asked_in asked s.segment ≡ true) → PartsAre asked count y place s own x (length_of before s own x) (settled_of before s own x)
-parts_with asked count y before k place s own (instruction m o) a =
+parts_with : (asked : List ℕ) (count : ℕ) (y before : Symbols) → IsKnown asked count y → (place : Place) (s : Spot) (own : AddressSize) (x : Statement) → (asks_section x ≡ true → asked_in asked s.segment ≡ true) → PartsAre asked count y place s own x (length_of before s own x) (settled_of before s own x)
+parts_with asked count y before k place s own (Instruction m o) a =
     let mode = mode_of before s own m o in
-    instruction_sound asked count y k (laid_with (instruction m o) place s (mode_len mode) own (mode_settled mode)) (a refl) m o mode (operand_mode before s own m o)
-parts_with asked count y before k place s own (values width its) a =
-    items_sound asked count y k (laid_with (values width its) place s (sum_by (item_len width) its) own Unsettled) (a refl) width its
-parts_with asked count y before k place s own (reserve n v) a =
-    let len = length_of before s own (reserve n v) in
+    instruction_sound asked count y k (laid_with (Instruction m o) place s (mode_len mode) own (mode_settled mode)) (a refl) m o mode (operand_mode before s own m o)
+parts_with asked count y before k place s own (Values width its) a =
+    items_sound asked count y k (laid_with (Values width its) place s (sum_by (item_len width) its) own Unsettled) (a refl) width its
+parts_with asked count y before k place s own (Reserve n v) a =
+    let len = length_of before s own (Reserve n v) in
     one_part asked count len (room_part len (fill_settled before s v)) (room_sound asked count before s len v)
-parts_with asked count y before k place s own (align n v) a =
-    let len = length_of before s own (align n v) in
+parts_with asked count y before k place s own (Align n v) a =
+    let len = length_of before s own (Align n v) in
     one_part asked count len (room_part len (fill_settled before s v)) (room_sound asked count before s len v)
-parts_with asked count y before k place s own (file_part bytes start more) a =
+parts_with asked count y before k place s own (FilePart bytes start more) a =
     let len = file_len before s bytes start more in
     one_part asked count len (Known (file_bytes len bytes (FromByte (part_start before s start)))) (tt, file_taken before s bytes start more)
 parts_with asked count y before k place s own _ a = (tt, refl)

@@ -15,7 +15,8 @@ use Rattle.source65.specs.declared.place.Place.{Place}
 use Rattle.language65.specs.Laid.{Laid, asks_section}
 use Rattle.language65.specs.declared.laid.Settled.{Settled}
 use Rattle.language65.specs.declared.laid.Spot.{Spot}
-use Rattle.language65.specs.Language.{Stated, constant, imports, exports, globals, forced, assertion}
+use Rattle.language65.specs.declared.language.Statement.{Statement}
+use Rattle.language65.specs.declared.language.Statement.TheVariants.{Constant, Import, Export, Global, ForceImport, Assert}
 use Rattle.language65.specs.Norms.{defined_form, norm_of}
 use Rattle.language65.specs.Symbols.{Symbols, defined, named}
 use Rattle.module65.specs.Pieces.{absent_of}
@@ -92,14 +93,14 @@ decided_sound asked count act place words f lt w = written_with (AreSoundSaid as
 
 -- ---- Statements.
 
-said_with : (asked : List ℕ) (count : ℕ) (y : Symbols) → IsKnown asked count y → (place : Place) (s : Spot) (len : ℕ) (own : AddressSize) (settled : Settled) (x : Stated) → IsSound x → (asks_section x ≡ true → asked_in asked s.segment ≡ true) → IfOk (said_of y (laid_with x place s len own settled)) (AreSoundSaid asked count)
-said_with asked count y k place s len own settled (constant n e) h a = well_then (IsWell (asked_in asked) (below count)) (AreSoundSaid asked count) (norm_of y s e) (λ f. Ok []) (form_sound asked count y k s e a) (λ f w. tt)
-said_with asked count y k place s len own settled (imports size names) h a = each_sound asked count (import_fault y) (λ n. ⊤) (λ n p. import_sound asked count y n) names (all_any names)
-said_with asked count y k place s len own settled (exports names) h a = each_sound asked count (λ n. export_said y place n (absent_of true n) (defined y (named 0 n))) (λ n. is_name n ≡ true) (λ n p. export_sound asked count y k place true n p) names (names_all names h)
-said_with asked count y k place s len own settled (globals size names) h a = each_sound asked count (λ n. export_said y place n (absent_of false n) (defined y (named 0 n))) (λ n. is_name n ≡ true) (λ n p. export_sound asked count y k place false n p) names (names_all names h)
-said_with asked count y k place s len own settled (forced names) h a =
+said_with : (asked : List ℕ) (count : ℕ) (y : Symbols) → IsKnown asked count y → (place : Place) (s : Spot) (len : ℕ) (own : AddressSize) (settled : Settled) (x : Statement) → IsSound x → (asks_section x ≡ true → asked_in asked s.segment ≡ true) → IfOk (said_of y (laid_with x place s len own settled)) (AreSoundSaid asked count)
+said_with asked count y k place s len own settled (Constant n e) h a = well_then (IsWell (asked_in asked) (below count)) (AreSoundSaid asked count) (norm_of y s e) (λ f. Ok []) (form_sound asked count y k s e a) (λ f w. tt)
+said_with asked count y k place s len own settled (Import size names) h a = each_sound asked count (import_fault y) (λ n. ⊤) (λ n p. import_sound asked count y n) names (all_any names)
+said_with asked count y k place s len own settled (Export names) h a = each_sound asked count (λ n. export_said y place n (absent_of true n) (defined y (named 0 n))) (λ n. is_name n ≡ true) (λ n p. export_sound asked count y k place true n p) names (names_all names h)
+said_with asked count y k place s len own settled (Global size names) h a = each_sound asked count (λ n. export_said y place n (absent_of false n) (defined y (named 0 n))) (λ n. is_name n ≡ true) (λ n p. export_sound asked count y k place false n p) names (names_all names h)
+said_with asked count y k place s len own settled (ForceImport names) h a =
     well_then (AreSoundSaid asked count) (AreSoundSaid asked count) (each_of (import_fault y) names) (λ none. Ok (map Demanded names)) (each_sound asked count (import_fault y) (λ n. ⊤) (λ n p. import_sound asked count y n) names (all_any names)) (λ none q. demanded_sound asked count names)
-said_with asked count y k place s len own settled (assertion e act words) h a =
+said_with asked count y k place s len own settled (Assert e act words) h a =
     well_then (IsWell (asked_in asked) (below count)) (AreSoundSaid asked count) (norm_of y s e) (decided act place words) (form_sound asked count y k s e a) (λ f w. decided_sound asked count act place words f h w)
 said_with asked count y k place s len own settled _ h a = tt
 

@@ -15,7 +15,8 @@ use Rattle.expand65.specs.Expansion.{statement, first_state, opened_in}
 use Rattle.expand65.specs.Includes.{bytes_in}
 use Rattle.expand65.specs.State as expand
 use Rattle.language65.specs.declared.fault.AsmFault.{AsmFault}
-use Rattle.language65.specs.Language.{Stated, label, cheap_label, unnamed_label, constant, part_named}
+use Rattle.language65.specs.declared.language.Statement.{Statement}
+use Rattle.language65.specs.declared.language.Statement.TheVariants.{Label, CheapLabel, UnnamedLabel, Constant, NamedPart}
 use Rattle.language65.specs.Layout.{Layout, nothing_laid}
 use Rattle.language65.specs.Sound.{AreNamed, IsSound}
 use Rattle.statements65.specs.Parsing.{IsStatement, is_colon, label_before, label_of, named_label, or_all, with_rest}
@@ -30,23 +31,23 @@ use Rattle.module65.proofs.SoundLayouts.{IsGood, good_statement, nothing_good, s
 -- ---- A label and what stands behind it.
 
 -- a label is sound, and what stands behind it are names
-pub record IsLabelSound (p : Option Stated × List Lexeme) : Type 0 where
-  pub label : (x : Stated) → p.0 ≡ Some x → IsSound x
+pub record IsLabelSound (p : Option Statement × List Lexeme) : Type 0 where
+  pub label : (x : Statement) → p.0 ≡ Some x → IsSound x
   pub rest : AreNamed p.1
 
 no_label : (ts : List Lexeme) → AreNamed ts → IsLabelSound (None, ts)
 no_label ts named = record { label = λ x e. absurd cc; rest = named }
 
-one_label : (x : Stated) (ts : List Lexeme) → IsSound x → AreNamed ts → IsLabelSound (Some x, ts)
+one_label : (x : Statement) (ts : List Lexeme) → IsSound x → AreNamed ts → IsLabelSound (Some x, ts)
 one_label x ts sound named = record { label = λ y e. (let same : x ≡ y = cc in subst IsSound same sound); rest = named }
 
 named_sound : (all ts : List Lexeme) (k : TokenKind) (n : List ℕ) → AreNamed all → AreNamed ts → IsLabelSound (or_all all (with_rest ts (named_label k n)))
 named_sound all ts token.Identifier n whole named = by (is_reserved n)
   where
-    by : (b : Bool) → IsLabelSound (or_all all (with_rest ts (if b then None else Some (label n))))
+    by : (b : Bool) → IsLabelSound (or_all all (with_rest ts (if b then None else Some (Label n))))
     by true = no_label all whole
-    by false = one_label (label n) ts tt named
-named_sound all ts token.CheapName n whole named = one_label (cheap_label n) ts tt named
+    by false = one_label (Label n) ts tt named
+named_sound all ts token.CheapName n whole named = one_label (CheapLabel n) ts tt named
 named_sound all ts _ n whole named = no_label all whole
 
 before_sound : (t : Lexeme) (ts : List Lexeme) → AreNamed (t ∷ ts) → IsLabelSound (or_all (t ∷ ts) (label_before t ts))
@@ -61,26 +62,26 @@ pub label_sound : (ts : List Lexeme) → AreNamed ts → IsLabelSound (label_of 
 label_sound [] named = no_label [] tt
 label_sound (t ∷ ts) named = by (is_colon t)
   where
-    by : (b : Bool) → IsLabelSound (or_all (t ∷ ts) (if b then Some (unnamed_label, ts) else label_before t ts))
-    by true = one_label unnamed_label ts tt named.1
+    by : (b : Bool) → IsLabelSound (or_all (t ∷ ts) (if b then Some (UnnamedLabel, ts) else label_before t ts))
+    by true = one_label UnnamedLabel ts tt named.1
     by false = before_sound t ts named
 
 -- ---- A statement.
 
-good_labelled : (y z : Layout) (place : Place) (o : Option Stated) → IsGood y → ((x : Stated) → o ≡ Some x → IsSound x) → IsLabelled IsLaid y place o (Ok z) → IsGood z
+good_labelled : (y z : Layout) (place : Place) (o : Option Statement) → IsGood y → ((x : Statement) → o ≡ Some x → IsSound x) → IsLabelled IsLaid y place o (Ok z) → IsGood z
 good_labelled y z place None good sound h = let same : y ≡ z = cc in subst IsGood same good
 good_labelled y z place (Some x) good sound h = good_statement y z place x good (sound x refl) h
 
 -- bytes hand nothing else to the object
-pub bytes_sound : (m : Files) (place : Place) (x : Stated) → IsSound x → IsSound (with_bytes m place x)
-bytes_sound m place (part_named name start len) sound = tt
+pub bytes_sound : (m : Files) (place : Place) (x : Statement) → IsSound x → IsSound (with_bytes m place x)
+bytes_sound m place (NamedPart name start len) sound = tt
 bytes_sound m place _ sound = sound
 
 good_rest : (m : Files) (y z : Layout) (place : Place) (ts : List Lexeme) → IsGood y → AreNamed ts → IsRest m IsLaid y place ts (Ok z) → IsGood z
 good_rest m y z place [] good named h = let same : y ≡ z = cc in subst IsGood same good
 good_rest m y z place (t ∷ ts) good named h = by h.0 h.1 h.2
   where
-    by : (q : Result Stated AsmFault) → IsStatement (t ∷ ts) q → First q (λ x. IsLaid y place (with_bytes m place x)) (Ok z) → IsGood z
+    by : (q : Result Statement AsmFault) → IsStatement (t ∷ ts) q → First q (λ x. IsLaid y place (with_bytes m place x)) (Ok z) → IsGood z
     by (Ok x) is e = good_statement y z place (with_bytes m place x) good (bytes_sound m place x (statement_sound (t ∷ ts) x named is)) e
     by (Err f) is e = absurd cc
 
@@ -113,8 +114,8 @@ good_defined : (y z : Layout) (place : Place) (ds : List Define) → IsGood y �
 good_defined y z place [] good h = let same : y ≡ z = cc in subst IsGood same good
 good_defined y z place (d ∷ ds) good h = by h.0 h.1 h.2 (λ w. good_defined w z place ds)
   where
-    by : (q : Result Layout AsmFault) → IsLaid y place (constant d.0 (number d.1)) q → First q (λ w. AreDefined IsLaid w place ds) (Ok z) → ((w : Layout) → IsGood w → AreDefined IsLaid w place ds (Ok z) → IsGood z) → IsGood z
-    by (Ok w) is e more = more w (good_statement y w place (constant d.0 (number d.1)) good tt is) e
+    by : (q : Result Layout AsmFault) → IsLaid y place (Constant d.0 (number d.1)) q → First q (λ w. AreDefined IsLaid w place ds) (Ok z) → ((w : Layout) → IsGood w → AreDefined IsLaid w place ds (Ok z) → IsGood z) → IsGood z
+    by (Ok w) is e more = more w (good_statement y w place (Constant d.0 (number d.1)) good tt is) e
     by (Err f) is e more = absurd cc
 
 -- ---- A source.

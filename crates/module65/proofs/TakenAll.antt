@@ -9,7 +9,7 @@ use Rattle.expand65.specs.Expansion.{Reaches, statement, nothing, fault, opened_
 use Rattle.expand65.specs.State as expand
 use Rattle.language65.specs.declared.fault.AsmFault.{AsmFault}
 use Rattle.language65.specs.declared.fault.AsmFault.TheVariants.{Expansion}
-use Rattle.language65.specs.Language.{constant}
+use Rattle.language65.specs.declared.language.Statement.TheVariants.{Constant}
 use Rattle.module65.specs.Inner.Continuing.{DefinesOn, GoesOn}
 use Rattle.module65.specs.Reading.{AreDefined, taken, faulty, refused, ended, Between, Define, IsBegun, IsGiven, IsSource, Job, Reached, Taking, no_line, open_fault, stopped}
 
@@ -36,10 +36,10 @@ ends m b IsAll s t y inv reaches = inv (record { behind = y; fault = open_fault 
 pub first_constant : {S : Type 0} (Takes : Taking S) (place : Place) (ds : List Define) (y : S) → DefinesOn Takes place (AreDefined Takes y place ds) ds y
 first_constant Takes place ds y = λ r h. h
 
-pub next_constant : {S : Type 0} (Takes : Taking S) (place : Place) (IsAll : Result S AsmFault → Type 0) (d : Define) (ds : List Define) (y z : S) → DefinesOn Takes place IsAll (d ∷ ds) y → Takes y place (constant d.0 (number d.1)) (Ok z) → DefinesOn Takes place IsAll ds z
+pub next_constant : {S : Type 0} (Takes : Taking S) (place : Place) (IsAll : Result S AsmFault → Type 0) (d : Define) (ds : List Define) (y z : S) → DefinesOn Takes place IsAll (d ∷ ds) y → Takes y place (Constant d.0 (number d.1)) (Ok z) → DefinesOn Takes place IsAll ds z
 next_constant Takes place IsAll d ds y z inv takes = λ r h. inv r (Ok z, takes, h)
 
-pub faulty_constant : {S : Type 0} (Takes : Taking S) (place : Place) (IsAll : Result S AsmFault → Type 0) (d : Define) (ds : List Define) (y : S) (e : AsmFault) → DefinesOn Takes place IsAll (d ∷ ds) y → Takes y place (constant d.0 (number d.1)) (Err e) → IsAll (Err e)
+pub faulty_constant : {S : Type 0} (Takes : Taking S) (place : Place) (IsAll : Result S AsmFault → Type 0) (d : Define) (ds : List Define) (y : S) (e : AsmFault) → DefinesOn Takes place IsAll (d ∷ ds) y → Takes y place (Constant d.0 (number d.1)) (Err e) → IsAll (Err e)
 faulty_constant Takes place IsAll d ds y e inv takes = inv (Err e) (Err e, takes, refl)
 
 pub last_constant : {S : Type 0} (Takes : Taking S) (place : Place) (IsAll : Result S AsmFault → Type 0) (y : S) → DefinesOn Takes place IsAll [] y → IsAll (Ok y)

@@ -3,7 +3,7 @@ use Rattle.std.specs.Prelude.{◌≡◌, Result}
 use Rattle.base65.specs.Store.{Files}
 use Rattle.source65.specs.declared.place.Place.{Place}
 use Rattle.language65.specs.declared.fault.AsmFault.{AsmFault}
-use Rattle.language65.specs.Language.{Stated}
+use Rattle.language65.specs.declared.language.Statement.{Statement}
 use Rattle.language65.specs.Layout.{Layout, layout_behind, nothing_laid}
 use Rattle.language65.specs.LineFaults.{line_fault, unless_fault}
 use Rattle.language65.specs.Symbols.{symbols_of}
@@ -11,11 +11,11 @@ use Rattle.module65.specs.Knowing.{known_at}
 use Rattle.module65.specs.Reading.{Between, IsSource, Job, Reached}
 
 -- a statement behind those before it, or its first fault there
-abbrev pub with_statement : Layout → Place → Stated → Result Layout AsmFault
+abbrev pub with_statement : Layout → Place → Statement → Result Layout AsmFault
 with_statement y place x =
     unless_fault (line_fault (symbols_of y.laid) y.standing x) (layout_behind y place x)
 
-abbrev pub IsLaid : Layout → Place → Stated → Result Layout AsmFault → Type 0
+abbrev pub IsLaid : Layout → Place → Statement → Result Layout AsmFault → Type 0
 IsLaid y place x r = r ≡ with_statement y place x
 
 abbrev pub laying : Between Layout

@@ -5,7 +5,7 @@ use Rattle.base65.specs.Store.{Files}
 use Rattle.object65.specs.declared.object.Object.{Object}
 use Rattle.language65.specs.Parts.{Content}
 use Rattle.language65.specs.declared.fault.AsmFault.{AsmFault}
-use Rattle.language65.specs.Language.{Stated}
+use Rattle.language65.specs.declared.language.Statement.{Statement}
 use Rattle.source65.specs.declared.place.Place.{Place}
 use Rattle.language65.specs.Laid.{Laid, asks_section}
 use Rattle.language65.specs.declared.laid.Spot.{Spot}
@@ -116,7 +116,7 @@ UnlessFault None Next r = Next r
 UnlessFault (Some e) Next r = r ≡ Err e
 
 -- a statement's first fault at its line, or what stands behind it
-abbrev pub Takes : State → Place → Stated → Result State AsmFault → Type 0
+abbrev pub Takes : State → Place → Statement → Result State AsmFault → Type 0
 Takes t place x r =
     UnlessFault (line_fault t.symbols t.standing x) (Steps t (laid t.symbols t.standing place x)) r
 

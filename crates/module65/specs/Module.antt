@@ -12,7 +12,8 @@ use Rattle.language65.specs.declared.fault.AsmFault.{AsmFault}
 use Rattle.language65.specs.Contents.{content_of}
 use Rattle.source65.specs.declared.place.Place.{Place}
 use Rattle.language65.specs.Laid.{Laid}
-use Rattle.language65.specs.Language.{Stated, assertion, says, warns}
+use Rattle.language65.specs.declared.language.Statement.{Statement}
+use Rattle.language65.specs.declared.language.Statement.TheVariants as statement
 use Rattle.language65.specs.Layout.{Layout}
 use Rattle.language65.specs.Norms.{norm_of}
 use Rattle.language65.specs.Numbering.{object_with}
@@ -49,12 +50,12 @@ abbrev pub warning_at : Place → List ℕ → List ℕ
 warning_at place words =
     place.file ++ codes ":" ++ decimal place.line ++ codes ": Warning: " ++ words ++ codes "\n"
 
-abbrev pub out_of : Stated → List ℕ
-out_of (says words) = words ++ codes "\n"
+abbrev pub out_of : Statement → List ℕ
+out_of (statement.Out words) = words ++ codes "\n"
 out_of _ = []
 
-abbrev pub warning_of : Place → Stated → List ℕ
-warning_of place (warns words) = warning_at place words
+abbrev pub warning_of : Place → Statement → List ℕ
+warning_of place (statement.Warning words) = warning_at place words
 warning_of place _ = []
 
 -- an assertion that is decided by the assembler and isn't so
@@ -65,8 +66,8 @@ failed place act words r = []
 abbrev pub asserted_by : Symbols → Laid → List ℕ
 asserted_by y l = go l.stated
   where
-    go : Stated → List ℕ
-    go (assertion e act words) = failed l.place act words (norm_of y l.spot e)
+    go : Statement → List ℕ
+    go (statement.Assert e act words) = failed l.place act words (norm_of y l.spot e)
     go _ = []
 
 -- the warnings of assertions by the symbol table of all, up to the first statement without contents

@@ -11,7 +11,11 @@ use Rattle.language65.specs.Parts.{Content, Part, Known, Said, Demanded}
 use Rattle.language65.specs.declared.fault.AsmFault.{AsmFault}
 use Rattle.language65.specs.declared.fault.AsmFault.TheVariants.{NotDefined}
 use Rattle.language65.specs.Contents.{put, telling, decided, export_said, file_bytes, import_fault, opcode_part, operand_form, operand_tree, room_part, stored}
-use Rattle.language65.specs.Language.{Item, value, text, Operand, Stated, constant, instruction, values, reserve, align, file_part, imports, exports, globals, forced, assertion}
+use Rattle.language65.specs.declared.language.Item.{Item}
+use Rattle.language65.specs.declared.language.Operand.{Operand}
+use Rattle.language65.specs.declared.language.Statement.{Statement}
+use Rattle.language65.specs.declared.language.Statement.TheVariants.{Constant, Instruction, Values, Reserve, Align, FilePart, Import, Export, Global, ForceImport, Assert}
+use Rattle.language65.specs.declared.language.Item.TheVariants.{Value, Text}
 use Rattle.source65.specs.declared.place.Place.{Place}
 use Rattle.language65.specs.declared.laid.Settled.{Settled}
 use Rattle.language65.specs.declared.laid.Settled.TheVariants.{InMode}
@@ -43,8 +47,8 @@ pub data Piece : Type 0 where
   exported : (must : Bool) → List ℕ → Piece
 
 abbrev pub item_piece : Width → Item → Piece
-item_piece width (value e) = valued (datum width) e
-item_piece width (text bytes) = given (Known bytes)
+item_piece width (Value e) = valued (datum width) e
+item_piece width (Text bytes) = given (Known bytes)
 
 abbrev pub operand_pieces : Option Width → Option Tree → List Piece
 operand_pieces (Some width) (Some e) = valued (operand width) e ∷ []
@@ -56,18 +60,18 @@ instruction_pieces m o (InMode mode) =
 instruction_pieces m o _ = []
 
 -- the pieces of a statement of so many bytes, of which this is settled
-abbrev pub pieces_of : ℕ → Settled → Stated → List Piece
-pieces_of count s (instruction m o) = instruction_pieces m o s
-pieces_of count s (values width items) = map (item_piece width) items
-pieces_of count s (reserve n v) = given (room_part count s) ∷ []
-pieces_of count s (align n v) = given (room_part count s) ∷ []
-pieces_of count s (file_part bytes start len) = given (Known (file_bytes count bytes s)) ∷ []
-pieces_of count s (constant n e) = valued equated e ∷ []
-pieces_of count s (imports own names) = map imported names
-pieces_of count s (exports names) = map (exported true) names
-pieces_of count s (globals own names) = map (exported false) names
-pieces_of count s (forced names) = map imported names ++ map demanded names
-pieces_of count s (assertion e act words) = valued (asserted act words) e ∷ []
+abbrev pub pieces_of : ℕ → Settled → Statement → List Piece
+pieces_of count s (Instruction m o) = instruction_pieces m o s
+pieces_of count s (Values width items) = map (item_piece width) items
+pieces_of count s (Reserve n v) = given (room_part count s) ∷ []
+pieces_of count s (Align n v) = given (room_part count s) ∷ []
+pieces_of count s (FilePart bytes start len) = given (Known (file_bytes count bytes s)) ∷ []
+pieces_of count s (Constant n e) = valued equated e ∷ []
+pieces_of count s (Import own names) = map imported names
+pieces_of count s (Export names) = map (exported true) names
+pieces_of count s (Global own names) = map (exported false) names
+pieces_of count s (ForceImport names) = map imported names ++ map demanded names
+pieces_of count s (Assert e act words) = valued (asserted act words) e ∷ []
 pieces_of count s _ = []
 
 -- ---- What a piece comes to.

@@ -13,14 +13,15 @@ use Rattle.expand65.specs.State as expand
 use Rattle.language65.specs.declared.fault.AsmFault.{AsmFault}
 use Rattle.language65.specs.declared.fault.AsmFault.TheVariants.{BadScope, Expansion}
 use Rattle.language65.specs.Faults.{is_outside}
-use Rattle.language65.specs.Language.{Stated, constant, file_part, part_named}
+use Rattle.language65.specs.declared.language.Statement.{Statement}
+use Rattle.language65.specs.declared.language.Statement.TheVariants.{Constant, FilePart, NamedPart}
 use Rattle.language65.specs.LineFaults.{is_open}
 use Rattle.statements65.specs.Parsing.{IsStatement, label_of}
 use Rattle.module65.specs.Places.{PlacedFault}
 
 -- what a statement at a place comes to behind others: what stands behind it, or its first fault
 abbrev pub Taking : Type 0 → Type 1
-Taking S = S → Place → Stated → Result S AsmFault → Type 0
+Taking S = S → Place → Statement → Result S AsmFault → Type 0
 
 -- What stands between statements: what it makes of the next one, what names and expressions mean
 -- there, and which scope is the innermost open one.
@@ -33,7 +34,7 @@ pub record Between (S : Type 0) : Type 1 where
 
 -- a label, if there is one
 abbrev pub IsLabelled :
-    {S : Type 0} → Taking S → S → Place → Option Stated → Result S AsmFault → Type 0
+    {S : Type 0} → Taking S → S → Place → Option Statement → Result S AsmFault → Type 0
 IsLabelled Takes y place None r = r ≡ Ok y
 IsLabelled Takes y place (Some x) r = Takes y place x r
 
@@ -42,8 +43,8 @@ abbrev pub bytes_for : Files → Place → List ℕ → Option (List ℕ)
 bytes_for m place name = file_named m (beside place.file name)
 
 -- a statement with the bytes that it takes from a file
-abbrev pub with_bytes : Files → Place → Stated → Stated
-with_bytes m place (part_named name start len) = file_part (bytes_for m place name) start len
+abbrev pub with_bytes : Files → Place → Statement → Statement
+with_bytes m place (NamedPart name start len) = FilePart (bytes_for m place name) start len
 with_bytes m place x = x
 
 -- tokens as a statement, if there are any
@@ -51,7 +52,7 @@ abbrev pub IsRest :
     {S : Type 0} → Files → Taking S → S → Place → List Lexeme → Result S AsmFault → Type 0
 IsRest m Takes y place [] r = r ≡ Ok y
 IsRest m Takes y place (t ∷ ts) r =
-    (x : Result Stated AsmFault) × IsStatement (t ∷ ts) x
+    (x : Result Statement AsmFault) × IsStatement (t ∷ ts) x
     × First x (λ s. Takes y place (with_bytes m place s)) r
 
 -- a label's tokens
@@ -112,7 +113,7 @@ abbrev pub AreDefined :
     {S : Type 0} → Taking S → S → Place → List Define → Result S AsmFault → Type 0
 AreDefined Takes y place [] r = r ≡ Ok y
 AreDefined Takes y place (d ∷ ds) r =
-    (q : Result _ AsmFault) × Takes y place (constant d.0 (number d.1)) q
+    (q : Result _ AsmFault) × Takes y place (Constant d.0 (number d.1)) q
     × First q (λ z. AreDefined Takes z place ds) r
 
 -- what is assembled: a file, the folders of its includes, and the command line's constants

@@ -7,7 +7,7 @@ use Rattle.syntax65.specs.Tokens.{Lexeme, lexemes}
 use Rattle.syntax65.specs.declared.lexing.tokens.Token.{Token}
 use Rattle.language65.specs.Faults.{is_outside}
 use Rattle.statements65.specs.Parsing.{parts_behind, parts_of, unknown, words_of, EachIs, IsAmount}
-use Rattle.language65.specs.Language.{Stated}
+use Rattle.language65.specs.declared.language.Statement.{Statement}
 use Rattle.syntax65.specs.Trees.{Tree}
 use Rattle.statements65.proofs.Parts.{too_many, too_many_words}
 use Rattle.language65.specs.declared.fault.AsmFault.{AsmFault}
@@ -65,7 +65,7 @@ ended Is all found (Some left) none goes = absurd (none left refl)
 
 -- ---- Too many parts.
 
-pub three_parts : (make : Tree → Option Tree → Stated) (ts n v : List Lexeme) (rest more : Option (Bor (List Token))) (b c : Bor (List Token)) → parts_of ts ≡ n ∷ parts_left rest → rest ≡ Some b → parts_of (lexemes b.now) ≡ v ∷ parts_left more → more ≡ Some c → IsAmount make (parts_of ts) unknown
+pub three_parts : (make : Tree → Option Tree → Statement) (ts n v : List Lexeme) (rest more : Option (Bor (List Token))) (b c : Bor (List Token)) → parts_of ts ≡ n ∷ parts_left rest → rest ≡ Some b → parts_of (lexemes b.now) ≡ v ∷ parts_left more → more ≡ Some c → IsAmount make (parts_of ts) unknown
 three_parts make ts n v rest more b c e f g h =
     let P : List (List Lexeme) → Type 0 = λ ps. IsAmount make ps unknown in
     let Q : List (List Lexeme) → Type 0 = λ ps. IsAmount make (n ∷ ps) unknown in

@@ -19,12 +19,17 @@ use Rattle.statements65.specs.declared.reading.words.Directive.{Directive}
 use Rattle.statements65.specs.declared.reading.words.Directive.TheVariants as directive
 use Rattle.statements65.specs.declared.reading.words.Elements.{Elements}
 use Rattle.statements65.specs.declared.reading.words.Elements.TheVariants as elements
-use Rattle.language65.specs.Language as l
+use Rattle.language65.specs.declared.language.Item.{Item}
+use Rattle.language65.specs.declared.language.Operand.{Operand}
+use Rattle.language65.specs.declared.language.Statement.{Statement}
+use Rattle.language65.specs.declared.language.Statement.TheVariants as statement
+use Rattle.language65.specs.declared.language.Operand.TheVariants as operand
+use Rattle.language65.specs.declared.language.Item.TheVariants as item
 use Rattle.statements65.specs.Parsing as p
 use Rattle.std.specs.Prelude.{codes}
 
 abbrev Answer : Type 0
-Answer = Result l.Stated AsmFault
+Answer = Result Statement AsmFault
 
 -- a relation has one answer at most
 abbrev pub One : {A : Type 0} → (A → Type 0) → Type 0
@@ -73,15 +78,15 @@ each_one {A} {B} Is one (x ∷ xs) r s h k =
     (one x) (λ y. made_one (p.EachIs Is xs) (λ rest. rest >>= (λ ys. Ok (y ∷ ys))) (each_one Is one xs)) r s h k
 
 value_one : (ts : List Lexeme) → One (p.IsValue ts)
-value_one ts = then_one (p.IsExpression ts) (λ x. Ok (l.value x)) (expression_one ts)
+value_one ts = then_one (p.IsExpression ts) (λ x. Ok (item.Value x)) (expression_one ts)
 
-abbrev ItemBy : List Lexeme → Result l.Item AsmFault → Option (List ℕ) → Type 0
+abbrev ItemBy : List Lexeme → Result Item AsmFault → Option (List ℕ) → Type 0
 ItemBy ts r None = p.IsValue ts r
-ItemBy ts r (Some s) = r ≡ Ok (l.text s)
+ItemBy ts r (Some s) = r ≡ Ok (item.Text s)
 
 text_item_one : (ts : List Lexeme) (w : Option (List ℕ)) → p.string_of ts ≡ w → One (p.IsItem elements.ValuesAndTexts ts)
 text_item_one ts None is r s h k = value_one ts r s (subst (ItemBy ts r) is h) (subst (ItemBy ts s) is k)
-text_item_one ts (Some t) is r s h k = same_one (Ok (l.text t)) r s (subst (ItemBy ts r) is h) (subst (ItemBy ts s) is k)
+text_item_one ts (Some t) is r s h k = same_one (Ok (item.Text t)) r s (subst (ItemBy ts r) is h) (subst (ItemBy ts s) is k)
 
 item_one : (which : Elements) (ts : List Lexeme) → One (p.IsItem which ts)
 item_one elements.Values ts = value_one ts
@@ -93,20 +98,20 @@ name_one ts = same_one (p.name_of ts)
 -- ---- Operands.
 
 address_one : (prefix : Option AddressSize) (ts : List Lexeme) → One (p.IsAddress prefix ts)
-address_one prefix ts = then_one (p.IsFront ts) (λ x. p.index_of x.1 >>= (λ i. Ok (l.address prefix x.0 i))) (front_one ts)
+address_one prefix ts = then_one (p.IsFront ts) (λ x. p.index_of x.1 >>= (λ i. Ok (operand.Address prefix x.0 i))) (front_one ts)
 
 indirect_one : (ts : List Lexeme) → One (p.IsIndirect ts)
 indirect_one ts = then_one (p.IsFront ts) (λ x. p.closing_of x.1 >>= (λ i. Ok (p.indirect_by i x.0))) (front_one ts)
 
 immediate_one : (ts : List Lexeme) → One (p.IsImmediate ts)
-immediate_one ts = then_one (p.IsExpression ts) (λ x. Ok (l.immediate x)) (expression_one ts)
+immediate_one ts = then_one (p.IsExpression ts) (λ x. Ok (operand.Immediate x)) (expression_one ts)
 
-abbrev PlainBy : List Lexeme → Result l.Operand AsmFault → Bool → Type 0
-PlainBy ts r true = r ≡ Ok l.accumulator
+abbrev PlainBy : List Lexeme → Result Operand AsmFault → Bool → Type 0
+PlainBy ts r true = r ≡ Ok operand.Accumulator
 PlainBy ts r false = p.IsAddress None ts r
 
 plain_one : (ts : List Lexeme) (b : Bool) → p.spelled (p.word_of ts) (codes "a") ≡ b → One (p.IsPlainOperand ts)
-plain_one ts true is r s h k = same_one (Ok l.accumulator) r s (subst (PlainBy ts r) is h) (subst (PlainBy ts s) is k)
+plain_one ts true is r s h k = same_one (Ok operand.Accumulator) r s (subst (PlainBy ts r) is h) (subst (PlainBy ts s) is k)
 plain_one ts false is r s h k = address_one None ts r s (subst (PlainBy ts r) is h) (subst (PlainBy ts s) is k)
 
 plain_operand_one : (ts : List Lexeme) → One (p.IsPlainOperand ts)
@@ -119,18 +124,18 @@ operand_from_one (token.SizePrefix own) all ts = address_one (Some own) ts
 operand_from_one _ all ts = plain_operand_one all
 
 operand_one : (ts : List Lexeme) → One (p.IsOperand ts)
-operand_one [] = same_one (Ok l.no_operand)
+operand_one [] = same_one (Ok operand.Absent)
 operand_one (t ∷ ts) = operand_from_one t.0 (t ∷ ts) ts
 
 -- ---- Directives.
 
 list_one : (which : Elements) (width : Width) (ts : List Lexeme) → One (p.IsList which width ts)
-list_one which width ts = then_one (p.EachIs (p.IsItem which) (p.parts_of ts)) (λ xs. Ok (l.values width xs)) (each_one (p.IsItem which) (item_one which) (p.parts_of ts))
+list_one which width ts = then_one (p.EachIs (p.IsItem which) (p.parts_of ts)) (λ xs. Ok (statement.Values width xs)) (each_one (p.IsItem which) (item_one which) (p.parts_of ts))
 
-amount_with_one : (make : Tree → Option Tree → l.Stated) (v : List Lexeme) (x : Tree) → One (p.IsAmountWith make x v)
+amount_with_one : (make : Tree → Option Tree → Statement) (v : List Lexeme) (x : Tree) → One (p.IsAmountWith make x v)
 amount_with_one make v x = then_one (p.IsExpression v) (λ y. Ok (make x (Some y))) (expression_one v)
 
-amount_one : (make : Tree → Option Tree → l.Stated) (parts : List (List Lexeme)) → One (p.IsAmount make parts)
+amount_one : (make : Tree → Option Tree → Statement) (parts : List (List Lexeme)) → One (p.IsAmount make parts)
 amount_one make [] = same_one p.unknown
 amount_one make (n ∷ []) = then_one (p.IsExpression n) (λ x. Ok (make x None)) (expression_one n)
 amount_one make (n ∷ v ∷ []) = followed_one (p.IsExpression n) (λ q. q) (λ x. p.IsAmountWith make x v) (expression_one n) (amount_with_one make v)
@@ -147,7 +152,7 @@ range_one (s ∷ n ∷ w ∷ parts) = same_one p.unknown
 
 part_of_one : (name : Option (List ℕ)) (range : List (List Lexeme)) → One (p.IsPartOf name range)
 part_of_one None range = same_one p.unknown
-part_of_one (Some name) range = then_one (p.IsRange range) (λ x. Ok (l.part_named name x.0 x.1)) (range_one range)
+part_of_one (Some name) range = then_one (p.IsRange range) (λ x. Ok (statement.NamedPart name x.0 x.1)) (range_one range)
 
 file_part_one : (parts : List (List Lexeme)) → One (p.IsFilePart parts)
 file_part_one [] = same_one p.unknown
@@ -179,7 +184,7 @@ asked_one (Some d) ts = directive_one d ts
 -- ---- Statements.
 
 plain_constant_one : (n : List ℕ) (ts : List Lexeme) → One (p.IsPlainConstant n ts)
-plain_constant_one n ts = then_one (p.IsExpression ts) (λ x. Ok (l.constant n x)) (expression_one ts)
+plain_constant_one n ts = then_one (p.IsExpression ts) (λ x. Ok (statement.Constant n x)) (expression_one ts)
 
 abbrev ConstantBy : List ℕ → List Lexeme → Answer → Bool → Type 0
 ConstantBy n ts r true = r ≡ p.unknown
@@ -191,7 +196,7 @@ constant_one n ts b is r s h k =
 
 instruction_one : (m : Option Mnemonic) (ts : List Lexeme) → One (p.IsInstruction m ts)
 instruction_one None ts = same_one p.unknown
-instruction_one (Some m) ts = then_one (p.IsOperand ts) (λ x. Ok (l.instruction m x)) (operand_one ts)
+instruction_one (Some m) ts = then_one (p.IsOperand ts) (λ x. Ok (statement.Instruction m x)) (operand_one ts)
 
 abbrev NamedBy : List ℕ → Lexeme → List Lexeme → Answer → Bool → Type 0
 NamedBy n t ts r true = p.IsConstant n ts r

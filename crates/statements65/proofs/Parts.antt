@@ -18,7 +18,8 @@ use Rattle.syntax65.specs.declared.lexing.tokens.Token.{Token}
 use Rattle.statements65.specs.Parsing.{before_parts, is_comma, parts_of, string_of, unknown, whole, words_of, IsAmount, IsExpression, IsFront, IsItem, Then}
 use Rattle.statements65.specs.declared.reading.words.Elements.{Elements}
 use Rattle.statements65.specs.declared.reading.words.Elements.TheVariants.{Values, ValuesAndTexts}
-use Rattle.language65.specs.Language.{Stated, value}
+use Rattle.language65.specs.declared.language.Statement.{Statement}
+use Rattle.language65.specs.declared.language.Item.TheVariants.{Value}
 
 pub lexemes_len : (ts : List Token) → length (lexemes ts) ≡ length ts
 lexemes_len [] = refl
@@ -54,7 +55,7 @@ is_number None ts one h = tt
 is_number (Some v) ts one h = is_whole ts (number v) 1 h one
 
 -- a number is an element, also where a text may be one
-pub is_item : (elements : Elements) (ts : List Lexeme) (v : ℕ) → IsExpression ts (Ok (number v)) → string_of ts ≡ None → IsItem elements ts (Ok (value (number v)))
+pub is_item : (elements : Elements) (ts : List Lexeme) (v : ℕ) → IsExpression ts (Ok (number v)) → string_of ts ≡ None → IsItem elements ts (Ok (Value (number v)))
 is_item Values ts v h n = (Ok (number v), h, refl)
 is_item ValuesAndTexts ts v h n = rw n (Ok (number v), h, refl)
 
@@ -195,7 +196,7 @@ some_part (t ∷ ts) h = go (is_comma t) (parts_of ts) refl refl
     go false [] e f = let P : Bool → Type 0 = λ b. (if b then [] ∷ parts_of ts else before_parts t (parts_of ts)) ≡ [] in let x = subst P e h in let Q : List (List Lexeme) → Type 0 = λ ps. before_parts t ps ≡ [] in let y = subst Q f x in absurd cc
     go false (p ∷ ps) e f = let P : Bool → Type 0 = λ b. (if b then [] ∷ parts_of ts else before_parts t (parts_of ts)) ≡ [] in let x = subst P e h in let Q : List (List Lexeme) → Type 0 = λ ps. before_parts t ps ≡ [] in let y = subst Q f x in absurd cc
 
-pub too_many : (make : Tree → Option Tree → Stated) (n v ts : List Lexeme) → IsAmount make (n ∷ v ∷ parts_of ts) unknown
+pub too_many : (make : Tree → Option Tree → Statement) (n v ts : List Lexeme) → IsAmount make (n ∷ v ∷ parts_of ts) unknown
 too_many make n v ts = go (parts_of ts) (some_part ts)
   where
     go : (ps : List (List Lexeme)) → ps ≢ [] → IsAmount make (n ∷ v ∷ ps) unknown

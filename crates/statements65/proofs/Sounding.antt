@@ -27,23 +27,25 @@ use Rattle.statements65.specs.declared.reading.words.Message.{Message}
 use Rattle.statements65.specs.declared.reading.words.Message.TheVariants as message
 use Rattle.statements65.specs.declared.reading.words.Names.{Names}
 use Rattle.statements65.specs.declared.reading.words.Names.TheVariants as names
-use Rattle.language65.specs.Language as l
+use Rattle.language65.specs.declared.language.Statement.{Statement}
+use Rattle.language65.specs.declared.language.Statement.TheVariants as statement
+use Rattle.language65.specs.declared.language.Item.TheVariants as item
 use Rattle.statements65.specs.Parsing as p
 use Rattle.language65.specs.Sound.{AreNamed, IsNamed, IsSound}
 use Rattle.statements65.proofs.Naming.{tokens_named, identifier_named}
 
 abbrev Answer : Type 0
-Answer = Result l.Stated AsmFault
+Answer = Result Statement AsmFault
 
-abbrev good : l.Stated → Answer
+abbrev good : Statement → Answer
 good x = Ok x
 
 -- a step before the answer gave something
-after : {A : Type 0} (q : Result A AsmFault) (next : A → Answer) (x : l.Stated) → ((a : A) → good x ≡ next a → IsSound x) → good x ≡ (q >>= next) → IsSound x
+after : {A : Type 0} (q : Result A AsmFault) (next : A → Answer) (x : Statement) → ((a : A) → good x ≡ next a → IsSound x) → good x ≡ (q >>= next) → IsSound x
 after (Ok a) next x each h = each a h
 after (Err e) next x each h = cc
 
-made : (x y : l.Stated) → IsSound y → good x ≡ good y → IsSound x
+made : (x y : Statement) → IsSound y → good x ≡ good y → IsSound x
 made x y sound h = let e : y ≡ x = cc in subst IsSound e sound
 
 -- a constant by whether its name is reserved, and a word by whether a definition follows
@@ -117,7 +119,7 @@ lone_sound lone.Data = refl
 lone_sound lone.Bss = refl
 lone_sound lone.ZeroPage = refl
 
-alone_sound : (y x : l.Stated) (ts : List Lexeme) → IsSound y → good x ≡ p.alone y ts → IsSound x
+alone_sound : (y x : Statement) (ts : List Lexeme) → IsSound y → good x ≡ p.alone y ts → IsSound x
 alone_sound y x [] sound h = made x y sound h
 alone_sound y x (t ∷ ts) sound h = cc
 
@@ -125,24 +127,24 @@ amount_sound : (which : Amount) (n : Tree) (v : Option Tree) → IsSound (p.amou
 amount_sound amount.Reserve n v = tt
 amount_sound amount.Align n v = tt
 
-amount_with_sound : (which : Amount) (n : Tree) (v : List Lexeme) (x : l.Stated) → p.IsAmountWith (p.amount_statement which) n v (Ok x) → IsSound x
+amount_with_sound : (which : Amount) (n : Tree) (v : List Lexeme) (x : Statement) → p.IsAmountWith (p.amount_statement which) n v (Ok x) → IsSound x
 amount_with_sound which n v x h = after h.0 (λ y. good (p.amount_statement which n (Some y))) x (λ y. made x (p.amount_statement which n (Some y)) (amount_sound which n (Some y))) h.2
 
-amount_first_sound : (which : Amount) (v : List Lexeme) (x : l.Stated) (q : Result Tree AsmFault) → First q (λ n. p.IsAmountWith (p.amount_statement which) n v) (Ok x) → IsSound x
+amount_first_sound : (which : Amount) (v : List Lexeme) (x : Statement) (q : Result Tree AsmFault) → First q (λ n. p.IsAmountWith (p.amount_statement which) n v) (Ok x) → IsSound x
 amount_first_sound which v x (Ok n) h = amount_with_sound which n v x h
 amount_first_sound which v x (Err e) h = cc
 
-amounts_sound : (which : Amount) (parts : List (List Lexeme)) (x : l.Stated) → p.IsAmount (p.amount_statement which) parts (Ok x) → IsSound x
+amounts_sound : (which : Amount) (parts : List (List Lexeme)) (x : Statement) → p.IsAmount (p.amount_statement which) parts (Ok x) → IsSound x
 amounts_sound which [] x h = cc
 amounts_sound which (n ∷ []) x h = after h.0 (λ y. good (p.amount_statement which y None)) x (λ y. made x (p.amount_statement which y None) (amount_sound which y None)) h.2
 amounts_sound which (n ∷ v ∷ []) x h = amount_first_sound which v x h.0 h.2
 amounts_sound which (n ∷ v ∷ w ∷ parts) x h = cc
 
-part_of_sound : (name : Option (List ℕ)) (range : List (List Lexeme)) (x : l.Stated) → p.IsPartOf name range (Ok x) → IsSound x
+part_of_sound : (name : Option (List ℕ)) (range : List (List Lexeme)) (x : Statement) → p.IsPartOf name range (Ok x) → IsSound x
 part_of_sound None range x h = cc
-part_of_sound (Some name) range x h = after h.0 (λ (v : Option Tree × Option Tree). good (l.part_named name v.0 v.1)) x (λ v. made x (l.part_named name v.0 v.1) tt) h.2
+part_of_sound (Some name) range x h = after h.0 (λ (v : Option Tree × Option Tree). good (statement.NamedPart name v.0 v.1)) x (λ v. made x (statement.NamedPart name v.0 v.1) tt) h.2
 
-file_part_sound : (parts : List (List Lexeme)) (x : l.Stated) → p.IsFilePart parts (Ok x) → IsSound x
+file_part_sound : (parts : List (List Lexeme)) (x : Statement) → p.IsFilePart parts (Ok x) → IsSound x
 file_part_sound [] x h = cc
 file_part_sound (name ∷ range) x h = part_of_sound (p.string_of name) range x h
 
@@ -152,7 +154,7 @@ named_sound names.Export ns h = h
 named_sound (names.Global own) ns h = h
 named_sound names.ForceImport ns h = h
 
-names_sound : (which : Names) (ts : List Lexeme) (x : l.Stated) → AreNamed ts → (q : Result (List (List ℕ)) AsmFault) → p.EachIs p.IsName (p.parts_of ts) q → good x ≡ (q >>= (λ ns. good (p.names_statement which ns))) → IsSound x
+names_sound : (which : Names) (ts : List Lexeme) (x : Statement) → AreNamed ts → (q : Result (List (List ℕ)) AsmFault) → p.EachIs p.IsName (p.parts_of ts) q → good x ≡ (q >>= (λ ns. good (p.names_statement which ns))) → IsSound x
 names_sound which ts x named (Ok ns) is h = made x (p.names_statement which ns) (named_sound which ns (names_named (p.parts_of ts) (parts_named ts named) ns is)) h
 names_sound which ts x named (Err e) is h = cc
 
@@ -160,27 +162,27 @@ message_sound : (which : Message) (s : List ℕ) → IsSound (p.message_statemen
 message_sound message.Out s = tt
 message_sound message.Warning s = tt
 
-told_sound : (which : Message) (ts : List Lexeme) (x : l.Stated) → good x ≡ p.told which ts → IsSound x
+told_sound : (which : Message) (ts : List Lexeme) (x : Statement) → good x ≡ p.told which ts → IsSound x
 told_sound which ts x h = after (p.understood (p.string_of ts)) (λ s. good (p.message_statement which s)) x (λ s. made x (p.message_statement which s) (message_sound which s)) h
 
-abbrev ended_text : List ℕ → l.Stated
-ended_text s = l.values Byte (l.text (s ++ 0 ∷ []) ∷ [])
+abbrev ended_text : List ℕ → Statement
+ended_text s = statement.Values Byte (item.Text (s ++ 0 ∷ []) ∷ [])
 
-ended_sound : (ts : List Lexeme) (x : l.Stated) → good x ≡ p.ended ts → IsSound x
+ended_sound : (ts : List Lexeme) (x : Statement) → good x ≡ p.ended ts → IsSound x
 ended_sound ts x h = after (p.understood (p.string_of ts)) (λ s. good (ended_text s)) x (λ s. made x (ended_text s) tt) h
 
-scope_sound : (ts : List Lexeme) (x : l.Stated) → good x ≡ p.scope_of ts → IsSound x
-scope_sound [] x h = made x (l.open_scope None) tt h
-scope_sound (t ∷ ts) x h = after (p.name_of (t ∷ ts)) (λ n. good (l.open_scope (Some n))) x (λ n. made x (l.open_scope (Some n)) tt) h
+scope_sound : (ts : List Lexeme) (x : Statement) → good x ≡ p.scope_of ts → IsSound x
+scope_sound [] x h = made x (statement.OpenScope None) tt h
+scope_sound (t ∷ ts) x h = after (p.name_of (t ∷ ts)) (λ n. good (statement.OpenScope (Some n))) x (λ n. made x (statement.OpenScope (Some n)) tt) h
 
-proc_sound : (ts : List Lexeme) (x : l.Stated) → good x ≡ p.proc_of ts → IsSound x
-proc_sound ts x h = after (p.name_of ts) (λ n. good (l.open_proc n)) x (λ n. made x (l.open_proc n) tt) h
+proc_sound : (ts : List Lexeme) (x : Statement) → good x ≡ p.proc_of ts → IsSound x
+proc_sound ts x h = after (p.name_of ts) (λ n. good (statement.OpenProc n)) x (λ n. made x (statement.OpenProc n) tt) h
 
-identifier_sound : (n : List ℕ) (own : Option AddressSize) (x : l.Stated) (is : Bool) → p.is_identifier n ≡ is → good x ≡ p.segment_named n own → IsSound x
-identifier_sound n own x true is h = let e : p.segment_named n own ≡ good (l.segment n own) = rw is refl in made x (l.segment n own) (identifier_named n is) (h ∙ e)
+identifier_sound : (n : List ℕ) (own : Option AddressSize) (x : Statement) (is : Bool) → p.is_identifier n ≡ is → good x ≡ p.segment_named n own → IsSound x
+identifier_sound n own x true is h = let e : p.segment_named n own ≡ good (statement.Segment n own) = rw is refl in made x (statement.Segment n own) (identifier_named n is) (h ∙ e)
 identifier_sound n own x false is h = let e : p.segment_named n own ≡ p.unknown = rw is refl in let none : good x ≡ p.unknown = h ∙ e in cc
 
-segment_sound : (ts : List Lexeme) (x : l.Stated) → good x ≡ p.segment_of ts → IsSound x
+segment_sound : (ts : List Lexeme) (x : Statement) → good x ≡ p.segment_of ts → IsSound x
 segment_sound [] x h = cc
 segment_sound (t ∷ ts) x h =
     after (p.understood (p.quoted_in t)) (λ n. p.size_behind ts >>= (λ own. p.segment_named n own)) x
@@ -199,27 +201,27 @@ words_short [] words h = let same : codes "assertion failed" ≡ words = cc in l
 words_short (part ∷ []) words h = own_short (p.string_of part) words h
 words_short (part ∷ more ∷ parts) words h = cc
 
-text_sound : (e : Tree) (act : Action) (rest : List (List Lexeme)) (x : l.Stated) (q : Result (List ℕ) AsmFault) → p.words_of rest ≡ q → good x ≡ (q >>= (λ words. good (l.assertion e act words))) → IsSound x
-text_sound e act rest x (Ok words) is h = made x (l.assertion e act words) (words_short rest words (sym is)) h
+text_sound : (e : Tree) (act : Action) (rest : List (List Lexeme)) (x : Statement) (q : Result (List ℕ) AsmFault) → p.words_of rest ≡ q → good x ≡ (q >>= (λ words. good (statement.Assert e act words))) → IsSound x
+text_sound e act rest x (Ok words) is h = made x (statement.Assert e act words) (words_short rest words (sym is)) h
 text_sound e act rest x (Err f) is h = cc
 
-asserted_sound : (e : Tree) (a : List Lexeme) (rest : List (List Lexeme)) (x : l.Stated) → good x ≡ p.asserted e a rest → IsSound x
-asserted_sound e a rest x h = after (p.action_of a) (λ act. p.words_of rest >>= (λ words. good (l.assertion e act words))) x (λ act. text_sound e act rest x (p.words_of rest) refl) h
+asserted_sound : (e : Tree) (a : List Lexeme) (rest : List (List Lexeme)) (x : Statement) → good x ≡ p.asserted e a rest → IsSound x
+asserted_sound e a rest x h = after (p.action_of a) (λ act. p.words_of rest >>= (λ words. good (statement.Assert e act words))) x (λ act. text_sound e act rest x (p.words_of rest) refl) h
 
-assertion_sound : (parts : List (List Lexeme)) (x : l.Stated) → p.IsAssertion parts (Ok x) → IsSound x
+assertion_sound : (parts : List (List Lexeme)) (x : Statement) → p.IsAssertion parts (Ok x) → IsSound x
 assertion_sound [] x h = cc
 assertion_sound (e ∷ []) x h = cc
 assertion_sound (e ∷ a ∷ rest) x h = after h.0 (λ t. p.asserted t a rest) x (λ t. asserted_sound t a rest x) h.2
 
-same_processor : (s : List ℕ) (x : l.Stated) (is : Bool) → bytes_eq s (codes "6502") ≡ is → good x ≡ (if is then Ok l.nothing else p.unknown) → IsSound x
-same_processor s x true is h = made x l.nothing tt h
+same_processor : (s : List ℕ) (x : Statement) (is : Bool) → bytes_eq s (codes "6502") ≡ is → good x ≡ (if is then Ok statement.Nothing else p.unknown) → IsSound x
+same_processor s x true is h = made x statement.Nothing tt h
 same_processor s x false is h = cc
 
-processor_sound : (ts : List Lexeme) (x : l.Stated) → good x ≡ p.processor_of ts → IsSound x
-processor_sound ts x h = after (p.understood (p.string_of ts)) (λ s. if bytes_eq s (codes "6502") then good l.nothing else p.unknown) x (λ s. same_processor s x (bytes_eq s (codes "6502")) refl) h
+processor_sound : (ts : List Lexeme) (x : Statement) → good x ≡ p.processor_of ts → IsSound x
+processor_sound ts x h = after (p.understood (p.string_of ts)) (λ s. if bytes_eq s (codes "6502") then good statement.Nothing else p.unknown) x (λ s. same_processor s x (bytes_eq s (codes "6502")) refl) h
 
-directive_sound : (d : Directive) (ts : List Lexeme) (x : l.Stated) → AreNamed ts → p.IsDirective d ts (Ok x) → IsSound x
-directive_sound (directive.List elements width) ts x named h = after h.0 (λ xs. good (l.values width xs)) x (λ xs. made x (l.values width xs) tt) h.2
+directive_sound : (d : Directive) (ts : List Lexeme) (x : Statement) → AreNamed ts → p.IsDirective d ts (Ok x) → IsSound x
+directive_sound (directive.List elements width) ts x named h = after h.0 (λ xs. good (statement.Values width xs)) x (λ xs. made x (statement.Values width xs) tt) h.2
 directive_sound directive.EndedText ts x named h = ended_sound ts x h
 directive_sound (directive.Amount which) ts x named h = amounts_sound which (p.parts_of ts) x h
 directive_sound directive.FilePart ts x named h = file_part_sound (p.parts_of ts) x h
@@ -241,27 +243,27 @@ constant_when n ts r reserved is h = subst (ConstantBy n ts r) is h
 named_when : (n : List ℕ) (t : Lexeme) (ts : List Lexeme) (r : Answer) (defines : Bool) → p.defines t ≡ defines → p.IsNamed n (t ∷ ts) r → NamedBy n t ts r defines
 named_when n t ts r defines is h = subst (NamedBy n t ts r) is h
 
-asked_sound : (d : Option Directive) (ts : List Lexeme) (x : l.Stated) → AreNamed ts → p.IsDirectiveStatement d ts (Ok x) → IsSound x
+asked_sound : (d : Option Directive) (ts : List Lexeme) (x : Statement) → AreNamed ts → p.IsDirectiveStatement d ts (Ok x) → IsSound x
 asked_sound None ts x named h = cc
 asked_sound (Some d) ts x named h = directive_sound d ts x named h
 
-constant_sound : (n : List ℕ) (ts : List Lexeme) (x : l.Stated) (reserved : Bool) → is_reserved n ≡ reserved → p.IsConstant n ts (Ok x) → IsSound x
+constant_sound : (n : List ℕ) (ts : List Lexeme) (x : Statement) (reserved : Bool) → is_reserved n ≡ reserved → p.IsConstant n ts (Ok x) → IsSound x
 constant_sound n ts x true is h = let none : good x ≡ p.unknown = constant_when n ts (Ok x) true is h in cc
-constant_sound n ts x false is h = let one : p.IsPlainConstant n ts (Ok x) = constant_when n ts (Ok x) false is h in after one.0 (λ e. good (l.constant n e)) x (λ e. made x (l.constant n e) tt) one.2
+constant_sound n ts x false is h = let one : p.IsPlainConstant n ts (Ok x) = constant_when n ts (Ok x) false is h in after one.0 (λ e. good (statement.Constant n e)) x (λ e. made x (statement.Constant n e) tt) one.2
 
-instruction_sound : (m : Option Mnemonic) (ts : List Lexeme) (x : l.Stated) → p.IsInstruction m ts (Ok x) → IsSound x
+instruction_sound : (m : Option Mnemonic) (ts : List Lexeme) (x : Statement) → p.IsInstruction m ts (Ok x) → IsSound x
 instruction_sound None ts x h = cc
-instruction_sound (Some m) ts x h = after h.0 (λ o. good (l.instruction m o)) x (λ o. made x (l.instruction m o) tt) h.2
+instruction_sound (Some m) ts x h = after h.0 (λ o. good (statement.Instruction m o)) x (λ o. made x (statement.Instruction m o) tt) h.2
 
-word_sound : (n : List ℕ) (t : Lexeme) (ts : List Lexeme) (x : l.Stated) (defines : Bool) → p.defines t ≡ defines → p.IsNamed n (t ∷ ts) (Ok x) → IsSound x
+word_sound : (n : List ℕ) (t : Lexeme) (ts : List Lexeme) (x : Statement) (defines : Bool) → p.defines t ≡ defines → p.IsNamed n (t ∷ ts) (Ok x) → IsSound x
 word_sound n t ts x true is h = constant_sound n ts x (is_reserved n) refl (named_when n t ts (Ok x) true is h)
 word_sound n t ts x false is h = instruction_sound (mnemonic_of n) (t ∷ ts) x (named_when n t ts (Ok x) false is h)
 
-words_sound : (n : List ℕ) (ts : List Lexeme) (x : l.Stated) → p.IsNamed n ts (Ok x) → IsSound x
+words_sound : (n : List ℕ) (ts : List Lexeme) (x : Statement) → p.IsNamed n ts (Ok x) → IsSound x
 words_sound n [] x h = instruction_sound (mnemonic_of n) [] x h
 words_sound n (t ∷ ts) x h = word_sound n t ts x (p.defines t) refl h
 
-pub statement_sound : (ts : List Lexeme) (x : l.Stated) → AreNamed ts → p.IsStatement ts (Ok x) → IsSound x
+pub statement_sound : (ts : List Lexeme) (x : Statement) → AreNamed ts → p.IsStatement ts (Ok x) → IsSound x
 statement_sound [] x named h = cc
 statement_sound ((token.Identifier, n) ∷ ts) x named h = words_sound n ts x h
 statement_sound ((token.Directive, d) ∷ ts) x named h = asked_sound (p.directive_of d) ts x named.1 h
@@ -270,7 +272,7 @@ statement_sound ((_, t) ∷ ts) x named h = cc
 -- ---- Lines.
 
 -- what stands behind a label, or all
-labelled : (ts rest : List Lexeme) (label : Option l.Stated) → AreNamed ts → AreNamed rest → AreNamed (p.or_all ts (p.with_rest rest label)).1
+labelled : (ts rest : List Lexeme) (label : Option Statement) → AreNamed ts → AreNamed rest → AreNamed (p.or_all ts (p.with_rest rest label)).1
 labelled ts rest None named behind = named
 labelled ts rest (Some x) named behind = behind
 
@@ -282,7 +284,7 @@ before_colon : (t : Lexeme) (ts : List Lexeme) → AreNamed (t ∷ ts) → AreNa
 before_colon t [] named = named
 before_colon t (c ∷ ts) named = colon_behind t c ts (p.is_colon c) refl named
 
-colon_first : (t : Lexeme) (ts : List Lexeme) (colon : Bool) → p.is_colon t ≡ colon → AreNamed (t ∷ ts) → AreNamed (p.or_all (t ∷ ts) (if colon then Some (l.unnamed_label, ts) else p.label_before t ts)).1
+colon_first : (t : Lexeme) (ts : List Lexeme) (colon : Bool) → p.is_colon t ≡ colon → AreNamed (t ∷ ts) → AreNamed (p.or_all (t ∷ ts) (if colon then Some (statement.UnnamedLabel, ts) else p.label_before t ts)).1
 colon_first t ts true is named = named.1
 colon_first t ts false is named = before_colon t ts named
 
@@ -291,5 +293,5 @@ behind_label [] named = tt
 behind_label (t ∷ ts) named = colon_first t ts (p.is_colon t) refl named
 
 -- the statement of a line is sound
-pub line_sound : (text : List ℕ) (ts : List Lexeme) (x : l.Stated) → IsRead text (Ok ts) → p.IsStatement (p.label_of ts).1 (Ok x) → IsSound x
+pub line_sound : (text : List ℕ) (ts : List Lexeme) (x : Statement) → IsRead text (Ok ts) → p.IsStatement (p.label_of ts).1 (Ok x) → IsSound x
 line_sound text ts x read h = statement_sound (p.label_of ts).1 x (behind_label ts (tokens_named text ts read)) h

@@ -36,7 +36,12 @@ use Rattle.statements65.specs.declared.reading.words.Message.{Message}
 use Rattle.statements65.specs.declared.reading.words.Message.TheVariants as message
 use Rattle.statements65.specs.declared.reading.words.Names.{Names}
 use Rattle.statements65.specs.declared.reading.words.Names.TheVariants as names
-use Rattle.language65.specs.Language.{Item, value, text, Operand, no_operand, accumulator, immediate, address, indirect, indirect_x, indirect_y, Stated, label, cheap_label, unnamed_label, constant, instruction, values, reserve, align, part_named, segment, push_segment, pop_segment, open_scope, close_scope, open_proc, close_proc, imports, exports, globals, forced, assertion, says, warns, nothing}
+use Rattle.language65.specs.declared.language.Item.{Item}
+use Rattle.language65.specs.declared.language.Operand.{Operand}
+use Rattle.language65.specs.declared.language.Statement.{Statement}
+use Rattle.language65.specs.declared.language.Statement.TheVariants.{Label, CheapLabel, UnnamedLabel, Constant, Instruction, Values, Reserve, Align, NamedPart, Segment, PushSegment, PopSegment, OpenScope, CloseScope, OpenProc, CloseProc, Import, Export, Global, ForceImport, Assert, Out, Warning, Nothing}
+use Rattle.language65.specs.declared.language.Operand.TheVariants.{Absent, Accumulator, Immediate, Address, Indirect, IndirectX, IndirectY}
+use Rattle.language65.specs.declared.language.Item.TheVariants.{Value, Text}
 
 -- what isn't understood
 abbrev pub unknown : {A : Type 0} → Result A AsmFault
@@ -144,7 +149,7 @@ EachIs Is (x ∷ xs) r = (q : Result _ AsmFault) × Is x q × First q (λ y s. (
 
 -- an element that is a value
 abbrev pub IsValue : List Lexeme → Result Item AsmFault → Type 0
-IsValue ts r = Then (IsExpression ts) (λ x. Ok (value x)) r
+IsValue ts r = Then (IsExpression ts) (λ x. Ok (Value x)) r
 
 -- an element of a list: a value, or in some lists a string
 abbrev pub IsItem : Elements → List Lexeme → Result Item AsmFault → Type 0
@@ -153,10 +158,10 @@ IsItem elements.ValuesAndTexts ts r = by_string (string_of ts)
   where
     by_string : Option (List ℕ) → Type 0
     by_string None = IsValue ts r
-    by_string (Some s) = r ≡ Ok (text s)
+    by_string (Some s) = r ≡ Ok (Text s)
 
-abbrev pub IsList : Elements → Width → List Lexeme → Result Stated AsmFault → Type 0
-IsList elements width ts r = Then (EachIs (IsItem elements) (parts_of ts)) (λ xs. Ok (values width xs)) r
+abbrev pub IsList : Elements → Width → List Lexeme → Result Statement AsmFault → Type 0
+IsList elements width ts r = Then (EachIs (IsItem elements) (parts_of ts)) (λ xs. Ok (Values width xs)) r
 
 abbrev pub plain_name : List ℕ → Result (List ℕ) AsmFault
 plain_name t = if is_reserved t then unknown else Ok t
@@ -181,7 +186,7 @@ index_of _ = unknown
 
 -- `e`, `e,x` or `e,y`
 abbrev pub IsAddress : Option AddressSize → List Lexeme → Result Operand AsmFault → Type 0
-IsAddress prefix ts r = Then (IsFront ts) (λ x. index_of x.1 >>= (λ i. Ok (address prefix x.0 i))) r
+IsAddress prefix ts r = Then (IsFront ts) (λ x. index_of x.1 >>= (λ i. Ok (Address prefix x.0 i))) r
 
 -- what stands behind `(` and an expression: `)`, `,x)` or `),y`
 abbrev pub closing_of : List Lexeme → Result (Option Index) AsmFault
@@ -193,21 +198,21 @@ closing_of (a ∷ b ∷ c ∷ []) =
 closing_of _ = unknown
 
 abbrev pub indirect_by : Option Index → Tree → Operand
-indirect_by None e = indirect e
-indirect_by (Some index.X) e = indirect_x e
-indirect_by (Some index.Y) e = indirect_y e
+indirect_by None e = Indirect e
+indirect_by (Some index.X) e = IndirectX e
+indirect_by (Some index.Y) e = IndirectY e
 
 abbrev pub IsIndirect : List Lexeme → Result Operand AsmFault → Type 0
 IsIndirect ts r = Then (IsFront ts) (λ x. closing_of x.1 >>= (λ i. Ok (indirect_by i x.0))) r
 
 abbrev pub IsImmediate : List Lexeme → Result Operand AsmFault → Type 0
-IsImmediate ts r = Then (IsExpression ts) (λ x. Ok (immediate x)) r
+IsImmediate ts r = Then (IsExpression ts) (λ x. Ok (Immediate x)) r
 
 abbrev pub IsPlainOperand : List Lexeme → Result Operand AsmFault → Type 0
 IsPlainOperand ts r = by_word (spelled (word_of ts) (codes "a"))
   where
     by_word : Bool → Type 0
-    by_word true = r ≡ Ok accumulator
+    by_word true = r ≡ Ok Accumulator
     by_word false = IsAddress None ts r
 
 -- by the first token's kind, all tokens and those behind the first
@@ -218,70 +223,70 @@ IsOperandFrom (token.SizePrefix own) all ts r = IsAddress (Some own) ts r
 IsOperandFrom _ all ts r = IsPlainOperand all r
 
 abbrev pub IsOperand : List Lexeme → Result Operand AsmFault → Type 0
-IsOperand [] r = r ≡ Ok no_operand
+IsOperand [] r = r ≡ Ok Absent
 IsOperand (t ∷ ts) r = IsOperandFrom t.0 (t ∷ ts) ts r
 
 -- ---- Statements of directives.
 
 -- a statement without operands
-abbrev pub alone : Stated → List Lexeme → Result Stated AsmFault
+abbrev pub alone : Statement → List Lexeme → Result Statement AsmFault
 alone x [] = Ok x
 alone x _ = unknown
 
-abbrev pub lone_statement : Lone → Stated
-lone_statement lone.PushSegment = push_segment
-lone_statement lone.PopSegment = pop_segment
-lone_statement lone.EndScope = close_scope
-lone_statement lone.EndProc = close_proc
-lone_statement lone.Processor = nothing
-lone_statement lone.Code = segment (codes "CODE") None
-lone_statement lone.Rodata = segment (codes "RODATA") None
-lone_statement lone.Data = segment (codes "DATA") None
-lone_statement lone.Bss = segment (codes "BSS") None
-lone_statement lone.ZeroPage = segment (codes "ZEROPAGE") None
+abbrev pub lone_statement : Lone → Statement
+lone_statement lone.PushSegment = PushSegment
+lone_statement lone.PopSegment = PopSegment
+lone_statement lone.EndScope = CloseScope
+lone_statement lone.EndProc = CloseProc
+lone_statement lone.Processor = Nothing
+lone_statement lone.Code = Segment (codes "CODE") None
+lone_statement lone.Rodata = Segment (codes "RODATA") None
+lone_statement lone.Data = Segment (codes "DATA") None
+lone_statement lone.Bss = Segment (codes "BSS") None
+lone_statement lone.ZeroPage = Segment (codes "ZEROPAGE") None
 
-abbrev pub IsAmountWith : (Tree → Option Tree → Stated) → Tree → List Lexeme → Result Stated AsmFault → Type 0
+abbrev pub IsAmountWith : (Tree → Option Tree → Statement) → Tree → List Lexeme → Result Statement AsmFault → Type 0
 IsAmountWith make x v r = Then (IsExpression v) (λ y. Ok (make x (Some y))) r
 
 -- `n[,v]`
-abbrev pub IsAmount : (Tree → Option Tree → Stated) → List (List Lexeme) → Result Stated AsmFault → Type 0
+abbrev pub IsAmount : (Tree → Option Tree → Statement) → List (List Lexeme) → Result Statement AsmFault → Type 0
 IsAmount make (n ∷ []) r = Then (IsExpression n) (λ x. Ok (make x None)) r
 IsAmount make (n ∷ v ∷ []) r = (q : Result Tree AsmFault) × IsExpression n q × First q (λ x. IsAmountWith make x v) r
 IsAmount make _ r = r ≡ unknown
 
-abbrev pub amount_statement : Amount → Tree → Option Tree → Stated
-amount_statement amount.Reserve n v = reserve n v
-amount_statement amount.Align n v = align n v
+abbrev pub amount_statement : Amount → Tree → Option Tree → Statement
+amount_statement amount.Reserve n v = Reserve n v
+amount_statement amount.Align n v = Align n v
 
-abbrev pub names_statement : Names → List (List ℕ) → Stated
-names_statement (names.Import own) ns = imports own ns
-names_statement names.Export ns = exports ns
-names_statement (names.Global own) ns = globals own ns
-names_statement names.ForceImport ns = forced ns
+abbrev pub names_statement : Names → List (List ℕ) → Statement
+names_statement (names.Import own) ns = Import own ns
+names_statement names.Export ns = Export ns
+names_statement (names.Global own) ns = Global own ns
+names_statement names.ForceImport ns = ForceImport ns
 
 -- a list of names
-abbrev pub IsNames : Names → List Lexeme → Result Stated AsmFault → Type 0
+abbrev pub IsNames : Names → List Lexeme → Result Statement AsmFault → Type 0
 IsNames which ts r = Then (EachIs IsName (parts_of ts)) (λ ns. Ok (names_statement which ns)) r
 
-abbrev pub message_statement : Message → List ℕ → Stated
-message_statement message.Out s = says s
-message_statement message.Warning s = warns s
+abbrev pub message_statement : Message → List ℕ → Statement
+message_statement message.Out s = Out s
+message_statement message.Warning s = Warning s
 
 -- one string
-abbrev pub told : Message → List Lexeme → Result Stated AsmFault
+abbrev pub told : Message → List Lexeme → Result Statement AsmFault
 told which ts = understood (string_of ts) >>= (λ s. Ok (message_statement which s))
 
 -- one string and a 0
-abbrev pub ended : List Lexeme → Result Stated AsmFault
-ended ts = understood (string_of ts) >>= (λ s. Ok (values Byte (text (s ++ 0 ∷ []) ∷ [])))
+abbrev pub ended : List Lexeme → Result Statement AsmFault
+ended ts = understood (string_of ts) >>= (λ s. Ok (Values Byte (Text (s ++ 0 ∷ []) ∷ [])))
 
 -- a scope's name, if it has one
-abbrev pub scope_of : List Lexeme → Result Stated AsmFault
-scope_of [] = Ok (open_scope None)
-scope_of ts = name_of ts >>= (λ n. Ok (open_scope (Some n)))
+abbrev pub scope_of : List Lexeme → Result Statement AsmFault
+scope_of [] = Ok (OpenScope None)
+scope_of ts = name_of ts >>= (λ n. Ok (OpenScope (Some n)))
 
-abbrev pub proc_of : List Lexeme → Result Stated AsmFault
-proc_of ts = name_of ts >>= (λ n. Ok (open_proc n))
+abbrev pub proc_of : List Lexeme → Result Statement AsmFault
+proc_of ts = name_of ts >>= (λ n. Ok (OpenProc n))
 
 abbrev pub size_word : List ℕ → Result AddressSize AsmFault
 size_word t = if bytes_eq t (codes "zeropage") then Ok size.ZeroPage else if bytes_eq t (codes "absolute") then Ok size.Absolute else unknown
@@ -302,11 +307,11 @@ abbrev pub is_identifier : List ℕ → Bool
 is_identifier [] = false
 is_identifier (b ∷ bs) = is_letter b && list_all is_letter_or_digit bs && nat_le (length (b ∷ bs)) 200
 
-abbrev pub segment_named : List ℕ → Option AddressSize → Result Stated AsmFault
-segment_named n own = if is_identifier n then Ok (segment n own) else unknown
+abbrev pub segment_named : List ℕ → Option AddressSize → Result Statement AsmFault
+segment_named n own = if is_identifier n then Ok (Segment n own) else unknown
 
 -- `"N"`, or that with an address size
-abbrev pub segment_of : List Lexeme → Result Stated AsmFault
+abbrev pub segment_of : List Lexeme → Result Statement AsmFault
 segment_of [] = unknown
 segment_of (t ∷ ts) = understood (quoted_in t) >>= (λ n. size_behind ts >>= (λ own. segment_named n own))
 
@@ -324,20 +329,20 @@ abbrev pub own_words : List Lexeme → Result (List ℕ) AsmFault
 own_words ts = understood (string_of ts) >>= short
 
 abbrev pub words_of : List (List Lexeme) → Result (List ℕ) AsmFault
-words_of [] = Ok (codes "assertion failed")
+words_of [] = Ok (codes "Assert failed")
 words_of (part ∷ []) = own_words part
 words_of _ = unknown
 
-abbrev pub asserted : Tree → List Lexeme → List (List Lexeme) → Result Stated AsmFault
-asserted x a rest = action_of a >>= (λ act. words_of rest >>= (λ words. Ok (assertion x act words)))
+abbrev pub asserted : Tree → List Lexeme → List (List Lexeme) → Result Statement AsmFault
+asserted x a rest = action_of a >>= (λ act. words_of rest >>= (λ words. Ok (Assert x act words)))
 
 -- `e, action` or `e, action, "text"`
-abbrev pub IsAssertion : List (List Lexeme) → Result Stated AsmFault → Type 0
+abbrev pub IsAssertion : List (List Lexeme) → Result Statement AsmFault → Type 0
 IsAssertion (e ∷ a ∷ rest) r = Then (IsExpression e) (λ x. asserted x a rest) r
 IsAssertion _ r = r ≡ unknown
 
-abbrev pub processor_of : List Lexeme → Result Stated AsmFault
-processor_of ts = understood (string_of ts) >>= (λ s. if bytes_eq s (codes "6502") then Ok nothing else unknown)
+abbrev pub processor_of : List Lexeme → Result Statement AsmFault
+processor_of ts = understood (string_of ts) >>= (λ s. if bytes_eq s (codes "6502") then Ok Nothing else unknown)
 
 -- ---- Directives.
 
@@ -423,19 +428,19 @@ IsRange (s ∷ []) r = Then (IsExpression s) (λ start. Ok (Some start, None)) r
 IsRange (s ∷ n ∷ []) r = (q : Result Tree AsmFault) × IsExpression s q × First q (λ start. IsRangeWith start n) r
 IsRange _ r = r ≡ unknown
 
-abbrev pub IsPartOf : Option (List ℕ) → List (List Lexeme) → Result Stated AsmFault → Type 0
+abbrev pub IsPartOf : Option (List ℕ) → List (List Lexeme) → Result Statement AsmFault → Type 0
 IsPartOf None range r = r ≡ unknown
-IsPartOf (Some name) range r = Then (IsRange range) (λ x. Ok (part_named name x.0 x.1)) r
+IsPartOf (Some name) range r = Then (IsRange range) (λ x. Ok (NamedPart name x.0 x.1)) r
 
 -- a file's name as a string, and perhaps a start and a length
-abbrev pub IsFilePart : List (List Lexeme) → Result Stated AsmFault → Type 0
+abbrev pub IsFilePart : List (List Lexeme) → Result Statement AsmFault → Type 0
 IsFilePart [] r = r ≡ unknown
 IsFilePart (name ∷ range) r = IsPartOf (string_of name) range r
 
 -- ---- Statements by their directives.
 
 -- the statement of a directive and the tokens behind it
-abbrev pub IsDirective : Directive → List Lexeme → Result Stated AsmFault → Type 0
+abbrev pub IsDirective : Directive → List Lexeme → Result Statement AsmFault → Type 0
 IsDirective (directive.List elements width) ts r = IsList elements width ts r
 IsDirective directive.EndedText ts r = r ≡ ended ts
 IsDirective (directive.Amount which) ts r = IsAmount (amount_statement which) (parts_of ts) r
@@ -449,56 +454,56 @@ IsDirective directive.Assert ts r = IsAssertion (parts_of ts) r
 IsDirective (directive.Message which) ts r = r ≡ told which ts
 IsDirective directive.SetProcessor ts r = r ≡ processor_of ts
 
-abbrev pub IsDirectiveStatement : Option Directive → List Lexeme → Result Stated AsmFault → Type 0
+abbrev pub IsDirectiveStatement : Option Directive → List Lexeme → Result Statement AsmFault → Type 0
 IsDirectiveStatement None ts r = r ≡ unknown
 IsDirectiveStatement (Some d) ts r = IsDirective d ts r
 
 -- ---- Lines.
 
 -- the label that a token before a `:` is, if it is one
-abbrev pub named_label : TokenKind → List ℕ → Option Stated
-named_label token.Identifier n = if is_reserved n then None else Some (label n)
-named_label token.CheapName n = Some (cheap_label n)
+abbrev pub named_label : TokenKind → List ℕ → Option Statement
+named_label token.Identifier n = if is_reserved n then None else Some (Label n)
+named_label token.CheapName n = Some (CheapLabel n)
 named_label _ n = None
 
-abbrev pub with_rest : List Lexeme → Option Stated → Option (Stated × List Lexeme)
+abbrev pub with_rest : List Lexeme → Option Statement → Option (Statement × List Lexeme)
 with_rest ts None = None
 with_rest ts (Some s) = Some (s, ts)
 
-abbrev pub label_before : Lexeme → List Lexeme → Option (Stated × List Lexeme)
+abbrev pub label_before : Lexeme → List Lexeme → Option (Statement × List Lexeme)
 label_before t [] = None
 label_before t (c ∷ ts) = if is_colon c then with_rest ts (named_label t.0 t.1) else None
 
 -- `name:`, `@name:` or `:` at the front, and what stands behind it
-abbrev pub front_label : List Lexeme → Option (Stated × List Lexeme)
+abbrev pub front_label : List Lexeme → Option (Statement × List Lexeme)
 front_label [] = None
-front_label (t ∷ ts) = if is_colon t then Some (unnamed_label, ts) else label_before t ts
+front_label (t ∷ ts) = if is_colon t then Some (UnnamedLabel, ts) else label_before t ts
 
-abbrev pub or_all : List Lexeme → Option (Stated × List Lexeme) → Option Stated × List Lexeme
+abbrev pub or_all : List Lexeme → Option (Statement × List Lexeme) → Option Statement × List Lexeme
 or_all ts None = (None, ts)
 or_all ts (Some x) = (Some x.0, x.1)
 
 -- the label at the front, if there is one, and the tokens behind it
-abbrev pub label_of : List Lexeme → Option Stated × List Lexeme
+abbrev pub label_of : List Lexeme → Option Statement × List Lexeme
 label_of ts = or_all ts (front_label ts)
 
-abbrev pub IsPlainConstant : List ℕ → List Lexeme → Result Stated AsmFault → Type 0
-IsPlainConstant n ts r = Then (IsExpression ts) (λ x. Ok (constant n x)) r
+abbrev pub IsPlainConstant : List ℕ → List Lexeme → Result Statement AsmFault → Type 0
+IsPlainConstant n ts r = Then (IsExpression ts) (λ x. Ok (Constant n x)) r
 
 -- what stands behind a name and `=` or `:=`
-abbrev pub IsConstant : List ℕ → List Lexeme → Result Stated AsmFault → Type 0
+abbrev pub IsConstant : List ℕ → List Lexeme → Result Statement AsmFault → Type 0
 IsConstant n ts r = by_word (is_reserved n)
   where
     by_word : Bool → Type 0
     by_word true = r ≡ unknown
     by_word false = IsPlainConstant n ts r
 
-abbrev pub IsInstruction : Option Mnemonic → List Lexeme → Result Stated AsmFault → Type 0
+abbrev pub IsInstruction : Option Mnemonic → List Lexeme → Result Statement AsmFault → Type 0
 IsInstruction None ts r = r ≡ unknown
-IsInstruction (Some m) ts r = Then (IsOperand ts) (λ x. Ok (instruction m x)) r
+IsInstruction (Some m) ts r = Then (IsOperand ts) (λ x. Ok (Instruction m x)) r
 
 -- a statement that begins with an identifier
-abbrev pub IsNamed : List ℕ → List Lexeme → Result Stated AsmFault → Type 0
+abbrev pub IsNamed : List ℕ → List Lexeme → Result Statement AsmFault → Type 0
 IsNamed n [] r = IsInstruction (mnemonic_of n) [] r
 IsNamed n (t ∷ ts) r = by_mark (defines t)
   where
@@ -507,12 +512,12 @@ IsNamed n (t ∷ ts) r = by_mark (defines t)
     by_mark false = IsInstruction (mnemonic_of n) (t ∷ ts) r
 
 -- a statement by its first token's kind and text and what stands behind it
-abbrev pub IsStatementFrom : TokenKind → List ℕ → List Lexeme → Result Stated AsmFault → Type 0
+abbrev pub IsStatementFrom : TokenKind → List ℕ → List Lexeme → Result Statement AsmFault → Type 0
 IsStatementFrom token.Identifier n ts r = IsNamed n ts r
 IsStatementFrom token.Directive d ts r = IsDirectiveStatement (directive_of d) ts r
 IsStatementFrom _ t ts r = r ≡ unknown
 
 -- a statement of some tokens
-abbrev pub IsStatement : List Lexeme → Result Stated AsmFault → Type 0
+abbrev pub IsStatement : List Lexeme → Result Statement AsmFault → Type 0
 IsStatement [] r = r ≡ unknown
 IsStatement (t ∷ ts) r = IsStatementFrom t.0 t.1 ts r

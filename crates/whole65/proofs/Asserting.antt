@@ -14,7 +14,8 @@ use Rattle.language65.specs.declared.fault.AsmFault.{AsmFault}
 use Rattle.language65.specs.declared.fault.AsmFault.TheVariants.{ImportedAndDefined, NotDefined}
 use Rattle.language65.specs.Contents.{content_of, decided, each_of, export_said, import_fault, said_of, written}
 use Rattle.language65.specs.Laid.{Laid}
-use Rattle.language65.specs.Language.{Stated, constant, imports, exports, globals, forced, assertion}
+use Rattle.language65.specs.declared.language.Statement.{Statement}
+use Rattle.language65.specs.declared.language.Statement.TheVariants.{Constant, Import, Export, Global, ForceImport, Assert}
 use Rattle.language65.specs.Norms.{defined_form, norm_of}
 use Rattle.language65.specs.Numbering.{all_said}
 use Rattle.language65.specs.Symbols.{Symbols, defined, named}
@@ -124,16 +125,16 @@ module _ {E : Type 0} (p : Program) (o : Objects E) (h : AreObjects p o) (owner 
       silent : AllPass o owner ss → ⊤ ↔ AllPass o owner ss
       silent all = (λ k. all, λ k. tt)
 
-      go : (x : Stated) → said_of (o.symbols owner) (record l { stated = x }) ≡ Ok ss → HasAssertion p (line_of owner before (record l { stated = x })) ↔ AllPass o owner ss
-      go (constant n e) d = (let (f, first, last) = bind_ok (norm_of (o.symbols owner) l.spot e) (λ f. Ok []) ss d in silent (nothing_said o owner ss last))
-      go (imports size names) d = silent (all_names o owner (import_fault (o.symbols owner)) (import_passes o owner (o.symbols owner)) names ss d)
-      go (exports names) d = silent (all_names o owner (λ n. export_said (o.symbols owner) l.place n (Err (NotDefined n)) (defined (o.symbols owner) (named 0 n))) (λ n rs e. export_passes o owner (o.symbols owner) l.place n (Err (NotDefined n)) (λ qs k. absurd cc) (defined (o.symbols owner) (named 0 n)) rs e) names ss d)
-      go (globals size names) d = silent (all_names o owner (λ n. export_said (o.symbols owner) l.place n (Ok []) (defined (o.symbols owner) (named 0 n))) (λ n rs e. export_passes o owner (o.symbols owner) l.place n (Ok []) (λ qs k. nothing_said o owner qs k) (defined (o.symbols owner) (named 0 n)) rs e) names ss d)
-      go (forced names) d =
+      go : (x : Statement) → said_of (o.symbols owner) (record l { stated = x }) ≡ Ok ss → HasAssertion p (line_of owner before (record l { stated = x })) ↔ AllPass o owner ss
+      go (Constant n e) d = (let (f, first, last) = bind_ok (norm_of (o.symbols owner) l.spot e) (λ f. Ok []) ss d in silent (nothing_said o owner ss last))
+      go (Import size names) d = silent (all_names o owner (import_fault (o.symbols owner)) (import_passes o owner (o.symbols owner)) names ss d)
+      go (Export names) d = silent (all_names o owner (λ n. export_said (o.symbols owner) l.place n (Err (NotDefined n)) (defined (o.symbols owner) (named 0 n))) (λ n rs e. export_passes o owner (o.symbols owner) l.place n (Err (NotDefined n)) (λ qs k. absurd cc) (defined (o.symbols owner) (named 0 n)) rs e) names ss d)
+      go (Global size names) d = silent (all_names o owner (λ n. export_said (o.symbols owner) l.place n (Ok []) (defined (o.symbols owner) (named 0 n))) (λ n rs e. export_passes o owner (o.symbols owner) l.place n (Ok []) (λ qs k. nothing_said o owner qs k) (defined (o.symbols owner) (named 0 n)) rs e) names ss d)
+      go (ForceImport names) d =
           let (none, first, last) = bind_ok (each_of (import_fault (o.symbols owner)) names) (λ none. Ok (map Demanded names)) ss d in
           let same : map Demanded names ≡ ss = cc last in
           silent (subst (AllPass o owner) same (demanded_pass o owner names))
-      go (assertion e act words) d =
+      go (Assert e act words) d =
           let (f, first, last) = bind_ok (norm_of (o.symbols owner) l.spot e) (decided act l.place words) ss d in
           assertion_passes (length before) l.place e act words f ss (subst (λ s. norm_of (o.symbols owner) s e ≡ Ok f) (sym at) first) last
       go x d = silent (nothing_said o owner ss d)

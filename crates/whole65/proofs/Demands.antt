@@ -14,7 +14,8 @@ use Rattle.language65.specs.declared.fault.AsmFault.{AsmFault}
 use Rattle.language65.specs.declared.fault.AsmFault.TheVariants.{ImportedAndDefined, NotDefined}
 use Rattle.language65.specs.Contents.{content_of, decided, each_of, export_said, import_fault, said_of, written}
 use Rattle.language65.specs.Laid.{Laid}
-use Rattle.language65.specs.Language.{Stated, constant, imports, exports, globals, forced, assertion}
+use Rattle.language65.specs.declared.language.Statement.{Statement}
+use Rattle.language65.specs.declared.language.Statement.TheVariants.{Constant, Import, Export, Global, ForceImport, Assert}
 use Rattle.language65.specs.Norms.{defined_form, norm_of}
 use Rattle.language65.specs.Numbering.{all_said}
 use Rattle.language65.specs.Symbols.{Symbols, defined, named}
@@ -37,7 +38,7 @@ demanded_names ss = flat_map demanded_name ss
 abbrev pub IsAsserted : Symbols → Laid → Said → Type 0
 IsAsserted z l (Exported n place f) = ⊤
 IsAsserted z l (Demanded n) = ⊤
-IsAsserted z l (Checked act place words f) = (e : Tree) × (l.stated ≡ assertion e act words) × (norm_of z l.spot e ≡ Ok f)
+IsAsserted z l (Checked act place words f) = (e : Tree) × (l.stated ≡ Assert e act words) × (norm_of z l.spot e ≡ Ok f)
 
 pub record Tells (z : Symbols) (l : Laid) (ss : List Said) : Type 0 where
   pub demanded : demanded_names ss ≡ forced_by l.stated
@@ -121,26 +122,26 @@ is_decided action.Warning place words (binary op f g) ss h = waiting (written_ok
 pub one_tells : (z : Symbols) (l : Laid) (ss : List Said) → said_of z l ≡ Ok ss → Tells z l ss
 one_tells z l ss h = go l.stated h
   where
-    exporting : (x : Stated) → forced_by x ≡ [] → AllByRecursion IsExport ss → Tells z (record l { stated = x }) ss
+    exporting : (x : Statement) → forced_by x ≡ [] → AllByRecursion IsExport ss → Tells z (record l { stated = x }) ss
     exporting x none all = record { demanded = none_demanded ss all ∙ sym none; asserted = none_asserted z (record l { stated = x }) ss all }
 
-    go : (x : Stated) → said_of z (record l { stated = x }) ≡ Ok ss → Tells z (record l { stated = x }) ss
-    go (constant n e) h = (let (f, first, last) = bind_ok (norm_of z l.spot e) (λ f. Ok []) ss h in exporting (constant n e) refl (nothing_more ss last))
-    go (imports size names) h = exporting (imports size names) refl (all_of IsExport (import_fault z) (of_import z) names ss h)
-    go (exports names) h = exporting (exports names) refl (all_of IsExport (λ n. export_said z l.place n (Err (NotDefined n)) (defined z (named 0 n))) (λ n. of_export z l.place n (Err (NotDefined n)) (λ qs k. absurd cc) (defined z (named 0 n))) names ss h)
-    go (globals size names) h = exporting (globals size names) refl (all_of IsExport (λ n. export_said z l.place n (Ok []) (defined z (named 0 n))) (λ n. of_export z l.place n (Ok []) (λ qs k. cc) (defined z (named 0 n))) names ss h)
-    go (forced names) h =
+    go : (x : Statement) → said_of z (record l { stated = x }) ≡ Ok ss → Tells z (record l { stated = x }) ss
+    go (Constant n e) h = (let (f, first, last) = bind_ok (norm_of z l.spot e) (λ f. Ok []) ss h in exporting (Constant n e) refl (nothing_more ss last))
+    go (Import size names) h = exporting (Import size names) refl (all_of IsExport (import_fault z) (of_import z) names ss h)
+    go (Export names) h = exporting (Export names) refl (all_of IsExport (λ n. export_said z l.place n (Err (NotDefined n)) (defined z (named 0 n))) (λ n. of_export z l.place n (Err (NotDefined n)) (λ qs k. absurd cc) (defined z (named 0 n))) names ss h)
+    go (Global size names) h = exporting (Global size names) refl (all_of IsExport (λ n. export_said z l.place n (Ok []) (defined z (named 0 n))) (λ n. of_export z l.place n (Ok []) (λ qs k. cc) (defined z (named 0 n))) names ss h)
+    go (ForceImport names) h =
         let (none, first, last) = bind_ok (each_of (import_fault z) names) (λ none. Ok (map Demanded names)) ss h in
         let same : map Demanded names ≡ ss = cc last in
-        let both = of_forced z (record l { stated = forced names }) names in
-        subst (Tells z (record l { stated = forced names })) same (record { demanded = both.0; asserted = both.1 })
-    go (assertion e act words) h =
+        let both = of_forced z (record l { stated = ForceImport names }) names in
+        subst (Tells z (record l { stated = ForceImport names })) same (record { demanded = both.0; asserted = both.1 })
+    go (Assert e act words) h =
         let (f, first, last) = bind_ok (norm_of z l.spot e) (decided act l.place words) ss h in
         by f first (is_decided act l.place words f ss last)
       where
-        by : (f : Form) → norm_of z l.spot e ≡ Ok f → IsDecided act l.place words f ss → Tells z (record l { stated = assertion e act words }) ss
-        by f first (settled same) = subst (Tells z (record l { stated = assertion e act words })) same (record { demanded = refl; asserted = tt })
-        by f first (waiting same) = subst (Tells z (record l { stated = assertion e act words })) same (record { demanded = refl; asserted = ((e, refl, first), tt) })
+        by : (f : Form) → norm_of z l.spot e ≡ Ok f → IsDecided act l.place words f ss → Tells z (record l { stated = Assert e act words }) ss
+        by f first (settled same) = subst (Tells z (record l { stated = Assert e act words })) same (record { demanded = refl; asserted = tt })
+        by f first (waiting same) = subst (Tells z (record l { stated = Assert e act words })) same (record { demanded = refl; asserted = ((e, refl, first), tt) })
     go x h = exporting x refl (nothing_more ss h)
 
 -- ---- All of a module.

@@ -5,7 +5,8 @@ use Rattle.std.specs.List.{AllByRecursion, list_any}
 use Rattle.std.specs.Int.{next_multiple_of}
 use Rattle.language65.specs.declared.fault.AsmFault.{AsmFault}
 use Rattle.language65.specs.declared.fault.AsmFault.TheVariants.{BadAlignment, NotUnderstood, SectionTooLarge}
-use Rattle.language65.specs.Language.{Stated, align}
+use Rattle.language65.specs.declared.language.Statement.{Statement}
+use Rattle.language65.specs.declared.language.Statement.TheVariants.{Align}
 use Rattle.language65.specs.Layout.{Standing, laid, multiple_of, own_size, powers, spot_of}
 use Rattle.language65.specs.LineFaults.{alignment_fault, block_fault, defined_twice, first_fault, form_fault, is_open, line_fault, lost_scopes, missing_file, multiple_fault, opened_twice, operand_fault, part_fault, pop_fault, scope_name, size_fault, stands_outside, trees_of, when}
 use Rattle.language65.specs.Norms.{constant_in}
@@ -23,7 +24,7 @@ none_all [] h = tt
 none_all (None ∷ os) h = (refl, none_all os h)
 none_all (Some e ∷ os) h = absurd cc
 
-abbrev faults : Symbols → Standing → Stated → List (Option AsmFault)
+abbrev faults : Symbols → Standing → Statement → List (Option AsmFault)
 faults y w x =
     when (stands_outside x && is_open (spot_of w).scope) NotUnderstood
     ∷ lost_scopes y.scopes (spot_of w).scope (trees_of x)
@@ -40,7 +41,7 @@ faults y w x =
     ∷ when (nat_lt section_limit ((spot_of w).offset + length_of y (spot_of w) (own_size w) x)) SectionTooLarge
     ∷ []
 
-no_alignment_fault : (y : Symbols) (w : Standing) (x : Stated) → line_fault y w x ≡ None → alignment_fault y (spot_of w) x ≡ None
+no_alignment_fault : (y : Symbols) (w : Standing) (x : Statement) → line_fault y w x ≡ None → alignment_fault y (spot_of w) x ≡ None
 no_alignment_fault y w x h =
     let all = none_all (faults y w x) h in
     all.1.1.1.1.1.1.0
@@ -76,11 +77,11 @@ aligned (Some (pos n)) h = record { multiple = n; value = refl; is_power = power
 aligned (Some (negsuc n)) h = absurd cc
 aligned None h = absurd cc
 
-pub multiple_power : (y : Symbols) (w : Standing) (x : Stated) → line_fault y w x ≡ None → IsPower (multiple_of y (spot_of w) x)
+pub multiple_power : (y : Symbols) (w : Standing) (x : Statement) → line_fault y w x ≡ None → IsPower (multiple_of y (spot_of w) x)
 multiple_power y w x h = go x (no_alignment_fault y w x h)
   where
-    go : (x : Stated) → alignment_fault y (spot_of w) x ≡ None → IsPower (multiple_of y (spot_of w) x)
-    go (align n v) h =
+    go : (x : Statement) → alignment_fault y (spot_of w) x ≡ None → IsPower (multiple_of y (spot_of w) x)
+    go (Align n v) h =
         let a = aligned (constant_in y (spot_of w) n) h in
         subst (λ r. IsPower (counted r)) (sym a.value) a.is_power
     go x h = record { exponent = 0; below = omega arith; power = refl }
@@ -93,11 +94,11 @@ gap_end offset (suc n) p =
     let more : offset ≤ next_multiple_of offset (suc n) = omega arith in
     omega (arith, more)
 
-pub line_ends : (y : Symbols) (w : Standing) (place : Place) (x : Stated) → line_fault y w x ≡ None → line_end (spot_of w).offset (multiple_of y (spot_of w) x) (laid y w place x) ≡ (spot_of w).offset + (laid y w place x).length
+pub line_ends : (y : Symbols) (w : Standing) (place : Place) (x : Statement) → line_fault y w x ≡ None → line_end (spot_of w).offset (multiple_of y (spot_of w) x) (laid y w place x) ≡ (spot_of w).offset + (laid y w place x).length
 line_ends y w place x h = go x (no_alignment_fault y w x h)
   where
-    go : (x : Stated) → alignment_fault y (spot_of w) x ≡ None → line_end (spot_of w).offset (multiple_of y (spot_of w) x) (laid y w place x) ≡ (spot_of w).offset + (laid y w place x).length
-    go (align n v) h =
+    go : (x : Statement) → alignment_fault y (spot_of w) x ≡ None → line_end (spot_of w).offset (multiple_of y (spot_of w) x) (laid y w place x) ≡ (spot_of w).offset + (laid y w place x).length
+    go (Align n v) h =
         let a = aligned (constant_in y (spot_of w) n) h in
         ap (λ r. next_multiple_of (spot_of w).offset (counted r)) a.value
         ∙ gap_end (spot_of w).offset a.multiple a.is_power

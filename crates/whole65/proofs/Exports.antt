@@ -19,7 +19,8 @@ use Rattle.language65.specs.declared.fault.AsmFault.{AsmFault}
 use Rattle.language65.specs.declared.fault.AsmFault.TheVariants.{ImportedAndDefined, NotDefined}
 use Rattle.language65.specs.Contents.{content_of, decided, each_of, export_said, import_fault, said_of, written}
 use Rattle.language65.specs.Laid.{Laid}
-use Rattle.language65.specs.Language.{Stated, constant, imports, exports, globals, forced, assertion}
+use Rattle.language65.specs.declared.language.Statement.{Statement}
+use Rattle.language65.specs.declared.language.Statement.TheVariants as statement
 use Rattle.language65.specs.Layout.{Layout}
 use Rattle.language65.specs.Norms.{defined_form, norm_of}
 use Rattle.language65.specs.Numbering.{all_said, exports_among, import_keys, numbered, section_keys}
@@ -150,16 +151,16 @@ demanded_says z (n ∷ ns) = let h = demanded_says z ns in record { exported = h
 one_says : (z : Symbols) (l : Laid) (ss : List Said) → said_of z l ≡ Ok ss → Says z (filter (has_definition z) (exported_by l.stated)) ss
 one_says z l ss h = go l.stated h
   where
-    go : (x : Stated) → said_of z (record l { stated = x }) ≡ Ok ss → Says z (filter (has_definition z) (exported_by x)) ss
-    go (constant n e) h = (let (f, first, last) = bind_ok (norm_of z l.spot e) (λ f. Ok []) ss h in says_nothing z ss last)
-    go (imports size names) h = subst (λ k. Says z k ss) (none_kept names) (all_says z (import_fault z) nothing_kept (import_says z) names ss h)
-    go (exports names) h = subst (λ k. Says z k ss) (kept_one (has_definition z) names) (all_says z (λ n. export_said z l.place n (Err (NotDefined n)) (defined z (named 0 n))) (λ n. filter (has_definition z) (n ∷ [])) (λ n rs e. export_says z l.place n (Err (NotDefined n)) (λ qs k. absurd cc) rs e) names ss h)
-    go (globals size names) h = subst (λ k. Says z k ss) (kept_one (has_definition z) names) (all_says z (λ n. export_said z l.place n (Ok []) (defined z (named 0 n))) (λ n. filter (has_definition z) (n ∷ [])) (λ n rs e. export_says z l.place n (Ok []) (λ qs k. cc) rs e) names ss h)
-    go (forced names) h =
+    go : (x : Statement) → said_of z (record l { stated = x }) ≡ Ok ss → Says z (filter (has_definition z) (exported_by x)) ss
+    go (statement.Constant n e) h = (let (f, first, last) = bind_ok (norm_of z l.spot e) (λ f. Ok []) ss h in says_nothing z ss last)
+    go (statement.Import size names) h = subst (λ k. Says z k ss) (none_kept names) (all_says z (import_fault z) nothing_kept (import_says z) names ss h)
+    go (statement.Export names) h = subst (λ k. Says z k ss) (kept_one (has_definition z) names) (all_says z (λ n. export_said z l.place n (Err (NotDefined n)) (defined z (named 0 n))) (λ n. filter (has_definition z) (n ∷ [])) (λ n rs e. export_says z l.place n (Err (NotDefined n)) (λ qs k. absurd cc) rs e) names ss h)
+    go (statement.Global size names) h = subst (λ k. Says z k ss) (kept_one (has_definition z) names) (all_says z (λ n. export_said z l.place n (Ok []) (defined z (named 0 n))) (λ n. filter (has_definition z) (n ∷ [])) (λ n rs e. export_says z l.place n (Ok []) (λ qs k. cc) rs e) names ss h)
+    go (statement.ForceImport names) h =
         let (none, first, last) = bind_ok (each_of (import_fault z) names) (λ none. Ok (map Demanded names)) ss h in
         let same : map Demanded names ≡ ss = cc last in
         subst (Says z []) same (demanded_says z names)
-    go (assertion e act words) h = (let (f, first, last) = bind_ok (norm_of z l.spot e) (decided act l.place words) ss h in decided_says z act l.place words f ss last)
+    go (statement.Assert e act words) h = (let (f, first, last) = bind_ok (norm_of z l.spot e) (decided act l.place words) ss h in decided_says z act l.place words f ss last)
     go x h = says_nothing z ss h
 
 pub said_all : (z : Symbols) (ls : List Laid) (cs : List Content) → contents_from z ls ≡ Ok cs → Says z (filter (has_definition z) (flat_map (λ l. exported_by l.stated) ls)) (all_said cs)

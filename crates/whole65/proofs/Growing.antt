@@ -4,7 +4,8 @@ use Rattle.std.specs.List.{AllByRecursion}
 use Rattle.std.proofs.lemmas.Bool.Decides.{nat_tests}
 use Rattle.syntax65.specs.declared.lexing.tokens.AddressSize.{AddressSize}
 use Rattle.language65.specs.declared.contents.Segment.{Segment}
-use Rattle.language65.specs.Language.{Stated, segment, push_segment, pop_segment}
+use Rattle.language65.specs.declared.language.Statement.{Statement}
+use Rattle.language65.specs.declared.language.Statement.TheVariants as statement
 use Rattle.language65.specs.Layout.{Standing, current_behind, first_size, grown_at, kept_behind, last_kept, multiple_of, named_segments, new_segment, own_size, place_of, rest_kept, segment_at, segments_behind, spot_of}
 use Rattle.language65.specs.Sizes.{length_of}
 use Rattle.language65.specs.Symbols.{Symbols}
@@ -19,16 +20,16 @@ named_more : (gs : List Segment) (n : List ℕ) (own : Option AddressSize) (plac
 named_more gs n own (Some i) = omega arith
 named_more gs n own None = let longer : length (gs ++ new_segment n (first_size n own) ∷ []) ≡ length gs + 1 = one_longer gs (new_segment n (first_size n own)) in omega (arith, longer)
 
-pub behind_more : (gs : List Segment) (current count multiple : ℕ) (x : Stated) → length gs ≤ length (segments_behind gs current count multiple x)
-behind_more gs current count multiple (segment n own) = named_more gs n own (place_of gs n)
+pub behind_more : (gs : List Segment) (current count multiple : ℕ) (x : Statement) → length gs ≤ length (segments_behind gs current count multiple x)
+behind_more gs current count multiple (statement.Segment n own) = named_more gs n own (place_of gs n)
 behind_more gs current count multiple x = let same : length (grown_at gs current count multiple) ≡ length gs = grown_length gs current count multiple in omega (arith, same)
 
 below_more : (few more : ℕ) (ks : List ℕ) → few ≤ more → are_below few ks → are_below more ks
 below_more few more ks le h = all_same (λ k. k < few) (λ k. k < more) (λ k lt. let up : k < more = omega (arith, lt, le) in up) ks h
 
-pub current_below : (w : Standing) (count multiple : ℕ) (x : Stated) → w.current < length w.segments → are_below (length w.segments) w.kept → current_behind w x < length (segments_behind w.segments w.current count multiple x)
-current_below w count multiple (segment n own) lt h = named_there w.segments n own (place_of w.segments n) refl
-current_below w count multiple pop_segment lt h =
+pub current_below : (w : Standing) (count multiple : ℕ) (x : Statement) → w.current < length w.segments → are_below (length w.segments) w.kept → current_behind w x < length (segments_behind w.segments w.current count multiple x)
+current_below w count multiple (statement.Segment n own) lt h = named_there w.segments n own (place_of w.segments n) refl
+current_below w count multiple statement.PopSegment lt h =
     let same : length (grown_at w.segments w.current count multiple) ≡ length w.segments = grown_length w.segments w.current count multiple in
     subst (λ n. last_kept w.current w.kept < n) (sym same) (last w.kept h)
   where
@@ -39,13 +40,13 @@ current_below w count multiple x lt h =
     let same : length (grown_at w.segments w.current count multiple) ≡ length w.segments = grown_length w.segments w.current count multiple in
     subst (λ n. w.current < n) (sym same) lt
 
-pub kept_below : (w : Standing) (count multiple : ℕ) (x : Stated) → w.current < length w.segments → are_below (length w.segments) w.kept → are_below (length (segments_behind w.segments w.current count multiple x)) (kept_behind w x)
-kept_below w count multiple push_segment lt h =
-    let le = behind_more w.segments w.current count multiple push_segment in
+pub kept_below : (w : Standing) (count multiple : ℕ) (x : Statement) → w.current < length w.segments → are_below (length w.segments) w.kept → are_below (length (segments_behind w.segments w.current count multiple x)) (kept_behind w x)
+kept_below w count multiple statement.PushSegment lt h =
+    let le = behind_more w.segments w.current count multiple statement.PushSegment in
     let up : w.current < length (grown_at w.segments w.current count multiple) = omega (arith, le, lt) in
     (up, below_more (length w.segments) (length (grown_at w.segments w.current count multiple)) w.kept le h)
-kept_below w count multiple pop_segment lt h =
-    below_more (length w.segments) (length (grown_at w.segments w.current count multiple)) (rest_kept w.kept) (behind_more w.segments w.current count multiple pop_segment) (rest w.kept h)
+kept_below w count multiple statement.PopSegment lt h =
+    below_more (length w.segments) (length (grown_at w.segments w.current count multiple)) (rest_kept w.kept) (behind_more w.segments w.current count multiple statement.PopSegment) (rest w.kept h)
   where
     rest : (ks : List ℕ) → are_below (length w.segments) ks → are_below (length w.segments) (rest_kept ks)
     rest [] h = tt
@@ -81,7 +82,7 @@ pub record Adds (g h : Segment) (is_here : Bool) (count multiple : ℕ) : Type 0
 at_least_one : (n : ℕ) → 1 ≤ n → max n 1 ≡ n
 at_least_one n h = omega (arith, h)
 
-pub adds : (y : Symbols) (w : Standing) (x : Stated) (g : ℕ) → w.current < length w.segments → 1 ≤ (segment_at w.segments g).align → Adds (segment_at w.segments g) (segment_at (segments_behind w.segments w.current (length_of y (spot_of w) (own_size w) x) (multiple_of y (spot_of w) x) x) g) (nat_eq w.current g) (length_of y (spot_of w) (own_size w) x) (multiple_of y (spot_of w) x)
+pub adds : (y : Symbols) (w : Standing) (x : Statement) (g : ℕ) → w.current < length w.segments → 1 ≤ (segment_at w.segments g).align → Adds (segment_at w.segments g) (segment_at (segments_behind w.segments w.current (length_of y (spot_of w) (own_size w) x) (multiple_of y (spot_of w) x) x) g) (nat_eq w.current g) (length_of y (spot_of w) (own_size w) x) (multiple_of y (spot_of w) x)
 adds y w x g lt one = go x
   where
     nothing : (b : Bool) (gs : List Segment) → (segment_at gs g).end ≡ (segment_at w.segments g).end → (segment_at gs g).align ≡ (segment_at w.segments g).align → Adds (segment_at w.segments g) (segment_at gs g) b 0 1
@@ -99,6 +100,6 @@ adds y w x g lt one = go x
         let same = grown_other w.segments w.current g count multiple e in
         record { end = (let equal = ap (λ (h : Segment). h.end) same in omega (arith, equal)); align = ap (λ (h : Segment). h.align) same }
 
-    go : (x : Stated) → Adds (segment_at w.segments g) (segment_at (segments_behind w.segments w.current (length_of y (spot_of w) (own_size w) x) (multiple_of y (spot_of w) x) x) g) (nat_eq w.current g) (length_of y (spot_of w) (own_size w) x) (multiple_of y (spot_of w) x)
-    go (segment n own) = nothing (nat_eq w.current g) (named_segments w.segments n own (place_of w.segments n)) (named_end w.segments n own (place_of w.segments n) g) (named_align w.segments n own (place_of w.segments n) g)
+    go : (x : Statement) → Adds (segment_at w.segments g) (segment_at (segments_behind w.segments w.current (length_of y (spot_of w) (own_size w) x) (multiple_of y (spot_of w) x) x) g) (nat_eq w.current g) (length_of y (spot_of w) (own_size w) x) (multiple_of y (spot_of w) x)
+    go (statement.Segment n own) = nothing (nat_eq w.current g) (named_segments w.segments n own (place_of w.segments n)) (named_end w.segments n own (place_of w.segments n) g) (named_align w.segments n own (place_of w.segments n) g)
     go x = more (length_of y (spot_of w) (own_size w) x) (multiple_of y (spot_of w) x) (nat_eq w.current g) refl

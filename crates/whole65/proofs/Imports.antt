@@ -9,7 +9,8 @@ use Rattle.object65.specs.declared.object.Object.{Object}
 use Rattle.language65.proofs.Lists.{bytes_swap, same_bytes}
 use Rattle.language65.specs.Parts.{Content, Part, Said, Exported, Demanded, Checked}
 use Rattle.language65.specs.Laid.{Laid}
-use Rattle.language65.specs.Language.{Stated, forced}
+use Rattle.language65.specs.declared.language.Statement.{Statement}
+use Rattle.language65.specs.declared.language.Statement.TheVariants.{ForceImport}
 use Rattle.language65.specs.Layout.{Layout}
 use Rattle.language65.specs.Numbering.{all_said, content_imports, import_keys, key_of, name_of, once, optional_key, part_imports, said_imports}
 use Rattle.language65.specs.Symbols.{imports_of}
@@ -57,8 +58,8 @@ any_forced n (l ∷ ls) e =
     I : List (List ℕ)
     I = flat_map (λ (l : Laid). imports_of l.stated) ls
 
-    go : (x : Stated) → (list_any (λ k. bytes_eq n k) (forced_by x) || list_any (λ k. bytes_eq n k) F) ≡ true → (list_any (λ k. bytes_eq n k) F ≡ true → list_any (λ k. bytes_eq n k) I ≡ true) → (list_any (λ k. bytes_eq n k) (imports_of x) || list_any (λ k. bytes_eq n k) I) ≡ true
-    go (forced names) e more = by (list_any (λ k. bytes_eq n k) names) e
+    go : (x : Statement) → (list_any (λ k. bytes_eq n k) (forced_by x) || list_any (λ k. bytes_eq n k) F) ≡ true → (list_any (λ k. bytes_eq n k) F ≡ true → list_any (λ k. bytes_eq n k) I ≡ true) → (list_any (λ k. bytes_eq n k) (imports_of x) || list_any (λ k. bytes_eq n k) I) ≡ true
+    go (ForceImport names) e more = by (list_any (λ k. bytes_eq n k) names) e
       where
         by : (b : Bool) → (b || list_any (λ k. bytes_eq n k) F) ≡ true → (b || list_any (λ k. bytes_eq n k) I) ≡ true
         by true e = refl

@@ -9,7 +9,8 @@ use Rattle.expand65.specs.State as expand
 use Rattle.source65.specs.declared.fault.ExpandFault.{ExpandFault}
 use Rattle.source65.specs.declared.place.Place.{Place}
 use Rattle.language65.specs.declared.fault.AsmFault.{AsmFault}
-use Rattle.language65.specs.Language.{Stated, constant}
+use Rattle.language65.specs.declared.language.Statement.{Statement}
+use Rattle.language65.specs.declared.language.Statement.TheVariants.{Constant}
 use Rattle.language65.specs.Layout.{Layout, layout_behind, nothing_laid}
 use Rattle.language65.specs.LineFaults.{line_fault, unless_fault}
 use Rattle.language65.specs.Symbols.{symbols_of}
@@ -19,7 +20,7 @@ use Rattle.module65.specs.Reading.{AreDefined, AreTaken, Define, Follows, IsBegu
 use Rattle.whole65.specs.Inner.Steps.{LaidOutLaw}
 use Rattle.whole65.specs.Offsets.{IsLaidOut, begun, behind}
 
-one : (y z : Layout) (place : Place) (x : Stated) → IsLaidOut y → IsLaid y place x (Ok z) → IsLaidOut z
+one : (y z : Layout) (place : Place) (x : Statement) → IsLaidOut y → IsLaid y place x (Ok z) → IsLaidOut z
 one y z place x d h = by (line_fault (symbols_of y.laid) y.standing x) refl h
   where
     by : (o : Option AsmFault) → line_fault (symbols_of y.laid) y.standing x ≡ o → Ok z ≡ unless_fault o (layout_behind y place x) → IsLaidOut z
@@ -31,11 +32,11 @@ one y z place x d h = by (line_fault (symbols_of y.laid) y.standing x) refl h
 unchanged : (y z : Layout) → IsLaidOut y → ◌≡◌ {A = Result Layout AsmFault} (Ok z) (Ok y) → IsLaidOut z
 unchanged y z d h = let same : y ≡ z = cc in subst IsLaidOut same d
 
-labelled : (y z : Layout) (place : Place) (x : Option Stated) → IsLaidOut y → IsLabelled IsLaid y place x (Ok z) → IsLaidOut z
+labelled : (y z : Layout) (place : Place) (x : Option Statement) → IsLaidOut y → IsLabelled IsLaid y place x (Ok z) → IsLaidOut z
 labelled y z place None d h = unchanged y z d h
 labelled y z place (Some x) d h = one y z place x d h
 
-stated : (m : Files) (y z : Layout) (place : Place) (x : Result Stated AsmFault) → IsLaidOut y → First x (λ s. IsLaid y place (with_bytes m place s)) (Ok z) → IsLaidOut z
+stated : (m : Files) (y z : Layout) (place : Place) (x : Result Statement AsmFault) → IsLaidOut y → First x (λ s. IsLaid y place (with_bytes m place s)) (Ok z) → IsLaidOut z
 stated m y z place (Ok x) d h = one y z place (with_bytes m place x) d h
 stated m y z place (Err e) d h = absurd cc
 
@@ -61,8 +62,8 @@ all_defined : (y : Layout) (place : Place) (ds : List Define) (z : Layout) → I
 all_defined y place [] z d h = unchanged y z d h
 all_defined y place (c ∷ cs) z d (q, is, h) = by q is h (λ w e more. all_defined w place cs z e more)
   where
-    by : (q : Result Layout AsmFault) → IsLaid y place (constant c.0 (number c.1)) q → First q (λ w. AreDefined IsLaid w place cs) (Ok z) → ((w : Layout) → IsLaidOut w → AreDefined IsLaid w place cs (Ok z) → IsLaidOut z) → IsLaidOut z
-    by (Ok w) is h next = next w (one y w place (constant c.0 (number c.1)) d is) h
+    by : (q : Result Layout AsmFault) → IsLaid y place (Constant c.0 (number c.1)) q → First q (λ w. AreDefined IsLaid w place cs) (Ok z) → ((w : Layout) → IsLaidOut w → AreDefined IsLaid w place cs (Ok z) → IsLaidOut z) → IsLaidOut z
+    by (Ok w) is h next = next w (one y w place (Constant c.0 (number c.1)) d is) h
     by (Err e) is h next = absurd cc
 
 followed : (m : Files) (s : expand.State) (place : Place) (ds : List Define) (q : Result Layout AsmFault) (r : Reached Layout) → AreDefined IsLaid nothing_laid place ds q → Follows m laying s place nothing_laid q r → IsLaidOut r.behind

@@ -15,8 +15,11 @@ use Rattle.language65.specs.Contents.{instruction_parts, item_part, opcode_part,
 use Rattle.language65.specs.declared.laid.Settled.{Settled}
 use Rattle.language65.specs.declared.laid.Settled.TheVariants.{Unsettled, InMode, FilledWith, FromByte}
 use Rattle.language65.specs.declared.laid.Spot.{Spot}
-use Rattle.language65.specs.Language as language
-use Rattle.language65.specs.Language.{Item, Operand, Stated}
+use Rattle.language65.specs.declared.language.Item.{Item}
+use Rattle.language65.specs.declared.language.Operand.{Operand}
+use Rattle.language65.specs.declared.language.Statement.{Statement}
+use Rattle.language65.specs.declared.language.Statement.TheVariants as statement
+use Rattle.language65.specs.declared.language.Item.TheVariants as item
 use Rattle.language65.specs.Norms.{norm_of}
 use Rattle.language65.specs.Sizes.{width_of}
 use Rattle.whole65.proofs.Later.{bind_ok}
@@ -56,11 +59,11 @@ module _ {E : Type 0} (p : Program) (o : Objects E) (h : AreObjects p o) (fill :
   -- ---- Data.
 
   of_item : (width : Width) (i : Item) (q : Part) (bytes : List ℕ) → item_part (o.symbols x.owner) x.laid width i ≡ Ok q → AreItem p x width i bytes ↔ ArePart (HasValue o x.owner) fill q bytes
-  of_item width (language.value e) q bytes r =
+  of_item width (item.Value e) q bytes r =
       let (f, normal, kept) = bind_ok (norm_of (o.symbols x.owner) x.laid.spot e) (stored width x.laid.place) q r in
       let part = of_stored o x.owner fill width x.laid.place f q bytes kept in
       (λ k. part.1 (k.0, (values e f k.0 normal).0 k.1, k.2), λ k. (let b : HasBytes o x.owner width f bytes = part.0 k in (b.0, (values e f b.0 normal).1 b.1, b.2)))
-  of_item width (language.text own) q bytes r =
+  of_item width (item.Text own) q bytes r =
       let same : Known own ≡ q = cc in
       (λ k. subst (λ z. ArePart (HasValue o x.owner) fill z bytes) same k, λ k. subst (λ z. ArePart (HasValue o x.owner) fill z bytes) (sym same) k)
 
@@ -134,14 +137,14 @@ module _ {E : Type 0} (p : Program) (o : Objects E) (h : AreObjects p o) (fill :
       let same : ArePart (HasValue o x.owner) fill (room_part len s) bytes ≡ (bytes ≡ replicate count (filling fill s)) = of_room len s bytes ∙ ap (λ n. bytes ≡ replicate n (filling fill s)) (sym e) in
       (λ k. alone.0 (subst (λ z. z) (sym same) k), λ k. subst (λ z. z) same (alone.1 k))
 
-of_line : {E : Type 0} (p : Program) (o : Objects E) → AreObjects p o → (fill at : ℕ) (x : Line) (t : Stated) (ps : List Part) (bytes : List ℕ) → o.spots x.owner x.place ≡ x.laid.spot → line_end at x.multiple (record x.laid { stated = t }) ≡ at + x.laid.length → parts_of (o.symbols x.owner) (record x.laid { stated = t }) ≡ Ok ps → AreLine p fill at (record x { laid = record x.laid { stated = t } }) bytes ↔ AreParts (HasValue o x.owner) fill ps bytes
-of_line p o h fill at x (language.instruction m d) ps bytes s e q = of_instruction p o h fill x s m d x.laid.settled ps bytes q
-of_line p o h fill at x (language.values width is) ps bytes s e q = of_items p o h fill x s width is ps bytes q
-of_line p o h fill at x (language.reserve n v) ps bytes s e q = room p o h fill x s x.laid.length x.laid.length x.laid.settled ps bytes refl q
-of_line p o h fill at x (language.align n v) ps bytes s e q =
-    let count : line_end at x.multiple (record x.laid { stated = language.align n v }) - at ≡ x.laid.length = omega (arith, e) in
-    room p o h fill x s (line_end at x.multiple (record x.laid { stated = language.align n v }) - at) x.laid.length x.laid.settled ps bytes count q
-of_line p o h fill at x (language.file_part file n v) ps bytes s e q = of_alone p o h fill x s _ ps bytes q
+of_line : {E : Type 0} (p : Program) (o : Objects E) → AreObjects p o → (fill at : ℕ) (x : Line) (t : Statement) (ps : List Part) (bytes : List ℕ) → o.spots x.owner x.place ≡ x.laid.spot → line_end at x.multiple (record x.laid { stated = t }) ≡ at + x.laid.length → parts_of (o.symbols x.owner) (record x.laid { stated = t }) ≡ Ok ps → AreLine p fill at (record x { laid = record x.laid { stated = t } }) bytes ↔ AreParts (HasValue o x.owner) fill ps bytes
+of_line p o h fill at x (statement.Instruction m d) ps bytes s e q = of_instruction p o h fill x s m d x.laid.settled ps bytes q
+of_line p o h fill at x (statement.Values width is) ps bytes s e q = of_items p o h fill x s width is ps bytes q
+of_line p o h fill at x (statement.Reserve n v) ps bytes s e q = room p o h fill x s x.laid.length x.laid.length x.laid.settled ps bytes refl q
+of_line p o h fill at x (statement.Align n v) ps bytes s e q =
+    let count : line_end at x.multiple (record x.laid { stated = statement.Align n v }) - at ≡ x.laid.length = omega (arith, e) in
+    room p o h fill x s (line_end at x.multiple (record x.laid { stated = statement.Align n v }) - at) x.laid.length x.laid.settled ps bytes count q
+of_line p o h fill at x (statement.FilePart file n v) ps bytes s e q = of_alone p o h fill x s _ ps bytes q
 of_line p o h fill at x t ps bytes s e q = none p o h fill x s ps bytes q
 
 pub parts_law : (E : Type 0) → PartsLaw E

@@ -5,7 +5,7 @@ use Rattle.std.proofs.Math.Nat.{add_assoc}
 use Rattle.std.proofs.lemmas.List.Elements.{filter-append}
 use Rattle.source65.specs.declared.place.Place.{Place}
 use Rattle.language65.specs.Laid.{Laid}
-use Rattle.language65.specs.Language.{Stated}
+use Rattle.language65.specs.declared.language.Statement.{Statement}
 use Rattle.language65.specs.Layout.{Layout, laid, multiple_of, segment_at, spot_of}
 use Rattle.language65.specs.LineFaults.{line_fault}
 use Rattle.language65.specs.Symbols.{symbols_of}
@@ -41,7 +41,7 @@ module _ (owner g : ℕ) where
   abbrev here : List Laid → List Line
   here ls = lines_at g (lines_behind owner [] ls)
 
-  one_more : (y : Layout) (place : Place) (x : Stated) → Placed owner y → line_fault (symbols_of y.laid) y.standing x ≡ None → EndsAt 0 (here y.laid) → (b : Bool) → nat_eq y.standing.current g ≡ b → EndsAt 0 (here (y.laid ++ laid (symbols_of y.laid) y.standing place x ∷ []))
+  one_more : (y : Layout) (place : Place) (x : Statement) → Placed owner y → line_fault (symbols_of y.laid) y.standing x ≡ None → EndsAt 0 (here y.laid) → (b : Bool) → nat_eq y.standing.current g ≡ b → EndsAt 0 (here (y.laid ++ laid (symbols_of y.laid) y.standing place x ∷ []))
   one_more y place x h none ends b e =
       let l : Laid = laid (symbols_of y.laid) y.standing place x in
       let next : Line = line_of owner y.laid l in

@@ -8,7 +8,8 @@ use Rattle.syntax65.specs.declared.lexing.tokens.AddressSize.{AddressSize}
 use Rattle.language65.proofs.Lists.{bytes_swap}
 use Rattle.language65.specs.declared.contents.Segment.{Segment}
 use Rattle.language65.specs.Laid.{Laid}
-use Rattle.language65.specs.Language.{Stated, segment}
+use Rattle.language65.specs.declared.language.Statement.{Statement}
+use Rattle.language65.specs.declared.language.Statement.TheVariants as statement
 use Rattle.language65.specs.Layout.{Layout, Standing, first_size, grown_at, laid, layout_behind, multiple_of, named_segments, new_segment, own_size, place_of, segment_at, segments_behind, spot_of}
 use Rattle.language65.specs.Sizes.{length_of}
 use Rattle.language65.specs.Symbols.{Symbols, symbols_of}
@@ -84,15 +85,15 @@ distinct_named : (gs : List Segment) (n : List ℕ) (own : _) (place : Option �
 distinct_named gs n own (Some i) d e = d
 distinct_named gs n own None d e = distinct_new gs n (first_size n own) d e
 
-distinct_behind : (gs : List Segment) (current count multiple : ℕ) (x : Stated) → Distinct gs → Distinct (segments_behind gs current count multiple x)
-distinct_behind gs current count multiple (segment n own) d = distinct_named gs n own (place_of gs n) d refl
+distinct_behind : (gs : List Segment) (current count multiple : ℕ) (x : Statement) → Distinct gs → Distinct (segments_behind gs current count multiple x)
+distinct_behind gs current count multiple (statement.Segment n own) d = distinct_named gs n own (place_of gs n) d refl
 distinct_behind gs current count multiple x d = λ g h lt lt' same. d g h (subst (λ n. g < n) (grown_length gs current count multiple) lt) (subst (λ n. h < n) (grown_length gs current count multiple) lt') (rw (grown_name gs current count multiple g, grown_name gs current count multiple h) at same)
 
 pub record Named (y : Layout) : Type 0 where
   pub distinct : Distinct y.standing.segments
   pub standing : AllByRecursion (λ (l : Laid). l.spot.segment < length y.standing.segments) y.laid
 
-later : (y : Layout) (place : Place) (x : Stated) → y.standing.current < length y.standing.segments → Named y → Named (layout_behind y place x)
+later : (y : Layout) (place : Place) (x : Statement) → y.standing.current < length y.standing.segments → Named y → Named (layout_behind y place x)
 later y place x here h =
     let z : Layout = layout_behind y place x in
     let w : Standing = y.standing in

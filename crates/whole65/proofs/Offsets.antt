@@ -4,7 +4,7 @@ use Rattle.std.proofs.lemmas.List.{append-nil, append_assoc, map-append}
 use Rattle.std.proofs.lemmas.List.Elements.{filter-append}
 use Rattle.source65.specs.declared.place.Place.{Place}
 use Rattle.language65.specs.Laid.{Laid}
-use Rattle.language65.specs.Language.{Stated}
+use Rattle.language65.specs.declared.language.Statement.{Statement}
 use Rattle.language65.specs.Layout.{Layout, laid, layout_behind, nothing_laid, segment_at, spot_of}
 use Rattle.language65.specs.LineFaults.{line_fault}
 use Rattle.language65.specs.Symbols.{Symbols, symbols_of}
@@ -83,7 +83,7 @@ pub record Placed (owner : ℕ) (y : Layout) : Type 0 where
   pub aligns : (g : ℕ) → (segment_at y.standing.segments g).align ≡ largest_multiple (lines_at g (lines_behind owner [] y.laid))
   pub powers : ArePowers (lines_behind owner [] y.laid)
 
-module _ (owner : ℕ) (y : Layout) (place : Place) (x : Stated) (h : Placed owner y) (none : line_fault (symbols_of y.laid) y.standing x ≡ None) where
+module _ (owner : ℕ) (y : Layout) (place : Place) (x : Statement) (h : Placed owner y) (none : line_fault (symbols_of y.laid) y.standing x ≡ None) where
   abbrev table : Symbols
   table = symbols_of y.laid
 

@@ -11,8 +11,9 @@ use Rattle.script65.specs.declared.script.Script.{Script}
 use Rattle.language65.specs.Parts.{Content, Part, Known, Filled, Waiting, Said, Exported, Demanded, Checked}
 use Rattle.language65.specs.Contents.{content_of, parts_of}
 use Rattle.language65.specs.Laid.{Laid, asks_section}
-use Rattle.language65.specs.Language as language
-use Rattle.language65.specs.Language.{Stated, assertion}
+use Rattle.language65.specs.declared.language.Statement.{Statement}
+use Rattle.language65.specs.declared.language.Statement.TheVariants as statement
+use Rattle.language65.specs.declared.language.Statement.TheVariants.{Assert}
 use Rattle.language65.specs.Layout.{Layout}
 use Rattle.language65.specs.Norms.{defined_form, norm}
 use Rattle.language65.specs.Numbering.{all_said, imports_in, name_of, optional_key, key_of, parts_in, segments_asked}
@@ -56,12 +57,12 @@ IsQuiet c = c.asks ≡ false → c.parts ≡ []
 quiet_parts : (z : Symbols) (l : Laid) (ps : List Part) → asks_section l.stated ≡ false → parts_of z l ≡ Ok ps → ps ≡ []
 quiet_parts z l ps none h = go l.stated none h
   where
-    go : (x : Stated) → asks_section x ≡ false → parts_of z (record l { stated = x }) ≡ Ok ps → ps ≡ []
-    go (language.instruction m o) none h = absurd cc
-    go (language.values w is) none h = absurd cc
-    go (language.reserve n v) none h = absurd cc
-    go (language.align n v) none h = absurd cc
-    go (language.file_part b n v) none h = absurd cc
+    go : (x : Statement) → asks_section x ≡ false → parts_of z (record l { stated = x }) ≡ Ok ps → ps ≡ []
+    go (statement.Instruction m o) none h = absurd cc
+    go (statement.Values w is) none h = absurd cc
+    go (statement.Reserve n v) none h = absurd cc
+    go (statement.Align n v) none h = absurd cc
+    go (statement.FilePart b n v) none h = absurd cc
     go x none h = cc
 
 quiet_contents : (z : Symbols) (ls : List Laid) (cs : List Content) → contents_from z ls ≡ Ok cs → AllByRecursion IsQuiet cs
@@ -208,7 +209,7 @@ module _ (s : Script) (placement : Placement) (ys : List Layout) (ms : List Modu
   check_valued before l (Exported n place f) spot has k = tt
   check_valued before l (Demanded n) spot has k = tt
   check_valued before l (Checked act place words f) spot has (e, stated, normal) =
-      let own : HasAssertion p (line_of owner before (record l { stated = assertion e act words })) = subst (λ x. HasAssertion p (line_of owner before (record l { stated = x }))) stated has in
+      let own : HasAssertion p (line_of owner before (record l { stated = Assert e act words })) = subst (λ x. HasAssertion p (line_of owner before (record l { stated = x }))) stated has in
       let depth : ℕ = suc (length z.definitions) in
       let same : norm depth (o.symbols owner) (o.spots owner (length before)) e ≡ Ok f = ap (λ r. norm depth (symbols_at r) (o.spots owner (length before)) e) at_y ∙ ap (λ r. norm depth z r e) spot ∙ normal in
       (own.0, (same_values_law ValueFault p o (sources_law s placement ys ms h) depth owner (length before) e f own.0 same).0 own.1)

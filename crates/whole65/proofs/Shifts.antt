@@ -2,7 +2,8 @@
 use Rattle.std.proofs.Common.{◌≡◌, ℕ, ◌+◌, refl, ◌∙◌, ap, arith, max, List, [], ◌∷◌, ◌++◌, map}
 use Rattle.std.proofs.Math.Nat.{add_assoc}
 use Rattle.language65.specs.Laid.{Laid}
-use Rattle.language65.specs.Language.{Stated, align}
+use Rattle.language65.specs.declared.language.Statement.{Statement}
+use Rattle.language65.specs.declared.language.Statement.TheVariants.{Align}
 use Rattle.whole65.proofs.Multiples.{Larger, larger, multiple_of_multiple, round_shift}
 use Rattle.whole65.specs.Inner.Steps.{ShiftLaw}
 use Rattle.whole65.specs.Offsets.{ArePowers, IsMultiple, IsPower}
@@ -19,8 +20,8 @@ largest_power (x ∷ xs) h = (larger x.multiple (largest_multiple xs) h.0 (large
 pub line_shift : (b o multiple : ℕ) (l : Laid) → IsMultiple b multiple → line_end (b + o) multiple l ≡ b + line_end o multiple l
 line_shift b o multiple l h = go l.stated
   where
-    go : (x : Stated) → line_end (b + o) multiple (record l { stated = x }) ≡ b + line_end o multiple (record l { stated = x })
-    go (align n v) = round_shift b o multiple h
+    go : (x : Statement) → line_end (b + o) multiple (record l { stated = x }) ≡ b + line_end o multiple (record l { stated = x })
+    go (Align n v) = round_shift b o multiple h
     go x = add_assoc b o l.length
 
 pub end_shift : (xs : List Line) (b o : ℕ) → ArePowers xs → IsMultiple b (largest_multiple xs) → end_of (b + o) (map line xs) ≡ b + end_of o (map line xs)

@@ -6,8 +6,8 @@ use Rattle.std.specs.Str.{bytes_eq}
 use Rattle.syntax65.specs.declared.lexing.tokens.AddressSize.{AddressSize}
 use Rattle.language65.specs.Laid.{Laid, asks_section}
 use Rattle.language65.specs.declared.laid.Spot.{Spot}
-use Rattle.language65.specs.Language as language
-use Rattle.language65.specs.Language.{Stated}
+use Rattle.language65.specs.declared.language.Statement.{Statement}
+use Rattle.language65.specs.declared.language.Statement.TheVariants as statement
 use Rattle.language65.specs.Layout.{Layout, laid, own_size, spot_of}
 use Rattle.language65.specs.Sizes.{length_of}
 use Rattle.language65.specs.Symbols.{Symbols, symbols_of}
@@ -24,12 +24,12 @@ use Rattle.whole65.specs.Segments.{Item, end_of, has_section, items_before, item
 abbrev IsQuiet : Laid → Type 0
 IsQuiet l = asks_section l.stated ≡ false → l.length ≡ 0
 
-places_nothing : (y : Symbols) (s : Spot) (own : AddressSize) (x : Stated) → asks_section x ≡ false → length_of y s own x ≡ 0
-places_nothing y s own (language.instruction m o) h = cc
-places_nothing y s own (language.values w is) h = cc
-places_nothing y s own (language.reserve n v) h = cc
-places_nothing y s own (language.align n v) h = cc
-places_nothing y s own (language.file_part b n v) h = cc
+places_nothing : (y : Symbols) (s : Spot) (own : AddressSize) (x : Statement) → asks_section x ≡ false → length_of y s own x ≡ 0
+places_nothing y s own (statement.Instruction m o) h = cc
+places_nothing y s own (statement.Values w is) h = cc
+places_nothing y s own (statement.Reserve n v) h = cc
+places_nothing y s own (statement.Align n v) h = cc
+places_nothing y s own (statement.FilePart b n v) h = cc
 places_nothing y s own x h = refl
 
 pub quiet : {y : Layout} → IsLaidOut y → AllByRecursion IsQuiet y.laid
@@ -44,8 +44,8 @@ quiet_end at multiple l h e = go l.stated h
     nothing : at + l.length ≡ at
     nothing = omega (arith, e)
 
-    go : (x : Stated) → asks_section x ≡ false → line_end at multiple (record l { stated = x }) ≡ at
-    go (language.align n v) h = absurd cc
+    go : (x : Statement) → asks_section x ≡ false → line_end at multiple (record l { stated = x }) ≡ at
+    go (statement.Align n v) h = absurd cc
     go x h = nothing
 
 -- none of the module's statements there asks

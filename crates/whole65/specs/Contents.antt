@@ -10,7 +10,11 @@ use Rattle.object65.specs.declared.object.Width.TheVariants.{Branch}
 use Rattle.language65.specs.Contents.{file_bytes, operand_tree}
 use Rattle.language65.specs.declared.laid.Settled.{Settled}
 use Rattle.language65.specs.declared.laid.Settled.TheVariants.{InMode, FilledWith}
-use Rattle.language65.specs.Language.{Item, value, text, Operand, Stated, instruction, values, reserve, align, file_part}
+use Rattle.language65.specs.declared.language.Item.{Item}
+use Rattle.language65.specs.declared.language.Operand.{Operand}
+use Rattle.language65.specs.declared.language.Statement.{Statement}
+use Rattle.language65.specs.declared.language.Statement.TheVariants.{Instruction, Values, Reserve, Align, FilePart}
+use Rattle.language65.specs.declared.language.Item.TheVariants as item
 use Rattle.language65.specs.Sizes.{width_of}
 use Rattle.whole65.specs.Segments.{Line, end_behind, line_end, line, rounding}
 use Rattle.whole65.specs.Segments as segments
@@ -29,8 +33,8 @@ AreStored width v bytes = (fits_width width v ≡ true) × (bytes ≡ value_byte
 
 -- the bytes of an element of a list of data
 abbrev pub AreItem : Program → Line → Width → Item → List ℕ → Type 0
-AreItem p x width (value e) bytes = (v : ℤ) × Value p x.owner x.place e v × AreStored width v bytes
-AreItem p x width (text own) bytes = bytes ≡ own
+AreItem p x width (item.Value e) bytes = (v : ℤ) × Value p x.owner x.place e v × AreStored width v bytes
+AreItem p x width (item.Text own) bytes = bytes ≡ own
 
 abbrev pub AreItems : Program → Line → Width → List Item → List ℕ → Type 0
 AreItems p x width [] bytes = bytes ≡ []
@@ -65,12 +69,12 @@ filling fill _ = fill
 abbrev pub AreLine : Program → ℕ → ℕ → Line → List ℕ → Type 0
 AreLine p fill at x bytes = go x.laid.stated
   where
-    go : Stated → Type 0
-    go (instruction m o) = AreInstruction p x m o x.laid.settled bytes
-    go (values width items) = AreItems p x width items bytes
-    go (reserve n v) = bytes ≡ replicate x.laid.length (filling fill x.laid.settled)
-    go (align n v) = bytes ≡ replicate (line_end at x.multiple x.laid - at) (filling fill x.laid.settled)
-    go (file_part file start len) = bytes ≡ file_bytes x.laid.length file x.laid.settled
+    go : Statement → Type 0
+    go (Instruction m o) = AreInstruction p x m o x.laid.settled bytes
+    go (Values width items) = AreItems p x width items bytes
+    go (Reserve n v) = bytes ≡ replicate x.laid.length (filling fill x.laid.settled)
+    go (Align n v) = bytes ≡ replicate (line_end at x.multiple x.laid - at) (filling fill x.laid.settled)
+    go (FilePart file start len) = bytes ≡ file_bytes x.laid.length file x.laid.settled
     go _ = bytes ≡ []
 
 -- ---- Segments.

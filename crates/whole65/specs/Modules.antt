@@ -5,7 +5,8 @@ use Rattle.syntax65.specs.Trees.{Tree}
 use Rattle.language65.specs.declared.fault.AsmFault.{AsmFault}
 use Rattle.language65.specs.Laid.{Laid}
 use Rattle.language65.specs.declared.laid.Spot.{Spot}
-use Rattle.language65.specs.Language.{Stated, exports, globals, forced}
+use Rattle.language65.specs.declared.language.Statement.{Statement}
+use Rattle.language65.specs.declared.language.Statement.TheVariants.{Export, Global, ForceImport}
 use Rattle.language65.specs.Layout.{Layout}
 use Rattle.language65.specs.Names as names
 use Rattle.language65.specs.Symbols.{Symbols, definitions_of, defined, named, symbols_of, value_defined, with_new}
@@ -70,9 +71,9 @@ means_in y place e = meaning_by y (names.meaning_of (table_of y) (spot_at y plac
 
 -- ---- What a module gives and needs.
 
-abbrev pub exported_by : Stated → List (List ℕ)
-exported_by (exports names) = names
-exported_by (globals own names) = names
+abbrev pub exported_by : Statement → List (List ℕ)
+exported_by (Export names) = names
+exported_by (Global own names) = names
 exported_by _ = []
 
 -- the module defines the name in its global scope
@@ -83,8 +84,8 @@ is_defined y n = is_some (defined (table_of y) (named 0 n))
 abbrev pub exports_of : Layout → List (List ℕ)
 exports_of y = with_new [] (filter (is_defined y) (flat_map (λ l. exported_by l.stated) y.laid))
 
-abbrev pub forced_by : Stated → List (List ℕ)
-forced_by (forced names) = names
+abbrev pub forced_by : Statement → List (List ℕ)
+forced_by (ForceImport names) = names
 forced_by _ = []
 
 -- the names that a module imports whether or not it uses them

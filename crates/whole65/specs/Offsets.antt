@@ -3,7 +3,7 @@ use Rattle.std.specs.Prelude.{◌≡◌, ◌<◌, ℕ, zero, suc, ◌*◌, ◌^�
 use Rattle.std.specs.Int.{next_multiple_of}
 use Rattle.std.specs.List.{AllByRecursion}
 use Rattle.source65.specs.declared.place.Place.{Place}
-use Rattle.language65.specs.Language.{Stated}
+use Rattle.language65.specs.declared.language.Statement.{Statement}
 use Rattle.language65.specs.Layout.{Layout, layout_behind, nothing_laid}
 use Rattle.language65.specs.LineFaults.{line_fault}
 use Rattle.language65.specs.Symbols.{symbols_of}
@@ -26,7 +26,7 @@ ArePowers xs = AllByRecursion (λ x. IsPower x.multiple) xs
 pub data IsLaidOut : Layout → Type 0 where
   begun : IsLaidOut nothing_laid
   behind :
-      (y : Layout) (place : Place) (x : Stated) →
+      (y : Layout) (place : Place) (x : Statement) →
       IsLaidOut y → line_fault (symbols_of y.laid) y.standing x ≡ None → IsLaidOut (layout_behind y place x)
 
 -- the lines of a module that stand in its segment of a number

@@ -5,7 +5,8 @@ use Rattle.std.specs.Str.{bytes_eq}
 use Rattle.std.specs.Int.{next_multiple_of}
 use Rattle.script65.specs.declared.placement.SegmentNeed.{SegmentNeed}
 use Rattle.language65.specs.Laid.{Laid, asks_section}
-use Rattle.language65.specs.Language.{Stated, align}
+use Rattle.language65.specs.declared.language.Statement.{Statement}
+use Rattle.language65.specs.declared.language.Statement.TheVariants.{Align}
 use Rattle.language65.specs.Layout.{Layout, multiple_of, segment_at}
 use Rattle.language65.specs.Symbols.{symbols_of, with_new}
 
@@ -76,8 +77,8 @@ items_of ys name = items_from 0 ys name
 abbrev pub line_end : ℕ → ℕ → Laid → ℕ
 line_end at multiple l = go l.stated
   where
-    go : Stated → ℕ
-    go (align n v) = next_multiple_of at multiple
+    go : Statement → ℕ
+    go (Align n v) = next_multiple_of at multiple
     go _ = at + l.length
 
 -- the position behind an item that begins at a position

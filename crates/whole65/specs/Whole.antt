@@ -12,7 +12,8 @@ use Rattle.base65.specs.declared.output.OutputFile.{OutputFile}
 use Rattle.link65.specs.Files.{AddsAreas, IsAreaFile, RowBytes}
 use Rattle.link65.specs.Givers.{first_again}
 use Rattle.link65.specs.Names.{script_names, symbol_imports}
-use Rattle.language65.specs.Language.{Stated, assertion}
+use Rattle.language65.specs.declared.language.Statement.{Statement}
+use Rattle.language65.specs.declared.language.Statement.TheVariants.{Assert}
 use Rattle.language65.specs.Layout.{Layout}
 use Rattle.whole65.specs.Contents.{AreBytes}
 use Rattle.whole65.specs.Modules.{exports_of, forced_of}
@@ -34,8 +35,8 @@ Passes action.Warning v = ⊤
 abbrev pub HasAssertion : Program → Line → Type 0
 HasAssertion p x = go x.laid.stated
   where
-    go : Stated → Type 0
-    go (assertion e act words) = (v : ℤ) × Value p x.owner x.place e v × Passes act v
+    go : Statement → Type 0
+    go (Assert e act words) = (v : ℤ) × Value p x.owner x.place e v × Passes act v
     go _ = ⊤
 
 -- a name that is needed whether or not it is used is given

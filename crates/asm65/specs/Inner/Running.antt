@@ -10,7 +10,8 @@ use Rattle.source65.specs.declared.place.Place.{Place}
 use Rattle.language65.specs.declared.fault.AsmFault.{AsmFault}
 use Rattle.language65.specs.declared.fault.AsmFault.TheVariants.{FileError, FileNotFound}
 use Rattle.language65.specs.Faults.{is_failure, is_outside}
-use Rattle.language65.specs.Language.{Stated, constant}
+use Rattle.language65.specs.declared.language.Statement.{Statement}
+use Rattle.language65.specs.declared.language.Statement.TheVariants.{Constant}
 use Rattle.language65.specs.Sound.{IsSound}
 use Rattle.module65.specs.Machine.{Runs, State, Takes, begun}
 use Rattle.module65.specs.Reading.{Define, Job, stopped}
@@ -39,7 +40,7 @@ SaysAs t a = (a.texts.out ≡ t.out) × (a.texts.err ≡ t.err)
 pub data IsReached : State → Type 0 where
   at_first : IsReached begun
   behind :
-      (t u : State) (place : Place) (x : Stated) →
+      (t u : State) (place : Place) (x : Statement) →
       IsReached t → IsSound x → Takes t place x (Ok u) → IsReached u
 
 -- what the first has been led to leads to the second
@@ -87,7 +88,7 @@ StopsQuietly IsAnswer more old new r =
     IfErr r (λ e. is_failure e ≡ true → IsStopped IsAnswer more old new e)
 
 -- what a label is, if there is one, objects can hold
-abbrev pub IsSoundIf : Option Stated → Type 0
+abbrev pub IsSoundIf : Option Statement → Type 0
 IsSoundIf None = ⊤
 IsSoundIf (Some x) = IsSound x
 
@@ -98,7 +99,7 @@ abbrev pub DefinesBy :
     Place → Define → Assembler → Assembler → Result (Unit {0}) AsmFault → Type 0
 DefinesBy place d old new r =
     (count : ℕ) (t : State) → count + 1 ≤ opening_limit → Holds count t old →
-    Leaves ⊤ (Takes t place (constant d.0 (number d.1))) count t new r
+    Leaves ⊤ (Takes t place (Constant d.0 (number d.1))) count t new r
 
 -- ---- A source.
 

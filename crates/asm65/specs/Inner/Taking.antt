@@ -6,7 +6,7 @@ use Rattle.source65.specs.declared.place.Place.{Place}
 use Rattle.language65.specs.Contents.{asking}
 use Rattle.language65.specs.Laid.{Laid, asks_section}
 use Rattle.language65.specs.declared.laid.Spot.{Spot}
-use Rattle.language65.specs.Language.{Stated}
+use Rattle.language65.specs.declared.language.Statement.{Statement}
 use Rattle.language65.specs.Layout.{spot_of, standing_behind}
 use Rattle.language65.specs.LineFaults.{line_fault, opened_twice, scope_name}
 use Rattle.language65.specs.declared.fault.AsmFault.{AsmFault}
@@ -25,7 +25,7 @@ use Rattle.asm65.specs.Inner.Holding.{AreBefore, Holds}
 use Rattle.layout65.specs.Counting.{AreInside, opening_limit}
 
 -- a statement with what it lies by
-abbrev pub laid_as : Place → Spot → Measured → Stated → Laid
+abbrev pub laid_as : Place → Spot → Measured → Statement → Laid
 laid_as place s m x = record {
   stated = x;
   place = place;
@@ -36,7 +36,7 @@ laid_as place s m x = record {
 }
 
 -- what a statement here defines and opens is not there yet
-pub record IsNew (y : Symbols) (s : Spot) (x : Stated) : Type 0 where
+pub record IsNew (y : Symbols) (s : Spot) (x : Statement) : Type 0 where
   pub opened : opened_twice y.scopes s.scope (scope_name x) ≡ None
   pub defined : (k : Key) → key_defined s x ≡ Some k → defined y k ≡ None
 
@@ -64,27 +64,27 @@ abbrev pub IsHeld : Assembler → Type 0
 IsHeld a = (count : ℕ) × (t : State) × Holds count t a × (count < opening_limit)
 
 -- what a statement asks for, of the section of a segment
-abbrev pub asked_of : ℕ → Stated → State → State
+abbrev pub asked_of : ℕ → Statement → State → State
 asked_of segment x t = if asks_section x then entered t (asking segment) else t
 
-abbrev pub Asks : ℕ → Stated → Assembler → Assembler → Type 0
+abbrev pub Asks : ℕ → Statement → Assembler → Assembler → Type 0
 Asks segment x old new =
     (count : ℕ) (t : State) → Holds count t old → Holds count (asked_of segment x t) new
 
 -- ---- Where a statement stands.
 
 -- a statement here has no fault at its line, and places so much
-pub record IsPlaced (t : State) (x : Stated) (s : Spot) (m : Measured) : Type 0 where
+pub record IsPlaced (t : State) (x : Statement) (s : Spot) (m : Measured) : Type 0 where
   pub faultless : line_fault t.symbols t.standing x ≡ None
   pub spot : s ≡ spot_of t.standing
   pub measured : m ≡ measure_of t.symbols t.standing x
 
 -- it has this fault there, unless that came from outside
-abbrev pub IsRefused : State → Stated → AsmFault → Type 0
+abbrev pub IsRefused : State → Statement → AsmFault → Type 0
 IsRefused t x e = Unless (is_outside e) (line_fault t.symbols t.standing x ≡ Some e)
 
 -- the state in which a statement's pieces are entered
-abbrev pub stepped : State → Place → Stated → State
+abbrev pub stepped : State → Place → Statement → State
 stepped t place x =
     let u : State = asked_of (spot_of t.standing).segment x t in
     record u {

@@ -4,7 +4,7 @@ ghost use Rattle.std.specs.Prelude.{◌≡◌, ◌+◌, ◌<◌, map, MatchOptio
 ghost use Rattle.base65.specs.Outcome.{Gives};
 ghost use Rattle.object65.specs.Objects.{width_len};
 ghost use Rattle.language65.specs.Faults.{is_memory};
-ghost use Rattle.language65.specs.Language.{instruction, values};
+ghost use Rattle.language65.specs.declared.language.Statement.TheVariants.{Instruction, Values};
 ghost use Rattle.language65.specs.Sizes.{item_len, mode_len};
 ghost use Rattle.language65.specs.Symbols.{Symbols as Table};
 ghost use Rattle.symbols65.specs.Resolving.{IsTable};
@@ -44,7 +44,7 @@ pub fn instruction(
     requires standing { IsSoundStanding before.standing.now }
     ensures placed { Gives is_memory (λ m. m) result (placed
         (table_of before.entry.symbols.now) (standing_of before.entry.standing.now)
-        (instruction mnemonic operand.now)) }
+        (Instruction mnemonic operand.now)) }
     ensures table { OnOk result
         (IsTable (table_of before.entry.symbols.now) known.new.states.items) }
 {
@@ -114,7 +114,7 @@ fn list_len(standing: &Standing, width: Width, items: &[Item]) -> Result<u32, As
 pub fn values(standing: &Standing, width: Width, items: &[Item]) -> Result<Measured, AsmFault>
     requires { IsSoundStanding standing.now }
     ensures { (y : Table) → Gives is_memory (λ m. m) result (placed y
-        (standing_of standing.now) (values width items.now)) }
+        (standing_of standing.now) (Values width items.now)) }
 {
     let length = list_len(standing, width, items)?;
     Ok(Measured {

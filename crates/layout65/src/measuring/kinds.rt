@@ -3,7 +3,7 @@
 ghost use Rattle.std.specs.Prelude.{◌≡◌, ℕ, List, OnOk, true};
 ghost use Rattle.base65.specs.Outcome.{Gives};
 ghost use Rattle.language65.specs.Faults.{is_memory};
-ghost use Rattle.language65.specs.Language.{close_proc, close_scope, constant, pop_segment, segment};
+ghost use Rattle.language65.specs.declared.language.Statement.TheVariants.{CloseProc, CloseScope, Constant, PopSegment, Segment};
 ghost use Rattle.language65.specs.Symbols.{Symbols as Table};
 ghost use Rattle.symbols65.specs.Resolving.{IsTable};
 ghost use Rattle.symbols65.specs.Views.{table_of};
@@ -34,7 +34,7 @@ fn constant(
     requires standing { IsSoundStanding before.standing.now }
     ensures placed { (name : List ℕ) → Gives is_memory (λ m. m) result (placed
         (table_of before.entry.symbols.now) (standing_of before.entry.standing.now)
-        (constant name value.now)) }
+        (Constant name value.now)) }
     ensures table { OnOk result
         (IsTable (table_of before.entry.symbols.now) known.new.states.items) }
 {
@@ -52,7 +52,7 @@ fn segment(
 ) -> Result<Measured, AsmFault>
     requires { IsSoundStanding standing.now }
     ensures { (y : Table) → Gives is_memory (λ m. m) result (placed y
-        (standing_of standing.now) (segment name.now size)) }
+        (standing_of standing.now) (Segment name.now size)) }
 {
     check_segment(standing, name, size)?;
     Ok(nothing(standing))
@@ -62,7 +62,7 @@ fn segment(
 fn pop_segment(standing: &Standing) -> Result<Measured, AsmFault>
     requires { IsSoundStanding standing.now }
     ensures { (y : Table) → Gives is_memory (λ m. m) result (placed y
-        (standing_of standing.now) pop_segment) }
+        (standing_of standing.now) PopSegment) }
 {
     check_kept(standing)?;
     Ok(nothing(standing))
@@ -72,7 +72,7 @@ fn pop_segment(standing: &Standing) -> Result<Measured, AsmFault>
 fn close_scope(before: Before<'_>) -> Result<Measured, AsmFault>
     requires { IsSoundStanding before.standing.now }
     ensures { Gives is_memory (λ m. m) result (placed (table_of before.entry.symbols.now)
-        (standing_of before.entry.standing.now) close_scope) }
+        (standing_of before.entry.standing.now) CloseScope) }
 {
     check_scope(before.symbols, before.standing.scope as usize)?;
     Ok(nothing(before.standing))
@@ -82,7 +82,7 @@ fn close_scope(before: Before<'_>) -> Result<Measured, AsmFault>
 fn close_proc(before: Before<'_>) -> Result<Measured, AsmFault>
     requires { IsSoundStanding before.standing.now }
     ensures { Gives is_memory (λ m. m) result (placed (table_of before.entry.symbols.now)
-        (standing_of before.entry.standing.now) close_proc) }
+        (standing_of before.entry.standing.now) CloseProc) }
 {
     check_proc(before.symbols, before.standing.scope as usize)?;
     Ok(nothing(before.standing))

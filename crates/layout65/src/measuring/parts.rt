@@ -5,7 +5,7 @@ ghost use Rattle.std.specs.Option.{option_map};
 ghost use Rattle.base65.specs.Outcome.{Gives};
 ghost use Rattle.language65.specs.declared.fault.AsmFault.TheVariants.{BadPart};
 ghost use Rattle.language65.specs.Faults.{is_memory};
-ghost use Rattle.language65.specs.Language.{file_part};
+ghost use Rattle.language65.specs.declared.language.Statement.TheVariants.{FilePart};
 ghost use Rattle.language65.specs.LineFaults.{when, unless_fault};
 ghost use Rattle.language65.specs.Sizes.{counted, optional_value};
 ghost use Rattle.symbols65.specs.Resolving.{IsTable};
@@ -117,7 +117,7 @@ pub fn file_part(
     requires standing { IsSoundStanding before.standing.now }
     ensures placed { Gives is_memory (λ m. m) result (placed
         (table_of before.entry.symbols.now) (standing_of before.entry.standing.now)
-        (file_part bytes.now range.entry.start.now range.entry.len.now)) }
+        (FilePart bytes.now range.entry.start.now range.entry.len.now)) }
     ensures table { OnOk result
         (IsTable (table_of before.entry.symbols.now) known.new.states.items) }
 {

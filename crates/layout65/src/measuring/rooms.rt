@@ -5,7 +5,7 @@ ghost use Rattle.std.specs.Option.{option_map};
 ghost use Rattle.base65.specs.Outcome.{Gives};
 ghost use Rattle.language65.specs.declared.fault.AsmFault.TheVariants.{BadOperand};
 ghost use Rattle.language65.specs.Faults.{is_memory};
-ghost use Rattle.language65.specs.Language.{align, reserve};
+ghost use Rattle.language65.specs.declared.language.Statement.TheVariants.{Align, Reserve};
 ghost use Rattle.language65.specs.Layout.{spot_of as standing_spot};
 ghost use Rattle.language65.specs.LineFaults.{is_byte_value, is_count, is_there, multiple_fault, when, unless_fault};
 ghost use Rattle.language65.specs.Sizes.{counted, fill_settled, gap, optional_value};
@@ -80,7 +80,7 @@ pub fn reserve(
     requires standing { IsSoundStanding before.standing.now }
     ensures placed { Gives is_memory (λ m. m) result (placed
         (table_of before.entry.symbols.now) (standing_of before.entry.standing.now)
-        (reserve count.now value.now)) }
+        (Reserve count.now value.now)) }
     ensures table { OnOk result
         (IsTable (table_of before.entry.symbols.now) known.new.states.items) }
 {
@@ -161,7 +161,7 @@ pub fn align(
     requires standing { IsSoundStanding before.standing.now }
     ensures placed { Gives is_memory (λ m. m) result (placed
         (table_of before.entry.symbols.now) (standing_of before.entry.standing.now)
-        (align multiple.now value.now)) }
+        (Align multiple.now value.now)) }
     ensures table { OnOk result
         (IsTable (table_of before.entry.symbols.now) known.new.states.items) }
 {

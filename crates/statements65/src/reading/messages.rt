@@ -4,7 +4,7 @@ ghost use Rattle.std.specs.Prelude.{◌≡◌, false, IfErr, None, Ok};
 ghost use Rattle.base65.specs.Relations.{Answers};
 ghost use Rattle.syntax65.specs.Tokens.{lexemes};
 ghost use Rattle.language65.specs.Faults.{is_failure, is_outside};
-ghost use Rattle.language65.specs.Language.{segment};
+ghost use Rattle.language65.specs.declared.language.Statement.TheVariants.{Segment};
 ghost use Rattle.statements65.specs.Parsing.{alone, lone_statement, processor_of, told};
 
 use super::tokens::needed_string;
@@ -15,7 +15,7 @@ use std::alloc::Global;
 use syntax65::Token;
 
 fn standard_segment(alloc: Global, name: &[u8]) -> Result<Statement, AsmFault>
-    ensures value { Answers is_outside (λ x. x) result (λ r. r ≡ Ok (segment name.now None)) }
+    ensures value { Answers is_outside (λ x. x) result (λ r. r ≡ Ok (Segment name.now None)) }
     ensures inside { IfErr result (λ e. is_failure e ≡ false) }
 {
     Ok(Statement::Segment {

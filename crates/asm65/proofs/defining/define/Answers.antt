@@ -1,6 +1,6 @@
 use Rattle.std.proofs.Common.{◌∙◌, ℕ, ◌+◌, ◌<◌, List, subst}
 use Rattle.syntax65.specs.Trees.{number}
-use Rattle.language65.specs.Language.{constant}
+use Rattle.language65.specs.declared.language.Statement.TheVariants.{Constant}
 use Rattle.module65.specs.Machine.{State, Takes}
 use Rattle.module65.specs.Reading.{Answers}
 use Rattle.asm65.specs.Assembly.{define_of}
@@ -17,5 +17,5 @@ returns-clause-taken c =
     let old = c.args.assembler.now in
     let new = c.take.new.self in
     let r = c.take.result in
-    let P : List ℕ → Type 0 = λ n. (count : ℕ) (t : State) → Holds count t old → count < opening_limit → Answers (Takes t place (constant n (number d.value))) (λ u. Holds (count + 0) u new) r in
+    let P : List ℕ → Type 0 = λ n. (count : ℕ) (t : State) → Holds count t old → count < opening_limit → Answers (Takes t place (Constant n (number d.value))) (λ u. Holds (count + 0) u new) r in
     defines_by place (define_of d) old new r (subst P (c.from_vec-name.ensures ∙ c.in_ok-from_slice.ensures.items) c.take.ensures.taken) c.take.ensures.texts

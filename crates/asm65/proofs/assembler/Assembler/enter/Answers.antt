@@ -1,5 +1,6 @@
 use Rattle.std.proofs.Common.{sym, ap}
-use Rattle.language65.specs.Language as l
+use Rattle.language65.specs.declared.language.Statement.{Statement}
+use Rattle.language65.specs.declared.language.Statement.TheVariants as statement
 use Rattle.language65.specs.Views.{place_in}
 use Rattle.asm65.proofs.Statements.{adds_pieces, nothing_behind, taken_as}
 use Rattle.asm65.proofs.assembler.Assembler.enter.Goals as goal
@@ -11,5 +12,5 @@ returns-in-Instruction c =
     let m = c.args.measured in
     let old = c.args.self.now in
     let new = c.enter_settled.new.self in
-    let x : l.Stated = l.instruction c.in-Instruction.mnemonic c.in-Instruction.operand in
+    let x : Statement = statement.Instruction c.in-Instruction.mnemonic c.in-Instruction.operand in
     taken_as place s m old new c.enter_settled.result x c.args.statement (sym c.in-Instruction.is) (λ h. adds_pieces place s m old new x (λ y. nothing_behind y) h) c.enter_settled.ensures

@@ -7,7 +7,7 @@ use Rattle.language65.specs.Faults.{is_failure, is_memory, is_outside}
 use Rattle.layout65.proofs.Steps.{unless_then}
 use Rattle.source65.specs.declared.place.Place.{Place}
 use Rattle.language65.specs.declared.laid.Spot.{Spot}
-use Rattle.language65.specs.Language.{Stated}
+use Rattle.language65.specs.declared.language.Statement.{Statement}
 use Rattle.language65.specs.Layout as layout
 use Rattle.language65.specs.Layout.{Standing}
 use Rattle.language65.specs.LineFaults.{line_fault}
@@ -42,7 +42,7 @@ advance-requires-clause-numbers c =
 pub returns-clause-placed : goal.returns-clause-placed
 returns-clause-placed c = λ count t h.
     (let old : Assembler = c.args.self.now in
-    let x : Stated = c.args.statement.now in
+    let x : Statement = c.args.statement.now in
     let m : Measured = c.in_ok-measured.measured in
     let at : measured t.symbols t.standing x ≡ Ok m = ap (λ (y : Symbols). measured y t.standing x) (sym h.symbols) ∙ ap (λ (w : Standing). measured (table_of old.symbols) w x) (sym h.standing) ∙ c.in_ok-measured.ensures.measured in
     record {
@@ -55,7 +55,7 @@ pub returns-clause-new : goal.returns-clause-new
 returns-clause-new c =
     let old : Assembler = c.args.self.now in
     let mid : Assembler = c.ask.new.self in
-    let x : Stated = c.args.statement.now in
+    let x : Statement = c.args.statement.now in
     let y : Symbols = table_of old.symbols in
     let w : Standing = standing_of old.standing in
     let (count, t, h, few) = c.requires in
@@ -68,7 +68,7 @@ pub returns-clause-holds : goal.returns-clause-holds
 returns-clause-holds c = λ count t h.
     (let old : Assembler = c.args.self.now in
     let mid : Assembler = c.ask.new.self in
-    let x : Stated = c.args.statement.now in
+    let x : Statement = c.args.statement.now in
     let place : Place = place_in c.args.at.file.now c.args.at.line in
     let m : Measured = c.in_ok-measured.measured in
     let y : Symbols = table_of old.symbols in
@@ -94,7 +94,7 @@ returns-in_err-measured-clause-refused c = λ count t h.
     (let p = err_from_is_err_and c.from_residual.result c.from_residual.ensures.1 in
     let e : AsmFault = c.in_err-measured.field-0.0 in
     let old : Assembler = c.args.self.now in
-    let x : Stated = c.args.statement.now in
+    let x : Statement = c.args.statement.now in
     let there = measured (table_of old.symbols) (standing_of old.standing) x ≡ Err e in
     let refused : Unless (is_memory e) there = c.in_err-measured.ensures.measured in
     let same : there → line_fault t.symbols t.standing x ≡ Some e = λ (q : there). with_fault t.symbols t.standing x e (ap (λ (y : Symbols). measured y t.standing x) (sym h.symbols) ∙ ap (λ (w : Standing). measured (table_of old.symbols) w x) (sym h.standing) ∙ q) in

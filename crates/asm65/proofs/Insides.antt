@@ -321,12 +321,12 @@ inside_size gs (statement.Segment n own) = inside_changed gs own (place_of gs n)
 inside_size gs _ = no_fault
 
 inside_block : (cs : List Scope) (scope : ℕ) (x : Statement) → AreInsideFaults (faults.block_fault cs scope x)
-inside_block cs scope close_scope = inside_when _ _ refl
-inside_block cs scope close_proc = inside_when _ _ refl
+inside_block cs scope statement.CloseScope = inside_when _ _ refl
+inside_block cs scope statement.CloseProc = inside_when _ _ refl
 inside_block cs scope _ = no_fault
 
 inside_pop : (kept : List ℕ) (x : Statement) → AreInsideFaults (faults.pop_fault kept x)
-inside_pop kept pop_segment = inside_when _ _ refl
+inside_pop kept statement.PopSegment = inside_when _ _ refl
 inside_pop kept _ = no_fault
 
 abbrev AllInside : List (Option AsmFault) → Type 0

@@ -65,7 +65,7 @@ fault_then AreSo AreTo Is Then most more t u new e f g s h = by (is_outside e) h
 opened_few : (x : Statement) → opened_by x ≤ 1
 opened_few (statement.Label n) = omega arith
 opened_few (statement.CheapLabel n) = omega arith
-opened_few unnamed_label = omega arith
+opened_few statement.UnnamedLabel = omega arith
 opened_few (statement.OpenScope n) = omega arith
 opened_few (statement.OpenProc n) = omega arith
 opened_few (statement.Segment n size) = omega arith

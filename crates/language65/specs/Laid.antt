@@ -26,7 +26,7 @@ opens_region (OpenProc n) = true
 opens_region _ = false
 
 abbrev pub is_unnamed : Statement → Bool
-is_unnamed unnamed_label = true
+is_unnamed UnnamedLabel = true
 is_unnamed _ = false
 
 -- ---- Which segments have a section.
@@ -42,7 +42,7 @@ has_here _ = false
 abbrev pub asks_section : Statement → Bool
 asks_section (Label n) = true
 asks_section (CheapLabel n) = true
-asks_section unnamed_label = true
+asks_section UnnamedLabel = true
 asks_section (OpenProc n) = true
 asks_section (Instruction m o) = true
 asks_section (Values width items) = true

@@ -83,12 +83,12 @@ rest_kept (k ∷ kept) = kept
 
 abbrev pub current_behind : Standing → Statement → ℕ
 current_behind w (statement.Segment n own) = or_last w.segments (place_of w.segments n)
-current_behind w pop_segment = last_kept w.current w.kept
+current_behind w statement.PopSegment = last_kept w.current w.kept
 current_behind w _ = w.current
 
 abbrev pub kept_behind : Standing → Statement → List ℕ
-kept_behind w push_segment = w.current ∷ w.kept
-kept_behind w pop_segment = rest_kept w.kept
+kept_behind w statement.PushSegment = w.current ∷ w.kept
+kept_behind w statement.PopSegment = rest_kept w.kept
 kept_behind w _ = w.kept
 
 -- ---- One statement.
@@ -121,8 +121,8 @@ opens_scope (statement.OpenProc n) = true
 opens_scope _ = false
 
 abbrev pub closes_scope : Statement → Bool
-closes_scope close_scope = true
-closes_scope close_proc = true
+closes_scope statement.CloseScope = true
+closes_scope statement.CloseProc = true
 closes_scope _ = false
 
 -- the scope that is open behind a statement

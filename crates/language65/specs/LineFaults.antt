@@ -61,8 +61,8 @@ is_open (suc i) = true
 -- ---- Scopes of names.
 
 abbrev pub operand_trees : Operand → List Tree
-operand_trees no_operand = []
-operand_trees accumulator = []
+operand_trees Absent = []
+operand_trees Accumulator = []
 operand_trees (Immediate e) = e ∷ []
 operand_trees (Address prefix e r) = e ∷ []
 operand_trees (Indirect e) = e ∷ []
@@ -206,8 +206,8 @@ opened_as cs (suc i) = slice_get cs i
 
 -- a scope or a proc is closed by its own kind
 abbrev pub block_fault : List Scope → ℕ → Statement → Option AsmFault
-block_fault cs scope close_scope = when (not (is_open scope && is_scope (opened_as cs scope))) BadScope
-block_fault cs scope close_proc = when (not (is_open scope && not (is_scope (opened_as cs scope)))) BadScope
+block_fault cs scope statement.CloseScope = when (not (is_open scope && is_scope (opened_as cs scope))) BadScope
+block_fault cs scope statement.CloseProc = when (not (is_open scope && not (is_scope (opened_as cs scope)))) BadScope
 block_fault cs scope _ = None
 
 abbrev pub is_kept : List ℕ → Bool
@@ -215,7 +215,7 @@ is_kept [] = false
 is_kept (k ∷ kept) = true
 
 abbrev pub pop_fault : List ℕ → Statement → Option AsmFault
-pop_fault kept pop_segment = when (not (is_kept kept)) PopWithoutPush
+pop_fault kept statement.PopSegment = when (not (is_kept kept)) PopWithoutPush
 pop_fault kept _ = None
 
 -- ---- The first fault of a statement that is understood, behind those of a symbol table.

@@ -119,8 +119,8 @@ branch_mode forced r = None
 
 -- the addressing form of an operand, if the instruction has it
 abbrev pub mode_of : Symbols → Spot → AddressSize → Mnemonic → Operand → Option Mode
-mode_of y s own m no_operand = first_of m Implied Accumulator
-mode_of y s own m accumulator = first_of m Accumulator Accumulator
+mode_of y s own m operands.Absent = first_of m Implied Accumulator
+mode_of y s own m operands.Accumulator = first_of m Accumulator Accumulator
 mode_of y s own m (operands.Immediate e) = first_of m Immediate Immediate
 mode_of y s own m (operands.Address forced e r) = if is_branch m then branch_mode forced r else address_mode m forced (size_of y s own e) r
 mode_of y s own m (operands.Indirect e) = first_of m Indirect Indirect

@@ -50,7 +50,7 @@ key_defined s (Label n) = Some (named s.scope n)
 key_defined s (Constant n e) = Some (named s.scope n)
 key_defined s (OpenProc n) = Some (named s.scope n)
 key_defined s (CheapLabel n) = Some (cheap_in s.region n)
-key_defined s unnamed_label = Some (unnamed_at s.unnamed)
+key_defined s UnnamedLabel = Some (unnamed_at s.unnamed)
 key_defined s _ = None
 
 abbrev pub value_defined : Statement → Option Tree

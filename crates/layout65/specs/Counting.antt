@@ -10,7 +10,7 @@ use Rattle.layout65.specs.declared.standing.Standing.{Standing}
 -- whether a statement opens something that is counted: a scope, a region, a segment, an unnamed label
 abbrev pub opened_by : Statement → ℕ
 opened_by (Label n) = 1
-opened_by unnamed_label = 1
+opened_by UnnamedLabel = 1
 opened_by (OpenScope n) = 1
 opened_by (OpenProc n) = 1
 opened_by (Segment n size) = 1

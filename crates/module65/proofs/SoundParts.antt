@@ -180,8 +180,8 @@ branch_form m e None (Some r) b = tt
 branch_form m e (Some forced) r b = tt
 
 operand_mode : (before : Symbols) (s : Spot) (own : AddressSize) (m : Mnemonic) (o : Operand) → MayForm m (operand_tree o) (mode_of before s own m o)
-operand_mode before s own m no_operand = first_form m None Implied Accumulator (λ h. refl) (λ h. refl)
-operand_mode before s own m accumulator = first_form m None Accumulator Accumulator (λ h. refl) (λ h. refl)
+operand_mode before s own m operand.Absent = first_form m None Implied Accumulator (λ h. refl) (λ h. refl)
+operand_mode before s own m operand.Accumulator = first_form m None Accumulator Accumulator (λ h. refl) (λ h. refl)
 operand_mode before s own m (operand.Immediate e) = first_form m (Some e) Immediate Immediate (stored_behind e Immediate) (stored_behind e Immediate)
 operand_mode before s own m (operand.Address forced e r) = by (is_branch m) refl
   where

@@ -329,7 +329,7 @@ abbrev pub own_words : List Lexeme → Result (List ℕ) AsmFault
 own_words ts = understood (string_of ts) >>= short
 
 abbrev pub words_of : List (List Lexeme) → Result (List ℕ) AsmFault
-words_of [] = Ok (codes "Assert failed")
+words_of [] = Ok (codes "assertion failed")
 words_of (part ∷ []) = own_words part
 words_of _ = unknown
 

@@ -68,7 +68,7 @@ pub fn items(
     elements: Elements,
     tokens: &[Token<'_>],
 ) -> Result<Sequence<Item>, AsmFault>
-    ensures value { Answers is_outside (λ items. items) result (EachIs (IsItem elements) (parts_of (lexemes tokens.now))) }
+    ensures value { Answers is_outside (λ x. x) result (EachIs (IsItem elements) (parts_of (lexemes tokens.now))) }
     ensures inside { IfErr result (λ e. is_failure e ≡ false) }
 {
     let mut items = no_items(alloc, tokens.len())?;

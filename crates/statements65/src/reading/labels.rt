@@ -14,7 +14,7 @@ use syntax65::{Token, TokenKind, is_reserved};
 
 /// The label that a token before a `:` is, if it is one.
 fn named_label(alloc: Global, token: &Token<'_>) -> Result<Option<Statement>, AsmFault>
-    ensures value { Answers is_outside (λ label. label) result (λ r. r ≡ Ok (named_label (lexeme_of token.now).0 (lexeme_of token.now).1)) }
+    ensures value { Answers is_outside (λ x. x) result (λ r. r ≡ Ok (named_label (lexeme_of token.now).0 (lexeme_of token.now).1)) }
     ensures inside { IfErr result (λ e. is_failure e ≡ false) }
 {
     match token.kind {

@@ -1,5 +1,3 @@
-use Rattle.std.proofs.Common.{map, [], ◌∷◌}
-use Rattle.std.proofs.lemmas.List.{map-append}
 use Rattle.syntax65.specs.Tokens.{lexemes}
 use Rattle.statements65.specs.Parsing.{parts_of, IsItem}
 use Rattle.statements65.proofs.Each.{ended, one_more, parts_left, stops, taken}
@@ -7,12 +5,12 @@ use Rattle.statements65.proofs.reading.items.items.Goals as goal
 
 pub returns-in_err-item-clause-value : goal.returns-in_err-item-clause-value
 returns-in_err-item-clause-value c =
-    stops (IsItem c.args.elements) (parts_of (lexemes c.args.tokens.now)) c.parts.items (lexemes c.first_part.result.0.now) (parts_left c.first_part.result.1) (λ items. map items) c.from_residual-in_err-item.result c.in_err-item.field-0.0 c.from_residual-in_err-item.ensures.1 c.in_err-item.ensures.value
+    stops (IsItem c.args.elements) (parts_of (lexemes c.args.tokens.now)) c.parts.items (lexemes c.first_part.result.0.now) (parts_left c.first_part.result.1) (λ x. x) c.from_residual-in_err-item.result c.in_err-item.field-0.0 c.from_residual-in_err-item.ensures.1 c.in_err-item.ensures.value
     (taken (IsItem c.args.elements) (parts_of (lexemes c.args.tokens.now)) c.parts.items c.parts.rest c.in-Some.left (lexemes c.first_part.result.0.now) (parts_left c.first_part.result.1) c.in-Some.is c.first_part.ensures.parts c.parts.invariant)
 
 pub parts-preserved : goal.parts-preserved
 parts-preserved c =
-    rw (c.in_ok-push.ensures.ok, map-append c.parts.items (c.in_ok-item.field-0 ∷ []))
+    rw c.in_ok-push.ensures.ok
     (one_more (IsItem c.args.elements) (parts_of (lexemes c.args.tokens.now)) c.parts.items (lexemes c.first_part.result.0.now) (parts_left c.first_part.result.1) c.in_ok-item.field-0 c.in_ok-item.ensures.value
     (taken (IsItem c.args.elements) (parts_of (lexemes c.args.tokens.now)) c.parts.items c.parts.rest c.in-Some.left (lexemes c.first_part.result.0.now) (parts_left c.first_part.result.1) c.in-Some.is c.first_part.ensures.parts c.parts.invariant))
 

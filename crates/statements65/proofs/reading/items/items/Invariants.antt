@@ -1,4 +1,3 @@
-use Rattle.std.proofs.Common.{map}
 use Rattle.syntax65.specs.Tokens.{lexemes}
 use Rattle.statements65.specs.Parsing.{parts_of, IsItem}
 use Rattle.statements65.proofs.Each.{count_left, parts_left, GoesOn}

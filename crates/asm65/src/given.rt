@@ -21,7 +21,7 @@ use base65::Store;
 use expand65::Statement as Given;
 use language65::{AsmFault, At, Statement};
 use reader65::Line;
-use statements65::{label, statement};
+use statements65::{instruction_front, label, operand, statement};
 use std::alloc::Global;
 use syntax65::{Token, TokenKind};
 
@@ -79,6 +79,10 @@ fn take_rest<S: Store>(
 {
     if tokens.is_empty() {
         return Ok(());
+    }
+    if let Some((mnemonic, behind)) = instruction_front(tokens) {
+        let operand = operand(alloc, behind)?;
+        return assembler.take_instruction(alloc, at, mnemonic, operand);
     }
     let mut statement = statement(alloc, tokens)?;
     read_part(alloc, store, assembler, at, &mut statement)?;

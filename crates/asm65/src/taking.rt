@@ -6,7 +6,7 @@ use crate::assembler::Assembler;
 use crate::naming::Mention;
 use crate::putting::Stand;
 use language65::{AsmFault, At, Operand, Settled, Spot, Statement};
-use layout65::{Before, Measured, asks_section, measure};
+use layout65::{Before, Measured, asks_section, measure, measure_instruction};
 use std::alloc::{AllocError, Global};
 use symbols65::Key;
 use syntax65::{AddressSize, Mnemonic};
@@ -26,7 +26,17 @@ fn refused(_statement: Statement, fault: AsmFault) -> Result<(), AsmFault>
     Err(fault)
 }
 
+/// The refusal of an instruction, whose operand is let go here.
+#[inline(never)]
+fn refused_operand(_operand: Operand, fault: AsmFault) -> Result<(), AsmFault>
+    ensures { result ≡ Err fault }
+{
+    Err(fault)
+}
+
 impl Assembler {
+    ghost use Rattle.source65.specs.declared.place.Place.{Place};
+    ghost use Rattle.language65.specs.declared.language.Statement.TheVariants.{Instruction};
     ghost use Rattle.std.specs.Prelude.{◌+◌, ◌<◌, ℕ, IfErr, IfOk, OnOk, false};
     ghost use Rattle.language65.specs.Faults.{is_failure, is_outside};
     ghost use Rattle.language65.specs.Views.{place_in};
@@ -229,6 +239,62 @@ impl Assembler {
         self.standing
             .advance(alloc, &self.symbols, statement, measured)?;
         Ok(Placed { spot, measured })
+    }
+
+    /// Finds what an instruction places and where it stands, or its first fault; asks for its section,
+    /// and goes on behind it.
+    #[inline(always)]
+    fn place_instruction(
+        &mut self,
+        alloc: Global,
+        mnemonic: Mnemonic,
+        operand: &Operand,
+    ) -> Result<Placed, AsmFault>
+        requires { IsHeld self.old }
+        ensures placed { (count : ℕ) (t : State) → Holds count t self.old → IfOk result (λ p.
+            IsPlaced t (Instruction mnemonic operand.now) p.spot p.measured) }
+        ensures holds { (place : Place) (count : ℕ) (t : State) → Holds count t self.old →
+            OnOk result (Holds count (stepped t place (Instruction mnemonic operand.now))
+            self.new) }
+        ensures refused { (count : ℕ) (t : State) → Holds count t self.old → IfErr result
+            (IsRefused t (Instruction mnemonic operand.now)) }
+        ensures texts { IfErr result (λ e. is_outside e ≡ false → self.new.texts ≡ self.old.texts) }
+        ensures inside { IfErr result (λ e. is_failure e ≡ false) }
+    {
+        let before = Before {
+            symbols: &self.symbols,
+            standing: &self.standing,
+        };
+        let measured = measure_instruction(alloc, before, &mut self.known, mnemonic, operand)?;
+        let spot = self.standing.spot();
+        self.sections.ask(spot.segment)?;
+        self.standing.advance_by(measured.length);
+        Ok(Placed { spot, measured })
+    }
+
+    /// Takes an instruction behind other statements, as `take` does.
+    pub fn take_instruction(
+        &mut self,
+        alloc: Global,
+        at: At<'_>,
+        mnemonic: Mnemonic,
+        operand: Operand,
+    ) -> Result<(), AsmFault>
+        requires { IsHeld self.old }
+        ensures taken { (count : ℕ) (t : State) → Holds count t self.old → count < opening_limit →
+            Answers (Takes t (place_in at.entry.file.now at.entry.line)
+            (Instruction mnemonic operand)) (λ u. Holds count u self.new) result }
+        ensures texts { IfErr result (λ e. is_outside e ≡ false → self.new.texts ≡ self.old.texts) }
+        ensures inside { IfErr result (λ e. is_failure e ≡ false) }
+    {
+        match self.place_instruction(alloc, mnemonic, &operand) {
+            Ok(Placed { spot, measured }) => {
+                let stand = Stand { at, spot };
+                self.enter_settled(alloc, stand, measured.settled, mnemonic, operand)?;
+                Ok(())
+            }
+            Err(fault) => refused_operand(operand, fault),
+        }
     }
 
     /// Takes one statement behind the others. A fault of the statement leaves what is said as it was.

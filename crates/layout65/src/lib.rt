@@ -6,5 +6,5 @@ mod measuring;
 mod standing;
 
 pub use asking::asks_section;
-pub use measuring::{Before, Measured, check_unread, measure};
+pub use measuring::{Before, Measured, check_unread, measure, measure_instruction};
 pub use standing::Standing;

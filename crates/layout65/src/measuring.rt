@@ -14,6 +14,7 @@ ghost use Rattle.base65.specs.Outcome.{Gives};
 ghost use Rattle.object65.specs.Objects.{section_limit};
 ghost use Rattle.language65.specs.Faults.{is_memory};
 ghost use Rattle.language65.specs.declared.laid.Settled.TheVariants.{Unsettled};
+ghost use Rattle.language65.specs.declared.language.Statement.TheVariants.{Instruction};
 ghost use Rattle.language65.specs.Layout.{own_size, spot_of};
 ghost use Rattle.language65.specs.LineFaults.{unless_fault};
 ghost use Rattle.symbols65.specs.Resolving.{IsTable};
@@ -22,15 +23,16 @@ ghost use Rattle.layout65.specs.Measuring.{fitted, measured, naming_fault};
 ghost use Rattle.layout65.specs.Sounds.{IsSoundStanding};
 ghost use Rattle.layout65.specs.Views.{standing_of};
 
+use self::bytes::instruction;
 use self::kinds::place;
 use self::names::{check_defined, check_opened, check_outside};
 pub use self::parts::check_unread;
-use self::trees::check_trees;
+use self::trees::{check_operand, check_trees};
 use crate::standing::Standing;
-use language65::{AsmFault, Settled, Spot, Statement};
+use language65::{AsmFault, Operand, Settled, Spot, Statement};
 use std::alloc::Global;
 use symbols65::{Known, Symbols};
-use syntax65::AddressSize;
+use syntax65::{AddressSize, Mnemonic};
 
 /// What stands before a statement: the symbol table of those before it, and where it stands itself.
 #[derive(Clone, Copy)]
@@ -118,4 +120,27 @@ pub fn measure(
 {
     check_naming(alloc, before.symbols, before.standing.spot(), statement)?;
     place(alloc, before, known, statement)
+}
+
+/// The same of an instruction, which most statements are.
+pub fn measure_instruction(
+    alloc: Global,
+    before: Before<'_>,
+    known: &mut Known,
+    mnemonic: Mnemonic,
+    operand: &Operand,
+) -> Result<Measured, AsmFault>
+    requires table { IsTable (table_of before.symbols.now) known.old.states.items }
+    requires standing { IsSoundStanding before.standing.now }
+    ensures measured { Gives is_memory (λ m. m) result (measured
+        (table_of before.entry.symbols.now) (standing_of before.entry.standing.now)
+        (Instruction mnemonic operand.now)) }
+    ensures room { IfOk result (λ m.
+        (spot_of (standing_of before.entry.standing.now)).offset + m.length ≤ section_limit) }
+    ensures table { OnOk result
+        (IsTable (table_of before.entry.symbols.now) known.new.states.items) }
+{
+    let scope = before.standing.spot().scope as usize;
+    check_operand(alloc, before.symbols, scope, operand)?;
+    instruction(alloc, before, known, mnemonic, operand)
 }

@@ -3,4 +3,4 @@
 
 mod reading;
 
-pub use reading::{label, statement};
+pub use reading::{instruction_front, label, operand, statement};

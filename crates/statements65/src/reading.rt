@@ -16,4 +16,5 @@ mod tokens;
 mod words;
 
 pub use labels::label;
-pub use statements::statement;
+pub use operands::operand;
+pub use statements::{instruction_front, statement};

@@ -68,7 +68,7 @@ pub fn check_range(
     }
 }
 
-fn check_operand(
+pub fn check_operand(
     alloc: Global,
     symbols: &Symbols,
     scope: usize,

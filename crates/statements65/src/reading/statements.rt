@@ -1,9 +1,11 @@
 //! Labels and statements.
 
-ghost use Rattle.std.specs.Prelude.{◌≡◌, false, IfErr, Some};
+ghost use Rattle.std.specs.Prelude.{◌≡◌, false, IfErr, IfSome, Result, Some};
 ghost use Rattle.syntax65.specs.Mnemonics.{mnemonic_of};
 ghost use Rattle.base65.specs.Relations.{Answers};
 ghost use Rattle.syntax65.specs.Tokens.{lexemes};
+ghost use Rattle.language65.specs.declared.fault.AsmFault.{AsmFault};
+ghost use Rattle.language65.specs.declared.language.Statement.{Statement};
 ghost use Rattle.language65.specs.Faults.{is_failure, is_outside};
 ghost use Rattle.statements65.specs.Parsing.{IsConstant, IsInstruction, IsNamed, IsPlainConstant, IsStatement};
 
@@ -58,6 +60,26 @@ fn instruction(alloc: Global, name: &[u8], tokens: &[Token<'_>]) -> Result<State
         Some(mnemonic) => with_operand(alloc, mnemonic, tokens),
         None => Err(AsmFault::NotUnderstood),
     }
+}
+
+/// The mnemonic at the front of an instruction, and what stands behind it; nothing where another statement
+/// stands.
+#[inline(always)]
+pub fn instruction_front<'a, 'b>(tokens: &'a [Token<'b>]) -> Option<(Mnemonic, &'a [Token<'b>])>
+    ensures { IfSome result (λ x. (r : Result Statement AsmFault) →
+        IsInstruction (Some x.0) (lexemes x.1.now) r → IsStatement (lexemes tokens.now) r) }
+{
+    let (first, behind) = tokens.split_first()?;
+    if !matches!(first.kind, TokenKind::Identifier) {
+        return None;
+    }
+    if let Some((next, _)) = behind.split_first() {
+        if defines(next) {
+            return None;
+        }
+    }
+    let mnemonic = mnemonic(first.text)?;
+    Some((mnemonic, behind))
 }
 
 /// A statement that begins with an identifier.

@@ -1,4 +1,5 @@
 pub mod Faults
+pub mod Items
 pub mod Laid
 pub mod Symbols
 pub mod Names

@@ -1,6 +1,7 @@
 //! The statements of the language, as they are behind expansion.
 
 ghost use Rattle.std.specs.Prelude.{◌≡◌, None, Some, IfOk, option_map};
+ghost use Rattle.language65.specs.Items.{items_of};
 
 use base65::Sequence;
 use object65::{Action, Width};
@@ -13,6 +14,57 @@ use syntax65::{AddressSize, Expr, Mnemonic};
 pub enum Item {
     Value(Expr),
     Text(Sequence<u8>),
+}
+
+/// The elements of a list of data, which contracts see as a list of items.
+#[derive(Drop)]
+pub struct Items {
+    kind: ItemsKind,
+}
+
+/// How the elements of a list are kept.
+#[derive(Drop)]
+pub enum ItemsKind {
+    /// Numbers alone.
+    Numbers(Sequence<u32>),
+    Mixed(Sequence<Item>),
+}
+
+impl Model for Items {
+    ghost use Rattle.std.specs.Prelude.{List};
+    ghost use Rattle.std.specs.Coded.{coded_list};
+    ghost use Rattle.language65.specs.contracts.language.Item.{the_row};
+    ghost use Rattle.language65.specs.declared.language.Item.{Item};
+    ghost use Rattle.language65.specs.Items.{items_of};
+
+    ghost Value = { List Item };
+
+    ghost coded = { coded_list the_row.coded };
+
+    ghost view = { λ i. items_of i.kind };
+}
+
+impl Items {
+    /// The elements of this kind.
+    pub fn new(kind: ItemsKind) -> Self
+        ensures { result ≡ items_of kind }
+    {
+        Items { kind }
+    }
+
+    /// How the elements are kept.
+    pub fn kind(&self) -> &ItemsKind
+        ensures { items_of result.now ≡ self.now }
+    {
+        &self.kind
+    }
+
+    /// The elements as they are kept.
+    pub fn into_kind(self) -> ItemsKind
+        ensures { items_of result ≡ self }
+    {
+        self.kind
+    }
 }
 
 /// A register that is added to an address.
@@ -118,7 +170,7 @@ pub enum Statement {
     /// `.byte` and the like.
     Values {
         width: Width,
-        items: Sequence<Item>,
+        items: Items,
     },
     /// `.res n[,v]`
     Reserve {

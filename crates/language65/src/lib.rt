@@ -10,4 +10,4 @@ mod language;
 pub use contents::{Part, Said, Segment};
 pub use fault::AsmFault;
 pub use laid::{At, GLOBAL_SCOPE, Settled, Spot};
-pub use language::{Index, Item, Operand, OptionalExpr, PartRange, Statement};
+pub use language::{Index, Item, Items, ItemsKind, Operand, OptionalExpr, PartRange, Statement};

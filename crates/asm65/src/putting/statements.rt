@@ -13,11 +13,11 @@ use crate::assembler::Assembler;
 use crate::forms::literal_of;
 use crate::waiting::Piece;
 use base65::Sequence;
-use language65::{Item, Operand, Settled, Spot};
-use object65::{Action, Width};
+use language65::{Item, Items, ItemsKind, Operand, Settled, Spot};
+use object65::{Action, Width, fits, put};
 use std::alloc::{AllocError, Global};
 use symbols65::{Symbols, final_form};
-use syntax65::{Expr, Mnemonic, Mode, opcode};
+use syntax65::{Expr, ExprKind, Mnemonic, Mode, opcode};
 
 /// How wide the operand of an instruction of a form is stored, if it has a value.
 fn width_of(mode: Mode) -> Option<Width>
@@ -61,6 +61,21 @@ fn is_so(alloc: Global, symbols: &Symbols, spot: Spot, value: &Expr) -> Result<b
         },
         None => Ok(false),
     }
+}
+
+/// The bytes of numbers, if each lies in its range.
+fn bytes_of(alloc: Global, width: Width, numbers: &[u32]) -> Result<Option<Vec<u8>>, AllocError>
+    ensures { IfOk result (λ bytes. IfSome bytes (λ b. AreBytesOf width numbers.now b.items)) }
+{
+    let mut bytes = Vec::with_capacity(alloc, numbers.len())?;
+    for number in numbers {
+        let value = i64::from(*number);
+        if !fits(width, value) {
+            return Ok(None);
+        }
+        bytes.extend_from_slice(&put(width, value))?;
+    }
+    Ok(Some(bytes))
 }
 
 impl Assembler {
@@ -139,9 +154,8 @@ impl Assembler {
         }
     }
 
-    /// Enters a list.
-    #[inline(never)]
-    pub fn enter_values(
+    /// Enters a list of any elements.
+    fn enter_mixed(
         &mut self,
         alloc: Global,
         stand: Stand<'_>,
@@ -156,6 +170,64 @@ impl Assembler {
             self.enter_item(alloc, stand, width, item)?;
         }
         Ok(())
+    }
+
+    /// Enters a list of numbers one by one.
+    fn enter_each_number(
+        &mut self,
+        alloc: Global,
+        stand: Stand<'_>,
+        width: Width,
+        numbers: &[u32],
+    ) -> Result<(), AllocError>
+        ensures { OnOk result (Enters
+            (place_in stand.entry.at.file.now stand.entry.at.line) stand.entry.spot
+            (map (item_piece width) (map numbered numbers.now)) self.old self.new) }
+    {
+        for number in numbers {
+            let value = Expr::new(ExprKind::Number(*number));
+            self.enter_datum(alloc, stand, width, value)?;
+        }
+        Ok(())
+    }
+
+    /// Enters a list of numbers: their bytes at once, where each lies in its range.
+    fn enter_numbers(
+        &mut self,
+        alloc: Global,
+        stand: Stand<'_>,
+        width: Width,
+        numbers: &[u32],
+    ) -> Result<(), AllocError>
+        ensures { OnOk result (Enters
+            (place_in stand.entry.at.file.now stand.entry.at.line) stand.entry.spot
+            (map (item_piece width) (map numbered numbers.now)) self.old self.new) }
+    {
+        match bytes_of(alloc, width, numbers)? {
+            Some(bytes) => self.sections.append(stand.spot.segment, &bytes),
+            None => self.enter_each_number(alloc, stand, width, numbers),
+        }
+    }
+
+    /// Enters a list.
+    #[inline(never)]
+    pub fn enter_values(
+        &mut self,
+        alloc: Global,
+        stand: Stand<'_>,
+        width: Width,
+        items: Items,
+    ) -> Result<(), AllocError>
+        ensures { OnOk result (Enters
+            (place_in stand.entry.at.file.now stand.entry.at.line) stand.entry.spot
+            (map (item_piece width) items) self.old self.new) }
+    {
+        match items.into_kind() {
+            ItemsKind::Numbers(numbers) => {
+                self.enter_numbers(alloc, stand, width, numbers.as_slice())
+            }
+            ItemsKind::Mixed(items) => self.enter_mixed(alloc, stand, width, items),
+        }
     }
 
     /// Enters room of so many bytes, filled with the byte that is settled, if there is one.

@@ -5,6 +5,7 @@ ghost use Rattle.base65.specs.Outcome.{Gives};
 ghost use Rattle.object65.specs.Objects.{width_len};
 ghost use Rattle.language65.specs.Faults.{is_memory};
 ghost use Rattle.language65.specs.declared.language.Statement.TheVariants.{Instruction, Values};
+ghost use Rattle.language65.specs.Items.{numbered};
 ghost use Rattle.language65.specs.Sizes.{item_len, mode_len};
 ghost use Rattle.language65.specs.Symbols.{Symbols as Table};
 ghost use Rattle.symbols65.specs.Resolving.{IsTable};
@@ -15,7 +16,7 @@ ghost use Rattle.layout65.specs.Views.{standing_of};
 
 use super::{Before, Measured, fit};
 use crate::standing::Standing;
-use language65::{AsmFault, Item, Operand, Settled};
+use language65::{AsmFault, Item, Items, ItemsKind, Operand, Settled};
 use object65::Width;
 use std::alloc::Global;
 use symbols65::{Known, knowing};
@@ -83,8 +84,8 @@ fn item_len(width: Width, item: &Item) -> usize
     }
 }
 
-/// What is left of some room behind a list, if it is enough.
-fn room_behind(width: Width, items: &[Item], room: usize) -> Option<usize>
+/// What is left of some room behind a list of any elements, if it is enough.
+fn room_behind_mixed(width: Width, items: &[Item], room: usize) -> Option<usize>
     ensures { MatchOption result (room < sum_by (item_len width) items.now)
         (λ left. left + sum_by (item_len width) items.now ≡ room) }
 {
@@ -95,9 +96,29 @@ fn room_behind(width: Width, items: &[Item], room: usize) -> Option<usize>
     Some(left)
 }
 
+/// The same behind so many numbers.
+fn room_behind_numbers(width: Width, numbers: &[u32], room: usize) -> Option<usize>
+    ensures { MatchOption result (room < sum_by (item_len width) (map numbered numbers.now))
+        (λ left. left + sum_by (item_len width) (map numbered numbers.now) ≡ room) }
+{
+    let length = numbers.len().checked_mul(width_len(width))?;
+    room.checked_sub(length)
+}
+
+/// What is left of some room behind a list, if it is enough.
+fn room_behind(width: Width, items: &Items, room: usize) -> Option<usize>
+    ensures { MatchOption result (room < sum_by (item_len width) items.now)
+        (λ left. left + sum_by (item_len width) items.now ≡ room) }
+{
+    match items.kind() {
+        ItemsKind::Numbers(numbers) => room_behind_numbers(width, numbers.as_slice(), room),
+        ItemsKind::Mixed(items) => room_behind_mixed(width, items.as_slice(), room),
+    }
+}
+
 /// How many bytes a list of values takes, if the section has room for them.
 #[tactic(auto, using(crate::proofs::Measures::same_test))]
-fn list_len(standing: &Standing, width: Width, items: &[Item]) -> Result<u32, AsmFault>
+fn list_len(standing: &Standing, width: Width, items: &Items) -> Result<u32, AsmFault>
     requires { IsSoundStanding standing.now }
     ensures { result ≡ fitted (standing_of standing.now)
         (sum_by (item_len width) items.now) }
@@ -111,7 +132,7 @@ fn list_len(standing: &Standing, width: Width, items: &[Item]) -> Result<u32, As
 
 /// What a list of values places.
 #[inline(never)]
-pub fn values(standing: &Standing, width: Width, items: &[Item]) -> Result<Measured, AsmFault>
+pub fn values(standing: &Standing, width: Width, items: &Items) -> Result<Measured, AsmFault>
     requires { IsSoundStanding standing.now }
     ensures { (y : Table) → Gives is_memory (λ m. m) result (placed y
         (standing_of standing.now) (Values width items.now)) }

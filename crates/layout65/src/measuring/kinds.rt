@@ -126,7 +126,7 @@ pub fn place(
         Statement::Instruction { mnemonic, operand } => {
             instruction(alloc, before, known, *mnemonic, operand)
         }
-        Statement::Values { width, items } => values(before.standing, *width, items.as_slice()),
+        Statement::Values { width, items } => values(before.standing, *width, items),
         Statement::Reserve { count, value } => reserve(alloc, before, known, count, value),
         Statement::Align { multiple, value } => align(alloc, before, known, multiple, value),
         Statement::FilePart { bytes, start, len } => {

@@ -8,7 +8,7 @@ ghost use Rattle.language65.specs.LineFaults.{item_trees, lost_scopes, operand_t
 ghost use Rattle.symbols65.specs.Views.{table_of};
 
 use super::lost::check_scopes;
-use language65::{AsmFault, Item, Operand, OptionalExpr, PartRange, Statement};
+use language65::{AsmFault, Item, Items, ItemsKind, Operand, OptionalExpr, PartRange, Statement};
 use std::alloc::Global;
 use symbols65::Symbols;
 use syntax65::{Expr, ExprKind};
@@ -105,7 +105,7 @@ fn check_item(alloc: Global, symbols: &Symbols, scope: usize, item: &Item) -> Re
 }
 
 #[inline(never)]
-fn check_items(
+fn check_mixed(
     alloc: Global,
     symbols: &Symbols,
     scope: usize,
@@ -118,6 +118,21 @@ fn check_items(
         check_item(alloc, symbols, scope, item)?;
     }
     Ok(())
+}
+
+fn check_items(
+    alloc: Global,
+    symbols: &Symbols,
+    scope: usize,
+    items: &Items,
+) -> Result<(), AsmFault>
+    ensures { Gives is_memory (λ u. u) result (unless_fault (lost_scopes
+        (table_of symbols.now).scopes scope (item_trees items.now)) tt) }
+{
+    match items.kind() {
+        ItemsKind::Numbers(_) => Ok(()),
+        ItemsKind::Mixed(items) => check_mixed(alloc, symbols, scope, items.as_slice()),
+    }
 }
 
 /// Refuses a statement with a name whose scope isn't there.
@@ -136,12 +151,7 @@ pub fn check_trees(
             mnemonic: _,
             operand,
         } => check_operand(alloc, symbols, scope, operand),
-        Statement::Values { width: _, items } => check_items(
-            alloc,
-            symbols,
-            scope,
-            items.as_slice(),
-        ),
+        Statement::Values { width: _, items } => check_items(alloc, symbols, scope, items),
         Statement::Reserve { count, value } => check_two(alloc, symbols, scope, count, value),
         Statement::Align { multiple, value } => check_two(alloc, symbols, scope, multiple, value),
         Statement::FilePart {

@@ -5,13 +5,15 @@ ghost use Rattle.base65.specs.Relations.{Answers};
 ghost use Rattle.syntax65.specs.Tokens.{lexemes};
 ghost use Rattle.syntax65.specs.Trees.{number};
 ghost use Rattle.language65.specs.Faults.{is_failure, is_outside};
+ghost use Rattle.language65.specs.Items.{numbered};
+ghost use Rattle.statements65.specs.declared.reading.words.Elements.{Elements};
 ghost use Rattle.statements65.specs.Parsing.{parts_of, string_of, EachIs, IsExpression, IsItem, IsValue};
 
 use super::parts::{expression, first_part, lone_number};
 use super::tokens::string_of;
 use super::words::Elements;
 use base65::Sequence;
-use language65::{AsmFault, Item};
+use language65::{AsmFault, Item, Items, ItemsKind};
 use std::alloc::{AllocError, Global};
 use syntax65::{Expr, ExprKind, Token};
 
@@ -55,20 +57,46 @@ fn item(alloc: Global, elements: Elements, tokens: &[Token<'_>]) -> Result<Item,
     }
 }
 
-/// No elements, with room for those of so many tokens: a comma stands between each two.
+/// No numbers, with room for those of so many tokens: a comma stands between each two.
+fn no_numbers(alloc: Global, count: usize) -> Result<Sequence<u32>, AllocError>
+    ensures { IfOk result (λ numbers. numbers ≡ []) }
+{
+    Ok(Sequence::from_vec(Vec::with_capacity(alloc, count / 2 + 1)?))
+}
+
+/// The same of any elements.
 fn no_items(alloc: Global, count: usize) -> Result<Sequence<Item>, AllocError>
     ensures { IfOk result (λ items. items ≡ []) }
 {
     Ok(Sequence::from_vec(Vec::with_capacity(alloc, count / 2 + 1)?))
 }
 
-/// The elements of a list, with a comma between each two.
-pub fn items(
+/// The numbers of a list that has nothing else, with a comma between each two.
+fn numbers(alloc: Global, tokens: &[Token<'_>]) -> Result<Option<Sequence<u32>>, AllocError>
+    ensures { IfOk result (λ numbers. IfSome numbers (λ ns. (elements : Elements) →
+        EachIs (IsItem elements) (parts_of (lexemes tokens.now)) (Ok (map numbered ns)))) }
+{
+    let mut numbers = no_numbers(alloc, tokens.len())?;
+    let mut rest = Some(tokens);
+    'parts: while let Some(left) = rest {
+        let (part, behind) = first_part(left);
+        let Some(number) = number_alone(part) else {
+            return Ok(None);
+        };
+        numbers.push(number)?;
+        rest = behind;
+    }
+    Ok(Some(numbers))
+}
+
+/// The elements of a list, whatever they are.
+fn mixed(
     alloc: Global,
     elements: Elements,
     tokens: &[Token<'_>],
 ) -> Result<Sequence<Item>, AsmFault>
-    ensures value { Answers is_outside (λ x. x) result (EachIs (IsItem elements) (parts_of (lexemes tokens.now))) }
+    ensures value { Answers is_outside (λ x. x) result
+        (EachIs (IsItem elements) (parts_of (lexemes tokens.now))) }
     ensures inside { IfErr result (λ e. is_failure e ≡ false) }
 {
     let mut items = no_items(alloc, tokens.len())?;
@@ -79,4 +107,17 @@ pub fn items(
         rest = behind;
     }
     Ok(items)
+}
+
+/// The elements of a list, with a comma between each two.
+pub fn items(alloc: Global, elements: Elements, tokens: &[Token<'_>]) -> Result<Items, AsmFault>
+    ensures value { Answers is_outside (λ x. x) result
+        (EachIs (IsItem elements) (parts_of (lexemes tokens.now))) }
+    ensures inside { IfErr result (λ e. is_failure e ≡ false) }
+{
+    if let Some(numbers) = numbers(alloc, tokens)? {
+        return Ok(Items::new(ItemsKind::Numbers(numbers)));
+    }
+    let items = mixed(alloc, elements, tokens)?;
+    Ok(Items::new(ItemsKind::Mixed(items)))
 }

@@ -11,7 +11,7 @@ use super::parts::first_part;
 use super::tokens::{name_of, needed_string};
 use super::words::{Elements, Names};
 use base65::Sequence;
-use language65::{AsmFault, Item, Statement};
+use language65::{AsmFault, Item, Items, ItemsKind, Statement};
 use object65::Width;
 use std::alloc::Global;
 use syntax65::Token;
@@ -43,7 +43,7 @@ pub fn ended_text(alloc: Global, tokens: &[Token<'_>]) -> Result<Statement, AsmF
     items.push(Item::Text(bytes))?;
     Ok(Statement::Values {
         width: Width::Byte,
-        items,
+        items: Items::new(ItemsKind::Mixed(items)),
     })
 }
 

@@ -1,7 +1,7 @@
 use Rattle.syntax65.specs.Tokens.{lexemes}
 use Rattle.statements65.specs.Parsing.{parts_of, IsItem}
 use Rattle.statements65.proofs.Each.{count_left, parts_left, GoesOn}
-use Rattle.statements65.proofs.reading.items.items.Given as goal
+use Rattle.statements65.proofs.reading.items.mixed.Given as goal
 
 abbrev pub invariant-parts : goal.invariant-parts
 invariant-parts l = GoesOn (IsItem l.elements) (parts_of (lexemes l.tokens)) l.items (parts_left l.rest)

@@ -1,7 +1,7 @@
 use Rattle.syntax65.specs.Tokens.{lexemes}
 use Rattle.statements65.specs.Parsing.{parts_of, IsItem}
 use Rattle.statements65.proofs.Each.{ended, one_more, parts_left, stops, taken}
-use Rattle.statements65.proofs.reading.items.items.Goals as goal
+use Rattle.statements65.proofs.reading.items.mixed.Goals as goal
 
 pub returns-in_err-item-clause-value : goal.returns-in_err-item-clause-value
 returns-in_err-item-clause-value c =

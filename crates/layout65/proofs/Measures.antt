@@ -1,5 +1,5 @@
 -- Faults one after the other.
-use Rattle.std.proofs.Common.{◌≡◌, ℕ, zero, suc, ◌+◌, ◌<◌, ◌≤◌, nat_lt, arith, map, drop, get_or, add-one, Bool, true, false, List, [], ◌∷◌, length, Option, Some, None, refl, sym, ap, subst, ◌∙◌}
+use Rattle.std.proofs.Common.{◌≡◌, ℕ, zero, suc, ◌+◌, ◌<◌, ◌≤◌, nat_lt, arith, drop, get_or, add-one, Bool, true, false, List, [], ◌∷◌, length, Option, Some, None, refl, sym, ap, subst, ◌∙◌}
 use Rattle.std.specs.Prelude.{◌&&◌, ◌++◌, Result, Ok, Err, IfOk}
 use Rattle.std.proofs.lemmas.Bool.Decides.{nat_tests}
 use Rattle.std.specs.Prelude.{sum_by}
@@ -19,8 +19,8 @@ use Rattle.language65.specs.declared.laid.Settled.{Settled}
 use Rattle.language65.specs.Symbols.{Scope, Symbols, key_defined}
 use Rattle.language65.specs.declared.language.Statement.{Statement}
 use Rattle.language65.specs.declared.language.Statement.TheVariants as statement
-use Rattle.language65.specs.declared.language.Item.TheVariants as items
-use Rattle.language65.proofs.Lists.{drop_mapped, map_length}
+use Rattle.language65.specs.declared.language.Item.TheVariants.{Text, Value}
+use Rattle.language65.proofs.Lists.{drop_item}
 use Rattle.object65.specs.Objects.{section_limit}
 use Rattle.syntax65.specs.declared.lexing.tokens.AddressSize.TheVariants.{Absolute}
 use Rattle.syntax65.specs.declared.lexing.tokens.AddressSize.{AddressSize}
@@ -57,12 +57,12 @@ or_none None b = refl
 or_none (Some e) b = refl
 
 first_item : (cs : List Scope) (scope : ℕ) (item : Item) (items : List Item) → lost_scopes cs scope (item_trees (item ∷ items)) ≡ or_then (lost_scopes cs scope (item_trees (item ∷ []))) (lost_scopes cs scope (item_trees items))
-first_item cs scope (items.Value e) items = sym (or_none (lost_scope cs scope e) (lost_scopes cs scope (item_trees items)))
-first_item cs scope (items.Text bytes) items = refl
+first_item cs scope (Value e) items = sym (or_none (lost_scope cs scope e) (lost_scopes cs scope (item_trees items)))
+first_item cs scope (Text bytes) items = refl
 
 -- what the items from a place on are refused for
 pub items_lost : (cs : List Scope) (scope : ℕ) (items : List Item) (i : ℕ) (item : Item) → i < length items → item ≡ get_or items i item → lost_scopes cs scope (item_trees (drop i items)) ≡ or_then (lost_scopes cs scope (item_trees (item ∷ []))) (lost_scopes cs scope (item_trees (drop (i + 1) items)))
-items_lost cs scope items i item lt e = rw add-one (ap (λ is. lost_scopes cs scope (item_trees is)) (drop_mapped items i item lt e) ∙ first_item cs scope item (drop (suc i) items))
+items_lost cs scope items i item lt e = rw add-one (ap (λ is. lost_scopes cs scope (item_trees is)) (drop_item items i item lt e) ∙ first_item cs scope item (drop (suc i) items))
 
 -- ---- What a section has room for.
 
@@ -86,10 +86,10 @@ no_segment (f ∷ gs) (suc i) h = no_segment gs i (omega arith)
 
 -- how many bytes the items from a place on take
 pub items_left : (width : Width) (items : List Item) (i : ℕ) (item : Item) → i < length items → item ≡ get_or items i item → sum_by (item_len width) (drop i items) ≡ item_len width item + sum_by (item_len width) (drop (i + 1) items)
-items_left width items i item lt e = rw add-one (ap (sum_by (item_len width)) (drop_mapped items i item lt e) ∙ sum_by-cons (item_len width) item (drop (suc i) items))
+items_left width items i item lt e = rw add-one (ap (sum_by (item_len width)) (drop_item items i item lt e) ∙ sum_by-cons (item_len width) item (drop (suc i) items))
 
 pub none_left : (width : Width) (items : List Item) (i : ℕ) → length items ≤ i → sum_by (item_len width) (drop i items) ≡ 0
-none_left width items i le = ap (sum_by (item_len width)) (drop_all i items (let e : length (map items) ≡ length items = map_length items in omega (arith, e)))
+none_left width items i le = ap (sum_by (item_len width)) (drop_all i items le)
 
 -- ---- Room.
 

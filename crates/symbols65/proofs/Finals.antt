@@ -1,5 +1,5 @@
 -- What stays whatever statements follow.
-use Rattle.std.proofs.Common.{◌≡◌, ℕ, zero, suc, ◌+◌, ◌-◌, ◌≤◌, Bool, true, false, List, [], ◌∷◌, length, take, position, is_some, Option, Some, None, IfSome, IfOk, slice_get, Result, Ok, Err, ◌⊎◌, inl, inr, refl, sym, subst, ap, ◌∙◌, arith}
+use Rattle.std.proofs.Common.{◌≡◌, ℕ, zero, suc, ◌+◌, ◌-◌, ◌≤◌, Bool, true, false, List, [], ◌∷◌, length, take, position, is_some, Option, Some, None, IfSome, IfOk, slice_get, Result, Ok, Err, refl, sym, ap, ◌∙◌, arith}
 use Rattle.std.specs.Prelude.{nat_le, if◌then◌else◌}
 use Rattle.std.proofs.lemmas.Bool.Decides.{nat_tests}
 use Rattle.std.proofs.lemmas.List.{length-append, take-append-le}
@@ -8,9 +8,6 @@ use Rattle.base65.specs.Outcome.{◌>>=◌}
 use Rattle.base65.specs.declared.values.Op1.{Op1}
 use Rattle.base65.specs.declared.values.Op2.{Op2}
 use Rattle.syntax65.specs.Trees.{Tree, number, here, name, cheap, forward, backward, unary, binary}
-use Rattle.syntax65.specs.declared.expressions.trees.Expr.{Expr}
-use Rattle.syntax65.specs.declared.expressions.trees.Expr.TheVariants as expr
-use Rattle.syntax65.specs.declared.expressions.trees.Name.{Name}
 use Rattle.object65.specs.Form.{Form}
 use Rattle.object65.specs.Folding.{fold1, fold2}
 use Rattle.object65.specs.declared.folding.FormFault.{FormFault}
@@ -26,7 +23,7 @@ use Rattle.symbols65.specs.declared.resolving.attempt.State.TheVariants.{Unknown
 use Rattle.symbols65.specs.declared.table.symbols.Symbols as code
 use Rattle.language65.specs.Extending.{Extends}
 use Rattle.symbols65.specs.Finals.{IsFinalWithin}
-use Rattle.symbols65.specs.Forms.{binary_form, prefix_form}
+use Rattle.symbols65.specs.Forms.{IsReference, binary_form, prefix_form}
 use Rattle.symbols65.specs.Resolving.{attempt_definition, attempt_value, known_form, plain_part}
 use Rattle.symbols65.specs.Inner.Settling.{MeansAlways, MeansFinally, Operands}
 use Rattle.symbols65.specs.Inner.Sources.{known_by}
@@ -155,11 +152,15 @@ pub some_place : (y : Symbols) (s : Spot) (e : Tree) (o : Option ℕ) → IfSome
 some_place y s e None h q = absurd cc
 some_place y s e (Some j) h q = (j, h)
 
-pub operands_of : (P : Tree → Type 0) (e : Expr) → ((x : Name) × (e ≡ expr.Name x)) ⊎ (((x : List ℕ) × (e ≡ expr.Cheap x)) ⊎ (((x : ℕ) × (e ≡ expr.Forward x)) ⊎ ((x : ℕ) × (e ≡ expr.Backward x)))) → P e → Operands P e
-operands_of P e (inl (x, q)) p = subst (λ z. Operands P z) (sym q) (subst (λ z. P z) q p)
-operands_of P e (inr (inl (x, q))) p = subst (λ z. Operands P z) (sym q) (subst (λ z. P z) q p)
-operands_of P e (inr (inr (inl (x, q)))) p = subst (λ z. Operands P z) (sym q) (subst (λ z. P z) q p)
-operands_of P e (inr (inr (inr (x, q)))) p = subst (λ z. Operands P z) (sym q) (subst (λ z. P z) q p)
+pub operands_of : (P : Tree → Type 0) (e : Tree) → IsReference e → P e → Operands P e
+operands_of P (number v) r p = absurd r
+operands_of P here r p = absurd r
+operands_of P (unary op e) r p = absurd r
+operands_of P (binary op e f) r p = absurd r
+operands_of P (name global parts) r p = p
+operands_of P (cheap n) r p = p
+operands_of P (forward n) r p = p
+operands_of P (backward n) r p = p
 
 pub more_ok : {A E : Type 0} (P Q : A → Type 0) (r : Result A E) → ((x : A) → P x → Q x) → IfOk r P → IfOk r Q
 more_ok P Q (Ok x) h p = h x p

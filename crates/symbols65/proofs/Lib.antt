@@ -10,6 +10,7 @@ pub mod NameTables
 pub mod Needing
 pub mod Places
 pub mod Pursuits
+pub mod References
 pub mod Scopes
 pub mod Settling
 pub mod Sizing

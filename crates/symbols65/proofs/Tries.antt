@@ -3,9 +3,6 @@ use Rattle.std.proofs.Common.{◌≡◌, ℕ, suc, ◌≤◌, refl, sym, ap, ◌
 use Rattle.std.specs.Prelude.{⊤}
 use Rattle.base65.specs.Outcome.{◌>>=◌}
 use Rattle.syntax65.specs.Trees.{Tree, number, here, name, cheap, forward, backward, unary, binary}
-use Rattle.syntax65.specs.declared.expressions.trees.Expr.{Expr}
-use Rattle.syntax65.specs.declared.expressions.trees.Expr.TheVariants as expr
-use Rattle.syntax65.specs.declared.expressions.trees.Name.{Name}
 use Rattle.object65.specs.Form.{Form}
 use Rattle.object65.specs.Folding.{fold1, fold2}
 use Rattle.language65.specs.declared.fault.AsmFault.{AsmFault}
@@ -18,6 +15,7 @@ use Rattle.language65.specs.declared.laid.Spot.{Spot}
 use Rattle.language65.specs.Symbols.{Symbols, Definition}
 use Rattle.language65.specs.Names.{Meaning, defined_at, imported_as, meaning_of}
 use Rattle.language65.specs.Norms.{folded, form_by, form_of_value, form_of_definition, form_of_meaning, norm}
+use Rattle.symbols65.specs.Forms.{IsReference}
 use Rattle.symbols65.specs.Resolving.{stopped, known_form, attempt_value, attempt_definition, meaning_form, operand_form, tried_by, tried, tried_at, tried_last, FoundBy}
 use Rattle.symbols65.proofs.Turns.{Known, Course, expression_course, constant_course, constant_is, ok_later, ok_before}
 
@@ -223,11 +221,15 @@ attempt_last c table known h v a t (w ∷ ws) = attempt_last c table known h (co
 -- ---- Operands.
 
 -- the attempt at an expression that is an operand
-pub operand_tried : (a : Tree → Result Form Stop) (s : Spot) (e : Expr) → ((x : Name) × (e ≡ expr.Name x)) ⊎ (((x : List ℕ) × (e ≡ expr.Cheap x)) ⊎ (((x : ℕ) × (e ≡ expr.Forward x)) ⊎ ((x : ℕ) × (e ≡ expr.Backward x)))) → a e ≡ tried_by a s e
-operand_tried a s e (inl (x, q)) = ap (λ z. a z) q ∙ sym (ap (λ z. tried_by a s z) q)
-operand_tried a s e (inr (inl (x, q))) = ap (λ z. a z) q ∙ sym (ap (λ z. tried_by a s z) q)
-operand_tried a s e (inr (inr (inl (x, q)))) = ap (λ z. a z) q ∙ sym (ap (λ z. tried_by a s z) q)
-operand_tried a s e (inr (inr (inr (x, q)))) = ap (λ z. a z) q ∙ sym (ap (λ z. tried_by a s z) q)
+pub operand_tried : (a : Tree → Result Form Stop) (s : Spot) (e : Tree) → IsReference e → a e ≡ tried_by a s e
+operand_tried a s (number v) r = absurd r
+operand_tried a s here r = absurd r
+operand_tried a s (unary op e) r = absurd r
+operand_tried a s (binary op e f) r = absurd r
+operand_tried a s (name global parts) r = refl
+operand_tried a s (cheap n) r = refl
+operand_tried a s (forward n) r = refl
+operand_tried a s (backward n) r = refl
 
 -- an operand that means something has the form of that
 pub meant_tried : (known : ℕ → Option State) (y : Symbols) (s : Spot) (e : Tree) (m : Meaning) → meaning_of y s e ≡ Ok m → tried known y s e ≡ meaning_form known y m

@@ -200,9 +200,7 @@ fn form_and_size(
         | ExprKind::Scoped(_)
         | ExprKind::Cheap(_)
         | ExprKind::Forward(_)
-        | ExprKind::Backward(_) => {
-            reference_form_and_size(alloc, symbols, known, spot, value)
-        }
+        | ExprKind::Backward(_) => { reference_form_and_size(alloc, symbols, known, spot, value) }
     }
 }
 

@@ -195,9 +195,7 @@ pub fn try_norm(
         | ExprKind::Scoped(_)
         | ExprKind::Cheap(_)
         | ExprKind::Forward(_)
-        | ExprKind::Backward(_) => {
-            operand_norm(alloc, symbols, source, spot, value)
-        }
+        | ExprKind::Backward(_) => { operand_norm(alloc, symbols, source, spot, value) }
     }
 }
 

@@ -103,9 +103,7 @@ pub fn are_final(symbols: &Symbols, spot: Spot, value: &Expr) -> bool
         | ExprKind::Scoped(_)
         | ExprKind::Cheap(_)
         | ExprKind::Forward(_)
-        | ExprKind::Backward(_) => {
-            final_place(symbols, spot, value).is_some()
-        }
+        | ExprKind::Backward(_) => { final_place(symbols, spot, value).is_some() }
     }
 }
 
@@ -166,9 +164,7 @@ fn lasting_form(
         | ExprKind::Scoped(_)
         | ExprKind::Cheap(_)
         | ExprKind::Forward(_)
-        | ExprKind::Backward(_) => {
-            final_operand(alloc, symbols, spot, value)
-        }
+        | ExprKind::Backward(_) => { final_operand(alloc, symbols, spot, value) }
     }
 }
 

@@ -232,7 +232,12 @@ pub fn meaning_of(
             plain_meaning(alloc, symbols, spot.scope as usize, name.as_slice())
         }
         ExprKind::Scoped(name) => name_meaning(alloc, symbols, spot, name),
-        ExprKind::Cheap(name) => cheap_meaning(alloc, symbols, spot.region as usize, name.as_slice()),
+        ExprKind::Cheap(name) => cheap_meaning(
+            alloc,
+            symbols,
+            spot.region as usize,
+            name.as_slice(),
+        ),
         ExprKind::Forward(steps) => known(
             label_behind(symbols, spot.unnamed, *steps),
             AsmFault::NoSuchLabel,

@@ -1,6 +1,5 @@
 use Rattle.std.proofs.Common.{◌∙◌, ap, sym, Option}
 use Rattle.std.specs.Prelude.{not, pos}
-use Rattle.std.specs.Option.{option_map}
 use Rattle.std.proofs.lemmas.Result.{err_from_is_err_and}
 use Rattle.syntax65.specs.Trees.{Tree}
 use Rattle.language65.specs.declared.fault.AsmFault.TheVariants.{BadOperand}

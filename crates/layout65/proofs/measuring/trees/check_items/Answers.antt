@@ -1,4 +1,4 @@
-use Rattle.std.proofs.Common.{◌∙◌, ap, map, drop, ◌∷◌, [], ◌+◌, arith}
+use Rattle.std.proofs.Common.{◌∙◌, ap, drop, ◌∷◌, [], ◌+◌, arith}
 use Rattle.std.proofs.lemmas.Result.{err_from_is_err_and}
 use Rattle.language65.specs.LineFaults.{item_trees, lost_scopes, unless_fault}
 use Rattle.symbols65.specs.Views.{table_of}

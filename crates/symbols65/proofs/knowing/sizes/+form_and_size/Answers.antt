@@ -1,6 +1,7 @@
 use Rattle.std.proofs.Common.{rules, ◌≡◌, ℕ, ap, sym, ◌∙◌}
 use Rattle.std.specs.Result.{result_ok}
 use Rattle.syntax65.specs.Trees.{unary, binary}
+use Rattle.syntax65.specs.Kinds.{tree_of}
 use Rattle.language65.specs.Norms.{literal_in, norm_of}
 use Rattle.language65.specs.Sizes.{larger, size_by, size_of}
 use Rattle.symbols65.specs.Forms.{binary_form, literal_of, prefix_form}
@@ -19,24 +20,25 @@ returns-in_ok-form-in-Prefix-clause-form t c =
     ∙ ap (prefix_form c.in-Prefix.op) c.in_ok-part-in-Prefix.ensures.form
     ∙ prefix_known c.in-Prefix.op (norm_of y s e)
     ∙ ap (λ v. result_ok (norm_of y s (unary c.in-Prefix.op v))) same
-    ∙ sym (ap (λ v. result_ok (norm_of y s v)) c.in-Prefix.is)
+    ∙ sym (ap (λ v. result_ok (norm_of y s v)) (sym c.kind.ensures ∙ ap tree_of c.in-Prefix.is))
 
 -- the tree of the whole
-whole : (t : ℕ) (c : goal.After-sized_by_value-in-Binary t) → c.args.value.now ≡ binary c.in-Binary.op c.deref-in-Binary.result.now c.deref-in-Binary-2.result.now
+whole : (t : ℕ) (c : goal.After-sized_by_value-in-Binary t) → c.args.value.now ≡ binary c.in-Binary.op c.deref-in-Binary.result.now.left c.deref-in-Binary-2.result.now.right
 whole t c =
-    let left : c.deref-in-Binary.result.now ≡ c.in-Binary.left.value = search rules in
-    let right : c.deref-in-Binary-2.result.now ≡ c.in-Binary.right.value = search rules in
-    c.in-Binary.is
-    ∙ sym (ap (λ v. binary c.in-Binary.op v c.in-Binary.right.value) left)
-    ∙ sym (ap (λ v. binary c.in-Binary.op c.deref-in-Binary.result.now v) right)
+    let left : c.deref-in-Binary.result.now ≡ c.in-Binary.operands.value = search rules in
+    let right : c.deref-in-Binary-2.result.now ≡ c.in-Binary.operands.value = search rules in
+    sym c.kind.ensures
+    ∙ ap tree_of c.in-Binary.is
+    ∙ sym (ap (λ v. binary c.in-Binary.op v.left c.in-Binary.operands.value.right) left)
+    ∙ sym (ap (λ v. binary c.in-Binary.op c.deref-in-Binary.result.now.left v.right) right)
 
 -- the form of the whole
 both : (t : ℕ) (c : goal.After-sized_by_value-in-Binary t) → c.in_ok-form-in-Binary.form ≡ result_ok (norm_of (table_of c.args.symbols.now) c.args.spot c.args.value.now)
 both t c =
     let y = table_of c.args.symbols.now in
     let s = c.args.spot in
-    let e = c.deref-in-Binary.result.now in
-    let g = c.deref-in-Binary-2.result.now in
+    let e = c.deref-in-Binary.result.now.left in
+    let g = c.deref-in-Binary-2.result.now.right in
     c.in_ok-form-in-Binary.ensures
     ∙ ap (λ f. binary_form c.in-Binary.op f c.in_ok-right-in-Binary.right.form) c.in_ok-left-in-Binary.ensures.form
     ∙ ap (binary_form c.in-Binary.op (result_ok (norm_of y s e))) c.in_ok-right-in-Binary.ensures.form
@@ -50,8 +52,8 @@ pub returns-in_ok-form-in-Binary-clause-size : goal.returns-in_ok-form-in-Binary
 returns-in_ok-form-in-Binary-clause-size t c =
     let y = table_of c.args.symbols.now in
     let s = c.args.spot in
-    let e = c.deref-in-Binary.result.now in
-    let g = c.deref-in-Binary-2.result.now in
+    let e = c.deref-in-Binary.result.now.left in
+    let g = c.deref-in-Binary-2.result.now.right in
     let parts = c.larger-other.ensures
     ∙ ap (λ a. larger a c.in_ok-right-in-Binary.right.size) c.in_ok-left-in-Binary.ensures.size
     ∙ ap (larger (size_of y s c.args.own e)) c.in_ok-right-in-Binary.ensures.size in

@@ -1,4 +1,4 @@
-use Rattle.std.proofs.Common.{Result, option_map, sym, ap, subst, ◌∙◌}
+use Rattle.std.proofs.Common.{Result, sym, ap, subst, ◌∙◌}
 use Rattle.base65.specs.Outcome.{Gives}
 use Rattle.syntax65.specs.Trees.{Tree}
 use Rattle.object65.specs.Form.{Form}
@@ -17,6 +17,6 @@ returns-in-Finals c =
     let K : Spot → Tree → Result Form Stop = λ s e. known_form place (known_by t c.args.source place) in
     subst P
     (sym (ap (attempt_definition K) c.in-Some.ensures.definition
-    ∙ ap (λ v. attempt_value K d.spot v) c.in-Some-value.is
+    ∙ ap (attempt_value K d.spot) c.in-Some-value.is
     ∙ ap (known_form place) (ap (λ q. known_by t q place) c.in-Finals.is ∙ ap kept (sym c.in-Some.ensures.entry))))
     c.kept_form.ensures

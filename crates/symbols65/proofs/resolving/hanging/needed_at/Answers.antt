@@ -1,4 +1,4 @@
-use Rattle.std.proofs.Common.{◌≡◌, ℕ, Option, ap, option_map}
+use Rattle.std.proofs.Common.{◌≡◌, ℕ, Option}
 use Rattle.std.specs.Prelude.{IfSome}
 use Rattle.std.proofs.lemmas.Result.{IfOk-weaker}
 use Rattle.symbols65.specs.declared.resolving.attempt.Source.TheVariants.{Finals}
@@ -21,5 +21,5 @@ returns-else-not-are_final c =
     let e = c.in-Some-value.value in
     let P : Option ℕ → Type 0 = λ o. o ≡ needed_in (tried (known_by t Finals) y s e) in
     IfOk-weaker c.needed_by.result P (λ o. IfSome o (λ k. HangsOn y c.args.place k))
-    (λ o is. if_some o (λ k h. constant_hangs y c.args.place k d e c.in-Some.ensures.definition (ap (option_map (λ x. x)) c.in-Some-value.is) h) (needed_is t s e o (c.are_final.ensures c.if-not-are_final.false) is))
+    (λ o is. if_some o (λ k h. constant_hangs y c.args.place k d e c.in-Some.ensures.definition c.in-Some-value.is h) (needed_is t s e o (c.are_final.ensures c.if-not-are_final.false) is))
     c.needed_by.ensures

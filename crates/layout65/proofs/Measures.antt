@@ -1,5 +1,5 @@
 -- Faults one after the other.
-use Rattle.std.proofs.Common.{◌≡◌, ℕ, zero, suc, ◌+◌, ◌<◌, ◌≤◌, nat_lt, arith, drop, get_or, add-one, Bool, true, false, List, [], ◌∷◌, length, Option, Some, None, refl, sym, ap, subst, ◌∙◌}
+use Rattle.std.proofs.Common.{◌≡◌, ℕ, zero, suc, ◌+◌, ◌*◌, ◌<◌, ◌≤◌, nat_lt, arith, drop, get_or, add-one, Bool, true, false, List, [], ◌∷◌, length, map, Option, Some, None, refl, sym, ap, subst, ◌∙◌}
 use Rattle.std.specs.Prelude.{◌&&◌, ◌++◌, Result, Ok, Err, IfOk}
 use Rattle.std.proofs.lemmas.Bool.Decides.{nat_tests}
 use Rattle.std.specs.Prelude.{sum_by}
@@ -20,6 +20,10 @@ use Rattle.language65.specs.Symbols.{Scope, Symbols, key_defined}
 use Rattle.language65.specs.declared.language.Statement.{Statement}
 use Rattle.language65.specs.declared.language.Statement.TheVariants as statement
 use Rattle.language65.specs.declared.language.Item.TheVariants.{Text, Value}
+use Rattle.object65.specs.Objects.{width_len}
+use Rattle.language65.specs.Items.{numbered}
+use Rattle.std.specs.Prelude.{◌-◌, MatchOption, SomeIff}
+use Rattle.std.proofs.Math.Nat.{suc-mul, zero-mul}
 use Rattle.language65.proofs.Lists.{drop_item}
 use Rattle.object65.specs.Objects.{section_limit}
 use Rattle.syntax65.specs.declared.lexing.tokens.AddressSize.TheVariants.{Absolute}
@@ -90,6 +94,31 @@ items_left width items i item lt e = rw add-one (ap (sum_by (item_len width)) (d
 
 pub none_left : (width : Width) (items : List Item) (i : ℕ) → length items ≤ i → sum_by (item_len width) (drop i items) ≡ 0
 none_left width items i le = ap (sum_by (item_len width)) (drop_all i items le)
+
+-- numbers take as many bytes as one of them, each
+pub numbers_len : (width : Width) (ns : List ℕ) → sum_by (item_len width) (map numbered ns) ≡ length ns * width_len width
+numbers_len width [] = sym (zero-mul (width_len width))
+numbers_len width (n ∷ ns) =
+    let e = numbers_len width ns in
+    let f = suc-mul (length ns) (width_len width) in
+    let g : sum_by (item_len width) (map numbered (n ∷ ns)) ≡ width_len width + sum_by (item_len width) (map numbered ns) = sum_by-cons (item_len width) (numbered n) (map numbered ns) in
+    g ∙ omega (arith, e, f)
+
+-- what is left behind so many bytes, if there is room for them
+pub what_is_left : (o : Option ℕ) (room len n : ℕ) → len ≡ n → SomeIff o (len ≤ room) (room - len) → MatchOption o (room < n) (λ left. left + n ≡ room)
+what_is_left None room len n e h = omega (arith, e, h)
+what_is_left (Some x) room len n e h = omega (arith, e, h.0, h.1)
+
+-- and they have no names
+pub numbers_keep : (cs : List Scope) (scope : ℕ) (ns : List ℕ) → lost_scopes cs scope (item_trees (map numbered ns)) ≡ None
+numbers_keep cs scope [] = refl
+numbers_keep cs scope (n ∷ ns) = numbers_keep cs scope ns
+
+-- ---- Instructions.
+
+pub last_of_two : (f : Option AsmFault) → or_then f None ≡ f
+last_of_two None = refl
+last_of_two (Some e) = refl
 
 -- ---- Room.
 

@@ -5,7 +5,7 @@ ghost use Rattle.object65.specs.Objects.{section_limit};
 ghost use Rattle.language65.specs.Laid.{is_unnamed, opens_region};
 ghost use Rattle.language65.specs.Layout.{closes_scope, current_behind, first_size, grown_at, kept_behind, last_kept, named_segments, new_segment, opens_scope, or_last, place_of, rest_kept, scope_behind, segment_at, segments_behind, spot_of, start};
 ghost use Rattle.syntax65.specs.declared.instructions.names.Mnemonic.{Mnemonic};
-ghost use Rattle.language65.specs.Symbols.{Symbols};
+ghost use Rattle.language65.specs.Symbols.{Symbols as Table};
 ghost use Rattle.language65.specs.declared.language.Operand.{Operand};
 ghost use Rattle.language65.specs.declared.language.Statement.TheVariants.{Instruction};
 ghost use Rattle.symbols65.specs.Views.{table_of};
@@ -264,11 +264,13 @@ impl Standing {
         requires sound { IsSoundStanding self.old }
         requires ends { AreWithin self.old.segments.items }
         requires room { (spot_of (standing_of self.old)).offset + count ≤ section_limit }
-        ensures moved { (y : Symbols) (m : Mnemonic) (operand : Operand) → standing_of self.new
+        ensures moved { (y : Table) (m : Mnemonic) (operand : Operand) → standing_of self.new
             ≡ advanced y (standing_of self.old) (Instruction m operand) count 1 }
         ensures sound { IsSoundStanding self.new }
         ensures ends { AreWithin self.new.segments.items }
-        ensures counted { (count : ℕ) → IsCounted count self.old → IsCounted count self.new }
+        ensures counted { (y : Table) (m : Mnemonic) (operand : Operand) (n : ℕ) →
+            IsCounted n self.old → AreInside n y.scopes →
+            IsCounted (n + opened_by (Instruction m operand)) self.new }
     {
         self.grow(count, 1);
     }

@@ -1,7 +1,7 @@
 use Rattle.std.proofs.Common.{◌≡◌, drop}
 use Rattle.language65.specs.LineFaults.{item_trees, lost_scopes}
 use Rattle.symbols65.specs.Views.{table_of}
-use Rattle.layout65.proofs.measuring.trees.check_items.Given as goal
+use Rattle.layout65.proofs.measuring.trees.check_mixed.Given as goal
 
 abbrev pub invariant-loop-item : goal.invariant-loop-item
 invariant-loop-item l =

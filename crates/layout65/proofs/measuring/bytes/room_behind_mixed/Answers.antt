@@ -1,6 +1,6 @@
 use Rattle.std.proofs.Common.{arith}
 use Rattle.layout65.proofs.Measures.{items_left, none_left}
-use Rattle.layout65.proofs.measuring.bytes.room_behind.Goals as goal
+use Rattle.layout65.proofs.measuring.bytes.room_behind_mixed.Goals as goal
 
 pub loop-item-preserved : goal.loop-item-preserved
 loop-item-preserved c =

@@ -83,10 +83,9 @@ impl Assembler {
         }
     }
 
-    /// The pieces of any statement are entered, and then its names are known. `enter` hands over all
-    /// but instructions, which most statements are.
+    /// The pieces of a statement are entered, and then its names are known.
     #[inline(never)]
-    fn enter_other(
+    fn enter(
         &mut self,
         alloc: Global,
         stand: Stand<'_>,
@@ -176,30 +175,6 @@ impl Assembler {
             | Statement::Out(_)
             | Statement::Warning(_)
             | Statement::Nothing => Ok(()),
-        }
-    }
-
-    /// The pieces of a statement are entered, and then its names are known.
-    fn enter(
-        &mut self,
-        alloc: Global,
-        stand: Stand<'_>,
-        measured: Measured,
-        statement: Statement,
-    ) -> Result<(), AllocError>
-        requires known { IsTable (table_of self.old.symbols) self.old.known.states.items }
-        requires new { IsNew (table_of self.old.symbols) stand.spot statement }
-        ensures { OnOk result (let place = place_in stand.entry.at.file.now stand.entry.at.line in
-            let s = stand.entry.spot in let m = measured in
-            Turns place s (pieces_of m.length m.settled statement)
-            (λ y. symbols_behind y (laid_as place s m statement))
-            self.old self.new) }
-    {
-        match statement {
-            Statement::Instruction { mnemonic, operand } => {
-                self.enter_settled(alloc, stand, measured.settled, mnemonic, operand)
-            }
-            other => self.enter_other(alloc, stand, measured, other),
         }
     }
 

@@ -106,7 +106,10 @@ impl Front {
         ensures { IsTrue result → IsRest self.now [] }
     {
         match self {
-            Front::Rest(line) => line.first().is_none(),
+            Front::Rest(line) => match line.first() {
+                None => true,
+                Some(_) => false,
+            },
             _ => false,
         }
     }

@@ -1,26 +1,31 @@
 -- Lines of files that are taken where they stand.
-use Rattle.std.proofs.Common.{◌≡◌, ℕ, List, [], ◌∷◌, Option, Some, None, Ok, Err, Result, Bool, true, false, IfSome, refl, sym, subst, ◌∙◌}
+use Rattle.std.proofs.Common.{◌≡◌, ◌≢◌, ◌+◌, ◌≤◌, arith, ◌⊎◌, inl, inr, ℕ, zero, suc, take, drop, ap, List, [], ◌∷◌, Option, Some, None, Ok, Err, Result, Bool, true, false, IfSome, refl, sym, subst, ◌∙◌}
 use Rattle.std.specs.Prelude.{slice_get}
 use Rattle.base65.specs.Outcome.{Unless}
 use Rattle.base65.specs.Store.{Files}
 use Rattle.syntax65.specs.Tokens.{Lexeme}
 use Rattle.source65.specs.Faults.{is_outside}
 use Rattle.source65.specs.declared.fault.ExpandFault.{ExpandFault}
+use Rattle.reader65.specs.Fronts.{front_directive, line_directive}
 use Rattle.reader65.specs.Inside.{left_of}
+use Rattle.reader65.specs.Left.{labelled}
 use Rattle.reader65.specs.Naming.{NamesFiles}
+use Rattle.reader65.specs.Plain.{IsLabel}
 use Rattle.reader65.specs.Taking.{Takes}
 use Rattle.reader65.specs.declared.reader.Reader.{Reader}
-use Rattle.expand65.specs.AtHand.{IsOfKind, Steps}
+use Rattle.expand65.specs.AtHand.{IsOfKind, ReachesBy, Steps, rested}
 use Rattle.expand65.specs.Expansion.{Next, Reaches, fault, further, given, nothing, statement}
 use Rattle.expand65.specs.Meaning.{Meaning}
 use Rattle.expand65.specs.Rewriting.{state_of}
-use Rattle.expand65.specs.Standing.{FollowsFrom, place_of, state_in, stated}
-use Rattle.expand65.specs.State.{State, plain, goes, gives}
-use Rattle.expand65.specs.Step.{IsActed}
+use Rattle.expand65.specs.Standing.{FollowsFrom, IsRest, fronted, place_of, state_in, stated, weight_in}
+use Rattle.expand65.specs.State.{State, Stated, label, plain, goes, gives, with_items}
+use Rattle.expand65.specs.Step.{IsActed, IsLabelled, IsSplit, IsStep}
 use Rattle.expand65.specs.Stopping.{Goes, StopsOnItsWay, no_step, one_more}
 use Rattle.expand65.specs.declared.at_hand.Kind.{Kind}
 use Rattle.expand65.specs.declared.at_hand.Kind.TheVariants as kind
 use Rattle.expand65.specs.declared.expander.Expander.{Expander}
+use Rattle.expand65.specs.declared.expander.Front.{Front}
+use Rattle.expand65.specs.declared.expander.Front.TheVariants.{Nothing, Rest, Branch, End}
 use Rattle.expand65.specs.declared.expander.Statement.{Statement}
 use Rattle.expand65.specs.declared.rewriter.Rewriter.{Rewriter}
 use Rattle.reader65.specs.declared.directives.Directive.{Directive}
@@ -45,22 +50,97 @@ steps_at_hand m k old new ts kind.Statement (plainly, opens) other taken =
     let t = state_of m mid in
     let P : Option Directive → Type 0 = λ d. IsActed m k t ts d (gives (plain ts) t) in
     step_taken m k old (Ok (Some ts, left_of m new)) (gives (plain ts) t) taken (unlabelled m k t ts (gives (plain ts) t) plainly.0 (subst P (sym plainly.1) (no_call m mid ts opens)))
+steps_at_hand m k old new ts (kind.Label zero) is other taken = absurd is
+steps_at_hand m k old new ts (kind.Label (suc n)) (some, right) other taken =
+    let mid : Rewriter = record { alloc = old.alloc; reader = new; macros = old.macros; conditions = old.conditions; expansions = old.expansions; folders = old.folders } in
+    let t = state_of m mid in
+    let x = gives (label (take (suc n) ts)) (rested (suc n) ts t) in
+    let P : Bool → Type 0 = λ b. IsLabelled m k t ts b x in
+    let Q : ℕ → Type 0 = λ j. IsSplit m k t ts (line_directive ts) j x in
+    step_taken m k old (Ok (Some ts, left_of m new)) x taken (subst P (sym right) (subst Q (sym some) refl))
+
+pub label_kind : (n : ℕ) (r : Rewriter) (ts : List Lexeme) → n ≢ 0 → IsLabel ts n → IsOfKind (kind.Label n) r ts
+label_kind zero r ts h is = absurd (h refl)
+label_kind (suc n) r ts h is = is
 
 -- ---- Lines one after another.
 
 pub goes_on_by : (m : Files) (k : Meaning) (s t u : State) (x : Kind) (ts : List Lexeme) → x ≡ kind.Nothing → Goes m k s t → Steps m k t x ts u → Goes m k s u
 goes_on_by m k s t u kind.Nothing ts e h step = one_more s t u h step
 goes_on_by m k s t u kind.Statement ts e h step = absurd cc
+goes_on_by m k s t u (kind.Label n) ts e h step = absurd cc
 goes_on_by m k s t u kind.Other ts e h step = absurd cc
 
 pub reaches_behind : (m : Files) (k : Meaning) (s t : State) (n : Next) → Goes m k s t → Reaches m k t n → Reaches m k s n
 reaches_behind m k s _ n (no_step t) r = r
 reaches_behind m k s _ n (one_more _ t u h step) r = reaches_behind m k s t n h (further t u n step r)
 
-pub given_by : (m : Files) (k : Meaning) (s t u : State) (x : Kind) (ts : List Lexeme) → x ≡ kind.Statement → Goes m k s t → Steps m k t x ts u → Reaches m k s (statement (plain ts) u)
-given_by m k s t u kind.Statement ts e h step = reaches_behind m k s t (statement (plain ts) u) h (given t u (plain ts) step)
-given_by m k s t u kind.Nothing ts e h step = absurd cc
-given_by m k s t u kind.Other ts e h step = absurd cc
+pub reaches_by : (m : Files) (k : Meaning) (s t u : State) (x : Kind) (ts : List Lexeme) → (x ≡ kind.Nothing → ⊥) → Goes m k s t → Steps m k t x ts u → ReachesBy m k s x ts u
+reaches_by m k s t u kind.Nothing ts other h step = absurd (other refl)
+reaches_by m k s t u kind.Statement ts other h step = reaches_behind m k s t (statement (plain ts) u) h (given t u (plain ts) step)
+reaches_by m k s t u (kind.Label n) ts other h step = reaches_behind m k s t (statement (label (take n ts)) (rested n ts u)) h (given t (rested n ts u) (label (take n ts)) step)
+reaches_by m k s t u kind.Other ts other h step = subst (Goes m k s) (sym step) h
+
+pub no_more : (x : Kind) (a b : ℕ) → ((x ≡ kind.Other → ⊥) → a + 3 ≤ b) → (x ≡ kind.Other → a ≡ b) → a ≤ b
+no_more kind.Nothing a b less same = let h : a + 3 ≤ b = less (λ e. cc) in omega (arith, h)
+no_more kind.Statement a b less same = let h : a + 3 ≤ b = less (λ e. cc) in omega (arith, h)
+no_more (kind.Label n) a b less same = let h : a + 3 ≤ b = less (λ e. cc) in omega (arith, h)
+no_more kind.Other a b less same = let h : a ≡ b = same refl in omega (arith, h)
+
+-- ---- What stands behind a label.
+
+step_nothing : (m : Files) (k : Meaning) (f : Front) (s : State) → IsRest f [] → IsStep m k (fronted f s) (goes (fronted Nothing s))
+unfolding IsStep
+step_nothing m k Nothing s h = absurd h
+step_nothing m k (Branch line) s h = absurd h
+step_nothing m k End s h = absurd h
+step_nothing m k (Rest line) s h =
+    let t = fronted Nothing s in
+    let P : List Lexeme → Type 0 = λ ts. IsActed m k t ts (front_directive ts) (goes t) in
+    subst P (sym h) refl
+
+pub rest_passed : (m : Files) (k : Meaning) (old new : Expander) → IsRest old.front [] → new.rewriter ≡ old.rewriter → new.front ≡ Nothing → Goes m k (state_in m old) (state_in m new)
+rest_passed m k old new is same none =
+    let s = state_of m old.rewriter in
+    let to : fronted Nothing s ≡ state_in m new = ap (λ f. fronted f s) (sym none) ∙ ap (λ r. fronted new.front (state_of m r)) (sym same) in
+    subst (Goes m k (state_in m old)) to (one_more (state_in m old) (state_in m old) (fronted Nothing s) (no_step (state_in m old)) (step_nothing m k old.front s is))
+
+pub rest_fronted : (f : Front) (n : ℕ) (ts : List Lexeme) (t : State) → IsRest f (drop n ts) → rested n ts t ≡ fronted f t
+rest_fronted Nothing n ts t h = absurd h
+rest_fronted (Branch line) n ts t h = absurd h
+rest_fronted End n ts t h = absurd h
+rest_fronted (Rest line) n ts t h = ap (λ l. with_items t (labelled l ∷ t.left.items)) (sym h)
+
+pub rest_weight : (f : Front) (ts : List Lexeme) → IsRest f ts → weight_in f ≡ 3
+rest_weight Nothing ts h = absurd h
+rest_weight (Branch line) ts h = absurd h
+rest_weight End ts h = absurd h
+rest_weight (Rest line) ts h = refl
+
+-- ---- What a call takes where nothing stands in front of the lines.
+
+pub plain_given : (m : Files) (k : Meaning) (s : State) (mid new : Rewriter) (f : Front) (x : Kind) (ts : List Lexeme) → f ≡ Nothing → Goes m k s (fronted f (state_of m mid)) → x ≡ kind.Statement → ReachesBy m k (state_of m mid) x ts (state_of m new) → Reaches m k s (statement (plain ts) (fronted f (state_of m new)))
+plain_given m k s mid new f x ts e h i r =
+    let P : Front → Type 0 = λ g. Goes m k s (fronted g (state_of m mid)) → Reaches m k s (statement (plain ts) (fronted g (state_of m new))) in
+    let Q : Kind → Type 0 = λ y. ReachesBy m k (state_of m mid) y ts (state_of m new) in
+    subst P (sym e) (λ g. reaches_behind m k s (state_of m mid) (statement (plain ts) (state_of m new)) g (subst Q i r)) h
+
+pub label_given : (m : Files) (k : Meaning) (s : State) (mid new last : Rewriter) (f behind : Front) (x : Kind) (n : ℕ) (ts : List Lexeme) (y : Stated) → f ≡ Nothing → Goes m k s (fronted f (state_of m mid)) → x ≡ kind.Label n → ReachesBy m k (state_of m mid) x ts (state_of m new) → y ≡ label (take n ts) → IsRest behind (drop n ts) → last ≡ new → Reaches m k s (statement y (fronted behind (state_of m last)))
+label_given m k s mid new last f behind x n ts y e h i r z rest same =
+    let P : Front → Type 0 = λ g. Goes m k s (fronted g (state_of m mid)) in
+    let Q : Kind → Type 0 = λ w. ReachesBy m k (state_of m mid) w ts (state_of m new) in
+    let t = state_of m new in
+    let to : rested n ts t ≡ fronted behind (state_of m last) = rest_fronted behind n ts t rest ∙ ap (λ w. fronted behind (state_of m w)) (sym same) in
+    let R : State → Type 0 = λ u. Reaches m k s (statement (label (take n ts)) u) in
+    let S : Stated → Type 0 = λ w. Reaches m k s (statement w (fronted behind (state_of m last))) in
+    subst S (sym z) (subst R to (reaches_behind m k s (state_of m mid) (statement (label (take n ts)) (rested n ts t)) (subst P e h) (subst Q i r)))
+
+pub none_given : (m : Files) (k : Meaning) (s : State) (mid new : Rewriter) (f : Front) (x : Kind) (ts : List Lexeme) → f ≡ Nothing → Goes m k s (fronted f (state_of m mid)) → (x ≡ kind.Nothing) ⊎ (x ≡ kind.Other) → ReachesBy m k (state_of m mid) x ts (state_of m new) → Goes m k s (fronted f (state_of m new))
+none_given m k s mid new f x ts e h (inl i) r = absurd (let Q : Kind → Type 0 = λ y. ReachesBy m k (state_of m mid) y ts (state_of m new) in subst Q i r)
+none_given m k s mid new f x ts e h (inr i) r =
+    let P : Front → Type 0 = λ g. Goes m k s (fronted g (state_of m mid)) → Goes m k s (fronted g (state_of m new)) in
+    let Q : Kind → Type 0 = λ y. ReachesBy m k (state_of m mid) y ts (state_of m new) in
+    subst P (sym e) (λ g. goes_over m k s (state_of m mid) (state_of m new) g (subst Q i r)) h
 
 -- ---- From what an expander stands for.
 

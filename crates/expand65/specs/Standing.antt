@@ -1,6 +1,7 @@
 -- The state that an expander stands for, and what its calls answer.
 use Rattle.std.specs.Prelude.{◌≡◌, ℕ, ◌+◌, Bool, true, false, List, [], ◌∷◌, Option, Some, None, Result, Ok, Err}
 use Rattle.base65.specs.Outcome.{Unless}
+use Rattle.syntax65.specs.Tokens.{Lexeme}
 use Rattle.base65.specs.Store.{Files}
 use Rattle.expand65.specs.Expansion.{statement, nothing, fault, Reaches}
 use Rattle.source65.specs.Faults.{is_outside}
@@ -50,6 +51,15 @@ place_of e = e.rewriter.reader.place
 abbrev pub stated : Statement → Stated
 stated (Label line) = label (tokens_in line)
 stated (Plain line) = plain (tokens_in line)
+
+abbrev pub tokens_of : Stated → List Lexeme
+tokens_of (label ts) = ts
+tokens_of (plain ts) = ts
+
+-- what stands behind a label is this
+abbrev pub IsRest : Front → List Lexeme → Type 0
+IsRest (Rest line) ts = tokens_in line ≡ ts
+IsRest _ ts = ⊥
 
 -- ---- What its calls answer.
 

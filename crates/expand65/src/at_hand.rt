@@ -1,17 +1,14 @@
 //! Lines of files that are taken where they stand, in the place of a line that the caller keeps.
 
-ghost use Rattle.std.specs.Prelude.{◌≡◌, ◌<◌, ◌≤◌, IfOk, IsTrue, OnOk, false, is_some};
+ghost use Rattle.std.specs.Prelude.{◌≡◌, ◌≤◌, ◌+◌, IfOk, OnOk, is_some};
 ghost use Rattle.base65.specs.Store.{Files};
 ghost use Rattle.syntax65.specs.Tokens.{lexeme_of};
 ghost use Rattle.reader65.specs.Kept.{tokens_in};
 ghost use Rattle.reader65.specs.Naming.{NamesFiles};
-ghost use Rattle.expand65.specs.AtHand.{IsOfKind, Steps};
-ghost use Rattle.expand65.specs.Expansion.{Next, Reaches};
+ghost use Rattle.expand65.specs.AtHand.{IsOfKind, ReachesBy, Steps};
 ghost use Rattle.expand65.specs.Macros.{macro_at};
 ghost use Rattle.expand65.specs.Meaning.{Meaning};
 ghost use Rattle.expand65.specs.Rewriting.{macros_of, size_of, state_of};
-ghost use Rattle.expand65.specs.State.{plain};
-ghost use Rattle.expand65.specs.Stopping.{Goes};
 
 use crate::rewriter::Rewriter;
 use reader65::Line;
@@ -25,7 +22,9 @@ pub enum Kind {
     Nothing,
     /// A statement without a label.
     Statement,
-    /// It begins with a label or a directive of expansion, or calls a macro; or no line is at hand.
+    /// It begins with a label of so many tokens.
+    Label(usize),
+    /// It begins with a directive of expansion, or calls a macro; or no line is at hand.
     Other,
 }
 
@@ -57,22 +56,24 @@ impl Rewriter {
                     return Kind::Other;
                 }
                 if line.is_plain() {
-                    Kind::Statement
-                } else {
-                    Kind::Other
+                    return Kind::Statement;
+                }
+                match line.label_len() {
+                    0 => Kind::Other,
+                    len => Kind::Label(len),
                 }
             }
         }
     }
 
-    /// Takes the next line in the place of another, where it is a file's, all of it is at hand, and it is nothing or a
-    /// statement without a label.
+    /// Takes the next line in the place of another, where it is a file's, all of it is at hand, and it is nothing, a
+    /// statement, or begins with a label.
     #[inline(always)]
     fn take_at_hand(&mut self, line: &mut Line) -> Result<Kind, AllocError>
         ensures steps { (m : Files) (k : Meaning) → IfOk result (λ x.
             Steps m k (state_of m self.old) x (tokens_in line.new) (state_of m self.new)) }
         ensures named { NamesFiles self.old.reader → NamesFiles self.new.reader }
-        ensures less { IfOk result (λ x. (x ≡ Kind.Other → ⊥) → size_of self.new < size_of self.old) }
+        ensures less { IfOk result (λ x. (x ≡ Kind.Other → ⊥) → size_of self.new + 3 ≤ size_of self.old) }
         ensures none { IfOk result (λ x. x ≡ Kind.Other → self.new ≡ self.old) }
     {
         let Some(len) = self.reader.peek(self.alloc, line)? else {
@@ -90,24 +91,21 @@ impl Rewriter {
         }
     }
 
-    /// Takes the next statement in the place of another, where it is a whole line of a file, at hand; whether it was.
-    /// Lines without tokens in front of it are passed over.
+    /// Takes the next line in the place of another, where it is a file's, at hand, and a statement or begins with a
+    /// label; which of them it was. Lines without tokens in front of it are passed over.
     #[inline(always)]
-    pub fn take_statement(&mut self, line: &mut Line) -> Result<bool, AllocError>
-        ensures given { IfOk result (λ b. IsTrue b → (m : Files) (k : Meaning) → Reaches m k
-            (state_of m self.old)
-            (Next.statement (plain (tokens_in line.new)) (state_of m self.new))) }
-        ensures gone { IfOk result (λ b. b ≡ false → (m : Files) (k : Meaning) →
-            Goes m k (state_of m self.old) (state_of m self.new)) }
+    pub fn take_statement(&mut self, line: &mut Line) -> Result<Kind, AllocError>
+        ensures taken { (m : Files) (k : Meaning) → IfOk result (λ x.
+            ReachesBy m k (state_of m self.old) x (tokens_in line.new) (state_of m self.new)) }
         ensures named { OnOk result (NamesFiles self.old.reader → NamesFiles self.new.reader) }
-        ensures less { IfOk result (λ b. IsTrue b → size_of self.new < size_of self.old) }
+        ensures less { IfOk result (λ x.
+            (x ≡ Kind.Other → ⊥) → size_of self.new + 3 ≤ size_of self.old) }
         ensures size { OnOk result (size_of self.new ≤ size_of self.old) }
     {
         'lines: loop {
             match self.take_at_hand(line)? {
                 Kind::Nothing => {}
-                Kind::Statement => return Ok(true),
-                Kind::Other => return Ok(false),
+                kind => return Ok(kind),
             }
         }
     }

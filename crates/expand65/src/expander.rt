@@ -1,19 +1,21 @@
 //! The statements of a source, one after another.
 
-ghost use Rattle.std.specs.Prelude.{◌≡◌, ◌<◌, ◌≤◌, ◌+◌, ◌*◌, [], true, false, length, Err, IfOk, IfSome, IsErrOf, IsTrue, OnErr, OnOk};
+ghost use Rattle.std.specs.Prelude.{◌≡◌, ◌<◌, ◌≤◌, ◌+◌, ◌*◌, [], true, false, length, take, drop, Err, IfOk, IfSome, IsErrOf, IsTrue, OnErr, OnOk};
 ghost use Rattle.base65.specs.Store.{Asks, Files, IsBlamed, Passes};
-ghost use Rattle.expand65.specs.Standing.{Comes, FollowsFrom, Opens, StandsFor, given_in, is_end, led, measure_of, place_of, state_in, stated};
+ghost use Rattle.expand65.specs.Standing.{Comes, FollowsFrom, IsRest, Opens, StandsFor, given_in, is_end, led, measure_of, place_of, state_in, stated, tokens_of};
 ghost use Rattle.source65.specs.Faults.{is_outside};
 ghost use Rattle.expand65.specs.Stopping.{Goes, StopsOnItsWay, StopsReading};
 ghost use Rattle.expand65.specs.Expansion.{Next, Reaches, first_left, opened_in};
 ghost use Rattle.expand65.specs.Meaning.{Meaning};
 ghost use Rattle.reader65.specs.Naming.{NamesFiles};
 ghost use Rattle.reader65.specs.Inside.{left_of, mark_of};
+ghost use Rattle.reader65.specs.Kept.{tokens_in};
 ghost use Rattle.reader65.specs.Reading.{bytes_of};
 ghost use Rattle.expand65.specs.Rewriting.{Turns, size_of, state_of, turned, weight_of};
-ghost use Rattle.expand65.specs.State.{State, plain};
+ghost use Rattle.expand65.specs.State.{State, label, plain};
 ghost use Rattle.expand65.specs.Step.{IsStep};
 
+use crate::at_hand::Kind;
 use crate::conditions::Conditions;
 use crate::includes::is_there;
 use crate::knows::Knows;
@@ -63,6 +65,26 @@ impl Statement {
     {
         Statement::Plain(Line::new(alloc))
     }
+
+    /// Takes the line out.
+    fn take_line(&mut self, alloc: Global) -> Line
+        ensures { tokens_in result ≡ tokens_of (stated self.old) }
+    {
+        match self {
+            Statement::Label(line) | Statement::Plain(line) => {
+                mem::replace(line, Line::new(alloc))
+            }
+        }
+    }
+
+    /// Makes a label's line one without a label, for the next to be put in its place.
+    #[inline(always)]
+    fn forget_label(&mut self, alloc: Global) {
+        if matches!(self, Statement::Label(_)) {
+            let line = self.take_line(alloc);
+            *self = Statement::Plain(line);
+        }
+    }
 }
 
 impl Front {
@@ -76,6 +98,20 @@ impl Front {
         ensures { IsTrue result → self.now ≡ Front.Nothing }
     {
         matches!(self, Front::Nothing)
+    }
+
+    /// Whether it is what stands behind a label, and that is nothing.
+    #[inline(always)]
+    fn is_empty_rest(&self) -> bool
+        ensures { IsTrue result → IsRest self.now [] }
+    {
+        match self {
+            Front::Rest(line) => match line.first() {
+                None => true,
+                Some(_) => false,
+            },
+            _ => false,
+        }
     }
 }
 
@@ -199,8 +235,8 @@ impl Expander {
         }
     }
 
-    /// Takes the next statement in the place of another, where that has no label, and it is a whole line of a file, at
-    /// hand; whether it was. Lines without tokens in front of it are passed over.
+    /// Takes the next statement in the place of another, where it is a whole line of a file, at hand, or the label of
+    /// one; whether it was. Lines without tokens in front of it are passed over.
     #[inline(always)]
     fn take_at_hand(&mut self, statement: &mut Statement) -> Result<bool, AllocError>
         ensures given { IfOk result (λ b. IsTrue b → (m : Files) (k : Meaning) → Reaches m k
@@ -218,13 +254,50 @@ impl Expander {
         if self.failed {
             return Ok(false);
         }
+        self.pass_rest();
         if !self.front.is_nothing() {
             return Ok(false);
         }
+        statement.forget_label(self.rewriter.alloc);
         match statement {
-            Statement::Plain(line) => self.rewriter.take_statement(line),
+            Statement::Plain(line) => match self.rewriter.take_statement(line)? {
+                Kind::Statement => Ok(true),
+                Kind::Label(len) => {
+                    self.part(statement, len)?;
+                    Ok(true)
+                }
+                Kind::Nothing | Kind::Other => Ok(false),
+            },
             Statement::Label(_) => Ok(false),
         }
+    }
+
+    /// Passes over what stands behind a label, where that is nothing.
+    #[inline(always)]
+    fn pass_rest(&mut self)
+        ensures gone { (m : Files) (k : Meaning) →
+            Goes m k (state_in m self.old) (state_in m self.new) }
+        ensures rewriter { self.new.rewriter ≡ self.old.rewriter }
+        ensures failed { self.new.failed ≡ self.old.failed }
+        ensures size { measure_of self.new ≤ measure_of self.old }
+    {
+        if self.front.is_empty_rest() {
+            self.front = Front::Nothing;
+        }
+    }
+
+    /// Leaves a label of so many tokens in a statement, and puts what stands behind it in front of the lines.
+    fn part(&mut self, statement: &mut Statement, len: usize) -> Result<(), AllocError>
+        ensures label { OnOk result (stated statement.new ≡ label (take len (tokens_of (stated statement.old)))) }
+        ensures rest { OnOk result (IsRest self.new.front (drop len (tokens_of (stated statement.old)))) }
+        ensures rewriter { self.new.rewriter ≡ self.old.rewriter }
+        ensures failed { self.new.failed ≡ self.old.failed }
+    {
+        let mut line = statement.take_line(self.rewriter.alloc);
+        let rest = line.split_off(self.rewriter.alloc, len)?;
+        *statement = Statement::Label(line);
+        self.front = Front::Rest(rest);
+        Ok(())
     }
 
     /// The innermost open file and the number of its line that was read last, 0 before the first. Behind a statement it

@@ -11,6 +11,10 @@ text_of w bytes = (w.kind, take w.len (drop w.blanks bytes))
 abbrev pub behind_word : Word → List ℕ → List ℕ
 behind_word w bytes = drop w.len (drop w.blanks bytes)
 
+abbrev pub behind_words : List Word → List ℕ → List ℕ
+behind_words [] bytes = bytes
+behind_words (w ∷ ws) bytes = behind_words ws (behind_word w bytes)
+
 -- words cut off the bytes one after another
 abbrev pub cut : List Word → List ℕ → List Lexeme
 cut [] bytes = []

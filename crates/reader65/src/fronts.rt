@@ -83,7 +83,8 @@ pub fn string_of<'a>(tokens: &[Token<'a>]) -> Option<&'a [u8]>
     }
 }
 
-fn is_label_name(token: &Token<'_>) -> bool
+/// Whether a token is a name or a cheap name.
+pub fn is_label_name(token: &Token<'_>) -> bool
     ensures { result ≡ is_label_name (lexeme_of token.now) }
 {
     match token.kind {

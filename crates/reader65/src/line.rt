@@ -1,18 +1,18 @@
 //! Lines that are kept.
 
-ghost use Rattle.std.specs.Prelude.{◌≡◌, ◌≤◌, ◌∷◌, ◌++◌, [], false, length, slice_get, option_map, take, IsTrue, IfErr, IfOk, IfSome, List, Ok, OnOk, Result};
+ghost use Rattle.std.specs.Prelude.{◌≡◌, ◌≤◌, ◌∷◌, ◌++◌, [], false, length, slice_get, option_map, take, drop, IsTrue, IfErr, IfOk, IfSome, List, Ok, OnOk, Result};
 ghost use Rattle.base65.specs.Relations.{Answers};
 ghost use Rattle.syntax65.specs.Tokens.{IsRead, Lexeme, lexeme_of, lexemes};
 ghost use Rattle.syntax65.specs.declared.lexing.fault.LexFault.{LexFault};
 ghost use Rattle.source65.specs.Faults.{is_failure, is_outside};
 ghost use Rattle.reader65.specs.Fronts.{front_directive, label_len};
 ghost use Rattle.reader65.specs.Kept.{behind_word, cut, text_of, tokens_in};
-ghost use Rattle.reader65.specs.Plain.{IsColon, IsColonAt, IsPlain};
+ghost use Rattle.reader65.specs.Plain.{IsColon, IsColonAt, IsLabel, IsOrNone, IsOrNoneAt, IsPlain};
 ghost use Rattle.reader65.specs.Parting.{IsParted};
 ghost use Rattle.reader65.specs.Taking.{lexed};
 
 use crate::directives::Directive;
-use crate::fronts::{directive_in, is_mislabelled, label_len};
+use crate::fronts::{directive_in, is_colon, is_label_name, is_mislabelled, label_len};
 use base65::Sequence;
 use source65::ExpandFault;
 use std::alloc::{AllocError, Global};
@@ -58,10 +58,32 @@ impl Word {
         (Token { kind, text }, behind)
     }
 
+    /// A token of a line, so short that both are.
+    #[inline(always)]
+    fn within(kind: TokenKind, blanks: usize, len: usize) -> Word
+        requires blanks { blanks ≤ 4096 }
+        requires len { len ≤ 4096 }
+        ensures { (result.kind ≡ kind) × (result.blanks ≡ blanks) × (result.len ≡ len) }
+    {
+        Word {
+            kind,
+            blanks: blanks as u32,
+            len: len as u32,
+        }
+    }
+
     fn is_colon(&self) -> bool
         ensures { IsColon self.now result }
     {
         matches!(self.kind, TokenKind::Symbol(Mark::Colon))
+    }
+
+    /// Whether it is a directive, of expansion or not.
+    #[inline(always)]
+    fn is_directive(&self) -> bool
+        ensures { IsOrNone self.now result }
+    {
+        matches!(self.kind, TokenKind::Directive)
     }
 }
 
@@ -180,9 +202,22 @@ impl Line {
     pub fn directive(&self) -> Option<Directive>
         ensures { result ≡ front_directive (tokens_in self.now) }
     {
-        match self.first() {
-            Some(token) => directive_in(&token),
-            None => None,
+        let word = self.words.as_slice().first()?;
+        // Most lines begin with no directive, and then their bytes aren't looked at.
+        if !word.is_directive() {
+            return None;
+        }
+        let (token, _) = word.token(self.bytes.as_slice());
+        directive_in(&token)
+    }
+
+    /// Whether a word is there at a place, and is a directive.
+    fn is_directive_at(&self, at: usize) -> bool
+        ensures { IsOrNoneAt self.now.words at result }
+    {
+        match self.words.as_slice().get(at) {
+            Some(word) => word.is_directive(),
+            None => false,
         }
     }
 
@@ -213,6 +248,50 @@ impl Line {
         ensures { IsTrue result → IsPlain (tokens_in self.now) }
     {
         self.has_no_colon() && self.directive().is_none()
+    }
+
+    /// How many tokens the label at the front has, where no directive stands behind it; 0 where there is none.
+    pub fn label_len(&self) -> usize
+        ensures { IsLabel (tokens_in self.now) result }
+    {
+        let Some(first) = self.first() else {
+            return 0;
+        };
+        let len = if is_colon(&first) {
+            1
+        } else if is_label_name(&first) && self.is_colon_at(1) {
+            2
+        } else {
+            return 0;
+        };
+        if self.is_directive_at(len) {
+            return 0;
+        }
+        len
+    }
+
+    /// Leaves so many tokens at the front; a line of those behind them.
+    pub fn split_off(&mut self, alloc: Global, count: usize) -> Result<Line, AllocError>
+        ensures front { IfOk result (λ _. tokens_in self.new ≡ take count (tokens_in self.old)) }
+        ensures behind { IfOk result (λ rest. tokens_in rest ≡ drop count (tokens_in self.old)) }
+    {
+        if self.words.len() <= count {
+            return Ok(Line::new(alloc));
+        }
+        let (front, behind) = self.words.as_slice().split_at(count);
+        let mut bytes = self.bytes.as_slice();
+        for word in front {
+            let (_, left) = word.token(bytes);
+            bytes = left;
+        }
+        let rest = Line {
+            words: Sequence::copy_of(alloc, behind)?,
+            bytes: Sequence::copy_of(alloc, bytes)?,
+        };
+        let mut words = mem::replace(&mut self.words, Sequence::new(alloc)).into_vec();
+        words.truncate(count);
+        self.words = Sequence::from_vec(words);
+        Ok(rest)
     }
 
     /// The label at the front and what stands behind it, if there is a label.
@@ -253,7 +332,7 @@ fn read_words(bytes: &[u8], words: &mut Vec<Word>) -> Result<usize, ExpandFault>
             Some(token) => {
                 let len = token.text.len();
                 let blanks = left - lexer.rest.len() - len;
-                words.push(Word::new(token.kind, blanks, len)?)?;
+                words.push(Word::within(token.kind, blanks, len))?;
             }
             None => return Ok(bytes.len() - left),
         }

@@ -229,8 +229,8 @@ impl Assembler {
         ensures placed { (count : ℕ) (t : State) → Holds count t self.old → IfOk result (λ p.
             IsPlaced t (Instruction mnemonic operand.now) p.spot p.measured) }
         ensures holds { (place : Place) (count : ℕ) (t : State) → Holds count t self.old →
-            OnOk result (Holds count (stepped t place (Instruction mnemonic operand.now))
-            self.new) }
+            OnOk result (Holds (count + opened_by (Instruction mnemonic operand.now))
+            (stepped t place (Instruction mnemonic operand.now)) self.new) }
         ensures refused { (count : ℕ) (t : State) → Holds count t self.old → IfErr result
             (IsRefused t (Instruction mnemonic operand.now)) }
         ensures texts { IfErr result (λ e. is_outside e ≡ false → self.new.texts ≡ self.old.texts) }
@@ -258,7 +258,8 @@ impl Assembler {
         requires { IsHeld self.old }
         ensures taken { (count : ℕ) (t : State) → Holds count t self.old → count < opening_limit →
             Answers (Takes t (place_in at.entry.file.now at.entry.line)
-            (Instruction mnemonic operand)) (λ u. Holds count u self.new) result }
+            (Instruction mnemonic operand))
+            (λ u. Holds (count + opened_by (Instruction mnemonic operand)) u self.new) result }
         ensures texts { IfErr result (λ e. is_outside e ≡ false → self.new.texts ≡ self.old.texts) }
         ensures inside { IfErr result (λ e. is_failure e ≡ false) }
     {

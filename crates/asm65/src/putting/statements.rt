@@ -14,7 +14,7 @@ use crate::forms::literal_of;
 use crate::waiting::Piece;
 use base65::Sequence;
 use language65::{Item, Items, ItemsKind, Operand, Settled, Spot};
-use object65::{Action, Width, fits, put};
+use object65::{Action, Width};
 use std::alloc::{AllocError, Global};
 use symbols65::{Symbols, final_form};
 use syntax65::{Expr, ExprKind, Mnemonic, Mode, opcode};
@@ -63,21 +63,6 @@ fn is_so(alloc: Global, symbols: &Symbols, spot: Spot, value: &Expr) -> Result<b
     }
 }
 
-/// The bytes of numbers, if each lies in its range.
-fn bytes_of(alloc: Global, width: Width, numbers: &[u32]) -> Result<Option<Vec<u8>>, AllocError>
-    ensures { IfOk result (λ bytes. IfSome bytes (λ b. AreBytesOf width numbers.now b.items)) }
-{
-    let mut bytes = Vec::with_capacity(alloc, numbers.len())?;
-    for number in numbers {
-        let value = i64::from(*number);
-        if !fits(width, value) {
-            return Ok(None);
-        }
-        bytes.extend_from_slice(&put(width, value))?;
-    }
-    Ok(Some(bytes))
-}
-
 impl Assembler {
     ghost use Rattle.std.specs.Prelude.{◌∷◌, [], OnOk, map};
     ghost use Rattle.source65.specs.declared.place.Place.{Place};
@@ -88,6 +73,7 @@ impl Assembler {
     ghost use Rattle.syntax65.specs.Opcodes.{opcode_of};
     ghost use Rattle.module65.specs.Pieces.{asserted, given, instruction_pieces, valued};
     ghost use Rattle.module65.specs.Pieces.{item_piece, operand_pieces};
+    ghost use Rattle.language65.specs.Items.{numbered};
     ghost use Rattle.asm65.specs.Inner.Holding.{Enters};
 
     /// Enters the code of an instruction.
@@ -172,41 +158,23 @@ impl Assembler {
         Ok(())
     }
 
-    /// Enters a list of numbers one by one.
-    fn enter_each_number(
-        &mut self,
-        alloc: Global,
-        stand: Stand<'_>,
-        width: Width,
-        numbers: &[u32],
-    ) -> Result<(), AllocError>
-        ensures { OnOk result (Enters
-            (place_in stand.entry.at.file.now stand.entry.at.line) stand.entry.spot
-            (map (item_piece width) (map numbered numbers.now)) self.old self.new) }
-    {
-        for number in numbers {
-            let value = Expr::new(ExprKind::Number(*number));
-            self.enter_datum(alloc, stand, width, value)?;
-        }
-        Ok(())
-    }
-
-    /// Enters a list of numbers: their bytes at once, where each lies in its range.
+    /// Enters a list of numbers.
     fn enter_numbers(
         &mut self,
         alloc: Global,
         stand: Stand<'_>,
         width: Width,
-        numbers: &[u32],
+        numbers: Sequence<u32>,
     ) -> Result<(), AllocError>
         ensures { OnOk result (Enters
             (place_in stand.entry.at.file.now stand.entry.at.line) stand.entry.spot
-            (map (item_piece width) (map numbered numbers.now)) self.old self.new) }
+            (map (item_piece width) (map numbered numbers)) self.old self.new) }
     {
-        match bytes_of(alloc, width, numbers)? {
-            Some(bytes) => self.sections.append(stand.spot.segment, &bytes),
-            None => self.enter_each_number(alloc, stand, width, numbers),
+        for number in numbers.into_vec() {
+            let value = Expr::new(ExprKind::Number(number));
+            self.enter_datum(alloc, stand, width, value)?;
         }
+        Ok(())
     }
 
     /// Enters a list.
@@ -223,9 +191,7 @@ impl Assembler {
             (map (item_piece width) items) self.old self.new) }
     {
         match items.into_kind() {
-            ItemsKind::Numbers(numbers) => {
-                self.enter_numbers(alloc, stand, width, numbers.as_slice())
-            }
+            ItemsKind::Numbers(numbers) => self.enter_numbers(alloc, stand, width, numbers),
             ItemsKind::Mixed(items) => self.enter_mixed(alloc, stand, width, items),
         }
     }

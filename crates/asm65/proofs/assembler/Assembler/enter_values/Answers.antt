@@ -1,41 +1,18 @@
-use Rattle.std.proofs.Common.{arith, ◌≡◌, List, ◌∷◌, [], map, sym, subst, ◌∙◌}
-use Rattle.std.proofs.lemmas.Grind.{common_steps}
-use Rattle.std.specs.Vec.Iter.{into_iter_items}
-use Rattle.source65.specs.declared.place.Place.{Place}
-use Rattle.object65.specs.declared.object.Width.{Width}
-use Rattle.language65.specs.declared.language.Item.{Item}
-use Rattle.language65.specs.declared.laid.Spot.{Spot}
+use Rattle.std.proofs.Common.{◌∙◌, List, ap, map, sym, subst}
+use Rattle.std.specs.Prelude.{OnOk}
+use Rattle.language65.specs.Items.{items_of}
 use Rattle.language65.specs.Views.{place_in}
+use Rattle.language65.specs.declared.language.Item.{Item}
 use Rattle.module65.specs.Pieces.{item_piece}
-use Rattle.asm65.specs.declared.assembler.Assembler.{Assembler}
 use Rattle.asm65.specs.Inner.Holding.{Enters}
-use Rattle.asm65.proofs.Enterings.{enters_both, enters_none}
 use Rattle.asm65.proofs.assembler.Assembler.enter_values.Goals as goal
 
-abbrev Entered : Place → Spot → Width → (old new : Assembler) → List Item → Type 0
-Entered place s width old new items = Enters place s (map (item_piece width) items) old new
+pub returns-in-Numbers : goal.returns-in-Numbers
+returns-in-Numbers c =
+    subst (λ (items : List Item). OnOk c.enter_numbers.result (Enters (place_in c.args.stand.at.file.now c.args.stand.at.line) c.args.stand.spot (map (item_piece c.args.width) items) c.args.self.now c.enter_numbers.new.self))
+    (sym (ap items_of c.in-Numbers.is) ∙ c.into_kind.ensures) c.enter_numbers.ensures
 
-pub loop-item-init : goal.loop-item-init
-loop-item-init c b h =
-    subst (Entered (place_in c.args.stand.at.file.now c.args.stand.at.line) c.args.stand.spot c.args.width c.args.self.now b)
-    (c.into_iter-item-iterator.ensures.into_iter_gives.0 ∙ c.into_vec-item-items.ensures) h
-
-pub loop-item-preserved : goal.loop-item-preserved
-loop-item-preserved c b h =
-    let place = place_in c.args.stand.at.file.now c.args.stand.at.line in
-    let s = c.args.stand.spot in
-    let width = c.args.width in
-    let a = c.loop-item.self in
-    let mid = c.enter_item.new.self in
-    let rest = into_iter_items c.next.new.self in
-    c.loop-item.invariant b
-    (subst (Entered place s width a b) (sym c.in-Some.ensures.steps.0)
-    (enters_both place s (item_piece width c.in-Some.item ∷ []) (map (item_piece width) rest) a mid b c.in_ok-enter_item.ensures h))
-
-pub returns : goal.returns
-returns c =
-    let place = place_in c.args.stand.at.file.now c.args.stand.at.line in
-    let s = c.args.stand.spot in
-    let a = c.loop-item.self in
-    let none : into_iter_items c.loop-item.item-iterator ≡ [] = grind (arith, common_steps) in
-    c.loop-item.invariant a (subst (Entered place s c.args.width a a) (sym none) (enters_none place s a))
+pub returns-in-Mixed : goal.returns-in-Mixed
+returns-in-Mixed c =
+    subst (λ (items : List Item). OnOk c.enter_mixed.result (Enters (place_in c.args.stand.at.file.now c.args.stand.at.line) c.args.stand.spot (map (item_piece c.args.width) items) c.args.self.now c.enter_mixed.new.self))
+    (sym (ap items_of c.in-Mixed.is) ∙ c.into_kind.ensures) c.enter_mixed.ensures

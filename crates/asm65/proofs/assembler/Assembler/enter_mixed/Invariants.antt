@@ -4,12 +4,12 @@ use Rattle.language65.specs.Views.{place_in}
 use Rattle.module65.specs.Pieces.{item_piece}
 use Rattle.asm65.specs.declared.assembler.Assembler.{Assembler}
 use Rattle.asm65.specs.Inner.Holding.{Enters}
-use Rattle.asm65.proofs.assembler.Assembler.enter_values.Given as goal
+use Rattle.asm65.proofs.assembler.Assembler.enter_mixed.Given as goal
 
 -- whatever is behind the items that are left is behind them all
 abbrev pub invariant-loop-item : goal.invariant-loop-item
 invariant-loop-item l =
     let place = place_in l.stand.at.file.now l.stand.at.line in
     let s = l.stand.spot in
-    (b : Assembler) → Enters place s (map (item_piece l.width) ((into_iter_items l.item-iterator))) l.self b →
+    (b : Assembler) → Enters place s (map (item_piece l.width) (into_iter_items l.item-iterator)) l.self b →
     Enters place s (map (item_piece l.width) l.fn.items) l.fn.self b

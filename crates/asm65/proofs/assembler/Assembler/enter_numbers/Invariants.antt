@@ -1,0 +1,16 @@
+use Rattle.std.proofs.Common.{map}
+use Rattle.std.specs.Vec.Iter.{into_iter_items}
+use Rattle.language65.specs.Items.{numbered}
+use Rattle.language65.specs.Views.{place_in}
+use Rattle.module65.specs.Pieces.{item_piece}
+use Rattle.asm65.specs.declared.assembler.Assembler.{Assembler}
+use Rattle.asm65.specs.Inner.Holding.{Enters}
+use Rattle.asm65.proofs.assembler.Assembler.enter_numbers.Given as goal
+
+-- whatever is behind the numbers that are left is behind them all
+abbrev pub invariant-loop-number : goal.invariant-loop-number
+invariant-loop-number l =
+    let place = place_in l.stand.at.file.now l.stand.at.line in
+    let s = l.stand.spot in
+    (b : Assembler) → Enters place s (map (item_piece l.width) (map numbered (into_iter_items l.number-iterator))) l.self b →
+    Enters place s (map (item_piece l.width) (map numbered l.fn.numbers)) l.fn.self b

@@ -1,0 +1,25 @@
+use Rattle.language65.specs.Faults.{is_outside}
+use Rattle.language65.specs.declared.language.Statement.{Statement}
+use Rattle.language65.specs.declared.language.Statement.TheVariants.{Instruction}
+use Rattle.language65.specs.Views.{place_in}
+use Rattle.layout65.proofs.Steps.{unless_then}
+use Rattle.asm65.proofs.Statements.{adds_pieces, nothing_behind}
+use Rattle.asm65.proofs.Takings.{takes_entered, takes_refused}
+use Rattle.asm65.proofs.assembler.Assembler.take_instruction.Goals as goal
+
+pub returns-in-Err-clause-taken : goal.returns-in-Err-clause-taken
+returns-in-Err-clause-taken c = λ count t h few.
+    (let e = c.in-Err.fault in
+    let place = place_in c.args.at.file.now c.args.at.line in
+    let x : Statement = Instruction c.args.mnemonic c.args.operand in
+    rw c.refused_operand.ensures (unless_then (is_outside e) (takes_refused t place x e) (c.in-Err.ensures.refused count t h)))
+
+pub returns-in_ok-enter_settled-in-Ok-clause-taken : goal.returns-in_ok-enter_settled-in-Ok-clause-taken
+returns-in_ok-enter_settled-in-Ok-clause-taken c = λ count t h few.
+    (let found = c.in-Ok.field-0 in
+    let place = place_in c.args.at.file.now c.args.at.line in
+    let x : Statement = Instruction c.args.mnemonic c.args.operand in
+    let mid = c.place_instruction.new.self in
+    let new = c.enter_settled.new.self in
+    takes_entered count t place x found.spot found.measured c.args.self.now mid new h (c.in-Ok.ensures.placed count t h) (c.in-Ok.ensures.holds place count t h)
+    (adds_pieces place found.spot found.measured mid new x (λ y. nothing_behind y) c.in_ok-enter_settled-in-Ok.ensures))

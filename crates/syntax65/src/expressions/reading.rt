@@ -67,7 +67,10 @@ fn read_negated(
         return Err(ExprFault::TooDeep);
     }
     let (operand, end) = read_whole(alloc, tokens, at + 1, room - 1)?;
-    Ok((Expr::new(ExprKind::Prefix(Op1::Not, Box::new(alloc, operand)?)), end))
+    Ok((
+        Expr::new(ExprKind::Prefix(Op1::Not, Box::new(alloc, operand)?)),
+        end,
+    ))
 }
 
 /// The phrase of a level from a place on, and where it ends.
@@ -197,7 +200,10 @@ fn read_prefixed(
         return Err(ExprFault::TooDeep);
     }
     let (operand, end) = read_operand(alloc, tokens, at + 1, room - 1)?;
-    Ok((Expr::new(ExprKind::Prefix(op, Box::new(alloc, operand)?)), end))
+    Ok((
+        Expr::new(ExprKind::Prefix(op, Box::new(alloc, operand)?)),
+        end,
+    ))
 }
 
 #[cycle(expr)]

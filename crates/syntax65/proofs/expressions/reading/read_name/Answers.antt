@@ -1,8 +1,5 @@
 use Rattle.std.proofs.lemmas.Result.{err_from_is_err_and}
 use Rattle.syntax65.specs.Tokens.{lexemes}
-
-
-
 use Rattle.syntax65.proofs.Phrases.{name_stop, name_phrase, plain_phrase}
 use Rattle.syntax65.proofs.expressions.reading.read_name.Goals as goal
 

@@ -1,5 +1,5 @@
 -- Lines of files that are taken where they stand.
-use Rattle.std.proofs.Common.{◌≡◌, ◌≢◌, ◌+◌, ◌≤◌, arith, ◌⊎◌, inl, inr, ℕ, zero, suc, take, drop, ap, List, [], ◌∷◌, Option, Some, None, Ok, Err, Result, Bool, true, false, IfSome, refl, sym, subst, ◌∙◌}
+use Rattle.std.proofs.Common.{◌≡◌, ◌≢◌, ◌+◌, ◌≤◌, arith, ◌⊎◌, inl, inr, ℕ, zero, suc, take, drop, ap, List, [], ◌∷◌, Option, Some, None, Ok, Err, Result, Bool, true, false, IfSome, IfOk, IsTrue, refl, sym, subst, ◌∙◌}
 use Rattle.std.specs.Prelude.{slice_get}
 use Rattle.base65.specs.Outcome.{Unless}
 use Rattle.base65.specs.Store.{Files}
@@ -30,7 +30,10 @@ use Rattle.expand65.specs.declared.expander.Statement.{Statement}
 use Rattle.expand65.specs.declared.rewriter.Rewriter.{Rewriter}
 use Rattle.reader65.specs.declared.directives.Directive.{Directive}
 use Rattle.expand65.proofs.Acting.{no_call, step_taken, unlabelled}
+use Rattle.expand65.proofs.Going.{step_rest}
 use Rattle.expand65.proofs.Stopping.{goes_over}
+use Rattle.reader65.specs.Kept.{tokens_in}
+use Rattle.reader65.specs.declared.line.Line.{Line}
 
 -- ---- One line.
 
@@ -104,6 +107,17 @@ rest_passed m k old new is same none =
     let s = state_of m old.rewriter in
     let to : fronted Nothing s ≡ state_in m new = ap (λ f. fronted f s) (sym none) ∙ ap (λ r. fronted new.front (state_of m r)) (sym same) in
     subst (Goes m k (state_in m old)) to (one_more (state_in m old) (state_in m old) (fronted Nothing s) (no_step (state_in m old)) (step_nothing m k old.front s is))
+
+pub rest_given : (m : Files) (k : Meaning) (old : Expander) (line : Line) → old.front ≡ Rest line → IsOfKind kind.Statement old.rewriter (tokens_in line) → Reaches m k (state_in m old) (statement (plain (tokens_in line)) (state_of m old.rewriter))
+rest_given m k old line e (plainly, opens) =
+    let ts = tokens_in line in
+    let s = state_of m old.rewriter in
+    let P : Option Directive → Type 0 = λ d. IsActed m k s ts d (gives (plain ts) s) in
+    given (state_in m old) s (plain ts) (step_rest m k old line (gives (plain ts) s) e (subst P (sym plainly.1) (no_call m old.rewriter ts opens)))
+
+pub rest_behind : {E : Type 0} (q : Result Bool E) (old mid new : Expander) (x : Stated) → ((m : Files) (k : Meaning) → Goes m k (state_in m old) (state_in m mid)) → IfOk q (λ b. IsTrue b → (m : Files) (k : Meaning) → Reaches m k (state_in m mid) (statement x (state_in m new))) → IfOk q (λ b. IsTrue b → (m : Files) (k : Meaning) → Reaches m k (state_in m old) (statement x (state_in m new)))
+rest_behind (Ok b) old mid new x gone h = λ t m k. reaches_behind m k (state_in m old) (state_in m mid) (statement x (state_in m new)) (gone m k) (h t m k)
+rest_behind (Err e) old mid new x gone h = tt
 
 pub rest_fronted : (f : Front) (n : ℕ) (ts : List Lexeme) (t : State) → IsRest f (drop n ts) → rested n ts t ≡ fronted f t
 rest_fronted Nothing n ts t h = absurd h

@@ -46,7 +46,7 @@ impl Rewriter {
 
     /// What a line is.
     #[inline(always)]
-    fn kind_of(&self, line: &Line) -> Kind
+    pub fn kind_of(&self, line: &Line) -> Kind
         ensures { IsOfKind result self.now (tokens_in line.now) }
     {
         match line.first() {

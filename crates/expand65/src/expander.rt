@@ -77,6 +77,16 @@ impl Statement {
         }
     }
 
+    /// Puts a statement of another line's tokens in its place.
+    fn put(&mut self, alloc: Global, line: &Line) -> Result<(), AllocError>
+        ensures { OnOk result (stated self.new ≡ plain (tokens_in line.now)) }
+    {
+        let mut own = self.take_line(alloc);
+        own.copy_from(alloc, line)?;
+        *self = Statement::Plain(own);
+        Ok(())
+    }
+
     /// Makes a label's line one without a label, for the next to be put in its place.
     #[inline(always)]
     fn forget_label(&mut self, alloc: Global) {
@@ -256,7 +266,7 @@ impl Expander {
         }
         self.pass_rest();
         if !self.front.is_nothing() {
-            return Ok(false);
+            return self.take_rest(statement);
         }
         statement.forget_label(self.rewriter.alloc);
         match statement {
@@ -283,6 +293,28 @@ impl Expander {
     {
         if self.front.is_empty_rest() {
             self.front = Front::Nothing;
+        }
+    }
+
+    /// Takes what stands behind a label in the place of a statement, where it is one; whether it was.
+    fn take_rest(&mut self, statement: &mut Statement) -> Result<bool, AllocError>
+        ensures given { IfOk result (λ b. IsTrue b → (m : Files) (k : Meaning) → Reaches m k
+            (state_in m self.old) (Next.statement (stated statement.new) (state_in m self.new))) }
+        ensures same { IfOk result (λ b. b ≡ false → self.new ≡ self.old) }
+        ensures rewriter { self.new.rewriter ≡ self.old.rewriter }
+        ensures failed { self.new.failed ≡ self.old.failed }
+        ensures less { IfOk result (λ b. IsTrue b → measure_of self.new < measure_of self.old) }
+    {
+        let Front::Rest(line) = &self.front else {
+            return Ok(false);
+        };
+        match self.rewriter.kind_of(line) {
+            Kind::Statement => {
+                statement.put(self.rewriter.alloc, line)?;
+                self.front = Front::Nothing;
+                Ok(true)
+            }
+            Kind::Nothing | Kind::Label(_) | Kind::Other => Ok(false),
         }
     }
 

@@ -156,6 +156,21 @@ impl Line {
         }
     }
 
+    /// Puts another line's tokens in the place of the line's own.
+    pub fn copy_from(&mut self, alloc: Global, line: &Line) -> Result<(), AllocError>
+        ensures { OnOk result (tokens_in self.new ≡ tokens_in line.now) }
+    {
+        let mut words = mem::replace(&mut self.words, Sequence::new(alloc)).into_vec();
+        let mut kept = mem::replace(&mut self.bytes, Sequence::new(alloc)).into_vec();
+        words.clear();
+        kept.clear();
+        words.extend_from_slice(line.words.as_slice())?;
+        kept.extend_from_slice(line.bytes.as_slice())?;
+        self.words = Sequence::from_vec(words);
+        self.bytes = Sequence::from_vec(kept);
+        Ok(())
+    }
+
     /// Puts the line's tokens behind others.
     pub fn add_to<'a>(&'a self, tokens: &mut Vec<Token<'a>>) -> Result<(), AllocError>
         ensures { OnOk result (lexemes tokens.new.items ≡ lexemes tokens.old.items ++ tokens_in self.now) }

@@ -22,10 +22,11 @@ ghost use Rattle.layout65.specs.Measuring.{fitted, measured, naming_fault};
 ghost use Rattle.layout65.specs.Sounds.{IsSoundStanding};
 ghost use Rattle.layout65.specs.Views.{standing_of};
 
+use self::bytes::instruction;
 use self::kinds::place;
 use self::names::{check_defined, check_opened, check_outside};
 pub use self::parts::check_unread;
-use self::trees::check_trees;
+use self::trees::{check_operand, check_trees};
 use crate::standing::Standing;
 use language65::{AsmFault, Settled, Spot, Statement};
 use std::alloc::Global;
@@ -99,8 +100,10 @@ fn nothing(standing: &Standing) -> Measured
     }
 }
 
-/// What a statement places behind others and what it defines, or its first fault there.
-pub fn measure(
+/// What a statement places behind others and what it defines, or its first fault there, where the statement may be of any
+/// kind.
+#[inline(never)]
+fn measure_any(
     alloc: Global,
     before: Before<'_>,
     known: &mut Known,
@@ -118,4 +121,32 @@ pub fn measure(
 {
     check_naming(alloc, before.symbols, before.standing.spot(), statement)?;
     place(alloc, before, known, statement)
+}
+
+/// What a statement places behind others and what it defines, or its first fault there.
+pub fn measure(
+    alloc: Global,
+    before: Before<'_>,
+    known: &mut Known,
+    statement: &Statement,
+) -> Result<Measured, AsmFault>
+    requires table { IsTable (table_of before.symbols.now) known.old.states.items }
+    requires standing { IsSoundStanding before.standing.now }
+    ensures measured { Gives is_memory (λ m. m) result (measured
+        (table_of before.entry.symbols.now) (standing_of before.entry.standing.now)
+        statement.now) }
+    ensures room { IfOk result (λ m.
+        (spot_of (standing_of before.entry.standing.now)).offset + m.length ≤ section_limit) }
+    ensures table { OnOk result
+        (IsTable (table_of before.entry.symbols.now) known.new.states.items) }
+{
+    match statement {
+        // Most statements are instructions, which open and define nothing.
+        Statement::Instruction { mnemonic, operand } => {
+            let scope = before.standing.scope as usize;
+            check_operand(alloc, before.symbols, scope, operand)?;
+            instruction(alloc, before, known, *mnemonic, operand)
+        }
+        _ => measure_any(alloc, before, known, statement),
+    }
 }

@@ -10,7 +10,9 @@ ghost use Rattle.symbols65.specs.Resolving.{IsTable, meaning_in};
 ghost use Rattle.symbols65.specs.Views.{table_of};
 
 use super::forms::{literal_of, pass_on_memory};
-use crate::resolving::{Known, Meaning, address, binary_form, meaning_of, meant_norm, prefix_form};
+use crate::resolving::{
+    Known, Meaning, address, binary_form, meaning_of, meant_norm, number_of, prefix_form,
+};
 use crate::table::Symbols;
 use base65::Op1;
 use language65::Spot;
@@ -219,6 +221,9 @@ pub fn size(
         s ≡ size_of (table_of symbols.now) spot own value.now) }
     ensures table { OnOk result (IsTable (table_of symbols.now) known.new.states.items) }
 {
+    if let Some(number) = number_of(value) {
+        return Ok(size_of_value(number));
+    }
     let found = form_and_size(alloc, symbols, known, spot, own, value)?;
     Ok(found.size)
 }

@@ -17,6 +17,9 @@ use Rattle.language65.specs.declared.fault.AsmFault.TheVariants.{BadOperand, Not
 use Rattle.language65.specs.declared.language.Item.{Item}
 use Rattle.language65.specs.declared.laid.Settled.{Settled}
 use Rattle.language65.specs.Symbols.{Scope, Symbols, key_defined}
+use Rattle.language65.specs.declared.laid.Spot.{Spot}
+use Rattle.language65.specs.declared.language.Operand.{Operand}
+use Rattle.syntax65.specs.declared.instructions.names.Mnemonic.{Mnemonic}
 use Rattle.language65.specs.declared.language.Statement.{Statement}
 use Rattle.language65.specs.declared.language.Statement.TheVariants as statement
 use Rattle.language65.specs.declared.language.Item.TheVariants.{Text, Value}
@@ -30,7 +33,7 @@ use Rattle.syntax65.specs.declared.lexing.tokens.AddressSize.TheVariants.{Absolu
 use Rattle.syntax65.specs.declared.lexing.tokens.AddressSize.{AddressSize}
 use Rattle.language65.specs.declared.contents.Segment.{Segment}
 use Rattle.language65.specs.Layout.{Standing, own_size, segment_at, spot_of}
-use Rattle.language65.specs.LineFaults.{alignment_fault, block_fault, first_fault, form_fault, missing_file, operand_fault, part_fault, pop_fault, size_fault, defined_twice, is_open, line_fault, opened_twice, scope_name, stands_outside, trees_of, is_byte_value, is_count, is_there, multiple_fault, item_trees, lost_scope, lost_scopes, or_then, when, unless_fault}
+use Rattle.language65.specs.LineFaults.{alignment_fault, block_fault, first_fault, form_fault, missing_file, operand_fault, part_fault, pop_fault, size_fault, defined_twice, is_open, line_fault, opened_twice, scope_name, stands_outside, trees_of, is_byte_value, is_count, is_there, multiple_fault, item_trees, operand_trees, lost_scope, lost_scopes, or_then, when, unless_fault}
 use Rattle.layout65.specs.declared.measuring.Measured as code
 use Rattle.layout65.specs.declared.measuring.Measured.{Measured}
 use Rattle.layout65.specs.Measuring.{fitted, measure_of, measured, naming_fault, placed, placing_faults}
@@ -220,6 +223,14 @@ module _ (y : Symbols) (w : Standing) (x : Statement) where
   -- and one that isn't
   pub measured_named : unless_fault {A = Unit {0}} (naming_fault y (spot_of w) x) tt ≡ Ok tt → measured y w x ≡ placed y w x
   measured_named h = ap (λ f. unless_fault f (measure_of y w x)) (faults_are ∙ left_behind (naming_fault y (spot_of w) x) (first_fault (placing_faults y w x)) tt tt h)
+
+or_nothing : (f : Option AsmFault) → or_then f None ≡ f
+or_nothing None = refl
+or_nothing (Some e) = refl
+
+-- names refuse an instruction for its operand alone
+pub instruction_naming : (y : Symbols) (s : Spot) (x : Statement) (m : Mnemonic) (o : Operand) → x ≡ statement.Instruction m o → naming_fault y s x ≡ lost_scopes y.scopes s.scope (operand_trees o)
+instruction_naming y s x m o is = ap (naming_fault y s) is ∙ or_nothing (lost_scopes y.scopes s.scope (operand_trees o))
 
 -- ---- Room for what is placed.
 

@@ -8,6 +8,7 @@ pub mod Lasts
 pub mod NameParts
 pub mod NameTables
 pub mod Needing
+pub mod Numbers
 pub mod Places
 pub mod Pursuits
 pub mod References

@@ -1,12 +1,13 @@
 //! Names whose scope isn't there.
 
-ghost use Rattle.std.specs.Prelude.{◌≡◌};
+ghost use Rattle.std.specs.Prelude.{◌≡◌, List, None, false, ℕ};
 ghost use Rattle.std.specs.Option.{option_map};
 ghost use Rattle.base65.specs.Outcome.{Gives};
 ghost use Rattle.syntax65.specs.Trees.{name};
 ghost use Rattle.language65.specs.Faults.{is_memory};
 ghost use Rattle.language65.specs.LineFaults.{lost_scope, unless_fault};
 ghost use Rattle.language65.specs.Names.{scopes_of};
+ghost use Rattle.language65.specs.Symbols.{Scope};
 ghost use Rattle.symbols65.specs.Resolving.{plain_part};
 ghost use Rattle.symbols65.specs.Views.{table_of};
 ghost use Rattle.layout65.specs.Measuring.{lost_parts};
@@ -67,6 +68,21 @@ fn check_name(
     match plain_part(written) {
         Some(_) => Ok(()),
         None => check_parts(alloc, symbols, scope, written),
+    }
+}
+
+/// Whether an expression has names with `::`. What has none names no scope.
+pub fn names_scopes(value: &Expr) -> bool
+    ensures { result ≡ false → (cs : List Scope) (scope : ℕ) →
+        lost_scope cs scope value.now ≡ None }
+{
+    match value.kind() {
+        ExprKind::Scoped(_) => true,
+        ExprKind::Prefix(_, part) => names_scopes(part),
+        ExprKind::Binary(_, operands) => {
+            names_scopes(&operands.left) || names_scopes(&operands.right)
+        }
+        _ => false,
     }
 }
 

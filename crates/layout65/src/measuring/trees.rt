@@ -7,7 +7,7 @@ ghost use Rattle.language65.specs.Faults.{is_memory};
 ghost use Rattle.language65.specs.LineFaults.{item_trees, lost_scopes, operand_trees, optional_tree, trees_of, unless_fault};
 ghost use Rattle.symbols65.specs.Views.{table_of};
 
-use super::lost::check_scopes;
+use super::lost::{check_scopes, names_scopes};
 use language65::{AsmFault, Item, Items, ItemsKind, Operand, OptionalExpr, PartRange, Statement};
 use std::alloc::Global;
 use symbols65::Symbols;
@@ -17,6 +17,9 @@ fn check_one(alloc: Global, symbols: &Symbols, scope: usize, value: &Expr) -> Re
     ensures { Gives is_memory (λ u. u) result (unless_fault (lost_scopes
         (table_of symbols.now).scopes scope (value.now ∷ [])) tt) }
 {
+    if !names_scopes(value) {
+        return Ok(());
+    }
     check_scopes(alloc, symbols, scope, value)
 }
 

@@ -1,16 +1,19 @@
 //! The sizes of expressions.
 
-ghost use Rattle.std.specs.Prelude.{◌≡◌, IfOk, Ok, OnOk, slice_get};
+ghost use Rattle.std.specs.Prelude.{◌≡◌, IfOk, IfSome, Ok, OnOk, slice_get};
 ghost use Rattle.std.specs.Result.{result_ok};
 ghost use Rattle.language65.specs.Names.{meaning_of};
 ghost use Rattle.language65.specs.Norms.{constant_in, norm_of};
 ghost use Rattle.language65.specs.Sizes.{is_byte, larger, size_by, size_defined, size_of, size_of_import, size_of_meaning, size_of_value, takes_byte};
 ghost use Rattle.symbols65.specs.Forms.{IsReference, literal_of};
+ghost use Rattle.symbols65.specs.Inner.Settling.{IsPlaceOf};
 ghost use Rattle.symbols65.specs.Resolving.{IsTable, meaning_in};
 ghost use Rattle.symbols65.specs.Views.{table_of};
 
 use super::forms::{literal_of, pass_on_memory};
-use crate::resolving::{Known, Meaning, address, binary_form, meaning_of, meant_norm, prefix_form};
+use crate::resolving::{
+    Known, Meaning, address, binary_form, meaning_of, meant_norm, number_of, prefix_form,
+};
 use crate::table::Symbols;
 use base65::Op1;
 use language65::Spot;
@@ -108,6 +111,39 @@ fn sized_by_value(form: Option<Norm>, other: AddressSize) -> FormAndSize
     FormAndSize { form, size }
 }
 
+/// What is found of a reference that means this.
+fn meant_form_and_size(
+    alloc: Global,
+    symbols: &Symbols,
+    known: &mut Known,
+    spot: Spot,
+    operand: &Expr,
+    meaning: Meaning,
+) -> Result<FormAndSize, AllocError>
+    requires table { IsTable (table_of symbols.now) known.old.states.items }
+    requires meaning { meaning_of (table_of symbols.now) spot operand.now
+        ≡ Ok (meaning_in meaning) }
+    ensures form { IfOk result (λ r. r.form ≡ result_ok
+        (norm_of (table_of symbols.now) spot operand.now)) }
+    ensures size { IfOk result (λ r. r.size ≡ size_by
+        (size_of_meaning (table_of symbols.now)
+        (meaning_of (table_of symbols.now) spot operand.now))
+        (constant_in (table_of symbols.now) spot operand.now)) }
+    ensures table { OnOk result (IsTable (table_of symbols.now) known.new.states.items) }
+{
+    let other = size_of_meaning(symbols, meaning);
+    match meant_norm(alloc, symbols, known, spot, operand, meaning) {
+        Ok(form) => Ok(sized_by_value(Some(form), other)),
+        Err(fault) => {
+            pass_on_memory(&fault)?;
+            Ok(FormAndSize {
+                form: None,
+                size: other,
+            })
+        }
+    }
+}
+
 /// What is found of a reference.
 fn reference_form_and_size(
     alloc: Global,
@@ -127,19 +163,7 @@ fn reference_form_and_size(
     ensures table { OnOk result (IsTable (table_of symbols.now) known.new.states.items) }
 {
     match meaning_of(alloc, symbols, spot, operand) {
-        Ok(meaning) => {
-            let other = size_of_meaning(symbols, meaning);
-            match meant_norm(alloc, symbols, known, spot, operand, meaning) {
-                Ok(form) => Ok(sized_by_value(Some(form), other)),
-                Err(fault) => {
-                    pass_on_memory(&fault)?;
-                    Ok(FormAndSize {
-                        form: None,
-                        size: other,
-                    })
-                }
-            }
-        }
+        Ok(meaning) => meant_form_and_size(alloc, symbols, known, spot, operand, meaning),
         Err(fault) => {
             pass_on_memory(&fault)?;
             // What has no meaning yet may come to lie anywhere.
@@ -204,6 +228,74 @@ fn form_and_size(
     }
 }
 
+/// The size of what a name means, where that is no constant: then no form is needed.
+fn size_of_place(symbols: &Symbols, meaning: Meaning) -> Option<AddressSize>
+    ensures { IfSome result (IsPlaceOf (table_of symbols.now) (meaning_in meaning)) }
+{
+    match meaning {
+        Meaning::Defined(place) => match symbols.definition(place) {
+            Some(definition) => match &definition.value {
+                None => Some(definition.size),
+                Some(_) => None,
+            },
+            None => None,
+        },
+        Meaning::Imported(key) => Some(size_of_import(symbols, key)),
+    }
+}
+
+/// The size of a reference.
+fn reference_size(
+    alloc: Global,
+    symbols: &Symbols,
+    known: &mut Known,
+    spot: Spot,
+    operand: &Expr,
+) -> Result<AddressSize, AllocError>
+    requires table { IsTable (table_of symbols.now) known.old.states.items }
+    requires reference { IsReference operand.now }
+    ensures size { IfOk result (λ z. z ≡ size_by
+        (size_of_meaning (table_of symbols.now)
+        (meaning_of (table_of symbols.now) spot operand.now))
+        (constant_in (table_of symbols.now) spot operand.now)) }
+    ensures table { OnOk result (IsTable (table_of symbols.now) known.new.states.items) }
+{
+    match meaning_of(alloc, symbols, spot, operand) {
+        Ok(meaning) => match size_of_place(symbols, meaning) {
+            Some(size) => Ok(size),
+            None => {
+                let found = meant_form_and_size(alloc, symbols, known, spot, operand, meaning)?;
+                Ok(found.size)
+            }
+        },
+        Err(fault) => {
+            pass_on_memory(&fault)?;
+            Ok(AddressSize::Absolute)
+        }
+    }
+}
+
+/// The size of an expression that may have operators.
+fn size_of_other(
+    alloc: Global,
+    symbols: &Symbols,
+    known: &mut Known,
+    spot: Spot,
+    own: AddressSize,
+    value: &Expr,
+) -> Result<AddressSize, AllocError>
+    requires { IsTable (table_of symbols.now) known.old.states.items }
+    ensures size { IfOk result (λ s.
+        s ≡ size_of (table_of symbols.now) spot own value.now) }
+    ensures table { OnOk result (IsTable (table_of symbols.now) known.new.states.items) }
+{
+    if let Some(number) = number_of(value) {
+        return Ok(size_of_value(number));
+    }
+    let found = form_and_size(alloc, symbols, known, spot, own, value)?;
+    Ok(found.size)
+}
+
 /// The size of an expression by a symbol table, where the segment has this size.
 #[inline(never)]
 pub fn size(
@@ -219,6 +311,12 @@ pub fn size(
         s ≡ size_of (table_of symbols.now) spot own value.now) }
     ensures table { OnOk result (IsTable (table_of symbols.now) known.new.states.items) }
 {
-    let found = form_and_size(alloc, symbols, known, spot, own, value)?;
-    Ok(found.size)
+    match value.kind() {
+        ExprKind::Plain(_)
+        | ExprKind::Scoped(_)
+        | ExprKind::Cheap(_)
+        | ExprKind::Forward(_)
+        | ExprKind::Backward(_) => reference_size(alloc, symbols, known, spot, value),
+        _ => size_of_other(alloc, symbols, known, spot, own, value),
+    }
 }

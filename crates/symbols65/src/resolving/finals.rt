@@ -12,6 +12,7 @@ ghost use Rattle.symbols65.specs.Views.{table_of};
 use super::attempt::{Source, Stop, address, defined};
 use super::folding::{binary_form, prefix_form};
 use super::meaning::{last_in, plain_part, scopes_in};
+use super::numbers::number_of;
 use super::scopes::scope_of;
 use crate::table::{Key, Symbols};
 use language65::Spot;
@@ -182,5 +183,8 @@ pub fn final_form(
         (length (table_of symbols.now).definitions)
         (table_of symbols.now) spot value.now f) }
 {
+    if let Some(number) = number_of(value) {
+        return Ok(Some(Norm::new(Node::Lit(number))));
+    }
     lasting_form(alloc, symbols, spot, value)
 }

@@ -1,6 +1,6 @@
 //! Objects, fed to a linker record by record.
 
-ghost use Rattle.std.specs.Prelude.{◌≡◌, List, ℕ, IsErrOf, OnOk, Option, true, false};
+ghost use Rattle.std.specs.Prelude.{◌≡◌, [], List, ℕ, IsErrOf, OnOk, Option, true, false};
 ghost use Rattle.base65.specs.Store.{IsBlamed, Passes};
 ghost use Rattle.object65.specs.declared.fault.ObjectFault.TheVariants.{FileError};
 ghost use Rattle.object65.specs.Taking.{start};
@@ -37,7 +37,8 @@ fn feed_records<S: Store>(
     object: &ObjectInput<'_>,
     head: (u8, u64),
 ) -> Result<u64, LinkFault>
-    requires { is_open linker.old ≡ true }
+    requires opened { is_open linker.old ≡ true }
+    requires fresh { reader.old.ahead ≡ [] }
     ensures fed { FeedsRecords (S.files store.old) (input_of object.now) head linker.old linker.new result }
     ensures opened { is_open linker.new ≡ true }
     ensures keeps { Keeps linker.old linker.new }
@@ -78,6 +79,7 @@ pub fn feed_object<S: Store>(
 {
     let head = read_head(store, object.file, object.begin, object.end)?;
     linker.begin_module(object.name, head.0, object.entry)?;
+    reader.forget();
     let end = feed_records(store, linker, reader, object, head)?;
     check_end(store, object.file, end, object.end)?;
     linker.end_module()

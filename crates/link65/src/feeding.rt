@@ -23,7 +23,7 @@ use base65::Sequence;
 use library65::Entry;
 use object65::format::VALUE;
 use object65::{ObjectFault, Record, Scan};
-use std::alloc::Global;
+use std::alloc::{AllocError, Global};
 use std::mem;
 
 /// Opens a module of this name and of an object of this version, a library's member where there is an entry of it.
@@ -47,15 +47,15 @@ pub fn open_module(
 }
 
 /// How many values were taken, with those of a record.
-fn with_values(pending: usize, next: &Record) -> Result<usize, LinkFault>
-    ensures { Gives is_memory (λ n. n) result (Ok (pending + values_in (entry_of next.now))) }
+fn with_values(pending: usize, next: &Record) -> Result<usize, AllocError>
+    ensures { IfOk result (λ n. n ≡ pending + values_in (entry_of next.now)) }
 {
     if next.kind != VALUE {
         return Ok(pending);
     }
     match pending.checked_add(1) {
         Some(n) => Ok(n),
-        None => Err(LinkFault::OutOfMemory),
+        None => Err(AllocError),
     }
 }
 

@@ -19,7 +19,7 @@ use crate::parts::{Asserted, Exported, Member, SectionPlace, Waiting};
 use base65::Sequence;
 use indexmap::IndexSet;
 use object65::{Fragment, Item, Width};
-use std::alloc::Global;
+use std::alloc::{AllocError, Global};
 use std::mem;
 
 /// The modules taken so far, and what the open one has put into segments, exports and assertions.
@@ -43,30 +43,30 @@ pub struct Growing {
 }
 
 /// A sum, for which there is no room where it is too large.
-fn sum(a: u64, b: u64) -> Result<u64, LinkFault>
-    ensures { Gives is_memory (λ n. n) result (Ok (a + b)) }
+fn sum(a: u64, b: u64) -> Result<u64, AllocError>
+    ensures { IfOk result (λ n. n ≡ a + b) }
 {
     match a.checked_add(b) {
         Some(n) => Ok(n),
-        None => Err(LinkFault::OutOfMemory),
+        None => Err(AllocError),
     }
 }
 
 /// The least multiple of an alignment that isn't below an end.
-fn begin_behind(end: u64, align: u32) -> Result<u64, LinkFault>
+fn begin_behind(end: u64, align: u32) -> Result<u64, AllocError>
     requires { 0 < align }
-    ensures begin { Gives is_memory (λ n. n) result (Ok (rounded_up end align)) }
+    ensures begin { IfOk result (λ n. n ≡ rounded_up end align) }
     ensures near { IfOk result (λ n. n - end ≤ align) }
 {
     match end.div_ceil(u64::from(align)).checked_mul(u64::from(align)) {
         Some(n) => Ok(n),
-        None => Err(LinkFault::OutOfMemory),
+        None => Err(AllocError),
     }
 }
 
 /// Adds so many bytes of the fill value.
-fn add_gap(content: &mut Content, gap: u32) -> Result<(), LinkFault>
-    ensures { Gives is_memory (λ _. segment_from content.new) result (Ok (with_gap gap (segment_from content.old))) }
+fn add_gap(content: &mut Content, gap: u32) -> Result<(), AllocError>
+    ensures { OnOk result (segment_from content.new ≡ with_gap gap (segment_from content.old)) }
 {
     if gap > 0 {
         content.pieces.push(Piece::Filled(gap))?;
@@ -75,9 +75,9 @@ fn add_gap(content: &mut Content, gap: u32) -> Result<(), LinkFault>
 }
 
 /// Begins a section in a segment, and answers how far behind the segment's start.
-fn open_section(content: &mut Content, align: u32) -> Result<u64, LinkFault>
+fn open_section(content: &mut Content, align: u32) -> Result<u64, AllocError>
     requires { 0 < align }
-    ensures begin { Gives is_memory (λ n. n) result (Ok (rounded_up content.old.size align)) }
+    ensures begin { IfOk result (λ n. n ≡ rounded_up content.old.size align) }
     ensures grown { OnOk result (segment_from content.new ≡ record (with_gap (rounded_up content.old.size align - content.old.size) (segment_from content.old)) { size = rounded_up content.old.size align; align = max content.old.align align }) }
     ensures name { OnOk result (content.new.name ≡ content.old.name) }
 {
@@ -134,11 +134,10 @@ fn add_fragment(
     owner: usize,
     len: u64,
     fragment: Fragment,
-) -> Result<(), LinkFault>
+) -> Result<(), AllocError>
     requires { len ≡ fragment_len fragment }
     ensures grown { OnOk result (segment_from content.new ≡ with_cells (fragment_len fragment) (fragment_cells owner fragment) (segment_from content.old)) }
     ensures name { OnOk result (content.new.name ≡ content.old.name) }
-    ensures memory { IfErr result (λ e. is_memory e ≡ true) }
 {
     let size = sum(content.size, len)?;
     content.pieces.push(piece_of(owner, fragment))?;
@@ -155,13 +154,12 @@ pub fn place_of(names: &IndexSet<Vec<u8>>, name: &[u8]) -> Option<usize>
 }
 
 /// Adds a segment that has nothing yet, of a new name.
-fn add_segment(growing: &mut Growing, name: &[u8]) -> Result<(), LinkFault>
+fn add_segment(growing: &mut Growing, name: &[u8]) -> Result<(), AllocError>
     requires named { AreNamed growing.old }
     requires new { place_in name.now (names_in growing.old) ≡ None }
     ensures added { OnOk result (growth_in growing.new ≡ having (growth_in growing.old) (segments_from growing.old.contents.items ++ empty_segment name.now ∷ [])) }
     ensures names { OnOk result (names_in growing.new ≡ names_in growing.old ++ name.now ∷ []) }
     ensures named { OnOk result (AreNamed growing.new) }
-    ensures memory { IfErr result (λ e. is_memory e ≡ true) }
 {
     let alloc = growing.alloc;
     let key = Vec::from_slice(alloc, name)?;
@@ -177,13 +175,12 @@ fn add_segment(growing: &mut Growing, name: &[u8]) -> Result<(), LinkFault>
 }
 
 /// The place of the segment of a name, which is begun where there is none.
-fn segment_at(growing: &mut Growing, name: &[u8]) -> Result<usize, LinkFault>
+fn segment_at(growing: &mut Growing, name: &[u8]) -> Result<usize, AllocError>
     requires { AreNamed growing.old }
     ensures added { OnOk result (growth_in growing.new ≡ having (growth_in growing.old) (with_name name.now (segments_from growing.old.contents.items))) }
     ensures place { IfOk result (λ i. place_in name.now (names_in growing.new) ≡ Some i) }
     ensures within { IfOk result (λ i. i < length growing.new.contents.items) }
     ensures named { OnOk result (AreNamed growing.new) }
-    ensures memory { IfErr result (λ e. is_memory e ≡ true) }
 {
     match place_of(&growing.names, name) {
         Some(place) => Ok(place),
@@ -205,12 +202,11 @@ fn multiple_of(align: u8) -> u32
 }
 
 /// Begins a section of the open module, behind what its segment has.
-fn begin_section(growing: &mut Growing, name: Sequence<u8>, align: u8) -> Result<(), LinkFault>
+fn begin_section(growing: &mut Growing, name: Sequence<u8>, align: u8) -> Result<(), AllocError>
     requires named { AreNamed growing.old }
     requires small { align ≤ 15 }
     ensures begun { OnOk result (growth_in growing.new ≡ with_bare (growth_in growing.old) (bare_section name align)) }
     ensures named { OnOk result (AreNamed growing.new) }
-    ensures memory { IfErr result (λ e. is_memory e ≡ true) }
 {
     let at = segment_at(growing, name.as_slice())?;
     let multiple = multiple_of(align);
@@ -230,11 +226,10 @@ fn add_at(
     at: usize,
     owner: usize,
     fragment: Fragment,
-) -> Result<(), LinkFault>
+) -> Result<(), AllocError>
     requires { at < length contents.old.items }
     ensures grown { OnOk result ((c : Content) → slice_get contents.old.items at ≡ Some c → segments_from contents.new.items ≡ slice_set (segments_from contents.old.items) at (with_cells (fragment_len fragment) (fragment_cells owner fragment) (segment_from c))) }
     ensures names { OnOk result (map (λ c. c.name) contents.new.items ≡ map (λ c. c.name) contents.old.items) }
-    ensures memory { IfErr result (λ e. is_memory e ≡ true) }
 {
     let len = fragment_size(&fragment);
     add_fragment(&mut contents[at], owner, len, fragment)?;
@@ -242,10 +237,9 @@ fn add_at(
 }
 
 /// Makes the section at a place longer.
-fn lengthen(sections: &mut Vec<SectionPlace>, k: usize, len: u64) -> Result<(), LinkFault>
+fn lengthen(sections: &mut Vec<SectionPlace>, k: usize, len: u64) -> Result<(), AllocError>
     requires { k < length sections.old.items }
     ensures longer { OnOk result ((p : SectionPlace) → slice_get sections.old.items k ≡ Some p → sections.new.items ≡ slice_set sections.old.items k (longer p len)) }
-    ensures memory { IfErr result (λ e. is_memory e ≡ true) }
 {
     let place = &mut sections[k];
     place.size = sum(place.size, len)?;
@@ -253,11 +247,10 @@ fn lengthen(sections: &mut Vec<SectionPlace>, k: usize, len: u64) -> Result<(), 
 }
 
 /// Adds a fragment of the open module's section at a place, if there is such a section.
-fn add_part(growing: &mut Growing, k: usize, fragment: Fragment) -> Result<(), LinkFault>
+fn add_part(growing: &mut Growing, k: usize, fragment: Fragment) -> Result<(), AllocError>
     requires { AreNamed growing.old }
     ensures grown { OnOk result (growth_in growing.new ≡ with_part (growth_in growing.old) k fragment (slice_get growing.old.sections.items k)) }
     ensures named { OnOk result (AreNamed growing.new) }
-    ensures memory { IfErr result (λ e. is_memory e ≡ true) }
 {
     if k >= growing.sections.len() {
         return Ok(());
@@ -270,12 +263,11 @@ fn add_part(growing: &mut Growing, k: usize, fragment: Fragment) -> Result<(), L
 }
 
 /// Takes an item of the open module.
-pub fn take_item(growing: &mut Growing, item: Item) -> Result<(), LinkFault>
+pub fn take_item(growing: &mut Growing, item: Item) -> Result<(), AllocError>
     requires named { AreNamed growing.old }
     requires small { IsSmall item }
     ensures grown { OnOk result (growth_in growing.new ≡ grown_by (growth_in growing.old) item) }
     ensures named { OnOk result (AreNamed growing.new) }
-    ensures memory { IfErr result (λ e. is_memory e ≡ true) }
 {
     let owner = growing.members.len();
     match item {

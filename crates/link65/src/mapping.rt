@@ -1,6 +1,6 @@
 //! The map.
 
-ghost use Rattle.std.specs.Prelude.{◌≡◌, ◌%◌, ◌++◌, IfOk, OnOk, slice_get};
+ghost use Rattle.std.specs.Prelude.{◌≡◌, ◌≤◌, ◌%◌, ◌++◌, IfOk, OnOk, slice_get};
 ghost use Rattle.std.specs.List.{flat_map};
 ghost use Rattle.link65.specs.Placed.{lines_by, map_by, value_line};
 ghost use Rattle.link65.specs.Lists.{flat_zip, with_beside};
@@ -10,7 +10,8 @@ ghost use Rattle.link65.specs.Resolving.{AreNames};
 use crate::naming::row_place;
 use crate::parts::{Definition, Exported, Member, SectionPlace};
 use crate::resolving::{Names, is_defined};
-use crate::texts::join;
+use crate::texts::{add_all, join};
+use arrayvec::ArrayVec;
 use base65::Sequence;
 use script65::{Placement, Row, RowPlace, Script};
 use std::alloc::{AllocError, Global};
@@ -23,44 +24,36 @@ fn hex_digit(number: u64) -> u8
     DIGITS[(number % 16) as usize]
 }
 
-/// Adds the last so many hex digits of a number.
-#[tactic(auto, using(crate::proofs::HexLemmas::hex_added, crate::proofs::HexLemmas::no_digits))]
-fn add_hex(text: &mut Sequence<u8>, count: u32, number: u64) -> Result<(), AllocError>
-    ensures { OnOk result (text.new ≡ text.old ++ hex_digits count number) }
+/// The last so many hex digits of a number.
+fn hex_digits(count: u32, number: u64) -> ArrayVec<u8, 16>
+    requires { count ≤ 16 }
+    ensures { result.items ≡ hex_digits count number }
 {
-    if count == 0 {
-        return Ok(());
+    let mut digits = ArrayVec::new();
+    let mut left = count;
+    'digits: while left > 0 {
+        left -= 1;
+        digits.push(hex_digit(number >> (4 * left)));
     }
-    add_hex(text, count - 1, number / 16)?;
-    text.push(hex_digit(number))
+    digits
 }
 
 /// Eight digits, or nine of what doesn't fit.
-fn address_text(alloc: Global, number: u64) -> Result<Sequence<u8>, AllocError>
-    ensures { IfOk result (λ text. text ≡ address_text number) }
+fn address_text(number: u64) -> ArrayVec<u8, 16>
+    ensures { result.items ≡ address_text number }
 {
-    let mut text = Sequence::new(alloc);
     let count = if number < 4_294_967_296 { 8 } else { 9 };
-    add_hex(&mut text, count, number)?;
-    Ok(text)
-}
-
-fn value_text(alloc: Global, bits: u64) -> Result<Sequence<u8>, AllocError>
-    ensures { IfOk result (λ text. text ≡ hex_digits 16 bits) }
-{
-    let mut text = Sequence::new(alloc);
-    add_hex(&mut text, 16, bits)?;
-    Ok(text)
+    hex_digits(count, number)
 }
 
 /// `  segment offset size`
-fn section_line(alloc: Global, place: &SectionPlace) -> Result<Sequence<u8>, AllocError>
-    ensures { IfOk result (λ text. text ≡ section_line place.now) }
+fn add_section_line(text: &mut Sequence<u8>, place: &SectionPlace) -> Result<(), AllocError>
+    ensures { OnOk result (text.new ≡ text.old ++ section_line place.now) }
 {
-    let offset = address_text(alloc, place.offset)?;
-    let size = address_text(alloc, place.size)?;
-    join(
-        alloc,
+    let offset = address_text(place.offset);
+    let size = address_text(place.size);
+    add_all(
+        text,
         &[
             b"  ",
             place.segment.as_slice(),
@@ -78,7 +71,7 @@ fn section_lines(alloc: Global, places: &[SectionPlace]) -> Result<Sequence<u8>,
 {
     let mut text = Sequence::new(alloc);
     for place in places {
-        text.extend_from_slice(section_line(alloc, place)?.as_slice())?;
+        add_section_line(&mut text, place)?;
     }
     Ok(text)
 }
@@ -103,14 +96,14 @@ fn members_text(alloc: Global, members: &[Member]) -> Result<Sequence<u8>, Alloc
 }
 
 /// `name run load size`
-fn row_line(alloc: Global, row: &Row, place: RowPlace) -> Result<Sequence<u8>, AllocError>
-    ensures { IfOk result (λ text. text ≡ row_line row.now place) }
+fn add_row_line(text: &mut Sequence<u8>, row: &Row, place: RowPlace) -> Result<(), AllocError>
+    ensures { OnOk result (text.new ≡ text.old ++ row_line row.now place) }
 {
-    let run = address_text(alloc, place.run)?;
-    let load = address_text(alloc, place.load)?;
-    let size = address_text(alloc, place.size)?;
-    join(
-        alloc,
+    let run = address_text(place.run);
+    let load = address_text(place.load);
+    let size = address_text(place.size);
+    add_all(
+        text,
         &[
             row.name.as_slice(),
             b" ",
@@ -124,16 +117,16 @@ fn row_line(alloc: Global, row: &Row, place: RowPlace) -> Result<Sequence<u8>, A
     )
 }
 
-fn row_line_at(
-    alloc: Global,
+fn add_row_at(
+    text: &mut Sequence<u8>,
     row: &Row,
     place: Option<RowPlace>,
-) -> Result<Sequence<u8>, AllocError>
-    ensures { IfOk result (λ text. text ≡ with_beside row_line row.now place) }
+) -> Result<(), AllocError>
+    ensures { OnOk result (text.new ≡ text.old ++ with_beside row_line row.now place) }
 {
     match place {
-        Some(place) => row_line(alloc, row, place),
-        None => Ok(Sequence::new(alloc)),
+        Some(place) => add_row_line(text, row, place),
+        None => Ok(()),
     }
 }
 
@@ -143,25 +136,27 @@ fn rows_text(alloc: Global, rows: &[Row], places: &[RowPlace]) -> Result<Sequenc
 {
     let mut text = Sequence::new(alloc);
     for (i, row) in rows.iter().enumerate() {
-        let line = row_line_at(alloc, row, row_place(places, i))?;
-        text.extend_from_slice(line.as_slice())?;
+        add_row_at(&mut text, row, row_place(places, i))?;
     }
     Ok(text)
 }
 
 /// `name value`
-fn symbol_line(alloc: Global, name: &[u8], bits: u64) -> Result<Sequence<u8>, AllocError>
-    ensures { IfOk result (λ text. text ≡ symbol_line name.now bits) }
+fn add_symbol_line(text: &mut Sequence<u8>, name: &[u8], bits: u64) -> Result<(), AllocError>
+    ensures { OnOk result (text.new ≡ text.old ++ symbol_line name.now bits) }
 {
-    let digits = value_text(alloc, bits)?;
-    join(alloc, &[name, b" ", digits.as_slice(), b"\n"])
+    let digits = hex_digits(16, bits);
+    add_all(text, &[name, b" ", digits.as_slice(), b"\n"])
 }
 
-fn definition_line(alloc: Global, definition: &Definition) -> Result<Sequence<u8>, AllocError>
-    ensures { IfOk result (λ text. text ≡ definition_line definition.now) }
+fn add_definition_line(
+    text: &mut Sequence<u8>,
+    definition: &Definition,
+) -> Result<(), AllocError>
+    ensures { OnOk result (text.new ≡ text.old ++ definition_line definition.now) }
 {
     let bits = definition.value.cast_unsigned();
-    symbol_line(alloc, definition.name.as_slice(), bits)
+    add_symbol_line(text, definition.name.as_slice(), bits)
 }
 
 fn definition_lines(alloc: Global, definitions: &[Definition]) -> Result<Sequence<u8>, AllocError>
@@ -169,7 +164,7 @@ fn definition_lines(alloc: Global, definitions: &[Definition]) -> Result<Sequenc
 {
     let mut text = Sequence::new(alloc);
     for definition in definitions {
-        text.extend_from_slice(definition_line(alloc, definition)?.as_slice())?;
+        add_definition_line(&mut text, definition)?;
     }
     Ok(text)
 }
@@ -181,16 +176,16 @@ fn value_at(values: &[i64], i: usize) -> Option<i64>
 }
 
 /// An export and its value, where there is one.
-fn export_line_at(
-    alloc: Global,
+fn add_export_at(
+    text: &mut Sequence<u8>,
     export: &Exported,
     value: Option<i64>,
-) -> Result<Sequence<u8>, AllocError>
-    ensures { IfOk result (λ text. text ≡ with_beside value_line export.now value) }
+) -> Result<(), AllocError>
+    ensures { OnOk result (text.new ≡ text.old ++ with_beside value_line export.now value) }
 {
     match value {
-        Some(value) => symbol_line(alloc, export.name.as_slice(), value.cast_unsigned()),
-        None => Ok(Sequence::new(alloc)),
+        Some(value) => add_symbol_line(text, export.name.as_slice(), value.cast_unsigned()),
+        None => Ok(()),
     }
 }
 
@@ -203,25 +198,24 @@ fn export_lines(
 {
     let mut text = Sequence::new(alloc);
     for (i, export) in exports.iter().enumerate() {
-        let line = export_line_at(alloc, export, value_at(values, i))?;
-        text.extend_from_slice(line.as_slice())?;
+        add_export_at(&mut text, export, value_at(values, i))?;
     }
     Ok(text)
 }
 
 /// A weak name, where nothing else defines it.
-fn weak_line(
-    alloc: Global,
+fn add_weak_line(
+    text: &mut Sequence<u8>,
     names: &Names<'_>,
     weak: &Definition,
-) -> Result<Sequence<u8>, AllocError>
+) -> Result<(), AllocError>
     requires { AreNames names.now }
-    ensures { IfOk result (λ text. text ≡ weak_line names.now.own.now names.now.exports.now weak.now) }
+    ensures { OnOk result (text.new ≡ text.old ++ weak_line names.now.own.now names.now.exports.now weak.now) }
 {
     if is_defined(names, weak.name.as_slice()) {
-        return Ok(Sequence::new(alloc));
+        return Ok(());
     }
-    definition_line(alloc, weak)
+    add_definition_line(text, weak)
 }
 
 fn weak_lines(alloc: Global, names: &Names<'_>) -> Result<Sequence<u8>, AllocError>
@@ -230,7 +224,7 @@ fn weak_lines(alloc: Global, names: &Names<'_>) -> Result<Sequence<u8>, AllocErr
 {
     let mut text = Sequence::new(alloc);
     for weak in names.weak {
-        text.extend_from_slice(weak_line(alloc, names, weak)?.as_slice())?;
+        add_weak_line(&mut text, names, weak)?;
     }
     Ok(text)
 }

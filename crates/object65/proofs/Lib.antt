@@ -13,6 +13,7 @@ pub mod Closings
 pub mod Openings
 pub mod Scannings
 pub mod Rooms
+pub mod Aheads
 pub mod Trails
 pub mod Reached
 pub mod Steps

@@ -9,6 +9,7 @@ pub mod Objects
 pub mod Record
 pub mod Spelling
 pub mod Reading
+pub mod Ahead
 pub mod Bodies
 pub mod Small
 pub mod Items

@@ -1,5 +1,5 @@
 -- Reading an object from left to right, with the first fault that is met.
-use Rattle.std.specs.Prelude.{◌≡◌, ℕ, ◌+◌, ◌-◌, List, length, take, drop, get_or, Option, Some, None, Result, Ok, Err, nat_lt, ◌==◌, ◌||◌, not, if◌then◌else◌, ⊤}
+use Rattle.std.specs.Prelude.{◌≡◌, ℕ, ◌+◌, ◌-◌, List, length, take, drop, get_or, Option, Some, None, Result, Ok, Err, nat_lt, ◌||◌, not, if◌then◌else◌, ⊤}
 use Rattle.std.specs.Str.{bytes_eq}
 use Rattle.byteorder.specs.Endian.{little_number}
 use Rattle.object65.specs.declared.fault.ObjectFault.{ObjectFault}

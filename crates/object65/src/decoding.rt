@@ -59,7 +59,7 @@ pub fn decode_front(version: u8, bytes: &[u8]) -> Result<(u8, usize), ObjectFaul
 }
 
 /// The body that stands at a place.
-fn body_at(bytes: &[u8], at: usize, len: usize) -> Result<&[u8], ObjectFault>
+pub fn body_at(bytes: &[u8], at: usize, len: usize) -> Result<&[u8], ObjectFault>
     requires { at ≤ length bytes.now }
     ensures read { Gives is_memory (λ body. body.now) result
         (whole len (take len (room bytes.entry.now at (length bytes.entry.now)))) }

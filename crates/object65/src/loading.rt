@@ -28,7 +28,6 @@ fn read_records<S: Store>(
     ensures files { S.files store.new ≡ S.files store.old }
     ensures count { Passes ObjectFault.FileError (S.failures store.old) (S.failures store.new) result }
     ensures blamed { IsErrOf result ObjectFault.FileError → IsBlamed (S.blamed store.new) name.now }
-    ensures asked { Asks is_outside (S.failures store.old) result }
 {
     let (version, first) = head;
     let mut builder = Builder::new(alloc, version);

@@ -1,61 +1,156 @@
 //! Records, read from a file one after another into one room.
 
-ghost use Rattle.std.specs.Prelude.{◌≡◌, ◌≤◌, ◌+◌, ◌-◌, length, IfOk, IfSome, take, IsErrOf};
+ghost use Rattle.std.specs.Prelude.{◌≡◌, ◌≤◌, ◌<◌, ◌+◌, ◌-◌, ◌^◌, [], Ok, length, false, IfOk, IfErr, IfSome, OnOk, OnErr, take, IsErrOf};
 ghost use Rattle.std.specs.FinMap as map;
 ghost use Rattle.base65.specs.Store.{Passes, Asks, IsBlamed};
-ghost use Rattle.object65.specs.Fault.{Gives, is_outside};
+ghost use Rattle.object65.specs.Fault.{Gives, is_memory, is_outside};
 ghost use Rattle.object65.specs.Record.{entry_of};
-ghost use Rattle.object65.specs.Reading.{in_file, record_at, room, whole, file_limit};
+ghost use Rattle.object65.specs.Ahead.{IsAhead, from_place, has_record, record_in};
+ghost use Rattle.object65.specs.Reading.{in_file, record_at, room, file_limit};
 
-use crate::decoding::fill;
+use crate::decoding::{body_at, decode_front, fill};
 use crate::format::{FILE_LIMIT, LARGEST_BODY};
-use crate::reading::{read_front, read_room};
+use crate::reading::read_room;
 use crate::{ObjectFault, Record};
 use arrayvec::ArrayVec;
 use base65::Store;
+use byteorder::{ByteOrder, LittleEndian};
 use std::marker::Model;
 
-/// Reads records one by one into a record of its own, whose room is made once: most records are far shorter than
-/// the longest, for which the room is.
+/// How many bytes are read at once: the longest record is shorter.
+const BUFFER: usize = 2 * LARGEST_BODY;
+
+/// Reads records one by one into a record of its own. It reads ahead, and so keeps bytes of the file that it read
+/// last: before it reads another it has to `forget` them.
 #[derive(Drop)]
 pub struct RecordReader {
     record: Record,
-    bytes: [u8; LARGEST_BODY],
+    /// The place in the file of the first byte of the buffer.
+    begin: u64,
+    /// So many bytes of the buffer are the file's.
+    held: usize,
+    buffer: [u8; BUFFER],
 }
 
 impl Model for RecordReader {
-    ghost use Rattle.object65.specs.Record.{Entry, entry_of};
+    ghost use Rattle.std.specs.Prelude.{take};
+    ghost use Rattle.object65.specs.Record.{entry_of};
+    ghost use Rattle.object65.specs.Ahead.{Reader};
     ghost use Rattle.std.specs.Coded.{codes};
 
-    ghost Value = { Entry };
+    ghost Value = { Reader };
 
     ghost coded = { Prim.hlevel codes };
 
-    ghost view = { λ r. entry_of r.record };
+    ghost view = { λ r. record { entry = entry_of r.record; begin = r.begin; ahead = take r.held r.buffer } };
+}
+
+/// The first so many bytes.
+fn front(buffer: &[u8], held: usize) -> &[u8]
+    ensures { result.now ≡ take held buffer.now }
+{
+    match buffer.get(..held) {
+        Some(front) => front,
+        None => buffer,
+    }
+}
+
+/// Those of the bytes, of which the first stands at a place of a file, that stand at another place and behind it.
+fn from_place(bytes: &[u8], begin: u64, at: u64) -> &[u8]
+    ensures { result.now ≡ from_place bytes.now begin at }
+{
+    if at < begin {
+        return &[];
+    }
+    match bytes.get((at - begin) as usize..) {
+        Some(rest) => rest,
+        None => &[],
+    }
+}
+
+/// Whether bytes begin with a whole record.
+fn has_record(bytes: &[u8]) -> bool
+    ensures { result ≡ has_record bytes.now }
+{
+    bytes.len() >= 3 && 3 + LittleEndian::read_u16(&bytes[1..3]) as usize <= bytes.len()
+}
+
+/// Decodes the record with which bytes begin that stand at a place of a file, and answers where the next begins.
+#[tactic(auto, unfolding(crate::specs::Ahead::record_in))]
+fn decode(space: &mut Record, version: u8, bytes: &[u8], at: u64) -> Result<u64, ObjectFault>
+    requires { at + length bytes.now < 2 ^ 64 }
+    ensures read { Gives is_memory (λ n. (entry_of space.new, n)) result (record_in version at bytes.now) }
+    ensures bound { IfOk result (λ n. (n ≡ at + 3 + length space.new.body.items) × (3 + length space.new.body.items ≤ length bytes.now) × (n ≤ file_limit)) }
+    ensures plain { IfErr result (λ e. is_outside e ≡ false) }
+{
+    let (kind, len) = decode_front(version, bytes)?;
+    let body = body_at(bytes, 3, len)?;
+    let next = at + 3 + len as u64;
+    if next > FILE_LIMIT {
+        return Err(ObjectFault::BadSize);
+    }
+    space.kind = kind;
+    fill(&mut space.body, body);
+    Ok(next)
 }
 
 impl RecordReader {
     /// A reader that has read nothing.
-    pub fn new() -> Self {
+    pub fn new() -> Self
+        ensures { result.ahead ≡ [] }
+    {
         RecordReader {
             record: Record {
                 kind: 0,
                 body: ArrayVec::new(),
             },
-            bytes: [0u8; LARGEST_BODY],
+            begin: 0,
+            held: 0,
+            buffer: [0u8; BUFFER],
         }
     }
 
     /// The record that was read last. Before the first, and after a refusal, it says nothing.
     #[inline]
     pub fn record(&self) -> &Record
-        ensures { entry_of result.now ≡ self.now }
+        ensures { entry_of result.now ≡ self.now.entry }
     {
         &self.record
     }
 
-    /// Reads the record of an object of this version at a place of a file, and answers where the next begins.
-    #[tactic(auto, unfolding(crate::specs::Reading::record_at))]
+    /// Keeps no bytes of the file that was read last.
+    pub fn forget(&mut self)
+        ensures { self.new.ahead ≡ [] }
+    {
+        self.held = 0;
+    }
+
+    /// Reads ahead from a place of a file on.
+    fn refill<S: Store>(
+        &mut self,
+        store: &mut S,
+        name: &str,
+        at: u64,
+        limit: u64,
+    ) -> Result<(), ObjectFault>
+        ensures read { IfSome (S.files store.old) (λ m. Gives is_outside (λ _. self.new.ahead) result (in_file (map.get m name.now) (λ bytes. Ok (take 8192 (room bytes at limit))))) }
+        ensures files { S.files store.new ≡ S.files store.old }
+        ensures count { Passes ObjectFault.FileError (S.failures store.old) (S.failures store.new) result }
+        ensures blamed { IsErrOf result ObjectFault.FileError → IsBlamed (S.blamed store.new) name.now }
+        ensures asked { Asks is_outside (S.failures store.old) result }
+        ensures begin { OnOk result (self.new.begin ≡ at) }
+        ensures none { OnErr result (self.new.ahead ≡ []) }
+        ensures room { OnOk result (length self.new.ahead ≤ limit - at) }
+    {
+        self.held = 0;
+        let held = read_room(store, name, at, limit, &mut self.buffer)?;
+        self.begin = at;
+        self.held = held;
+        Ok(())
+    }
+
+    /// Reads the record of an object of this version at a place of a file, and answers where the next begins. What the
+    /// reader keeps has to be of this file.
     pub fn read<S: Store>(
         &mut self,
         store: &mut S,
@@ -64,45 +159,27 @@ impl RecordReader {
         at: u64,
         limit: u64,
     ) -> Result<u64, ObjectFault>
-        ensures read { IfSome (S.files store.old) (λ m. Gives is_outside (λ n. (self.new, n)) result (in_file (map.get m name.now) (record_at version at limit))) }
+        ensures read { IfSome (S.files store.old) (λ m. IsAhead (map.get m name.now) self.old → Gives is_outside (λ n. (self.new.entry, n)) result (in_file (map.get m name.now) (record_at version at limit))) }
+        ensures ahead { IfSome (S.files store.old) (λ m. IsAhead (map.get m name.now) self.old → IsAhead (map.get m name.now) self.new) }
         ensures files { S.files store.new ≡ S.files store.old }
         ensures count { Passes ObjectFault.FileError (S.failures store.old) (S.failures store.new) result }
         ensures blamed { IsErrOf result ObjectFault.FileError → IsBlamed (S.blamed store.new) name.now }
-        ensures asked { Asks is_outside (S.failures store.old) result }
-        ensures bound { IfOk result (λ n. (n ≡ at + 3 + length self.new.body) × (n ≤ limit) × (n ≤ file_limit)) }
+        ensures asked { self.old.ahead ≡ [] → Asks is_outside (S.failures store.old) result }
+        ensures bound { IfOk result (λ n. (n ≡ at + 3 + length self.new.entry.body) × (n ≤ limit) × (n ≤ file_limit)) }
     {
-        let (kind, len) = read_front(store, name, version, at, limit)?;
-        self.record.kind = kind;
-        read_body(store, name, at + 3, limit, &mut self.bytes[..len])?;
-        fill(&mut self.record.body, &self.bytes[..len]);
-        let next = at + 3 + len as u64;
-        if next > FILE_LIMIT {
-            return Err(ObjectFault::BadSize);
+        let kept = from_place(front(&self.buffer, self.held), self.begin, at);
+        let kept = front(kept, limit.saturating_sub(at) as usize);
+        if has_record(kept) {
+            return decode(&mut self.record, version, kept, at);
         }
-        Ok(next)
+        self.refill(store, name, at, limit)?;
+        decode(
+            &mut self.record,
+            version,
+            front(&self.buffer, self.held),
+            at,
+        )
     }
-}
-
-/// Reads the body of a record, which takes the whole buffer.
-fn read_body<S: Store>(
-    store: &mut S,
-    name: &str,
-    at: u64,
-    limit: u64,
-    buf: &mut [u8],
-) -> Result<(), ObjectFault>
-    ensures read { IfSome (S.files store.old) (λ m. Gives is_outside (λ _. buf.new) result (in_file (map.get m name.now) (λ bytes. whole (length buf.old) (take (length buf.old) (room bytes at limit))))) }
-    ensures files { S.files store.new ≡ S.files store.old }
-    ensures count { Passes ObjectFault.FileError (S.failures store.old) (S.failures store.new) result }
-    ensures blamed { IsErrOf result ObjectFault.FileError → IsBlamed (S.blamed store.new) name.now }
-    ensures room { IfOk result (λ _. length buf.old ≤ limit - at) }
-{
-    let len = buf.len();
-    let n = read_room(store, name, at, limit, buf)?;
-    if n < len {
-        return Err(ObjectFault::CutShort);
-    }
-    Ok(())
 }
 
 /// Reads a record of an object of this version, and answers where the next begins. For one record: a

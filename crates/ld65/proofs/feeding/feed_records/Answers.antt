@@ -3,6 +3,7 @@ use Rattle.std.proofs.lemmas.Result.{err_from_is_err_and}
 use Rattle.std.specs.FinMap.{get}
 use Rattle.object65.specs.Reading.{in_file, record_at}
 use Rattle.object65.specs.Record.{entry_of}
+use Rattle.object65.proofs.Aheads.{fresh, stays_ahead, where_ahead}
 use Rattle.object65.proofs.Records.{kept_count}
 use Rattle.ld65.specs.Inner.Feeding.{input_of}
 use Rattle.ld65.proofs.Blaming.{read_blames, record_blames}
@@ -12,8 +13,9 @@ use Rattle.ld65.proofs.feeding.feed_records.Goals as goal
 pub records-init : goal.records-init
 records-init g c = record {
   files = refl;
+  ahead = fresh _ c.args.object.now.file.now c.args.reader.now c.requires.fresh;
   count = refl;
-  opened = c.requires;
+  opened = c.requires.opened;
   keeps = record { script = refl; output = refl };
   stands = is_at_first (g.S.Store.files c.args.store.now) (input_of c.args.object.now) c.args.head c.args.linker.now;
 }
@@ -21,12 +23,12 @@ records-init g c = record {
 pub returns-in_err-next-clause-fed : goal.returns-in_err-next-clause-fed
 returns-in_err-next-clause-fed g c =
     let p = err_from_is_err_and c.from_residual.result c.from_residual.ensures.1 in
-    rw (p.1, p.2) (unread _ (input_of c.args.object.now) c.args.head c.records.next _ c.args.linker.now c.records.linker c.records.linker c.in_err-next.field-0.0 c.records.invariant.files c.records.invariant.stands c.in_err-next.ensures.read)
+    rw (p.1, p.2) (unread _ (input_of c.args.object.now) c.args.head c.records.next _ c.args.linker.now c.records.linker c.records.linker c.in_err-next.field-0.0 c.records.invariant.files c.records.invariant.stands (where_ahead _ c.args.object.now.file.now c.records.reader _ c.records.invariant.ahead c.in_err-next.ensures.read))
 
 pub returns-in_err-record-clause-fed : goal.returns-in_err-record-clause-fed
 returns-in_err-record-clause-fed g c =
     let p = err_from_is_err_and c.from_residual-in_err-record.result c.from_residual-in_err-record.ensures.1 in
-    let read = seen _ (λ m. in_file (get m c.args.object.now.file.now) (record_at c.args.head.0 c.records.next c.args.object.now.end)) _ _ c.in_ok-next.next c.record-record.ensures c.in_ok-next.ensures.read in
+    let read = seen _ (λ m. in_file (get m c.args.object.now.file.now) (record_at c.args.head.0 c.records.next c.args.object.now.end)) _ _ c.in_ok-next.next c.record-record.ensures (where_ahead _ c.args.object.now.file.now c.records.reader _ c.records.invariant.ahead c.in_ok-next.ensures.read) in
     rw (p.1, p.2) (untaken _ (input_of c.args.object.now) c.args.head c.records.next _ c.args.linker.now c.records.linker c.record.new.self (entry_of c.record-record.result.now, c.in_ok-next.next) c.in_err-record.field-0.0 c.records.invariant.files c.records.invariant.stands read c.in_err-record.ensures.taken)
 
 pub returns-in_err-record-clause-count : goal.returns-in_err-record-clause-count
@@ -37,14 +39,15 @@ returns-in_err-record-clause-count g c =
 
 pub returns-then-record-eq-END-clause-fed : goal.returns-then-record-eq-END-clause-fed
 returns-then-record-eq-END-clause-fed g c =
-    let read = seen _ (λ m. in_file (get m c.args.object.now.file.now) (record_at c.args.head.0 c.records.next c.args.object.now.end)) _ _ c.in_ok-next.next c.record-record.ensures c.in_ok-next.ensures.read in
+    let read = seen _ (λ m. in_file (get m c.args.object.now.file.now) (record_at c.args.head.0 c.records.next c.args.object.now.end)) _ _ c.in_ok-next.next c.record-record.ensures (where_ahead _ c.args.object.now.file.now c.records.reader _ c.records.invariant.ahead c.in_ok-next.ensures.read) in
     ends_there _ (input_of c.args.object.now) c.args.head c.records.next _ c.args.linker.now c.records.linker c.record.new.self (entry_of c.record-record.result.now, c.in_ok-next.next) c.records.invariant.files c.records.invariant.stands read c.in_ok-record.ensures.taken c.if-record-eq-END.true
 
 pub records-preserved : goal.records-preserved
 records-preserved g c =
-    let read = seen _ (λ m. in_file (get m c.args.object.now.file.now) (record_at c.args.head.0 c.records.next c.args.object.now.end)) _ _ c.in_ok-next.next c.record-record.ensures c.in_ok-next.ensures.read in
+    let read = seen _ (λ m. in_file (get m c.args.object.now.file.now) (record_at c.args.head.0 c.records.next c.args.object.now.end)) _ _ c.in_ok-next.next c.record-record.ensures (where_ahead _ c.args.object.now.file.now c.records.reader _ c.records.invariant.ahead c.in_ok-next.ensures.read) in
     record {
       files = c.in_ok-next.ensures.files ∙ c.records.invariant.files;
+      ahead = stays_ahead _ _ c.args.object.now.file.now c.records.reader c.read.new.self c.in_ok-next.ensures.files c.records.invariant.ahead c.in_ok-next.ensures.ahead;
       count = kept_count _ _ _ c.in_ok-next.ensures.count ∙ c.records.invariant.count;
       opened = c.in_ok-record.ensures.opened;
       keeps = record {

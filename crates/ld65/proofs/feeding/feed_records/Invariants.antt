@@ -1,4 +1,5 @@
 use Rattle.std.proofs.Common.{◌≡◌, ◌-◌, true}
+use Rattle.object65.proofs.Aheads.{StandsAhead}
 use Rattle.link65.specs.Standing.{Keeps, is_open}
 use Rattle.ld65.specs.Inner.Feeding.{input_of}
 use Rattle.ld65.proofs.Fed.{IsAt}
@@ -7,6 +8,7 @@ use Rattle.ld65.proofs.feeding.feed_records.Given as goal
 abbrev pub invariant-records : goal.invariant-records
 invariant-records g l = record {
   files : g.S.Store.files l.store ≡ g.S.Store.files l.fn.store;
+  ahead : StandsAhead (g.S.Store.files l.store) l.object.file.now l.reader;
   count : g.S.Store.failures l.store ≡ g.S.Store.failures l.fn.store;
   opened : is_open l.linker ≡ true;
   keeps : Keeps l.fn.linker l.linker;

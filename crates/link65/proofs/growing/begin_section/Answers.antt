@@ -1,4 +1,4 @@
-use Rattle.std.proofs.Common.{◌∙◌, List, ℕ, ap, sym}
+use Rattle.std.proofs.Common.{◌∙◌, List, Ok, ℕ, ap, sym}
 use Rattle.std.proofs.Math.Seq.{map-set_same}
 use Rattle.link65.specs.declared.contents.Content.{Content}
 use Rattle.link65.specs.Grounds.{growth_in, names_in, place_in}
@@ -10,7 +10,7 @@ pub returns-clause-begun : goal.returns-clause-begun
 returns-clause-begun c =
     let mid = c.segment_at.new.growing in
     let at = c.in_ok-at.ensures in
-    let begun = bare_begun (growth_in c.args.growing.now) mid c.in_ok-at.at c.multiple_of-multiple.result c.in_ok-begin.begin c.index_mut.result.now c.open_section.new.content c.args.name c.args.align (rw c.as_slice.ensures at at.added) at.named.names (rw c.as_slice.ensures at at.place) at.within c.index_mut.ensures.value c.multiple_of-multiple.ensures.value c.in_ok-begin.ensures.grown c.in_ok-begin.ensures.begin in
+    let begun = bare_begun (growth_in c.args.growing.now) mid c.in_ok-at.at c.multiple_of-multiple.result c.in_ok-begin.begin c.index_mut.result.now c.open_section.new.content c.args.name c.args.align (rw c.as_slice.ensures at at.added) at.named.names (rw c.as_slice.ensures at at.place) at.within c.index_mut.ensures.value c.multiple_of-multiple.ensures.value c.in_ok-begin.ensures.grown (ap Ok (sym c.in_ok-begin.ensures.begin)) in
     rw c.in_ok-push.ensures.items begun
 
 pub returns-clause-named : goal.returns-clause-named

@@ -1,4 +1,4 @@
-use Rattle.std.proofs.Common.{◌++◌, ◌∙◌, [], ap}
+use Rattle.std.proofs.Common.{[]}
 use Rattle.link65.specs.Lists.{flat_zip}
 use Rattle.link65.specs.Placed.{value_line}
 use Rattle.link65.proofs.ZipLemmas.{zip_end, zip_next}
@@ -6,7 +6,7 @@ use Rattle.link65.proofs.mapping.export_lines.Goals as goal
 
 pub loop-i-preserved : goal.loop-i-preserved
 loop-i-preserved c = zip_next value_line c.args.exports.now c.args.values.now c.loop-i.i c.index-exports-i.result c.value_at.result [] c.loop-i.text _ (flat_zip value_line c.args.exports.now c.args.values.now) c.loop-i-test.true c.index-exports-i.is c.value_at.ensures
-    (c.in_ok-extend_from_slice.ensures.ok ∙ ap (λ t. c.loop-i.text ++ t) (c.as_slice.ensures ∙ c.in_ok-line.ensures))
+    c.in_ok-add_export_at.ensures
     c.loop-i.invariant
 
 pub returns : goal.returns

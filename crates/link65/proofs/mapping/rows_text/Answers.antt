@@ -1,4 +1,4 @@
-use Rattle.std.proofs.Common.{◌++◌, ◌∙◌, [], ap}
+use Rattle.std.proofs.Common.{[]}
 use Rattle.link65.specs.Lists.{flat_zip}
 use Rattle.link65.specs.Maps.{row_line}
 use Rattle.link65.proofs.ZipLemmas.{zip_end, zip_next}
@@ -6,7 +6,7 @@ use Rattle.link65.proofs.mapping.rows_text.Goals as goal
 
 pub loop-i-preserved : goal.loop-i-preserved
 loop-i-preserved c = zip_next row_line c.args.rows.now c.args.places.now c.loop-i.i c.index-rows-i.result c.row_place.result [] c.loop-i.text _ (flat_zip row_line c.args.rows.now c.args.places.now) c.loop-i-test.true c.index-rows-i.is c.row_place.ensures
-    (c.in_ok-extend_from_slice.ensures.ok ∙ ap (λ t. c.loop-i.text ++ t) (c.as_slice.ensures ∙ c.in_ok-line.ensures))
+    c.in_ok-add_row_at.ensures
     c.loop-i.invariant
 
 pub returns : goal.returns

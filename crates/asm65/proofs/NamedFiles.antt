@@ -1,17 +1,15 @@
 -- The bytes of the file of a name.
 use Rattle.std.proofs.Common.{◌≡◌, ◌∙◌, ℕ, Bool, true, false, List, Option, Some, None, take, refl, sym, ap, option_map, Ok, Err}
 use Rattle.std.specs.FinMap as fmap
-use Rattle.std.specs.Prelude.{Box, box_value, if◌then◌else◌}
-use Rattle.std.specs.declared.alloc.Global.{Global}
+use Rattle.std.specs.Prelude.{if◌then◌else◌}
 use Rattle.std.specs.Str.{is_utf8}
 use Rattle.base65.specs.Reading.{front_in}
 use Rattle.base65.specs.Store.{Files}
 use Rattle.base65.specs.declared.store.StoreFault.TheVariants.{FileNotFound}
+use Rattle.syntax65.specs.Trees.{Tree}
 use Rattle.expand65.specs.Includes.{as_text, beside, file_named}
-use Rattle.language65.specs.declared.language.PartRange.{PartRange}
 use Rattle.language65.specs.declared.language.Statement.{Statement}
 use Rattle.language65.specs.declared.language.Statement.TheVariants.{FilePart, NamedPart}
-use Rattle.language65.specs.declared.language.Statement.TheVariants as statement
 use Rattle.language65.specs.Views.{place_in}
 use Rattle.asm65.specs.Inner.Files.{read_bytes}
 
@@ -53,7 +51,7 @@ pub read_none : (m : Files) (name text : List ℕ) (most : ℕ) → Some text �
 read_none m name text most e h = front_none (fmap.get m text) most h ∙ ap (option_map (take most)) (sym (named m name text e))
 
 -- a statement with what was read of its file
-pub part_read : (m : Files) (file name slice : List ℕ) (line : ℕ) (bytes : Option (List ℕ)) (range : Box PartRange Global) (x : Statement) → x ≡ NamedPart name range → slice ≡ name → bytes ≡ option_map (take 16777217) (file_named m (beside file slice)) → (FilePart bytes range) ≡ read_bytes m (place_in file line) x
-part_read m file name slice line bytes range x is same read =
-    ap (λ b. statement.FilePart b ((box_value range)).0 ((box_value range)).1) (read ∙ ap (λ n. option_map (take 16777217) (file_named m (beside file n))) same)
-    ∙ sym (ap (λ (s : Statement). read_bytes m (place_in file line) s) is)
+pub part_read : (m : Files) (file name slice : List ℕ) (line : ℕ) (bytes : Option (List ℕ)) (start len : Option Tree) (x : Statement) → x ≡ NamedPart name start len → slice ≡ name → bytes ≡ option_map (take 16777217) (file_named m (beside file slice)) → FilePart bytes start len ≡ read_bytes m (place_in file line) x
+part_read m file name slice line bytes start len x is same read =
+    ap (λ b. FilePart b start len) (read ∙ ap (λ n. option_map (take 16777217) (file_named m (beside file n))) same)
+    ∙ sym (ap (read_bytes m (place_in file line)) is)

@@ -8,7 +8,7 @@ use Rattle.syntax65.specs.Tokens.{Lexeme}
 use Rattle.reader65.specs.Kept.{tokens_in}
 use Rattle.expand65.specs.Standing.{stated}
 use Rattle.expand65.specs.State as expand
-use Rattle.expand65.specs.declared.expander.Statement.{Statement}
+use Rattle.expand65.specs.declared.expander.Statement as given
 use Rattle.expand65.specs.declared.expander.Statement.TheVariants.{Label, Plain}
 use Rattle.reader65.specs.declared.line.Line.{Line}
 use Rattle.source65.specs.declared.place.Place.{Place}
@@ -180,11 +180,7 @@ abbrev FrontBy : Place → Option Statement → Assembler → Assembler → Answ
 FrontBy place o old new r = TakesBy (IsSoundIf o) (λ t. IsLabelled Takes t place o) 1 old new r
 
 pub front_leaves : (place : Place) (o : Option Statement) (x : Statement) (old new : Assembler) (r : Answer) → o ≡ Some x → TakesBy (IsSound x) (λ t. Takes t place x) 1 old new r → FrontBy place o old new r
-front_leaves place None x old new r e h = absurd cc
-front_leaves place (Some y) x old new r e h =
-    let same : y ≡ x = cc in
-    let P : Statement → Type 0 = λ z. TakesBy (IsSound z) (λ t. Takes t place z) 1 old new r in
-    subst P (sym same) h
+front_leaves place o x old new r e h = subst (λ p. FrontBy place p old new r) (sym e) h
 
 -- it prints nothing
 puts_quiet : (place : Place) (s : Spot) (t u : State) (p : Piece) → Puts place s t p u → (u.out ≡ t.out) × (u.err ≡ t.err)
@@ -312,9 +308,9 @@ label_leaves f place ts rest o old mid new v (Err e) says front taken = λ count
 abbrev pub GivenBy : Option Files → Place → expand.Stated → State → Result State AsmFault → Type 0
 GivenBy f place g = Told f (λ m t. IsGiven m Takes t place g)
 
-pub given_label : (f : Option Files) (place : Place) (g : Statement) (line : Line) (ts : List Lexeme) (old new : Assembler) (r : Answer) → g ≡ Label line → ts ≡ tokens_in line → TakesBy (AreNamed ts) (LabelBy f place ts) 2 old new r → TakesBy (AreNamed (tokens_of (stated g))) (GivenBy f place (stated g)) 2 old new r
+pub given_label : (f : Option Files) (place : Place) (g : given.Statement) (line : Line) (ts : List Lexeme) (old new : Assembler) (r : Answer) → g ≡ Label line → ts ≡ tokens_in line → TakesBy (AreNamed ts) (LabelBy f place ts) 2 old new r → TakesBy (AreNamed (tokens_of (stated g))) (GivenBy f place (stated g)) 2 old new r
 given_label f place g line ts old new r is same h =
-    let P : Statement → Type 0 = λ g. TakesBy (AreNamed (tokens_of (stated g))) (GivenBy f place (stated g)) 2 old new r in
+    let P : given.Statement → Type 0 = λ g. TakesBy (AreNamed (tokens_of (stated g))) (GivenBy f place (stated g)) 2 old new r in
     let Q : List Lexeme → Type 0 = λ ts. TakesBy (AreNamed ts) (LabelBy f place ts) 2 old new r in
     subst P (sym is) (subst Q same h)
 
@@ -325,18 +321,18 @@ wider AreSo Is old new (Ok v) taken = λ count t room h.
     (a.0, a.1, a.2, (a.3.0, omega (arith, few), a.3.2)))
 wider AreSo Is old new (Err e) taken = λ count t room h. taken count t (omega (arith, room)) h
 
-pub given_plain : (f : Option Files) (place : Place) (g : Statement) (line : Line) (ts : List Lexeme) (old new : Assembler) (r : Answer) → g ≡ Plain line → ts ≡ tokens_in line → TakesBy (AreNamed ts) (RestBy f place ts) 1 old new r → TakesBy (AreNamed (tokens_of (stated g))) (GivenBy f place (stated g)) 2 old new r
+pub given_plain : (f : Option Files) (place : Place) (g : given.Statement) (line : Line) (ts : List Lexeme) (old new : Assembler) (r : Answer) → g ≡ Plain line → ts ≡ tokens_in line → TakesBy (AreNamed ts) (RestBy f place ts) 1 old new r → TakesBy (AreNamed (tokens_of (stated g))) (GivenBy f place (stated g)) 2 old new r
 given_plain f place g line ts old new r is same h =
-    let P : Statement → Type 0 = λ g. TakesBy (AreNamed (tokens_of (stated g))) (GivenBy f place (stated g)) 2 old new r in
+    let P : given.Statement → Type 0 = λ g. TakesBy (AreNamed (tokens_of (stated g))) (GivenBy f place (stated g)) 2 old new r in
     let Q : List Lexeme → Type 0 = λ ts. TakesBy (AreNamed ts) (RestBy f place ts) 2 old new r in
     subst P (sym is) (subst Q same (wider (AreNamed ts) (RestBy f place ts) old new r h))
 
 -- ---- Where the store fails.
 
-abbrev pub GivenStops : Option (List ℕ) → Place → Statement → Assembler → Assembler → Answer → Type 0
+abbrev pub GivenStops : Option (List ℕ) → Place → given.Statement → Assembler → Assembler → Answer → Type 0
 GivenStops blamed place g old new r = StopsQuietly (Without blamed (λ m t. IsGiven m Takes t place (stated g))) 2 old new r
 
-pub label_given_stops : (blamed : Option (List ℕ)) (place : Place) (g : Statement) (line : Line) (ts : List Lexeme) (old new : Assembler) (r : Answer) → g ≡ Label line → ts ≡ tokens_in line → StopsQuietly (Without blamed (λ m t. IsLabel m Takes t place ts)) 2 old new r → GivenStops blamed place g old new r
+pub label_given_stops : (blamed : Option (List ℕ)) (place : Place) (g : given.Statement) (line : Line) (ts : List Lexeme) (old new : Assembler) (r : Answer) → g ≡ Label line → ts ≡ tokens_in line → StopsQuietly (Without blamed (λ m t. IsLabel m Takes t place ts)) 2 old new r → GivenStops blamed place g old new r
 label_given_stops blamed place g line ts old new r is same h =
     let Q : List Lexeme → Type 0 = λ ts. StopsQuietly (Without blamed (λ m t. IsLabel m Takes t place ts)) 2 old new r in
     subst (λ g. GivenStops blamed place g old new r) (sym is) (subst Q same h)
@@ -347,7 +343,7 @@ stops_wider Is old new (Err e) h = λ failed.
     (let q = h failed in
     record { fault = q.fault; out = q.out; err = q.err; unread = λ count t room held. q.unread count t (omega (arith, room)) held })
 
-pub plain_given_stops : (blamed : Option (List ℕ)) (place : Place) (g : Statement) (line : Line) (ts : List Lexeme) (old new : Assembler) (r : Answer) → g ≡ Plain line → ts ≡ tokens_in line → StopsQuietly (Without blamed (λ m t. IsRest m Takes t place ts)) 1 old new r → GivenStops blamed place g old new r
+pub plain_given_stops : (blamed : Option (List ℕ)) (place : Place) (g : given.Statement) (line : Line) (ts : List Lexeme) (old new : Assembler) (r : Answer) → g ≡ Plain line → ts ≡ tokens_in line → StopsQuietly (Without blamed (λ m t. IsRest m Takes t place ts)) 1 old new r → GivenStops blamed place g old new r
 plain_given_stops blamed place g line ts old new r is same h =
     let Q : List Lexeme → Type 0 = λ ts. StopsQuietly (Without blamed (λ m t. IsRest m Takes t place ts)) 2 old new r in
     subst (λ g. GivenStops blamed place g old new r) (sym is) (subst Q same (stops_wider _ old new r h))

@@ -110,9 +110,7 @@ impl Assembler {
                 bytes,
                 start: _,
                 len: _,
-            } => {
-                self.enter_part(spot, measured.length, measured.settled, bytes)
-            }
+            } => { self.enter_part(spot, measured.length, measured.settled, bytes) }
             Statement::Assert {
                 value,
                 action,

@@ -1,13 +1,8 @@
-use Rattle.std.proofs.Common.{◌≡◌, ap, subst, take, option_map, Ok, Err}
+use Rattle.std.proofs.Common.{◌≡◌, subst, take, option_map}
 use Rattle.std.proofs.lemmas.Result.{err_from_is_err_and}
-use Rattle.base65.specs.Outcome.{Unless}
 use Rattle.base65.specs.Store.{IsBlamed}
 use Rattle.expand65.specs.Includes.{beside, file_named}
-use Rattle.language65.specs.declared.language.PartRange.{PartRange}
-use Rattle.language65.specs.Faults.{is_memory}
-use Rattle.language65.specs.LineFaults.{unless_fault}
 use Rattle.language65.specs.Views.{place_in}
-use Rattle.layout65.specs.Measuring.{unread_fault}
 use Rattle.asm65.proofs.NamedFiles.{part_read}
 use Rattle.asm65.proofs.Runs.{told_then}
 use Rattle.asm65.proofs.UnreadFiles.{failed_unread, refused_unread}
@@ -16,20 +11,16 @@ use Rattle.asm65.proofs.files.with_bytes.Goals as goal
 pub returns-in_err-check_unread-in-NamedPart-clause-refused : goal.returns-in_err-check_unread-in-NamedPart-clause-refused
 returns-in_err-check_unread-in-NamedPart-clause-refused g c = λ count t h.
     (let p = err_from_is_err_and c.from_residual.result c.from_residual.ensures.1 in
-    let e = c.in_err-check_unread-in-NamedPart.field-0.0 in
-    let range = c.in-NamedPart.range.value in
-    let P : PartRange → Type 0 = λ q. Unless (is_memory e) (unless_fault {A = Unit {0}} (unread_fault t.symbols t.standing (q).0 (q).1) tt ≡ Err e) in
-    rw (p.1, p.2) (refused_unread t (place_in c.args.at.file.now c.args.at.line) c.in-NamedPart.name range.0 range.1 c.args.statement c.in-NamedPart.is e (g.S.Store.blamed c.args.store.now) c.in_err-check_unread-in-NamedPart.ensures.inside (subst P c.deref.ensures (c.in_err-check_unread-in-NamedPart.ensures.checked count t h))))
+    let part = c.in-NamedPart in
+    rw (p.1, p.2) (refused_unread t (place_in c.args.at.file.now c.args.at.line) part.name part.start part.len c.args.statement part.is c.in_err-check_unread-in-NamedPart.field-0.0 (g.S.Store.blamed c.args.store.now) c.in_err-check_unread-in-NamedPart.ensures.inside (c.in_err-check_unread-in-NamedPart.ensures.checked count t h)))
 
 pub returns-in_err-bytes-in-NamedPart-clause-refused : goal.returns-in_err-bytes-in-NamedPart-clause-refused
 returns-in_err-bytes-in-NamedPart-clause-refused g c = λ count t h.
     (let p = err_from_is_err_and c.from_residual-in_err-bytes-in-NamedPart.result c.from_residual-in_err-bytes-in-NamedPart.ensures.1 in
-    let u = c.in_ok-check_unread-in-NamedPart.field-0 in
-    let range = c.in-NamedPart.range.value in
-    let P : PartRange → Type 0 = λ q. unless_fault {A = Unit {0}} (unread_fault t.symbols t.standing (q).0 (q).1) tt ≡ Ok u in
-    rw (p.1, p.2) (failed_unread t (place_in c.args.at.file.now c.args.at.line) c.in-NamedPart.name range.0 range.1 c.args.statement c.in-NamedPart.is c.in_err-bytes-in-NamedPart.field-0.0 (g.S.Store.blamed c.bytes_beside.new.store) u c.in_err-bytes-in-NamedPart.ensures.outside (λ so. subst (λ n. IsBlamed (g.S.Store.blamed c.bytes_beside.new.store) (beside c.args.at.file.now n)) c.as_slice.ensures (c.in_err-bytes-in-NamedPart.ensures.blamed so)) (subst P c.deref.ensures (c.in_ok-check_unread-in-NamedPart.ensures.checked count t h))))
+    let part = c.in-NamedPart in
+    rw (p.1, p.2) (failed_unread t (place_in c.args.at.file.now c.args.at.line) part.name part.start part.len c.args.statement part.is c.in_err-bytes-in-NamedPart.field-0.0 (g.S.Store.blamed c.bytes_beside.new.store) c.in_ok-check_unread-in-NamedPart.field-0 c.in_err-bytes-in-NamedPart.ensures.outside (λ so. subst (λ n. IsBlamed (g.S.Store.blamed c.bytes_beside.new.store) (beside c.args.at.file.now n)) c.as_slice.ensures (c.in_err-bytes-in-NamedPart.ensures.blamed so)) (c.in_ok-check_unread-in-NamedPart.ensures.checked count t h)))
 
 pub returns-in_ok-bytes-in-NamedPart-clause-bytes : goal.returns-in_ok-bytes-in-NamedPart-clause-bytes
 returns-in_ok-bytes-in-NamedPart-clause-bytes g c =
     told_then (g.S.Store.files c.args.store.now) (λ m. c.in_ok-bytes-in-NamedPart.bytes ≡ option_map (take 16777217) (file_named m (beside c.args.at.file.now c.as_slice.result.now))) _
-    (λ m h. part_read m c.args.at.file.now c.in-NamedPart.name c.as_slice.result.now c.args.at.line c.in_ok-bytes-in-NamedPart.bytes c.in-NamedPart.range c.args.statement c.in-NamedPart.is c.as_slice.ensures h) c.in_ok-bytes-in-NamedPart.ensures.read
+    (λ m h. part_read m c.args.at.file.now c.in-NamedPart.name c.as_slice.result.now c.args.at.line c.in_ok-bytes-in-NamedPart.bytes c.in-NamedPart.start c.in-NamedPart.len c.args.statement c.in-NamedPart.is c.as_slice.ensures h) c.in_ok-bytes-in-NamedPart.ensures.read

@@ -13,9 +13,9 @@ use Rattle.asm65.proofs.assembler.Assembler.check_unread.Goals as goal
 
 pub returns-clause-checked : goal.returns-clause-checked
 returns-clause-checked c = λ count t h.
-    (let range = c.args.range.now in
-    let P : Symbols → Type 0 = λ y. Gives is_memory (λ (u : Unit {0}). u) c.check_unread.result (unless_fault {A = Unit {0}} (unread_fault y (standing_of c.args.self.now.standing) range.0 range.1) tt) in
-    let Q : Standing → Type 0 = λ w. Gives is_memory (λ (u : Unit {0}). u) c.check_unread.result (unless_fault {A = Unit {0}} (unread_fault t.symbols w range.0 range.1) tt) in
+    (let range = c.args.range in
+    let P : Symbols → Type 0 = λ y. Gives is_memory (λ (u : Unit {0}). u) c.check_unread.result (unless_fault {A = Unit {0}} (unread_fault y (standing_of c.args.self.now.standing) range.start.now range.len.now) tt) in
+    let Q : Standing → Type 0 = λ w. Gives is_memory (λ (u : Unit {0}). u) c.check_unread.result (unless_fault {A = Unit {0}} (unread_fault t.symbols w range.start.now range.len.now) tt) in
     subst Q h.standing (subst P h.symbols c.check_unread.ensures.checked))
 
 pub returns-clause-held : goal.returns-clause-held
@@ -23,5 +23,5 @@ returns-clause-held c = λ count t h. held_on count t c.args.self.now c.check_un
 
 pub returns-clause-inside : goal.returns-clause-inside
 returns-clause-inside c =
-    let range = c.args.range.now in
-    unread_inside c.check_unread.result (table_of c.args.self.now.symbols) (standing_of c.args.self.now.standing) range.0 range.1 c.check_unread.ensures.checked
+    let range = c.args.range in
+    unread_inside c.check_unread.result (table_of c.args.self.now.symbols) (standing_of c.args.self.now.standing) range.start.now range.len.now c.check_unread.ensures.checked

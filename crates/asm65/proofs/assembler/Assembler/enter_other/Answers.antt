@@ -1,6 +1,5 @@
 use Rattle.std.proofs.Common.{◌∙◌, map, sym, ap}
-use Rattle.std.specs.Prelude.{Some, None, box_value, true}
-use Rattle.std.specs.Option.{option_map}
+use Rattle.std.specs.Prelude.{Some, None, true}
 use Rattle.language65.specs.declared.language.Statement.{Statement}
 use Rattle.language65.specs.declared.language.Statement.TheVariants as statement
 use Rattle.language65.specs.Views.{place_in}
@@ -56,8 +55,7 @@ returns-in-FilePart c =
     let m = c.args.measured in
     let old = c.args.self.now in
     let new = c.enter_part.new.self in
-    let range = (box_value c.in-FilePart.range) in
-    let x : Statement = statement.FilePart c.in-FilePart.bytes range.0 range.1 in
+    let x : Statement = statement.FilePart c.in-FilePart.bytes c.in-FilePart.start c.in-FilePart.len in
     taken_as place s m old new c.enter_part.result x c.args.statement (sym c.in-FilePart.is) (λ h. adds_pieces place s m old new x (λ y. nothing_behind y) (h place)) c.enter_part.ensures
 
 pub returns-in-Assert : goal.returns-in-Assert

@@ -11,5 +11,5 @@ abbrev pub invariant-loop-item : goal.invariant-loop-item
 invariant-loop-item l =
     let place = place_in l.stand.at.file.now l.stand.at.line in
     let s = l.stand.spot in
-    (b : Assembler) → Enters place s (map (item_piece l.width) ((into_iter_items l.item-iterator))) l.self b →
+    (b : Assembler) → Enters place s (map (item_piece l.width) (into_iter_items l.item-iterator)) l.self b →
     Enters place s (map (item_piece l.width) l.fn.items) l.fn.self b

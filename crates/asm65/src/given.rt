@@ -1,6 +1,6 @@
 //! Statements that expansion gives: a label, or what begins with none.
 
-ghost use Rattle.std.specs.Prelude.{◌≡◌, false, option_map, Err, IfErr};
+ghost use Rattle.std.specs.Prelude.{◌≡◌, false, Err, IfErr};
 ghost use Rattle.base65.specs.Store.{PassesBy};
 ghost use Rattle.syntax65.specs.Tokens.{lexemes};
 ghost use Rattle.expand65.specs.Standing.{stated};

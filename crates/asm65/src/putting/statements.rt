@@ -1,7 +1,6 @@
 //! What statements that define no name put into sections.
 
 ghost use Rattle.std.specs.Prelude.{◌≡◌, IfOk, true};
-ghost use Rattle.std.specs.Option.{option_map};
 ghost use Rattle.language65.specs.Contents.{operand_tree};
 ghost use Rattle.language65.specs.Sizes.{width_of};
 ghost use Rattle.symbols65.specs.Views.{table_of};

@@ -1,5 +1,4 @@
 use Rattle.std.proofs.Common.{Option, ◌∷◌, [], subst}
-use Rattle.std.specs.Option.{option_map}
 use Rattle.syntax65.specs.Opcodes.{opcode_of}
 use Rattle.syntax65.specs.Trees.{Tree}
 use Rattle.language65.specs.Contents.{opcode_part, operand_tree}

@@ -19,7 +19,7 @@ Entered place s width old new numbers = Enters place s (map (item_piece width) (
 pub loop-number-init : goal.loop-number-init
 loop-number-init c b h =
     subst (Entered (place_in c.args.stand.at.file.now c.args.stand.at.line) c.args.stand.spot c.args.width c.args.self.now b)
-    (c.into_iter-number-iterator.ensures.into_iter_gives.0 ∙ c.into_vec-number-numbers.ensures) h
+    (c.into_iter-number-iterator.ensures.into_iter_gives.0 ∙ c.into_vec-number-items.ensures) h
 
 pub loop-number-preserved : goal.loop-number-preserved
 loop-number-preserved c b h =

@@ -1,5 +1,5 @@
 -- Lines of files that are taken where they stand.
-use Rattle.std.proofs.Common.{◌≡◌, ◌≢◌, ◌+◌, ◌≤◌, arith, ◌⊎◌, inl, inr, ℕ, zero, suc, take, drop, ap, List, [], ◌∷◌, Option, Some, None, Ok, Err, Result, Bool, true, false, IfSome, IfOk, IsTrue, refl, sym, subst, ◌∙◌}
+use Rattle.std.proofs.Common.{◌≡◌, ◌+◌, ◌≤◌, arith, ◌⊎◌, inl, inr, ℕ, zero, suc, take, drop, ap, List, [], ◌∷◌, Option, Some, None, Ok, Err, Result, Bool, true, false, IfSome, IfOk, IsTrue, refl, sym, subst, ◌∙◌}
 use Rattle.std.specs.Prelude.{slice_get}
 use Rattle.base65.specs.Outcome.{Unless}
 use Rattle.base65.specs.Store.{Files}
@@ -10,7 +10,6 @@ use Rattle.reader65.specs.Fronts.{front_directive, line_directive}
 use Rattle.reader65.specs.Inside.{left_of}
 use Rattle.reader65.specs.Left.{labelled}
 use Rattle.reader65.specs.Naming.{NamesFiles}
-use Rattle.reader65.specs.Plain.{IsLabel}
 use Rattle.reader65.specs.Taking.{Takes}
 use Rattle.reader65.specs.declared.reader.Reader.{Reader}
 use Rattle.expand65.specs.AtHand.{IsOfKind, ReachesBy, Steps, rested}
@@ -61,10 +60,6 @@ steps_at_hand m k old new ts (kind.Label (suc n)) (some, right) other taken =
     let P : Bool → Type 0 = λ b. IsLabelled m k t ts b x in
     let Q : ℕ → Type 0 = λ j. IsSplit m k t ts (line_directive ts) j x in
     step_taken m k old (Ok (Some ts, left_of m new)) x taken (subst P (sym right) (subst Q (sym some) refl))
-
-pub label_kind : (n : ℕ) (r : Rewriter) (ts : List Lexeme) → n ≢ 0 → IsLabel ts n → IsOfKind (kind.Label n) r ts
-label_kind zero r ts h is = absurd (h refl)
-label_kind (suc n) r ts h is = is
 
 -- ---- Lines one after another.
 

@@ -320,8 +320,10 @@ impl Expander {
 
     /// Leaves a label of so many tokens in a statement, and puts what stands behind it in front of the lines.
     fn part(&mut self, statement: &mut Statement, len: usize) -> Result<(), AllocError>
-        ensures label { OnOk result (stated statement.new ≡ label (take len (tokens_of (stated statement.old)))) }
-        ensures rest { OnOk result (IsRest self.new.front (drop len (tokens_of (stated statement.old)))) }
+        ensures label { OnOk result
+            (stated statement.new ≡ label (take len (tokens_of (stated statement.old)))) }
+        ensures rest { OnOk result
+            (IsRest self.new.front (drop len (tokens_of (stated statement.old)))) }
         ensures rewriter { self.new.rewriter ≡ self.old.rewriter }
         ensures failed { self.new.failed ≡ self.old.failed }
     {

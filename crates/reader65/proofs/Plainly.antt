@@ -1,5 +1,5 @@
 -- Lines without a label and a directive, and what they do to blocks.
-use Rattle.std.proofs.Common.{◌≡◌, ℕ, zero, suc, ◌+◌, length, Bool, true, false, not, take, drop, List, [], ◌∷◌, ◌++◌, Option, None, Some, ap, refl, sym, ◌∙◌}
+use Rattle.std.proofs.Common.{◌≡◌, ℕ, zero, suc, length, Bool, true, false, not, take, drop, List, [], ◌∷◌, ◌++◌, Option, None, Some, ap, refl, sym, ◌∙◌}
 use Rattle.std.specs.Prelude.{if◌then◌else◌, ◌&&◌, nat_lt, slice_get}
 use Rattle.syntax65.specs.Tokens.{Lexeme}
 use Rattle.reader65.specs.Blocks.{Verdict, on, collecting, collects, gathering, gathers, passes, passing, skips, skipping, mislabelled}

@@ -1,4 +1,4 @@
-use Rattle.std.proofs.Common.{◌≡◌, ◌≤◌, ◌∙◌, length, sym, ap, subst, ℕ, take, drop}
+use Rattle.std.proofs.Common.{◌≡◌, ◌≤◌, ◌∙◌, length, sym, ap, take, drop}
 use Rattle.std.proofs.lemmas.List.{drop_all, take_all}
 use Rattle.reader65.specs.Kept.{behind_words, cut, tokens_in}
 use Rattle.reader65.proofs.Plainly.{as_many, front_cut, rest_cut}

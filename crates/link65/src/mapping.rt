@@ -117,11 +117,7 @@ fn add_row_line(text: &mut Sequence<u8>, row: &Row, place: RowPlace) -> Result<(
     )
 }
 
-fn add_row_at(
-    text: &mut Sequence<u8>,
-    row: &Row,
-    place: Option<RowPlace>,
-) -> Result<(), AllocError>
+fn add_row_at(text: &mut Sequence<u8>, row: &Row, place: Option<RowPlace>) -> Result<(), AllocError>
     ensures { OnOk result (text.new ≡ text.old ++ with_beside row_line row.now place) }
 {
     match place {
@@ -149,24 +145,23 @@ fn add_symbol_line(text: &mut Sequence<u8>, name: &[u8], bits: u64) -> Result<()
     add_all(text, &[name, b" ", digits.as_slice(), b"\n"])
 }
 
-fn add_definition_line(
-    text: &mut Sequence<u8>,
-    definition: &Definition,
-) -> Result<(), AllocError>
+fn add_definition_line(text: &mut Sequence<u8>, definition: &Definition) -> Result<(), AllocError>
     ensures { OnOk result (text.new ≡ text.old ++ definition_line definition.now) }
 {
     let bits = definition.value.cast_unsigned();
     add_symbol_line(text, definition.name.as_slice(), bits)
 }
 
-fn definition_lines(alloc: Global, definitions: &[Definition]) -> Result<Sequence<u8>, AllocError>
-    ensures { IfOk result (λ text. text ≡ flat_map definition_line definitions.now) }
+fn add_definition_lines(
+    text: &mut Sequence<u8>,
+    definitions: &[Definition],
+) -> Result<(), AllocError>
+    ensures { OnOk result (text.new ≡ text.old ++ flat_map definition_line definitions.now) }
 {
-    let mut text = Sequence::new(alloc);
     for definition in definitions {
-        add_definition_line(&mut text, definition)?;
+        add_definition_line(text, definition)?;
     }
-    Ok(text)
+    Ok(())
 }
 
 fn value_at(values: &[i64], i: usize) -> Option<i64>
@@ -189,18 +184,17 @@ fn add_export_at(
     }
 }
 
-fn export_lines(
-    alloc: Global,
+fn add_export_lines(
+    text: &mut Sequence<u8>,
     exports: &[Exported],
     values: &[i64],
-) -> Result<Sequence<u8>, AllocError>
-    ensures { IfOk result (λ text. text ≡ flat_zip value_line exports.now values.now) }
+) -> Result<(), AllocError>
+    ensures { OnOk result (text.new ≡ text.old ++ flat_zip value_line exports.now values.now) }
 {
-    let mut text = Sequence::new(alloc);
     for (i, export) in exports.iter().enumerate() {
-        add_export_at(&mut text, export, value_at(values, i))?;
+        add_export_at(text, export, value_at(values, i))?;
     }
-    Ok(text)
+    Ok(())
 }
 
 /// A weak name, where nothing else defines it.
@@ -218,18 +212,18 @@ fn add_weak_line(
     add_definition_line(text, weak)
 }
 
-fn weak_lines(alloc: Global, names: &Names<'_>) -> Result<Sequence<u8>, AllocError>
+fn add_weak_lines(text: &mut Sequence<u8>, names: &Names<'_>) -> Result<(), AllocError>
     requires { AreNames names.now }
-    ensures { IfOk result (λ text. text ≡ flat_map (weak_line names.now.own.now names.now.exports.now) names.now.weak.now) }
+    ensures { OnOk result (text.new ≡ text.old ++ flat_map (weak_line names.now.own.now names.now.exports.now) names.now.weak.now) }
 {
-    let mut text = Sequence::new(alloc);
     for weak in names.weak {
-        add_weak_line(&mut text, names, weak)?;
+        add_weak_line(text, names, weak)?;
     }
-    Ok(text)
+    Ok(())
 }
 
 /// All symbols and their values, by those of exports.
+#[tactic(auto, using(crate::proofs::LineLemmas::three_joined))]
 pub fn symbols_text(
     alloc: Global,
     names: &Names<'_>,
@@ -238,13 +232,11 @@ pub fn symbols_text(
     requires { AreNames names.now }
     ensures { IfOk result (λ text. text ≡ lines_by names.now.own.now names.now.weak.now names.now.exports.now values.now) }
 {
-    let own = definition_lines(alloc, names.own)?;
-    let exports = export_lines(alloc, names.exports, values)?;
-    let weak = weak_lines(alloc, names)?;
-    join(
-        alloc,
-        &[own.as_slice(), exports.as_slice(), weak.as_slice()],
-    )
+    let mut text = Sequence::new(alloc);
+    add_definition_lines(&mut text, names.own)?;
+    add_export_lines(&mut text, names.exports, values)?;
+    add_weak_lines(&mut text, names)?;
+    Ok(text)
 }
 
 /// The map, by the lines of its symbols.

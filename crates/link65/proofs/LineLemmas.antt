@@ -1,7 +1,7 @@
 -- Lines one behind the other.
-use Rattle.std.proofs.Common.{◌≡◌, ◌∙◌, ◌<◌, ℕ, ◌+◌, List, [], ◌∷◌, ◌++◌, length, drop, get_or, sym, ap, append_assoc}
+use Rattle.std.proofs.Common.{◌≡◌, ◌∙◌, ◌<◌, ℕ, ◌+◌, List, ◌++◌, length, drop, get_or, sym, ap, append_assoc}
 use Rattle.std.specs.List.{flat_map}
-use Rattle.script65.proofs.Eaches.{append_none, drop_item}
+use Rattle.script65.proofs.Eaches.{drop_item}
 
 pub lines_next : {A : Type 0} (f : A → List ℕ) (xs : List A) (i : ℕ) (x : A) (text line new whole : List ℕ) → i < length xs → x ≡ get_or xs i x → new ≡ text ++ line → line ≡ f x → text ++ flat_map f (drop i xs) ≡ whole → new ++ flat_map f (drop (i + 1) xs) ≡ whole
 lines_next f xs i x text line new whole lt at more same inv =
@@ -9,8 +9,3 @@ lines_next f xs i x text line new whole lt at more same inv =
     ∙ append_assoc text (f x) (flat_map f (drop (i + 1) xs))
     ∙ sym (ap (λ l. text ++ flat_map f l) (drop_item xs i x lt at))
     ∙ inv
-
--- three texts behind each other
-pub three_joined : (a b c x y z : List ℕ) → x ≡ [] ++ a → y ≡ x ++ b → z ≡ y ++ c → z ≡ flat_map (λ p. p) (a ∷ b ∷ c ∷ [])
-three_joined a b c x y z p q r =
-    r ∙ ap (λ t. t ++ c) (q ∙ ap (λ t. t ++ b) p) ∙ append_assoc a b c ∙ ap (λ t. a ++ (b ++ t)) (sym (append_none c))

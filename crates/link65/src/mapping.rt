@@ -152,16 +152,14 @@ fn add_definition_line(text: &mut Sequence<u8>, definition: &Definition) -> Resu
     add_symbol_line(text, definition.name.as_slice(), bits)
 }
 
-fn add_definition_lines(
-    text: &mut Sequence<u8>,
-    definitions: &[Definition],
-) -> Result<(), AllocError>
-    ensures { OnOk result (text.new ≡ text.old ++ flat_map definition_line definitions.now) }
+fn definition_lines(alloc: Global, definitions: &[Definition]) -> Result<Sequence<u8>, AllocError>
+    ensures { IfOk result (λ text. text ≡ flat_map definition_line definitions.now) }
 {
+    let mut text = Sequence::new(alloc);
     for definition in definitions {
-        add_definition_line(text, definition)?;
+        add_definition_line(&mut text, definition)?;
     }
-    Ok(())
+    Ok(text)
 }
 
 fn value_at(values: &[i64], i: usize) -> Option<i64>
@@ -184,17 +182,18 @@ fn add_export_at(
     }
 }
 
-fn add_export_lines(
-    text: &mut Sequence<u8>,
+fn export_lines(
+    alloc: Global,
     exports: &[Exported],
     values: &[i64],
-) -> Result<(), AllocError>
-    ensures { OnOk result (text.new ≡ text.old ++ flat_zip value_line exports.now values.now) }
+) -> Result<Sequence<u8>, AllocError>
+    ensures { IfOk result (λ text. text ≡ flat_zip value_line exports.now values.now) }
 {
+    let mut text = Sequence::new(alloc);
     for (i, export) in exports.iter().enumerate() {
-        add_export_at(text, export, value_at(values, i))?;
+        add_export_at(&mut text, export, value_at(values, i))?;
     }
-    Ok(())
+    Ok(text)
 }
 
 /// A weak name, where nothing else defines it.
@@ -212,18 +211,18 @@ fn add_weak_line(
     add_definition_line(text, weak)
 }
 
-fn add_weak_lines(text: &mut Sequence<u8>, names: &Names<'_>) -> Result<(), AllocError>
+fn weak_lines(alloc: Global, names: &Names<'_>) -> Result<Sequence<u8>, AllocError>
     requires { AreNames names.now }
-    ensures { OnOk result (text.new ≡ text.old ++ flat_map (weak_line names.now.own.now names.now.exports.now) names.now.weak.now) }
+    ensures { IfOk result (λ text. text ≡ flat_map (weak_line names.now.own.now names.now.exports.now) names.now.weak.now) }
 {
+    let mut text = Sequence::new(alloc);
     for weak in names.weak {
-        add_weak_line(text, names, weak)?;
+        add_weak_line(&mut text, names, weak)?;
     }
-    Ok(())
+    Ok(text)
 }
 
 /// All symbols and their values, by those of exports.
-#[tactic(auto, using(crate::proofs::LineLemmas::three_joined))]
 pub fn symbols_text(
     alloc: Global,
     names: &Names<'_>,
@@ -232,11 +231,13 @@ pub fn symbols_text(
     requires { AreNames names.now }
     ensures { IfOk result (λ text. text ≡ lines_by names.now.own.now names.now.weak.now names.now.exports.now values.now) }
 {
-    let mut text = Sequence::new(alloc);
-    add_definition_lines(&mut text, names.own)?;
-    add_export_lines(&mut text, names.exports, values)?;
-    add_weak_lines(&mut text, names)?;
-    Ok(text)
+    let own = definition_lines(alloc, names.own)?;
+    let exports = export_lines(alloc, names.exports, values)?;
+    let weak = weak_lines(alloc, names)?;
+    join(
+        alloc,
+        &[own.as_slice(), exports.as_slice(), weak.as_slice()],
+    )
 }
 
 /// The map, by the lines of its symbols.

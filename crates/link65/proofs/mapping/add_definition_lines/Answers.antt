@@ -1,8 +1,0 @@
-use Rattle.std.proofs.Common.{◌++◌, refl}
-use Rattle.std.specs.List.{flat_map}
-use Rattle.link65.specs.Maps.{definition_line}
-use Rattle.link65.proofs.LineLemmas.{lines_next}
-use Rattle.link65.proofs.mapping.add_definition_lines.Goals as goal
-
-pub loop-definition-preserved : goal.loop-definition-preserved
-loop-definition-preserved c = lines_next definition_line c.args.definitions.now c.loop-definition.definition-index c.definition-item.result c.loop-definition.text _ _ (c.args.text.now ++ flat_map definition_line c.args.definitions.now) c.loop-definition-test.true c.definition-item.is c.in_ok-add_definition_line.ensures refl c.loop-definition.invariant

@@ -1,8 +1,0 @@
-use Rattle.std.proofs.Common.{◌++◌, refl}
-use Rattle.std.specs.List.{flat_map}
-use Rattle.link65.specs.Maps.{weak_line}
-use Rattle.link65.proofs.LineLemmas.{lines_next}
-use Rattle.link65.proofs.mapping.add_weak_lines.Goals as goal
-
-pub loop-weak-preserved : goal.loop-weak-preserved
-loop-weak-preserved c = lines_next (weak_line c.args.names.now.own.now c.args.names.now.exports.now) c.args.names.now.weak.now c.loop-weak.weak-index c.weak-item.result c.loop-weak.text _ _ (c.args.text.now ++ flat_map (weak_line c.args.names.now.own.now c.args.names.now.exports.now) c.args.names.now.weak.now) c.loop-weak-test.true c.weak-item.is c.in_ok-add_weak_line.ensures refl c.loop-weak.invariant

@@ -24,14 +24,14 @@ all_there count n left digits none is = is.0 ∙ ap (λ l. hex_digits (count - l
 -- and one more
 pub one_more : (count n left now d : ℕ) (digits new : List ℕ) → 0 < left → left ≤ count → now ≡ left - 1 → IsBefore count n left digits → d ≡ hex_digit (n / 2 ^ (4 * now) % 16) → new ≡ digits ++ d ∷ [] → IsBefore count n now new
 one_more count n left now d digits new some within is before digit after = (
-    after
-    ∙ ap (λ x. digits ++ x ∷ []) digit
-    ∙ ap (λ m. m ++ hex_digit (n / 2 ^ (4 * now) % 16) ∷ []) before.0
-    ∙ ap (λ m. hex_digits (count - left) m ++ hex_digit (n / 2 ^ (4 * now) % 16) ∷ []) higher
-    ∙ ap (λ k. hex_digits k (n / 2 ^ (4 * now) / 16) ++ hex_digit (n / 2 ^ (4 * now) % 16) ∷ []) fewer
-    ∙ sym (hex_step (count - now) (n / 2 ^ (4 * now)) (omega (arith, some, within, is))),
-    ap length after ∙ length-append digits (d ∷ []) ∙ omega (arith, before.1, some, within, is),
-  )
+  after
+      ∙ ap (λ x. digits ++ x ∷ []) digit
+      ∙ ap (λ m. m ++ hex_digit (n / 2 ^ (4 * now) % 16) ∷ []) before.0
+      ∙ ap (λ m. hex_digits (count - left) m ++ hex_digit (n / 2 ^ (4 * now) % 16) ∷ []) higher
+      ∙ ap (λ k. hex_digits k (n / 2 ^ (4 * now) / 16) ++ hex_digit (n / 2 ^ (4 * now) % 16) ∷ []) fewer
+      ∙ sym (hex_step (count - now) (n / 2 ^ (4 * now)) (omega (arith, some, within, is))),
+  ap length after ∙ length-append digits (d ∷ []) ∙ omega (arith, before.1, some, within, is),
+)
   where
     fewer : count - left ≡ count - now - 1
     fewer = omega (arith, some, within, is)

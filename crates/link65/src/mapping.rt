@@ -117,11 +117,7 @@ fn add_row_line(text: &mut Sequence<u8>, row: &Row, place: RowPlace) -> Result<(
     )
 }
 
-fn add_row_at(
-    text: &mut Sequence<u8>,
-    row: &Row,
-    place: Option<RowPlace>,
-) -> Result<(), AllocError>
+fn add_row_at(text: &mut Sequence<u8>, row: &Row, place: Option<RowPlace>) -> Result<(), AllocError>
     ensures { OnOk result (text.new ≡ text.old ++ with_beside row_line row.now place) }
 {
     match place {
@@ -149,10 +145,7 @@ fn add_symbol_line(text: &mut Sequence<u8>, name: &[u8], bits: u64) -> Result<()
     add_all(text, &[name, b" ", digits.as_slice(), b"\n"])
 }
 
-fn add_definition_line(
-    text: &mut Sequence<u8>,
-    definition: &Definition,
-) -> Result<(), AllocError>
+fn add_definition_line(text: &mut Sequence<u8>, definition: &Definition) -> Result<(), AllocError>
     ensures { OnOk result (text.new ≡ text.old ++ definition_line definition.now) }
 {
     let bits = definition.value.cast_unsigned();

@@ -141,7 +141,7 @@ impl Line {
     {
         let mut words = mem::replace(&mut self.words, Sequence::new(alloc)).into_vec();
         let mut kept = mem::replace(&mut self.bytes, Sequence::new(alloc)).into_vec();
-        words.clear();
+        words.clear(); // Those of the line before.
         kept.clear();
         match read_words(bytes, &mut words) {
             Ok(len) => {

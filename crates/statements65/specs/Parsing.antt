@@ -6,6 +6,7 @@ use Rattle.std.specs.Str.{bytes_eq, str_eq_ignore_ascii_case}
 use Rattle.syntax65.specs.Expressions.{IsParsed}
 use Rattle.syntax65.specs.Mnemonics.{mnemonic_of}
 use Rattle.base65.specs.Outcome.{◌>>=◌, First}
+use Rattle.base65.specs.Relations.{Answers}
 use Rattle.syntax65.specs.Tokens.{Lexeme}
 use Rattle.syntax65.specs.Trees.{Tree}
 use Rattle.syntax65.specs.Words.{is_reserved}
@@ -21,6 +22,7 @@ use Rattle.object65.specs.declared.object.Action.TheVariants as action
 use Rattle.object65.specs.declared.object.Width.{Width}
 use Rattle.object65.specs.declared.object.Width.TheVariants.{Byte, Word, HighFirst, Dword}
 use Rattle.language65.specs.declared.fault.AsmFault.{AsmFault}
+use Rattle.language65.specs.Faults.{is_outside}
 use Rattle.language65.specs.declared.fault.AsmFault.TheVariants.{NotUnderstood}
 use Rattle.language65.specs.declared.language.Index.{Index}
 use Rattle.language65.specs.declared.language.Index.TheVariants as index
@@ -42,6 +44,10 @@ use Rattle.language65.specs.declared.language.Statement.{Statement}
 use Rattle.language65.specs.declared.language.Statement.TheVariants.{Label, CheapLabel, UnnamedLabel, Constant, Instruction, Values, Reserve, Align, NamedPart, Segment, PushSegment, PopSegment, OpenScope, CloseScope, OpenProc, CloseProc, Import, Export, Global, ForceImport, Assert, Out, Warning, Nothing}
 use Rattle.language65.specs.declared.language.Operand.TheVariants.{Absent, Accumulator, Immediate, Address, Indirect, IndirectX, IndirectY}
 use Rattle.language65.specs.declared.language.Item.TheVariants.{Value, Text}
+
+-- what a call answered is so parsed, unless it was refused from outside
+abbrev pub Parses : {A : Type 0} → Result A AsmFault → (Result A AsmFault → Type 0) → Type 0
+Parses result IsParsedAs = Answers is_outside (λ x. x) result IsParsedAs
 
 -- what isn't understood
 abbrev pub unknown : {A : Type 0} → Result A AsmFault

@@ -1,10 +1,9 @@
 //! `.res` and `.align`.
 
 ghost use Rattle.std.specs.Prelude.{◌≡◌, ◌∷◌, [], false, option_map, IfErr};
-ghost use Rattle.base65.specs.Relations.{Answers};
 ghost use Rattle.syntax65.specs.Tokens.{lexemes};
-ghost use Rattle.language65.specs.Faults.{is_failure, is_outside};
-ghost use Rattle.statements65.specs.Parsing.{amount_statement, parts_of, IsAmount, IsAmountWith};
+ghost use Rattle.language65.specs.Faults.{is_failure};
+ghost use Rattle.statements65.specs.Parsing.{amount_statement, parts_of, IsAmount, IsAmountWith, Parses};
 
 use super::parts::{expression, first_part};
 use super::words::Amount;
@@ -26,7 +25,7 @@ fn amount_statement(which: Amount, count: Expr, value: OptionalExpr) -> Statemen
 
 /// `n`
 fn count_alone(alloc: Global, which: Amount, count: &[Token<'_>]) -> Result<Statement, AsmFault>
-    ensures value { Answers is_outside (λ x. x) result (IsAmount (amount_statement which) (lexemes count.now ∷ [])) }
+    ensures value { Parses result (IsAmount (amount_statement which) (lexemes count.now ∷ [])) }
     ensures inside { IfErr result (λ e. is_failure e ≡ false) }
 {
     let count = expression(alloc, count)?;
@@ -39,7 +38,7 @@ fn with_value(
     count: Expr,
     value: &[Token<'_>],
 ) -> Result<Statement, AsmFault>
-    ensures value { Answers is_outside (λ x. x) result (IsAmountWith (amount_statement which) count (lexemes value.now)) }
+    ensures value { Parses result (IsAmountWith (amount_statement which) count (lexemes value.now)) }
     ensures inside { IfErr result (λ e. is_failure e ≡ false) }
 {
     let value = OptionalExpr::some(alloc, expression(alloc, value)?)?;
@@ -53,7 +52,7 @@ fn count_and_value(
     count: &[Token<'_>],
     value: &[Token<'_>],
 ) -> Result<Statement, AsmFault>
-    ensures value { Answers is_outside (λ x. x) result (IsAmount (amount_statement which) (lexemes count.now ∷ lexemes value.now ∷ [])) }
+    ensures value { Parses result (IsAmount (amount_statement which) (lexemes count.now ∷ lexemes value.now ∷ [])) }
     ensures inside { IfErr result (λ e. is_failure e ≡ false) }
 {
     let count = expression(alloc, count)?;
@@ -62,7 +61,7 @@ fn count_and_value(
 
 /// `n[,v]`
 pub fn amount(alloc: Global, which: Amount, tokens: &[Token<'_>]) -> Result<Statement, AsmFault>
-    ensures value { Answers is_outside (λ x. x) result (IsAmount (amount_statement which) (parts_of (lexemes tokens.now))) }
+    ensures value { Parses result (IsAmount (amount_statement which) (parts_of (lexemes tokens.now))) }
     ensures inside { IfErr result (λ e. is_failure e ≡ false) }
 {
     let (count, behind) = first_part(tokens);

@@ -1,10 +1,9 @@
 //! Assertions.
 
 ghost use Rattle.std.specs.Prelude.{◌≡◌, ◌∷◌, false, option_map, IfErr};
-ghost use Rattle.base65.specs.Relations.{Answers};
 ghost use Rattle.syntax65.specs.Tokens.{lexemes};
-ghost use Rattle.language65.specs.Faults.{is_failure, is_outside};
-ghost use Rattle.statements65.specs.Parsing.{action_of, action_word, asserted, own_words, parts_behind, parts_of, words_of, IsAssertion};
+ghost use Rattle.language65.specs.Faults.{is_failure};
+ghost use Rattle.statements65.specs.Parsing.{action_of, action_word, asserted, own_words, parts_behind, parts_of, words_of, IsAssertion, Parses};
 
 use super::parts::{expression, first_part};
 use super::tokens::{needed_string, needed_word};
@@ -30,7 +29,7 @@ fn action_word(word: &[u8]) -> Result<Action, AsmFault>
 }
 
 fn action_of(tokens: &[Token<'_>]) -> Result<Action, AsmFault>
-    ensures value { Answers is_outside (λ action. action) result (λ r. r ≡ action_of (lexemes tokens.now)) }
+    ensures value { Parses result (λ r. r ≡ action_of (lexemes tokens.now)) }
     ensures inside { IfErr result (λ e. is_failure e ≡ false) }
 {
     action_word(needed_word(tokens)?)
@@ -38,7 +37,7 @@ fn action_of(tokens: &[Token<'_>]) -> Result<Action, AsmFault>
 
 /// An assertion's own text.
 fn own_text(alloc: Global, tokens: &[Token<'_>]) -> Result<Sequence<u8>, AsmFault>
-    ensures value { Answers is_outside (λ text. text) result (λ r. r ≡ own_words (lexemes tokens.now)) }
+    ensures value { Parses result (λ r. r ≡ own_words (lexemes tokens.now)) }
     ensures inside { IfErr result (λ e. is_failure e ≡ false) }
 {
     let text = needed_string(tokens)?;
@@ -50,7 +49,7 @@ fn own_text(alloc: Global, tokens: &[Token<'_>]) -> Result<Sequence<u8>, AsmFaul
 
 /// An assertion's text, if it has one of its own.
 fn text_of(alloc: Global, rest: Option<&[Token<'_>]>) -> Result<Sequence<u8>, AsmFault>
-    ensures value { Answers is_outside (λ text. text) result (λ r. r ≡ words_of (parts_behind (option_map (λ rest. lexemes rest.now) rest.entry))) }
+    ensures value { Parses result (λ r. r ≡ words_of (parts_behind (option_map (λ rest. lexemes rest.now) rest.entry))) }
     ensures inside { IfErr result (λ e. is_failure e ≡ false) }
 {
     match rest {
@@ -60,7 +59,7 @@ fn text_of(alloc: Global, rest: Option<&[Token<'_>]>) -> Result<Sequence<u8>, As
 }
 
 fn only_text(alloc: Global, tokens: &[Token<'_>]) -> Result<Sequence<u8>, AsmFault>
-    ensures value { Answers is_outside (λ text. text) result (λ r. r ≡ words_of (parts_of (lexemes tokens.now))) }
+    ensures value { Parses result (λ r. r ≡ words_of (parts_of (lexemes tokens.now))) }
     ensures inside { IfErr result (λ e. is_failure e ≡ false) }
 {
     let (part, behind) = first_part(tokens);
@@ -77,7 +76,7 @@ fn asserted(
     action: &[Token<'_>],
     rest: Option<&[Token<'_>]>,
 ) -> Result<Statement, AsmFault>
-    ensures value { Answers is_outside (λ x. x) result (λ r. r ≡ asserted value (lexemes action.now) (parts_behind (option_map (λ rest. lexemes rest.now) rest.entry))) }
+    ensures value { Parses result (λ r. r ≡ asserted value (lexemes action.now) (parts_behind (option_map (λ rest. lexemes rest.now) rest.entry))) }
     ensures inside { IfErr result (λ e. is_failure e ≡ false) }
 {
     let action = action_of(action)?;
@@ -96,7 +95,7 @@ fn assertion_of(
     action: &[Token<'_>],
     rest: Option<&[Token<'_>]>,
 ) -> Result<Statement, AsmFault>
-    ensures value { Answers is_outside (λ x. x) result (IsAssertion (lexemes value.now ∷ lexemes action.now ∷ parts_behind (option_map (λ rest. lexemes rest.now) rest.entry))) }
+    ensures value { Parses result (IsAssertion (lexemes value.now ∷ lexemes action.now ∷ parts_behind (option_map (λ rest. lexemes rest.now) rest.entry))) }
     ensures inside { IfErr result (λ e. is_failure e ≡ false) }
 {
     let value = expression(alloc, value)?;
@@ -105,7 +104,7 @@ fn assertion_of(
 
 /// `.assert`
 pub fn assertion(alloc: Global, tokens: &[Token<'_>]) -> Result<Statement, AsmFault>
-    ensures value { Answers is_outside (λ x. x) result (IsAssertion (parts_of (lexemes tokens.now))) }
+    ensures value { Parses result (IsAssertion (parts_of (lexemes tokens.now))) }
     ensures inside { IfErr result (λ e. is_failure e ≡ false) }
 {
     let (value, behind) = first_part(tokens);

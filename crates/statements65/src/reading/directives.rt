@@ -1,10 +1,9 @@
 //! Statements of directives.
 
 ghost use Rattle.std.specs.Prelude.{◌≡◌, false, IfErr};
-ghost use Rattle.base65.specs.Relations.{Answers};
 ghost use Rattle.syntax65.specs.Tokens.{lexemes};
-ghost use Rattle.language65.specs.Faults.{is_failure, is_outside};
-ghost use Rattle.statements65.specs.Parsing.{directive_of, IsDirective, IsDirectiveStatement};
+ghost use Rattle.language65.specs.Faults.{is_failure};
+ghost use Rattle.statements65.specs.Parsing.{directive_of, IsDirective, IsDirectiveStatement, Parses};
 
 use super::amounts::amount;
 use super::assertions::assertion;
@@ -22,7 +21,7 @@ fn statement_by(
     directive: Directive,
     tokens: &[Token<'_>],
 ) -> Result<Statement, AsmFault>
-    ensures value { Answers is_outside (λ x. x) result (IsDirective directive (lexemes tokens.now)) }
+    ensures value { Parses result (IsDirective directive (lexemes tokens.now)) }
     ensures inside { IfErr result (λ e. is_failure e ≡ false) }
 {
     match directive {
@@ -47,7 +46,7 @@ pub fn directive_statement(
     word: &[u8],
     tokens: &[Token<'_>],
 ) -> Result<Statement, AsmFault>
-    ensures value { Answers is_outside (λ x. x) result (IsDirectiveStatement (directive_of word.now) (lexemes tokens.now)) }
+    ensures value { Parses result (IsDirectiveStatement (directive_of word.now) (lexemes tokens.now)) }
     ensures inside { IfErr result (λ e. is_failure e ≡ false) }
 {
     match directive_of(word) {

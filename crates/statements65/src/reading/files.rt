@@ -1,10 +1,9 @@
 //! `.incbin`.
 
 ghost use Rattle.std.specs.Prelude.{◌≡◌, ◌∷◌, [], false, option_map, IfErr};
-ghost use Rattle.base65.specs.Relations.{Answers};
 ghost use Rattle.syntax65.specs.Tokens.{lexemes};
-ghost use Rattle.language65.specs.Faults.{is_failure, is_outside};
-ghost use Rattle.statements65.specs.Parsing.{parts_behind, parts_of, IsFilePart, IsRange, IsRangeWith};
+ghost use Rattle.language65.specs.Faults.{is_failure};
+ghost use Rattle.statements65.specs.Parsing.{parts_behind, parts_of, IsFilePart, IsRange, IsRangeWith, Parses};
 
 use super::parts::{expression, first_part};
 use super::tokens::string_of;
@@ -18,7 +17,7 @@ type PartRange = (OptionalExpr, OptionalExpr);
 
 /// A start, with all that follows it.
 fn start_alone(alloc: Global, start: &[Token<'_>]) -> Result<PartRange, AsmFault>
-    ensures value { Answers is_outside (λ x. x) result (IsRange (lexemes start.now ∷ [])) }
+    ensures value { Parses result (IsRange (lexemes start.now ∷ [])) }
     ensures inside { IfErr result (λ e. is_failure e ≡ false) }
 {
     let start = OptionalExpr::some(alloc, expression(alloc, start)?)?;
@@ -26,7 +25,7 @@ fn start_alone(alloc: Global, start: &[Token<'_>]) -> Result<PartRange, AsmFault
 }
 
 fn with_len(alloc: Global, start: Expr, len: &[Token<'_>]) -> Result<PartRange, AsmFault>
-    ensures value { Answers is_outside (λ x. x) result (IsRangeWith start (lexemes len.now)) }
+    ensures value { Parses result (IsRangeWith start (lexemes len.now)) }
     ensures inside { IfErr result (λ e. is_failure e ≡ false) }
 {
     let len = OptionalExpr::some(alloc, expression(alloc, len)?)?;
@@ -38,7 +37,7 @@ fn start_and_len(
     start: &[Token<'_>],
     len: &[Token<'_>],
 ) -> Result<PartRange, AsmFault>
-    ensures value { Answers is_outside (λ x. x) result (IsRange (lexemes start.now ∷ lexemes len.now ∷ [])) }
+    ensures value { Parses result (IsRange (lexemes start.now ∷ lexemes len.now ∷ [])) }
     ensures inside { IfErr result (λ e. is_failure e ≡ false) }
 {
     let start = expression(alloc, start)?;
@@ -47,7 +46,7 @@ fn start_and_len(
 
 /// A start, and perhaps a length.
 fn range(alloc: Global, tokens: &[Token<'_>]) -> Result<PartRange, AsmFault>
-    ensures value { Answers is_outside (λ x. x) result (IsRange (parts_of (lexemes tokens.now))) }
+    ensures value { Parses result (IsRange (parts_of (lexemes tokens.now))) }
     ensures inside { IfErr result (λ e. is_failure e ≡ false) }
 {
     let (start, behind) = first_part(tokens);
@@ -65,7 +64,7 @@ fn range(alloc: Global, tokens: &[Token<'_>]) -> Result<PartRange, AsmFault>
 
 /// What stands behind a file's name.
 fn range_behind(alloc: Global, behind: Option<&[Token<'_>]>) -> Result<PartRange, AsmFault>
-    ensures value { Answers is_outside (λ x. x) result (IsRange (parts_behind (option_map (λ rest. lexemes rest.now) behind.entry))) }
+    ensures value { Parses result (IsRange (parts_behind (option_map (λ rest. lexemes rest.now) behind.entry))) }
     ensures inside { IfErr result (λ e. is_failure e ≡ false) }
 {
     match behind {
@@ -80,7 +79,7 @@ fn part_of(
     name: &[Token<'_>],
     behind: Option<&[Token<'_>]>,
 ) -> Result<Statement, AsmFault>
-    ensures value { Answers is_outside (λ x. x) result (IsFilePart (lexemes name.now ∷ parts_behind (option_map (λ rest. lexemes rest.now) behind.entry))) }
+    ensures value { Parses result (IsFilePart (lexemes name.now ∷ parts_behind (option_map (λ rest. lexemes rest.now) behind.entry))) }
     ensures inside { IfErr result (λ e. is_failure e ≡ false) }
 {
     let Some(name) = string_of(name) else {
@@ -93,7 +92,7 @@ fn part_of(
 
 /// `.incbin`
 pub fn file_part(alloc: Global, tokens: &[Token<'_>]) -> Result<Statement, AsmFault>
-    ensures value { Answers is_outside (λ x. x) result (IsFilePart (parts_of (lexemes tokens.now))) }
+    ensures value { Parses result (IsFilePart (parts_of (lexemes tokens.now))) }
     ensures inside { IfErr result (λ e. is_failure e ≡ false) }
 {
     let (name, behind) = first_part(tokens);

@@ -1,13 +1,12 @@
 //! Lists of data.
 
 ghost use Rattle.std.specs.Prelude.{◌≡◌, [], false, map, IfErr, IfOk, IfSome, None, Ok};
-ghost use Rattle.base65.specs.Relations.{Answers};
 ghost use Rattle.syntax65.specs.Tokens.{lexemes};
 ghost use Rattle.syntax65.specs.Trees.{number};
-ghost use Rattle.language65.specs.Faults.{is_failure, is_outside};
+ghost use Rattle.language65.specs.Faults.{is_failure};
 ghost use Rattle.language65.specs.Items.{numbered};
 ghost use Rattle.statements65.specs.declared.reading.words.Elements.{Elements};
-ghost use Rattle.statements65.specs.Parsing.{parts_of, string_of, EachIs, IsExpression, IsItem, IsValue};
+ghost use Rattle.statements65.specs.Parsing.{parts_of, string_of, EachIs, IsExpression, IsItem, IsValue, Parses};
 
 use super::parts::{expression, first_part, lone_number};
 use super::tokens::string_of;
@@ -33,7 +32,7 @@ fn number_alone(tokens: &[Token<'_>]) -> Option<u32>
 /// An element that is a value.
 #[tactic(auto, using(crate::proofs::Parts::then_fault))]
 fn value_item(alloc: Global, tokens: &[Token<'_>]) -> Result<Item, AsmFault>
-    ensures value { Answers is_outside (λ x. x) result (IsValue (lexemes tokens.now)) }
+    ensures value { Parses result (IsValue (lexemes tokens.now)) }
     ensures inside { IfErr result (λ e. is_failure e ≡ false) }
 {
     Ok(Item::Value(expression(alloc, tokens)?))
@@ -42,7 +41,7 @@ fn value_item(alloc: Global, tokens: &[Token<'_>]) -> Result<Item, AsmFault>
 /// An element of a list.
 #[inline(always)]
 fn item(alloc: Global, elements: Elements, tokens: &[Token<'_>]) -> Result<Item, AsmFault>
-    ensures value { Answers is_outside (λ x. x) result (IsItem elements (lexemes tokens.now)) }
+    ensures value { Parses result (IsItem elements (lexemes tokens.now)) }
     ensures inside { IfErr result (λ e. is_failure e ≡ false) }
 {
     if let Some(number) = number_alone(tokens) {
@@ -95,8 +94,7 @@ fn mixed(
     elements: Elements,
     tokens: &[Token<'_>],
 ) -> Result<Sequence<Item>, AsmFault>
-    ensures value { Answers is_outside (λ x. x) result
-        (EachIs (IsItem elements) (parts_of (lexemes tokens.now))) }
+    ensures value { Parses result (EachIs (IsItem elements) (parts_of (lexemes tokens.now))) }
     ensures inside { IfErr result (λ e. is_failure e ≡ false) }
 {
     let mut items = no_items(alloc, tokens.len())?;
@@ -111,8 +109,7 @@ fn mixed(
 
 /// The elements of a list, with a comma between each two.
 pub fn items(alloc: Global, elements: Elements, tokens: &[Token<'_>]) -> Result<Items, AsmFault>
-    ensures value { Answers is_outside (λ x. x) result
-        (EachIs (IsItem elements) (parts_of (lexemes tokens.now))) }
+    ensures value { Parses result (EachIs (IsItem elements) (parts_of (lexemes tokens.now))) }
     ensures inside { IfErr result (λ e. is_failure e ≡ false) }
 {
     if let Some(numbers) = numbers(alloc, tokens)? {

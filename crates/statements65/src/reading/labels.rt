@@ -4,7 +4,7 @@ ghost use Rattle.std.specs.Prelude.{◌≡◌, false, IfErr, Ok, option_map};
 ghost use Rattle.base65.specs.Relations.{Answers};
 ghost use Rattle.syntax65.specs.Tokens.{lexeme_of, lexemes};
 ghost use Rattle.language65.specs.Faults.{is_failure, is_outside};
-ghost use Rattle.statements65.specs.Parsing.{front_label, label_before, label_of, named_label};
+ghost use Rattle.statements65.specs.Parsing.{front_label, label_before, label_of, named_label, Parses};
 
 use super::tokens::is_colon;
 use base65::Sequence;
@@ -14,7 +14,7 @@ use syntax65::{Token, TokenKind, is_reserved};
 
 /// The label that a token before a `:` is, if it is one.
 fn named_label(alloc: Global, token: &Token<'_>) -> Result<Option<Statement>, AsmFault>
-    ensures value { Answers is_outside (λ x. x) result (λ r. r ≡ Ok (named_label (lexeme_of token.now).0 (lexeme_of token.now).1)) }
+    ensures value { Parses result (λ r. r ≡ Ok (named_label (lexeme_of token.now).0 (lexeme_of token.now).1)) }
     ensures inside { IfErr result (λ e. is_failure e ≡ false) }
 {
     match token.kind {

@@ -1,10 +1,9 @@
 //! Statements with lists of values or names.
 
 ghost use Rattle.std.specs.Prelude.{◌≡◌, false, IfErr};
-ghost use Rattle.base65.specs.Relations.{Answers};
 ghost use Rattle.syntax65.specs.Tokens.{lexemes};
-ghost use Rattle.language65.specs.Faults.{is_failure, is_outside};
-ghost use Rattle.statements65.specs.Parsing.{ended, names_statement, parts_of, EachIs, IsList, IsName, IsNames};
+ghost use Rattle.language65.specs.Faults.{is_failure};
+ghost use Rattle.statements65.specs.Parsing.{ended, names_statement, parts_of, EachIs, IsList, IsName, IsNames, Parses};
 
 use super::items::items;
 use super::parts::first_part;
@@ -23,7 +22,7 @@ pub fn list(
     width: Width,
     tokens: &[Token<'_>],
 ) -> Result<Statement, AsmFault>
-    ensures value { Answers is_outside (λ x. x) result (IsList elements width (lexemes tokens.now)) }
+    ensures value { Parses result (IsList elements width (lexemes tokens.now)) }
     ensures inside { IfErr result (λ e. is_failure e ≡ false) }
 {
     let items = items(alloc, elements, tokens)?;
@@ -32,7 +31,7 @@ pub fn list(
 
 /// `.asciiz`: a string and a 0.
 pub fn ended_text(alloc: Global, tokens: &[Token<'_>]) -> Result<Statement, AsmFault>
-    ensures value { Answers is_outside (λ x. x) result (λ r. r ≡ ended (lexemes tokens.now)) }
+    ensures value { Parses result (λ r. r ≡ ended (lexemes tokens.now)) }
     ensures inside { IfErr result (λ e. is_failure e ≡ false) }
 {
     let text = needed_string(tokens)?;
@@ -49,7 +48,7 @@ pub fn ended_text(alloc: Global, tokens: &[Token<'_>]) -> Result<Statement, AsmF
 
 /// Names, with a comma between each two.
 fn names(alloc: Global, tokens: &[Token<'_>]) -> Result<Sequence<Sequence<u8>>, AsmFault>
-    ensures value { Answers is_outside (λ names. names) result (EachIs IsName (parts_of (lexemes tokens.now))) }
+    ensures value { Parses result (EachIs IsName (parts_of (lexemes tokens.now))) }
     ensures inside { IfErr result (λ e. is_failure e ≡ false) }
 {
     let mut names = Sequence::new(alloc);
@@ -75,7 +74,7 @@ fn names_statement(which: Names, names: Sequence<Sequence<u8>>) -> Statement
 
 /// `.import` and the like.
 pub fn name_list(alloc: Global, which: Names, tokens: &[Token<'_>]) -> Result<Statement, AsmFault>
-    ensures value { Answers is_outside (λ x. x) result (IsNames which (lexemes tokens.now)) }
+    ensures value { Parses result (IsNames which (lexemes tokens.now)) }
     ensures inside { IfErr result (λ e. is_failure e ≡ false) }
 {
     let names = names(alloc, tokens)?;

@@ -1,11 +1,10 @@
 //! Statements that print, and those without operands.
 
 ghost use Rattle.std.specs.Prelude.{◌≡◌, false, IfErr, None, Ok};
-ghost use Rattle.base65.specs.Relations.{Answers};
 ghost use Rattle.syntax65.specs.Tokens.{lexemes};
-ghost use Rattle.language65.specs.Faults.{is_failure, is_outside};
+ghost use Rattle.language65.specs.Faults.{is_failure};
 ghost use Rattle.language65.specs.declared.language.Statement.TheVariants.{Segment};
-ghost use Rattle.statements65.specs.Parsing.{alone, lone_statement, processor_of, told};
+ghost use Rattle.statements65.specs.Parsing.{alone, lone_statement, processor_of, told, Parses};
 
 use super::tokens::needed_string;
 use super::words::{Lone, Message};
@@ -15,7 +14,7 @@ use std::alloc::Global;
 use syntax65::Token;
 
 fn standard_segment(alloc: Global, name: &[u8]) -> Result<Statement, AsmFault>
-    ensures value { Answers is_outside (λ x. x) result (λ r. r ≡ Ok (Segment name.now None)) }
+    ensures value { Parses result (λ r. r ≡ Ok (Segment name.now None)) }
     ensures inside { IfErr result (λ e. is_failure e ≡ false) }
 {
     Ok(Statement::Segment {
@@ -25,7 +24,7 @@ fn standard_segment(alloc: Global, name: &[u8]) -> Result<Statement, AsmFault>
 }
 
 fn lone_statement(alloc: Global, which: Lone) -> Result<Statement, AsmFault>
-    ensures value { Answers is_outside (λ x. x) result (λ r. r ≡ Ok (lone_statement which)) }
+    ensures value { Parses result (λ r. r ≡ Ok (lone_statement which)) }
     ensures inside { IfErr result (λ e. is_failure e ≡ false) }
 {
     match which {
@@ -44,7 +43,7 @@ fn lone_statement(alloc: Global, which: Lone) -> Result<Statement, AsmFault>
 
 /// A statement without operands.
 pub fn lone(alloc: Global, which: Lone, tokens: &[Token<'_>]) -> Result<Statement, AsmFault>
-    ensures value { Answers is_outside (λ x. x) result (λ r. r ≡ alone (lone_statement which) (lexemes tokens.now)) }
+    ensures value { Parses result (λ r. r ≡ alone (lone_statement which) (lexemes tokens.now)) }
     ensures inside { IfErr result (λ e. is_failure e ≡ false) }
 {
     if tokens.is_empty() {
@@ -56,7 +55,7 @@ pub fn lone(alloc: Global, which: Lone, tokens: &[Token<'_>]) -> Result<Statemen
 
 /// `.out` and `.warning`
 pub fn message(alloc: Global, which: Message, tokens: &[Token<'_>]) -> Result<Statement, AsmFault>
-    ensures value { Answers is_outside (λ x. x) result (λ r. r ≡ told which (lexemes tokens.now)) }
+    ensures value { Parses result (λ r. r ≡ told which (lexemes tokens.now)) }
     ensures inside { IfErr result (λ e. is_failure e ≡ false) }
 {
     let text = Sequence::copy_of(alloc, needed_string(tokens)?)?;
@@ -68,7 +67,7 @@ pub fn message(alloc: Global, which: Message, tokens: &[Token<'_>]) -> Result<St
 
 /// `.setcpu`
 pub fn processor(tokens: &[Token<'_>]) -> Result<Statement, AsmFault>
-    ensures value { Answers is_outside (λ x. x) result (λ r. r ≡ processor_of (lexemes tokens.now)) }
+    ensures value { Parses result (λ r. r ≡ processor_of (lexemes tokens.now)) }
     ensures inside { IfErr result (λ e. is_failure e ≡ false) }
 {
     if needed_string(tokens)? == b"6502".as_slice() {

@@ -1,10 +1,9 @@
 //! Operands of instructions.
 
 ghost use Rattle.std.specs.Prelude.{◌≡◌, ◌∷◌, false, IfErr};
-ghost use Rattle.base65.specs.Relations.{Answers};
 ghost use Rattle.syntax65.specs.Tokens.{lexeme_of, lexemes};
-ghost use Rattle.language65.specs.Faults.{is_failure, is_outside};
-ghost use Rattle.statements65.specs.Parsing.{closing_of, index_of, indirect_by, IsAddress, IsImmediate, IsIndirect, IsOperand, IsOperandFrom, IsPlainOperand};
+ghost use Rattle.language65.specs.Faults.{is_failure};
+ghost use Rattle.statements65.specs.Parsing.{closing_of, index_of, indirect_by, IsAddress, IsImmediate, IsIndirect, IsOperand, IsOperandFrom, IsPlainOperand, Parses};
 
 use super::parts::{expression, front};
 use super::tokens::{is_close, is_comma, is_spelled, spells, word_of};
@@ -37,7 +36,7 @@ fn address(
     prefix: Option<AddressSize>,
     tokens: &[Token<'_>],
 ) -> Result<Operand, AsmFault>
-    ensures value { Answers is_outside (λ x. x) result (IsAddress prefix (lexemes tokens.now)) }
+    ensures value { Parses result (IsAddress prefix (lexemes tokens.now)) }
     ensures inside { IfErr result (λ e. is_failure e ≡ false) }
 {
     let (value, behind) = front(alloc, tokens)?;
@@ -86,7 +85,7 @@ fn indirect_by(index: Option<Index>, value: Expr) -> Operand
 
 /// What stands behind a `(`.
 fn indirect(alloc: Global, tokens: &[Token<'_>]) -> Result<Operand, AsmFault>
-    ensures value { Answers is_outside (λ x. x) result (IsIndirect (lexemes tokens.now)) }
+    ensures value { Parses result (IsIndirect (lexemes tokens.now)) }
     ensures inside { IfErr result (λ e. is_failure e ≡ false) }
 {
     let (value, behind) = front(alloc, tokens)?;
@@ -96,7 +95,7 @@ fn indirect(alloc: Global, tokens: &[Token<'_>]) -> Result<Operand, AsmFault>
 
 /// What stands behind a `#`.
 fn immediate(alloc: Global, tokens: &[Token<'_>]) -> Result<Operand, AsmFault>
-    ensures value { Answers is_outside (λ x. x) result (IsImmediate (lexemes tokens.now)) }
+    ensures value { Parses result (IsImmediate (lexemes tokens.now)) }
     ensures inside { IfErr result (λ e. is_failure e ≡ false) }
 {
     Ok(Operand::Immediate(expression(alloc, tokens)?))
@@ -104,7 +103,7 @@ fn immediate(alloc: Global, tokens: &[Token<'_>]) -> Result<Operand, AsmFault>
 
 /// `a`, or an address without a prefix.
 fn plain_operand(alloc: Global, tokens: &[Token<'_>]) -> Result<Operand, AsmFault>
-    ensures value { Answers is_outside (λ x. x) result (IsPlainOperand (lexemes tokens.now)) }
+    ensures value { Parses result (IsPlainOperand (lexemes tokens.now)) }
     ensures inside { IfErr result (λ e. is_failure e ≡ false) }
 {
     if is_spelled(word_of(tokens), b"a") {
@@ -121,7 +120,7 @@ fn operand_from(
     tokens: &[Token<'_>],
     behind: &[Token<'_>],
 ) -> Result<Operand, AsmFault>
-    ensures value { Answers is_outside (λ x. x) result (IsOperandFrom kind (lexemes tokens.now) (lexemes behind.now)) }
+    ensures value { Parses result (IsOperandFrom kind (lexemes tokens.now) (lexemes behind.now)) }
     ensures inside { IfErr result (λ e. is_failure e ≡ false) }
 {
     match kind {
@@ -134,7 +133,7 @@ fn operand_from(
 
 /// What stands behind a mnemonic.
 pub fn operand(alloc: Global, tokens: &[Token<'_>]) -> Result<Operand, AsmFault>
-    ensures value { Answers is_outside (λ x. x) result (IsOperand (lexemes tokens.now)) }
+    ensures value { Parses result (IsOperand (lexemes tokens.now)) }
     ensures inside { IfErr result (λ e. is_failure e ≡ false) }
 {
     match tokens.split_first() {

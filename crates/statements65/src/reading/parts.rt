@@ -9,7 +9,7 @@ ghost use Rattle.syntax65.specs.Tokens.{lexeme_of, lexemes};
 ghost use Rattle.syntax65.specs.Trees.{number};
 ghost use Rattle.syntax65.specs.declared.expressions.words.Opening.TheVariants.{Number};
 ghost use Rattle.language65.specs.Faults.{is_failure, is_outside};
-ghost use Rattle.statements65.specs.Parsing.{is_comma, parts_behind, parts_of, quoted_in, string_of, IsExpression, IsFront};
+ghost use Rattle.statements65.specs.Parsing.{is_comma, parts_behind, parts_of, quoted_in, string_of, IsExpression, IsFront, Parses};
 
 use super::tokens::{is_close, is_comma};
 use language65::AsmFault;
@@ -67,7 +67,7 @@ fn parsed(alloc: Global, tokens: &[Token<'_>]) -> Result<(Expr, usize), ExprFaul
 
 /// An expression of all the tokens.
 pub fn expression(alloc: Global, tokens: &[Token<'_>]) -> Result<Expr, AsmFault>
-    ensures value { Answers is_outside (λ x. x) result (IsExpression (lexemes tokens.now)) }
+    ensures value { Parses result (IsExpression (lexemes tokens.now)) }
     ensures inside { IfErr result (λ e. is_failure e ≡ false) }
 {
     match parsed(alloc, tokens) {

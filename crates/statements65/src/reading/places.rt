@@ -2,10 +2,9 @@
 
 ghost use Rattle.std.specs.Prelude.{◌≡◌, false, IfErr};
 ghost use Rattle.std.specs.List.{list_all};
-ghost use Rattle.base65.specs.Relations.{Answers};
 ghost use Rattle.syntax65.specs.Tokens.{lexemes};
-ghost use Rattle.language65.specs.Faults.{is_failure, is_outside};
-ghost use Rattle.statements65.specs.Parsing.{is_identifier, is_letter, is_letter_or_digit, proc_of, scope_of, segment_named, segment_of, size_behind, size_word};
+ghost use Rattle.language65.specs.Faults.{is_failure};
+ghost use Rattle.statements65.specs.Parsing.{is_identifier, is_letter, is_letter_or_digit, proc_of, scope_of, segment_named, segment_of, size_behind, size_word, Parses};
 
 use super::tokens::{is_colon, name_of, needed_quoted, needed_word};
 use base65::Sequence;
@@ -27,7 +26,7 @@ fn size_word(word: &[u8]) -> Result<AddressSize, AsmFault>
 
 /// Nothing, or `: zeropage` or `: absolute`.
 fn size_behind(tokens: &[Token<'_>]) -> Result<Option<AddressSize>, AsmFault>
-    ensures value { Answers is_outside (λ size. size) result (λ r. r ≡ size_behind (lexemes tokens.now)) }
+    ensures value { Parses result (λ r. r ≡ size_behind (lexemes tokens.now)) }
     ensures inside { IfErr result (λ e. is_failure e ≡ false) }
 {
     let Some((colon, behind)) = tokens.split_first() else {
@@ -76,7 +75,7 @@ fn segment_named(
     name: &[u8],
     size: Option<AddressSize>,
 ) -> Result<Statement, AsmFault>
-    ensures value { Answers is_outside (λ x. x) result (λ r. r ≡ segment_named name.now size) }
+    ensures value { Parses result (λ r. r ≡ segment_named name.now size) }
     ensures inside { IfErr result (λ e. is_failure e ≡ false) }
 {
     if !is_identifier(name) {
@@ -88,7 +87,7 @@ fn segment_named(
 
 /// `.segment`
 pub fn segment(alloc: Global, tokens: &[Token<'_>]) -> Result<Statement, AsmFault>
-    ensures value { Answers is_outside (λ x. x) result (λ r. r ≡ segment_of (lexemes tokens.now)) }
+    ensures value { Parses result (λ r. r ≡ segment_of (lexemes tokens.now)) }
     ensures inside { IfErr result (λ e. is_failure e ≡ false) }
 {
     let Some((first, behind)) = tokens.split_first() else {
@@ -101,7 +100,7 @@ pub fn segment(alloc: Global, tokens: &[Token<'_>]) -> Result<Statement, AsmFaul
 
 /// `.scope`
 pub fn scope(alloc: Global, tokens: &[Token<'_>]) -> Result<Statement, AsmFault>
-    ensures value { Answers is_outside (λ x. x) result (λ r. r ≡ scope_of (lexemes tokens.now)) }
+    ensures value { Parses result (λ r. r ≡ scope_of (lexemes tokens.now)) }
     ensures inside { IfErr result (λ e. is_failure e ≡ false) }
 {
     if tokens.is_empty() {
@@ -112,7 +111,7 @@ pub fn scope(alloc: Global, tokens: &[Token<'_>]) -> Result<Statement, AsmFault>
 
 /// `.proc`
 pub fn proc(alloc: Global, tokens: &[Token<'_>]) -> Result<Statement, AsmFault>
-    ensures value { Answers is_outside (λ x. x) result (λ r. r ≡ proc_of (lexemes tokens.now)) }
+    ensures value { Parses result (λ r. r ≡ proc_of (lexemes tokens.now)) }
     ensures inside { IfErr result (λ e. is_failure e ≡ false) }
 {
     Ok(Statement::OpenProc(name_of(alloc, tokens)?))

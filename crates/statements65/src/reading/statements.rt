@@ -2,12 +2,11 @@
 
 ghost use Rattle.std.specs.Prelude.{◌≡◌, false, IfErr, IfSome, Result, Some};
 ghost use Rattle.syntax65.specs.Mnemonics.{mnemonic_of};
-ghost use Rattle.base65.specs.Relations.{Answers};
 ghost use Rattle.syntax65.specs.Tokens.{lexemes};
 ghost use Rattle.language65.specs.declared.fault.AsmFault.{AsmFault};
 ghost use Rattle.language65.specs.declared.language.Statement.{Statement};
-ghost use Rattle.language65.specs.Faults.{is_failure, is_outside};
-ghost use Rattle.statements65.specs.Parsing.{IsConstant, IsInstruction, IsNamed, IsPlainConstant, IsStatement};
+ghost use Rattle.language65.specs.Faults.{is_failure};
+ghost use Rattle.statements65.specs.Parsing.{IsConstant, IsInstruction, IsNamed, IsPlainConstant, IsStatement, Parses};
 
 use super::directives::directive_statement;
 use super::operands::operand;
@@ -19,7 +18,7 @@ use std::alloc::Global;
 use syntax65::{Mnemonic, Token, TokenKind, is_reserved, mnemonic};
 
 fn plain_constant(alloc: Global, name: &[u8], tokens: &[Token<'_>]) -> Result<Statement, AsmFault>
-    ensures value { Answers is_outside (λ x. x) result (IsPlainConstant name.now (lexemes tokens.now)) }
+    ensures value { Parses result (IsPlainConstant name.now (lexemes tokens.now)) }
     ensures inside { IfErr result (λ e. is_failure e ≡ false) }
 {
     let value = expression(alloc, tokens)?;
@@ -29,7 +28,7 @@ fn plain_constant(alloc: Global, name: &[u8], tokens: &[Token<'_>]) -> Result<St
 
 /// `name = e`, by the name and what stands behind the mark.
 fn constant(alloc: Global, name: &[u8], tokens: &[Token<'_>]) -> Result<Statement, AsmFault>
-    ensures value { Answers is_outside (λ x. x) result (IsConstant name.now (lexemes tokens.now)) }
+    ensures value { Parses result (IsConstant name.now (lexemes tokens.now)) }
     ensures inside { IfErr result (λ e. is_failure e ≡ false) }
 {
     if is_reserved(name) {
@@ -44,7 +43,7 @@ fn with_operand(
     mnemonic: Mnemonic,
     tokens: &[Token<'_>],
 ) -> Result<Statement, AsmFault>
-    ensures value { Answers is_outside (λ x. x) result (IsInstruction (Some mnemonic) (lexemes tokens.now)) }
+    ensures value { Parses result (IsInstruction (Some mnemonic) (lexemes tokens.now)) }
     ensures inside { IfErr result (λ e. is_failure e ≡ false) }
 {
     let operand = operand(alloc, tokens)?;
@@ -53,7 +52,7 @@ fn with_operand(
 
 /// An instruction, by its name and its operand.
 fn instruction(alloc: Global, name: &[u8], tokens: &[Token<'_>]) -> Result<Statement, AsmFault>
-    ensures value { Answers is_outside (λ x. x) result (IsInstruction (mnemonic_of name.now) (lexemes tokens.now)) }
+    ensures value { Parses result (IsInstruction (mnemonic_of name.now) (lexemes tokens.now)) }
     ensures inside { IfErr result (λ e. is_failure e ≡ false) }
 {
     match mnemonic(name) {
@@ -84,7 +83,7 @@ pub fn instruction_front<'a, 'b>(tokens: &'a [Token<'b>]) -> Option<(Mnemonic, &
 
 /// A statement that begins with an identifier.
 fn named(alloc: Global, name: &[u8], tokens: &[Token<'_>]) -> Result<Statement, AsmFault>
-    ensures value { Answers is_outside (λ x. x) result (IsNamed name.now (lexemes tokens.now)) }
+    ensures value { Parses result (IsNamed name.now (lexemes tokens.now)) }
     ensures inside { IfErr result (λ e. is_failure e ≡ false) }
 {
     match tokens.split_first() {
@@ -106,7 +105,7 @@ fn named(alloc: Global, name: &[u8], tokens: &[Token<'_>]) -> Result<Statement, 
 /// Tokens that are no statement aren't understood.
 #[inline(never)]
 pub fn statement(alloc: Global, tokens: &[Token<'_>]) -> Result<Statement, AsmFault>
-    ensures value { Answers is_outside (λ x. x) result (IsStatement (lexemes tokens.now)) }
+    ensures value { Parses result (IsStatement (lexemes tokens.now)) }
     ensures inside { IfErr result (λ e. is_failure e ≡ false) }
 {
     let Some((first, behind)) = tokens.split_first() else {

@@ -4,7 +4,7 @@ ghost use Rattle.std.specs.Prelude.{◌≡◌, false, option_map, IfErr};
 ghost use Rattle.base65.specs.Relations.{Answers};
 ghost use Rattle.syntax65.specs.Tokens.{lexeme_of, lexemes};
 ghost use Rattle.language65.specs.Faults.{is_failure, is_outside};
-ghost use Rattle.statements65.specs.Parsing.{defines, inner, is_close, is_colon, is_comma, name_of, quoted_in, spelled, spells, string_of, understood, word_in, word_of};
+ghost use Rattle.statements65.specs.Parsing.{defines, inner, is_close, is_colon, is_comma, name_of, quoted_in, spelled, spells, string_of, understood, word_in, word_of, Parses};
 
 use base65::Sequence;
 use language65::AsmFault;
@@ -140,7 +140,7 @@ pub fn needed_word<'a>(tokens: &[Token<'a>]) -> Result<&'a [u8], AsmFault>
 
 /// A plain name.
 pub fn name_of(alloc: Global, tokens: &[Token<'_>]) -> Result<Sequence<u8>, AsmFault>
-    ensures value { Answers is_outside (λ s. s) result (λ r. r ≡ name_of (lexemes tokens.now)) }
+    ensures value { Parses result (λ r. r ≡ name_of (lexemes tokens.now)) }
     ensures inside { IfErr result (λ e. is_failure e ≡ false) }
 {
     let name = needed_word(tokens)?;

@@ -26,8 +26,9 @@ fn names_each_failure(rt: HostRuntime) -> Result<(), Fail> {
         let mut store = FailsOnce::behind(rt.alloc(), files(rt.alloc(), O1, S1)?, Some(k));
         let ran = run_on(rt.alloc(), &mut store, &LINK);
         if !store.failed {
-            // Two reads of the script, seven at least of the object, a creation and a writing.
-            assert!(rt; is_quiet(&ran) && k >= 11);
+            // Two reads of the script, four at least of the object (whether it is a library, its head, and two in which
+            // its records are read ahead), a creation and a writing.
+            assert!(rt; is_quiet(&ran) && k >= 8);
             met = true;
             break;
         }

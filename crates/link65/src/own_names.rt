@@ -11,7 +11,7 @@ use script65::{Area, Row, Script};
 use std::alloc::{AllocError, Global};
 
 /// Adds the names that an area gives.
-fn add_area(
+fn add_area_names(
     alloc: Global,
     names: &mut Sequence<Sequence<u8>>,
     area: &Area,
@@ -28,7 +28,7 @@ fn add_area(
 }
 
 /// Adds the names that a row gives.
-fn add_row(alloc: Global, names: &mut Sequence<Sequence<u8>>, row: &Row) -> Result<(), AllocError>
+fn add_row_names(alloc: Global, names: &mut Sequence<Sequence<u8>>, row: &Row) -> Result<(), AllocError>
     ensures { OnOk result (names.new ≡ names.old ++ row_names row.now) }
 {
     if row.define {
@@ -41,7 +41,7 @@ fn add_row(alloc: Global, names: &mut Sequence<Sequence<u8>>, row: &Row) -> Resu
 }
 
 /// Adds the names that areas give.
-fn add_areas(
+fn add_names_of_areas(
     alloc: Global,
     names: &mut Sequence<Sequence<u8>>,
     areas: &[Area],
@@ -49,13 +49,13 @@ fn add_areas(
     ensures { OnOk result (names.new ≡ names.old ++ flat_map area_names areas.now) }
 {
     for area in areas {
-        add_area(alloc, names, area)?;
+        add_area_names(alloc, names, area)?;
     }
     Ok(())
 }
 
 /// Adds the names that rows give.
-fn add_rows(
+fn add_names_of_rows(
     alloc: Global,
     names: &mut Sequence<Sequence<u8>>,
     rows: &[Row],
@@ -63,7 +63,7 @@ fn add_rows(
     ensures { OnOk result (names.new ≡ names.old ++ flat_map row_names rows.now) }
 {
     for row in rows {
-        add_row(alloc, names, row)?;
+        add_row_names(alloc, names, row)?;
     }
     Ok(())
 }
@@ -89,8 +89,8 @@ pub fn script_names(alloc: Global, script: &Script) -> Result<Sequence<Sequence<
     let mut exports = Sequence::new(alloc);
     add_exports(alloc, &mut exports, script.symbols.as_slice())?;
     let mut names = Sequence::new(alloc);
-    add_areas(alloc, &mut names, script.areas.as_slice())?;
-    add_rows(alloc, &mut names, script.rows.as_slice())?;
+    add_names_of_areas(alloc, &mut names, script.areas.as_slice())?;
+    add_names_of_rows(alloc, &mut names, script.rows.as_slice())?;
     add_definitions(alloc, &mut names, exports.as_slice())?;
     Ok(names)
 }

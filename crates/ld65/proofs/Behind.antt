@@ -9,7 +9,7 @@ use Rattle.object65.specs.declared.object.Object.{Object}
 use Rattle.script65.specs.declared.script.Script.{Script}
 use Rattle.link65.specs.declared.fault.LinkFault.{LinkFault}
 use Rattle.link65.specs.declared.fault.LinkFault.TheVariants as link
-use Rattle.link65.specs.Modules.{Module}
+use Rattle.link65.specs.Programs.{Module}
 use Rattle.link65.specs.Standing.{Feeding, IsFed, module_of}
 use Rattle.ld65.specs.declared.refusal.Refusal.{Refusal}
 use Rattle.ld65.specs.Inner.Feeding.{is_link_outside}

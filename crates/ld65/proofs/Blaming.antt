@@ -15,7 +15,7 @@ use Rattle.library65.specs.declared.index.Entry.{Entry as Listing}
 use Rattle.link65.specs.declared.fault.LinkFault.{LinkFault}
 use Rattle.link65.specs.declared.fault.LinkFault.TheVariants as link
 use Rattle.link65.specs.Faults.{is_memory, of_object}
-use Rattle.link65.specs.Modules.{Module}
+use Rattle.link65.specs.Programs.{Module}
 use Rattle.link65.specs.Standing.{Begins, Continues, Ends, Feeding, IsFed, IsFeeding, whole}
 use Rattle.cli65.specs.Line.{Linking}
 use Rattle.ld65.specs.declared.refusal.Refusal.{Refusal}

@@ -9,7 +9,7 @@ use Rattle.base65.proofs.Outcome.{refused-then}
 use Rattle.library65.specs.declared.index.Entry.{Entry}
 use Rattle.script65.specs.declared.script.Script.{Script}
 use Rattle.link65.specs.declared.fault.LinkFault.{LinkFault}
-use Rattle.link65.specs.Modules.{Module}
+use Rattle.link65.specs.Programs.{Module}
 use Rattle.link65.specs.Standing.{Feeding, IsFed, module_of}
 use Rattle.ld65.specs.declared.choosing.Choice.{Choice}
 use Rattle.ld65.specs.declared.refusal.Refusal.{Refusal}

@@ -16,7 +16,7 @@ use Rattle.object65.proofs.Withins.{after_free, ended_by}
 use Rattle.link65.specs.declared.fault.LinkFault.{LinkFault}
 use Rattle.link65.specs.declared.fault.LinkFault.TheVariants as link
 use Rattle.link65.specs.Faults.{is_memory, of_object as as_fault}
-use Rattle.link65.specs.Modules.{Module}
+use Rattle.link65.specs.Programs.{Module}
 use Rattle.library65.specs.declared.index.Entry.{Entry as Listing}
 use Rattle.link65.specs.Standing.{Continues, Feeding, IsFeeding, as_link}
 use Rattle.ld65.specs.Inner.Feeding.{FeedsRecords, is_link_outside, records_in}

@@ -5,11 +5,10 @@ use Rattle.base65.specs.Outcome.{Finds, Refuses, Unless}
 use Rattle.base65.specs.Store.{Files, PassesBy}
 use Rattle.script65.specs.declared.script.Script.{Script}
 use Rattle.link65.specs.declared.fault.LinkFault.{LinkFault}
-use Rattle.link65.specs.declared.linked.Linked.{Linked}
+use Rattle.link65.specs.declared.linking.Linked.{Linked}
 use Rattle.link65.specs.Faults.{is_memory}
 use Rattle.link65.specs.Links.{LinkOf, names_once}
-use Rattle.link65.specs.Modules.{Module}
-use Rattle.link65.specs.Programs.{program_of}
+use Rattle.link65.specs.Programs.{Module, program_of}
 use Rattle.link65.specs.Standing.{Feeding, IsFed, Links}
 use Rattle.cli65.specs.Line.{Linking}
 use Rattle.ld65.specs.declared.refusal.Refusal.{Refusal}

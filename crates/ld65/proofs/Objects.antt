@@ -16,10 +16,9 @@ use Rattle.link65.specs.declared.fault.LinkFault.{LinkFault}
 use Rattle.link65.specs.declared.fault.LinkFault.TheVariants as link
 use Rattle.link65.specs.Faults.{is_memory, of_object as as_fault}
 use Rattle.library65.specs.declared.index.Entry.{Entry as Listing}
-use Rattle.link65.specs.Givers.{first_again, given_names}
+use Rattle.link65.specs.Names.{first_again, given_names}
 use Rattle.link65.specs.Links.{names_once, no_name_again}
-use Rattle.link65.specs.Modules.{Module}
-use Rattle.link65.specs.Programs.{Program, program_of}
+use Rattle.link65.specs.Programs.{Module, Program, program_of}
 use Rattle.script65.specs.declared.script.Script.{Script}
 use Rattle.link65.specs.Standing.{Begins, Ends, Feeding, IsFed, Leads, agreed, agrees_with, as_link, joined, module_of, whole}
 use Rattle.ld65.specs.Inner.Feeding.{FeedsObject, FeedsRecords, Leads as LeadsIn, is_link_outside, records_in}

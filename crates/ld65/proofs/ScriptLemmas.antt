@@ -4,7 +4,7 @@ use Rattle.std.specs.Prelude.{IfSome, ◌||◌, min}
 use Rattle.std.specs.FinMap.{get}
 use Rattle.std.proofs.lemmas.Bool.Decides.{nat_tests}
 use Rattle.std.proofs.lemmas.List.{take_all, length-take}
-use Rattle.base65.specs.Outcome.{First, Finds, Unless}
+use Rattle.base65.specs.Outcome.{First, Finds, Unless, ◌>>=◌}
 use Rattle.base65.specs.Store.{Files}
 use Rattle.base65.specs.declared.store.StoreFault.TheVariants.{FileNotFound}
 use Rattle.script65.specs.declared.script.Script.{Script}
@@ -13,9 +13,8 @@ use Rattle.script65.specs.declared.fault.Fault.TheVariants.{TooLong}
 use Rattle.script65.specs.declared.fault.ScriptFault.{ScriptFault}
 use Rattle.script65.specs.Faults.{is_script_outside}
 use Rattle.script65.specs.Grammar.{First as FirstOf, sized}
-use Rattle.base65.specs.Outcome.{◌>>=◌}
 use Rattle.script65.specs.Scripts.{IsScript, script_of, with_line}
-use Rattle.link65.specs.declared.linked.Linked.{Linked}
+use Rattle.link65.specs.declared.linking.Linked.{Linked}
 use Rattle.cli65.specs.Line.{Linking}
 use Rattle.ld65.specs.declared.refusal.Refusal.{Refusal}
 use Rattle.ld65.specs.declared.refusal.Refusal.TheVariants as refusal

@@ -19,11 +19,10 @@ use Rattle.script65.specs.Scripts.{IsScript}
 use Rattle.script65.specs.declared.fault.ScriptFault.{ScriptFault}
 use Rattle.script65.specs.declared.script.Script.{Script}
 use Rattle.link65.specs.declared.fault.LinkFault.{LinkFault}
-use Rattle.link65.specs.declared.linked.Linked.{Linked}
-use Rattle.link65.specs.Givers.{given_names, open_names}
+use Rattle.link65.specs.declared.linking.Linked.{Linked}
+use Rattle.link65.specs.Names.{given_names, open_names}
 use Rattle.link65.specs.Links.{LinkOf, names_once}
-use Rattle.link65.specs.Modules.{Module}
-use Rattle.link65.specs.Programs.{program_of}
+use Rattle.link65.specs.Programs.{Module, program_of}
 use Rattle.link65.specs.Standing.{agreed, as_link, joined as joined_to, module_of}
 use Rattle.cli65.specs.Line.{Linking}
 use Rattle.cli65.specs.Messages.{joined}

@@ -11,7 +11,7 @@ use Rattle.script65.specs.Faults.{is_memory_fault, script_fault_text as script_w
 use Rattle.link65.specs.declared.fault.LinkFault.{LinkFault}
 use Rattle.link65.specs.declared.fault.LinkFault.TheVariants as link
 use Rattle.link65.specs.Faults.{fault_text as link_words, is_memory as is_link_memory}
-use Rattle.link65.specs.Warnings.{site_name}
+use Rattle.link65.specs.Texts.{site_name}
 use Rattle.cli65.specs.Line.{Linking}
 use Rattle.cli65.specs.Messages.{file_message, line_message}
 use Rattle.ld65.specs.declared.refusal.Refusal.{Refusal}

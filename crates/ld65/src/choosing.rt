@@ -5,7 +5,7 @@ ghost use Rattle.std.specs.List.{AllByRecursion};
 ghost use Rattle.base65.specs.Outcome.{Gives};
 ghost use Rattle.base65.specs.Store.{PassesBy};
 ghost use Rattle.object65.specs.Reading.{file_limit};
-ghost use Rattle.link65.specs.Modules.{Module};
+ghost use Rattle.link65.specs.Programs.{Module};
 ghost use Rattle.link65.specs.Standing.{IsFed};
 ghost use Rattle.ld65.specs.Inner.Feeding.{AreChosen, Chooses};
 ghost use Rattle.ld65.specs.Linkage.{as_library, index_in};

@@ -6,7 +6,7 @@ ghost use Rattle.object65.specs.declared.fault.ObjectFault.TheVariants.{FileErro
 ghost use Rattle.object65.specs.Taking.{start};
 ghost use Rattle.library65.specs.declared.index.Entry as index;
 ghost use Rattle.link65.specs.declared.fault.LinkFault.TheVariants.{Malformed};
-ghost use Rattle.link65.specs.Modules.{Module};
+ghost use Rattle.link65.specs.Programs.{Module};
 ghost use Rattle.link65.specs.Standing.{IsFed, IsFeeding, Keeps, is_open};
 ghost use Rattle.ld65.specs.Inner.Feeding.{FeedsObject, FeedsRecords, input_of};
 

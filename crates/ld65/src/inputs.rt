@@ -7,7 +7,7 @@ ghost use Rattle.base65.specs.Store.{IsBlamed, Passes, PassesBy};
 ghost use Rattle.object65.specs.declared.fault.ObjectFault.TheVariants.{FileError};
 ghost use Rattle.object65.specs.Fault.{is_outside as is_object_outside};
 ghost use Rattle.object65.specs.Reading.{in_file};
-ghost use Rattle.link65.specs.Modules.{Module};
+ghost use Rattle.link65.specs.Programs.{Module};
 ghost use Rattle.link65.specs.Standing.{IsFed, Keeps, is_open};
 ghost use Rattle.ld65.specs.Inner.Feeding.{FeedsFile, FeedsInput, FeedsInputs};
 ghost use Rattle.ld65.specs.Linkage.{is_library};

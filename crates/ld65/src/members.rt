@@ -4,7 +4,7 @@ ghost use Rattle.std.specs.Prelude.{◌≡◌, ◌+◌, ◌≤◌, ◌∷◌, []
 ghost use Rattle.std.specs.List.{AllByRecursion};
 ghost use Rattle.base65.specs.Store.{PassesBy};
 ghost use Rattle.object65.specs.Reading.{file_limit};
-ghost use Rattle.link65.specs.Modules.{Module};
+ghost use Rattle.link65.specs.Programs.{Module};
 ghost use Rattle.link65.specs.Standing.{IsFed, Keeps, is_open};
 ghost use Rattle.ld65.specs.Inner.Feeding.{FeedsLibrary, FeedsMembers};
 ghost use Rattle.ld65.specs.Linkage.{chosen, chosen_at, member_module};

@@ -1,5 +1,15 @@
--- What calls lead a linker to.
-use Rattle.std.proofs.Common.{◌≡◌, ◌∙◌, ℕ, List, [], ◌∷◌, ◌++◌, length, map, Option, Some, None, Bool, true, false, Result, Ok, Err, if◌then◌else◌, refl, sym, ap, subst}
+-- What calls lead a linker to, and what it keeps of the modules that have ended.
+use Rattle.std.proofs.Common.{◌≡◌, ◌∙◌, List, length, map, take, inl, inr, Option, sym, ap, ◌<◌, ◌&&◌, ℕ, suc, false, ◌∷◌, drop, get_or, [], ◌++◌, Some, None, Bool, true, Result, Ok, Err, if◌then◌else◌, refl, subst}
+use Rattle.std.proofs.Math.Seq.{take-append_seam, drop-cons, drop-append_seam}
+use Rattle.link65.specs.Names.{given_names, first_again}
+use Rattle.link65.specs.Growing.{Growth, at_rest, ended, grown_by}
+use Rattle.link65.specs.Programs.{Module, exported, program_of, Program, with_module, with_modules}
+use Rattle.link65.specs.Inner.Fields.{ended_exports, Comes, are_listed, exports_from, matched}
+use Rattle.link65.specs.Standing.{Feeding, HaveEnded, Opened, IsFed, IsFeeding, Leads, agreed, agrees_with, as_link, joined, listed_of, module_of, opening, whole, all_once}
+use Rattle.link65.proofs.GivenLemmas.{given_all, map_behind, module_gives, once_behind, once_of}
+use Rattle.std.specs.Str.{bytes_eq}
+use Rattle.library65.specs.Libraries.{are_same}
+use Rattle.link65.specs.declared.parts.Exported.{Exported}
 use Rattle.std.specs.Option.{option_map}
 use Rattle.library65.specs.declared.index.Entry.{Entry as Listing}
 use Rattle.object65.specs.declared.fault.ObjectFault.{ObjectFault}
@@ -8,14 +18,9 @@ use Rattle.object65.specs.declared.object.Object.{Object}
 use Rattle.object65.specs.declared.item.Item.TheVariants as item
 use Rattle.object65.specs.declared.fault.ObjectFault.TheVariants as object
 use Rattle.base65.specs.Outcome.{◌>>=◌, Finds, First, Refuses, Unless}
-use Rattle.link65.specs.GivenTwice.{all_once}
-use Rattle.link65.specs.Givers.{first_again, given_names}
-use Rattle.link65.specs.declared.linked.Linked.{Linked}
+use Rattle.link65.specs.declared.linking.Linked.{Linked}
 use Rattle.link65.specs.Links.{IsProgramLink, LinkOf, no_name_again}
-use Rattle.link65.specs.declared.parts.Exported.{Exported}
 use Rattle.script65.specs.declared.script.Script.{Script}
-use Rattle.std.proofs.Math.Seq.{drop-append_seam}
-use Rattle.link65.proofs.DefinedLemmas.{map_behind, module_gives, once_behind, once_of}
 use Rattle.std.specs.Prelude.{IfErr, OnOk}
 use Rattle.object65.specs.Items.{with_item}
 use Rattle.object65.specs.Record.{Entry}
@@ -26,14 +31,45 @@ use Rattle.object65.proofs.Withins.{led}
 use Rattle.link65.specs.declared.fault.LinkFault.{LinkFault}
 use Rattle.link65.specs.declared.fault.LinkFault.TheVariants as fault
 use Rattle.link65.specs.Faults.{is_memory}
-use Rattle.link65.specs.Growing.{Growth, at_rest, ended, grown_by}
 use Rattle.link65.proofs.GrowingLaw.{growth_law}
 use Rattle.link65.specs.Grounds.{IsSmall}
-use Rattle.link65.specs.Modules.{Module}
-use Rattle.link65.specs.Programs.{Program, exported, program_of, with_module, with_modules}
-use Rattle.link65.specs.Inner.Fields.{Comes, are_listed, exports_from, matched}
-use Rattle.link65.specs.Standing.{Feeding, IsFed, IsFeeding, Leads, Opened, agreed, agrees_with, as_link, joined, listed_of, module_of, opening, whole}
-use Rattle.link65.specs.declared.listed.Listed.{Listed}
+use Rattle.link65.specs.declared.feeding.Listed.{Listed}
+
+-- ---- What a linker keeps of the modules that have ended, whether one is open behind them or none.
+
+-- their members
+pub their_members : (f : Feeding) (modules : List Module) → HaveEnded f modules → (program_of modules).members ≡ f.growth.program.members
+their_members f modules (inl fed) = ap (λ (g : Growth). g.program.members) (sym fed.growth)
+their_members f modules (inr going) = ap (λ (g : Growth). g.program.members) (sym going.3.growth)
+
+-- their exports
+pub their_exports : (f : Feeding) (modules : List Module) → HaveEnded f modules → (program_of modules).exports ≡ ended_exports f.opened f.growth.program.exports
+their_exports f modules (inl fed) =
+    ap (λ (g : Growth). g.program.exports) (sym fed.growth)
+    ∙ ap (λ (o : Option Opened). ended_exports o f.growth.program.exports) (sym fed.opened)
+their_exports f modules (inr going) =
+    let p = program_of modules in
+    let s = going.2 in
+    let h = going.3 in
+    sym (take-append_seam p.exports (map (exported (length p.members)) s.exports))
+    ∙ ap (λ (g : Growth). take (length p.exports) g.program.exports) (sym h.growth)
+    ∙ ap (λ (o : Option Opened). ended_exports o f.growth.program.exports) (sym h.opened)
+
+-- the names that they and the script give
+pub their_names : (f : Feeding) (modules : List Module) → HaveEnded f modules → f.given ≡ given_names f.script (program_of modules)
+their_names f modules (inl fed) = given_all (given_names f.script (program_of modules)) f.given fed.given
+their_names f modules (inr going) = given_all (given_names f.script (program_of modules)) f.given going.3.given
+
+-- ---- Names of exports beside those listed.
+
+-- a name and an export that stand at one place differ
+pub differ : (names : List (List ℕ)) (exports : List Exported) (i : ℕ) (x : List ℕ) (y : Exported) → i < length names → i < length exports → x ≡ get_or names i x → y ≡ get_or exports i y → bytes_eq x y.name ≡ false → are_same (drop i names) (map (λ e. e.name) (drop i exports)) ≡ false
+differ names exports i x y lt lt2 at at2 e =
+    let first = drop-cons names i x lt ∙ ap (λ z. z ∷ drop (suc i) names) (sym at) in
+    let second = drop-cons exports i y lt2 ∙ ap (λ z. z ∷ drop (suc i) exports) (sym at2) in
+    ap (λ ns. are_same ns (map (λ e. e.name) (drop i exports))) first
+    ∙ ap (λ es. are_same (x ∷ drop (suc i) names) (map (λ e. e.name) es)) second
+    ∙ ap (λ b. b && are_same (drop (suc i) names) (map (λ e. e.name) (drop (suc i) exports))) e
 
 -- ---- Items.
 

@@ -1,24 +1,212 @@
--- The files of areas.
-use Rattle.std.proofs.Common.{◌≡◌, ◌∙◌, ◌<◌, ◌≤◌, ℕ, zero, suc, ◌+◌, Bool, true, false, List, [], ◌∷◌, ◌++◌, length, map, drop, get_or, slice_get, Option, Some, None, refl, sym, ap, subst, arith, add-one}
-use Rattle.std.specs.Prelude.{◌==◌, IsUtf8, ◌||◌, if◌then◌else◌, not, slice_set}
+-- The files of areas: pieces over pieces, and the rows of each.
+use Rattle.std.proofs.Common.{◌≡◌, ◌∙◌, ℕ, ◌+◌, ◌-◌, ◌<◌, ◌≤◌, Bool, true, false, cond, List, [], ◌∷◌, length, get_or, drop, map, refl, sym, ap, subst, arith, zero, suc, ◌++◌, slice_get, Option, Some, None, append_assoc, add-one, inl, inr}
+use Rattle.std.specs.Prelude.{◌&&◌, ◌==◌, filter, if◌then◌else◌, nat_le, nat_lt, not, IsUtf8, ◌||◌, slice_set}
+use Rattle.std.proofs.lemmas.Bool.Decides.{nat_tests}
+use Rattle.std.proofs.lemmas.List.{drop_all, map-append}
+use Rattle.script65.proofs.Eaches.{drop_item, append_none, drop_at}
+use Rattle.script65.specs.declared.placement.AreaPlace.{AreaPlace}
+use Rattle.script65.specs.declared.script.Area.{Area}
+use Rattle.link65.specs.declared.files.Load.{Load}
+use Rattle.link65.specs.Files.{IsFileBy, IsImage, Piece, Placed, RowBytes, area_pieces, byte_over, file_len, laid_over, offset_of, is_loaded, loaded_in, written, AddsArea, AddsAreas, IsAreaFile, area_at, file_name, with_bytes}
+use Rattle.link65.specs.Inner.Loads.{IsWhole, LaysAll, Overlays, Held, IsFileOf, has_bytes, held_by, piece_at, placed_in, view, HoldsLoads}
+use Rattle.std.specs.Option.{option_map}
+use Rattle.std.proofs.lemmas.Option.{slice_get_cases}
+use Rattle.script65.specs.declared.placement.RowPlace.{RowPlace}
+use Rattle.script65.specs.declared.script.Row.{Row}
+use Rattle.script65.specs.Access.{is_written}
 use Rattle.std.specs.Borrow.{Bor}
 use Rattle.std.specs.List.{list_any, position_or_len}
 use Rattle.std.specs.Str.{bytes_eq}
-use Rattle.std.proofs.lemmas.List.{drop_all}
 use Rattle.std.proofs.lemmas.Str.{is_utf8-from_IsUtf8}
-use Rattle.script65.proofs.Eaches.{drop_item}
 use Rattle.script65.proofs.Utf8.{not_utf8}
 use Rattle.script65.proofs.Walks.{drop_suc, there}
-use Rattle.script65.specs.declared.placement.AreaPlace.{AreaPlace}
 use Rattle.script65.specs.declared.placement.Placement.{Placement}
-use Rattle.script65.specs.declared.script.Area.{Area}
 use Rattle.script65.specs.declared.script.AreaFile.{AreaFile}
 use Rattle.script65.specs.declared.script.AreaFile.TheVariants.{Named}
-use Rattle.script65.specs.declared.script.Row.{Row}
 use Rattle.base65.specs.declared.output.OutputFile.{OutputFile}
-use Rattle.link65.specs.Files.{AddsArea, AddsAreas, IsAreaFile, IsFileBy, Placed, RowBytes, area_at, file_name, loaded_in, with_bytes}
-use Rattle.link65.specs.Inner.Loads.{Held, IsFileOf, held_by}
-use Rattle.link65.proofs.ImageLemmas.{file_by}
+
+-- ---- Pieces over pieces.
+
+-- a piece over an image, and then others
+both : (p : Piece) (ps : List Piece) (old mid new : List ℕ) → Overlays old p.offset p.bytes mid → LaysAll ps mid new → LaysAll (p ∷ ps) old new
+both p ps old mid new first second = record {
+  len = second.len ∙ first.len;
+  each = λ i inside.
+      let here : i < length mid = omega (arith, first.len) in
+      second.each i here ∙ ap (byte_over ps i) (first.each i inside);
+}
+
+pub laid_none : (image : List ℕ) → LaysAll [] image image
+laid_none image = record { len = refl; each = λ i inside. refl }
+
+-- the pieces of rows in the file of an area that begins here
+abbrev pub pieces_in : ℕ → List Load → List Piece
+pieces_in start ls = map (piece_at start) (map view ls)
+
+pub next_row : (start offset : ℕ) (ls : List Load) (i : ℕ) (l : Load) (bytes mid image new : List ℕ) → i < length ls → l ≡ get_or ls i l → offset ≡ offset_of start (placed_in l) → bytes ≡ l.bytes → Overlays mid offset bytes image → LaysAll (pieces_in start (drop (i + 1) ls)) image new → LaysAll (pieces_in start (drop i ls)) mid new
+next_row start offset ls i l bytes mid image new lt is at same laid rest =
+    let there = subst (λ (n : ℕ). Overlays mid n bytes image) at laid in
+    let so = subst (λ (b : List ℕ). Overlays mid (offset_of start (placed_in l)) b image) same there in
+    subst (λ (xs : List Load). LaysAll (pieces_in start xs) mid new) (sym (drop_item ls i l lt is))
+    (both (piece_at start (view l)) (pieces_in start (drop (i + 1) ls)) mid image new so rest)
+
+pub no_row : (start : ℕ) (ls : List Load) (i : ℕ) (image : List ℕ) → length ls ≤ i → LaysAll (pieces_in start (drop i ls)) image image
+no_row start ls i image le = subst (λ (xs : List Load). LaysAll (pieces_in start xs) image image) (sym (drop_all i ls le)) (laid_none image)
+
+-- ---- A file that is one row.
+
+inside : (i at len : ℕ) → at ≡ 0 → i < len → (nat_le at i && nat_lt i (at + len)) ≡ true
+inside i at len e lt = grind (arith, nat_tests)
+
+pub whole_image : (len fill : ℕ) (pieces : List Piece) (image : List ℕ) (w : IsWhole len pieces) → image ≡ (w.0).bytes → IsImage len fill pieces image
+whole_image len fill pieces image (p, is, at, long) same = record {
+  size = ap length same ∙ long;
+  bytes = λ i lt.
+      let here : i < length p.bytes = omega (arith, long) in
+      let none : i - p.offset ≡ i = omega (arith, at) in
+      ap (λ (b : List ℕ). get_or b i 0) same
+      ∙ sym (ap (λ n. get_or p.bytes n 0) none)
+      ∙ sym (ap (λ b. if b then get_or p.bytes (i - p.offset) 0 else fill) (inside i p.offset (length p.bytes) at here))
+      ∙ sym (ap (λ ps. byte_over ps i fill) is);
+}
+
+pub first_bytes : (len start : ℕ) (ls : List Load) (l : Load) (w : IsWhole len (pieces_in start ls)) → l ≡ get_or ls 0 l → l.bytes ≡ (w.0).bytes
+first_bytes len start [] l (p, is, at, long) e = absurd cc
+first_bytes len start (x ∷ ls) l (p, is, at, long) e =
+    let same : piece_at start (view x) ≡ p = cc in
+    ap (λ (y : Load). y.bytes) e ∙ ap (λ (q : Piece). q.bytes) same
+
+pub one_row : (len start : ℕ) (ls : List Load) (l : Load) → 1 ≤ length ls → length ls < 2 → l ≡ get_or ls 0 l → l.place.load ≤ start → length l.bytes ≡ len → IsWhole len (pieces_in start ls)
+one_row len start [] l some few is le long = absurd (omega arith)
+one_row len start (x ∷ y ∷ ls) l some few is le long = absurd (omega arith)
+one_row len start (x ∷ []) l some few is le long = (piece_at start (view l), ap (λ (z : Load). piece_at start (view z) ∷ []) (sym is), omega arith, long)
+
+placed_all : (ls : List Load) → map (λ h. h.0) (map view ls) ≡ map placed_in ls
+placed_all [] = refl
+placed_all (l ∷ ls) = ap (λ ps. placed_in l ∷ ps) (placed_all ls)
+
+-- ---- Rows without bytes.
+
+nowhere_inside : (i at : ℕ) → (nat_le at i && nat_lt i (at + 0)) ≡ false
+nowhere_inside i at = grind (arith, nat_tests)
+
+none_laid : (i at : ℕ) (bytes : List ℕ) (before : ℕ) → not (length bytes == 0) ≡ false → laid_over i at bytes before ≡ before
+none_laid i at [] before e = ap (λ b. if b then get_or [] (i - at) 0 else before) (nowhere_inside i at)
+none_laid i at (b ∷ bytes) before e = let some : (length (b ∷ bytes) == 0) ≡ false = grind (arith, nat_tests) in let both : true ≡ false = sym (ap not some) ∙ e in absurd cc
+
+full_over : (start : ℕ) (ls : List Load) (i before : ℕ) → byte_over (pieces_in start (filter has_bytes ls)) i before ≡ byte_over (pieces_in start ls) i before
+full_over start [] i before = refl
+full_over start (l ∷ ls) i before = go (has_bytes l) refl (full_over start ls i)
+  where
+    at : ℕ
+    at = offset_of start (placed_in l)
+
+    go : (b : Bool) → has_bytes l ≡ b → ((x : ℕ) → byte_over (pieces_in start (filter has_bytes ls)) i x ≡ byte_over (pieces_in start ls) i x) → byte_over (pieces_in start (cond b (l ∷ filter has_bytes ls) (filter has_bytes ls))) i before ≡ byte_over (pieces_in start ls) i (laid_over i at l.bytes before)
+    go true is rest = rest (laid_over i at l.bytes before)
+    go false is rest = rest before ∙ ap (byte_over (pieces_in start ls) i) (sym (none_laid i at l.bytes before is))
+
+-- the file of an area's rows, by its length and those that have bytes
+pub file_of : (a : Area) (place : AreaPlace) (ls items : List Load) (len : ℕ) (image : List ℕ) → items ≡ filter has_bytes ls → len ≡ file_len a place (map placed_in ls) → IsImage len a.fill_value (pieces_in place.start items) image → IsFileOf a place (map view ls) image
+file_of a place ls items len image are long file =
+    let there = subst (λ (xs : List Load). IsImage len a.fill_value (pieces_in place.start xs) image) are file in
+    let full : IsImage len a.fill_value (pieces_in place.start ls) image = record { size = there.size; bytes = λ i lt. there.bytes i lt ∙ full_over place.start ls i a.fill_value } in
+    subst (λ (n : ℕ). IsImage n a.fill_value (pieces_in place.start ls) image) (long ∙ sym (ap (file_len a place) (placed_all ls))) full
+
+-- ---- By what rows hold.
+
+firsts : (bytes : RowBytes) (ps : List Placed) → map (λ h. h.0) (map (held_by bytes) ps) ≡ ps
+firsts bytes [] = refl
+firsts bytes (p ∷ ps) = ap (λ qs. p ∷ qs) (firsts bytes ps)
+
+all_pieces : (start : ℕ) (bytes : RowBytes) (ps : List Placed) → map (piece_at start) (map (held_by bytes) ps) ≡ area_pieces start bytes ps
+all_pieces start bytes [] = refl
+all_pieces start bytes (p ∷ ps) = ap (λ qs. record { offset = offset_of start p; bytes = bytes p.row } ∷ qs) (all_pieces start bytes ps)
+
+-- the file of rows with their bytes is that of the rows
+pub file_by : (bytes : RowBytes) (a : Area) (place : AreaPlace) (hs : List Held) (ps : List Placed) (image : List ℕ) → hs ≡ map (held_by bytes) ps → IsFileOf a place hs image → IsFileBy bytes a place ps image
+file_by bytes a place hs ps image are file =
+    let held = subst (λ (xs : List Held). IsFileOf a place xs image) are file in
+    let long = subst (λ (xs : List Placed). IsImage (file_len a place xs) a.fill_value (map (piece_at place.start) (map (held_by bytes) ps)) image) (firsts bytes ps) held in
+    subst (λ (xs : List Piece). IsImage (file_len a place ps) a.fill_value xs image) (all_pieces place.start bytes ps) long
+
+-- ---- The rows of each area's file.
+
+-- an item more, where a test holds
+abbrev pub with_if : {A : Type 0} → Bool → A → List A → List A
+with_if b x m = if b then m ++ x ∷ [] else m
+
+loaded_none : (k : ℕ) (rows : List Row) → loaded_in k rows [] ≡ []
+loaded_none k [] = refl
+loaded_none k (r ∷ rows) = refl
+
+none_past : {A : Type 0} (xs : List A) (i : ℕ) → slice_get xs i ≡ None → length xs ≤ i
+none_past xs i e = elim (slice_get_cases xs i).1 [ inl h ↦ absurd (let n : Some h.0 ≡ None = sym h.2 ∙ e in cc) | inr h ↦ h.0 ]
+
+-- a row that is in a file is written, so it has its bytes
+own_bytes : (bytes : RowBytes) (k : ℕ) (r : Row) → is_loaded k r ≡ true → written bytes r ≡ bytes r
+own_bytes bytes k r e = go (r.load == k) (is_written r.access) e
+  where
+    go : (t w : Bool) → (t && w) ≡ true → (if w then bytes r else []) ≡ bytes r
+    go true true e = refl
+    go true false e = absurd cc
+    go false true e = absurd cc
+    go false false e = absurd cc
+
+-- the rows of an area's file among some, with their bytes
+abbrev held_in : RowBytes → ℕ → List Row → List RowPlace → List Held
+held_in bytes k rows places = map (held_by bytes) (loaded_in k rows places)
+
+-- what the rows so far and the rest are
+abbrev pub Collects : RowBytes → ℕ → List Row → List RowPlace → ℕ → Option (List Load) → Type 0
+Collects bytes k rows places i o = (m : List Load) × (o ≡ Some m) × (map view m ++ held_in bytes k (drop i rows) (drop i places) ≡ held_in bytes k rows places)
+
+module _ (bytes : RowBytes) (k : ℕ) (rows : List Row) (places : List RowPlace) where
+  pub collects_none : (o : Option (List Load)) → o ≡ Some [] → Collects bytes k rows places 0 o
+  collects_none o e = ([], e, go rows places)
+    where
+      go : (rs : List Row) (ps : List RowPlace) → held_in bytes k (drop 0 rs) (drop 0 ps) ≡ held_in bytes k rs ps
+      go [] ps = refl
+      go (r ∷ rs) [] = refl
+      go (r ∷ rs) (p ∷ ps) = refl
+
+  pub collects_more : (i : ℕ) (l : Load) (old new : Option (List Load)) → i < length rows → l.row.now ≡ get_or rows i l.row.now → slice_get places i ≡ Some l.place → l.bytes ≡ written bytes l.row.now → new ≡ option_map (with_if (is_loaded k l.row.now) l) old → Collects bytes k rows places i old → Collects bytes k rows places (i + 1) new
+  collects_more i l old new lt at there own e h =
+      (with_if (is_loaded k l.row.now) l h.0, e ∙ ap (option_map (with_if (is_loaded k l.row.now) l)) h.1, by (is_loaded k l.row.now) mine (front ∙ h.2))
+    where
+      rest : List Placed
+      rest = loaded_in k (drop (i + 1) rows) (drop (i + 1) places)
+
+      mine : is_loaded k l.row.now ≡ true → view l ≡ held_by bytes (placed_in l)
+      mine is = ap (λ (b : List ℕ). (placed_in l, b)) (own ∙ own_bytes bytes k l.row.now is)
+
+      front : map view h.0 ++ map (held_by bytes) (loaded_in k (l.row.now ∷ drop (i + 1) rows) (l.place ∷ drop (i + 1) places)) ≡ map view h.0 ++ held_in bytes k (drop i rows) (drop i places)
+      front = ap (λ rs. map view h.0 ++ map (held_by bytes) (loaded_in k rs (l.place ∷ drop (i + 1) places))) (sym (drop_item rows i l.row.now lt at)) ∙ ap (λ ps. map view h.0 ++ map (held_by bytes) (loaded_in k (drop i rows) ps)) (sym (rw add-one (drop_at places i l.place there)))
+
+      by : (b : Bool) → (b ≡ true → view l ≡ held_by bytes (placed_in l)) → map view h.0 ++ map (held_by bytes) (if b then placed_in l ∷ rest else rest) ≡ held_in bytes k rows places → map view (with_if b l h.0) ++ map (held_by bytes) rest ≡ held_in bytes k rows places
+      by true same t = ap (λ m. m ++ map (held_by bytes) rest) (map-append view h.0 (l ∷ [])) ∙ append_assoc (map view h.0) (view l ∷ []) (map (held_by bytes) rest) ∙ ap (λ x. map view h.0 ++ x ∷ map (held_by bytes) rest) (same refl) ∙ t
+      by false same t = t
+
+  -- a row without a place
+  pub collects_past : (i : ℕ) (o : Option (List Load)) → slice_get places i ≡ None → Collects bytes k rows places i o → Collects bytes k rows places (i + 1) o
+  collects_past i o past h =
+      let le : length places ≤ i = none_past places i past in
+      let none : loaded_in k (drop (i + 1) rows) (drop (i + 1) places) ≡ loaded_in k (drop i rows) (drop i places) = ap (loaded_in k (drop (i + 1) rows)) (drop_all (i + 1) places (omega arith)) ∙ loaded_none k (drop (i + 1) rows) ∙ sym (loaded_none k (drop i rows)) ∙ ap (loaded_in k (drop i rows)) (sym (drop_all i places le)) in
+      (h.0, h.1, ap (λ m. map view h.0 ++ map (held_by bytes) m) none ∙ h.2)
+
+  pub collects_all : (i : ℕ) (o : Option (List Load)) → length rows ≤ i → Collects bytes k rows places i o → HoldsLoads bytes k rows places o
+  collects_all i o le h =
+      (h.0, h.1, sym (append_none (map view h.0)) ∙ sym (ap (λ rs. map view h.0 ++ map (held_by bytes) (loaded_in k rs (drop i places))) (drop_all i rows le)) ∙ h.2)
+
+-- the bytes of a row, by what was taken of all at its place
+pub taken_bytes : (bytes : RowBytes) (rows : List Row) (all : List (List ℕ)) (i : ℕ) (r : Row) (b : List ℕ) → all ≡ map (written bytes) rows → i < length rows → r ≡ get_or rows i r → ((x : List ℕ) → slice_get all i ≡ Some x → b ≡ x) → b ≡ written bytes r
+taken_bytes bytes rows all i r b are lt at h = h (written bytes r) (ap (λ (xs : List (List ℕ)). slice_get xs i) are ∙ there rows i lt at)
+  where
+    there : (rs : List Row) (n : ℕ) → n < length rs → r ≡ get_or rs n r → slice_get (map (written bytes) rs) n ≡ Some (written bytes r)
+    there [] n lt at = absurd (omega arith)
+    there (x ∷ rs) zero lt at = ap (λ y. Some (written bytes y)) (sym at)
+    there (x ∷ rs) (suc n) lt at = there rs n (omega arith) at
+
+-- ---- The files of areas.
 
 pub named_ok : (output name bytes got : List ℕ) (f : AreaFile) → f ≡ Named name → bytes ≡ name → got ≡ bytes → IsUtf8 bytes → got ≡ file_name output f
 named_ok output name bytes got f is same e utf8 = rw (is, sym same, is_utf8-from_IsUtf8 bytes utf8) e

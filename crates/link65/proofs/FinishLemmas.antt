@@ -1,8 +1,186 @@
--- From the parts of a link to the whole.
-use Rattle.std.proofs.Common.{◌≡◌, refl, sym, subst, Bool, true, false, Result, Ok, Err}
-use Rattle.base65.specs.Outcome.{First, Refuses, Unless}
+-- From the parts of a link to the whole, and with which faults it is refused at all.
+use Rattle.std.proofs.Common.{◌≡◌, ◌≢◌, ℕ, zero, suc, ◌+◌, ◌<◌, ◌≤◌, refl, sym, ◌∙◌, ap, subst, arith, List, [], ◌∷◌, length, slice_get, Option, Some, None, Bool, true, false, Result, Ok, Err, ◌⊎◌, inl, inr, nat_lt, map, ℤ, ◌||◌, if◌then◌else◌}
+use Rattle.std.specs.Prelude.{IfErr, pos}
+use Rattle.std.proofs.lemmas.Grind.{common_steps}
+use Rattle.std.proofs.lemmas.Bool.Decides.{nat_tests}
+use Rattle.std.proofs.lemmas.Option.{gets}
+use Rattle.base65.specs.Outcome.{◌>>=◌, Finds, Unless, First, Refuses}
+use Rattle.base65.specs.Values.{value1, value2}
+use Rattle.object65.specs.Form.{Form, lit, sec, imp, prefix, binary}
+use Rattle.object65.specs.FormValue.{or_none, value_in}
+use Rattle.link65.specs.declared.evaluation.Mark.{Mark}
+use Rattle.link65.specs.declared.evaluation.Mark.TheVariants.{Untouched, BeingEvaluated, Found}
+use Rattle.link65.specs.declared.evaluation.Stop.{Stop}
+use Rattle.link65.specs.declared.evaluation.Stop.TheVariants.{Fault}
+use Rattle.link65.specs.declared.parts.Giver.{Giver}
+use Rattle.link65.specs.declared.parts.Giver.TheVariants.{ByModule, ByScript, Nobody}
+use Rattle.link65.specs.declared.parts.Resolved.{Resolved}
+use Rattle.link65.specs.declared.parts.ValueFault.{ValueFault}
+use Rattle.link65.specs.declared.parts.ValueFault.TheVariants.{NoValue, Unresolved}
+use Rattle.link65.specs.Placed.{AllFound, AreAllFound, AreSettled, AreUntouched, IsFound, KeepsFound, as_found, as_outcome, import_tried, marked, table_of, tried, IsPassed, IsPlacedPassed}
+use Rattle.link65.specs.Values.{AreExports, ExportComesTo, Linkage, base_of, giver_at, import_value, in_table, value_by, linkage, Exports, linkage_of, resolved, needs_of}
+use Rattle.script65.specs.declared.placement.Placement.{Placement}
+use Rattle.script65.specs.declared.script.Script.{Script}
 use Rattle.link65.specs.declared.fault.LinkFault.{LinkFault}
-use Rattle.link65.specs.Faults.{is_memory}
+use Rattle.link65.specs.declared.finishing.Passed.{Passed}
+use Rattle.link65.specs.Faults.{is_memory, RefusesBy, is_of_finish}
+use Rattle.link65.specs.Programs.{Program}
+use Rattle.std.specs.Ordering.{int_eq}
+use Rattle.script65.specs.declared.placement.PlaceFault.{PlaceFault}
+use Rattle.script65.specs.Placing.{place_of}
+use Rattle.object65.specs.declared.object.Action.{Action}
+use Rattle.object65.specs.declared.object.Action.TheVariants as action
+use Rattle.object65.specs.Objects.{fits_width}
+use Rattle.link65.specs.declared.fault.LinkFault.TheVariants as fault
+use Rattle.link65.specs.declared.fault.Site.{Site}
+use Rattle.link65.specs.declared.linking.Linked.{Linked}
+use Rattle.link65.specs.declared.parts.Asserted.{Asserted}
+use Rattle.link65.specs.declared.parts.Exported.{Exported}
+use Rattle.link65.specs.declared.parts.Member.{Member}
+use Rattle.link65.specs.declared.parts.ValueFault.TheVariants as value
+use Rattle.link65.specs.declared.parts.Waiting.{Waiting}
+use Rattle.link65.specs.Links.{assertion_result, check_assert, check_asserts, check_export, check_waiting, each_passes, fitting, site, value_at, waiting_by_row, IsImaged, IsPlacedLink, IsProgramLink, as_placement, checked, names_given, none_unresolved, placed}
+use Rattle.link65.specs.Names.{unresolved}
+use Rattle.link65.specs.Texts.{assertion_warning}
+
+-- ---- The table.
+
+pub table_at : (marks : List Mark) (x : ℕ) (r : Result ℤ ValueFault) → slice_get marks x ≡ Some (Found r) → in_table (table_of marks) x ≡ r
+table_at [] x r e = cc
+table_at (m ∷ marks) zero r e = let is : m ≡ Found r = cc in rw is refl
+table_at (m ∷ marks) (suc x) r e = table_at marks x r e
+
+pub table_past : (marks : List Mark) (x : ℕ) → slice_get marks x ≡ None → in_table (table_of marks) x ≡ Err Unresolved
+table_past [] x e = refl
+table_past (m ∷ marks) zero e = cc
+table_past (m ∷ marks) (suc x) e = table_past marks x e
+
+length_table : (marks : List Mark) → length (table_of marks) ≡ length marks
+length_table [] = refl
+length_table (m ∷ marks) = ap suc (length_table marks)
+
+pub all_exports : (l : Linkage) (marks : List Mark) → AreAllFound l marks → AreExports l (table_of marks)
+all_exports l marks h = record {
+  long = length_table marks ∙ h.settled.long;
+  each = λ x inside. each x (let long = h.settled.long in let k : x < length marks = omega arith in h.found x k);
+}
+  where
+    each : (x : ℕ) → IsFound marks x → ExportComesTo l x (in_table (table_of marks) x)
+    each x (r, e) = let P : Result ℤ ValueFault → Type 0 = λ z. ExportComesTo l x z in subst P (sym (table_at marks x r e)) (h.settled.all_true x r e)
+
+-- ---- A form where all is found.
+
+marked_found : (marks : List Mark) → AllFound marks → (x : ℕ) (o : Option Mark) → slice_get marks x ≡ o → marked x o ≡ as_found (in_table (table_of marks) x)
+marked_found marks h x None e = rw (table_past marks x e) refl
+marked_found marks h x (Some (Found r)) e = rw (table_at marks x r e) refl
+marked_found marks h x (Some Untouched) e = let k : x < length marks = grind (arith, common_steps, gets) in let (r, f) = h x k in absurd cc
+marked_found marks h x (Some BeingEvaluated) e = let k : x < length marks = grind (arith, common_steps, gets) in let (r, f) = h x k in absurd cc
+
+import_found : (marks : List Mark) → AllFound marks → (g : Giver) → import_tried marks g ≡ as_found (import_value (in_table (table_of marks)) g)
+import_found marks h (ByModule x) = marked_found marks h x (slice_get marks x) refl
+import_found marks h (ByScript v) = refl
+import_found marks h Nobody = refl
+
+bind_found : (r : Result ℤ ValueFault) (t : Result ℤ Stop) (f : ℤ → Result ℤ ValueFault) (u : ℤ → Result ℤ Stop) → t ≡ as_found r → ((v : ℤ) → u v ≡ as_found (f v)) → (t >>= u) ≡ as_found (r >>= f)
+bind_found (Ok v) t f u e h = rw e (h v)
+bind_found (Err z) t f u e h = rw e refl
+
+none_found : (o : Option ℤ) → or_none (Fault NoValue) o ≡ as_found (or_none NoValue o)
+none_found (Some v) = refl
+none_found None = refl
+
+form_found : (base : ℕ → ℤ) (o : ℕ → Result ℤ ValueFault) (t : ℕ → Result ℤ Stop) → ((j : ℕ) → t j ≡ as_found (o j)) → (f : Form) → value_in (Fault NoValue) base t f ≡ as_found (value_in NoValue base o f)
+form_found base o t h (lit v) = refl
+form_found base o t h (sec k a) = refl
+form_found base o t h (imp j) = h j
+form_found base o t h (prefix op f) = bind_found (value_in NoValue base o f) (value_in (Fault NoValue) base t f) (λ a. Ok (value1 op a)) (λ a. Ok (value1 op a)) (form_found base o t h f) (λ v. refl)
+form_found base o t h (binary op f g) =
+    bind_found (value_in NoValue base o f) (value_in (Fault NoValue) base t f) (λ a. value_in NoValue base o g >>= (λ b. or_none NoValue (value2 op a b))) (λ a. value_in (Fault NoValue) base t g >>= (λ b. or_none (Fault NoValue) (value2 op a b))) (form_found base o t h f)
+    (λ a. bind_found (value_in NoValue base o g) (value_in (Fault NoValue) base t g) (λ b. or_none NoValue (value2 op a b)) (λ b. or_none (Fault NoValue) (value2 op a b)) (form_found base o t h g) (λ b. none_found (value2 op a b)))
+
+pub tried_found : (marks : List Mark) → AllFound marks → (m : Option Resolved) (f : Form) → tried m marks f ≡ as_found (value_in NoValue (base_of m) (λ j. import_value (in_table (table_of marks)) (giver_at m j)) f)
+tried_found marks h m f = form_found (base_of m) (λ j. import_value (in_table (table_of marks)) (giver_at m j)) (λ j. import_tried marks (giver_at m j)) (λ j. import_found marks h (giver_at m j)) f
+
+-- what the attempt says of the value
+outcome_found : (r : Result ℤ ValueFault) → as_outcome (as_found r) ≡ r
+outcome_found (Ok v) = refl
+outcome_found (Err e) = refl
+
+pub value_found : (l : Linkage) (marks : List Mark) → AllFound marks → (owner : ℕ) (f : Form) → as_outcome (tried (slice_get l.modules owner) marks f) ≡ value_by l (in_table (table_of marks)) owner f
+value_found l marks h owner f = ap as_outcome (tried_found marks h (slice_get l.modules owner) f) ∙ outcome_found (value_by l (in_table (table_of marks)) owner f)
+
+-- ---- All of them in turn.
+
+pub untouched_settled : (l : Linkage) (marks : List Mark) → AreUntouched (length l.exports) marks → AreSettled l marks
+untouched_settled l marks h = record {
+  long = h.long;
+  all_true = λ x r e. absurd (none x (inside x e) (λ u. let same : Found r ≡ Untouched = cc in cc));
+  at_rest = λ x e. none x (inside x e) (λ u. let same : BeingEvaluated ≡ Untouched = cc in cc);
+}
+  where
+    inside : (x : ℕ) {m : Mark} → slice_get marks x ≡ Some m → x < length l.exports
+    inside x e = let long = h.long in grind (arith, common_steps, gets)
+
+    none : (x : ℕ) → x < length l.exports → (slice_get marks x ≡ Some Untouched → ⊥) → ⊥
+    none x k f = f (h.each x k)
+
+-- what isn't untouched is found
+pub touched_found : (l : Linkage) (marks : List Mark) (x : ℕ) → AreSettled l marks → x < length marks → slice_get marks x ≢ Some Untouched → IsFound marks x
+touched_found l marks x h k n = go (slice_get marks x) refl
+  where
+    go : (o : Option Mark) → slice_get marks x ≡ o → IsFound marks x
+    go None e = absurd (grind (arith, common_steps, gets))
+    go (Some Untouched) e = absurd (n e)
+    go (Some BeingEvaluated) e = absurd (h.at_rest x e)
+    go (Some (Found r)) e = (r, e)
+
+-- one export more
+abbrev pub FoundBelow : ℕ → List Mark → Type 0
+FoundBelow n marks = (x : ℕ) → x < n → IsFound marks x
+
+pub below_kept : (n : ℕ) (old new : List Mark) → KeepsFound old new → FoundBelow n old → FoundBelow n new
+below_kept n old new k h x lt = k x (h x lt)
+
+pub below_next : (n : ℕ) (marks : List Mark) → FoundBelow n marks → IsFound marks n → FoundBelow (n + 1) marks
+below_next n marks h f x lt = go (nat_cases x n lt)
+  where
+    nat_cases : (x n : ℕ) → x < n + 1 → (x < n) ⊎ (x ≡ n)
+    nat_cases x n lt = pick (nat_lt x n) refl
+      where
+        pick : (b : Bool) → nat_lt x n ≡ b → (x < n) ⊎ (x ≡ n)
+        pick true e = inl (grind (arith, nat_tests))
+        pick false e = inr (let ge : n ≤ x = grind (arith, nat_tests) in omega arith)
+
+    go : ((x < n) ⊎ (x ≡ n)) → IsFound marks x
+    go (inl k) = h x k
+    go (inr e) = let P : ℕ → Type 0 = λ y. IsFound marks y in subst P (sym e) f
+
+-- ---- From a program that passes to one that does where it is placed.
+
+finds_by : (P Q : Result Passed LinkFault → Type 0) → ((r : Result Passed LinkFault) → P r → Q r) → (r : Result Passed LinkFault) → Finds is_memory P r → Finds is_memory Q r
+finds_by P Q h (Ok x) k = h (Ok x) k
+finds_by P Q h (Err e) k = go (is_memory e) k
+  where
+    go : (b : Bool) → Unless b (P (Err e)) → Unless b (Q (Err e))
+    go true u = tt
+    go false u = h (Err e) u
+
+-- a program that passes by what its exports come to does where it is placed
+pub placed_by : (s : Script) (p : Program) (placement : Placement) (modules : List Resolved) (marks : List Mark) (r : Result Passed LinkFault) → modules ≡ map (resolved s p placement) p.members → AreAllFound (linkage modules p.exports) marks → Finds is_memory (IsPassed s p placement (linkage modules p.exports) (in_table (table_of marks))) r → Finds is_memory (IsPlacedPassed s p placement) r
+placed_by s p placement modules marks r same found k =
+    finds_by (IsPassed s p placement (linkage modules p.exports) (in_table (table_of marks))) (IsPlacedPassed s p placement) (λ q h. whole q h) r k
+  where
+    one : linkage modules p.exports ≡ linkage_of s p placement
+    one = ap (λ (ms : List Resolved). linkage ms p.exports) same
+
+    whole : (q : Result Passed LinkFault) → IsPassed s p placement (linkage modules p.exports) (in_table (table_of marks)) q → IsPlacedPassed s p placement q
+    whole q h = (
+      table_of marks,
+      subst (λ (l : Linkage). AreExports l (table_of marks)) one (all_exports (linkage modules p.exports) marks found),
+      subst (λ (l : Linkage). IsPassed s p placement l (in_table (table_of marks)) q) one h,
+    )
+
+-- ---- From the parts of a link to the whole.
 
 pub first_ok : {A B : Type 0} (head : Result A LinkFault) (x : A) (Next : A → Result B LinkFault → Type 0) (r : Result B LinkFault) → head ≡ Ok x → Next x r → First head Next r
 first_ok {A} {B} head x Next r e h = subst (λ (z : Result A LinkFault). First z Next r) (sym e) h
@@ -13,3 +191,111 @@ first_err {A} {B} head e Next h = go (is_memory e) h
     go : (b : Bool) → Unless b (head ≡ Err e) → Unless b (First {A = A} {B = B} head Next (Err e))
     go true k = tt
     go false k = let P : Result A LinkFault → Type 0 = λ z. First z Next (Err e) in subst P (sym k) refl
+
+-- ---- With which faults a link is refused at all.
+
+-- a refusal is one of a link's
+abbrev Refused : {A : Type 0} → Result A LinkFault → Type 0
+Refused r = IfErr r (λ e. is_of_finish e ≡ true)
+
+behind : {A B : Type 0} (r : Result A LinkFault) (k : A → Result B LinkFault) → Refused r → ((x : A) → Refused (k x)) → Refused (r >>= k)
+behind (Ok x) k first next = next x
+behind (Err e) k first next = first
+
+-- ---- What stands before values.
+
+unresolved_so : (names : List (List ℕ)) → Refused (none_unresolved names)
+unresolved_so [] = tt
+unresolved_so (name ∷ names) = refl
+
+placement_so : (r : Result Placement PlaceFault) → Refused (as_placement r)
+placement_so (Ok p) = tt
+placement_so (Err e) = refl
+
+placed_so : (s : Script) (p : Program) → Refused (placed s p)
+placed_so s p = behind (names_given s p) _ (unresolved_so (unresolved s p)) (λ u. placement_so (place_of s (needs_of p)))
+
+-- ---- Values.
+
+value_so : (s : Site) (r : Result ℤ ValueFault) → Refused (value_at s r)
+value_so s (Ok v) = tt
+value_so s (Err value.Circular) = refl
+value_so s (Err value.NoValue) = refl
+value_so s (Err value.Unresolved) = refl
+
+each_so : {A : Type 0} (check : A → Result (Unit {0}) LinkFault) → ((x : A) → Refused (check x)) → (xs : List A) → Refused (each_passes check xs)
+each_so check one [] = tt
+each_so check one (x ∷ xs) = behind (check x) (λ u. each_passes check xs) (one x) (λ u. each_so check one xs)
+
+fitting_so : (s : Site) (w : Waiting) (v : ℤ) → Refused (fitting s w v)
+fitting_so s w v = go (fits_width w.width v)
+  where
+    go : (b : Bool) → Refused (let fits : Result (Unit {0}) LinkFault = Ok tt in if b then fits else Err (fault.OutOfRange s))
+    go true = tt
+    go false = refl
+
+waiting_so : (l : Linkage) (members : List Member) (exports : Exports) (w : Waiting) → Refused (check_waiting l members exports w)
+waiting_so l members exports w =
+    let at = site members w.owner w.origin in
+    behind (value_at at (value_by l exports w.owner w.form)) (fitting at w) (value_so at (value_by l exports w.owner w.form)) (fitting_so at w)
+
+export_so : (l : Linkage) (members : List Member) (exports : Exports) (e : Exported) → Refused (check_export l members exports e)
+export_so l members exports e =
+    let at = site members e.owner e.origin in
+    behind (value_at at (value_by l exports e.owner e.form)) _ (value_so at (value_by l exports e.owner e.form)) (λ v. tt)
+
+assertion_so : (s : Site) (a : Action) (text : List ℕ) (v : ℤ) → Refused (assertion_result s a text v)
+assertion_so s action.Warning text v = go (int_eq v (pos 0))
+  where
+    go : (b : Bool) → Refused (if b then Ok (assertion_warning s text) else Ok [])
+    go true = tt
+    go false = tt
+assertion_so s action.Error text v = go (int_eq v (pos 0))
+  where
+    go : (b : Bool) → Refused (let nothing : Result (List ℕ) LinkFault = Ok [] in if b then Err (fault.Assertion s text) else nothing)
+    go true = refl
+    go false = tt
+
+assert_so : (l : Linkage) (members : List Member) (exports : Exports) (a : Asserted) → Refused (check_assert l members exports a)
+assert_so l members exports a =
+    let at = site members a.owner a.origin in
+    behind (value_at at (value_by l exports a.owner a.form)) _ (value_so at (value_by l exports a.owner a.form)) (assertion_so at a.action a.text)
+
+asserts_so : (l : Linkage) (members : List Member) (exports : Exports) (all : List Asserted) → Refused (check_asserts l members exports all)
+asserts_so l members exports [] = tt
+asserts_so l members exports (a ∷ rest) =
+    behind (check_assert l members exports a) _ (assert_so l members exports a) (λ text. behind (check_asserts l members exports rest) _ (asserts_so l members exports rest) (λ more. tt))
+
+checked_so : (s : Script) (p : Program) (l : Linkage) (exports : Exports) → Refused (checked s p l exports)
+checked_so s p l exports =
+    let values = each_passes (check_waiting l p.members exports) (waiting_by_row s.rows p.segments) in
+    behind (values >>= (λ u. each_passes (check_export l p.members exports) p.exports)) (λ u. check_asserts l p.members exports p.asserts)
+    (behind values (λ u. each_passes (check_export l p.members exports) p.exports) (each_so (check_waiting l p.members exports) (waiting_so l p.members exports) (waiting_by_row s.rows p.segments)) (λ u. each_so (check_export l p.members exports) (export_so l p.members exports) p.exports))
+    (λ u. asserts_so l p.members exports p.asserts)
+
+-- ---- The whole.
+
+first_so : {A B : Type 0} (r : Result A LinkFault) (Next : A → Result B LinkFault → Type 0) (e : LinkFault) → Refused r → ((x : A) → Next x (Err e) → is_of_finish e ≡ true) → First r Next (Err e) → is_of_finish e ≡ true
+first_so (Ok x) Next e so next h = next x h
+first_so (Err f) Next e so next h = let same : e ≡ f = cc in ap is_of_finish same ∙ so
+
+image_so : (output : List ℕ) (s : Script) (p : Program) (placement : Placement) (l : Linkage) (exports : Exports) (warnings : List ℕ) (e : LinkFault) → IsImaged output s p placement l exports warnings (Err e) → is_of_finish e ≡ true
+image_so output s p placement l exports warnings e h = let never = h.2 in absurd cc
+
+placed_link_so : (output : List ℕ) (s : Script) (p : Program) (placement : Placement) (e : LinkFault) → IsPlacedLink output s p placement (Err e) → is_of_finish e ≡ true
+placed_link_so output s p placement e h =
+    let l = linkage_of s p placement in
+    let exports = in_table h.0 in
+    first_so (checked s p l exports) (IsImaged output s p placement l exports) e (checked_so s p l exports) (λ warnings. image_so output s p placement l exports warnings e) h.2
+
+link_so : (output : List ℕ) (s : Script) (p : Program) (e : LinkFault) → IsProgramLink output s p (Err e) → is_of_finish e ≡ true
+link_so output s p e h = first_so (placed s p) (IsPlacedLink output s p) e (placed_so s p) (λ placement. placed_link_so output s p placement e) h
+
+outside_or : (b own : Bool) (P : Type 0) → Unless b P → (P → own ≡ true) → (b || own) ≡ true
+outside_or true own P h so = refl
+outside_or false own P h so = so h
+
+-- whatever is linked, a refusal is want of memory or one of a link's
+pub refuses_so : (output : List ℕ) (s : Script) (p : Program) (r : Result Linked LinkFault) → Finds is_memory (IsProgramLink output s p) r → RefusesBy is_of_finish r
+refuses_so output s p (Ok x) h = tt
+refuses_so output s p (Err e) h = outside_or (is_memory e) (is_of_finish e) (IsProgramLink output s p (Err e)) h (link_so output s p e)

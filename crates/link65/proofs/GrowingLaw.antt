@@ -33,17 +33,17 @@ use Rattle.link65.specs.declared.parts.Exported.{Exported}
 use Rattle.link65.specs.declared.parts.Asserted.{Asserted}
 use Rattle.link65.specs.Growing
 use Rattle.link65.specs.Programs.{Program, asserted, exported, with_module}
-use Rattle.link65.specs.Segments
+use Rattle.link65.specs.Programs
 
 -- ---- A section behind others.
 
-pub snoc_sections : (owner : ℕ) (gs : List Segments.Segment) (ss : List Section) (s : Section) → Segments.with_sections owner gs (ss ++ s ∷ []) ≡ Segments.with_section owner (Segments.with_sections owner gs ss) s
+pub snoc_sections : (owner : ℕ) (gs : List Programs.Segment) (ss : List Section) (s : Section) → Programs.with_sections owner gs (ss ++ s ∷ []) ≡ Programs.with_section owner (Programs.with_sections owner gs ss) s
 snoc_sections owner gs [] s = refl
-snoc_sections owner gs (x ∷ ss) s = snoc_sections owner (Segments.with_section owner gs x) ss s
+snoc_sections owner gs (x ∷ ss) s = snoc_sections owner (Programs.with_section owner gs x) ss s
 
-pub snoc_places : (owner : ℕ) (gs : List Segments.Segment) (ss : List Section) (s : Section) → Segments.section_places owner gs (ss ++ s ∷ []) ≡ Segments.section_places owner gs ss ++ Segments.section_place (Segments.with_sections owner gs ss) s ∷ []
+pub snoc_places : (owner : ℕ) (gs : List Programs.Segment) (ss : List Section) (s : Section) → Programs.section_places owner gs (ss ++ s ∷ []) ≡ Programs.section_places owner gs ss ++ Programs.section_place (Programs.with_sections owner gs ss) s ∷ []
 snoc_places owner gs [] s = refl
-snoc_places owner gs (x ∷ ss) s = ap (λ ps. Segments.section_place gs x ∷ ps) (snoc_places owner (Segments.with_section owner gs x) ss s)
+snoc_places owner gs (x ∷ ss) s = ap (λ ps. Programs.section_place gs x ∷ ps) (snoc_places owner (Programs.with_section owner gs x) ss s)
 
 -- ---- A fragment more in one of them.
 
@@ -52,18 +52,18 @@ pub record IsLonger (owner : ℕ) (f : Fragment) (s t : Section) : Type 0 where
   pub name : t.name ≡ s.name
   pub align : t.align ≡ s.align
   pub len : section_len t ≡ section_len s + fragment_len f
-  pub cells : flat_map (Segments.fragment_cells owner) t.fragments ≡ flat_map (Segments.fragment_cells owner) s.fragments ++ Segments.fragment_cells owner f
+  pub cells : flat_map (Programs.fragment_cells owner) t.fragments ≡ flat_map (Programs.fragment_cells owner) s.fragments ++ Programs.fragment_cells owner f
 
-closing_cells : (owner : ℕ) (bytes : List ℕ) → flat_map (Segments.fragment_cells owner) (Items.closing bytes) ≡ map Segments.known bytes
+closing_cells : (owner : ℕ) (bytes : List ℕ) → flat_map (Programs.fragment_cells owner) (Items.closing bytes) ≡ map Programs.known bytes
 closing_cells owner [] = refl
-closing_cells owner (b ∷ bytes) = ap (flat_map (Segments.fragment_cells owner)) (closing_is (b ∷ bytes) (closings.longer b bytes)) ∙ nil (map Segments.known (b ∷ bytes))
+closing_cells owner (b ∷ bytes) = ap (flat_map (Programs.fragment_cells owner)) (closing_is (b ∷ bytes) (closings.longer b bytes)) ∙ nil (map Programs.known (b ∷ bytes))
 
-shut_cells : (owner : ℕ) (fs : List Fragment) (bytes : List ℕ) → flat_map (Segments.fragment_cells owner) (fs ++ Items.closing bytes) ≡ flat_map (Segments.fragment_cells owner) fs ++ map Segments.known bytes
-shut_cells owner fs bytes = flat_map-append (Segments.fragment_cells owner) fs (Items.closing bytes) ∙ ap (λ cs. flat_map (Segments.fragment_cells owner) fs ++ cs) (closing_cells owner bytes)
+shut_cells : (owner : ℕ) (fs : List Fragment) (bytes : List ℕ) → flat_map (Programs.fragment_cells owner) (fs ++ Items.closing bytes) ≡ flat_map (Programs.fragment_cells owner) fs ++ map Programs.known bytes
+shut_cells owner fs bytes = flat_map-append (Programs.fragment_cells owner) fs (Items.closing bytes) ∙ ap (λ cs. flat_map (Programs.fragment_cells owner) fs ++ cs) (closing_cells owner bytes)
 
 longer_by : (owner : ℕ) (d : Draft) (f : Fragment) → IsLonger owner f (Taking.section_from d) (Taking.section_from (Items.with_fragment d (fragment_len f) f))
 longer_by owner d f =
-    let cells = Segments.fragment_cells owner in
+    let cells = Programs.fragment_cells owner in
     let fs = Items.closed d in
     record {
       name = refl;
@@ -74,27 +74,27 @@ longer_by owner d f =
 
 pub grown_longer : (owner : ℕ) (d : Draft) (f : Fragment) → IsLonger owner f (Taking.section_from d) (Taking.section_from (Items.grown d f))
 grown_longer owner d (Literal bytes) =
-    let cells = Segments.fragment_cells owner in
+    let cells = Programs.fragment_cells owner in
     let all = d.literal ++ bytes in
     record {
       name = refl;
       align = refl;
       len = shut_len d.fragments all ∙ omega (arith, length-append d.literal bytes, shut_len d.fragments d.literal);
-      cells = shut_cells owner d.fragments all ∙ ap (λ cs. flat_map cells d.fragments ++ cs) (map-append Segments.known d.literal bytes) ∙ sym (append_assoc (flat_map cells d.fragments) (map Segments.known d.literal) (map Segments.known bytes)) ∙ ap (λ cs. cs ++ map Segments.known bytes) (sym (shut_cells owner d.fragments d.literal));
+      cells = shut_cells owner d.fragments all ∙ ap (λ cs. flat_map cells d.fragments ++ cs) (map-append Programs.known d.literal bytes) ∙ sym (append_assoc (flat_map cells d.fragments) (map Programs.known d.literal) (map Programs.known bytes)) ∙ ap (λ cs. cs ++ map Programs.known bytes) (sym (shut_cells owner d.fragments d.literal));
     }
 grown_longer owner d (Fill n) = longer_by owner d (Fill n)
 grown_longer owner d (Value w origin form) = longer_by owner d (Value w origin form)
 
 -- the segment of the section has the fragment's bytes behind its own
-segment_longer : (owner : ℕ) (f : Fragment) (s t : Section) (g : Segments.Segment) → IsLonger owner f s t → Segments.grown owner g t ≡ Growing.with_cells (fragment_len f) (Segments.fragment_cells owner f) (Segments.grown owner g s)
+segment_longer : (owner : ℕ) (f : Fragment) (s t : Section) (g : Programs.Segment) → IsLonger owner f s t → Programs.grown owner g t ≡ Growing.with_cells (fragment_len f) (Programs.fragment_cells owner f) (Programs.grown owner g s)
 segment_longer owner f s t g l =
-    let cells = Segments.fragment_cells owner in
+    let cells = Programs.fragment_cells owner in
     let old = flat_map cells s.fragments in
-    let begin = Segments.begin_behind g.size s in
-    let gap = replicate (begin - g.size) Segments.filled in
-    let built : ℕ → Segments.Segment = λ a. record { name = g.name; size = rounded_up g.size a + section_len t; align = max g.align a; cells = (g.cells ++ replicate (rounded_up g.size a - g.size) Segments.filled) ++ flat_map cells t.fragments } in
-    let sized : ℕ → Segments.Segment = λ n. record { name = g.name; size = n; align = max g.align (Segments.align_of s); cells = (g.cells ++ gap) ++ flat_map cells t.fragments } in
-    let filled_up : List Segments.Cell → Segments.Segment = λ cs. record { name = g.name; size = (begin + section_len s) + fragment_len f; align = max g.align (Segments.align_of s); cells = cs } in
+    let begin = Programs.begin_behind g.size s in
+    let gap = replicate (begin - g.size) Programs.filled in
+    let built : ℕ → Programs.Segment = λ a. record { name = g.name; size = rounded_up g.size a + section_len t; align = max g.align a; cells = (g.cells ++ replicate (rounded_up g.size a - g.size) Programs.filled) ++ flat_map cells t.fragments } in
+    let sized : ℕ → Programs.Segment = λ n. record { name = g.name; size = n; align = max g.align (Programs.align_of s); cells = (g.cells ++ gap) ++ flat_map cells t.fragments } in
+    let filled_up : List Programs.Cell → Programs.Segment = λ cs. record { name = g.name; size = (begin + section_len s) + fragment_len f; align = max g.align (Programs.align_of s); cells = cs } in
     let size : begin + section_len t ≡ (begin + section_len s) + fragment_len f = omega (arith, l.len) in
     let all : (g.cells ++ gap) ++ flat_map cells t.fragments ≡ ((g.cells ++ gap) ++ old) ++ cells f =
     ap (λ cs. (g.cells ++ gap) ++ cs) l.cells ∙ sym (append_assoc (g.cells ++ gap) old (cells f)) in
@@ -104,14 +104,14 @@ same_names : (n : List ℕ) → bytes_eq n n ≡ true
 same_names n = (nat_list_eq_equiv).refl n
 
 -- where the section goes
-head_step : (owner : ℕ) (f : Fragment) (s t : Section) (g : Segments.Segment) (gs : List Segments.Segment) (b : Bool) → IsLonger owner f s t → bytes_eq g.name s.name ≡ b → Segments.with_section owner gs t ≡ Growing.with_more s.name (fragment_len f) (Segments.fragment_cells owner f) (Segments.with_section owner gs s) → (if b then Segments.grown owner g t ∷ gs else g ∷ Segments.with_section owner gs t) ≡ Growing.with_more s.name (fragment_len f) (Segments.fragment_cells owner f) (if b then Segments.grown owner g s ∷ gs else g ∷ Segments.with_section owner gs s)
+head_step : (owner : ℕ) (f : Fragment) (s t : Section) (g : Programs.Segment) (gs : List Programs.Segment) (b : Bool) → IsLonger owner f s t → bytes_eq g.name s.name ≡ b → Programs.with_section owner gs t ≡ Growing.with_more s.name (fragment_len f) (Programs.fragment_cells owner f) (Programs.with_section owner gs s) → (if b then Programs.grown owner g t ∷ gs else g ∷ Programs.with_section owner gs t) ≡ Growing.with_more s.name (fragment_len f) (Programs.fragment_cells owner f) (if b then Programs.grown owner g s ∷ gs else g ∷ Programs.with_section owner gs s)
 head_step owner f s t g gs true l is rest = rw is (ap (λ x. x ∷ gs) (segment_longer owner f s t g l))
 head_step owner f s t g gs false l is rest = rw is (ap (λ xs. g ∷ xs) rest)
 
-head_longer : (owner : ℕ) (f : Fragment) (s t : Section) (gs : List Segments.Segment) → IsLonger owner f s t → Segments.with_section owner gs t ≡ Growing.with_more s.name (fragment_len f) (Segments.fragment_cells owner f) (Segments.with_section owner gs s)
+head_longer : (owner : ℕ) (f : Fragment) (s t : Section) (gs : List Programs.Segment) → IsLonger owner f s t → Programs.with_section owner gs t ≡ Growing.with_more s.name (fragment_len f) (Programs.fragment_cells owner f) (Programs.with_section owner gs s)
 head_longer owner f s t [] l =
-    rw (same_names s.name) (ap (λ (n : List ℕ). Segments.grown owner (Segments.empty_segment n) t ∷ []) l.name ∙ ap (λ (g : Segments.Segment). g ∷ []) (segment_longer owner f s t (Segments.empty_segment s.name) l))
-head_longer owner f s t (g ∷ gs) l = ap (λ (n : List ℕ). if bytes_eq g.name n then Segments.grown owner g t ∷ gs else g ∷ Segments.with_section owner gs t) l.name ∙ (head_step owner f s t g gs (bytes_eq g.name s.name) l refl (head_longer owner f s t gs l))
+    rw (same_names s.name) (ap (λ (n : List ℕ). Programs.grown owner (Programs.empty_segment n) t ∷ []) l.name ∙ ap (λ (g : Programs.Segment). g ∷ []) (segment_longer owner f s t (Programs.empty_segment s.name) l))
+head_longer owner f s t (g ∷ gs) l = ap (λ (n : List ℕ). if bytes_eq g.name n then Programs.grown owner g t ∷ gs else g ∷ Programs.with_section owner gs t) l.name ∙ (head_step owner f s t g gs (bytes_eq g.name s.name) l refl (head_longer owner f s t gs l))
 
 -- a segment of one name isn't one of another
 not_both : (x y z : List ℕ) → bytes_eq x y ≡ true → bytes_eq x z ≡ true → bytes_eq y z ≡ false → ⊥
@@ -119,30 +119,30 @@ not_both x y z e f other = let same = (nat_list_eq_equiv).congr x y z e in true_
   true_is_not : true ≡ false → ⊥
   true_is_not e = cc
 
-apart_step : (owner : ℕ) (name : List ℕ) (len : ℕ) (cells : List Segments.Cell) (r : Section) (g : Segments.Segment) (gs : List Segments.Segment) (b c : Bool) → bytes_eq name r.name ≡ false → bytes_eq g.name name ≡ b → bytes_eq g.name r.name ≡ c → Segments.with_section owner (Growing.with_more name len cells gs) r ≡ Growing.with_more name len cells (Segments.with_section owner gs r) → Segments.with_section owner (if b then Growing.with_cells len cells g ∷ gs else g ∷ Growing.with_more name len cells gs) r ≡ Growing.with_more name len cells (if c then Segments.grown owner g r ∷ gs else g ∷ Segments.with_section owner gs r)
+apart_step : (owner : ℕ) (name : List ℕ) (len : ℕ) (cells : List Programs.Cell) (r : Section) (g : Programs.Segment) (gs : List Programs.Segment) (b c : Bool) → bytes_eq name r.name ≡ false → bytes_eq g.name name ≡ b → bytes_eq g.name r.name ≡ c → Programs.with_section owner (Growing.with_more name len cells gs) r ≡ Growing.with_more name len cells (Programs.with_section owner gs r) → Programs.with_section owner (if b then Growing.with_cells len cells g ∷ gs else g ∷ Growing.with_more name len cells gs) r ≡ Growing.with_more name len cells (if c then Programs.grown owner g r ∷ gs else g ∷ Programs.with_section owner gs r)
 apart_step owner name len cells r g gs true true other e f rest = absurd (not_both g.name name r.name e f other)
 apart_step owner name len cells r g gs true false other e f rest = rw (f, e) refl
 apart_step owner name len cells r g gs false true other e f rest = rw (f, e) refl
 apart_step owner name len cells r g gs false false other e f rest = rw (f, e) (ap (λ xs. g ∷ xs) rest)
 
-apart : (owner : ℕ) (name : List ℕ) (len : ℕ) (cells : List Segments.Cell) (r : Section) (gs : List Segments.Segment) → bytes_eq name r.name ≡ false → Segments.with_section owner (Growing.with_more name len cells gs) r ≡ Growing.with_more name len cells (Segments.with_section owner gs r)
+apart : (owner : ℕ) (name : List ℕ) (len : ℕ) (cells : List Programs.Cell) (r : Section) (gs : List Programs.Segment) → bytes_eq name r.name ≡ false → Programs.with_section owner (Growing.with_more name len cells gs) r ≡ Growing.with_more name len cells (Programs.with_section owner gs r)
 apart owner name len cells r [] other =
     let back : bytes_eq r.name name ≡ false = (nat_list_eq_equiv).symm r.name name ∙ other in
     rw back refl
 apart owner name len cells r (g ∷ gs) other = apart_step owner name len cells r g gs (bytes_eq g.name name) (bytes_eq g.name r.name) other refl refl (apart owner name len cells r gs other)
 
-ends_step : (name : List ℕ) (len : ℕ) (cells : List Segments.Cell) (r : List ℕ) (g : Segments.Segment) (gs : List Segments.Segment) (b c : Bool) → bytes_eq name r ≡ false → bytes_eq g.name name ≡ b → bytes_eq g.name r ≡ c → Segments.end_of (Growing.with_more name len cells gs) r ≡ Segments.end_of gs r → Segments.end_of (if b then Growing.with_cells len cells g ∷ gs else g ∷ Growing.with_more name len cells gs) r ≡ option_map_or (λ (x : Segments.Segment). x.size) (cond c (Some g) (find (λ (x : Segments.Segment). bytes_eq x.name r) gs)) 0
+ends_step : (name : List ℕ) (len : ℕ) (cells : List Programs.Cell) (r : List ℕ) (g : Programs.Segment) (gs : List Programs.Segment) (b c : Bool) → bytes_eq name r ≡ false → bytes_eq g.name name ≡ b → bytes_eq g.name r ≡ c → Programs.end_of (Growing.with_more name len cells gs) r ≡ Programs.end_of gs r → Programs.end_of (if b then Growing.with_cells len cells g ∷ gs else g ∷ Growing.with_more name len cells gs) r ≡ option_map_or (λ (x : Programs.Segment). x.size) (cond c (Some g) (find (λ (x : Programs.Segment). bytes_eq x.name r) gs)) 0
 ends_step name len cells r g gs true true other e f rest = absurd (not_both g.name name r e f other)
 ends_step name len cells r g gs true false other e f rest = rw f refl
 ends_step name len cells r g gs false true other e f rest = rw f refl
 ends_step name len cells r g gs false false other e f rest = rw f rest
 
-ends : (name : List ℕ) (len : ℕ) (cells : List Segments.Cell) (r : List ℕ) (gs : List Segments.Segment) → bytes_eq name r ≡ false → Segments.end_of (Growing.with_more name len cells gs) r ≡ Segments.end_of gs r
+ends : (name : List ℕ) (len : ℕ) (cells : List Programs.Cell) (r : List ℕ) (gs : List Programs.Segment) → bytes_eq name r ≡ false → Programs.end_of (Growing.with_more name len cells gs) r ≡ Programs.end_of gs r
 ends name len cells r [] other = refl
 ends name len cells r (g ∷ gs) other = ends_step name len cells r g gs (bytes_eq g.name name) (bytes_eq g.name r) other refl refl (ends name len cells r gs other)
 
-place_apart : (name : List ℕ) (len : ℕ) (cells : List Segments.Cell) (r : Section) (gs : List Segments.Segment) → bytes_eq name r.name ≡ false → Segments.section_place (Growing.with_more name len cells gs) r ≡ Segments.section_place gs r
-place_apart name len cells r gs other = ap (λ (n : ℕ). record { segment = r.name; offset = Segments.begin_behind n r; size = section_len r }) (ends name len cells r.name gs other)
+place_apart : (name : List ℕ) (len : ℕ) (cells : List Programs.Cell) (r : Section) (gs : List Programs.Segment) → bytes_eq name r.name ≡ false → Programs.section_place (Growing.with_more name len cells gs) r ≡ Programs.section_place gs r
+place_apart name len cells r gs other = ap (λ (n : ℕ). record { segment = r.name; offset = Programs.begin_behind n r; size = section_len r }) (ends name len cells r.name gs other)
 
 -- no section has this name
 abbrev pub IsOther : List ℕ → List Section → Type 0
@@ -152,19 +152,19 @@ neither : (a b : Bool) → (a || b) ≡ false → (a ≡ false) × (b ≡ false)
 neither true b e = cc
 neither false b e = (refl, e)
 
-tail_sections : (owner : ℕ) (name : List ℕ) (len : ℕ) (cells : List Segments.Cell) (ss : List Section) (gs : List Segments.Segment) → IsOther name ss → Segments.with_sections owner (Growing.with_more name len cells gs) ss ≡ Growing.with_more name len cells (Segments.with_sections owner gs ss)
+tail_sections : (owner : ℕ) (name : List ℕ) (len : ℕ) (cells : List Programs.Cell) (ss : List Section) (gs : List Programs.Segment) → IsOther name ss → Programs.with_sections owner (Growing.with_more name len cells gs) ss ≡ Growing.with_more name len cells (Programs.with_sections owner gs ss)
 tail_sections owner name len cells [] gs other = refl
 tail_sections owner name len cells (r ∷ ss) gs other =
     let o = neither (bytes_eq name r.name) _ other in
-    ap (λ (hs : List Segments.Segment). Segments.with_sections owner hs ss) (apart owner name len cells r gs o.0) ∙ tail_sections owner name len cells ss (Segments.with_section owner gs r) o.1
+    ap (λ (hs : List Programs.Segment). Programs.with_sections owner hs ss) (apart owner name len cells r gs o.0) ∙ tail_sections owner name len cells ss (Programs.with_section owner gs r) o.1
 
-tail_places : (owner : ℕ) (name : List ℕ) (len : ℕ) (cells : List Segments.Cell) (ss : List Section) (gs : List Segments.Segment) → IsOther name ss → Segments.section_places owner (Growing.with_more name len cells gs) ss ≡ Segments.section_places owner gs ss
+tail_places : (owner : ℕ) (name : List ℕ) (len : ℕ) (cells : List Programs.Cell) (ss : List Section) (gs : List Programs.Segment) → IsOther name ss → Programs.section_places owner (Growing.with_more name len cells gs) ss ≡ Programs.section_places owner gs ss
 tail_places owner name len cells [] gs other = refl
 tail_places owner name len cells (r ∷ ss) gs other =
     let o = neither (bytes_eq name r.name) _ other in
-    ap (λ (p : SectionPlace). p ∷ Segments.section_places owner (Segments.with_section owner (Growing.with_more name len cells gs) r) ss) (place_apart name len cells r gs o.0)
-    ∙ ap (λ (hs : List Segments.Segment). Segments.section_place gs r ∷ Segments.section_places owner hs ss) (apart owner name len cells r gs o.0)
-    ∙ ap (λ ps. Segments.section_place gs r ∷ ps) (tail_places owner name len cells ss (Segments.with_section owner gs r) o.1)
+    ap (λ (p : SectionPlace). p ∷ Programs.section_places owner (Programs.with_section owner (Growing.with_more name len cells gs) r) ss) (place_apart name len cells r gs o.0)
+    ∙ ap (λ (hs : List Programs.Segment). Programs.section_place gs r ∷ Programs.section_places owner hs ss) (apart owner name len cells r gs o.0)
+    ∙ ap (λ ps. Programs.section_place gs r ∷ ps) (tail_places owner name len cells ss (Programs.with_section owner gs r) o.1)
 
 -- ---- The section at a place.
 
@@ -173,45 +173,45 @@ abbrev pub AreApart : List Section → Type 0
 AreApart [] = Unit {0}
 AreApart (s ∷ ss) = IsOther s.name ss × AreApart ss
 
-place_longer : (owner : ℕ) (f : Fragment) (s t : Section) (gs : List Segments.Segment) → IsLonger owner f s t → Segments.section_place gs t ≡ Growing.longer (Segments.section_place gs s) (fragment_len f)
+place_longer : (owner : ℕ) (f : Fragment) (s t : Section) (gs : List Programs.Segment) → IsLonger owner f s t → Programs.section_place gs t ≡ Growing.longer (Programs.section_place gs s) (fragment_len f)
 place_longer owner f s t gs l =
-    let built : List ℕ → ℕ → ℕ → SectionPlace = λ n a len. record { segment = n; offset = rounded_up (Segments.end_of gs n) a; size = len } in
+    let built : List ℕ → ℕ → ℕ → SectionPlace = λ n a len. record { segment = n; offset = rounded_up (Programs.end_of gs n) a; size = len } in
     ap (λ n. built n (2 ^ t.align) (section_len t)) l.name ∙ ap (λ a. built s.name (2 ^ a) (section_len t)) l.align ∙ ap (built s.name (2 ^ s.align)) l.len
 
 -- what becomes of segments and places where one section has a fragment more
-pub record Grows (owner : ℕ) (f : Fragment) (s : Section) (gs : List Segments.Segment) (ss ts : List Section) (k : ℕ) : Type 0 where
-  pub segments : Segments.with_sections owner gs ts ≡ Growing.with_more s.name (fragment_len f) (Segments.fragment_cells owner f) (Segments.with_sections owner gs ss)
+pub record Grows (owner : ℕ) (f : Fragment) (s : Section) (gs : List Programs.Segment) (ss ts : List Section) (k : ℕ) : Type 0 where
+  pub segments : Programs.with_sections owner gs ts ≡ Growing.with_more s.name (fragment_len f) (Programs.fragment_cells owner f) (Programs.with_sections owner gs ss)
   pub place : SectionPlace
-  pub there : slice_get (Segments.section_places owner gs ss) k ≡ Some place
+  pub there : slice_get (Programs.section_places owner gs ss) k ≡ Some place
   pub named : place.segment ≡ s.name
-  pub places : Segments.section_places owner gs ts ≡ slice_set (Segments.section_places owner gs ss) k (Growing.longer place (fragment_len f))
+  pub places : Programs.section_places owner gs ts ≡ slice_set (Programs.section_places owner gs ss) k (Growing.longer place (fragment_len f))
 
-pub grows : (owner : ℕ) (f : Fragment) (s t : Section) (gs : List Segments.Segment) (ss : List Section) (k : ℕ) → slice_get ss k ≡ Some s → IsLonger owner f s t → AreApart ss → Grows owner f s gs ss (slice_set ss k t) k
+pub grows : (owner : ℕ) (f : Fragment) (s t : Section) (gs : List Programs.Segment) (ss : List Section) (k : ℕ) → slice_get ss k ≡ Some s → IsLonger owner f s t → AreApart ss → Grows owner f s gs ss (slice_set ss k t) k
 grows owner f s t gs [] k there l apart = cc
 grows owner f s t gs (x ∷ ss) zero there l apart =
     let same : x ≡ s = cc in
     let other : IsOther s.name ss = subst (λ (y : Section). IsOther y.name ss) same apart.0 in
     let len = fragment_len f in
-    let cells = Segments.fragment_cells owner f in
+    let cells = Programs.fragment_cells owner f in
     let head = head_longer owner f s t gs l in
-    let hs = Segments.with_section owner gs s in
+    let hs = Programs.with_section owner gs s in
     subst (λ (y : Section). Grows owner f s gs (y ∷ ss) (t ∷ ss) zero) (sym same) (record {
-      segments = ap (λ (is : List Segments.Segment). Segments.with_sections owner is ss) head ∙ tail_sections owner s.name len cells ss hs other;
-      place = Segments.section_place gs s;
+      segments = ap (λ (is : List Programs.Segment). Programs.with_sections owner is ss) head ∙ tail_sections owner s.name len cells ss hs other;
+      place = Programs.section_place gs s;
       there = refl;
       named = refl;
-      places = ap (λ (p : SectionPlace). p ∷ Segments.section_places owner (Segments.with_section owner gs t) ss) (place_longer owner f s t gs l)
-          ∙ ap (λ (is : List Segments.Segment). Growing.longer (Segments.section_place gs s) len ∷ Segments.section_places owner is ss) head
-          ∙ ap (λ ps. Growing.longer (Segments.section_place gs s) len ∷ ps) (tail_places owner s.name len cells ss hs other);
+      places = ap (λ (p : SectionPlace). p ∷ Programs.section_places owner (Programs.with_section owner gs t) ss) (place_longer owner f s t gs l)
+          ∙ ap (λ (is : List Programs.Segment). Growing.longer (Programs.section_place gs s) len ∷ Programs.section_places owner is ss) head
+          ∙ ap (λ ps. Growing.longer (Programs.section_place gs s) len ∷ ps) (tail_places owner s.name len cells ss hs other);
     })
 grows owner f s t gs (x ∷ ss) (suc k) there l apart =
-    let rest = grows owner f s t (Segments.with_section owner gs x) ss k there l apart.1 in
+    let rest = grows owner f s t (Programs.with_section owner gs x) ss k there l apart.1 in
     record {
       segments = rest.segments;
       place = rest.place;
       there = rest.there;
       named = rest.named;
-      places = ap (λ ps. Segments.section_place gs x ∷ ps) rest.places;
+      places = ap (λ ps. Programs.section_place gs x ∷ ps) rest.places;
     }
 
 -- ---- An item.
@@ -235,7 +235,7 @@ names_apart (d ∷ ds) names =
     (others d.name ds other, names_apart ds (right (is_name d.name && not (is_among rest d.name)) (are_names rest) names))
 
 -- what has come of a module, by its sections
-abbrev made : Program → Taking.State → List Segments.Segment → List SectionPlace → Growing.Growth
+abbrev made : Program → Taking.State → List Programs.Segment → List SectionPlace → Growing.Growth
 made p s gs places = record {
   program = record { members = p.members; segments = gs; exports = p.exports ++ map (exported (length p.members)) s.exports; asserts = p.asserts ++ map (asserted (length p.members)) s.asserts };
   sections = places;
@@ -243,24 +243,24 @@ made p s gs places = record {
   files = s.files;
 }
 
-by_sections : (p : Program) (s : Taking.State) (xs ys : List Section) → xs ≡ ys → made p s (Segments.with_sections (length p.members) p.segments xs) (Segments.section_places (length p.members) p.segments xs) ≡ made p s (Segments.with_sections (length p.members) p.segments ys) (Segments.section_places (length p.members) p.segments ys)
-by_sections p s xs ys same = ap (λ (zs : List Section). made p s (Segments.with_sections (length p.members) p.segments zs) (Segments.section_places (length p.members) p.segments zs)) same
+by_sections : (p : Program) (s : Taking.State) (xs ys : List Section) → xs ≡ ys → made p s (Programs.with_sections (length p.members) p.segments xs) (Programs.section_places (length p.members) p.segments xs) ≡ made p s (Programs.with_sections (length p.members) p.segments ys) (Programs.section_places (length p.members) p.segments ys)
+by_sections p s xs ys same = ap (λ (zs : List Section). made p s (Programs.with_sections (length p.members) p.segments zs) (Programs.section_places (length p.members) p.segments zs)) same
 
 -- a fragment of a section that is there
 part_step : (p : Program) (s : Taking.State) (k offset : ℕ) (f : Fragment) (d : Draft) → are_names (map (λ x. x.name) s.drafts) ≡ true → slice_get s.drafts k ≡ Some d → Growing.growth_of p (Items.with_item s (item.Part k offset f)) ≡ Growing.grown_by (Growing.growth_of p s) (item.Part k offset f)
 part_step p s k offset f d names there =
     let owner = length p.members in
     let len = fragment_len f in
-    let cells = Segments.fragment_cells owner f in
+    let cells = Programs.fragment_cells owner f in
     let ss = map Taking.section_from s.drafts in
-    let gs = Segments.with_sections owner p.segments ss in
-    let places = Segments.section_places owner p.segments ss in
+    let gs = Programs.with_sections owner p.segments ss in
+    let places = Programs.section_places owner p.segments ss in
     let t = Taking.section_from (Items.grown d f) in
     let found : slice_get ss k ≡ Some (Taking.section_from d) = slice_get-map Taking.section_from s.drafts k ∙ ap (option_map Taking.section_from) there in
     let g = grows owner f (Taking.section_from d) t p.segments ss k found (grown_longer owner d f) (names_apart s.drafts names) in
     let now : map Taking.section_from (Items.with_piece s.drafts k f) ≡ slice_set ss k t = ap (λ (o : Option Draft). map Taking.section_from (Items.with_piece_in s.drafts k f o)) there ∙ map-set Taking.section_from s.drafts k (Items.grown d f) in
     by_sections p s (map Taking.section_from (Items.with_piece s.drafts k f)) (slice_set ss k t) now
-    ∙ ap (λ (hs : List Segments.Segment). made p s hs (Segments.section_places owner p.segments (slice_set ss k t))) g.segments
+    ∙ ap (λ (hs : List Programs.Segment). made p s hs (Programs.section_places owner p.segments (slice_set ss k t))) g.segments
     ∙ ap (made p s (Growing.with_more d.name len cells gs)) g.places
     ∙ ap (λ (n : List ℕ). made p s (Growing.with_more n len cells gs) (slice_set places k (Growing.longer g.place len))) (sym g.named)
     ∙ sym (ap (Growing.with_part (Growing.growth_of p s) k f) g.there)
@@ -271,11 +271,11 @@ section_step p s name size align =
     let e = Growing.bare_section name align in
     let owner = length p.members in
     let ss = map Taking.section_from s.drafts in
-    let gs = Segments.with_sections owner p.segments ss in
+    let gs = Programs.with_sections owner p.segments ss in
     let now : map Taking.section_from (s.drafts ++ d ∷ []) ≡ ss ++ e ∷ [] = map-append Taking.section_from s.drafts (d ∷ []) in
     by_sections p s (map Taking.section_from (s.drafts ++ d ∷ [])) (ss ++ e ∷ []) now
-    ∙ ap (λ (hs : List Segments.Segment). made p s hs (Segments.section_places owner p.segments (ss ++ e ∷ []))) (snoc_sections owner p.segments ss e)
-    ∙ ap (made p s (Segments.with_section owner gs e)) (snoc_places owner p.segments ss e)
+    ∙ ap (λ (hs : List Programs.Segment). made p s hs (Programs.section_places owner p.segments (ss ++ e ∷ []))) (snoc_sections owner p.segments ss e)
+    ∙ ap (made p s (Programs.with_section owner gs e)) (snoc_places owner p.segments ss e)
 
 pushed : {A B : Type 0} (f : A → B) (old : List B) (xs : List A) (x : A) → old ++ map f (xs ++ x ∷ []) ≡ (old ++ map f xs) ++ f x ∷ []
 pushed f old xs x = ap (λ ys. old ++ ys) (map-append f xs (x ∷ [])) ∙ sym (append_assoc old (map f xs) (f x ∷ []))

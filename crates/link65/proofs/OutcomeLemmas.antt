@@ -1,26 +1,43 @@
--- A link has one outcome.
-use Rattle.std.proofs.Common.{◌≡◌, ◌∙◌, ℕ, zero, suc, ◌+◌, ◌<◌, Bool, true, false, List, [], ◌∷◌, ◌++◌, length, get_or, Result, Ok, Err, refl, sym, ap, subst, arith}
-use Rattle.std.specs.Prelude.{ℤ, ◌==◌}
+-- A link has one outcome, and a weak name that nothing uses changes no image.
+use Rattle.std.proofs.Common.{◌≡◌, ◌∙◌, ℕ, zero, suc, ◌+◌, ◌<◌, Bool, true, false, List, [], ◌∷◌, ◌++◌, length, get_or, Result, Ok, Err, refl, sym, ap, subst, arith, not, ◌||◌, cond, filter, map, slice_get, Option, Some, None, if◌then◌else◌}
+use Rattle.std.specs.Prelude.{ℤ, ◌==◌, pos}
 use Rattle.base65.proofs.Outcome.{first_once}
 use Rattle.script65.specs.declared.placement.Placement.{Placement}
 use Rattle.script65.specs.declared.script.Area.{Area}
 use Rattle.script65.specs.declared.script.Script.{Script}
 use Rattle.link65.specs.declared.fault.LinkFault.{LinkFault}
-use Rattle.link65.specs.declared.linked.Linked.{Linked}
+use Rattle.link65.specs.declared.linking.Linked.{Linked}
 use Rattle.base65.specs.declared.output.OutputFile.{OutputFile}
 use Rattle.link65.specs.declared.parts.ValueFault.{ValueFault}
 use Rattle.link65.specs.declared.parts.ValueFault.TheVariants.{Unresolved}
 use Rattle.link65.specs.Files.{AddsArea, AddsAreas, IsAreaFile, IsImage, Piece, file_name, with_bytes}
-use Rattle.link65.specs.RowBytes.{row_bytes}
-use Rattle.link65.specs.Links.{IsFinished, IsImaged, IsPlacedLink, IsProgramLink, LinkOf, checked, names_once, placed}
-use Rattle.link65.specs.Maps.{map_text}
-use Rattle.link65.specs.Modules.{Module}
-use Rattle.link65.specs.Places.{linkage_of}
-use Rattle.link65.specs.Programs.{Program, program_of}
-use Rattle.link65.specs.Values.{AreExports, Exports, Linkage, exports_through, in_table}
-use Rattle.link65.specs.Warnings.{warnings_of_rows}
-use Rattle.link65.proofs.Tries.{exports_grow}
-use Rattle.link65.proofs.Turns.{settles_once}
+use Rattle.link65.specs.Values.{row_bytes, linkage_of, address_of, needs_of, resolved, AreExports, Exports, Linkage, exports_through, in_table, linkage}
+use Rattle.link65.specs.Links.{IsFinished, IsImaged, IsPlacedLink, IsProgramLink, LinkOf, checked, names_once, placed, as_placement, no_name_again, none_unresolved}
+use Rattle.link65.specs.Texts.{map_text, warnings_of_rows}
+use Rattle.link65.specs.Programs.{Module, Program, program_of, position_in}
+use Rattle.link65.proofs.Tries.{exports_grow, settles_once}
+use Rattle.std.proofs.lemmas.Grind.{flat_map-append}
+use Rattle.std.proofs.lemmas.List.{append-nil, map-append}
+use Rattle.std.proofs.lemmas.List.Folds.{list_any-append}
+use Rattle.std.proofs.lemmas.Cmp.{nat_list_eq_equiv}
+use Rattle.std.specs.Int.{w64, cast_signed}
+use Rattle.std.specs.List.{flat_map, position_from}
+use Rattle.std.specs.Option.{option_map_or}
+use Rattle.std.specs.Str.{bytes_eq}
+use Rattle.base65.specs.Outcome.{◌>>=◌, First}
+use Rattle.script65.specs.Placing.{place_of}
+use Rattle.script65.specs.declared.script.Symbol.{Symbol}
+use Rattle.script65.specs.declared.script.SymbolKind.TheVariants as kind
+use Rattle.link65.specs.declared.parts.Definition.{Definition}
+use Rattle.link65.specs.declared.parts.Exported.{Exported}
+use Rattle.link65.specs.declared.parts.Giver.{Giver}
+use Rattle.link65.specs.declared.parts.Giver.TheVariants.{ByScript, Nobody}
+use Rattle.link65.specs.declared.parts.Member.{Member}
+use Rattle.link65.specs.declared.parts.Resolved.{Resolved}
+use Rattle.link65.specs.Names.{by_definition, by_export, defined_at, each_once, export_names, exported_at, first_again, given_names, giver_of, is_among, is_given, references, unresolved, areas_definitions, rows_definitions, area_names, row_names, export_definition, import_name, script_definitions, symbol_exports, symbol_imports, weak_definition, weak_symbols, SameImages, is_used, with_weak}
+use Rattle.link65.specs.Laws.{UnusedWeakLaw, UnusedWeakLinks}
+
+-- ---- A link has one outcome.
 
 -- lists of one length that have one item at each place
 same_list : {A : Type 0} (xs ys : List A) (d : A) → length xs ≡ length ys → ((i : ℕ) → i < length xs → get_or xs i d ≡ get_or ys i d) → xs ≡ ys
@@ -76,3 +93,229 @@ program_once output s p r q h k = first_once (placed s p) (IsPlacedLink output s
 pub link_once : (output : List ℕ) (s : Script) (modules : List Module) (r q : Result Linked LinkFault) → LinkOf output s modules r → LinkOf output s modules q → r ≡ q
 link_once output s modules r q h k =
     first_once (names_once s (program_of modules)) (λ u. IsProgramLink output s (program_of modules)) r q (λ u. program_once output s (program_of modules) r q) h k
+
+-- ---- The symbols of a script with one more weak name.
+
+-- a weak name of a value
+abbrev symbol : List ℕ → ℕ → Symbol
+symbol name value = record { name = name; kind = kind.Weak value }
+
+abbrev definition : List ℕ → ℕ → Definition
+definition name value = record { name = name; value = cast_signed w64 value }
+
+exports_same : (symbols : List Symbol) (name : List ℕ) (value : ℕ) → symbol_exports (symbols ++ symbol name value ∷ []) ≡ symbol_exports symbols
+exports_same symbols name value =
+    flat_map-append (λ s. export_definition s.kind s.name) symbols (symbol name value ∷ []) ∙ append-nil (symbol_exports symbols)
+
+imports_same : (symbols : List Symbol) (name : List ℕ) (value : ℕ) → symbol_imports (symbols ++ symbol name value ∷ []) ≡ symbol_imports symbols
+imports_same symbols name value =
+    flat_map-append (λ s. import_name s.kind s.name) symbols (symbol name value ∷ []) ∙ append-nil (symbol_imports symbols)
+
+weak_more : (symbols : List Symbol) (name : List ℕ) (value : ℕ) → weak_symbols (symbols ++ symbol name value ∷ []) ≡ weak_symbols symbols ++ definition name value ∷ []
+weak_more symbols name value =
+    flat_map-append (λ s. weak_definition s.kind s.name) symbols (symbol name value ∷ [])
+
+-- ---- A name that isn't among names.
+
+neither : (a b : Bool) → (a || b) ≡ false → (a ≡ false) × (b ≡ false)
+neither false b e = (refl, e)
+neither true b e = cc
+
+-- neither the first nor among the others
+others : (names : List (List ℕ)) (n name : List ℕ) → is_among (n ∷ names) name ≡ false → (bytes_eq n name ≡ false) × (is_among names name ≡ false)
+others names n name e = neither (bytes_eq n name) (is_among names name) e
+
+either_part : (xs ys : List (List ℕ)) (name : List ℕ) → is_among (xs ++ ys) name ≡ false → (is_among xs name ≡ false) × (is_among ys name ≡ false)
+either_part xs ys name e = neither (is_among xs name) (is_among ys name) (sym (list_any-append (λ n. bytes_eq n name) xs ys) ∙ e)
+
+with_other : (xs : List (List ℕ)) (n name : List ℕ) → is_among xs name ≡ false → bytes_eq n name ≡ false → is_among (xs ++ n ∷ []) name ≡ false
+with_other xs n name e f = list_any-append (λ n. bytes_eq n name) xs (n ∷ []) ∙ rw (e, f) refl
+
+choice : (b : Bool) (xs ys : List (List ℕ)) (name : List ℕ) → is_among xs name ≡ false → is_among ys name ≡ false → is_among (if b then xs else ys) name ≡ false
+choice true xs ys name e f = e
+choice false xs ys name e f = f
+
+once_without : (names before : List (List ℕ)) (name : List ℕ) → is_among before name ≡ false → is_among names name ≡ false → is_among (each_once before names) name ≡ false
+once_without [] before name e f = e
+once_without (n ∷ names) before name e f =
+    let two : (bytes_eq n name ≡ false) × (is_among names name ≡ false) = others names n name f in
+    once_without names (if is_among before n then before else before ++ n ∷ []) name
+    (choice (is_among before n) before (before ++ n ∷ []) name e (with_other before n name e two.0))
+    two.1
+
+-- ---- What is the same at each name but one.
+
+-- f and g agree at each name but this
+abbrev AgreeBut : {A : Type 0} → List ℕ → (List ℕ → A) → (List ℕ → A) → Type 0
+AgreeBut name f g = (n : List ℕ) → bytes_eq n name ≡ false → f n ≡ g n
+
+map_same : {A : Type 0} (f g : List ℕ → A) (name : List ℕ) → AgreeBut name f g → (names : List (List ℕ)) → is_among names name ≡ false → map f names ≡ map g names
+map_same f g name same [] e = refl
+map_same f g name same (n ∷ names) e =
+    let two : (bytes_eq n name ≡ false) × (is_among names name ≡ false) = others names n name e in
+    rw (same n two.0, map_same f g name same names two.1) refl
+
+filter_same : (f g : List ℕ → Bool) (name : List ℕ) → AgreeBut name f g → (names : List (List ℕ)) → is_among names name ≡ false → filter f names ≡ filter g names
+filter_same f g name same [] e = refl
+filter_same f g name same (n ∷ names) e =
+    let two : (bytes_eq n name ≡ false) × (is_among names name ≡ false) = others names n name e in
+    step (f n) (g n) (same n two.0) refl refl (filter_same f g name same names two.1)
+  where
+    step : (a b : Bool) → a ≡ b → f n ≡ a → g n ≡ b → filter f names ≡ filter g names → filter f (n ∷ names) ≡ filter g (n ∷ names)
+    step true true h x y rest = rw (x, y, rest) refl
+    step false false h x y rest = rw (x, y) rest
+    step true false h x y rest = cc
+    step false true h x y rest = cc
+
+-- ---- Who gives a name, with one more definition behind the script's weak ones.
+
+found_before : (p : List ℕ → Bool) (i : ℕ) (names : List (List ℕ)) (name : List ℕ) → p name ≡ false → position_from p i (names ++ name ∷ []) ≡ position_from p i names
+found_before p i [] name e = rw e refl
+found_before p i (n ∷ names) name e = ap (cond (p n) (Some i)) (found_before p (i + 1) names name e)
+
+found_inside : (p : List ℕ → Bool) (i : ℕ) (names : List (List ℕ)) (k : ℕ) → position_from p i names ≡ Some k → k < i + length names
+found_inside p i [] k e = cc
+found_inside p i (n ∷ names) k e = step (p n) e (found_inside p (i + 1) names k)
+  where
+    step : (b : Bool) → cond b (Some i) (position_from p (i + 1) names) ≡ Some k → (position_from p (i + 1) names ≡ Some k → k < (i + 1) + length names) → k < i + length (n ∷ names)
+    step true h rest = let same : i ≡ k = cc in omega (arith, same)
+    step false h rest = let below : k < (i + 1) + length names = rest h in omega (arith, below)
+
+get_before : (ds more : List Definition) (i : ℕ) → i < length ds → slice_get (ds ++ more) i ≡ slice_get ds i
+get_before [] more i lt = absurd (omega arith)
+get_before (d ∷ ds) more zero lt = refl
+get_before (d ∷ ds) more (suc i) lt = get_before ds more i (omega arith)
+
+by_same : (ds : List Definition) (d : Definition) (o : Option ℕ) (other : Giver) → ((k : ℕ) → o ≡ Some k → k < length ds) → by_definition (ds ++ d ∷ []) o other ≡ by_definition ds o other
+by_same ds d None other inside = refl
+by_same ds d (Some i) other inside = ap (λ x. ByScript (option_map_or (λ y. y.value) x (pos 0))) (get_before ds (d ∷ []) i (inside i refl))
+
+length_names : (ds : List Definition) → length (map (λ d. d.name) ds) ≡ length ds
+length_names [] = refl
+length_names (d ∷ ds) = ap suc (length_names ds)
+
+at_same : (ds : List Definition) (d : Definition) (n : List ℕ) → bytes_eq n d.name ≡ false → defined_at (ds ++ d ∷ []) n ≡ defined_at ds n
+at_same ds d n e =
+    ap (λ names. position_in names n) (map-append (λ y. y.name) ds (d ∷ []))
+    ∙ found_before (λ m. bytes_eq m n) 0 (map (λ y. y.name) ds) d.name (nat_list_eq_equiv.symm d.name n ∙ e)
+
+at_inside : (ds : List Definition) (n : List ℕ) (k : ℕ) → defined_at ds n ≡ Some k → k < length ds
+at_inside ds n k e =
+    let below : k < 0 + length (map (λ y. y.name) ds) = found_inside (λ m. bytes_eq m n) 0 (map (λ y. y.name) ds) k e in
+    omega (arith, below, length_names ds)
+
+giver_same : (own : List Definition) (exports : List Exported) (ds : List Definition) (d : Definition) → AgreeBut d.name (giver_of own exports (ds ++ d ∷ [])) (giver_of own exports ds)
+giver_same own exports ds d n e =
+    ap (λ g. by_definition own (defined_at own n) (by_export (exported_at exports n) g))
+    (ap (λ o. by_definition (ds ++ d ∷ []) o Nobody) (at_same ds d n e) ∙ by_same ds d (defined_at ds n) Nobody (at_inside ds n))
+
+-- ---- What the script gives, and who gives each import.
+
+given_same : (s : Script) (p : Program) (name : List ℕ) (value : ℕ) → given_names (with_weak s name value) p ≡ given_names s p
+given_same s p name value =
+    ap (λ ds. (flat_map area_names s.areas ++ flat_map row_names s.rows ++ map (λ d. d.name) ds) ++ export_names p) (exports_same s.symbols name value)
+
+definitions_same : (s : Script) (pl : Placement) (name : List ℕ) (value : ℕ) → script_definitions (with_weak s name value) pl ≡ script_definitions s pl
+definitions_same s pl name value =
+    ap (λ ds. areas_definitions s.areas pl.areas ++ rows_definitions s.rows pl.rows ++ ds) (exports_same s.symbols name value)
+
+or_false : (b : Bool) → (b || false) ≡ b
+or_false true = refl
+or_false false = refl
+
+weak_among : (symbols : List Symbol) (name : List ℕ) (value : ℕ) → AgreeBut name (is_among (map (λ d. d.name) (weak_symbols (symbols ++ symbol name value ∷ [])))) (is_among (map (λ d. d.name) (weak_symbols symbols)))
+weak_among symbols name value n e =
+    ap (λ ds. is_among (map (λ d. d.name) ds) n) (weak_more symbols name value)
+    ∙ ap (λ names. is_among names n) (map-append (λ d. d.name) (weak_symbols symbols) (definition name value ∷ []))
+    ∙ list_any-append (λ m. bytes_eq m n) (map (λ d. d.name) (weak_symbols symbols)) (name ∷ [])
+    ∙ ap (λ b. is_among (map (λ d. d.name) (weak_symbols symbols)) n || (b || false)) (nat_list_eq_equiv.symm name n ∙ e)
+    ∙ or_false (is_among (map (λ d. d.name) (weak_symbols symbols)) n)
+
+is_given_same : (s : Script) (p : Program) (name : List ℕ) (value : ℕ) → AgreeBut name (is_given (with_weak s name value) p) (is_given s p)
+is_given_same s p name value n e =
+    ap (λ names. is_among names n || is_among (map (λ d. d.name) (weak_symbols (s.symbols ++ symbol name value ∷ []))) n) (given_same s p name value)
+    ∙ ap (λ b. is_among (given_names s p) n || b) (weak_among s.symbols name value n e)
+
+unresolved_same : (s : Script) (p : Program) (name : List ℕ) (value : ℕ) → is_used s p name ≡ false → unresolved (with_weak s name value) p ≡ unresolved s p
+unresolved_same s p name value e =
+    ap (λ names. filter (λ n. not (is_given (with_weak s name value) p n)) (each_once [] (names ++ flat_map (λ m. m.imports) p.members))) (imports_same s.symbols name value)
+    ∙ filter_same (λ n. not (is_given (with_weak s name value) p n)) (λ n. not (is_given s p n)) name (λ n f. ap not (is_given_same s p name value n f)) (references s p) (once_without (symbol_imports s.symbols ++ flat_map (λ m. m.imports) p.members) [] name refl e)
+
+resolved_same : (s : Script) (p : Program) (pl : Placement) (name : List ℕ) (value : ℕ) (m : Member) → is_among m.imports name ≡ false → resolved (with_weak s name value) p pl m ≡ resolved s p pl m
+resolved_same s p pl name value m e =
+    let made : List Giver → Resolved = λ gs. record { bases = map (address_of s.rows pl.rows) m.sections; givers = gs } in
+    ap made (map_same (giver_of (script_definitions (with_weak s name value) pl) p.exports (weak_symbols (s.symbols ++ symbol name value ∷ []))) (giver_of (script_definitions s pl) p.exports (weak_symbols s.symbols)) name agree m.imports e)
+  where
+    agree : AgreeBut name (giver_of (script_definitions (with_weak s name value) pl) p.exports (weak_symbols (s.symbols ++ symbol name value ∷ []))) (giver_of (script_definitions s pl) p.exports (weak_symbols s.symbols))
+    agree n f =
+        ap (λ ds. giver_of ds p.exports (weak_symbols (s.symbols ++ symbol name value ∷ [])) n) (definitions_same s pl name value)
+        ∙ ap (λ ds. giver_of (script_definitions s pl) p.exports ds n) (weak_more s.symbols name value)
+        ∙ giver_same (script_definitions s pl) p.exports (weak_symbols s.symbols) (definition name value) n f
+
+members_same : (f g : Member → Resolved) (name : List ℕ) → ((m : Member) → is_among m.imports name ≡ false → f m ≡ g m) → (members : List Member) → is_among (flat_map (λ m. m.imports) members) name ≡ false → map f members ≡ map g members
+members_same f g name same [] e = refl
+members_same f g name same (m ∷ members) e =
+    let two : (is_among m.imports name ≡ false) × (is_among (flat_map (λ y. y.imports) members) name ≡ false) = either_part m.imports (flat_map (λ y. y.imports) members) name e in
+    rw (same m two.0, members_same f g name same members two.1) refl
+
+linkage_same : (s : Script) (p : Program) (pl : Placement) (name : List ℕ) (value : ℕ) → is_used s p name ≡ false → linkage_of (with_weak s name value) p pl ≡ linkage_of s p pl
+linkage_same s p pl name value e =
+    let two : (is_among (symbol_imports s.symbols) name ≡ false) × (is_among (flat_map (λ m. m.imports) p.members) name ≡ false) = either_part (symbol_imports s.symbols) (flat_map (λ m. m.imports) p.members) name e in
+    ap (λ ms. linkage ms p.exports) (members_same (resolved (with_weak s name value) p pl) (resolved s p pl) name (resolved_same s p pl name value) p.members two.1)
+
+names_once_same : (s : Script) (p : Program) (name : List ℕ) (value : ℕ) → names_once (with_weak s name value) p ≡ names_once s p
+names_once_same s p name value = ap (λ names. no_name_again (first_again [] names)) (given_same s p name value)
+
+placed_same : (s : Script) (p : Program) (name : List ℕ) (value : ℕ) → is_used s p name ≡ false → placed (with_weak s name value) p ≡ placed s p
+placed_same s p name value e = ap (λ names. none_unresolved names >>= (λ u. as_placement (place_of s (needs_of p)))) (unresolved_same s p name value e)
+
+-- ---- Where a script links, it links with the weak name to the same.
+
+-- what answers so, and has the same images
+abbrev LinksAlike : (Result Linked LinkFault → Type 0) → Result Linked LinkFault → Type 0
+LinksAlike Answers r = (q : Result Linked LinkFault) × Answers q × SameImages r q
+
+first_alike : {A : Type 0} (head : Result A LinkFault) (Next Other : A → Result Linked LinkFault → Type 0) (r : Result Linked LinkFault) → ((x : A) → Next x r → LinksAlike (Other x) r) → First head Next r → LinksAlike (First head Other) r
+first_alike (Ok x) Next Other r step h = step x h
+first_alike (Err e) Next Other r step h =
+    let P : Result Linked LinkFault → Type 0 = λ z. SameImages z (Err e) in
+    (Err e, refl, subst P (sym h) refl)
+
+imaged_alike : (output : List ℕ) (s : Script) (name : List ℕ) (value : ℕ) (p : Program) (pl : Placement) (l : Linkage) (exports : Exports) (warnings : List ℕ) (r : Result Linked LinkFault) → IsImaged output s p pl l exports warnings r → LinksAlike (IsImaged output (with_weak s name value) p pl l exports warnings) r
+imaged_alike output s name value p pl l exports warnings r (files, h, e) =
+    let made : Linked = record { files = files; warnings = warnings_of_rows s.rows p.segments ++ warnings; map = map_text (with_weak s name value) p pl l exports } in
+    let P : Result Linked LinkFault → Type 0 = λ z. SameImages z (Ok made) in
+    (Ok made, (files, h, refl), subst P (sym e) (refl, refl))
+
+placed_alike : (output : List ℕ) (s : Script) (name : List ℕ) (value : ℕ) (p : Program) (pl : Placement) (r : Result Linked LinkFault) → is_used s p name ≡ false → IsPlacedLink output s p pl r → LinksAlike (IsPlacedLink output (with_weak s name value) p pl) r
+placed_alike output s name value p pl r unused (table, are, h) = go (first_alike (checked s p (linkage_of s p pl) (in_table table)) (IsImaged output s p pl (linkage_of s p pl) (in_table table)) (IsImaged output (with_weak s name value) p pl (linkage_of s p pl) (in_table table)) r (λ w. imaged_alike output s name value p pl (linkage_of s p pl) (in_table table) w r) h)
+  where
+    same : linkage_of s p pl ≡ linkage_of (with_weak s name value) p pl
+    same = sym (linkage_same s p pl name value unused)
+
+    go : LinksAlike (IsFinished output (with_weak s name value) p pl (linkage_of s p pl) (in_table table)) r → LinksAlike (IsPlacedLink output (with_weak s name value) p pl) r
+    go (q, k, alike) =
+        let P : Linkage → Type 0 = λ l. AreExports l table in
+        let Q : Linkage → Type 0 = λ l. IsFinished output (with_weak s name value) p pl l (in_table table) q in
+        (q, (table, subst P same are, subst Q same k), alike)
+
+program_alike : (output : List ℕ) (s : Script) (name : List ℕ) (value : ℕ) (p : Program) (r : Result Linked LinkFault) → is_used s p name ≡ false → IsProgramLink output s p r → LinksAlike (IsProgramLink output (with_weak s name value) p) r
+program_alike output s name value p r unused h =
+    let P : Result Placement LinkFault → Type 0 = λ z. LinksAlike (First z (IsPlacedLink output (with_weak s name value) p)) r in
+    subst P (sym (placed_same s p name value unused))
+    (first_alike (placed s p) (IsPlacedLink output s p) (IsPlacedLink output (with_weak s name value) p) r (λ pl. placed_alike output s name value p pl r unused) h)
+
+link_alike : (output : List ℕ) (s : Script) (name : List ℕ) (value : ℕ) (p : Program) (r : Result Linked LinkFault) → is_used s p name ≡ false → First (names_once s p) (λ u. IsProgramLink output s p) r → LinksAlike (First (names_once (with_weak s name value) p) (λ u. IsProgramLink output (with_weak s name value) p)) r
+link_alike output s name value p r unused h =
+    let P : Result (Unit {0}) LinkFault → Type 0 = λ z. LinksAlike (First z (λ u. IsProgramLink output (with_weak s name value) p)) r in
+    subst P (sym (names_once_same s p name value))
+    (first_alike (names_once s p) (λ u. IsProgramLink output s p) (λ u. IsProgramLink output (with_weak s name value) p) r (λ u. program_alike output s name value p r unused) h)
+
+pub unused_weak_links : UnusedWeakLinks
+unused_weak_links output s name value modules r unused h = link_alike output s name value (program_of modules) r unused h
+
+pub unused_weak_same : UnusedWeakLaw
+unused_weak_same output s name value modules r q unused h k = go (unused_weak_links output s name value modules r unused h)
+  where
+    go : LinksAlike (LinkOf output (with_weak s name value) modules) r → SameImages r q
+    go (other, links, alike) = subst (SameImages r) (link_once output (with_weak s name value) modules other q links k) alike

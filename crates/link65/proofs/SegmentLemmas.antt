@@ -1,35 +1,345 @@
--- Segments by name.
-use Rattle.std.proofs.Common.{◌≡◌, ℕ, suc, Bool, true, false, cond, List, [], ◌∷◌, map, slice_get, Option, Some, None, refl, sym, ap, ◌∙◌}
+-- Segments by their places and names, and how a section begins in its segment.
+use Rattle.std.proofs.Common.{◌≡◌, ◌∙◌, ◌+◌, ℕ, suc, List, [], ◌∷◌, ◌++◌, length, map, cond, Option, Some, None, Bool, true, false, nat_lt, if◌then◌else◌, refl, sym, ap, subst, arith, ◌||◌, slice_get, ◌<◌, zero, ◌-◌, ◌^◌, get_or, replicate, Ok, Result}
+use Rattle.std.specs.Prelude.{slice_set, position, max}
+use Rattle.std.proofs.lemmas.Bool.Decides.{nat_tests}
+use Rattle.std.proofs.lemmas.Cmp.{nat_list_eq_equiv}
+use Rattle.std.specs.List.{list_any, position_or_len}
+use Rattle.std.proofs.lemmas.List.{length-map, map-append, map-set}
 use Rattle.std.specs.Option.{option_map}
 use Rattle.std.specs.Str.{bytes_eq}
-use Rattle.std.proofs.lemmas.Cmp.{nat_list_eq_equiv}
-use Rattle.link65.specs.declared.contents.Content.{Content}
-use Rattle.link65.specs.Contents.{segment_from, segments_from}
-use Rattle.link65.specs.Grounds.{place_in}
-use Rattle.link65.specs.Segments.{Segment, segment_of}
-use Rattle.link65.proofs.PlaceOf.{at_front, behind_front}
+use Rattle.object65.specs.declared.object.Section.{Section}
+use Rattle.link65.specs.declared.parts.Content.{Content}
+use Rattle.link65.specs.Grounds.{segments_from, segment_from, place_in, with_name, growth_in, having, names_in, with_gap}
+use Rattle.link65.specs.Growing.{with_cells, with_more, longer, Growth, bare_section, with_bare, with_part, with_segments}
+use Rattle.link65.specs.Programs
+use Rattle.link65.specs.Programs.{Segment, segment_of}
+use Rattle.std.proofs.lemmas.Option.{slice_get-map, slice_get_read}
+use Rattle.link65.specs.declared.parts.SectionPlace.{SectionPlace}
+use Rattle.object65.specs.declared.object.Fragment.{Fragment}
+use Rattle.object65.specs.Objects.{fragment_len}
+use Rattle.object65.proofs.Closings.{nil}
+use Rattle.script65.specs.Placing.{rounded_up}
+use Rattle.link65.specs.declared.fault.LinkFault.{LinkFault}
+use Rattle.link65.specs.declared.growing.Growing.{Growing}
+
+-- ---- Segments by their places.
+
+pub at_front : {X : Type 0} (p : X → Bool) (x : X) (xs : List X) → p x ≡ true → position p (x ∷ xs) ≡ Some 0
+at_front p x xs passes =
+    let here : position_or_len p (x ∷ xs) ≡ 0 = rw passes refl in
+    let less : nat_lt 0 (suc (length xs)) ≡ true = grind (arith, nat_tests) in
+    ap (λ k. cond (nat_lt k (suc (length xs))) (Some k) None) here ∙ ap (λ b. cond b (Some 0) None) less
+
+next_place : (b : Bool) (k : ℕ) → cond b (Some (1 + k)) None ≡ option_map suc (cond b (Some k) None)
+next_place true k = let more : 1 + k ≡ suc k = omega arith in ap Some more
+next_place false k = refl
+
+pub behind_front : {X : Type 0} (p : X → Bool) (x : X) (xs : List X) → p x ≡ false → position p (x ∷ xs) ≡ option_map suc (position p xs)
+behind_front p x xs stops =
+    let k = position_or_len p xs in
+    let there : position_or_len p (x ∷ xs) ≡ 1 + k = rw stops refl in
+    let less : nat_lt (1 + k) (suc (length xs)) ≡ nat_lt k (length xs) = grind (arith, nat_tests) in
+    ap (λ n. cond (nat_lt n (suc (length xs))) (Some n) None) there ∙ ap (λ b. cond b (Some (1 + k)) None) less ∙ next_place (nat_lt k (length xs)) k
+
+mapped_step : {A X : Type 0} (p : X → Bool) (f : A → X) (x : A) (xs : List A) (b : Bool) → p (f x) ≡ b → position p (map f xs) ≡ position (λ y. p (f y)) xs → position p (f x ∷ map f xs) ≡ position (λ y. p (f y)) (x ∷ xs)
+mapped_step p f x xs true is rest = at_front p (f x) (map f xs) is ∙ sym (at_front (λ y. p (f y)) x xs is)
+mapped_step p f x xs false is rest = behind_front p (f x) (map f xs) is ∙ ap (option_map suc) rest ∙ sym (behind_front (λ y. p (f y)) x xs is)
+
+-- the place among what is mapped
+pub position_map : {A X : Type 0} (p : X → Bool) (f : A → X) (xs : List A) → position p (map f xs) ≡ position (λ y. p (f y)) xs
+position_map p f [] = refl
+position_map p f (x ∷ xs) = mapped_step p f x xs (p (f x)) refl (position_map p f xs)
+
+none_next : (r : Option ℕ) → option_map suc r ≡ None → r ≡ None
+none_next None e = refl
+none_next (Some i) e = cc
+
+none_step : {X : Type 0} (p : X → Bool) (x : X) (xs : List X) (b : Bool) → p x ≡ b → position p (x ∷ xs) ≡ None → (b ≡ false) × (position p xs ≡ None)
+none_step p x xs true is none = let e : ◌≡◌ {A = Option ℕ} (Some 0) None = sym (at_front p x xs is) ∙ none in cc
+none_step p x xs false is none = (refl, none_next (position p xs) (sym (behind_front p x xs is) ∙ none))
+
+-- nothing passes where there is no place
+pub none_among : {X : Type 0} (p : X → Bool) (xs : List X) → position p xs ≡ None → list_any p xs ≡ false
+none_among p [] none = refl
+none_among p (x ∷ xs) none =
+    let s = none_step p x xs (p x) refl none in
+    ap (λ b. b || list_any p xs) s.0 ∙ none_among p xs s.1
+
+-- the first that passes may be the last
+pub place_last : {X : Type 0} (p : X → Bool) (xs : List X) (y : X) → position p xs ≡ None → p y ≡ true → position p (xs ++ y ∷ []) ≡ Some (length xs)
+place_last p [] y none passes = at_front p y [] passes
+place_last p (x ∷ xs) y none passes =
+    let s = none_step p x xs (p x) refl none in
+    behind_front p x (xs ++ y ∷ []) s.0 ∙ ap (option_map suc) (place_last p xs y s.1 passes)
+
+pub same_length : {A B X : Type 0} (f : A → X) (g : B → X) (xs : List A) (ys : List B) → map f xs ≡ map g ys → length xs ≡ length ys
+same_length f g xs ys e = sym (length-map xs f) ∙ ap length e ∙ length-map ys g
+
+abbrev names_of : List Programs.Segment → List (List ℕ)
+names_of gs = map (λ g. g.name) gs
+
+there_step : (name : List ℕ) (i : ℕ) (g : Programs.Segment) (gs : List Programs.Segment) (b : Bool) → bytes_eq name g.name ≡ b → ((j : ℕ) → place_in name (names_of gs) ≡ Some j → with_name name gs ≡ gs) → place_in name (g.name ∷ names_of gs) ≡ Some i → with_name name (g ∷ gs) ≡ g ∷ gs
+there_step name i g gs true is rest there =
+    let back : bytes_eq g.name name ≡ true = (nat_list_eq_equiv).symm g.name name ∙ is in
+    rw back refl
+there_step name i g gs false is rest there =
+    let back : bytes_eq g.name name ≡ false = (nat_list_eq_equiv).symm g.name name ∙ is in
+    let p = some_next (place_in name (names_of gs)) i (sym (behind_front (bytes_eq name) g.name (names_of gs) is) ∙ there) in
+    rw back (ap (λ hs. g ∷ hs) (rest p.0 p.1))
+  where
+    some_next : (r : Option ℕ) (i : ℕ) → option_map suc r ≡ Some i → (j : ℕ) × (r ≡ Some j)
+    some_next None i e = cc
+    some_next (Some j) i e = (j, refl)
+
+-- nothing is begun where the name is there
+pub with_name_there : (name : List ℕ) (gs : List Programs.Segment) (i : ℕ) → place_in name (names_of gs) ≡ Some i → with_name name gs ≡ gs
+with_name_there name [] i there = cc
+with_name_there name (g ∷ gs) i there = there_step name i g gs (bytes_eq name g.name) refl (with_name_there name gs) there
+
+-- and a segment is begun behind the others where it isn't
+pub with_name_new : (name : List ℕ) (gs : List Programs.Segment) → place_in name (names_of gs) ≡ None → with_name name gs ≡ gs ++ Programs.empty_segment name ∷ []
+with_name_new name [] none = refl
+with_name_new name (g ∷ gs) none =
+    let s = none_step (bytes_eq name) g.name (names_of gs) (bytes_eq name g.name) refl none in
+    let back : bytes_eq g.name name ≡ false = (nat_list_eq_equiv).symm g.name name ∙ s.0 in
+    rw back (ap (λ hs. g ∷ hs) (with_name_new name gs s.1))
+
+pub segment_names : (cs : List Content) → names_of (segments_from cs) ≡ map (λ c. c.name) cs
+segment_names [] = refl
+segment_names (c ∷ cs) = ap (λ ns. c.name ∷ ns) (segment_names cs)
+
+-- ---- What becomes of the segment at a place.
+
+pub record AtPlace (name : List ℕ) (gs : List Programs.Segment) (i : ℕ) : Type 0 where
+  pub segment : Programs.Segment
+  pub there : slice_get gs i ≡ Some segment
+  pub end : Programs.end_of gs name ≡ segment.size
+  pub section : (owner : ℕ) (s : Section) → s.name ≡ name → Programs.with_section owner gs s ≡ slice_set gs i (Programs.grown owner segment s)
+  pub more : (len : ℕ) (cells : List Programs.Cell) → with_more name len cells gs ≡ slice_set gs i (with_cells len cells segment)
+
+here : (name : List ℕ) (g : Programs.Segment) (gs : List Programs.Segment) → bytes_eq g.name name ≡ true → AtPlace name (g ∷ gs) 0
+here name g gs is = record {
+  segment = g;
+  there = refl;
+  end = rw is refl;
+  section = λ owner s same. ap (λ (n : List ℕ). if bytes_eq g.name n then Programs.grown owner g s ∷ gs else g ∷ Programs.with_section owner gs s) same ∙ ap (λ b. if b then Programs.grown owner g s ∷ gs else g ∷ Programs.with_section owner gs s) is;
+  more = λ len cells. rw is refl;
+}
+
+further : (name : List ℕ) (g : Programs.Segment) (gs : List Programs.Segment) (i : ℕ) → bytes_eq g.name name ≡ false → AtPlace name gs i → AtPlace name (g ∷ gs) (suc i)
+further name g gs i is a = record {
+  segment = a.segment;
+  there = a.there;
+  end = rw is a.end;
+  section = λ owner s same.
+      ap (λ (n : List ℕ). if bytes_eq g.name n then Programs.grown owner g s ∷ gs else g ∷ Programs.with_section owner gs s) same
+      ∙ ap (λ b. if b then Programs.grown owner g s ∷ gs else g ∷ Programs.with_section owner gs s) is
+      ∙ ap (λ hs. g ∷ hs) (a.section owner s same);
+  more = λ len cells. rw is (ap (λ hs. g ∷ hs) (a.more len cells));
+}
+
+place_step : (name : List ℕ) (i : ℕ) (g : Programs.Segment) (gs : List Programs.Segment) (b : Bool) → bytes_eq name g.name ≡ b → ((j : ℕ) → place_in name (names_of gs) ≡ Some j → AtPlace name gs j) → place_in name (g.name ∷ names_of gs) ≡ Some i → AtPlace name (g ∷ gs) i
+place_step name i g gs true is rest there =
+    let e : ◌≡◌ {A = Option ℕ} (Some 0) (Some i) = sym (at_front (bytes_eq name) g.name (names_of gs) is) ∙ there in
+    let zero_is : 0 ≡ i = cc in
+    subst (AtPlace name (g ∷ gs)) zero_is (here name g gs ((nat_list_eq_equiv).symm g.name name ∙ is))
+place_step name i g gs false is rest there =
+    let p = some_next (place_in name (names_of gs)) i (sym (behind_front (bytes_eq name) g.name (names_of gs) is) ∙ there) in
+    subst (AtPlace name (g ∷ gs)) p.2 (further name g gs p.0 ((nat_list_eq_equiv).symm g.name name ∙ is) (rest p.0 p.1))
+  where
+    some_next : (r : Option ℕ) (i : ℕ) → option_map suc r ≡ Some i → (j : ℕ) × (r ≡ Some j) × (suc j ≡ i)
+    some_next None i e = cc
+    some_next (Some j) i e = let same : suc j ≡ i = cc in (j, refl, same)
+
+pub at_place : (name : List ℕ) (gs : List Programs.Segment) (i : ℕ) → place_in name (names_of gs) ≡ Some i → AtPlace name gs i
+at_place name [] i there = cc
+at_place name (g ∷ gs) i there = place_step name i g gs (bytes_eq name g.name) refl (at_place name gs) there
+
+-- ---- A segment that has nothing counts for nothing.
+
+same_name : (n : List ℕ) → bytes_eq n n ≡ true
+same_name n = (nat_list_eq_equiv).refl n
+
+begun_step : (owner : ℕ) (s : Section) (g : Programs.Segment) (gs : List Programs.Segment) (b : Bool) → bytes_eq g.name s.name ≡ b → Programs.with_section owner (with_name s.name gs) s ≡ Programs.with_section owner gs s → Programs.with_section owner (if b then g ∷ gs else g ∷ with_name s.name gs) s ≡ (if b then Programs.grown owner g s ∷ gs else g ∷ Programs.with_section owner gs s)
+begun_step owner s g gs true is rest = rw is refl
+begun_step owner s g gs false is rest = rw is (ap (λ hs. g ∷ hs) rest)
+
+pub begun_section : (owner : ℕ) (s : Section) (gs : List Programs.Segment) → Programs.with_section owner (with_name s.name gs) s ≡ Programs.with_section owner gs s
+begun_section owner s [] = rw (same_name s.name) refl
+begun_section owner s (g ∷ gs) = begun_step owner s g gs (bytes_eq g.name s.name) refl (begun_section owner s gs)
+
+end_step : (name : List ℕ) (g : Programs.Segment) (gs : List Programs.Segment) (b : Bool) → bytes_eq g.name name ≡ b → Programs.end_of (with_name name gs) name ≡ Programs.end_of gs name → Programs.end_of (if b then g ∷ gs else g ∷ with_name name gs) name ≡ Programs.end_of (g ∷ gs) name
+end_step name g gs true is rest = refl
+end_step name g gs false is rest = rw is rest
+
+pub begun_end : (name : List ℕ) (gs : List Programs.Segment) → Programs.end_of (with_name name gs) name ≡ Programs.end_of gs name
+begun_end name [] = rw (same_name name) refl
+begun_end name (g ∷ gs) = end_step name g gs (bytes_eq g.name name) refl (begun_end name gs)
+
+-- ---- Segments by name.
 
 -- what stands at a place, if any
 abbrev pub at_most : List Content → Option ℕ → Option Segment
 at_most cs None = None
 at_most cs (Some i) = option_map segment_from (slice_get cs i)
 
-abbrev names_of : List Content → List (List ℕ)
-names_of cs = map (λ c. c.name) cs
+abbrev content_names : List Content → List (List ℕ)
+content_names cs = map (λ c. c.name) cs
 
-next_place : (c : Content) (cs : List Content) (o : Option ℕ) → at_most (c ∷ cs) (option_map suc o) ≡ at_most cs o
-next_place c cs None = refl
-next_place c cs (Some i) = refl
+place_further : (c : Content) (cs : List Content) (o : Option ℕ) → at_most (c ∷ cs) (option_map suc o) ≡ at_most cs o
+place_further c cs None = refl
+place_further c cs (Some i) = refl
 
-found_step : (name : List ℕ) (c : Content) (cs : List Content) (b : Bool) → bytes_eq c.name name ≡ b → segment_of (segments_from cs) name ≡ at_most cs (place_in name (names_of cs)) → cond b (Some (segment_from c)) (segment_of (segments_from cs) name) ≡ at_most (c ∷ cs) (place_in name (c.name ∷ names_of cs))
+found_step : (name : List ℕ) (c : Content) (cs : List Content) (b : Bool) → bytes_eq c.name name ≡ b → segment_of (segments_from cs) name ≡ at_most cs (place_in name (content_names cs)) → cond b (Some (segment_from c)) (segment_of (segments_from cs) name) ≡ at_most (c ∷ cs) (place_in name (c.name ∷ content_names cs))
 found_step name c cs true is rest =
-    sym (ap (at_most (c ∷ cs)) (at_front (bytes_eq name) c.name (names_of cs) ((nat_list_eq_equiv).symm name c.name ∙ is)))
+    sym (ap (at_most (c ∷ cs)) (at_front (bytes_eq name) c.name (content_names cs) ((nat_list_eq_equiv).symm name c.name ∙ is)))
 found_step name c cs false is rest =
     rest
-    ∙ sym (next_place c cs (place_in name (names_of cs)))
-    ∙ sym (ap (at_most (c ∷ cs)) (behind_front (bytes_eq name) c.name (names_of cs) ((nat_list_eq_equiv).symm name c.name ∙ is)))
+    ∙ sym (place_further c cs (place_in name (content_names cs)))
+    ∙ sym (ap (at_most (c ∷ cs)) (behind_front (bytes_eq name) c.name (content_names cs) ((nat_list_eq_equiv).symm name c.name ∙ is)))
 
 -- the segment of a name is that of the content at the name's place
-pub found_at : (name : List ℕ) (cs : List Content) → segment_of (segments_from cs) name ≡ at_most cs (place_in name (names_of cs))
+pub found_at : (name : List ℕ) (cs : List Content) → segment_of (segments_from cs) name ≡ at_most cs (place_in name (content_names cs))
 found_at name [] = refl
 found_at name (c ∷ cs) = ap (λ b. cond b (Some (segment_from c)) (segment_of (segments_from cs) name)) refl ∙ found_step name c cs (bytes_eq c.name name) refl (found_at name cs)
+
+-- ---- The places of the segments of the open module's sections.
+
+abbrev pub places_of : List (List ℕ) → List SectionPlace → List (Option ℕ)
+places_of names ss = map (λ s. place_in s.segment names) ss
+
+some_next : (r : Option ℕ) (i : ℕ) → option_map suc r ≡ Some i → (j : ℕ) × (r ≡ Some j) × (suc j ≡ i)
+some_next None i e = cc
+some_next (Some j) i e = let same : suc j ≡ i = cc in (j, refl, same)
+
+stay_step : {X : Type 0} (p : X → Bool) (x : X) (xs more : List X) (i : ℕ) (b : Bool) → p x ≡ b → position p (x ∷ xs) ≡ Some i → ((j : ℕ) → position p xs ≡ Some j → position p (xs ++ more) ≡ Some j) → position p (x ∷ (xs ++ more)) ≡ Some i
+stay_step p x xs more i true is e rest = at_front p x (xs ++ more) is ∙ sym (at_front p x xs is) ∙ e
+stay_step p x xs more i false is e rest =
+    let n = some_next (position p xs) i (sym (behind_front p x xs is) ∙ e) in
+    behind_front p x (xs ++ more) is ∙ ap (option_map suc) (rest n.0 n.1) ∙ ap Some n.2
+
+-- what has a place keeps it where more comes behind
+place_stays : {X : Type 0} (p : X → Bool) (xs more : List X) (i : ℕ) → position p xs ≡ Some i → position p (xs ++ more) ≡ Some i
+place_stays p [] more i e = cc
+place_stays p (x ∷ xs) more i e = stay_step p x xs more i (p x) refl e (place_stays p xs more)
+
+pub places_stay : (names more : List (List ℕ)) (ss : List SectionPlace) (places : List ℕ) → places_of names ss ≡ map Some places → places_of (names ++ more) ss ≡ map Some places
+places_stay names more [] [] e = refl
+places_stay names more [] (i ∷ places) e = cc
+places_stay names more (s ∷ ss) [] e = cc
+places_stay names more (s ∷ ss) (i ∷ places) e =
+    let here : place_in s.segment names ≡ Some i = cc in
+    let first : place_in s.segment (names ++ more) ≡ Some i = place_stays _ names more i here in
+    let there : places_of names ss ≡ map Some places = cc in
+    let rest : places_of (names ++ more) ss ≡ map Some places = places_stay names more ss places there in
+    cc
+
+less_by : (k n : ℕ) → nat_lt k n ≡ true → k < n
+less_by k n e = grind (arith, nat_tests)
+
+pub place_within : {X : Type 0} (p : X → Bool) (xs : List X) (i : ℕ) → position p xs ≡ Some i → i < length xs
+place_within p xs i e = go (nat_lt (position_or_len p xs) (length xs)) (less_by (position_or_len p xs) (length xs)) e
+  where
+    go : (b : Bool) → (b ≡ true → position_or_len p xs < length xs) → cond b (Some (position_or_len p xs)) None ≡ Some i → i < length xs
+    go true h e = let same : position_or_len p xs ≡ i = cc in let lt = h refl in omega arith
+    go false h e = cc
+
+some_there : {A : Type 0} (xs : List A) (i : ℕ) → i < length xs → (x : A) × (slice_get xs i ≡ Some x)
+some_there [] i lt = absurd (omega arith)
+some_there (x ∷ xs) zero lt = (x, refl)
+some_there (x ∷ xs) (suc i) lt = some_there xs i (omega arith)
+
+some_same : {A : Type 0} (x y : A) → ◌≡◌ {A = Option A} (Some x) (Some y) → x ≡ y
+some_same x y e = cc
+
+-- a section at a place, and the place of its segment
+pub section_there : (names : List (List ℕ)) (ss : List SectionPlace) (places : List ℕ) (k at : ℕ) → places_of names ss ≡ map Some places → k < length ss → slice_get places k ≡ Some at → (s : SectionPlace) × (slice_get ss k ≡ Some s) × (place_in s.segment names ≡ Some at)
+section_there names ss places k at e lt there =
+    let s = some_there ss k lt in
+    let f : SectionPlace → Option ℕ = λ x. place_in x.segment names in (
+      s.0,
+      s.1,
+      some_same (f s.0) (Some at)
+          (sym (slice_get-map f ss k ∙ ap (option_map f) s.1) ∙ ap (λ (xs : List (Option ℕ)). slice_get xs k) e ∙ slice_get-map Some places k ∙ ap (option_map Some) there),
+    )
+
+-- ---- Sections that come and grow.
+
+pub section_more : (names : List (List ℕ)) (ss : List SectionPlace) (places : List ℕ) (s : SectionPlace) (at : ℕ) → places_of names ss ≡ map Some places → place_in s.segment names ≡ Some at → places_of names (ss ++ s ∷ []) ≡ map Some (places ++ at ∷ [])
+section_more names ss places s at e here =
+    let f : SectionPlace → Option ℕ = λ x. place_in x.segment names in
+    map-append f ss (s ∷ [])
+    ∙ ap (λ l. l ++ f s ∷ []) e
+    ∙ ap (λ (o : Option ℕ). map Some places ++ o ∷ []) here
+    ∙ sym (map-append Some places (at ∷ []))
+
+pub longer_stays : (names : List (List ℕ)) (ss : List SectionPlace) (k : ℕ) (s : SectionPlace) (n : ℕ) → slice_get ss k ≡ Some s → places_of names (slice_set ss k (longer s n)) ≡ places_of names ss
+longer_stays names [] k s n e = cc
+longer_stays names (x ∷ ss) zero s n e =
+    let same : x ≡ s = cc in
+    ap (λ (y : SectionPlace). place_in y.segment names ∷ places_of names ss) (sym same)
+longer_stays names (x ∷ ss) (suc k) s n e = ap (λ l. place_in x.segment names ∷ l) (longer_stays names ss k s n e)
+
+-- ---- A section begins in its segment.
+
+-- a segment with a bare section
+opened_is : (owner m : ℕ) (g h : Programs.Segment) (name : List ℕ) (align : ℕ) → m ≡ 2 ^ align → h ≡ record (with_gap (rounded_up g.size m - g.size) g) { size = rounded_up g.size m; align = max g.align m } → h ≡ Programs.grown owner g (bare_section name align)
+opened_is owner m g h name align is opened =
+    let built : ℕ → Programs.Segment = λ a. record { name = g.name; size = rounded_up g.size a; align = max g.align a; cells = g.cells ++ replicate (rounded_up g.size a - g.size) Programs.filled } in
+    let begin = rounded_up g.size (2 ^ align) in
+    let size : begin ≡ begin + 0 = omega arith in
+    let cells = g.cells ++ replicate (begin - g.size) Programs.filled in
+    opened ∙ ap built is
+    ∙ ap (λ n. record (built (2 ^ align)) { size = n }) size
+    ∙ ap (λ cs. record (built (2 ^ align)) { size = begin + 0; cells = cs }) (sym (nil cells))
+
+abbrev pub put : Growth → List Programs.Segment → List SectionPlace → Growth
+put g gs places = record { program = with_segments g.program gs; sections = places; imports = g.imports; files = g.files }
+
+pub bare_begun : (g : Growth) (mid : Growing) (at m begin : ℕ) (c h : Content) (name : List ℕ) (align : ℕ) → growth_in mid ≡ having g (with_name name g.program.segments) → names_in mid ≡ map (λ x. x.name) mid.contents.items → place_in name (names_in mid) ≡ Some at → at < length mid.contents.items → c ≡ get_or mid.contents.items at c → m ≡ 2 ^ align → segment_from h ≡ record (with_gap (rounded_up c.size m - c.size) (segment_from c)) { size = rounded_up c.size m; align = max c.align m } → ◌≡◌ {A = Result ℕ LinkFault} (Ok (rounded_up c.size m)) (Ok begin) → put (growth_in mid) (segments_from (slice_set mid.contents.items at h)) (mid.sections.items ++ (record { segment = name; offset = begin; size = 0 }) ∷ []) ≡ with_bare g (bare_section name align)
+bare_begun g mid at m begin c h name align grew named there within is multiple opened answered =
+    let begins : begin ≡ rounded_up c.size m = cc in
+    let cs = mid.contents.items in
+    let gs = g.program.segments in
+    let owner = length g.program.members in
+    let bare = bare_section name align in
+    let all : segments_from cs ≡ with_name name gs = ap (λ (x : Growth). x.program.segments) grew in
+    let place : place_in name (map (λ (x : Programs.Segment). x.name) (segments_from cs)) ≡ Some at = ap (place_in name) (segment_names cs ∙ sym named) ∙ there in
+    let a = at_place name (segments_from cs) at place in
+    let found : slice_get (segments_from cs) at ≡ Some (segment_from c) = slice_get-map segment_from cs at ∙ ap (option_map segment_from) (slice_get_read cs (length cs) at c refl within is) in
+    let same : a.segment ≡ segment_from c = some_same a.segment (segment_from c) (sym a.there ∙ found) in
+    let now : segments_from (slice_set cs at h) ≡ Programs.with_section owner gs bare =
+    map-set segment_from cs at h
+    ∙ ap (slice_set (segments_from cs) at) (opened_is owner m (segment_from c) (segment_from h) name align multiple opened)
+    ∙ ap (λ (x : Programs.Segment). slice_set (segments_from cs) at (Programs.grown owner x bare)) (sym same)
+    ∙ sym (a.section owner bare refl)
+    ∙ ap (λ (hs : List Programs.Segment). Programs.with_section owner hs bare) all
+    ∙ begun_section owner bare gs in
+    let end : Programs.end_of gs name ≡ c.size = sym (begun_end name gs) ∙ ap (λ (hs : List Programs.Segment). Programs.end_of hs name) (sym all) ∙ a.end ∙ ap (λ (x : Programs.Segment). x.size) same in
+    let offset : begin ≡ Programs.begin_behind (Programs.end_of gs name) bare = begins ∙ ap (rounded_up c.size) multiple ∙ ap (λ n. rounded_up n (2 ^ align)) (sym end) in
+    let placed : List SectionPlace → ℕ → List SectionPlace = λ old b. old ++ (record { segment = name; offset = b; size = 0 }) ∷ [] in
+    let places : mid.sections.items ≡ g.sections = ap (λ (x : Growth). x.sections) grew in
+    ap (λ (x : Growth). put x (segments_from (slice_set cs at h)) (placed mid.sections.items begin)) grew
+    ∙ ap (λ (hs : List Programs.Segment). put g hs (placed mid.sections.items begin)) now
+    ∙ ap (λ (old : List SectionPlace). put g (Programs.with_section owner gs bare) (placed old begin)) places
+    ∙ ap (λ b. put g (Programs.with_section owner gs bare) (placed g.sections b)) offset
+
+-- ---- A fragment goes to its section's segment.
+
+of_content : (r : Option Content) (s : Programs.Segment) → option_map segment_from r ≡ Some s → (x : Content) × (r ≡ Some x) × (segment_from x ≡ s)
+of_content (Some x) s e = (x, refl, some_same (segment_from x) s e)
+of_content None s e = cc
+
+pub part_added : (g : Growing) (k at : ℕ) (f : Fragment) (p : SectionPlace) (contents : List Content) (sections : List SectionPlace) → names_in g ≡ map (λ x. x.name) g.contents.items → slice_get g.sections.items k ≡ Some p → place_in p.segment (names_in g) ≡ Some at → ((x : Content) → slice_get g.contents.items at ≡ Some x → segments_from contents ≡ slice_set (segments_from g.contents.items) at (with_cells (fragment_len f) (Programs.fragment_cells (length g.members) f) (segment_from x))) → sections ≡ slice_set g.sections.items k (longer p (fragment_len f)) → put (growth_in g) (segments_from contents) sections ≡ with_part (growth_in g) k f (slice_get g.sections.items k)
+part_added g k at f p contents sections named there place added lengthened =
+    let cs = g.contents.items in
+    let len = fragment_len f in
+    let cells = Programs.fragment_cells (length g.members) f in
+    let a = at_place p.segment (segments_from cs) at (ap (place_in p.segment) (segment_names cs ∙ sym named) ∙ place) in
+    let x = of_content (slice_get cs at) a.segment (sym (slice_get-map segment_from cs at) ∙ a.there) in
+    ap (λ (hs : List Programs.Segment). put (growth_in g) hs sections) (added x.0 x.1 ∙ ap (λ (s : Programs.Segment). slice_set (segments_from cs) at (with_cells len cells s)) x.2 ∙ sym (a.more len cells))
+    ∙ ap (put (growth_in g) (with_more p.segment len cells (segments_from cs))) lengthened
+    ∙ sym (ap (with_part (growth_in g) k f) there)
+
+pub same_content : (cs : List Content) (at : ℕ) (x y : Content) → at < length cs → x ≡ get_or cs at x → slice_get cs at ≡ Some y → x ≡ y
+same_content cs at x y within is there = some_same x y (sym (slice_get_read cs (length cs) at x refl within is) ∙ there)

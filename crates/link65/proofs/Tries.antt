@@ -1,22 +1,137 @@
--- What an attempt at a form says of what it comes to.
-use Rattle.std.proofs.Common.{◌≡◌, ℕ, zero, suc, ◌+◌, refl, ◌∙◌, ap, arith, ◌⊎◌, inl, inr, List, slice_get, Option, Some, None, Result, Ok, Err}
-use Rattle.std.specs.Prelude.{ℤ, ◌+ℤ◌}
+-- What an attempt at a form says of what it comes to, and exports that wait for one another.
+use Rattle.std.proofs.Common.{◌≡◌, ℕ, zero, suc, ◌+◌, refl, sym, ◌∙◌, ap, subst, arith, ◌⊎◌, inl, inr, Result, Ok, Err, List, slice_get, Option, Some, None, [], ◌∷◌, ◌++◌}
+use Rattle.std.specs.Prelude.{ℤ, ⊤, ◌+ℤ◌}
+use Rattle.link65.specs.declared.parts.ValueFault.{ValueFault}
+use Rattle.link65.specs.declared.parts.ValueFault.TheVariants.{Circular, NoValue, Unresolved}
+use Rattle.link65.specs.Values.{Settles, ExportComesTo, Exports, Linkage, base_of, export_value, exports_through, giver_at, import_value, value_by}
 use Rattle.base65.specs.Outcome.{◌>>=◌}
 use Rattle.base65.specs.Values.{value1, value2, wrapped}
 use Rattle.object65.specs.Form.{Form, lit, sec, imp, prefix, binary}
 use Rattle.object65.specs.FormValue.{or_none, value_in}
-use Rattle.link65.specs.declared.evaluation.mark.Mark.{Mark}
-use Rattle.link65.specs.declared.evaluation.mark.Mark.TheVariants.{Untouched, BeingEvaluated, Found}
-use Rattle.link65.specs.declared.evaluation.mark.Stop.{Stop}
-use Rattle.link65.specs.declared.evaluation.mark.Stop.TheVariants.{Fault, Needs}
+use Rattle.link65.specs.declared.evaluation.Mark.{Mark}
+use Rattle.link65.specs.declared.evaluation.Mark.TheVariants.{Untouched, BeingEvaluated, Found}
+use Rattle.link65.specs.declared.evaluation.Stop.{Stop}
+use Rattle.link65.specs.declared.evaluation.Stop.TheVariants.{Fault, Needs}
 use Rattle.link65.specs.declared.parts.Exported.{Exported}
 use Rattle.link65.specs.declared.parts.Giver.{Giver}
 use Rattle.link65.specs.declared.parts.Giver.TheVariants.{ByModule, ByScript, Nobody}
-use Rattle.link65.specs.declared.parts.ValueFault.{ValueFault}
-use Rattle.link65.specs.declared.parts.ValueFault.TheVariants.{Circular, NoValue, Unresolved}
-use Rattle.link65.specs.Marks.{AreTrue, as_found, import_tried, marked, tried}
-use Rattle.link65.specs.Values.{ExportComesTo, Exports, Linkage, Settles, base_of, export_value, exports_through, giver_at, import_value, value_by}
-use Rattle.link65.proofs.Turns.{Answer, Grows, Known, Reaches, known_same, reaches_no_value, reaches_unresolved, reaches_value, stands, stands_or}
+use Rattle.link65.specs.Placed.{AreTrue, as_found, import_tried, marked, tried}
+
+-- ---- Answers that are found at some number of exports one inside the other, and stay.
+
+abbrev pub Answer : Type 0
+Answer = Result ℤ ValueFault
+
+-- an answer that isn't circular stays
+abbrev pub Known : Answer → Answer → Type 0
+Known (Err Circular) s = ⊤
+Known r s = s ≡ r
+
+pub known_same : (r : Answer) → Known r r
+known_same (Ok v) = refl
+known_same (Err Circular) = tt
+known_same (Err NoValue) = refl
+known_same (Err Unresolved) = refl
+
+pub known_trans : (r s t : Answer) → Known r s → Known s t → Known r t
+known_trans (Err Circular) s t h k = tt
+known_trans (Ok v) s t h k = let P : Answer → Type 0 = λ x. Known x t in subst P h k
+known_trans (Err NoValue) s t h k = let P : Answer → Type 0 = λ x. Known x t in subst P h k
+known_trans (Err Unresolved) s t h k = let P : Answer → Type 0 = λ x. Known x t in subst P h k
+
+-- answers in turn, each of which stays
+abbrev pub Grows : (ℕ → Answer) → Type 0
+Grows at = (n : ℕ) → Known (at n) (at (suc n))
+
+pub further : (at : ℕ → Answer) → Grows at → (j n : ℕ) → Known (at n) (at (j + n))
+further at g zero n = let same : zero + n ≡ n = omega arith in rw same (known_same (at n))
+further at g (suc j) n =
+    let same : suc j + n ≡ suc (j + n) = omega arith in
+    rw same (known_trans (at n) (at (j + n)) (at (suc (j + n))) (further at g j n) (g (j + n)))
+
+-- an answer that isn't circular, and is found at some number
+pub record Reaches (at : ℕ → Answer) (r : Answer) : Type 0 where
+  pub turns : ℕ
+  pub found : at turns ≡ r
+  pub firm : (s : Answer) → Known r s → s ≡ r
+
+known_or : (r s : Answer) → Known r s → (r ≡ s) ⊎ (r ≡ Err Circular)
+known_or (Err Circular) s h = inr refl
+known_or (Ok v) s h = inl (sym h)
+known_or (Err NoValue) s h = inl (sym h)
+known_or (Err Unresolved) s h = inl (sym h)
+
+-- such an answer stands from there on
+pub stands : (at : ℕ → Answer) (r : Answer) → Grows at → (h : Reaches at r) → (j : ℕ) → at (j + h.turns) ≡ r
+stands at r g h j =
+    let P : Answer → Type 0 = λ x. Known x (at (j + h.turns)) in
+    h.firm (at (j + h.turns)) (subst P h.found (further at g j h.turns))
+
+-- before, it was circular
+pub stands_or : (at : ℕ → Answer) (r : Answer) → Grows at → Reaches at r → (n : ℕ) → (at n ≡ r) ⊎ (at n ≡ Err Circular)
+stands_or at r g h n = go (known_or (at n) (at (h.turns + n)) (further at g h.turns n))
+  where
+    later : at (h.turns + n) ≡ r
+    later = let same : h.turns + n ≡ n + h.turns = omega arith in rw same (stands at r g h n)
+
+    go : ((at n ≡ at (h.turns + n)) ⊎ (at n ≡ Err Circular)) → (at n ≡ r) ⊎ (at n ≡ Err Circular)
+    go (inl e) = inl (e ∙ later)
+    go (inr e) = inr e
+
+pub reaches_value : (at : ℕ → Answer) (v : ℤ) → Settles at (Ok v) → Reaches at (Ok v)
+reaches_value at v (n, e) = record { turns = n; found = e; firm = λ s h. h }
+
+pub reaches_no_value : (at : ℕ → Answer) → Settles at (Err NoValue) → Reaches at (Err NoValue)
+reaches_no_value at (n, e) = record { turns = n; found = e; firm = λ s h. h }
+
+pub reaches_unresolved : (at : ℕ → Answer) → Settles at (Err Unresolved) → Reaches at (Err Unresolved)
+reaches_unresolved at (n, e) = record { turns = n; found = e; firm = λ s h. h }
+
+-- with fewer turns what is circular stays so
+known_circular : (r s : Answer) → Known r s → s ≡ Err Circular → r ≡ Err Circular
+known_circular (Err Circular) s h e = refl
+known_circular (Ok v) s h e = cc
+known_circular (Err NoValue) s h e = cc
+known_circular (Err Unresolved) s h e = cc
+
+pub circular_before : (at : ℕ → Answer) → Grows at → (j n : ℕ) → at (j + n) ≡ Err Circular → at n ≡ Err Circular
+circular_before at g j n e = known_circular (at n) (at (j + n)) (further at g j n) e
+
+-- what is circular some turns later whenever it is circular, is so always, if it is so at first
+pub loops : (at : ℕ → Answer) → Grows at → at zero ≡ Err Circular → (c : ℕ) → ((n : ℕ) → at n ≡ Err Circular → at (suc (c + n)) ≡ Err Circular) → (n : ℕ) → at n ≡ Err Circular
+loops at g start c h zero = start
+loops at g start c h (suc n) =
+    let same : suc (c + n) ≡ c + suc n = omega arith in
+    let P : ℕ → Type 0 = λ k. at k ≡ Err Circular in
+    circular_before at g c (suc n) (subst P same (h n (loops at g start c h n)))
+
+-- ---- one answer
+
+two_reach : (at : ℕ → Answer) (r q : Answer) → Grows at → Reaches at r → Reaches at q → r ≡ q
+two_reach at r q g h k =
+    let same : h.turns + k.turns ≡ k.turns + h.turns = omega arith in
+    sym (stands at r g h k.turns) ∙ ap at (sym same) ∙ stands at q g k h.turns
+
+never : (at : ℕ → Answer) (r : Answer) → ((n : ℕ) → at n ≡ Err Circular) → Reaches at r → r ≡ Err Circular
+never at r h k = sym k.found ∙ h k.turns
+
+pub settles_once : (at : ℕ → Answer) (r q : Answer) → Grows at → Settles at r → Settles at q → r ≡ q
+settles_once at (Err Circular) (Err Circular) g h k = refl
+settles_once at (Err Circular) (Ok w) g h k = sym (never at (Ok w) h (reaches_value at w k))
+settles_once at (Err Circular) (Err NoValue) g h k = sym (never at (Err NoValue) h (reaches_no_value at k))
+settles_once at (Err Circular) (Err Unresolved) g h k = sym (never at (Err Unresolved) h (reaches_unresolved at k))
+settles_once at (Ok v) (Err Circular) g h k = never at (Ok v) k (reaches_value at v h)
+settles_once at (Ok v) (Ok w) g h k = two_reach at (Ok v) (Ok w) g (reaches_value at v h) (reaches_value at w k)
+settles_once at (Ok v) (Err NoValue) g h k = two_reach at (Ok v) (Err NoValue) g (reaches_value at v h) (reaches_no_value at k)
+settles_once at (Ok v) (Err Unresolved) g h k = two_reach at (Ok v) (Err Unresolved) g (reaches_value at v h) (reaches_unresolved at k)
+settles_once at (Err NoValue) (Err Circular) g h k = never at (Err NoValue) k (reaches_no_value at h)
+settles_once at (Err NoValue) (Ok w) g h k = two_reach at (Err NoValue) (Ok w) g (reaches_no_value at h) (reaches_value at w k)
+settles_once at (Err NoValue) (Err NoValue) g h k = refl
+settles_once at (Err NoValue) (Err Unresolved) g h k = two_reach at (Err NoValue) (Err Unresolved) g (reaches_no_value at h) (reaches_unresolved at k)
+settles_once at (Err Unresolved) (Err Circular) g h k = never at (Err Unresolved) k (reaches_unresolved at h)
+settles_once at (Err Unresolved) (Ok w) g h k = two_reach at (Err Unresolved) (Ok w) g (reaches_unresolved at h) (reaches_value at w k)
+settles_once at (Err Unresolved) (Err NoValue) g h k = two_reach at (Err Unresolved) (Err NoValue) g (reaches_unresolved at h) (reaches_no_value at k)
+settles_once at (Err Unresolved) (Err Unresolved) g h k = refl
 
 -- ---- More is known of exports with each turn, and so of forms.
 
@@ -165,3 +280,70 @@ form_tells l marks h long owner (binary op f g) =
     (λ v n. bind_known (value_by l (exports_through l n) owner g) (value_by l (exports_through l (suc n)) owner g) (λ b. or_none NoValue (value2 op v b)) (λ b. or_none NoValue (value2 op v b)) (form_grows l owner g n) (λ b. known_same (or_none NoValue (value2 op v b))))
     (form_tells l marks h long owner f)
     (λ v. bind_tells l marks (λ n. value_by l (exports_through l n) owner g) (λ n b. or_none NoValue (value2 op v b)) (tried (slice_get l.modules owner) marks g) (λ b. or_none (Fault NoValue) (value2 op v b)) (form_grows l owner g) (λ b n. known_same (or_none NoValue (value2 op v b))) (form_tells l marks h long owner g) (λ b. operation_tells l marks (value2 op v b)))
+
+-- ---- Exports that wait for one another.
+
+-- x is circular one turn after y
+abbrev pub Leads : Linkage → ℕ → ℕ → Type 0
+Leads l x y = (n : ℕ) → exports_through l n y ≡ Err Circular → exports_through l (suc n) x ≡ Err Circular
+
+-- root waits for the first, and so on to top
+abbrev pub IsChain : Linkage → ℕ → List ℕ → ℕ → Type 0
+IsChain l root [] top = root ≡ top
+IsChain l root (w ∷ ws) top = (next : ℕ) × (root ≡ w) × Leads l w next × IsChain l next ws top
+
+pub chain_more : (l : Linkage) (root : ℕ) (ws : List ℕ) (top next : ℕ) → IsChain l root ws top → Leads l top next → IsChain l root (ws ++ top ∷ []) next
+chain_more l root [] top next e h = (next, e, h, refl)
+chain_more l root (w ∷ ws) top next (n, e, u, c) h = (n, e, u, chain_more l n ws top next c h)
+
+pub chain_less : (l : Linkage) (root : ℕ) (ws : List ℕ) (below top : ℕ) → IsChain l root (ws ++ below ∷ []) top → IsChain l root ws below
+chain_less l root [] below top (n, e, u, c) = e
+chain_less l root (w ∷ ws) below top (n, e, u, c) = (n, e, u, chain_less l n ws below top c)
+
+-- x is circular c turns after y
+abbrev pub After : Linkage → ℕ → ℕ → ℕ → Type 0
+After l c x y = (n : ℕ) → exports_through l n y ≡ Err Circular → exports_through l (c + n) x ≡ Err Circular
+
+after_next : (l : Linkage) (c x y z : ℕ) → Leads l x y → After l c y z → After l (suc c) x z
+after_next l c x y z h a n e =
+    let same : suc (c + n) ≡ suc c + n = omega arith in
+    let P : ℕ → Type 0 = λ k. exports_through l k x ≡ Err Circular in
+    subst P same (h (c + n) (a n e))
+
+after_self : (l : Linkage) (x : ℕ) → After l 0 x x
+after_self l x n e =
+    let same : n ≡ 0 + n = omega arith in
+    let P : ℕ → Type 0 = λ k. exports_through l k x ≡ Err Circular in
+    subst P same e
+
+chain_after : (l : Linkage) (root : ℕ) (ws : List ℕ) (top : ℕ) → IsChain l root ws top → (c : ℕ) × After l c root top
+chain_after l root [] top e = (0, (let P : ℕ → Type 0 = λ n. After l 0 n top in subst P (sym e) (after_self l top)))
+chain_after l root (w ∷ ws) top (n, e, u, c) =
+    let (d, a) = chain_after l n ws top c in
+    (suc d, (let P : ℕ → Type 0 = λ z. After l (suc d) z top in subst P (sym e) (after_next l d w n top u a)))
+
+-- x is among the list
+abbrev pub Among : ℕ → List ℕ → Type 0
+Among x [] = ⊥
+Among x (w ∷ ws) = (x ≡ w) ⊎ Among x ws
+
+chain_among : (l : Linkage) (x root : ℕ) (ws : List ℕ) (top : ℕ) → IsChain l root ws top → Among x ws → (c : ℕ) × After l c x top
+chain_among l x root [] top e h = absurd h
+chain_among l x root (w ∷ ws) top (n, e, u, c) (inl z) =
+    let (d, a) = chain_after l n ws top c in
+    (suc d, (let P : ℕ → Type 0 = λ y. After l (suc d) y top in subst P (sym z) (after_next l d w n top u a)))
+chain_among l x root (w ∷ ws) top (n, e, u, c) (inr z) = chain_among l x n ws top c z
+
+again_after : (l : Linkage) (root : ℕ) (ws : List ℕ) (top next : ℕ) → IsChain l root ws top → (Among next ws ⊎ (next ≡ top)) → (c : ℕ) × After l c next top
+again_after l root ws top next c (inl h) = chain_among l next root ws top c h
+again_after l root ws top next c (inr e) = (0, (let P : ℕ → Type 0 = λ n. After l 0 n top in subst P (sym e) (after_self l top)))
+
+-- an export that needs one which waits for it is circular
+pub met_again : (l : Linkage) (root : ℕ) (ws : List ℕ) (top next : ℕ) → IsChain l root ws top → Leads l top next → (Among next ws ⊎ (next ≡ top)) → (n : ℕ) → exports_through l n top ≡ Err Circular
+met_again l root ws top next c h again =
+    let (d, a) = again_after l root ws top next c again in
+    loops (λ n. exports_through l n top) (λ n. exports_grow l n top) refl d (λ n e. h (d + n) (a n e))
+
+-- an export whose form follows another leads to that
+pub leads_to : (l : Linkage) (top next : ℕ) (e : Exported) → slice_get l.exports top ≡ Some e → Follows l (λ n. value_by l (exports_through l n) e.owner e.form) next → Leads l top next
+leads_to l top next e is h n c = rw is (h n c)

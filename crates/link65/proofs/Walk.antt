@@ -5,19 +5,17 @@ use Rattle.std.proofs.lemmas.Grind.{common_steps}
 use Rattle.std.proofs.lemmas.List.Sums.{sum_by-set}
 use Rattle.std.proofs.lemmas.Option.{gets}
 use Rattle.std.proofs.lemmas.Bool.Decides.{nat_tests}
-use Rattle.link65.specs.declared.evaluation.mark.Attempt.TheVariants as attempt
-use Rattle.link65.specs.declared.evaluation.mark.Mark.{Mark}
-use Rattle.link65.specs.declared.evaluation.mark.Mark.TheVariants.{Untouched, BeingEvaluated, Found}
-use Rattle.link65.specs.declared.evaluation.mark.Stop.{Stop}
-use Rattle.link65.specs.declared.evaluation.mark.Stop.TheVariants.{Fault, Needs}
+use Rattle.link65.specs.declared.evaluation.Attempt.TheVariants as attempt
+use Rattle.link65.specs.declared.evaluation.Mark.{Mark}
+use Rattle.link65.specs.declared.evaluation.Mark.TheVariants.{Untouched, BeingEvaluated, Found}
+use Rattle.link65.specs.declared.evaluation.Stop.{Stop}
+use Rattle.link65.specs.declared.evaluation.Stop.TheVariants.{Fault, Needs}
 use Rattle.link65.specs.declared.parts.Exported.{Exported}
 use Rattle.link65.specs.declared.parts.ValueFault.{ValueFault}
 use Rattle.link65.specs.declared.parts.ValueFault.TheVariants.{Circular, NoValue, Unresolved}
-use Rattle.link65.specs.Marks.{AreSettled, AreTrue, IsFound, KeepsFound, attempt_of, export_tried, tried}
+use Rattle.link65.specs.Placed.{AreSettled, AreTrue, IsFound, KeepsFound, attempt_of, export_tried, tried}
 use Rattle.link65.specs.Values.{ExportComesTo, Linkage, exports_through, value_by}
-use Rattle.link65.proofs.Chain.{Among, IsChain, Leads, chain_less, chain_more, leads_to, met_again}
-use Rattle.link65.proofs.Tries.{AreLong, Meets, Tells, form_tells}
-use Rattle.link65.proofs.Turns.{Reaches}
+use Rattle.link65.proofs.Tries.{Among, IsChain, Leads, chain_less, chain_more, leads_to, met_again, AreLong, Meets, Tells, form_tells, Reaches}
 
 pub record IsWalk (l : Linkage) (old marks : List Mark) (waiting : List ℕ) (root top : ℕ) : Type 0 where
   pub long : length marks ≡ length l.exports

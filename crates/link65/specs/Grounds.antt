@@ -1,13 +1,39 @@
 -- What the code keeps of a program while its modules come.
-use Rattle.std.specs.Prelude.{◌≡◌, ◌≤◌, ℕ, List, [], ◌∷◌, ◌++◌, map, position, replicate, Option, Some, if◌then◌else◌, ⊤}
+use Rattle.std.specs.Prelude.{List, map, replicate, [], ◌∷◌, ◌≡◌, ◌≤◌, ℕ, ◌++◌, position, Option, Some, if◌then◌else◌, ⊤}
+use Rattle.std.specs.List.{flat_map}
+use Rattle.link65.specs.declared.parts.Content.{Content}
+use Rattle.link65.specs.declared.parts.Piece.{Piece}
+use Rattle.link65.specs.declared.parts.Piece.TheVariants.{Known, Filled, Waits}
+use Rattle.link65.specs.declared.parts.Waiting.{Waiting}
+use Rattle.link65.specs.Links.{waiting_in}
+use Rattle.link65.specs.Programs.{Cell, known, filled, waits, Segment, empty_segment, Program}
 use Rattle.std.specs.Str.{bytes_eq}
 use Rattle.object65.specs.declared.item.Item.{Item}
 use Rattle.object65.specs.declared.item.Item.TheVariants as item
 use Rattle.link65.specs.declared.growing.Growing.{Growing}
-use Rattle.link65.specs.Contents.{segments_from}
 use Rattle.link65.specs.Growing.{Growth, with_segments}
-use Rattle.link65.specs.Programs.{Program}
-use Rattle.link65.specs.Segments.{Segment, empty_segment, filled}
+
+-- ---- What a segment holds, as the code keeps it: pieces in place of single bytes.
+
+abbrev pub piece_cells : Piece → List Cell
+piece_cells (Known bytes) = map known bytes
+piece_cells (Filled n) = replicate n filled
+piece_cells (Waits w) = waits w ∷ []
+
+abbrev pub cells_of : List Piece → List Cell
+cells_of pieces = flat_map piece_cells pieces
+
+-- the values that wait in a piece
+abbrev pub piece_waiting : Piece → List Waiting
+piece_waiting p = flat_map waiting_in (piece_cells p)
+
+abbrev pub segment_from : Content → Segment
+segment_from c = record { name = c.name; size = c.size; align = c.align; cells = cells_of c.pieces }
+
+abbrev pub segments_from : List Content → List Segment
+segments_from cs = map segment_from cs
+
+-- ---- What the code keeps of a program while its modules come.
 
 -- a segment with so many bytes of the fill value behind, that don't count yet
 abbrev pub with_gap : ℕ → Segment → Segment

@@ -11,9 +11,7 @@ use Rattle.object65.specs.Record.{Entry}
 use Rattle.object65.specs.Scanning.{Outline, outline_of, scanned}
 use Rattle.object65.specs.Taking.{IsReached, State, object_from, section_from, start}
 use Rattle.link65.specs.declared.parts.SectionPlace.{SectionPlace}
-use Rattle.link65.specs.Modules.{Module}
-use Rattle.link65.specs.Programs.{Program, asserted, exported, with_module}
-use Rattle.link65.specs.Segments.{Cell, Segment, fragment_cells, section_place, section_places, with_section, with_sections}
+use Rattle.link65.specs.Programs.{Module, Program, asserted, exported, with_module, Cell, Segment, fragment_cells, section_place, section_places, with_section, with_sections}
 
 -- The program of the modules before the open one, with what that one has put into segments, exports and assertions
 -- so far; the places of its sections, its imports, and the names of its files.

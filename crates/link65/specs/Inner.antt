@@ -1,5 +1,4 @@
 -- What only the contracts within the crate cite: definitions in the terms of its code.
 pub mod Fields
-pub mod Laying
 pub mod Loads
 pub mod Missing

@@ -3,13 +3,12 @@ use Rattle.std.specs.Prelude.{◌≡◌, ℕ, ℤ, false, List, Result}
 use Rattle.object65.specs.Form.{Form}
 use Rattle.script65.specs.declared.script.Script.{Script}
 use Rattle.link65.specs.declared.fault.LinkFault.{LinkFault}
-use Rattle.link65.specs.declared.linked.Linked.{Linked}
+use Rattle.link65.specs.declared.linking.Linked.{Linked}
 use Rattle.link65.specs.declared.parts.ValueFault.{ValueFault}
 use Rattle.link65.specs.Links.{LinkOf}
-use Rattle.link65.specs.Modules.{Module}
-use Rattle.link65.specs.Programs.{program_of}
+use Rattle.link65.specs.Programs.{Module, program_of}
 use Rattle.link65.specs.Values.{ComesTo, Linkage}
-use Rattle.link65.specs.WeakNames.{SameImages, is_used, with_weak}
+use Rattle.link65.specs.Names.{SameImages, is_used, with_weak}
 
 -- a link has one outcome
 abbrev pub OneOutcomeLaw : Type 0

@@ -1,5 +1,28 @@
--- A placed program whose exports are all found, as the code holds it, and what it comes to but for its files.
-use Rattle.std.specs.Prelude.{◌≡◌, ◌++◌, ◌∷◌, [], ℕ, ℤ, List, codes, map, Result, Ok, Err}
+-- A placed program as the code holds it, how its exports are found, and what it comes to but for its files.
+use Rattle.std.specs.Prelude.{◌≡◌, ◌≢◌, ◌<◌, ℕ, ℤ, List, length, map, slice_get, Option, Some, None, Result, Ok, Err, ◌++◌, ◌∷◌, [], codes}
+use Rattle.object65.specs.Form.{Form}
+use Rattle.object65.specs.FormValue.{value_in}
+use Rattle.link65.specs.declared.evaluation.Attempt.{Attempt}
+use Rattle.link65.specs.declared.evaluation.Attempt.TheVariants as attempt
+use Rattle.link65.specs.declared.evaluation.Mark.{Mark}
+use Rattle.link65.specs.declared.evaluation.Mark.TheVariants.{Untouched, BeingEvaluated, Found}
+use Rattle.link65.specs.declared.evaluation.Stop.{Stop}
+use Rattle.link65.specs.declared.evaluation.Stop.TheVariants.{Fault, Needs}
+use Rattle.link65.specs.declared.parts.Exported.{Exported}
+use Rattle.link65.specs.declared.parts.Giver.{Giver}
+use Rattle.link65.specs.declared.parts.Giver.TheVariants.{ByModule, ByScript, Nobody}
+use Rattle.link65.specs.declared.parts.Resolved.{Resolved}
+use Rattle.link65.specs.declared.parts.ValueFault.{ValueFault}
+use Rattle.link65.specs.declared.parts.ValueFault.TheVariants.{Circular, NoValue, Unresolved}
+use Rattle.link65.specs.Values.{ExportComesTo, Linkage, base_of, giver_at, AreExports, Exports, in_table, linkage, value_by, address_of, linkage_of, cell_bytes, or_zero, row_bytes}
+use Rattle.std.specs.Str.{bytes_eq}
+use Rattle.indexmap.specs.IndexMap.{get_by}
+use Rattle.link65.specs.declared.resolving.Addresses.{Addresses}
+use Rattle.link65.specs.declared.resolving.Names.{Names}
+use Rattle.link65.specs.declared.resolving.Places.{Places}
+use Rattle.link65.specs.declared.parts.Member.{Member}
+use Rattle.link65.specs.Names.{giver_of, script_definitions, weak_symbols}
+use Rattle.link65.specs.Programs.{position_in, flat_zip, Program, Cell, Segment}
 use Rattle.std.specs.Int.{w64, cast_unsigned}
 use Rattle.std.specs.List.{flat_map}
 use Rattle.base65.specs.Outcome.{First}
@@ -11,26 +34,114 @@ use Rattle.script65.specs.declared.script.Script.{Script}
 use Rattle.link65.specs.declared.fault.LinkFault.{LinkFault}
 use Rattle.link65.specs.declared.finishing.Passed.{Passed}
 use Rattle.link65.specs.declared.parts.Definition.{Definition}
-use Rattle.link65.specs.declared.parts.Exported.{Exported}
-use Rattle.link65.specs.declared.parts.Member.{Member}
-use Rattle.link65.specs.declared.parts.ValueFault.{ValueFault}
 use Rattle.link65.specs.declared.parts.Waiting.{Waiting}
-use Rattle.link65.specs.declared.placed.Placed.{Placed}
-use Rattle.link65.specs.declared.resolving.Names.{Names}
-use Rattle.link65.specs.Checks.{check_export, check_waiting}
-use Rattle.link65.specs.Contents.{segments_from}
-use Rattle.link65.specs.Links.{checked}
-use Rattle.link65.specs.Lists.{flat_zip}
-use Rattle.link65.specs.Maps.{definition_line, map_text, member_lines, row_lines, symbol_line, weak_line}
-use Rattle.link65.specs.Marks.{AllFound, table_of}
-use Rattle.link65.specs.Names.{script_definitions, weak_symbols}
-use Rattle.link65.specs.Places.{linkage_of}
-use Rattle.link65.specs.Programs.{Program}
-use Rattle.link65.specs.Resolving.{AreNames}
-use Rattle.link65.specs.RowBytes.{cell_bytes, or_zero, row_bytes}
-use Rattle.link65.specs.Segments.{Cell, Segment}
-use Rattle.link65.specs.Values.{AreExports, Exports, Linkage, in_table, linkage, value_by}
-use Rattle.link65.specs.Warnings.{joined, warnings_of_rows}
+use Rattle.link65.specs.declared.values.Placed.{Placed}
+use Rattle.link65.specs.Links.{check_export, check_waiting, checked}
+use Rattle.link65.specs.Grounds.{segments_from}
+use Rattle.link65.specs.Texts.{definition_line, map_text, member_lines, row_lines, symbol_line, weak_line, joined, warnings_of_rows}
+
+-- ---- What is known of exports while they are evaluated.
+
+-- what was found, or why not
+abbrev pub as_found : Result ℤ ValueFault → Result ℤ Stop
+as_found (Ok v) = Ok v
+as_found (Err e) = Err (Fault e)
+
+-- an export that is met again while it is evaluated is circular
+abbrev pub marked : ℕ → Option Mark → Result ℤ Stop
+marked x None = Err (Fault Unresolved)
+marked x (Some Untouched) = Err (Needs x)
+marked x (Some BeingEvaluated) = Err (Fault Circular)
+marked x (Some (Found r)) = as_found r
+
+abbrev pub import_tried : List Mark → Giver → Result ℤ Stop
+import_tried marks (ByModule x) = marked x (slice_get marks x)
+import_tried marks (ByScript v) = Ok v
+import_tried marks Nobody = Err (Fault Unresolved)
+
+-- a form's value as far as exports are known, or what it needs first
+abbrev pub tried : Option Resolved → List Mark → Form → Result ℤ Stop
+tried m marks f = value_in (Fault NoValue) (base_of m) (λ j. import_tried marks (giver_at m j)) f
+
+-- what was found of exports is what they come to
+abbrev pub AreTrue : Linkage → List Mark → Type 0
+AreTrue l marks = (x : ℕ) (r : Result ℤ ValueFault) → slice_get marks x ≡ Some (Found r) → ExportComesTo l x r
+
+abbrev pub attempt_of : Result ℤ Stop → Attempt
+attempt_of (Ok v) = attempt.Settled (Ok v)
+attempt_of (Err (Fault e)) = attempt.Settled (Err e)
+attempt_of (Err (Needs x)) = attempt.Needs x
+
+abbrev pub export_tried : List Resolved → List Mark → Option Exported → Attempt
+export_tried modules marks None = attempt.Settled (Err Unresolved)
+export_tried modules marks (Some e) = attempt_of (tried (slice_get modules e.owner) marks e.form)
+
+abbrev pub IsFound : List Mark → ℕ → Type 0
+IsFound marks x = (r : Result ℤ ValueFault) × (slice_get marks x ≡ Some (Found r))
+
+-- a mark for each export, none of which is being evaluated, and what was found is true
+pub record AreSettled (l : Linkage) (marks : List Mark) : Type 0 where
+  pub long : length marks ≡ length l.exports
+  pub all_true : AreTrue l marks
+  pub at_rest : (x : ℕ) → slice_get marks x ≢ Some BeingEvaluated
+
+-- all that was found stays found
+abbrev pub KeepsFound : List Mark → List Mark → Type 0
+KeepsFound old new = (x : ℕ) → IsFound old x → IsFound new x
+
+-- ---- All exports.
+
+-- a mark for each of so many exports, all untouched
+pub record AreUntouched (count : ℕ) (marks : List Mark) : Type 0 where
+  pub long : length marks ≡ count
+  pub each : (x : ℕ) → x < count → slice_get marks x ≡ Some Untouched
+
+abbrev pub AllFound : List Mark → Type 0
+AllFound marks = (x : ℕ) → x < length marks → IsFound marks x
+
+-- all is found, and true
+pub record AreAllFound (l : Linkage) (marks : List Mark) : Type 0 where
+  pub settled : AreSettled l marks
+  pub found : AllFound marks
+
+abbrev pub outcome_of : Mark → Result ℤ ValueFault
+outcome_of Untouched = Err Unresolved
+outcome_of BeingEvaluated = Err Circular
+outcome_of (Found r) = r
+
+-- what exports come to, in order
+abbrev pub table_of : List Mark → List (Result ℤ ValueFault)
+table_of marks = map outcome_of marks
+
+-- what an attempt answered where nothing is needed any more
+abbrev pub as_outcome : Result ℤ Stop → Result ℤ ValueFault
+as_outcome (Ok v) = Ok v
+as_outcome (Err (Fault e)) = Err e
+as_outcome (Err (Needs x)) = Err Circular
+
+-- ---- Names by place, as the code holds them.
+
+-- the place of the first of names that equals one is found
+abbrev pub IsTable : Places → List (List ℕ) → Type 0
+IsTable t names = (name : List ℕ) → get_by (λ k. bytes_eq name k.now) t.by_name ≡ position_in names name
+
+-- the names of each kind are found
+pub record AreNames (n : Names) : Type 0 where
+  pub own : IsTable n.own_places (map (λ d. d.name) n.own.now)
+  pub exports : IsTable n.export_places (map (λ e. e.name) n.exports.now)
+  pub weak : IsTable n.weak_places (map (λ d. d.name) n.weak.now)
+
+abbrev pub giver_in : Names → List ℕ → Giver
+giver_in n name = giver_of n.own.now n.exports.now n.weak.now name
+
+-- the rows are found by name
+abbrev pub AreAddresses : Addresses → Type 0
+AreAddresses a = IsTable a.by_name (map (λ r. r.name) a.rows.now)
+
+abbrev pub resolved_by : Names → Addresses → Member → Resolved
+resolved_by n a m = record { bases = map (address_of a.rows.now a.places.now) m.sections; givers = map (giver_in n) m.imports }
+
+-- ---- A placed program whose exports are all found, as the code holds it, and what it comes to but for its files.
 
 abbrev pub linkage_in : Placed → Linkage
 linkage_in p = linkage p.modules.now p.exports.now

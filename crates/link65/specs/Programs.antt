@@ -1,12 +1,111 @@
--- What modules come to before anything is placed: all that a link needs of them.
-use Rattle.std.specs.Prelude.{ℕ, List, [], ◌∷◌, ◌++◌, map, length}
+-- Programs: modules one behind the other, and what they put into segments.
+use Rattle.std.specs.Prelude.{ℕ, List, [], ◌∷◌, ◌++◌, Option, Some, None, ◌+◌, ◌-◌, ◌^◌, max, map, replicate, find, if◌then◌else◌, length}
+use Rattle.std.specs.List.{position_from, flat_map}
+use Rattle.std.specs.Str.{bytes_eq}
+use Rattle.object65.specs.declared.object.Object.{Object}
+use Rattle.std.specs.Option.{option_map_or}
+use Rattle.object65.specs.declared.object.Section.{Section}
+use Rattle.object65.specs.declared.object.Fragment.{Fragment}
+use Rattle.object65.specs.declared.object.Fragment.TheVariants.{Literal, Fill, Value}
+use Rattle.object65.specs.Objects.{section_len}
+use Rattle.script65.specs.Placing.{rounded_up}
+use Rattle.link65.specs.declared.parts.Waiting.{Waiting}
+use Rattle.link65.specs.declared.parts.SectionPlace.{SectionPlace}
 use Rattle.object65.specs.declared.object.Assert.{Assert}
 use Rattle.object65.specs.declared.object.Export.{Export}
 use Rattle.link65.specs.declared.parts.Asserted.{Asserted}
 use Rattle.link65.specs.declared.parts.Exported.{Exported}
 use Rattle.link65.specs.declared.parts.Member.{Member}
-use Rattle.link65.specs.Modules.{Module}
-use Rattle.link65.specs.Segments.{Segment, section_places, with_sections}
+
+-- ---- Lists beside each other, and places by name.
+
+-- what comes of the items of two lists that stand at one place, in order
+abbrev pub flat_zip : {A B C : Type 0} → (A → B → List C) → List A → List B → List C
+flat_zip f (x ∷ xs) (y ∷ ys) = f x y ++ flat_zip f xs ys
+flat_zip f [] ys = []
+flat_zip f (x ∷ xs) [] = []
+
+-- what comes of an item and what may stand beside it
+abbrev pub with_beside : {A B C : Type 0} → (A → B → List C) → A → Option B → List C
+with_beside f x (Some y) = f x y
+with_beside f x None = []
+
+-- the place of the first name that equals one
+abbrev pub position_in : List (List ℕ) → List ℕ → Option ℕ
+position_in names name = position_from (λ n. bytes_eq n name) 0 names
+
+-- ---- What is linked.
+
+-- an object and the name by which it was given
+pub record Module : Type 0 where
+  pub name : List ℕ
+  pub object : Object
+
+-- ---- What segments hold: each module's section behind those of the modules before it.
+
+-- what lies in a segment: a byte that is known, a byte of the fill value, or the bytes of a value that waits
+pub data Cell : Type 0 where
+  known : ℕ → Cell
+  filled : Cell
+  waits : Waiting → Cell
+
+-- a segment's size, the largest alignment of its sections, and what lies in it from its start on
+pub record Segment : Type 0 where
+  pub name : List ℕ
+  pub size : ℕ
+  pub align : ℕ
+  pub cells : List Cell
+
+abbrev pub empty_segment : List ℕ → Segment
+empty_segment name = record { name = name; size = 0; align = 1; cells = [] }
+
+-- what a fragment of the module at a place puts into its segment
+abbrev pub fragment_cells : ℕ → Fragment → List Cell
+fragment_cells owner (Literal bytes) = map known bytes
+fragment_cells owner (Fill n) = replicate n filled
+fragment_cells owner (Value width origin form) = waits (record { owner = owner; width = width; origin = origin; form = form }) ∷ []
+
+abbrev pub align_of : Section → ℕ
+align_of s = 2 ^ s.align
+
+-- a section begins at the least multiple of its own alignment that isn't below the end before it
+abbrev pub begin_behind : ℕ → Section → ℕ
+begin_behind end s = rounded_up end (align_of s)
+
+-- a segment with a section behind what it has
+abbrev pub grown : ℕ → Segment → Section → Segment
+grown owner g s = record {
+  name = g.name;
+  size = begin_behind g.size s + section_len s;
+  align = max g.align (align_of s);
+  cells = g.cells ++ replicate (begin_behind g.size s - g.size) filled ++ flat_map (fragment_cells owner) s.fragments;
+}
+
+-- segments with a section in the one of its name, which is begun behind the others where there is none
+abbrev pub with_section : ℕ → List Segment → Section → List Segment
+with_section owner [] s = grown owner (empty_segment s.name) s ∷ []
+with_section owner (g ∷ gs) s = if bytes_eq g.name s.name then grown owner g s ∷ gs else g ∷ with_section owner gs s
+
+abbrev pub with_sections : ℕ → List Segment → List Section → List Segment
+with_sections owner gs [] = gs
+with_sections owner gs (s ∷ ss) = with_sections owner (with_section owner gs s) ss
+
+-- the segment of a name, if there is one
+abbrev pub segment_of : List Segment → List ℕ → Option Segment
+segment_of gs name = find (λ g. bytes_eq g.name name) gs
+
+abbrev pub end_of : List Segment → List ℕ → ℕ
+end_of gs name = option_map_or (λ g. g.size) (segment_of gs name) 0
+
+-- where a section lies in its segment, behind what the segments hold before it
+abbrev pub section_place : List Segment → Section → SectionPlace
+section_place gs s = record { segment = s.name; offset = begin_behind (end_of gs s.name) s; size = section_len s }
+
+abbrev pub section_places : ℕ → List Segment → List Section → List SectionPlace
+section_places owner gs [] = []
+section_places owner gs (s ∷ ss) = section_place gs s ∷ section_places owner (with_section owner gs s) ss
+
+-- ---- What modules come to before anything is placed: all that a link needs of them.
 
 -- A member is a module's name, the places of its sections in their segments, the names that it imports, and those of its files. An
 -- owner is a member's place.

@@ -1,7 +1,12 @@
--- What a linker stands for: the modules that it was fed, and the records so far of the one that is open.
-use Rattle.std.specs.Prelude.{◌≡◌, ◌++◌, ◌∷◌, [], ℕ, ◌⊎◌, List, length, Option, Some, None, is_some, Bool, true, false, Result, Ok, Err, OnOk, ◌==◌, if◌then◌else◌}
-use Rattle.std.specs.Option.{option_map}
+-- What a linker stands for, and where its calls lead.
+use Rattle.std.specs.Prelude.{ℕ, List, [], ◌∷◌, ◌++◌, map, Result, Ok, Err, if◌then◌else◌, ◌≡◌, ◌⊎◌, length, Option, Some, None, is_some, Bool, true, false, OnOk, ◌==◌}
 use Rattle.base65.specs.Outcome.{◌>>=◌, Finds, Gives, Refuses}
+use Rattle.link65.specs.declared.fault.LinkFault.{LinkFault}
+use Rattle.link65.specs.declared.fault.LinkFault.TheVariants.{DuplicateExport}
+use Rattle.link65.specs.declared.given.Given.{Given}
+use Rattle.link65.specs.Names.{first_again, is_among, given_names}
+use Rattle.link65.specs.Links.{no_name_again, LinkOf, names_once}
+use Rattle.std.specs.Option.{option_map}
 use Rattle.object65.specs.declared.fault.ObjectFault.{ObjectFault}
 use Rattle.object65.specs.declared.object.Object.{Object}
 use Rattle.object65.specs.Record.{Entry}
@@ -10,17 +15,32 @@ use Rattle.object65.specs.Taking.{IsReached, State, after, finished, start}
 use Rattle.library65.specs.declared.index.Entry.{Entry as Listing}
 use Rattle.library65.specs.Libraries.{agrees, contents_from}
 use Rattle.script65.specs.declared.script.Script.{Script}
-use Rattle.link65.specs.declared.fault.LinkFault.{LinkFault}
 use Rattle.link65.specs.declared.fault.LinkFault.TheVariants as fault
 use Rattle.link65.specs.Faults.{is_memory}
 use Rattle.link65.specs.Growing.{Growth, at_rest, growth_of}
-use Rattle.link65.specs.Modules.{Module}
-use Rattle.link65.specs.Programs.{Program, program_of}
-use Rattle.link65.specs.GivenTwice.{all_once}
-use Rattle.link65.specs.Givers.{given_names}
-use Rattle.link65.specs.declared.linked.Linked.{Linked}
-use Rattle.link65.specs.Links.{LinkOf, names_once}
-use Rattle.link65.specs.declared.listed.Listed.{Listed}
+use Rattle.link65.specs.Programs.{Module, Program, program_of}
+use Rattle.link65.specs.declared.linking.Linked.{Linked}
+use Rattle.link65.specs.declared.feeding.Listed.{Listed}
+
+-- ---- Names of which none may be given twice, as the code keeps them while modules come.
+
+-- the names that are given so far, in their order
+abbrev pub names_in : Given → List (List ℕ)
+names_in g = map (λ n. n.items) g.names.keys
+
+-- names behind others, none of which equals one before it, or else the first that does
+abbrev pub all_once : List (List ℕ) → List (List ℕ) → Result (List (List ℕ)) LinkFault
+all_once before names = no_name_again (first_again before names) >>= (λ u. Ok (before ++ names))
+
+-- the same, name by name
+abbrev pub with_new : List (List ℕ) → List ℕ → Result (List (List ℕ)) LinkFault
+with_new before name = if is_among before name then Err (DuplicateExport name) else Ok (before ++ name ∷ [])
+
+abbrev pub with_each : List (List ℕ) → List (List ℕ) → Result (List (List ℕ)) LinkFault
+with_each before [] = Ok before
+with_each before (name ∷ names) = with_new before name >>= (λ more. with_each more names)
+
+-- ---- What a linker stands for: the modules that it was fed, and the records so far of the one that is open.
 
 -- a module that is open: its name, and what is kept of its records beside what grows
 pub record Opened : Type 0 where

@@ -1,5 +1,5 @@
--- The value of a form among linked modules.
-use Rattle.std.specs.Prelude.{◌≡◌, ℕ, zero, suc, ◌<◌, ℤ, pos, List, length, get_or, slice_get, Option, Some, None, Result, Ok, Err}
+-- What forms come to: addresses of sections, values of exports, the bytes of rows.
+use Rattle.std.specs.Prelude.{◌≡◌, ℕ, zero, suc, ◌<◌, ℤ, pos, List, length, get_or, slice_get, Option, Some, None, Result, Ok, Err, ◌+◌, ◌%◌, ◌^◌, map, if◌then◌else◌, [], ◌∷◌}
 use Rattle.object65.specs.Form.{Form}
 use Rattle.object65.specs.FormValue.{value_in}
 use Rattle.link65.specs.declared.parts.Exported.{Exported}
@@ -8,6 +8,24 @@ use Rattle.link65.specs.declared.parts.Giver.TheVariants.{ByModule, ByScript, No
 use Rattle.link65.specs.declared.parts.Resolved.{Resolved}
 use Rattle.link65.specs.declared.parts.ValueFault.{ValueFault}
 use Rattle.link65.specs.declared.parts.ValueFault.TheVariants.{Circular, NoValue, Unresolved}
+use Rattle.std.specs.Int.{w64, cast_signed}
+use Rattle.std.specs.Option.{option_map_or}
+use Rattle.script65.specs.declared.placement.Placement.{Placement}
+use Rattle.script65.specs.declared.placement.RowPlace.{RowPlace}
+use Rattle.script65.specs.declared.placement.SegmentNeed.{SegmentNeed}
+use Rattle.script65.specs.declared.script.Row.{Row}
+use Rattle.script65.specs.declared.script.Script.{Script}
+use Rattle.link65.specs.declared.parts.Member.{Member}
+use Rattle.link65.specs.declared.parts.SectionPlace.{SectionPlace}
+use Rattle.link65.specs.Names.{giver_of, script_definitions, weak_symbols}
+use Rattle.link65.specs.Programs.{position_in, Program, Segment, Cell, known, filled, waits, segment_of}
+use Rattle.std.specs.List.{flat_map}
+use Rattle.object65.specs.declared.object.Width.{Width}
+use Rattle.object65.specs.Objects.{fits_width, value_bytes}
+use Rattle.link65.specs.Files.{RowBytes}
+use Rattle.script65.specs.Access.{is_written}
+
+-- ---- The value of a form among linked modules.
 
 -- of each module the addresses of its sections and who gives its imports, and the exports of all modules
 pub record Linkage : Type 0 where
@@ -68,3 +86,63 @@ in_table table x = get_or table x (Err Unresolved)
 
 abbrev pub linkage : List Resolved → List Exported → Linkage
 linkage modules exports = record { modules = modules; exports = exports }
+
+-- ---- Where sections lie by a placement, and who gives each import.
+
+-- what a segment needs of its row
+abbrev pub need_of : Segment → SegmentNeed
+need_of g = record { name = g.name; size = g.size; align = g.align }
+
+-- the needs of segments, in the order in which modules first show them
+abbrev pub needs_of : Program → List SegmentNeed
+needs_of p = map need_of p.segments
+
+abbrev pub run_at : List RowPlace → Option ℕ → ℕ
+run_at places (Some i) = option_map_or (λ p. p.run) (slice_get places i) 0
+run_at places None = 0
+
+-- the address at which a segment runs: that of its row
+abbrev pub run_of : List Row → List RowPlace → List ℕ → ℕ
+run_of rows places name = run_at places (position_in (map (λ r. r.name) rows) name)
+
+-- modulo 2 ^ 64, as a signed number
+abbrev pub address_of : List Row → List RowPlace → SectionPlace → ℤ
+address_of rows places p = cast_signed w64 ((run_of rows places p.segment + p.offset) % 2 ^ 64)
+
+-- a module's sections at their addresses, and who gives its imports
+abbrev pub resolved : Script → Program → Placement → Member → Resolved
+resolved s program p m = record {
+  bases = map (address_of s.rows p.rows) m.sections;
+  givers = map (giver_of (script_definitions s p) program.exports (weak_symbols s.symbols)) m.imports;
+}
+
+abbrev pub linkage_of : Script → Program → Placement → Linkage
+linkage_of s program p = record { modules = map (resolved s program p) program.members; exports = program.exports }
+
+-- ---- The bytes of rows.
+
+abbrev pub or_zero : Result ℤ ValueFault → ℤ
+or_zero (Ok v) = v
+or_zero (Err e) = pos 0
+
+-- the bytes of a value, which has been found to fit
+abbrev pub stored : Width → ℤ → List ℕ
+stored width v = if fits_width width v then value_bytes width v else []
+
+-- the bytes of a cell, by the row's fill value and what exports come to
+abbrev pub cell_bytes : Linkage → Exports → ℕ → Cell → List ℕ
+cell_bytes l exports fill (known b) = b ∷ []
+cell_bytes l exports fill filled = fill ∷ []
+cell_bytes l exports fill (waits w) = stored w.width (or_zero (value_by l exports w.owner w.form))
+
+abbrev pub segment_bytes : Linkage → Exports → ℕ → Option Segment → List ℕ
+segment_bytes l exports fill None = []
+segment_bytes l exports fill (Some g) = flat_map (cell_bytes l exports fill) g.cells
+
+-- the bytes of a segment, where its row is written
+abbrev pub written_segment : Linkage → Exports → Row → Option Segment → List ℕ
+written_segment l exports r o = if is_written r.access then segment_bytes l exports r.fill_value o else []
+
+-- the bytes of a segment, by the fill value of its row
+abbrev pub row_bytes : Linkage → Exports → List Segment → RowBytes
+row_bytes l exports segments r = segment_bytes l exports r.fill_value (segment_of segments r.name)

@@ -1,9 +1,288 @@
 //! The values of forms and of exports, found with a stack of its own.
 
-mod mark;
-mod settling;
-mod trying;
+ghost use Rattle.std.specs.Prelude.{◌≡◌, ◌<◌, ℕ, List, ◌+ℤ◌, length, option_copied, slice_get, ◌≢◌, IfOk, true, false, OnOk, Some};
+ghost use Rattle.base65.specs.Values.{wrapped};
+ghost use Rattle.object65.specs.FormValue.{or_none};
+ghost use Rattle.link65.specs.declared.evaluation.Stop.TheVariants.{Fault};
+ghost use Rattle.link65.specs.declared.parts.Exported.{Exported};
+ghost use Rattle.link65.specs.declared.parts.ValueFault.TheVariants.{NoValue};
+ghost use Rattle.link65.specs.Placed.{AllFound, as_found, as_outcome, attempt_of, export_tried, import_tried, table_of, tried, AreAllFound, AreSettled, AreUntouched, IsFound, KeepsFound};
+ghost use Rattle.link65.specs.Values.{base_of, giver_at, in_table, linkage, value_by};
+ghost use Rattle.link65.specs.declared.evaluation.Mark.TheVariants.{Untouched};
 
-pub use mark::{Attempt, Mark, Stop};
-pub use settling::settle_all;
-pub use trying::value_of;
+use crate::parts::{Exported, Giver, Resolved, ValueFault};
+use base65::{apply1, apply2};
+use object65::{Node, Norm};
+use std::alloc::{AllocError, Global};
+
+/// What is known of an export.
+#[derive(Clone, Copy)]
+pub enum Mark {
+    Untouched,
+    BeingEvaluated,
+    Found(Result<i64, ValueFault>),
+}
+
+/// Why a form has no value so far.
+#[derive(Clone, Copy)]
+pub enum Stop {
+    /// It has none.
+    Fault(ValueFault),
+    /// It needs the export at this place first.
+    Needs(usize),
+}
+
+/// What an attempt at an export gives.
+#[derive(Clone, Copy)]
+pub enum Attempt {
+    /// What it comes to.
+    Settled(Result<i64, ValueFault>),
+    /// It needs the export at this place first.
+    Needs(usize),
+}
+
+fn as_found(outcome: Result<i64, ValueFault>) -> Result<i64, Stop>
+    ensures { result ≡ as_found outcome }
+{
+    match outcome {
+        Ok(value) => Ok(value),
+        Err(fault) => Err(Stop::Fault(fault)),
+    }
+}
+
+/// The value of an import, as far as exports are known.
+fn try_import(marks: &[Mark], giver: Giver) -> Result<i64, Stop>
+    ensures { result ≡ import_tried marks.now giver }
+{
+    match giver {
+        Giver::ByScript(value) => Ok(value),
+        Giver::Nobody => Err(Stop::Fault(ValueFault::Unresolved)),
+        Giver::ByModule(export) => match marks.get(export) {
+            None => Err(Stop::Fault(ValueFault::Unresolved)),
+            Some(Mark::Untouched) => Err(Stop::Needs(export)),
+            Some(Mark::BeingEvaluated) => Err(Stop::Fault(ValueFault::Circular)),
+            Some(Mark::Found(outcome)) => as_found(*outcome),
+        },
+    }
+}
+
+/// Who gives a module's import; nobody does where there is no such module or import.
+fn giver_at(resolved: Option<&Resolved>, place: usize) -> Giver
+    ensures { result ≡ giver_at (option_copied resolved.entry) place }
+{
+    match resolved {
+        None => Giver::Nobody,
+        Some(resolved) => match resolved.givers.as_slice().get(place) {
+            Some(giver) => *giver,
+            None => Giver::Nobody,
+        },
+    }
+}
+
+fn base_at(resolved: Option<&Resolved>, section: usize) -> i64
+    ensures { result ≡ base_of (option_copied resolved.entry) section }
+{
+    match resolved {
+        None => 0,
+        Some(resolved) => match resolved.bases.as_slice().get(section) {
+            Some(base) => *base,
+            None => 0,
+        },
+    }
+}
+
+fn sum(a: i64, b: i64) -> i64
+    ensures { result ≡ wrapped (a +ℤ b) }
+{
+    a.wrapping_add(b)
+}
+
+fn known(outcome: Option<i64>) -> Result<i64, Stop>
+    ensures { result ≡ or_none (Fault NoValue) outcome }
+{
+    match outcome {
+        Some(value) => Ok(value),
+        None => Err(Stop::Fault(ValueFault::NoValue)),
+    }
+}
+
+/// The value of a form of a module as far as exports are known, or what it needs first.
+pub fn try_form(form: &Norm, resolved: Option<&Resolved>, marks: &[Mark]) -> Result<i64, Stop>
+    ensures { result ≡ tried (option_copied resolved.entry) marks.now form.now }
+{
+    match form.node() {
+        Node::Lit(value) => Ok(*value),
+        Node::Sec(section, offset) => Ok(sum(base_at(resolved, *section as usize), *offset)),
+        Node::Imp(place) => try_import(marks, giver_at(resolved, *place as usize)),
+        Node::Prefix(op, part) => {
+            let value = try_form(part, resolved, marks)?;
+            Ok(apply1(*op, value))
+        }
+        Node::Binary(op, left, right) => {
+            let first = try_form(left, resolved, marks)?;
+            let second = try_form(right, resolved, marks)?;
+            known(apply2(*op, first, second))
+        }
+    }
+}
+
+/// The module at a place, if there is one.
+pub fn resolved_at(modules: &[Resolved], owner: usize) -> Option<&Resolved>
+    ensures { option_copied result ≡ slice_get modules.entry.now owner }
+{
+    modules.get(owner)
+}
+
+/// What an attempt gave.
+fn attempt_of(outcome: Result<i64, Stop>) -> Attempt
+    ensures { result ≡ attempt_of outcome }
+{
+    match outcome {
+        Ok(value) => Attempt::Settled(Ok(value)),
+        Err(Stop::Fault(fault)) => Attempt::Settled(Err(fault)),
+        Err(Stop::Needs(export)) => Attempt::Needs(export),
+    }
+}
+
+/// What the export at a place comes to as far as exports are known, or what it needs first.
+pub fn try_export(
+    modules: &[Resolved],
+    exports: &[Exported],
+    marks: &[Mark],
+    place: usize,
+) -> Attempt
+    requires { place < length exports.now }
+    ensures { result ≡ export_tried modules.now marks.now (slice_get exports.now place) }
+{
+    let export = &exports[place];
+    let resolved = resolved_at(modules, export.owner);
+    attempt_of(try_form(&export.form, resolved, marks))
+}
+
+/// What an attempt answered where nothing is needed any more.
+fn as_outcome(attempt: Result<i64, Stop>) -> Result<i64, ValueFault>
+    ensures { result ≡ as_outcome attempt }
+{
+    match attempt {
+        Ok(value) => Ok(value),
+        Err(Stop::Fault(fault)) => Err(fault),
+        Err(Stop::Needs(_)) => Err(ValueFault::Circular),
+    }
+}
+
+/// What a form of the module at a place comes to, where all exports are found.
+pub fn value_of(
+    modules: &[Resolved],
+    marks: &[Mark],
+    owner: usize,
+    form: &Norm,
+) -> Result<i64, ValueFault>
+    requires { AllFound marks.now }
+    ensures { (exports : List Exported) →
+        result ≡ value_by (linkage modules.now exports) (in_table (table_of marks.now)) owner form.now }
+{
+    as_outcome(try_form(form, resolved_at(modules, owner), marks))
+}
+
+/// Finds what the export at a place comes to, and all that it needs.
+fn settle(
+    alloc: Global,
+    modules: &[Resolved],
+    exports: &[Exported],
+    marks: &mut [Mark],
+    root: usize,
+) -> Result<(), AllocError>
+    requires untouched { slice_get marks.old root ≡ Some Untouched }
+    requires settled { AreSettled (linkage modules.now exports.now) marks.old }
+    ensures settled { OnOk result (AreSettled (linkage modules.now exports.now) marks.new) }
+    ensures found { OnOk result (IsFound marks.new root) }
+    ensures kept { OnOk result (KeepsFound marks.old marks.new) }
+{
+    let mut waiting: Vec<usize> = Vec::new(alloc);
+    marks[root] = Mark::BeingEvaluated;
+    let mut top = root;
+    'walk: loop {
+        match try_export(modules, exports, marks, top) {
+            Attempt::Needs(next) => {
+                marks[next] = Mark::BeingEvaluated;
+                waiting.push(top)?;
+                top = next;
+            }
+            Attempt::Settled(outcome) => {
+                marks[top] = Mark::Found(outcome);
+                match waiting.pop() {
+                    None => return Ok(()),
+                    Some(below) => top = below,
+                }
+            }
+        }
+    }
+}
+
+/// As many marks as there are exports, none of which is touched.
+fn untouched(alloc: Global, count: usize) -> Result<Vec<Mark>, AllocError>
+    ensures { IfOk result (λ marks. AreUntouched count marks.items) }
+{
+    let mut marks = Vec::new(alloc);
+    for _ in 0..count {
+        marks.push(Mark::Untouched)?;
+    }
+    Ok(marks)
+}
+
+fn is_untouched(marks: &[Mark], place: usize) -> bool
+    requires { place < length marks.now }
+    ensures untouched { result ≡ true → slice_get marks.now place ≡ Some Untouched }
+    ensures touched { result ≡ false → slice_get marks.now place ≢ Some Untouched }
+{
+    matches!(marks[place], Mark::Untouched)
+}
+
+/// Finds what the export at a place comes to, if it isn't found yet.
+fn settle_once(
+    alloc: Global,
+    modules: &[Resolved],
+    exports: &[Exported],
+    marks: &mut [Mark],
+    root: usize,
+) -> Result<(), AllocError>
+    requires inside { root < length marks.old }
+    requires settled { AreSettled (linkage modules.now exports.now) marks.old }
+    ensures settled { OnOk result (AreSettled (linkage modules.now exports.now) marks.new) }
+    ensures found { OnOk result (IsFound marks.new root) }
+    ensures kept { OnOk result (KeepsFound marks.old marks.new) }
+{
+    if !is_untouched(marks, root) {
+        return Ok(());
+    }
+    settle(alloc, modules, exports, marks, root)
+}
+
+/// Finds what each export comes to.
+fn settle_each(
+    alloc: Global,
+    modules: &[Resolved],
+    exports: &[Exported],
+    marks: &mut [Mark],
+) -> Result<(), AllocError>
+    requires { AreSettled (linkage modules.now exports.now) marks.old }
+    ensures { OnOk result (AreAllFound (linkage modules.now exports.now) marks.new) }
+{
+    for root in 0..marks.len() {
+        settle_once(alloc, modules, exports, marks, root)?;
+    }
+    Ok(())
+}
+
+/// Finds what all exports come to, used or not.
+pub fn settle_all(
+    alloc: Global,
+    modules: &[Resolved],
+    exports: &[Exported],
+) -> Result<Vec<Mark>, AllocError>
+    ensures { IfOk result (λ marks. AreAllFound (linkage modules.now exports.now) marks.items) }
+{
+    let mut marks = untouched(alloc, exports.len())?;
+    settle_each(alloc, modules, exports, marks.as_mut_slice())?;
+    Ok(marks)
+}

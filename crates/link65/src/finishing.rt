@@ -1,24 +1,168 @@
-//! What a placed program comes to but for its files.
+//! What a placed program comes to but for its files: the bytes of its rows, what is warned of, the map.
 
-ghost use Rattle.std.specs.Prelude.{◌≡◌, ◌++◌, IfOk, map};
-ghost use Rattle.base65.specs.Outcome.{Finds, Gives};
+ghost use Rattle.std.specs.Prelude.{◌≡◌, ◌++◌, IfOk, OnOk, Some, map, replicate};
+ghost use Rattle.std.specs.List.{flat_map};
+ghost use Rattle.base65.specs.Outcome.{Gives, Finds};
 ghost use Rattle.link65.specs.Files.{written};
+ghost use Rattle.link65.specs.Links.{each_passes, waiting_by_row, waiting_of, checked};
+ghost use Rattle.link65.specs.Grounds.{cells_of, piece_cells, piece_waiting, segment_from};
 ghost use Rattle.link65.specs.Faults.{is_memory};
-ghost use Rattle.link65.specs.Links.{checked};
-ghost use Rattle.link65.specs.Placed.{AreOf, IsPassed, IsReady, bytes_in, exports_in, linkage_in, program_in, segments_in, values_in};
-ghost use Rattle.link65.specs.Warnings.{warnings_of_rows};
+ghost use Rattle.link65.specs.Placed.{AllFound, IsReady, bytes_in, cell_in, check_in, exports_in, linkage_in, segments_in, AreOf, IsPassed, program_in, values_in};
+ghost use Rattle.link65.specs.Values.{or_zero, stored, written_segment, value_by};
+ghost use Rattle.link65.specs.Programs.{segment_of};
+ghost use Rattle.link65.specs.Texts.{warnings_of_rows};
 
-use crate::asserting::check_assertions;
 use crate::fault::LinkFault;
 use crate::mapping::{map_text, symbols_text};
-use crate::placed::Placed;
+use crate::parts::{Content, Piece, Waiting};
 use crate::resolving::Names;
-use crate::rows::rows_of;
-use crate::values::export_values;
-use crate::warning::warnings_of;
+use crate::texts::warnings_of;
+use crate::values::{Placed, check_assertions, content_of, datum_value, export_values};
 use base65::Sequence;
-use script65::{Placement, Script};
+use object65::put;
+use script65::{Placement, Row, Script};
 use std::alloc::{AllocError, Global};
+
+/// Adds a byte so many times.
+fn add_fill(bytes: &mut Vec<u8>, count: u32, fill: u8) -> Result<(), AllocError>
+    ensures { OnOk result (bytes.new.items ≡ bytes.old.items ++ replicate count fill) }
+{
+    match bytes.len().checked_add(count as usize) {
+        Some(len) => bytes.resize(len, fill),
+        None => Err(AllocError),
+    }
+}
+
+/// Adds the bytes of a value.
+fn add_value(
+    alloc: Global,
+    program: &Placed<'_>,
+    waiting: &Waiting,
+    bytes: &mut Vec<u8>,
+) -> Result<(), LinkFault>
+    requires { AllFound program.now.marks.now }
+    ensures checked { Gives is_memory (λ u. u) result (check_in program.now waiting.now) }
+    ensures bytes { OnOk result (bytes.new.items ≡ bytes.old.items ++ stored waiting.now.width (or_zero (value_by (linkage_in program.now) (exports_in program.now) waiting.now.owner waiting.now.form))) }
+{
+    let value = datum_value(alloc, program, waiting)?;
+    bytes.extend_from_slice(put(waiting.width, value).as_slice())?;
+    Ok(())
+}
+
+/// Adds the bytes of a piece, or refuses one whose value is missing or doesn't fit.
+fn add_piece(
+    alloc: Global,
+    program: &Placed<'_>,
+    fill: u8,
+    piece: &Piece,
+    bytes: &mut Vec<u8>,
+) -> Result<(), LinkFault>
+    requires { AllFound program.now.marks.now }
+    ensures checked { Gives is_memory (λ u. u) result (each_passes (check_in program.now) (piece_waiting piece.now)) }
+    ensures bytes { OnOk result (bytes.new.items ≡ bytes.old.items ++ flat_map (cell_in program.now fill) (piece_cells piece.now)) }
+{
+    match piece {
+        Piece::Known(known) => Ok(bytes.extend_from_slice(known.as_slice())?),
+        Piece::Filled(count) => Ok(add_fill(bytes, *count, fill)?),
+        Piece::Waits(waiting) => add_value(alloc, program, waiting, bytes),
+    }
+}
+
+/// The bytes of pieces, for which there is room; the first whose value is missing or doesn't fit is refused.
+fn bytes_of_pieces(
+    alloc: Global,
+    program: &Placed<'_>,
+    fill: u8,
+    pieces: &[Piece],
+    room: usize,
+) -> Result<Sequence<u8>, LinkFault>
+    requires { AllFound program.now.marks.now }
+    ensures checked { Gives is_memory (λ _. tt) result (each_passes (check_in program.now) (flat_map piece_waiting pieces.now)) }
+    ensures bytes { IfOk result (λ bytes. bytes ≡ flat_map (cell_in program.now fill) (cells_of pieces.now)) }
+{
+    let mut bytes = Vec::with_capacity(alloc, room)?;
+    for piece in pieces {
+        add_piece(alloc, program, fill, piece, &mut bytes)?;
+    }
+    Ok(Sequence::from_vec(bytes))
+}
+
+/// Refuses a piece whose value is missing or doesn't fit.
+fn check_piece(alloc: Global, program: &Placed<'_>, piece: &Piece) -> Result<(), LinkFault>
+    requires { AllFound program.now.marks.now }
+    ensures { Gives is_memory (λ u. u) result (each_passes (check_in program.now) (piece_waiting piece.now)) }
+{
+    match piece {
+        Piece::Waits(waiting) => {
+            datum_value(alloc, program, waiting)?;
+            Ok(())
+        }
+        Piece::Known(_) => Ok(()),
+        Piece::Filled(_) => Ok(()),
+    }
+}
+
+/// Refuses the first of pieces whose value is missing or doesn't fit.
+fn check_pieces(alloc: Global, program: &Placed<'_>, pieces: &[Piece]) -> Result<(), LinkFault>
+    requires { AllFound program.now.marks.now }
+    ensures { Gives is_memory (λ u. u) result (each_passes (check_in program.now) (flat_map piece_waiting pieces.now)) }
+{
+    for piece in pieces {
+        check_piece(alloc, program, piece)?;
+    }
+    Ok(())
+}
+
+/// The bytes of a row's segment, where it is written; the values are checked of any row.
+fn bytes_of_content(
+    alloc: Global,
+    program: &Placed<'_>,
+    row: &Row,
+    content: &Content,
+) -> Result<Sequence<u8>, LinkFault>
+    requires { AllFound program.now.marks.now }
+    ensures checked { Gives is_memory (λ _. tt) result (each_passes (check_in program.now) (flat_map piece_waiting content.now.pieces)) }
+    ensures bytes { IfOk result (λ bytes. bytes ≡ written_segment (linkage_in program.now) (exports_in program.now) row.now (Some (segment_from content.now))) }
+{
+    let pieces = content.pieces.as_slice();
+    if row.access.is_written() {
+        let room = content.size as usize;
+        bytes_of_pieces(alloc, program, row.fill_value, pieces, room)
+    } else {
+        check_pieces(alloc, program, pieces)?;
+        Ok(Sequence::new(alloc))
+    }
+}
+
+/// The bytes of a row, where it is written, or the first fault of its values.
+fn bytes_of_row(alloc: Global, program: &Placed<'_>, row: &Row) -> Result<Sequence<u8>, LinkFault>
+    requires { IsReady program.now }
+    ensures checked { Gives is_memory (λ _. tt) result (each_passes (check_in program.now) (waiting_of (segment_of (segments_in program.now) row.now.name))) }
+    ensures bytes { IfOk result (λ bytes. bytes ≡ written (bytes_in program.now) row.now) }
+{
+    match content_of(program, row.name.as_slice()) {
+        Some(content) => bytes_of_content(alloc, program, row, content),
+        None => Ok(Sequence::new(alloc)),
+    }
+}
+
+/// The bytes of each row that is written, and none of any other. The first value that is missing or doesn't fit is
+/// refused, by row, module and fragment, whether its row is written or not.
+pub fn rows_of(
+    alloc: Global,
+    program: &Placed<'_>,
+    rows: &[Row],
+) -> Result<Vec<Sequence<u8>>, LinkFault>
+    requires { IsReady program.now }
+    ensures checked { Gives is_memory (λ _. tt) result (each_passes (check_in program.now) (waiting_by_row rows.now (segments_in program.now))) }
+    ensures bytes { IfOk result (λ all. all.items ≡ map (written (bytes_in program.now)) rows.now) }
+{
+    let mut all = Vec::with_capacity(alloc, rows.len())?;
+    for row in rows {
+        all.push(bytes_of_row(alloc, program, row)?)?;
+    }
+    Ok(all)
+}
 
 /// What a placed program comes to but for its files.
 #[derive(Drop)]

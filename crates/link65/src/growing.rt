@@ -4,18 +4,15 @@ ghost use Rattle.std.specs.Prelude.{◌≡◌, ◌≤◌, ◌<◌, ◌+◌, ◌-
 ghost use Rattle.object65.specs.Objects.{fragment_len};
 ghost use Rattle.script65.specs.Placing.{rounded_up};
 ghost use Rattle.base65.specs.Outcome.{Gives};
-ghost use Rattle.link65.specs.Contents.{cells_of, segment_from, segments_from};
-ghost use Rattle.link65.specs.declared.contents.Content.{Content};
+ghost use Rattle.link65.specs.Grounds.{cells_of, segment_from, segments_from, AreNamed, IsSmall, growth_in, having, names_in, place_in, with_gap, with_name};
+ghost use Rattle.link65.specs.declared.parts.Content.{Content};
 ghost use Rattle.link65.specs.declared.parts.SectionPlace.{SectionPlace};
 ghost use Rattle.link65.specs.Faults.{is_memory};
-ghost use Rattle.link65.specs.Grounds.{AreNamed, IsSmall, growth_in, having, names_in, place_in, with_gap, with_name};
 ghost use Rattle.link65.specs.Growing.{at_rest, bare_section, ended, grown_by, longer, with_bare, with_cells, with_part};
-ghost use Rattle.link65.specs.Programs.{no_program};
-ghost use Rattle.link65.specs.Segments.{empty_segment, fragment_cells, grown};
+ghost use Rattle.link65.specs.Programs.{no_program, empty_segment, fragment_cells, grown};
 
-use crate::contents::{Content, Piece};
 use crate::fault::LinkFault;
-use crate::parts::{Asserted, Exported, Member, SectionPlace, Waiting};
+use crate::parts::{Asserted, Content, Exported, Member, Piece, SectionPlace, Waiting};
 use base65::Sequence;
 use indexmap::IndexSet;
 use object65::{Fragment, Item, Width};

@@ -4,22 +4,18 @@ ghost use Rattle.std.specs.Prelude.{◌≡◌, ◌+◌, [], Err, IfErr, IfOk, On
 ghost use Rattle.std.specs.Option.{option_map};
 ghost use Rattle.object65.specs.Record.{entry_of, is_version};
 ghost use Rattle.base65.specs.Outcome.{Gives};
-ghost use Rattle.link65.specs.Faults.{is_memory};
+ghost use Rattle.link65.specs.Faults.{is_memory, RefusesBy, is_of_end, is_of_finish, is_of_record};
 ghost use Rattle.link65.specs.Links.{names_once};
 ghost use Rattle.link65.specs.Programs.{program_of};
-ghost use Rattle.link65.specs.Givers.{given_names, open_names};
+ghost use Rattle.link65.specs.Names.{given_names, open_names};
 ghost use Rattle.link65.specs.Inner.Fields.{ended_exports};
-ghost use Rattle.link65.specs.Refusals.{RefusesBy, is_of_end, is_of_finish, is_of_record};
 ghost use Rattle.link65.specs.Standing.{AreNames, Begins, Continues, Ends, IsFed, IsRefused, Keeps, Links, is_open, values_in};
 
 use crate::fault::LinkFault;
-use crate::feeding::{before_place, close_module, open_module, take_record};
-use crate::given::{Given, copy_of};
+use crate::feeding::{Open, before_place, close_module, open_module, take_record};
+use crate::given::{Given, copy_of, open_names};
 use crate::growing::{Growing, no_module};
-use crate::linked::Linked;
-use crate::linking::link;
-use crate::missing::open_names;
-use crate::open::Open;
+use crate::linking::{Linked, link};
 use crate::parts::Exported;
 use base65::Text;
 use library65::{Entry, Names};
@@ -46,9 +42,8 @@ impl Model for Linker {
     ghost use Rattle.std.specs.Prelude.{◌≡◌, false};
     ghost use Rattle.std.specs.Coded.{codes};
     ghost use Rattle.object65.specs.Form.{form_code};
-    ghost use Rattle.link65.specs.GivenTwice.{names_in};
+    ghost use Rattle.link65.specs.Standing.{names_in, Feeding};
     ghost use Rattle.link65.specs.Grounds.{AreNamed, growth_in};
-    ghost use Rattle.link65.specs.Standing.{Feeding};
     ghost use Rattle.link65.specs.Inner.Fields.{opened_in};
 
     ghost Value = { Feeding };

@@ -1,30 +1,53 @@
 //! From a program and a script to what is linked.
 
 ghost use Rattle.std.specs.Prelude.{◌≡◌, IfOk, map};
+ghost use Rattle.link65.specs.Grounds.{segments_from, AreNamed, program_in};
+ghost use Rattle.link65.specs.Values.{need_of, resolved};
 ghost use Rattle.base65.specs.Outcome.{Finds, Gives};
 ghost use Rattle.link65.specs.Faults.{is_memory};
-ghost use Rattle.link65.specs.Grounds.{AreNamed, program_in};
 ghost use Rattle.link65.specs.Links.{IsPlacedLink, IsProgramLink, placed};
 ghost use Rattle.link65.specs.Names.{script_definitions, weak_symbols};
-ghost use Rattle.link65.specs.Placed.{IsPlacedPassed};
-ghost use Rattle.link65.specs.Places.{resolved};
-ghost use Rattle.link65.specs.Resolving.{AreNames};
+ghost use Rattle.link65.specs.Placed.{IsPlacedPassed, AreNames};
 
 use crate::evaluation::settle_all;
 use crate::fault::LinkFault;
 use crate::files::files_of;
 use crate::finishing::{Passed, pass};
+use crate::given::check_names;
 use crate::growing::Growing;
-use crate::linked::Linked;
-use crate::missing::check_names;
 use crate::naming::{definitions_of, weak_symbols};
-use crate::needs::needs_of;
-use crate::parts::Resolved;
-use crate::placed::Placed;
+use crate::parts::{Content, Resolved};
 use crate::resolving::{Addresses, Names, resolve_all};
-use base65::Sequence;
-use script65::{Placement, Script, place};
+use crate::values::Placed;
+use base65::{OutputFile, Sequence};
+use script65::{Placement, Script, SegmentNeed, place};
 use std::alloc::{AllocError, Global};
+
+/// What linking gives.
+#[derive(Drop)]
+pub struct Linked {
+    /// The files of areas, in the order in which they are written.
+    pub files: Sequence<OutputFile>,
+    /// What is warned of, a line each.
+    pub warnings: Sequence<u8>,
+    /// The map's text.
+    pub map: Sequence<u8>,
+}
+
+/// What each segment needs of its row, in order.
+pub fn needs_of(alloc: Global, contents: &[Content]) -> Result<Sequence<SegmentNeed>, AllocError>
+    ensures { IfOk result (λ needs. needs ≡ map need_of (segments_from contents.now)) }
+{
+    let mut needs = Sequence::new(alloc);
+    for content in contents {
+        needs.push(SegmentNeed {
+            name: Sequence::copy_of(alloc, content.name.as_slice())?,
+            size: content.size,
+            align: content.align,
+        })?;
+    }
+    Ok(needs)
+}
 
 /// Where the sections of a program's modules lie, and who gives their imports.
 fn modules_of(

@@ -2,10 +2,9 @@
 
 ghost use Rattle.std.specs.Prelude.{◌≡◌, ◌≤◌, ◌%◌, ◌++◌, IfOk, OnOk, slice_get};
 ghost use Rattle.std.specs.List.{flat_map};
-ghost use Rattle.link65.specs.Placed.{lines_by, map_by, value_line};
-ghost use Rattle.link65.specs.Lists.{flat_zip, with_beside};
-ghost use Rattle.link65.specs.Maps.{address_text, definition_line, hex_digit, hex_digits, member_lines, row_line, row_lines, section_line, symbol_line, weak_line};
-ghost use Rattle.link65.specs.Resolving.{AreNames};
+ghost use Rattle.link65.specs.Placed.{lines_by, map_by, value_line, AreNames};
+ghost use Rattle.link65.specs.Programs.{flat_zip, with_beside};
+ghost use Rattle.link65.specs.Texts.{address_text, definition_line, hex_digit, hex_digits, member_lines, row_line, row_lines, section_line, symbol_line, weak_line};
 
 use crate::naming::row_place;
 use crate::parts::{Definition, Exported, Member, SectionPlace};

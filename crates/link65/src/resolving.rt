@@ -1,11 +1,11 @@
 //! Where sections lie and who gives imports, once all is placed.
 
 ghost use Rattle.std.specs.Prelude.{◌≡◌, ◌<◌, ℕ, List, IfOk, Some, ◌||◌, is_some, pos, length, map, slice_get};
-ghost use Rattle.link65.specs.Lists.{position_in};
+ghost use Rattle.link65.specs.Programs.{position_in};
 ghost use Rattle.std.specs.Option.{option_map_or};
-ghost use Rattle.link65.specs.Givers.{by_definition, by_export, defined_at, exported_at};
-ghost use Rattle.link65.specs.Places.{address_of, run_at, run_of};
-ghost use Rattle.link65.specs.Resolving.{AreAddresses, AreNames, IsTable, giver_in, resolved_by};
+ghost use Rattle.link65.specs.Names.{by_definition, by_export, defined_at, exported_at};
+ghost use Rattle.link65.specs.Values.{address_of, run_at, run_of};
+ghost use Rattle.link65.specs.Placed.{AreAddresses, AreNames, IsTable, giver_in, resolved_by};
 ghost use Rattle.link65.specs.declared.parts.Giver.TheVariants.{Nobody};
 
 use crate::parts::{Definition, Exported, Giver, Member, Resolved, SectionPlace};

@@ -1,9 +1,20 @@
-//! Texts.
+//! What the linker says: faults in words, and warnings of rows.
 
-ghost use Rattle.std.specs.Prelude.{◌≡◌, ◌++◌, IfOk, OnOk, map};
-ghost use Rattle.link65.specs.Warnings.{joined};
+ghost use Rattle.std.specs.Prelude.{◌≡◌, ◌++◌, IfOk, OnOk, map, ◌%◌, option_copied};
+ghost use Rattle.link65.specs.Texts.{joined, site_name, absence_warning, align_words, alignment_warning, data_warning, is_data, row_warnings, segment_warning, warnings_of_rows};
+ghost use Rattle.link65.specs.Faults.{fault_text, listed};
+ghost use Rattle.std.specs.List.{list_any};
+ghost use Rattle.std.specs.Option.{option_map};
+ghost use Rattle.link65.specs.Grounds.{piece_cells, segment_from};
+ghost use Rattle.link65.specs.Placed.{IsReady, segments_in};
+ghost use Rattle.link65.specs.Programs.{segment_of};
 
+use crate::fault::{LinkFault, Site};
+use crate::parts::{Content, Piece};
+use crate::values::{Placed, content_of};
 use base65::Sequence;
+use itoa::Buffer;
+use script65::Row;
 use std::alloc::{AllocError, Global};
 
 /// Adds texts, one behind the other.
@@ -23,6 +34,191 @@ pub fn join(alloc: Global, parts: &[&[u8]]) -> Result<Sequence<u8>, AllocError>
     let mut text = Sequence::new(alloc);
     for part in parts {
         text.extend_from_slice(part)?;
+    }
+    Ok(text)
+}
+
+/// Names between commas and blanks.
+fn listed(alloc: Global, names: &[Sequence<u8>]) -> Result<Sequence<u8>, AllocError>
+    ensures { IfOk result (λ text. text ≡ listed names.now) }
+{
+    let mut text = Sequence::new(alloc);
+    let mut separator: &[u8] = b"";
+    for name in names {
+        text.extend_from_slice(separator)?;
+        text.extend_from_slice(name.as_slice())?;
+        separator = b", ";
+    }
+    Ok(text)
+}
+
+/// The module of a site, and the file in it where there is one: `module` or `module:file`.
+pub fn site_name(alloc: Global, site: &Site) -> Result<Sequence<u8>, AllocError>
+    ensures { IfOk result (λ text. text ≡ site_name site.now) }
+{
+    let module = site.module_name.as_slice();
+    match &site.file {
+        Some(file) => join(alloc, &[module, b":", file.as_slice()]),
+        None => join(alloc, &[module]),
+    }
+}
+
+/// A fault in words, as the bytes that are printed: names and texts are as they stand in the files.
+pub fn fault_text(alloc: Global, fault: &LinkFault) -> Result<Sequence<u8>, AllocError>
+    ensures { IfOk result (λ text. text ≡ fault_text fault.now) }
+{
+    match fault {
+        LinkFault::DuplicateExport(name) => join(alloc, &[b"duplicate export: ", name.as_slice()]),
+        LinkFault::Unresolved(names) => {
+            let names = listed(alloc, names.as_slice())?;
+            join(alloc, &[b"unresolved: ", names.as_slice()])
+        }
+        LinkFault::Assertion(_, text) => Sequence::copy_of(alloc, text.as_slice()),
+        LinkFault::FailedBefore
+        | LinkFault::OutOfMemory
+        | LinkFault::Malformed(_)
+        | LinkFault::Place(_)
+        | LinkFault::Circular(_)
+        | LinkFault::OutOfRange(_)
+        | LinkFault::NoValue(_)
+        | LinkFault::IndexDisagrees => Sequence::copy_of(alloc, fault.to_string(alloc)?.as_bytes()),
+    }
+}
+
+/// `ld65: Warning: segment name words`
+fn segment_warning(alloc: Global, name: &[u8], words: &[u8]) -> Result<Sequence<u8>, AllocError>
+    ensures { IfOk result (λ text. text ≡ segment_warning name.now words.now) }
+{
+    join(alloc, &[b"ld65: Warning: segment ", name, words, b"\n"])
+}
+
+/// A row whose segment the object lacks.
+fn absence_warning(alloc: Global, row: &Row) -> Result<Sequence<u8>, AllocError>
+    ensures { IfOk result (λ text. text ≡ absence_warning row.now) }
+{
+    if row.optional {
+        return Ok(Sequence::new(alloc));
+    }
+    segment_warning(alloc, row.name.as_slice(), b" does not exist")
+}
+
+fn align_words(alloc: Global, align: u32) -> Result<Sequence<u8>, AllocError>
+    ensures { IfOk result (λ text. text ≡ align_words align) }
+{
+    let mut buffer = Buffer::new();
+    let number = buffer.format(align);
+    join(alloc, &[b" needs alignment ", number.as_bytes()])
+}
+
+/// What is left over; a divisor of 0 leaves all.
+fn remainder(number: u32, divisor: u32) -> u32
+    ensures { result ≡ number % divisor }
+{
+    if divisor == 0 {
+        number
+    } else {
+        number % divisor
+    }
+}
+
+/// A row whose alignment is no multiple of its segment's.
+fn alignment_warning(
+    alloc: Global,
+    row: &Row,
+    content: &Content,
+) -> Result<Sequence<u8>, AllocError>
+    ensures { IfOk result (λ text. text ≡ alignment_warning row.now (segment_from content.now)) }
+{
+    if remainder(row.align, content.align) == 0 {
+        return Ok(Sequence::new(alloc));
+    }
+    segment_warning(
+        alloc,
+        row.name.as_slice(),
+        align_words(alloc, content.align)?.as_slice(),
+    )
+}
+
+/// Whether a piece is more than room for the fill value.
+fn is_data(piece: &Piece) -> bool
+    ensures { result ≡ list_any is_data (piece_cells piece.now) }
+{
+    match piece {
+        Piece::Known(bytes) => bytes.len() != 0,
+        Piece::Filled(_) => false,
+        Piece::Waits(_) => true,
+    }
+}
+
+/// Whether a segment has more than room for the fill value.
+fn has_data(content: &Content) -> bool
+    ensures { result ≡ list_any is_data (segment_from content.now).cells }
+{
+    for piece in content.pieces.as_slice() {
+        if is_data(piece) {
+            return true;
+        }
+    }
+    false
+}
+
+/// Data in a row that is in no file.
+fn data_warning(alloc: Global, row: &Row, content: &Content) -> Result<Sequence<u8>, AllocError>
+    ensures { IfOk result (λ text. text ≡ data_warning row.now (segment_from content.now)) }
+{
+    if row.access.is_written() || !has_data(content) {
+        return Ok(Sequence::new(alloc));
+    }
+    segment_warning(
+        alloc,
+        row.name.as_slice(),
+        b" holds data that is not written",
+    )
+}
+
+/// What is warned of a row.
+fn row_warnings(
+    alloc: Global,
+    row: &Row,
+    content: Option<&Content>,
+) -> Result<Sequence<u8>, AllocError>
+    ensures { IfOk result (λ text. text ≡ row_warnings row.now (option_map segment_from (option_copied content.entry))) }
+{
+    match content {
+        None => absence_warning(alloc, row),
+        Some(content) => {
+            let mut text = alignment_warning(alloc, row, content)?;
+            text.extend_from_slice(data_warning(alloc, row, content)?.as_slice())?;
+            Ok(text)
+        }
+    }
+}
+
+/// What is warned of a row of a placed program.
+fn warnings_of_row(
+    alloc: Global,
+    program: &Placed<'_>,
+    row: &Row,
+) -> Result<Sequence<u8>, AllocError>
+    requires { IsReady program.now }
+    ensures { IfOk result (λ text. text ≡ row_warnings row.now (segment_of (segments_in program.now) row.now.name)) }
+{
+    row_warnings(alloc, row, content_of(program, row.name.as_slice()))
+}
+
+/// What is warned of rows, in order.
+pub fn warnings_of(
+    alloc: Global,
+    program: &Placed<'_>,
+    rows: &[Row],
+) -> Result<Sequence<u8>, AllocError>
+    requires { IsReady program.now }
+    ensures { IfOk result (λ text. text ≡ warnings_of_rows rows.now (segments_in program.now)) }
+{
+    let mut text = Sequence::new(alloc);
+    for row in rows {
+        let warnings = warnings_of_row(alloc, program, row)?;
+        text.extend_from_slice(warnings.as_slice())?;
     }
     Ok(text)
 }

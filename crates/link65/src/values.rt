@@ -1,21 +1,67 @@
-//! Values once all is placed: those of data and of exports, or their faults at their sites.
+//! A placed program, and what its forms, exports and assertions come to.
 
-ghost use Rattle.std.specs.Prelude.{◌≡◌, ◌++◌, ◌∷◌, IfOk, OnOk, Ok, [], slice_get, true};
+ghost use Rattle.std.specs.Prelude.{◌≡◌, map, option_copied, slice_get, ◌++◌, ◌∷◌, IfOk, OnOk, Ok, [], true};
 ghost use Rattle.std.specs.Option.{option_map, option_map_or};
+ghost use Rattle.link65.specs.Grounds.{segment_from};
+ghost use Rattle.link65.specs.Placed.{AllFound, exports_in, linkage_in, segments_in, check_export_in, check_in, exported_value, values_in};
+ghost use Rattle.link65.specs.Programs.{segment_of};
+ghost use Rattle.link65.specs.Values.{value_by};
 ghost use Rattle.base65.specs.Outcome.{Gives};
 ghost use Rattle.object65.specs.Objects.{fits_width};
-ghost use Rattle.link65.specs.Checks.{each_passes, file_of, fitting, site, value_at};
+ghost use Rattle.link65.specs.Links.{each_passes, file_of, fitting, site, value_at, assertion_result, check_assert, check_asserts};
 ghost use Rattle.link65.specs.Faults.{is_memory};
-ghost use Rattle.link65.specs.Marks.{AllFound};
-ghost use Rattle.link65.specs.Placed.{check_export_in, check_in, exported_value, exports_in, linkage_in, values_in};
-ghost use Rattle.link65.specs.Values.{value_by};
+ghost use Rattle.link65.specs.Texts.{assertion_warning};
 
+use crate::evaluation::{Mark, value_of};
 use crate::fault::{LinkFault, Site};
-use crate::parts::{Exported, Member, ValueFault, Waiting};
-use crate::placed::{Placed, value_in};
+use crate::growing::place_of;
+use crate::parts::{Asserted, Content, Exported, Member, Resolved, ValueFault, Waiting};
+use crate::texts::{join, site_name};
 use base65::Sequence;
-use object65::{Origin, fits};
+use indexmap::IndexSet;
+use itoa::Buffer;
+use object65::{Action, Norm, Origin, fits};
 use std::alloc::{AllocError, Global};
+
+/// A placed program whose exports are all found.
+#[derive(Clone, Copy)]
+pub struct Placed<'a> {
+    pub members: &'a [Member],
+    /// The names of the segments, by which their places are found.
+    pub names: &'a IndexSet<Vec<u8>>,
+    pub contents: &'a [Content],
+    pub exports: &'a [Exported],
+    pub asserts: &'a [Asserted],
+    /// Where each module's sections lie, and who gives its imports.
+    pub modules: &'a [Resolved],
+    /// What each export comes to.
+    pub marks: &'a [Mark],
+}
+
+/// What a form of the module at a place comes to.
+pub fn value_in(program: &Placed<'_>, owner: usize, form: &Norm) -> Result<i64, ValueFault>
+    requires { AllFound program.now.marks.now }
+    ensures { result ≡ value_by (linkage_in program.now) (exports_in program.now) owner form.now }
+{
+    value_of(program.modules, program.marks, owner, form)
+}
+
+fn content_at(contents: &[Content], place: usize) -> Option<&Content>
+    ensures { option_copied result ≡ slice_get contents.entry.now place }
+{
+    contents.get(place)
+}
+
+/// The segment of a name, if there is one.
+pub fn content_of<'a>(program: &Placed<'a>, name: &[u8]) -> Option<&'a Content>
+    requires { map (λ n. n.items) program.now.names.now.keys ≡ map (λ c. c.name) program.now.contents.now }
+    ensures { option_map segment_from (option_copied result) ≡ segment_of (segments_in program.now) name.now }
+{
+    match place_of(program.names, name) {
+        Some(place) => content_at(program.contents, place),
+        None => None,
+    }
+}
 
 pub fn name_of(members: &[Member], owner: usize) -> &[u8]
     ensures { result.now ≡ option_map_or (λ m. m.name) (slice_get members.entry.now owner) [] }
@@ -149,4 +195,75 @@ pub fn export_values(alloc: Global, program: &Placed<'_>) -> Result<Vec<i64>, Li
         add_export(alloc, program, export, &mut values)?;
     }
     Ok(values)
+}
+
+/// `module:line: Warning: text` or `module:file:line: Warning: text`
+fn assertion_warning(alloc: Global, site: &Site, text: &[u8]) -> Result<Sequence<u8>, AllocError>
+    ensures { IfOk result (λ line. line ≡ assertion_warning site.now text.now) }
+{
+    let mut buffer = Buffer::new();
+    let number = buffer.format(site.line);
+    let name = site_name(alloc, site)?;
+    join(
+        alloc,
+        &[
+            name.as_slice(),
+            b":",
+            number.as_bytes(),
+            b": Warning: ",
+            text,
+            b"\n",
+        ],
+    )
+}
+
+/// What follows from the value of an assertion: nothing, a warning or a fault.
+fn judge(
+    alloc: Global,
+    members: &[Member],
+    assert: &Asserted,
+    value: i64,
+) -> Result<Sequence<u8>, LinkFault>
+    ensures { Gives is_memory (λ text. text) result (assertion_result (site members.now assert.now.owner assert.now.origin) assert.now.action assert.now.text value) }
+{
+    if value != 0 {
+        return Ok(Sequence::new(alloc));
+    }
+    let site = site_of(alloc, members, assert.owner, assert.origin)?;
+    let text = assert.text.as_slice();
+    match assert.action {
+        Action::Warning => Ok(assertion_warning(alloc, &site, text)?),
+        Action::Error => Err(LinkFault::Assertion(site, Sequence::copy_of(alloc, text)?)),
+    }
+}
+
+/// What is warned of an assertion, or its fault.
+fn check_assertion(
+    alloc: Global,
+    program: &Placed<'_>,
+    assert: &Asserted,
+) -> Result<Sequence<u8>, LinkFault>
+    requires { AllFound program.now.marks.now }
+    ensures { Gives is_memory (λ text. text) result (check_assert (linkage_in program.now) program.now.members.now (exports_in program.now) assert.now) }
+{
+    let outcome = value_in(program, assert.owner, &assert.form);
+    let value = value_at(alloc, program.members, assert.owner, assert.origin, outcome)?;
+    judge(alloc, program.members, assert, value)
+}
+
+/// What is warned of assertions, in order, or the first fault.
+pub fn check_assertions(
+    alloc: Global,
+    program: &Placed<'_>,
+    asserts: &[Asserted],
+) -> Result<Sequence<u8>, LinkFault>
+    requires { AllFound program.now.marks.now }
+    ensures { Gives is_memory (λ text. text) result (check_asserts (linkage_in program.now) program.now.members.now (exports_in program.now) asserts.now) }
+{
+    let mut text = Sequence::new(alloc);
+    for assert in asserts {
+        let warning = check_assertion(alloc, program, assert)?;
+        text.extend_from_slice(warning.as_slice())?;
+    }
+    Ok(text)
 }

@@ -16,7 +16,7 @@ use Rattle.cli65.specs.Line.{Archiving, Assembling, Linking, Says, assemble, lin
 use Rattle.cli65.specs.Messages.{line_memory_message, line_message_of, memory_line}
 use Rattle.cli65.specs.declared.fault.LineFault.{LineFault}
 use Rattle.cli65.specs.declared.fault.LineFault.TheVariants.{BadArguments, OutOfMemory}
-use Rattle.link65.specs.declared.linked.Linked.{Linked}
+use Rattle.link65.specs.declared.linking.Linked.{Linked}
 use Rattle.ld65.specs.declared.refusal.Refusal.{Refusal}
 use Rattle.ld65.specs.Linkage.{IsLinked}
 use Rattle.ld65.specs.Naming.{IsOfLine, NamesOfLine}

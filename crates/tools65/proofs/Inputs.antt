@@ -33,9 +33,8 @@ use Rattle.module65.proofs.SoundContents.{sound_contents}
 use Rattle.module65.proofs.SoundSources.{sound_layout}
 use Rattle.sections65.proofs.GoodObjects.{good_object}
 use Rattle.asm65.specs.Assembly.{IsAssembled}
-use Rattle.link65.specs.Givers.{given_names, open_names}
-use Rattle.link65.specs.Modules.{Module}
-use Rattle.link65.specs.Programs.{program_of}
+use Rattle.link65.specs.Names.{given_names, open_names}
+use Rattle.link65.specs.Programs.{Module, program_of}
 use Rattle.link65.specs.Standing.{module_of}
 use Rattle.whole65.proofs.Later.{bind_ok}
 use Rattle.ld65.specs.Linkage.{ByKind, chosen, chosen_at, file_input, is_library, is_library_in, member_input, member_module, no_limit}

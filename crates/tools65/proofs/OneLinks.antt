@@ -12,12 +12,11 @@ use Rattle.script65.specs.declared.script.Script.{Script}
 use Rattle.library65.proofs.Uniques.{one_selection}
 use Rattle.library65.specs.declared.index.Entry.{Entry}
 use Rattle.link65.proofs.OutcomeLemmas.{link_once}
-use Rattle.link65.specs.Givers.{given_names, open_names}
+use Rattle.link65.specs.Names.{given_names, open_names}
 use Rattle.link65.specs.Links.{LinkOf, names_once}
-use Rattle.link65.specs.Modules.{Module}
-use Rattle.link65.specs.Programs.{program_of}
+use Rattle.link65.specs.Programs.{Module, program_of}
 use Rattle.link65.specs.declared.fault.LinkFault.{LinkFault}
-use Rattle.link65.specs.declared.linked.Linked.{Linked}
+use Rattle.link65.specs.declared.linking.Linked.{Linked}
 use Rattle.cli65.specs.Line.{Linking}
 use Rattle.ld65.specs.declared.refusal.Refusal.{Refusal}
 use Rattle.ld65.specs.declared.refusal.Refusal.TheVariants as refusal

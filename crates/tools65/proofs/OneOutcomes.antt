@@ -13,11 +13,10 @@ use Rattle.script65.specs.Scripts.{IsScript}
 use Rattle.script65.specs.declared.fault.ScriptFault.{ScriptFault}
 use Rattle.script65.specs.declared.script.Script.{Script}
 use Rattle.link65.proofs.OutcomeLemmas.{link_once}
-use Rattle.link65.specs.Givers.{given_names, open_names}
+use Rattle.link65.specs.Names.{given_names, open_names}
 use Rattle.link65.specs.Links.{names_once}
-use Rattle.link65.specs.Modules.{Module}
-use Rattle.link65.specs.Programs.{program_of}
-use Rattle.link65.specs.declared.linked.Linked.{Linked}
+use Rattle.link65.specs.Programs.{Module, program_of}
+use Rattle.link65.specs.declared.linking.Linked.{Linked}
 use Rattle.cli65.specs.Line.{Assembling, Linking, Says, archive, assemble, link}
 use Rattle.ld65.specs.Linkage.{AreInputs, AreNeeded, ByKind, IsInput, IsInputLink, IsLibraryInput, IsLinked, IsLinkedBy, LinksTo, as_library, as_refusal, as_script, chosen, index_in, is_library_in, output_of, text_of, with_file, with_members}
 use Rattle.ld65.specs.declared.refusal.Refusal.{Refusal}

@@ -3,7 +3,7 @@ use Rattle.std.proofs.Common.{◌≡◌, ◌∙◌, ◌⊎◌, inl, inr, ℕ, �
 use Rattle.std.specs.Prelude.{IfSome, IfErr, ◌||◌}
 use Rattle.base65.specs.Outcome.{Finds, Gives, Refuses, Unless}
 use Rattle.base65.specs.Store.{Files, NoneFailed, HasFailed, PassesBy, last_count}
-use Rattle.link65.specs.declared.linked.Linked.{Linked}
+use Rattle.link65.specs.declared.linking.Linked.{Linked}
 use Rattle.ld65.specs.declared.refusal.Refusal.{Refusal}
 use Rattle.output65.specs.declared.outcome.Outcome.{Outcome}
 use Rattle.output65.specs.declared.outcome.Status.{Status}

@@ -10,11 +10,9 @@ use Rattle.library65.specs.Selection.{IsSelection}
 use Rattle.library65.specs.declared.index.Entry.{Entry}
 use Rattle.library65.specs.declared.fault.LibraryFault.{LibraryFault}
 use Rattle.script65.specs.declared.script.Script.{Script}
-use Rattle.link65.specs.Givers.{first_again, given_names, is_among, open_names}
+use Rattle.link65.specs.Names.{first_again, given_names, is_among, open_names, script_names}
 use Rattle.link65.specs.Links.{names_once}
-use Rattle.link65.specs.Modules.{Module}
-use Rattle.link65.specs.Names.{script_names}
-use Rattle.link65.specs.Programs.{exported, program_of}
+use Rattle.link65.specs.Programs.{Module, exported, program_of}
 use Rattle.link65.specs.declared.fault.LinkFault.{LinkFault}
 use Rattle.link65.specs.declared.fault.LinkFault.TheVariants.{IndexDisagrees, Malformed}
 use Rattle.link65.specs.declared.parts.Exported.{Exported}

@@ -5,9 +5,8 @@ use Rattle.base65.specs.Store.{Files, NoneFailed, Tells}
 use Rattle.script65.specs.declared.script.Script.{Script}
 use Rattle.base65.specs.Outcome.{First}
 use Rattle.link65.specs.Links.{IsProgramLink, LinkOf, names_once}
-use Rattle.link65.specs.Modules.{Module}
-use Rattle.link65.specs.Programs.{program_of}
-use Rattle.link65.specs.declared.linked.Linked.{Linked}
+use Rattle.link65.specs.Programs.{Module, program_of}
+use Rattle.link65.specs.declared.linking.Linked.{Linked}
 use Rattle.base65.specs.declared.output.OutputFile.{OutputFile}
 use Rattle.cli65.specs.Line.{Linking, Says, link, line_of}
 use Rattle.cli65.specs.Messages.{line_memory_message}

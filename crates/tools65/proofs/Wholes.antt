@@ -8,7 +8,7 @@ use Rattle.module65.specs.Laying.{AreLaid}
 use Rattle.module65.specs.Module.{object_of, outcome_of}
 use Rattle.module65.specs.Places.{PlacedFault}
 use Rattle.module65.specs.Reading.{Reached}
-use Rattle.link65.specs.Modules.{Module}
+use Rattle.link65.specs.Programs.{Module}
 use Rattle.whole65.proofs.Equality.{equality_law}
 use Rattle.whole65.proofs.LaidOut.{laid_out_law}
 use Rattle.whole65.specs.Sources.{AreSources}

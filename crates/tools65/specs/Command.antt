@@ -10,7 +10,7 @@ use Rattle.module65.specs.Module as asm
 use Rattle.module65.specs.Places.{PlacedFault}
 use Rattle.tools65.specs.Assembling.{IsOutputName, asm_message, job_in}
 use Rattle.cli65.specs.declared.fault.LineFault.{LineFault}
-use Rattle.link65.specs.declared.linked.Linked.{Linked}
+use Rattle.link65.specs.declared.linking.Linked.{Linked}
 use Rattle.ld65.specs.declared.refusal.Refusal.{Refusal}
 use Rattle.output65.specs.declared.outcome.Outcome.{Outcome}
 use Rattle.output65.specs.declared.outcome.Status.{Status}

@@ -8,7 +8,7 @@ use Rattle.object65.specs.Spelling.{IsObject}
 use Rattle.library65.specs.Selection.{IsSelection}
 use Rattle.library65.specs.Spelling.{IsMember, Member}
 use Rattle.library65.specs.declared.index.Entry.{Entry}
-use Rattle.link65.specs.Modules.{Module}
+use Rattle.link65.specs.Programs.{Module}
 use Rattle.script65.specs.Scripts.{IsScript}
 use Rattle.script65.specs.declared.script.Script.{Script}
 use Rattle.cli65.specs.Line.{Linking}

@@ -13,9 +13,8 @@ use Rattle.object65.specs.declared.object.Object.{Object}
 use Rattle.object65.specs.Versions.{IsEitherVersion}
 use Rattle.library65.specs.Selection.{IsSelection}
 use Rattle.library65.specs.declared.index.Entry.{Entry}
-use Rattle.link65.specs.Givers.{given_names, open_names}
-use Rattle.link65.specs.Modules.{Module}
-use Rattle.link65.specs.Programs.{program_of}
+use Rattle.link65.specs.Names.{given_names, open_names}
+use Rattle.link65.specs.Programs.{Module, program_of}
 use Rattle.link65.specs.Standing.{agrees_with, module_of}
 use Rattle.base65.specs.declared.output.OutputFile.{OutputFile}
 use Rattle.whole65.specs.Equality.{IsLinkedTo}

@@ -19,12 +19,11 @@ use Rattle.language65.specs.Laid.{Laid}
 use Rattle.language65.specs.Layout.{Layout}
 use Rattle.language65.specs.Numbering.{all_said, assert_of, import_keys, numbered, section_keys}
 use Rattle.language65.specs.Symbols.{Symbols}
-use Rattle.link65.specs.Checks.{assertion_result, check_assert, check_asserts, site, value_at, value_fault}
-use Rattle.link65.specs.Modules.{Module}
-use Rattle.link65.specs.Places.{linkage_of}
+use Rattle.link65.specs.Links.{assertion_result, check_assert, check_asserts, site, value_at, value_fault}
+use Rattle.link65.specs.Programs.{Module}
+use Rattle.link65.specs.Values.{linkage_of, AreExports, Exports, Linkage, exports_through, in_table, value_by}
 use Rattle.link65.specs.Programs as linked
-use Rattle.link65.specs.Values.{AreExports, Exports, Linkage, exports_through, in_table, value_by}
-use Rattle.link65.specs.Warnings.{assertion_warning}
+use Rattle.link65.specs.Texts.{assertion_warning}
 use Rattle.link65.specs.declared.fault.LinkFault.{LinkFault}
 use Rattle.link65.specs.declared.fault.LinkFault.TheVariants as fault
 use Rattle.link65.specs.declared.fault.Site.{Site}

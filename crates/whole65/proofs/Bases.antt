@@ -17,12 +17,9 @@ use Rattle.source65.specs.declared.place.Place.{Place}
 use Rattle.language65.specs.Parts.{Content}
 use Rattle.language65.specs.Layout.{Layout}
 use Rattle.language65.specs.Numbering.{import_keys, number_of, section_keys, section_of}
-use Rattle.link65.specs.Modules.{Module}
-use Rattle.link65.specs.Places.{address_of, linkage_of, resolved, run_of}
-use Rattle.link65.specs.Programs.{Program, member, no_program, program_of, with_module, with_modules}
-use Rattle.link65.specs.Segments as linked
-use Rattle.link65.specs.Segments.{grown, section_place, section_places, segment_of, with_section}
-use Rattle.link65.specs.Values.{base_of}
+use Rattle.link65.specs.Programs.{Module, Program, member, no_program, program_of, with_module, with_modules, grown, section_place, section_places, segment_of, with_section}
+use Rattle.link65.specs.Values.{address_of, linkage_of, resolved, run_of, base_of}
+use Rattle.link65.specs.Programs as linked
 use Rattle.link65.specs.declared.parts.Member.{Member}
 use Rattle.link65.specs.declared.parts.SectionPlace.{SectionPlace}
 use Rattle.whole65.proofs.Growth.{one_section}

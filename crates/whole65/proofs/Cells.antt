@@ -5,7 +5,7 @@ use Rattle.std.specs.List.{flat_map}
 use Rattle.std.proofs.lemmas.List.{append-nil, append_assoc}
 use Rattle.object65.specs.declared.object.Fragment.{Fragment}
 use Rattle.object65.specs.declared.object.Fragment.TheVariants.{Literal, Fill, Value}
-use Rattle.link65.specs.Segments.{Cell, known, filled, fragment_cells}
+use Rattle.link65.specs.Programs.{Cell, known, filled, fragment_cells}
 use Rattle.link65.specs.Values.{Linkage}
 use Rattle.whole65.specs.Inner.Cells.{AreCells, linked_value}
 use Rattle.whole65.specs.Inner.Steps.{CellsLaw}

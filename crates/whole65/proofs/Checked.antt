@@ -4,10 +4,9 @@ use Rattle.std.specs.Prelude.{ℤ}
 use Rattle.std.specs.List.{flat_map}
 use Rattle.base65.specs.Outcome.{◌>>=◌}
 use Rattle.object65.specs.Objects.{fits_width, value_bytes}
-use Rattle.link65.specs.Checks.{check_waiting, each_passes, fitting, site, value_at, waiting_in}
-use Rattle.link65.specs.RowBytes.{cell_bytes, or_zero, stored}
-use Rattle.link65.specs.Segments.{Cell, known, filled, waits}
-use Rattle.link65.specs.Values.{AreExports, Exports, Linkage, in_table, value_by}
+use Rattle.link65.specs.Links.{check_waiting, each_passes, fitting, site, value_at, waiting_in}
+use Rattle.link65.specs.Values.{cell_bytes, or_zero, stored, AreExports, Exports, Linkage, in_table, value_by}
+use Rattle.link65.specs.Programs.{Cell, known, filled, waits}
 use Rattle.link65.specs.declared.fault.LinkFault.{LinkFault}
 use Rattle.link65.specs.declared.fault.LinkFault.TheVariants as fault
 use Rattle.link65.specs.declared.fault.Site.{Site}

@@ -3,7 +3,7 @@ use Rattle.std.proofs.Common.{ℕ, suc, List, [], ◌∷◌, refl, sym, ◌∙�
 use Rattle.std.specs.Prelude.{◌↔◌}
 use Rattle.script65.specs.declared.script.Script.{Script}
 use Rattle.language65.specs.Layout.{Layout}
-use Rattle.link65.specs.Modules.{Module}
+use Rattle.link65.specs.Programs.{Module}
 use Rattle.link65.specs.Programs as linked
 use Rattle.base65.specs.declared.output.OutputFile.{OutputFile}
 use Rattle.whole65.proofs.Asserted.{assertions_law}

@@ -5,8 +5,7 @@ use Rattle.base65.specs.Outcome.{◌>>=◌}
 use Rattle.base65.specs.Values.{value1, value2}
 use Rattle.object65.specs.Form.{Form, lit, sec, imp, prefix, binary}
 use Rattle.object65.specs.FormValue.{or_none}
-use Rattle.link65.proofs.Tries.{exports_grow, form_grows}
-use Rattle.link65.proofs.Turns.{Known, further, settles_once}
+use Rattle.link65.proofs.Tries.{exports_grow, form_grows, Known, further, settles_once}
 use Rattle.link65.specs.declared.parts.Exported.{Exported}
 use Rattle.link65.specs.declared.parts.Giver.{Giver}
 use Rattle.link65.specs.declared.parts.Giver.TheVariants.{ByModule, ByScript, Nobody}

@@ -25,10 +25,9 @@ use Rattle.language65.specs.Layout.{Layout}
 use Rattle.language65.specs.Norms.{defined_form, norm_of}
 use Rattle.language65.specs.Numbering.{all_said, exports_among, import_keys, numbered, section_keys}
 use Rattle.language65.specs.Symbols.{Symbols, defined, named, with_new}
-use Rattle.link65.specs.Givers.{export_names}
-use Rattle.link65.specs.Modules.{Module}
+use Rattle.link65.specs.Names.{export_names}
+use Rattle.link65.specs.Programs.{Module, Program, no_program, program_of, with_module, with_modules}
 use Rattle.link65.specs.Programs as linked
-use Rattle.link65.specs.Programs.{Program, no_program, program_of, with_module, with_modules}
 use Rattle.link65.specs.declared.parts.Exported as parts
 use Rattle.module65.proofs.SoundForms.{all_append}
 use Rattle.module65.specs.Module.{contents_from}

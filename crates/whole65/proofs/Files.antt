@@ -9,13 +9,11 @@ use Rattle.script65.specs.declared.placement.RowPlace.{RowPlace}
 use Rattle.script65.specs.declared.script.Area.{Area}
 use Rattle.script65.specs.declared.script.Row.{Row}
 use Rattle.language65.specs.Layout.{Layout}
-use Rattle.link65.specs.Checks.{check_export, each_passes, site, value_at}
+use Rattle.link65.specs.Links.{check_export, each_passes, site, value_at}
 use Rattle.link65.specs.Files.{AddsArea, AddsAreas, IsAreaFile, IsImage, RowBytes, area_at, area_pieces, file_len, file_name, is_loaded, loaded_in, offset_of}
-use Rattle.link65.specs.RowBytes.{row_bytes}
-use Rattle.link65.specs.Modules.{Module}
-use Rattle.link65.specs.Places.{linkage_of}
+use Rattle.link65.specs.Values.{row_bytes, linkage_of, Linkage, in_table, value_by}
+use Rattle.link65.specs.Programs.{Module}
 use Rattle.link65.specs.Programs as linked
-use Rattle.link65.specs.Values.{Linkage, in_table, value_by}
 use Rattle.link65.specs.declared.fault.LinkFault.{LinkFault}
 use Rattle.link65.specs.declared.fault.Site.{Site}
 use Rattle.base65.specs.declared.output.OutputFile.{OutputFile}

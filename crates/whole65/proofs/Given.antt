@@ -6,10 +6,9 @@ use Rattle.base65.specs.Values.{value1, value2}
 use Rattle.object65.specs.Form.{lit, sec, imp, prefix, binary}
 use Rattle.object65.specs.FormValue.{or_none, value_in}
 use Rattle.language65.specs.Numbering.{imports_in}
-use Rattle.link65.specs.Givers.{first_again}
-use Rattle.link65.specs.Givers as linked
+use Rattle.link65.specs.Names.{first_again, script_names}
+use Rattle.link65.specs.Names as linked
 use Rattle.link65.specs.Links.{no_name_again}
-use Rattle.link65.specs.Names.{script_names}
 use Rattle.link65.specs.Programs.{program_of}
 use Rattle.module65.proofs.SoundForms.{all_append}
 use Rattle.whole65.proofs.Exports.{export_names_law}

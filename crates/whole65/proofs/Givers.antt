@@ -23,14 +23,10 @@ use Rattle.language65.specs.Names.{or_else, or_fault}
 use Rattle.language65.specs.Norms.{defined_form, form_of_meaning, norm, norm_of}
 use Rattle.language65.specs.Numbering.{all_said, exports_among, import_keys, numbered, section_keys}
 use Rattle.language65.specs.Symbols.{Symbols, defined, imported, named}
-use Rattle.link65.specs.Givers.{by_definition, by_export, defined_at, exported_at, is_among}
-use Rattle.link65.specs.Givers as linked
-use Rattle.link65.specs.Lists.{position_in}
-use Rattle.link65.specs.Modules.{Module}
-use Rattle.link65.specs.Names.{script_definitions, weak_symbols}
-use Rattle.link65.specs.Places.{linkage_of}
-use Rattle.link65.specs.Programs.{Program, exported, no_program, program_of, with_module, with_modules, member}
-use Rattle.link65.specs.Values.{Linkage, export_value, exports_through, import_value, value_by}
+use Rattle.link65.specs.Names.{by_definition, by_export, defined_at, exported_at, is_among, script_definitions, weak_symbols}
+use Rattle.link65.specs.Names as linked
+use Rattle.link65.specs.Programs.{position_in, Module, Program, exported, no_program, program_of, with_module, with_modules, member}
+use Rattle.link65.specs.Values.{linkage_of, Linkage, export_value, exports_through, import_value, value_by}
 use Rattle.link65.specs.declared.parts.Definition.{Definition}
 use Rattle.link65.specs.declared.parts.Exported as parts
 use Rattle.link65.specs.declared.parts.Giver.{Giver}

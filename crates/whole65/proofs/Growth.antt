@@ -4,9 +4,7 @@ use Rattle.std.specs.Str.{bytes_eq}
 use Rattle.std.proofs.lemmas.List.{length-append}
 use Rattle.object65.specs.declared.object.Section.{Section}
 use Rattle.language65.proofs.Lists.{same_bytes}
-use Rattle.link65.specs.Modules.{Module}
-use Rattle.link65.specs.Programs.{Program, member, no_program, with_module, with_modules}
-use Rattle.link65.specs.Segments.{Segment, grown, segment_of, with_section, with_sections}
+use Rattle.link65.specs.Programs.{Module, Program, member, no_program, with_module, with_modules, Segment, grown, segment_of, with_section, with_sections}
 use Rattle.whole65.proofs.Positions.{itself}
 use Rattle.whole65.specs.Inner.Growth.{behind_modules, behind_sections, or_empty}
 use Rattle.whole65.specs.Inner.Steps.{SegmentLaw}

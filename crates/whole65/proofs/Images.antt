@@ -9,14 +9,11 @@ use Rattle.script65.specs.declared.script.Row.{Row}
 use Rattle.script65.specs.declared.script.Script.{Script}
 use Rattle.language65.specs.Layout.{Layout}
 use Rattle.link65.proofs.Passes.{passes_append}
-use Rattle.link65.specs.Checks.{check_waiting, each_passes, waiting_by_row, waiting_in, waiting_of}
+use Rattle.link65.specs.Links.{check_waiting, each_passes, waiting_by_row, waiting_in, waiting_of}
 use Rattle.link65.specs.Files.{RowBytes}
-use Rattle.link65.specs.RowBytes.{cell_bytes, row_bytes, segment_bytes}
-use Rattle.link65.specs.Modules.{Module}
-use Rattle.link65.specs.Places.{linkage_of}
+use Rattle.link65.specs.Values.{cell_bytes, row_bytes, segment_bytes, linkage_of, AreExports, Linkage, exports_through, in_table, value_by}
+use Rattle.link65.specs.Programs.{Module, Segment, segment_of}
 use Rattle.link65.specs.Programs as linked
-use Rattle.link65.specs.Segments.{Segment, segment_of}
-use Rattle.link65.specs.Values.{AreExports, Linkage, exports_through, in_table, value_by}
 use Rattle.link65.specs.declared.fault.LinkFault.{LinkFault}
 use Rattle.link65.specs.declared.parts.ValueFault.{ValueFault}
 use Rattle.link65.specs.declared.parts.Waiting.{Waiting}

@@ -14,9 +14,9 @@ use Rattle.language65.specs.declared.language.Statement.TheVariants.{ForceImport
 use Rattle.language65.specs.Layout.{Layout}
 use Rattle.language65.specs.Numbering.{all_said, content_imports, import_keys, key_of, name_of, once, optional_key, part_imports, said_imports}
 use Rattle.language65.specs.Symbols.{imports_of}
-use Rattle.link65.proofs.PlaceOf.{at_front, behind_front}
-use Rattle.link65.specs.Givers.{is_among}
-use Rattle.link65.specs.Modules.{Module}
+use Rattle.link65.proofs.SegmentLemmas.{at_front, behind_front}
+use Rattle.link65.specs.Names.{is_among}
+use Rattle.link65.specs.Programs.{Module}
 use Rattle.module65.proofs.SoundForms.{all_append}
 use Rattle.whole65.proofs.Bases.{one_of}
 use Rattle.whole65.proofs.Demands.{all_demanded, demanded_names}

@@ -9,11 +9,9 @@ use Rattle.object65.specs.declared.object.Object.{Object}
 use Rattle.language65.specs.Parts.{Content, Part, Known, Filled, Waiting, Said, Exported, Demanded, Checked}
 use Rattle.language65.specs.Numbering.{content_imports, import_keys, imports_in, name_of, number_of, part_imports, said_imports, section_keys}
 use Rattle.language65.specs.Sound.{IsSoundContent, IsSoundForm, IsSoundPart, IsSoundSaid, sections_in}
-use Rattle.link65.specs.Givers.{giver_of}
-use Rattle.link65.specs.Names.{script_definitions, weak_symbols}
-use Rattle.link65.specs.Places.{linkage_of}
+use Rattle.link65.specs.Names.{giver_of, script_definitions, weak_symbols}
+use Rattle.link65.specs.Values.{linkage_of, base_of, exports_through, giver_at, import_value, Linkage}
 use Rattle.link65.specs.Programs.{program_of}
-use Rattle.link65.specs.Values.{base_of, exports_through, giver_at, import_value, Linkage}
 use Rattle.link65.specs.declared.parts.Giver.{Giver}
 use Rattle.link65.specs.declared.parts.Giver.TheVariants.{Nobody}
 use Rattle.link65.specs.declared.parts.ValueFault.{ValueFault}

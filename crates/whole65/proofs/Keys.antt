@@ -7,7 +7,7 @@ use Rattle.std.specs.Str.{bytes_eq}
 use Rattle.std.proofs.lemmas.Bool.Decides.{nat_tests}
 use Rattle.std.proofs.lemmas.List.Folds.{list_any-append}
 use Rattle.base65.specs.Outcome.{◌>>=◌, each}
-use Rattle.link65.proofs.PlaceOf.{at_front, behind_front, none_among as none_found}
+use Rattle.link65.proofs.SegmentLemmas.{at_front, behind_front, none_among as none_found}
 use Rattle.language65.specs.Parts.{Content}
 use Rattle.language65.specs.Contents.{content_of}
 use Rattle.language65.specs.Laid.{Laid, asks_section}

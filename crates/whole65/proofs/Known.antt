@@ -17,12 +17,9 @@ use Rattle.script65.specs.declared.script.Row.{Row}
 use Rattle.script65.specs.declared.script.Script.{Script}
 use Rattle.language65.proofs.Lists.{same_bytes}
 use Rattle.language65.specs.Layout.{Layout}
-use Rattle.link65.specs.Givers.{by_definition, by_export, defined_at, each_once, export_names, exported_at, given_names, is_among, is_given, references, unresolved}
-use Rattle.link65.specs.Givers as linked
-use Rattle.link65.specs.Lists.{flat_zip}
-use Rattle.link65.specs.Modules.{Module}
-use Rattle.link65.specs.Names.{area_definitions, area_names, areas_definitions, row_definitions, row_names, rows_definitions, script_definitions, script_names, symbol_exports, symbol_imports, weak_symbols}
-use Rattle.link65.specs.Programs.{Program, member, no_program, program_of, with_module, with_modules}
+use Rattle.link65.specs.Names.{by_definition, by_export, defined_at, each_once, export_names, exported_at, given_names, is_among, is_given, references, unresolved, area_definitions, area_names, areas_definitions, row_definitions, row_names, rows_definitions, script_definitions, script_names, symbol_exports, symbol_imports, weak_symbols}
+use Rattle.link65.specs.Names as linked
+use Rattle.link65.specs.Programs.{flat_zip, Module, Program, member, no_program, program_of, with_module, with_modules}
 use Rattle.link65.specs.declared.parts.Definition.{Definition}
 use Rattle.link65.specs.declared.parts.Exported as parts
 use Rattle.link65.specs.declared.parts.Giver.{Giver}

@@ -9,7 +9,7 @@ use Rattle.syntax65.specs.Trees.{Tree}
 use Rattle.base65.specs.Values.{wrapped}
 use Rattle.script65.specs.declared.placement.Placement.{Placement}
 use Rattle.script65.specs.declared.script.Script.{Script}
-use Rattle.link65.specs.Places.{run_of}
+use Rattle.link65.specs.Values.{run_of}
 use Rattle.language65.specs.declared.fault.AsmFault.{AsmFault}
 use Rattle.language65.specs.Laid.{Laid}
 use Rattle.language65.specs.Layout.{Layout}

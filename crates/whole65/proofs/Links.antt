@@ -6,16 +6,13 @@ use Rattle.script65.specs.Placing.{place_of}
 use Rattle.script65.specs.declared.placement.PlaceFault.{PlaceFault}
 use Rattle.script65.specs.declared.placement.Placement.{Placement}
 use Rattle.script65.specs.declared.script.Script.{Script}
-use Rattle.link65.specs.Checks.{check_asserts, check_export, check_waiting, each_passes, waiting_by_row}
-use Rattle.link65.specs.Givers.{unresolved}
-use Rattle.link65.specs.Links.{AreFiles, IsFinished, IsImaged, IsPlacedLink, IsProgramLink, as_placement, checked, names_once, none_unresolved, placed}
-use Rattle.link65.specs.Maps.{map_text}
-use Rattle.link65.specs.Places.{linkage_of, needs_of}
+use Rattle.link65.specs.Links.{check_asserts, check_export, check_waiting, each_passes, waiting_by_row, AreFiles, IsFinished, IsImaged, IsPlacedLink, IsProgramLink, as_placement, checked, names_once, none_unresolved, placed}
+use Rattle.link65.specs.Names.{unresolved}
+use Rattle.link65.specs.Texts.{map_text, warnings_of_rows}
+use Rattle.link65.specs.Values.{linkage_of, needs_of, AreExports, Exports, Linkage, in_table}
 use Rattle.link65.specs.Programs.{Program}
-use Rattle.link65.specs.Values.{AreExports, Exports, Linkage, in_table}
-use Rattle.link65.specs.Warnings.{warnings_of_rows}
 use Rattle.link65.specs.declared.fault.LinkFault.{LinkFault}
-use Rattle.link65.specs.declared.linked.Linked.{Linked}
+use Rattle.link65.specs.declared.linking.Linked.{Linked}
 use Rattle.base65.specs.declared.output.OutputFile.{OutputFile}
 use Rattle.link65.specs.declared.parts.ValueFault.{ValueFault}
 use Rattle.whole65.proofs.Later.{bind_ok}

@@ -19,11 +19,9 @@ use Rattle.language65.specs.Laid.{Laid, asks_section}
 use Rattle.language65.specs.Layout.{Layout}
 use Rattle.language65.specs.Numbering.{import_keys, once, section_keys, section_of, segments_asked}
 use Rattle.language65.specs.Symbols.{with_new}
-use Rattle.link65.specs.Modules.{Module}
-use Rattle.link65.specs.Places as places
-use Rattle.link65.specs.Programs.{Program, no_program, program_of, with_module, with_modules}
-use Rattle.link65.specs.Segments.{Segment, grown, segment_of, with_section, with_sections}
-use Rattle.link65.specs.Segments as linked
+use Rattle.link65.specs.Programs.{Module, Program, no_program, program_of, with_module, with_modules, Segment, grown, segment_of, with_section, with_sections}
+use Rattle.link65.specs.Values as places
+use Rattle.link65.specs.Programs as linked
 use Rattle.module65.proofs.Tables.{new_append}
 use Rattle.whole65.proofs.Keys.{asked_are, held, keys_of, or_both, or_false, or_true, with_key}
 use Rattle.whole65.proofs.Positions.{itself}

@@ -18,7 +18,7 @@ use Rattle.language65.specs.Layout.{Layout}
 use Rattle.language65.specs.Norms.{defined_form, norm}
 use Rattle.language65.specs.Numbering.{all_said, imports_in, name_of, optional_key, key_of, parts_in, segments_asked}
 use Rattle.language65.specs.Symbols.{Symbols, defined, named, with_new}
-use Rattle.link65.specs.Modules.{Module}
+use Rattle.link65.specs.Programs.{Module}
 use Rattle.link65.specs.declared.parts.ValueFault.{ValueFault}
 use Rattle.link65.specs.declared.parts.ValueFault.TheVariants.{NoValue}
 use Rattle.module65.proofs.SoundForms.{all_append}

@@ -13,11 +13,9 @@ use Rattle.language65.specs.Parts.{Content, Part, Known, Filled, Waiting}
 use Rattle.language65.specs.Laid.{Laid}
 use Rattle.language65.specs.Layout.{Layout}
 use Rattle.language65.specs.Numbering.{import_keys, parts_in, section_keys, section_of}
-use Rattle.link65.specs.Modules.{Module}
-use Rattle.link65.specs.Places.{linkage_of}
+use Rattle.link65.specs.Programs.{Module, Cell, Segment, begin_behind, filled, fragment_cells, segment_of}
+use Rattle.link65.specs.Values.{linkage_of, Linkage}
 use Rattle.link65.specs.Programs as linked
-use Rattle.link65.specs.Segments.{Cell, Segment, begin_behind, filled, fragment_cells, segment_of}
-use Rattle.link65.specs.Values.{Linkage}
 use Rattle.link65.specs.declared.parts.ValueFault.{ValueFault}
 use Rattle.module65.specs.Module.{contents_from}
 use Rattle.module65.proofs.SoundForms.{all_append}

@@ -12,8 +12,8 @@ use Rattle.language65.specs.declared.contents.Segment.{Segment}
 use Rattle.language65.specs.Layout.{Layout, segment_at}
 use Rattle.language65.specs.Numbering as numbering
 use Rattle.language65.specs.Numbering.{section_of}
-use Rattle.link65.specs.Segments.{grown}
-use Rattle.link65.specs.Segments as linked
+use Rattle.link65.specs.Programs.{grown}
+use Rattle.link65.specs.Programs as linked
 use Rattle.whole65.proofs.Keys.{AreOnce, alike, neither}
 use Rattle.whole65.proofs.Naming.{Distinct}
 use Rattle.whole65.proofs.Positions.{itself}

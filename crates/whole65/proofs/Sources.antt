@@ -12,9 +12,8 @@ use Rattle.source65.specs.declared.place.Place.{Place}
 use Rattle.language65.specs.Parts.{Content}
 use Rattle.language65.specs.Layout.{Layout}
 use Rattle.language65.specs.Numbering.{files_of, import_keys, in_files, object_by, object_with, section_keys, section_of}
-use Rattle.link65.specs.Modules.{Module}
-use Rattle.link65.specs.Segments as linked_segments
-use Rattle.link65.specs.Segments.{grown, segment_of}
+use Rattle.link65.specs.Programs.{Module, grown, segment_of}
+use Rattle.link65.specs.Programs as linked_segments
 use Rattle.module65.specs.Module.{contents_from}
 use Rattle.module65.specs.Places.{PlacedFault}
 use Rattle.whole65.proofs.Alignments.{alignment_law}

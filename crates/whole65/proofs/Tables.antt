@@ -6,10 +6,9 @@ use Rattle.syntax65.specs.Trees as tree
 use Rattle.script65.specs.declared.placement.Placement.{Placement}
 use Rattle.script65.specs.declared.script.Script.{Script}
 use Rattle.language65.specs.Layout.{Layout}
-use Rattle.link65.specs.Modules.{Module}
-use Rattle.link65.specs.Places.{linkage_of}
+use Rattle.link65.specs.Programs.{Module}
+use Rattle.link65.specs.Values.{linkage_of, ExportComesTo, Linkage, export_value, exports_through, value_by}
 use Rattle.link65.specs.Programs as linked
-use Rattle.link65.specs.Values.{ExportComesTo, Linkage, export_value, exports_through, value_by}
 use Rattle.link65.specs.declared.parts.Exported.{Exported}
 use Rattle.link65.specs.declared.parts.ValueFault.{ValueFault}
 use Rattle.link65.specs.declared.parts.ValueFault.TheVariants.{Unresolved}

@@ -17,7 +17,7 @@ use Rattle.language65.specs.Laid.{Laid, asks_section}
 use Rattle.language65.specs.Layout.{Layout}
 use Rattle.language65.specs.Numbering.{parts_in, section_keys, segments_asked}
 use Rattle.link65.specs.Files.{RowBytes}
-use Rattle.link65.specs.Modules.{Module}
+use Rattle.link65.specs.Programs.{Module}
 use Rattle.link65.specs.declared.parts.ValueFault.{ValueFault}
 use Rattle.module65.proofs.SoundForms.{all_append}
 use Rattle.whole65.proofs.Bases.{one_of}

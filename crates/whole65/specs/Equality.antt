@@ -3,8 +3,8 @@ use Rattle.std.specs.Prelude.{◌≡◌, ℕ, ◌↔◌, List, Ok}
 use Rattle.script65.specs.declared.script.Script.{Script}
 use Rattle.language65.specs.Layout.{Layout}
 use Rattle.link65.specs.Links.{LinkOf}
-use Rattle.link65.specs.Modules.{Module}
-use Rattle.link65.specs.declared.linked.Linked.{Linked}
+use Rattle.link65.specs.Programs.{Module}
+use Rattle.link65.specs.declared.linking.Linked.{Linked}
 use Rattle.base65.specs.declared.output.OutputFile.{OutputFile}
 use Rattle.whole65.specs.Sources.{AreSources}
 use Rattle.whole65.specs.Whole.{Whole}

@@ -8,17 +8,14 @@ use Rattle.language65.specs.Norms.{norm}
 use Rattle.whole65.specs.Offsets.{ArePowers, IsLaidOut, lines_at}
 use Rattle.whole65.specs.Sources.{AreSources}
 use Rattle.whole65.specs.Segments.{end_of, largest_multiple, line, lines_behind, needs_of}
-use Rattle.link65.specs.Modules.{Module}
+use Rattle.link65.specs.Programs.{Module, Cell, fragment_cells, segment_of}
 use Rattle.link65.specs.Programs as linked
-use Rattle.link65.specs.Places as places
-use Rattle.link65.specs.Places.{address_of, linkage_of, run_of}
-use Rattle.link65.specs.Checks.{check_waiting, each_passes, waiting_by_row}
+use Rattle.link65.specs.Values as places
+use Rattle.link65.specs.Values.{address_of, linkage_of, run_of, row_bytes, AreExports, Linkage, in_table, value_by}
+use Rattle.link65.specs.Links.{check_waiting, each_passes, waiting_by_row}
 use Rattle.link65.specs.Files.{RowBytes}
-use Rattle.link65.specs.RowBytes.{row_bytes}
 use Rattle.link65.specs.declared.parts.Exported.{Exported}
-use Rattle.link65.specs.Segments as grown
-use Rattle.link65.specs.Segments.{Cell, fragment_cells, segment_of}
-use Rattle.link65.specs.Values.{AreExports, Linkage, in_table, value_by}
+use Rattle.link65.specs.Programs as grown
 use Rattle.link65.specs.declared.parts.ValueFault.{ValueFault}
 use Rattle.whole65.specs.Objects.{AreObjects, HasValue, Objects}
 use Rattle.whole65.specs.Programs.{program_of}

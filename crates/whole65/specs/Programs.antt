@@ -6,9 +6,8 @@ use Rattle.base65.specs.Values.{wrapped}
 use Rattle.script65.specs.declared.placement.Placement.{Placement}
 use Rattle.script65.specs.declared.script.Script.{Script}
 use Rattle.link65.specs.declared.parts.Definition.{Definition}
-use Rattle.link65.specs.Givers.{is_among}
-use Rattle.link65.specs.Names.{script_definitions, weak_symbols}
-use Rattle.link65.specs.Places.{run_of}
+use Rattle.link65.specs.Names.{is_among, script_definitions, weak_symbols}
+use Rattle.link65.specs.Values.{run_of}
 use Rattle.language65.specs.Laid.{Laid}
 use Rattle.language65.specs.Layout.{Layout}
 use Rattle.whole65.specs.Modules.{exports_of, means_in}

@@ -10,8 +10,7 @@ use Rattle.script65.specs.declared.script.Row.{Row}
 use Rattle.script65.specs.declared.script.Script.{Script}
 use Rattle.base65.specs.declared.output.OutputFile.{OutputFile}
 use Rattle.link65.specs.Files.{AddsAreas, IsAreaFile, RowBytes}
-use Rattle.link65.specs.Givers.{first_again}
-use Rattle.link65.specs.Names.{script_names, symbol_imports}
+use Rattle.link65.specs.Names.{first_again, script_names, symbol_imports}
 use Rattle.language65.specs.declared.language.Statement.{Statement}
 use Rattle.language65.specs.declared.language.Statement.TheVariants.{Assert}
 use Rattle.language65.specs.Layout.{Layout}

@@ -12,9 +12,8 @@ use Rattle.library65.specs.declared.index.Entry.{Entry}
 use Rattle.library65.specs.Selection.{IsSelection}
 use Rattle.link65.specs.declared.fault.LinkFault.{LinkFault}
 use Rattle.link65.specs.declared.fault.LinkFault.TheVariants as link
-use Rattle.link65.specs.Givers.{given_names, open_names}
-use Rattle.link65.specs.Modules.{Module}
-use Rattle.link65.specs.Programs.{program_of}
+use Rattle.link65.specs.Names.{given_names, open_names}
+use Rattle.link65.specs.Programs.{Module, program_of}
 use Rattle.link65.specs.Standing.{Feeding, IsFed, IsFeeding, as_link, module_of}
 use Rattle.ld65.specs.Linkage.{AreInputs, Input, IsInput, IsLibraryInput, added_in, as_library, index_in, with_file, with_members}
 use Rattle.ld65.specs.Refusals.{is_outside}

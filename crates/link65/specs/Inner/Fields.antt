@@ -10,12 +10,11 @@ use Rattle.link65.specs.declared.fault.LinkFault.{LinkFault}
 use Rattle.link65.specs.declared.fault.LinkFault.TheVariants.{IndexDisagrees}
 use Rattle.base65.specs.Outcome.{◌>>=◌}
 use Rattle.link65.specs.declared.parts.Exported.{Exported}
-use Rattle.link65.specs.GivenTwice.{all_once}
+use Rattle.link65.specs.Standing.{all_once, Leads, Opened, as_link, module_of}
 use Rattle.link65.specs.Growing.{Growth, at_rest, growth_of}
 use Rattle.link65.specs.Programs.{Program, with_module}
-use Rattle.link65.specs.declared.listed.Listed.{Listed}
-use Rattle.link65.specs.declared.open.Open.{Open}
-use Rattle.link65.specs.Standing.{Leads, Opened, as_link, module_of}
+use Rattle.link65.specs.declared.feeding.Listed.{Listed}
+use Rattle.link65.specs.declared.feeding.Open.{Open}
 
 abbrev pub opened_in : Option Open → Option Opened
 opened_in o = option_map (λ m. record { name = m.name; scan = m.scan; first_export = m.first_export; listed = m.listed }) o

@@ -1,12 +1,30 @@
--- The rows of an area's file, and the files so far, as the code holds them.
-use Rattle.std.specs.Prelude.{◌≡◌, ◌==◌, ℕ, Bool, not, List, length, map, Option, Some}
+-- The rows of an area's file, and how they are laid into it.
+use Rattle.std.specs.Prelude.{◌≡◌, ℕ, ◌<◌, List, [], ◌∷◌, length, get_or, ◌==◌, Bool, not, map, Option, Some}
+use Rattle.link65.specs.Files.{Piece, byte_over, laid_over, IsImage, Placed, RowBytes, file_len, loaded_in, offset_of}
 use Rattle.link65.specs.declared.files.Files.{Files}
 use Rattle.script65.specs.declared.placement.AreaPlace.{AreaPlace}
 use Rattle.script65.specs.declared.placement.RowPlace.{RowPlace}
 use Rattle.script65.specs.declared.script.Area.{Area}
 use Rattle.script65.specs.declared.script.Row.{Row}
-use Rattle.link65.specs.declared.areas.Load.{Load}
-use Rattle.link65.specs.Files.{IsImage, Piece, Placed, RowBytes, file_len, loaded_in, offset_of}
+use Rattle.link65.specs.declared.files.Load.{Load}
+
+-- ---- Pieces that are laid into an image one after the other.
+
+-- new is old with bytes over it from a place on
+pub record Overlays (old : List ℕ) (at : ℕ) (bytes new : List ℕ) : Type 0 where
+  pub len : length new ≡ length old
+  pub each : (i : ℕ) → i < length old → get_or new i 0 ≡ laid_over i at bytes (get_or old i 0)
+
+-- new is old with all pieces over it, each over those before it
+pub record LaysAll (pieces : List Piece) (old new : List ℕ) : Type 0 where
+  pub len : length new ≡ length old
+  pub each : (i : ℕ) → i < length old → get_or new i 0 ≡ byte_over pieces i (get_or old i 0)
+
+-- one piece is all of so many bytes
+abbrev pub IsWhole : ℕ → List Piece → Type 0
+IsWhole len pieces = (p : Piece) × (pieces ≡ p ∷ []) × (p.offset ≡ 0) × (length p.bytes ≡ len)
+
+-- ---- The rows of an area's file, and the files so far, as the code holds them.
 
 -- a row that is placed, and its bytes
 abbrev pub Held : Type 0

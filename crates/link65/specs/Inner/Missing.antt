@@ -2,10 +2,10 @@
 use Rattle.std.specs.Prelude.{ℕ, Bool, ◌||◌, is_some, List, [], ◌∷◌, ◌++◌, if◌then◌else◌}
 use Rattle.std.specs.Str.{bytes_eq}
 use Rattle.indexmap.specs.IndexMap.{get_by}
-use Rattle.link65.specs.declared.missing.GivenNames.{GivenNames}
+use Rattle.link65.specs.declared.given.GivenNames.{GivenNames}
 use Rattle.link65.specs.declared.resolving.Places.{Places}
-use Rattle.link65.specs.Givers.{is_among}
-use Rattle.link65.specs.Resolving.{IsTable}
+use Rattle.link65.specs.Names.{is_among}
+use Rattle.link65.specs.Placed.{IsTable}
 
 -- names behind others: each that isn't given, once, where it first stands
 abbrev pub missing_behind : (List ℕ → Bool) → List (List ℕ) → List (List ℕ) → List (List ℕ)

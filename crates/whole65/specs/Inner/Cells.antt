@@ -1,6 +1,6 @@
 -- The bytes of what lies in a segment of linked modules, where forms have values.
 use Rattle.std.specs.Prelude.{◌≡◌, ℕ, ℤ, List, [], ◌∷◌, ◌++◌, slice_get, Option, Some, None, ◌↔◌, ⊤}
-use Rattle.link65.specs.Segments.{Cell, Segment, known, filled, waits}
+use Rattle.link65.specs.Programs.{Cell, Segment, known, filled, waits}
 use Rattle.link65.specs.Values.{Linkage, base_of, exports_through, giver_at, import_value}
 use Rattle.link65.specs.declared.parts.ValueFault.TheVariants.{NoValue}
 use Rattle.language65.specs.Numbering.{numbered}

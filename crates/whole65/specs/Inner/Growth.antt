@@ -2,8 +2,7 @@
 use Rattle.std.specs.Prelude.{ℕ, suc, List, [], ◌∷◌, Option, Some, None, if◌then◌else◌}
 use Rattle.std.specs.Str.{bytes_eq}
 use Rattle.object65.specs.declared.object.Section.{Section}
-use Rattle.link65.specs.Modules.{Module}
-use Rattle.link65.specs.Segments.{Segment, empty_segment, grown}
+use Rattle.link65.specs.Programs.{Module, Segment, empty_segment, grown}
 
 abbrev pub or_empty : List ℕ → Option Segment → Segment
 or_empty name None = empty_segment name

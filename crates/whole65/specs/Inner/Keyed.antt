@@ -1,7 +1,6 @@
 -- Forms in the contents of a module, and what linking knows of them.
-use Rattle.std.specs.Prelude.{◌≡◌, ℕ, ◌<◌, nat_eq, true, List, slice_get, Option, Some, None, Result, ⊤}
+use Rattle.std.specs.Prelude.{◌≡◌, ℕ, ◌<◌, nat_eq, true, List, slice_get, Option, Some, None, Result, ⊤, ℤ}
 use Rattle.std.specs.List.{AllByRecursion, list_any}
-use Rattle.std.specs.Prelude.{ℤ}
 use Rattle.object65.specs.Form.{Form}
 use Rattle.script65.specs.declared.placement.Placement.{Placement}
 use Rattle.script65.specs.declared.script.Script.{Script}
@@ -9,12 +8,9 @@ use Rattle.language65.specs.Parts.{Content, Part, Known, Filled, Waiting, Said, 
 use Rattle.language65.specs.Layout.{Layout}
 use Rattle.language65.specs.Numbering.{imports_in}
 use Rattle.language65.specs.Sound.{sections_in}
-use Rattle.link65.specs.Givers.{giver_of}
-use Rattle.link65.specs.Modules.{Module}
-use Rattle.link65.specs.Names.{script_definitions, weak_symbols}
-use Rattle.link65.specs.Places.{linkage_of}
-use Rattle.link65.specs.Programs.{Program, program_of}
-use Rattle.link65.specs.Values.{exports_through, import_value}
+use Rattle.link65.specs.Names.{giver_of, script_definitions, weak_symbols}
+use Rattle.link65.specs.Programs.{Module, Program, program_of}
+use Rattle.link65.specs.Values.{linkage_of, exports_through, import_value}
 use Rattle.link65.specs.declared.parts.Giver.{Giver}
 use Rattle.link65.specs.declared.parts.Giver.TheVariants.{Nobody}
 use Rattle.link65.specs.declared.parts.ValueFault.{ValueFault}

@@ -18,25 +18,20 @@ use Rattle.whole65.specs.Modules.{exports_of, table_of}
 use Rattle.object65.specs.FormValue.{value_in}
 use Rattle.object65.specs.Objects.{section_len}
 use Rattle.whole65.specs.Inner.Parts.{AreFragments, AreParts, valued_by}
-use Rattle.link65.specs.Givers.{export_names, first_again, unresolved}
-use Rattle.link65.specs.Links.{AreFiles, names_once}
-use Rattle.link65.specs.Names.{symbol_imports}
-use Rattle.link65.specs.Modules.{Module}
+use Rattle.link65.specs.Names.{export_names, first_again, unresolved, symbol_imports}
+use Rattle.link65.specs.Links.{AreFiles, names_once, check_asserts, check_export, check_waiting, each_passes, waiting_by_row, waiting_in}
+use Rattle.link65.specs.Programs.{Module, Cell, fragment_cells, segment_of}
 use Rattle.link65.specs.Programs as linked
-use Rattle.link65.specs.Places.{address_of, linkage_of, run_of}
+use Rattle.link65.specs.Values.{address_of, linkage_of, run_of, cell_bytes, AreExports, Linkage, base_of, exports_through, in_table, value_by}
 use Rattle.link65.specs.declared.parts.SectionPlace.{SectionPlace}
 use Rattle.script65.specs.declared.placement.RowPlace.{RowPlace}
 use Rattle.script65.specs.declared.script.Row.{Row}
 use Rattle.base65.specs.Values.{wrapped}
 use Rattle.language65.specs.Sound.{IsSoundLayout, sections_in}
-use Rattle.link65.specs.Checks.{check_asserts, check_export, check_waiting, each_passes, waiting_by_row, waiting_in}
 use Rattle.link65.specs.Files.{RowBytes}
-use Rattle.link65.specs.RowBytes.{cell_bytes}
 use Rattle.base65.specs.declared.output.OutputFile.{OutputFile}
 use Rattle.link65.specs.declared.parts.Member.{Member}
-use Rattle.link65.specs.Segments as grown
-use Rattle.link65.specs.Segments.{Cell, fragment_cells, segment_of}
-use Rattle.link65.specs.Values.{AreExports, Linkage, base_of, exports_through, in_table, value_by}
+use Rattle.link65.specs.Programs as grown
 use Rattle.link65.specs.declared.parts.ValueFault.{ValueFault}
 use Rattle.object65.specs.declared.object.Fragment.{Fragment}
 use Rattle.object65.specs.declared.object.Origin.{Origin}

@@ -2,7 +2,7 @@ use Rattle.std.proofs.Common.{◌≡◌, ◌∙◌, ap, drop, map, refl, sym, su
 use Rattle.link65.specs.declared.parts.Exported.{Exported}
 use Rattle.link65.specs.Faults.{is_memory}
 use Rattle.base65.specs.Outcome.{Refuses}
-use Rattle.link65.specs.GivenTwice.{all_once, names_in}
+use Rattle.link65.specs.Standing.{all_once, names_in}
 use Rattle.link65.specs.Growing.{at_rest, ended}
 use Rattle.link65.specs.Grounds.{growth_in}
 use Rattle.link65.specs.Inner.Fields.{are_listed, exports_from}

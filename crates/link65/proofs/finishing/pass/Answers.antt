@@ -3,12 +3,11 @@ use Rattle.std.specs.List.{flat_map}
 use Rattle.link65.specs.declared.parts.Definition.{Definition}
 use Rattle.link65.specs.declared.parts.Exported.{Exported}
 use Rattle.link65.specs.Links.{checked}
-use Rattle.link65.specs.Maps.{definition_line, export_line, map_text, symbol_lines, weak_line}
+use Rattle.link65.specs.Texts.{definition_line, export_line, map_text, symbol_lines, weak_line, joined, warnings_of_rows}
 use Rattle.link65.specs.Names.{script_definitions, weak_symbols}
 use Rattle.link65.specs.Placed.{Passes, exported_value, exports_in, linkage_in, lines_by, map_by, program_in, segments_in, value_line}
-use Rattle.link65.specs.Warnings.{joined, warnings_of_rows}
 use Rattle.link65.proofs.FinishLemmas.{first_ok}
-use Rattle.link65.proofs.ZipLemmas.{zip_mapped}
+use Rattle.link65.proofs.ListLemmas.{zip_mapped}
 use Rattle.link65.proofs.finishing.pass.Goals as goal
 
 pub returns : goal.returns

@@ -1,4 +1,4 @@
-use Rattle.link65.proofs.Copies.{copied}
+use Rattle.link65.proofs.ListLemmas.{copied}
 use Rattle.link65.proofs.given.copy_of.Goals as goal
 
 pub returns : goal.returns

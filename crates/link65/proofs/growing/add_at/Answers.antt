@@ -3,11 +3,11 @@ use Rattle.std.specs.Prelude.{slice_set}
 use Rattle.std.proofs.Math.Seq.{map-set_same}
 use Rattle.std.proofs.lemmas.List.{map-set}
 use Rattle.object65.specs.Objects.{fragment_len}
-use Rattle.link65.specs.declared.contents.Content.{Content}
-use Rattle.link65.specs.Contents.{segment_from, segments_from}
+use Rattle.link65.specs.declared.parts.Content.{Content}
+use Rattle.link65.specs.Grounds.{segment_from, segments_from}
 use Rattle.link65.specs.Growing.{with_cells}
-use Rattle.link65.specs.Segments.{fragment_cells}
-use Rattle.link65.proofs.Beginnings.{same_content}
+use Rattle.link65.specs.Programs.{fragment_cells}
+use Rattle.link65.proofs.SegmentLemmas.{same_content}
 use Rattle.link65.proofs.growing.add_at.Goals as goal
 
 pub returns-clause-grown : goal.returns-clause-grown

@@ -6,9 +6,7 @@ use Rattle.std.proofs.lemmas.Option.{slice_get_read}
 use Rattle.link65.specs.declared.parts.SectionPlace.{SectionPlace}
 use Rattle.link65.specs.Grounds.{names_in, place_in}
 use Rattle.link65.specs.Growing.{longer}
-use Rattle.link65.proofs.Beginnings.{part_added}
-use Rattle.link65.proofs.PlaceOf.{same_length}
-use Rattle.link65.proofs.SectionLemmas.{longer_stays, place_within, places_of, section_there}
+use Rattle.link65.proofs.SegmentLemmas.{part_added, same_length, longer_stays, place_within, places_of, section_there}
 use Rattle.link65.proofs.growing.add_part.Goals as goal
 
 pub add_at-requires : goal.add_at-requires

@@ -3,8 +3,7 @@ use Rattle.std.proofs.lemmas.List.{map-append}
 use Rattle.std.specs.Str.{bytes_eq}
 use Rattle.object65.proofs.Names.{pushed_name}
 use Rattle.link65.specs.Grounds.{names_in}
-use Rattle.link65.proofs.PlaceOf.{none_among}
-use Rattle.link65.proofs.SectionLemmas.{places_of, places_stay}
+use Rattle.link65.proofs.SegmentLemmas.{none_among, places_of, places_stay}
 use Rattle.link65.proofs.growing.add_segment.Goals as goal
 
 pub returns-clause-names : goal.returns-clause-names

@@ -1,9 +1,8 @@
 use Rattle.std.proofs.Common.{◌∙◌, List, Ok, ℕ, ap, sym}
 use Rattle.std.proofs.Math.Seq.{map-set_same}
-use Rattle.link65.specs.declared.contents.Content.{Content}
+use Rattle.link65.specs.declared.parts.Content.{Content}
 use Rattle.link65.specs.Grounds.{growth_in, names_in, place_in}
-use Rattle.link65.proofs.Beginnings.{bare_begun}
-use Rattle.link65.proofs.SectionLemmas.{section_more}
+use Rattle.link65.proofs.SegmentLemmas.{bare_begun, section_more}
 use Rattle.link65.proofs.growing.begin_section.Goals as goal
 
 pub returns-clause-begun : goal.returns-clause-begun

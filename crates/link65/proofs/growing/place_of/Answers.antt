@@ -1,6 +1,6 @@
 use Rattle.std.proofs.Common.{◌∙◌, sym}
 use Rattle.std.specs.Str.{bytes_eq}
-use Rattle.link65.proofs.PlaceOf.{position_map}
+use Rattle.link65.proofs.SegmentLemmas.{position_map}
 use Rattle.link65.proofs.growing.place_of.Goals as goal
 
 pub returns-clause-place : goal.returns-clause-place

@@ -2,9 +2,8 @@ use Rattle.std.proofs.Common.{◌≡◌, ◌∙◌, Some, length, sym, ap}
 use Rattle.std.proofs.lemmas.Cmp.{nat_list_eq_equiv}
 use Rattle.std.proofs.lemmas.List.{length-map}
 use Rattle.std.specs.Str.{bytes_eq}
-use Rattle.link65.specs.Contents.{segments_from}
-use Rattle.link65.specs.Grounds.{growth_in, having, names_in, place_in}
-use Rattle.link65.proofs.PlaceOf.{place_last, segment_names, with_name_new, with_name_there}
+use Rattle.link65.specs.Grounds.{segments_from, growth_in, having, names_in, place_in}
+use Rattle.link65.proofs.SegmentLemmas.{place_last, segment_names, with_name_new, with_name_there}
 use Rattle.link65.proofs.growing.segment_at.Goals as goal
 
 pub returns-in-Some-clause-added : goal.returns-in-Some-clause-added

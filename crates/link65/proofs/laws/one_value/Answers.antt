@@ -1,6 +1,5 @@
 use Rattle.link65.specs.Values.{exports_through, value_by}
-use Rattle.link65.proofs.Turns.{settles_once}
-use Rattle.link65.proofs.Tries.{form_grows}
+use Rattle.link65.proofs.Tries.{settles_once, form_grows}
 use Rattle.link65.proofs.laws.one_value.Goals as goal
 
 pub returns : goal.returns

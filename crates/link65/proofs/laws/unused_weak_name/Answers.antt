@@ -1,4 +1,4 @@
-use Rattle.link65.proofs.WeakLemmas.{unused_weak_links, unused_weak_same}
+use Rattle.link65.proofs.OutcomeLemmas.{unused_weak_links, unused_weak_same}
 use Rattle.link65.proofs.laws.unused_weak_name.Goals as goal
 
 pub returns-clause-same : goal.returns-clause-same

@@ -6,10 +6,9 @@ use Rattle.link65.specs.declared.parts.Definition.{Definition}
 use Rattle.link65.specs.declared.parts.Exported.{Exported}
 use Rattle.link65.specs.declared.parts.Member.{Member}
 use Rattle.link65.specs.declared.parts.Resolved.{Resolved}
-use Rattle.link65.specs.Givers.{giver_of}
-use Rattle.link65.specs.Names.{script_definitions}
-use Rattle.link65.specs.Places.{address_of}
-use Rattle.link65.specs.Resolving.{resolved_by}
+use Rattle.link65.specs.Names.{giver_of, script_definitions}
+use Rattle.link65.specs.Values.{address_of}
+use Rattle.link65.specs.Placed.{resolved_by}
 use Rattle.link65.proofs.linking.modules_of.Goals as goal
 
 pub returns : goal.returns

@@ -1,17 +1,15 @@
 use Rattle.std.proofs.Common.{◌∙◌, ap, sym, subst, List, map}
 use Rattle.base65.specs.Outcome.{Finds}
-use Rattle.link65.specs.declared.contents.Content.{Content}
-use Rattle.link65.specs.declared.evaluation.mark.Mark.{Mark}
+use Rattle.link65.specs.declared.parts.Content.{Content}
+use Rattle.link65.specs.declared.evaluation.Mark.{Mark}
 use Rattle.link65.specs.declared.parts.Asserted.{Asserted}
 use Rattle.link65.specs.declared.parts.Exported.{Exported}
 use Rattle.link65.specs.declared.parts.Member.{Member}
-use Rattle.link65.specs.Contents.{segments_from}
+use Rattle.link65.specs.Grounds.{segments_from, program_in}
 use Rattle.link65.specs.Faults.{is_memory}
-use Rattle.link65.specs.Grounds.{program_in}
-use Rattle.link65.specs.Marks.{AllFound, AreAllFound, table_of}
-use Rattle.link65.specs.Placed.{IsPassed}
+use Rattle.link65.specs.Placed.{AllFound, AreAllFound, table_of, IsPassed}
 use Rattle.link65.specs.Values.{in_table, linkage}
-use Rattle.link65.proofs.LinkingLemmas.{placed_by}
+use Rattle.link65.proofs.FinishLemmas.{placed_by}
 use Rattle.link65.proofs.linking.pass_named.Goals as goal
 
 pub pass-requires : goal.pass-requires

@@ -1,7 +1,7 @@
 use Rattle.std.proofs.Common.{refl}
 use Rattle.std.specs.List.{flat_map}
-use Rattle.link65.specs.Maps.{definition_line}
-use Rattle.link65.proofs.LineLemmas.{lines_next}
+use Rattle.link65.specs.Texts.{definition_line}
+use Rattle.link65.proofs.TextLemmas.{lines_next}
 use Rattle.link65.proofs.mapping.definition_lines.Goals as goal
 
 pub loop-definition-preserved : goal.loop-definition-preserved

@@ -1,6 +1,6 @@
 use Rattle.std.proofs.Common.{◌≡◌, ◌++◌, drop}
 use Rattle.std.specs.List.{flat_map}
-use Rattle.link65.specs.Maps.{definition_line}
+use Rattle.link65.specs.Texts.{definition_line}
 use Rattle.link65.proofs.mapping.definition_lines.Given as goal
 
 abbrev pub invariant-loop-definition : goal.invariant-loop-definition

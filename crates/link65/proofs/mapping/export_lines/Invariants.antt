@@ -1,5 +1,5 @@
 use Rattle.std.proofs.Common.{◌≡◌, ◌++◌, drop}
-use Rattle.link65.specs.Lists.{flat_zip}
+use Rattle.link65.specs.Programs.{flat_zip}
 use Rattle.link65.specs.Placed.{value_line}
 use Rattle.link65.proofs.mapping.export_lines.Given as goal
 

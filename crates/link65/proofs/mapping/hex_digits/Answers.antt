@@ -1,5 +1,5 @@
 use Rattle.std.proofs.Common.{◌-◌, refl, arith}
-use Rattle.link65.proofs.HexLemmas.{one_more}
+use Rattle.link65.proofs.TextLemmas.{one_more}
 use Rattle.link65.proofs.mapping.hex_digits.Goals as goal
 
 pub digits-preserved : goal.digits-preserved

@@ -1,5 +1,5 @@
 use Rattle.std.proofs.Common.{◌≤◌}
-use Rattle.link65.proofs.HexLemmas.{IsBefore}
+use Rattle.link65.proofs.TextLemmas.{IsBefore}
 use Rattle.link65.proofs.mapping.hex_digits.Given as goal
 
 abbrev pub invariant-digits : goal.invariant-digits

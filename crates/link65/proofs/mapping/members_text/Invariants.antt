@@ -1,6 +1,6 @@
 use Rattle.std.proofs.Common.{◌≡◌, ◌++◌, drop}
 use Rattle.std.specs.List.{flat_map}
-use Rattle.link65.specs.Maps.{member_lines}
+use Rattle.link65.specs.Texts.{member_lines}
 use Rattle.link65.proofs.mapping.members_text.Given as goal
 
 abbrev pub invariant-loop-member : goal.invariant-loop-member

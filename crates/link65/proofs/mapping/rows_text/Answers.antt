@@ -1,7 +1,7 @@
 use Rattle.std.proofs.Common.{[]}
-use Rattle.link65.specs.Lists.{flat_zip}
-use Rattle.link65.specs.Maps.{row_line}
-use Rattle.link65.proofs.ZipLemmas.{zip_end, zip_next}
+use Rattle.link65.specs.Programs.{flat_zip}
+use Rattle.link65.specs.Texts.{row_line}
+use Rattle.link65.proofs.ListLemmas.{zip_end, zip_next}
 use Rattle.link65.proofs.mapping.rows_text.Goals as goal
 
 pub loop-i-preserved : goal.loop-i-preserved

@@ -1,6 +1,6 @@
 use Rattle.std.proofs.Common.{◌≡◌, ◌++◌, drop}
-use Rattle.link65.specs.Lists.{flat_zip}
-use Rattle.link65.specs.Maps.{row_line}
+use Rattle.link65.specs.Programs.{flat_zip}
+use Rattle.link65.specs.Texts.{row_line}
 use Rattle.link65.proofs.mapping.rows_text.Given as goal
 
 abbrev pub invariant-loop-i : goal.invariant-loop-i

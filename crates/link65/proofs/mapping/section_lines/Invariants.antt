@@ -1,6 +1,6 @@
 use Rattle.std.proofs.Common.{◌≡◌, ◌++◌, drop}
 use Rattle.std.specs.List.{flat_map}
-use Rattle.link65.specs.Maps.{section_line}
+use Rattle.link65.specs.Texts.{section_line}
 use Rattle.link65.proofs.mapping.section_lines.Given as goal
 
 abbrev pub invariant-loop-place : goal.invariant-loop-place

@@ -1,7 +1,7 @@
 use Rattle.std.proofs.Common.{refl}
 use Rattle.std.specs.List.{flat_map}
-use Rattle.link65.specs.Maps.{weak_line}
-use Rattle.link65.proofs.LineLemmas.{lines_next}
+use Rattle.link65.specs.Texts.{weak_line}
+use Rattle.link65.proofs.TextLemmas.{lines_next}
 use Rattle.link65.proofs.mapping.weak_lines.Goals as goal
 
 pub loop-weak-preserved : goal.loop-weak-preserved

@@ -1,6 +1,6 @@
 use Rattle.std.proofs.Common.{◌≡◌, ◌++◌, drop}
 use Rattle.std.specs.List.{flat_map}
-use Rattle.link65.specs.Maps.{weak_line}
+use Rattle.link65.specs.Texts.{weak_line}
 use Rattle.link65.proofs.mapping.weak_lines.Given as goal
 
 abbrev pub invariant-loop-weak : goal.invariant-loop-weak

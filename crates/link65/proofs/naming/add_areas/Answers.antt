@@ -1,6 +1,6 @@
-use Rattle.link65.specs.Lists.{flat_zip}
+use Rattle.link65.specs.Programs.{flat_zip}
 use Rattle.link65.specs.Names.{area_definitions}
-use Rattle.link65.proofs.ZipLemmas.{zip_end, zip_next}
+use Rattle.link65.proofs.ListLemmas.{zip_end, zip_next}
 use Rattle.link65.proofs.naming.add_areas.Goals as goal
 
 pub loop-i-preserved : goal.loop-i-preserved

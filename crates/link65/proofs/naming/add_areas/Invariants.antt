@@ -1,5 +1,5 @@
 use Rattle.std.proofs.Common.{◌≡◌, ◌++◌, drop}
-use Rattle.link65.specs.Lists.{flat_zip}
+use Rattle.link65.specs.Programs.{flat_zip}
 use Rattle.link65.specs.Names.{area_definitions}
 use Rattle.link65.proofs.naming.add_areas.Given as goal
 

@@ -1,5 +1,5 @@
 use Rattle.std.proofs.Common.{◌≡◌, map, take}
-use Rattle.link65.specs.Places.{address_of}
+use Rattle.link65.specs.Values.{address_of}
 use Rattle.link65.proofs.resolving.bases_of.Given as goal
 
 abbrev pub invariant-loop-section : goal.invariant-loop-section

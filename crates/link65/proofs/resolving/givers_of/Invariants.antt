@@ -1,5 +1,5 @@
 use Rattle.std.proofs.Common.{◌≡◌, map, take}
-use Rattle.link65.specs.Resolving.{giver_in}
+use Rattle.link65.specs.Placed.{giver_in}
 use Rattle.link65.proofs.resolving.givers_of.Given as goal
 
 abbrev pub invariant-loop-name : goal.invariant-loop-name

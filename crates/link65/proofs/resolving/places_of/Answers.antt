@@ -3,7 +3,7 @@ use Rattle.std.specs.List.{position_from}
 use Rattle.std.specs.Str.{bytes_eq}
 use Rattle.std.specs.Map.{lookup}
 use Rattle.indexmap.specs.IndexMap.{get_by}
-use Rattle.link65.proofs.PlaceLemmas.{all_names, at_name, none_there, one_more}
+use Rattle.link65.proofs.ListLemmas.{all_names, at_name, none_there, one_more}
 use Rattle.link65.proofs.resolving.places_of.Goals as goal
 
 pub loop-i-init : goal.loop-i-init

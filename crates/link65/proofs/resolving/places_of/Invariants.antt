@@ -2,7 +2,7 @@ use Rattle.std.proofs.Common.{◌≡◌, ℕ, List, drop}
 use Rattle.std.specs.List.{position_from}
 use Rattle.std.specs.Str.{bytes_eq}
 use Rattle.indexmap.specs.IndexMap.{get_by}
-use Rattle.link65.proofs.PlaceLemmas.{at_name}
+use Rattle.link65.proofs.ListLemmas.{at_name}
 use Rattle.link65.proofs.resolving.places_of.Given as goal
 
 abbrev pub invariant-loop-i : goal.invariant-loop-i

@@ -1,5 +1,5 @@
 use Rattle.std.proofs.Common.{◌≡◌, map, take}
-use Rattle.link65.specs.Resolving.{resolved_by}
+use Rattle.link65.specs.Placed.{resolved_by}
 use Rattle.link65.proofs.resolving.resolve_all.Given as goal
 
 abbrev pub invariant-loop-member : goal.invariant-loop-member

@@ -1,5 +1,5 @@
 use Rattle.std.proofs.Common.{◌≡◌, ◌++◌, map, take}
-use Rattle.link65.specs.Warnings.{joined}
+use Rattle.link65.specs.Texts.{joined}
 use Rattle.link65.proofs.texts.add_all.Given as goal
 
 abbrev pub invariant-loop-part : goal.invariant-loop-part

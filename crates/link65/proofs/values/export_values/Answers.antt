@@ -1,9 +1,8 @@
 use Rattle.std.proofs.Common.{refl}
 use Rattle.std.proofs.lemmas.Result.{err_from_is_err_and}
-use Rattle.link65.specs.Checks.{each_passes}
+use Rattle.link65.specs.Links.{each_passes}
 use Rattle.link65.specs.Placed.{check_export_in, exported_value, exports_in, linkage_in, values_in}
-use Rattle.link65.proofs.Passes.{passes_next, passes_stops}
-use Rattle.link65.proofs.RowLemmas.{next_mapped}
+use Rattle.link65.proofs.Passes.{passes_next, passes_stops, next_mapped}
 use Rattle.link65.proofs.values.export_values.Goals as goal
 
 pub returns-in_err-add_export-clause-checked : goal.returns-in_err-add_export-clause-checked

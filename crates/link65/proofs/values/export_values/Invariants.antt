@@ -1,5 +1,5 @@
 use Rattle.std.proofs.Common.{◌≡◌, ◌++◌, drop, map}
-use Rattle.link65.specs.Checks.{each_passes}
+use Rattle.link65.specs.Links.{each_passes}
 use Rattle.link65.specs.Placed.{check_export_in, exported_value, exports_in, linkage_in, values_in}
 use Rattle.link65.proofs.values.export_values.Given as goal
 

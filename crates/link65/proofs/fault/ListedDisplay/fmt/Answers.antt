@@ -2,7 +2,7 @@ use Rattle.std.proofs.Common.{rules, ◌∙◌, ◌++◌, take, ap}
 use Rattle.std.proofs.Output.{has_written_append, has_written_of_eq}
 use Rattle.std.specs.Prelude.{encode_utf8_all}
 use Rattle.link65.specs.Faults.{listed, separator_behind}
-use Rattle.link65.proofs.Shown.{names_more, next_names, next_separator}
+use Rattle.link65.proofs.TextLemmas.{names_more, next_names, next_separator}
 use Rattle.link65.proofs.fault.ListedDisplay.fmt.Goals as goal
 
 pub loop-name-preserved : goal.loop-name-preserved

@@ -1,8 +1,7 @@
 use Rattle.std.proofs.Common.{◌≡◌, ◌∙◌, ◌∷◌, [], ◌++◌, Bool, true, false, List, ℕ, map, if◌then◌else◌, sym, ap}
-use Rattle.link65.specs.Givers.{is_among}
-use Rattle.link65.specs.GivenTwice.{names_in}
-use Rattle.link65.proofs.GivenLemmas.{fresh, refused_again, taken_new, there}
-use Rattle.link65.proofs.MissingLemmas.{among_keys, inserted}
+use Rattle.link65.specs.Names.{is_among}
+use Rattle.link65.specs.Standing.{names_in}
+use Rattle.link65.proofs.GivenLemmas.{fresh, refused_again, taken_new, there, among_keys, inserted}
 use Rattle.link65.proofs.given.Given.add.Goals as goal
 
 pub returns-then-not-branch-clause-added : goal.returns-then-not-branch-clause-added

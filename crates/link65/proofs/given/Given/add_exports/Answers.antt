@@ -2,7 +2,7 @@ use Rattle.std.proofs.Common.{map, subst, Result, List, ℕ}
 use Rattle.base65.specs.Outcome.{Gives}
 use Rattle.link65.specs.declared.fault.LinkFault.{LinkFault}
 use Rattle.link65.specs.Faults.{is_memory}
-use Rattle.link65.specs.GivenTwice.{names_in}
+use Rattle.link65.specs.Standing.{names_in}
 use Rattle.link65.proofs.GivenLemmas.{each_once_all}
 use Rattle.link65.proofs.given.Given.add_exports.Goals as goal
 

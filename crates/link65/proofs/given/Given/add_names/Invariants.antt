@@ -1,5 +1,5 @@
 use Rattle.std.proofs.Common.{◌≡◌, drop}
-use Rattle.link65.specs.GivenTwice.{names_in, with_each}
+use Rattle.link65.specs.Standing.{names_in, with_each}
 use Rattle.link65.proofs.given.Given.add_names.Given as goal
 
 abbrev pub invariant-loop-name : goal.invariant-loop-name

@@ -3,7 +3,7 @@ use Rattle.std.proofs.lemmas.Result.{err_from_is_err_and}
 use Rattle.base65.specs.Outcome.{Refuses}
 use Rattle.link65.specs.declared.fault.LinkFault.{LinkFault}
 use Rattle.link65.specs.Faults.{is_memory}
-use Rattle.link65.specs.GivenTwice.{all_once, with_each}
+use Rattle.link65.specs.Standing.{all_once, with_each}
 use Rattle.link65.specs.Names.{script_names}
 use Rattle.link65.proofs.GivenLemmas.{each_once_all}
 use Rattle.link65.proofs.given.Given.of.Goals as goal

@@ -1,8 +1,7 @@
 use Rattle.std.proofs.Common.{◌∙◌, ap, sym, refl}
-use Rattle.link65.specs.GivenTwice.{names_in}
+use Rattle.link65.specs.Standing.{names_in, Feeding}
 use Rattle.link65.specs.Grounds.{growth_in}
 use Rattle.link65.specs.Inner.Fields.{opened_in}
-use Rattle.link65.specs.Standing.{Feeding}
 use Rattle.link65.proofs.Feeds.{ended_next, ended_refused}
 use Rattle.link65.proofs.linker.Linker.end_module.Goals as goal
 

@@ -6,7 +6,7 @@ use Rattle.link65.specs.Grounds.{program_in}
 use Rattle.link65.specs.Links.{IsProgramLink}
 use Rattle.link65.specs.Standing.{Feeding}
 use Rattle.link65.proofs.Feeds.{linked}
-use Rattle.link65.proofs.FinishedLemmas.{refuses_so}
+use Rattle.link65.proofs.FinishLemmas.{refuses_so}
 use Rattle.link65.proofs.linker.Linker.finish.Goals as goal
 
 pub returns-clause-linked : goal.returns-clause-linked

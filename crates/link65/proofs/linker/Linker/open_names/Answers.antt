@@ -1,9 +1,9 @@
 use Rattle.std.proofs.Common.{◌∙◌, Ok, ap, sym}
 use Rattle.script65.specs.declared.script.Script.{Script}
-use Rattle.link65.specs.Givers.{open_names}
+use Rattle.link65.specs.Names.{open_names}
 use Rattle.link65.specs.Programs.{program_of}
 use Rattle.link65.specs.Standing.{Feeding}
-use Rattle.link65.proofs.EndedLemmas.{their_exports, their_members}
+use Rattle.link65.proofs.Feeds.{their_exports, their_members}
 use Rattle.link65.proofs.linker.Linker.open_names.Goals as goal
 
 pub returns-clause-open : goal.returns-clause-open

@@ -1,0 +1,124 @@
+-- Texts: hex digits, lines, names as they are printed.
+use Rattle.std.proofs.Common.{◌≡◌, ◌∙◌, ◌<◌, ◌≤◌, ◌/◌, ◌%◌, ◌-◌, ◌+◌, ◌*◌, ◌^◌, ℕ, zero, suc, List, [], ◌∷◌, ◌++◌, length, refl, sym, ap, arith, drop, get_or, append_assoc, take, add-one, false, map, nat_eq}
+use Rattle.std.proofs.Math.Nat.{div-one}
+use Rattle.std.proofs.lemmas.Nat.{pow-add}
+use native.Mathlib.Nat.{div-div-eq-div-mul}
+use Rattle.std.proofs.lemmas.List.{length-append}
+use Rattle.link65.specs.Texts.{hex_digit, hex_digits, is_data}
+use Rattle.std.specs.List.{flat_map, list_any}
+use Rattle.script65.proofs.Eaches.{drop_item}
+use Rattle.std.specs.Prelude.{codes, encode_utf8, encode_utf8_all, not, replicate}
+use Rattle.script65.proofs.Walks.{take_more}
+use Rattle.link65.specs.Faults.{listed, separator_behind}
+use Rattle.std.proofs.lemmas.Bool.Decides.{nat_tests}
+use Rattle.link65.specs.declared.parts.Piece.{Piece}
+use Rattle.link65.specs.declared.parts.Piece.TheVariants.{Known, Filled}
+use Rattle.link65.specs.Grounds.{piece_cells}
+use Rattle.link65.specs.Programs.{known, filled}
+
+-- ---- Hex digits.
+
+-- all digits but the last, and the last
+pub hex_step : (count n : ℕ) → 0 < count → hex_digits count n ≡ hex_digits (count - 1) (n / 16) ++ hex_digit (n % 16) ∷ []
+hex_step zero n h = absurd (omega arith)
+hex_step (suc count) n h = let e : suc count - 1 ≡ count = omega arith in rw e refl
+
+-- the digits before the last so many
+abbrev pub IsBefore : ℕ → ℕ → ℕ → List ℕ → Type 0
+IsBefore count n left digits = (digits ≡ hex_digits (count - left) (n / 2 ^ (4 * left))) × (length digits ≡ count - left)
+
+pub none_yet : (count n : ℕ) → IsBefore count n count []
+none_yet count n = let none : count - count ≡ zero = omega arith in (rw none refl, omega arith)
+
+pub all_there : (count n left : ℕ) (digits : List ℕ) → left ≡ 0 → IsBefore count n left digits → digits ≡ hex_digits count n
+all_there count n left digits none is = is.0 ∙ ap (λ l. hex_digits (count - l) (n / 2 ^ (4 * l))) none ∙ (let all : count - 0 ≡ count = omega arith in ap (λ c. hex_digits c (n / 1)) all ∙ ap (hex_digits count) (div-one n))
+
+-- and one more
+pub one_more : (count n left now d : ℕ) (digits new : List ℕ) → 0 < left → left ≤ count → now ≡ left - 1 → IsBefore count n left digits → d ≡ hex_digit (n / 2 ^ (4 * now) % 16) → new ≡ digits ++ d ∷ [] → IsBefore count n now new
+one_more count n left now d digits new some within is before digit after = (
+  after
+      ∙ ap (λ x. digits ++ x ∷ []) digit
+      ∙ ap (λ m. m ++ hex_digit (n / 2 ^ (4 * now) % 16) ∷ []) before.0
+      ∙ ap (λ m. hex_digits (count - left) m ++ hex_digit (n / 2 ^ (4 * now) % 16) ∷ []) higher
+      ∙ ap (λ k. hex_digits k (n / 2 ^ (4 * now) / 16) ++ hex_digit (n / 2 ^ (4 * now) % 16) ∷ []) fewer
+      ∙ sym (hex_step (count - now) (n / 2 ^ (4 * now)) (omega (arith, some, within, is))),
+  ap length after ∙ length-append digits (d ∷ []) ∙ omega (arith, before.1, some, within, is),
+)
+  where
+    fewer : count - left ≡ count - now - 1
+    fewer = omega (arith, some, within, is)
+
+    four : 4 * left ≡ 4 * now + 4
+    four = omega (arith, some, is)
+
+    higher : n / 2 ^ (4 * left) ≡ n / 2 ^ (4 * now) / 16
+    higher = ap (λ k. n / 2 ^ k) four ∙ ap (λ k. n / k) (pow-add 2 (4 * now) 4) ∙ sym (div-div-eq-div-mul n (2 ^ (4 * now)) 16)
+
+-- ---- Lines one behind the other.
+
+pub lines_next : {A : Type 0} (f : A → List ℕ) (xs : List A) (i : ℕ) (x : A) (text line new whole : List ℕ) → i < length xs → x ≡ get_or xs i x → new ≡ text ++ line → line ≡ f x → text ++ flat_map f (drop i xs) ≡ whole → new ++ flat_map f (drop (i + 1) xs) ≡ whole
+lines_next f xs i x text line new whole lt at more same inv =
+    ap (λ t. t ++ flat_map f (drop (i + 1) xs)) (more ∙ ap (λ t. text ++ t) same)
+    ∙ append_assoc text (f x) (flat_map f (drop (i + 1) xs))
+    ∙ sym (ap (λ l. text ++ flat_map f l) (drop_item xs i x lt at))
+    ∙ inv
+
+-- ---- Names as they are printed.
+
+encoded : (a b : List ℕ) → encode_utf8_all (a ++ b) ≡ encode_utf8_all a ++ encode_utf8_all b
+encoded [] b = refl
+encoded (x ∷ a) b = ap (λ l. encode_utf8 x ++ l) (encoded a b) ∙ sym (append_assoc (encode_utf8 x) (encode_utf8_all a) (encode_utf8_all b))
+
+listed_push : (names : List (List ℕ)) (name : List ℕ) → listed (names ++ name ∷ []) ≡ listed names ++ (separator_behind names ++ name)
+listed_push [] name = refl
+listed_push (x ∷ []) name = append_assoc x (codes ", ") name
+listed_push (x ∷ y ∷ names) name =
+    ap (λ l. (x ++ codes ", ") ++ l) (listed_push (y ∷ names) name)
+    ∙ sym (append_assoc (x ++ codes ", ") (listed (y ∷ names)) (codes ", " ++ name))
+
+separator_encoded : (names : List (List ℕ)) → encode_utf8_all (separator_behind names) ≡ separator_behind names
+unfolding lib.Utf8.encode
+separator_encoded [] = refl
+separator_encoded (x ∷ names) = refl
+
+pub next_names : (names : List (List ℕ)) (i : ℕ) (name : List ℕ) → i < length names → name ≡ get_or names i name → take i names ++ name ∷ [] ≡ take (i + 1) names
+next_names names i name lt at = sym (rw add-one (take_more names i name _ (drop_item names i name lt at)))
+
+-- one name more
+pub names_more : (names : List (List ℕ)) (i : ℕ) (name separator : List ℕ) → i < length names → name ≡ get_or names i name → separator ≡ separator_behind (take i names) → encode_utf8_all (listed (take i names)) ++ (separator ++ encode_utf8_all name) ≡ encode_utf8_all (listed (take (i + 1) names))
+names_more names i name separator lt at is =
+    let before = take i names in
+    ap (λ s. encode_utf8_all (listed before) ++ (s ++ encode_utf8_all name)) (is ∙ sym (separator_encoded before))
+    ∙ ap (λ l. encode_utf8_all (listed before) ++ l) (sym (encoded (separator_behind before) name))
+    ∙ sym (encoded (listed before) (separator_behind before ++ name))
+    ∙ ap encode_utf8_all (sym (listed_push before name))
+    ∙ ap (λ ns. encode_utf8_all (listed ns)) (next_names names i name lt at)
+
+pub next_separator : (names : List (List ℕ)) (name : List ℕ) → codes ", " ≡ separator_behind (names ++ name ∷ [])
+next_separator [] name = refl
+next_separator (x ∷ names) name = refl
+
+-- the same as bytes
+pub next_listed : (names : List (List ℕ)) (i : ℕ) (name separator : List ℕ) → i < length names → name ≡ get_or names i name → separator ≡ separator_behind (take i names) → (listed (take i names) ++ separator) ++ name ≡ listed (take (i + 1) names)
+next_listed names i name separator lt at is =
+    let before = take i names in
+    append_assoc (listed before) separator name
+    ∙ ap (λ s. listed before ++ (s ++ name)) is
+    ∙ sym (listed_push before name)
+    ∙ ap listed (next_names names i name lt at)
+
+-- ---- Data in pieces.
+
+known_data : (bytes : List ℕ) → not (nat_eq (length bytes) 0) ≡ list_any is_data (map known bytes)
+known_data [] = refl
+known_data (b ∷ bytes) = let some : nat_eq (length (b ∷ bytes)) 0 ≡ false = grind (arith, nat_tests) in rw some refl
+
+filled_data : (n : ℕ) → false ≡ list_any is_data (replicate n filled)
+filled_data zero = refl
+filled_data (suc n) = filled_data n
+
+pub known_piece : (p : Piece) (bytes : List ℕ) (n : ℕ) → p ≡ Known bytes → n ≡ length bytes → not (nat_eq n 0) ≡ list_any is_data (piece_cells p)
+known_piece p bytes n is e = rw (is, e) (known_data bytes)
+
+pub filled_piece : (p : Piece) (n : ℕ) → p ≡ Filled n → false ≡ list_any is_data (piece_cells p)
+filled_piece p n is = rw is (filled_data n)

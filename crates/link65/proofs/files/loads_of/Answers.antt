@@ -1,0 +1,26 @@
+use Rattle.std.proofs.Common.{◌∙◌, refl, sym, arith}
+use Rattle.link65.proofs.FileLemmas.{collects_none, collects_more, collects_past, collects_all, taken_bytes}
+use Rattle.link65.proofs.files.loads_of.Goals as goal
+use Rattle.link65.proofs.files.loads_of.Goals.{in-Some+in_ok-add_row-in-Some, in-None}
+
+pub loop-i-init : goal.loop-i-init
+loop-i-init c = record {
+  rest = λ j le. refl;
+  each = λ bytes are k lt. collects_none bytes k c.args.rows.now c.args.places.now _ (c.in_ok-loads.ensures k lt);
+}
+
+pub loop-i-preserved : goal.loop-i-preserved
+loop-i-preserved c = record {
+  rest = λ j le. c.take_at-bytes.ensures.others j (omega arith) ∙ c.loop-i.invariant.rest j (omega arith);
+  each = λ bytes are k lt.
+      let rows = c.args.rows.now in
+      let places = c.args.places.now in
+      let own = taken_bytes bytes rows c.args.contents.items c.loop-i.i c.index-rows-i.result c.take_at-bytes.result are c.loop-i-test.true c.index-rows-i.is (λ x e. c.take_at-bytes.ensures.taken x (c.loop-i.invariant.rest c.loop-i.i (omega arith) ∙ e)) in
+      elim c.match-place_at.branch [
+        | in-Some+in_ok-add_row-in-Some w ↦ rw w.loads-is (collects_more bytes k rows places c.loop-i.i _ _ _ c.loop-i-test.true c.index-rows-i.is (sym w.in-Some.ensures) own (w.in_ok-add_row-in-Some.ensures k) (c.loop-i.invariant.each bytes are k lt))
+        | in-None w ↦ rw w.loads-is (collects_past bytes k rows places c.loop-i.i _ (sym w.in-None.ensures) (c.loop-i.invariant.each bytes are k lt))
+      ];
+}
+
+pub returns : goal.returns
+returns c = λ bytes are k lt. collects_all bytes k c.args.rows.now c.args.places.now c.loop-i.i _ c.loop-i-test.false (c.loop-i.invariant.each bytes are k lt)

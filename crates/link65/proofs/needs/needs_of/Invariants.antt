@@ -1,7 +1,0 @@
-use Rattle.std.proofs.Common.{◌≡◌, map, take}
-use Rattle.link65.specs.Contents.{segments_from}
-use Rattle.link65.specs.Places.{need_of}
-use Rattle.link65.proofs.needs.needs_of.Given as goal
-
-abbrev pub invariant-loop-content : goal.invariant-loop-content
-invariant-loop-content l = l.needs ≡ map need_of (segments_from (take l.content-index l.contents))

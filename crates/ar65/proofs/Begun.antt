@@ -7,17 +7,15 @@ use Rattle.base65.specs.Outcome.{◌>>=◌, Refuses}
 use Rattle.base65.specs.Store.{Files}
 use Rattle.object65.specs.declared.fault.ObjectFault.{ObjectFault}
 use Rattle.object65.specs.declared.object.Object.{Object}
-use Rattle.object65.specs.Reading.{file_limit}
-use Rattle.object65.specs.Whole.{object_at}
+use Rattle.object65.specs.Reading.{file_limit, object_at}
 use Rattle.library65.specs.declared.index.Entry.{Entry}
 use Rattle.library65.specs.declared.index.Listing.{Listing}
 use Rattle.library65.specs.declared.fault.LibraryFault.{LibraryFault}
 use Rattle.library65.specs.declared.fault.LibraryFault.TheVariants.{FileNotFound, BadIndex, BadMemberName, CutShort, IndexDisagrees, NotALibrary}
 use Rattle.library65.specs.Fault.{is_outside}
 use Rattle.library65.specs.Libraries.{agreed, agrees, as_member, checked, contents_in, joined, joined_all, library_at, object_in, piece_at}
-use Rattle.library65.specs.Names.{is_among, is_member_name, is_name}
+use Rattle.library65.specs.Spelling.{is_among, is_member_name, is_name, Member, library_head}
 use Rattle.library65.specs.Reading.{count_at, counted_at, end_at, entry_at, field_at, head_at, in_file, index_at, list_at, listing_at, listings_at, member_name_at, name_at, number_at, placed, symbol_at, symbols_at}
-use Rattle.library65.specs.Spelling.{Member, library_head}
 use Rattle.ar65.specs.Librarian.{begun}
 
 abbrev is_missing : LibraryFault → Bool

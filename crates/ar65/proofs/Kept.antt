@@ -4,7 +4,7 @@ use Rattle.std.specs.Prelude.{IfSome}
 use Rattle.std.specs.FinMap.{get}
 use Rattle.base65.specs.Outcome.{◌>>=◌}
 use Rattle.base65.specs.Store.{Files}
-use Rattle.object65.specs.Bytes.{IsBytes}
+use Rattle.object65.specs.Record.{IsBytes}
 use Rattle.library65.specs.declared.fault.LibraryFault.{LibraryFault}
 use Rattle.library65.specs.Libraries.{deleted, library_at, replaced, written}
 use Rattle.library65.specs.Reading.{in_file}

@@ -6,16 +6,14 @@ use Rattle.object65.specs.declared.fault.ObjectFault.{ObjectFault}
 use Rattle.object65.specs.declared.fault.ObjectFault.TheVariants.{BadSize, BytesAfterEnd}
 use Rattle.object65.specs.declared.object.Object.{Object}
 use Rattle.base65.specs.Outcome.{◌>>=◌}
-use Rattle.object65.specs.Reading.{end_at, file_limit, front_of, head_at, record_at, room, whole}
+use Rattle.object65.specs.Reading.{end_at, file_limit, front_of, head_at, record_at, room, whole, object_at, records_at}
 use Rattle.object65.specs.Record.{Entry}
-use Rattle.object65.specs.Taking.{State, after, finished, start}
-use Rattle.object65.specs.Whole.{object_at, records_at}
-use Rattle.object65.proofs.Rooms.{bound, passes}
+use Rattle.object65.specs.Scanning.{State, after, finished, start}
+use Rattle.object65.proofs.Trails.{bound, passes}
 use Rattle.library65.specs.declared.fault.LibraryFault.{LibraryFault}
 use Rattle.library65.specs.declared.fault.LibraryFault.TheVariants.{BadMemberName, NotAnObject}
 use Rattle.library65.specs.Libraries.{as_member, checked, contents_from, contents_in, object_in, replaced, with_member}
-use Rattle.library65.specs.Names.{is_member_name}
-use Rattle.library65.specs.Spelling.{Member}
+use Rattle.library65.specs.Spelling.{is_member_name, Member}
 
 -- a record ends within the limit
 record_ends : (v : ℕ) (bytes : List ℕ) (at limit : ℕ) (x : Entry × ℕ) → record_at v at limit bytes ≡ Ok x → x.1 ≤ file_limit

@@ -14,11 +14,10 @@ use Rattle.std.specs.Str.{NoCharPasses, bytes_eq, is_utf8}
 use Rattle.library65.specs.declared.contents.Contents.{Contents}
 use Rattle.library65.specs.declared.index.Entry.{Entry}
 use Rattle.library65.specs.Libraries.{agreed, checked, joined, joined_all, library_at, member_names, piece_at, with_member}
-use Rattle.library65.specs.Names.{is_folder, is_member_name, is_plain}
+use Rattle.library65.specs.Spelling.{is_folder, is_member_name, is_plain, Member}
 use Rattle.library65.specs.Reading.{index_at}
-use Rattle.library65.specs.Spelling.{Member}
 use Rattle.library65.proofs.Edits.{checked_good, left, right}
-use Rattle.library65.proofs.Taken.{bound}
+use Rattle.library65.proofs.Indexed.{bound}
 use Rattle.ar65.specs.Librarian.{AreTexts, last_part, member_name}
 
 -- ---- The name behind a file's last `/`.

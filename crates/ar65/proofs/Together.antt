@@ -12,13 +12,11 @@ use Rattle.base65.specs.Store.{Files}
 use Rattle.object65.specs.Reading.{file_limit}
 use Rattle.library65.specs.declared.fault.LibraryFault.TheVariants.{BadIndex}
 use Rattle.library65.specs.Libraries.{bytes_of, library_bytes, member_names, replaced, with_member, written}
-use Rattle.library65.specs.Names.{are_member_names, is_among}
+use Rattle.library65.specs.Spelling.{are_member_names, is_among, IsLibrary, Member}
 use Rattle.library65.specs.Reading.{in_file}
-use Rattle.library65.specs.Spelling.{IsLibrary, Member}
 use Rattle.library65.proofs.Edits.{checked_good, good_names}
-use Rattle.library65.proofs.Loaded.{library_loaded, put_last}
-use Rattle.library65.proofs.Read.{stock_law}
-use Rattle.library65.proofs.Spelled.{library_is}
+use Rattle.library65.proofs.Read.{library_loaded, put_last, stock_law}
+use Rattle.library65.proofs.Made.{library_is}
 use Rattle.ar65.specs.declared.extracting.MemberFile.{MemberFile}
 use Rattle.ar65.specs.Laws.{AreWritten, PutTogetherLaw}
 use Rattle.ar65.specs.Librarian.{as_file, files_of, found, member_name, with_file, with_files}

@@ -3,7 +3,7 @@ use Rattle.std.specs.Prelude.{◌≡◌, ℕ, List, [], map, Some, IfSome, Ok}
 use Rattle.std.specs.FinMap.{get}
 use Rattle.std.specs.List.{AllByRecursion}
 use Rattle.base65.specs.Store.{Files}
-use Rattle.object65.specs.Bytes.{IsBytes}
+use Rattle.object65.specs.Record.{IsBytes}
 use Rattle.library65.specs.Libraries.{written}
 use Rattle.library65.specs.Spelling.{IsLibrary, Member}
 use Rattle.cli65.specs.Line.{Archiving}

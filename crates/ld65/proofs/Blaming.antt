@@ -8,7 +8,7 @@ use Rattle.base65.specs.declared.store.StoreFault.TheVariants as store
 use Rattle.object65.specs.declared.fault.ObjectFault.{ObjectFault}
 use Rattle.object65.specs.declared.fault.ObjectFault.TheVariants as object
 use Rattle.object65.specs.Record.{Entry}
-use Rattle.object65.specs.Taking.{State, start}
+use Rattle.object65.specs.Scanning.{State, start}
 use Rattle.library65.specs.declared.fault.LibraryFault.{LibraryFault}
 use Rattle.library65.specs.declared.fault.LibraryFault.TheVariants as library
 use Rattle.library65.specs.declared.index.Entry.{Entry as Listing}
@@ -22,11 +22,9 @@ use Rattle.ld65.specs.declared.refusal.Refusal.{Refusal}
 use Rattle.ld65.specs.declared.refusal.Refusal.TheVariants.{Library, Link, Member, Object, OutOfMemory, ScriptFile}
 use Rattle.ld65.specs.Inner.Feeding.{FeedsRecords}
 use Rattle.ld65.specs.Linkage.{Input, member_module}
-use Rattle.ld65.specs.Naming.{IsOfInput, NamesInput, NamesInputs, NamesMember, NamesOfLine, NamesScript}
-use Rattle.ld65.specs.Refusals.{is_failure, refusal_at, refusal_in}
-use Rattle.ld65.proofs.Behind.{is_stored_at, is_stored_in}
+use Rattle.ld65.specs.Refusals.{IsOfInput, NamesInput, NamesInputs, NamesMember, NamesOfLine, NamesScript, is_failure, refusal_at, refusal_in}
+use Rattle.ld65.proofs.Fed.{is_stored_at, is_stored_in, IsAt, not_stored}
 use Rattle.ld65.proofs.Chosen.{IsAfter}
-use Rattle.ld65.proofs.Fed.{IsAt, not_stored}
 use Rattle.ld65.proofs.LineInputs.{IsBehind}
 use Rattle.ld65.proofs.Objects.{whole_free}
 

@@ -11,13 +11,13 @@ use Rattle.script65.specs.declared.script.Script.{Script}
 use Rattle.link65.specs.declared.fault.LinkFault.{LinkFault}
 use Rattle.link65.specs.Programs.{Module}
 use Rattle.link65.specs.Standing.{Feeding, IsFed, module_of}
-use Rattle.ld65.specs.declared.choosing.Choice.{Choice}
+use Rattle.ld65.specs.declared.members.Choice.{Choice}
 use Rattle.ld65.specs.declared.refusal.Refusal.{Refusal}
 use Rattle.ld65.specs.declared.refusal.Refusal.TheVariants as refusal
 use Rattle.ld65.specs.Inner.Feeding.{Chooses, FeedsLibrary, FeedsMembers, FeedsObject, Leads, LeadsBy}
 use Rattle.ld65.specs.Linkage.{Input, IsLibraryInput, as_library, chosen, chosen_at, index_in, member_input, member_module, with_member, with_members}
 use Rattle.ld65.specs.Refusals.{is_failure, is_outside, refusal_in}
-use Rattle.ld65.proofs.Behind.{Counted, fed_behind, in_outside, kept_by, later_count, refused_behind}
+use Rattle.ld65.proofs.Fed.{Counted, fed_behind, in_outside, kept_by, later_count, refused_behind}
 
 -- ---- One member.
 

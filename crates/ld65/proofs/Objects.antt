@@ -8,10 +8,9 @@ use Rattle.base65.proofs.Outcome.{refused-then}
 use Rattle.object65.specs.declared.fault.ObjectFault.{ObjectFault}
 use Rattle.object65.specs.declared.fault.ObjectFault.TheVariants as object
 use Rattle.object65.specs.declared.object.Object.{Object}
-use Rattle.object65.specs.Fault.{is_memory as is_object_memory, is_outside as is_object_outside}
-use Rattle.object65.specs.Reading.{end_at, head_at, in_file}
-use Rattle.object65.specs.Taking.{State, finished, object_from, start}
-use Rattle.object65.specs.Whole.{object_at, records_at}
+use Rattle.object65.specs.Record.{is_memory as is_object_memory, is_outside as is_object_outside}
+use Rattle.object65.specs.Reading.{end_at, head_at, in_file, object_at, records_at}
+use Rattle.object65.specs.Scanning.{State, finished, object_from, start}
 use Rattle.link65.specs.declared.fault.LinkFault.{LinkFault}
 use Rattle.link65.specs.declared.fault.LinkFault.TheVariants as link
 use Rattle.link65.specs.Faults.{is_memory, of_object as as_fault}

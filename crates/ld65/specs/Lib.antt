@@ -1,4 +1,3 @@
 pub mod Inner
 pub mod Linkage
 pub mod Refusals
-pub mod Naming

@@ -9,8 +9,7 @@ use Rattle.base65.specs.Store.{Files}
 use Rattle.base65.specs.declared.store.StoreFault.TheVariants.{FileNotFound}
 use Rattle.object65.specs.declared.object.Object.{Object}
 use Rattle.object65.specs.declared.fault.ObjectFault.{ObjectFault}
-use Rattle.object65.specs.Reading.{in_file}
-use Rattle.object65.specs.Whole.{object_at}
+use Rattle.object65.specs.Reading.{in_file, object_at}
 use Rattle.library65.specs.declared.index.Entry.{Entry}
 use Rattle.library65.specs.declared.fault.LibraryFault.{LibraryFault}
 use Rattle.library65.specs.Reading.{index_at, in_file as in_library}

@@ -1,9 +1,6 @@
 //! The command ld65: what a line of it comes to.
 #![tactic(auto)]
 
-mod choosing;
-mod feeding;
-mod inputs;
 mod linking;
 mod members;
 mod refusal;

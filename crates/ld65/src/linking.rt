@@ -1,21 +1,196 @@
-//! From the files of a line to what they are linked to.
+//! From the inputs of a line to what they are linked to.
 
-ghost use Rattle.std.specs.Prelude.{◌≡◌, IfErr, IfSome, []};
-ghost use Rattle.base65.specs.Outcome.{Finds};
-ghost use Rattle.base65.specs.Store.{Asks, PassesBy};
+ghost use Rattle.std.specs.Prelude.{◌≡◌, [], List, ℕ, IsErrOf, OnOk, Option, true, false, IfErr, IfSome, Ok, map};
+ghost use Rattle.base65.specs.Store.{IsBlamed, Passes, PassesBy, Asks};
+ghost use Rattle.object65.specs.declared.fault.ObjectFault.TheVariants.{FileError};
+ghost use Rattle.object65.specs.Scanning.{start};
+ghost use Rattle.library65.specs.declared.index.Entry as index;
+ghost use Rattle.link65.specs.declared.fault.LinkFault.TheVariants.{Malformed};
+ghost use Rattle.link65.specs.Programs.{Module};
+ghost use Rattle.link65.specs.Standing.{IsFed, IsFeeding, Keeps, is_open};
+ghost use Rattle.ld65.specs.Inner.Feeding.{FeedsObject, FeedsRecords, input_of, FeedsFile, FeedsInput, FeedsInputs};
+ghost use Rattle.std.specs.FinMap.{get};
+ghost use Rattle.base65.specs.Outcome.{Gives, Finds};
+ghost use Rattle.object65.specs.Record.{is_outside as is_object_outside};
+ghost use Rattle.object65.specs.Reading.{in_file};
+ghost use Rattle.ld65.specs.Linkage.{is_library, output_of, IsLinkedBy, IsLinked};
+ghost use Rattle.ld65.specs.Refusals.{is_failure, is_outside, NamesInput, NamesInputs, NamesOfLine, NamesScript};
 ghost use Rattle.cli65.specs.Line.{linking};
-ghost use Rattle.ld65.specs.Refusals.{is_outside, is_failure};
-ghost use Rattle.ld65.specs.Linkage.{output_of, IsLinkedBy, IsLinked};
 ghost use Rattle.ld65.specs.Inner.Texts.{script_text};
-ghost use Rattle.ld65.specs.Naming.{NamesInputs, NamesOfLine, NamesScript};
 
-use crate::inputs::feed_inputs;
+use crate::members::{Named, feed_library};
 use crate::refusal::Refusal;
-use base65::{Sequence, Store, read_front};
+use base65::{Sequence, Store, read_front, read_full};
 use cli65::LinkLine;
-use link65::{Linked, Linker};
+use library65::Entry;
+use link65::{LinkFault, Linked, Linker};
+use object65::format::END;
+use object65::{ObjectFault, RecordReader, check_end, read_head};
 use script65::{Script, read_script};
 use std::alloc::Global;
+
+/// An object that is fed: where it stands in a file, the name of its module, and its entry in a library's index, if it
+/// is a member of one.
+#[derive(Clone, Copy)]
+pub struct ObjectInput<'a> {
+    pub file: &'a str,
+    pub begin: u64,
+    /// The end of its room: it ends there at the latest.
+    pub end: u64,
+    pub name: &'a [u8],
+    pub entry: Option<&'a Entry>,
+}
+
+/// Feeds the records of the module that was opened, which stand in its file behind its head, up to its END, and
+/// answers where the END ends. The head says the version and where the records begin.
+fn feed_records<S: Store>(
+    store: &mut S,
+    linker: &mut Linker,
+    reader: &mut RecordReader,
+    object: &ObjectInput<'_>,
+    head: (u8, u64),
+) -> Result<u64, LinkFault>
+    requires opened { is_open linker.old ≡ true }
+    requires fresh { reader.old.ahead ≡ [] }
+    ensures fed { FeedsRecords (S.files store.old) (input_of object.now) head linker.old linker.new result }
+    ensures opened { is_open linker.new ≡ true }
+    ensures keeps { Keeps linker.old linker.new }
+    ensures files { S.files store.new ≡ S.files store.old }
+    ensures count { (modules : List Module) (called : List ℕ) (entry : Option index.Entry) → IsFeeding linker.old modules called entry (start head.0) →
+        Passes (Malformed FileError) (S.failures store.old) (S.failures store.new) result }
+    ensures blamed { (modules : List Module) (called : List ℕ) (entry : Option index.Entry) → IsFeeding linker.old modules called entry (start head.0) →
+        IsErrOf result (Malformed FileError) → IsBlamed (S.blamed store.new) object.now.file.now }
+{
+    let (version, first) = head;
+    let mut next = first;
+    'records: loop {
+        next = reader.read(store, object.file, version, next, object.end)?;
+        let record = reader.record();
+        linker.record(record)?;
+        if record.kind == END {
+            return Ok(next);
+        }
+    }
+}
+
+/// Feeds an object as a module, where none is open.
+pub fn feed_object<S: Store>(
+    store: &mut S,
+    linker: &mut Linker,
+    reader: &mut RecordReader,
+    object: &ObjectInput<'_>,
+) -> Result<(), LinkFault>
+    requires { is_open linker.old ≡ false }
+    ensures fed { FeedsObject (S.files store.old) (input_of object.now) linker.old linker.new result }
+    ensures opened { OnOk result (is_open linker.new ≡ false) }
+    ensures keeps { Keeps linker.old linker.new }
+    ensures files { S.files store.new ≡ S.files store.old }
+    ensures count { (modules : List Module) → IsFed linker.old modules →
+        Passes (Malformed FileError) (S.failures store.old) (S.failures store.new) result }
+    ensures blamed { (modules : List Module) → IsFed linker.old modules →
+        IsErrOf result (Malformed FileError) → IsBlamed (S.blamed store.new) object.now.file.now }
+{
+    let head = read_head(store, object.file, object.begin, object.end)?;
+    linker.begin_module(object.name, head.0, object.entry)?;
+    reader.forget();
+    let end = feed_records(store, linker, reader, object, head)?;
+    check_end(store, object.file, end, object.end)?;
+    linker.end_module()
+}
+
+/// With these bytes a library begins.
+const LIBRARY: [u8; 4] = [0x52, 0x36, 0x35, 0x6c];
+
+/// Whether a file begins as a library.
+fn is_library<S: Store>(store: &mut S, name: &str) -> Result<bool, ObjectFault>
+    ensures read { IfSome (S.files store.old) (λ m. Gives is_object_outside (λ b. b) result (in_file (get m name.now) (λ bytes. Ok (is_library bytes)))) }
+    ensures files { S.files store.new ≡ S.files store.old }
+    ensures count { Passes FileError (S.failures store.old) (S.failures store.new) result }
+    ensures blamed { IsErrOf result FileError → IsBlamed (S.blamed store.new) name.now }
+{
+    let mut front = [0u8; 4];
+    let n = read_full(store, name, 0, &mut front)?;
+    Ok(front[..n] == LIBRARY[..])
+}
+
+/// Feeds the object that takes a whole file, as a module of the file's name.
+fn feed_file<S: Store>(
+    store: &mut S,
+    linker: &mut Linker,
+    reader: &mut RecordReader,
+    input: &Named<'_>,
+) -> Result<(), Refusal>
+    requires { is_open linker.old ≡ false }
+    ensures fed { FeedsFile (S.files store.old) input.now.place input.now.name.now linker.old linker.new result }
+    ensures opened { OnOk result (is_open linker.new ≡ false) }
+    ensures keeps { Keeps linker.old linker.new }
+    ensures files { S.files store.new ≡ S.files store.old }
+    ensures count { (modules : List Module) → IsFed linker.old modules →
+        PassesBy is_failure (S.failures store.old) (S.failures store.new) result }
+    ensures named { (modules : List Module) → IsFed linker.old modules →
+        IfErr result (NamesInput (S.blamed store.new) input.now.place input.now.name.now) }
+{
+    let object = ObjectInput {
+        file: input.name,
+        begin: 0,
+        end: u64::MAX,
+        name: input.name.as_bytes(),
+        entry: None,
+    };
+    match feed_object(store, linker, reader, &object) {
+        Ok(()) => Ok(()),
+        Err(fault) => Err(Refusal::of_input(input.place, fault)),
+    }
+}
+
+/// Feeds an input: an object, or the members of a library that are needed.
+fn feed_input<S: Store>(
+    alloc: Global,
+    store: &mut S,
+    linker: &mut Linker,
+    reader: &mut RecordReader,
+    input: &Named<'_>,
+) -> Result<(), Refusal>
+    requires { is_open linker.old ≡ false }
+    ensures fed { FeedsInput (S.files store.old) input.now.place input.now.name.now linker.old linker.new result }
+    ensures opened { OnOk result (is_open linker.new ≡ false) }
+    ensures keeps { Keeps linker.old linker.new }
+    ensures files { S.files store.new ≡ S.files store.old }
+    ensures count { (modules : List Module) → IsFed linker.old modules →
+        PassesBy is_failure (S.failures store.old) (S.failures store.new) result }
+    ensures named { (modules : List Module) → IsFed linker.old modules →
+        IfErr result (NamesInput (S.blamed store.new) input.now.place input.now.name.now) }
+{
+    match is_library(store, input.name) {
+        Ok(true) => feed_library(alloc, store, linker, input),
+        Ok(false) => feed_file(store, linker, reader, input),
+        Err(fault) => Err(Refusal::Object(input.place, fault)),
+    }
+}
+
+/// Feeds inputs, in order. The first fault is that of the first input that has one.
+pub fn feed_inputs<S: Store>(
+    alloc: Global,
+    store: &mut S,
+    linker: &mut Linker,
+    inputs: &[&str],
+) -> Result<(), Refusal>
+    requires { is_open linker.old ≡ false }
+    ensures fed { FeedsInputs (S.files store.old) (map (λ s. s.now) inputs.now) linker.old linker.new result }
+    ensures opened { OnOk result (is_open linker.new ≡ false) }
+    ensures keeps { Keeps linker.old linker.new }
+    ensures files { S.files store.new ≡ S.files store.old }
+    ensures count { (modules : List Module) → IsFed linker.old modules →
+        PassesBy is_failure (S.failures store.old) (S.failures store.new) result }
+    ensures named { (modules : List Module) → IsFed linker.old modules →
+        IfErr result (NamesInputs (S.blamed store.new) (map (λ s. s.now) inputs.now)) }
+{
+    let mut reader = RecordReader::new();
+    for (place, name) in inputs.iter().enumerate() {
+        feed_input(alloc, store, linker, &mut reader, &Named { place, name })?;
+    }
+    Ok(())
+}
 
 /// A script has at most so many bytes.
 const SCRIPT_LIMIT: usize = 1_048_576;

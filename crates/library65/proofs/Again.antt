@@ -16,11 +16,10 @@ use Rattle.base65.specs.Outcome.{◌>>=◌}
 use Rattle.library65.specs.declared.index.Entry.{Entry}
 use Rattle.library65.specs.declared.index.Listing.{Listing}
 use Rattle.library65.specs.declared.fault.LibraryFault.{LibraryFault}
-use Rattle.library65.specs.Names.{are_member_names, is_among, is_member_name, is_name}
+use Rattle.library65.specs.Spelling.{are_member_names, is_among, is_member_name, is_name, IsGoodEntry, IsIndex, StandFrom, entry_bytes, index_bytes, library_head, name_bytes, names_bytes}
 use Rattle.library65.specs.Reading.{counted_at, end_at, head_at, entry_at, field_at, index_at, list_at, listing, listing_at, listings_at, member_name_at, name_at, number_at, placed, symbol_at, symbols_at, whole}
-use Rattle.library65.specs.Spelling.{IsGoodEntry, IsIndex, StandFrom, entry_bytes, index_bytes, library_head, name_bytes, names_bytes}
 use Rattle.library65.proofs.Edits.{good_names, left, right}
-use Rattle.library65.proofs.Spelled.{entry_size}
+use Rattle.library65.proofs.Made.{entry_size}
 
 -- this part stands behind the first so many bytes, within the limit of a file
 pub record Stands (bytes : List ℕ) (at : ℕ) (part : List ℕ) : Type 0 where

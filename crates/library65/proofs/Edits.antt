@@ -11,10 +11,8 @@ use Rattle.indexmap.specs.IndexMap.{insert_entry}
 use Rattle.library65.specs.declared.contents.Contents.{Contents}
 use Rattle.library65.specs.declared.fault.LibraryFault.TheVariants.{BadMemberName}
 use Rattle.library65.specs.declared.library.Stored.{Stored}
-use Rattle.library65.specs.Libraries.{bytes_of, checked, contents_in, member_names, with_member, without_member}
-use Rattle.library65.specs.Names.{are_member_names, is_among, is_member_name}
-use Rattle.library65.specs.Spelling.{Member}
-use Rattle.library65.specs.Stored.{IsStored, member_of}
+use Rattle.library65.specs.Libraries.{bytes_of, checked, contents_in, member_names, with_member, without_member, IsStored, member_of}
+use Rattle.library65.specs.Spelling.{are_member_names, is_among, is_member_name, Member}
 
 abbrev pub Stock : Type 0
 Stock = List (Vec ℕ × Stored)

@@ -1,23 +1,220 @@
 -- What is written is a library.
-use Rattle.std.proofs.Common.{◌≡◌, ◌∙◌, ◌≤◌, ℕ, ◌+◌, Bool, true, false, nat_lt, List, [], ◌∷◌, ◌++◌, length, take, map, Ok, Err, refl, sym, ap, subst, arith, append_assoc, length-append, if◌then◌else◌}
-use Rattle.std.specs.Prelude.{sum_by}
-use Rattle.std.specs.List.{AllByRecursion, flat_map}
+use Rattle.std.proofs.Common.{◌≡◌, ◌∙◌, ◌<◌, ℕ, true, not, ◌&&◌, nat_lt, List, [], ◌∷◌, length, get_or, map, refl, sym, ap, subst, arith, zero, suc, ◌≤◌, ◌+◌, Bool, false, if◌then◌else◌, ◌++◌, Ok, Err, length-append, append_assoc, ◌-◌, take, drop}
 use Rattle.std.proofs.lemmas.Bool.Decides.{nat_tests}
-use Rattle.std.proofs.lemmas.List.{drop_at, take_at}
+use Rattle.std.specs.List.{list_all, flat_map, AllByRecursion}
+use Rattle.object65.specs.declared.object.Export.{Export}
+use Rattle.object65.specs.declared.object.Object.{Object}
+use Rattle.object65.specs.Objects.{are_names, is_among, is_good_object, is_name, is_printed}
+use Rattle.object65.proofs.Goods.{parts}
+use Rattle.library65.specs.Spelling.{AreSymbols, Puts, are_member_names, is_member_name, Member, listing_bytes, name_bytes, AreMembers, IsLibrary, StandFrom, entry_bytes, index_bytes, library_head, IsGoodEntry, IsIndex, names_bytes}
+use Rattle.library65.proofs.Edits.{and, left, right, good_names}
+use Rattle.std.specs.Global.{Vec}
+use Rattle.library65.specs.declared.contents.Contents.{Contents}
+use Rattle.library65.specs.declared.fault.LibraryFault.{LibraryFault}
+use Rattle.library65.specs.declared.fault.LibraryFault.TheVariants.{BadIndex, BadMemberName, OutOfMemory}
+use Rattle.library65.specs.declared.library.Stored.{Stored}
+use Rattle.library65.specs.Libraries.{checked, contents_in, member_listing, member_names, or_none, contents_from, library_bytes, written, IsStored, member_of}
+use Rattle.std.specs.Prelude.{sum_by}
+use Rattle.std.proofs.lemmas.List.{drop_at, length-take, take-append-drop, take_all, take_at}
 use Rattle.std.proofs.lemmas.List.Sums.{sum_by-cons}
 use Rattle.byteorder.specs.Endian.{little_bytes}
-use Rattle.object65.specs.declared.object.Object.{Object}
-use Rattle.object65.specs.Reading.{file_limit}
+use Rattle.object65.specs.Reading.{file_limit, room}
 use Rattle.object65.specs.Spelling.{IsObject}
+use Rattle.object65.proofs.Spellings.{object_is_read}
 use Rattle.library65.specs.declared.index.Entry.{Entry}
-use Rattle.library65.specs.declared.fault.LibraryFault.TheVariants.{BadIndex}
-use Rattle.library65.specs.Laws.{WrittenLaw}
-use Rattle.library65.specs.Libraries.{library_bytes, member_listing, member_names, written}
-use Rattle.library65.specs.Names.{are_member_names}
-use Rattle.library65.specs.Spelling.{AreMembers, IsGoodEntry, IsIndex, Member, StandFrom, entry_bytes, index_bytes, library_head, name_bytes, names_bytes}
-use Rattle.library65.proofs.Spelled.{AllFit, all_listings, bodies, entry_size, same_count}
-use Rattle.library65.proofs.Symbols.{symbols_good}
-use Rattle.library65.proofs.Written.{many_members, many_names}
+use Rattle.library65.specs.Laws.{OneLibraryLaw, WrittenLaw}
+
+-- ---- The names in an object are good.
+
+pub all_names : (names : List (List ℕ)) → are_names names ≡ true → list_all is_name names ≡ true
+all_names [] e = refl
+all_names (n ∷ ns) e =
+    let front = left (is_name n && not (is_among ns n)) (are_names ns) e in
+    and (is_name n) (list_all is_name ns) (left (is_name n) (not (is_among ns n)) front) (all_names ns (right (is_name n && not (is_among ns n)) (are_names ns) e))
+
+pub symbols_good : (o : Object) (exports : List (List ℕ)) → is_good_object o ≡ true → exports ≡ map (λ (e : Export). e.name) o.exports → AreSymbols (record { exports = exports; imports = o.imports })
+symbols_good o exports good same =
+    let p = parts o good in
+    record {
+      exports = ap (list_all is_name) same ∙ all_names (map (λ (e : Export). e.name) o.exports) p.export_names;
+      imports = all_names o.imports p.imports;
+    }
+
+-- a good name's length is a byte
+pub name_short : (names : List (List ℕ)) (i : ℕ) (name : List ℕ) → list_all is_name names ≡ true → i < length names → name ≡ get_or names i name → length name < 256
+name_short [] i name all lt at = absurd (omega arith)
+name_short (n ∷ ns) zero name all lt at =
+    let good = left (is_name n) (list_all is_name ns) all in
+    let short : nat_lt (length n) 256 ≡ true = right (nat_lt 0 (length n)) (nat_lt (length n) 256) (left (nat_lt 0 (length n) && nat_lt (length n) 256) (list_all is_printed n) good) in
+    let P : List ℕ → Type 0 = λ x. length x < 256 in
+    subst P (sym at) (grind (arith, nat_tests))
+name_short (n ∷ ns) (suc i) name all lt at = name_short ns i name (right (is_name n) (list_all is_name ns) all) (omega arith) at
+
+-- ---- What is written of a library, part by part.
+
+pub many_names : (names : List (List ℕ)) → length names ≤ length (flat_map name_bytes names)
+many_names [] = omega arith
+many_names (n ∷ ns) = omega (arith, many_names ns, length-append (name_bytes n) (flat_map name_bytes ns))
+
+pub many_members : (ms : List Member) → length ms ≤ length (flat_map member_listing ms)
+many_members [] = omega arith
+many_members (m ∷ ms) = omega (arith, many_members ms, length-append (member_listing m) (flat_map member_listing ms), some m) where
+  some : (m : Member) → 1 ≤ length (member_listing m)
+  some m = omega arith
+
+pub bodies_seen : (es : List (Vec ℕ × Stored)) → flat_map (λ (s : Stored). s.bytes.items) (map (λ (e : Vec ℕ × Stored). e.1) es) ≡ flat_map (λ (m : Member). m.1) (map member_of es)
+bodies_seen [] = refl
+bodies_seen (e ∷ es) = ap (λ xs. e.1.bytes.items ++ xs) (bodies_seen es)
+
+-- ---- One member.
+
+pub checked_contents : (name bytes : List ℕ) (c : Contents) → checked name bytes ≡ Ok c → contents_in bytes ≡ Ok c
+unfolding checked
+checked_contents name bytes c e = step (is_member_name name) e where
+  step : (b : Bool) → (if b then contents_in bytes else Err BadMemberName) ≡ Ok c → contents_in bytes ≡ Ok c
+  step true h = h
+  step false h = cc
+
+pub its_listing : (k : Vec ℕ) (v : Stored) → IsStored (k, v) → member_listing (member_of (k, v)) ≡ listing_bytes k.items (length v.bytes.items) v.contents.exports v.contents.imports
+its_listing k v is =
+    let found = checked_contents k.items v.bytes.items v.contents is.0 in
+    ap (λ r. let c = or_none r in listing_bytes k.items (length v.bytes.items) c.exports c.imports) found
+
+abbrev pub Stock : Type 0
+Stock = List (Vec ℕ × Stored)
+
+pub names_next : (all : Stock) (k : Vec ℕ) (v : Stored) (es : Stock) → all ≡ (k, v) ∷ es → are_member_names (member_names (map member_of all)) ≡ true → are_member_names (member_names (map member_of es)) ≡ true
+names_next all k v es split good =
+    (good_names k.items (member_names (map member_of es)) (sym (ap (λ (xs : Stock). are_member_names (member_names (map member_of xs))) split) ∙ good)).rest
+
+pub out_next : (all : Stock) (k : Vec ℕ) (v : Stored) (es : Stock) (name old new whole : List ℕ) → all ≡ (k, v) ∷ es → IsStored (k, v) → name ≡ k.items → new ≡ old ++ listing_bytes name (length v.bytes.items) v.contents.exports v.contents.imports → old ++ flat_map member_listing (map member_of all) ≡ whole → new ++ flat_map member_listing (map member_of es) ≡ whole
+out_next all k v es name old new whole split is same put so_far =
+    let rest = flat_map member_listing (map member_of es) in
+    ap (λ xs. xs ++ rest) (put ∙ ap (λ n. old ++ listing_bytes n (length v.bytes.items) v.contents.exports v.contents.imports) same ∙ ap (λ xs. old ++ xs) (sym (its_listing k v is)))
+    ∙ append_assoc old (member_listing (member_of (k, v))) rest
+    ∙ sym (ap (λ (xs : Stock). old ++ flat_map member_listing (map member_of xs)) split)
+    ∙ so_far
+
+abbrev pub written_len : Stock → ℕ
+written_len es = length (flat_map member_listing (map member_of es)) + length (flat_map (λ (m : Member). m.1) (map member_of es))
+
+pub size_next : (all : Stock) (k : Vec ℕ) (v : Stored) (es : Stock) (total : ℕ) → all ≡ (k, v) ∷ es → written_len all ≤ total → written_len es ≤ total
+size_next all k v es total split le =
+    let P : Stock → Type 0 = λ xs. written_len xs ≤ total in
+    let h : written_len ((k, v) ∷ es) ≤ total = subst P split le in
+    omega (arith, h, length-append (member_listing (member_of (k, v))) (flat_map member_listing (map member_of es)), length-append v.bytes.items (flat_map (λ (m : Member). m.1) (map member_of es)))
+
+pub size_first : (all : Stock) (k : Vec ℕ) (v : Stored) (es : Stock) (name : List ℕ) (total : ℕ) → all ≡ (k, v) ∷ es → IsStored (k, v) → name ≡ k.items → written_len all ≤ total → length (listing_bytes name (length v.bytes.items) v.contents.exports v.contents.imports) + length v.bytes.items ≤ total
+size_first all k v es name total split is same le =
+    let P : Stock → Type 0 = λ xs. written_len xs ≤ total in
+    let h : written_len ((k, v) ∷ es) ≤ total = subst P split le in
+    let one : length (listing_bytes name (length v.bytes.items) v.contents.exports v.contents.imports) ≡ length (member_listing (member_of (k, v))) = ap (λ (n : List ℕ). length (listing_bytes n (length v.bytes.items) v.contents.exports v.contents.imports)) same ∙ ap (length {A = ℕ}) (sym (its_listing k v is)) in
+    omega (arith, one, h, length-append (member_listing (member_of (k, v))) (flat_map member_listing (map member_of es)), length-append v.bytes.items (flat_map (λ (m : Member). m.1) (map member_of es)))
+
+-- a part that would pass the limit makes the whole pass it
+pub passed_on : (e : LibraryFault) (part whole old base new after : List ℕ) (n total : ℕ) → Puts part n old new (Err e) → n ≤ total → Puts whole total base after (Err e)
+passed_on OutOfMemory part whole old base new after n total put le = tt
+passed_on BadIndex part whole old base new after n total put le = omega arith
+passed_on e part whole old base new after n total put le = absurd put
+
+-- ---- The bytes of a library, from those of its members.
+
+abbrev pub entry_size : Entry → ℕ
+entry_size e = e.size
+
+abbrev pub bodies : List Member → List ℕ
+bodies ms = flat_map (λ m. m.1) ms
+
+-- ---- A member's bytes.
+
+all_room : (bytes : List ℕ) → room bytes 0 (length bytes) ≡ bytes
+all_room bytes = take_all (length bytes - 0) bytes (omega arith)
+
+pub object_there : (bytes : List ℕ) (o : Object) → length bytes ≤ file_limit → IsObject bytes o → contents_in bytes ≡ Ok (contents_from o)
+unfolding contents_in
+object_there bytes o short is =
+    let whole : IsObject (room bytes 0 (length bytes)) o = subst (λ bs. IsObject bs o) (sym (all_room bytes)) is in
+    let fits : 0 + length (room bytes 0 (length bytes)) ≤ file_limit = omega (arith, ap (length {A = ℕ}) (all_room bytes)) in
+    rw (object_is_read bytes 0 (length bytes) o fits whole) refl
+
+-- what an entry and its member have in common
+pub record Fits (e : Entry) (m : Member) : Type 0 where
+  pub name : m.0 ≡ e.name
+  pub size : length m.1 ≡ e.size
+  pub object : Object
+  pub is_object : IsObject m.1 object
+  pub exports : e.exports ≡ map (λ x. x.name) object.exports
+  pub imports : e.imports ≡ object.imports
+
+abbrev pub AllFit : List Entry → List Member → Type 0
+AllFit [] [] = Unit {0}
+AllFit [] (m ∷ ms) = ⊥
+AllFit (e ∷ es) [] = ⊥
+AllFit (e ∷ es) (m ∷ ms) = Fits e m × AllFit es ms
+
+fits_listing : (e : Entry) (m : Member) → length m.1 ≤ file_limit → Fits e m → entry_bytes e ≡ member_listing m
+fits_listing e m short f =
+    let c : contents_in m.1 ≡ Ok (contents_from f.object) = object_there m.1 f.object short f.is_object in
+    rw (f.exports, f.imports) (ap (λ n. listing_bytes n e.size (map (λ (x : Export). x.name) f.object.exports) f.object.imports) (sym f.name)
+    ∙ ap (λ n. listing_bytes m.0 n (map (λ (x : Export). x.name) f.object.exports) f.object.imports) (sym f.size)
+    ∙ sym (ap (λ r. let d = or_none r in listing_bytes m.0 (length m.1) d.exports d.imports) c))
+
+pub all_listings : (es : List Entry) (ms : List Member) → length (bodies ms) ≤ file_limit → AllFit es ms → flat_map entry_bytes es ≡ flat_map member_listing ms
+all_listings [] [] short f = refl
+all_listings [] (m ∷ ms) short f = absurd f
+all_listings (e ∷ es) [] short f = absurd f
+all_listings (e ∷ es) (m ∷ ms) short f =
+    let len = length-append m.1 (bodies ms) in
+    ap (λ xs. xs ++ flat_map entry_bytes es) (fits_listing e m (omega arith) f.0)
+    ∙ ap (λ xs. member_listing m ++ xs) (all_listings es ms (omega arith) f.1)
+
+pub same_count : (es : List Entry) (ms : List Member) → AllFit es ms → length es ≡ length ms
+same_count [] [] f = refl
+same_count [] (m ∷ ms) f = absurd f
+same_count (e ∷ es) [] f = absurd f
+same_count (e ∷ es) (m ∷ ms) f = let rest = same_count es ms f.1 in omega arith
+
+-- ---- Where members stand.
+
+piece_in : (front members : List ℕ) (at size : ℕ) → at ≡ length front → take size (drop at (front ++ members)) ≡ take size members
+piece_in front members at size is = ap (take size) (drop_at front members at (sym is))
+
+-- members that stand one behind the other are all that stands there
+pub stand : (front members : List ℕ) (es : List Entry) (ms : List Member) → StandFrom (length front) es → length members ≡ sum_by entry_size es → AreMembers (front ++ members) es ms → (members ≡ bodies ms) × AllFit es ms
+stand front members [] [] stands sizes are = (nothing members sizes, tt) where
+  nothing : (xs : List ℕ) → length xs ≡ 0 → xs ≡ []
+  nothing [] e = refl
+  nothing (x ∷ xs) e = absurd (omega arith)
+stand front members [] (m ∷ ms) stands sizes are = absurd are
+stand front members (e ∷ es) [] stands sizes are = absurd are
+stand front members (e ∷ es) (m ∷ ms) stands sizes are =
+    let total : length members ≡ e.size + sum_by entry_size es = sizes ∙ sum_by-cons entry_size e es in
+    let body : m.1 ≡ take e.size members = are.0.bytes ∙ piece_in front members e.place e.size stands.0 in
+    let len : length m.1 ≡ e.size = ap (length {A = ℕ}) body ∙ (let t = length-take e.size members in omega arith) in
+    let split : members ≡ m.1 ++ drop e.size members = sym (take-append-drop e.size members) ∙ ap (λ xs. xs ++ drop e.size members) (sym body) in
+    let on : front ++ members ≡ (front ++ m.1) ++ drop e.size members = ap (λ xs. front ++ xs) split ∙ sym (append_assoc front m.1 (drop e.size members)) in
+    let further : length front + e.size ≡ length (front ++ m.1) = omega (arith, length-append front m.1) in
+    let left : length (drop e.size members) ≡ sum_by entry_size es = omega (arith, ap (length {A = ℕ}) split, length-append m.1 (drop e.size members)) in
+    let rest = stand (front ++ m.1) (drop e.size members) es ms (subst (λ n. StandFrom n es) further stands.1) left (subst (λ bs. AreMembers bs es ms) on are.1) in (
+      split ∙ ap (λ xs. m.1 ++ xs) rest.0,
+      (record { name = are.0.name; size = len; object = are.0.object; is_object = are.0.is_object; exports = are.0.exports; imports = are.0.imports }, rest.1),
+    )
+
+-- a library's bytes are those of its members
+pub library_is : (a : List ℕ) (ms : List Member) → IsLibrary a ms → a ≡ library_bytes ms
+library_is a ms is =
+    let x = is.is_index in
+    let both = stand (index_bytes is.index) x.members is.index ms x.places x.sizes (subst (λ bs. AreMembers bs is.index ms) x.spelled is.members) in
+    let short : length (bodies ms) ≤ file_limit = omega (arith, x.limit, ap (length {A = ℕ}) x.spelled, length-append (index_bytes is.index) x.members, ap (length {A = ℕ}) both.0) in
+    x.spelled
+    ∙ ap (λ xs. index_bytes is.index ++ xs) both.0
+    ∙ ap (λ n. (library_head ++ (little_bytes 4 n ++ flat_map entry_bytes is.index)) ++ bodies ms) (same_count is.index ms both.1)
+    ∙ ap (λ xs. (library_head ++ (little_bytes 4 (length ms) ++ xs)) ++ bodies ms) (all_listings is.index ms short both.1)
+
+pub one_library : OneLibraryLaw
+one_library a b ms first second = library_is a ms first ∙ sym (library_is b ms second)
+
+-- ---- What is written is a library.
 
 abbrev pub HasObject : Member → Type 0
 HasObject m = (o : Object) × IsObject m.1 o

@@ -1,17 +1,29 @@
--- The objects in members' bytes.
-use Rattle.std.proofs.Common.{◌≡◌, ◌∙◌, ◌<◌, ◌&&◌, ℕ, suc, Bool, true, false, not, List, ◌∷◌, length, drop, get_or, Result, Ok, Err, refl, sym, ap, if◌then◌else◌}
+-- The objects in members' bytes, and what they export and import.
+use Rattle.std.proofs.Common.{◌≡◌, ◌∙◌, ◌<◌, ◌&&◌, ℕ, suc, Bool, true, false, not, List, ◌∷◌, length, drop, get_or, Result, Ok, Err, refl, sym, ap, if◌then◌else◌, [], map, subst}
 use Rattle.std.specs.Str.{bytes_eq}
 use Rattle.std.proofs.Math.Seq.{drop-cons}
-use Rattle.base65.specs.Outcome.{◌>>=◌, Refuses}
+use Rattle.base65.specs.Outcome.{◌>>=◌, Refuses, Unless}
 use Rattle.object65.specs.declared.fault.ObjectFault.{ObjectFault}
 use Rattle.object65.specs.declared.object.Object.{Object}
-use Rattle.object65.specs.Whole.{object_at}
+use Rattle.object65.specs.Reading.{object_at, record_at, records_at}
 use Rattle.library65.specs.Fault.{is_memory}
 use Rattle.library65.specs.declared.fault.LibraryFault.{LibraryFault}
 use Rattle.library65.specs.declared.fault.LibraryFault.TheVariants as library
 use Rattle.library65.specs.declared.fault.LibraryFault.TheVariants.{BadMemberName}
 use Rattle.library65.specs.Libraries.{are_same, as_member, checked, contents_from, contents_in}
-use Rattle.library65.specs.Names.{is_member_name}
+use Rattle.library65.specs.Spelling.{is_member_name, AreSymbols}
+use Rattle.object65.specs.declared.record.Item.{Item}
+use Rattle.object65.specs.declared.object.Export.{Export}
+use Rattle.object65.specs.Record.{is_memory as is_object_memory, Entry as Record, is_version}
+use Rattle.object65.specs.Items.{with_item}
+use Rattle.object65.specs.Scanning.{Outline, outline_of, IsReached, State, after, object_from, start}
+use Rattle.object65.proofs.Withins.{reached_next, reached_parts, reached_start}
+use Rattle.object65.proofs.Records.{Goes, begins, ends, goes_on, stops_reading, stops_taking}
+use Rattle.library65.specs.declared.contents.Contents.{Contents}
+use Rattle.library65.specs.Inner.Contents.{EndsWith}
+use Rattle.library65.proofs.Made.{all_names}
+
+-- ---- The objects in members' bytes.
 
 -- two names that stand at one place differ
 pub differ : (names others : List (List ℕ)) (i : ℕ) (x y : List ℕ) → i < length names → i < length others → x ≡ get_or names i x → y ≡ get_or others i y → bytes_eq x y ≡ false → are_same (drop i names) (drop i others) ≡ false
@@ -38,3 +50,59 @@ not_a_file name bytes e = step (is_member_name name) (object_at 0 (length bytes)
 
 pub not_stored : (name bytes : List ℕ) (e : LibraryFault) → Refuses is_memory e (checked name bytes) → e ≡ library.FileError → ⊥
 not_stored name bytes e refused is = not_a_file name bytes (rw is at refused)
+
+-- ---- Records that are scanned one after another for what they export and import.
+
+unless : (b : Bool) {P Q : Type 0} → (P → Q) → Unless b P → Unless b Q
+unless true h p = tt
+unless false h p = h p
+
+-- what was scanned is an object in the making that exports and imports these
+pub record IsTaken (v : ℕ) (bytes : List ℕ) (at next : ℕ) (scan : Outline) (c : Contents) : Type 0 where
+  pub state : State
+  pub goes : Goes v bytes (length bytes) at next state
+  pub outline : scan ≡ outline_of state
+  pub contents : c ≡ contents_from (object_from state)
+  pub reached : IsReached state
+
+pub nothing_taken : (v : ℕ) (bytes : List ℕ) (at : ℕ) → is_version v ≡ true → IsTaken v bytes at at (outline_of (start v)) (record { exports = []; imports = [] })
+nothing_taken v bytes at known = record { state = start v; goes = begins v bytes (length bytes) at; outline = refl; contents = refl; reached = reached_start v known }
+
+module _ (v : ℕ) (bytes : List ℕ) (at next : ℕ) (scan : Outline) (c : Contents) (was : IsTaken v bytes at next scan c) where
+  pub reading_refused : (e : ObjectFault) → Refuses is_object_memory e (record_at v next (length bytes) bytes) → Refuses is_object_memory e (records_at (length bytes) (start v) at (length bytes) bytes)
+  reading_refused e refused = unless (is_object_memory e) (stops_reading v bytes (length bytes) at next was.state e was.goes) refused
+
+  pub taking_refused : (r : Record × ℕ) (e : ObjectFault) → record_at v next (length bytes) bytes ≡ Ok r → ((s : State) → scan ≡ outline_of s → Refuses is_object_memory e (after s r.0)) → Refuses is_object_memory e (records_at (length bytes) (start v) at (length bytes) bytes)
+  taking_refused r e read refused = unless (is_object_memory e) (stops_taking v bytes (length bytes) at next was.state r e was.goes read) (refused was.state was.outline)
+
+  module _ (r : Record × ℕ) (item : Item) (further : Outline) (more : Contents) (read : record_at v next (length bytes) bytes ≡ Ok r) (taken : (s : State) → scan ≡ outline_of s → after s r.0 ≡ Ok (with_item s item)) (kept : (s : State) → scan ≡ outline_of s → further ≡ outline_of (with_item s item)) (added : (s : State) → c ≡ contents_from (object_from s) → more ≡ contents_from (object_from (with_item s item))) where
+    next_reached : IsReached (with_item was.state item)
+    next_reached = reached_next was.state (with_item was.state item) r.0 was.reached (taken was.state was.outline)
+
+    pub more_taken : next < r.1 → further.ended ≡ false → IsTaken v bytes at r.1 further more
+    more_taken later open_yet = record {
+      state = with_item was.state item;
+      goes = goes_on v bytes (length bytes) at next was.state (with_item was.state item) r was.goes read later (taken was.state was.outline) (sym (ap (λ (o : Outline). o.ended) (kept was.state was.outline)) ∙ open_yet);
+      outline = kept was.state was.outline;
+      contents = added was.state was.contents;
+      reached = next_reached;
+    }
+
+    pub all_taken : further.ended ≡ true → EndsWith bytes v at more r.1
+    all_taken closed =
+        let ended : (with_item was.state item).ended ≡ true = sym (ap (λ (o : Outline). o.ended) (kept was.state was.outline)) ∙ closed in
+        record {
+          state = with_item was.state item;
+          read = ends v bytes (length bytes) at next was.state (with_item was.state item) r was.goes read (taken was.state was.outline) ended;
+          whole = rw ((reached_parts (with_item was.state item) next_reached).failed, ended) refl;
+          contents = added was.state was.contents;
+        }
+
+    pub good_taken : AreSymbols more
+    good_taken =
+        let good = reached_parts (with_item was.state item) next_reached in
+        let same = added was.state was.contents in
+        subst AreSymbols (sym same) (record {
+          exports = all_names (map (λ (e : Export). e.name) (with_item was.state item).exports) good.export_names;
+          imports = all_names (with_item was.state item).imports good.imports;
+        })

@@ -1,13 +1,158 @@
 -- Selections: the search gives one, there is but one, and it grows with what is wanted.
-use Rattle.std.proofs.Common.{◌≡◌, ◌∙◌, ◌<◌, ◌-◌, ℕ, ◌+◌, Bool, true, false, not, ◌||◌, ◌&&◌, cond, List, [], ◌∷◌, length, get_or, Option, Some, refl, sym, ap, subst, arith}
-use Rattle.std.specs.List.{list_any, position_from}
+use Rattle.std.proofs.Common.{◌≡◌, ◌≢◌, ◌∙◌, ◌<◌, ◌≤◌, ◌-◌, ℕ, zero, suc, ◌+◌, Bool, true, false, not, ◌||◌, cond, nat_eq, List, [], ◌∷◌, ◌++◌, length, get_or, slice_get, Some, refl, sym, ap, subst, arith, if◌then◌else◌, ◌&&◌, Option, None, append_assoc}
+use Rattle.std.specs.Prelude.{count_by, replicate, slice_set}
+use Rattle.std.specs.List.{AllByRecursion, list_any, position_from}
+use Rattle.std.proofs.lemmas.Bool.Decides.{nat_tests}
+use Rattle.std.proofs.lemmas.List.{get_or-set_same, get_or-set_other, append-nil}
+use Rattle.std.proofs.lemmas.List.Folds.{list_any-append}
+use Rattle.std.proofs.lemmas.List.Sums.{sum_by-cons, sum_by-set}
+use Rattle.library65.specs.Selection.{IsRising, has_place, IsClosed, IsSelection, first_exporter, imports_at, GrowingSelectionLaw, OneSelectionLaw}
+use Rattle.library65.specs.Inner.Searching.{marked_from, IsSearched, Finds}
 use Rattle.library65.specs.declared.index.Entry.{Entry}
 use Rattle.object65.specs.Objects.{is_among}
-use Rattle.library65.specs.Inner.Searching.{IsSearched, marked_from}
-use Rattle.library65.specs.Selection.{IsClosed, IsRising, IsSelection, first_exporter, has_place, imports_at}
-use Rattle.library65.proofs.Places.{any_at, any_of, marked_places, marked_rising, or_left, or_right, or_true, place_at, place_of}
+use Rattle.std.specs.Cmp.Lexicographic.{pointwise}
+use Rattle.std.proofs.lemmas.Slice.Eq.{bytes_eq-Decides}
 
-abbrev Names : Type 0
+-- ---- Places that are marked and listed.
+
+pub either : {A : Type 0} (b : Bool) → (b ≡ true → A) → (b ≡ false → A) → A
+either true f g = f refl
+either false f g = g refl
+
+pub or_true : (a b : Bool) {A : Type 0} → (a || b) ≡ true → (a ≡ true → A) → (b ≡ true → A) → A
+or_true true b e f g = f refl
+or_true false b e f g = g e
+
+pub or_left : (a b : Bool) → a ≡ true → (a || b) ≡ true
+or_left true b e = refl
+or_left false b e = cc
+
+pub or_right : (a b : Bool) → b ≡ true → (a || b) ≡ true
+or_right true b e = refl
+or_right false b e = e
+
+pub or_false : (b : Bool) → (b || false) ≡ b
+or_false true = refl
+or_false false = refl
+
+-- ---- An item that passes a test.
+
+pub any_at : {X : Type 0} (p : X → Bool) (xs : List X) → list_any p xs ≡ true → (k : ℕ) × (x : X) × (k < length xs) × (slice_get xs k ≡ Some x) × (p x ≡ true)
+any_at p [] e = cc
+any_at p (x ∷ xs) e =
+    or_true (p x) (list_any p xs) e
+    (λ h. (0, x, omega arith, refl, h))
+    (λ h. let r = any_at p xs h in (suc r.0, r.1, omega (arith, r.2), r.3, r.4))
+
+pub any_of : {X : Type 0} (p : X → Bool) (xs : List X) (k : ℕ) (x : X) → slice_get xs k ≡ Some x → p x ≡ true → list_any p xs ≡ true
+any_of p [] k x at e = cc
+any_of p (y ∷ xs) zero x at e = let is : y ≡ x = cc in or_left (p y) (list_any p xs) (ap p is ∙ e)
+any_of p (y ∷ xs) (suc k) x at e = or_right (p y) (list_any p xs) (any_of p xs k x at e)
+
+pub same_place : (i j : ℕ) → nat_eq i j ≡ true → i ≡ j
+same_place i j e = grind (arith, nat_tests)
+
+pub place_same : (i : ℕ) → nat_eq i i ≡ true
+place_same i = grind (arith, nat_tests)
+
+-- a place of a list is somewhere in it
+pub place_at : (is : List ℕ) (i : ℕ) → has_place is i ≡ true → (k : ℕ) × (k < length is) × (slice_get is k ≡ Some i)
+place_at is i e = let r = any_at (nat_eq i) is e in (r.0, r.2, r.3 ∙ ap (λ j. Some j) (sym (same_place i r.1 r.4)))
+
+pub place_of : (is : List ℕ) (k i : ℕ) → slice_get is k ≡ Some i → has_place is i ≡ true
+place_of is k i at = any_of (nat_eq i) is k i at (place_same i)
+
+pub place_append : (is js : List ℕ) (i : ℕ) → has_place (is ++ js) i ≡ (has_place is i || has_place js i)
+place_append is js i = list_any-append (nat_eq i) is js
+
+pub place_kept : (is js : List ℕ) (i : ℕ) → has_place is i ≡ true → has_place (is ++ js) i ≡ true
+place_kept is js i e = place_append is js i ∙ or_left (has_place is i) (has_place js i) e
+
+pub place_behind : (is js : List ℕ) (i : ℕ) → has_place js i ≡ true → has_place (is ++ js) i ≡ true
+place_behind is js i e = place_append is js i ∙ or_right (has_place is i) (has_place js i) e
+
+pub get_kept : (is js : List ℕ) (k : ℕ) → k < length is → slice_get (is ++ js) k ≡ slice_get is k
+get_kept [] js k lt = absurd (omega arith)
+get_kept (i ∷ is) js zero lt = refl
+get_kept (i ∷ is) js (suc k) lt = get_kept is js k (omega arith)
+
+-- ---- Marks.
+
+pub no_marks : (n i : ℕ) → get_or (replicate n false) i false ≡ false
+no_marks zero i = refl
+no_marks (suc n) zero = refl
+no_marks (suc n) (suc i) = no_marks n i
+
+pub none_counted : (n : ℕ) → count_by not (replicate n false) ≡ n
+none_counted zero = refl
+none_counted (suc n) = sum_by-cons (λ b. cond (not b) 1 0) false (replicate n false) ∙ ap (λ k. 1 + k) (none_counted n) ∙ one_more n where
+  one_more : (k : ℕ) → 1 + k ≡ suc k
+  one_more k = omega arith
+
+pub length_marks : (n : ℕ) → length (replicate n false) ≡ n
+length_marks zero = refl
+length_marks (suc n) = ap suc (length_marks n)
+
+pub marks_added : (marks : List Bool) (places : List ℕ) (place : ℕ) → place < length marks → ((i : ℕ) → get_or marks i false ≡ has_place places i) → (i : ℕ) → get_or (slice_set marks place true) i false ≡ has_place (places ++ place ∷ []) i
+marks_added marks places place within marked i =
+    either (nat_eq i place)
+    (λ e. let is : i ≡ place = same_place i place e in
+    let P : ℕ → Type 0 = λ j. get_or (slice_set marks place true) j false ≡ has_place (places ++ place ∷ []) j in
+    subst P (sym is) (get_or-set_same marks place true false within ∙ sym (place_behind places (place ∷ []) place (or_left (nat_eq place place) false (place_same place)))))
+    (λ e. let other : i ≢ place = λ is. let yes : nat_eq i place ≡ true = grind (arith, nat_tests) in cc in
+    get_or-set_other marks place i true false other
+    ∙ marked i
+    ∙ sym (or_false (has_place places i))
+    ∙ ap (λ b. has_place places i || (b || false)) (sym e)
+    ∙ sym (place_append places (place ∷ []) i))
+
+pub count_added : (marks : List Bool) (place : ℕ) → place < length marks → get_or marks place false ≡ false → count_by not (slice_set marks place true) + 1 ≡ count_by not marks
+count_added marks place within new =
+    let one : ◌≡◌ {A = ℕ} (cond (not (get_or marks place false)) 1 0) 1 = rw new refl in
+    omega (arith, sum_by-set (λ b. cond (not b) 1 0) marks place true false within, one)
+
+-- ---- The places that are marked.
+
+pub marked_places : (i j : ℕ) (marks : List Bool) → i ≤ j → has_place (marked_from i marks) j ≡ get_or marks (j - i) false
+marked_places i j [] le = refl
+marked_places i j (mark ∷ marks) le =
+    either (nat_eq j i)
+    (λ e. let is : j - i ≡ 0 = grind (arith, nat_tests) in rw is (here mark e))
+    (λ e. let lt : suc i ≤ j = grind (arith, nat_tests) in
+    let k : j - i ≡ suc (j - (i + 1)) = omega arith in
+    rw k (there mark e ∙ marked_places (i + 1) j marks (omega arith)))
+  where
+    before : (n : ℕ) (ms : List Bool) → j < n → has_place (marked_from n ms) j ≡ false
+    before n [] lt = refl
+    before n (true ∷ ms) lt = let no_place : nat_eq j n ≡ false = grind (arith, nat_tests) in rw no_place (before (n + 1) ms (omega arith))
+    before n (false ∷ ms) lt = before (n + 1) ms (omega arith)
+
+    here : (m : Bool) → nat_eq j i ≡ true → has_place (if m then i ∷ marked_from (i + 1) marks else marked_from (i + 1) marks) j ≡ m
+    here true e = or_left (nat_eq j i) _ e
+    here false e = before (i + 1) marks (grind (arith, nat_tests))
+
+    there : (m : Bool) → nat_eq j i ≡ false → has_place (if m then i ∷ marked_from (i + 1) marks else marked_from (i + 1) marks) j ≡ has_place (marked_from (i + 1) marks) j
+    there true e = rw e refl
+    there false e = refl
+
+marked_above : (b i : ℕ) (marks : List Bool) → b < i → AllByRecursion (λ j. b < j) (marked_from i marks)
+marked_above b i [] lt = tt
+marked_above b i (true ∷ marks) lt = (lt, marked_above b (i + 1) marks (omega arith))
+marked_above b i (false ∷ marks) lt = marked_above b (i + 1) marks (omega arith)
+
+pub marked_rising : (i : ℕ) (marks : List Bool) → IsRising (marked_from i marks)
+marked_rising i [] = tt
+marked_rising i (true ∷ marks) = (marked_above i (i + 1) marks (omega arith), marked_rising (i + 1) marks)
+marked_rising i (false ∷ marks) = marked_rising (i + 1) marks
+
+pub marked_below : (n i : ℕ) (marks : List Bool) → i + length marks ≤ n → AllByRecursion (λ j. j < n) (marked_from i marks)
+marked_below n i [] le = tt
+marked_below n i (true ∷ marks) le = (omega arith, marked_below n (i + 1) marks (omega arith))
+marked_below n i (false ∷ marks) le = marked_below n (i + 1) marks (omega arith)
+
+-- ---- Selections: the search gives one, there is but one, and it grows with what is wanted.
+
+abbrev pub Names : Type 0
 Names = List (List ℕ)
 
 -- ---- First exporters.
@@ -88,3 +233,142 @@ module _ (es : List Entry) (wanted defined : Names) (found : List ℕ) where
         all = λ name place in_set first. same place ∙ exporter_found done name place in_set first;
         rising = subst IsRising (sym listed) (marked_rising 0 marks);
       }
+
+-- ---- Selections.
+
+above : (i j : ℕ) (is : List ℕ) → AllByRecursion (λ k. i < k) is → has_place is j ≡ true → i < j
+above i j [] all e = cc
+above i j (k ∷ is) all e = or_true (nat_eq j k) (has_place is j) e (λ h. let same = same_place j k h in omega (arith, all.0)) (λ h. above i j is all.1 h)
+
+-- rising lists of the same places are one
+one_list : (a b : List ℕ) → IsRising a → IsRising b → ((i : ℕ) → has_place a i ≡ true → has_place b i ≡ true) → ((i : ℕ) → has_place b i ≡ true → has_place a i ≡ true) → a ≡ b
+one_list [] [] ra rb f g = refl
+one_list [] (j ∷ b) ra rb f g = cc (g j (or_left (nat_eq j j) (has_place b j) (place_same j)))
+one_list (i ∷ a) [] ra rb f g = cc (f i (or_left (nat_eq i i) (has_place a i) (place_same i)))
+one_list (i ∷ a) (j ∷ b) ra rb f g =
+    let low : j ≤ i = or_true (nat_eq i j) (has_place b i) (f i (or_left (nat_eq i i) (has_place a i) (place_same i))) (λ h. let same = same_place i j h in omega arith) (λ h. let lt = above j i b rb.0 h in omega arith) in
+    let high : i ≤ j = or_true (nat_eq j i) (has_place a j) (g j (or_left (nat_eq j j) (has_place b j) (place_same j))) (λ h. let same = same_place j i h in omega arith) (λ h. let lt = above i j a ra.0 h in omega arith) in
+    let head : i ≡ j = omega arith in
+    let rest = one_list a b ra.1 rb.1
+    (λ k h. or_true (nat_eq k j) (has_place b k) (f k (or_right (nat_eq k i) (has_place a k) h)) (λ e. let same = same_place k j e in let lt = above i k a ra.0 h in absurd (omega arith)) (λ e. e))
+    (λ k h. or_true (nat_eq k i) (has_place a k) (g k (or_right (nat_eq k j) (has_place b k) h)) (λ e. let same = same_place k i e in let lt = above j k b rb.0 h in absurd (omega arith)) (λ e. e)) in
+    λ n. head n ∷ rest n
+
+pub selection_grows : GrowingSelectionLaw
+selection_grows es wanted more defined a b grown first second place there =
+    let closed : IsClosed es wanted defined second.has = record {
+      begins = λ name want free. second.closed.begins name (grown name want) free;
+      goes_on = second.closed.goes_on;
+    } in
+    let from = first.exporters place there in
+    second.all from.0 place (first.least second.has closed from.0 from.1) from.2
+
+pub one_selection : OneSelectionLaw
+one_selection es wanted defined a b first second =
+    one_list a b first.rising second.rising
+    (selection_grows es wanted wanted defined a b (λ name want. want) first second)
+    (selection_grows es wanted wanted defined b a (λ name want. want) second first)
+
+-- ---- The search for the members that a link needs: what it has found is the selection.
+
+module _ (es : List Entry) (defined : Names) where
+  -- nothing is wanted
+  pub finds_none : (old : List ℕ) → Finds es defined [] old old
+  finds_none old = record {
+    behind = [];
+    more = sym (append-nil old);
+    all = λ name i e. absurd cc;
+    only = λ i e. absurd cc;
+  }
+
+  -- names one behind the other
+  pub finds_more : (names : Names) (name : List ℕ) (old mid new : List ℕ) → Finds es defined names old mid → Finds es defined (name ∷ []) mid new → Finds es defined (names ++ name ∷ []) old new
+  finds_more names name old mid new first last = record {
+    behind = first.behind ++ last.behind;
+    more = last.more ∙ ap (λ is. is ++ last.behind) first.more ∙ append_assoc old first.behind last.behind;
+    all = λ n i among free exported. or_true (is_among names n) (is_among (name ∷ []) n) (sym (list_any-append (pointwise nat_eq n) names (name ∷ [])) ∙ among)
+        (λ e. subst (λ is. has_place is i ≡ true) (sym last.more) (place_kept mid last.behind i (first.all n i e free exported)))
+        (λ e. last.all n i e free exported);
+    only = λ i found. or_true (has_place first.behind i) (has_place last.behind i) (sym (list_any-append (nat_eq i) first.behind last.behind) ∙ found)
+        (λ e. let r = first.only i e in (r.0, list_any-append (pointwise nat_eq r.0) names (name ∷ []) ∙ or_left (is_among names r.0) (is_among (name ∷ []) r.0) r.1, r.2, r.3))
+        (λ e. let r = last.only i e in (r.0, list_any-append (pointwise nat_eq r.0) names (name ∷ []) ∙ or_right (is_among names r.0) (is_among (name ∷ []) r.0) r.1, r.2, r.3));
+  }
+
+  one_name : (name n : List ℕ) → is_among (name ∷ []) n ≡ true → n ≡ name
+  one_name name n among = or_true (pointwise nat_eq n name) false among (λ e. (bytes_eq-Decides n name).0 e) (λ e. absurd cc)
+
+  its_own : (name : List ℕ) → is_among (name ∷ []) name ≡ true
+  its_own name = or_left (pointwise nat_eq name name) false ((bytes_eq-Decides name name).1 refl)
+
+  -- a name that is defined
+  pub finds_defined : (name : List ℕ) (old : List ℕ) → is_among defined name ≡ true → Finds es defined (name ∷ []) old old
+  finds_defined name old is = record {
+    behind = [];
+    more = sym (append-nil old);
+    all = λ n i among free exported. let same = one_name name n among in absurd (let both : true ≡ false = sym is ∙ ap (is_among defined) (sym same) ∙ free in cc);
+    only = λ i e. absurd cc;
+  }
+
+  -- a name that no member exports
+  pub finds_nobody : (name : List ℕ) (old : List ℕ) → first_exporter es name ≡ None → Finds es defined (name ∷ []) old old
+  finds_nobody name old none = record {
+    behind = [];
+    more = sym (append-nil old);
+    all = λ n i among free exported. let same = one_name name n among in absurd (let both : None ≡ Some i = sym none ∙ ap (first_exporter es) (sym same) ∙ exported in cc);
+    only = λ i e. absurd cc;
+  }
+
+  -- a name whose first exporter was found before
+  pub finds_again : (name : List ℕ) (place : ℕ) (old : List ℕ) → first_exporter es name ≡ Some place → has_place old place ≡ true → Finds es defined (name ∷ []) old old
+  finds_again name place old first there = record {
+    behind = [];
+    more = sym (append-nil old);
+    all = λ n i among free exported. let same = one_name name n among in
+        let is : Some place ≡ Some i = sym first ∙ ap (first_exporter es) (sym same) ∙ exported in
+        let at : place ≡ i = cc in subst (λ j. has_place old j ≡ true) at there;
+    only = λ i e. absurd cc;
+  }
+
+  -- a name whose first exporter is new
+  pub finds_new : (name : List ℕ) (place : ℕ) (old new : List ℕ) → first_exporter es name ≡ Some place → is_among defined name ≡ false → new ≡ old ++ place ∷ [] → Finds es defined (name ∷ []) old new
+  finds_new name place old new first free more = record {
+    behind = place ∷ [];
+    more = more;
+    all = λ n i among free_too exported. let same = one_name name n among in
+        let is : Some place ≡ Some i = sym first ∙ ap (first_exporter es) (sym same) ∙ exported in
+        let at : place ≡ i = cc in
+        let there : has_place (place ∷ []) i ≡ true = grind (arith, nat_tests) in
+        subst (λ (js : List ℕ). has_place js i ≡ true) (sym more) (place_behind old (place ∷ []) i there);
+    only = λ i found. let at : i ≡ place = grind (arith, nat_tests) in (name, its_own name, free, first ∙ ap (λ j. Some j) (sym at));
+  }
+
+module _ (es : List Entry) (wanted defined : Names) where
+  -- what is wanted was found
+  pub search_begins : (found : List ℕ) → Finds es defined wanted [] found → IsSearched es wanted defined found 0
+  search_begins found finds = record {
+    needed = λ i there. let r = finds.only i (subst (λ (js : List ℕ). has_place js i ≡ true) finds.more there) in (r.0, (λ has closed. closed.begins r.0 r.1 r.2), r.3);
+    wanted_found = λ name i among free exported. finds.all name i among free exported;
+    imports_found = λ k place lt. absurd (omega arith);
+  }
+
+  -- what one member more imports was found
+  pub search_goes_on : (found new : List ℕ) (next place : ℕ) → next < length found → slice_get found next ≡ Some place → IsSearched es wanted defined found next → Finds es defined (imports_at es place) found new → IsSearched es wanted defined new (next + 1)
+  search_goes_on found new next place lt at so_far finds = record {
+    needed = λ i there. or_true (has_place found i) (has_place finds.behind i) (sym (list_any-append (nat_eq i) found finds.behind) ∙ subst (λ (js : List ℕ). has_place js i ≡ true) finds.more there)
+        (λ e. so_far.needed i e)
+        (λ e. let r = finds.only i e in
+        let from = so_far.needed place (place_of found next place at) in
+        (r.0, (λ has closed. closed.goes_on from.0 r.0 place (from.1 has closed) from.2 r.1 r.2), r.3));
+    wanted_found = λ name i among free exported. grown i (so_far.wanted_found name i among free exported);
+    imports_found = λ k p less there name i among free exported.
+        let before : slice_get found k ≡ Some p = sym (get_kept found finds.behind k (omega arith)) ∙ subst (λ (js : List ℕ). slice_get js k ≡ Some p) finds.more there in
+        either (nat_eq k next)
+        (λ e. let is : k ≡ next = grind (arith, nat_tests) in
+        let same : Some p ≡ Some place = sym before ∙ ap (slice_get found) is ∙ at in
+        let p_is : p ≡ place = cc in
+        finds.all name i (subst (λ q. is_among (imports_at es q) name ≡ true) p_is among) free exported)
+        (λ e. let earlier : k < next = grind (arith, nat_tests) in grown i (so_far.imports_found k p earlier before name i among free exported));
+  }
+    where
+      grown : (i : ℕ) → has_place found i ≡ true → has_place new i ≡ true
+      grown i e = subst (λ (js : List ℕ). has_place js i ≡ true) (sym finds.more) (place_kept found finds.behind i e)

@@ -1,15 +1,89 @@
--- One step of what is read by a loop.
-use Rattle.std.proofs.Common.{◌≡◌, ap, subst, add-one, drop, get_or, length, ℕ, zero, suc, ◌+◌, ◌-◌, ◌<◌, ◌≤◌, List, [], ◌∷◌, ◌++◌, map, Result, Ok, Err, refl, sym, ◌∙◌, arith}
+-- What is read of a file in steps.
+use Rattle.std.proofs.Common.{◌≡◌, ◌∙◌, ◌<◌, arith, ℕ, List, Bool, true, false, Option, Some, None, Result, Ok, Err, refl, sym, ap, subst, add-one, drop, get_or, length, zero, suc, ◌+◌, ◌-◌, ◌≤◌, [], ◌∷◌, ◌++◌, map, nat_le, nat_lt, take, min, length-drop}
+use Rattle.std.specs.Prelude.{IfSome}
+use Rattle.std.specs.FinMap as finmap
+use Rattle.base65.specs.Outcome.{◌>>=◌, Refuses, Unless}
+use Rattle.base65.specs.Store.{Files, Passes}
+use Rattle.library65.specs.declared.fault.LibraryFault.{LibraryFault}
+use Rattle.library65.specs.declared.fault.LibraryFault.TheVariants.{FileError, FileNotFound, CutShort}
+use Rattle.library65.specs.Fault.{is_outside}
+use Rattle.library65.specs.Reading.{in_file, index_at, count_at, counted_at, list_at, listing_at, listings_at, number_at, symbol_at, symbols_at}
 use Rattle.std.proofs.Math.Seq.{drop-cons}
-use Rattle.std.proofs.lemmas.List.{map-append}
+use Rattle.std.proofs.lemmas.List.{map-append, drop-drop, length-take, take_all}
 use Rattle.std.specs.List.{AllByRecursion}
-use Rattle.base65.specs.Outcome.{◌>>=◌}
 use Rattle.library65.specs.declared.index.Entry.{Entry}
 use Rattle.library65.specs.declared.index.Listing.{Listing}
-use Rattle.library65.specs.declared.fault.LibraryFault.{LibraryFault}
-use Rattle.library65.specs.Libraries.{joined, joined_all, library_at}
+use Rattle.library65.specs.Libraries.{joined, joined_all, library_at, piece_at}
 use Rattle.library65.specs.Spelling.{Member}
-use Rattle.library65.specs.Reading.{index_at, count_at, counted_at, list_at, listing_at, listings_at, number_at, symbol_at, symbols_at}
+use Rattle.std.proofs.lemmas.Bool.Decides.{nat_tests}
+use Rattle.base65.specs.Reading.{ReadsChunk}
+use Rattle.base65.proofs.Chunks.{more}
+use Rattle.base65.proofs.Filling.{take-add}
+
+-- ---- Something read of a file in steps, where the file may not be there and the files may not be known.
+
+abbrev pub Reading : Type 0 → Type 0
+Reading A = List ℕ → Result A LibraryFault
+
+-- what is left to read gives what the whole gives
+abbrev pub Leads : {A : Type 0} → Option Files → List ℕ → Reading A → Reading A → Type 0
+Leads known name rest all = IfSome known (λ m. IfSome (finmap.get m name) (λ bytes. rest bytes ≡ all bytes))
+
+unless : (b : Bool) {P Q : Type 0} → (P → Q) → Unless b P → Unless b Q
+unless true h p = tt
+unless false h p = h p
+
+module _ {A Y : Type 0} (name : List ℕ) (all rest : Reading A) (step : Reading Y) (k : Y → Reading A) (same : (bytes : List ℕ) → rest bytes ≡ (step bytes >>= (λ y. k y bytes))) where
+  file_goes_on : (file : Option (List ℕ)) (y : Y) → IfSome file (λ bytes. rest bytes ≡ all bytes) → in_file file step ≡ Ok y → IfSome file (λ bytes. k y bytes ≡ all bytes)
+  file_goes_on None y leads read = tt
+  file_goes_on (Some bytes) y leads read = sym (same bytes ∙ ap (λ r. r >>= (λ z. k z bytes)) read) ∙ leads
+
+  -- a step that is taken
+  pub goes_on : (known now : Option Files) (y : Y) → now ≡ known → Leads known name rest all → IfSome now (λ m. in_file (finmap.get m name) step ≡ Ok y) → Leads known name (k y) all
+  goes_on None now y files leads read = tt
+  goes_on (Some m) now y files leads read = file_goes_on (finmap.get m name) y leads (rw files at read)
+
+  file_stops : (file : Option (List ℕ)) (e : LibraryFault) → IfSome file (λ bytes. rest bytes ≡ all bytes) → Refuses is_outside e (in_file file step) → Refuses is_outside e (in_file file all)
+  file_stops None e leads refused = unless (is_outside e) (λ h. let is : FileNotFound ≡ e = cc in ap Err is) refused
+  file_stops (Some bytes) e leads refused = unless (is_outside e) (λ h. sym leads ∙ same bytes ∙ ap (λ r. r >>= (λ z. k z bytes)) h) refused
+
+  -- a step that is refused
+  pub stops : (known now : Option Files) (e : LibraryFault) → now ≡ known → Leads known name rest all → IfSome now (λ m. Refuses is_outside e (in_file (finmap.get m name) step)) → IfSome known (λ m. Refuses is_outside e (in_file (finmap.get m name) all))
+  stops None now e files leads refused = tt
+  stops (Some m) now e files leads refused = file_stops (finmap.get m name) e leads (rw files at refused)
+
+module _ {A Y : Type 0} (name : List ℕ) (all rest : Reading A) (step : Reading Y) (x : A) (y : Y) (done : (bytes : List ℕ) → rest bytes ≡ Ok x) where
+  file_ends : (file : Option (List ℕ)) → IfSome file (λ bytes. rest bytes ≡ all bytes) → in_file file step ≡ Ok y → in_file file all ≡ Ok x
+  file_ends None leads read = cc
+  file_ends (Some bytes) leads read = sym leads ∙ done bytes
+
+  -- nothing is left to read; an earlier step shows that the file is there
+  pub ends : (known : Option Files) → Leads known name rest all → IfSome known (λ m. in_file (finmap.get m name) step ≡ Ok y) → IfSome known (λ m. in_file (finmap.get m name) all ≡ Ok x)
+  ends None leads read = tt
+  ends (Some m) leads read = file_ends (finmap.get m name) leads read
+
+-- at the beginning all is left to read
+pub begins : {A : Type 0} (known : Option Files) (name : List ℕ) (all : Reading A) → Leads known name all all
+begins None name all = tt
+begins (Some m) name all = file (finmap.get m name) where
+  file : (f : Option (List ℕ)) → IfSome f (λ bytes. all bytes ≡ all bytes)
+  file None = tt
+  file (Some bytes) = refl
+
+-- a call that answered left the count of failures as it was
+pub kept_count : {T : Type 0} (old now : ℕ) (x : T) → Passes {E = LibraryFault} FileError old now (Ok x) → now ≡ old
+kept_count old now x passes = let not_later : old < now → ⊥ = λ h. ok_or_err x (passes.told h) in omega (arith, passes.later, not_later)
+  where
+    ok_or_err : {T : Type 0} (x : T) → ◌≡◌ {A = Result T LibraryFault} (Ok x) (Err FileError) → ⊥
+    ok_or_err x e = cc
+
+-- a refusal for another cause passes nothing on
+pub none_passed : {T : Type 0} (old now : ℕ) (e : LibraryFault) → now ≡ old → (e ≡ FileError → ⊥) → Passes {T = T} FileError old now (Err e)
+none_passed old now e same other = record {
+  later = omega arith;
+  told = λ h. absurd (omega arith);
+  cause = λ is. absurd (other (let f : e ≡ FileError = cc in f));
+}
 
 -- ---- The names of exports or imports.
 
@@ -62,3 +136,68 @@ pub all_at : {X : Type 0} (P : X → Type 0) (xs : List X) (i : ℕ) (x : X) →
 all_at P [] i x all lt at = absurd (omega arith)
 all_at P (y ∷ xs) zero x all lt at = subst P (sym at) all.0
 all_at P (y ∷ xs) (suc i) x all lt at = all_at P xs i x all.1 (omega arith) at
+
+-- ---- The bytes of a member, read chunk by chunk: the front of what a file has from a place on.
+
+-- the bytes are the first of what a file has from a place on
+abbrev pub IsPieceFront : Option (List ℕ) → ℕ → List ℕ → Type 0
+IsPieceFront file at bytes = IfSome file (λ b. bytes ≡ take (length bytes) (drop at b))
+
+-- a chunk further on in the file is one further on in its rest
+moved : (file : List ℕ) (at len want n : ℕ) (old new : List ℕ) → ReadsChunk (Some file) (at + len) want old new (Ok n) → ReadsChunk (Some (drop at file)) len want old new (Ok n)
+moved file at len want n old new read =
+    let same = drop-drop len at file in
+    (read.0 ∙ ap (λ xs. old ++ take want xs) (sym same), read.1 ∙ ap (λ (xs : List ℕ). length (take want xs)) (sym same))
+
+piece_more : (file : Option (List ℕ)) (at want n : ℕ) (old new : List ℕ) → IsPieceFront file at old → length new ≡ length old + n → ReadsChunk file (at + length old) want old new (Ok n) → IsPieceFront file at new
+piece_more None at want n old new front len read = tt
+piece_more (Some file) at want n old new front len read = more (Some (drop at file)) want n old new front len (moved file at (length old) want n old new read)
+
+pub told_more : (known next : Option Files) (name : List ℕ) (at place want n : ℕ) (old new : List ℕ) → next ≡ known → place ≡ at + length old → IfSome known (λ m. IsPieceFront (finmap.get m name) at old) → length new ≡ length old + n → IfSome next (λ m. ReadsChunk (finmap.get m name) place want old new (Ok n)) → IfSome known (λ m. IsPieceFront (finmap.get m name) at new)
+told_more None next name at place want n old new same there front len read = tt
+told_more (Some m) next name at place want n old new same there front len read =
+    let P : ℕ → Type 0 = λ k. ReadsChunk (finmap.get m name) k want old new (Ok n) in
+    piece_more (finmap.get m name) at want n old new front len (subst P there (rw same at read))
+
+longer : (file : List ℕ) (want n : ℕ) (old new : List ℕ) → old ≡ take (length old) file → ReadsChunk (Some file) (length old) want old new (Ok n) → new ≡ take (length old + want) file
+longer file want n old new front read = read.0 ∙ ap (λ xs. xs ++ take want (drop (length old) file)) front ∙ sym (take-add (length old) want file)
+
+last : (b : Bool) (file : List ℕ) (want n most : ℕ) (old new : List ℕ) → nat_le most (length old + 4096) ≡ b → old ≡ take (length old) file → length old ≤ most → want ≡ min 4096 (most - length old) → n < 4096 → ReadsChunk (Some file) (length old) want old new (Ok n) → new ≡ take most file
+last true file want n most old new test front within is short read =
+    let near : most ≤ length old + 4096 = grind (arith, nat_tests) in
+    let all : length old + want ≡ most = omega arith in
+    longer file want n old new front read ∙ ap (λ k. take k file) all
+last false file want n most old new test front within is short read =
+    let far : length old + 4096 < most = grind (arith, nat_tests) in
+    let full : want ≡ 4096 = omega arith in
+    let rest : n ≡ min want (length file - length old) = read.1 ∙ length-take want (drop (length old) file) ∙ ap (min want) (length-drop (length old) file) in
+    let ended : length file ≤ length old + want = omega arith in
+    longer file want n old new front read ∙ take_all (length old + want) file ended ∙ sym (take_all most file (omega arith))
+
+-- the file is there, and the bytes are all that it has for the member
+abbrev pub IsPiece : Option (List ℕ) → ℕ → ℕ → List ℕ → Type 0
+IsPiece None at size bytes = ⊥
+IsPiece (Some file) at size bytes = bytes ≡ take size (drop at file)
+
+pub told_whole : (known next : Option Files) (name : List ℕ) (at place want n size : ℕ) (old new : List ℕ) → next ≡ known → place ≡ at + length old → length old ≤ size → want ≡ min 4096 (size - length old) → n < 4096 → IfSome known (λ m. IsPieceFront (finmap.get m name) at old) → IfSome next (λ m. ReadsChunk (finmap.get m name) place want old new (Ok n)) → IfSome known (λ m. IsPiece (finmap.get m name) at size new)
+told_whole None next name at place want n size old new same there within is short front read = tt
+told_whole (Some m) next name at place want n size old new same there within is short front read =
+    let P : ℕ → Type 0 = λ k. ReadsChunk (finmap.get m name) k want old new (Ok n) in go (finmap.get m name) front (subst P there (rw same at read))
+  where
+    go : (file : Option (List ℕ)) → IsPieceFront file at old → ReadsChunk file (at + length old) want old new (Ok n) → IsPiece file at size new
+    go None f r = absurd r
+    go (Some file) f r = last (nat_le size (length old + 4096)) (drop at file) want n size old new refl f within is short (moved file at (length old) want n old new r)
+
+pub piece_short : (known : Option Files) (name : List ℕ) (at size : ℕ) (new : List ℕ) → length new < size → IfSome known (λ m. IsPiece (finmap.get m name) at size new) → IfSome known (λ m. in_file (finmap.get m name) (piece_at size at) ≡ Err CutShort)
+piece_short None name at size new lt is = tt
+piece_short (Some m) name at size new lt is = go (finmap.get m name) is where
+  go : (file : Option (List ℕ)) → IsPiece file at size new → in_file file (piece_at size at) ≡ Err CutShort
+  go None i = absurd i
+  go (Some file) i = let few : nat_lt (length (take size (drop at file))) size ≡ true = rw (← i) (grind (arith, nat_tests)) in rw few refl
+
+pub piece_whole : (known : Option Files) (name : List ℕ) (at size : ℕ) (new : List ℕ) → size ≤ length new → IfSome known (λ m. IsPiece (finmap.get m name) at size new) → IfSome known (λ m. in_file (finmap.get m name) (piece_at size at) ≡ Ok new)
+piece_whole None name at size new le is = tt
+piece_whole (Some m) name at size new le is = go (finmap.get m name) is where
+  go : (file : Option (List ℕ)) → IsPiece file at size new → in_file file (piece_at size at) ≡ Ok new
+  go None i = absurd i
+  go (Some file) i = let all : nat_lt (length (take size (drop at file))) size ≡ false = rw (← i) (grind (arith, nat_tests)) in rw all (ap (λ (bs : List ℕ). Ok bs) (sym i))

@@ -1,6 +1,6 @@
 -- What holds of indexes and libraries, whatever made them.
 use Rattle.std.specs.Prelude.{◌≡◌, ℕ, List, [], Ok}
-use Rattle.object65.specs.Bytes.{IsBytes}
+use Rattle.object65.specs.Record.{IsBytes}
 use Rattle.library65.specs.declared.index.Entry.{Entry}
 use Rattle.library65.specs.Libraries.{deleted as deleted_of, library_at, replaced as replaced_of, written}
 use Rattle.library65.specs.Reading.{index_at}

@@ -2,10 +2,6 @@ pub mod Fault
 pub mod Inner
 pub mod Laws
 pub mod Libraries
-pub mod Names
 pub mod Reading
 pub mod Selection
-pub mod SelectionLaws
 pub mod Spelling
-pub mod Stored
-pub mod Writing

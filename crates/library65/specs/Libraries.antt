@@ -1,22 +1,23 @@
--- A library as the list of its members: how it is changed, read and written.
-use Rattle.std.specs.Prelude.{ℕ, List, [], ◌∷◌, ◌++◌, length, map, take, drop, Bool, nat_lt, ◌&&◌, Option, Some, None, Result, Ok, Err, if◌then◌else◌}
+-- Libraries as lists of members.
+use Rattle.std.specs.Prelude.{ℕ, List, [], ◌∷◌, ◌++◌, length, map, take, drop, Bool, nat_lt, ◌&&◌, Option, Some, None, Result, Ok, Err, if◌then◌else◌, ◌≡◌, true}
 use Rattle.std.specs.Cmp.Lexicographic.{pointwise}
-use Rattle.std.specs.List.{flat_map}
+use Rattle.std.specs.List.{flat_map, AllByRecursion}
 use Rattle.std.specs.Str.{bytes_eq}
 use Rattle.byteorder.specs.Endian.{little_bytes}
 use Rattle.base65.specs.Outcome.{◌>>=◌}
 use Rattle.object65.specs.declared.fault.ObjectFault.{ObjectFault}
 use Rattle.object65.specs.declared.fault.ObjectFault.TheVariants as object
 use Rattle.object65.specs.declared.object.Object.{Object}
-use Rattle.object65.specs.Reading.{file_limit}
-use Rattle.object65.specs.Whole.{object_at}
+use Rattle.object65.specs.Reading.{file_limit, object_at}
 use Rattle.library65.specs.declared.contents.Contents.{Contents}
 use Rattle.library65.specs.declared.index.Entry.{Entry}
 use Rattle.library65.specs.declared.fault.LibraryFault.{LibraryFault}
 use Rattle.library65.specs.declared.fault.LibraryFault.TheVariants.{BadIndex, BadMemberName, CutShort, IndexDisagrees, NoSuchMember, NotAnObject, OutOfMemory}
-use Rattle.library65.specs.Names.{is_among, is_member_name}
+use Rattle.library65.specs.Spelling.{is_among, is_member_name, are_member_names, Member, library_head, listing_bytes, AreSymbols}
 use Rattle.library65.specs.Reading.{index_at}
-use Rattle.library65.specs.Spelling.{Member, library_head, listing_bytes}
+use Rattle.std.specs.Global.{Vec}
+use Rattle.indexmap.specs.IndexMap.{IndexMap}
+use Rattle.library65.specs.declared.library.Stored.{Stored}
 
 -- ---- Members.
 
@@ -129,3 +130,20 @@ written ms = if nat_lt file_limit (length (library_bytes ms)) then Err BadIndex 
 
 abbrev pub written_behind : List ℕ → List Member → Result (List ℕ) LibraryFault
 written_behind before ms = written ms >>= (λ bytes. Ok (before ++ bytes))
+
+-- ---- What a library keeps of its members.
+
+abbrev pub member_of : Vec ℕ × Stored → Member
+member_of e = (e.0.items, e.1.bytes.items)
+
+abbrev pub members_of : {S : Type 0} → IndexMap (Vec ℕ) Stored S → List Member
+members_of m = map member_of m.entries
+
+-- what is kept of a member is so
+abbrev pub IsStored : Vec ℕ × Stored → Type 0
+IsStored e = (checked e.0.items e.1.bytes.items ≡ Ok e.1.contents) × AreSymbols e.1.contents
+
+-- what a library keeps to
+pub record IsSound {S : Type 0} (m : IndexMap (Vec ℕ) Stored S) : Type 0 where
+  pub names : are_member_names (member_names (members_of m)) ≡ true
+  pub stored : AllByRecursion IsStored m.entries

@@ -8,8 +8,7 @@ use Rattle.library65.specs.declared.index.Entry.{Entry}
 use Rattle.library65.specs.declared.index.Listing.{Listing}
 use Rattle.library65.specs.declared.fault.LibraryFault.{LibraryFault}
 use Rattle.library65.specs.declared.fault.LibraryFault.TheVariants.{NotALibrary, CutShort, BadIndex, FileNotFound}
-use Rattle.library65.specs.Names.{is_among, is_member_name, is_name}
-use Rattle.library65.specs.Spelling.{library_head}
+use Rattle.library65.specs.Spelling.{is_among, is_member_name, is_name, library_head}
 
 -- what is read of a file's bytes, or that there is no such file
 abbrev pub in_file : {A : Type 0} → Option (List ℕ) → (List ℕ → Result A LibraryFault) → Result A LibraryFault

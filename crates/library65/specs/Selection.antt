@@ -5,6 +5,8 @@ use Rattle.std.specs.Option.{option_map_or}
 use Rattle.library65.specs.declared.index.Entry.{Entry}
 use Rattle.object65.specs.Objects.{is_among}
 
+-- ---- Which members of a library a link needs.
+
 -- the place of the first member that exports a name
 abbrev pub first_exporter : List Entry → List ℕ → Option ℕ
 first_exporter es name = position_from (λ e. is_among e.exports name) 0 es
@@ -35,3 +37,13 @@ pub record IsSelection (es : List Entry) (wanted defined : List (List ℕ)) (pla
   pub exporters : (place : ℕ) → has_place places place ≡ true → (name : List ℕ) × (has name ≡ true) × (first_exporter es name ≡ Some place)
   pub all : (name : List ℕ) (place : ℕ) → has name ≡ true → first_exporter es name ≡ Some place → has_place places place ≡ true
   pub rising : IsRising places
+
+-- ---- What holds of selections, whatever made them.
+
+-- what is wanted has one selection at most
+abbrev pub OneSelectionLaw : Type 0
+OneSelectionLaw = (es : List Entry) (wanted defined : List (List ℕ)) (a b : List ℕ) → IsSelection es wanted defined a → IsSelection es wanted defined b → a ≡ b
+
+-- where more is wanted, no fewer members are selected
+abbrev pub GrowingSelectionLaw : Type 0
+GrowingSelectionLaw = (es : List Entry) (wanted more defined : List (List ℕ)) (a b : List ℕ) → ((name : List ℕ) → is_among wanted name ≡ true → is_among more name ≡ true) → IsSelection es wanted defined a → IsSelection es more defined b → (place : ℕ) → has_place a place ≡ true → has_place b place ≡ true

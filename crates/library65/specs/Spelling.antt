@@ -1,12 +1,51 @@
--- The bytes of an index and of a library, as a grammar.
-use Rattle.std.specs.Prelude.{◌≡◌, ℕ, ◌+◌, ◌<◌, ◌≤◌, ◌^◌, List, [], ◌∷◌, ◌++◌, length, map, take, drop, sum_by, true, ⊤}
-use Rattle.std.specs.List.{flat_map, list_all, AllByRecursion}
+-- Libraries as bytes.
+use Rattle.std.specs.Prelude.{ℕ, List, [], ◌∷◌, length, Bool, true, not, nat_lt, ◌==◌, ◌&&◌, ◌||◌, ◌≡◌, ◌<◌, ◌++◌, Result, Ok, Err, ⊤, ◌+◌, ◌≤◌, ◌^◌, map, take, drop, sum_by}
+use Rattle.std.specs.List.{list_all, flat_map, AllByRecursion}
+use Rattle.std.specs.Str.{bytes_eq, is_utf8}
+use Rattle.object65.specs.Reading.{file_limit}
+use Rattle.library65.specs.declared.contents.Contents.{Contents}
+use Rattle.library65.specs.declared.fault.LibraryFault.{LibraryFault}
+use Rattle.library65.specs.declared.fault.LibraryFault.TheVariants.{BadIndex, OutOfMemory}
 use Rattle.byteorder.specs.Endian.{little_bytes}
 use Rattle.object65.specs.declared.object.Object.{Object}
-use Rattle.object65.specs.Reading.{file_limit}
 use Rattle.object65.specs.Spelling.{IsObject}
 use Rattle.library65.specs.declared.index.Entry.{Entry}
-use Rattle.library65.specs.Names.{is_name, are_member_names}
+pub use Rattle.object65.specs.Objects.{is_name, is_among}
+
+-- ---- Names of members, exports and imports.
+
+-- no byte below the blank, no 7F and no `/`
+abbrev pub is_plain : ℕ → Bool
+is_plain b = not (nat_lt b 0x20) && not (b == 0x7f) && not (b == 0x2f)
+
+-- the folder itself and the one above it
+abbrev pub is_folder : List ℕ → Bool
+is_folder name = bytes_eq name (0x2e ∷ []) || bytes_eq name (0x2e ∷ 0x2e ∷ [])
+
+-- 1 to 255 bytes of text
+abbrev pub is_member_name : List ℕ → Bool
+is_member_name name = nat_lt 0 (length name) && nat_lt (length name) 256 && list_all is_plain name && is_utf8 name && not (is_folder name)
+
+-- good names of members, none twice
+abbrev pub are_member_names : List (List ℕ) → Bool
+are_member_names [] = true
+are_member_names (name ∷ names) = is_member_name name && not (is_among names name) && are_member_names names
+
+-- ---- What is written part by part.
+
+-- the names in an object are good
+pub record AreSymbols (c : Contents) : Type 0 where
+  pub exports : list_all is_name c.exports ≡ true
+  pub imports : list_all is_name c.imports ≡ true
+
+-- a part is put behind what was there, or refused: for want of memory, or since so many bytes would pass the limit
+abbrev pub Puts : List ℕ → ℕ → List ℕ → List ℕ → Result (Unit {0}) LibraryFault → Type 0
+Puts part total old new (Ok u) = new ≡ old ++ part
+Puts part total old new (Err OutOfMemory) = ⊤
+Puts part total old new (Err BadIndex) = file_limit < total
+Puts part total old new (Err _) = ⊥
+
+-- ---- The bytes of an index and of a library, as a grammar.
 
 -- with these bytes a library begins
 abbrev pub library_head : List ℕ

@@ -1,17 +1,22 @@
 //! What the object in a member's bytes exports and imports.
 
-ghost use Rattle.std.specs.Prelude.{◌≡◌, Ok, IfOk, map, true};
+ghost use Rattle.std.specs.Prelude.{◌≡◌, Ok, IfOk, map, true, ◌≤◌, length, IfErr, OnOk};
 ghost use Rattle.base65.specs.Outcome.{Gives};
 ghost use Rattle.object65.specs.Objects.{is_good_object};
 ghost use Rattle.library65.specs.Fault.{is_memory};
-ghost use Rattle.library65.specs.Libraries.{agrees, are_same, checked, contents_in, member_fault, object_in};
-ghost use Rattle.library65.specs.Writing.{AreSymbols};
+ghost use Rattle.library65.specs.Libraries.{agrees, are_same, checked, contents_in, member_fault, object_in, contents_from};
+ghost use Rattle.library65.specs.Spelling.{AreSymbols};
+ghost use Rattle.object65.specs.Record.{Gives, is_memory, is_version};
+ghost use Rattle.object65.specs.Items.{with_item};
+ghost use Rattle.object65.specs.Reading.{end_at};
+ghost use Rattle.object65.specs.Scanning.{State, object_from};
+ghost use Rattle.library65.specs.Inner.Contents.{ReadsContents, contents_at};
 
-use crate::naming::is_file_name;
-use crate::objects::read_contents;
+use crate::index::is_file_name;
 use crate::{Entry, LibraryFault};
+use arrayvec::ArrayVec;
 use base65::Sequence;
-use object65::{Export, Object, ObjectFault, Record};
+use object65::{Export, Item, Object, ObjectFault, Record, Scan, decode_head, decode_record};
 use std::alloc::Global;
 
 /// What an object exports and imports, in its order.
@@ -80,4 +85,88 @@ pub fn agrees(entry: &Entry, contents: &Contents) -> bool
 {
     are_same(entry.exports.as_slice(), contents.exports.as_slice())
         && are_same(entry.imports.as_slice(), contents.imports.as_slice())
+}
+
+/// Space that the records of all members take in turn.
+pub fn empty_record() -> Record {
+    Record {
+        kind: 0,
+        body: ArrayVec::new(),
+    }
+}
+
+/// Adds the name of an import or an export.
+fn add_item(contents: &mut Contents, item: Item) -> Result<(), ObjectFault>
+    ensures added { (s : State) → contents.old ≡ contents_from (object_from s) →
+        OnOk result (contents.new ≡ contents_from (object_from (with_item s item))) }
+    ensures memory { IfErr result (λ e. e ≡ ObjectFault.OutOfMemory) }
+{
+    match item {
+        Item::Import(name) => contents.imports.push(name)?,
+        Item::Export(name, _origin, _form) => contents.exports.push(name)?,
+        Item::File(_name) => {}
+        Item::Section(_name, _size, _align) => {}
+        Item::Part(_place, _offset, _fragment) => {}
+        Item::Assert(_action, _origin, _text, _form) => {}
+        Item::End => {}
+    }
+    Ok(())
+}
+
+/// Reads the records of an object of this version one by one up to the END: what they export and import, and where the END ends.
+fn read_records(
+    alloc: Global,
+    space: &mut Record,
+    bytes: &[u8],
+    version: u8,
+    at: usize,
+) -> Result<(Contents, usize), ObjectFault>
+    requires version { is_version version ≡ true }
+    requires within { at ≤ length bytes.now }
+    ensures read { ReadsContents bytes.now version at result }
+    ensures within { IfOk result (λ x. x.1 ≤ length bytes.now) }
+    ensures symbols { IfOk result (λ x. AreSymbols x.0) }
+{
+    let mut scan = Scan::new(alloc, version);
+    let mut contents = Contents {
+        exports: Sequence::new(alloc),
+        imports: Sequence::new(alloc),
+    };
+    let mut next = at;
+    'records: loop {
+        next = decode_record(space, version, bytes, next)?;
+        let item = scan.take(space)?;
+        add_item(&mut contents, item)?;
+        if scan.is_ended() {
+            return Ok((contents, next));
+        }
+    }
+}
+
+/// Refuses bytes behind an object.
+fn check_end(bytes: &[u8], at: usize) -> Result<(), ObjectFault>
+    requires { at ≤ length bytes.now }
+    ensures { result ≡ end_at at (length bytes.now) bytes.now }
+{
+    if at < bytes.len() {
+        return Err(ObjectFault::BytesAfterEnd);
+    }
+    Ok(())
+}
+
+/// What the object that the bytes are exports and imports. The space takes its records one after
+/// another.
+#[tactic(auto, unfolding(object65::specs::Whole::object_at))]
+pub fn read_contents(
+    alloc: Global,
+    space: &mut Record,
+    bytes: &[u8],
+) -> Result<Contents, ObjectFault>
+    ensures read { Gives is_memory (λ c. c) result (contents_at bytes.now) }
+    ensures symbols { IfOk result AreSymbols }
+{
+    let (version, first) = decode_head(bytes, 0)?;
+    let (contents, end) = read_records(alloc, space, bytes, version, first as usize)?;
+    check_end(bytes, end)?;
+    Ok(contents)
 }

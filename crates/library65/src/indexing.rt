@@ -1,21 +1,110 @@
-//! The index of a library, read from its file.
+//! The index of a library, read from its file, and where its members stand.
 
-ghost use Rattle.std.specs.Prelude.{◌≡◌, ◌≤◌, ◌<◌, ◌+◌, ◌++◌, ◌∷◌, [], ℕ, List, length, map, Ok, IfOk, OnOk, IfSome, false, IsErrOf};
+ghost use Rattle.std.specs.Prelude.{◌≡◌, ◌≤◌, ◌<◌, ◌+◌, length, IfOk, OnOk, IfSome, IsErrOf, ◌++◌, ◌∷◌, [], ℕ, List, map, Ok, false};
 ghost use Rattle.std.specs.FinMap as map;
 ghost use Rattle.base65.specs.Outcome.{Gives};
 ghost use Rattle.base65.specs.Store.{Passes, Asks, IsBlamed};
 ghost use Rattle.object65.specs.Reading.{file_limit};
-ghost use Rattle.library65.specs.Fault.{is_outside};
-ghost use Rattle.library65.specs.Names.{is_among};
-ghost use Rattle.library65.specs.Reading.{in_file, symbol_at, counted_at, count_at, member_name_at, listing_at, list_at};
+ghost use Rattle.library65.specs.Fault.{is_outside, is_memory};
+ghost use Rattle.library65.specs.Spelling.{is_among, is_member_name};
+ghost use Rattle.library65.specs.Reading.{in_file, field_at, head_at, name_at, number_at, symbol_at, counted_at, count_at, member_name_at, listing_at, list_at, entry_at, placed, end_at, index_at};
+ghost use Rattle.std.specs.List.{AllByRecursion};
 
-use crate::LibraryFault;
-use crate::fields::{read_head, read_name, read_number};
-use crate::index::{Listing, has_name};
-use crate::naming::{add_name, is_file_name, is_symbol_name};
-use base65::{Sequence, Store};
+use crate::index::{Listing, add_name, has_name, is_file_name, is_symbol_name};
+use crate::{Entry, Index, LibraryFault};
+use base65::{Sequence, Store, read_full};
+use byteorder::{ByteOrder, LittleEndian};
 use indexmap::IndexSet;
+use object65::format::FILE_LIMIT;
 use std::alloc::Global;
+
+/// With these bytes a library begins.
+pub const HEAD: [u8; 5] = [0x52, 0x36, 0x35, 0x6c, 0x01];
+
+/// Refuses a file that doesn't begin as a library.
+pub fn read_head<S: Store>(store: &mut S, file: &str) -> Result<(), LibraryFault>
+    ensures read { IfSome (S.files store.old) (λ m. Gives is_outside (λ u. u) result (in_file (map.get m file.now) head_at)) }
+    ensures files { S.files store.new ≡ S.files store.old }
+    ensures count { Passes LibraryFault.FileError (S.failures store.old) (S.failures store.new) result }
+    ensures blamed { IsErrOf result LibraryFault.FileError → IsBlamed (S.blamed store.new) file.now }
+    ensures asked { Asks is_outside (S.failures store.old) result }
+{
+    let mut head = [0u8; 5];
+    let n = read_full(store, file, 0, &mut head)?;
+    if n < 5 || head[..] != HEAD[..] {
+        return Err(LibraryFault::NotALibrary);
+    }
+    Ok(())
+}
+
+/// Reads a field of the buffer's length.
+fn read_field<S: Store>(
+    store: &mut S,
+    file: &str,
+    at: u64,
+    buf: &mut [u8],
+) -> Result<(), LibraryFault>
+    requires at { at ≤ file_limit }
+    requires short { length buf.old < 256 }
+    ensures read { IfSome (S.files store.old) (λ m. Gives is_outside (λ _. buf.new) result (in_file (map.get m file.now) (field_at (length buf.old) at))) }
+    ensures files { S.files store.new ≡ S.files store.old }
+    ensures count { Passes LibraryFault.FileError (S.failures store.old) (S.failures store.new) result }
+    ensures blamed { IsErrOf result LibraryFault.FileError → IsBlamed (S.blamed store.new) file.now }
+    ensures asked { Asks is_outside (S.failures store.old) result }
+    ensures limit { OnOk result (at + length buf.old ≤ file_limit) }
+{
+    let n = read_full(store, file, at, buf)?;
+    if at + n as u64 > FILE_LIMIT {
+        return Err(LibraryFault::BadIndex);
+    }
+    if n < buf.len() {
+        return Err(LibraryFault::CutShort);
+    }
+    Ok(())
+}
+
+/// Reads a number of four bytes.
+#[tactic(auto, unfolding(crate::specs::Reading::number_at))]
+pub fn read_number<S: Store>(store: &mut S, file: &str, at: u64) -> Result<u32, LibraryFault>
+    requires { at ≤ file_limit }
+    ensures read { IfSome (S.files store.old) (λ m. Gives is_outside (λ n. n) result (in_file (map.get m file.now) (number_at at))) }
+    ensures files { S.files store.new ≡ S.files store.old }
+    ensures count { Passes LibraryFault.FileError (S.failures store.old) (S.failures store.new) result }
+    ensures blamed { IsErrOf result LibraryFault.FileError → IsBlamed (S.blamed store.new) file.now }
+    ensures asked { Asks is_outside (S.failures store.old) result }
+    ensures limit { OnOk result (at + 4 ≤ file_limit) }
+{
+    let mut bytes = [0u8; 4];
+    read_field(store, file, at, &mut bytes)?;
+    Ok(LittleEndian::read_u32(&bytes))
+}
+
+/// Reads a name behind its length, and answers where it ends.
+#[tactic(auto, unfolding(crate::specs::Reading::name_at))]
+pub fn read_name<S: Store>(
+    alloc: Global,
+    store: &mut S,
+    file: &str,
+    at: u64,
+) -> Result<(Sequence<u8>, u64), LibraryFault>
+    requires { at ≤ file_limit }
+    ensures read { IfSome (S.files store.old) (λ m. Gives is_outside (λ x. x) result (in_file (map.get m file.now) (name_at at))) }
+    ensures files { S.files store.new ≡ S.files store.old }
+    ensures count { Passes LibraryFault.FileError (S.failures store.old) (S.failures store.new) result }
+    ensures blamed { IsErrOf result LibraryFault.FileError → IsBlamed (S.blamed store.new) file.now }
+    ensures asked { Asks is_outside (S.failures store.old) result }
+    ensures limit { IfOk result (λ x. x.1 ≤ file_limit) }
+    ensures later { IfOk result (λ x. at < x.1) }
+{
+    let mut len = [0u8; 1];
+    read_field(store, file, at, &mut len)?;
+    let len = len[0] as usize;
+    let mut bytes = [0u8; 255];
+    let name = &mut bytes[..len];
+    read_field(store, file, at + 1, name)?;
+    let name = Sequence::from_vec(Vec::from_slice(alloc, name)?);
+    Ok((name, at + 1 + len as u64))
+}
 
 /// Reads the name of an export or an import, and answers where it ends.
 #[tactic(auto, unfolding(crate::specs::Reading::symbol_at))]
@@ -162,4 +251,88 @@ pub fn read_list<S: Store>(
         end = next;
     }
     Ok((members, end))
+}
+
+/// The entry of a member that stands at a place.
+fn entry_of(member: Listing, place: u64) -> Entry
+    ensures { result ≡ entry_at place member }
+{
+    let Listing {
+        name,
+        size,
+        exports,
+        imports,
+    } = member;
+    Entry {
+        name,
+        place,
+        size,
+        exports,
+        imports,
+    }
+}
+
+/// The members one behind the other, and where the last one ends.
+fn place_members(
+    alloc: Global,
+    members: Vec<Listing>,
+    at: u64,
+) -> Result<(Vec<Entry>, u64), LibraryFault>
+    requires { at ≤ file_limit }
+    ensures placed { Gives is_memory (λ x. (x.0.items, x.1)) result (placed [] at members.items) }
+    ensures within { IfOk result (λ x. AllByRecursion (λ e. e.place + e.size ≤ file_limit) x.0.items) }
+    ensures limit { IfOk result (λ x. x.1 ≤ file_limit) }
+    ensures later { IfOk result (λ x. at ≤ x.1) }
+    ensures cause { IsErrOf result LibraryFault.FileError → ⊥ }
+{
+    let mut entries = Vec::with_capacity(alloc, members.len())?;
+    let mut end = at;
+    for member in members {
+        let next = end + u64::from(member.size);
+        if next > FILE_LIMIT {
+            return Err(LibraryFault::BadIndex);
+        }
+        entries.push(entry_of(member, end))?;
+        end = next;
+    }
+    Ok((entries, end))
+}
+
+/// Refuses a file that doesn't end at a place.
+fn check_end<S: Store>(store: &mut S, file: &str, end: u64) -> Result<(), LibraryFault>
+    requires some { 0 < end }
+    requires limit { end ≤ file_limit }
+    ensures read { IfSome (S.files store.old) (λ m. Gives is_outside (λ u. u) result (in_file (map.get m file.now) (end_at end))) }
+    ensures files { S.files store.new ≡ S.files store.old }
+    ensures count { Passes LibraryFault.FileError (S.failures store.old) (S.failures store.new) result }
+    ensures blamed { IsErrOf result LibraryFault.FileError → IsBlamed (S.blamed store.new) file.now }
+{
+    let mut last = [0u8; 2];
+    let n = read_full(store, file, end - 1, &mut last)?;
+    if n < 1 {
+        return Err(LibraryFault::CutShort);
+    }
+    if n > 1 {
+        return Err(LibraryFault::BadIndex);
+    }
+    Ok(())
+}
+
+/// Reads the index of a library: of its members no byte but the last, to see where the file ends.
+#[tactic(auto, unfolding(crate::specs::Reading::index_at))]
+pub fn read_index<S: Store>(alloc: Global, store: &mut S, file: &str) -> Result<Index, LibraryFault>
+    ensures read { IfSome (S.files store.old) (λ m. Gives is_outside (λ x. x.entries) result (in_file (map.get m file.now) index_at)) }
+    ensures files { S.files store.new ≡ S.files store.old }
+    ensures count { Passes LibraryFault.FileError (S.failures store.old) (S.failures store.new) result }
+    ensures blamed { IsErrOf result LibraryFault.FileError → IsBlamed (S.blamed store.new) file.now }
+    ensures asked { Asks is_outside (S.failures store.old) result }
+    // Also where the store doesn't tell.
+    ensures within { IfOk result (λ x. AllByRecursion (λ e. e.place + e.size ≤ file_limit) x.entries) }
+{
+    let (members, at) = read_list(alloc, store, file)?;
+    let (entries, end) = place_members(alloc, members, at)?;
+    check_end(store, file, end)?;
+    Ok(Index {
+        entries: Sequence::from_vec(entries),
+    })
 }

@@ -1,7 +1,7 @@
 //! What holds of libraries and selections, whatever made them. Each function's contract is a law.
 
 ghost use Rattle.library65.specs.Laws.{IndexReadLaw, IndexSpellingLaw, LibraryReadLaw, LibrarySpellingLaw, OneLibraryLaw, StockLaw, WrittenLaw};
-ghost use Rattle.library65.specs.SelectionLaws.{GrowingSelectionLaw, OneSelectionLaw};
+ghost use Rattle.library65.specs.Selection.{GrowingSelectionLaw, OneSelectionLaw};
 
 /// A library has one spelling.
 pub fn one_spelling()

@@ -2,23 +2,17 @@
 #![tactic(auto)]
 
 mod contents;
-mod exporting;
 mod fault;
-mod fields;
 mod index;
 mod indexing;
 pub mod laws;
 mod library;
 mod loading;
-mod naming;
-mod objects;
-mod placing;
-mod searching;
 mod selecting;
 mod writing;
 
 pub use fault::LibraryFault;
 pub use index::{Entry, Index, Names};
+pub use indexing::read_index;
 pub use library::{Library, MemberNames};
-pub use placing::read_index;
 pub use selecting::select;

@@ -8,15 +8,12 @@ ghost use Rattle.std.specs.FinMap as map;
 ghost use Rattle.base65.specs.Store.{Passes, Asks, IsBlamed};
 ghost use Rattle.library65.specs.Fault.{is_memory, is_outside};
 ghost use Rattle.library65.specs.Reading.{in_file};
-ghost use Rattle.library65.specs.Libraries.{bytes_of, checked, deleted, library_at, member_names, replaced, with_member, without_member, written_behind};
-ghost use Rattle.library65.specs.Names.{is_among};
-ghost use Rattle.library65.specs.Stored.{IsSound, members_of};
-ghost use Rattle.library65.specs.Writing.{AreSymbols};
+ghost use Rattle.library65.specs.Libraries.{bytes_of, checked, deleted, library_at, member_names, replaced, with_member, without_member, written_behind, IsSound, members_of};
+ghost use Rattle.library65.specs.Spelling.{is_among, AreSymbols};
 
 use crate::LibraryFault;
-use crate::contents::{Contents, check_member};
+use crate::contents::{Contents, check_member, empty_record};
 use crate::loading::read_members;
-use crate::objects::empty_record;
 use crate::writing::put_library;
 use base65::{Sequence, Store};
 use indexmap::IndexMap;
@@ -51,7 +48,7 @@ impl Model for Library {
 
     ghost coded = { coded_list (coded× (coded_list coded_ℕ) (coded_list coded_ℕ)) };
 
-    ghost use Rattle.library65.specs.Stored.{IsSound, members_of};
+    ghost use Rattle.library65.specs.Libraries.{IsSound, members_of};
 
     ghost view = { λ l. members_of l.members };
 

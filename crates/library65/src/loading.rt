@@ -8,14 +8,12 @@ ghost use Rattle.base65.specs.Reading.{ReadsChunk};
 ghost use Rattle.base65.specs.Store.{Passes, Asks, IsBlamed};
 ghost use Rattle.object65.specs.Reading.{file_limit};
 ghost use Rattle.library65.specs.Fault.{is_memory, is_outside};
-ghost use Rattle.library65.specs.Libraries.{added, agreed, checked, joined, library_at, piece_at};
+ghost use Rattle.library65.specs.Libraries.{added, agreed, checked, joined, library_at, piece_at, IsSound, members_of};
 ghost use Rattle.library65.specs.Reading.{in_file};
-ghost use Rattle.library65.specs.Stored.{IsSound, members_of};
-ghost use Rattle.library65.specs.Writing.{AreSymbols};
+ghost use Rattle.library65.specs.Spelling.{AreSymbols};
 
-use crate::contents::{Contents, agrees, check_member};
+use crate::contents::{Contents, agrees, check_member, empty_record};
 use crate::library::{Stored, put_member};
-use crate::objects::empty_record;
 use crate::{Entry, LibraryFault, read_index};
 use base65::{Store, StoreFault, read_full};
 use indexmap::IndexMap;

@@ -3,14 +3,11 @@
 ghost use Rattle.std.specs.Prelude.{◌≡◌, ◌≤◌, ◌<◌, ◌+◌, ◌++◌, ◌^◌, length, map, true, IfOk, IfErr, OnOk};
 ghost use Rattle.std.specs.List.{flat_map, list_all};
 ghost use Rattle.byteorder.specs.Endian.{little_bytes};
-ghost use Rattle.library65.specs.Libraries.{library_bytes, member_listing};
-ghost use Rattle.library65.specs.Names.{is_name};
-ghost use Rattle.library65.specs.Spelling.{listing_bytes, name_bytes, names_bytes};
-ghost use Rattle.library65.specs.Stored.{IsSound, members_of};
-ghost use Rattle.library65.specs.Writing.{AreSymbols, Puts};
+ghost use Rattle.library65.specs.Libraries.{library_bytes, member_listing, IsSound, members_of};
+ghost use Rattle.library65.specs.Spelling.{is_name, listing_bytes, name_bytes, names_bytes, AreSymbols, Puts};
 
 use crate::LibraryFault;
-use crate::fields::HEAD;
+use crate::indexing::HEAD;
 use crate::library::Stored;
 use base65::Sequence;
 use byteorder::{ByteOrder, LittleEndian};

@@ -13,9 +13,9 @@ use Rattle.link65.specs.declared.parts.Exported.{Exported}
 use Rattle.std.specs.Option.{option_map}
 use Rattle.library65.specs.declared.index.Entry.{Entry as Listing}
 use Rattle.object65.specs.declared.fault.ObjectFault.{ObjectFault}
-use Rattle.object65.specs.declared.item.Item.{Item}
+use Rattle.object65.specs.declared.record.Item.{Item}
 use Rattle.object65.specs.declared.object.Object.{Object}
-use Rattle.object65.specs.declared.item.Item.TheVariants as item
+use Rattle.object65.specs.declared.record.Item.TheVariants as item
 use Rattle.object65.specs.declared.fault.ObjectFault.TheVariants as object
 use Rattle.base65.specs.Outcome.{◌>>=◌, Finds, First, Refuses, Unless}
 use Rattle.link65.specs.declared.linking.Linked.{Linked}
@@ -25,9 +25,8 @@ use Rattle.std.specs.Prelude.{IfErr, OnOk}
 use Rattle.object65.specs.Items.{with_item}
 use Rattle.object65.specs.Record.{Entry}
 use Rattle.object65.specs.Scanning.{IsWithin, Outline, scanned}
-use Rattle.object65.specs.Taking
-use Rattle.object65.proofs.Builders.{reached_next, reached_parts}
-use Rattle.object65.proofs.Withins.{led}
+use Rattle.object65.specs.Scanning
+use Rattle.object65.proofs.Withins.{reached_next, reached_parts, led}
 use Rattle.link65.specs.declared.fault.LinkFault.{LinkFault}
 use Rattle.link65.specs.declared.fault.LinkFault.TheVariants as fault
 use Rattle.link65.specs.Faults.{is_memory}
@@ -85,7 +84,7 @@ small_item o item.End w = tt
 
 -- ---- No records lead to a state that failed.
 
-pub reached_runs : (s : Taking.State) → Taking.IsReached s → s.failed ≡ false
+pub reached_runs : (s : Scanning.State) → Scanning.IsReached s → s.failed ≡ false
 reached_runs s r = (reached_parts s r).failed
 
 -- ---- Modules.
@@ -104,7 +103,7 @@ out_of_memory : {A : Type 0} (f : LinkFault) (read : Result A LinkFault) → is_
 out_of_memory f read m = subst (λ b. Unless b (read ≡ Err f)) (sym m) tt
 
 -- an item of the open module leads on as its record does
-pub took : (p : Program) (s : Taking.State) (e : Entry) (old new : Growth) (o n : Outline) (i : Item) → Comes p s old o → scanned o e ≡ Ok (n, i) → new ≡ grown_by old i → (t : Taking.State) × (as_link (Taking.after s e) ≡ Ok t) × Comes p t new n
+pub took : (p : Program) (s : Scanning.State) (e : Entry) (old new : Growth) (o n : Outline) (i : Item) → Comes p s old o → scanned o e ≡ Ok (n, i) → new ≡ grown_by old i → (t : Scanning.State) × (as_link (Scanning.after s e) ≡ Ok t) × Comes p t new n
 took p s e old new o n i h scan grown =
     let t = with_item s i in
     let l = led s o e (n, i) h.scan scan in
@@ -118,12 +117,12 @@ took p s e old new o n i h scan grown =
       },
     )
 
-finishes : (s : Taking.State) (b : Bool) → s.failed ≡ false → s.ended ≡ b → Taking.finished s ≡ (if b then Ok (Taking.object_from s) else Err object.CutShort)
+finishes : (s : Scanning.State) (b : Bool) → s.failed ≡ false → s.ended ≡ b → Scanning.finished s ≡ (if b then Ok (Scanning.object_from s) else Err object.CutShort)
 finishes s b runs e =
-    ap (λ c. if c then Err object.FailedBefore else (if s.ended then Ok (Taking.object_from s) else Err object.CutShort)) runs
-    ∙ ap (λ c. if c then Ok (Taking.object_from s) else Err object.CutShort) e
+    ap (λ c. if c then Err object.FailedBefore else (if s.ended then Ok (Scanning.object_from s) else Err object.CutShort)) runs
+    ∙ ap (λ c. if c then Ok (Scanning.object_from s) else Err object.CutShort) e
 
-ends_whole : (p : Program) (s : Taking.State) (old : Growth) (o : Outline) → Comes p s old o → o.ended ≡ true → Taking.finished s ≡ Ok (Taking.object_from s)
+ends_whole : (p : Program) (s : Scanning.State) (old : Growth) (o : Outline) → Comes p s old o → o.ended ≡ true → Scanning.finished s ≡ Ok (Scanning.object_from s)
 ends_whole p s old o h end = finishes s true (reached_runs s h.reached) (ap (λ (q : Outline). q.ended) (sym h.scan) ∙ end)
 
 passed : {A B : Type 0} (b : Bool) (f : LinkFault) (read : Result A LinkFault) (k : A → Result B LinkFault) → Unless b (read ≡ Err f) → Unless b ((read >>= k) ≡ Err f)
@@ -139,38 +138,38 @@ module _ (listed : Option Listed) (imports before names : List (List ℕ)) where
   abbrev admitted : Result Object ObjectFault → Result Object LinkFault
   admitted r = as_link r >>= matched listed names imports >>= given_whole
 
-  module _ (p : Program) (s : Taking.State) (old : Growth) (o : Outline) (h : Comes p s old o) where
+  module _ (p : Program) (s : Scanning.State) (old : Growth) (o : Outline) (h : Comes p s old o) where
     -- an object that has come to its end
-    by_names : (b : Bool) → o.ended ≡ true → are_listed listed names imports ≡ b → admitted (Taking.finished s) ≡ ((if b then Ok (Taking.object_from s) else Err fault.IndexDisagrees) >>= given_whole)
+    by_names : (b : Bool) → o.ended ≡ true → are_listed listed names imports ≡ b → admitted (Scanning.finished s) ≡ ((if b then Ok (Scanning.object_from s) else Err fault.IndexDisagrees) >>= given_whole)
     by_names b end e =
-        let object = Taking.object_from s in
+        let object = Scanning.object_from s in
         ap admitted (ends_whole p s old o h end) ∙ ap (λ c. (if c then Ok object else Err fault.IndexDisagrees) >>= given_whole) e
 
     -- a module whose END has come stands behind the others
-    pub closed_whole : (new : Growth) (name : List ℕ) (given : List (List ℕ)) (r : Result (Unit {0}) LinkFault) → o.ended ≡ true → are_listed listed names imports ≡ true → all_once before names ≡ Ok given → OnOk r (new ≡ at_rest (ended old name)) → IfErr r (λ f. is_memory f ≡ true) → Leads (λ object. (new ≡ at_rest (with_module p (module_of name object))) × (all_once before names ≡ Ok given)) r (admitted (Taking.finished s))
+    pub closed_whole : (new : Growth) (name : List ℕ) (given : List (List ℕ)) (r : Result (Unit {0}) LinkFault) → o.ended ≡ true → are_listed listed names imports ≡ true → all_once before names ≡ Ok given → OnOk r (new ≡ at_rest (ended old name)) → IfErr r (λ f. is_memory f ≡ true) → Leads (λ object. (new ≡ at_rest (with_module p (module_of name object))) × (all_once before names ≡ Ok given)) r (admitted (Scanning.finished s))
     closed_whole new name given (Ok u) end is once grown memory =
-        let object = Taking.object_from s in
+        let object = Scanning.object_from s in
         (object, by_names true end is ∙ ap (λ q. q >>= (λ v. Ok object)) once, (grown ∙ ap (λ g. at_rest (ended g name)) h.growth ∙ ap at_rest (growth_law.2 p name s), once))
     closed_whole new name given (Err f) end is once grown memory = out_of_memory f _ memory
 
     -- one whose names aren't those listed is refused
-    pub disagrees : (f : LinkFault) → o.ended ≡ true → are_listed listed names imports ≡ false → f ≡ fault.IndexDisagrees → Refuses is_memory f (admitted (Taking.finished s))
-    disagrees f end differ is = subst (λ g. Refuses is_memory g (admitted (Taking.finished s))) (sym is) (by_names false end differ)
+    pub disagrees : (f : LinkFault) → o.ended ≡ true → are_listed listed names imports ≡ false → f ≡ fault.IndexDisagrees → Refuses is_memory f (admitted (Scanning.finished s))
+    disagrees f end differ is = subst (λ g. Refuses is_memory g (admitted (Scanning.finished s))) (sym is) (by_names false end differ)
 
     -- one that gives a name twice is refused
-    pub given_twice : (f : LinkFault) → o.ended ≡ true → are_listed listed names imports ≡ true → Refuses is_memory f (all_once before names) → Refuses is_memory f (admitted (Taking.finished s))
-    given_twice f end is refused = subst (λ r. Refuses is_memory f r) (sym (by_names true end is)) (passed (is_memory f) f (all_once before names) (λ u. Ok (Taking.object_from s)) refused)
+    pub given_twice : (f : LinkFault) → o.ended ≡ true → are_listed listed names imports ≡ true → Refuses is_memory f (all_once before names) → Refuses is_memory f (admitted (Scanning.finished s))
+    given_twice f end is refused = subst (λ r. Refuses is_memory f r) (sym (by_names true end is)) (passed (is_memory f) f (all_once before names) (λ u. Ok (Scanning.object_from s)) refused)
 
     -- one whose END hasn't come is cut short
-    pub cut_short : (f : LinkFault) → o.ended ≡ false → f ≡ fault.Malformed object.CutShort → Refuses is_memory f (admitted (Taking.finished s))
+    pub cut_short : (f : LinkFault) → o.ended ≡ false → f ≡ fault.Malformed object.CutShort → Refuses is_memory f (admitted (Scanning.finished s))
     cut_short f going is =
         let cut = finishes s false (reached_runs s h.reached) (ap (λ (q : Outline). q.ended) (sym h.scan) ∙ going) in
-        subst (λ g. Refuses is_memory g (admitted (Taking.finished s))) (sym is) (ap admitted cut)
+        subst (λ g. Refuses is_memory g (admitted (Scanning.finished s))) (sym is) (ap admitted cut)
 
 -- ---- The module that ends.
 
 -- the names of the open module's exports stand behind those of the modules before it
-own_exports : (p : Program) (s : Taking.State) (g : Growth) (o : Outline) → Comes p s g o → exports_from (length p.exports) g ≡ map (λ e. e.name) s.exports
+own_exports : (p : Program) (s : Scanning.State) (g : Growth) (o : Outline) → Comes p s g o → exports_from (length p.exports) g ≡ map (λ e. e.name) s.exports
 own_exports p s g o h =
     ap (λ (q : Growth). exports_from (length p.exports) q) h.growth
     ∙ ap (map (λ (e : Exported). e.name)) (drop-append_seam p.exports (map (exported (length p.members)) s.exports))
@@ -192,8 +191,8 @@ at_object : (r : Result Object ObjectFault) (b : Bool) (o : Object) (f g : Resul
 at_object r true o f g is same cut = subst (λ (q : Result Object ObjectFault). f (as_link q) ≡ g (as_link q)) (sym is) same
 at_object r false o f g is same cut = subst (λ (q : Result Object ObjectFault). f (as_link q) ≡ g (as_link q)) (sym is) cut
 
-abbrev made_from : Taking.State → Bool → Type 0
-made_from s b = Taking.finished s ≡ (if b then Ok (Taking.object_from s) else Err object.CutShort)
+abbrev made_from : Scanning.State → Bool → Type 0
+made_from s b = Scanning.finished s ≡ (if b then Ok (Scanning.object_from s) else Err object.CutShort)
 
 -- an entry agrees with an object where the names that are kept of it do
 listed_so : (entry : Option Listing) (o : Object) → agrees_with entry o ≡ are_listed (option_map listed_of entry) (map (λ e. e.name) o.exports) o.imports
@@ -208,13 +207,13 @@ agreeing b c o f g e same = subst (λ (d : Bool). ((if b then Ok o else Err faul
     go false = refl
 
 -- a module is whole where its names may be given behind those before it
-whole_admits : (script : Script) (modules : List Module) (name : List ℕ) (entry : Option Listing) (s : Taking.State) (given : List (List ℕ)) (b : Bool) → made_from s b → all_once [] (given_names script (program_of modules)) ≡ Ok given → whole script modules name entry s ≡ admitted (option_map listed_of entry) s.imports given (map (λ e. e.name) s.exports) (Taking.finished s)
+whole_admits : (script : Script) (modules : List Module) (name : List ℕ) (entry : Option Listing) (s : Scanning.State) (given : List (List ℕ)) (b : Bool) → made_from s b → all_once [] (given_names script (program_of modules)) ≡ Ok given → whole script modules name entry s ≡ admitted (option_map listed_of entry) s.imports given (map (λ e. e.name) s.exports) (Scanning.finished s)
 whole_admits script modules name entry s given b is h =
-    let object = Taking.object_from s in
+    let object = Scanning.object_from s in
     let exports = map (λ e. e.name) s.exports in
     let all = given_names script (program_of (modules ++ module_of name object ∷ [])) in
     let behind = with_names (no_name_again (first_again [] all)) all object ∙ ap (λ r. r >>= (λ u. Ok object)) (given_behind script modules name object given h) in
-    at_object (Taking.finished s) b object
+    at_object (Scanning.finished s) b object
     (λ r. r >>= agreed entry >>= joined script modules name)
     (λ r. r >>= matched (option_map listed_of entry) exports s.imports >>= given_whole (option_map listed_of entry) s.imports given exports)
     is
@@ -235,13 +234,13 @@ admits r true o x listed imports before names is h = go (are_listed listed names
 admits r false o x listed imports before names is h = let k : admitted listed imports before names (Err object.CutShort) ≡ Ok x = ap (admitted listed imports before names) (sym is) ∙ h in absurd cc
 
 -- what a linker stands for has come of the open module
-record Coming (p : Program) (name : List ℕ) (entry : Option Listing) (s : Taking.State) (g : Growth) (o : Opened) : Type 0 where
+record Coming (p : Program) (name : List ℕ) (entry : Option Listing) (s : Scanning.State) (g : Growth) (o : Opened) : Type 0 where
   pub comes : Comes p s g o.scan
   pub called : o.name ≡ name
   pub first : o.first_export ≡ length p.exports
   pub names : o.listed ≡ option_map listed_of entry
 
-coming : (f : Feeding) (modules : List Module) (name : List ℕ) (entry : Option Listing) (s : Taking.State) (g : Growth) (o : Opened) → f.growth ≡ g → f.opened ≡ Some o → IsFeeding f modules name entry s → Coming (program_of modules) name entry s g o
+coming : (f : Feeding) (modules : List Module) (name : List ℕ) (entry : Option Listing) (s : Scanning.State) (g : Growth) (o : Opened) → f.growth ≡ g → f.opened ≡ Some o → IsFeeding f modules name entry s → Coming (program_of modules) name entry s g o
 coming f modules name entry s g o grown there h =
     let same : o ≡ opening (program_of modules) name entry s = let k = h.opened in cc in
     record {
@@ -252,7 +251,7 @@ coming f modules name entry s g o grown there h =
     }
 
 -- what the open module comes to, as the linker keeps it
-module _ (old : Feeding) (modules : List Module) (name : List ℕ) (entry : Option Listing) (s : Taking.State) (g : Growth) (o : Opened) (before : List (List ℕ)) (grown : old.growth ≡ g) (there : old.opened ≡ Some o) (gave : old.given ≡ before) (h : IsFeeding old modules name entry s) where
+module _ (old : Feeding) (modules : List Module) (name : List ℕ) (entry : Option Listing) (s : Scanning.State) (g : Growth) (o : Opened) (before : List (List ℕ)) (grown : old.growth ≡ g) (there : old.opened ≡ Some o) (gave : old.given ≡ before) (h : IsFeeding old modules name entry s) where
   come : Coming (program_of modules) name entry s g o
   come = coming old modules name entry s g o grown there h
 
@@ -268,21 +267,21 @@ module _ (old : Feeding) (modules : List Module) (name : List ℕ) (entry : Opti
   all : all_once [] (given_names old.script (program_of modules)) ≡ Ok before
   all = h.given ∙ ap (λ ns. let given : Result (List (List ℕ)) LinkFault = Ok ns in given) gave
 
-  kept : whole old.script modules name entry s ≡ admitted o.listed g.imports before (exports_from o.first_export g) (Taking.finished s)
+  kept : whole old.script modules name entry s ≡ admitted o.listed g.imports before (exports_from o.first_export g) (Scanning.finished s)
   kept =
       whole_admits old.script modules name entry s before s.ended made all
-      ∙ ap (λ ns. admitted (option_map listed_of entry) s.imports before ns (Taking.finished s)) (sym names)
-      ∙ ap (λ ns. admitted (option_map listed_of entry) ns before (exports_from o.first_export g) (Taking.finished s)) (sym imports)
-      ∙ ap (λ l. admitted l g.imports before (exports_from o.first_export g) (Taking.finished s)) (sym come.names)
+      ∙ ap (λ ns. admitted (option_map listed_of entry) s.imports before ns (Scanning.finished s)) (sym names)
+      ∙ ap (λ ns. admitted (option_map listed_of entry) ns before (exports_from o.first_export g) (Scanning.finished s)) (sym imports)
+      ∙ ap (λ l. admitted l g.imports before (exports_from o.first_export g) (Scanning.finished s)) (sym come.names)
 
   -- the module that ends stands behind the others
   pub ended_next : (new : Feeding) → new.opened ≡ None → new.failed ≡ false → new.script ≡ old.script
-      → ((p : Program) (t : Taking.State) → Comes p t g o.scan → (x : Object) × (admitted o.listed g.imports before (exports_from o.first_export g) (Taking.finished t) ≡ Ok x) × ((new.growth ≡ at_rest (with_module p (module_of o.name x))) × (all_once before (exports_from o.first_export g) ≡ Ok new.given)))
+      → ((p : Program) (t : Scanning.State) → Comes p t g o.scan → (x : Object) × (admitted o.listed g.imports before (exports_from o.first_export g) (Scanning.finished t) ≡ Ok x) × ((new.growth ≡ at_rest (with_module p (module_of o.name x))) × (all_once before (exports_from o.first_export g) ≡ Ok new.given)))
       → (x : Object) × (whole old.script modules name entry s ≡ Ok x) × IsFed new (modules ++ module_of name x ∷ [])
   ended_next new none runs script ends =
       let end = ends (program_of modules) s come.comes in
       let x = end.0 in
-      let is : x ≡ Taking.object_from s = admits (Taking.finished s) s.ended (Taking.object_from s) x o.listed g.imports before (exports_from o.first_export g) made end.1 in
+      let is : x ≡ Scanning.object_from s = admits (Scanning.finished s) s.ended (Scanning.object_from s) x o.listed g.imports before (exports_from o.first_export g) made end.1 in
       let exports = ap (λ (y : Object). map (λ e. e.name) y.exports) is ∙ sym names in
       let behind = ap (λ n. at_rest (with_module (program_of modules) (module_of n x))) come.called ∙ ap at_rest (sym (one_more modules (module_of name x))) in
       let given = given_behind old.script modules name x before all ∙ ap (all_once before) exports ∙ end.2.1 in (
@@ -297,7 +296,7 @@ module _ (old : Feeding) (modules : List Module) (name : List ℕ) (entry : Opti
       )
 
   -- one that is refused isn't whole
-  pub ended_refused : (e : LinkFault) → ((p : Program) (t : Taking.State) → Comes p t g o.scan → Refuses is_memory e (admitted o.listed g.imports before (exports_from o.first_export g) (Taking.finished t))) → Refuses is_memory e (whole old.script modules name entry s)
+  pub ended_refused : (e : LinkFault) → ((p : Program) (t : Scanning.State) → Comes p t g o.scan → Refuses is_memory e (admitted o.listed g.imports before (exports_from o.first_export g) (Scanning.finished t))) → Refuses is_memory e (whole old.script modules name entry s)
   ended_refused e ends = subst (λ (r : Result Object LinkFault). Refuses is_memory e r) (sym kept) (ends (program_of modules) s come.comes)
 
 -- ---- The link.

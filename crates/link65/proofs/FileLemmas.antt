@@ -13,12 +13,12 @@ use Rattle.std.specs.Option.{option_map}
 use Rattle.std.proofs.lemmas.Option.{slice_get_cases}
 use Rattle.script65.specs.declared.placement.RowPlace.{RowPlace}
 use Rattle.script65.specs.declared.script.Row.{Row}
-use Rattle.script65.specs.Access.{is_written}
+use Rattle.script65.specs.Placing.{is_written}
 use Rattle.std.specs.Borrow.{Bor}
 use Rattle.std.specs.List.{list_any, position_or_len}
 use Rattle.std.specs.Str.{bytes_eq}
 use Rattle.std.proofs.lemmas.Str.{is_utf8-from_IsUtf8}
-use Rattle.script65.proofs.Utf8.{not_utf8}
+use Rattle.script65.proofs.Digits.{not_utf8}
 use Rattle.script65.proofs.Walks.{drop_suc, there}
 use Rattle.script65.specs.declared.placement.Placement.{Placement}
 use Rattle.script65.specs.declared.script.AreaFile.{AreaFile}

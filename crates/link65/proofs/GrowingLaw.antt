@@ -9,9 +9,9 @@ use Rattle.std.proofs.lemmas.Option.{slice_get-map}
 use Rattle.std.specs.List.{flat_map, list_any, sum_by}
 use Rattle.std.specs.Option.{option_map, option_map_or}
 use Rattle.std.specs.Str.{bytes_eq}
-use Rattle.object65.specs.declared.draft.Draft.{Draft}
-use Rattle.object65.specs.declared.item.Item.{Item}
-use Rattle.object65.specs.declared.item.Item.TheVariants as item
+use Rattle.object65.specs.declared.builder.Draft.{Draft}
+use Rattle.object65.specs.declared.record.Item.{Item}
+use Rattle.object65.specs.declared.record.Item.TheVariants as item
 use Rattle.object65.specs.declared.object.Fragment.{Fragment}
 use Rattle.object65.specs.declared.object.Fragment.TheVariants.{Literal, Fill, Value}
 use Rattle.object65.specs.declared.object.Section.{Section}
@@ -19,14 +19,13 @@ use Rattle.object65.specs.declared.object.Export.{Export}
 use Rattle.object65.specs.declared.object.Assert.{Assert}
 use Rattle.object65.specs.Items
 use Rattle.object65.specs.Objects.{are_names, fragment_len, is_among, is_name, section_len}
-use Rattle.object65.specs.Taking
+use Rattle.object65.specs.Scanning
 use Rattle.object65.proofs.Closings.{nil, closing_is, shut_len, turned}
 use Rattle.object65.proofs.Goods.{left, right}
 use Rattle.object65.proofs.Closings as closings
 use Rattle.object65.proofs.Scannings.{IsPlaced}
 use Rattle.object65.specs.Scanning.{outline_of}
-use Rattle.object65.proofs.Builders.{reached_parts}
-use Rattle.object65.proofs.Withins.{led}
+use Rattle.object65.proofs.Withins.{reached_parts, led}
 use Rattle.script65.specs.Placing.{rounded_up}
 use Rattle.link65.specs.declared.parts.SectionPlace.{SectionPlace}
 use Rattle.link65.specs.declared.parts.Exported.{Exported}
@@ -61,7 +60,7 @@ closing_cells owner (b ∷ bytes) = ap (flat_map (Programs.fragment_cells owner)
 shut_cells : (owner : ℕ) (fs : List Fragment) (bytes : List ℕ) → flat_map (Programs.fragment_cells owner) (fs ++ Items.closing bytes) ≡ flat_map (Programs.fragment_cells owner) fs ++ map Programs.known bytes
 shut_cells owner fs bytes = flat_map-append (Programs.fragment_cells owner) fs (Items.closing bytes) ∙ ap (λ cs. flat_map (Programs.fragment_cells owner) fs ++ cs) (closing_cells owner bytes)
 
-longer_by : (owner : ℕ) (d : Draft) (f : Fragment) → IsLonger owner f (Taking.section_from d) (Taking.section_from (Items.with_fragment d (fragment_len f) f))
+longer_by : (owner : ℕ) (d : Draft) (f : Fragment) → IsLonger owner f (Scanning.section_from d) (Scanning.section_from (Items.with_fragment d (fragment_len f) f))
 longer_by owner d f =
     let cells = Programs.fragment_cells owner in
     let fs = Items.closed d in
@@ -72,7 +71,7 @@ longer_by owner d f =
       cells = ap (flat_map cells) (nil (fs ++ f ∷ [])) ∙ flat_map-append cells fs (f ∷ []) ∙ ap (λ cs. flat_map cells fs ++ cs) (nil (cells f));
     }
 
-pub grown_longer : (owner : ℕ) (d : Draft) (f : Fragment) → IsLonger owner f (Taking.section_from d) (Taking.section_from (Items.grown d f))
+pub grown_longer : (owner : ℕ) (d : Draft) (f : Fragment) → IsLonger owner f (Scanning.section_from d) (Scanning.section_from (Items.grown d f))
 grown_longer owner d (Literal bytes) =
     let cells = Programs.fragment_cells owner in
     let all = d.literal ++ bytes in
@@ -216,7 +215,7 @@ grows owner f s t gs (x ∷ ss) (suc k) there l apart =
 
 -- ---- An item.
 
-others : (name : List ℕ) (ds : List Draft) → is_among (map (λ d. d.name) ds) name ≡ false → IsOther name (map Taking.section_from ds)
+others : (name : List ℕ) (ds : List Draft) → is_among (map (λ d. d.name) ds) name ≡ false → IsOther name (map Scanning.section_from ds)
 others name [] other = refl
 others name (d ∷ ds) other =
     let o = neither (bytes_eq name d.name) _ other in
@@ -226,7 +225,7 @@ others name (d ∷ ds) other =
     or_not true b e f = cc
     or_not false b e f = f
 
-names_apart : (ds : List Draft) → are_names (map (λ d. d.name) ds) ≡ true → AreApart (map Taking.section_from ds)
+names_apart : (ds : List Draft) → are_names (map (λ d. d.name) ds) ≡ true → AreApart (map Scanning.section_from ds)
 names_apart [] names = tt
 names_apart (d ∷ ds) names =
     let rest = map (λ (x : Draft). x.name) ds in
@@ -235,7 +234,7 @@ names_apart (d ∷ ds) names =
     (others d.name ds other, names_apart ds (right (is_name d.name && not (is_among rest d.name)) (are_names rest) names))
 
 -- what has come of a module, by its sections
-abbrev made : Program → Taking.State → List Programs.Segment → List SectionPlace → Growing.Growth
+abbrev made : Program → Scanning.State → List Programs.Segment → List SectionPlace → Growing.Growth
 made p s gs places = record {
   program = record { members = p.members; segments = gs; exports = p.exports ++ map (exported (length p.members)) s.exports; asserts = p.asserts ++ map (asserted (length p.members)) s.asserts };
   sections = places;
@@ -243,37 +242,37 @@ made p s gs places = record {
   files = s.files;
 }
 
-by_sections : (p : Program) (s : Taking.State) (xs ys : List Section) → xs ≡ ys → made p s (Programs.with_sections (length p.members) p.segments xs) (Programs.section_places (length p.members) p.segments xs) ≡ made p s (Programs.with_sections (length p.members) p.segments ys) (Programs.section_places (length p.members) p.segments ys)
+by_sections : (p : Program) (s : Scanning.State) (xs ys : List Section) → xs ≡ ys → made p s (Programs.with_sections (length p.members) p.segments xs) (Programs.section_places (length p.members) p.segments xs) ≡ made p s (Programs.with_sections (length p.members) p.segments ys) (Programs.section_places (length p.members) p.segments ys)
 by_sections p s xs ys same = ap (λ (zs : List Section). made p s (Programs.with_sections (length p.members) p.segments zs) (Programs.section_places (length p.members) p.segments zs)) same
 
 -- a fragment of a section that is there
-part_step : (p : Program) (s : Taking.State) (k offset : ℕ) (f : Fragment) (d : Draft) → are_names (map (λ x. x.name) s.drafts) ≡ true → slice_get s.drafts k ≡ Some d → Growing.growth_of p (Items.with_item s (item.Part k offset f)) ≡ Growing.grown_by (Growing.growth_of p s) (item.Part k offset f)
+part_step : (p : Program) (s : Scanning.State) (k offset : ℕ) (f : Fragment) (d : Draft) → are_names (map (λ x. x.name) s.drafts) ≡ true → slice_get s.drafts k ≡ Some d → Growing.growth_of p (Items.with_item s (item.Part k offset f)) ≡ Growing.grown_by (Growing.growth_of p s) (item.Part k offset f)
 part_step p s k offset f d names there =
     let owner = length p.members in
     let len = fragment_len f in
     let cells = Programs.fragment_cells owner f in
-    let ss = map Taking.section_from s.drafts in
+    let ss = map Scanning.section_from s.drafts in
     let gs = Programs.with_sections owner p.segments ss in
     let places = Programs.section_places owner p.segments ss in
-    let t = Taking.section_from (Items.grown d f) in
-    let found : slice_get ss k ≡ Some (Taking.section_from d) = slice_get-map Taking.section_from s.drafts k ∙ ap (option_map Taking.section_from) there in
-    let g = grows owner f (Taking.section_from d) t p.segments ss k found (grown_longer owner d f) (names_apart s.drafts names) in
-    let now : map Taking.section_from (Items.with_piece s.drafts k f) ≡ slice_set ss k t = ap (λ (o : Option Draft). map Taking.section_from (Items.with_piece_in s.drafts k f o)) there ∙ map-set Taking.section_from s.drafts k (Items.grown d f) in
-    by_sections p s (map Taking.section_from (Items.with_piece s.drafts k f)) (slice_set ss k t) now
+    let t = Scanning.section_from (Items.grown d f) in
+    let found : slice_get ss k ≡ Some (Scanning.section_from d) = slice_get-map Scanning.section_from s.drafts k ∙ ap (option_map Scanning.section_from) there in
+    let g = grows owner f (Scanning.section_from d) t p.segments ss k found (grown_longer owner d f) (names_apart s.drafts names) in
+    let now : map Scanning.section_from (Items.with_piece s.drafts k f) ≡ slice_set ss k t = ap (λ (o : Option Draft). map Scanning.section_from (Items.with_piece_in s.drafts k f o)) there ∙ map-set Scanning.section_from s.drafts k (Items.grown d f) in
+    by_sections p s (map Scanning.section_from (Items.with_piece s.drafts k f)) (slice_set ss k t) now
     ∙ ap (λ (hs : List Programs.Segment). made p s hs (Programs.section_places owner p.segments (slice_set ss k t))) g.segments
     ∙ ap (made p s (Growing.with_more d.name len cells gs)) g.places
     ∙ ap (λ (n : List ℕ). made p s (Growing.with_more n len cells gs) (slice_set places k (Growing.longer g.place len))) (sym g.named)
     ∙ sym (ap (Growing.with_part (Growing.growth_of p s) k f) g.there)
 
-section_step : (p : Program) (s : Taking.State) (name : List ℕ) (size align : ℕ) → Growing.growth_of p (Items.with_item s (item.Section name size align)) ≡ Growing.grown_by (Growing.growth_of p s) (item.Section name size align)
+section_step : (p : Program) (s : Scanning.State) (name : List ℕ) (size align : ℕ) → Growing.growth_of p (Items.with_item s (item.Section name size align)) ≡ Growing.grown_by (Growing.growth_of p s) (item.Section name size align)
 section_step p s name size align =
     let d = Items.empty_draft name size align in
     let e = Growing.bare_section name align in
     let owner = length p.members in
-    let ss = map Taking.section_from s.drafts in
+    let ss = map Scanning.section_from s.drafts in
     let gs = Programs.with_sections owner p.segments ss in
-    let now : map Taking.section_from (s.drafts ++ d ∷ []) ≡ ss ++ e ∷ [] = map-append Taking.section_from s.drafts (d ∷ []) in
-    by_sections p s (map Taking.section_from (s.drafts ++ d ∷ [])) (ss ++ e ∷ []) now
+    let now : map Scanning.section_from (s.drafts ++ d ∷ []) ≡ ss ++ e ∷ [] = map-append Scanning.section_from s.drafts (d ∷ []) in
+    by_sections p s (map Scanning.section_from (s.drafts ++ d ∷ [])) (ss ++ e ∷ []) now
     ∙ ap (λ (hs : List Programs.Segment). made p s hs (Programs.section_places owner p.segments (ss ++ e ∷ []))) (snoc_sections owner p.segments ss e)
     ∙ ap (made p s (Programs.with_section owner gs e)) (snoc_places owner p.segments ss e)
 
@@ -281,7 +280,7 @@ pushed : {A B : Type 0} (f : A → B) (old : List B) (xs : List A) (x : A) → o
 pushed f old xs x = ap (λ ys. old ++ ys) (map-append f xs (x ∷ [])) ∙ sym (append_assoc old (map f xs) (f x ∷ []))
 
 -- what has come of a module, with an item more, is that with the item behind it
-pub item_step : (p : Program) (s : Taking.State) (i : Item) → are_names (map (λ d. d.name) s.drafts) ≡ true → IsPlaced s.drafts i → Growing.growth_of p (Items.with_item s i) ≡ Growing.grown_by (Growing.growth_of p s) i
+pub item_step : (p : Program) (s : Scanning.State) (i : Item) → are_names (map (λ d. d.name) s.drafts) ≡ true → IsPlaced s.drafts i → Growing.growth_of p (Items.with_item s i) ≡ Growing.grown_by (Growing.growth_of p s) i
 item_step p s (item.File name) names placed = refl
 item_step p s (item.Import name) names placed = refl
 item_step p s (item.Section name size align) names placed = section_step p s name size align
@@ -295,11 +294,11 @@ item_step p s (item.Assert action origin text form) names placed =
 item_step p s item.End names placed = refl
 
 -- what has come of a whole module makes the program with the module behind
-pub whole_module : (p : Program) (name : List ℕ) (s : Taking.State) → Growing.ended (Growing.growth_of p s) name ≡ with_module p (Growing.module_from name s)
+pub whole_module : (p : Program) (name : List ℕ) (s : Scanning.State) → Growing.ended (Growing.growth_of p s) name ≡ with_module p (Growing.module_from name s)
 whole_module p name s = refl
 
 -- nothing has come yet
-pub nothing_yet : (p : Program) (version : ℕ) → Growing.growth_of p (Taking.start version) ≡ Growing.at_rest p
+pub nothing_yet : (p : Program) (version : ℕ) → Growing.growth_of p (Scanning.start version) ≡ Growing.at_rest p
 nothing_yet p version = ap (λ (es : List Exported). record { program = record { members = p.members; segments = p.segments; exports = es; asserts = p.asserts ++ [] }; sections = []; imports = []; files = [] }) (nil p.exports)
     ∙ ap (λ (as' : List Asserted). record { program = record { members = p.members; segments = p.segments; exports = p.exports; asserts = as' }; sections = []; imports = []; files = [] }) (nil p.asserts)
 

@@ -2,8 +2,8 @@
 use Rattle.std.specs.Prelude.{ℕ, Bool, true, false, List, [], ◌∷◌, ◌++◌, codes, encode_utf8_all, if◌then◌else◌, ◌≡◌, not, ◌||◌, Result, IfErr}
 use Rattle.object65.specs.declared.fault.ObjectFault.{ObjectFault}
 use Rattle.script65.specs.declared.placement.PlaceFault.{PlaceFault}
-use Rattle.object65.specs.Fault.{fault_text as object_words, is_memory as is_object_memory}
-use Rattle.script65.specs.PlaceFaults.{is_place_outside, place_fault_text}
+use Rattle.object65.specs.Record.{fault_text as object_words, is_memory as is_object_memory}
+use Rattle.script65.specs.Faults.{is_place_outside, place_fault_text}
 use Rattle.link65.specs.declared.fault.LinkFault.{LinkFault}
 use Rattle.link65.specs.declared.fault.LinkFault.TheVariants.{FailedBefore, OutOfMemory, Malformed, DuplicateExport, Unresolved, Place, Circular, OutOfRange, NoValue, Assertion, IndexDisagrees}
 use Rattle.object65.specs.declared.fault.ObjectFault.TheVariants.{CutShort}

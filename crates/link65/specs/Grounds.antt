@@ -8,8 +8,8 @@ use Rattle.link65.specs.declared.parts.Waiting.{Waiting}
 use Rattle.link65.specs.Links.{waiting_in}
 use Rattle.link65.specs.Programs.{Cell, known, filled, waits, Segment, empty_segment, Program}
 use Rattle.std.specs.Str.{bytes_eq}
-use Rattle.object65.specs.declared.item.Item.{Item}
-use Rattle.object65.specs.declared.item.Item.TheVariants as item
+use Rattle.object65.specs.declared.record.Item.{Item}
+use Rattle.object65.specs.declared.record.Item.TheVariants as item
 use Rattle.link65.specs.declared.growing.Growing.{Growing}
 use Rattle.link65.specs.Growing.{Growth, with_segments}
 

@@ -1,15 +1,14 @@
 -- A program while a module comes, item by item.
 use Rattle.std.specs.Prelude.{◌≡◌, ℕ, ◌+◌, List, [], ◌∷◌, ◌++◌, length, map, slice_get, slice_set, Option, Some, None, Ok, if◌then◌else◌}
 use Rattle.std.specs.Str.{bytes_eq}
-use Rattle.object65.specs.declared.item.Item.{Item}
-use Rattle.object65.specs.declared.item.Item.TheVariants as item
+use Rattle.object65.specs.declared.record.Item.{Item}
+use Rattle.object65.specs.declared.record.Item.TheVariants as item
 use Rattle.object65.specs.declared.object.Fragment.{Fragment}
 use Rattle.object65.specs.declared.object.Section.{Section}
 use Rattle.object65.specs.Objects.{fragment_len}
 use Rattle.object65.specs.Items.{with_item}
 use Rattle.object65.specs.Record.{Entry}
-use Rattle.object65.specs.Scanning.{Outline, outline_of, scanned}
-use Rattle.object65.specs.Taking.{IsReached, State, object_from, section_from, start}
+use Rattle.object65.specs.Scanning.{Outline, outline_of, scanned, IsReached, State, object_from, section_from, start}
 use Rattle.link65.specs.declared.parts.SectionPlace.{SectionPlace}
 use Rattle.link65.specs.Programs.{Module, Program, asserted, exported, with_module, Cell, Segment, fragment_cells, section_place, section_places, with_section, with_sections}
 

@@ -10,8 +10,7 @@ use Rattle.std.specs.Option.{option_map}
 use Rattle.object65.specs.declared.fault.ObjectFault.{ObjectFault}
 use Rattle.object65.specs.declared.object.Object.{Object}
 use Rattle.object65.specs.Record.{Entry}
-use Rattle.object65.specs.Scanning.{Outline, outline_of}
-use Rattle.object65.specs.Taking.{IsReached, State, after, finished, start}
+use Rattle.object65.specs.Scanning.{Outline, outline_of, IsReached, State, after, finished, start}
 use Rattle.library65.specs.declared.index.Entry.{Entry as Listing}
 use Rattle.library65.specs.Libraries.{agrees, contents_from}
 use Rattle.script65.specs.declared.script.Script.{Script}

@@ -1,7 +1,7 @@
 -- What is printed beside faults: warnings, and the map.
 use Rattle.std.specs.Prelude.{ℕ, ◌%◌, ◌==◌, ◌&&◌, Bool, true, false, not, if◌then◌else◌, List, [], ◌∷◌, ◌++◌, Option, Some, None, codes, decimal, zero, suc, ◌/◌, ◌^◌, ◌||◌, is_some, nat_lt, get_or}
 use Rattle.std.specs.List.{flat_map, list_any}
-use Rattle.script65.specs.Access.{is_written}
+use Rattle.script65.specs.Placing.{is_written}
 use Rattle.script65.specs.declared.script.Row.{Row}
 use Rattle.link65.specs.declared.fault.Site.{Site}
 use Rattle.link65.specs.Programs.{Cell, known, filled, waits, Segment, segment_of, flat_zip, Program}

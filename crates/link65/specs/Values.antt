@@ -23,7 +23,7 @@ use Rattle.std.specs.List.{flat_map}
 use Rattle.object65.specs.declared.object.Width.{Width}
 use Rattle.object65.specs.Objects.{fits_width, value_bytes}
 use Rattle.link65.specs.Files.{RowBytes}
-use Rattle.script65.specs.Access.{is_written}
+use Rattle.script65.specs.Placing.{is_written}
 
 -- ---- The value of a form among linked modules.
 

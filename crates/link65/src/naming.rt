@@ -2,7 +2,7 @@
 
 ghost use Rattle.std.specs.Prelude.{◌≡◌, ◌++◌, IfOk, OnOk, slice_get, map};
 ghost use Rattle.link65.specs.Programs.{with_beside};
-ghost use Rattle.script65.specs.Parts.{part_name};
+ghost use Rattle.script65.specs.AreaSums.{part_name};
 ghost use Rattle.link65.specs.Names.{area_definitions, areas_definitions, export_definition, part, row_definitions, rows_definitions, script_definitions, symbol_exports, weak_definition, weak_symbols, area_names, row_names, script_names};
 ghost use Rattle.std.specs.List.{flat_map};
 

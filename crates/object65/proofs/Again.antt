@@ -9,13 +9,13 @@ use Rattle.std.specs.List.{flat_map, list_all, sum_by, AllByRecursion}
 use Rattle.std.proofs.lemmas.List.Folds.{list_any-append, list_all-append}
 use Rattle.std.proofs.lemmas.List.Sums.{sum_by-append, sum_by-cons}
 use Rattle.byteorder.specs.Endian.{little_bytes, little_number}
-use Rattle.object65.specs.declared.draft.Draft.{Draft}
+use Rattle.object65.specs.declared.builder.Draft.{Draft}
 use Rattle.object65.specs.declared.fault.ObjectFault.{ObjectFault}
 use Rattle.object65.specs.declared.object.Assert.{Assert}
 use Rattle.object65.specs.declared.object.Export.{Export}
 use Rattle.object65.specs.declared.object.Fragment.{Fragment}
-use Rattle.object65.specs.declared.room.Last.TheVariants as last
-use Rattle.object65.specs.declared.room.Room.{Room}
+use Rattle.object65.specs.declared.scan.Last.TheVariants as last
+use Rattle.object65.specs.declared.scan.Room.{Room}
 use Rattle.object65.specs.declared.object.Fragment.TheVariants.{Literal, Fill, Value}
 use Rattle.object65.specs.declared.object.Object.{Object}
 use Rattle.object65.specs.declared.object.Origin.{Origin}
@@ -23,22 +23,19 @@ use Rattle.object65.specs.declared.object.Section.{Section}
 use Rattle.object65.specs.declared.object.Width.{Width}
 use Rattle.object65.specs.declared.object.Width.TheVariants.{Byte, Word, HighFirst, Dword, Branch}
 use Rattle.object65.specs.Bodies.{section_of}
-use Rattle.object65.specs.Fault.{◌>>=◌}
+use Rattle.object65.specs.Record.{◌>>=◌, Entry}
 use Rattle.object65.specs.Folding.{is_within, is_normal, is_literal, node_limit}
 use Rattle.object65.specs.Form.{Form, nodes}
 use Rattle.object65.specs.Objects.{are_distinct, are_files_of, has_file, has_file_by, has_good_origin, is_file_name, is_good_origin, is_name, is_among, are_names, section_len, section_limit, fragment_len, width_len, is_good_form, is_good_fragment, is_good_section, is_good_assert, is_good_object, are_apart, FragmentFits, FitsBits, ObjectFits, OriginFits}
-use Rattle.object65.specs.Record.{Entry}
 use Rattle.object65.specs.Small.{is_small_text}
 use Rattle.object65.specs.Spelling.{file_entry, import_entry, section_entry, fragment_entries, literal_entry, literal_entries, fill_entry, value_entry, export_entry, assert_entry, end_entry, entries_behind, entries_of, body_limit}
 use Rattle.object65.specs.Items.{State, closing, grown, section_from, start, with_fragment, with_item}
 use Rattle.object65.specs.Scanning
-use Rattle.object65.specs.Taking.{after, after_all, finished}
-use Rattle.object65.proofs.Closings.{turned, nil, longer, closing_is, last_joins, last_push, apart_last, fill_last, shut_len}
+use Rattle.object65.specs.Scanning.{after, after_all, finished}
+use Rattle.object65.proofs.Closings.{turned, nil, longer, closing_is, last_joins, last_push, apart_last, fill_last, shut_len, all_full, is_full, opens, piece_there, more_pieces, one_piece}
 use Rattle.object65.proofs.Fields.{fill_again, value_again, export_again, assert_again}
 use Rattle.object65.proofs.Goods.{left, right, and, parts}
 use Rattle.object65.proofs.Numbers.{back}
-use Rattle.object65.proofs.Openings.{all_full, is_full, opens, piece_there}
-use Rattle.object65.proofs.Pieces.{more_pieces, one_piece}
 use Rattle.object65.proofs.Reached.{either}
 use Rattle.object65.proofs.Scannings.{fill_is, short_is}
 

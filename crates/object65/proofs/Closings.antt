@@ -1,21 +1,27 @@
--- The fragments of a section in the making, with the literal behind them; and which neighbours are apart.
-use Rattle.std.proofs.Common.{◌≡◌, ◌∙◌, ℕ, suc, ◌+◌, ◌-◌, List, [], ◌∷◌, ◌++◌, length, Bool, true, false, not, nat_lt, if◌then◌else◌, refl, sym, ap, subst, arith}
+-- Sections in the making: their fragments, and the first that isn't full.
+use Rattle.std.proofs.Common.{◌≡◌, ◌∙◌, ℕ, suc, ◌+◌, ◌-◌, List, [], ◌∷◌, ◌++◌, length, Bool, true, false, not, nat_lt, if◌then◌else◌, refl, sym, ap, subst, arith, map, Some, None, ◌==◌, Ok, Err, ◌⊎◌, inl, inr, ◌<◌, ◌≤◌, zero, ◌*◌, ◌%◌, length-append, ◌/◌, take, drop, append_assoc}
 use Rattle.std.proofs.lemmas.Bool.Decides.{nat_tests}
 use Rattle.std.proofs.lemmas.Grind.{flat_map-append}
-use Rattle.std.proofs.lemmas.List.Folds.{list_all-append}
+use Rattle.std.proofs.lemmas.List.Folds.{list_all-append, list_all-map}
 use Rattle.std.proofs.lemmas.List.Sums.{sum_by-append}
-use Rattle.std.specs.Prelude.{slice_get}
-use Rattle.std.specs.List.{flat_map, list_all, sum_by, AllByRecursion}
+use Rattle.std.specs.Prelude.{slice_get, slice_set}
+use Rattle.std.specs.List.{flat_map, list_all, sum_by, AllByRecursion, prefix_len}
 use Rattle.object65.specs.declared.object.Fragment.{Fragment}
 use Rattle.object65.specs.declared.object.Fragment.TheVariants.{Literal, Fill, Value}
 use Rattle.object65.specs.declared.object.Origin.{Origin}
 use Rattle.object65.specs.declared.object.Width.{Width}
 use Rattle.object65.specs.Form.{Form}
 use Rattle.object65.specs.Objects.{fragment_len, has_good_origin, is_good_fragment, joins, are_apart, FragmentFits}
-use Rattle.object65.specs.Spelling.{fragment_entries, literal_entries}
-use Rattle.object65.specs.Items.{closing, is_none}
-use Rattle.object65.specs.Scanning.{is_some_fill, ends_in_fill}
+use Rattle.object65.specs.Spelling.{fragment_entries, literal_entries, pieces, literal_entry, body_limit, entry_bytes}
+use Rattle.object65.specs.Items.{closing, is_none, grown, with_piece}
+use Rattle.object65.specs.Scanning.{is_some_fill, ends_in_fill, is_filled, open_room, room_of}
 use Rattle.object65.proofs.Goods.{left, right, and}
+use Rattle.object65.specs.declared.builder.Draft.{Draft}
+use Rattle.object65.specs.declared.fault.ObjectFault.TheVariants.{OutOfOrder}
+use Rattle.object65.specs.declared.scan.Room.{Room}
+use Rattle.std.proofs.lemmas.List.{length-drop, take_all, drop_all, take-append-le, drop-append-le}
+
+-- ---- The fragments of a section in the making, with the literal behind them; and which neighbours are apart.
 
 pub turned : (b : Bool) → not b ≡ true → b ≡ false
 turned true e = cc
@@ -111,3 +117,137 @@ shut_apart fs (b ∷ bytes) apart bare = ap (λ xs. are_apart (fs ++ xs)) (closi
 pub shut_fits : (fs : List Fragment) (bytes : List ℕ) → AllByRecursion FragmentFits fs → AllByRecursion FragmentFits (fs ++ closing bytes)
 shut_fits fs [] fits = subst (AllByRecursion FragmentFits) (sym (nil fs)) fits
 shut_fits fs (b ∷ bytes) fits = subst (λ xs. AllByRecursion FragmentFits (fs ++ xs)) (sym (closing_is (b ∷ bytes) (longer b bytes))) (all_push FragmentFits fs (Literal (b ∷ bytes)) fits tt)
+
+-- ---- The section to which the next fragment goes: the first that isn't full.
+
+abbrev pub is_full : Draft → Bool
+is_full d = d.filled == d.size
+
+pub all_full : (ds : List Draft) → list_all is_filled (map room_of ds) ≡ list_all is_full ds
+all_full ds = list_all-map is_filled room_of ds
+
+-- full sections, one that isn't, and any others
+pub record Split (ds : List Draft) : Type 0 where
+  pub front : List Draft
+  pub draft : Draft
+  pub behind : List Draft
+  pub all : ds ≡ front ++ draft ∷ behind
+  pub full : list_all is_full front ≡ true
+  pub free : is_full draft ≡ false
+
+pub seek : (ds : List Draft) → (list_all is_full ds ≡ true) ⊎ Split ds
+seek [] = inl refl
+seek (d ∷ ds) = next (is_full d) refl (seek ds) where
+  next : (b : Bool) → is_full d ≡ b → (list_all is_full ds ≡ true) ⊎ Split ds → (list_all is_full (d ∷ ds) ≡ true) ⊎ Split (d ∷ ds)
+  next true full (inl all) = inl (and (is_full d) (list_all is_full ds) full all)
+  next true full (inr p) = inr (record {
+    front = d ∷ p.front;
+    draft = p.draft;
+    behind = p.behind;
+    all = ap (λ xs. d ∷ xs) p.all;
+    full = and (is_full d) (list_all is_full p.front) full p.full;
+    free = p.free;
+  })
+  next false free rest = inr (record { front = []; draft = d; behind = ds; all = refl; full = refl; free = free })
+
+-- ---- The place of that section.
+
+pub room_there : (xs : List Draft) (d : Draft) (ys : List Draft) → slice_get (map room_of (xs ++ d ∷ ys)) (length xs) ≡ Some (room_of d)
+room_there [] d ys = refl
+room_there (x ∷ xs) d ys = room_there xs d ys
+
+pub draft_there : (xs : List Draft) (d : Draft) (ys : List Draft) → slice_get (xs ++ d ∷ ys) (length xs) ≡ Some d
+draft_there [] d ys = refl
+draft_there (x ∷ xs) d ys = draft_there xs d ys
+
+draft_set : (xs : List Draft) (d e : Draft) (ys : List Draft) → slice_set (xs ++ d ∷ ys) (length xs) e ≡ xs ++ e ∷ ys
+draft_set [] d e ys = refl
+draft_set (x ∷ xs) d e ys = ap (λ zs. x ∷ zs) (draft_set xs d e ys)
+
+-- a fragment more in that section
+pub piece_there : (xs : List Draft) (d : Draft) (ys : List Draft) (f : Fragment) → with_piece (xs ++ d ∷ ys) (length xs) f ≡ xs ++ grown d f ∷ ys
+piece_there xs d ys f = rw (draft_there xs d ys) (draft_set xs d (grown d f) ys)
+
+front_len : (xs : List Draft) (d : Draft) (ys : List Draft) → list_all is_full xs ≡ true → is_full d ≡ false → prefix_len is_filled (map room_of (xs ++ d ∷ ys)) ≡ length xs
+front_len [] d ys full free = rw free refl
+front_len (x ∷ xs) d ys full free =
+    let one = left (is_full x) (list_all is_full xs) full in
+    let rest = front_len xs d ys (right (is_full x) (list_all is_full xs) full) free in
+    rw (one, rest) (omega arith)
+
+pub opens : (xs : List Draft) (d : Draft) (ys : List Draft) → list_all is_full xs ≡ true → is_full d ≡ false → open_room (map room_of (xs ++ d ∷ ys)) ≡ Ok (length xs, room_of d)
+opens xs d ys full free = rw (front_len xs d ys full free, room_there xs d ys) refl
+
+-- where all are full, there is none
+pub none_open : (ds : List Draft) → list_all is_full ds ≡ true → open_room (map room_of ds) ≡ Err OutOfOrder
+none_open ds full = rw (past ds full) refl where
+  past : (ds : List Draft) → list_all is_full ds ≡ true → slice_get (map room_of ds) (prefix_len is_filled (map room_of ds)) ≡ None
+  past [] full = refl
+  past (d ∷ ds) full =
+      let one = left (is_full d) (list_all is_full ds) full in
+      let k = prefix_len is_filled (map room_of ds) in
+      let more : 1 + k ≡ suc k = omega arith in
+      rw (one, more) (past ds (right (is_full d) (list_all is_full ds) full))
+
+-- what was found
+pub record Opened (ds : List Draft) (place : ℕ × Room) : Type 0 where
+  pub split : Split ds
+  pub here : (length split.front, room_of split.draft) ≡ place
+
+pub opened : (ds : List Draft) (place : ℕ × Room) → open_room (map room_of ds) ≡ Ok place → Opened ds place
+opened ds place h = go (seek ds) where
+  go : (list_all is_full ds ≡ true) ⊎ Split ds → Opened ds place
+  go (inl full) = let none = sym (none_open ds full) ∙ h in cc
+  go (inr p) =
+      let same = sym (ap (λ xs. open_room (map room_of xs)) p.all ∙ opens p.front p.draft p.behind p.full p.free) ∙ h in
+      record { split = p; here = cc (same) }
+
+-- a fragment leaves the name
+pub grown_name : (d : Draft) (f : Fragment) → (grown d f).name ≡ d.name
+grown_name d (Literal bytes) = refl
+grown_name d (Fill n) = refl
+grown_name d (Value w line form) = refl
+
+-- ---- The records of a literal, one after another.
+
+counted : (n : ℕ) → 0 < n → (n + 4095) / 4096 ≡ suc ((n - 4096 + 4095) / 4096)
+counted n some = omega arith
+
+-- the first record, and those of what follows
+pub more_pieces : (bytes : List ℕ) → 0 < length bytes → literal_entries bytes ≡ literal_entry (take body_limit bytes) ∷ literal_entries (drop body_limit bytes)
+more_pieces bytes some =
+    let n : (length bytes + 4095) / body_limit ≡ suc ((length (drop body_limit bytes) + 4095) / body_limit) = counted (length bytes) some ∙ ap (λ k. suc ((k + 4095) / 4096)) (sym (length-drop body_limit bytes)) in
+    ap (λ k. map literal_entry (pieces k bytes)) n
+
+pub one_piece : (bytes : List ℕ) → 0 < length bytes → length bytes ≤ body_limit → literal_entries bytes ≡ literal_entry bytes ∷ []
+one_piece bytes some within =
+    more_pieces bytes some ∙ (rw (take_all body_limit bytes within, drop_all body_limit bytes within) refl)
+
+-- what is written so far and the records of what is left are the whole
+pub written_piece : (out new old bytes : List ℕ) (whole : List ℕ) → body_limit < length bytes → new ≡ out ++ entry_bytes (literal_entry (take body_limit bytes)) → out ++ flat_map entry_bytes (literal_entries bytes) ≡ old ++ whole → new ++ flat_map entry_bytes (literal_entries (drop body_limit bytes)) ≡ old ++ whole
+written_piece out new old bytes whole long is kept =
+    ap (λ xs. xs ++ flat_map entry_bytes (literal_entries (drop body_limit bytes))) is
+    ∙ append_assoc out (entry_bytes (literal_entry (take body_limit bytes))) (flat_map entry_bytes (literal_entries (drop body_limit bytes)))
+    ∙ ap (λ es. out ++ flat_map entry_bytes es) (sym (more_pieces bytes (omega arith)))
+    ∙ kept
+
+pub written_last : (out new old bytes : List ℕ) (whole : List ℕ) → 0 < length bytes → length bytes ≤ body_limit → new ≡ out ++ entry_bytes (literal_entry bytes) → out ++ flat_map entry_bytes (literal_entries bytes) ≡ old ++ whole → new ≡ old ++ whole
+written_last out new old bytes whole some within is kept =
+    is ∙ sym (ap (λ es. out ++ flat_map entry_bytes es) (one_piece bytes some within) ∙ ap (λ xs. out ++ xs) (nil (entry_bytes (literal_entry bytes)))) ∙ kept
+  where
+    nil : (xs : List ℕ) → xs ++ [] ≡ xs
+    nil [] = refl
+    nil (x ∷ xs) = ap (λ ys. x ∷ ys) (nil xs)
+
+-- where all its records are full, a literal and one record more are the records of both
+pieces_grown : (k : ℕ) (bytes body : List ℕ) → length bytes ≡ body_limit * k → 0 < length body → length body ≤ body_limit → literal_entries (bytes ++ body) ≡ literal_entries bytes ++ literal_entry body ∷ []
+pieces_grown zero [] body full some within = one_piece body some within
+pieces_grown zero (b ∷ bytes) body full some within = absurd (omega arith)
+pieces_grown (suc k) bytes body full some within =
+    let long : body_limit ≤ length bytes = omega arith in
+    let rest : length (drop body_limit bytes) ≡ body_limit * k = omega (arith, length-drop body_limit bytes) in
+    more_pieces (bytes ++ body) (omega (arith, length-append bytes body))
+    ∙ rw (take-append-le body_limit bytes body long, drop-append-le body_limit bytes body long, pieces_grown k (drop body_limit bytes) body rest some within) (ap (λ es. es ++ literal_entry body ∷ []) (sym (more_pieces bytes (omega arith))))
+
+pub joined_piece : (bytes body : List ℕ) → length bytes % body_limit ≡ 0 → 0 < length body → length body ≤ body_limit → literal_entries (bytes ++ body) ≡ literal_entries bytes ++ literal_entry body ∷ []
+joined_piece bytes body full some within = pieces_grown (length bytes / body_limit) bytes body (omega arith) some within

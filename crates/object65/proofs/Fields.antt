@@ -22,8 +22,7 @@ use Rattle.object65.specs.declared.object.Origin.{Origin}
 use Rattle.object65.specs.declared.object.Width.{Width}
 use Rattle.object65.specs.declared.object.Width.TheVariants.{Byte, Word, HighFirst, Dword, Branch}
 use Rattle.object65.specs.Bodies
-use Rattle.object65.specs.Bytes.{IsBytes}
-use Rattle.object65.specs.Fault.{◌>>=◌}
+use Rattle.object65.specs.Record.{IsBytes, ◌>>=◌}
 use Rattle.object65.specs.Folding.{is_normal, folds1, folds2}
 use Rattle.object65.specs.Form.{Form, lit, sec, imp, prefix, binary, nodes}
 use Rattle.object65.specs.Objects.{FitsBits, OriginFits, has_file_by}
@@ -31,7 +30,7 @@ use Rattle.object65.specs.Operators.{op1_of, op2_of, number2}
 use Rattle.object65.specs.Spelling.{code1, form_bytes, origin_bytes, width_code, action_code, value_entry, export_entry, assert_entry, fill_entry}
 use Rattle.object65.proofs.Goods.{left, right}
 use Rattle.object65.proofs.Numbers.{bytes_drop, front, back}
-use Rattle.object65.proofs.Rooms.{bound, passes}
+use Rattle.object65.proofs.Trails.{bound, passes}
 use borrow.Author.Tests.{ltb-false}
 
 abbrev Part : Type 0

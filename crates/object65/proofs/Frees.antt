@@ -9,11 +9,11 @@ use Rattle.object65.specs.Objects.{has_file, is_name, is_among}
 use Rattle.object65.specs.declared.object.Origin.{Origin}
 use Rattle.object65.specs.declared.fault.ObjectFault.{ObjectFault}
 use Rattle.object65.specs.declared.fault.ObjectFault.TheVariants.{FailedBefore, FileError, OutOfOrder, IndexOutOfRange, BadSize, NotCanonical}
-use Rattle.object65.specs.declared.room.Room.{Room}
+use Rattle.object65.specs.declared.scan.Room.{Room}
 use Rattle.base65.specs.declared.values.Op1.{Op1}
 use Rattle.base65.specs.declared.values.Op2.{Op2}
 use Rattle.object65.specs.Bodies
-use Rattle.object65.specs.Fault.{◌>>=◌}
+use Rattle.object65.specs.Record.{◌>>=◌}
 use Rattle.object65.specs.Form.{Form, nodes}
 use Rattle.object65.specs.Scanning
 

@@ -1,12 +1,23 @@
 -- Names that are kept in order and found by a set.
-use Rattle.std.proofs.Common.{◌≡◌, ◌∙◌, Bool, true, false, List, [], ◌∷◌, ◌++◌, ℕ, nat_eq, map, refl, sym, if◌then◌else◌}
-use Rattle.std.proofs.lemmas.List.{map-append}
+use Rattle.std.proofs.Common.{◌≡◌, Bool, List, [], ◌∷◌, ◌||◌, ◌++◌, map, refl, ap, ◌∙◌, append_assoc, true, false, ℕ, nat_eq, sym, if◌then◌else◌}
 use Rattle.std.specs.List.{list_any}
+use Rattle.std.proofs.lemmas.List.{map-append}
 use Rattle.std.specs.Cmp.Lexicographic.{pointwise}
 use Rattle.object65.specs.Objects.{is_among}
-use Rattle.object65.proofs.Lists.{list_any-map}
 use Rattle.std.proofs.lemmas.Str.{IsUtf8-from_is_utf8}
 use Rattle.std.specs.Str.{IsUtf8, is_utf8}
+
+-- ---- What std's words on lists do together.
+
+pub list_any-map : {A B : Type 0} (p : B → Bool) (f : A → B) (xs : List A) → list_any p (map f xs) ≡ list_any (λ x. p (f x)) xs
+list_any-map p f [] = refl
+list_any-map p f (x ∷ xs) = ap (λ b. p (f x) || b) (list_any-map p f xs)
+
+-- what is added in three steps
+pub joined : {A : Type 0} (old a b c m n new : List A) → m ≡ old ++ a → n ≡ m ++ b → new ≡ n ++ c → new ≡ old ++ (a ++ (b ++ c))
+joined old a b c m n new p q r = r ∙ ap (λ xs. xs ++ c) (q ∙ ap (λ xs. xs ++ b) p) ∙ append_assoc (old ++ a) b c ∙ append_assoc old a (b ++ c)
+
+-- ---- Names that are kept in order and found by a set.
 
 no_test : (name : List ℕ) (b : Bool) → is_utf8 name ≡ b → (b ≡ true → ⊥) → b ≡ false
 no_test name true is never = absurd (never refl)

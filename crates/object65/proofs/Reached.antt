@@ -10,33 +10,29 @@ use Rattle.std.specs.List.{flat_map, list_all, sum_by, AllByRecursion}
 use Rattle.std.specs.Prelude.{slice_get, slice_set}
 use Rattle.std.specs.Str.{is_utf8}
 use Rattle.byteorder.specs.Endian.{little_number, little_bytes}
-use Rattle.object65.specs.declared.draft.Draft.{Draft}
+use Rattle.object65.specs.declared.builder.Draft.{Draft}
 use Rattle.object65.specs.declared.fault.ObjectFault.TheVariants.{BadSize, NotCanonical, IndexOutOfRange}
 use Rattle.object65.specs.declared.object.Export.{Export}
 use Rattle.object65.specs.declared.object.Assert.{Assert}
 use Rattle.object65.specs.declared.object.Fragment.{Fragment}
 use Rattle.object65.specs.declared.object.Origin.{Origin}
 use Rattle.object65.specs.declared.object.Fragment.TheVariants.{Literal, Fill, Value}
-use Rattle.object65.specs.declared.room.Room.{Room}
+use Rattle.object65.specs.declared.scan.Room.{Room}
 use Rattle.object65.specs.Bodies.{Heading, section_of, literal_of, fill_of, value_of}
-use Rattle.object65.specs.Bytes.{IsBytes}
+use Rattle.object65.specs.Record.{IsBytes, Entry, is_version}
 use Rattle.object65.specs.Folding.{is_within, is_normal, is_literal, node_limit}
 use Rattle.object65.specs.Form.{Form, nodes}
 use Rattle.object65.specs.Objects.{is_name, is_among, are_distinct, are_files_of, are_names, has_file, has_file_by, has_good_origin, is_good_origin, section_limit, fragment_len, width_len, is_good_form, is_good_fragment, joins, are_apart, FragmentFits, FitsBits, OriginFits}
-use Rattle.object65.specs.Record.{Entry, is_version}
 use Rattle.object65.specs.Small.{is_small_text}
 use Rattle.object65.specs.Spelling.{file_entry, import_entry, literal_entry, literal_entries, fragment_entries, export_entry, assert_entry, end_entry, body_limit}
 use Rattle.object65.specs.Items.{State, closed, grown, is_none, with_fragment, with_piece, with_piece_in}
 use Rattle.object65.specs.Scanning.{canonical_open, ends_in_fill, is_fill, is_short, known, known_file, known_parts, last_of, room_fill, room_for, room_literal, room_of, room_value, wants}
-use Rattle.object65.proofs.Closings.{turned, nil, all_push, last_joins, last_push, apart_push, value_apart, fill_last, shut_entries, shut_len, shut_good, shut_apart, shut_fits, shut_origins}
+use Rattle.object65.proofs.Closings.{turned, nil, all_push, last_joins, last_push, apart_push, value_apart, fill_last, shut_entries, shut_len, shut_good, shut_apart, shut_fits, shut_origins, Opened, is_full, piece_there, joined_piece}
 use Rattle.object65.proofs.Fields.{fill_reads, value_by, value_reads}
 use Rattle.object65.proofs.Goods.{left, right, and}
 use Rattle.object65.proofs.Numbers.{front}
-use Rattle.object65.proofs.Openings.{Opened, is_full, piece_there}
-use Rattle.object65.proofs.Pieces.{joined_piece}
-use Rattle.object65.proofs.Rooms.{bound, passes}
+use Rattle.object65.proofs.Trails.{bound, passes, IsReadEntry}
 use Rattle.object65.proofs.Scannings.{fill_is, short_is, wanted, whole}
-use Rattle.object65.proofs.Trails.{IsReadEntry}
 
 -- the record that began a section
 abbrev pub heading_entry : Draft → Entry

@@ -1,7 +1,16 @@
 -- How what a scan keeps stays sound.
-use Rattle.std.proofs.Common.{◌≡◌, ◌∙◌, ◌≤◌, ◌<◌, ◌+◌, ℕ, zero, suc, get_or, set, Bool, true, false, ◌&&◌, List, [], ◌∷◌, ◌++◌, length, refl, arith, nat_eq, cond}
+use Rattle.std.proofs.Common.{◌≡◌, ◌∙◌, ◌≤◌, ◌<◌, ◌+◌, ℕ, zero, suc, get_or, set, Bool, true, false, ◌&&◌, List, [], ◌∷◌, ◌++◌, length, refl, arith, nat_eq, cond, ◌==◌, Result, Ok, Err, ap}
 use Rattle.std.proofs.lemmas.Bool.Decides.{nat_tests}
 use Rattle.std.specs.List.{list_all, prefix_len}
+use Rattle.object65.specs.declared.fault.ObjectFault.{ObjectFault}
+use Rattle.object65.specs.declared.record.Item.{Item}
+use Rattle.object65.specs.Record.{◌>>=◌, Entry}
+use Rattle.object65.specs.Items.{State, with_item, with_items}
+use Rattle.object65.specs.Laws.{ItemsLaw}
+use Rattle.object65.specs.Scanning.{Outline, items_of, outline_of, scanned, after, after_all}
+use Rattle.object65.proofs.Scannings.{Leads, leads}
+
+-- ---- How what a scan keeps stays sound.
 
 one_more : (b : Bool) (n k m : ℕ) → (n ≤ k → n ≤ m) → suc n ≤ cond b (1 + k) 0 → suc n ≤ cond b (1 + m) 0
 one_more true n k m less h = let rest = less (omega arith) in omega (arith, rest)
@@ -55,3 +64,21 @@ pub front-ends : {X : Type 0} (p : X → Bool) (xs : List X) (i : ℕ) (d : X) �
 front-ends p [] i d stops h = omega arith
 front-ends p (x ∷ xs) zero d stops h = rw stops refl
 front-ends p (x ∷ xs) (suc i) d stops h = step_ends (p x) i (prefix_len p xs) (front-ends p xs i d stops) h
+
+-- ---- The items of records make what the records make.
+
+regrouped : (s : State) (i : Item) (r : Result (List Item) ObjectFault) → ((r >>= (λ is. Ok (i ∷ is))) >>= (λ is. Ok (with_items s is))) ≡ (r >>= (λ is. Ok (with_items (with_item s i) is)))
+regrouped s i (Ok is) = refl
+regrouped s i (Err e) = refl
+
+one_step : (s : State) (es : List Entry) (last : Bool) (q : Result (Outline × Item) ObjectFault) → Leads s last q → ((t : State) → (items_of (outline_of t) es >>= (λ is. Ok (with_items t is))) ≡ after_all t es) → ((q >>= (λ x. items_of x.0 es >>= (λ is. Ok (x.1 ∷ is)))) >>= (λ is. Ok (with_items s is))) ≡ ((q >>= (λ x. Ok (with_item s x.1))) >>= (λ t. after_all t es))
+one_step s es last (Ok x) a rest =
+    regrouped s x.1 (items_of x.0 es)
+    ∙ ap (λ (o : Outline). items_of o es >>= (λ is. Ok (with_items (with_item s x.1) is))) a.0
+    ∙ rest (with_item s x.1)
+one_step s es last (Err e) a rest = refl
+
+pub items_make : ItemsLaw
+unfolding after
+items_make s [] = refl
+items_make s (e ∷ es) = one_step s es (e.kind == 8) (scanned (outline_of s) e) (leads s e) (λ t. items_make t es)

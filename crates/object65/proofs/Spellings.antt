@@ -1,25 +1,204 @@
--- What is spelled as an object is read as that object, and as no other.
-use Rattle.std.proofs.Common.{◌≡◌, ◌∙◌, ℕ, ◌+◌, ◌-◌, ◌≤◌, List, [], ◌∷◌, ◌++◌, length, take, drop, get_or, true, Result, Ok, refl, sym, ap, arith, append_assoc, length-append}
-use Rattle.std.proofs.lemmas.List.{length-take, length-drop, take_at, drop_at}
-use Rattle.std.specs.List.{flat_map, AllByRecursion}
+-- What is read as an object is spelled so, and what is spelled as one is read as it.
+use Rattle.std.proofs.Common.{◌≡◌, ◌∙◌, ℕ, ◌+◌, ◌≤◌, List, [], ◌∷◌, ◌++◌, length, take, drop, map, Bool, true, false, ◌&&◌, not, nat_lt, nat_le, if◌then◌else◌, Result, Ok, Err, refl, sym, ap, subst, arith, ◌-◌, get_or, append_assoc, length-append}
+use Rattle.std.proofs.lemmas.Bool.Decides.{nat_tests}
+use Rattle.std.specs.Cmp.Lexicographic.{bytes_decides}
+use Rattle.std.specs.List.{flat_map, list_all, AllByRecursion}
+use Rattle.std.specs.Str.{bytes_eq}
 use Rattle.byteorder.specs.Endian.{little_bytes, little_number}
-use Rattle.byteorder.specs.Numbers.{length-bytes_low_first}
+use Rattle.object65.specs.declared.builder.Draft.{Draft}
 use Rattle.object65.specs.declared.fault.ObjectFault.{ObjectFault}
+use Rattle.object65.specs.declared.fault.ObjectFault.TheVariants.{FailedBefore, CutShort, NotAnObject, UnknownVersion, BytesAfterEnd}
 use Rattle.object65.specs.declared.object.Object.{Object}
+use Rattle.object65.specs.declared.object.Section.{Section}
+use Rattle.object65.specs.declared.object.Export.{Export}
+use Rattle.object65.specs.declared.object.Assert.{Assert}
+use Rattle.object65.specs.Record.{IsBytes, Entry, is_version}
+use Rattle.object65.specs.Objects.{are_files_of, are_names, has_good_origin, has_good_origins, has_good_parts, is_good_origin, section_len, section_limit, is_good_form, is_good_fragment, is_good_section, is_good_assert, is_good_object, are_apart, ObjectFits, FragmentFits}
+use Rattle.object65.specs.Folding.{is_literal}
+use Rattle.object65.specs.Reading.{room, head_of, head_at, end_at, file_limit, records_at, object_at}
+use Rattle.object65.specs.Small.{is_small_text}
+use Rattle.object65.specs.Spelling.{magic, object_head, entry_bytes, entries_of, file_entry, import_entry, section_entry, fragment_entries, export_entry, assert_entry, IsObject, object_bytes, body_limit}
+use Rattle.object65.specs.Items.{State, start, closed, section_from, object_from}
+use Rattle.object65.specs.Scanning.{finished, after, after_all}
+use Rattle.object65.proofs.Closings.{is_full, nil, shut_entries, shut_len, shut_good, shut_apart, shut_fits, shut_origins}
+use Rattle.object65.proofs.Goods.{left, right, and, parts}
+use Rattle.object65.proofs.Reached.{Reached, GoodState, GoodDraft, FitDraft, is_open_form, has_good_values, heading_entry, content_entries, end_entries, rows}
+use Rattle.object65.proofs.Trails.{bound, passes, room_on, trail, versions_kept, trail_again, ended_stops}
+use Rattle.object65.proofs.Steps.{after_steps, good_start, at_start}
+use Rattle.object65.proofs.Numbers.{bytes_drop, back}
+use Rattle.std.proofs.lemmas.List.{length-take, length-drop, take_at, drop_at}
+use Rattle.byteorder.specs.Numbers.{length-bytes_low_first}
 use Rattle.object65.specs.Laws.{PrefixLaw, SpellingLaw}
-use Rattle.object65.specs.Objects.{is_good_object, ObjectFits}
-use Rattle.object65.specs.Reading.{room, head_at, head_of, file_limit}
-use Rattle.object65.specs.Record.{Entry, is_version}
-use Rattle.object65.specs.Spelling.{object_head, object_bytes, entry_bytes, entries_of, body_limit}
-use Rattle.object65.specs.Taking.{State, start, after, after_all, finished}
-use Rattle.object65.specs.Whole.{records_at, object_at}
 use Rattle.object65.proofs.Again.{all_again}
-use Rattle.object65.proofs.Closings.{nil}
-use Rattle.object65.proofs.Goods.{parts}
-use Rattle.object65.proofs.Numbers.{back}
-use Rattle.object65.proofs.Rooms.{bound, room_on}
 use Rattle.object65.proofs.Shorts.{short_entries, IsShortEntry}
-use Rattle.object65.proofs.Trails.{trail_again, ended_stops}
+
+-- ---- The sections.
+
+full_size : (n i : ℕ) (d : Draft) → GoodDraft n i d → is_full d ≡ true → section_len (section_from d) ≡ d.size
+full_size n i d good full =
+    let same : d.filled ≡ d.size = grind (arith, nat_tests) in
+    shut_len d.fragments d.literal ∙ sym good.filled ∙ same
+
+headings : (n i : ℕ) (ds : List Draft) → AllByRecursion (GoodDraft n i) ds → list_all is_full ds ≡ true → map section_entry (map section_from ds) ≡ map heading_entry ds
+headings n i [] good full = refl
+headings n i (d ∷ ds) good full =
+    let size = full_size n i d good.0 (left (is_full d) (list_all is_full ds) full) in
+    λ k. record { kind = 2; body = little_bytes 4 (size k) ++ d.align ∷ d.name } ∷ headings n i ds good.1 (right (is_full d) (list_all is_full ds) full) k
+
+contents : (ds : List Draft) → flat_map (λ (s : Section). flat_map fragment_entries s.fragments) (map section_from ds) ≡ flat_map content_entries ds
+contents [] = refl
+contents (d ∷ ds) = λ k. shut_entries d.fragments d.literal k ++ contents ds k
+
+names_same : (ds : List Draft) → map (λ (s : Section). s.name) (map section_from ds) ≡ map (λ d. d.name) ds
+names_same [] = refl
+names_same (d ∷ ds) = ap (λ ns. d.name ∷ ns) (names_same ds)
+
+pub count_same : (ds : List Draft) → length (map section_from ds) ≡ length ds
+count_same [] = refl
+count_same (d ∷ ds) = omega (arith, count_same ds)
+
+sections_good : (n i : ℕ) (ds : List Draft) → AllByRecursion (GoodDraft n i) ds → list_all is_full ds ≡ true → list_all (is_good_section n i) (map section_from ds) ≡ true
+sections_good n i [] good full = refl
+sections_good n i (d ∷ ds) good full =
+    let size = full_size n i d good.0 (left (is_full d) (list_all is_full ds) full) in
+    let limit : d.size ≤ section_limit = good.0.size in
+    let small : nat_le (section_len (section_from d)) section_limit ≡ true = ap (λ k. nat_le k section_limit) size ∙ grind (arith, nat_tests) in
+    and (is_good_section n i (section_from d)) (list_all (is_good_section n i) (map section_from ds))
+    (and (nat_le d.align 15 && nat_le (section_len (section_from d)) section_limit && list_all (is_good_fragment n i) (closed d)) (are_apart (closed d))
+    (and (nat_le d.align 15 && nat_le (section_len (section_from d)) section_limit) (list_all (is_good_fragment n i) (closed d))
+    (and (nat_le d.align 15) (nat_le (section_len (section_from d)) section_limit) good.0.align small)
+    (shut_good n i d.fragments d.literal good.0.good))
+    (shut_apart d.fragments d.literal good.0.apart good.0.bare))
+    (sections_good n i ds good.1 (right (is_full d) (list_all is_full ds) full))
+
+sections_fit : (ds : List Draft) → AllByRecursion FitDraft ds → AllByRecursion (λ (s : Section). AllByRecursion FragmentFits s.fragments) (map section_from ds)
+sections_fit [] fits = tt
+sections_fit (d ∷ ds) fits = (shut_fits d.fragments d.literal fits.0, sections_fit ds fits.1)
+
+sections_placed : (v m : ℕ) (ds : List Draft) → list_all (has_good_values v m) ds ≡ true → list_all (λ (s : Section). list_all (has_good_origin v m) s.fragments) (map section_from ds) ≡ true
+sections_placed v m [] good = refl
+sections_placed v m (d ∷ ds) good =
+    and (list_all (has_good_origin v m) (closed d)) (list_all (λ (s : Section). list_all (has_good_origin v m) s.fragments) (map section_from ds))
+    (shut_origins v m d.fragments d.literal (left (has_good_values v m d) (list_all (has_good_values v m) ds) good))
+    (sections_placed v m ds (right (has_good_values v m d) (list_all (has_good_values v m) ds) good))
+
+asserts_good : (n i : ℕ) (xs : List Assert) → list_all (λ a. is_open_form n i a.form) xs ≡ true → list_all (λ a. is_small_text a.text) xs ≡ true → list_all (is_good_assert n i) xs ≡ true
+asserts_good n i [] good small = refl
+asserts_good n i (x ∷ xs) good small =
+    let goods = λ (a : Assert). is_open_form n i a.form in
+    let smalls = λ (a : Assert). is_small_text a.text in
+    let open_one = left (goods x) (list_all goods xs) good in
+    and (is_good_assert n i x) (list_all (is_good_assert n i) xs)
+    (and (is_small_text x.text && is_good_form n i x.form) (not (is_literal x.form))
+    (and (is_small_text x.text) (is_good_form n i x.form) (left (smalls x) (list_all smalls xs) small) (left (is_good_form n i x.form) (not (is_literal x.form)) open_one))
+    (right (is_good_form n i x.form) (not (is_literal x.form)) open_one))
+    (asserts_good n i xs (right (goods x) (list_all goods xs) good) (right (smalls x) (list_all smalls xs) small))
+
+-- ---- The object behind an END.
+
+pub finished_entries : (t : State) (es : List Entry) → GoodState t → Reached t es → t.ended ≡ true → entries_of (object_from t) ≡ es
+finished_entries t es good r ended =
+    ap (λ xs. map file_entry t.files ++ xs) (λ k. rows (map import_entry t.imports) (headings (length t.drafts) (length t.imports) t.drafts good.drafts (good.full ended) k) (contents t.drafts k) (map export_entry t.exports) (map assert_entry t.asserts) (end_entries (sym ended k)))
+    ∙ sym r.entries
+
+finished_parts : (t : State) → GoodState t → list_all (λ a. is_small_text a.text) t.asserts ≡ true → t.ended ≡ true → has_good_parts (object_from t) ≡ true
+finished_parts t r texts ended =
+    let n = length (map section_from t.drafts) in
+    let m = length t.drafts in
+    let i = length t.imports in
+    let count : m ≡ n = sym (count_same t.drafts) in
+    let a = are_names t.imports in
+    let b = are_names (map (λ (s : Section). s.name) (map section_from t.drafts)) in
+    let c = are_names (map (λ (e : Export). e.name) t.exports) in
+    let d = list_all (is_good_section n i) (map section_from t.drafts) in
+    let f = list_all (λ (e : Export). is_good_form n i e.form) t.exports in
+    let g = list_all (is_good_assert n i) t.asserts in
+    and (a && b && c && d && f) g
+    (and (a && b && c && d) f
+    (and (a && b && c) d
+    (and (a && b) c (and a b r.imports (ap are_names (names_same t.drafts) ∙ r.names)) r.export_names)
+    (subst (λ k. list_all (is_good_section k i) (map section_from t.drafts) ≡ true) count (sections_good m i t.drafts r.drafts (r.full ended))))
+    (subst (λ k. list_all (λ (e : Export). is_good_form k i e.form) t.exports ≡ true) count r.exports))
+    (subst (λ k. list_all (is_good_assert k i) t.asserts ≡ true) count (asserts_good m i t.asserts r.asserts texts))
+
+finished_origins : (t : State) → GoodState t → has_good_origins (object_from t) ≡ true
+finished_origins t r =
+    let v = t.version in
+    let m = length t.files in
+    let a = list_all (λ (s : Section). list_all (has_good_origin v m) s.fragments) (map section_from t.drafts) in
+    let b = list_all (λ (e : Export). is_good_origin v m e.origin) t.exports in
+    let c = list_all (λ (e : Assert). is_good_origin v m e.origin) t.asserts in
+    and (a && b) c (and a b (sections_placed v m t.drafts r.values) r.export_origins) r.assert_origins
+
+pub finished_good : (t : State) → GoodState t → list_all (λ a. is_small_text a.text) t.asserts ≡ true → t.ended ≡ true → is_good_object (object_from t) ≡ true
+finished_good t r texts ended =
+    let v = is_version t.version in
+    let f = are_files_of t.version t.files in
+    let o = has_good_origins (object_from t) in
+    and (v && f && o) (has_good_parts (object_from t))
+    (and (v && f) o (and v f r.version r.files) (finished_origins t r))
+    (finished_parts t r texts ended)
+
+pub finished_fits : (t : State) (es : List Entry) → Reached t es → ObjectFits (object_from t)
+finished_fits t es r = record {
+  files = r.files;
+  sections = sections_fit t.drafts r.drafts;
+  exports = r.exports;
+  asserts = r.asserts;
+}
+
+-- ---- The head and the end.
+
+head_read : (at : ℕ) (first : ℕ × ℕ) (xs : List ℕ) → head_of at (take 5 xs) ≡ Ok first → (is_version first.0 ≡ true) × (first.1 ≡ at + 5) × (xs ≡ object_head first.0 ++ drop 5 xs)
+head_read at first [] e = cc
+head_read at first (a ∷ []) e = cc
+head_read at first (a ∷ b ∷ []) e = cc
+head_read at first (a ∷ b ∷ c ∷ []) e = cc
+head_read at first (a ∷ b ∷ c ∷ d ∷ []) e = cc
+head_read at first (a ∷ b ∷ c ∷ d ∷ v ∷ xs) e =
+    let k = passes (not (bytes_eq (a ∷ b ∷ c ∷ d ∷ []) magic)) NotAnObject _ _ e in
+    let same : a ∷ b ∷ c ∷ d ∷ [] ≡ magic = (bytes_decides (a ∷ b ∷ c ∷ d ∷ []) magic).0 (turned (bytes_eq (a ∷ b ∷ c ∷ d ∷ []) magic) k.0) in
+    let w = version (is_version v) (v, at + 5) first k.1 in
+    let v_is : v ≡ first.0 = ap (λ (p : ℕ × ℕ). p.0) w.1 in
+    (ap is_version (sym v_is) ∙ w.0, sym (ap (λ (p : ℕ × ℕ). p.1) w.1), λ i. same i ++ (v_is i ∷ xs))
+  where
+    turned : (b : Bool) → not b ≡ false → b ≡ true
+    turned true e = refl
+    turned false e = cc
+
+    version : (b : Bool) (n first : ℕ × ℕ) → (if b then Ok n else Err UnknownVersion) ≡ Ok first → (b ≡ true) × (n ≡ first)
+    version true n first e = (refl, cc)
+    version false n first e = cc
+
+end_read : (xs : List ℕ) (u : Unit {0}) → (if nat_lt 0 (length (take 1 xs)) then Err BytesAfterEnd else Ok tt) ≡ Ok u → xs ≡ []
+end_read [] u e = refl
+end_read (x ∷ xs) u e = cc
+
+finish_read : (t : State) (o : Object) → t.failed ≡ false → t.ended ≡ true → finished t ≡ Ok o → object_from t ≡ o
+finish_read t o running ended e = let same : ◌≡◌ {A = Result Object ObjectFault} (Ok (object_from t)) (Ok o) = sym (ap (λ b. if b then Err FailedBefore else (if t.ended then Ok (object_from t) else Err CutShort)) running ∙ ap (λ b. if b then Ok (object_from t) else Err CutShort) ended) ∙ e in cc
+
+pub read_is_object : (bytes : List ℕ) (at limit : ℕ) (o : Object) → IsBytes (room bytes at limit) → object_at at limit bytes ≡ Ok o → IsObject (room bytes at limit) o
+unfolding object_at
+read_is_object bytes at limit o is e =
+    let h = bound (head_at at limit bytes) _ _ e in
+    let begun = start h.0.0 in
+    let r = bound (records_at (length bytes) begun h.0.1 limit bytes) _ _ h.2 in
+    let v = bound (end_at r.0.1 limit bytes) _ _ r.2 in
+    let head = head_read at h.0 (room bytes at limit) h.1 in
+    let on : room bytes h.0.1 limit ≡ drop 5 (room bytes at limit) = ap (λ n. room bytes n limit) head.1 ∙ room_on bytes at 5 limit in
+    let t = trail (length bytes) bytes limit h.0.1 begun r.0.0 r.0.1 (subst IsBytes (sym on) (bytes_drop 5 (room bytes at limit) is)) r.1 in
+    let steps = after_steps t.0 begun r.0.0 [] (good_start h.0.0 head.0) (at_start h.0.0) t.1.each t.1.taken in
+    let version : h.0.0 ≡ r.0.0.version = sym (versions_kept t.0 begun r.0.0 t.1.taken) in
+    let none = end_read (room bytes r.0.1 limit) v.0 v.1 in
+    let o_is = finish_read r.0.0 o steps.0.failed t.1.ended v.2 in
+    subst (IsObject (room bytes at limit)) o_is (record {
+      good = finished_good r.0.0 steps.0 steps.1.texts t.1.ended;
+      numbers = finished_fits r.0.0 t.0 steps.1;
+      spelled =
+          head.2 ∙ ap (λ v. object_head v ++ drop 5 (room bytes at limit)) version ∙ ap (λ xs. object_head r.0.0.version ++ xs) (sym on ∙ t.1.spelled ∙ ap (λ xs. flat_map entry_bytes t.0 ++ xs) none ∙ nil (flat_map entry_bytes t.0) ∙ ap (flat_map entry_bytes) (sym (finished_entries r.0.0 t.0 steps.0 steps.1 t.1.ended)));
+    })
+
+-- ---- What is spelled as an object is read as that object, and as no other.
 
 head_again : (v at : ℕ) (xs : List ℕ) → is_version v ≡ true → head_of at (take 5 (object_head v ++ xs)) ≡ Ok (v, at + 5)
 head_again v at xs known = rw known refl

@@ -5,15 +5,15 @@ use Rattle.std.proofs.lemmas.List.{length-map, map-append}
 use Rattle.std.proofs.lemmas.List.Folds.{list_all-append}
 use Rattle.std.specs.List.{flat_map, list_all, AllByRecursion}
 use Rattle.std.specs.Str.{is_utf8}
-use Rattle.object65.specs.declared.draft.Draft.{Draft}
+use Rattle.object65.specs.declared.builder.Draft.{Draft}
 use Rattle.object65.specs.declared.fault.ObjectFault.{ObjectFault}
 use Rattle.object65.specs.declared.fault.ObjectFault.TheVariants.{FailedBefore, OutOfOrder, NotCanonical, IndexOutOfRange, BadSize}
 use Rattle.object65.specs.declared.object.Export.{Export}
 use Rattle.object65.specs.declared.object.Assert.{Assert}
-use Rattle.object65.specs.declared.item.Item.{Item}
-use Rattle.object65.specs.declared.item.Item.TheVariants as item
+use Rattle.object65.specs.declared.record.Item.{Item}
+use Rattle.object65.specs.declared.record.Item.TheVariants as item
 use Rattle.object65.specs.declared.object.Fragment.{Fragment}
-use Rattle.object65.specs.declared.room.Room.{Room}
+use Rattle.object65.specs.declared.scan.Room.{Room}
 use Rattle.object65.specs.Bodies.{Heading, section_of, end_of, export_of, assert_of}
 use Rattle.object65.specs.Folding.{is_within, is_normal, node_limit}
 use Rattle.object65.specs.Form.{Form, nodes}
@@ -23,15 +23,13 @@ use Rattle.object65.specs.Small.{is_small_text}
 use Rattle.object65.specs.Spelling.{file_entry, import_entry, export_entry, assert_entry, end_entry}
 use Rattle.object65.specs.Items.{State, empty_draft, grown, is_none, start, with_item, with_piece}
 use Rattle.object65.specs.Scanning
-use Rattle.object65.specs.Taking.{after, after_all}
-use Rattle.object65.proofs.Closings.{turned, nil, all_push}
+use Rattle.object65.specs.Scanning.{after, after_all}
+use Rattle.object65.proofs.Closings.{turned, nil, all_push, all_full, none_open, opened}
 use Rattle.object65.proofs.Fields.{export_by, export_reads, assert_by, assert_reads}
 use Rattle.object65.proofs.Goods.{left, right, and}
 use Rattle.object65.proofs.Reached.{Reached, GoodState, GoodDraft, IsEmptyDraft, FitExport, FitAssert, Grows, is_open_form, heading_entry, content_entries, distinct_push, end_entries, entries_so_far, fill_placed, has_good_values, literal_placed, rows, value_placed, values_with_piece, either, none_is, none_of, empties_none, empties_fill, empties_good, empties_fit, names_push, heading_read, heading_spelled, parts_known, literal_grows, fill_grows, value_grows, open_form, goes_in}
-use Rattle.object65.proofs.Openings.{all_full, none_open, opened}
-use Rattle.object65.proofs.Rooms.{bound, passes}
+use Rattle.object65.proofs.Trails.{bound, passes, IsReadEntry}
 use Rattle.object65.proofs.Scannings.{wanted}
-use Rattle.object65.proofs.Trails.{IsReadEntry}
 
 -- what a record that is taken does
 pub record Step (s t : State) (e : Entry) : Type 0 where

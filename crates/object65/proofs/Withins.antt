@@ -1,33 +1,82 @@
--- What the items of records keep to.
-use Rattle.std.proofs.Common.{◌≡◌, ◌∙◌, ◌+◌, ◌≤◌, ℕ, zero, suc, List, [], ◌∷◌, ◌++◌, length, Option, Some, Bool, true, false, ◌==◌, if◌then◌else◌, Result, Ok, Err, refl, sym, ap, subst, arith}
-use Rattle.std.specs.Prelude.{slice_get, slice_set, IfOk}
+-- What holds of a builder, and what the items of records keep to.
+use Rattle.std.proofs.Common.{◌≡◌, ◌∙◌, ◌≤◌, ℕ, List, [], ◌∷◌, ◌++◌, length, true, ◌&&◌, nat_le, Result, Ok, Err, refl, ap, subst, arith, ◌+◌, zero, suc, Option, Some, Bool, false, ◌==◌, if◌then◌else◌, sym}
 use Rattle.std.proofs.lemmas.Bool.Decides.{nat_tests}
-use Rattle.std.specs.List.{AllByRecursion, list_all}
-use Rattle.std.proofs.lemmas.List.Folds.{list_all-append}
-use Rattle.object65.specs.declared.draft.Draft.{Draft}
+use Rattle.std.specs.List.{list_all, AllByRecursion}
 use Rattle.object65.specs.declared.fault.ObjectFault.{ObjectFault}
+use Rattle.object65.specs.declared.object.Object.{Object}
+use Rattle.object65.specs.declared.object.Section.{Section}
+use Rattle.std.specs.Prelude.{IfOk, slice_get, slice_set}
+use Rattle.object65.specs.Record.{◌>>=◌, Gives, is_memory, Entry, is_version}
+use Rattle.object65.specs.Objects.{is_good_object, is_good_section, is_good_fragment, are_apart, section_len, section_limit, fragment_len}
+use Rattle.object65.specs.Small.{is_small_text}
+use Rattle.object65.specs.Scanning
+use Rattle.object65.proofs.Goods.{left, right, parts, and}
+use Rattle.object65.proofs.Spellings.{finished_good}
+use Rattle.object65.proofs.Reached.{GoodState, GoodDraft}
+use Rattle.object65.proofs.Trails.{bound, version_kept, going}
+use Rattle.object65.proofs.Steps.{good_after, good_start}
+use Rattle.std.proofs.lemmas.List.Folds.{list_all-append}
+use Rattle.object65.specs.declared.builder.Draft.{Draft}
 use Rattle.object65.specs.declared.fault.ObjectFault.TheVariants.{FailedBefore, FileError, OutOfOrder}
-use Rattle.object65.specs.declared.item.Item.{Item}
-use Rattle.object65.specs.declared.item.Item.TheVariants as item
+use Rattle.object65.specs.declared.record.Item.{Item}
+use Rattle.object65.specs.declared.record.Item.TheVariants as item
 use Rattle.object65.specs.declared.object.Fragment.{Fragment}
 use Rattle.object65.specs.declared.object.Fragment.TheVariants.{Literal, Fill, Value}
 use Rattle.object65.specs.declared.object.Assert.{Assert}
-use Rattle.object65.specs.declared.parts.Parts.{Parts}
-use Rattle.object65.specs.Fault.{◌>>=◌, Gives, is_memory}
+use Rattle.object65.specs.declared.builder.Parts.{Parts}
 use Rattle.object65.specs.Items.{State, grown, with_item, with_piece, with_piece_in, empty_draft, has_small_text}
-use Rattle.object65.specs.Objects.{fragment_len, section_limit}
-use Rattle.object65.specs.Record.{Entry}
-use Rattle.object65.specs.Scanning
-use Rattle.object65.specs.Small.{is_small_text}
 use Rattle.object65.specs.Inner.Sound.{HasRoom, IsWhole, Stands, state_in, state_of, unmarked}
-use Rattle.object65.specs.Taking.{IsReached, after}
+use Rattle.object65.specs.Scanning.{IsReached, after}
 use Rattle.base65.specs.Outcome.{Unless}
-use Rattle.object65.proofs.Builders.{reached_next, reached_parts}
-use Rattle.object65.proofs.Goods.{and}
-use Rattle.object65.proofs.Rooms.{bound}
-use Rattle.object65.proofs.Reached.{GoodState, GoodDraft}
 use Rattle.object65.proofs.Scannings.{IsPlaced, Leads, is_end, leads}
-use Rattle.object65.proofs.Trails.{going}
+
+-- ---- What holds of a builder while it hasn't failed.
+
+after_last : (s t u : Scanning.State) (es : List Entry) (e : Entry) → Scanning.after_all s es ≡ Ok t → Scanning.after t e ≡ Ok u → Scanning.after_all s (es ++ e ∷ []) ≡ Ok u
+after_last s t u [] e h k = let same : s ≡ t = cc in ap (λ r. r >>= (λ v. Ok v)) (ap (λ (v : Scanning.State). Scanning.after v e) same ∙ k)
+after_last s t u (x ∷ es) e h k =
+    let v = bound (Scanning.after s x) _ _ h in
+    ap (λ r. r >>= (λ w. Scanning.after_all w (es ++ e ∷ []))) v.1 ∙ after_last v.0 t u es e v.2 k
+
+-- what a record leads to is reached
+pub reached_next : (s t : Scanning.State) (e : Entry) → Scanning.IsReached s → Scanning.after s e ≡ Ok t → Scanning.IsReached t
+reached_next s t e r h =
+    let same = version_kept s t e h in
+    record {
+      version = ap is_version same ∙ r.version;
+      records = r.records ++ e ∷ [];
+      stands = ap (λ v. Scanning.after_all (Scanning.start v) (r.records ++ e ∷ [])) same ∙ after_last (Scanning.start s.version) s t r.records e r.stands h;
+    }
+
+pub reached_start : (v : ℕ) → is_version v ≡ true → Scanning.IsReached (Scanning.start v)
+reached_start v known = record { version = known; records = []; stands = refl }
+
+good_all : (s t : Scanning.State) (es : List Entry) → GoodState s → Scanning.after_all s es ≡ Ok t → GoodState t
+good_all s t [] g h = let same : s ≡ t = cc in subst GoodState same g
+good_all s t (e ∷ es) g h = let u = bound (Scanning.after s e) _ _ h in good_all u.0 t es (good_after s u.0 e g u.1) u.2
+
+pub reached_parts : (s : Scanning.State) → Scanning.IsReached s → GoodState s
+reached_parts s r = good_all (Scanning.start s.version) s r.records (good_start s.version r.version) r.stands
+
+pub reached_good : (s : Scanning.State) → Scanning.IsReached s → list_all (λ a. is_small_text a.text) s.asserts ≡ true → s.ended ≡ true → is_good_object (Scanning.object_from s) ≡ true
+reached_good s r texts ended = finished_good s (reached_parts s r) texts ended
+
+sized_sections : (n i : ℕ) (xs : List Section) → list_all (is_good_section n i) xs ≡ true → AllByRecursion (λ s. section_len s ≤ section_limit) xs
+sized_sections n i [] e = tt
+sized_sections n i (x ∷ xs) e =
+    let good = left (is_good_section n i x) (list_all (is_good_section n i) xs) e in
+    let a = left (nat_le x.align 15 && nat_le (section_len x) section_limit && list_all (is_good_fragment n i) x.fragments) (are_apart x.fragments) good in
+    let size = right (nat_le x.align 15) (nat_le (section_len x) section_limit) (left (nat_le x.align 15 && nat_le (section_len x) section_limit) (list_all (is_good_fragment n i) x.fragments) a) in
+    (grind (arith, nat_tests), sized_sections n i xs (right (is_good_section n i x) (list_all (is_good_section n i) xs) e))
+
+-- the sections of an object of the grammar are within their limit
+pub good_sized : (o : Object) → is_good_object o ≡ true → AllByRecursion (λ s. section_len s ≤ section_limit) o.sections
+good_sized o e = sized_sections (length o.sections) (length o.imports) o.sections (parts o e).sections
+
+-- what holds of the one thing that may be given holds of what was given
+pub if_given : {X : Type 0} (result : Result X ObjectFault) (x : X) (P : X → Type 0) → Gives is_memory (λ y. y) result (Ok x) → P x → IfOk result P
+if_given (Ok y) x P given p = let same : x ≡ y = cc in subst P same p
+if_given (Err f) x P given p = tt
 
 -- ---- A call's answer.
 

@@ -13,7 +13,7 @@ use Rattle.object65.specs.declared.object.Export.{Export}
 use Rattle.object65.specs.declared.object.Origin.{Origin}
 use Rattle.object65.specs.declared.object.Width.{Width}
 use Rattle.object65.specs.declared.object.Width.TheVariants.{Byte, Word, HighFirst, Dword, Branch}
-use Rattle.object65.specs.Fault.{◌>>=◌}
+use Rattle.object65.specs.Record.{◌>>=◌}
 use Rattle.object65.specs.Operators.{op1_of, op2_of}
 use Rattle.object65.specs.Form.{Form, lit, sec, imp, prefix, binary}
 use Rattle.object65.specs.Objects.{section_limit}

@@ -1,8 +1,8 @@
 -- An object in the making, and what it becomes by an item.
 use Rattle.std.specs.Prelude.{ℕ, ◌+◌, List, [], ◌∷◌, ◌++◌, length, map, slice_get, slice_set, Option, Some, None, Bool, true, false, ◌==◌, if◌then◌else◌}
-use Rattle.object65.specs.declared.draft.Draft.{Draft}
-use Rattle.object65.specs.declared.item.Item.{Item}
-use Rattle.object65.specs.declared.item.Item.TheVariants.{File, Import, Section, Part, Export, Assert, End}
+use Rattle.object65.specs.declared.builder.Draft.{Draft}
+use Rattle.object65.specs.declared.record.Item.{Item}
+use Rattle.object65.specs.declared.record.Item.TheVariants.{File, Import, Section, Part, Export, Assert, End}
 use Rattle.object65.specs.declared.object.Assert as assert
 use Rattle.object65.specs.declared.object.Export as export
 use Rattle.object65.specs.declared.object.Fragment.{Fragment}

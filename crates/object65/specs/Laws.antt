@@ -4,20 +4,16 @@ use Rattle.byteorder.specs.Endian.{little_number}
 use Rattle.base65.specs.declared.values.Op1.{Op1}
 use Rattle.base65.specs.declared.values.Op2.{Op2}
 use Rattle.object65.specs.declared.object.Object.{Object}
-use Rattle.object65.specs.Bytes.{IsBytes}
+use Rattle.object65.specs.Record.{IsBytes, ◌>>=◌, Entry}
 use Rattle.object65.specs.Folding.{fold1, fold2, folds1, folds2, is_normal, node_limit}
 use Rattle.object65.specs.Form.{Form, prefix, binary, nodes}
 use Rattle.object65.specs.FormValue.{value_in, value_of_one, value_of_two}
 use Rattle.object65.specs.Objects.{ObjectFits, is_good_object}
-use Rattle.object65.specs.Reading.{room, file_limit}
+use Rattle.object65.specs.Reading.{room, file_limit, object_at}
 use Rattle.object65.specs.Spelling.{IsObject}
-use Rattle.object65.specs.Fault.{◌>>=◌}
 use Rattle.object65.specs.Items.{with_items}
-use Rattle.object65.specs.Record.{Entry}
-use Rattle.object65.specs.Scanning.{items_of, outline_of}
-use Rattle.object65.specs.Taking.{State, after_all}
+use Rattle.object65.specs.Scanning.{items_of, outline_of, State, after_all}
 use Rattle.object65.specs.Versions.{in_version_one}
-use Rattle.object65.specs.Whole.{object_at}
 
 -- what is read as an object is spelled so
 abbrev pub ReadLaw : Type 0

@@ -1,14 +1,17 @@
--- Reading an object from left to right, with the first fault that is met.
-use Rattle.std.specs.Prelude.{◌≡◌, ℕ, ◌+◌, ◌-◌, List, length, take, drop, get_or, Option, Some, None, Result, Ok, Err, nat_lt, ◌||◌, not, if◌then◌else◌, ⊤}
+-- How an object stands in a file.
+use Rattle.std.specs.Prelude.{◌≡◌, ℕ, ◌+◌, ◌-◌, List, length, take, drop, get_or, Option, Some, None, Result, Ok, Err, nat_lt, ◌||◌, not, if◌then◌else◌, ⊤, [], Bool, nat_le, ◌&&◌, zero, suc}
 use Rattle.std.specs.Str.{bytes_eq}
 use Rattle.byteorder.specs.Endian.{little_number}
 use Rattle.object65.specs.declared.fault.ObjectFault.{ObjectFault}
 use Rattle.object65.specs.declared.fault.ObjectFault.TheVariants.{NotAnObject, UnknownVersion, CutShort, UnknownRecord, BadSize, FileNotFound, BytesAfterEnd}
-use Rattle.object65.specs.Fault.{◌>>=◌}
-use Rattle.object65.specs.Record.{Entry, is_record_kind, is_version}
+use Rattle.object65.specs.Record.{◌>>=◌, Entry, is_record_kind, is_version}
 use Rattle.object65.specs.Spelling.{magic, body_limit}
 use Rattle.base65.specs.declared.store.StoreFault.{StoreFault}
 use Rattle.base65.specs.declared.store.StoreFault.TheVariants as store
+use Rattle.object65.specs.declared.object.Object.{Object}
+use Rattle.object65.specs.Scanning.{State, start, after, finished}
+
+-- ---- Reading an object from left to right, with the first fault that is met.
 
 -- what a file has from a place on, up to the end of a member's room
 abbrev pub room : List ℕ → ℕ → ℕ → List ℕ
@@ -62,3 +65,51 @@ IsRoomRead (Some bytes) at limit buf (Ok n) = (take n buf ≡ take (length buf) 
 IsRoomRead file at limit buf (Err store.FileNotFound) = file ≡ None
 IsRoomRead file at limit buf (Err store.FileError) = ⊤
 IsRoomRead file at limit buf (Err store.OutOfMemory) = ⊤
+
+-- ---- Bytes that a reader of records has read ahead.
+
+-- What a reader is seen as: the record that it read last, and bytes of a file from a place on.
+pub record Reader : Type 0 where
+  pub entry : Entry
+  pub begin : ℕ
+  pub ahead : List ℕ
+
+-- these bytes are the file's; of a file that isn't there there are none
+abbrev pub IsAhead : Option (List ℕ) → Reader → Type 0
+IsAhead None r = r.ahead ≡ []
+IsAhead (Some bytes) r = r.ahead ≡ take (length r.ahead) (drop r.begin bytes)
+
+-- those of bytes that stand at a place and behind it, where the first stands at another
+abbrev pub from_place : List ℕ → ℕ → ℕ → List ℕ
+from_place bytes begin at = if nat_lt at begin then [] else drop (at - begin) bytes
+
+-- how many bytes the record has with which these begin
+abbrev pub record_len : List ℕ → ℕ
+record_len bytes = 3 + little_number 2 (take 2 (drop 1 bytes))
+
+-- bytes begin with a whole record
+abbrev pub has_record : List ℕ → Bool
+has_record bytes = nat_le 3 (length bytes) && nat_le (record_len bytes) (length bytes)
+
+-- the record with which bytes begin that stand at a place, and where the next begins
+unfoldable pub record_in : ℕ → ℕ → List ℕ → Result (Entry × ℕ) ObjectFault
+record_in version at bytes = do
+  front ← front_of version (take 3 bytes)
+  body ← whole front.1 (take front.1 (room bytes 3 (length bytes)))
+  ending at front.0 front.1 body
+
+-- ---- A whole object in a file.
+
+-- Record by record, each first read and then taken, up to the END: at most so many records. The state, and
+-- where the END ends.
+abbrev pub records_at : ℕ → State → ℕ → ℕ → List ℕ → Result (State × ℕ) ObjectFault
+records_at zero s at limit bytes = Err CutShort
+records_at (suc n) s at limit bytes = record_at s.version at limit bytes >>= (λ r. after s r.0 >>= (λ t. if t.ended then Ok (t, r.1) else records_at n t r.1 limit bytes))
+
+-- the object that stands from a place on up to the end of its room, or the first fault
+unfoldable pub object_at : ℕ → ℕ → List ℕ → Result Object ObjectFault
+object_at at limit bytes = do
+  first ← head_at at limit bytes
+  end ← records_at (length bytes) (start first.0) first.1 limit bytes
+  u ← end_at end.1 limit bytes
+  finished end.0

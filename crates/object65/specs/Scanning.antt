@@ -1,27 +1,28 @@
--- What a record says in its turn: its item or the first fault, by what is kept of the records before it.
+-- What records say, and what is kept of them.
 use Rattle.std.specs.Prelude.{◌≡◌, ℕ, ◌+◌, ◌-◌, ◌%◌, ◌≤◌, List, [], ◌∷◌, ◌++◌, length, map, slice_get, slice_set, Option, Some, None, Bool, true, false, Result, Ok, Err, nat_le, ◌==◌, ◌&&◌, not, if◌then◌else◌, ⊤}
 use Rattle.std.specs.List.{list_all, prefix_len}
 use Rattle.std.specs.Str.{is_utf8}
 use Rattle.object65.specs.declared.fault.ObjectFault.{ObjectFault}
 use Rattle.object65.specs.declared.fault.ObjectFault.TheVariants.{FailedBefore, CutShort, OutOfOrder, IndexOutOfRange, BadSize, NotCanonical}
-use Rattle.object65.specs.declared.draft.Draft.{Draft}
-use Rattle.object65.specs.declared.item.Item.{Item}
-use Rattle.object65.specs.declared.item.Item.TheVariants.{File, Import, Section, Part, Export, Assert, End}
+use Rattle.object65.specs.declared.builder.Draft.{Draft}
+use Rattle.object65.specs.declared.record.Item.{Item}
+use Rattle.object65.specs.declared.record.Item.TheVariants.{File, Import, Section, Part, Export, Assert, End}
 use Rattle.object65.specs.declared.object.Fragment.{Fragment}
 use Rattle.object65.specs.declared.object.Origin.{Origin}
 use Rattle.object65.specs.declared.object.Fragment.TheVariants.{Literal, Fill, Value}
-use Rattle.object65.specs.declared.room.Last.{Last}
-use Rattle.object65.specs.declared.room.Last.TheVariants as last
-use Rattle.object65.specs.declared.room.Room.{Room}
+use Rattle.object65.specs.declared.scan.Last.{Last}
+use Rattle.object65.specs.declared.scan.Last.TheVariants as last
+use Rattle.object65.specs.declared.scan.Room.{Room}
 use Rattle.object65.specs.Bodies.{Heading, section_of, literal_of, fill_of, value_of, export_of, assert_of, end_of}
-use Rattle.object65.specs.Fault.{◌>>=◌}
+use Rattle.object65.specs.Record.{◌>>=◌, Entry, is_record_kind, is_version}
 use Rattle.object65.specs.Folding.{is_within, is_normal, is_literal, node_limit}
 use Rattle.object65.specs.Form.{Form, nodes}
-use Rattle.object65.specs.Items.{State, is_none, closed}
+use Rattle.object65.specs.Items.{State, is_none, closed, with_item}
 use Rattle.object65.specs.Objects.{is_name, is_among, is_file_name, fragment_len, has_file, section_limit, width_len}
-use Rattle.object65.specs.Record.{Entry, is_record_kind}
 use Rattle.object65.specs.Spelling.{body_limit}
 use Rattle.object65.specs.Small.{is_small_text}
+use Rattle.object65.specs.declared.object.Object.{Object}
+pub use Rattle.object65.specs.Items.{State, start, section_from, object_from}
 
 -- ---- What is asked.
 
@@ -263,3 +264,29 @@ IsWithin o (Part k offset f) = (room : Room) × (slice_get o.rooms k ≡ Some ro
 IsWithin o (Export name origin form) = ⊤
 IsWithin o (Assert action origin text form) = is_small_text text ≡ true
 IsWithin o End = ⊤
+
+-- ---- What a builder becomes by one record after another: what the items make that a scan gives.
+
+-- the state behind a record, or the first fault
+unfoldable pub after : State → Entry → Result State ObjectFault
+after s e = scanned (outline_of s) e >>= (λ x. Ok (with_item s x.1))
+
+-- ---- Many records.
+
+abbrev pub after_all : State → List Entry → Result State ObjectFault
+after_all s [] = Ok s
+after_all s (e ∷ es) = after s e >>= (λ t. after_all t es)
+
+-- a state stands for the records that lead to it from an empty object of its version
+abbrev pub StandsFor : State → List Entry → Type 0
+StandsFor s es = after_all (start s.version) es ≡ Ok s
+
+-- some records of a version that is there lead to it
+pub record IsReached (s : State) : Type 0 where
+  pub version : is_version s.version ≡ true
+  pub records : List Entry
+  pub stands : StandsFor s records
+
+-- the object, where its END was taken
+abbrev pub finished : State → Result Object ObjectFault
+finished s = if s.failed then Err FailedBefore else if s.ended then Ok (object_from s) else Err CutShort

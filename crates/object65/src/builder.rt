@@ -1,19 +1,199 @@
 //! An object from its records.
 
-ghost use Rattle.std.specs.Prelude.{◌≡◌, ◌≤◌, OnErr, IfOk, Err, true};
-ghost use Rattle.object65.specs.Fault.{Gives, is_memory};
-ghost use Rattle.object65.specs.Objects.{is_good_object, section_len, section_limit};
-ghost use Rattle.object65.specs.Record.{entry_of, is_version};
+ghost use Rattle.std.specs.Prelude.{◌≡◌, ◌≤◌, ◌<◌, ◌+◌, [], Ok, OnOk, length, get_or, map, OnErr, IfOk, Err, true};
+ghost use Rattle.object65.specs.Record.{Gives, is_memory, entry_of, is_version};
+ghost use Rattle.object65.specs.Items.{closed, grown, with_fragment, with_item, with_piece, section_from, object_from};
+ghost use Rattle.object65.specs.Objects.{fragment_len, is_good_object, section_len, section_limit};
+ghost use Rattle.object65.specs.Inner.Sound.{HasPlace, HasRoom, state_of, unmarked};
 ghost use Rattle.std.specs.List.{AllByRecursion};
-ghost use Rattle.object65.specs.Taking.{start, after, finished};
+ghost use Rattle.object65.specs.Scanning.{start, after, finished};
 
-use crate::adding::add_item;
-use crate::finishing::finish_object;
-use crate::parts::Parts;
-use crate::{Object, ObjectFault, Record, Scan};
+use crate::filling::width_size;
+use crate::{Assert, Export, Fragment, Item, Object, ObjectFault, Record, Scan, Section};
 use base65::Sequence;
 use std::alloc::Global;
 use std::marker::Model;
+use std::mem;
+
+/// A section in the making.
+#[derive(Drop)]
+pub struct Draft {
+    pub name: Sequence<u8>,
+    pub align: u8,
+    /// How many bytes the section will have.
+    pub size: u32,
+    /// How many it has.
+    pub filled: u32,
+    pub fragments: Sequence<Fragment>,
+    /// The literal behind these fragments, to which the next one is joined.
+    pub literal: Sequence<u8>,
+}
+
+/// What has been taken of an object.
+#[derive(Drop)]
+pub struct Parts {
+    pub alloc: Global,
+    pub version: u8,
+    pub files: Sequence<Sequence<u8>>,
+    pub imports: Sequence<Sequence<u8>>,
+    pub drafts: Vec<Draft>,
+    pub exports: Sequence<Export>,
+    pub asserts: Sequence<Assert>,
+}
+
+/// Puts the literal in the making behind the other fragments.
+fn close_literal(alloc: Global, draft: &mut Draft) -> Result<(), ObjectFault>
+    ensures closed { OnOk result (draft.new ≡ record draft.old { fragments = closed draft.old; literal = [] }) }
+    ensures memory { Gives is_memory (λ u. u) result (Ok tt) }
+{
+    if draft.literal.len() > 0 {
+        let literal = mem::replace(&mut draft.literal, Sequence::new(alloc));
+        draft.fragments.push(Fragment::Literal(literal))?;
+    }
+    Ok(())
+}
+
+/// Puts a fragment that is no literal behind the others.
+fn push_fragment(
+    alloc: Global,
+    draft: &mut Draft,
+    len: u32,
+    fragment: Fragment,
+) -> Result<(), ObjectFault>
+    requires { draft.old.filled + len ≤ draft.old.size }
+    ensures pushed { Gives is_memory (λ _. draft.new) result (Ok (with_fragment draft.old len fragment)) }
+{
+    close_literal(alloc, draft)?;
+    draft.fragments.push(fragment)?;
+    draft.filled += len;
+    Ok(())
+}
+
+/// Adds a fragment to a section.
+fn grow(alloc: Global, draft: &mut Draft, fragment: Fragment) -> Result<(), ObjectFault>
+    requires { draft.old.filled + fragment_len fragment ≤ draft.old.size }
+    ensures { Gives is_memory (λ _. draft.new) result (Ok (grown draft.old fragment)) }
+{
+    match fragment {
+        Fragment::Literal(bytes) => {
+            draft.literal.extend_from_slice(bytes.as_slice())?;
+            draft.filled += bytes.len() as u32;
+            Ok(())
+        }
+        Fragment::Fill(count) => push_fragment(alloc, draft, count, Fragment::Fill(count)),
+        Fragment::Value {
+            width,
+            origin,
+            form,
+        } => push_fragment(
+            alloc,
+            draft,
+            width_size(width),
+            Fragment::Value {
+                width,
+                origin,
+                form,
+            },
+        ),
+    }
+}
+
+/// Adds a fragment to the section at a place.
+fn add_piece(parts: &mut Parts, at: usize, fragment: Fragment) -> Result<(), ObjectFault>
+    requires { HasPlace parts.old.drafts.items at fragment }
+    ensures { Gives is_memory (λ _. state_of parts.new) result (Ok (record (state_of parts.old) { drafts = with_piece parts.old.drafts.items at fragment })) }
+{
+    let alloc = parts.alloc;
+    let draft = &mut parts.drafts[at];
+    grow(alloc, draft, fragment)
+}
+
+/// Adds a section that has no fragment yet.
+fn add_draft(parts: &mut Parts, name: Sequence<u8>, size: u32, align: u8) -> Result<(), ObjectFault>
+    ensures { Gives is_memory (λ _. state_of parts.new) result (Ok (with_item (state_of parts.old) (Item.Section name size align))) }
+{
+    let fragments = Sequence::new(parts.alloc);
+    let literal = Sequence::new(parts.alloc);
+    parts.drafts.push(Draft {
+        name,
+        align,
+        size,
+        filled: 0,
+        fragments,
+        literal,
+    })?;
+    Ok(())
+}
+
+/// Adds an item.
+pub fn add_item(parts: &mut Parts, item: Item) -> Result<(), ObjectFault>
+    requires { HasRoom parts.old.drafts.items item }
+    ensures { Gives is_memory (λ _. state_of parts.new) result (Ok (unmarked (with_item (state_of parts.old) item))) }
+{
+    match item {
+        Item::File(name) => parts.files.push(name)?,
+        Item::Import(name) => parts.imports.push(name)?,
+        Item::Section(name, size, align) => add_draft(parts, name, size, align)?,
+        Item::Part(at, _, fragment) => add_piece(parts, at, fragment)?,
+        Item::Export(name, origin, form) => parts.exports.push(Export { name, origin, form })?,
+        Item::Assert(action, origin, text, form) => parts.asserts.push(Assert {
+            action,
+            origin,
+            text,
+            form,
+        })?,
+        Item::End => {}
+    }
+    Ok(())
+}
+
+/// The section, with its last literal in place.
+fn finish_section(draft: Draft) -> Result<Section, ObjectFault>
+    ensures { Gives is_memory (λ s. s) result (Ok (section_from draft)) }
+{
+    let Draft {
+        name,
+        align,
+        size: _,
+        filled: _,
+        fragments,
+        literal,
+    } = draft;
+    let mut fragments = fragments;
+    if literal.len() > 0 {
+        fragments.push(Fragment::Literal(literal))?;
+    }
+    Ok(Section {
+        name,
+        align,
+        fragments,
+    })
+}
+
+fn finish_sections(alloc: Global, drafts: Vec<Draft>) -> Result<Vec<Section>, ObjectFault>
+    ensures { Gives is_memory (λ v. v.items) result (Ok (map section_from drafts.items)) }
+{
+    let mut sections = Vec::new(alloc);
+    for draft in drafts {
+        sections.push(finish_section(draft)?)?;
+    }
+    Ok(sections)
+}
+
+/// The object of the parts.
+pub fn finish_object(parts: Parts) -> Result<Object, ObjectFault>
+    ensures { Gives is_memory (λ o. o) result (Ok (object_from (state_of parts))) }
+{
+    let sections = finish_sections(parts.alloc, parts.drafts)?;
+    Ok(Object {
+        version: parts.version,
+        files: parts.files,
+        imports: parts.imports,
+        sections: Sequence::from_vec(sections),
+        exports: parts.exports,
+        asserts: parts.asserts,
+    })
+}
 
 /// An object in the making, which stands for the records taken so far.
 pub struct Builder {
@@ -26,7 +206,7 @@ pub struct Builder {
 
 impl Model for Builder {
     ghost use Rattle.std.specs.Prelude.{◌≡◌, false};
-    ghost use Rattle.object65.specs.Taking.{State};
+    ghost use Rattle.object65.specs.Scanning.{State};
     ghost use Rattle.std.specs.Coded.{codes};
     ghost use Rattle.object65.specs.Form.{form_code};
 
@@ -73,7 +253,7 @@ impl Builder {
     }
 
     /// Takes the next record. After a refusal each call answers that it failed before.
-    #[tactic(auto, unfolding(crate::specs::Taking::after, crate::specs::Scanning::scanned))]
+    #[tactic(auto, unfolding(crate::specs::Scanning::after, crate::specs::Scanning::scanned))]
     pub fn take(&mut self, next: &Record) -> Result<(), ObjectFault>
         ensures taken { Gives is_memory (λ _. self.new) result (after self.old (entry_of next.now)) }
         ensures failed { OnErr result (self.new.failed ≡ true) }

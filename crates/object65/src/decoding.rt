@@ -1,9 +1,8 @@
 //! Decodes an object's head and its records from bytes that are there, wherever they were read from.
 
 ghost use Rattle.std.specs.Prelude.{◌≡◌, ◌≤◌, ◌+◌, ◌<◌, ◌^◌, true, false, length, take, IfErr, IfOk};
-ghost use Rattle.object65.specs.Fault.{Gives, is_memory, is_outside};
+ghost use Rattle.object65.specs.Record.{Gives, is_memory, is_outside, entry_of, is_record_kind, is_version};
 ghost use Rattle.object65.specs.Reading.{front_of, head_of, record_at, room, whole};
-ghost use Rattle.object65.specs.Record.{entry_of, is_record_kind, is_version};
 ghost use Rattle.object65.specs.Spelling.{body_limit};
 
 use crate::format::{END, FILE, FILE_LIMIT, IMPORT, LARGEST_BODY, MAGIC, VERSION_ONE, VERSION_TWO};

@@ -43,7 +43,7 @@ impl<T: Drop> From<AllocFailed<T>> for ObjectFault {
 
 impl From<StoreFault> for ObjectFault {
     ghost use Rattle.std.specs.Prelude.{◌≡◌};
-    ghost use Rattle.object65.specs.Fault.{of_store};
+    ghost use Rattle.object65.specs.Record.{of_store};
 
     ghost from_gives = { λ s e. e ≡ of_store s };
 
@@ -58,7 +58,7 @@ impl From<StoreFault> for ObjectFault {
 
 impl fmt::Display for ObjectFault {
     ghost use Rattle.std.specs.Prelude.{Some};
-    ghost use Rattle.object65.specs.Fault.{fault_text};
+    ghost use Rattle.object65.specs.Record.{fault_text};
 
     ghost output = { λ e. Some (fault_text e) };
 

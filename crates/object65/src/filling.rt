@@ -2,15 +2,14 @@
 
 ghost use Rattle.std.specs.Prelude.{◌≡◌, ◌≤◌, ◌+◌, ◌%◌, length, Ok};
 ghost use Rattle.object65.specs.Bodies.{fill_of, value_of, width_of};
-ghost use Rattle.object65.specs.Fault.{Gives, is_memory};
+ghost use Rattle.object65.specs.Record.{Gives, is_memory};
 ghost use Rattle.object65.specs.Objects.{has_file, width_len};
 ghost use Rattle.object65.specs.Scanning.{canonical, canonical_open, known, known_file, known_parts, room_for, room_behind, room_literal, room_fill, room_value};
 
+use crate::folding::{are_there, is_folded, is_limited, is_number};
 use crate::format::LARGEST_BODY;
 use crate::forming::{byte_at, form_of, origin_at};
-use crate::kept::Kept;
-use crate::normal::{are_there, is_folded, is_limited, is_number};
-use crate::room::{Last, Room};
+use crate::scan::{Kept, Last, Room};
 use crate::taking::check;
 use crate::{Fragment, Norm, ObjectFault, Origin, Width};
 use base65::Sequence;

@@ -3,7 +3,7 @@
 ghost use Rattle.std.specs.Prelude.{◌≡◌, ◌≤◌, ◌+◌, length, Ok, IfOk, IfSome, take, drop};
 ghost use Rattle.std.specs.Int.{w64, cast_signed};
 ghost use Rattle.object65.specs.Bodies.{number_at, text_at, counted_at, op1_at, op2_at, lit_at, sec_at, imp_at, prefix_at, binary_at, operation_at, form_of_code, form_at, form_of_all, signed_at, line_at, file_line_at, origin_at};
-ghost use Rattle.object65.specs.Fault.{Gives, is_memory};
+ghost use Rattle.object65.specs.Record.{Gives, is_memory};
 
 use crate::{Node, Norm, ObjectFault, Origin};
 use base65::{Op1, Op2};

@@ -1,29 +1,19 @@
 //! Objects: modules in parts, as records in a file and as values.
 #![tactic(auto)]
 
-mod adding;
 mod builder;
 mod decoding;
-mod draft;
 mod fault;
 mod filling;
-mod finishing;
 mod folding;
 mod form;
 pub mod format;
 mod forming;
-mod item;
-mod kept;
 pub mod laws;
-mod loading;
-mod naming;
-mod normal;
 mod object;
-mod parts;
 mod reading;
 mod record;
 mod record_reader;
-mod room;
 mod scan;
 mod storing;
 mod taking;
@@ -34,11 +24,9 @@ pub use decoding::{decode_head, decode_record};
 pub use fault::ObjectFault;
 pub use folding::FormFault;
 pub use form::{Node, Norm};
-pub use item::Item;
-pub use loading::read_object;
 pub use object::{Action, Assert, Export, Fragment, Object, Origin, Section, Width};
-pub use reading::{check_end, read_head};
-pub use record::Record;
+pub use reading::{check_end, read_head, read_object};
+pub use record::{Item, Record};
 pub use record_reader::{RecordReader, read_record};
 pub use scan::Scan;
 pub use storing::{fits, put};

@@ -3,10 +3,8 @@
 ghost use Rattle.std.specs.Prelude.{◌≡◌, ◌≤◌, ◌<◌, ◌+◌, ◌-◌, ◌^◌, [], Ok, length, false, IfOk, IfErr, IfSome, OnOk, OnErr, take, IsErrOf};
 ghost use Rattle.std.specs.FinMap as map;
 ghost use Rattle.base65.specs.Store.{Passes, Asks, IsBlamed};
-ghost use Rattle.object65.specs.Fault.{Gives, is_memory, is_outside};
-ghost use Rattle.object65.specs.Record.{entry_of};
-ghost use Rattle.object65.specs.Ahead.{IsAhead, from_place, has_record, record_in};
-ghost use Rattle.object65.specs.Reading.{in_file, record_at, room, file_limit};
+ghost use Rattle.object65.specs.Record.{Gives, is_memory, is_outside, entry_of};
+ghost use Rattle.object65.specs.Reading.{IsAhead, from_place, has_record, record_in, in_file, record_at, room, file_limit};
 
 use crate::decoding::{body_at, decode_front, fill};
 use crate::format::{FILE_LIMIT, LARGEST_BODY};
@@ -35,7 +33,7 @@ pub struct RecordReader {
 impl Model for RecordReader {
     ghost use Rattle.std.specs.Prelude.{take};
     ghost use Rattle.object65.specs.Record.{entry_of};
-    ghost use Rattle.object65.specs.Ahead.{Reader};
+    ghost use Rattle.object65.specs.Reading.{Reader};
     ghost use Rattle.std.specs.Coded.{codes};
 
     ghost Value = { Reader };
@@ -76,7 +74,7 @@ fn has_record(bytes: &[u8]) -> bool
 }
 
 /// Decodes the record with which bytes begin that stand at a place of a file, and answers where the next begins.
-#[tactic(auto, unfolding(crate::specs::Ahead::record_in))]
+#[tactic(auto, unfolding(crate::specs::Reading::record_in))]
 fn decode(space: &mut Record, version: u8, bytes: &[u8], at: u64) -> Result<u64, ObjectFault>
     requires { at + length bytes.now < 2 ^ 64 }
     ensures read { Gives is_memory (λ n. (entry_of space.new, n)) result (record_in version at bytes.now) }

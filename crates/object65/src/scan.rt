@@ -1,18 +1,189 @@
-//! Items from records, without an object.
+//! Items from records, without an object: what a scan keeps of the records taken.
 
-ghost use Rattle.std.specs.Prelude.{◌≡◌, OnErr, IfOk, Err, true};
-ghost use Rattle.object65.specs.Fault.{Gives, is_memory};
-ghost use Rattle.object65.specs.Items.{with_item};
-ghost use Rattle.object65.specs.Record.{entry_of, is_version};
-ghost use Rattle.object65.specs.Scanning.{IsWithin, outline_of, scan_end, scanned};
-ghost use Rattle.object65.specs.Taking.{State, after, start};
+ghost use Rattle.std.specs.Prelude.{◌≡◌, ◌≤◌, ◌++◌, ◌∷◌, [], ◌&&◌, length, map, not, Ok, IfOk, OnOk, true, false, OnErr, Err};
+ghost use Rattle.std.specs.List.{list_all};
+ghost use Rattle.object65.specs.Bodies.{export_of, assert_of, action_of};
+ghost use Rattle.object65.specs.Record.{Gives, is_memory, entry_of, is_version};
+ghost use Rattle.object65.specs.Items.{has_small_text, with_item};
+ghost use Rattle.object65.specs.Objects.{file_name_limit};
+ghost use Rattle.object65.specs.Small.{is_small_text};
+ghost use Rattle.object65.specs.Scanning.{scan_file, scan_import, scan_export, scan_assert, IsWithin, outline_of, scan_end, scanned, State, after, start};
+ghost use Rattle.object65.specs.Inner.Sound.{outline_in, IsSound};
 
-use crate::kept::Kept;
-use crate::taking::take_record;
-use crate::{Item, ObjectFault, Record};
+use crate::filling::{check_form, check_open_form, check_parts};
+use crate::forming::{byte_at, form_of, origin_at, text_of};
+use crate::taking::{add_name, all_full, check, check_file_name, check_name, take_record};
+use crate::{Action, Assert, Export, Item, ObjectFault, Record};
+use base65::Sequence;
 use indexmap::IndexSet;
 use std::alloc::Global;
 use std::marker::Model;
+
+/// What stands last in a section, as far as the next record has to know it.
+#[derive(Clone, Copy)]
+pub enum Last {
+    /// A record of a literal that isn't full, behind which no literal stands.
+    Short,
+    /// A fill, behind which no fill stands.
+    Fill,
+    /// Anything else, or nothing yet.
+    Other,
+}
+
+/// A section in the making without its bytes.
+#[derive(Clone, Copy)]
+pub struct Room {
+    /// How many bytes the section will have.
+    pub size: u32,
+    /// How many it has.
+    pub filled: u32,
+    pub last: Last,
+}
+
+/// What a scan keeps of the records taken: names and sizes, and no fragment.
+#[derive(Drop)]
+pub struct Kept {
+    pub alloc: Global,
+    pub version: u8,
+    /// The names of the files.
+    pub files: IndexSet<Vec<u8>>,
+    /// The names of the imports.
+    pub imports: IndexSet<Vec<u8>>,
+    /// The names of the sections.
+    pub sections: IndexSet<Vec<u8>>,
+    pub rooms: Vec<Room>,
+    /// Whether a fragment was taken.
+    pub begun: bool,
+    /// The sections before this place are full.
+    pub filling: usize,
+    /// The names of the exports.
+    pub exports: IndexSet<Vec<u8>>,
+    /// Whether an assertion was taken.
+    pub asserting: bool,
+    pub ended: bool,
+}
+
+/// Takes a FILE.
+#[tactic(auto, unfolding(crate::specs::Scanning::scan_file))]
+pub fn take_file(kept: &mut Kept, body: &[u8]) -> Result<Item, ObjectFault>
+    requires sound { IsSound kept.old }
+    requires short { length body.now ≤ file_name_limit }
+    ensures taken { Gives is_memory (λ i. (outline_in kept.new, i)) result (scan_file (outline_in kept.old) body.now) }
+    ensures small { IfOk result (λ i. has_small_text i ≡ true) }
+    ensures sound { OnOk result (IsSound kept.new) }
+{
+    check(
+        kept.imports.len() == 0
+            && kept.rooms.len() == 0
+            && kept.exports.len() == 0
+            && !kept.asserting,
+        ObjectFault::OutOfOrder,
+    )?;
+    check_file_name(&kept.files, body)?;
+    add_name(kept.alloc, &mut kept.files, body)?;
+    let name = Sequence::copy_of(kept.alloc, body)?;
+    Ok(Item::File(name))
+}
+
+/// Takes an IMPORT.
+#[tactic(auto, unfolding(crate::specs::Scanning::scan_import))]
+pub fn take_import(kept: &mut Kept, body: &[u8]) -> Result<Item, ObjectFault>
+    requires { IsSound kept.old }
+    ensures taken { Gives is_memory (λ i. (outline_in kept.new, i)) result (scan_import (outline_in kept.old) body.now) }
+    ensures small { IfOk result (λ i. has_small_text i ≡ true) }
+    ensures sound { OnOk result (IsSound kept.new) }
+{
+    check(
+        kept.rooms.len() == 0 && kept.exports.len() == 0 && !kept.asserting,
+        ObjectFault::OutOfOrder,
+    )?;
+    check_name(&kept.imports, body)?;
+    add_name(kept.alloc, &mut kept.imports, body)?;
+    let name = Sequence::copy_of(kept.alloc, body)?;
+    Ok(Item::Import(name))
+}
+
+/// The name, the origin and the form in the body of an EXPORT.
+#[tactic(auto, unfolding(crate::specs::Bodies::export_of))]
+fn read_export(alloc: Global, version: u8, body: &[u8]) -> Result<Export, ObjectFault>
+    ensures { Gives is_memory (λ e. e) result (export_of version body.now) }
+{
+    let (name, rest) = text_of(body)?;
+    let (origin, rest) = origin_at(version, rest)?;
+    let form = form_of(alloc, rest)?;
+    let name = Sequence::copy_of(alloc, name)?;
+    Ok(Export { name, origin, form })
+}
+
+/// Takes an EXPORT.
+#[tactic(auto, unfolding(crate::specs::Scanning::scan_export))]
+pub fn take_export(kept: &mut Kept, body: &[u8]) -> Result<Item, ObjectFault>
+    requires { IsSound kept.old }
+    ensures taken { Gives is_memory (λ i. (outline_in kept.new, i)) result (scan_export (outline_in kept.old) body.now) }
+    ensures small { IfOk result (λ i. has_small_text i ≡ true) }
+    ensures sound { OnOk result (IsSound kept.new) }
+{
+    let full = all_full(kept);
+    check(full && !kept.asserting, ObjectFault::OutOfOrder)?;
+    let Export { name, origin, form } = read_export(kept.alloc, kept.version, body)?;
+    check_parts(kept, origin, &form)?;
+    check_name(&kept.exports, name.as_slice())?;
+    check_form(&form)?;
+    add_name(kept.alloc, &mut kept.exports, name.as_slice())?;
+    Ok(Item::Export(name, origin, form))
+}
+
+/// The action of a code.
+fn action_at(code: u8) -> Result<Action, ObjectFault>
+    ensures { result ≡ action_of code }
+{
+    match code {
+        0 => Ok(Action::Warning),
+        1 => Ok(Action::Error),
+        _ => Err(ObjectFault::BadSize),
+    }
+}
+
+/// What the body of an ASSERT says.
+#[tactic(auto, unfolding(crate::specs::Bodies::assert_of))]
+fn read_assert(alloc: Global, version: u8, body: &[u8]) -> Result<Assert, ObjectFault>
+    ensures said { Gives is_memory (λ a. a) result (assert_of version body.now) }
+    ensures short { IfOk result (λ a. is_small_text a.text ≡ true) }
+{
+    let (code, rest) = byte_at(body)?;
+    let action = action_at(code)?;
+    let (origin, rest) = origin_at(version, rest)?;
+    let (text, rest) = text_of(rest)?;
+    let form = form_of(alloc, rest)?;
+    let text = Sequence::copy_of(alloc, text)?;
+    Ok(Assert {
+        action,
+        origin,
+        text,
+        form,
+    })
+}
+
+/// Takes an ASSERT.
+#[tactic(auto, unfolding(crate::specs::Scanning::scan_assert))]
+pub fn take_assert(kept: &mut Kept, body: &[u8]) -> Result<Item, ObjectFault>
+    requires { IsSound kept.old }
+    ensures taken { Gives is_memory (λ i. (outline_in kept.new, i)) result (scan_assert (outline_in kept.old) body.now) }
+    ensures small { IfOk result (λ i. has_small_text i ≡ true) }
+    ensures sound { OnOk result (IsSound kept.new) }
+{
+    check(all_full(kept), ObjectFault::OutOfOrder)?;
+    let Assert {
+        action,
+        origin,
+        text,
+        form,
+    } = read_assert(kept.alloc, kept.version, body)?;
+    check_parts(kept, origin, &form)?;
+    check_open_form(&form)?;
+    kept.asserting = true;
+    Ok(Item::Assert(action, origin, text, form))
+}
 
 /// Takes the records of an object as a `Builder` does, but keeps names and sizes alone: what a record says is
 /// handed out as an item.

@@ -4,21 +4,17 @@ ghost use Rattle.std.specs.Prelude.{◌≡◌, ◌≤◌, ◌<◌, ◌+◌, ◌+
 ghost use Rattle.std.specs.List.{list_all, prefix_len};
 ghost use Rattle.std.specs.Str.{is_utf8};
 ghost use Rattle.object65.specs.Bodies.{section_of};
-ghost use Rattle.object65.specs.Fault.{Gives, is_memory};
-ghost use Rattle.object65.specs.Items.{has_small_text};
+ghost use Rattle.object65.specs.Record.{Gives, is_memory, entry_of};
+ghost use Rattle.object65.specs.Items.{has_small_text, is_none};
 ghost use Rattle.object65.specs.Objects.{is_name, is_printed, is_among};
-ghost use Rattle.object65.specs.Record.{entry_of};
 ghost use Rattle.object65.specs.Inner.Sound.{outline_in, IsSound};
-ghost use Rattle.object65.specs.declared.room.Room.{Room};
+ghost use Rattle.object65.specs.declared.scan.Room.{Room};
 ghost use Rattle.object65.specs.Scanning.{is_filled, open_room, empty_room, new_file, new_name, room_literal, room_fill, room_value, scan_section, scan_part, scan_last, scan_entry, heading, wants};
-ghost use Rattle.object65.specs.Items.{is_none};
 
 use crate::decoding::is_kind;
 use crate::filling::{room_with_fill, room_with_literal, room_with_value};
 use crate::format::{ASSERT, EXPORT, FILE, FILL, IMPORT, LITERAL, SECTION, SECTION_LIMIT, VALUE};
-use crate::kept::Kept;
-use crate::naming::{take_assert, take_export, take_file, take_import};
-use crate::room::{Last, Room};
+use crate::scan::{Kept, Last, Room, take_assert, take_export, take_file, take_import};
 use crate::{Item, ObjectFault, Record};
 use base65::Sequence;
 use byteorder::{ByteOrder, LittleEndian};

@@ -1,14 +1,21 @@
--- What the rest of some digits makes of the value so far.
-use Rattle.std.proofs.Common.{◌≡◌, ℕ, ◌+◌, ◌*◌, ◌^◌, ◌<◌, ◌≤◌, Bool, true, false, List, [], ◌∷◌, length, drop, get_or, Option, Some, None, refl, sym, ap, ◌∙◌, arith, nat_lt, add-one}
-use Rattle.std.specs.Prelude.{◌&&◌, if◌then◌else◌}
+-- Texts: digits, the numbers of forms, names as they are printed.
+use Rattle.std.proofs.Common.{◌≡◌, ℕ, ◌+◌, ◌*◌, ◌^◌, ◌<◌, ◌≤◌, Bool, true, false, List, [], ◌∷◌, length, drop, get_or, Option, Some, None, refl, sym, ap, ◌∙◌, arith, nat_lt, add-one, ◌++◌, take, append_assoc}
+use Rattle.std.specs.Prelude.{◌&&◌, if◌then◌else◌, ◌==◌, IsUtf8, encode_utf8, encode_utf8_all}
 use Rattle.std.specs.List.{list_all}
 use Rattle.std.specs.Char.{digit_value}
 use Rattle.std.specs.Str.Parse.{digits_value_after}
 use Rattle.std.proofs.lemmas.Bool.Decides.{nat_tests}
-use Rattle.std.proofs.Math.Seq.{drop-cons}
-use Rattle.std.proofs.lemmas.List.{drop_all}
+use Rattle.std.proofs.Math.Seq.{drop-cons, take-suc}
+use Rattle.std.proofs.lemmas.List.{drop_all, append-nil}
 use Rattle.std.proofs.Math.Nat.{le-mul_of_pos_right}
-use Rattle.script65.specs.Numbers.{is_digit, digits}
+use Rattle.script65.specs.Tokens.{is_digit, digits, token_at}
+use Rattle.script65.specs.Grammar.{stands, form_rank}
+use Rattle.script65.specs.declared.reading.tokens.Form.{Form}
+use Rattle.script65.specs.declared.reading.tokens.Form.TheVariants as form
+use Rattle.std.specs.Str.{is_utf8}
+use Rattle.std.proofs.lemmas.Str.{IsUtf8-from_is_utf8}
+
+-- ---- What the rest of some digits makes of the value so far.
 
 abbrev pub digits_from : ℕ → ℕ → List ℕ → Option ℕ
 digits_from radix v ds =
@@ -57,3 +64,50 @@ stops text i v radix lt inv pos large =
 
 pub ends : (text : List ℕ) (i v radix : ℕ) → length text ≤ i → digits_from radix v (drop i text) ≡ digits radix text → v < 2 ^ 32 → digits radix text ≡ Some v
 ends text i v radix le inv small = sym inv ∙ ap (digits_from radix v) (drop_all i text le) ∙ no_more_digits radix v small
+
+-- ---- What the number of a form says of it.
+
+end_of_rank : (f g : Form) → (form_rank f == form_rank g) ≡ true → f ≡ form.End → g ≡ form.End
+end_of_rank f g h e = by_rank g (let h' : (12 == form_rank g) ≡ true = rw (ap form_rank e) at h in h')
+  where
+    by_rank : (g : Form) → (12 == form_rank g) ≡ true → g ≡ form.End
+    by_rank form.End h = refl
+    by_rank form.Word h = cc
+    by_rank form.Number h = cc
+    by_rank form.Text h = cc
+    by_rank form.Output h = cc
+    by_rank form.Colon h = cc
+    by_rank form.Semicolon h = cc
+    by_rank form.Comma h = cc
+    by_rank form.Equals h = cc
+    by_rank form.Plus h = cc
+    by_rank form.Minus h = cc
+    by_rank form.Open h = cc
+    by_rank form.Close h = cc
+    by_rank form.Bad h = cc
+
+pub end_stands : (bytes : List ℕ) (f : Form) (at : ℕ) → stands bytes f at ≡ true → (token_at bytes at).form ≡ form.End → f ≡ form.End
+unfolding stands
+end_stands bytes f at h e = end_of_rank (token_at bytes at).form f h e
+
+-- ---- The test of a text against what it means.
+
+pub not_utf8 : (bs : List ℕ) → ¬ (IsUtf8 bs) → is_utf8 bs ≡ false
+not_utf8 bs never = by (is_utf8 bs) (λ h. never (IsUtf8-from_is_utf8 bs h))
+  where
+    by : (b : Bool) → (b ≡ true → ⊥) → b ≡ false
+    by true h = absurd (h refl)
+    by false h = refl
+
+-- ---- Names as they are printed.
+
+encode-push : (xs : List ℕ) (c : ℕ) → encode_utf8_all xs ++ encode_utf8 c ≡ encode_utf8_all (xs ++ c ∷ [])
+encode-push [] c = sym (append-nil (encode_utf8 c))
+encode-push (x ∷ xs) c = append_assoc (encode_utf8 x) (encode_utf8_all xs) (encode_utf8 c) ∙ ap (λ l. encode_utf8 x ++ l) (encode-push xs c)
+
+-- one byte more
+pub encode-more : (name : List ℕ) (i c : ℕ) → i < length name → c ≡ get_or name i 0 → encode_utf8_all (take i name) ++ encode_utf8 c ≡ encode_utf8_all (take (i + 1) name)
+encode-more name i c lt e =
+    ap (λ d. encode_utf8_all (take i name) ++ encode_utf8 d) e
+    ∙ encode-push (take i name) (get_or name i 0)
+    ∙ ap encode_utf8_all (sym (rw add-one (take-suc name i 0 lt)))

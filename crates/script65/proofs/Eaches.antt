@@ -1,11 +1,26 @@
--- Lists that are made item by item.
-use Rattle.std.proofs.Common.{◌≡◌, ◌<◌, ◌≤◌, ◌+◌, ℕ, zero, suc, add-one, get_or, List, [], ◌∷◌, ◌++◌, length, map, drop, slice_get, Option, Some, None, refl, sym, ap, ◌∙◌, Ok, Err}
-use Rattle.std.specs.Prelude.{Result}
+-- Lists that are made item by item, and how faults pass.
+use Rattle.std.proofs.Common.{◌≡◌, ◌<◌, ◌≤◌, ◌+◌, ℕ, zero, suc, add-one, get_or, List, [], ◌∷◌, ◌++◌, length, map, drop, slice_get, Option, Some, None, refl, sym, ap, ◌∙◌, Ok, Err, Bool, true, false, subst, cond, nat_lt, position, is_some, arith}
+use Rattle.std.specs.Prelude.{Result, ◌||◌, if◌then◌else◌}
 use Rattle.std.specs.Option.{option_map}
 use Rattle.std.proofs.Math.Seq.{drop-cons}
 use Rattle.std.proofs.lemmas.List.{drop_all}
 use Rattle.std.proofs.lemmas.Option.{slice_get_read}
-use Rattle.base65.specs.Outcome.{each, ◌>>=◌}
+use Rattle.base65.specs.Outcome.{each, ◌>>=◌, Unless}
+use Rattle.script65.specs.declared.fault.Stop.{Stop}
+use Rattle.script65.specs.declared.reading.words.Block.{Block}
+use Rattle.script65.specs.declared.reading.words.Given.{Given}
+use Rattle.script65.specs.Tokens.{token_at}
+use Rattle.script65.specs.declared.fault.Fault.{Fault}
+use Rattle.script65.specs.declared.reading.tokens.Token.{Token}
+use Rattle.script65.specs.declared.reading.words.Part.{Part}
+use Rattle.script65.specs.Grammar.{Draft, First, Attributes, IsEntry, Parts, added, ends_sum, entry_end, entry_fault, entry_head, more, signed_part, stops, text_of, unless_fault}
+use Rattle.script65.specs.Faults.{Finds}
+use Rattle.std.specs.List.{list_any, position_or_len}
+use Rattle.std.specs.Map.{lookup}
+use Rattle.indexmap.specs.IndexMap.{insert_entry}
+use Rattle.script65.specs.AreaSums.{come_to}
+
+-- ---- Lists that are made item by item.
 
 pub drop_at : {A : Type 0} (xs : List A) (n : ℕ) (x : A) → slice_get xs n ≡ Some x → drop n xs ≡ x ∷ drop (suc n) xs
 drop_at [] n x h = absurd cc
@@ -105,3 +120,117 @@ each_all f done xs i le inv =
 pub none_mapped : {A B : Type 0} (f : A → B) (o : Option A) (s : Option B) → ((x : A) → o ≡ Some x → ⊥) → option_map f o ≡ s → s ≡ None
 none_mapped f None s h e = sym e
 none_mapped f (Some x) s h e = absurd (h x refl)
+
+-- ---- Items one behind the other, and how faults pass.
+
+-- a fault of a part is one of the whole
+pub unless_map : (P Q : Type 0) (b : Bool) → (P → Q) → Unless b P → Unless b Q
+unless_map P Q true g h = tt
+unless_map P Q false g h = g h
+
+pub unless_of : {P : Type 0} (b : Bool) → P → Unless b P
+unless_of true h = tt
+unless_of false h = h
+
+pub finds_map : {E X Y A B : Type 0} (outside : E → Bool) (view : X → A) (view' : Y → B) (P : Result A E → Type 0) (Q : Result B E → Type 0) (e : E) → (P (Err e) → Q (Err e)) → Finds outside view P (Err e) → Finds outside view' Q (Err e)
+finds_map outside view view' P Q e g h = unless_map (P (Err e)) (Q (Err e)) (outside e) g h
+
+pub finds_of : {E X A : Type 0} (outside : E → Bool) (view : X → A) (P : Result A E → Type 0) (e : E) → P (Err e) → Finds outside view P (Err e)
+finds_of outside view P e h = unless_of (outside e) h
+
+pub first_ok : {A B : Type 0} (x : A) (head : Result A Stop) (Next : A → Result B Stop → Type 0) (r : Result B Stop) → Ok x ≡ head → Next x r → First head Next r
+first_ok x head Next r e h = subst (λ u. First u Next r) e h
+
+-- a part of a sum
+
+pub part_stops : (bytes : List ℕ) (ps : List Part) (at : ℕ) (e : Stop) → ends_sum bytes at ≡ false → Err e ≡ signed_part bytes at → Parts bytes ps at (Err e)
+part_stops bytes ps at e goes h = stops ps at e goes (ap (λ x. x >>= λ p. Ok (ps ++ p.0 ∷ [], p.1)) h)
+
+pub part_more : (bytes : List ℕ) (ps : List Part) (at next : ℕ) (p : Part) (r : Result (List Part × ℕ) Stop) → ends_sum bytes at ≡ false → Ok (p, next) ≡ signed_part bytes at → Parts bytes (ps ++ p ∷ []) next r → Parts bytes ps at r
+part_more bytes ps at next p r goes h rest = more ps (ps ++ p ∷ []) at next r goes (ap (λ x. x >>= λ p. Ok (ps ++ p.0 ∷ [], p.1)) h) rest
+
+abbrev Reached : Type 0
+Reached = Result (Draft × ℕ) Stop
+
+-- whether an entry passes at its `;`
+abbrev pub checked : Option Fault → Token → Result (Unit {0}) Stop
+checked o t = unless_fault o t tt
+
+entry_done : (bytes : List ℕ) (block : Block) (name : Token) (d f : Draft) (given : List Given) (at : ℕ) → checked (entry_fault block given) (token_at bytes at) ≡ Ok tt → f ≡ added block (text_of bytes name) (record { at = name.from; given = given }) d → Ok (f, (token_at bytes at).to) ≡ entry_end bytes block name d (given, at)
+unfolding entry_end
+entry_done bytes block name d f given at h e = rw e (by (entry_fault block given) h)
+  where
+    by : (o : Option Fault) → checked o (token_at bytes at) ≡ Ok tt → ◌≡◌ {A = Reached} (Ok (added block (text_of bytes name) (record { at = name.from; given = given }) d, (token_at bytes at).to)) (unless_fault o (token_at bytes at) (added block (text_of bytes name) (record { at = name.from; given = given }) d, (token_at bytes at).to))
+    by None h = refl
+    by (Some fault) h = absurd cc
+
+entry_lacks : (bytes : List ℕ) (block : Block) (name : Token) (d : Draft) (given : List Given) (at : ℕ) (e : Stop) → checked (entry_fault block given) (token_at bytes at) ≡ Err e → Err e ≡ entry_end bytes block name d (given, at)
+unfolding entry_end
+entry_lacks bytes block name d given at e h = by (entry_fault block given) h
+  where
+    by : (o : Option Fault) → checked o (token_at bytes at) ≡ Err e → ◌≡◌ {A = Reached} (Err e) (unless_fault o (token_at bytes at) (added block (text_of bytes name) (record { at = name.from; given = given }) d, (token_at bytes at).to))
+    by None h = absurd cc
+    by (Some fault) h = let same : (record { fault = fault; at = (token_at bytes at).from }) ≡ e = cc in ap Err (sym same)
+
+pub entry_of : (bytes : List ℕ) (block : Block) (d f : Draft) (at start next : ℕ) (name : Token) (given : List Given) (close : Token) → Ok (name, start) ≡ entry_head bytes block d at → Attributes bytes block [] start (Ok (given, next)) → close ≡ token_at bytes next → Ok tt ≡ checked (entry_fault block given) close → f ≡ added block (text_of bytes name) (record { at = name.from; given = given }) d → IsEntry bytes block d at (Ok (f, close.to))
+entry_of bytes block d f at start next name given close head body same full new =
+    first_ok (name, start) (entry_head bytes block d at) _ _ head (Ok (given, next), body, rw same (entry_done bytes block name d f given next (sym (full ∙ ap (λ t. checked (entry_fault block given) t) same)) new))
+
+pub entry_stops : (bytes : List ℕ) (block : Block) (d : Draft) (at start next : ℕ) (name : Token) (given : List Given) (close : Token) (e : Stop) → Ok (name, start) ≡ entry_head bytes block d at → Attributes bytes block [] start (Ok (given, next)) → close ≡ token_at bytes next → Err e ≡ checked (entry_fault block given) close → IsEntry bytes block d at (Err e)
+entry_stops bytes block d at start next name given close e head body same lacks =
+    first_ok (name, start) (entry_head bytes block d at) _ _ head (Ok (given, next), body, entry_lacks bytes block name d given next e (sym (lacks ∙ ap (λ t. checked (entry_fault block given) t) same)))
+
+-- ---- What a map by names says of the list of its entries.
+
+module _ {X Y Z : Type 0} (f : X → Y) (g : X → Z) (p : Y → Bool) (q : Z → Bool) (same : (x : X) → p (f x) ≡ q (g x)) where
+  lengths : (xs : List X) → length (map f xs) ≡ length (map g xs)
+  lengths [] = refl
+  lengths (x ∷ xs) = ap suc (lengths xs)
+
+  firsts : (xs : List X) → position_or_len p (map f xs) ≡ position_or_len q (map g xs)
+  firsts [] = refl
+  firsts (x ∷ xs) = rw (same x, firsts xs) refl
+
+  -- the first place is the same in two lists made of one
+  pub position-same : (xs : List X) → position p (map f xs) ≡ position q (map g xs)
+  position-same xs = ap (λ n. cond (nat_lt n (length (map f xs))) (Some n) None) (firsts xs) ∙ ap (λ m. cond (nat_lt (position_or_len q (map g xs)) m) (Some (position_or_len q (map g xs))) None) (lengths xs)
+
+module _ {K V Z : Type 0} (g : K × V → Z) (p : K → Bool) (q : Z → Bool) (same : (e : K × V) → p e.0 ≡ q (g e)) where
+  -- a key is found where an item passes
+  pub is_some-lookup : (es : List (K × V)) → is_some (lookup p es) ≡ list_any q (map g es)
+  is_some-lookup [] = refl
+  is_some-lookup (e ∷ es) = ap (λ b. is_some (cond b (Some e.1) (lookup p es))) (same e) ∙ by (q (g e)) (is_some-lookup es)
+    where
+      by : (b : Bool) → is_some (lookup p es) ≡ list_any q (map g es) → is_some (cond b (Some e.1) (lookup p es)) ≡ (b || list_any q (map g es))
+      by true h = refl
+      by false h = h
+
+module _ {K V Z : Type 0} (eq : K → K → Bool) (g : K × V → Z) (k : K) (v : V) (q : Z → Bool) (same : (e : K × V) → eq k e.0 ≡ q (g e)) where
+  -- a new key goes last
+  pub map-insert_entry : (es : List (K × V)) → list_any q (map g es) ≡ false → map g (insert_entry eq es k v) ≡ map g es ++ g (k, v) ∷ []
+  map-insert_entry [] h = refl
+  map-insert_entry (e ∷ es) h = by (eq k e.0) (same e) (map-insert_entry es)
+    where
+      by : (b : Bool) → b ≡ q (g e) → (list_any q (map g es) ≡ false → map g (insert_entry eq es k v) ≡ map g es ++ g (k, v) ∷ []) → map g (if b then (e.0, v) ∷ es else e ∷ insert_entry eq es k v) ≡ (g e ∷ map g es) ++ g (k, v) ∷ []
+      by true t rest = absurd (let never : true ≡ false = ap (λ b. b || list_any q (map g es)) t ∙ h in cc)
+      by false t rest = ap (λ l. g e ∷ l) (rest (ap (λ b. b || list_any q (map g es)) t ∙ h))
+
+-- ---- Sums as far as a loop has come.
+
+module _ {T : Type 0} (is : T → Bool) (number : T → ℕ) (ts : List T) (i : ℕ) (d : T) (old new whole : ℕ) where
+  pub counts : i < length ts → is (get_or ts i d) ≡ true → new ≡ old + number (get_or ts i d) → old + come_to is number (drop i ts) ≡ whole → new + come_to is number (drop (i + 1) ts) ≡ whole
+  counts lt sure more so_far =
+      let rest : come_to is number (drop i ts) ≡ number (get_or ts i d) + come_to is number (drop (i + 1) ts) =
+      ap (come_to is number) (rest_at ts i d lt) ∙ ap (λ b. (if b then number (get_or ts i d) else 0) + come_to is number (drop (i + 1) ts)) sure in
+      omega arith
+
+  pub passes : i < length ts → is (get_or ts i d) ≡ false → new ≡ old → old + come_to is number (drop i ts) ≡ whole → new + come_to is number (drop (i + 1) ts) ≡ whole
+  passes lt other same so_far =
+      let rest : come_to is number (drop i ts) ≡ 0 + come_to is number (drop (i + 1) ts) =
+      ap (come_to is number) (rest_at ts i d lt) ∙ ap (λ b. (if b then number (get_or ts i d) else 0) + come_to is number (drop (i + 1) ts)) other in
+      omega arith
+
+pub all_counted : {T : Type 0} (is : T → Bool) (number : T → ℕ) (ts : List T) (i old whole : ℕ) → length ts ≤ i → old + come_to is number (drop i ts) ≡ whole → old ≡ whole
+all_counted is number ts i old whole le so_far =
+    let rest : come_to is number (drop i ts) ≡ 0 = ap (come_to is number) (drop_all i ts le) in
+    omega arith

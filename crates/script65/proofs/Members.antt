@@ -1,13 +1,24 @@
--- The rows of each area.
-use Rattle.std.proofs.Common.{◌≡◌, ◌≢◌, ◌<◌, ◌≤◌, ℕ, ◌+◌, Bool, true, false, List, [], ◌∷◌, ◌++◌, length, drop, get_or, Option, Some, None, refl, sym, ap, ◌∙◌, arith}
-use Rattle.std.specs.Prelude.{◌==◌, ◌||◌, if◌then◌else◌}
+-- The rows of each area, their names, and what segments need.
+use Rattle.std.proofs.Common.{◌≡◌, ◌≢◌, ◌<◌, ◌≤◌, ℕ, ◌+◌, Bool, true, false, List, [], ◌∷◌, ◌++◌, length, drop, get_or, Option, Some, None, refl, sym, ap, ◌∙◌, arith, ◌-◌, cond, map, Err, nat_lt, take, position, MatchOption, length-append}
+use Rattle.std.specs.Prelude.{◌==◌, ◌||◌, if◌then◌else◌, find, codes}
 use Rattle.std.specs.Option.{option_map}
 use Rattle.std.proofs.lemmas.Bool.Decides.{nat_tests}
-use Rattle.std.proofs.lemmas.List.{drop_all}
+use Rattle.std.proofs.lemmas.List.{drop_all, append_cancel_right, take-append-drop}
 use Rattle.script65.specs.declared.script.Row.{Row}
-use Rattle.script65.specs.Placing.{is_in, places_in}
-use Rattle.script65.proofs.Eaches.{append_none, regroup}
-use Rattle.script65.proofs.Eaches.{drop_item}
+use Rattle.script65.specs.Placing.{is_in, places_in, has_row, rows_exist, size_of}
+use Rattle.script65.proofs.Eaches.{append_none, regroup, drop_item}
+use Rattle.std.specs.Str.{bytes_eq}
+use Rattle.script65.specs.declared.placement.PlaceFault.TheVariants.{NoRow}
+use Rattle.script65.specs.declared.placement.SegmentNeed.{SegmentNeed}
+use Rattle.std.specs.Bool.{one_answer}
+use Rattle.std.specs.List.{position_or_len}
+use Rattle.std.proofs.lemmas.Slice.Eq.{bytes_eq-Decides}
+use Rattle.std.proofs.Math.Path.{fun_ext}
+use Rattle.std.proofs.Math.Seq.{drop-append_seam}
+use Rattle.script65.specs.AreaSums.{ending, part_name}
+use Rattle.script65.specs.declared.reading.table.Entry.{Entry}
+
+-- ---- The rows of each area.
 
 -- an item more, where a test holds
 abbrev pub with_if : Bool → ℕ → List ℕ → List ℕ
@@ -52,3 +63,143 @@ collects_more k rows i r old new lt at e h =
 
 pub collects_all : (k : ℕ) (rows : List Row) (i : ℕ) (o : Option (List ℕ)) → length rows ≤ i → Collects k rows i o → o ≡ Some (places_in k 0 rows)
 collects_all k rows i o le h = h.1 ∙ ap Some (sym (ap (λ l. h.0 ++ places_in k i l) (drop_all i rows le) ∙ append_none h.0) ∙ h.2)
+
+-- ---- What segments need, by name.
+
+or_false : (b : Bool) → (b || false) ≡ b
+or_false true = refl
+or_false false = refl
+
+or_step : (b old rest : Bool) → (cond b true old || rest) ≡ (old || (b || rest))
+or_step true true rest = refl
+or_step true false rest = refl
+or_step false old rest = refl
+
+pub name_step : (rows : List Row) (i : ℕ) (r : Row) (name : List ℕ) (old new : Bool) → i < length rows → r ≡ get_or rows i r → new ≡ cond (bytes_eq r.name name) true old → (old || has_row (drop i rows) name) ≡ has_row rows name → (new || has_row (drop (i + 1) rows) name) ≡ has_row rows name
+unfolding has_row
+name_step rows i r name old new lt at e inv =
+    ap (λ b. b || has_row (drop (i + 1) rows) name) e
+    ∙ or_step (bytes_eq r.name name) old (has_row (drop (i + 1) rows) name)
+    ∙ sym (ap (λ l. old || has_row l name) (drop_item rows i r lt at))
+    ∙ inv
+
+pub name_end : (rows : List Row) (i : ℕ) (name : List ℕ) (old : Bool) → length rows ≤ i → (old || has_row (drop i rows) name) ≡ has_row rows name → old ≡ has_row rows name
+unfolding has_row
+name_end rows i name old le inv = sym (ap (λ l. old || has_row l name) (drop_all i rows le) ∙ or_false old) ∙ inv
+
+pub need_step : (rows : List Row) (needs : List SegmentNeed) (i : ℕ) (n : SegmentNeed) → i < length needs → n ≡ get_or needs i n → has_row rows n.name ≡ true → rows_exist rows (drop i needs) ≡ rows_exist rows needs → rows_exist rows (drop (i + 1) needs) ≡ rows_exist rows needs
+need_step rows needs i n lt at e inv =
+    sym (ap (λ b. if b then rows_exist rows (drop (i + 1) needs) else Err (NoRow n.name)) e)
+    ∙ sym (ap (rows_exist rows) (drop_item needs i n lt at))
+    ∙ inv
+
+pub need_stops : (rows : List Row) (needs : List SegmentNeed) (i : ℕ) (n : SegmentNeed) (name : List ℕ) → i < length needs → n ≡ get_or needs i n → has_row rows n.name ≡ false → name ≡ n.name → rows_exist rows (drop i needs) ≡ rows_exist rows needs → rows_exist rows needs ≡ Err (NoRow name)
+need_stops rows needs i n name lt at e same inv =
+    sym inv
+    ∙ ap (rows_exist rows) (drop_item needs i n lt at)
+    ∙ ap (λ b. if b then rows_exist rows (drop (i + 1) needs) else Err (NoRow n.name)) e
+    ∙ ap (λ l. Err (NoRow l)) (sym same)
+
+pub size_none : (needs : List SegmentNeed) (name : List ℕ) → size_of (drop (length needs) needs) name ≡ None
+unfolding size_of
+size_none needs name = ap (λ l. option_map (λ (n : SegmentNeed). n.size) (find (λ n. bytes_eq n.name name) l)) (drop_all (length needs) needs (omega arith))
+
+size_front : (n : SegmentNeed) (rest : List SegmentNeed) (name : List ℕ) → size_of (n ∷ rest) name ≡ cond (bytes_eq n.name name) (Some n.size) (size_of rest name)
+unfolding size_of
+size_front n rest name = by (bytes_eq n.name name)
+  where
+    by : (b : Bool) → option_map (λ (n : SegmentNeed). n.size) (if b then Some n else find (λ n. bytes_eq n.name name) rest) ≡ cond b (Some n.size) (option_map (λ (n : SegmentNeed). n.size) (find (λ n. bytes_eq n.name name) rest))
+    by true = refl
+    by false = refl
+
+pub size_step : (needs : List SegmentNeed) (i : ℕ) (n : SegmentNeed) (name : List ℕ) (old new : Option ℕ) → 0 < i → i ≤ length needs → n ≡ get_or needs (i - 1) n → new ≡ cond (bytes_eq n.name name) (Some n.size) old → old ≡ size_of (drop i needs) name → new ≡ size_of (drop (i - 1) needs) name
+size_step needs i n name old new pos le at e inv =
+    let lt : i - 1 < length needs = omega arith in
+    let next : i - 1 + 1 ≡ i = omega arith in
+    e
+    ∙ ap (cond (bytes_eq n.name name) (Some n.size)) (inv ∙ sym (ap (λ j. size_of (drop j needs) name) next))
+    ∙ sym (size_front n (drop (i - 1 + 1) needs) name)
+    ∙ sym (ap (λ l. size_of l name) (drop_item needs (i - 1) n lt at))
+
+pub map_more : {A B : Type 0} (f : A → B) (xs : List A) (i : ℕ) (x : A) (done : List B) (y : B) → i < length xs → x ≡ get_or xs i x → y ≡ f x → done ++ map f (drop i xs) ≡ map f xs → (done ++ y ∷ []) ++ map f (drop (i + 1) xs) ≡ map f xs
+map_more f xs i x done y lt at e inv =
+    regroup done y (map f (drop (i + 1) xs))
+    ∙ ap (λ z. done ++ z ∷ map f (drop (i + 1) xs)) e
+    ∙ sym (ap (λ l. done ++ map f l) (drop_item xs i x lt at))
+    ∙ inv
+
+-- ---- The names for parts of areas and rows.
+
+pub match_map : {X : Type 0} (o : Option X) (A P : Type 0) (B Q : X → Type 0) → (A → P) → ((x : X) → B x → Q x) → MatchOption o A B → MatchOption o P Q
+match_map None A P B Q f g h = f h
+match_map (Some x) A P B Q f g h = g x h
+
+same_bytes : (xs ys : List ℕ) → bytes_eq xs ys ≡ true → xs ≡ ys
+same_bytes xs ys e = (bytes_eq-Decides xs ys).0 e
+
+itself : (xs ys : List ℕ) → xs ≡ ys → bytes_eq xs ys ≡ true
+itself xs ys e = (bytes_eq-Decides xs ys).1 e
+
+-- what stands behind `__`
+pub behind_front : (name rest : List ℕ) → bytes_eq (take 2 name) (codes "__") ≡ true → rest ≡ drop 2 name → name ≡ codes "__" ++ rest
+behind_front name rest e d = sym (take-append-drop 2 name) ∙ ap (λ l. l ++ drop 2 name) (same_bytes _ _ e) ∙ ap (λ l. codes "__" ++ l) (sym d)
+
+pub no_front : (name rest : List ℕ) → bytes_eq (take 2 name) (codes "__") ≡ false → name ≢ codes "__" ++ rest
+no_front name rest e is =
+    let front : take 2 name ≡ codes "__" = ap (take 2) is in
+    let never : true ≡ false = sym (itself _ _ front) ∙ e in
+    cc
+
+-- what stands before an ending
+pub before_ending : (rest x end : List ℕ) → bytes_eq (drop (length rest - length end) rest) end ≡ true → x ≡ take (length rest - length end) rest → rest ≡ x ++ end
+before_ending rest x end e t =
+    sym (take-append-drop (length rest - length end) rest)
+    ∙ ap (λ l. take (length rest - length end) rest ++ l) (same_bytes _ _ e)
+    ∙ ap (λ l. l ++ end) (sym t)
+
+pub no_ending : (rest n end : List ℕ) → bytes_eq (drop (length rest - length end) rest) end ≡ false → rest ≢ n ++ end
+no_ending rest n end e is =
+    let at : length rest - length end ≡ length n = omega (arith, ap length is, length-append n end) in
+    let tail : drop (length rest - length end) rest ≡ end = ap (λ k. drop k rest) at ∙ ap (drop (length n)) is ∙ drop-append_seam n end in
+    let never : true ≡ false = sym (itself _ _ tail) ∙ e in
+    cc
+
+pub same_rest : (a b : List ℕ) → codes "__" ++ a ≡ codes "__" ++ b → a ≡ b
+same_rest a b e = cc
+
+-- names for one part are the same where the names in them are
+inner_name : (n m part : List ℕ) → bytes_eq (part_name n part) (part_name m part) ≡ bytes_eq n m
+inner_name n m part =
+    one_answer (bytes_eq (part_name n part) (part_name m part)) (bytes_eq n m)
+    ((λ e. append_cancel_right n m (ending part) (same_rest (n ++ ending part) (m ++ ending part) (same_bytes (part_name n part) (part_name m part) e))), (λ e. itself (part_name n part) (part_name m part) (ap (λ k. part_name k part) e)))
+    (bytes_eq-Decides n m)
+
+to_false : (b : Bool) → (b ≡ true → ⊥) → b ≡ false
+to_false true h = absurd (h refl)
+to_false false h = refl
+
+past_all : {A : Type 0} (xs : List A) → position_or_len (λ x. false) xs ≡ length xs
+past_all [] = refl
+past_all (x ∷ xs) = let h = past_all xs in omega arith
+
+not_less : (n : ℕ) → nat_lt n n ≡ false
+not_less n = grind (arith, nat_tests)
+
+nowhere : {A : Type 0} (xs : List A) → position (λ x. false) xs ≡ None
+nowhere xs = ap (λ n. cond (nat_lt n (length xs)) (Some n) None) (past_all xs) ∙ ap (λ b. cond b (Some (length xs)) None) (not_less (length xs))
+
+-- a name that is none for this part of anything
+pub named_nowhere : (es : List (List ℕ × Entry)) (name part : List ℕ) → ((n : List ℕ) → name ≢ part_name n part) → position (λ e. bytes_eq name (part_name e.0 part)) es ≡ None
+named_nowhere es name part never =
+    let P : (List ℕ × Entry) → Bool = λ e. bytes_eq name (part_name e.0 part) in
+    let Q : (List ℕ × Entry) → Bool = λ e. false in
+    let same : P ≡ Q = fun_ext (λ e. to_false (P e) (λ t. never e.0 (same_bytes name (part_name e.0 part) t))) in
+    ap (λ p. position p es) same ∙ nowhere es
+
+-- a name that is that for this part of something
+pub named_there : (es : List (List ℕ × Entry)) (name n part : List ℕ) → name ≡ part_name n part → position (λ e. bytes_eq name (part_name e.0 part)) es ≡ position (λ e. bytes_eq n e.0) es
+named_there es name n part is =
+    let P : (List ℕ × Entry) → Bool = λ e. bytes_eq name (part_name e.0 part) in
+    let Q : (List ℕ × Entry) → Bool = λ e. bytes_eq n e.0 in
+    let same : P ≡ Q = fun_ext (λ e. ap (λ k. bytes_eq k (part_name e.0 part)) is ∙ inner_name n e.0 part) in
+    ap (λ p. position p es) same

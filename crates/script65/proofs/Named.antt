@@ -29,7 +29,7 @@ use Rattle.script65.specs.declared.script.Term.{Term}
 use Rattle.script65.specs.Grammar.{Draft, role_given}
 use Rattle.script65.specs.Laws.{AllThere, AreThere, IsThere}
 use Rattle.script65.specs.Naming.{area_named, export_named, exported, exported_by, entry_named, extent_of, only, operand_of, parts_given, row_named, row_part_named, area_part_named, starts_first, term_of, term_with, terms_given}
-use Rattle.script65.specs.Parts.{area_word, part_name, row_word}
+use Rattle.script65.specs.AreaSums.{area_word, part_name, row_word}
 use Rattle.script65.specs.Scripts.{area_of, area_index, area_with, found, is_excluded, load_place, name_given, row_areas, row_of, run_by, run_place, script_of, stop_at, symbol_of, with_line}
 use Rattle.script65.specs.Tokens.{text}
 

@@ -2,7 +2,7 @@
 use Rattle.std.proofs.Common.{◌≡◌, ℕ, Bool, true, false, List, [], ◌∷◌, refl, sym, ap, ◌∙◌, subst, Ok, Err}
 use Rattle.std.specs.Prelude.{Result}
 use Rattle.script65.specs.declared.fault.Stop.{Stop}
-use Rattle.script65.specs.declared.reading.token.Form.TheVariants as form
+use Rattle.script65.specs.declared.reading.tokens.Form.TheVariants as form
 use Rattle.script65.specs.declared.reading.words.Block.{Block}
 use Rattle.script65.specs.declared.reading.words.Part.{Part}
 use Rattle.script65.specs.declared.reading.words.Shape.{Shape}
@@ -13,8 +13,7 @@ use Rattle.script65.specs.Grammar.{Many, ends, more, stops, First, Then, IsPart,
 use Rattle.script65.specs.Laws.{OneReading}
 use Rattle.script65.specs.Scripts.{Reads, script_of, with_line}
 use Rattle.base65.specs.Outcome.{◌>>=◌}
-use Rattle.script65.specs.Tokens.{token_at}
-use Rattle.script65.specs.Words.{shape_of}
+use Rattle.script65.specs.Tokens.{token_at, shape_of}
 
 abbrev IsOne : {S : Type 0} → (S → ℕ → Result (S × ℕ) Stop → Type 0) → Type 0
 IsOne {S} P = (s : S) (at : ℕ) (r q : Result (S × ℕ) Stop) → P s at r → P s at q → r ≡ q

@@ -1,23 +1,62 @@
--- What the sums of areas come to.
-use Rattle.std.specs.Prelude.{ℕ, ◌+◌, ◌^◌, ◌==◌, ◌&&◌, ◌||◌, Bool, true, false, not, nat_lt, if◌then◌else◌, List, [], ◌∷◌, ◌++◌, find, is_some, slice_get, Option, Some, None, Result, Ok, Err}
-use Rattle.std.specs.Option.{option_map_or}
-use Rattle.script65.specs.declared.script.Area.{Area}
+-- Sums, the names of their parts, and what the sums of areas come to.
+use Rattle.std.specs.Prelude.{ℕ, ◌+◌, ◌-◌, ◌^◌, ◌&&◌, Bool, not, nat_le, nat_lt, if◌then◌else◌, List, [], ◌∷◌, Option, Some, None, ◌++◌, codes, ◌==◌, ◌||◌, true, false, find, is_some, slice_get, Result, Ok, Err}
 use Rattle.script65.specs.declared.script.AreaPart.{AreaPart}
 use Rattle.script65.specs.declared.script.AreaPart.TheVariants as area
+use Rattle.script65.specs.declared.script.RowPart.{RowPart}
+use Rattle.script65.specs.declared.script.RowPart.TheVariants as row
+use Rattle.std.specs.Option.{option_map_or}
+use Rattle.script65.specs.declared.script.Area.{Area}
 use Rattle.script65.specs.declared.script.Operand.{Operand}
 use Rattle.script65.specs.declared.script.Operand.TheVariants as operand
 use Rattle.script65.specs.declared.script.Row.{Row}
-use Rattle.script65.specs.declared.script.RowPart.{RowPart}
-use Rattle.script65.specs.declared.script.RowPart.TheVariants as row
 use Rattle.script65.specs.declared.script.Term.{Term}
 use Rattle.base65.specs.Outcome.{◌>>=◌}
-use Rattle.script65.specs.Parts.{area_word, part_name, row_word}
-use Rattle.script65.specs.Sums.{sum_of}
 use Rattle.script65.specs.declared.placement.AreaPlace.{AreaPlace}
 use Rattle.script65.specs.declared.placement.PlaceFault.{PlaceFault}
 use Rattle.script65.specs.declared.placement.PlaceFault.TheVariants.{NotPlaced, AreaOutOfRange}
 use Rattle.script65.specs.declared.placement.RowPlace.{RowPlace}
 use Rattle.script65.specs.declared.placing.site.Bounds.{Bounds}
+
+-- ---- Sums of whole numbers, of which some are taken and not added.
+
+-- the sum of the numbers of those terms of which this is so
+abbrev pub come_to : {T : Type 0} → (T → Bool) → (T → ℕ) → List T → ℕ
+come_to is number [] = 0
+come_to is number (t ∷ ts) = (if is t then number t else 0) + come_to is number ts
+
+-- what is added less what is taken, if that is 0 or more and below 2 ^ 32
+abbrev pub difference : ℕ → ℕ → Option ℕ
+difference added taken = if nat_le taken added && nat_lt (added - taken) (2 ^ 32) then Some (added - taken) else None
+
+-- what is added less what is taken, in whole numbers that don't wrap; only the whole has a range
+abbrev pub sum_of : {T : Type 0} → (T → Bool) → (T → ℕ) → List T → Option ℕ
+sum_of is_taken number ts = difference (come_to (λ t. not (is_taken t)) number ts) (come_to is_taken number ts)
+
+-- ---- The names for parts of areas and rows.
+
+-- what stands behind the name of an area or a row
+abbrev pub ending : List ℕ → List ℕ
+ending part = codes "_" ++ (part ++ codes "__")
+
+-- `__N_PART__`
+abbrev pub part_name : List ℕ → List ℕ → List ℕ
+part_name name part = codes "__" ++ (name ++ ending part)
+
+abbrev pub area_word : AreaPart → List ℕ
+area_word area.Start = codes "START"
+area_word area.Size = codes "SIZE"
+area_word area.Last = codes "LAST"
+
+abbrev pub row_word : RowPart → List ℕ
+row_word row.Load = codes "LOAD"
+row_word row.Run = codes "RUN"
+row_word row.Size = codes "SIZE"
+
+abbrev pub area_ending : AreaPart → List ℕ
+area_ending part = ending (area_word part)
+
+abbrev pub row_ending : RowPart → List ℕ
+row_ending part = ending (row_word part)
 
 -- ---- What a term comes to, by the places of areas and rows.
 

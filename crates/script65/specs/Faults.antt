@@ -1,9 +1,22 @@
--- The faults of scripts: their texts, and which of them come from memory.
-use Rattle.std.specs.Prelude.{ℕ, Bool, true, false, if◌then◌else◌, List, ◌++◌, codes, encode_utf8_all}
+-- Why a script is refused, and why its rows aren't placed.
+use Rattle.std.specs.Prelude.{Bool, Result, Ok, Err, ℕ, true, false, if◌then◌else◌, List, ◌++◌, codes, encode_utf8_all}
+use Rattle.base65.specs.Outcome.{Unless}
 use Rattle.script65.specs.declared.fault.Fault.{Fault}
 use Rattle.script65.specs.declared.fault.Fault.TheVariants.{OutOfMemory, SyntaxError, UnknownAttribute, AttributeTwice, AttributeMissing, NameTwice, NoSuchArea, OutOfRange, Excluded, TooLong, NoSuchName, AmbiguousName}
 use Rattle.script65.specs.declared.fault.Stop.{Stop}
 use Rattle.script65.specs.declared.fault.ScriptFault.{ScriptFault}
+use Rattle.std.specs.Fmt.{decimal}
+use Rattle.script65.specs.declared.placement.PlaceFault.{PlaceFault}
+use Rattle.script65.specs.declared.placement.PlaceFault.TheVariants as place
+
+-- ---- What reading answers, over any type of faults, of which some come from outside: from memory.
+
+-- what a call answered, seen by view, is so, unless it was refused from outside
+abbrev pub Finds : {E X Y : Type 0} → (E → Bool) → (X → Y) → (Result Y E → Type 0) → Result X E → Type 0
+Finds is_outside view P (Ok x) = P (Ok (view x))
+Finds is_outside view P (Err e) = Unless (is_outside e) (P (Err e))
+
+-- ---- The faults of scripts: their texts, and which of them come from memory.
 
 abbrev pub fault_text : Fault → List ℕ
 fault_text OutOfMemory = codes "out of memory"
@@ -39,3 +52,20 @@ is_outside e = is_memory_fault e.fault
 
 abbrev pub is_script_outside : ScriptFault → Bool
 is_script_outside e = is_memory_fault e.fault
+
+-- ---- The faults of placement: their texts, and which of them come from memory.
+
+-- a name is printed byte by byte, each as the character of its code (so ASCII as it is), a number in decimal digits
+abbrev pub place_fault_text : PlaceFault → List ℕ
+place_fault_text place.OutOfMemory = codes "out of memory"
+place_fault_text (place.NoRow name) = codes "segment has no row: " ++ encode_utf8_all name
+place_fault_text (place.ReadOnlyArea name) = codes "read-only area: " ++ encode_utf8_all name
+place_fault_text (place.StartBelow name) = codes "start below what is placed: " ++ encode_utf8_all name
+place_fault_text (place.Overflow name n) =
+    codes "overflow of " ++ encode_utf8_all name ++ codes " by " ++ decimal n ++ codes " bytes"
+place_fault_text (place.NotPlaced name) = codes "name not yet placed: " ++ encode_utf8_all name
+place_fault_text (place.AreaOutOfRange name) = codes "area value out of range: " ++ encode_utf8_all name
+
+abbrev pub is_place_outside : PlaceFault → Bool
+is_place_outside place.OutOfMemory = true
+is_place_outside _ = false

@@ -6,9 +6,9 @@ use Rattle.std.specs.Str.{bytes_eq}
 use Rattle.script65.specs.declared.fault.Fault.{Fault}
 use Rattle.script65.specs.declared.fault.Fault.TheVariants.{SyntaxError, UnknownAttribute, AttributeTwice, AttributeMissing, NameTwice, OutOfRange, Excluded, TooLong}
 use Rattle.script65.specs.declared.fault.Stop.{Stop}
-use Rattle.script65.specs.declared.reading.token.Form.{Form}
-use Rattle.script65.specs.declared.reading.token.Form.TheVariants as form
-use Rattle.script65.specs.declared.reading.token.Token.{Token}
+use Rattle.script65.specs.declared.reading.tokens.Form.{Form}
+use Rattle.script65.specs.declared.reading.tokens.Form.TheVariants as form
+use Rattle.script65.specs.declared.reading.tokens.Token.{Token}
 use Rattle.script65.specs.declared.reading.words.Block.{Block}
 use Rattle.script65.specs.declared.reading.words.Block.TheVariants.{Memory, Segments, Symbols}
 use Rattle.script65.specs.declared.reading.words.Attribute.{Attribute}
@@ -22,11 +22,9 @@ use Rattle.script65.specs.declared.reading.words.Value.TheVariants as value
 use Rattle.script65.specs.declared.reading.words.Given.{Given}
 use Rattle.script65.specs.declared.reading.words.Part.{Part}
 use Rattle.script65.specs.declared.reading.table.Entry.{Entry}
-use Rattle.script65.specs.Numbers.{number_of}
+use Rattle.script65.specs.Tokens.{number_of, token_at, text, block_of, attribute_of, shape_of, area_access_of, row_access_of, flag_of, role_of, is_width}
 use Rattle.base65.specs.Outcome.{◌>>=◌}
-use Rattle.script65.specs.Sums.{sum_of}
-use Rattle.script65.specs.Tokens.{token_at, text}
-use Rattle.script65.specs.Words.{block_of, attribute_of, shape_of, area_access_of, row_access_of, flag_of, role_of, is_width}
+use Rattle.script65.specs.AreaSums.{sum_of}
 
 -- a fault at a token
 abbrev pub stop : {A : Type 0} → Fault → Token → Result A Stop

@@ -1,17 +1,10 @@
-pub mod Access
 pub mod AreaSums
 pub mod Faults
 pub mod Grammar
 pub mod Inner
 pub mod Laws
 pub mod Naming
-pub mod Numbers
-pub mod Outcome
-pub mod Parts
-pub mod PlaceFaults
 pub mod Placing
 pub mod PlacingLaws
 pub mod Scripts
-pub mod Sums
 pub mod Tokens
-pub mod Words

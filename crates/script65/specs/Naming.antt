@@ -21,7 +21,7 @@ use Rattle.script65.specs.declared.reading.words.Part.{Part}
 use Rattle.script65.specs.declared.reading.table.Entry.{Entry}
 use Rattle.script65.specs.Grammar.{Draft, is_of, number_given, role_given}
 use Rattle.base65.specs.Outcome.{◌>>=◌, each}
-use Rattle.script65.specs.Parts.{area_word, part_name, row_word}
+use Rattle.script65.specs.AreaSums.{area_word, part_name, row_word}
 use Rattle.script65.specs.Tokens.{text}
 
 -- ---- What a name stands for: an export, a part of an area, or a part of a row.

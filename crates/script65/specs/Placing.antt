@@ -1,5 +1,7 @@
 -- Where the rows of a script are placed.
-use Rattle.std.specs.Prelude.{ℕ, ◌+◌, ◌-◌, ◌*◌, Bool, ◌==◌, ◌&&◌, ◌||◌, not, nat_lt, if◌then◌else◌, List, [], ◌∷◌, ◌++◌, map, find, slice_set, Option, Some, None, unwrap_or, Result, Ok, Err}
+use Rattle.std.specs.Prelude.{Bool, true, false, ℕ, ◌+◌, ◌-◌, ◌*◌, ◌==◌, ◌&&◌, ◌||◌, not, nat_lt, if◌then◌else◌, List, [], ◌∷◌, ◌++◌, map, find, slice_set, Option, Some, None, unwrap_or, Result, Ok, Err}
+use Rattle.script65.specs.declared.script.Access.{Access}
+use Rattle.script65.specs.declared.script.Access.TheVariants.{ReadOnly, ReadWrite, Bss, ZeroPage}
 use Rattle.std.specs.Int.{div_ceil}
 use Rattle.std.specs.List.{list_any}
 use Rattle.std.specs.Option.{option_map}
@@ -17,9 +19,23 @@ use Rattle.script65.specs.declared.placement.PlaceFault.TheVariants.{NoRow, Read
 use Rattle.script65.specs.declared.placement.SegmentNeed.{SegmentNeed}
 use Rattle.script65.specs.declared.placing.site.Bounds.{Bounds}
 use Rattle.script65.specs.declared.placing.site.Spot.{Spot}
-use Rattle.script65.specs.Access.{is_read_only}
 use Rattle.base65.specs.Outcome.{◌>>=◌}
 use Rattle.script65.specs.AreaSums.{Standing, bounds_in}
+
+-- ---- What a segment may hold.
+
+abbrev pub is_read_only : Access → Bool
+is_read_only ReadOnly = true
+is_read_only _ = false
+
+-- whether its bytes are in a file
+abbrev pub is_written : Access → Bool
+is_written ReadOnly = true
+is_written ReadWrite = true
+is_written Bss = false
+is_written ZeroPage = false
+
+-- ---- Where the rows of a script are placed.
 
 -- the needs of segments
 

@@ -5,7 +5,7 @@ use Rattle.base65.specs.Outcome.{◌>>=◌}
 use Rattle.script65.specs.Grammar.{Draft, Drafts, is_name}
 use Rattle.script65.specs.Naming.{parts_given}
 use Rattle.script65.specs.Scripts.{script_of}
-use Rattle.script65.specs.Sums.{come_to}
+use Rattle.script65.specs.AreaSums.{come_to, is_known, sum_by, term_value}
 use Rattle.script65.specs.declared.reading.table.Entry.{Entry}
 use Rattle.script65.specs.declared.reading.words.Attribute.TheVariants as attribute
 use Rattle.script65.specs.declared.script.Area.{Area}
@@ -21,7 +21,6 @@ use Rattle.script65.specs.declared.placement.SegmentNeed.{SegmentNeed}
 use Rattle.script65.specs.declared.placing.site.Bounds.{Bounds}
 use Rattle.script65.specs.declared.placing.site.Spot.{Spot}
 use Rattle.script65.specs.Placing.{area_place, has_row, is_in, place_of, row_place, rows_exist, rows_from, size_of, unplaced}
-use Rattle.script65.specs.AreaSums.{is_known, sum_by, term_value}
 
 -- ---- Rows in their areas.
 

@@ -27,7 +27,7 @@ use Rattle.script65.specs.declared.reading.words.Value.{Value}
 use Rattle.script65.specs.declared.reading.words.Value.TheVariants as value
 use Rattle.script65.specs.declared.reading.words.Given.{Given}
 use Rattle.script65.specs.declared.reading.table.Entry.{Entry}
-use Rattle.script65.specs.Access.{is_read_only, is_written}
+use Rattle.script65.specs.Placing.{is_read_only, is_written}
 use Rattle.script65.specs.Faults.{names}
 use Rattle.base65.specs.Outcome.{◌>>=◌, each}
 use Rattle.script65.specs.Tokens.{text, token_at, line_of}

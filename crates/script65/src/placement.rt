@@ -60,7 +60,7 @@ pub enum PlaceFault {
 }
 
 impl fmt::Display for PlaceFault {
-    ghost use Rattle.script65.specs.PlaceFaults.{place_fault_text};
+    ghost use Rattle.script65.specs.Faults.{place_fault_text};
 
     ghost output = { λ x. Some (place_fault_text x) };
 

@@ -1,19 +1,15 @@
 //! Places the rows of a script.
 
 ghost use Rattle.base65.specs.Outcome.{Gives};
-ghost use Rattle.script65.specs.PlaceFaults.{is_place_outside};
+ghost use Rattle.script65.specs.Faults.{is_place_outside};
 ghost use Rattle.script65.specs.Placing.{place_of};
 
 use crate::placement::{PlaceFault, Placement, SegmentNeed};
-use crate::placing::areas::{place_areas, row_places};
-use crate::placing::members::members_of;
-use crate::placing::needs::{check_rows, unplaced_rows};
+use crate::placing::areas::{check_rows, members_of, place_areas, row_places, unplaced_rows};
 use crate::script::Script;
 use std::alloc::Global;
 
 mod areas;
-mod members;
-mod needs;
 mod site;
 mod sums;
 

@@ -1,29 +1,24 @@
 //! Reads scripts.
 
-ghost use Rattle.script65.specs.Faults.{is_outside, is_script_outside};
+ghost use Rattle.script65.specs.Faults.{is_outside, is_script_outside, Finds};
 ghost use Rattle.std.specs.Prelude.{◌≡◌, IfOk};
 ghost use Rattle.script65.specs.Scripts.{IsScript, Reads, fault_at, name_at};
 ghost use Rattle.base65.specs.Outcome.{Unless};
-ghost use Rattle.script65.specs.Outcome.{Finds};
 
 use crate::fault::{Fault, ScriptFault, Stop};
 use crate::reading::entries::read_entries;
 use crate::reading::making::make_script;
-use crate::reading::scan::{line_of, text, token_at};
+use crate::reading::tokens::{line_of, text, token_at};
 use crate::script::Script;
 use base65::Sequence;
 use std::alloc::{AllocError, Global};
 
 mod attributes;
 mod entries;
-mod given;
 mod making;
-mod naming;
-mod number;
-mod scan;
 mod sums;
 mod table;
-mod token;
+mod tokens;
 mod words;
 
 // The script of a text, or its first fault with the place of that.

@@ -59,7 +59,7 @@ pub enum AreaPart {
 }
 
 impl AreaPart {
-    ghost use Rattle.script65.specs.Parts.{area_ending};
+    ghost use Rattle.script65.specs.AreaSums.{area_ending};
 
     /// What stands behind the area's name, in the name for this part of it.
     pub fn ending(self) -> &'static [u8]
@@ -85,7 +85,7 @@ pub enum RowPart {
 }
 
 impl RowPart {
-    ghost use Rattle.script65.specs.Parts.{row_ending};
+    ghost use Rattle.script65.specs.AreaSums.{row_ending};
 
     /// What stands behind the row's name, in the name for this part of it.
     pub fn ending(self) -> &'static [u8]
@@ -118,7 +118,7 @@ pub enum Access {
 }
 
 impl Access {
-    ghost use Rattle.script65.specs.Access.{is_read_only, is_written};
+    ghost use Rattle.script65.specs.Placing.{is_read_only, is_written};
 
     pub fn is_read_only(self) -> bool
         ensures { result ≡ is_read_only self }

@@ -1,7 +1,7 @@
 //! Sums of whole numbers, of which some are taken and not added.
 
 ghost use Rattle.std.specs.Prelude.{◌≡◌};
-ghost use Rattle.script65.specs.Sums.{difference};
+ghost use Rattle.script65.specs.AreaSums.{difference};
 
 /// What is added less what is taken, if that is a number below 2 ^ 32.
 pub fn difference(added: u128, taken: u128) -> Option<u32>

@@ -11,13 +11,11 @@ use Rattle.object65.specs.Spelling.{IsObject, object_bytes}
 use Rattle.library65.specs.declared.contents.Contents.{Contents}
 use Rattle.library65.specs.declared.fault.LibraryFault.{LibraryFault}
 use Rattle.library65.specs.Libraries.{checked, member_names, replaced, with_member, written}
-use Rattle.library65.specs.Names.{are_member_names}
+use Rattle.library65.specs.Spelling.{are_member_names, IsStock, Member}
 use Rattle.library65.specs.Reading.{in_file}
-use Rattle.library65.specs.Spelling.{IsStock, Member}
 use Rattle.library65.proofs.Edits.{checked_good, with_good}
-use Rattle.library65.proofs.Loaded.{library_loaded}
+use Rattle.library65.proofs.Read.{library_loaded, stock_law}
 use Rattle.library65.proofs.Made.{written_is}
-use Rattle.library65.proofs.Read.{stock_law}
 use Rattle.base65.specs.declared.output.OutputFile.{OutputFile}
 use Rattle.language65.specs.Faults.{is_memory}
 use Rattle.module65.specs.Module as asm

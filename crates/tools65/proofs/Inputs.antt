@@ -10,10 +10,9 @@ use Rattle.base65.specs.Store.{Files}
 use Rattle.object65.specs.declared.object.Export.{Export}
 use Rattle.object65.specs.declared.object.Object.{Object}
 use Rattle.object65.specs.Objects.{is_good_object}
-use Rattle.object65.specs.Reading.{file_limit, in_file, room}
+use Rattle.object65.specs.Reading.{file_limit, in_file, room, object_at}
 use Rattle.object65.specs.Spelling.{IsObject, object_bytes}
 use Rattle.object65.specs.Versions.{IsEitherVersion}
-use Rattle.object65.specs.Whole.{object_at}
 use Rattle.object65.proofs.Spellings.{no_prefix, object_is_read}
 use Rattle.object65.proofs.Versions.{version_law}
 use Rattle.library65.specs.declared.index.Entry.{Entry}

@@ -9,7 +9,7 @@ use Rattle.script65.proofs.OneReading.{one_reading}
 use Rattle.script65.specs.Scripts.{IsScript}
 use Rattle.script65.specs.declared.fault.ScriptFault.{ScriptFault}
 use Rattle.script65.specs.declared.script.Script.{Script}
-use Rattle.library65.proofs.Uniques.{one_selection}
+use Rattle.library65.proofs.Selections.{one_selection}
 use Rattle.library65.specs.declared.index.Entry.{Entry}
 use Rattle.link65.proofs.OutcomeLemmas.{link_once}
 use Rattle.link65.specs.Names.{given_names, open_names}

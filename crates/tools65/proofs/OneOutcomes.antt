@@ -6,7 +6,7 @@ use Rattle.base65.specs.Outcome.{First}
 use Rattle.base65.proofs.Outcome.{first_once}
 use Rattle.base65.specs.Store.{Files}
 use Rattle.object65.specs.Spelling.{object_bytes}
-use Rattle.library65.proofs.Uniques.{one_selection}
+use Rattle.library65.proofs.Selections.{one_selection}
 use Rattle.library65.specs.declared.index.Entry.{Entry}
 use Rattle.script65.proofs.OneReading.{one_reading}
 use Rattle.script65.specs.Scripts.{IsScript}

@@ -5,7 +5,7 @@ use Rattle.base65.specs.Outcome.{◌>>=◌, First}
 use Rattle.base65.specs.Store.{Files}
 use Rattle.object65.specs.declared.fault.ObjectFault.{ObjectFault}
 use Rattle.object65.specs.declared.object.Object.{Object}
-use Rattle.library65.proofs.Uniques.{one_selection}
+use Rattle.library65.proofs.Selections.{one_selection}
 use Rattle.library65.specs.Selection.{IsSelection}
 use Rattle.library65.specs.declared.index.Entry.{Entry}
 use Rattle.library65.specs.declared.fault.LibraryFault.{LibraryFault}

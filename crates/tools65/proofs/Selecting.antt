@@ -4,12 +4,10 @@ use Rattle.std.specs.Prelude.{count_by, replicate, slice_set}
 use Rattle.std.proofs.lemmas.Bool.Decides.{nat_tests}
 use Rattle.std.proofs.lemmas.List.{append-nil}
 use Rattle.library65.specs.declared.index.Entry.{Entry}
-use Rattle.library65.specs.Names.{is_among}
+use Rattle.library65.specs.Spelling.{is_among}
 use Rattle.library65.specs.Inner.Searching.{Finds, IsSearched, marked_from}
 use Rattle.library65.specs.Selection.{IsSelection, first_exporter, has_place, imports_at}
-use Rattle.library65.proofs.Places.{count_added, either, length_marks, marks_added, no_marks, none_counted}
-use Rattle.library65.proofs.Searches.{finds_again, finds_defined, finds_more, finds_new, finds_nobody, finds_none, search_begins, search_goes_on}
-use Rattle.library65.proofs.Selections.{exporter_below, searched_selected}
+use Rattle.library65.proofs.Selections.{count_added, either, length_marks, marks_added, no_marks, none_counted, finds_again, finds_defined, finds_more, finds_new, finds_nobody, finds_none, search_begins, search_goes_on, exporter_below, searched_selected}
 use Rattle.tools65.specs.Inputs.{SelectionExistsLaw}
 
 abbrev Names : Type 0

@@ -6,7 +6,7 @@ use Rattle.std.specs.Str.{bytes_eq}
 use Rattle.std.proofs.lemmas.List.{append-nil, append_assoc, map-append}
 use Rattle.std.proofs.lemmas.List.Folds.{list_any-append}
 use Rattle.std.proofs.lemmas.Grind.{flat_map-append}
-use Rattle.script65.proofs.Placed.{all_placed}
+use Rattle.script65.proofs.Apart.{all_placed}
 use Rattle.script65.specs.Placing.{place_of}
 use Rattle.script65.specs.declared.placement.AreaPlace.{AreaPlace}
 use Rattle.script65.specs.declared.placement.Placement.{Placement}

@@ -4,10 +4,9 @@ use Rattle.std.specs.FinMap.{get}
 use Rattle.base65.specs.Outcome.{Refuses, Unless}
 use Rattle.base65.specs.Store.{Files}
 use Rattle.object65.specs.declared.fault.ObjectFault.{ObjectFault}
-use Rattle.object65.specs.Fault.{is_outside as is_object_outside}
-use Rattle.object65.specs.Reading.{in_file}
-use Rattle.object65.specs.Taking.{State, start}
-use Rattle.object65.specs.Whole.{records_at}
+use Rattle.object65.specs.Record.{is_outside as is_object_outside}
+use Rattle.object65.specs.Reading.{in_file, records_at}
+use Rattle.object65.specs.Scanning.{State, start}
 use Rattle.library65.specs.declared.index.Entry.{Entry}
 use Rattle.library65.specs.Selection.{IsSelection}
 use Rattle.link65.specs.declared.fault.LinkFault.{LinkFault}
@@ -17,8 +16,8 @@ use Rattle.link65.specs.Programs.{Module, program_of}
 use Rattle.link65.specs.Standing.{Feeding, IsFed, IsFeeding, as_link, module_of}
 use Rattle.ld65.specs.Linkage.{AreInputs, Input, IsInput, IsLibraryInput, added_in, as_library, index_in, with_file, with_members}
 use Rattle.ld65.specs.Refusals.{is_outside}
-use Rattle.ld65.specs.declared.choosing.Choice.{Choice}
-use Rattle.ld65.specs.declared.feeding.ObjectInput.{ObjectInput}
+use Rattle.ld65.specs.declared.members.Choice.{Choice}
+use Rattle.ld65.specs.declared.linking.ObjectInput.{ObjectInput}
 use Rattle.ld65.specs.declared.refusal.Refusal.{Refusal}
 
 -- the faults that the bytes don't decide

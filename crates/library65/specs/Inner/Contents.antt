@@ -1,9 +1,9 @@
 -- What the records of an object export and import.
 use Rattle.std.specs.Prelude.{◌≡◌, ℕ, List, length, Result, Ok, Err}
 use Rattle.object65.specs.declared.fault.ObjectFault.{ObjectFault}
-use Rattle.object65.specs.Fault.{◌>>=◌, Refuses, is_memory}
-use Rattle.object65.specs.Taking.{State, finished, object_from, start}
-use Rattle.object65.specs.Whole.{object_at, records_at}
+use Rattle.object65.specs.Record.{◌>>=◌, Refuses, is_memory}
+use Rattle.object65.specs.Scanning.{State, finished, object_from, start}
+use Rattle.object65.specs.Reading.{object_at, records_at}
 use Rattle.library65.specs.declared.contents.Contents.{Contents}
 use Rattle.library65.specs.Libraries.{contents_from}
 

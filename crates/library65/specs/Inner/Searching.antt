@@ -3,8 +3,8 @@ use Rattle.std.specs.Prelude.{◌≡◌, ◌<◌, ℕ, ◌+◌, List, [], ◌∷
 use Rattle.std.specs.Str.{bytes_eq}
 use Rattle.indexmap.specs.IndexMap.{get_by}
 use Rattle.library65.specs.declared.index.Entry.{Entry}
-use Rattle.library65.specs.declared.exporting.Exporters.{Exporters}
-use Rattle.library65.specs.declared.searching.Found.{Found}
+use Rattle.library65.specs.declared.selecting.Exporters.{Exporters}
+use Rattle.library65.specs.declared.selecting.Found.{Found}
 use Rattle.object65.specs.Objects.{is_among}
 use Rattle.library65.specs.Selection.{IsClosed, first_exporter, has_place, imports_at}
 

@@ -3,8 +3,7 @@ use Rattle.std.specs.Prelude.{◌≡◌, ℕ, List, drop, take, map, Bool, true,
 use Rattle.std.specs.Option.{option_map}
 use Rattle.object65.specs.declared.object.Object.{Object}
 use Rattle.object65.specs.Record.{Entry}
-use Rattle.object65.specs.Scanning.{Outline, outline_of}
-use Rattle.object65.specs.Taking.{IsReached, State, after, finished}
+use Rattle.object65.specs.Scanning.{Outline, outline_of, IsReached, State, after, finished}
 use Rattle.library65.specs.Libraries.{are_same}
 use Rattle.link65.specs.declared.fault.LinkFault.{LinkFault}
 use Rattle.link65.specs.declared.fault.LinkFault.TheVariants.{IndexDisagrees}

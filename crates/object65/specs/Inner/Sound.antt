@@ -1,16 +1,15 @@
 -- What the parts of a scan and of a builder stand for, and how they hang together.
 use Rattle.std.specs.Prelude.{◌≡◌, ◌≤◌, ◌+◌, ℕ, List, map, slice_get, Some, true, false, ⊤}
 use Rattle.std.specs.List.{list_all, prefix_len}
-use Rattle.object65.specs.declared.kept.Kept.{Kept}
-use Rattle.object65.specs.declared.parts.Parts.{Parts}
-use Rattle.object65.specs.declared.draft.Draft.{Draft}
-use Rattle.object65.specs.declared.item.Item.{Item}
-use Rattle.object65.specs.declared.item.Item.TheVariants.{File, Import, Section, Part, Export, Assert, End}
+use Rattle.object65.specs.declared.scan.Kept.{Kept}
+use Rattle.object65.specs.declared.builder.Parts.{Parts}
+use Rattle.object65.specs.declared.builder.Draft.{Draft}
+use Rattle.object65.specs.declared.record.Item.{Item}
+use Rattle.object65.specs.declared.record.Item.TheVariants.{File, Import, Section, Part, Export, Assert, End}
 use Rattle.object65.specs.declared.object.Fragment.{Fragment}
 use Rattle.object65.specs.Objects.{fragment_len}
-use Rattle.object65.specs.Scanning.{Outline, is_filled, outline_of}
+use Rattle.object65.specs.Scanning.{Outline, is_filled, outline_of, State, IsReached}
 use Rattle.object65.specs.Small.{is_small_text}
-use Rattle.object65.specs.Taking.{State, IsReached}
 
 -- ---- A scan.
 

@@ -1,18 +1,133 @@
-//! The rows of all areas.
+//! The rows of all areas, and what segments need.
 
-ghost use Rattle.std.specs.Prelude.{◌≡◌, ◌≤◌, ◌<◌, ℕ, Some, IfOk, [], length, map, slice_get};
+ghost use Rattle.std.specs.Prelude.{◌≡◌, ℕ, List, IfOk, map, ◌<◌, ◌++◌, ◌∷◌, ◌==◌, [], Some, OnOk, length, slice_get, if◌then◌else◌, ◌≤◌};
+ghost use Rattle.std.specs.Str.{bytes_eq};
+ghost use Rattle.indexmap.specs.IndexMap.{get_by};
+ghost use Rattle.indexmap.specs.IndexSet.{contains_by};
 ghost use Rattle.base65.specs.Outcome.{Gives};
-ghost use Rattle.script65.specs.PlaceFaults.{is_place_outside};
-ghost use Rattle.script65.specs.Placing.{area_place, areas_from, places_in, row_place, rows_from, spots_after};
+ghost use Rattle.script65.specs.Faults.{is_place_outside};
+ghost use Rattle.script65.specs.Placing.{has_row, rows_exist, size_of, unplaced, is_in, places_in, area_place, areas_from, row_place, rows_from, spots_after};
+ghost use Rattle.std.specs.Option.{option_map};
 ghost use Rattle.script65.specs.declared.placing.site.Spot.{Spot};
 ghost use Rattle.script65.specs.declared.script.Row.{Row};
 
-use crate::placement::{AreaPlace, PlaceFault, RowPlace};
+use crate::placement::{AreaPlace, PlaceFault, RowPlace, SegmentNeed};
 use crate::placing::site::{Bounds, Site, Spot};
 use crate::placing::sums::{Standing, row_place};
 use crate::script::{Area, Row};
 use base65::Sequence;
+use indexmap::{IndexMap, IndexSet};
 use std::alloc::{AllocError, Global};
+
+// The names of rows.
+fn names_of<'a>(alloc: Global, rows: &'a [Row]) -> Result<IndexSet<&'a [u8]>, AllocError>
+    ensures { IfOk result (λ s. (name : List ℕ) →
+        contains_by (λ k. bytes_eq name k.now) s ≡ has_row rows.now name) }
+{
+    let mut names = IndexSet::new(alloc);
+    for row in rows {
+        names.insert(row.name.as_slice())?;
+    }
+    Ok(names)
+}
+
+/// Refuses the first need that no row has.
+pub fn check_rows(alloc: Global, rows: &[Row], needs: &[SegmentNeed]) -> Result<(), PlaceFault>
+    ensures { Gives is_place_outside (λ x. x) result (rows_exist rows.now needs.now) }
+{
+    let names = names_of(alloc, rows)?;
+    for need in needs {
+        if !names.contains(need.name.as_slice()) {
+            return Err(PlaceFault::NoRow(Sequence::copy_of(alloc, need.name.as_slice())?));
+        }
+    }
+    Ok(())
+}
+
+// The sizes of segments by name. Of two needs of one name the first counts, so it comes last.
+fn sizes_of<'a>(
+    alloc: Global,
+    needs: &'a [SegmentNeed],
+) -> Result<IndexMap<&'a [u8], u64>, AllocError>
+    ensures { IfOk result (λ m. (name : List ℕ) →
+        get_by (λ k. bytes_eq name k.now) m ≡ size_of needs.now name) }
+{
+    let mut sizes = IndexMap::new(alloc);
+    for i in (0..needs.len()).rev() {
+        let need = &needs[i];
+        sizes.insert(need.name.as_slice(), need.size)?;
+    }
+    Ok(sizes)
+}
+
+/// The rows before any is placed.
+pub fn unplaced_rows(
+    alloc: Global,
+    rows: &[Row],
+    needs: &[SegmentNeed],
+) -> Result<Vec<Spot>, AllocError>
+    ensures { IfOk result (λ spots. spots.items ≡ map (unplaced needs.now) rows.now) }
+{
+    let sizes = sizes_of(alloc, needs)?;
+    let mut spots = Vec::new(alloc);
+    for row in rows {
+        spots.push(Spot {
+            size: sizes.get(row.name.as_slice()).copied(),
+            run: 0,
+            load: 0,
+        })?;
+    }
+    Ok(spots)
+}
+
+// As many empty sequences as there are areas.
+fn no_members(alloc: Global, areas: usize) -> Result<Vec<Sequence<usize>>, AllocError>
+    ensures { IfOk result (λ v. (k : ℕ) → k < areas → slice_get v.items k ≡ Some []) }
+{
+    let mut members = Vec::new(alloc);
+    for _ in 0..areas {
+        members.push(Sequence::new(alloc))?;
+    }
+    Ok(members)
+}
+
+// Adds a row to the members of an area, if there is such an area.
+fn add_member(members: &mut Vec<Sequence<usize>>, area: usize, row: usize) -> Result<(), AllocError>
+    ensures { OnOk result ((k : ℕ) → slice_get members.new.items k
+        ≡ option_map (λ m. if area == k then m ++ row ∷ [] else m) (slice_get members.old.items k)) }
+{
+    if area < members.len() {
+        members[area].push(row)?;
+    }
+    Ok(())
+}
+
+// Adds a row to the members of the areas in which it runs and loads.
+fn add_row(members: &mut Vec<Sequence<usize>>, row: &Row, place: usize) -> Result<(), AllocError>
+    ensures { OnOk result ((k : ℕ) → slice_get members.new.items k
+        ≡ option_map (λ m. if is_in k row.now then m ++ place ∷ [] else m) (slice_get members.old.items k)) }
+{
+    add_member(members, row.run, place)?;
+    if row.load != row.run {
+        add_member(members, row.load, place)?;
+    }
+    Ok(())
+}
+
+/// The places of the rows of each area, in order.
+pub fn members_of(
+    alloc: Global,
+    areas: usize,
+    rows: &[Row],
+) -> Result<Vec<Sequence<usize>>, AllocError>
+    ensures { IfOk result (λ v. (k : ℕ) → k < areas → slice_get v.items k ≡ Some (places_in k 0 rows.now)) }
+{
+    let mut members = no_members(alloc, areas)?;
+    for (place, row) in rows.iter().enumerate() {
+        add_row(&mut members, row, place)?;
+    }
+    Ok(members)
+}
 
 // Places a row of an area, and answers the address behind it.
 fn place_member(

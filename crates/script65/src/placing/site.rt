@@ -2,7 +2,7 @@
 
 ghost use Rattle.std.specs.Prelude.{◌≡◌, ◌≤◌, ◌+◌, IfOk};
 ghost use Rattle.base65.specs.Outcome.{Gives};
-ghost use Rattle.script65.specs.PlaceFaults.{is_place_outside};
+ghost use Rattle.script65.specs.Faults.{is_place_outside};
 ghost use Rattle.script65.specs.Placing.{begin_by, begin_in, fitted, is_in, moved, rounded_up, row_after, sized_row};
 
 use crate::placement::PlaceFault;

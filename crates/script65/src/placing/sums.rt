@@ -5,7 +5,7 @@ ghost use Rattle.std.specs.Option.{option_map_or};
 ghost use Rattle.script65.specs.declared.script.Area.{Area};
 ghost use Rattle.script65.specs.declared.script.Row.{Row};
 ghost use Rattle.base65.specs.Outcome.{Gives};
-ghost use Rattle.script65.specs.PlaceFaults.{is_place_outside};
+ghost use Rattle.script65.specs.Faults.{is_place_outside};
 ghost use Rattle.script65.specs.Inner.Standing.{standing_in};
 ghost use Rattle.script65.specs.Placing.{row_place};
 ghost use Rattle.script65.specs.AreaSums.{area_known, area_value, bounds_in, is_known, operand_name, operand_value, places_there, row_known, row_value, spanned, sum_by, sum_in, unknown};

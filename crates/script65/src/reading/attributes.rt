@@ -1,17 +1,14 @@
 //! Reads attributes.
 
 ghost use Rattle.std.specs.Prelude.{◌≡◌, ◌≢◌, ◌≤◌, ◌<◌, ◌++◌, ◌∷◌, [], ℕ, IfOk, length};
-ghost use Rattle.script65.specs.Faults.{is_outside};
-ghost use Rattle.script65.specs.Outcome.{Finds};
+ghost use Rattle.script65.specs.Faults.{is_outside, Finds};
 ghost use Rattle.script65.specs.Grammar.{stands, expect, behind, number_at, byte_at, text_at, output_at, file_at, word_value, word_at, value_at, attribute_word, IsValue, IsAttribute};
-ghost use Rattle.script65.specs.declared.reading.token.Form.TheVariants.{End};
+ghost use Rattle.script65.specs.declared.reading.tokens.Form.TheVariants.{End};
 
 use crate::fault::{Fault, Stop};
-use crate::reading::given::has;
-use crate::reading::number::number_of;
-use crate::reading::scan::{text, token_at};
 use crate::reading::sums::sum;
-use crate::reading::token::{Form, Token};
+use crate::reading::table::has;
+use crate::reading::tokens::{Form, Token, number_of, text, token_at};
 use crate::reading::words::{
     Attribute, Block, Given, Part, Shape, Value, area_access_of, attribute_of, flag_of, is_width,
     role_of, row_access_of, shape_of,

@@ -1,17 +1,14 @@
 //! Reads the blocks of a script and their entries.
 
 ghost use Rattle.std.specs.Prelude.{◌≡◌, ◌≤◌, ◌<◌, false, IfOk, length, []};
-ghost use Rattle.script65.specs.Faults.{is_outside};
+ghost use Rattle.script65.specs.Faults.{is_outside, Finds};
 ghost use Rattle.script65.specs.Grammar.{Attributes, Blocks, Drafts, Entries, IsBlock, IsEntry, block_head, entries_of, entry_fault, entry_head, is_taken, nothing, sized, text_of, unless_fault};
-ghost use Rattle.script65.specs.Outcome.{Finds};
 ghost use Rattle.script65.specs.Inner.Tables.{draft_in};
 
 use crate::fault::{Fault, Stop};
 use crate::reading::attributes::{attribute, expect, stands};
-use crate::reading::given::entry_fault;
-use crate::reading::scan::{text, token_at};
-use crate::reading::table::{Entry, Tables};
-use crate::reading::token::{Form, Token};
+use crate::reading::table::{Entry, Tables, entry_fault};
+use crate::reading::tokens::{Form, Token, text, token_at};
 use crate::reading::words::{Block, Given, block_of};
 use base65::Sequence;
 use std::alloc::Global;

@@ -7,12 +7,12 @@ ghost use Rattle.base65.specs.Outcome.{Gives, each};
 ghost use Rattle.script65.specs.Inner.Tables.{draft_in, named};
 
 use crate::fault::{Fault, Stop};
-use crate::reading::given::{
-    access_given, byte_or, flag_given, name_given, number_given, number_or, role_given, value_given,
+use crate::reading::sums::extent_of;
+use crate::reading::table::{
+    Entry, Table, Tables, access_given, byte_or, flag_given, name_given, number_given, number_or,
+    role_given, value_given,
 };
-use crate::reading::naming::extent_of;
-use crate::reading::scan::text;
-use crate::reading::table::{Entry, Table, Tables};
+use crate::reading::tokens::text;
 use crate::reading::words::{Attribute, Given, Role, Value};
 use crate::script::{Area, AreaFile, Begin, Row, Script, Symbol, SymbolKind, Term};
 use base65::Sequence;

@@ -1,7 +1,7 @@
 //! The words of scripts, and what attributes take.
 
 ghost use Rattle.std.specs.Prelude.{◌≡◌};
-ghost use Rattle.script65.specs.Words.{same_word, block_of, attribute_of, memory_attribute, segment_attribute, symbol_attribute, type_shape, extent_shape, shape_of, area_access_of, row_access_of, flag_of, role_of, is_width};
+ghost use Rattle.script65.specs.Tokens.{same_word, block_of, attribute_of, memory_attribute, segment_attribute, symbol_attribute, type_shape, extent_shape, shape_of, area_access_of, row_access_of, flag_of, role_of, is_width};
 
 use crate::script::Access;
 use base65::Sequence;

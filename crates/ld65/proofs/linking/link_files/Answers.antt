@@ -4,7 +4,7 @@ use Rattle.base65.specs.Outcome.{Unless}
 use Rattle.cli65.specs.Line.{linking}
 use Rattle.script65.specs.Faults.{is_script_outside}
 use Rattle.script65.specs.Scripts.{IsScript}
-use Rattle.ld65.proofs.ScriptLemmas.{script_ok, script_err, script_unread}
+use Rattle.ld65.proofs.LineInputs.{script_ok, script_err, script_unread}
 use Rattle.ld65.proofs.linking.link_files.Goals as goal
 
 pub returns-in_err-text-clause-linked : goal.returns-in_err-text-clause-linked

@@ -1,6 +1,6 @@
 use Rattle.std.proofs.Common.{◌∙◌}
 use Rattle.std.proofs.lemmas.Result.{err_from_is_err_and}
-use Rattle.ld65.proofs.Behind.{fed_count, in_count}
+use Rattle.ld65.proofs.Fed.{fed_count, in_count}
 use Rattle.ld65.proofs.Blaming.{member_named}
 use Rattle.ld65.proofs.Chosen.{member_fed, member_refused, member_unnamed}
 use Rattle.ld65.proofs.members.feed_member.Goals as goal

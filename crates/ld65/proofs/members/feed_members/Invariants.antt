@@ -1,7 +1,7 @@
 use Rattle.std.proofs.Common.{◌≡◌, drop, false}
 use Rattle.link65.specs.Standing.{Keeps, is_open}
 use Rattle.ld65.specs.Linkage.{chosen}
-use Rattle.ld65.proofs.Behind.{Counted}
+use Rattle.ld65.proofs.Fed.{Counted}
 use Rattle.ld65.proofs.Chosen.{IsAfter}
 use Rattle.ld65.proofs.members.feed_members.Given as goal
 

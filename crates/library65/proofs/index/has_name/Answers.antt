@@ -1,6 +1,6 @@
 use Rattle.std.proofs.Common.{◌∙◌, sym, nat_eq}
 use Rattle.std.specs.Cmp.Lexicographic.{pointwise}
-use Rattle.object65.proofs.Lists.{list_any-map}
+use Rattle.object65.proofs.Names.{list_any-map}
 use Rattle.library65.proofs.index.has_name.Goals as goal
 
 pub returns : goal.returns

@@ -1,8 +1,7 @@
 use Rattle.std.proofs.Common.{◌∙◌, ◌+◌, ◌-◌, ◌++◌, ◌∷◌, [], map, arith, refl}
 use Rattle.std.proofs.lemmas.Result.{err_from_is_err_and}
 use Rattle.library65.specs.Reading.{count_at, list_at, listing_at, listings_at}
-use Rattle.library65.proofs.Leads.{begins, goes_on, kept_count, stops}
-use Rattle.library65.proofs.Steps.{list_begins, listings_more, name_pushed}
+use Rattle.library65.proofs.Steps.{begins, goes_on, kept_count, stops, list_begins, listings_more, name_pushed}
 use Rattle.library65.proofs.indexing.read_list.Goals as goal
 
 pub loop-init : goal.loop-init

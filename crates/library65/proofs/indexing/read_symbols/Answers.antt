@@ -1,8 +1,7 @@
 use Rattle.std.proofs.Common.{◌∙◌, ◌+◌, ◌-◌, ◌++◌, ◌∷◌, [], arith, refl}
 use Rattle.std.proofs.lemmas.Result.{err_from_is_err_and}
 use Rattle.library65.specs.Reading.{counted_at, number_at, symbol_at, symbols_at}
-use Rattle.library65.proofs.Leads.{begins, goes_on, kept_count, stops}
-use Rattle.library65.proofs.Steps.{counted_begins, symbols_more}
+use Rattle.library65.proofs.Steps.{begins, goes_on, kept_count, stops, counted_begins, symbols_more}
 use Rattle.library65.proofs.indexing.read_symbols.Goals as goal
 
 pub returns-in_err-count-clause-read : goal.returns-in_err-count-clause-read

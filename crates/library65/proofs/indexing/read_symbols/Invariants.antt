@@ -1,7 +1,7 @@
 use Rattle.std.proofs.Common.{◌≡◌, ◌<◌, ◌≤◌, ◌-◌}
 use Rattle.object65.specs.Reading.{file_limit}
 use Rattle.library65.specs.Reading.{counted_at, symbols_at}
-use Rattle.library65.proofs.Leads.{Leads}
+use Rattle.library65.proofs.Steps.{Leads}
 use Rattle.library65.proofs.indexing.read_symbols.Given as goal
 
 abbrev pub invariant-loop : goal.invariant-loop

@@ -1,4 +1,4 @@
-use Rattle.library65.proofs.Uniques.{one_selection}
+use Rattle.library65.proofs.Selections.{one_selection}
 use Rattle.library65.proofs.laws.one_selection.Goals as goal
 
 pub returns : goal.returns

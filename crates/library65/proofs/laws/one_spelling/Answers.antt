@@ -1,4 +1,4 @@
-use Rattle.library65.proofs.Spelled.{one_library}
+use Rattle.library65.proofs.Made.{one_library}
 use Rattle.library65.proofs.laws.one_spelling.Goals as goal
 
 pub returns : goal.returns

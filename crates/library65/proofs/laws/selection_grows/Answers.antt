@@ -1,4 +1,4 @@
-use Rattle.library65.proofs.Uniques.{selection_grows}
+use Rattle.library65.proofs.Selections.{selection_grows}
 use Rattle.library65.proofs.laws.selection_grows.Goals as goal
 
 pub returns : goal.returns

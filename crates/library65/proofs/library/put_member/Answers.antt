@@ -1,9 +1,7 @@
 use Rattle.std.proofs.Common.{◌∙◌, List, map, sym, subst, ap}
 use Rattle.std.specs.List.{AllByRecursion}
-use Rattle.library65.specs.Libraries.{member_names}
-use Rattle.library65.specs.Names.{are_member_names}
-use Rattle.library65.specs.Spelling.{Member}
-use Rattle.library65.specs.Stored.{IsStored, member_of}
+use Rattle.library65.specs.Libraries.{member_names, IsStored, member_of}
+use Rattle.library65.specs.Spelling.{are_member_names, Member}
 use Rattle.library65.proofs.Edits.{checked_good, insert_stored, inserted, with_good}
 use Rattle.library65.proofs.library.put_member.Goals as goal
 

@@ -2,8 +2,7 @@ use Rattle.std.proofs.Common.{[], refl}
 use Rattle.std.proofs.lemmas.Result.{err_from_is_err_and}
 use Rattle.library65.specs.Libraries.{joined_all, library_at}
 use Rattle.library65.specs.Reading.{index_at}
-use Rattle.library65.proofs.Leads.{begins, goes_on, kept_count, stops}
-use Rattle.library65.proofs.Steps.{library_begins}
+use Rattle.library65.proofs.Steps.{begins, goes_on, kept_count, stops, library_begins}
 use Rattle.library65.proofs.loading.read_members.Goals as goal
 
 pub returns-in_err-index-clause-read : goal.returns-in_err-index-clause-read

@@ -1,7 +1,6 @@
 use Rattle.std.proofs.Common.{◌≡◌, drop}
-use Rattle.library65.specs.Libraries.{joined_all, library_at}
-use Rattle.library65.specs.Stored.{IsSound, members_of}
-use Rattle.library65.proofs.Leads.{Leads}
+use Rattle.library65.specs.Libraries.{joined_all, library_at, IsSound, members_of}
+use Rattle.library65.proofs.Steps.{Leads}
 use Rattle.library65.proofs.loading.read_members.Given as goal
 
 abbrev pub invariant-loop-entry : goal.invariant-loop-entry

@@ -1,5 +1,5 @@
 use Rattle.std.proofs.Common.{◌≡◌, ◌∙◌, ◌≤◌, ◌-◌, ◌+◌, length, take, min, arith, rules}
-use Rattle.library65.proofs.Pieces.{piece_whole, told_whole}
+use Rattle.library65.proofs.Steps.{piece_whole, told_whole}
 use Rattle.library65.proofs.loading.read_piece.Goals as goal
 
 pub returns-clause-read : goal.returns-clause-read

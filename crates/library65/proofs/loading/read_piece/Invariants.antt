@@ -1,7 +1,7 @@
 use Rattle.std.proofs.Common.{◌≡◌, ◌≤◌, ◌-◌, length}
 use Rattle.std.specs.Prelude.{IfSome}
 use Rattle.std.specs.FinMap as map
-use Rattle.library65.proofs.Pieces.{IsPieceFront}
+use Rattle.library65.proofs.Steps.{IsPieceFront}
 use Rattle.library65.proofs.loading.read_piece.Given as goal
 
 abbrev pub invariant-reading : goal.invariant-reading

@@ -3,8 +3,7 @@ use Rattle.std.proofs.lemmas.Result.{IfOk-weaker}
 use Rattle.std.specs.List.{AllByRecursion}
 use Rattle.library65.specs.Inner.Searching.{marked_from}
 use Rattle.library65.specs.Selection.{IsSelection}
-use Rattle.library65.proofs.Places.{marked_below}
-use Rattle.library65.proofs.Selections.{searched_selected}
+use Rattle.library65.proofs.Selections.{marked_below, searched_selected}
 use Rattle.library65.proofs.selecting.select.Goals as goal
 
 pub returns-clause-selected : goal.returns-clause-selected

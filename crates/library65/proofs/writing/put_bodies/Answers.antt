@@ -1,7 +1,7 @@
 use Rattle.std.proofs.Common.{◌∙◌, ◌++◌, ap}
 use Rattle.std.specs.List.{flat_map}
 use Rattle.library65.specs.declared.library.Stored.{Stored}
-use Rattle.library65.proofs.Written.{bodies_seen}
+use Rattle.library65.proofs.Made.{bodies_seen}
 use Rattle.library65.proofs.writing.put_bodies.Goals as goal
 
 pub loop-stored-init : goal.loop-stored-init

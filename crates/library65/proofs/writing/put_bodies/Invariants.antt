@@ -1,6 +1,6 @@
 use Rattle.std.proofs.Common.{◌≡◌, ◌++◌}
 use Rattle.std.specs.List.{flat_map}
-use Rattle.library65.specs.Stored.{members_of}
+use Rattle.library65.specs.Libraries.{members_of}
 use Rattle.library65.proofs.writing.put_bodies.Given as goal
 
 abbrev pub invariant-loop-stored : goal.invariant-loop-stored

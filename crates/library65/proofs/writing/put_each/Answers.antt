@@ -1,5 +1,5 @@
 use Rattle.std.proofs.Common.{◌<◌, List, ℕ, length, subst, sym}
-use Rattle.library65.proofs.Symbols.{name_short}
+use Rattle.library65.proofs.Made.{name_short}
 use Rattle.library65.proofs.writing.put_each.Goals as goal
 
 pub put_name-requires : goal.put_name-requires

@@ -2,10 +2,9 @@ use Rattle.std.proofs.Common.{map, arith, length-append}
 use Rattle.std.proofs.lemmas.List.{length-map}
 use Rattle.std.proofs.lemmas.Result.{err_from_is_err_and}
 use Rattle.std.specs.List.{flat_map}
-use Rattle.library65.specs.Libraries.{member_listing}
+use Rattle.library65.specs.Libraries.{member_listing, member_of}
 use Rattle.library65.specs.Spelling.{Member}
-use Rattle.library65.specs.Stored.{member_of}
-use Rattle.library65.proofs.Written.{many_members}
+use Rattle.library65.proofs.Made.{many_members}
 use Rattle.library65.proofs.writing.put_library.Goals as goal
 
 pub returns-in_err-count : goal.returns-in_err-count

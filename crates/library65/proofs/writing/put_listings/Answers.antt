@@ -1,8 +1,8 @@
 use Rattle.std.proofs.Common.{[], subst}
 use Rattle.std.proofs.lemmas.Result.{err_from_is_err_and}
 use Rattle.std.specs.List.{AllByRecursion}
-use Rattle.library65.specs.Stored.{IsStored}
-use Rattle.library65.proofs.Written.{names_next, out_next, passed_on, size_first, size_next}
+use Rattle.library65.specs.Libraries.{IsStored}
+use Rattle.library65.proofs.Made.{names_next, out_next, passed_on, size_first, size_next}
 use Rattle.library65.proofs.writing.put_listings.Goals as goal
 
 pub loop-name-preserved : goal.loop-name-preserved

@@ -1,8 +1,7 @@
 use Rattle.std.proofs.Common.{◌≡◌, ◌≤◌, ◌+◌, ◌++◌, true, map, length}
 use Rattle.std.specs.List.{AllByRecursion, flat_map}
-use Rattle.library65.specs.Libraries.{member_listing, member_names}
-use Rattle.library65.specs.Names.{are_member_names}
-use Rattle.library65.specs.Stored.{IsStored, member_of, members_of}
+use Rattle.library65.specs.Libraries.{member_listing, member_names, IsStored, member_of, members_of}
+use Rattle.library65.specs.Spelling.{are_member_names}
 use Rattle.library65.proofs.writing.put_listings.Given as goal
 
 abbrev pub invariant-loop-name : goal.invariant-loop-name

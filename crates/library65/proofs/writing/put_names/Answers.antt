@@ -1,6 +1,6 @@
 use Rattle.std.proofs.Common.{arith}
 use Rattle.std.proofs.lemmas.Result.{err_from_is_err_and}
-use Rattle.library65.proofs.Written.{many_names}
+use Rattle.library65.proofs.Made.{many_names}
 use Rattle.library65.proofs.writing.put_names.Goals as goal
 
 pub returns-in_err-count : goal.returns-in_err-count

@@ -1,7 +1,7 @@
 use Rattle.std.proofs.Common.{◌≡◌, ◌∙◌, ap, sym, subst, List, Option, None}
 use Rattle.std.specs.Prelude.{IfOk}
 use Rattle.base65.specs.Outcome.{Gives}
-use Rattle.script65.specs.Access.{is_written}
+use Rattle.script65.specs.Placing.{is_written}
 use Rattle.link65.specs.declared.parts.Waiting.{Waiting}
 use Rattle.link65.specs.Links.{each_passes, waiting_of}
 use Rattle.link65.specs.Faults.{is_memory}

@@ -3,7 +3,7 @@ use Rattle.std.proofs.lemmas.Result.{on_ok_weaker}
 use Rattle.std.proofs.lemmas.Bool.Decides.{nat_tests}
 use Rattle.std.specs.List.{flat_map}
 use Rattle.object65.specs.Spelling.{literal_entries, entry_bytes, body_limit}
-use Rattle.object65.proofs.Pieces.{written_piece, written_last}
+use Rattle.object65.proofs.Closings.{written_piece, written_last}
 use Rattle.object65.proofs.writing.put_literal.Goals as goal
 
 pub loop-rest-preserved : goal.loop-rest-preserved

@@ -3,7 +3,7 @@ use Rattle.std.proofs.lemmas.Int.{to_z-of_z}
 use Rattle.std.proofs.lemmas.Result.{on_ok_weaker}
 use Rattle.std.specs.Int.{w64, cast_unsigned}
 use Rattle.byteorder.specs.Endian.{little_bytes}
-use Rattle.object65.proofs.Lists.{joined}
+use Rattle.object65.proofs.Names.{joined}
 use Rattle.object65.proofs.writing.put_place.Goals as goal
 
 pub returns : goal.returns

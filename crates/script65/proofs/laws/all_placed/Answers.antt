@@ -1,4 +1,4 @@
-use Rattle.script65.proofs.Placed.{all_placed}
+use Rattle.script65.proofs.Apart.{all_placed}
 use Rattle.script65.proofs.laws.all_placed.Goals as goal
 
 pub returns : goal.returns

@@ -1,4 +1,4 @@
-use Rattle.script65.proofs.Placed.{rows_there}
+use Rattle.script65.proofs.Apart.{rows_there}
 use Rattle.script65.proofs.laws.rows_there.Goals as goal
 
 pub returns : goal.returns

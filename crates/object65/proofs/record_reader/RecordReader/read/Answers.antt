@@ -1,7 +1,7 @@
 use Rattle.std.proofs.Common.{◌∙◌, ap, sym, take}
-use Rattle.object65.specs.Ahead.{Reader}
+use Rattle.object65.specs.Reading.{Reader}
 use Rattle.object65.specs.Record.{entry_of}
-use Rattle.object65.proofs.Aheads.{ahead_anew, kept, kept_so, read_anew, read_kept}
+use Rattle.object65.proofs.Records.{ahead_anew, kept, kept_so, read_anew, read_kept}
 use Rattle.object65.proofs.record_reader.RecordReader.read.Goals as goal
 
 pub returns-then-has_record-clause-read : goal.returns-then-has_record-clause-read

@@ -1,5 +1,5 @@
 use Rattle.std.proofs.Common.{rules}
-use Rattle.object65.proofs.Aheads.{refilled}
+use Rattle.object65.proofs.Records.{refilled}
 use Rattle.object65.proofs.record_reader.RecordReader.refill.Goals as goal
 
 pub returns-clause-read : goal.returns-clause-read

@@ -1,5 +1,5 @@
 use Rattle.std.proofs.Common.{Bool, Ok, ap, refl, sym, subst, ◌∙◌}
-use Rattle.object65.specs.declared.item.Item.{Item}
+use Rattle.object65.specs.declared.record.Item.{Item}
 use Rattle.object65.specs.Record.{entry_of}
 use Rattle.object65.specs.Scanning.{Outline, IsWithin}
 use Rattle.object65.specs.Inner.Sound.{outline_in}

@@ -1,6 +1,6 @@
 use Rattle.std.proofs.Common.{refl, arith}
-use Rattle.object65.specs.Taking.{start}
-use Rattle.object65.proofs.Builders.{reached_start}
+use Rattle.object65.specs.Scanning.{start}
+use Rattle.object65.proofs.Withins.{reached_start}
 use Rattle.object65.proofs.scan.Scan.new.Goals as goal
 
 pub invariant_of-result : goal.invariant_of-result

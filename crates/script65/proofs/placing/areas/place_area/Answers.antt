@@ -1,7 +1,7 @@
 use Rattle.std.proofs.Common.{◌+◌, ℕ, List, drop, subst, arith, slice_index_or, refl}
 use Rattle.std.proofs.lemmas.List.{drop_all}
 use Rattle.std.proofs.lemmas.Result.{err_from_is_err_and}
-use Rattle.script65.specs.PlaceFaults.{is_place_outside}
+use Rattle.script65.specs.Faults.{is_place_outside}
 use Rattle.script65.specs.Placing.{rows_from}
 use Rattle.script65.proofs.Walks.{Walk, drop_number, row_within, spot_within, walk_ends, walk_refuses, walk_step, whole_of}
 use Rattle.script65.proofs.placing.areas.place_area.Goals as goal

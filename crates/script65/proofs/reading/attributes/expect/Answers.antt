@@ -1,6 +1,6 @@
 use Rattle.std.proofs.Common.{sym, ap, ◌∙◌}
-use Rattle.script65.specs.declared.reading.token.Token.{Token}
-use Rattle.script65.proofs.Forms.{end_stands}
+use Rattle.script65.specs.declared.reading.tokens.Token.{Token}
+use Rattle.script65.proofs.Digits.{end_stands}
 use Rattle.script65.proofs.reading.attributes.expect.Goals as goal
 
 pub returns-then-stands-clause-some : goal.returns-then-stands-clause-some

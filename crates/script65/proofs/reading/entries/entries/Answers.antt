@@ -3,7 +3,7 @@ use Rattle.std.proofs.lemmas.Result.{err_from_is_err_and}
 use Rattle.script65.specs.Faults.{is_outside}
 use Rattle.script65.specs.Grammar.{Entries, IsEntry, ends, more, stops}
 use Rattle.script65.specs.Inner.Tables.{draft_in}
-use Rattle.script65.proofs.Manys.{unless_map}
+use Rattle.script65.proofs.Eaches.{unless_map}
 use Rattle.script65.proofs.reading.entries.entries.Goals as goal
 
 pub returns-in_err-at-clause-found : goal.returns-in_err-at-clause-found

@@ -3,7 +3,7 @@ use Rattle.std.proofs.lemmas.Result.{err_from_is_err_and}
 use Rattle.script65.specs.declared.reading.words.Given.{Given}
 use Rattle.script65.specs.Faults.{is_outside}
 use Rattle.script65.specs.Grammar.{entry_fault}
-use Rattle.script65.proofs.Manys.{checked, entry_of, entry_stops, unless_of}
+use Rattle.script65.proofs.Eaches.{checked, entry_of, entry_stops, unless_of}
 use Rattle.script65.proofs.reading.entries.entry.Goals as goal
 
 pub returns-in_err-check_entry-clause-found : goal.returns-in_err-check_entry-clause-found

@@ -5,8 +5,7 @@ use Rattle.script65.specs.Faults.{is_outside}
 use Rattle.script65.specs.Scripts.{row_of}
 use Rattle.base65.specs.Outcome.{each}
 use Rattle.script65.specs.Inner.Tables.{draft_in, named}
-use Rattle.script65.proofs.Eaches.{behind, each_step, each_stops, each_end, none_mapped, longer}
-use Rattle.script65.proofs.Manys.{unless_map}
+use Rattle.script65.proofs.Eaches.{behind, each_step, each_stops, each_end, none_mapped, longer, unless_map}
 use Rattle.script65.proofs.reading.making.rows_of.Goals as goal
 
 pub rows-preserved : goal.rows-preserved

@@ -1,8 +1,8 @@
 use Rattle.std.proofs.Common.{◌+◌, ℕ, Bool, not, ap, ◌∙◌, arith}
 use Rattle.std.specs.Prelude.{unwrap_or}
-use Rattle.script65.specs.Sums.{come_to, difference}
+use Rattle.script65.specs.AreaSums.{come_to, difference}
 use Rattle.script65.specs.declared.reading.words.Part.{Part}
-use Rattle.script65.proofs.SumLemmas.{all_counted, counts, passes}
+use Rattle.script65.proofs.Eaches.{all_counted, counts, passes}
 use Rattle.script65.proofs.reading.sums.number_of_parts.Goals as goal
 use Rattle.script65.proofs.reading.sums.number_of_parts.Goals.{then-part, else-part}
 

@@ -1,6 +1,6 @@
 use Rattle.std.proofs.Common.{◌≡◌, ◌≤◌, ◌+◌, ◌*◌, ◌^◌, drop, not}
 use Rattle.std.specs.Prelude.{unwrap_or}
-use Rattle.script65.specs.Sums.{come_to}
+use Rattle.script65.specs.AreaSums.{come_to}
 use Rattle.script65.specs.declared.reading.words.Part.{Part}
 use Rattle.script65.proofs.reading.sums.number_of_parts.Given as goal
 

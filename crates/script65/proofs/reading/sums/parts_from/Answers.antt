@@ -3,7 +3,7 @@ use Rattle.std.proofs.lemmas.Result.{err_from_is_err_and}
 use Rattle.script65.specs.Faults.{is_outside}
 use Rattle.script65.specs.Grammar.{Parts, ends}
 use Rattle.script65.specs.declared.reading.words.Part.{Part}
-use Rattle.script65.proofs.Manys.{finds_of, part_more, part_stops}
+use Rattle.script65.proofs.Eaches.{finds_of, part_more, part_stops}
 use Rattle.script65.proofs.reading.sums.parts_from.Goals as goal
 
 pub parts-init : goal.parts-init

@@ -1,9 +1,8 @@
 use Rattle.std.proofs.Common.{◌≡◌, ◌≤◌, ◌+◌, ◌*◌, ◌-◌, ◌^◌, drop, map, not}
-use Rattle.script65.specs.Sums.{come_to}
+use Rattle.script65.specs.AreaSums.{come_to, places_there, term_value}
 use Rattle.script65.specs.declared.script.Term.{Term}
 use Rattle.script65.specs.Inner.Standing.{standing_in}
 use Rattle.script65.specs.Placing.{row_place}
-use Rattle.script65.specs.AreaSums.{places_there, term_value}
 use Rattle.script65.proofs.placing.sums.Standing.sum_by.Given as goal
 
 abbrev pub invariant-loop-term : goal.invariant-loop-term

@@ -1,6 +1,6 @@
 use Rattle.std.proofs.Common.{refl, ◌∙◌}
 use Rattle.script65.specs.Grammar.{is_taken}
-use Rattle.script65.proofs.TableLemmas.{is_some-lookup}
+use Rattle.script65.proofs.Eaches.{is_some-lookup}
 use Rattle.script65.proofs.reading.table.Table.has.Goals as goal
 
 pub returns : goal.returns

@@ -1,5 +1,5 @@
 use Rattle.std.proofs.Common.{refl, ◌∙◌}
-use Rattle.script65.proofs.TableLemmas.{position-same}
+use Rattle.script65.proofs.Eaches.{position-same}
 use Rattle.script65.proofs.reading.table.Table.place_of.Goals as goal
 
 pub returns : goal.returns

@@ -1,6 +1,6 @@
 use Rattle.std.proofs.Common.{refl, ◌∙◌, ap, map}
 use Rattle.script65.specs.Grammar.{is_taken}
-use Rattle.script65.proofs.TableLemmas.{map-insert_entry}
+use Rattle.script65.proofs.Eaches.{map-insert_entry}
 use Rattle.script65.proofs.reading.table.Table.push.Goals as goal
 
 pub returns : goal.returns

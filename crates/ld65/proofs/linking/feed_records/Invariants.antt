@@ -1,0 +1,19 @@
+use Rattle.std.proofs.Common.{◌≡◌, ◌-◌, true}
+use Rattle.object65.proofs.Records.{StandsAhead}
+use Rattle.link65.specs.Standing.{Keeps, is_open}
+use Rattle.ld65.specs.Inner.Feeding.{input_of}
+use Rattle.ld65.proofs.Fed.{IsAt}
+use Rattle.ld65.proofs.linking.feed_records.Given as goal
+
+abbrev pub invariant-records : goal.invariant-records
+invariant-records g l = record {
+  files : g.S.Store.files l.store ≡ g.S.Store.files l.fn.store;
+  ahead : StandsAhead (g.S.Store.files l.store) l.object.file.now l.reader;
+  count : g.S.Store.failures l.store ≡ g.S.Store.failures l.fn.store;
+  opened : is_open l.linker ≡ true;
+  keeps : Keeps l.fn.linker l.linker;
+  stands : IsAt (g.S.Store.files l.fn.store) (input_of l.object) l.fn.head l.next l.fn.linker l.linker;
+}
+
+abbrev pub decreases-records : goal.decreases-records
+decreases-records g l = 18446744073709551615 - l.next

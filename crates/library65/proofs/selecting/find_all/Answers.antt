@@ -1,0 +1,26 @@
+use Rattle.std.proofs.Common.{◌≡◌, ◌∙◌, ◌<◌, ℕ, map, length, Some, slice_get, subst, ap, arith, refl}
+use Rattle.std.proofs.lemmas.List.{length-append}
+use Rattle.std.proofs.lemmas.Option.{slice_get_read}
+use Rattle.library65.specs.Inner.Searching.{Finds}
+use Rattle.library65.specs.Selection.{imports_at}
+use Rattle.library65.proofs.Selections.{search_goes_on}
+use Rattle.library65.proofs.selecting.find_all.Goals as goal
+
+pub loop-next-preserved : goal.loop-next-preserved
+loop-next-preserved c =
+    let es = c.args.exporters.now.entries.now in
+    let wanted = map (λ n. n.items) c.args.wanted.now.keys in
+    let defined = map (λ n. n.items) c.args.defined.now.keys in
+    let found = c.loop-next.found.places.items in
+    let new = c.find_imports.new.found.places.items in
+    let next = c.loop-next.next in
+    let place = c.index.result.now in
+    let lt : next < length found = omega arith in
+    let at : slice_get found next ≡ Some place = slice_get_read found (length found) next place refl lt c.index.ensures in
+    let finds : Finds es defined (imports_at es place) found new = subst (λ ns. Finds es defined ns found new) c.imports-imports.ensures c.in_ok-find_imports.ensures.found in
+    record {
+      sound = c.in_ok-find_imports.ensures.sound;
+      marks = c.in_ok-find_imports.ensures.marks ∙ c.loop-next.invariant.marks;
+      within = omega (arith, ap (length {A = ℕ}) finds.more, length-append found finds.behind);
+      found = search_goes_on es wanted defined found new next place lt at c.loop-next.invariant.found finds;
+    }

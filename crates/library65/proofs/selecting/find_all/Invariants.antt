@@ -1,0 +1,14 @@
+use Rattle.std.proofs.Common.{◌≡◌, ◌≤◌, ◌-◌, length, map}
+use Rattle.library65.specs.Inner.Searching.{IsSearched, IsSound}
+use Rattle.library65.proofs.selecting.find_all.Given as goal
+
+abbrev pub invariant-loop-next : goal.invariant-loop-next
+invariant-loop-next l = record {
+  sound : IsSound l.found;
+  marks : length l.found.marks.items ≡ length l.fn.found.marks.items;
+  within : l.next ≤ length l.found.places.items;
+  found : IsSearched l.exporters.entries.now (map (λ n. n.items) l.wanted.keys) (map (λ n. n.items) l.defined.keys) l.found.places.items l.next;
+}
+
+abbrev pub decreases-loop-next : goal.decreases-loop-next
+decreases-loop-next l = length l.exporters.entries.now - l.next

@@ -1,0 +1,53 @@
+use Rattle.std.proofs.Common.{◌≡◌, ◌∙◌, refl, sym, arith}
+use Rattle.std.proofs.lemmas.Result.{err_from_is_err_and}
+use Rattle.std.specs.FinMap.{get}
+use Rattle.object65.specs.Reading.{in_file, record_at}
+use Rattle.object65.specs.Record.{entry_of}
+use Rattle.object65.specs.declared.fault.ObjectFault.TheVariants.{FileError}
+use Rattle.object65.proofs.Records.{fresh, stays_ahead, where_ahead, begins_in, seen, reading_stops, taking_stops, ends_in, goes_on_in, memory_outside, kept_count, none_passed, not_stored}
+use Rattle.object65.proofs.reading.read_records.Goals as goal
+
+pub records-init : goal.records-init
+records-init g c = record {
+  files = refl;
+  ahead = fresh _ c.args.name.now _ c.new-reader.ensures;
+  count = refl;
+  read = rw c.new-builder.ensures (begins_in c.args.head.0 c.args.limit c.args.head.1 c.args.head.1 (g.S.Store.files c.args.store.now) c.args.name.now);
+}
+
+pub returns-in_err-next-clause-read : goal.returns-in_err-next-clause-read
+returns-in_err-next-clause-read g c =
+    let p = err_from_is_err_and c.from_residual.result c.from_residual.ensures.1 in
+    rw (p.1, p.2) (reading_stops c.args.head.0 c.args.limit c.args.head.1 c.records.next _ _ c.args.name.now c.records.builder c.in_err-next.field-0.0 c.records.invariant.files c.records.invariant.read (where_ahead _ c.args.name.now c.records.reader _ c.records.invariant.ahead c.in_err-next.ensures.read))
+
+pub returns-in_err-take-clause-read : goal.returns-in_err-take-clause-read
+returns-in_err-take-clause-read g c =
+    let p = err_from_is_err_and c.from_residual-in_err-take.result c.from_residual-in_err-take.ensures.1 in
+    let e = c.in_err-take.field-0.0 in
+    rw (p.1, p.2) (taking_stops c.args.head.0 c.args.limit c.args.head.1 c.records.next _ _ c.args.name.now c.records.builder (entry_of c.record.result.now, c.in_ok-next.next) e c.records.invariant.files c.records.invariant.read (seen _ (λ m. in_file (get m c.args.name.now) (record_at c.args.head.0 c.records.next c.args.limit)) _ _ c.in_ok-next.next c.record.ensures (where_ahead _ c.args.name.now c.records.reader _ c.records.invariant.ahead c.in_ok-next.ensures.read)) (memory_outside e _ c.in_err-take.ensures.taken))
+
+pub returns-in_err-take-clause-count : goal.returns-in_err-take-clause-count
+returns-in_err-take-clause-count g c =
+    let p = err_from_is_err_and c.from_residual-in_err-take.result c.from_residual-in_err-take.ensures.1 in
+    let e = c.in_err-take.field-0.0 in
+    let same = kept_count _ _ _ c.in_ok-next.ensures.count ∙ c.records.invariant.count in
+    rw (p.1, p.2) (none_passed _ _ e same (not_stored c.records.builder (entry_of c.record.result.now) e c.in_err-take.ensures.taken))
+
+pub returns-then-is_ended-clause-read : goal.returns-then-is_ended-clause-read
+returns-then-is_ended-clause-read g c =
+    ends_in c.args.head.0 c.args.limit c.args.head.1 c.records.next _ _ c.args.name.now c.records.builder c.take.new.self (entry_of c.record.result.now, c.in_ok-next.next) c.records.invariant.files c.records.invariant.read (seen _ (λ m. in_file (get m c.args.name.now) (record_at c.args.head.0 c.records.next c.args.limit)) _ _ c.in_ok-next.next c.record.ensures (where_ahead _ c.args.name.now c.records.reader _ c.records.invariant.ahead c.in_ok-next.ensures.read)) c.in_ok-take.ensures.taken (sym c.is_ended.ensures ∙ c.if-is_ended.true)
+
+pub records-preserved : goal.records-preserved
+records-preserved g c =
+    record {
+      files = c.in_ok-next.ensures.files ∙ c.records.invariant.files;
+      ahead = stays_ahead _ _ c.args.name.now c.records.reader c.read.new.self c.in_ok-next.ensures.files c.records.invariant.ahead c.in_ok-next.ensures.ahead;
+      count = kept_count _ _ _ c.in_ok-next.ensures.count ∙ c.records.invariant.count;
+      read = goes_on_in c.args.head.0 c.args.limit c.args.head.1 c.records.next _ _ c.args.name.now c.records.builder c.take.new.self (entry_of c.record.result.now, c.in_ok-next.next) c.records.invariant.files c.records.invariant.read (seen _ (λ m. in_file (get m c.args.name.now) (record_at c.args.head.0 c.records.next c.args.limit)) _ _ c.in_ok-next.next c.record.ensures (where_ahead _ c.args.name.now c.records.reader _ c.records.invariant.ahead c.in_ok-next.ensures.read)) (omega (arith, c.in_ok-next.ensures.bound.0)) c.in_ok-take.ensures.taken (sym c.is_ended.ensures ∙ c.if-is_ended.false);
+    }
+
+pub returns-in_err-take-clause-blamed : goal.returns-in_err-take-clause-blamed
+returns-in_err-take-clause-blamed g c =
+    let p = err_from_is_err_and c.from_residual-in_err-take.result c.from_residual-in_err-take.ensures.1 in
+    let e = c.in_err-take.field-0.0 in
+    rw (p.1, p.2) (λ h. (let stored : e ≡ FileError = cc h in absurd (not_stored c.records.builder (entry_of c.record.result.now) e c.in_err-take.ensures.taken stored)))
